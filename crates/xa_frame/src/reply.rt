@@ -1,0 +1,11 @@
+use crate::body::Body;
+use xa_codes::{Code, Detail};
+
+/// What a session is answered. The place is that of the call in its room's history, from 1, or 0.
+#[derive(Debug, Drop)]
+pub struct Reply {
+    pub code: Code,
+    pub detail: Detail,
+    pub place: u64,
+    pub body: Body,
+}

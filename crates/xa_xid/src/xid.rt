@@ -1,0 +1,156 @@
+ghost use Rattle.std.specs.Prelude.{◌≡◌, ◌↔◌, IfOk, IfErr, MatchResult, IsOk, negsuc, ◌≢◌, ◌≤◌, ◌<◌, length};
+ghost use Rattle.xa_xid.specs.Triple.{IsXid};
+
+use arrayvec::ArrayVec;
+use std::cmp::Ordering;
+use std::marker::Model;
+
+/// The name of a branch, in at most 134 bytes of its own. Contracts see it as its three parts.
+#[derive(Debug, Drop)]
+pub struct Xid {
+    format: i32,
+    gtrid: ArrayVec<u8, 64>,
+    bqual: ArrayVec<u8, 64>,
+}
+
+impl Model for Xid {
+    ghost use Rattle.std.specs.Prelude.{length};
+    ghost use Rattle.xa_xid.specs.Triple.{Triple, IsXid};
+
+    ghost Value = { Triple };
+
+    ghost view = { λ x. record { format = x.format; gtrid = x.gtrid.items; bqual = x.bqual.items } };
+
+    ghost invariant = { λ x. IsXid x.format x.gtrid.items x.bqual.items };
+}
+
+/// Why parts are no XID.
+#[derive(Clone, Copy, Debug, PartialEq, Eq)]
+pub enum XidFault {
+    Null,
+    GtridLength,
+    BqualLength,
+}
+
+impl Xid {
+    /// Takes no memory.
+    pub fn new(format: i32, gtrid: &[u8], bqual: &[u8]) -> Result<Xid, XidFault>
+        ensures xid { IfOk result (λ x. x ≡ record { format = format; gtrid = gtrid.now; bqual = bqual.now }) }
+        ensures valid { IsXid format gtrid.now bqual.now → IsOk result }
+    {
+        if format == -1 {
+            return Err(XidFault::Null);
+        }
+        if gtrid.is_empty() || gtrid.len() > 64 {
+            return Err(XidFault::GtridLength);
+        }
+        if bqual.len() > 64 {
+            return Err(XidFault::BqualLength);
+        }
+        Ok(Xid {
+            format,
+            gtrid: held(gtrid),
+            bqual: held(bqual),
+        })
+    }
+
+    pub fn format(&self) -> i32
+        ensures { result ≡ self.now.format }
+    {
+        self.format
+    }
+
+    pub fn gtrid(&self) -> &[u8]
+        ensures { result.now ≡ self.now.gtrid }
+    {
+        self.gtrid.as_slice()
+    }
+
+    pub fn bqual(&self) -> &[u8]
+        ensures { result.now ≡ self.now.bqual }
+    {
+        self.bqual.as_slice()
+    }
+
+    /// A copy. Takes no memory.
+    pub fn copied(&self) -> Xid
+        ensures { result ≡ self.now }
+    {
+        Xid {
+            format: self.format,
+            gtrid: held(self.gtrid.as_slice()),
+            bqual: held(self.bqual.as_slice()),
+        }
+    }
+}
+
+fn held(bytes: &[u8]) -> ArrayVec<u8, 64>
+    requires { length bytes.now ≤ 64 }
+    ensures { result.items ≡ bytes.now }
+{
+    let mut all: ArrayVec<u8, 64> = ArrayVec::new();
+    let _ = all.try_extend_from_slice(bytes);
+    all
+}
+
+impl PartialEq for Xid {
+    ghost use Rattle.std.proofs.Common.{rules};
+    ghost use Rattle.std.specs.Cmp.Rules.{comparing};
+    ghost use Rattle.xa_xid.specs.Triple.{xid_eq};
+
+    ghost eq = { xid_eq };
+
+    ghost laws = { Prim.search (comparing, rules) depth 9 };
+
+    fn eq(&self, other: &Xid) -> bool {
+        self.format == other.format
+            && self.gtrid.as_slice() == other.gtrid.as_slice()
+            && self.bqual.as_slice() == other.bqual.as_slice()
+    }
+}
+
+impl Eq for Xid {
+    ghost use Rattle.std.proofs.Common.{rules};
+    ghost use Rattle.std.specs.Cmp.Rules.{comparing};
+
+    ghost laws = { Prim.search (comparing, rules) depth 9 };
+}
+
+impl Ord for Xid {
+    ghost use Rattle.std.proofs.Common.{rules};
+    ghost use Rattle.std.specs.Cmp.Rules.{comparing};
+    ghost use Rattle.xa_xid.specs.Triple.{xid_cmp};
+
+    ghost cmp = { xid_cmp };
+
+    ghost total = { Prim.search (comparing, rules) depth 9 };
+
+    ghost matches_partial_cmp = { Prim.search (comparing, rules) depth 9 };
+
+    ghost matches_eq = { Prim.search (comparing, rules) depth 9 };
+
+    fn cmp(&self, other: &Xid) -> Ordering {
+        self.format.cmp(&other.format).then(
+            self.gtrid
+                .as_slice()
+                .cmp(other.gtrid.as_slice())
+                .then(self.bqual.as_slice().cmp(other.bqual.as_slice())),
+        )
+    }
+}
+
+impl PartialOrd for Xid {
+    ghost use Rattle.std.proofs.Common.{rules};
+    ghost use Rattle.std.specs.Cmp.{partial_order_from_own_ties};
+    ghost use Rattle.std.specs.Cmp.Rules.{comparing};
+    ghost use Rattle.std.specs.Ordering.{as_partial_cmp};
+    ghost use Rattle.xa_xid.specs.Triple.{xid_cmp};
+
+    ghost partial_cmp = { as_partial_cmp xid_cmp };
+
+    ghost laws = { partial_order_from_own_ties (Prim.search (comparing, rules) depth 9) (Prim.search (comparing, rules) depth 9) };
+
+    fn partial_cmp(&self, other: &Xid) -> Option<Ordering> {
+        Some(self.cmp(other))
+    }
+}
