@@ -8,3 +8,4 @@ pub mod Walk
 pub mod Chance
 pub mod Cached
 pub mod Again
+pub mod Rows
