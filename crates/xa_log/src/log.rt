@@ -173,10 +173,14 @@ impl<D: Disk + Drop> Log<D> {
 
 impl Log<MemDisk> {
     ghost use Rattle.xa_log.specs.Planned.{Plans};
+    ghost use Rattle.xa_log.specs.Stands.{Stands, MayStand};
 
     /// Plans that the k-th device call from now fails, as `MemDisk::fail` does. Nothing else changes.
     pub fn fail(&mut self, k: u64, effect: Effect) -> Result<(), AllocError>
-        ensures { Plans result k effect self.old self.new }
+        ensures planned { Plans result k effect self.old self.new }
+        ensures stands { (bodies : List (List ℕ)) → Stands (⟦<MemDisk as Disk>⟧.seen) (⟦<MemDisk as Disk>⟧.may_leave) bodies self.old → Stands (⟦<MemDisk as Disk>⟧.seen) (⟦<MemDisk as Disk>⟧.may_leave) bodies self.new }
+        ensures may_stand { (bodies : List (List ℕ)) (body : List ℕ) → MayStand (⟦<MemDisk as Disk>⟧.tears) (⟦<MemDisk as Disk>⟧.seen) (⟦<MemDisk as Disk>⟧.may_leave) bodies body self.old
+            → MayStand (⟦<MemDisk as Disk>⟧.tears) (⟦<MemDisk as Disk>⟧.seen) (⟦<MemDisk as Disk>⟧.may_leave) bodies body self.new }
     {
         self.disk.fail(k, effect)
     }

@@ -1,9 +1,7 @@
 use crate::*;
 use std::alloc::Global;
-use std::env;
-use std::fs;
-use std::process;
 use std::test::Fail;
+use std::{env, fs, process};
 use xa_disk::{Disk, Effect, FileDisk, MemDisk};
 
 const MOST: u64 = 1 << 30;
@@ -49,7 +47,11 @@ fn a_log_ends_where_its_last_record_is_cut(rt: HostRuntime) -> Result<(), Fail> 
     assert_eq!(rt; &bytes[17..49], DIGEST.as_slice());
     for cut in 49..111 {
         let whole = if cut < 110 { 1 } else { 2 };
-        assert_eq!(rt; bodies_in(rt.alloc(), &bytes[..cut]), Ok(whole), "cut to {cut}");
+        assert_eq!(rt;
+            bodies_in(rt.alloc(), &bytes[..cut]),
+            Ok(whole),
+            "cut to {cut}"
+        );
     }
     Ok(())
 }
@@ -72,12 +74,21 @@ fn a_log_ends_where_a_digest_does_not_chain(rt: HostRuntime) -> Result<(), Fail>
 fn other_bytes_are_refused(rt: HostRuntime) -> Result<(), Fail> {
     let alloc = rt.alloc();
     assert_eq!(rt; bodies_in(alloc, b"".as_slice()), Err(OpenFault::NotALog));
-    assert_eq!(rt; bodies_in(alloc, b"XARMLOGx".as_slice()), Err(OpenFault::NotALog));
-    assert_eq!(rt; bodies_in(alloc, b"XARMLOG2".as_slice()), Err(OpenFault::TooNew));
+    assert_eq!(rt;
+        bodies_in(alloc, b"XARMLOGx".as_slice()),
+        Err(OpenFault::NotALog)
+    );
+    assert_eq!(rt;
+        bodies_in(alloc, b"XARMLOG2".as_slice()),
+        Err(OpenFault::TooNew)
+    );
     // Too long: found by the second call, with no read behind it.
     let mut disk = MemDisk::with_bytes(Vec::from_slice(alloc, &two_records(alloc)?)?);
     disk.fail(3, Effect::Lost)?;
-    assert_eq!(rt; open_on(alloc, &mut disk, 113).err(), Some(OpenFault::TooLong));
+    assert_eq!(rt;
+        open_on(alloc, &mut disk, 113).err(),
+        Some(OpenFault::TooLong)
+    );
     assert_eq!(rt; disk.length().is_err(), true);
     Ok(())
 }
