@@ -1,4 +1,5 @@
-ghost use Rattle.std.specs.Prelude.{◌≡◌, ◌↔◌, IfOk, IfErr, MatchResult, IsOk, negsuc, ◌≢◌, ◌≤◌, ◌<◌, length};
+ghost use Rattle.std.specs.Prelude.{◌≡◌, ◌≢◌, ◌↔◌, IfOk, IsOk, negsuc, ◌≤◌, length};
+ghost use Rattle.xa_xid.specs.Fault.{xid_of};
 ghost use Rattle.xa_xid.specs.Triple.{IsXid};
 
 use arrayvec::ArrayVec;
@@ -27,16 +28,21 @@ impl Model for Xid {
 /// Why parts are no XID.
 #[derive(Clone, Copy, Debug, PartialEq, Eq)]
 pub enum XidFault {
-    Null,
-    GtridLength,
-    BqualLength,
+    /// The format number is -1.
+    Null = 1,
+    /// The gtrid is empty or has more than 64 bytes.
+    GtridLength = 2,
+    /// The bqual has more than 64 bytes.
+    BqualLength = 3,
 }
 
 impl Xid {
-    /// Takes no memory.
+    /// An XID of these parts, or the first fault: the null format number -1, a gtrid that hasn't 1 to 64 bytes, a bqual
+    /// of more than 64. C193 has 1 to 64 for both; here a bqual may be empty. Takes no memory.
     pub fn new(format: i32, gtrid: &[u8], bqual: &[u8]) -> Result<Xid, XidFault>
+        ensures exact { result ≡ xid_of format gtrid.now bqual.now }
         ensures xid { IfOk result (λ x. x ≡ record { format = format; gtrid = gtrid.now; bqual = bqual.now }) }
-        ensures valid { IsXid format gtrid.now bqual.now → IsOk result }
+        ensures valid { IsOk result ↔ IsXid format gtrid.now bqual.now }
     {
         if format == -1 {
             return Err(XidFault::Null);
@@ -54,20 +60,26 @@ impl Xid {
         })
     }
 
+    /// The format number, which isn't -1.
     pub fn format(&self) -> i32
-        ensures { result ≡ self.now.format }
+        ensures value { result ≡ self.now.format }
+        ensures not_null { result ≢ negsuc 0 }
     {
         self.format
     }
 
+    /// The global part, 1 to 64 bytes.
     pub fn gtrid(&self) -> &[u8]
-        ensures { result.now ≡ self.now.gtrid }
+        ensures value { result.now ≡ self.now.gtrid }
+        ensures limits { (1 ≤ length result.now) × (length result.now ≤ 64) }
     {
         self.gtrid.as_slice()
     }
 
+    /// The branch part, 0 to 64 bytes.
     pub fn bqual(&self) -> &[u8]
-        ensures { result.now ≡ self.now.bqual }
+        ensures value { result.now ≡ self.now.bqual }
+        ensures limits { length result.now ≤ 64 }
     {
         self.bqual.as_slice()
     }

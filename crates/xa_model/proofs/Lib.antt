@@ -1,0 +1,5 @@
+pub mod Worked
+pub mod Lists
+pub mod Order
+pub mod Ordering
+pub mod Histories

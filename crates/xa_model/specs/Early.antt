@@ -1,0 +1,107 @@
+-- The refusals that come before the row of a call: the manager is down, the session is not connected or not opened,
+-- TMASYNC, and arguments that the call may not have.
+use Rattle.std.specs.Prelude.{ℕ, Bool, true, false, not, ◌&&◌, ◌||◌, Option, Some, None, List, [], ◌∷◌, bytes_eq, nat_lt, is_none}
+use Rattle.xa_codes.specs.Flags.{has, legal}
+use Rattle.xa_codes.specs.declared.codes.TheConstants.{XAER_PROTO, XAER_ASYNC, XAER_INVAL, XAER_RMFAIL}
+use Rattle.xa_codes.specs.declared.flags.TheConstants.{TMASYNC, TMJOIN, TMRESUME, TMSUCCESS}
+use Rattle.xa_codes.specs.declared.call.Call.{Call}
+use Rattle.xa_codes.specs.declared.call.Call.TheVariants as call
+use Rattle.xa_frame.specs.declared.reply.Reply.{Reply}
+use Rattle.xa_frame.specs.declared.request.Request.{Request}
+use Rattle.xa_frame.specs.declared.request.Request.TheVariants.{Open, Close, Start, End, Prepare, Commit, Rollback, Forget, Recover, Get, Put, Delete, Decide, Doom, Restart}
+use Rattle.xa_model.specs.Answer.{plain, first}
+
+abbrev pub call_of : Request → Call
+call_of (Open flags info) = call.Open
+call_of (Close flags) = call.Close
+call_of (Start flags xid) = call.Start
+call_of (End flags xid) = call.End
+call_of (Prepare flags xid) = call.Prepare
+call_of (Commit flags xid) = call.Commit
+call_of (Rollback flags xid) = call.Rollback
+call_of (Forget flags xid) = call.Forget
+call_of (Recover flags count) = call.Recover
+call_of (Get key) = call.Get
+call_of (Put key value) = call.Put
+call_of (Delete key) = call.Delete
+call_of (Decide direction xid) = call.Decide
+call_of (Doom xid) = call.Doom
+call_of Restart = call.Restart
+
+-- a request with no field of flags has none
+abbrev pub flags_of : Request → ℕ
+flags_of (Open flags info) = flags
+flags_of (Close flags) = flags
+flags_of (Start flags xid) = flags
+flags_of (End flags xid) = flags
+flags_of (Prepare flags xid) = flags
+flags_of (Commit flags xid) = flags
+flags_of (Rollback flags xid) = flags
+flags_of (Forget flags xid) = flags
+flags_of (Recover flags count) = flags
+flags_of (Get key) = 0
+flags_of (Put key value) = 0
+flags_of (Delete key) = 0
+flags_of (Decide direction xid) = 0
+flags_of (Doom xid) = 0
+flags_of Restart = 0
+
+-- these pass while the manager is down
+abbrev pub passes_down : Call → Bool
+passes_down call.Open = true
+passes_down call.Close = true
+passes_down call.Restart = true
+passes_down _ = false
+
+-- these pass without an opened session
+abbrev pub needs_open : Call → Bool
+needs_open call.Open = false
+needs_open call.Close = false
+needs_open call.Decide = false
+needs_open call.Doom = false
+needs_open call.Restart = false
+needs_open _ = true
+
+-- on Recover TMASYNC is an illegal flag, and no more
+abbrev pub is_async : Call → ℕ → Bool
+is_async call.Recover flags = false
+is_async _ flags = has flags TMASYNC
+
+-- The calls and flags that are built so far. What is not built is refused like an illegal flag.
+abbrev pub is_built : Call → ℕ → Bool
+is_built call.Open flags = true
+is_built call.Start flags = not (has flags TMJOIN) && not (has flags TMRESUME)
+is_built call.End flags = has flags TMSUCCESS
+is_built call.Commit flags = true
+is_built call.Get flags = true
+is_built call.Put flags = true
+is_built _ flags = false
+
+-- the open info has to be the manager's name
+abbrev pub has_wrong_info : List ℕ → Request → Bool
+has_wrong_info name (Open flags info) = not (bytes_eq info name)
+has_wrong_info name _ = false
+
+-- a recovery lists at most 256 XIDs
+abbrev pub has_wrong_count : Request → Bool
+has_wrong_count (Recover flags count) = nat_lt 256 count
+has_wrong_count _ = false
+
+abbrev pub is_invalid : List ℕ → Request → Bool
+is_invalid name request =
+    not (legal (call_of request) (flags_of request)) || (not (is_built (call_of request) (flags_of request)) || (has_wrong_info name request || has_wrong_count request))
+
+abbrev pub is_opened : Option Bool → Bool
+is_opened (Some opened) = opened
+is_opened None = false
+
+-- `session` says whether the session is opened, if it is connected
+abbrev pub early_refusal : Bool → List ℕ → Option Bool → Request → Option Reply
+early_refusal up name session request =
+    first (
+    (not up && not (passes_down (call_of request)), plain XAER_RMFAIL)
+    ∷ (is_none session, plain XAER_PROTO)
+    ∷ (needs_open (call_of request) && not (is_opened session), plain XAER_PROTO)
+    ∷ (is_async (call_of request) (flags_of request), plain XAER_ASYNC)
+    ∷ (is_invalid name request, plain XAER_INVAL)
+    ∷ [])

@@ -1,0 +1,53 @@
+-- Histories of the sequential resource manager.
+use Rattle.std.specs.Prelude.{ℕ, ◌≡◌, true, Option, Some, None, List, [], ◌∷◌, option_and_then, option_map}
+use Rattle.xa_frame.specs.declared.reply.Reply.{Reply}
+use Rattle.xa_model.specs.declared.outcome.Outcome.{Outcome}
+use Rattle.xa_model.specs.State.{State}
+use Rattle.xa_model.specs.Step.{Happening, step}
+
+-- what happened, what the device did, and what was replied
+pub record Entry : Type 0 where
+  pub happening : Happening
+  pub outcome : Outcome
+  pub reply : Reply
+
+pub record History : Type 0 where
+  pub start : State
+  pub entries : List Entry
+
+-- The state of a manager that was opened on an empty log: nothing was asked of it, and the record of its first boot
+-- ends at byte 49.
+abbrev pub fresh : List ℕ → ℕ → State
+fresh name log_bytes = record {
+  name = name;
+  log_bytes = log_bytes;
+  boot = 1;
+  given = 0;
+  logged_boot = 1;
+  sessions = [];
+  associations = [];
+  branches = [];
+  reads = [];
+  up = true;
+  end = 49;
+  open_record = None;
+}
+
+-- one entry leads from a state to the next
+abbrev pub Steps : State → Entry → State → Type 0
+Steps before entry after = step before entry.happening entry.outcome ≡ Some (record { reply = entry.reply; after = after })
+
+-- the entries lead from the first state to the last
+abbrev pub Leads : State → List Entry → State → Type 0
+Leads first [] last = last ≡ first
+Leads first (entry ∷ entries) last = (mid : State) × Steps first entry mid × Leads mid entries last
+
+-- each reply is the step's, replayed from the start
+abbrev pub IsLegal : History → Type 0
+IsLegal h = (last : State) × Leads h.start h.entries last
+
+-- the replies to a list of happenings with their outcomes; None where an outcome doesn't fit
+abbrev pub replay : State → List (Happening × Outcome) → Option (List Reply)
+replay s [] = Some []
+replay s (x ∷ xs) =
+    option_and_then (λ a. option_map (λ replies. a.reply ∷ replies) (replay a.after xs)) (step s x.0 x.1)

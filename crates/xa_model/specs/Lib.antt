@@ -1,0 +1,11 @@
+pub mod State
+pub mod Source
+pub mod Answer
+pub mod Early
+pub mod Associations
+pub mod Branches
+pub mod Records
+pub mod Step
+pub mod History
+pub mod Laws
+pub mod Worked

@@ -1,0 +1,11 @@
+//! The sequential resource manager: its states, its one step, and histories. What the contracts of the layers above
+//! speak of stands in `specs/`; the program's part is the types of events and outcomes.
+#![tactic(auto)]
+
+mod event;
+mod laws;
+mod outcome;
+
+pub use event::Event;
+pub use laws::{one_history, orderly, worked_rows};
+pub use outcome::{Appending, Outcome};

@@ -1,0 +1,38 @@
+use crate::writes::Writes;
+use xa_codes::Direction;
+use xa_xid::Xid;
+
+/// What one record of the log says.
+#[derive(Debug, Drop)]
+pub enum Record {
+    /// A boot began. The first boot is 1.
+    Opened {
+        boot: u32,
+    },
+    /// A branch was prepared, with 1 to 256 writes, ascending by key.
+    Prepared {
+        xid: Xid,
+        timestamp: u64,
+        writes: Writes,
+    },
+    /// A branch was committed in one phase.
+    Committed {
+        xid: Xid,
+        timestamp: u64,
+        writes: Writes,
+    },
+    /// A prepared branch was completed.
+    Completed {
+        xid: Xid,
+        direction: Direction,
+    },
+    /// The operator decided a prepared branch.
+    Decided {
+        xid: Xid,
+        direction: Direction,
+    },
+    /// A decided branch was forgotten.
+    Forgotten {
+        xid: Xid,
+    },
+}
