@@ -1,5 +1,6 @@
 ghost use Rattle.std.specs.Prelude.{◌≡◌};
 ghost use Rattle.xa_codes.specs.Flags.{legal};
+ghost use Rattle.xa_codes.specs.Rows.{HasValues, MayHave, MayNotHave};
 
 use crate::call::Call;
 
@@ -54,3 +55,11 @@ pub fn legal_flags(call: Call, flags: u32) -> bool
         }
     }
 }
+
+/// The law of worked rows: the values of the flags, flags that a call may have, and flags that it may not have, by the
+/// definition of `legal_flags`. It does nothing.
+pub fn worked_flags()
+    ensures values { HasValues }
+    ensures legal { MayHave }
+    ensures illegal { MayNotHave }
+{}

@@ -8,6 +8,9 @@ mod codes;
 mod detail;
 mod direction;
 mod flags;
+mod names;
+#[cfg(test)]
+mod tests;
 mod write;
 
 pub use bytes::Bytes;
@@ -22,6 +25,7 @@ pub use detail::Detail;
 pub use direction::Direction;
 pub use flags::{
     TMASYNC, TMENDRSCAN, TMFAIL, TMJOIN, TMMIGRATE, TMMULTIPLE, TMNOFLAGS, TMNOWAIT, TMONEPHASE,
-    TMRESUME, TMSTARTRSCAN, TMSUCCESS, TMSUSPEND, legal_flags,
+    TMRESUME, TMSTARTRSCAN, TMSUCCESS, TMSUSPEND, legal_flags, worked_flags,
 };
+pub use names::code_name;
 pub use write::Write;

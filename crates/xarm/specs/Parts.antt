@@ -1,0 +1,29 @@
+-- The parts of a text between its separators.
+use Rattle.std.specs.Prelude.{ℕ, ◌==◌, List, [], ◌∷◌, Option, Some, None}
+use Rattle.std.specs.List.{slice_split}
+
+-- the parts of a text, of which the separators are cut away
+abbrev pub parts : ℕ → List ℕ → List (List ℕ)
+parts separator text = slice_split (λ byte. byte == separator) text
+
+-- the parts of a rest, if there is one
+abbrev pub parts_behind : ℕ → Option (List ℕ) → List (List ℕ)
+parts_behind separator None = []
+parts_behind separator (Some rest) = parts separator rest
+
+-- words are the parts between blanks
+abbrev pub words : List ℕ → List (List ℕ)
+words line = parts 32 line
+
+abbrev pub words_behind : Option (List ℕ) → List (List ℕ)
+words_behind rest = parts_behind 32 rest
+
+-- the word of a list of one
+abbrev pub one_of : List (List ℕ) → Option (List ℕ)
+one_of (word ∷ []) = Some word
+one_of _ = None
+
+-- the words of a list of two
+abbrev pub two_of : List (List ℕ) → Option (List ℕ × List ℕ)
+two_of (first ∷ second ∷ []) = Some (first, second)
+two_of _ = None

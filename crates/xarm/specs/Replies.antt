@@ -1,0 +1,40 @@
+-- The line that shows a reply.
+use Rattle.std.specs.Prelude.{ℕ, List, [], ◌∷◌, ◌++◌, codes, flat_map}
+use Rattle.std.specs.Fmt.{decimal, signed_decimal}
+use Rattle.xa_codes.specs.declared.detail.Detail.{Detail}
+use Rattle.xa_codes.specs.declared.detail.Detail.TheVariants as detail
+use Rattle.xa_frame.specs.declared.body.Body.{Body}
+use Rattle.xa_frame.specs.declared.body.Body.TheVariants.{Nothing, Number, Value, Absent, Xids}
+use Rattle.xa_frame.specs.declared.reply.Reply.{Reply}
+use Rattle.xa_xid.specs.Triple.{Triple}
+use Rattle.xa_xid.specs.Spelling.{hex, text_of}
+
+abbrev pub name_of : Detail → List ℕ
+name_of detail.Nothing = codes "Nothing"
+name_of detail.Memory = codes "Memory"
+name_of detail.Device = codes "Device"
+name_of detail.Busy = codes "Busy"
+name_of detail.Late = codes "Late"
+name_of detail.Limit = codes "Limit"
+name_of detail.Frame = codes "Frame"
+name_of detail.LogFull = codes "LogFull"
+
+-- bytes in lower case hexadecimal; the empty value is a dash
+abbrev pub value_text : List ℕ → List ℕ
+value_text [] = codes "-"
+value_text (byte ∷ bytes) = hex (byte ∷ bytes)
+
+-- the texts of XIDs, each behind a blank
+abbrev pub xids_text : List Triple → List ℕ
+xids_text xids = flat_map (λ xid. 32 ∷ text_of xid) xids
+
+abbrev pub body_text : Body → List ℕ
+body_text Nothing = []
+body_text (Number n) = codes " number " ++ decimal n
+body_text (Value value) = codes " value " ++ value_text value
+body_text Absent = codes " absent"
+body_text (Xids xids) = codes " xids" ++ xids_text xids
+
+-- the code, a blank, the detail's name, the body and the line's end
+abbrev pub line_of : Reply → List ℕ
+line_of reply = signed_decimal reply.code ++ (32 ∷ name_of reply.detail) ++ body_text reply.body ++ 10 ∷ []

@@ -1,0 +1,103 @@
+use crate::fault::PlayFault;
+use crate::play::play_run;
+use clap::{Arg, ArgAction, Command, Error};
+use std::alloc::{AllocError, Global};
+use std::env;
+use std::io::{self, BufWriter, ErrorKind};
+use std::process::ExitCode;
+use std::rt::Env;
+use xa_codes::Bytes;
+use xa_manager::Settings;
+
+/// The bytes that a log may take where the command line says nothing of it.
+const LOG_BYTES: u64 = 1_073_741_824;
+
+/// What a command line asks for.
+#[derive(Debug, Drop)]
+pub enum Asked<'a> {
+    Play { name: &'a str },
+}
+
+/// What the words of a command line ask for, the program's name first.
+pub fn read_words<'a>(alloc: Global, words: &'a [String]) -> Result<Asked<'a>, Error> {
+    let name = Arg::new(alloc, "name")
+        .long("name")
+        .value_name("NAME")
+        .help("The resource manager's name, as an open gives it")
+        .action(ArgAction::Set)
+        .default_value("xarm");
+    let play = Command::new(alloc, "play")
+        .about("Runs a script of calls from standard input and prints the replies")
+        .arg(name)?;
+    let command = Command::new(alloc, "xarm")
+        .about("An XA resource manager")
+        .subcommand_required(true)
+        .subcommand(play)?;
+    let matches = command.try_get_matches_from(words)?;
+    let name = match matches.subcommand() {
+        Some((_, play)) => play.get_str("name"),
+        None => None,
+    };
+    Ok(Asked::Play {
+        name: name.unwrap_or("xarm"),
+    })
+}
+
+/// Does what the command line says. Status 0: done. 1: a fault, its line on standard error. 2: the command line was
+/// refused.
+pub fn run<R: AllocGlobal + Env + Input + Print + Eprint>(rt: &R) -> ExitCode {
+    let words = match words(rt) {
+        Ok(words) => words,
+        Err(error) => return words_fault(rt, &error),
+    };
+    match read_words(rt.alloc(), words.as_slice()) {
+        Ok(Asked::Play { name }) => match play(rt, name) {
+            Ok(()) => ExitCode::SUCCESS,
+            Err(fault) => failed(rt, fault),
+        },
+        Err(error) => refused(rt, &error),
+    }
+}
+
+fn words<R: AllocGlobal + Env>(rt: &R) -> io::Result<Vec<String>> {
+    Ok(env::args(rt)?.collect(rt.alloc())?)
+}
+
+fn play<R: AllocGlobal + Input + Print>(rt: &R, name: &str) -> Result<(), PlayFault> {
+    let settings = Settings {
+        name: Bytes::from_slice(rt.alloc(), name.as_bytes())?,
+        log_bytes: LOG_BYTES,
+    };
+    let Ok(mut writer) = BufWriter::new(rt.alloc(), io::writer(rt)) else {
+        return Err(PlayFault::Memory);
+    };
+    let mut reader = rt.reader();
+    play_run(rt.alloc(), &mut reader, &mut writer, settings)
+}
+
+/// A word that is no text is refused as `clap` refuses it elsewhere.
+fn words_fault<R: Eprint>(rt: &R, error: &io::Error) -> ExitCode {
+    match error.kind() {
+        ErrorKind::OutOfMemory => failed(rt, PlayFault::Memory),
+        _ => {
+            let _ = rt.eprintln("error: invalid UTF-8 was detected in one or more arguments");
+            ExitCode::from(2)
+        }
+    }
+}
+
+fn refused<R: Print + Eprint>(rt: &R, error: &Error) -> ExitCode {
+    if error.kind() == clap::error::ErrorKind::OutOfMemory {
+        return failed(rt, PlayFault::Memory);
+    }
+    match error.print(rt) {
+        Ok(()) if !error.use_stderr() => ExitCode::SUCCESS,
+        Err(_) if !error.use_stderr() => failed(rt, PlayFault::Write),
+        _ => ExitCode::from(2),
+    }
+}
+
+fn failed<R: Eprint>(rt: &R, fault: PlayFault) -> ExitCode {
+    let _ = eprintln!(rt; "xarm: {fault}");
+    ExitCode::from(1)
+}
