@@ -2,3 +2,4 @@ pub mod Places
 pub mod Listed
 pub mod Settled
 pub mod Written
+pub mod Gathered

@@ -3,3 +3,4 @@ pub mod Own
 pub mod Records
 pub mod Steps
 pub mod Verdict
+pub mod Collected

@@ -11,6 +11,7 @@ mod own;
 mod records;
 mod steps;
 mod verdict;
+mod writes;
 
 pub use answers::{Got, Put};
 pub use own::Own;
