@@ -6,3 +6,4 @@ pub mod Ties
 pub mod Moved
 pub mod Branches
 pub mod Open
+pub mod Gathered

@@ -4,3 +4,4 @@ pub mod Records
 pub mod Steps
 pub mod Verdict
 pub mod Ties
+pub mod Collected

@@ -12,6 +12,7 @@ mod own;
 mod records;
 mod steps;
 mod verdict;
+mod writes;
 
 pub use answers::{Got, Put};
 pub use laws::one_history;
