@@ -3,3 +3,9 @@ pub mod Lists
 pub mod Order
 pub mod Ordering
 pub mod Histories
+pub mod Xids
+pub mod Names
+pub mod Known
+pub mod Times
+pub mod Held
+pub mod Newest

@@ -85,7 +85,7 @@ commit_orderly s flags xid h =
 row_orderly : (s : State) (n : ℕ) (request : Request) → IsOrderly s → IsOrderly (row s n request).after
 row_orderly s n (Open flags info) h = record { descends = h.descends }
 row_orderly s n (Start flags xid) h =
-    unless_orderly (start_refusal (active_of s.associations n) (is_some (known_of s.branches xid)) (known_count s.branches) s.given) s (begun s n xid) h (begun_orderly s n xid h)
+    unless_orderly (start_refusal (is_some (active_of s.associations n)) (is_some (known_of s.branches xid)) (known_count s.branches) s.given) s (begun s n xid) h (begun_orderly s n xid h)
 row_orderly s n (End flags xid) h = end_orderly s n xid h
 row_orderly s n (Commit flags xid) h = commit_orderly s flags xid h
 row_orderly s n (Get key) h = get_orderly s key (own_branch s n) h

@@ -1,9 +1,9 @@
 -- The association table: how sessions come to work for branches.
-use Rattle.std.specs.Prelude.{ℕ, ◌+◌, ◌==◌, ℤ, Bool, true, false, not, ◌||◌, Option, None, List, [], ◌∷◌, length, is_some, is_none, nat_lt, option_and_then, if◌then◌else◌}
+use Rattle.std.specs.Prelude.{ℕ, ◌+◌, ◌==◌, ℤ, Bool, true, false, not, ◌||◌, Option, Some, None, List, [], ◌∷◌, length, is_some, is_none, nat_lt, option_and_then, if◌then◌else◌}
 use Rattle.std.specs.List.{list_any}
 use Rattle.xa_codes.specs.declared.codes.TheConstants.{XAER_PROTO, XAER_NOTA, XAER_DUPID, XAER_RMERR}
 use Rattle.xa_codes.specs.declared.detail.Detail.TheVariants as detail
-use Rattle.xa_xid.specs.Triple.{Triple}
+use Rattle.xa_xid.specs.Triple.{Triple, xid_eq}
 use Rattle.xa_frame.specs.declared.body.Body.TheVariants as body
 use Rattle.xa_frame.specs.declared.reply.Reply.{Reply}
 use Rattle.xa_model.specs.State.{State, Session, Branch, Association, Active, Working, known_of, known_count, active_of, owns, is_loose_with, without, change, free_number, timestamp_of}
@@ -43,10 +43,10 @@ open_by s n = ok (record s { sessions = change (λ x. x.number == n) as_opened s
 
 -- Start with neither TMJOIN nor TMRESUME: a new branch
 
-abbrev pub start_refusal : Option Triple → Bool → ℕ → ℕ → Option Reply
-start_refusal active is_taken known given =
+abbrev pub start_refusal : Bool → Bool → ℕ → ℕ → Option Reply
+start_refusal is_at_work is_taken known given =
     first (
-    (is_some active, plain XAER_PROTO)
+    (is_at_work, plain XAER_PROTO)
     ∷ (is_taken, plain XAER_DUPID)
     ∷ (not (nat_lt known most_branches) || not (nat_lt given most_given), detailed XAER_RMERR detail.Limit)
     ∷ [])
@@ -62,7 +62,12 @@ begun s n xid =
 
 abbrev pub start_by : State → ℕ → Triple → Answer
 start_by s n xid =
-    unless (start_refusal (active_of s.associations n) (is_some (known_of s.branches xid)) (known_count s.branches) s.given) s (begun s n xid)
+    unless (start_refusal (is_some (active_of s.associations n)) (is_some (known_of s.branches xid)) (known_count s.branches) s.given) s (begun s n xid)
+
+-- whether what a session works for is the branch with this XID
+abbrev pub is_with : Triple → Option Triple → Bool
+is_with xid None = false
+is_with xid (Some x) = xid_eq x xid
 
 -- End with TMSUCCESS: the session's own association with the XID ends, or a loose one if it has none
 

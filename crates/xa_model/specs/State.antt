@@ -1,5 +1,5 @@
 -- The state of the sequential resource manager.
-use Rattle.std.specs.Prelude.{ℕ, zero, suc, ◌+◌, ◌*◌, ◌^◌, ◌==◌, ℤ, Bool, true, false, ◌&&◌, Option, List, [], ◌∷◌, find, filter, length, count_by, option_map, option_and_then, is_some, if◌then◌else◌}
+use Rattle.std.specs.Prelude.{ℕ, zero, suc, ◌+◌, ◌*◌, ◌^◌, ◌==◌, ℤ, Bool, true, false, ◌&&◌, Option, List, [], ◌∷◌, find, filter, length, option_map, option_and_then, is_some, if◌then◌else◌}
 use Rattle.xa_xid.specs.Triple.{Triple, xid_eq}
 use Rattle.xa_record.specs.declared.record.Record.{Record}
 
@@ -97,7 +97,7 @@ known_of branches xid = find (is_known_as xid) branches
 
 -- how many branches are known
 abbrev pub known_count : List Branch → ℕ
-known_count branches = count_by (λ b. is_known b.phase) branches
+known_count branches = length (filter (λ b. is_known b.phase) branches)
 
 -- the committed branches, the greatest timestamp first
 abbrev pub is_committed : Phase → Bool
@@ -140,7 +140,7 @@ active_of held n = option_map (λ a. a.xid) (find (λ a. is_active n a.holder) h
 
 -- how many associations a branch has, of sessions or loose
 abbrev pub holders_of : List Association → Triple → ℕ
-holders_of held xid = count_by (λ a. xid_eq a.xid xid) held
+holders_of held xid = length (filter (λ a. xid_eq a.xid xid) held)
 
 -- the known branch that the session works for
 abbrev pub own_branch : State → ℕ → Option Branch

@@ -1,0 +1,7 @@
+pub mod Seen
+pub mod Chains
+pub mod Stands
+pub mod Exact
+pub mod Kept
+mod Rows
+pub mod Rules

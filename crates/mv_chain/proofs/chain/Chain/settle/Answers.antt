@@ -1,0 +1,4 @@
+use Rattle.mv_chain.proofs.chain.Chain.settle.Goals as goal
+
+pub returns-clause-stands : goal.returns-clause-stands
+returns-clause-stands c = rw (← c.self.view_is) c.settle_in.ensures.stands

@@ -1,0 +1,187 @@
+ghost use Rattle.std.specs.Prelude.{◌≡◌, ℕ, ◌≤◌, List, [], ◌∷◌, None, IfOk, OnOk, OnErr, false, option_map};
+ghost use Rattle.mv_chain.specs.History.{Written, Answered, seen, is_busy, is_late, decided, IsUnsettled};
+ghost use Rattle.mv_chain.specs.Chain.{StandsFor, fresh, shows, is_marked, marked, installed, settled};
+
+use crate::changes::{install_in, mark_in, settle_in};
+use crate::fate::Fate;
+use crate::found::Found;
+use crate::places::{last_upto, late_in};
+use crate::version::{Version, content_of};
+use std::alloc::{AllocError, Global};
+use std::marker::Model;
+
+/// The versions of one key, ascending by timestamp, each with one read mark.
+///
+/// Every call is total. A look-up by timestamp is a binary search. Timestamps of branches are above 0.
+#[derive(Drop)]
+pub struct Chain {
+    versions: Vec<Version>,
+}
+
+impl Model for Chain {
+    ghost use Rattle.std.specs.Prelude.{List};
+    ghost use Rattle.mv_chain.specs.declared.version.Version.{Version};
+
+    ghost Value = { List Version };
+
+    ghost use Rattle.mv_chain.specs.Chain.{IsChain};
+
+    ghost view = { λ c. c.versions.items };
+
+    ghost invariant = { λ c. IsChain c.versions.items };
+}
+
+impl Chain {
+    /// A key that nobody wrote: one committed version at timestamp 0, absent.
+    pub fn new(alloc: Global) -> Result<Chain, AllocError>
+        ensures base { IfOk result (λ c. c ≡ fresh) }
+        ensures stands { IfOk result (λ c. (key : List ℕ) (low : ℕ) → StandsFor key low [] [] c) }
+    {
+        let mut versions = Vec::new(alloc);
+        versions.push(Version {
+            timestamp: 0,
+            value: None,
+            pending: false,
+            mark: 0,
+        })?;
+        Ok(Chain { versions })
+    }
+
+    /// The source of a read at `ts`: the version with the greatest timestamp of at most `ts`. A read is to
+    /// wait or give up where that is pending and not at `ts` itself.
+    #[tactic(auto, using(crate::proofs::Rules::chain_rules))]
+    pub fn source(&self, ts: u64) -> Found
+        ensures from { result.from ≡ (shows ts self.now).from }
+        ensures pending { result.pending ≡ (shows ts self.now).pending }
+    {
+        match last_upto(&self.versions, ts) {
+            None => Found {
+                from: 0,
+                pending: false,
+            },
+            Some(i) => {
+                let version = &self.versions[i];
+                Found {
+                    from: version.timestamp,
+                    pending: version.pending,
+                }
+            }
+        }
+    }
+
+    /// The value of the version that a read at `from` sees, so of the version of timestamp `from` where
+    /// there is one. `None` where the key is absent.
+    #[tactic(auto, using(crate::proofs::Rules::chain_rules))]
+    pub fn value(&self, from: u64) -> Option<&[u8]>
+        ensures { option_map (λ v. v.now) result ≡ (shows from self.now).value }
+    {
+        match last_upto(&self.versions, from) {
+            None => None,
+            Some(i) => match &self.versions[i].value {
+                Some(content) => Some(content.as_slice()),
+                None => None,
+            },
+        }
+    }
+
+    /// Whether a write at `ts` is late: a version below `ts` was read above `ts`.
+    pub fn late(&self, ts: u64) -> bool
+        ensures { result ≡ is_marked ts self.now }
+    {
+        late_in(&self.versions, ts)
+    }
+
+    /// Notes an answered read: the version of timestamp `from` was read at `reader`. Where `from` isn't the
+    /// source of a read at `reader`, or that read may not be answered, nothing changes.
+    pub fn mark(&mut self, from: u64, reader: u64)
+        ensures versions { self.new ≡ marked from reader self.old }
+        ensures stands { (key : List ℕ) (low : ℕ) (writes : List Written) (reads : List Answered) → StandsFor key low writes reads self.old → low ≤ reader → from ≡ (seen key reader writes).from → is_busy reader (seen key reader writes) ≡ false → StandsFor key low writes (record { reader = reader; key = key; from = from } ∷ reads) self.new }
+    {
+        mark_in(&mut self.versions, from, reader);
+    }
+
+    /// Adds a branch's write, or replaces its own: `None` deletes the key. Where the write is late, or its
+    /// branch has committed, nothing changes. A write below other versions moves those.
+    ///
+    /// # Errors
+    /// Want of memory, and nothing changes.
+    pub fn install(&mut self, ts: u64, value: Option<Vec<u8>>) -> Result<(), AllocError>
+        ensures versions { OnOk result (self.new ≡ installed ts (option_map (λ v. v.items) value) self.old) }
+        ensures stands { OnOk result ((key : List ℕ) (low : ℕ) (writes : List Written) (reads : List Answered) → StandsFor key low writes reads self.old → IsUnsettled ts low writes → is_late key ts reads ≡ false → StandsFor key low (record { timestamp = ts; key = key; value = option_map (λ v. v.items) value; fate = None } ∷ writes) reads self.new) }
+        ensures err { OnErr result (self.new ≡ self.old) }
+    {
+        install_in(&mut self.versions, ts, content_of(value))
+    }
+
+    /// Decides the fate of a branch's write: it stays, or it goes with its mark. Where the branch has no
+    /// pending version, nothing changes.
+    pub fn settle(&mut self, ts: u64, fate: Fate)
+        ensures versions { self.new ≡ settled ts fate self.old }
+        ensures stands { (key : List ℕ) (low : ℕ) (writes : List Written) (reads : List Answered) → StandsFor key low writes reads self.old → IsUnsettled ts low writes → StandsFor key low (decided ts fate writes) reads self.new }
+    {
+        settle_in(&mut self.versions, ts, fate);
+    }
+}
+
+#[cfg(test)]
+mod tests {
+    use super::*;
+    use std::test::Fail;
+
+    // The first three timestamps of the first boot.
+    const FIRST: u64 = 4294967297;
+
+    const SECOND: u64 = 4294967298;
+
+    const THIRD: u64 = 4294967299;
+
+    const NOBODY: Found = Found {
+        from: 0,
+        pending: false,
+    };
+
+    // The second branch has read the key as absent, so a write by the first is late.
+    #[test]
+    fn late_write(rt: HostRuntime) -> Result<(), Fail> {
+        let mut chain = Chain::new(rt.alloc())?;
+        assert_eq!(rt; chain.source(SECOND), NOBODY);
+        assert!(rt; chain.value(0).is_none());
+        assert!(rt; !chain.late(FIRST));
+        chain.mark(0, SECOND);
+        assert!(rt; chain.late(FIRST));
+        assert!(rt; !chain.late(THIRD));
+        Ok(())
+    }
+
+    // The second branch writes 2 and commits, then the first writes 1 and commits: the third reads 2.
+    #[test]
+    fn earlier_blind_write(rt: HostRuntime) -> Result<(), Fail> {
+        let mut chain = Chain::new(rt.alloc())?;
+        chain.install(SECOND, Some([0x32].to_vec(rt.alloc())?))?;
+        chain.settle(SECOND, Fate::Committed);
+        assert!(rt; !chain.late(FIRST));
+        chain.install(FIRST, Some([0x31].to_vec(rt.alloc())?))?;
+        chain.settle(FIRST, Fate::Committed);
+        let found = chain.source(THIRD);
+        assert_eq!(rt; found.from, SECOND);
+        assert!(rt; !found.pending);
+        assert!(rt; chain.value(SECOND) == Some([0x32].as_slice()));
+        Ok(())
+    }
+
+    // A read above a pending write is to wait; one below it isn't. What is rolled back is seen by no one.
+    #[test]
+    fn busy(rt: HostRuntime) -> Result<(), Fail> {
+        let mut chain = Chain::new(rt.alloc())?;
+        chain.install(FIRST, Some([0x76].to_vec(rt.alloc())?))?;
+        assert!(rt; chain.source(SECOND).pending);
+        chain.settle(FIRST, Fate::Committed);
+        assert!(rt; !chain.source(SECOND).pending);
+        assert!(rt; chain.value(FIRST) == Some([0x76].as_slice()));
+        chain.install(THIRD, None)?;
+        assert_eq!(rt; chain.source(SECOND).from, FIRST);
+        chain.settle(THIRD, Fate::RolledBack);
+        assert_eq!(rt; chain.source(THIRD).from, FIRST);
+        Ok(())
+    }
+}

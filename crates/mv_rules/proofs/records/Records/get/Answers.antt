@@ -1,0 +1,12 @@
+use Rattle.std.proofs.Common.{refl}
+use Rattle.mv_rules.proofs.Places.{stands_get, lists_same}
+use Rattle.mv_rules.proofs.records.Records.get.Goals as goal
+
+pub returns-in-Some-clause-stands : goal.returns-in-Some-clause-stands
+returns-in-Some-clause-stands c =
+    λ h s0 le.
+    let s = c.in-Ok.ensures.stands h s0 in
+    record {
+      chains = stands_get h c.place.new.self _ c.args.key.now c.in-Ok.i c.args.ts c.in-Some.chain.now c.read.new.chain c.read.result le s.chains c.in-Ok.ensures.place c.in-Some.ensures.value (λ q. refl) refl c.read.ensures.stands;
+      lists = lists_same h _ c.place.new.self _ refl (λ q. refl) (λ t. refl) s.lists;
+    }

@@ -1,0 +1,5 @@
+pub mod History
+pub mod Own
+pub mod Records
+pub mod Steps
+pub mod Verdict

@@ -1,0 +1,226 @@
+ghost use Rattle.std.specs.Prelude.{◌≡◌, ◌≢◌, ℕ, ◌≤◌, List, [], Some, IfOk, option_map};
+ghost use Rattle.mv_chain.specs.History.{seen, is_late, has_open, decided, IsUnsettled};
+
+use crate::answers::{Got, Put};
+use crate::own::{Own, count, take_list};
+use crate::steps::{add, read, settle_all};
+use crate::verdict::{Verdict, judge};
+use mv_chain::{Chain, Fate};
+use std::alloc::{AllocError, Global};
+use std::collections::BTreeMap;
+use xa_codes::Bytes;
+
+/// The versions of all keys, and for each undecided branch the keys that it has written.
+///
+/// Every call is total. What a call promises holds for every history that the records stood for. Timestamps
+/// of branches are above 0, and none is used again once it is settled.
+#[derive(Drop)]
+pub struct Records {
+    alloc: Global,
+    /// Where each key's chain stands.
+    places: BTreeMap<Vec<u8>, usize>,
+    chains: Vec<Chain>,
+    written: BTreeMap<u64, Vec<Own>>,
+}
+
+impl Records {
+    ghost use Rattle.mv_rules.specs.History.{History, answer_of, reads_after, open_keys, put_of, after_put};
+    ghost use Rattle.mv_rules.specs.Records.{StandsFor, place_of};
+
+    /// No key was written or read. Takes no memory.
+    pub fn new(alloc: Global) -> Records
+        ensures { (low : ℕ) → StandsFor (record { low = low; writes = []; reads = [] }) result }
+    {
+        Records {
+            alloc,
+            places: BTreeMap::new(alloc),
+            chains: Vec::new(alloc),
+            written: BTreeMap::new(alloc),
+        }
+    }
+
+    /// The place of the key's chain, which is made if there is none.
+    fn place(&mut self, key: &[u8]) -> Result<usize, AllocError>
+        ensures place { IfOk result (λ i. place_of key.now self.new ≡ Some i) }
+        ensures stands { (h : History) → StandsFor h self.old → StandsFor h self.new }
+    {
+        if let Some(i) = self.places.get(key) {
+            return Ok(*i);
+        }
+        let copy = key.to_vec(self.alloc)?;
+        let chain = Chain::new(self.alloc)?;
+        let i = self.chains.len();
+        self.chains.push(chain)?;
+        match self.places.insert(copy, i) {
+            Ok(_) => Ok(i),
+            Err(refused) => {
+                self.chains.pop();
+                Err(refused.into())
+            }
+        }
+    }
+
+    /// What a branch of timestamp `ts` reads at the key. An answered read is noted; Busy and want of memory
+    /// change nothing.
+    pub fn get(&mut self, ts: u64, key: &[u8]) -> Got
+        ensures answer { (h : History) → StandsFor h self.old → h.low ≤ ts → result ≢ Got.Memory → result ≡ answer_of ts (seen key.now ts h.writes) }
+        ensures stands { (h : History) → StandsFor h self.old → h.low ≤ ts → StandsFor (record h { reads = reads_after result ts key.now (seen key.now ts h.writes).from h.reads }) self.new }
+    {
+        let Ok(i) = self.place(key) else {
+            return Got::Memory;
+        };
+        match self.chains.get_mut(i) {
+            Some(chain) => read(self.alloc, chain, ts),
+            None => Got::Memory,
+        }
+    }
+
+    /// Adds a branch's write, or replaces its own: `None` deletes the key. A branch writes at most 256 keys.
+    /// Limit, Late and want of memory change nothing.
+    pub fn put(&mut self, ts: u64, key: &[u8], value: Option<Vec<u8>>) -> Put
+        ensures answer { (h : History) → StandsFor h self.old → IsUnsettled ts h.low h.writes → result ≢ Put.Memory → result ≡ put_of (has_open key.now ts h.writes) (open_keys ts h.writes) (is_late key.now ts h.reads) }
+        ensures stands { (h : History) → StandsFor h self.old → IsUnsettled ts h.low h.writes → StandsFor (after_put result ts key.now (option_map (λ v. v.items) value) h) self.new }
+    {
+        let Ok(i) = self.place(key) else {
+            return Put::Memory;
+        };
+        let count = count(&self.written, ts);
+        let Some(chain) = self.chains.get_mut(i) else {
+            return Put::Memory;
+        };
+        match judge(chain, count, ts) {
+            Verdict::Refused(answer) => answer,
+            Verdict::Again => match chain.install(ts, value) {
+                Ok(()) => Put::Done,
+                Err(_) => Put::Memory,
+            },
+            Verdict::First => {
+                let Ok(copy) = Bytes::from_slice(self.alloc, key) else {
+                    return Put::Memory;
+                };
+                let own = Own {
+                    key: copy,
+                    place: i,
+                };
+                match add(self.alloc, chain, &mut self.written, ts, own, value) {
+                    Ok(()) => Put::Done,
+                    Err(_) => Put::Memory,
+                }
+            }
+        }
+    }
+
+    /// Decides the fate of a branch: its writes stay, or go. Takes no memory.
+    pub fn settle(&mut self, ts: u64, fate: Fate)
+        ensures { (h : History) → StandsFor h self.old → IsUnsettled ts h.low h.writes → StandsFor (record h { writes = decided ts fate h.writes }) self.new }
+    {
+        if let Some(own) = take_list(&mut self.written, ts) {
+            settle_all(&mut self.chains, &own, ts, fate);
+        }
+    }
+}
+
+#[cfg(test)]
+mod tests {
+    use super::*;
+    use std::test::Fail;
+
+    // The first three timestamps of the first boot.
+    const FIRST: u64 = 4294967297;
+
+    const SECOND: u64 = 4294967298;
+
+    const THIRD: u64 = 4294967299;
+
+    fn value(alloc: Global, byte: u8) -> Result<Option<Vec<u8>>, AllocError> {
+        Ok(Some([byte].to_vec(alloc)?))
+    }
+
+    fn is_value(got: Got, byte: u8) -> bool {
+        match got {
+            Got::Value(bytes) => bytes.as_slice() == [byte].as_slice(),
+            _ => false,
+        }
+    }
+
+    // The second branch has read the key as absent, so a write by the first is late.
+    #[test]
+    fn late_write(rt: HostRuntime) -> Result<(), Fail> {
+        let mut records = Records::new(rt.alloc());
+        assert!(rt; matches!(records.get(SECOND, b"k"), Got::Absent));
+        assert_eq!(rt;
+            records.put(FIRST, b"k", value(rt.alloc(), 0x76)?),
+            Put::Late
+        );
+        assert_eq!(rt;
+            records.put(FIRST, b"l", value(rt.alloc(), 0x76)?),
+            Put::Done
+        );
+        Ok(())
+    }
+
+    // The second branch writes 2 and commits, then the first writes 1 and commits: the third reads 2.
+    #[test]
+    fn earlier_blind_write(rt: HostRuntime) -> Result<(), Fail> {
+        let mut records = Records::new(rt.alloc());
+        assert_eq!(rt;
+            records.put(SECOND, b"k", value(rt.alloc(), 0x32)?),
+            Put::Done
+        );
+        records.settle(SECOND, Fate::Committed);
+        assert_eq!(rt;
+            records.put(FIRST, b"k", value(rt.alloc(), 0x31)?),
+            Put::Done
+        );
+        records.settle(FIRST, Fate::Committed);
+        assert!(rt; is_value(records.get(THIRD, b"k"), 0x32));
+        Ok(())
+    }
+
+    // A read above a pending write is to wait; one below it isn't.
+    #[test]
+    fn busy(rt: HostRuntime) -> Result<(), Fail> {
+        let mut records = Records::new(rt.alloc());
+        assert_eq!(rt;
+            records.put(FIRST, b"k", value(rt.alloc(), 0x76)?),
+            Put::Done
+        );
+        assert!(rt; matches!(records.get(SECOND, b"k"), Got::Busy(FIRST)));
+        records.settle(FIRST, Fate::Committed);
+        assert!(rt; is_value(records.get(SECOND, b"k"), 0x76));
+        let mut other = Records::new(rt.alloc());
+        assert_eq!(rt;
+            other.put(SECOND, b"k", value(rt.alloc(), 0x76)?),
+            Put::Done
+        );
+        assert!(rt; matches!(other.get(FIRST, b"k"), Got::Absent));
+        Ok(())
+    }
+
+    // A branch reads its own writes, and a delete is one.
+    #[test]
+    fn delete(rt: HostRuntime) -> Result<(), Fail> {
+        let mut records = Records::new(rt.alloc());
+        assert_eq!(rt;
+            records.put(FIRST, b"k", value(rt.alloc(), 0x76)?),
+            Put::Done
+        );
+        assert!(rt; is_value(records.get(FIRST, b"k"), 0x76));
+        assert_eq!(rt; records.put(FIRST, b"k", None), Put::Done);
+        assert!(rt; matches!(records.get(FIRST, b"k"), Got::Absent));
+        Ok(())
+    }
+
+    // The 257th key is refused, a further write of one of the 256 isn't.
+    #[test]
+    fn limit(rt: HostRuntime) -> Result<(), Fail> {
+        let mut records = Records::new(rt.alloc());
+        for byte in 0..=255u8 {
+            assert_eq!(rt; records.put(FIRST, &[byte], None), Put::Done);
+        }
+        assert_eq!(rt; records.put(FIRST, b"kk", None), Put::Limit);
+        assert_eq!(rt; records.put(FIRST, b"k", None), Put::Done);
+        assert_eq!(rt; records.put(SECOND, b"kk", None), Put::Done);
+        Ok(())
+    }
+}

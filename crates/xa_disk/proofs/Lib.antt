@@ -1,0 +1,6 @@
+pub mod First
+pub mod Put
+pub mod Time
+pub mod Heeds
+pub mod Replays
+pub mod Plans

@@ -1,0 +1,89 @@
+-- How a call of a disk in memory moves its time on.
+use Rattle.std.proofs.Common.{◌≡◌, inl, inr, ℕ, ◌+◌, Bool, true, false, List, [], ◌∷◌, ◌++◌, length, refl, sym, ◌∙◌, ap, subst, arith, length-append, OnOk, Result, Ok, Err, MatchBool, IsTrue}
+use Rattle.std.proofs.lemmas.List.{take_all, take-append-le}
+use Rattle.std.proofs.lemmas.Bool.{cases_lt}
+use Rattle.xa_disk.specs.Disk.{Torn, Same, Only, Passes}
+use Rattle.xa_disk.specs.declared.call.Call.{Call}
+use Rattle.xa_disk.specs.declared.call.Call.TheVariants.{Write, Sync}
+use Rattle.xa_disk.specs.declared.memory.MemDisk.{MemDisk}
+use Rattle.xa_disk.specs.Replay.{Now, after, replay, replay_more, at_first, IsImage, LeftSince}
+use Rattle.xa_disk.specs.Images.{seen_may_stay}
+use Rattle.xa_disk.specs.Memory.{start_of, Keeps, Stays, Wrote, Synced}
+
+abbrev Elapsed : (List ℕ → List ℕ → Type 0) → List ℕ → List Call → List ℕ → List Call → Type 0
+Elapsed step first calls first' calls' =
+    Passes step (length calls) (length calls') (LeftSince first calls) (LeftSince first' calls') (IsImage (replay first calls)) (IsImage (replay first' calls'))
+
+pub torn_same : (at n : ℕ) (c : List ℕ) → Torn at n c c
+torn_same at n c = record { no_shorter = omega arith; no_longer = omega arith; below = λ i l b. refl; above = λ i l b. refl }
+
+none : (step : List ℕ → List ℕ → Type 0) → ((c : List ℕ) → step c c) → (first : List ℕ) (calls : List Call) → Elapsed step first calls first calls
+none step same first calls = record {
+  later = omega arith;
+  follows = λ c now. (c, now, same c);
+  nothing_else = λ t c le left. inl left;
+  keeps = λ t c le left. left;
+}
+
+more : (step : List ℕ → List ℕ → Type 0) (first : List ℕ) (calls : List Call) (call : Call) → ((c : List ℕ) → IsImage (after call (replay first calls)) c → (d : List ℕ) × IsImage (replay first calls) d × step d c)
+    → Elapsed step first calls first (calls ++ call ∷ [])
+more step first calls call goes = record {
+  later = omega (arith, longer);
+  follows = follows;
+  nothing_else = λ t c le left.
+      elim (cases_lt (length calls) left.0) [
+        | inl past ↦ inr (follows c (subst (λ (l : List Call). IsImage (replay first l) c) (take_all left.0 (calls ++ call ∷ []) (omega (arith, longer))) left.3))
+        | inr within ↦ inl (left.0, left.1, within, subst (λ (l : List Call). IsImage (replay first l) c) (take-append-le left.0 calls (call ∷ []) within) left.3)
+      ];
+  keeps = λ t c le left.
+      (left.0, left.1, omega (arith, left.2, longer), subst (λ (l : List Call). IsImage (replay first l) c) (sym (take-append-le left.0 calls (call ∷ []) left.2)) left.3);
+}
+  where
+    longer : length (calls ++ call ∷ []) ≡ length calls + 1
+    longer = length-append calls (call ∷ [])
+
+    follows : (c : List ℕ) → IsImage (replay first (calls ++ call ∷ [])) c → (d : List ℕ) × IsImage (replay first calls) d × step d c
+    follows c now = goes c (subst (λ (s : Now). IsImage s c) (replay_more (at_first first) calls call) now)
+
+to : (step : List ℕ → List ℕ → Type 0) (first first' : List ℕ) (calls calls' calls'' : List Call) → first' ≡ first → calls'' ≡ calls' → Elapsed step first calls first calls' → Elapsed step first calls first' calls''
+to step first first' calls calls' calls'' f l passes =
+    subst (λ (x : List ℕ). Elapsed step first calls x calls'') (sym f) (subst (λ (x : List Call). Elapsed step first calls first x) (sym l) passes)
+
+abbrev Between : (List ℕ → List ℕ → Type 0) → MemDisk → MemDisk → Type 0
+Between step a e = Elapsed step (start_of a) a.calls.items (start_of e) e.calls.items
+
+pub time_put : (a b d e : MemDisk) (done : Bool) (at : ℕ) (bytes : List ℕ) → Stays a b → MatchBool done (Wrote b d at bytes) (Stays b d) → Keeps d e → Between (Torn at (length bytes)) a e
+time_put a b d e true at bytes s w k =
+    let v = w.noted.0 in
+    subst (λ (xs : List ℕ). Between (Torn at (length xs)) a e) w.noted.1
+    (to (Torn at (length v.items)) (start_of a) (start_of e) a.calls.items (a.calls.items ++ Write at v ∷ []) e.calls.items
+    (k.first ∙ w.first ∙ s.same.first)
+    (k.calls ∙ w.noted.2 ∙ ap (λ (l : List Call). l ++ Write at v ∷ []) s.same.calls)
+    (more _ (start_of a) a.calls.items (Write at v) (λ c now. now)))
+time_put a b d e false at bytes s w k =
+    to _ (start_of a) (start_of e) a.calls.items a.calls.items e.calls.items (k.first ∙ w.same.first ∙ s.same.first) (k.calls ∙ w.same.calls ∙ s.same.calls)
+    (none _ (torn_same at (length bytes)) (start_of a) a.calls.items)
+
+pub time_sync : (a b d e : MemDisk) (done : Bool) → Stays a b → MatchBool done (Synced b d) (Stays b d) → Keeps d e → Between Same a e
+time_sync a b d e true s w k =
+    to Same (start_of a) (start_of e) a.calls.items (a.calls.items ++ Sync ∷ []) e.calls.items (k.first ∙ w.first ∙ s.same.first)
+    (k.calls ∙ w.noted ∙ ap (λ (l : List Call). l ++ Sync ∷ []) s.same.calls)
+    (more _ (start_of a) a.calls.items Sync (λ c now. ((replay (start_of a) a.calls.items).seen, seen_may_stay (start_of a) a.calls.items, now)))
+time_sync a b d e false s w k =
+    to _ (start_of a) (start_of e) a.calls.items a.calls.items e.calls.items (k.first ∙ w.same.first ∙ s.same.first) (k.calls ∙ w.same.calls ∙ s.same.calls)
+    (none Same (λ c. refl) (start_of a) a.calls.items)
+
+-- after a sync nothing but what a read gives
+pub durable : (a b d e : MemDisk) → Stays a b → Synced b d → Keeps d e → Only a.bytes.items (IsImage (replay (start_of e) e.calls.items))
+durable a b d e s w k c now =
+    let same : replay (start_of e) e.calls.items ≡ after Sync (replay (start_of a) a.calls.items) =
+    ap (λ (x : List ℕ). replay x e.calls.items) (k.first ∙ w.first ∙ s.same.first)
+    ∙ ap (λ (l : List Call). replay (start_of a) l) (k.calls ∙ w.noted ∙ ap (λ (l : List Call). l ++ Sync ∷ []) s.same.calls)
+    ∙ replay_more (at_first (start_of a)) a.calls.items Sync in
+    let image : c ≡ (replay (start_of a) a.calls.items).seen = subst (λ (x : Now). IsImage x c) same now in
+    image ∙ sym a.replayed
+
+pub durable_at : {T F : Type 0} (P : Type 0) (r : Result T F) (done : Bool) (a b d e : MemDisk) → OnOk r (P × IsTrue done) → Stays a b → MatchBool done (Synced b d) (Stays b d) → Keeps d e → OnOk r (Only a.bytes.items (IsImage (replay (start_of e) e.calls.items)))
+durable_at P (Ok x) true a b d e ok s w k = durable a b d e s w k
+durable_at P (Ok x) false a b d e ok s w k = absurd (cc)
+durable_at P (Err x) done a b d e ok s w k = tt

@@ -1,0 +1,79 @@
+ghost use Rattle.std.specs.Prelude.{◌≡◌, ◌≤◌, List, ℕ, length, IfOk, OnOk, OnErr};
+ghost use Rattle.xa_disk.specs.Disk.{put, Torn, Same, Only, Passes, CountsFault, Reads};
+
+/// A device call that failed.
+#[derive(Clone, Copy, Debug, PartialEq, Eq)]
+pub struct DiskFault;
+
+/// A disk that may lose, at a crash, what no sync has made stable.
+///
+/// Between two syncs each range that was written, and the part past the old end, may hold any bytes after a
+/// crash; bytes outside of them stay, and nothing reaches past the old end and the written ranges. A sync that
+/// succeeds leaves what a read gives. A write that fails may have changed any bytes of its range and of a gap
+/// before it; a sync that fails may have made any part stable; a read or a length that fails changes nothing.
+///
+/// The ghost members are what these words speak of. Where `honest` doesn't hold of a type, its clauses promise
+/// only the count of failures.
+pub trait Disk {
+    /// The clauses on values hold of this type of disk.
+    ghost honest: { Type 0 };
+
+    /// What a read gives.
+    ghost seen: { Self → List ℕ };
+
+    /// What a crash now may leave.
+    ghost may_leave: { Self → List ℕ → Type 0 };
+
+    /// The moment, as a number that doesn't fall.
+    ghost moment: { Self → ℕ };
+
+    /// What a crash at some moment from that one on may have left.
+    ghost left_since: { Self → ℕ → List ℕ → Type 0 };
+
+    /// What a write of these bytes at this place that fails may leave to a read, from what a read gave before.
+    ghost tears: { List ℕ → ℕ → List ℕ → List ℕ → Type 0 };
+
+    /// How many calls have failed. Each fault adds one, and nothing else does; at 2^64 - 1 it stays.
+    ghost failures: { Self → ℕ };
+
+    /// How many bytes a read can give.
+    fn length(&mut self) -> Result<u64, DiskFault>
+        ensures value { honest → IfOk result (λ n. n ≡ length (seen self.old)) }
+        ensures same { honest → seen self.new ≡ seen self.old }
+        ensures time { honest → Passes Same (moment self.old) (moment self.new) (left_since self.old) (left_since self.new) (may_leave self.old) (may_leave self.new) }
+        ensures count { CountsFault result (failures self.old) (failures self.new) };
+
+    /// Fills `into` with the bytes from a place on. A read past the length is a fault.
+    fn read_at(&mut self, at: u64, into: &mut [u8]) -> Result<(), DiskFault>
+        ensures value { honest → OnOk result (Reads (seen self.old) at into.new) }
+        ensures same { honest → seen self.new ≡ seen self.old }
+        ensures time { honest → Passes Same (moment self.old) (moment self.new) (left_since self.old) (left_since self.new) (may_leave self.old) (may_leave self.new) }
+        ensures count { CountsFault result (failures self.old) (failures self.new) };
+
+    /// Writes over what is there, and past the end; a gap before the place is filled with zeros. Until a sync, a
+    /// crash may leave any bytes in the range and past the old end.
+    fn write_at(&mut self, at: u64, from: &[u8]) -> Result<(), DiskFault>
+        ensures written { honest → OnOk result (seen self.new ≡ put (seen self.old) at from.now) }
+        ensures failed { honest → OnErr result (tears (seen self.old) at from.now (seen self.new)) }
+        ensures time { honest → Passes (Torn at (length from.now)) (moment self.old) (moment self.new) (left_since self.old) (left_since self.new) (may_leave self.old) (may_leave self.new) }
+        ensures count { CountsFault result (failures self.old) (failures self.new) };
+
+    /// Makes what a read gives what a crash leaves.
+    fn sync(&mut self) -> Result<(), DiskFault>
+        ensures durable { honest → OnOk result (Only (seen self.old) (may_leave self.new)) }
+        ensures same { honest → seen self.new ≡ seen self.old }
+        ensures time { honest → Passes Same (moment self.old) (moment self.new) (left_since self.old) (left_since self.new) (may_leave self.old) (may_leave self.new) }
+        ensures count { CountsFault result (failures self.old) (failures self.new) };
+
+    /// Law: this moment is one of those since an earlier one.
+    ghost counts_now: { (disk : Self) (t : ℕ) (c : List ℕ) → t ≤ moment disk → may_leave disk c → left_since disk t c };
+
+    /// Law: since this moment there is no other.
+    ghost only_now: { (disk : Self) (c : List ℕ) → left_since disk (moment disk) c → may_leave disk c };
+
+    /// Law: a write that fails changes no byte outside its range and the gap before it.
+    ghost tears_torn: { (old : List ℕ) (at : ℕ) (bytes new : List ℕ) → tears old at bytes new → Torn at (length bytes) old new };
+
+    /// Law: a crash may leave what a read gives.
+    ghost seen_may_stay: { (disk : Self) → may_leave disk (seen disk) };
+}

@@ -1,0 +1,22 @@
+//! A disk as a log sees it: what a read gives, what a crash may leave, and a count of the calls that failed.
+//!
+//! - `disk`: the trait `Disk`, whose ghost members say what its calls mean, and `DiskFault`
+//! - `memory`: `MemDisk`, of which all of that is proved; with `plan` (calls that are to fail), `call` (the
+//!   record of its writes and syncs) and `bytes` (the bytes alone)
+//! - `file`: `FileDisk`, a real file, of which only the count is proved
+#![tactic(auto)]
+
+mod bytes;
+mod call;
+mod disk;
+mod file;
+mod memory;
+mod plan;
+
+pub use disk::{Disk, DiskFault};
+pub use file::FileDisk;
+pub use memory::MemDisk;
+pub use plan::Effect;
+
+#[cfg(test)]
+mod tests;

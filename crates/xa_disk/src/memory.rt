@@ -1,0 +1,278 @@
+//! A disk in memory that keeps a record of its writes and syncs.
+ghost use Rattle.std.specs.Prelude.{◌≡◌, ◌⊎◌, ◌+◌, ◌≤◌, ◌<◌, ◌==◌, ◌≢◌, ◌↔◌, ℕ, [], ⊤, false, length, if◌then◌else◌, Some, None, OnOk, OnErr, IfOk, MatchBool, MatchResult, IsTrue, is_ok};
+ghost use Rattle.xa_disk.specs.Disk.{put, Torn, Same, Only, Passes, AllOrNone, CountsFault, Reads};
+ghost use Rattle.xa_disk.specs.Plans.{due};
+ghost use Rattle.xa_disk.specs.Replay.{first_of, replay, IsImage, LeftSince};
+ghost use Rattle.xa_disk.specs.Images.{counts_now, only_now, stays_of, all_or_none_torn};
+
+use crate::bytes::{put_bytes, read_bytes};
+use crate::call::{Call, note_sync, note_write, replayed, stable_end};
+use crate::plan::{Effect, Plan, take_due};
+use crate::{Disk, DiskFault};
+use std::alloc::{AllocError, Global};
+
+/// A disk in memory. A test plans which of its calls fail, and when it crashes.
+#[derive(Drop)]
+pub struct MemDisk {
+    // What it held at first, if a write has changed the bytes since.
+    first: Option<Vec<u8>>,
+    calls: Vec<Call>,
+    bytes: Vec<u8>,
+    plans: Vec<Plan>,
+    failures: u64,
+    ghost replayed: { bytes.items ≡ (replay (first_of first bytes.items) calls.items).seen },
+}
+
+// What a disk held at first: its bytes now, where no write has changed them.
+fn held_first<'a>(first: &'a Option<Vec<u8>>, bytes: &'a [u8]) -> &'a [u8]
+    ensures { result.now ≡ first_of first.now bytes.now }
+{
+    match first {
+        Some(first) => first,
+        None => bytes,
+    }
+}
+
+impl MemDisk {
+    ghost use Rattle.xa_disk.specs.Memory.{IsNew, Stays, Crashes};
+
+    /// An empty disk.
+    pub fn new(alloc: Global) -> MemDisk
+        ensures { IsNew [] result }
+    {
+        MemDisk::with_bytes(Vec::new(alloc))
+    }
+
+    /// A disk that holds these bytes, all of them stable.
+    pub fn with_bytes(bytes: Vec<u8>) -> MemDisk
+        ensures { IsNew bytes.items result }
+    {
+        let alloc = *bytes.allocator();
+        MemDisk {
+            first: None,
+            calls: Vec::new(alloc),
+            bytes,
+            plans: Vec::new(alloc),
+            failures: 0,
+        }
+    }
+
+    /// Plans that the k-th device call from now fails, where 1 is the next one. Of two plans for one call the
+    /// later one holds. Nothing else changes.
+    pub fn fail(&mut self, k: u64, effect: Effect) -> Result<(), AllocError>
+        ensures planned { OnOk result ((j : ℕ) → due self.new.plans.items j ≡ (if k == j then Some effect else due self.old.plans.items j)) }
+        ensures err { OnErr result ((j : ℕ) → due self.new.plans.items j ≡ due self.old.plans.items j) }
+        ensures same { Stays self.old self.new }
+    {
+        self.plans.push(Plan { left: k, effect })?;
+        Ok(())
+    }
+
+    /// A crash: the plans are gone, and all that no sync made stable. Moments count from 0 again.
+    pub fn crash(&mut self) -> Result<(), AllocError>
+        ensures ok { OnOk result (Crashes self.old self.new) }
+        ensures err { OnErr result (self.new ≡ self.old) }
+    {
+        let alloc = *self.bytes.allocator();
+        let end = stable_end(&self.calls);
+        let bytes = replayed(
+            alloc,
+            held_first(&self.first, &self.bytes),
+            &self.calls[..end],
+        )?;
+        self.first = None;
+        self.bytes = bytes;
+        self.calls.clear();
+        self.plans.clear();
+        Ok(())
+    }
+}
+
+impl MemDisk {
+    ghost use Rattle.xa_disk.specs.Memory.{Keeps, Stays, Wrote, Synced, CountsDown};
+
+    // The plan for the call that is made now.
+    fn begin(&mut self) -> Option<Effect>
+        ensures plan { result ≡ due self.old.plans.items 1 }
+        ensures later { CountsDown self.old self.new }
+        ensures same { Stays self.old self.new }
+    {
+        take_due(&mut self.plans)
+    }
+
+    // Answers a call that was done or not.
+    fn end(&mut self, plan: Option<Effect>, done: bool) -> Result<(), DiskFault>
+        ensures ok { OnOk result ((plan ≡ None) × IsTrue done) }
+        ensures err { OnErr result (plan ≡ None → done ≡ false) }
+        ensures kept { Keeps self.old self.new }
+        ensures plans { self.new.plans ≡ self.old.plans }
+        ensures count { CountsFault result self.old.failures self.new.failures }
+    {
+        if plan.is_none() && done {
+            return Ok(());
+        }
+        self.failures = self.failures.saturating_add(1);
+        Err(DiskFault)
+    }
+
+    // Copies what the disk held at first, before the first write changes it.
+    fn keep_first(&mut self) -> Result<(), AllocError>
+        ensures same { Stays self.old self.new }
+        ensures ok { OnOk result (self.new.first ≢ None) }
+        ensures plans { self.new.plans ≡ self.old.plans }
+    {
+        if self.first.is_none() {
+            let alloc = *self.bytes.allocator();
+            self.first = Some(Vec::from_slice(alloc, &self.bytes)?);
+        }
+        Ok(())
+    }
+}
+
+impl MemDisk {
+    ghost use Rattle.xa_disk.specs.Memory.{Stays, Wrote, Synced};
+
+    // A write with its effect.
+    fn put(&mut self, at: u64, from: &[u8]) -> Result<(), AllocError>
+        ensures ok { OnOk result (Wrote self.old self.new at from.now) }
+        ensures err { OnErr result (Stays self.old self.new) }
+        ensures plans { self.new.plans ≡ self.old.plans }
+    {
+        self.keep_first()?;
+        self.put_kept(at, from)
+    }
+
+    fn put_kept(&mut self, at: u64, from: &[u8]) -> Result<(), AllocError>
+        requires { self.old.first ≢ None }
+        ensures ok { OnOk result (Wrote self.old self.new at from.now) }
+        ensures err { OnErr result (Stays self.old self.new) }
+        ensures plans { self.new.plans ≡ self.old.plans }
+    {
+        let alloc = *self.bytes.allocator();
+        note_write(&mut self.calls, alloc, at, from)?;
+        match put_bytes(&mut self.bytes, at, from) {
+            Ok(()) => Ok(()),
+            Err(error) => {
+                self.calls.pop();
+                Err(error)
+            }
+        }
+    }
+
+    fn mark_sync(&mut self) -> Result<(), AllocError>
+        ensures ok { OnOk result (Synced self.old self.new) }
+        ensures err { OnErr result (Stays self.old self.new) }
+        ensures plans { self.new.plans ≡ self.old.plans }
+    {
+        note_sync(&mut self.calls)?;
+        Ok(())
+    }
+
+    // A write under a plan.
+    fn try_put(&mut self, plan: Option<Effect>, at: u64, from: &[u8]) -> bool
+        ensures done { MatchBool result (Wrote self.old self.new at from.now) (Stays self.old self.new) }
+        ensures lost { plan ≡ Some Effect.Lost → result ≡ false }
+        ensures plans { self.new.plans ≡ self.old.plans }
+    {
+        if let Some(Effect::Lost) = plan {
+            return false;
+        }
+        match self.put(at, from) {
+            Ok(()) => true,
+            Err(_) => false,
+        }
+    }
+
+    // A sync under a plan.
+    fn try_sync(&mut self, plan: Option<Effect>) -> bool
+        ensures done { MatchBool result (Synced self.old self.new) (Stays self.old self.new) }
+        ensures lost { plan ≡ Some Effect.Lost → result ≡ false }
+        ensures plans { self.new.plans ≡ self.old.plans }
+    {
+        if let Some(Effect::Lost) = plan {
+            return false;
+        }
+        match self.mark_sync() {
+            Ok(()) => true,
+            Err(_) => false,
+        }
+    }
+}
+
+impl Disk for MemDisk {
+    ghost use Rattle.xa_disk.specs.Memory.{Keeps, CountsDown, Heeds, image_of, since};
+
+    ghost honest = { ⊤ };
+
+    ghost seen = { λ d. d.bytes.items };
+
+    ghost may_leave = { λ d c. IsImage (replay (first_of d.first d.bytes.items) d.calls.items) c };
+
+    ghost moment = { λ d. length d.calls.items };
+
+    ghost left_since = { λ d t c. LeftSince (first_of d.first d.bytes.items) d.calls.items t c };
+
+    ghost tears = { AllOrNone };
+
+    ghost tears_torn = { all_or_none_torn };
+
+    ghost failures = { λ d. d.failures };
+
+    ghost counts_now = { λ d t c le now. counts_now (first_of d.first d.bytes.items) d.calls.items t c le now };
+
+    ghost only_now = { λ d c left. only_now (first_of d.first d.bytes.items) d.calls.items c left };
+
+    ghost seen_may_stay = { λ d. stays_of (first_of d.first d.bytes.items) d.calls.items d.bytes.items d.replayed };
+
+    fn length(&mut self) -> Result<u64, DiskFault>
+        ensures value { IfOk result (λ n. n ≡ length self.old.bytes.items) }
+        ensures same { self.new.bytes.items ≡ self.old.bytes.items }
+        ensures time { Passes Same (length self.old.calls.items) (length self.new.calls.items) (since self.old) (since self.new) (image_of self.old) (image_of self.new) }
+        ensures count { CountsFault result self.old.failures self.new.failures }
+        ensures later { CountsDown self.old self.new }
+        ensures heeds { Heeds (due self.old.plans.items 1) result (Keeps self.old self.new) ⊥ (Keeps self.old self.new) }
+    {
+        let plan = self.begin();
+        self.end(plan, true)?;
+        Ok(self.bytes.len() as u64)
+    }
+
+    fn read_at(&mut self, at: u64, into: &mut [u8]) -> Result<(), DiskFault>
+        ensures value { OnOk result (Reads self.old.bytes.items at into.new) }
+        ensures same { self.new.bytes.items ≡ self.old.bytes.items }
+        ensures time { Passes Same (length self.old.calls.items) (length self.new.calls.items) (since self.old) (since self.new) (image_of self.old) (image_of self.new) }
+        ensures count { CountsFault result self.old.failures self.new.failures }
+        ensures later { CountsDown self.old self.new }
+        ensures heeds { Heeds (due self.old.plans.items 1) result (Keeps self.old self.new) ((length self.old.bytes.items < at + length into.old) × Keeps self.old self.new) (Keeps self.old self.new) }
+    {
+        let plan = self.begin();
+        let done = read_bytes(&self.bytes, at, into);
+        self.end(plan, done)
+    }
+
+    fn write_at(&mut self, at: u64, from: &[u8]) -> Result<(), DiskFault>
+        ensures written { OnOk result (self.new.bytes.items ≡ put self.old.bytes.items at from.now) }
+        ensures failed { OnErr result (AllOrNone self.old.bytes.items at from.now self.new.bytes.items) }
+        ensures time { Passes (Torn at (length from.now)) (length self.old.calls.items) (length self.new.calls.items) (since self.old) (since self.new) (image_of self.old) (image_of self.new) }
+        ensures count { CountsFault result self.old.failures self.new.failures }
+        ensures later { CountsDown self.old self.new }
+        ensures heeds { Heeds (due self.old.plans.items 1) result (self.new.bytes.items ≡ put self.old.bytes.items at from.now) (Keeps self.old self.new) (Keeps self.old self.new) }
+    {
+        let plan = self.begin();
+        let done = self.try_put(plan, at, from);
+        self.end(plan, done)
+    }
+
+    fn sync(&mut self) -> Result<(), DiskFault>
+        ensures durable { OnOk result (Only self.old.bytes.items (image_of self.new)) }
+        ensures same { self.new.bytes.items ≡ self.old.bytes.items }
+        ensures time { Passes Same (length self.old.calls.items) (length self.new.calls.items) (since self.old) (since self.new) (image_of self.old) (image_of self.new) }
+        ensures count { CountsFault result self.old.failures self.new.failures }
+        ensures later { CountsDown self.old self.new }
+        ensures heeds { Heeds (due self.old.plans.items 1) result (Only self.old.bytes.items (image_of self.new)) (Keeps self.old self.new) (Keeps self.old self.new) }
+    {
+        let plan = self.begin();
+        let done = self.try_sync(plan);
+        self.end(plan, done)
+    }
+}

@@ -1,0 +1,188 @@
+-- What each step of an append leaves.
+use Rattle.std.proofs.Common.{◌≡◌, ◌≢◌, ◌⊎◌, inl, inr, ⊎_elim, ℕ, ◌+◌, ◌-◌, ◌^◌, ◌<◌, ◌≤◌, true, List, [], ◌∷◌, ◌++◌, length, take, drop, replicate, refl, sym, ◌∙◌, ap, subst, arith, append_assoc, length-append, suc}
+use Rattle.std.proofs.lemmas.List.{take_at, drop_at, length-replicate}
+use Rattle.xa_disk.specs.Disk.{put, Torn, Only, Passes, LeavesOnly}
+use Rattle.xa_log.specs.Chain.{start, last, text, IsBody, digest, record_of, closed_record, Rests, IsPlain, IsBeforeOrAfter}
+use Rattle.xa_log.specs.Answers.{Went, Fell, HasCause}
+use Rattle.xa_log.specs.Stands.{Stands, MayStand, Answers}
+use Rattle.xa_log.specs.declared.appending.Appended.{Appended}
+use Rattle.xa_log.specs.declared.appending.Appended.TheVariants.{Kept, Refused, Lost, Full}
+use Rattle.xa_log.specs.declared.log.Log.{Log}
+use Rattle.xa_log.proofs.Records.{length-record_of, text_more, last_more, rests_more, closed_zeros, plain_front}
+use Rattle.xa_log.proofs.Torn.{torn_same, torn_then, torn_front, put_torn, put_within}
+
+pub length-closed : (bodies : List (List ℕ)) (body : List ℕ) → length (closed_record bodies body) ≡ 40 + length body
+length-closed bodies body = omega (arith, length-append (record_of (last start bodies) body) (0 ∷ 0 ∷ 0 ∷ 0 ∷ []), length-record_of (last start bodies) body)
+
+module _ (bodies : List (List ℕ)) (body file : List ℕ) (rests : Rests bodies file) where
+  abbrev end : ℕ
+  end = length (text bodies)
+
+  long : end ≤ length file
+  long = omega (arith, ap length rests.split, length-append (text bodies) rests.rest)
+
+  front : take end file ≡ text bodies
+  front = ap (λ (l : List ℕ). take end l) rests.split ∙ take_at (text bodies) rests.rest end refl
+
+  -- what a write behind the log may have left
+  pub torn_plain : (n : ℕ) (c : List ℕ) → Torn end n file c → IsPlain bodies body c → IsBeforeOrAfter bodies body c
+  torn_plain n c torn plain = plain_front bodies body c rests.sizes (torn_front end n file c long torn ∙ front) plain
+
+  pub kept : (new : List ℕ) → IsBody body → new ≡ put file end (closed_record bodies body) → Rests (bodies ++ body ∷ []) new
+  kept new ok is =
+      let n = end + length (closed_record bodies body) in
+      rests_more bodies body new (drop n file) rests.sizes ok
+      (is ∙ put_within file end (closed_record bodies body) long
+      ∙ ap (λ (l : List ℕ). l ++ closed_record bodies body ++ drop n file) front
+      ∙ append_assoc (text bodies) (closed_record bodies body) (drop n file))
+
+  zeros_split : (n : ℕ) → replicate {A = ℕ} (4 + n) 0 ≡ 0 ∷ 0 ∷ 0 ∷ 0 ∷ replicate n 0
+  zeros_split n = let m : 4 + n ≡ suc (suc (suc (suc n))) = omega arith in ap (λ (k : ℕ). replicate {A = ℕ} k 0) m
+
+  pub cleared : (n : ℕ) (mid new : List ℕ) → Torn end (4 + n) file mid → new ≡ put mid end (replicate (4 + n) 0) → new ≡ text bodies ++ (replicate (4 + n) 0 ++ drop (end + length {A = ℕ} (replicate (4 + n) 0)) mid)
+  cleared n mid new torn is =
+      let zeros : List ℕ = replicate (4 + n) 0 in
+      let tail = drop (end + length zeros) mid in
+      is ∙ put_within mid end zeros (omega (arith, long, torn.no_shorter))
+      ∙ ap (λ (l : List ℕ). l ++ zeros ++ tail) (torn_front end (4 + n) file mid long torn ∙ front)
+      ∙ append_assoc (text bodies) zeros tail
+
+  pub refused : (n : ℕ) (mid new : List ℕ) → Torn end (4 + n) file mid → new ≡ put mid end (replicate (4 + n) 0) → Rests bodies new × (take (4 + n) (drop end new) ≡ replicate (4 + n) 0)
+  refused n mid new torn is =
+      let zeros : List ℕ = replicate (4 + n) 0 in
+      let tail = drop (end + length zeros) mid in
+      let whole = cleared n mid new torn is in (
+        record {
+          rest = 0 ∷ 0 ∷ 0 ∷ 0 ∷ (replicate n 0 ++ tail);
+          split = whole ∙ ap (λ (l : List ℕ). text bodies ++ (l ++ tail)) (zeros_split n);
+          sizes = rests.sizes;
+          closed = closed_zeros (last start bodies) (replicate n 0 ++ tail);
+        },
+        ap (λ (l : List ℕ). take (4 + n) (drop end l)) whole
+            ∙ ap (λ (l : List ℕ). take (4 + n) l) (drop_at (text bodies) (zeros ++ tail) end refl)
+            ∙ take_at zeros tail (4 + n) (length-replicate (4 + n) 0),
+      )
+
+  -- from a log at rest, whatever a write behind it left
+  pub moments : {D : Type 0} (moment : D → ℕ) (left_since : D → ℕ → List ℕ → Type 0) (may_leave : D → List ℕ → Type 0) (old new : D) (n : ℕ)
+      → ((c : List ℕ) → left_since old (moment old) c → may_leave old c) → Only file (may_leave old)
+      → Passes (Torn end n) (moment old) (moment new) (left_since old) (left_since new) (may_leave old) (may_leave new)
+      → LeavesOnly moment left_since old new (λ c. IsPlain bodies body c → IsBeforeOrAfter bodies body c)
+  moments moment left_since may_leave old new n only_now durable time = record {
+    later = time.later;
+    each = λ c left. ⊎_elim (λ past. good c (torn_to c (durable c (only_now c past)))) (λ x. good c (subst (λ f. Torn end n f c) (durable x.0 x.1) x.2)) (time.nothing_else (moment old) c (omega arith) left);
+    before = λ t c le left. ⊎_elim (λ past. inl past) (λ x. inr (good c (subst (λ f. Torn end n f c) (durable x.0 x.1) x.2))) (time.nothing_else t c le left);
+  }
+    where
+      good : (c : List ℕ) → Torn end n file c → IsPlain bodies body c → IsBeforeOrAfter bodies body c
+      good c torn plain = torn_plain n c torn plain
+
+      torn_to : (c : List ℕ) → c ≡ file → Torn end n file c
+      torn_to c is = subst (λ f. Torn end n file f) (sym is) (torn_same end n file)
+
+-- ---- what a log stands for after each answer
+
+module _ {D : Type 0} (tears : List ℕ → ℕ → List ℕ → List ℕ → Type 0) (seen : D → List ℕ) (may_leave : D → List ℕ → Type 0) (bodies : List (List ℕ)) (body : List ℕ) (old new : Log D) (stands : Stands seen may_leave bodies old) where
+  abbrev Went_by : Appended → Type 0
+  Went_by outcome = Went tears outcome old.end (record_of old.digest body ++ 0 ∷ 0 ∷ 0 ∷ 0 ∷ []) (seen old.disk) (seen new.disk) (may_leave new.disk)
+
+  length-range : length (record_of old.digest body ++ 0 ∷ 0 ∷ 0 ∷ 0 ∷ []) ≡ 4 + (36 + length body)
+  length-range = omega (arith, length-append (record_of old.digest body) (0 ∷ 0 ∷ 0 ∷ 0 ∷ []), length-record_of old.digest body)
+
+  -- the range ends within the log's bytes
+  fits_after : old.end + (40 + length body) ≤ old.log_bytes → new.log_bytes ≡ old.log_bytes → Torn old.end (length (record_of old.digest body ++ 0 ∷ 0 ∷ 0 ∷ 0 ∷ [])) (seen old.disk) (seen new.disk) → length (seen new.disk) ≤ new.log_bytes
+  fits_after room same torn = omega (arith, torn.no_longer, stands.fits, length-range, room, same)
+
+  torn_kept : Went_by Kept → Torn old.end (length (record_of old.digest body ++ 0 ∷ 0 ∷ 0 ∷ 0 ∷ [])) (seen old.disk) (seen new.disk)
+  torn_kept went = subst (λ f. Torn old.end (length (record_of old.digest body ++ 0 ∷ 0 ∷ 0 ∷ 0 ∷ [])) (seen old.disk) f) (sym went.0) (put_torn (seen old.disk) old.end (record_of old.digest body ++ 0 ∷ 0 ∷ 0 ∷ 0 ∷ []))
+
+  torn_refused : Went_by Refused → Torn old.end (length (record_of old.digest body ++ 0 ∷ 0 ∷ 0 ∷ 0 ∷ [])) (seen old.disk) (seen new.disk)
+  torn_refused went =
+      let range = length (record_of old.digest body ++ 0 ∷ 0 ∷ 0 ∷ 0 ∷ []) in
+      let zeros : List ℕ = replicate range 0 in
+      let cleared : Torn old.end (length zeros) went.0 (seen new.disk) = subst (λ f. Torn old.end (length zeros) went.0 f) (sym went.2) (put_torn went.0 old.end zeros) in
+      torn_then old.end range (seen old.disk) went.0 (seen new.disk) went.1 (subst (λ n. Torn old.end n went.0 (seen new.disk)) (length-replicate range 0) cleared)
+
+  abbrev Room : Type 0
+  Room = (old.end + (40 + length body) ≤ old.log_bytes) × (new.log_bytes ≡ old.log_bytes)
+
+  pub answer_kept : Room → IsBody body → Went_by Kept → new.end ≡ old.end + (36 + length body) → new.digest ≡ digest old.digest body → new.lost ≡ old.lost → Stands seen may_leave (bodies ++ body ∷ []) new
+  answer_kept room ok went end_is digest_is lost_is = record {
+    fits = fits_after room.0 room.1 (torn_kept went);
+    file = kept bodies body (seen old.disk) stands.file (seen new.disk) ok (went.0 ∙ (λ i. put (seen old.disk) (stands.end i) (record_of (stands.digest i) body ++ 0 ∷ 0 ∷ 0 ∷ 0 ∷ [])));
+    end = omega (arith, end_is, stands.end, ap length (text_more bodies body), length-append (text bodies) (record_of (last start bodies) body), length-record_of (last start bodies) body);
+    digest = digest_is ∙ ap (λ (d : List ℕ). digest d body) stands.digest ∙ sym (last_more start bodies body);
+    durable = went.1;
+    alive = lost_is ∙ stands.alive;
+  }
+
+  pub answer_refused : Room → Went_by Refused → new.end ≡ old.end → new.digest ≡ old.digest → new.lost ≡ old.lost → Stands seen may_leave bodies new × (take (40 + length body) (drop (length (text bodies)) (seen new.disk)) ≡ replicate (40 + length body) 0)
+  answer_refused room went end_is digest_is lost_is =
+      let torn : Torn (length (text bodies)) (4 + (36 + length body)) (seen old.disk) went.0 = subst (λ n. Torn (length (text bodies)) n (seen old.disk) went.0) length-range (subst (λ e. Torn e (length (record_of old.digest body ++ 0 ∷ 0 ∷ 0 ∷ 0 ∷ [])) (seen old.disk) went.0) stands.end went.1) in
+      let is : seen new.disk ≡ put went.0 (length (text bodies)) (replicate (4 + (36 + length body)) 0) = went.2 ∙ (λ i. put went.0 (stands.end i) (replicate (length-range i) 0)) in
+      let it = refused bodies body (seen old.disk) stands.file (36 + length body) went.0 (seen new.disk) torn is in
+      let n : 40 + length body ≡ 4 + (36 + length body) = omega arith in (
+        record { file = it.0; fits = fits_after room.0 room.1 (torn_refused went); end = end_is ∙ stands.end; digest = digest_is ∙ stands.digest; durable = went.3; alive = lost_is ∙ stands.alive },
+        subst (λ k. take k (drop (length (text bodies)) (seen new.disk)) ≡ replicate k 0) (sym n) it.1,
+      )
+
+  pub answer_lost : Room → IsBody body → Went_by Lost → new.lost ≡ true → ((c : List ℕ) → may_leave new.disk c → (d : List ℕ) × may_leave old.disk d × Torn old.end (length (record_of old.digest body ++ 0 ∷ 0 ∷ 0 ∷ 0 ∷ [])) d c) → MayStand tears seen may_leave bodies body new
+  answer_lost room ok went lost_is follows = record {
+    front = torn_front (length (text bodies)) range (seen old.disk) (seen new.disk) (long bodies body (seen old.disk) stands.file) (subst (λ e. Torn e range (seen old.disk) (seen new.disk)) stands.end went.0) ∙ front bodies body (seen old.disk) stands.file;
+    fits = fits_after room.0 room.1 went.0;
+    seen_is = good (seen new.disk) went.0;
+    seen_on = λ lucky. good (seen new.disk) went.0 (lucky bodies body (seen old.disk) went.1 (seen new.disk) stands.file ok first second);
+    left_is = λ c left. let x = follows c left in good c (subst (λ f. Torn old.end range f c) (stands.durable x.0 x.1) x.2);
+    lost = lost_is;
+  }
+    where
+      first : Fell tears (seen old.disk) (length (text bodies)) (closed_record bodies body) went.1
+      first =
+          subst (λ d. Fell tears (seen old.disk) (length (text bodies)) (record_of d body ++ 0 ∷ 0 ∷ 0 ∷ 0 ∷ []) went.1) stands.digest
+          (subst (λ e. Fell tears (seen old.disk) e (record_of old.digest body ++ 0 ∷ 0 ∷ 0 ∷ 0 ∷ []) went.1) stands.end went.2)
+
+      forty : length (record_of old.digest body ++ 0 ∷ 0 ∷ 0 ∷ 0 ∷ []) ≡ 40 + length body
+      forty = omega (arith, length-range)
+
+      second : Fell tears went.1 (length (text bodies)) (replicate (40 + length body) 0) (seen new.disk)
+      second =
+          subst (λ e. Fell tears went.1 e (replicate (40 + length body) 0) (seen new.disk)) stands.end
+          (subst (λ n. Fell tears went.1 old.end (replicate n 0) (seen new.disk)) forty went.3)
+
+      range : ℕ
+      range = length (record_of old.digest body ++ 0 ∷ 0 ∷ 0 ∷ 0 ∷ [])
+
+      good : (c : List ℕ) → Torn old.end range (seen old.disk) c → IsPlain bodies body c → IsBeforeOrAfter bodies body c
+      good c torn = torn_plain bodies body (seen old.disk) stands.file range c (subst (λ e. Torn e range (seen old.disk) c) stands.end torn)
+
+  abbrev Went_as : Appended → Type 0
+  Went_as outcome = Went tears outcome old.end (record_of old.digest body ++ 0 ∷ 0 ∷ 0 ∷ 0 ∷ []) (seen old.disk) (seen new.disk) (may_leave new.disk)
+
+  pub answers_kept : Room → (o : Appended) → o ≡ Kept → IsBody body → Went_as o → new.end ≡ old.end + (36 + length body) → new.digest ≡ digest old.digest body → new.lost ≡ old.lost → Answers tears seen may_leave o bodies body new
+  answers_kept room o is ok went e d l = subst (λ x. Answers tears seen may_leave x bodies body new) (sym is) (answer_kept room ok (subst Went_as is went) e d l)
+
+  pub answers_refused : Room → (o : Appended) → (o ≡ Refused) ⊎ (o ≡ Full) → o ≢ Full → Went_as o → new.end ≡ old.end → new.digest ≡ old.digest → new.lost ≡ old.lost → Answers tears seen may_leave o bodies body new
+  answers_refused room o (inl is) other went e d l = subst (λ x. Answers tears seen may_leave x bodies body new) (sym is) (answer_refused room (subst Went_as is went) e d l)
+  answers_refused room o (inr is) other went e d l = absurd (other is)
+
+  pub answers_lost : Room → (o : Appended) → o ≡ Lost → IsBody body → Went_as o → new.lost ≡ true → ((c : List ℕ) → may_leave new.disk c → (d : List ℕ) × may_leave old.disk d × Torn old.end (length (record_of old.digest body ++ 0 ∷ 0 ∷ 0 ∷ 0 ∷ [])) d c) → Answers tears seen may_leave o bodies body new
+  answers_lost room o is ok went l follows = subst (λ x. Answers tears seen may_leave x bodies body new) (sym is) (answer_lost room ok (subst Went_as is went) l follows)
+
+module _ {D : Type 0} (seen : D → List ℕ) (may_leave : D → List ℕ → Type 0) (bodies : List (List ℕ)) (body : List ℕ) (old : Log D) (stands : Stands seen may_leave bodies old)
+    (moment : D → ℕ) (left_since : D → ℕ → List ℕ → Type 0) (only_now : (c : List ℕ) → left_since old.disk (moment old.disk) c → may_leave old.disk c) where
+  pub answer_moments : (new : D) (n : ℕ) → Passes (Torn old.end n) (moment old.disk) (moment new) (left_since old.disk) (left_since new) (may_leave old.disk) (may_leave new)
+      → LeavesOnly moment left_since old.disk new (λ c. IsPlain bodies body c → IsBeforeOrAfter bodies body c)
+  answer_moments new n time =
+      moments bodies body (seen old.disk) stands.file moment left_since may_leave old.disk new n only_now stands.durable
+      (subst (λ e. Passes (Torn e n) (moment old.disk) (moment new) (left_since old.disk) (left_since new) (may_leave old.disk) (may_leave new)) stands.end time)
+
+  -- nothing was asked of the disk
+  pub no_moments : LeavesOnly moment left_since old.disk old.disk (λ c. IsPlain bodies body c → IsBeforeOrAfter bodies body c)
+  no_moments = answer_moments old.disk 0 (record { later = omega arith; follows = λ c now. (c, now, torn_same old.end 0 c); nothing_else = λ t c le left. inl left; keeps = λ t c le left. left })
+
+-- a fault tells itself by the count
+pub kept_if : (o : Appended) (a b : ℕ) → HasCause o a b → a < 2 ^ 64 - 1 → b ≡ a → o ≢ Full → o ≡ Kept
+kept_if Kept a b cause low same other = refl
+kept_if Refused a b cause low same other = absurd (omega (arith, cause low))
+kept_if Lost a b cause low same other = absurd (omega (arith, cause low))
+kept_if Full a b cause low same other = absurd (other refl)

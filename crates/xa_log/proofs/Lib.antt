@@ -1,0 +1,11 @@
+pub mod Hash
+pub mod Records
+pub mod Torn
+pub mod Encode
+pub mod Append
+pub mod Front
+pub mod Walk
+pub mod Chance
+pub mod Cached
+pub mod Again
+pub mod Rows

@@ -1,0 +1,40 @@
+use Rattle.std.proofs.Common.{refl, arith}
+use Rattle.xa_log.proofs.Append.{answers_kept, answers_refused, answers_lost, answer_moments, no_moments, kept_if}
+use Rattle.xa_log.proofs.log.Log.append.Goals as goal
+
+pub returns-then-self-len-clause-any_moment : goal.returns-then-self-len-clause-any_moment
+returns-then-self-len-clause-any_moment g c h bodies s =
+    no_moments _ _ bodies _ c.args.self.now s _ _ (g.met.D.Disk.only_now c.args.self.now.disk)
+
+pub returns-in-Kept-clause-any_moment : goal.returns-in-Kept-clause-any_moment
+returns-in-Kept-clause-any_moment g c h bodies s =
+    answer_moments _ _ bodies _ c.args.self.now s _ _ (g.met.D.Disk.only_now c.args.self.now.disk) c.append_at-outcome.new.disk _ (c.append_at-outcome.ensures.time h)
+
+pub returns-in-Refused-clause-any_moment : goal.returns-in-Refused-clause-any_moment
+returns-in-Refused-clause-any_moment g c h bodies s =
+    answer_moments _ _ bodies _ c.args.self.now s _ _ (g.met.D.Disk.only_now c.args.self.now.disk) c.append_at-outcome.new.disk _ (c.append_at-outcome.ensures.time h)
+
+pub returns-in-Lost-clause-any_moment : goal.returns-in-Lost-clause-any_moment
+returns-in-Lost-clause-any_moment g c h bodies s =
+    answer_moments _ _ bodies _ c.args.self.now s _ _ (g.met.D.Disk.only_now c.args.self.now.disk) c.append_at-outcome.new.disk _ (c.append_at-outcome.ensures.time h)
+
+pub returns-in-Kept-clause-answer : goal.returns-in-Kept-clause-answer
+returns-in-Kept-clause-answer g c h bodies s =
+    answers_kept _ _ _ bodies _ c.args.self.now _ s (omega arith, refl) _ c.in-Kept.is c.requires (c.append_at-outcome.ensures.went h) refl c.append_at-outcome.ensures.digest refl
+
+pub returns-in-Refused-clause-answer : goal.returns-in-Refused-clause-answer
+returns-in-Refused-clause-answer g c h bodies s =
+    answers_refused _ _ _ bodies _ c.args.self.now _ s (omega arith, refl) _ c.in-Refused.is c.append_at-outcome.ensures.not_full (c.append_at-outcome.ensures.went h) refl refl refl
+
+pub returns-in-Lost-clause-answer : goal.returns-in-Lost-clause-answer
+returns-in-Lost-clause-answer g c h bodies s =
+    answers_lost _ _ _ bodies _ c.args.self.now _ s (omega arith, refl) _ c.in-Lost.is c.requires (c.append_at-outcome.ensures.went h) refl (c.append_at-outcome.ensures.time h).follows
+
+pub returns-in-Kept-clause-kept : goal.returns-in-Kept-clause-kept
+returns-in-Kept-clause-kept g c alive fits low same = kept_if _ _ _ c.append_at-outcome.ensures.cause low same c.append_at-outcome.ensures.not_full
+
+pub returns-in-Refused-clause-kept : goal.returns-in-Refused-clause-kept
+returns-in-Refused-clause-kept g c alive fits low same = kept_if _ _ _ c.append_at-outcome.ensures.cause low same c.append_at-outcome.ensures.not_full
+
+pub returns-in-Lost-clause-kept : goal.returns-in-Lost-clause-kept
+returns-in-Lost-clause-kept g c alive fits low same = kept_if _ _ _ c.append_at-outcome.ensures.cause low same c.append_at-outcome.ensures.not_full

@@ -1,0 +1,6 @@
+pub mod Chain
+pub mod Answers
+pub mod Stands
+pub mod Window
+pub mod Reading
+pub mod Planned

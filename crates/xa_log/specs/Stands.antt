@@ -1,0 +1,49 @@
+-- What a log stands for.
+use Rattle.std.specs.Prelude.{◌≡◌, ◌≤◌, ℕ, ◌+◌, true, false, List, [], ◌∷◌, ◌++◌, length, take, drop, replicate}
+use Rattle.xa_disk.specs.Disk.{Only}
+use Rattle.xa_log.specs.Chain.{start, last, text, Rests, IsPlain, IsBeforeOrAfter, NoChance}
+use Rattle.xa_log.specs.declared.appending.Appended.{Appended}
+use Rattle.xa_log.specs.declared.appending.Appended.TheVariants.{Kept, Refused, Lost, Full}
+use Rattle.xa_log.specs.declared.log.Log.{Log}
+
+-- a log of these bodies, which a read gives and each crash leaves
+pub record Stands {D : Type 0} (seen : D → List ℕ) (may_leave : D → List ℕ → Type 0) (bodies : List (List ℕ)) (log : Log D) : Type 0 where
+  pub file : Rests bodies (seen log.disk)
+  pub fits : length (seen log.disk) ≤ log.log_bytes
+  pub end : log.end ≡ length (text bodies)
+  pub digest : log.digest ≡ last start bodies
+  pub durable : Only (seen log.disk) (may_leave log.disk)
+  pub alive : log.lost ≡ false
+
+-- The append of a body to these was lost: without chance, a read and a crash give the bodies, with it or without.
+pub record MayStand {D : Type 0} (tears : List ℕ → ℕ → List ℕ → List ℕ → Type 0) (seen : D → List ℕ) (may_leave : D → List ℕ → Type 0) (bodies : List (List ℕ)) (body : List ℕ) (log : Log D) : Type 0 where
+  pub front : take (length (text bodies)) (seen log.disk) ≡ text bodies
+  pub fits : length (seen log.disk) ≤ log.log_bytes
+  pub seen_is : IsPlain bodies body (seen log.disk) → IsBeforeOrAfter bodies body (seen log.disk)
+  -- the same, where the disk's failed writes leave nothing by chance to a read
+  pub seen_on : NoChance tears → IsBeforeOrAfter bodies body (seen log.disk)
+  pub left_is : (c : List ℕ) → may_leave log.disk c → IsPlain bodies body c → IsBeforeOrAfter bodies body c
+  pub lost : log.lost ≡ true
+
+-- what each answer says
+abbrev pub Answers : {D : Type 0} → (List ℕ → ℕ → List ℕ → List ℕ → Type 0) → (D → List ℕ) → (D → List ℕ → Type 0) → Appended → List (List ℕ) → List ℕ → Log D → Type 0
+Answers tears seen may_leave Kept bodies body log = Stands seen may_leave (bodies ++ body ∷ []) log
+-- a read gives zeros over the whole range that the record and its closing length took
+Answers tears seen may_leave Refused bodies body log =
+    Stands seen may_leave bodies log × (take (40 + length body) (drop (length (text bodies)) (seen log.disk)) ≡ replicate (40 + length body) 0)
+Answers tears seen may_leave Lost bodies body log = MayStand tears seen may_leave bodies body log
+Answers tears seen may_leave Full bodies body log = Stands seen may_leave bodies log
+
+-- a log's own fields stay
+pub record Untouched {D : Type 0} (old new : Log D) : Type 0 where
+  pub log_bytes : new.log_bytes ≡ old.log_bytes
+  pub end : new.end ≡ old.end
+  pub digest : new.digest ≡ old.digest
+  pub lost : new.lost ≡ old.lost
+
+-- where a log's next record begins after an append of so many bytes
+abbrev pub Moves : {D : Type 0} → Appended → ℕ → Log D → Log D → Type 0
+Moves Kept n old new = (new.end ≡ old.end + (36 + n)) × (new.lost ≡ old.lost)
+Moves Refused n old new = (new.end ≡ old.end) × (new.digest ≡ old.digest) × (new.lost ≡ old.lost)
+Moves Lost n old new = (new.end ≡ old.end) × (new.digest ≡ old.digest) × (new.lost ≡ true)
+Moves Full n old new = new ≡ old

@@ -1,0 +1,73 @@
+//! How a record goes to the disk.
+ghost use Rattle.std.specs.Prelude.{◌≡◌, ◌≢◌, ◌+◌, ◌≤◌, ◌++◌, ◌∷◌, [], length, OnOk, OnErr};
+ghost use Rattle.xa_disk.specs.Disk.{put, Torn, Only, Passes, CountsFault};
+ghost use Rattle.xa_log.specs.Chain.{digest, record_of, IsBody};
+ghost use Rattle.xa_log.specs.Answers.{Went, Fell, HasCause};
+
+use crate::record::encode;
+use xa_disk::{Disk, DiskFault};
+
+/// What became of a record.
+#[derive(Clone, Copy, Debug, PartialEq, Eq)]
+pub enum Appended {
+    /// It stands, and outlasts a crash.
+    Kept,
+    /// A device call failed, and the record's place was cleared: the log is as before.
+    Refused,
+    /// A device call failed, and the repair too: the record stands or doesn't, as a rescan will show.
+    Lost,
+    /// It doesn't fit. Nothing changed.
+    Full,
+}
+
+// Writes and syncs.
+pub(crate) fn put_synced<D: Disk>(disk: &mut D, at: u64, bytes: &[u8]) -> Result<(), DiskFault>
+    ensures written { D.honest → OnOk result (D.seen disk.new ≡ put (D.seen disk.old) at bytes.now) }
+    ensures durable { D.honest → OnOk result (Only (D.seen disk.new) (D.may_leave disk.new)) }
+    ensures failed { D.honest → OnErr result (Torn at (length bytes.now) (D.seen disk.old) (D.seen disk.new)) }
+    ensures fell { D.honest → OnErr result (Fell D.tears (D.seen disk.old) at bytes.now (D.seen disk.new)) }
+    ensures time { D.honest → Passes (Torn at (length bytes.now)) (D.moment disk.old) (D.moment disk.new) (D.left_since disk.old) (D.left_since disk.new) (D.may_leave disk.old) (D.may_leave disk.new) }
+    ensures count { CountsFault result (D.failures disk.old) (D.failures disk.new) }
+{
+    disk.write_at(at, bytes)?;
+    disk.sync()
+}
+
+// Writes the bytes and syncs. If that fails, writes zeros over the whole range and syncs.
+fn put_or_clear<D: Disk>(disk: &mut D, at: u64, bytes: &mut [u8]) -> Appended
+    ensures went { D.honest → Went D.tears result at bytes.old (D.seen disk.old) (D.seen disk.new) (D.may_leave disk.new) }
+    ensures time { D.honest → Passes (Torn at (length bytes.old)) (D.moment disk.old) (D.moment disk.new) (D.left_since disk.old) (D.left_since disk.new) (D.may_leave disk.old) (D.may_leave disk.new) }
+    ensures cause { HasCause result (D.failures disk.old) (D.failures disk.new) }
+    ensures not_full { result ≢ Appended.Full }
+{
+    match put_synced(disk, at, bytes) {
+        Ok(()) => return Appended::Kept,
+        Err(_) => {}
+    }
+    bytes.fill(0);
+    match put_synced(disk, at, bytes) {
+        Ok(()) => Appended::Refused,
+        Err(_) => Appended::Lost,
+    }
+}
+
+// Writes a body's record, as `put_or_clear` does, and gives its digest.
+pub(crate) fn append_at<D: Disk>(
+    disk: &mut D,
+    at: u64,
+    prev: &[u8; 32],
+    buffer: &mut [u8],
+    body: &[u8],
+) -> (Appended, [u8; 32])
+    requires room { 40 + length body.now ≤ length buffer.old }
+    requires body { IsBody body.now }
+    ensures digest { result.1 ≡ digest prev.now body.now }
+    ensures went { D.honest → Went D.tears result.0 at (record_of prev.now body.now ++ 0 ∷ 0 ∷ 0 ∷ 0 ∷ []) (D.seen disk.old) (D.seen disk.new) (D.may_leave disk.new) }
+    ensures time { D.honest → Passes (Torn at (length (record_of prev.now body.now ++ 0 ∷ 0 ∷ 0 ∷ 0 ∷ []))) (D.moment disk.old) (D.moment disk.new) (D.left_since disk.old) (D.left_since disk.new) (D.may_leave disk.old) (D.may_leave disk.new) }
+    ensures cause { HasCause result.0 (D.failures disk.old) (D.failures disk.new) }
+    ensures not_full { result.0 ≢ Appended.Full }
+{
+    let digest = encode(buffer, prev, body);
+    let outcome = put_or_clear(disk, at, &mut buffer[..40 + body.len()]);
+    (outcome, digest)
+}

@@ -1,0 +1,173 @@
+//! Reading a log's records from a disk, through a window.
+ghost use Rattle.std.specs.Prelude.{◌≡◌, ◌⊎◌, ◌+◌, ◌-◌, ◌≤◌, ◌<◌, ◌^◌, ◌++◌, ◌∷◌, [], ℕ, length, take, slice_index, OnOk, IfOk, IfErr, IsErrOf, IfSome, None, Some, MatchResult};
+ghost use Rattle.xa_disk.specs.Disk.{Same, Only, Passes, CountsFault, Rises};
+ghost use Rattle.xa_log.specs.Chain.{magic, logged};
+ghost use Rattle.xa_log.specs.Reading.{Finds, Fits, IsScan, bodies_of, front_fault, fault_of, Explains};
+ghost use Rattle.xa_log.specs.Window.{Caches};
+
+use crate::OpenFault;
+use crate::record::{chained, first_digest, size_of};
+use crate::window::{Span, fill};
+use std::alloc::{AllocError, Global};
+use xa_disk::{Disk, DiskFault};
+
+const MAX_BODY: usize = 524288;
+
+/// A record that chains: its body's length, its digest, and what the window has by then, all of it included.
+#[derive(Clone, Copy)]
+pub struct Found {
+    pub size: usize,
+    pub digest: [u8; 32],
+    pub span: Span,
+}
+
+/// What reading a log gave.
+#[derive(Drop)]
+pub struct Scan {
+    pub bodies: Vec<Vec<u8>>,
+    pub end: u64,
+    pub digest: [u8; 32],
+}
+
+// The record that stands at a place, if one does that chains.
+fn next_record<D: Disk>(
+    disk: &mut D,
+    window: &mut [u8],
+    span: Span,
+    at: u64,
+    len: u64,
+    prev: &[u8; 32],
+) -> Result<Option<Found>, DiskFault>
+    requires room { 524324 ≤ length window.old }
+    requires within { at ≤ len }
+    requires held { span.have ≤ length window.old }
+    ensures finds { D.honest → len ≡ length (D.seen disk.old) → Caches (D.seen disk.old) window.old span → IfOk result (Finds prev.now (D.seen disk.old) at window.new) }
+    ensures bytes { (i : ℕ) → slice_index window.new i < 2 ^ 8 }
+    ensures fits { IfOk result (λ o. IfSome o (Fits at len (length window.old))) }
+    ensures same { D.honest → D.seen disk.new ≡ D.seen disk.old }
+    ensures time { D.honest → Passes Same (D.moment disk.old) (D.moment disk.new) (D.left_since disk.old) (D.left_since disk.new) (D.may_leave disk.old) (D.may_leave disk.new) }
+    ensures count { CountsFault result (D.failures disk.old) (D.failures disk.new) }
+{
+    if len - at < 36 {
+        return Ok(None);
+    }
+    let front = fill(disk, window, span, at, 4, len)?;
+    let begin = (at - front.from) as usize;
+    let size = size_of(&window[begin..begin + 4]);
+    if size == 0 || size > MAX_BODY || len - at < 36 + size as u64 {
+        return Ok(None);
+    }
+    let span = fill(disk, window, front, at, 36 + size, len)?;
+    let begin = (at - span.from) as usize;
+    match chained(&window[begin..begin + 36 + size], size, prev) {
+        Some(digest) => Ok(Some(Found { size, digest, span })),
+        None => Ok(None),
+    }
+}
+
+fn push_body(bodies: &mut Vec<Vec<u8>>, alloc: Global, body: &[u8]) -> Result<(), AllocError>
+    ensures { OnOk result (bodies_of bodies.new.items ≡ bodies_of bodies.old.items ++ body.now ∷ []) }
+{
+    bodies.push(Vec::from_slice(alloc, body)?)?;
+    Ok(())
+}
+
+// The records from byte 8 on, where a window has the file's first bytes.
+fn read_records<D: Disk>(
+    alloc: Global,
+    disk: &mut D,
+    window: &mut [u8],
+    first: Span,
+    len: u64,
+) -> Result<Scan, OpenFault>
+    requires room { 524324 ≤ length window.old }
+    requires within { 8 ≤ len }
+    requires held { first.have ≤ length window.old }
+    ensures value { D.honest → Caches (D.seen disk.old) window.old first → len ≡ length (D.seen disk.old) → take 8 (D.seen disk.old) ≡ magic → IfOk result (IsScan (D.seen disk.old)) }
+    ensures logged { D.honest → Caches (D.seen disk.old) window.old first → len ≡ length (D.seen disk.old) → take 8 (D.seen disk.old) ≡ magic → IfOk result (λ s. logged (D.seen disk.old) ≡ bodies_of s.bodies.items) }
+    ensures fits { IfOk result (λ s. s.end ≤ len) }
+    ensures same { D.honest → D.seen disk.new ≡ D.seen disk.old }
+    ensures time { D.honest → Passes Same (D.moment disk.old) (D.moment disk.new) (D.left_since disk.old) (D.left_since disk.new) (D.may_leave disk.old) (D.may_leave disk.new) }
+    ensures cause { IsErrOf result OpenFault.Device → Rises (D.failures disk.old) (D.failures disk.new) }
+    ensures kinds { IfErr result (λ e. (e ≡ OpenFault.Device) ⊎ (e ≡ OpenFault.Memory)) }
+{
+    let mut bodies = Vec::new(alloc);
+    let mut end: u64 = 8;
+    let mut digest = first_digest();
+    let mut span = first;
+    'records: loop {
+        match next_record(disk, window, span, end, len, &digest)? {
+            None => {
+                return Ok(Scan {
+                    bodies,
+                    end,
+                    digest,
+                });
+            }
+            Some(found) => {
+                let begin = (end - found.span.from) as usize + 4;
+                push_body(&mut bodies, alloc, &window[begin..begin + found.size])?;
+                end += 36 + found.size as u64;
+                digest = found.digest;
+                span = found.span;
+            }
+        }
+    }
+}
+
+// Has an empty window hold the file's first bytes.
+fn read_front<D: Disk>(disk: &mut D, window: &mut [u8], len: u64) -> Result<Span, DiskFault>
+    requires room { 8 ≤ length window.old }
+    requires within { 8 ≤ len }
+    ensures front { D.honest → OnOk result (take 8 window.new ≡ take 8 (D.seen disk.old)) }
+    ensures caches { D.honest → IfOk result (Caches (D.seen disk.old) window.new) }
+    ensures held { IfOk result (λ s. s.have ≤ length window.old) }
+    ensures same { D.honest → D.seen disk.new ≡ D.seen disk.old }
+    ensures time { D.honest → Passes Same (D.moment disk.old) (D.moment disk.new) (D.left_since disk.old) (D.left_since disk.new) (D.may_leave disk.old) (D.may_leave disk.new) }
+    ensures count { CountsFault result (D.failures disk.old) (D.failures disk.new) }
+{
+    fill(disk, window, Span { from: 0, have: 0 }, 0, 8, len)
+}
+
+// Tests the first eight bytes.
+fn test_front(front: &[u8]) -> Result<(), OpenFault>
+    requires { length front.now ≡ 8 }
+    ensures { MatchResult result (λ _. front_fault front.now ≡ None) (λ e. front_fault front.now ≡ Some e) }
+{
+    if front == b"XARMLOG1".as_slice() {
+        return Ok(());
+    }
+    if &front[..7] == b"XARMLOG".as_slice() && front[7] >= b'2' && front[7] <= b'9' {
+        return Err(OpenFault::TooNew);
+    }
+    Err(OpenFault::NotALog)
+}
+
+// Syncs, asks the length, and reads the log that the disk is.
+pub(crate) fn read_whole<D: Disk>(
+    alloc: Global,
+    disk: &mut D,
+    window: &mut [u8],
+    log_bytes: u64,
+) -> Result<Scan, OpenFault>
+    requires { 524324 ≤ length window.old }
+    ensures value { D.honest → MatchResult result (λ s. (fault_of log_bytes (D.seen disk.old) ≡ None) × IsScan (D.seen disk.old) s) (λ e. Explains e (fault_of log_bytes (D.seen disk.old))) }
+    ensures logged { D.honest → IfOk result (λ s. logged (D.seen disk.old) ≡ bodies_of s.bodies.items) }
+    ensures durable { D.honest → OnOk result (Only (D.seen disk.new) (D.may_leave disk.new)) }
+    ensures fits { IfOk result (λ s. s.end ≤ log_bytes) }
+    ensures same { D.honest → D.seen disk.new ≡ D.seen disk.old }
+    ensures time { D.honest → Passes Same (D.moment disk.old) (D.moment disk.new) (D.left_since disk.old) (D.left_since disk.new) (D.may_leave disk.old) (D.may_leave disk.new) }
+    ensures cause { IsErrOf result OpenFault.Device → Rises (D.failures disk.old) (D.failures disk.new) }
+{
+    disk.sync()?;
+    let len = disk.length()?;
+    if len > log_bytes {
+        return Err(OpenFault::TooLong);
+    }
+    if len < 8 {
+        return Err(OpenFault::NotALog);
+    }
+    let span = read_front(disk, window, len)?;
+    test_front(&window[..8])?;
+    read_records(alloc, disk, window, span, len)
+}

@@ -1,0 +1,56 @@
+-- A run goes on by one event.
+use Rattle.std.proofs.Common.{◌≡◌, Bool, true, false, cond, List, [], ◌∷◌, ◌++◌, length, Some, refl, ap, sym, ◌∙◌, subst, arith}
+use Rattle.std.specs.Prelude.{MatchBool}
+use Rattle.std.proofs.lemmas.List.{append-nil}
+use Rattle.xa_frame.specs.declared.reply.Reply.{Reply}
+use Rattle.xa_model.specs.declared.event.Event.{Event}
+use Rattle.xa_model.specs.declared.outcome.Outcome.TheVariants.{Quiet}
+use Rattle.xa_model.specs.State.{State}
+use Rattle.xa_model.specs.Step.{Asked, respond}
+use Rattle.xa_model.specs.History.{Entry, Leads, Steps}
+use Rattle.xa_manager.specs.Kept.{Kept}
+use Rattle.xa_manager.specs.Stands.{StandsFor, is_memory}
+use Rattle.xa_manager.specs.Answered.{Answered, AnswersAll, recorded}
+
+-- a legal history goes on by one entry
+leads_more : (s : State) (es : List Entry) (mid : State) (e : Entry) (s' : State) → Leads s es mid → Steps mid e s' → Leads s (es ++ e ∷ []) s'
+leads_more s [] mid e s' h st = (s', subst (λ (x : State). Steps x e s') h st, refl)
+leads_more s (x ∷ es) mid e s' h st = (h.0, h.1, leads_more h.0 es mid e s' h.2 st)
+
+recorded_step : (e : Event) (r : Reply) (es : List Event) (rs : List Reply) (event : Event) (reply : Reply) (c d : Bool) → is_memory r.detail ≡ c → is_memory reply.detail ≡ d
+    → recorded (es ++ event ∷ []) (rs ++ reply ∷ []) ≡ recorded es rs ++ cond d [] (record { happening = Asked event; outcome = Quiet; reply = reply } ∷ [])
+    → recorded ((e ∷ es) ++ event ∷ []) ((r ∷ rs) ++ reply ∷ []) ≡ recorded (e ∷ es) (r ∷ rs) ++ cond d [] (record { happening = Asked event; outcome = Quiet; reply = reply } ∷ [])
+recorded_step e r es rs event reply true d ec ed rest = rw ec rest
+recorded_step e r es rs event reply false d ec ed rest = rw ec (ap (λ (xs : List Entry). record { happening = Asked e; outcome = Quiet; reply = r } ∷ xs) rest)
+
+recorded_more : (es : List Event) (rs : List Reply) (event : Event) (reply : Reply) (d : Bool) → length es ≡ length rs → is_memory reply.detail ≡ d
+    → recorded (es ++ event ∷ []) (rs ++ reply ∷ []) ≡ recorded es rs ++ cond d [] (record { happening = Asked event; outcome = Quiet; reply = reply } ∷ [])
+recorded_more [] [] event reply true same ed = simp ed
+recorded_more [] [] event reply false same ed = simp ed
+recorded_more [] (r ∷ rs) event reply d same ed = absurd (omega arith)
+recorded_more (e ∷ es) [] event reply d same ed = absurd (omega arith)
+recorded_more (e ∷ es) (r ∷ rs) event reply d same ed =
+    recorded_step e r es rs event reply (is_memory r.detail) d refl ed (recorded_more es rs event reply d (omega arith) ed)
+
+goes_on : (m mid m' : Kept) (es : List Event) (rs : List Reply) (event : Event) (reply : Reply) (d : Bool) → length es ≡ length rs → is_memory reply.detail ≡ d
+    → AnswersAll m es rs mid → MatchBool d (m' ≡ mid) ((s : State) → StandsFor mid s → ((respond s event).reply ≡ reply) × StandsFor m' (respond s event).after)
+    → AnswersAll m (es ++ event ∷ []) (rs ++ reply ∷ []) m'
+goes_on m mid m' es rs event reply true same ed all one s st =
+    let h = all s st in
+    let e = recorded_more es rs event reply true same ed in
+    (h.0, subst (λ (xs : List Entry). Leads s xs h.0) (sym (e ∙ append-nil (recorded es rs))) h.1, subst (λ (k : Kept). StandsFor k h.0) (sym one) h.2)
+goes_on m mid m' es rs event reply false same ed all one s st =
+    let h = all s st in
+    let e = recorded_more es rs event reply false same ed in
+    let a = one h.0 h.2 in
+    let s' = (respond h.0 event).after in
+    let entry : Entry = record { happening = Asked event; outcome = Quiet; reply = reply } in
+    let steps : Steps h.0 entry s' = ap (λ (r : Reply). Some (record { reply = r; after = s' })) a.0 in
+    (s', subst (λ (xs : List Entry). Leads s xs s') (sym e) (leads_more s (recorded es rs) h.0 entry s' h.1 steps), a.1)
+
+pub answers_more : (m mid m' : Kept) (es : List Event) (rs : List Reply) (event : Event) (reply : Reply) → length es ≡ length rs
+    → AnswersAll m es rs mid → Answered mid event reply m' → AnswersAll m (es ++ event ∷ []) (rs ++ reply ∷ []) m'
+answers_more m mid m' es rs event reply same all one = goes_on m mid m' es rs event reply (is_memory reply.detail) same refl all one
+
+pub answers_none : (m : Kept) → AnswersAll m [] [] m
+answers_none m s st = (s, refl, st)

@@ -1,0 +1,22 @@
+use Rattle.std.proofs.Common.{sym, subst, arith}
+use Rattle.std.proofs.lemmas.Grind.{common_steps}
+use Rattle.xa_manager.specs.Answered.{AreEvents}
+use Rattle.xa_manager.proofs.Driving.{answers_more}
+use Rattle.xa_manager.proofs.manager.Manager.drive.Goals as goal
+
+pub push_reserved-requires : goal.push_reserved-requires
+push_reserved-requires c = grind (arith, c.loop-event.invariant.room, c.in-Some.ensures.steps.1)
+
+pub happen-reply-requires : goal.happen-reply-requires
+happen-reply-requires c = (subst AreEvents c.in-Some.ensures.steps.0 c.loop-event.invariant.spelled).0
+
+pub loop-event-preserved : goal.loop-event-preserved
+loop-event-preserved c = record {
+  answered =
+      let more = answers_more c.args.self.now c.loop-event.self c.happen-reply.new.self c.loop-event.yielded c.loop-event.replies.items c.in-Some.event c.happen-reply.result
+      (sym c.loop-event.invariant.each) c.loop-event.invariant.answered c.happen-reply.ensures in
+      rw c.push_reserved.ensures.items more;
+  each = grind (arith, common_steps, c.push_reserved.ensures.items, c.loop-event.invariant.each);
+  room = grind (arith, c.loop-event.invariant.room, c.in-Some.ensures.steps.1, c.push_reserved.ensures.len, c.push_reserved.ensures.capacity);
+  spelled = (subst AreEvents c.in-Some.ensures.steps.0 c.loop-event.invariant.spelled).1;
+}

@@ -1,0 +1,147 @@
+ghost use Rattle.std.specs.Prelude.{◌≡◌, IfSome, Option, Bool, true, false};
+ghost use Rattle.xa_model.specs.Early.{flags_of, call_of, needs_open, is_async, is_built, has_wrong_info, has_wrong_count, is_invalid, is_opened, early_refusal};
+ghost use Rattle.xa_manager.specs.Stands.{is_memory};
+
+use crate::replies::plain;
+use xa_codes::{
+    Bytes, Call, TMASYNC, TMJOIN, TMRESUME, TMSUCCESS, XAER_ASYNC, XAER_INVAL, XAER_PROTO,
+    legal_flags,
+};
+use xa_frame::{Reply, Request};
+
+/// The most XIDs that a recovery lists.
+pub const MOST_LISTED: u32 = 256;
+
+fn flags_of(request: &Request) -> u32
+    ensures { result ≡ flags_of request.now }
+{
+    match request {
+        Request::Open { flags, .. }
+        | Request::Close { flags }
+        | Request::Start { flags, .. }
+        | Request::End { flags, .. }
+        | Request::Prepare { flags, .. }
+        | Request::Commit { flags, .. }
+        | Request::Rollback { flags, .. }
+        | Request::Forget { flags, .. }
+        | Request::Recover { flags, .. } => *flags,
+        Request::Get { .. }
+        | Request::Put { .. }
+        | Request::Delete { .. }
+        | Request::Decide { .. }
+        | Request::Doom { .. }
+        | Request::Restart => 0,
+    }
+}
+
+fn call_of(request: &Request) -> Call
+    ensures { result ≡ call_of request.now }
+{
+    match request {
+        Request::Open { .. } => Call::Open,
+        Request::Close { .. } => Call::Close,
+        Request::Start { .. } => Call::Start,
+        Request::End { .. } => Call::End,
+        Request::Prepare { .. } => Call::Prepare,
+        Request::Commit { .. } => Call::Commit,
+        Request::Rollback { .. } => Call::Rollback,
+        Request::Forget { .. } => Call::Forget,
+        Request::Recover { .. } => Call::Recover,
+        Request::Get { .. } => Call::Get,
+        Request::Put { .. } => Call::Put,
+        Request::Delete { .. } => Call::Delete,
+        Request::Decide { .. } => Call::Decide,
+        Request::Doom { .. } => Call::Doom,
+        Request::Restart => Call::Restart,
+    }
+}
+
+fn needs_open(call: Call) -> bool
+    ensures { result ≡ needs_open call }
+{
+    match call {
+        Call::Open | Call::Close | Call::Decide | Call::Doom | Call::Restart => false,
+        Call::Start
+        | Call::End
+        | Call::Prepare
+        | Call::Commit
+        | Call::Rollback
+        | Call::Recover
+        | Call::Forget
+        | Call::Get
+        | Call::Put
+        | Call::Delete => true,
+    }
+}
+
+fn is_async(call: Call, flags: u32) -> bool
+    ensures { result ≡ is_async call flags }
+{
+    match call {
+        Call::Recover => false,
+        _ => flags & TMASYNC == TMASYNC,
+    }
+}
+
+/// Whether the call with these flags is built so far.
+fn is_built(call: Call, flags: u32) -> bool
+    ensures { result ≡ is_built call flags }
+{
+    match call {
+        Call::Open | Call::Commit | Call::Get | Call::Put => true,
+        Call::Start => flags & TMJOIN != TMJOIN && flags & TMRESUME != TMRESUME,
+        Call::End => flags & TMSUCCESS == TMSUCCESS,
+        _ => false,
+    }
+}
+
+fn has_wrong_info(name: &Bytes, request: &Request) -> bool
+    ensures { result ≡ has_wrong_info name.now request.now }
+{
+    match request {
+        Request::Open { info, .. } => *info != *name,
+        _ => false,
+    }
+}
+
+fn has_wrong_count(request: &Request) -> bool
+    ensures { result ≡ has_wrong_count request.now }
+{
+    match request {
+        Request::Recover { count, .. } => *count > MOST_LISTED,
+        _ => false,
+    }
+}
+
+fn is_invalid(name: &Bytes, request: &Request) -> bool
+    ensures { result ≡ is_invalid name.now request.now }
+{
+    let call = call_of(request);
+    let flags = flags_of(request);
+    !legal_flags(call, flags)
+        || !is_built(call, flags)
+        || has_wrong_info(name, request)
+        || has_wrong_count(request)
+}
+
+/// The refusals that come before the row of a call. The session is connected if there is a word on whether it is
+/// opened.
+pub fn early_refusal(name: &Bytes, session: Option<bool>, request: &Request) -> Option<Reply>
+    ensures value { result ≡ early_refusal true name.now session request.now }
+    ensures served { IfSome result (λ r. is_memory r.detail ≡ false) }
+{
+    let call = call_of(request);
+    let Some(opened) = session else {
+        return Some(plain(XAER_PROTO));
+    };
+    if needs_open(call) && !opened {
+        return Some(plain(XAER_PROTO));
+    }
+    if is_async(call, flags_of(request)) {
+        return Some(plain(XAER_ASYNC));
+    }
+    if is_invalid(name, request) {
+        return Some(plain(XAER_INVAL));
+    }
+    None
+}

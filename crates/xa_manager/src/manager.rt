@@ -1,0 +1,149 @@
+ghost use Rattle.std.specs.Prelude.{◌≡◌, ◌≤◌, ◌<◌, ◌⊎◌, IfOk, IfErr, IsOk, OnErr, length, true};
+ghost use Rattle.xa_frame.specs.Limits.{IsRequest};
+ghost use Rattle.xa_model.specs.Answer.{detailed};
+ghost use Rattle.xa_model.specs.History.{fresh};
+ghost use Rattle.xa_manager.specs.Stands.{StandsFor, is_memory};
+ghost use Rattle.xa_manager.specs.Answered.{Answered, AnswersAll, AreEvents, IsEvent, connect_reply, memory_code};
+
+use crate::fault::{ConnectFault, ManagerFault};
+use crate::replies::{carrying, detailed, plain};
+use crate::settings::Settings;
+use crate::tables::Tables;
+use std::alloc::{AllocError, Global};
+use std::collections::BTreeMap;
+use std::marker::Model;
+use xa_codes::{Code, Detail, TMONEPHASE, XA_RETRY, XAER_INVAL, XAER_RMERR, XAER_RMFAIL};
+use xa_frame::{Body, Reply, Request};
+use xa_model::Event;
+
+/// The longest name of a manager, in bytes.
+const MOST_NAME: usize = 255;
+/// The least and the greatest size of a log, in bytes.
+const LEAST_LOG: u64 = 64;
+
+const MOST_LOG: u64 = 1 << 30;
+
+/// A resource manager that keeps all in memory.
+///
+/// Whatever state of the sequential resource manager it stood for before a call, it answers as that manager's step and
+/// then stands for the step's new state. Where memory was wanted, nothing changed.
+#[derive(Drop)]
+pub struct Manager {
+    tables: Tables,
+}
+
+impl Model for Manager {
+    ghost use Rattle.xa_manager.specs.Kept.{Kept};
+
+    ghost Value = { Kept };
+
+    ghost use Rattle.xa_manager.specs.Kept.{kept_of};
+
+    ghost view = { λ m. kept_of m.tables };
+}
+
+impl Manager {
+    /// A manager that nothing was asked of. `Setting` comes just where a setting is out of its limits; no memory is
+    /// taken.
+    pub fn new(alloc: Global, settings: Settings) -> Result<Manager, ManagerFault>
+        ensures fresh { IfOk result (λ m. StandsFor m (fresh settings.name settings.log_bytes)) }
+        ensures good { length settings.name ≤ 255 → 64 ≤ settings.log_bytes → settings.log_bytes ≤ 1073741824 → IsOk result }
+        ensures refused { IfErr result (λ e. (e ≡ ManagerFault.Setting) × ((255 < length settings.name) ⊎ (settings.log_bytes < 64) ⊎ (1073741824 < settings.log_bytes))) }
+    {
+        let Settings { name, log_bytes } = settings;
+        if name.as_slice().len() > MOST_NAME || log_bytes < LEAST_LOG || log_bytes > MOST_LOG {
+            return Err(ManagerFault::Setting);
+        }
+        Ok(Manager {
+            tables: Tables {
+                alloc,
+                name,
+                log_bytes,
+                boot: 1,
+                given: 0,
+                seats: BTreeMap::new(alloc),
+                slots: BTreeMap::new(alloc),
+                versions: Vec::new(alloc),
+                reads: Vec::new(alloc),
+            },
+        })
+    }
+
+    /// Connects a session, whose number is the least from 1 that is free.
+    pub fn connect(&mut self) -> Result<u64, ConnectFault>
+        ensures { Answered self.old Event.Connect (connect_reply result) self.new }
+    {
+        match self.tables.connect() {
+            Err(_) => Err(ConnectFault::Memory),
+            Ok(reply) => match reply.body {
+                Body::Number(number) => Ok(number),
+                _ => Err(ConnectFault::Full),
+            },
+        }
+    }
+
+    /// Answers a request of a session. Its reply has place 0.
+    pub fn call(&mut self, session: u64, request: Request) -> Reply
+        requires { IsRequest request }
+        ensures step { Answered self.old (Event.Call session request) result self.new }
+        ensures memory { is_memory result.detail ≡ true → result ≡ detailed (memory_code request) Detail.Memory }
+    {
+        let code = memory_code(&request);
+        match self.tables.call(session, request) {
+            Ok(reply) => reply,
+            Err(_) => detailed(code, Detail::Memory),
+        }
+    }
+}
+
+impl Manager {
+    /// One event, with the reply that stands for it.
+    fn happen(&mut self, event: Event) -> Reply
+        requires { IsEvent event }
+        ensures { Answered self.old event result self.new }
+    {
+        match event {
+            Event::Connect => match self.connect() {
+                Ok(number) => carrying(Body::Number(number)),
+                Err(ConnectFault::Full) => detailed(XAER_RMERR, Detail::Limit),
+                Err(ConnectFault::Memory) => detailed(XAER_RMFAIL, Detail::Memory),
+            },
+            Event::Hangup(_) => plain(XAER_INVAL),
+            Event::Call(session, request) => self.call(session, request),
+        }
+    }
+
+    /// Answers events in order. Those that found their memory are a legal history with their replies.
+    ///
+    /// A connect answers 0 with its number, XAER_RMERR with detail Limit where no more may connect, or XAER_RMFAIL with
+    /// detail Memory. A hang-up, which isn't built, answers XAER_INVAL.
+    pub fn drive(&mut self, events: Vec<Event>) -> Result<Vec<Reply>, AllocError>
+        requires { AreEvents events.items }
+        ensures history { IfOk result (λ replies. AnswersAll self.old events.items replies.items self.new) }
+        ensures each { IfOk result (λ replies. length replies.items ≡ length events.items) }
+        ensures err { OnErr result (self.new ≡ self.old) }
+    {
+        let mut replies = Vec::with_capacity(self.tables.alloc, events.len())?;
+        for event in events {
+            let reply = self.happen(event);
+            replies.push_reserved(reply);
+        }
+        Ok(replies)
+    }
+}
+
+/// The code that says that memory was wanted.
+fn memory_code(request: &Request) -> Code
+    ensures { result ≡ memory_code request.now }
+{
+    match request {
+        Request::Commit { flags, .. } => {
+            if flags & TMONEPHASE == TMONEPHASE {
+                XAER_RMFAIL
+            } else {
+                XA_RETRY
+            }
+        }
+        _ => XAER_RMFAIL,
+    }
+}
