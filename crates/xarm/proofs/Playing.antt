@@ -18,7 +18,7 @@ use Rattle.xarm.specs.declared.line.Line.{Line}
 use Rattle.xarm.specs.declared.line.Line.TheVariants.{Silent, Unknown, Connect, Call}
 use Rattle.xarm.specs.Lines as lines
 use Rattle.xarm.specs.Parts.{parts, parts_behind}
-use Rattle.xarm.specs.Plays.{Answers, Shows, PlaysLine, PlaysLines, LineAnswered, LinePlayed, lines_of}
+use Rattle.xarm.specs.Plays.{Answers, FullyAnswered, wanted_memory, Shows, PlaysLine, PlaysLines, LineAnswered, LinePlayed, lines_of}
 use Rattle.xarm.specs.Replies as replies
 use Rattle.xarm.specs.Requests.{ReadsTexts}
 
@@ -34,16 +34,19 @@ follows m' reply (Some a) h = (a.after, ap (λ (r : Reply). Some (record { reply
 
 answers_by : (m m' : Kept) (asked : Event) (reply : Reply) (s : State) (b : Bool) →
     MatchBool b (m' ≡ m) ((s : State) → StandsFor m s → IsSomeAnd (step s (Asked asked) Quiet) (λ a. (a.reply ≡ reply) × StandsFor m' a.after)) →
-    StandsFor m s →
-    (after : State) × MatchBool b (after ≡ s) (step s (Asked asked) Quiet ≡ Some (record { reply = reply; after = after })) × StandsFor m' after
-answers_by m m' asked reply s true h stands = (s, refl, subst (λ (k : Kept). StandsFor k s) (sym h) stands)
-answers_by m m' asked reply s false h stands = follows m' reply (step s (Asked asked) Quiet) (h s stands)
+    (b ≡ true → reply ≡ wanted_memory asked) → StandsFor m s →
+    (after : State)
+    × MatchBool b ((reply ≡ wanted_memory asked) × (after ≡ s)) (step s (Asked asked) Quiet ≡ Some (record { reply = reply; after = after }))
+    × StandsFor m' after
+answers_by m m' asked reply s true h wanted stands = (s, (wanted refl, refl), subst (λ (k : Kept). StandsFor k s) (sym h) stands)
+answers_by m m' asked reply s false h wanted stands = follows m' reply (step s (Asked asked) Quiet) (h s stands)
 
-shows : (m m' : Kept) (asked : Event) (answer : Option Reply) (s : State) → IsSomeAnd answer (λ reply. Answered m asked reply m') → StandsFor m s →
+shows : (m m' : Kept) (asked : Event) (answer : Option Reply) (s : State) → IsSomeAnd answer (λ reply. FullyAnswered m asked reply m') → StandsFor m s →
     (after : State) × Shows s asked (printed answer) after × StandsFor m' after
 shows m m' asked None s h stands = absurd h
 shows m m' asked (Some reply) s h stands =
-    let a = answers_by m m' asked reply s (is_memory reply.detail) h stands in (a.0, (reply, refl, a.1), a.2)
+    let a = answers_by m m' asked reply s (is_memory reply.detail) h.0 h.1 stands in
+    (a.0, (reply, refl, a.1), a.2)
 
 -- an answer of a manager is a line of the model, from whichever state the manager stood for
 pub line_plays : (m m' : Kept) (said : Line) (answer : Option Reply) (s : State) → LineAnswered m said answer m' → StandsFor m s →

@@ -1,7 +1,7 @@
 -- What a script prints: each line that asks something shows the reply of one step of the sequential resource manager.
-use Rattle.std.specs.Prelude.{ℕ, ◌≡◌, ◌≤◌, Bool, List, [], ◌∷◌, ◌++◌, length, map, Option, Some, None, MatchBool, IsSomeAnd}
+use Rattle.std.specs.Prelude.{ℕ, ◌≡◌, ◌≤◌, Bool, List, [], ◌∷◌, ◌++◌, length, map, true, Option, Some, None, MatchBool, IsSomeAnd}
 use Rattle.std.specs.Io.KnownBytes.{Appends}
-use Rattle.xa_codes.specs.declared.codes.TheConstants.{XAER_INVAL}
+use Rattle.xa_codes.specs.declared.codes.TheConstants.{XAER_INVAL, XAER_RMFAIL}
 use Rattle.xa_codes.specs.declared.detail.Detail.TheVariants as detail
 use Rattle.xa_frame.specs.declared.reply.Reply.{Reply}
 use Rattle.xa_model.specs.declared.event.Event.{Event}
@@ -11,7 +11,7 @@ use Rattle.xa_model.specs.State.{State}
 use Rattle.xa_model.specs.Answer.{detailed}
 use Rattle.xa_model.specs.Step.{Asked, step}
 use Rattle.xa_model.specs.History.{fresh}
-use Rattle.xa_manager.specs.Answered.{Answered}
+use Rattle.xa_manager.specs.Answered.{Answered, memory_code}
 use Rattle.xa_manager.specs.Kept.{Kept}
 use Rattle.xa_manager.specs.Stands.{StandsFor, is_memory}
 use Rattle.xa_xid.specs.Triple.{Triple}
@@ -22,10 +22,16 @@ use Rattle.xarm.specs.Parts.{parts}
 use Rattle.xarm.specs.Replies as replies
 use Rattle.xarm.specs.Requests.{ReadsTexts}
 
+-- the reply where memory was wanted
+abbrev pub wanted_memory : Event → Reply
+wanted_memory (event.Call n request) = detailed (memory_code request) detail.Memory
+wanted_memory _ = detailed XAER_RMFAIL detail.Memory
+
 -- the reply is the step's, or memory was wanted and the state is as it was
 abbrev pub Answers : State → Event → Reply → State → Type 0
 Answers s asked reply after =
-    MatchBool (is_memory reply.detail) (after ≡ s) (step s (Asked asked) Quiet ≡ Some (record { reply = reply; after = after }))
+    MatchBool (is_memory reply.detail) ((reply ≡ wanted_memory asked) × (after ≡ s))
+    (step s (Asked asked) Quiet ≡ Some (record { reply = reply; after = after }))
 
 -- an event is answered, and its reply shown
 abbrev pub Shows : State → Event → List ℕ → State → Type 0
@@ -55,11 +61,14 @@ Plays name log_bytes script old new =
     × ((xid_of : List ℕ → Option Triple) → ReadsTexts xid_of → PlaysLines (fresh name log_bytes) (lines_of xid_of script) text))
 
 -- What one line is answered by a manager, and leaves of it.
+abbrev pub FullyAnswered : Kept → Event → Reply → Kept → Type 0
+FullyAnswered m asked reply m' = Answered m asked reply m' × (is_memory reply.detail ≡ true → reply ≡ wanted_memory asked)
+
 abbrev pub LineAnswered : Kept → Line → Option Reply → Kept → Type 0
 LineAnswered m Silent answer m' = (answer ≡ None) × (m' ≡ m)
 LineAnswered m Unknown answer m' = (answer ≡ Some (detailed XAER_INVAL detail.Frame)) × (m' ≡ m)
-LineAnswered m Connect answer m' = IsSomeAnd answer (λ reply. Answered m event.Connect reply m')
-LineAnswered m (Call n request) answer m' = IsSomeAnd answer (λ reply. Answered m (event.Call n request) reply m')
+LineAnswered m Connect answer m' = IsSomeAnd answer (λ reply. FullyAnswered m event.Connect reply m')
+LineAnswered m (Call n request) answer m' = IsSomeAnd answer (λ reply. FullyAnswered m (event.Call n request) reply m')
 
 -- from whichever state the manager stood for, the line prints this
 abbrev pub LinePlayed : Kept → List ℕ → List ℕ → Kept → Type 0

@@ -1,6 +1,7 @@
 ghost use Rattle.std.specs.Io.KnownBytes.{Appends, Keeps};
-ghost use Rattle.std.specs.Prelude.{◌≡◌, ◌<◌, ◌⊎◌, IfErr, IfSome, IsErrOf, List, OnErr, OnOk, length, ℕ};
+ghost use Rattle.std.specs.Prelude.{◌≡◌, ◌<◌, ◌⊎◌, IfErr, IfSome, IsErrOf, List, OnErr, OnOk, length, true, ℕ};
 ghost use Rattle.xa_manager.specs.Answered.{Answered};
+ghost use Rattle.xa_manager.specs.Stands.{is_memory};
 ghost use Rattle.xa_model.specs.Answer.{detailed};
 ghost use Rattle.xarm.specs.Lines.{IsWithinLimits};
 ghost use Rattle.xarm.specs.Plays.{LineAnswered, LinePlayed, Plays, ScriptPlayed};
@@ -30,6 +31,8 @@ pub fn play_run<R: Read + Drop, W: Write>(
     // The script is what the reader gives, where that is known.
     ensures played { OnOk result ((script : List ℕ) × IfSome (R.remaining reader.old) (λ bytes. script ≡ bytes)
         × Plays settings.name settings.log_bytes script (W.contents writer.old) (W.contents writer.new)) }
+    ensures setting { IsErrOf result PlayFault.Setting →
+        (255 < length settings.name) ⊎ (settings.log_bytes < 64) ⊎ (1_073_741_824 < settings.log_bytes) }
     ensures too_long { IsErrOf result PlayFault.TooLong → IfSome (R.remaining reader.old) (λ bytes. 16_777_216 < length bytes) }
     ensures nothing_written { IsErrOf result PlayFault.Setting ⊎ IsErrOf result PlayFault.Read ⊎ IsErrOf result PlayFault.TooLong →
         Keeps (W.contents writer.old) (W.contents writer.new) }
@@ -97,7 +100,8 @@ fn answer(manager: &mut Manager, said: Line) -> Option<Reply>
 
 /// Connects a session.
 fn connect(manager: &mut Manager) -> Reply
-    ensures { Answered manager.old Event.Connect result manager.new }
+    ensures step { Answered manager.old Event.Connect result manager.new }
+    ensures memory { is_memory result.detail ≡ true → result ≡ detailed XAER_RMFAIL Detail.Memory }
 {
     match manager.connect() {
         Ok(number) => Reply {

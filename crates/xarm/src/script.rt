@@ -1,4 +1,4 @@
-ghost use Rattle.std.specs.Prelude.{◌≡◌, ◌≤◌, ◌<◌, ◌⊎◌, IfOk, IfSome, IsErrOf, length};
+ghost use Rattle.std.specs.Prelude.{◌≡◌, ◌≤◌, ◌<◌, ◌⊎◌, IfErr, IfOk, IfSome, IsErrOf, length};
 
 use crate::fault::PlayFault;
 use std::alloc::Global;
@@ -10,6 +10,7 @@ const MOST_BYTES: u64 = 16_777_216;
 /// All that the reader gives, where it isn't too long.
 pub fn read_script<R: Read + Drop>(alloc: Global, reader: &mut R) -> Result<Vec<u8>, PlayFault>
     ensures all { IfOk result (λ script. IfSome (R.remaining reader.old) (λ bytes. script.items ≡ bytes)) }
+    ensures faults { IfErr result (λ fault. (fault ≡ PlayFault.Memory) ⊎ (fault ≡ PlayFault.Read) ⊎ (fault ≡ PlayFault.TooLong)) }
     ensures limit { IfOk result (λ script. length script.items ≤ 16_777_216) }
     ensures too_long { IsErrOf result PlayFault.TooLong → IfSome (R.remaining reader.old) (λ bytes. 16_777_216 < length bytes) }
 {
