@@ -22,3 +22,6 @@ mod written;
 pub use fault::{ConnectFault, ManagerFault};
 pub use manager::Manager;
 pub use settings::Settings;
+
+#[cfg(test)]
+mod tests;
