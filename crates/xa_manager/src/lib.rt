@@ -18,3 +18,6 @@ mod tables;
 pub use fault::{ConnectFault, ManagerFault};
 pub use manager::Manager;
 pub use settings::Settings;
+
+#[cfg(test)]
+mod tests;

@@ -39,6 +39,7 @@ impl Manager {
     pub fn new(alloc: Global, settings: Settings) -> Result<Manager, ManagerFault>
         ensures fresh { IfOk result (λ m. StandsFor (kept m) (fresh settings.name settings.log_bytes)) }
         ensures good { length settings.name ≤ 255 → 64 ≤ settings.log_bytes → settings.log_bytes ≤ 1073741824 → IsOk result }
+        ensures limits { IfOk result (λ m. (length settings.name ≤ 255) × (64 ≤ settings.log_bytes) × (settings.log_bytes ≤ 1073741824)) }
         ensures refused { IfErr result (λ e. (e ≡ ManagerFault.Setting) × ((255 < length settings.name) ⊎ (settings.log_bytes < 64) ⊎ (1073741824 < settings.log_bytes))) }
     {
         let Settings { name, log_bytes } = settings;

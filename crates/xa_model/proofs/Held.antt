@@ -1,12 +1,14 @@
 -- Associations, as long as all are active: one a session.
-use Rattle.std.proofs.Common.{◌≡◌, ℕ, ◌+◌, ◌==◌, ◌||◌, suc, Bool, true, false, cond, List, [], ◌∷◌, length, None, refl, ap, ◌∙◌, arith}
+use Rattle.std.proofs.Common.{◌≡◌, ℕ, ◌+◌, ◌==◌, ◌||◌, Bool, true, false, cond, List, [], ◌∷◌, None, refl, ap, ◌∙◌, arith}
 use Rattle.std.specs.Prelude.{filter}
 use Rattle.std.specs.List.{list_any}
+use Rattle.std.proofs.Math.Bool.{or-false}
 use Rattle.std.proofs.lemmas.Bool.Decides.{nat_tests}
 use Rattle.xa_xid.specs.Triple.{Triple, xid_eq}
 use Rattle.xa_model.specs.State.{Association, Holder, Active, Suspended, Loose, is_active, is_own, owns, is_loose_with, active_of, holders_of, without}
 use Rattle.xa_model.specs.Associations.{is_with, can_end, without_one}
 use Rattle.xa_model.specs.Laws.{IsSingle, IsOnly}
+use Rattle.xa_model.proofs.Lists.{same_length, one_less}
 use Rattle.xa_model.proofs.Xids.{both_true, xid_apart}
 
 -- nobody holds a loose one
@@ -19,17 +21,13 @@ pub no_loose : (xid : Triple) (held : List Association) → IsSingle held → li
 no_loose xid [] s = refl
 no_loose xid (a ∷ held) s = no_loose_by xid a held a.holder refl s.0 (no_loose xid held s.1)
 
-or_false : (b : Bool) → (b || false) ≡ b
-or_false true = refl
-or_false false = refl
-
 owns_by : (n m : ℕ) (xid : Triple) (a : Association) (held : List Association) (c : Bool) → a.holder ≡ Active m → (m == n) ≡ c → active_of held m ≡ None
     → list_any (owns n xid) held ≡ is_with xid (active_of held n) → list_any (owns n xid) (a ∷ held) ≡ is_with xid (active_of (a ∷ held) n)
 owns_by n m xid a held true e same none rest =
     let here : n ≡ m = grind (arith, nat_tests) in
     let nothing : active_of held n ≡ None = rw here none in
     let no : list_any (owns n xid) held ≡ false = rest ∙ ap (is_with xid) nothing in
-    simp (e, same, no) (or_false (xid_eq a.xid xid))
+    simp (e, same, no) (or-false (xid_eq a.xid xid))
 owns_by n m xid a held false e same none rest = simp (e, same, rest)
 
 owns_holder : (n : ℕ) (xid : Triple) (a : Association) (held : List Association) (h : Holder) → a.holder ≡ h → IsOnly h held
@@ -44,7 +42,7 @@ owns_active n xid [] s = refl
 owns_active n xid (a ∷ held) s = owns_holder n xid a held a.holder refl s.0 (owns_active n xid held s.1)
 
 pub can_end_active : (n : ℕ) (xid : Triple) (held : List Association) → IsSingle held → can_end held n xid ≡ is_with xid (active_of held n)
-can_end_active n xid held s = ap (λ b. list_any (owns n xid) held || b) (no_loose xid held s) ∙ or_false (list_any (owns n xid) held) ∙ owns_active n xid held s
+can_end_active n xid held s = ap (λ b. list_any (owns n xid) held || b) (no_loose xid held s) ∙ or-false (list_any (owns n xid) held) ∙ owns_active n xid held s
 
 pub without_active : (n : ℕ) (xid : Triple) (held : List Association) → list_any (owns n xid) held ≡ true → without_one held n xid ≡ without (owns n xid) held
 without_active n xid held h = rw h refl
@@ -118,14 +116,6 @@ ended_other n k xid [] apart = refl
 ended_other n k xid (a ∷ held) apart = ended_other_by n k xid a held (owns n xid a) refl apart (ended_other n k xid held apart)
 
 -- how many associations a branch has
-same_length : (c : Bool) (a : Association) (xs ys : List Association) → length xs ≡ length ys → length (cond c (a ∷ xs) xs) ≡ length (cond c (a ∷ ys) ys)
-same_length true a xs ys e = ap (λ n. suc n) e
-same_length false a xs ys e = e
-
-one_less : (c : Bool) (a : Association) (xs ys : List Association) → length xs + 1 ≡ length ys → length (cond c (a ∷ xs) xs) + 1 ≡ length (cond c (a ∷ ys) ys)
-one_less true a xs ys e = omega arith
-one_less false a xs ys e = e
-
 holders_same_by : (n : ℕ) (xid : Triple) (a : Association) (held : List Association) (c : Bool) → owns n xid a ≡ c → (c || list_any (owns n xid) held) ≡ true
     → (list_any (owns n xid) held ≡ true → holders_of (without (owns n xid) held) xid + 1 ≡ holders_of held xid)
     → holders_of (cond c held (a ∷ without (owns n xid) held)) xid + 1 ≡ holders_of (a ∷ held) xid

@@ -1,10 +1,11 @@
 -- That no two known branches have one XID, and how many are known, after a change of one of them.
-use Rattle.std.proofs.Common.{◌≡◌, ◌+◌, Bool, true, false, cond, suc, List, [], ◌∷◌, length, Option, Some, None, refl, ap, sym, ◌∙◌, subst, arith}
+use Rattle.std.proofs.Common.{◌≡◌, ◌+◌, Bool, true, false, cond, List, [], ◌∷◌, length, Option, Some, None, refl, sym, ◌∙◌, subst, arith}
 use Rattle.std.specs.Prelude.{option_map, is_some, filter}
 use Rattle.xa_xid.specs.Triple.{Triple, xid_eq}
 use Rattle.xa_xid.proofs.Same.{xid_same}
 use Rattle.xa_model.specs.State.{Branch, is_known, is_known_as, known_of, known_count, change, without}
 use Rattle.xa_model.specs.Laws.{IsUnique}
+use Rattle.xa_model.proofs.Lists.{same_length, one_less}
 use Rattle.xa_model.proofs.Xids.{both_true}
 use Rattle.xa_model.proofs.Names.{KeepsKnown, EndsKnown, known_changed_other, known_changed_same, known_ended_same, known_left_other, known_left_same}
 
@@ -34,9 +35,6 @@ ended_none_by f k xid q bs true is u h =
     subst (λ (x : Triple). known_of (change (is_known_as x) f bs) q ≡ None) (sym (xid_same xid q is)) (known_ended_same f k q bs u)
 ended_none_by f k xid q bs false is u h = known_changed_other f k.xid xid q bs is ∙ h
 
-false_is : (b c : Bool) → b ≡ false → b ≡ true → c ≡ true
-false_is b c e h = absurd (cc (e, h))
-
 ended_by : (f : Branch → Branch) (k : EndsKnown f) (xid : Triple) (b : Branch) (bs : List Branch) (c : Bool) → IsUnique (b ∷ bs) → IsUnique (change (is_known_as xid) f bs)
     → IsUnique (cond c (f b ∷ bs) (b ∷ change (is_known_as xid) f bs))
 ended_by f k xid b bs true u rest = (λ h. absurd (cc (k.known b, h)), u.1)
@@ -59,17 +57,9 @@ unique_left xid [] u = tt
 unique_left xid (b ∷ bs) u = left_by xid b bs (is_known_as xid b) u (unique_left xid bs u.1)
 
 -- how many are known
-same_length : (c : Bool) (b : Branch) (xs ys : List Branch) → length xs ≡ length ys → length (cond c (b ∷ xs) xs) ≡ length (cond c (b ∷ ys) ys)
-same_length true b xs ys e = ap (λ n. suc n) e
-same_length false b xs ys e = e
-
 same_head : (c : Bool) (x y : Branch) (bs : List Branch) → length (cond c (x ∷ bs) bs) ≡ length (cond c (y ∷ bs) bs)
 same_head true x y bs = refl
 same_head false x y bs = refl
-
-one_less : (c : Bool) (b : Branch) (xs ys : List Branch) → length xs + 1 ≡ length ys → length (cond c (b ∷ xs) xs) + 1 ≡ length (cond c (b ∷ ys) ys)
-one_less true b xs ys e = omega arith
-one_less false b xs ys e = e
 
 count_kept_by : (f : Branch → Branch) (k : KeepsKnown f) (xid : Triple) (b : Branch) (bs : List Branch) (c : Bool) → known_count (change (is_known_as xid) f bs) ≡ known_count bs
     → known_count (cond c (f b ∷ bs) (b ∷ change (is_known_as xid) f bs)) ≡ known_count (b ∷ bs)

@@ -120,10 +120,6 @@ version_left xid b limit bs h found key u =
     ∙ ap (λ (o : Option Version). cond (b.timestamp == u) None o) (sym (version_branch limit bs h key u))
 
 -- the version that a known branch has
-at_own : (t u : ℕ) (c : Bool) (x y : Option Version) → (t == u) ≡ c → (c ≡ true → x ≡ y) → cond c x y ≡ y
-at_own t u true x y e same = same refl
-at_own t u false x y e same = refl
-
 pub version_own : (xid : Triple) (b : Branch) (limit : ℕ) (bs : List Branch) → Descends limit bs → known_of bs xid ≡ Some b → (key : List ℕ) → version_at b.timestamp (versions_of key bs) ≡ version_by key b
 version_own xid b limit bs h found key =
     let st = stands_known xid b limit bs h found in version_branch limit bs h key b.timestamp ∙ ap (option_and_then (version_by key)) st.at

@@ -5,9 +5,6 @@ use Rattle.std.specs.Ordering.{is_eq}
 use Rattle.xa_xid.specs.Triple.{Triple, xid_eq, xid_cmp}
 use Rattle.xa_xid.proofs.Same.{xid_same}
 
-pub xid_eq_self : (x : Triple) → xid_eq x x ≡ true
-xid_eq_self x = search (comparing, rules) depth 9
-
 pub cmp_is_eq : (x y : Triple) → is_eq (xid_cmp x y) ≡ xid_eq x y
 cmp_is_eq x y = search (comparing, rules) depth 9
 
@@ -20,16 +17,6 @@ pub and_false : (a b : Bool) → b ≡ false → (a && b) ≡ false
 and_false true b e = e
 and_false false b e = refl
 
-false_true : (b : Bool) → b ≡ false → b ≡ true → ⊥
-false_true b e h = cc
-
 -- a name that is equal to one of two that differ differs from the other
 pub xid_apart : (a b c : Triple) → xid_eq a b ≡ true → xid_eq b c ≡ false → xid_eq a c ≡ false
 xid_apart a b c e h = subst (λ (x : Triple). xid_eq x c ≡ false) (sym (xid_same a b e)) h
-
-xid_apart_by : (a b : Triple) (c : Bool) → xid_eq b a ≡ c → xid_eq a b ≡ false → c ≡ false
-xid_apart_by a b true e h = absurd (false_true (xid_eq a b) h (subst (λ (x : Triple). xid_eq x b ≡ true) (xid_same b a e) (xid_eq_self b)))
-xid_apart_by a b false e h = refl
-
-pub xid_apart_back : (a b : Triple) → xid_eq a b ≡ false → xid_eq b a ≡ false
-xid_apart_back a b h = xid_apart_by a b (xid_eq b a) refl h
