@@ -1,5 +1,5 @@
 ghost use Rattle.std.specs.Int.{w16, w32, w64};
-ghost use Rattle.std.specs.Prelude.{◌≡◌, ◌≤◌, ◌^◌, ℕ, List, [], ◌∷◌, length, Option, Some, Err, IfOk, MatchResult, option_map, is_some, IsSome};
+ghost use Rattle.std.specs.Prelude.{◌≡◌, [], Err, IfOk, option_map, is_some, IsSome};
 ghost use Rattle.xa_record.specs.declared.fault.RecordFault.TheVariants.{Memory};
 ghost use Rattle.xa_record.specs.declared.record.Record.{Record};
 ghost use Rattle.xa_record.specs.Answers.{Answers, Gives};

@@ -1,7 +1,7 @@
 ghost use Rattle.arrayvec.specs.ArrayVec.{array_vec_len};
-ghost use Rattle.std.specs.Prelude.{◌≡◌, ◌≤◌, ◌+◌, [], ◌∷◌, ◌++◌, length, flat_map, IfOk, OnOk};
-ghost use Rattle.xa_record.specs.Spelling.{spelled, branch_bytes, write_bytes, value_bytes};
 ghost use Rattle.std.specs.Int.{w16, to_be_bytes};
+ghost use Rattle.std.specs.Prelude.{◌≡◌, ◌≤◌, [], ◌∷◌, ◌++◌, flat_map, IfOk, OnOk};
+ghost use Rattle.xa_record.specs.Spelling.{spelled, branch_bytes, write_bytes, value_bytes};
 ghost use Rattle.xa_record.specs.Small.{IsSmall};
 ghost use Rattle.xa_xid.specs.Spelling.{bytes_of};
 
@@ -14,7 +14,7 @@ use xa_xid::Xid;
 
 /// The record's body. A record out of its limits has none that `read` takes.
 pub fn write(alloc: Global, record: &Record) -> Result<Vec<u8>, AllocError>
-    ensures { IfOk result (λ v. v.items ≡ spelled record.now) }
+    ensures { IfOk result (λ v. v.items ≡ spelled «record».now) }
 {
     match record {
         Record::Prepared {
@@ -37,8 +37,8 @@ pub fn write(alloc: Global, record: &Record) -> Result<Vec<u8>, AllocError>
 
 /// Replaces what the vector holds by the body of a record without writes. Takes no memory.
 pub fn write_small(record: &Record, out: &mut ArrayVec<u8, 136>)
-    requires { IsSmall record.now }
-    ensures { out.new.items ≡ spelled record.now }
+    requires { IsSmall «record».now }
+    ensures { out.new.items ≡ spelled «record».now }
 {
     out.clear();
     match record {
