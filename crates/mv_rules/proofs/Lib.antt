@@ -2,3 +2,8 @@ pub mod Places
 pub mod Listed
 pub mod Settled
 pub mod Written
+pub mod Ties
+pub mod Moved
+pub mod Branches
+pub mod Open
+pub mod Gathered

@@ -3,3 +3,5 @@ pub mod Own
 pub mod Records
 pub mod Steps
 pub mod Verdict
+pub mod Ties
+pub mod Collected

@@ -7,11 +7,14 @@
 #![tactic(auto)]
 
 mod answers;
+mod laws;
 mod own;
 mod records;
 mod steps;
 mod verdict;
+mod writes;
 
 pub use answers::{Got, Put};
+pub use laws::one_history;
 pub use own::Own;
 pub use records::Records;

@@ -5,10 +5,11 @@ use crate::answers::{Got, Put};
 use crate::own::{Own, count, take_list};
 use crate::steps::{add, read, settle_all};
 use crate::verdict::{Verdict, judge};
+use crate::writes::{collect, listed};
 use mv_chain::{Chain, Fate};
 use std::alloc::{AllocError, Global};
 use std::collections::BTreeMap;
-use xa_codes::Bytes;
+use xa_codes::{Bytes, Write};
 
 /// The versions of all keys, and for each undecided branch the keys that it has written.
 ///
@@ -24,7 +25,7 @@ pub struct Records {
 }
 
 impl Records {
-    ghost use Rattle.mv_rules.specs.History.{History, answer_of, reads_after, open_keys, put_of, after_put};
+    ghost use Rattle.mv_rules.specs.History.{History, answer_of, reads_after, open_keys, put_of, after_put, IsWritesOf};
     ghost use Rattle.mv_rules.specs.Records.{StandsFor, place_of};
 
     /// No key was written or read. Takes no memory.
@@ -118,6 +119,22 @@ impl Records {
             settle_all(&mut self.chains, &own, ts, fate);
         }
     }
+
+    /// The branch's last write of each key, ascending by key, while the branch is undecided.
+    ///
+    /// # Errors
+    /// Want of memory.
+    pub fn writes_of(&self, ts: u64) -> Result<Vec<Write>, AllocError>
+        ensures { IfOk result (λ v. (h : History) → StandsFor h self.now → IsUnsettled ts h.low h.writes → IsWritesOf ts h.writes v.items) }
+    {
+        match self.written.get(&ts) {
+            Some(own) => {
+                let values = collect(self.alloc, &self.chains, own, ts)?;
+                listed(self.alloc, values)
+            }
+            None => Ok(Vec::new(self.alloc)),
+        }
+    }
 }
 
 #[cfg(test)]
@@ -208,6 +225,32 @@ mod tests {
         assert!(rt; is_value(records.get(FIRST, b"k"), 0x76));
         assert_eq!(rt; records.put(FIRST, b"k", None), Put::Done);
         assert!(rt; matches!(records.get(FIRST, b"k"), Got::Absent));
+        Ok(())
+    }
+
+    fn is_write(write: &Write, key: &[u8], byte: Option<u8>) -> bool {
+        let same = match (&write.value, byte) {
+            (Some(bytes), Some(byte)) => bytes.as_slice() == [byte].as_slice(),
+            (None, None) => true,
+            _ => false,
+        };
+        same && write.key.as_slice() == key
+    }
+
+    // The last write of each key, ascending by key.
+    #[test]
+    fn writes(rt: HostRuntime) -> Result<(), Fail> {
+        let mut records = Records::new(rt.alloc());
+        assert_eq!(rt; records.put(FIRST, b"m", value(rt.alloc(), 1)?), Put::Done);
+        assert_eq!(rt; records.put(FIRST, b"ka", value(rt.alloc(), 2)?), Put::Done);
+        assert_eq!(rt; records.put(FIRST, b"k", None), Put::Done);
+        assert_eq!(rt; records.put(FIRST, b"m", value(rt.alloc(), 3)?), Put::Done);
+        let writes = records.writes_of(FIRST)?;
+        assert_eq!(rt; writes.len(), 3);
+        assert!(rt; is_write(&writes[0], b"k", None));
+        assert!(rt; is_write(&writes[1], b"ka", Some(2)));
+        assert!(rt; is_write(&writes[2], b"m", Some(3)));
+        assert_eq!(rt; records.writes_of(SECOND)?.len(), 0);
         Ok(())
     }
 

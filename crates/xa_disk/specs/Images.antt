@@ -1,4 +1,4 @@
--- What the calls of a disk in memory do to the images that a crash may leave.
+-- Laws of the images that a crash of a disk in memory may leave, for the members of its trait. All of them are proved here.
 use Rattle.std.specs.Prelude.{◌≡◌, ◌≤◌, ℕ, List, [], ◌∷◌, length, refl}
 use Rattle.std.proofs.Common.{arith, sym, subst}
 use Rattle.std.proofs.lemmas.List.{take_all, places}

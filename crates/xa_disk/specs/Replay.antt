@@ -47,6 +47,7 @@ IsImage s c = Reaches s.stable s.pending c
 abbrev pub LeftSince : List ℕ → List Call → ℕ → List ℕ → Type 0
 LeftSince first calls t c = (k : ℕ) × (t ≤ k) × (k ≤ length calls) × IsImage (replay first (take k calls)) c
 
+-- law: one call more
 pub replay_more : (s : Now) (calls : List Call) (call : Call) → replay_from s (calls ++ call ∷ []) ≡ after call (replay_from s calls)
 replay_more s [] call = refl
 replay_more s (c ∷ calls) call = replay_more (after c s) calls call

@@ -8,4 +8,5 @@ pub mod Walk
 pub mod Chance
 pub mod Cached
 pub mod Again
+pub mod Made
 pub mod Rows

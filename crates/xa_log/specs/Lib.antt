@@ -3,4 +3,5 @@ pub mod Answers
 pub mod Stands
 pub mod Window
 pub mod Reading
+pub mod Opened
 pub mod Planned

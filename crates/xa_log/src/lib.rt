@@ -2,7 +2,7 @@
 //!
 //! - `log`: `Log`, with `create`, `open`, `append`, `rescan`
 //! - `appending`: how a record goes to the disk, and what became of it; with `record` (a record's bytes)
-//! - `opening`: reading a log from a disk that is lent; with `reading` (record by record) and `window` (in pieces)
+//! - `opening`: making and reading a log on a disk that is lent, which gives an `Opened`; with `reading` (record by record) and `window` (in pieces)
 //! - `fault`: why a disk's bytes aren't taken as a log
 //!
 //! docs/LOG.md has the format and what each device fault leaves.
@@ -11,6 +11,7 @@
 mod appending;
 mod fault;
 mod log;
+mod opened;
 mod opening;
 mod reading;
 mod record;
@@ -19,7 +20,8 @@ mod window;
 pub use appending::Appended;
 pub use fault::OpenFault;
 pub use log::{Log, memory_without_chance};
-pub use opening::{Opened, create_on, open_on, read_log};
+pub use opened::Opened;
+pub use opening::{create_on, open_on, read_log};
 
 #[cfg(test)]
 mod tests;

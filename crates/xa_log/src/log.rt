@@ -3,11 +3,13 @@ ghost use Rattle.std.specs.Prelude.{◌≡◌, ◌≢◌, ◌⊎◌, ◌+◌, �
 ghost use Rattle.xa_disk.specs.Disk.{Same, Passes, Rises, LeavesOnly};
 ghost use Rattle.xa_log.specs.Chain.{IsBody, IsPlain, IsBeforeOrAfter, NoChance, logged};
 ghost use Rattle.xa_log.specs.Answers.{HasCause};
+ghost use Rattle.xa_log.specs.Opened.{IsOpened};
 ghost use Rattle.xa_log.specs.Reading.{bodies_of, fault_of, Explains, ExplainsNew};
 
 use crate::OpenFault;
 use crate::appending::{Appended, append_at};
-use crate::opening::{Opened, create_on, open_on};
+use crate::opened::Opened;
+use crate::opening::{create_on, open_on};
 use crate::reading::read_whole;
 use std::alloc::{AllocError, Global};
 use xa_disk::{Disk, Effect, MemDisk};
@@ -150,6 +152,7 @@ impl<D: Disk + Drop> Log<D> {
 
     /// The log that was read from this disk by `open_on`, with its bodies.
     pub fn on(disk: D, opened: Opened) -> (Log<D>, Vec<Vec<u8>>)
+        ensures log { D.honest → IsOpened (D.seen disk) (D.may_leave disk) opened → Stands D.seen D.may_leave (bodies_of result.1.items) result.0 }
         ensures disk { result.0.disk ≡ disk }
         ensures bodies { result.1 ≡ opened.scan.bodies }
         ensures end { result.0.end ≡ opened.scan.end }

@@ -9,7 +9,7 @@ use Rattle.xa_model.specs.State.{State}
 use Rattle.xa_model.specs.Step.{Asked, respond}
 use Rattle.xa_model.specs.History.{Entry, Leads, Steps}
 use Rattle.xa_manager.specs.Kept.{Kept}
-use Rattle.xa_manager.specs.Stands.{StandsFor, is_memory}
+use Rattle.xa_manager.specs.Stands.{StandsFor, Stays, is_memory}
 use Rattle.xa_manager.specs.Answered.{Answered, AnswersAll, recorded}
 
 -- a legal history goes on by one entry
@@ -33,12 +33,12 @@ recorded_more (e ∷ es) (r ∷ rs) event reply d same ed =
     recorded_step e r es rs event reply (is_memory r.detail) d refl ed (recorded_more es rs event reply d (omega arith) ed)
 
 goes_on : (m mid m' : Kept) (es : List Event) (rs : List Reply) (event : Event) (reply : Reply) (d : Bool) → length es ≡ length rs → is_memory reply.detail ≡ d
-    → AnswersAll m es rs mid → MatchBool d (m' ≡ mid) ((s : State) → StandsFor mid s → ((respond s event).reply ≡ reply) × StandsFor m' (respond s event).after)
+    → AnswersAll m es rs mid → MatchBool d (Stays mid m') ((s : State) → StandsFor mid s → ((respond s event).reply ≡ reply) × StandsFor m' (respond s event).after)
     → AnswersAll m (es ++ event ∷ []) (rs ++ reply ∷ []) m'
 goes_on m mid m' es rs event reply true same ed all one s st =
     let h = all s st in
     let e = recorded_more es rs event reply true same ed in
-    (h.0, subst (λ (xs : List Entry). Leads s xs h.0) (sym (e ∙ append-nil (recorded es rs))) h.1, subst (λ (k : Kept). StandsFor k h.0) (sym one) h.2)
+    (h.0, subst (λ (xs : List Entry). Leads s xs h.0) (sym (e ∙ append-nil (recorded es rs))) h.1, one h.0 h.2)
 goes_on m mid m' es rs event reply false same ed all one s st =
     let h = all s st in
     let e = recorded_more es rs event reply false same ed in

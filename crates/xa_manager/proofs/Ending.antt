@@ -1,14 +1,21 @@
 -- A manager that stands for a state, after a branch is completed.
-use Rattle.std.proofs.Common.{◌≡◌, ℕ, ℤ, pos, ◌+◌, ◌==◌, ◌||◌, not, Bool, true, false, cond, List, [], ◌∷◌, map, Option, Some, None, refl, ap, sym, ◌∙◌, subst, arith}
-use Rattle.std.specs.Prelude.{option_map, is_some, is_none, filter, nat_lt}
+use Rattle.std.proofs.Common.{◌≡◌, ℕ, ℤ, pos, ◌+◌, ◌||◌, not, Bool, true, false, cond, List, [], ◌∷◌, map, Option, Some, None, refl, ap, sym, ◌∙◌, subst, arith}
+use Rattle.std.specs.Prelude.{option_map, is_some, is_none, nat_lt}
 use Rattle.std.proofs.lemmas.Bool.Decides.{nat_tests}
 use Rattle.xa_codes.specs.Flags.{has}
 use Rattle.xa_codes.specs.declared.codes.TheConstants.{XAER_PROTO, XAER_NOTA}
 use Rattle.xa_codes.specs.declared.flags.TheConstants.{TMONEPHASE}
+use Rattle.mv_chain.specs.declared.fate.Fate.{Fate}
+use Rattle.mv_chain.specs.declared.fate.Fate.TheVariants.{Committed as kept, RolledBack as gone}
+use Rattle.mv_chain.specs.History.{Written, decided, IsUnsettled}
+use Rattle.mv_rules.specs.Records.{StandsFor as RecordsStandFor}
+use Rattle.mv_rules.specs.Ties.{history_of, writes_in, read_as}
+use Rattle.mv_rules.proofs.Moved.{stands_same}
+use Rattle.mv_rules.proofs.Branches.{committed_writes, gone_writes}
+use Rattle.mv_rules.proofs.Open.{unsettled}
 use Rattle.xa_xid.specs.Triple.{Triple, xid_eq}
 use Rattle.xa_xid.proofs.Same.{xid_same}
-use Rattle.xa_model.specs.State.{State, Branch, Working, is_known_as, known_of, holders_of, change, without, timestamp_of}
-use Rattle.xa_model.specs.Source.{Version, versions_of, version_at, version_by, write_of}
+use Rattle.xa_model.specs.State.{State, Branch, is_known_as, known_of, holders_of, change, without, timestamp_of}
 use Rattle.xa_model.specs.Answer.{plain, first, marked}
 use Rattle.xa_model.specs.Associations.{mark_of}
 use Rattle.xa_model.specs.Branches.{rolled_back, committed, as_committed, commit_refusal, is_bound, commit_by}
@@ -17,14 +24,12 @@ use Rattle.xa_model.proofs.Lists.{change_all, without_all}
 use Rattle.xa_model.proofs.Xids.{cmp_is_eq}
 use Rattle.xa_model.proofs.Names.{EndsKnown, known_changed_other, known_ended_same, known_left_other, known_left_same}
 use Rattle.xa_model.proofs.Known.{unique_ended, unique_left, known_count_ended, known_count_left}
-use Rattle.xa_model.proofs.Times.{version_changed, version_left, version_own}
 use Rattle.xa_model.proofs.Ordering.{committed_keeps, changed_orderly, gone_orderly}
 use Rattle.xa_manager.specs.declared.slot.Slot.{Slot}
-use Rattle.xa_manager.specs.Kept.{Kept, slot_at, kept_versions}
-use Rattle.xa_manager.specs.Changes.{Finishes, settled, is_other}
+use Rattle.xa_manager.specs.Kept.{Kept, slot_at}
+use Rattle.xa_manager.specs.Changes.{Finishes}
 use Rattle.xa_manager.specs.Stands.{StandsFor, IsEarly, Follows, slot_of, is_plain}
 use Rattle.xa_manager.proofs.Looks.{Finds, finds, not_known}
-use Rattle.xa_manager.proofs.Places.{as_final, settled_versions, dropped_versions}
 
 committed_ends : EndsKnown as_committed
 committed_ends = record { xid = λ b. refl; known = λ b. refl }
@@ -50,48 +55,31 @@ ended_bound : (s : State) (xid q : Triple) (o : Option Branch) (c : Bool) → Is
 ended_bound s xid q o true early free e same h = subst (λ (x : Triple). holders_of s.associations x ≡ 0) (xid_same xid q e) free
 ended_bound s xid q o false early free e same h = early.bound q (sym (same refl) ∙ h)
 
--- the versions
-final_by : (key : List ℕ) (b : Branch) (w : Option (Option (List ℕ))) → b.phase ≡ Working → write_of key b.operations ≡ w → version_by key (as_committed b) ≡ option_map as_final (version_by key b)
-final_by key b None e h = simp (e, h)
-final_by key b (Some v) e h = simp (e, h)
-
-final_at : (t u : ℕ) (c : Bool) (x y z : Option Version) → (t == u) ≡ c → y ≡ option_map as_final z → (c ≡ true → x ≡ z) → cond c (option_map as_final x) x ≡ cond c y x
-final_at t u true x y z e h same = rw (same refl) (sym h)
-final_at t u false x y z e h same = refl
-
-same_time : (t u : ℕ) (key : List ℕ) (bs : List Branch) (z : Option Version) → (t == u) ≡ true → version_at t (versions_of key bs) ≡ z → version_at u (versions_of key bs) ≡ z
-same_time t u key bs z e h = let same : t ≡ u = grind (arith, nat_tests) in subst (λ (i : ℕ). version_at i (versions_of key bs) ≡ z) same h
-
-committed_versions : (m m' : Kept) (s : State) (xid : Triple) (slot : Slot) (key : List ℕ) (u : ℕ) → StandsFor m s → (f : Finds s xid slot) → m'.versions ≡ map (settled slot.timestamp) m.versions
-    → version_at u (kept_versions key m'.versions) ≡ version_at u (versions_of key (change (is_known_as xid) as_committed s.branches))
-committed_versions m m' s xid slot key u st f e =
+-- the records
+decided_at : (m m' : Kept) (s : State) (xid : Triple) (slot : Slot) (fate : Fate) → StandsFor m s → (f : Finds s xid slot) → Finishes m xid slot.timestamp fate m'
+    → RecordsStandFor (record { low = 0; writes = decided f.branch.timestamp fate (writes_in s.branches); reads = map read_as s.reads }) m'.records
+decided_at m m' s xid slot fate st f c =
     let b = f.branch in
     let limit = timestamp_of s.boot s.given + 1 in
     let time : slot.timestamp ≡ b.timestamp = ap (λ (x : Slot). x.timestamp) f.is in
-    let own : version_at b.timestamp (versions_of key s.branches) ≡ version_by key b = version_own xid b limit s.branches st.early.orderly.descends f.at key in
-    let kept : version_at u (kept_versions key m'.versions) ≡ cond (slot.timestamp == u) (option_map as_final (version_at u (kept_versions key m.versions))) (version_at u (kept_versions key m.versions)) =
-    rw e (settled_versions slot.timestamp m.versions key u) in
-    kept ∙ ap (λ (o : Option Version). cond (slot.timestamp == u) (option_map as_final o) o) (st.versions key u)
-    ∙ ap (λ (t : ℕ). cond (t == u) (option_map as_final (version_at u (versions_of key s.branches))) (version_at u (versions_of key s.branches))) time
-    ∙ final_at b.timestamp u (b.timestamp == u) (version_at u (versions_of key s.branches)) (version_by key (as_committed b)) (version_by key b) refl
-    (final_by key b (write_of key b.operations) f.working refl) (λ c. same_time b.timestamp u key s.branches (version_by key b) c own)
-    ∙ sym (version_changed as_committed committed_keeps xid b limit s.branches st.early.orderly.descends f.at key u)
+    let open_ : IsUnsettled b.timestamp 0 (writes_in s.branches) = unsettled xid b limit s.branches st.early.orderly.descends f.at f.working in
+    let here : IsUnsettled slot.timestamp 0 (writes_in s.branches) = subst (λ (t : ℕ). IsUnsettled t 0 (writes_in s.branches)) (sym time) open_ in
+    subst (λ (t : ℕ). RecordsStandFor (record { low = 0; writes = decided t fate (writes_in s.branches); reads = map read_as s.reads }) m'.records) time (c.records (history_of s) st.records here)
 
-gone_versions : (m m' : Kept) (s : State) (xid : Triple) (slot : Slot) (key : List ℕ) (u : ℕ) → StandsFor m s → (f : Finds s xid slot) → m'.versions ≡ filter (is_other slot.timestamp) m.versions
-    → version_at u (kept_versions key m'.versions) ≡ version_at u (versions_of key (without (is_known_as xid) s.branches))
-gone_versions m m' s xid slot key u st f e =
-    let b = f.branch in
-    let limit = timestamp_of s.boot s.given + 1 in
-    let time : slot.timestamp ≡ b.timestamp = ap (λ (x : Slot). x.timestamp) f.is in
-    let kept : version_at u (kept_versions key m'.versions) ≡ cond (slot.timestamp == u) None (version_at u (kept_versions key m.versions)) = rw e (dropped_versions slot.timestamp m.versions key u) in
-    kept ∙ ap (λ (o : Option Version). cond (slot.timestamp == u) None o) (st.versions key u)
-    ∙ ap (λ (t : ℕ). cond (t == u) None (version_at u (versions_of key s.branches))) time
-    ∙ sym (version_left xid b limit s.branches st.early.orderly.descends f.at key u)
+committed_records : (m m' : Kept) (s : State) (xid : Triple) (slot : Slot) → StandsFor m s → (f : Finds s xid slot) → Finishes m xid slot.timestamp kept m' → RecordsStandFor (history_of (committed s xid)) m'.records
+committed_records m m' s xid slot st f c =
+    let e = committed_writes xid f.branch (timestamp_of s.boot s.given + 1) s.branches st.early.orderly.descends f.at in
+    subst (λ (ws : List Written). RecordsStandFor (record { low = 0; writes = ws; reads = map read_as s.reads }) m'.records) e (decided_at m m' s xid slot kept st f c)
+
+gone_records : (m m' : Kept) (s : State) (xid : Triple) (slot : Slot) → StandsFor m s → (f : Finds s xid slot) → Finishes m xid slot.timestamp gone m' → RecordsStandFor (history_of (rolled_back s xid)) m'.records
+gone_records m m' s xid slot st f c =
+    stands_same 0 (decided f.branch.timestamp gone (writes_in s.branches)) (writes_in (without (is_known_as xid) s.branches)) (map read_as s.reads) m'.records
+    (gone_writes xid f.branch (timestamp_of s.boot s.given + 1) s.branches st.early.orderly.descends f.at) (decided_at m m' s xid slot gone st f c)
 
 plain_committed : (b : Branch) → is_plain b.phase ≡ true → is_plain (as_committed b).phase ≡ true
 plain_committed b h = refl
 
-pub committed_stands : (m m' : Kept) (s : State) (xid : Triple) (slot : Slot) → StandsFor m s → (f : Finds s xid slot) → holders_of s.associations xid ≡ 0 → Finishes m xid (map (settled slot.timestamp)) m'
+pub committed_stands : (m m' : Kept) (s : State) (xid : Triple) (slot : Slot) → StandsFor m s → (f : Finds s xid slot) → holders_of s.associations xid ≡ 0 → Finishes m xid slot.timestamp kept m'
     → StandsFor m' (committed s xid)
 committed_stands m m' s xid slot st f free c = record {
   name = c.same.name ∙ st.name;
@@ -106,8 +94,7 @@ committed_stands m m' s xid slot st f free c = record {
   known =
       let less = known_count_ended as_committed committed_ends xid s.branches (found_some (known_of s.branches xid) f.branch f.at) in
       omega (arith, less, c.known, st.known);
-  versions = λ key t. committed_versions m m' s xid slot key t st f c.versions;
-  late = λ key t. rw c.reads (st.late key t);
+  records = committed_records m m' s xid slot st f c;
   early = record {
     up = st.early.up;
     orderly = changed_orderly s as_committed xid committed_keeps st.early.orderly;
@@ -120,7 +107,7 @@ committed_stands m m' s xid slot st f free c = record {
   };
 }
 
-pub gone_stands : (m m' : Kept) (s : State) (xid : Triple) (slot : Slot) → StandsFor m s → (f : Finds s xid slot) → holders_of s.associations xid ≡ 0 → Finishes m xid (filter (is_other slot.timestamp)) m'
+pub gone_stands : (m m' : Kept) (s : State) (xid : Triple) (slot : Slot) → StandsFor m s → (f : Finds s xid slot) → holders_of s.associations xid ≡ 0 → Finishes m xid slot.timestamp gone m'
     → StandsFor m' (rolled_back s xid)
 gone_stands m m' s xid slot st f free c = record {
   name = c.same.name ∙ st.name;
@@ -135,8 +122,7 @@ gone_stands m m' s xid slot st f free c = record {
   known =
       let less = known_count_left xid s.branches (found_some (known_of s.branches xid) f.branch f.at) in
       omega (arith, less, c.known, st.known);
-  versions = λ key t. gone_versions m m' s xid slot key t st f c.versions;
-  late = λ key t. rw c.reads (st.late key t);
+  records = gone_records m m' s xid slot st f c;
   early = record {
     up = st.early.up;
     orderly = gone_orderly s xid st.early.orderly;
@@ -208,7 +194,7 @@ unheld : (s : State) (flags : ℕ) (xid : Triple) (slot : Slot) → (f : Finds s
 unheld s flags xid slot f free = sym (ap (λ (x : Slot). x.holders) f.is) ∙ no_holders (has flags TMONEPHASE) slot.holders free
 
 pub commit_follows : (m m' : Kept) (flags : ℕ) (xid : Triple) (slot : Slot) → slot_at m xid ≡ Some slot → (not (has flags TMONEPHASE) || nat_lt 0 slot.holders) ≡ false → slot.mark ≡ None
-    → Finishes m xid (map (settled slot.timestamp)) m' → Follows m (λ s. commit_by s flags xid) (plain (pos 0)) m'
+    → Finishes m xid slot.timestamp kept m' → Follows m (λ s. commit_by s flags xid) (plain (pos 0)) m'
 commit_follows m m' flags xid slot h free unmarked c = record {
   answers = λ s st.
       let f = finds m s xid slot st h in
@@ -222,7 +208,7 @@ commit_follows m m' flags xid slot h free unmarked c = record {
 }
 
 pub gone_follows : (m m' : Kept) (flags : ℕ) (xid : Triple) (slot : Slot) (code : ℤ) → slot_at m xid ≡ Some slot → (not (has flags TMONEPHASE) || nat_lt 0 slot.holders) ≡ false → slot.mark ≡ Some code
-    → Finishes m xid (filter (is_other slot.timestamp)) m' → Follows m (λ s. commit_by s flags xid) (plain code) m'
+    → Finishes m xid slot.timestamp gone m' → Follows m (λ s. commit_by s flags xid) (plain code) m'
 gone_follows m m' flags xid slot code h free marked c = record {
   answers = λ s st.
       let f = finds m s xid slot st h in

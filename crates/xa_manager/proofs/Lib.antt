@@ -1,8 +1,6 @@
-pub mod Places
 pub mod Looks
 pub mod Seating
 pub mod Ending
 pub mod Recording
-pub mod Putting
 pub mod Calling
 pub mod Driving

@@ -56,8 +56,7 @@ connected_stands m m' s st none c =
       connected = c.connected (empty 1) ∙ rw st.connected (omega arith);
       slots = λ xid. rw c.slots (st.slots xid);
       known = rw c.slots st.known;
-      versions = λ key t. rw c.versions (st.versions key t);
-      late = λ key t. rw c.reads (st.late key t);
+      records = rw c.records st.records;
       early = record {
         up = st.early.up;
         orderly = record { descends = st.early.orderly.descends };
@@ -125,8 +124,7 @@ open_follows m m' n c = record {
     connected = c.connected ∙ st.connected ∙ sym (length-change (λ (x : Session). x.number == n) as_opened s.sessions);
     slots = λ xid. rw c.slots (st.slots xid);
     known = rw c.slots st.known;
-    versions = λ key t. rw c.versions (st.versions key t);
-    late = λ key t. rw c.reads (st.late key t);
+    records = rw c.records st.records;
     early = record {
       up = st.early.up;
       orderly = record { descends = st.early.orderly.descends };
@@ -213,8 +211,7 @@ begun_stands m m' s n xid st here idle none absent c = record {
       let b : Branch = record { xid = xid; timestamp = timestamp_of s.boot (s.given + 1); operations = []; mark = None; phase = Working } in
       c.slots q ∙ rw (cmp_is_eq xid q) (begun_slots_by m s n xid q b (xid_eq xid q) st none refl refl);
   known = c.known absent ∙ rw st.known (omega arith);
-  versions = λ key t. rw c.versions (st.versions key t);
-  late = λ key t. rw c.reads (st.late key t);
+  records = rw c.records st.records;
   early = record {
     up = st.early.up;
     orderly = begun_orderly s n xid st.early.orderly;
@@ -355,8 +352,7 @@ left_stands m m' s n xid left st l c = record {
   connected = c.connected ∙ st.connected;
   slots = λ q. c.slots q ∙ rw (cmp_is_eq xid q) (ended_slots_by m s n xid q left (xid_eq xid q) st l refl);
   known = c.known ∙ st.known;
-  versions = λ key t. rw c.versions (st.versions key t);
-  late = λ key t. rw c.reads (st.late key t);
+  records = rw c.records st.records;
   early = record {
     up = st.early.up;
     orderly = record { descends = st.early.orderly.descends };

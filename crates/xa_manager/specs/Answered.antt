@@ -20,13 +20,13 @@ use Rattle.xa_model.specs.History.{Entry, Leads}
 use Rattle.xa_manager.specs.declared.fault.ConnectFault.{ConnectFault}
 use Rattle.xa_manager.specs.declared.fault.ConnectFault.TheVariants.{Memory, Full}
 use Rattle.xa_manager.specs.Kept.{Kept}
-use Rattle.xa_manager.specs.Stands.{StandsFor, is_memory}
+use Rattle.xa_manager.specs.Stands.{StandsFor, Stays, is_memory}
 
--- where memory was wanted, nothing changed; else, whichever state the manager stood for, the answer is step's, and it
--- stands for step's new state
+-- where memory was wanted, it stands for whichever state it stood for; else the answer is the step's, and it stands for
+-- the step's new state
 abbrev pub Answered : Kept → Event → Reply → Kept → Type 0
 Answered m event reply m' =
-    MatchBool (is_memory reply.detail) (m' ≡ m)
+    MatchBool (is_memory reply.detail) (Stays m m')
     ((s : State) → StandsFor m s → IsSomeAnd (step s (Asked event) Quiet) (λ a. (a.reply ≡ reply) × StandsFor m' a.after))
 
 -- the reply that a connect's result stands for

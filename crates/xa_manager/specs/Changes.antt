@@ -1,39 +1,24 @@
 -- What each call changes of what a manager keeps.
-use Rattle.std.specs.Prelude.{ℕ, ◌≡◌, ◌+◌, ◌-◌, ◌==◌, Bool, true, false, not, ◌&&◌, Option, Some, None, List, [], ◌∷◌, ◌++◌, length, bytes_eq, cond, option_map, if◌then◌else◌}
+use Rattle.std.specs.Prelude.{ℕ, ◌≡◌, ◌≢◌, ◌+◌, ◌-◌, ◌≤◌, true, false, Option, Some, None, List, Vec, length, cond, option_map}
+use Rattle.std.specs.declared.alloc.Global.{Global}
 use Rattle.std.specs.Ordering.{nat_cmp, is_eq}
+use Rattle.mv_chain.specs.declared.fate.Fate.{Fate}
+use Rattle.mv_chain.specs.History.{seen, has_open, is_late, decided, IsUnsettled}
+use Rattle.mv_rules.specs.declared.answers.Got.{Got}
+use Rattle.mv_rules.specs.declared.answers.Got.TheVariants as got_as
+use Rattle.mv_rules.specs.declared.answers.Put.{Put}
+use Rattle.mv_rules.specs.declared.answers.Put.TheVariants as put_as
+use Rattle.mv_rules.specs.History.{History, answer_of, reads_after, open_keys, put_of, after_put}
+use Rattle.mv_rules.specs.Records.{StandsFor as RecordsStandFor}
 use Rattle.xa_xid.specs.Triple.{Triple, xid_cmp}
 use Rattle.xa_model.specs.State.{timestamp_of}
-use Rattle.xa_model.specs.Source.{Version, absent}
 use Rattle.xa_manager.specs.declared.seat.Seat.{Seat}
 use Rattle.xa_manager.specs.declared.slot.Slot.{Slot}
-use Rattle.xa_manager.specs.declared.written.Written.{Written}
-use Rattle.xa_manager.specs.declared.noted.Noted.{Noted}
 use Rattle.xa_manager.specs.Kept.{Kept, seat_at, slot_at}
 
--- Versions
-
--- the version that a timestamp has of a key
-abbrev pub is_version : ℕ → List ℕ → Written → Bool
-is_version t key w = (w.timestamp == t) && bytes_eq w.key key
-
--- the version stands where one by its timestamp and of its key stood, or last
-abbrev pub placed : Written → List Written → List Written
-placed w [] = w ∷ []
-placed w (v ∷ vs) = if is_version w.timestamp w.key v then w ∷ vs else v ∷ placed w vs
-
--- a version after its branch was committed
-abbrev pub settled : ℕ → Written → Written
-settled t w = if w.timestamp == t then record w { committed = true } else w
-
-abbrev pub is_other : ℕ → Written → Bool
-is_other t w = not (w.timestamp == t)
-
--- what a version that is kept shows; without one, the key is absent before all branches
-abbrev pub shown : Option Written → Version
-shown (Some w) = record { timestamp = w.timestamp; committed = w.committed; value = w.value }
-shown None = absent
-
--- Calls
+-- the bytes of a value
+abbrev pub items_of : Option (Vec ℕ Global) → Option (List ℕ)
+items_of value = option_map (λ v. v.items) value
 
 -- the settings and the boot stay
 pub record IsSameManager (m m' : Kept) : Type 0 where
@@ -58,8 +43,7 @@ pub record Connects (m : Kept) (n : ℕ) (m' : Kept) : Type 0 where
   pub seats : SeatsWith m n (Some new_seat) m'
   pub connected : seat_at m n ≡ None → length m'.seats ≡ length m.seats + 1
   pub slots : m'.slots ≡ m.slots
-  pub versions : m'.versions ≡ m.versions
-  pub reads : m'.reads ≡ m.reads
+  pub records : m'.records ≡ m.records
 
 abbrev pub opened_seat : Seat → Seat
 opened_seat x = record x { opened = true }
@@ -70,14 +54,13 @@ pub record Opens (m : Kept) (n : ℕ) (m' : Kept) : Type 0 where
   pub seats : SeatsWith m n (option_map opened_seat (seat_at m n)) m'
   pub connected : length m'.seats ≡ length m.seats
   pub slots : m'.slots ≡ m.slots
-  pub versions : m'.versions ≡ m.versions
-  pub reads : m'.reads ≡ m.reads
+  pub records : m'.records ≡ m.records
 
 abbrev pub working_seat : Option Triple → Seat → Seat
 working_seat active x = record x { active = active }
 
 abbrev pub new_slot : Kept → Slot
-new_slot m = record { timestamp = timestamp_of m.boot (m.given + 1); mark = None; keys = 0; holders = 1 }
+new_slot m = record { timestamp = timestamp_of m.boot (m.given + 1); mark = None; holders = 1 }
 
 -- a session begins a branch
 pub record Begins (m : Kept) (n : ℕ) (xid : Triple) (m' : Kept) : Type 0 where
@@ -87,8 +70,7 @@ pub record Begins (m : Kept) (n : ℕ) (xid : Triple) (m' : Kept) : Type 0 where
   pub connected : length m'.seats ≡ length m.seats
   pub slots : SlotsWith m xid (Some (new_slot m)) m'
   pub known : slot_at m xid ≡ None → length m'.slots ≡ length m.slots + 1
-  pub versions : m'.versions ≡ m.versions
-  pub reads : m'.reads ≡ m.reads
+  pub records : m'.records ≡ m.records
 
 abbrev pub left_slot : Slot → Slot
 left_slot x = record x { holders = x.holders - 1 }
@@ -101,28 +83,16 @@ pub record Ends (m : Kept) (n : ℕ) (xid : Triple) (m' : Kept) : Type 0 where
   pub connected : length m'.seats ≡ length m.seats
   pub slots : SlotsWith m xid (option_map left_slot (slot_at m xid)) m'
   pub known : length m'.slots ≡ length m.slots
-  pub versions : m'.versions ≡ m.versions
-  pub reads : m'.reads ≡ m.reads
+  pub records : m'.records ≡ m.records
 
--- a branch is known no more, and its versions are changed so
-pub record Finishes (m : Kept) (xid : Triple) (change : List Written → List Written) (m' : Kept) : Type 0 where
+-- a branch is known no more, and its fate is decided
+pub record Finishes (m : Kept) (xid : Triple) (t : ℕ) (fate : Fate) (m' : Kept) : Type 0 where
   pub same : IsSameManager m m'
   pub given : m'.given ≡ m.given
   pub seats : m'.seats ≡ m.seats
   pub slots : SlotsWith m xid None m'
   pub known : length m'.slots + 1 ≡ length m.slots
-  pub versions : m'.versions ≡ change m.versions
-  pub reads : m'.reads ≡ m.reads
-
--- a slot is another, and a version is there
-pub record Writes (m : Kept) (xid : Triple) (slot : Slot) (w : Written) (m' : Kept) : Type 0 where
-  pub same : IsSameManager m m'
-  pub given : m'.given ≡ m.given
-  pub seats : m'.seats ≡ m.seats
-  pub slots : SlotsWith m xid (Some slot) m'
-  pub known : length m'.slots ≡ length m.slots
-  pub versions : m'.versions ≡ placed w m.versions
-  pub reads : m'.reads ≡ m.reads
+  pub records : (h : History) → RecordsStandFor h m.records → IsUnsettled t h.low h.writes → RecordsStandFor (record h { writes = decided t fate h.writes }) m'.records
 
 -- a slot is another
 pub record Marks (m : Kept) (xid : Triple) (slot : Slot) (m' : Kept) : Type 0 where
@@ -131,14 +101,22 @@ pub record Marks (m : Kept) (xid : Triple) (slot : Slot) (m' : Kept) : Type 0 wh
   pub seats : m'.seats ≡ m.seats
   pub slots : SlotsWith m xid (Some slot) m'
   pub known : length m'.slots ≡ length m.slots
-  pub versions : m'.versions ≡ m.versions
-  pub reads : m'.reads ≡ m.reads
+  pub records : m'.records ≡ m.records
 
--- a read is noted
-pub record Notes (m : Kept) (r : Noted) (m' : Kept) : Type 0 where
+-- a get was answered so
+pub record Gets (m : Kept) (t : ℕ) (key : List ℕ) (got : Got) (m' : Kept) : Type 0 where
   pub same : IsSameManager m m'
   pub given : m'.given ≡ m.given
   pub seats : m'.seats ≡ m.seats
   pub slots : m'.slots ≡ m.slots
-  pub versions : m'.versions ≡ m.versions
-  pub reads : m'.reads ≡ m.reads ++ r ∷ []
+  pub answer : (h : History) → RecordsStandFor h m.records → h.low ≤ t → got ≢ got_as.Memory → got ≡ answer_of t (seen key t h.writes)
+  pub records : (h : History) → RecordsStandFor h m.records → h.low ≤ t → RecordsStandFor (record h { reads = reads_after got t key (seen key t h.writes).from h.reads }) m'.records
+
+-- a put, or a delete, was answered so
+pub record Puts (m : Kept) (t : ℕ) (key : List ℕ) (value : Option (List ℕ)) (put : Put) (m' : Kept) : Type 0 where
+  pub same : IsSameManager m m'
+  pub given : m'.given ≡ m.given
+  pub seats : m'.seats ≡ m.seats
+  pub slots : m'.slots ≡ m.slots
+  pub answer : (h : History) → RecordsStandFor h m.records → IsUnsettled t h.low h.writes → put ≢ put_as.Memory → put ≡ put_of (has_open key t h.writes) (open_keys t h.writes) (is_late key t h.reads)
+  pub records : (h : History) → RecordsStandFor h m.records → IsUnsettled t h.low h.writes → RecordsStandFor (after_put put t key value h) m'.records

@@ -1,4 +1,5 @@
 pub mod Kept
+pub mod Managed
 pub mod Stands
 pub mod Changes
 pub mod Answered

@@ -6,19 +6,20 @@ use Rattle.xa_codes.specs.declared.detail.Detail.TheVariants.{Memory}
 use Rattle.xa_xid.specs.Triple.{Triple}
 use Rattle.xa_frame.specs.declared.reply.Reply.{Reply}
 use Rattle.xa_model.specs.State.{State, Branch, Phase, Working, Prepared, HeuristicallyCommitted, HeuristicallyRolledBack, Committed, Session, Association, known_of, known_count, session_of, active_of, holders_of}
-use Rattle.xa_model.specs.Source.{versions_of, version_at, written_keys, is_late}
+use Rattle.mv_rules.specs.Records.{StandsFor as RecordsStandFor}
+use Rattle.mv_rules.specs.Ties.{history_of}
 use Rattle.xa_model.specs.Answer.{Answer}
 use Rattle.xa_model.specs.Laws.{IsOrderly, IsUnique, IsSingle}
 use Rattle.xa_manager.specs.declared.seat.Seat.{Seat}
 use Rattle.xa_manager.specs.declared.slot.Slot.{Slot}
-use Rattle.xa_manager.specs.Kept.{Kept, seat_at, slot_at, kept_versions, is_noted_late}
+use Rattle.xa_manager.specs.Kept.{Kept, seat_at, slot_at}
 
 -- what is kept of a session and of a known branch
 abbrev pub seat_of : List Association → ℕ → Session → Seat
 seat_of held n x = record { opened = x.opened; active = active_of held n }
 
 abbrev pub slot_of : List Association → Triple → Branch → Slot
-slot_of held xid b = record { timestamp = b.timestamp; mark = b.mark; keys = written_keys b.operations; holders = holders_of held xid }
+slot_of held xid b = record { timestamp = b.timestamp; mark = b.mark; holders = holders_of held xid }
 
 -- no call that is built so far prepares a branch
 abbrev pub is_plain : Phase → Bool
@@ -39,8 +40,9 @@ pub record IsEarly (s : State) : Type 0 where
   pub seated : (n : ℕ) → session_of s.sessions n ≡ None → active_of s.associations n ≡ None
   pub bound : (xid : Triple) → known_of s.branches xid ≡ None → holders_of s.associations xid ≡ 0
 
--- The manager keeps sessions and known branches by look-up, and neither the operations of a branch nor the reads of the
--- state, but the versions that they left, and what they make late.
+-- The manager keeps sessions and known branches by look-up. It keeps neither the operations of a branch nor the reads of
+-- the state, but records that stand for the history of those writes and reads: for every key and timestamp they give the
+-- source and its value, and what is late.
 pub record StandsFor (m : Kept) (s : State) : Type 0 where
   pub name : m.name ≡ s.name
   pub log_bytes : m.log_bytes ≡ s.log_bytes
@@ -50,8 +52,7 @@ pub record StandsFor (m : Kept) (s : State) : Type 0 where
   pub connected : length m.seats ≡ length s.sessions
   pub slots : (xid : Triple) → slot_at m xid ≡ option_map (slot_of s.associations xid) (known_of s.branches xid)
   pub known : length m.slots ≡ known_count s.branches
-  pub versions : (key : List ℕ) (t : ℕ) → version_at t (kept_versions key m.versions) ≡ version_at t (versions_of key s.branches)
-  pub late : (key : List ℕ) (t : ℕ) → is_noted_late key t m.reads ≡ is_late key t s.reads
+  pub records : RecordsStandFor (history_of s) m.records
   pub early : IsEarly s
 
 abbrev pub is_memory : Detail → Bool
@@ -63,3 +64,7 @@ pub record Follows (m : Kept) (act : State → Answer) (reply : Reply) (m' : Kep
   pub answers : (s : State) → StandsFor m s → (act s).reply ≡ reply
   pub stands : (s : State) → StandsFor m s → StandsFor m' (act s).after
   pub served : is_memory reply.detail ≡ false
+
+-- it stands for whichever state it stood for
+abbrev pub Stays : Kept → Kept → Type 0
+Stays m m' = (s : State) → StandsFor m s → StandsFor m' s

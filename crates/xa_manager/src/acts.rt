@@ -1,15 +1,15 @@
-ghost use Rattle.std.specs.Prelude.{◌≡◌, ◌+◌, ◌<◌, ◌≤◌, ◌^◌, IfOk, OnOk, OnErr, IsSome, IfSome, Some, map, filter};
+ghost use Rattle.std.specs.Prelude.{◌≡◌, ◌+◌, ◌<◌, ◌≤◌, ◌^◌, IfOk, OnOk, OnErr, IsSome, Some};
 ghost use Rattle.xa_model.specs.State.{timestamp_of};
 ghost use Rattle.xa_manager.specs.Kept.{kept_of, seat_at, slot_at};
-ghost use Rattle.xa_manager.specs.Changes.{Connects, Opens, Begins, Ends, Finishes, Writes, Marks, Notes, settled, is_other, left_slot};
+ghost use Rattle.xa_manager.specs.Changes.{Connects, Opens, Begins, Ends, Finishes, Marks, Gets, Puts, items_of};
 
 use crate::changes::{add_seat, add_slot, drop_slot, employ, open_seat, set_slot};
-use crate::noted::Noted;
 use crate::slot::Slot;
 use crate::tables::Tables;
-use crate::versions::{discard, install, settle};
-use crate::written::Written;
+use mv_chain::Fate;
+use mv_rules::{Got, Put};
 use std::alloc::AllocError;
+use xa_codes::Bytes;
 use xa_xid::Xid;
 
 /// How many timestamps a boot's number makes room for.
@@ -43,7 +43,6 @@ impl Tables {
         let slot = Slot {
             timestamp,
             mark: None,
-            keys: 0,
             holders: 1,
         };
         let active = xid.copied();
@@ -63,33 +62,13 @@ impl Tables {
         employ(&mut self.seats, session, None);
     }
 
-    /// The branch is committed, and known no more.
-    pub fn commit_branch(&mut self, xid: &Xid, slot: Slot)
+    /// The branch's fate is decided, and it is known no more.
+    pub fn finish(&mut self, xid: &Xid, slot: Slot, fate: Fate)
         requires known { slot_at (kept_of self.old) xid.now ≡ Some slot }
-        ensures { Finishes (kept_of self.old) xid.now (map (settled slot.timestamp)) (kept_of self.new) }
+        ensures { Finishes (kept_of self.old) xid.now slot.timestamp fate (kept_of self.new) }
     {
         drop_slot(&mut self.slots, xid);
-        settle(&mut self.versions, slot.timestamp);
-    }
-
-    /// The branch is rolled back, and known no more.
-    pub fn roll_back(&mut self, xid: &Xid, slot: Slot)
-        requires known { slot_at (kept_of self.old) xid.now ≡ Some slot }
-        ensures { Finishes (kept_of self.old) xid.now (filter (is_other slot.timestamp)) (kept_of self.new) }
-    {
-        drop_slot(&mut self.slots, xid);
-        discard(&mut self.versions, slot.timestamp);
-    }
-
-    /// Writes a version for a branch, whose slot becomes this one.
-    pub fn write(&mut self, xid: &Xid, slot: Slot, version: Written) -> Result<(), AllocError>
-        requires known { IsSome (slot_at (kept_of self.old) xid.now) }
-        ensures ok { OnOk result (Writes (kept_of self.old) xid.now slot version (kept_of self.new)) }
-        ensures err { OnErr result (kept_of self.new ≡ kept_of self.old) }
-    {
-        install(&mut self.versions, version)?;
-        set_slot(&mut self.slots, xid, slot);
-        Ok(())
+        self.records.settle(slot.timestamp, fate);
     }
 
     /// The branch's slot becomes this one.
@@ -100,12 +79,17 @@ impl Tables {
         set_slot(&mut self.slots, xid, slot);
     }
 
-    /// Notes an answered read.
-    pub fn note(&mut self, read: Noted) -> Result<(), AllocError>
-        ensures ok { OnOk result (Notes (kept_of self.old) read (kept_of self.new)) }
-        ensures err { OnErr result (kept_of self.new ≡ kept_of self.old) }
+    /// What a branch of this timestamp reads of a key. An answered read is noted.
+    pub fn read(&mut self, timestamp: u64, key: &Bytes) -> Got
+        ensures { Gets (kept_of self.old) timestamp key.now result (kept_of self.new) }
     {
-        self.reads.push(read)?;
-        Ok(())
+        self.records.get(timestamp, key.as_slice())
+    }
+
+    /// A branch of this timestamp writes a value, or deletes a key.
+    pub fn write(&mut self, timestamp: u64, key: &Bytes, value: Option<Vec<u8>>) -> Put
+        ensures { Puts (kept_of self.old) timestamp key.now (items_of value) result (kept_of self.new) }
+    {
+        self.records.put(timestamp, key.as_slice(), value)
     }
 }

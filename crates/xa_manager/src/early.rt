@@ -88,7 +88,7 @@ fn is_built(call: Call, flags: u32) -> bool
     ensures { result ≡ is_built call flags }
 {
     match call {
-        Call::Open | Call::Commit | Call::Get | Call::Put => true,
+        Call::Open | Call::Commit | Call::Get | Call::Put | Call::Delete => true,
         Call::Start => flags & TMJOIN != TMJOIN && flags & TMRESUME != TMRESUME,
         Call::End => flags & TMSUCCESS == TMSUCCESS,
         _ => false,

@@ -7,8 +7,6 @@ mod early;
 mod fault;
 mod lookups;
 mod manager;
-mod noted;
-mod reading;
 mod refusals;
 mod replies;
 mod rows;
@@ -16,8 +14,6 @@ mod seat;
 mod settings;
 mod slot;
 mod tables;
-mod versions;
-mod written;
 
 pub use fault::{ConnectFault, ManagerFault};
 pub use manager::Manager;

@@ -2,6 +2,7 @@ ghost use Rattle.std.specs.Prelude.{◌≡◌, ◌≤◌, ◌<◌, ◌⊎◌, If
 ghost use Rattle.xa_frame.specs.Limits.{IsRequest};
 ghost use Rattle.xa_model.specs.Answer.{detailed};
 ghost use Rattle.xa_model.specs.History.{fresh};
+ghost use Rattle.xa_manager.specs.Managed.{kept};
 ghost use Rattle.xa_manager.specs.Stands.{StandsFor, is_memory};
 ghost use Rattle.xa_manager.specs.Answered.{Answered, AnswersAll, AreEvents, IsEvent, connect_reply, memory_code};
 
@@ -9,9 +10,9 @@ use crate::fault::{ConnectFault, ManagerFault};
 use crate::replies::{carrying, detailed, plain};
 use crate::settings::Settings;
 use crate::tables::Tables;
+use mv_rules::Records;
 use std::alloc::{AllocError, Global};
 use std::collections::BTreeMap;
-use std::marker::Model;
 use xa_codes::{Code, Detail, TMONEPHASE, XA_RETRY, XAER_INVAL, XAER_RMERR, XAER_RMFAIL};
 use xa_frame::{Body, Reply, Request};
 use xa_model::Event;
@@ -27,27 +28,17 @@ const MOST_LOG: u64 = 1 << 30;
 /// (Bernstein, Hadzilacos and Goodman, 5.3).
 ///
 /// Whatever state of the sequential resource manager it stood for before a call, it answers as that manager's step and
-/// then stands for the step's new state. Where memory was wanted, nothing changed.
+/// then stands for the step's new state. Where memory was wanted, it stands for whatever it stood for.
 #[derive(Drop)]
 pub struct Manager {
     tables: Tables,
-}
-
-impl Model for Manager {
-    ghost use Rattle.xa_manager.specs.Kept.{Kept};
-
-    ghost Value = { Kept };
-
-    ghost use Rattle.xa_manager.specs.Kept.{kept_of};
-
-    ghost view = { λ m. kept_of m.tables };
 }
 
 impl Manager {
     /// A manager that nothing was asked of. `Setting` comes just where a setting is out of its limits, and no other fault
     /// does: no memory is taken.
     pub fn new(alloc: Global, settings: Settings) -> Result<Manager, ManagerFault>
-        ensures fresh { IfOk result (λ m. StandsFor m (fresh settings.name settings.log_bytes)) }
+        ensures fresh { IfOk result (λ m. StandsFor (kept m) (fresh settings.name settings.log_bytes)) }
         ensures good { length settings.name ≤ 255 → 64 ≤ settings.log_bytes → settings.log_bytes ≤ 1073741824 → IsOk result }
         ensures limits { IfOk result (λ m. (length settings.name ≤ 255) × (64 ≤ settings.log_bytes) × (settings.log_bytes ≤ 1073741824)) }
         ensures refused { IfErr result (λ e. (e ≡ ManagerFault.Setting) × ((255 < length settings.name) ⊎ (settings.log_bytes < 64) ⊎ (1073741824 < settings.log_bytes))) }
@@ -65,8 +56,7 @@ impl Manager {
                 given: 0,
                 seats: BTreeMap::new(alloc),
                 slots: BTreeMap::new(alloc),
-                versions: Vec::new(alloc),
-                reads: Vec::new(alloc),
+                records: Records::new(alloc),
             },
         })
     }
@@ -74,7 +64,7 @@ impl Manager {
     /// Connects a session, whose number is the least from 1 that is free. `Full` comes where as many are connected as may
     /// be, `Memory` where there was no memory; neither changes what the manager stands for.
     pub fn connect(&mut self) -> Result<u64, ConnectFault>
-        ensures { Answered self.old Event.Connect (connect_reply result) self.new }
+        ensures { Answered (kept self.old) Event.Connect (connect_reply result) (kept self.new) }
     {
         match self.tables.connect() {
             Err(_) => Err(ConnectFault::Memory),
@@ -89,7 +79,7 @@ impl Manager {
     /// where there was no memory: then the code is XAER_RMFAIL, but XA_RETRY for a commit in two phases.
     pub fn call(&mut self, session: u64, request: Request) -> Reply
         requires { IsRequest request }
-        ensures step { Answered self.old (Event.Call session request) result self.new }
+        ensures step { Answered (kept self.old) (Event.Call session request) result (kept self.new) }
         ensures memory { is_memory result.detail ≡ true → result ≡ detailed (memory_code request) Detail.Memory }
     {
         let code = memory_code(&request);
@@ -104,7 +94,7 @@ impl Manager {
     /// One event, with the reply that stands for it.
     fn happen(&mut self, event: Event) -> Reply
         requires { IsEvent event }
-        ensures { Answered self.old event result self.new }
+        ensures { Answered (kept self.old) event result (kept self.new) }
     {
         match event {
             Event::Connect => match self.connect() {
@@ -123,9 +113,9 @@ impl Manager {
     /// detail Memory. A hang-up, which isn't built, answers XAER_INVAL.
     pub fn drive(&mut self, events: Vec<Event>) -> Result<Vec<Reply>, AllocError>
         requires { AreEvents events.items }
-        ensures history { IfOk result (λ replies. AnswersAll self.old events.items replies.items self.new) }
+        ensures history { IfOk result (λ replies. AnswersAll (kept self.old) events.items replies.items (kept self.new)) }
         ensures each { IfOk result (λ replies. length replies.items ≡ length events.items) }
-        ensures err { OnErr result (self.new ≡ self.old) }
+        ensures err { OnErr result (kept self.new ≡ kept self.old) }
     {
         let mut replies = Vec::with_capacity(self.tables.alloc, events.len())?;
         for event in events {

@@ -1,11 +1,9 @@
 use xa_codes::Code;
 
-/// What is kept of a known branch beside its versions: its timestamp, its mark, how many keys it wrote, and how many
-/// associations it has.
+/// What is kept of a known branch beside its versions: its timestamp, its mark, and how many associations it has.
 #[derive(Clone, Copy, Debug)]
 pub struct Slot {
     pub timestamp: u64,
     pub mark: Option<Code>,
-    pub keys: u64,
     pub holders: u64,
 }

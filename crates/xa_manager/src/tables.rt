@@ -1,14 +1,13 @@
-use crate::noted::Noted;
 use crate::seat::Seat;
 use crate::slot::Slot;
-use crate::written::Written;
+use mv_rules::Records;
 use std::alloc::Global;
 use std::collections::BTreeMap;
 use xa_codes::Bytes;
 use xa_xid::Xid;
 
 /// What a manager keeps: its settings, how many timestamps it gave, the connected sessions by their numbers, the known
-/// branches by their XIDs, and all versions and answered reads.
+/// branches by their XIDs, and the versions of all keys.
 #[derive(Drop)]
 pub struct Tables {
     pub alloc: Global,
@@ -18,6 +17,5 @@ pub struct Tables {
     pub given: u64,
     pub seats: BTreeMap<u64, Seat>,
     pub slots: BTreeMap<Xid, Slot>,
-    pub versions: Vec<Written>,
-    pub reads: Vec<Noted>,
+    pub records: Records,
 }

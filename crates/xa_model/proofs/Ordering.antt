@@ -4,7 +4,7 @@ use Rattle.std.specs.Prelude.{length, is_some, is_none}
 use Rattle.xa_xid.specs.Triple.{Triple}
 use Rattle.xa_frame.specs.declared.reply.Reply.{Reply}
 use Rattle.xa_frame.specs.declared.request.Request.{Request}
-use Rattle.xa_frame.specs.declared.request.Request.TheVariants.{Open, Start, End, Commit, Get, Put}
+use Rattle.xa_frame.specs.declared.request.Request.TheVariants.{Open, Start, End, Commit, Get, Put, Delete}
 use Rattle.xa_model.specs.declared.event.Event.{Event}
 use Rattle.xa_model.specs.declared.event.Event.TheVariants as event
 use Rattle.xa_model.specs.declared.outcome.Outcome.{Outcome}
@@ -90,6 +90,7 @@ row_orderly s n (End flags xid) h = end_orderly s n xid h
 row_orderly s n (Commit flags xid) h = commit_orderly s flags xid h
 row_orderly s n (Get key) h = get_orderly s key (own_branch s n) h
 row_orderly s n (Put key value) h = put_orderly s key (Some value) (own_branch s n) h
+row_orderly s n (Delete key) h = put_orderly s key None (own_branch s n) h
 row_orderly s n _ h = h
 
 pub respond_orderly : (s : State) (e : Event) → IsOrderly s → IsOrderly (respond s e).after

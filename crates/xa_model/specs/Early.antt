@@ -75,6 +75,7 @@ is_built call.End flags = has flags TMSUCCESS
 is_built call.Commit flags = true
 is_built call.Get flags = true
 is_built call.Put flags = true
+is_built call.Delete flags = true
 is_built _ flags = false
 
 -- the open info has to be the manager's name

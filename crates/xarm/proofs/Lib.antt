@@ -1,3 +1,5 @@
 pub mod Tables
 pub mod Cuts
 pub mod Digits
+pub mod Scripts
+pub mod Playing

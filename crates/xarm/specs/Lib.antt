@@ -5,3 +5,5 @@ pub mod Flags
 pub mod Requests
 pub mod Lines
 pub mod Replies
+pub mod Plays
+pub mod Faults

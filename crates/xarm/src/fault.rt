@@ -29,6 +29,11 @@ impl From<AllocError> for PlayFault {
 }
 
 impl From<ManagerFault> for PlayFault {
+    ghost use Rattle.std.specs.Prelude.{◌≡◌};
+    ghost use Rattle.xarm.specs.Faults.{fault_of};
+
+    ghost from_gives = { λ fault played. played ≡ fault_of fault };
+
     fn from(fault: ManagerFault) -> PlayFault {
         match fault {
             ManagerFault::Memory => PlayFault::Memory,

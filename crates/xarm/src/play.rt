@@ -1,12 +1,22 @@
+ghost use Rattle.std.specs.Io.KnownBytes.{Appends, Keeps};
+ghost use Rattle.std.specs.Prelude.{◌≡◌, ◌<◌, ◌⊎◌, IfErr, IfSome, IsErrOf, List, OnErr, OnOk, length, true, ℕ};
+ghost use Rattle.xa_manager.specs.Answered.{Answered};
+ghost use Rattle.xa_manager.specs.Stands.{is_memory};
+ghost use Rattle.xa_model.specs.Answer.{detailed};
+ghost use Rattle.xarm.specs.Lines.{IsWithinLimits};
+ghost use Rattle.xarm.specs.Plays.{LineAnswered, LinePlayed, Plays, ScriptPlayed};
+
 use crate::fault::PlayFault;
 use crate::line::{Line, read_line};
+use crate::parts::first_part;
 use crate::reply::reply_line;
 use crate::script::read_script;
 use std::alloc::Global;
 use std::io::{Read, Write};
-use xa_codes::{Detail, XA_OK, XAER_INVAL, XAER_RMERR, XAER_RMFAIL};
+use xa_codes::{Code, Detail, XA_OK, XAER_INVAL, XAER_RMERR, XAER_RMFAIL};
 use xa_frame::{Body, Reply};
 use xa_manager::{ConnectFault, Manager, Settings};
+use xa_model::Event;
 
 /// Makes a manager, reads the whole script, and then runs it: each line that asks something is answered by one line.
 ///
@@ -17,7 +27,16 @@ pub fn play_run<R: Read + Drop, W: Write>(
     reader: &mut R,
     writer: &mut W,
     settings: Settings,
-) -> Result<(), PlayFault> {
+) -> Result<(), PlayFault>
+    // The script is what the reader gives, where that is known.
+    ensures played { OnOk result ((script : List ℕ) × IfSome (R.remaining reader.old) (λ bytes. script ≡ bytes)
+        × Plays settings.name settings.log_bytes script (W.contents writer.old) (W.contents writer.new)) }
+    ensures setting { IsErrOf result PlayFault.Setting →
+        (255 < length settings.name) ⊎ (settings.log_bytes < 64) ⊎ (1_073_741_824 < settings.log_bytes) }
+    ensures too_long { IsErrOf result PlayFault.TooLong → IfSome (R.remaining reader.old) (λ bytes. 16_777_216 < length bytes) }
+    ensures nothing_written { IsErrOf result PlayFault.Setting ⊎ IsErrOf result PlayFault.Read ⊎ IsErrOf result PlayFault.TooLong →
+        Keeps (W.contents writer.old) (W.contents writer.new) }
+{
     let mut manager = Manager::new(alloc, settings)?;
     let script = read_script(alloc, reader)?;
     let played = play_lines(alloc, &mut manager, writer, script.as_slice());
@@ -31,9 +50,16 @@ fn play_lines<W: Write>(
     manager: &mut Manager,
     writer: &mut W,
     script: &[u8],
-) -> Result<(), PlayFault> {
-    for line in script.split(|byte| *byte == b'\n') {
+) -> Result<(), PlayFault>
+    ensures played { OnOk result ((text : List ℕ) × Appends (W.contents writer.old) (W.contents writer.new) text
+        × ScriptPlayed manager.old script.now text) }
+    ensures faults { IfErr result (λ fault. (fault ≡ PlayFault.Memory) ⊎ (fault ≡ PlayFault.Write)) }
+{
+    let mut rest = Some(script);
+    while let Some(lines) = rest {
+        let (line, behind) = first_part(lines, b'\n');
         play_line(alloc, manager, writer, line)?;
+        rest = behind;
     }
     Ok(())
 }
@@ -43,21 +69,40 @@ fn play_line<W: Write>(
     manager: &mut Manager,
     writer: &mut W,
     line: &[u8],
-) -> Result<(), PlayFault> {
-    let reply = match read_line(alloc, line)? {
-        Line::Silent => return Ok(()),
-        Line::Unknown => refusal(XAER_INVAL, Detail::Frame),
-        Line::Connect => connect(manager),
-        Line::Call(session, request) => manager.call(session, request),
+) -> Result<(), PlayFault>
+    ensures played { OnOk result ((text : List ℕ) × Appends (W.contents writer.old) (W.contents writer.new) text
+        × LinePlayed manager.old line.now text manager.new) }
+    ensures faults { IfErr result (λ fault. (fault ≡ PlayFault.Memory) ⊎ (fault ≡ PlayFault.Write)) }
+{
+    let said = read_line(alloc, line)?;
+    let Some(reply) = answer(manager, said) else {
+        return Ok(());
     };
-    let line = reply_line(alloc, &reply)?;
-    writer
-        .write_all(line.as_slice())
-        .map_err(|_| PlayFault::Write)
+    let text = reply_line(alloc, &reply)?;
+    match writer.write_all(text.as_slice()) {
+        Ok(()) => Ok(()),
+        Err(_) => Err(PlayFault::Write),
+    }
 }
 
-/// Connects a session, and gives the reply that a script shows.
-fn connect(manager: &mut Manager) -> Reply {
+/// The reply that a line shows, if it shows one.
+fn answer(manager: &mut Manager, said: Line) -> Option<Reply>
+    requires { IsWithinLimits said }
+    ensures { LineAnswered manager.old said result manager.new }
+{
+    match said {
+        Line::Silent => None,
+        Line::Unknown => Some(refusal(XAER_INVAL, Detail::Frame)),
+        Line::Connect => Some(connect(manager)),
+        Line::Call(session, request) => Some(manager.call(session, request)),
+    }
+}
+
+/// Connects a session.
+fn connect(manager: &mut Manager) -> Reply
+    ensures step { Answered manager.old Event.Connect result manager.new }
+    ensures memory { is_memory result.detail ≡ true → result ≡ detailed XAER_RMFAIL Detail.Memory }
+{
     match manager.connect() {
         Ok(number) => Reply {
             code: XA_OK,
@@ -70,7 +115,9 @@ fn connect(manager: &mut Manager) -> Reply {
     }
 }
 
-fn refusal(code: i32, detail: Detail) -> Reply {
+fn refusal(code: Code, detail: Detail) -> Reply
+    ensures { result ≡ detailed code detail }
+{
     Reply {
         code,
         detail,

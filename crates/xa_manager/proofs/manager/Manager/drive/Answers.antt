@@ -1,5 +1,6 @@
 use Rattle.std.proofs.Common.{sym, subst, arith}
 use Rattle.std.proofs.lemmas.Grind.{common_steps}
+use Rattle.xa_manager.specs.Managed.{kept}
 use Rattle.xa_manager.specs.Answered.{AreEvents}
 use Rattle.xa_manager.proofs.Driving.{answers_more}
 use Rattle.xa_manager.proofs.manager.Manager.drive.Goals as goal
@@ -13,7 +14,7 @@ happen-reply-requires c = (subst AreEvents c.in-Some.ensures.steps.0 c.loop-even
 pub loop-event-preserved : goal.loop-event-preserved
 loop-event-preserved c = record {
   answered =
-      let more = answers_more c.args.self.now c.loop-event.self c.happen-reply.new.self c.loop-event.yielded c.loop-event.replies.items c.in-Some.event c.happen-reply.result
+      let more = answers_more (kept c.args.self.now) (kept c.loop-event.self) (kept c.happen-reply.new.self) c.loop-event.yielded c.loop-event.replies.items c.in-Some.event c.happen-reply.result
       (sym c.loop-event.invariant.each) c.loop-event.invariant.answered c.happen-reply.ensures in
       rw c.push_reserved.ensures.items more;
   each = grind (arith, common_steps, c.push_reserved.ensures.items, c.loop-event.invariant.each);

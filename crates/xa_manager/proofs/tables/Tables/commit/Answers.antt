@@ -21,7 +21,7 @@ returns-in-Some-mark c =
     let free : (not (has c.args.flags TMONEPHASE) || nat_lt 0 c.in-Some.slot.holders) ≡ false = grind (arith, c.if-cannot_commit.ensures, c.if-cannot_commit.false) in
     let marked : c.in-Some.slot.mark ≡ Some c.in-Some-mark.code = search rules in
     let said : c.plain-in-Some-mark.result ≡ plain c.in-Some-mark.code = search rules in
-    rw said (gone_follows m (kept_of c.roll_back.new.self) c.args.flags c.args.xid.now c.in-Some.slot c.in-Some-mark.code known free marked c.roll_back.ensures)
+    rw said (gone_follows m (kept_of c.finish.new.self) c.args.flags c.args.xid.now c.in-Some.slot c.in-Some-mark.code known free marked c.finish.ensures)
 
 pub returns-in-None : goal.returns-in-None
 returns-in-None c =
@@ -29,4 +29,4 @@ returns-in-None c =
     let known : slot_at m c.args.xid.now ≡ Some c.in-Some.slot = grind (arith, c.in-Some.ensures) in
     let free : (not (has c.args.flags TMONEPHASE) || nat_lt 0 c.in-Some.slot.holders) ≡ false = grind (arith, c.if-cannot_commit.ensures, c.if-cannot_commit.false) in
     let unmarked : c.in-Some.slot.mark ≡ None = search rules in
-    rw c.plain-in-None.ensures (commit_follows m (kept_of c.commit_branch.new.self) c.args.flags c.args.xid.now c.in-Some.slot known free unmarked c.commit_branch.ensures)
+    rw c.plain-in-None.ensures (commit_follows m (kept_of c.finish-in-None.new.self) c.args.flags c.args.xid.now c.in-Some.slot known free unmarked c.finish-in-None.ensures)

@@ -1,0 +1,159 @@
+-- What the flat list says of a known branch at work: nothing of it is decided, and which keys it wrote.
+use Rattle.std.proofs.Common.{◌≡◌, ℕ, ◌+◌, ◌<◌, ◌≤◌, Bool, true, false, cond, not, ◌&&◌, ◌||◌, ◌==◌, List, [], ◌∷◌, ◌++◌, Option, Some, None, refl, ap, sym, ◌∙◌, subst, arith}
+use Rattle.std.specs.Prelude.{bytes_eq, is_some}
+use Rattle.std.specs.List.{AllByRecursion as Each}
+use Rattle.std.proofs.lemmas.Bool.Decides.{nat_tests}
+use Rattle.std.proofs.lemmas.List.Folds.{list_any-append}
+use Rattle.mv_chain.specs.declared.fate.Fate.{Fate}
+use Rattle.mv_chain.specs.History.{Written, has_open, is_undecided, IsOpen, IsUnsettled}
+use Rattle.xa_xid.specs.Triple.{Triple}
+use Rattle.xa_model.specs.State.{Branch, Operation, Got, Wrote, Working, is_known_as, known_of}
+use Rattle.xa_model.specs.Source.{write_of, written_keys}
+use Rattle.xa_model.specs.Laws.{Descends}
+use Rattle.xa_model.proofs.Times.{stands_known}
+use Rattle.mv_rules.specs.History.{open_keys}
+use Rattle.mv_rules.specs.Ties.{fate_of, writes_by, writes_one, writes_in}
+use Rattle.mv_rules.proofs.Ties.{bytes_eq_swapped}
+
+each_append : (P : Written → Type 0) (xs ys : List Written) → Each P xs → Each P ys → Each P (xs ++ ys)
+each_append P [] ys h k = k
+each_append P (x ∷ xs) ys h k = (h.0, each_append P xs ys h.1 k)
+
+not_same : (t u : ℕ) → t < u → (u == t) ≡ false
+not_same t u lt = grind (arith, nat_tests)
+
+not_same_below : (t u : ℕ) → u < t → (u == t) ≡ false
+not_same_below t u lt = grind (arith, nat_tests)
+
+itself : (t : ℕ) → (t == t) ≡ true
+itself t = grind (arith, nat_tests)
+
+-- a branch of another timestamp
+open_other : (t u : ℕ) (fate : Option Fate) (ops : List Operation) → (u == t) ≡ false → IsOpen t (writes_by u fate ops)
+open_other t u fate [] ne = tt
+open_other t u fate (Got key answer from ∷ older) ne = open_other t u fate older ne
+open_other t u fate (Wrote key value ∷ older) ne = (λ e. absurd (same_not u t ne e), open_other t u fate older ne)
+  where
+    same_not : (u t : ℕ) → (u == t) ≡ false → u ≡ t → ⊥
+    same_not u t ne e = absurd (grind (arith, nat_tests))
+
+held_other : (key : List ℕ) (t u : ℕ) (fate : Option Fate) (ops : List Operation) → (u == t) ≡ false → has_open key t (writes_by u fate ops) ≡ false
+held_other key t u fate [] ne = refl
+held_other key t u fate (Got k answer from ∷ older) ne = held_other key t u fate older ne
+held_other key t u fate (Wrote k value ∷ older) ne = rw (ne, held_other key t u fate older ne) (no_or (bytes_eq key k))
+  where
+    no_or : (b : Bool) → ((b && false) || false) ≡ false
+    no_or true = refl
+    no_or false = refl
+
+count_other : (t u : ℕ) (fate : Option Fate) (ops : List Operation) (ws : List Written) → (u == t) ≡ false → open_keys t (writes_by u fate ops ++ ws) ≡ open_keys t ws
+count_other t u fate [] ws ne = refl
+count_other t u fate (Got k answer from ∷ older) ws ne = count_other t u fate older ws ne
+count_other t u fate (Wrote k value ∷ older) ws ne = rw ne (count_other t u fate older ws ne)
+
+-- branches of lower timestamps
+open_below : (t limit : ℕ) (bs : List Branch) → Descends limit bs → limit ≤ t → IsOpen t (writes_in bs)
+open_below t limit [] h le = tt
+open_below t limit (b ∷ bs) h le =
+    each_append (λ (w : Written). w.timestamp ≡ t → w.fate ≡ None) (writes_one b) (writes_in bs) (open_other t b.timestamp (fate_of b.phase) b.operations (not_same_below t b.timestamp (omega (arith, h.1))))
+    (open_below t b.timestamp bs h.2 (omega (arith, h.1)))
+
+held_below : (key : List ℕ) (t limit : ℕ) (bs : List Branch) → Descends limit bs → limit ≤ t → has_open key t (writes_in bs) ≡ false
+held_below key t limit [] h le = refl
+held_below key t limit (b ∷ bs) h le =
+    list_any-append (λ (w : Written). bytes_eq key w.key && ((w.timestamp == t) && is_undecided w.fate)) (writes_one b) (writes_in bs)
+    ∙ rw (held_other key t b.timestamp (fate_of b.phase) b.operations (not_same_below t b.timestamp (omega (arith, h.1)))) (held_below key t b.timestamp bs h.2 (omega (arith, h.1)))
+
+count_below : (t limit : ℕ) (bs : List Branch) → Descends limit bs → limit ≤ t → open_keys t (writes_in bs) ≡ 0
+count_below t limit [] h le = refl
+count_below t limit (b ∷ bs) h le =
+    count_other t b.timestamp (fate_of b.phase) b.operations (writes_in bs) (not_same_below t b.timestamp (omega (arith, h.1))) ∙ count_below t b.timestamp bs h.2 (omega (arith, h.1))
+
+-- the branch itself
+open_own : (t : ℕ) (ops : List Operation) → IsOpen t (writes_by t None ops)
+open_own t [] = tt
+open_own t (Got key answer from ∷ older) = open_own t older
+open_own t (Wrote key value ∷ older) = (λ e. refl, open_own t older)
+
+held_by : (key k : List ℕ) (value : Option (List ℕ)) (t : ℕ) (older : List Operation) (c : Bool) → bytes_eq k key ≡ c → (t == t) ≡ true → has_open key t (writes_by t None older) ≡ is_some (write_of key older)
+    → has_open key t (writes_by t None (Wrote k value ∷ older)) ≡ is_some (write_of key (Wrote k value ∷ older))
+held_by key k value t older true e self ih = let here : bytes_eq key k ≡ true = bytes_eq_swapped key k ∙ e in rw (here, self, e) refl
+held_by key k value t older false e self ih = let here : bytes_eq key k ≡ false = bytes_eq_swapped key k ∙ e in rw (here, e) ih
+
+held_own : (key : List ℕ) (t : ℕ) (ops : List Operation) → has_open key t (writes_by t None ops) ≡ is_some (write_of key ops)
+held_own key t [] = refl
+held_own key t (Got k answer from ∷ older) = held_own key t older
+held_own key t (Wrote k value ∷ older) = held_by key k value t older (bytes_eq k key) refl (itself t) (held_own key t older)
+
+or_false : (b : Bool) → (b || false) ≡ b
+or_false true = refl
+or_false false = refl
+
+held_both : (key : List ℕ) (t : ℕ) (ops : List Operation) (ws : List Written) → has_open key t ws ≡ false → has_open key t (writes_by t None ops ++ ws) ≡ is_some (write_of key ops)
+held_both key t ops ws none =
+    list_any-append (λ (w : Written). bytes_eq key w.key && ((w.timestamp == t) && is_undecided w.fate)) (writes_by t None ops) ws ∙ rw none (or_false (has_open key t (writes_by t None ops)) ∙ held_own key t ops)
+
+count_by : (t n m : ℕ) (c : Bool) → n ≡ m → cond (not c) (n + 1) n ≡ cond c m (m + 1)
+count_by t n m true e = e
+count_by t n m false e = ap (λ (i : ℕ). i + 1) e
+
+count_own : (t : ℕ) (ops : List Operation) (ws : List Written) → ((key : List ℕ) → has_open key t ws ≡ false) → open_keys t ws ≡ 0 → open_keys t (writes_by t None ops ++ ws) ≡ written_keys ops
+count_own t [] ws none zero_ = zero_
+count_own t (Got k answer from ∷ older) ws none zero_ = count_own t older ws none zero_
+count_own t (Wrote k value ∷ older) ws none zero_ =
+    rw (itself t, held_both k t older ws (none k)) (count_by t (open_keys t (writes_by t None older ++ ws)) (written_keys older) (is_some (write_of k older)) (count_own t older ws none zero_))
+
+-- a known branch at work, among all branches
+pub record IsAtWork (b : Branch) (bs : List Branch) : Type 0 where
+  pub open_ : IsOpen b.timestamp (writes_in bs)
+  pub held : (key : List ℕ) → has_open key b.timestamp (writes_in bs) ≡ is_some (write_of key b.operations)
+  pub count : open_keys b.timestamp (writes_in bs) ≡ written_keys b.operations
+
+head_works : (b : Branch) (bs : List Branch) (fate : Option Fate) → fate_of b.phase ≡ fate → fate ≡ None → Descends b.timestamp bs → IsAtWork b (b ∷ bs)
+head_works b bs None e none h = record {
+  open_ = rw e (each_append (λ (w : Written). w.timestamp ≡ b.timestamp → w.fate ≡ None) (writes_by b.timestamp None b.operations) (writes_in bs) (open_own b.timestamp b.operations) (open_below b.timestamp b.timestamp bs h (omega arith)));
+  held = λ key. rw e (held_both key b.timestamp b.operations (writes_in bs) (held_below key b.timestamp b.timestamp bs h (omega arith)));
+  count = rw e (count_own b.timestamp b.operations (writes_in bs) (λ key. held_below key b.timestamp b.timestamp bs h (omega arith)) (count_below b.timestamp b.timestamp bs h (omega arith)));
+}
+head_works b bs (Some f) e none h = absurd (cc none)
+
+tail_works : (b c : Branch) (bs : List Branch) → b.timestamp < c.timestamp → IsAtWork b bs → IsAtWork b (c ∷ bs)
+tail_works b c bs lt w =
+    let ne : (c.timestamp == b.timestamp) ≡ false = not_same b.timestamp c.timestamp lt in
+    record {
+      open_ = each_append (λ (x : Written). x.timestamp ≡ b.timestamp → x.fate ≡ None) (writes_one c) (writes_in bs) (open_other b.timestamp c.timestamp (fate_of c.phase) c.operations ne) w.open_;
+      held = λ key.
+          list_any-append (λ (x : Written). bytes_eq key x.key && ((x.timestamp == b.timestamp) && is_undecided x.fate)) (writes_one c) (writes_in bs)
+          ∙ rw (held_other key b.timestamp c.timestamp (fate_of c.phase) c.operations ne) (w.held key);
+      count = count_other b.timestamp c.timestamp (fate_of c.phase) c.operations (writes_in bs) ne ∙ w.count;
+    }
+
+works_by : (xid : Triple) (b c : Branch) (bs : List Branch) (is : Bool) → is_known_as xid c ≡ is → cond is (Some c) (known_of bs xid) ≡ Some b → b.phase ≡ Working → Descends c.timestamp bs
+    → (known_of bs xid ≡ Some b → b.timestamp < c.timestamp) → (known_of bs xid ≡ Some b → IsAtWork b bs) → IsAtWork b (c ∷ bs)
+works_by xid b c bs true is found working h under ih =
+    let same : c ≡ b = cc found in
+    let phase : c.phase ≡ Working = subst (λ (x : Branch). x.phase ≡ Working) (sym same) working in
+    let here : IsAtWork c (c ∷ bs) = head_works c bs (fate_of c.phase) refl (rw phase refl) h in
+    subst (λ (x : Branch). IsAtWork x (c ∷ bs)) same here
+works_by xid b c bs false is found working h under ih = tail_works b c bs (under found) (ih found)
+
+pub at_work : (xid : Triple) (b : Branch) (limit : ℕ) (bs : List Branch) → Descends limit bs → known_of bs xid ≡ Some b → b.phase ≡ Working → IsAtWork b bs
+at_work xid b limit [] h found working = absurd (cc found)
+at_work xid b limit (c ∷ bs) h found working =
+    works_by xid b c bs (is_known_as xid c) refl found working h.2 (λ e. (stands_known xid b c.timestamp bs h.2 e).below) (λ e. at_work xid b c.timestamp bs h.2 e working)
+
+-- timestamps of branches are above 0
+pub above_zero : (xid : Triple) (b : Branch) (limit : ℕ) (bs : List Branch) → Descends limit bs → known_of bs xid ≡ Some b → 0 < b.timestamp
+above_zero xid b limit [] h found = absurd (cc found)
+above_zero xid b limit (c ∷ bs) h found = above_by (is_known_as xid c) found (above_zero xid b c.timestamp bs h.2)
+  where
+    above_by : (is : Bool) → cond is (Some c) (known_of bs xid) ≡ Some b → (known_of bs xid ≡ Some b → 0 < b.timestamp) → 0 < b.timestamp
+    above_by true e rest = let same : c ≡ b = cc e in subst (λ (x : Branch). 0 < x.timestamp) same h.0
+    above_by false e rest = rest e
+
+pub unsettled : (xid : Triple) (b : Branch) (limit : ℕ) (bs : List Branch) → Descends limit bs → known_of bs xid ≡ Some b → b.phase ≡ Working → IsUnsettled b.timestamp 0 (writes_in bs)
+unsettled xid b limit bs h found working = record {
+  positive = above_zero xid b limit bs h found;
+  above = omega arith;
+  open_ = (at_work xid b limit bs h found working).open_;
+}

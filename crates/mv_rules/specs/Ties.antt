@@ -1,0 +1,46 @@
+-- The writes and the answered reads of the sequential resource manager's state as one history, and that both ways to
+-- say it agree: what a timestamp reads of a key among branches is what it sees in the flat list of their writes, and a
+-- write is late for the one just where it is for the other.
+use Rattle.std.specs.Prelude.{◌≡◌, ℕ, not, List, [], ◌∷◌, ◌++◌, Option, Some, None, map}
+use Rattle.mv_chain.specs.declared.fate.Fate.{Fate}
+use Rattle.mv_chain.specs.declared.fate.Fate.TheVariants.{Committed as kept, RolledBack as gone}
+use Rattle.mv_chain.specs.History.{Written, Answered, Seen, seen, is_late}
+use Rattle.xa_model.specs.State.{State, Branch, Operation, Got, Wrote, Phase, Working, Prepared, HeuristicallyCommitted, HeuristicallyRolledBack, Committed, Read}
+use Rattle.xa_model.specs.Source.{Version, source, is_late as is_late_among}
+use Rattle.xa_model.specs.Laws.{Descends}
+use Rattle.mv_rules.specs.History.{History}
+
+abbrev pub fate_of : Phase → Option Fate
+fate_of Working = None
+fate_of Prepared = None
+fate_of HeuristicallyCommitted = Some kept
+fate_of HeuristicallyRolledBack = Some gone
+fate_of Committed = Some kept
+
+-- the writes among the operations of a branch, the newest first
+abbrev pub writes_by : ℕ → Option Fate → List Operation → List Written
+writes_by t fate [] = []
+writes_by t fate (Got key answer from ∷ older) = writes_by t fate older
+writes_by t fate (Wrote key value ∷ older) = record { timestamp = t; key = key; value = value; fate = fate } ∷ writes_by t fate older
+
+abbrev pub writes_one : Branch → List Written
+writes_one b = writes_by b.timestamp (fate_of b.phase) b.operations
+
+abbrev pub writes_in : List Branch → List Written
+writes_in [] = []
+writes_in (b ∷ bs) = writes_one b ++ writes_in bs
+
+abbrev pub read_as : Read → Answered
+read_as r = record { reader = r.reader; key = r.key; from = r.source }
+
+abbrev pub history_of : State → History
+history_of s = record { low = 0; writes = writes_in s.branches; reads = map read_as s.reads }
+
+abbrev pub seen_as : Version → Seen
+seen_as v = record { from = v.timestamp; value = v.value; pending = not v.committed }
+
+abbrev pub OneSource : Type 0
+OneSource = (key : List ℕ) (t limit : ℕ) (bs : List Branch) → Descends limit bs → seen key t (writes_in bs) ≡ seen_as (source key t bs)
+
+abbrev pub OneLateness : Type 0
+OneLateness = (key : List ℕ) (t : ℕ) (reads : List Read) → is_late key t (map read_as reads) ≡ is_late_among key t reads

@@ -1,0 +1,63 @@
+ghost use Rattle.std.specs.Prelude.{◌≡◌, ℕ, List, map, slice_index_or, IfOk};
+ghost use Rattle.std.specs.BTreeMap.{get, IsOrdered};
+ghost use Rattle.std.specs.Cmp.Lexicographic.{slice_cmp};
+ghost use Rattle.std.specs.Ordering.{nat_cmp};
+ghost use Rattle.mv_chain.specs.Chain.{fresh, shows};
+ghost use Rattle.mv_rules.specs.Collected.{as_write, collected};
+
+use crate::own::Own;
+use mv_chain::Chain;
+use std::alloc::{AllocError, Global};
+use std::collections::BTreeMap;
+use xa_codes::{Bytes, Write};
+
+/// What a read at `ts` sees in the chain at this place.
+fn value_at(
+    alloc: Global,
+    chains: &[Chain],
+    place: usize,
+    ts: u64,
+) -> Result<Option<Bytes>, AllocError>
+    ensures { IfOk result (λ v. v ≡ (shows ts (slice_index_or chains.now place fresh)).value) }
+{
+    let Some(chain) = chains.get(place) else {
+        return Ok(None);
+    };
+    match chain.value(ts) {
+        Some(value) => Ok(Some(Bytes::from_slice(alloc, value)?)),
+        None => Ok(None),
+    }
+}
+
+/// The branch's keys, each with the value that the branch sees there.
+pub(crate) fn collect(
+    alloc: Global,
+    chains: &[Chain],
+    own: &[Own],
+    ts: u64,
+) -> Result<BTreeMap<Bytes, Option<Bytes>>, AllocError>
+    ensures values { IfOk result (λ m. (key : List ℕ) → get (slice_cmp nat_cmp) m key ≡ collected ts chains.now key own.now) }
+    ensures ordered { IfOk result (λ m. IsOrdered (slice_cmp nat_cmp) m) }
+{
+    let mut values = BTreeMap::new(alloc);
+    for written in own {
+        let key = written.key.copied(alloc)?;
+        let value = value_at(alloc, chains, written.place, ts)?;
+        values.insert(key, value)?;
+    }
+    Ok(values)
+}
+
+/// The keys with their values as a list of writes.
+pub(crate) fn listed(
+    alloc: Global,
+    values: BTreeMap<Bytes, Option<Bytes>>,
+) -> Result<Vec<Write>, AllocError>
+    ensures { IfOk result (λ v. v.items ≡ map as_write values.entries) }
+{
+    let mut writes = Vec::new(alloc);
+    for (key, value) in values {
+        writes.push(Write { key, value })?;
+    }
+    Ok(writes)
+}

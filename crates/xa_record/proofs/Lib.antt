@@ -1,0 +1,5 @@
+pub mod Fields
+pub mod Bodies
+pub mod Loop
+pub mod Sizes
+pub mod Rows

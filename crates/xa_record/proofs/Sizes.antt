@@ -1,0 +1,52 @@
+-- How long bodies are.
+use Rattle.std.proofs.Common.{◌≡◌, ℕ, ◌*◌, ◌≤◌, List, [], ◌∷◌, ◌++◌, length, Option, Some, None, refl, arith}
+use Rattle.std.specs.Int.{w16, w64, to_be_bytes}
+use Rattle.std.specs.List.{AllByRecursion}
+use Rattle.std.specs.Prelude.{IfSome, flat_map}
+use Rattle.std.proofs.lemmas.List.{length-append}
+use Rattle.xa_codes.specs.declared.direction.Direction.{Direction}
+use Rattle.xa_codes.specs.declared.write.Write.{Write}
+use Rattle.xa_xid.specs.Triple.{Triple, IsWithinLimits}
+use Rattle.xa_xid.specs.Spelling.{bytes_of}
+use Rattle.xa_record.specs.declared.record.Record.{Record}
+use Rattle.xa_record.specs.declared.record.Record.TheVariants.{Opened, Prepared, Committed, Completed, Decided, Forgotten}
+use Rattle.xa_record.specs.Limits.{IsWrite, IsBranch, IsRecord}
+use Rattle.xa_record.specs.Spelling.{value_bytes, write_bytes, branch_bytes, direction_byte, spelled}
+
+name_short : (x : Triple) → IsWithinLimits x → length (bytes_of x) ≤ 134
+name_short x h = omega (arith, length-append x.gtrid x.bqual, h.lengths.2, h.lengths.3)
+
+pub opened : (boot : ℕ) → length (spelled (Opened boot)) ≡ 5
+opened boot = refl
+
+pub completed : (x : Triple) (d : Direction) → IsWithinLimits x → length (spelled (Completed x d)) ≤ 136
+completed x d h = omega (arith, name_short x h, length-append (bytes_of x) (direction_byte d ∷ []))
+
+pub decided : (x : Triple) (d : Direction) → IsWithinLimits x → length (spelled (Decided x d)) ≤ 136
+decided x d h = omega (arith, name_short x h, length-append (bytes_of x) (direction_byte d ∷ []))
+
+pub forgotten : (x : Triple) → IsWithinLimits x → length (spelled (Forgotten x)) ≤ 135
+forgotten x h = omega (arith, name_short x h)
+
+value_short : (v : Option (List ℕ)) → IfSome v (λ s. length s ≤ 1024) → length (value_bytes v) ≤ 1027
+value_short None h = omega arith
+value_short (Some s) h = omega (arith, h)
+
+write_short : (w : Write) → IsWrite w → length (write_bytes w) ≤ 1092
+write_short w h = omega (arith, h.short, value_short w.value h.value, length-append w.key (value_bytes w.value))
+
+writes_short : (ws : List Write) → AllByRecursion IsWrite ws → length (flat_map write_bytes ws) ≤ 1092 * length ws
+writes_short [] h = omega arith
+writes_short (w ∷ ws) h = omega (arith, write_short w h.0, writes_short ws h.1, length-append (write_bytes w) (flat_map write_bytes ws))
+
+branch_short : (x : Triple) (t : ℕ) (ws : List Write) → IsBranch x t ws → length (branch_bytes x t ws) ≤ 279696
+branch_short x t ws h =
+    omega (arith, name_short x h.name, writes_short ws h.writes.each, h.writes.few, length-append (bytes_of x) (to_be_bytes w64 t ++ (to_be_bytes w16 (length ws) ++ flat_map write_bytes ws)))
+
+pub any : (r : Record) → IsRecord r → (1 ≤ length (spelled r)) × (length (spelled r) ≤ 524288)
+any (Opened boot) h = (omega arith, omega arith)
+any (Prepared x t ws) h = (omega arith, omega (arith, branch_short x t ws h))
+any (Committed x t ws) h = (omega arith, omega (arith, branch_short x t ws h))
+any (Completed x d) h = (omega arith, omega (arith, completed x d h))
+any (Decided x d) h = (omega arith, omega (arith, decided x d h))
+any (Forgotten x) h = (omega arith, omega (arith, forgotten x h))

@@ -1,0 +1,29 @@
+ghost use Rattle.std.specs.Prelude.{◌≡◌};
+ghost use Rattle.xa_record.specs.declared.fault.RecordFault.TheVariants.{Memory};
+
+use std::alloc::{AllocError, AllocFailed};
+
+/// Why bytes gave no record.
+#[derive(Clone, Copy, Debug, PartialEq, Eq)]
+pub enum RecordFault {
+    /// They are no record's body.
+    Malformed = 1,
+    /// They are one, but memory was wanted.
+    Memory = 2,
+}
+
+impl From<AllocError> for RecordFault {
+    ghost from_gives = { λ _ e. e ≡ Memory };
+
+    fn from(_e: AllocError) -> RecordFault {
+        RecordFault::Memory
+    }
+}
+
+impl<T: Drop> From<AllocFailed<T>> for RecordFault {
+    ghost from_gives = { λ _ e. e ≡ Memory };
+
+    fn from(_e: AllocFailed<T>) -> RecordFault {
+        RecordFault::Memory
+    }
+}

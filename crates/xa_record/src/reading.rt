@@ -1,0 +1,269 @@
+ghost use Rattle.std.specs.Int.{w16, w32, w64};
+ghost use Rattle.std.specs.Prelude.{◌≡◌, ◌≤◌, ◌^◌, ℕ, List, [], ◌∷◌, length, Option, Some, Err, IfOk, MatchResult, option_map, is_some, IsSome};
+ghost use Rattle.xa_record.specs.declared.fault.RecordFault.TheVariants.{Memory};
+ghost use Rattle.xa_record.specs.declared.record.Record.{Record};
+ghost use Rattle.xa_record.specs.Answers.{Answers, Gives};
+ghost use Rattle.xa_record.specs.Limits.{IsRecord};
+ghost use Rattle.xa_record.specs.Reading.{number_at, xid_front, direction_at, key_at, value_at, write_at, writes_at, head_at, opened_at, branch_at, directed_at, forgotten_at, record_at};
+ghost use Rattle.xa_record.specs.Spelling.{spelled};
+
+use crate::fault::RecordFault;
+use crate::record::Record;
+use crate::writes::Writes;
+use std::alloc::{AllocError, Global};
+use xa_codes::{Bytes, Direction, Write};
+use xa_xid::Xid;
+
+fn u16_at(bytes: &[u8]) -> Option<(u16, &[u8])>
+    ensures { option_map (λ x. (x.0, x.1.now)) result ≡ number_at w16 bytes.now }
+{
+    if bytes.len() < 2 {
+        return None;
+    }
+    let (front, rest) = bytes.split_at(2);
+    Some((u16::from_be_bytes([front[0], front[1]]), rest))
+}
+
+fn u32_at(bytes: &[u8]) -> Option<(u32, &[u8])>
+    ensures { option_map (λ x. (x.0, x.1.now)) result ≡ number_at w32 bytes.now }
+{
+    if bytes.len() < 4 {
+        return None;
+    }
+    let (front, rest) = bytes.split_at(4);
+    let number = u32::from_be_bytes([front[0], front[1], front[2], front[3]]);
+    Some((number, rest))
+}
+
+fn u64_at(bytes: &[u8]) -> Option<(u64, &[u8])>
+    ensures { option_map (λ x. (x.0, x.1.now)) result ≡ number_at w64 bytes.now }
+{
+    if bytes.len() < 8 {
+        return None;
+    }
+    let (front, rest) = bytes.split_at(8);
+    let number = u64::from_be_bytes([
+        front[0], front[1], front[2], front[3], front[4], front[5], front[6], front[7],
+    ]);
+    Some((number, rest))
+}
+
+#[tactic(auto, unfolding(crate::specs::Reading::xid_front))]
+fn xid_of(bytes: &[u8]) -> Option<(Xid, &[u8])>
+    ensures { option_map (λ x. (x.0, x.1.now)) result ≡ xid_front bytes.now }
+{
+    let (xid, len) = Xid::take(bytes)?;
+    Some((xid, &bytes[len..]))
+}
+
+#[tactic(auto, unfolding(crate::specs::Reading::direction_at))]
+fn direction_of(bytes: &[u8]) -> Option<Direction>
+    ensures { result ≡ direction_at bytes.now }
+{
+    match bytes {
+        [1] => Some(Direction::Commit),
+        [2] => Some(Direction::Rollback),
+        _ => None,
+    }
+}
+
+#[tactic(auto, unfolding(crate::specs::Reading::key_at))]
+fn key_of<'a>(previous: &[u8], bytes: &'a [u8]) -> Option<(&'a [u8], &'a [u8])>
+    ensures { option_map (λ x. (x.0.now, x.1.now)) result ≡ key_at previous.now bytes.now }
+{
+    let [len, rest @ ..] = bytes else {
+        return None;
+    };
+    let len = usize::from(*len);
+    if len > 64 || len > rest.len() {
+        return None;
+    }
+    let (key, rest) = rest.split_at(len);
+    if previous.cmp(key).is_lt() {
+        Some((key, rest))
+    } else {
+        None
+    }
+}
+
+#[tactic(auto, unfolding(crate::specs::Reading::value_at))]
+fn value_of(bytes: &[u8]) -> Option<(Option<&[u8]>, &[u8])>
+    ensures { option_map (λ x. (option_map (λ v. v.now) x.0, x.1.now)) result ≡ value_at bytes.now }
+{
+    match bytes {
+        [0, rest @ ..] => Some((None, rest)),
+        [1, rest @ ..] => {
+            let (len, rest) = u16_at(rest)?;
+            let len = usize::from(len);
+            if len > 1024 || len > rest.len() {
+                return None;
+            }
+            let (value, rest) = rest.split_at(len);
+            Some((Some(value), rest))
+        }
+        _ => None,
+    }
+}
+
+/// One write whose key is above the one before it, and the bytes after it.
+#[tactic(auto, unfolding(crate::specs::Reading::write_at))]
+fn write_of<'a>(previous: &[u8], bytes: &'a [u8]) -> Option<(&'a [u8], Option<&'a [u8]>, &'a [u8])>
+    ensures { option_map (λ x. (record { key = x.0.now; value = option_map (λ v. v.now) x.1 }, x.2.now)) result ≡ write_at previous.now bytes.now }
+{
+    let (key, rest) = key_of(previous, bytes)?;
+    let (value, rest) = value_of(rest)?;
+    Some((key, value, rest))
+}
+
+/// Whether the bytes are so many writes, ascending by key, and nothing else.
+fn are_writes(count: u16, bytes: &[u8]) -> bool
+    ensures { result ≡ is_some (writes_at count [] bytes.now) }
+{
+    let mut previous: &[u8] = &[];
+    let mut rest = bytes;
+    for _ in 0..count {
+        let Some((key, _, after)) = write_of(previous, rest) else {
+            return false;
+        };
+        previous = key;
+        rest = after;
+    }
+    rest.is_empty()
+}
+
+fn writes_of(alloc: Global, count: u16, bytes: &[u8]) -> Result<Writes, RecordFault>
+    requires { IsSome (writes_at count [] bytes.now) }
+    ensures { Answers result (writes_at count [] bytes.now) }
+{
+    let mut writes = Vec::new(alloc);
+    let mut previous: &[u8] = &[];
+    let mut rest = bytes;
+    for _ in 0..count {
+        let Some((key, value, after)) = write_of(previous, rest) else {
+            return Err(RecordFault::Malformed);
+        };
+        writes.push(made(alloc, key, value)?)?;
+        previous = key;
+        rest = after;
+    }
+    Ok(Writes::new(writes))
+}
+
+fn made(alloc: Global, key: &[u8], value: Option<&[u8]>) -> Result<Write, AllocError>
+    ensures { IfOk result (λ w. w ≡ record { key = key.now; value = option_map (λ v. v.now) value.entry }) }
+{
+    let key = Bytes::from_slice(alloc, key)?;
+    let value = match value {
+        None => None,
+        Some(value) => Some(Bytes::from_slice(alloc, value)?),
+    };
+    Ok(Write { key, value })
+}
+
+/// The XID, the timestamp, the number of writes, and the bytes of the writes.
+#[tactic(auto, unfolding(crate::specs::Reading::head_at))]
+fn head_of(bytes: &[u8]) -> Option<(Xid, u64, u16, &[u8])>
+    ensures { option_map (λ x. (x.0, x.1, x.2, x.3.now)) result ≡ head_at bytes.now }
+{
+    let (xid, rest) = xid_of(bytes)?;
+    let (timestamp, rest) = u64_at(rest)?;
+    let (count, rest) = u16_at(rest)?;
+    if (1..=256).contains(&count) {
+        Some((xid, timestamp, count, rest))
+    } else {
+        None
+    }
+}
+
+#[tactic(auto, unfolding(crate::specs::Reading::branch_at))]
+fn branch_of(alloc: Global, bytes: &[u8]) -> Result<(Xid, u64, Writes), RecordFault>
+    ensures { Answers result (branch_at bytes.now) }
+{
+    let Some((xid, timestamp, count, rest)) = head_of(bytes) else {
+        return Err(RecordFault::Malformed);
+    };
+    if !are_writes(count, rest) {
+        return Err(RecordFault::Malformed);
+    }
+    let writes = writes_of(alloc, count, rest)?;
+    Ok((xid, timestamp, writes))
+}
+
+#[tactic(auto, unfolding(crate::specs::Reading::opened_at))]
+fn opened(bytes: &[u8]) -> Option<Record>
+    ensures { result ≡ opened_at bytes.now }
+{
+    let (boot, rest) = u32_at(bytes)?;
+    if boot >= 1 && rest.is_empty() {
+        Some(Record::Opened { boot })
+    } else {
+        None
+    }
+}
+
+#[tactic(auto, unfolding(crate::specs::Reading::directed_at))]
+fn directed(bytes: &[u8]) -> Option<(Xid, Direction)>
+    ensures { result ≡ directed_at bytes.now }
+{
+    let (xid, rest) = xid_of(bytes)?;
+    Some((xid, direction_of(rest)?))
+}
+
+#[tactic(auto, unfolding(crate::specs::Reading::forgotten_at))]
+fn forgotten(bytes: &[u8]) -> Option<Xid>
+    ensures { result ≡ forgotten_at bytes.now }
+{
+    let (xid, rest) = xid_of(bytes)?;
+    if rest.is_empty() { Some(xid) } else { None }
+}
+
+#[tactic(auto, unfolding(crate::specs::Reading::record_at))]
+fn body(alloc: Global, bytes: &[u8]) -> Result<Record, RecordFault>
+    ensures { Answers result (record_at bytes.now) }
+{
+    match bytes {
+        [1, rest @ ..] => opened(rest).ok_or(RecordFault::Malformed),
+        [2, rest @ ..] => {
+            let (xid, timestamp, writes) = branch_of(alloc, rest)?;
+            Ok(Record::Prepared {
+                xid,
+                timestamp,
+                writes,
+            })
+        }
+        [3, rest @ ..] => {
+            let (xid, timestamp, writes) = branch_of(alloc, rest)?;
+            Ok(Record::Committed {
+                xid,
+                timestamp,
+                writes,
+            })
+        }
+        [4, rest @ ..] => {
+            let (xid, direction) = directed(rest).ok_or(RecordFault::Malformed)?;
+            Ok(Record::Completed { xid, direction })
+        }
+        [5, rest @ ..] => {
+            let (xid, direction) = directed(rest).ok_or(RecordFault::Malformed)?;
+            Ok(Record::Decided { xid, direction })
+        }
+        [6, rest @ ..] => {
+            let xid = forgotten(rest).ok_or(RecordFault::Malformed)?;
+            Ok(Record::Forgotten { xid })
+        }
+        _ => Err(RecordFault::Malformed),
+    }
+}
+
+/// The record that all of the bytes are the body of. Memory is wanted only where they are one.
+pub fn read(alloc: Global, bytes: &[u8]) -> Result<Record, RecordFault>
+    // What is read is spelled so.
+    ensures found { IfOk result (λ r. IsRecord r × (bytes.now ≡ spelled r)) }
+    // What is spelled so is read, unless memory runs out.
+    ensures only { (r : Record) → IsRecord r → bytes.now ≡ spelled r → Gives result r }
+    // Memory is wanted only for what is spelled.
+    ensures memory { result ≡ Err Memory → (r : Record) × IsRecord r × (bytes.now ≡ spelled r) }
+    ensures exact { Answers result (record_at bytes.now) }
+{
+    body(alloc, bytes)
+}

@@ -1,0 +1,132 @@
+ghost use Rattle.arrayvec.specs.ArrayVec.{array_vec_len};
+ghost use Rattle.std.specs.Prelude.{◌≡◌, ◌≤◌, ◌+◌, [], ◌∷◌, ◌++◌, length, flat_map, IfOk, OnOk};
+ghost use Rattle.xa_record.specs.Spelling.{spelled, branch_bytes, write_bytes, value_bytes};
+ghost use Rattle.std.specs.Int.{w16, to_be_bytes};
+ghost use Rattle.xa_record.specs.Small.{IsSmall};
+ghost use Rattle.xa_xid.specs.Spelling.{bytes_of};
+
+use crate::record::Record;
+use crate::writes::Writes;
+use arrayvec::ArrayVec;
+use std::alloc::{AllocError, Global};
+use xa_codes::{Bytes, Write};
+use xa_xid::Xid;
+
+/// The record's body. A record out of its limits has none that `read` takes.
+pub fn write(alloc: Global, record: &Record) -> Result<Vec<u8>, AllocError>
+    ensures { IfOk result (λ v. v.items ≡ spelled record.now) }
+{
+    match record {
+        Record::Prepared {
+            xid,
+            timestamp,
+            writes,
+        } => branch(alloc, 2, xid, *timestamp, writes),
+        Record::Committed {
+            xid,
+            timestamp,
+            writes,
+        } => branch(alloc, 3, xid, *timestamp, writes),
+        _ => {
+            let mut small: ArrayVec<u8, 136> = ArrayVec::new();
+            write_small(record, &mut small);
+            small.as_slice().to_vec(alloc)
+        }
+    }
+}
+
+/// Replaces what the vector holds by the body of a record without writes. Takes no memory.
+pub fn write_small(record: &Record, out: &mut ArrayVec<u8, 136>)
+    requires { IsSmall record.now }
+    ensures { out.new.items ≡ spelled record.now }
+{
+    out.clear();
+    match record {
+        Record::Opened { boot } => {
+            out.push(1);
+            let _ = out.try_extend_from_slice(&boot.to_be_bytes());
+        }
+        Record::Completed { xid, direction } => {
+            put_xid(out, 4, xid);
+            out.push(*direction as u8);
+        }
+        Record::Decided { xid, direction } => {
+            put_xid(out, 5, xid);
+            out.push(*direction as u8);
+        }
+        Record::Forgotten { xid } => put_xid(out, 6, xid),
+        Record::Prepared { .. } | Record::Committed { .. } => unreachable!(),
+    }
+}
+
+fn put_xid(out: &mut ArrayVec<u8, 136>, kind: u8, xid: &Xid)
+    requires { out.old.items ≡ [] }
+    ensures items { out.new.items ≡ kind ∷ bytes_of xid.now }
+    ensures len { array_vec_len out.new ≤ 135 }
+{
+    let mut bytes: ArrayVec<u8, 134> = ArrayVec::new();
+    xid.put(&mut bytes);
+    out.push(kind);
+    let _ = out.try_extend_from_slice(bytes.as_slice());
+}
+
+fn branch(
+    alloc: Global,
+    kind: u8,
+    xid: &Xid,
+    timestamp: u64,
+    writes: &Writes,
+) -> Result<Vec<u8>, AllocError>
+    ensures { IfOk result (λ v. v.items ≡ kind ∷ branch_bytes xid.now timestamp writes.now) }
+{
+    let mut bytes: ArrayVec<u8, 134> = ArrayVec::new();
+    xid.put(&mut bytes);
+    let writes = writes.as_slice();
+    let mut out = Vec::new(alloc);
+    out.push(kind)?;
+    out.extend_from_slice(bytes.as_slice())?;
+    out.extend_from_slice(&timestamp.to_be_bytes())?;
+    put_length(&mut out, writes.len())?;
+    put_writes(&mut out, writes)?;
+    Ok(out)
+}
+
+fn put_writes(out: &mut Vec<u8>, writes: &[Write]) -> Result<(), AllocError>
+    ensures { OnOk result (out.new.items ≡ out.old.items ++ flat_map write_bytes writes.now) }
+{
+    for write in writes {
+        put_write(out, write)?;
+    }
+    Ok(())
+}
+
+fn put_write(out: &mut Vec<u8>, write: &Write) -> Result<(), AllocError>
+    ensures { OnOk result (out.new.items ≡ out.old.items ++ write_bytes write.now) }
+{
+    let key = write.key.as_slice();
+    out.push((key.len() % 256) as u8)?;
+    out.extend_from_slice(key)?;
+    put_value(out, &write.value)
+}
+
+fn put_value(out: &mut Vec<u8>, value: &Option<Bytes>) -> Result<(), AllocError>
+    ensures { OnOk result (out.new.items ≡ out.old.items ++ value_bytes value.now) }
+{
+    match value {
+        None => out.push(0)?,
+        Some(value) => {
+            let value = value.as_slice();
+            out.push(1)?;
+            put_length(out, value.len())?;
+            out.extend_from_slice(value)?;
+        }
+    }
+    Ok(())
+}
+
+/// The last two bytes of a length.
+fn put_length(out: &mut Vec<u8>, len: usize) -> Result<(), AllocError>
+    ensures { OnOk result (out.new.items ≡ out.old.items ++ to_be_bytes w16 len) }
+{
+    out.extend_from_slice(&((len % 65536) as u16).to_be_bytes())
+}
