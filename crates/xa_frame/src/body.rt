@@ -5,8 +5,12 @@ use xa_codes::Bytes;
 #[derive(Debug, Drop)]
 pub enum Body {
     Nothing,
+    /// Of a Connect the session's number, of a Start the branch's timestamp.
     Number(u64),
+    /// What a Get found.
     Value(Bytes),
+    /// What a Get answers where the key has no value.
     Absent,
+    /// What a Recover lists.
     Xids(Xids),
 }

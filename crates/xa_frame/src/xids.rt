@@ -34,6 +34,7 @@ impl Xids {
         xids
     }
 
+    /// The XIDs. Takes no memory.
     pub fn as_slice(&self) -> &[Xid]
         ensures { result.now ≡ self.now }
     {

@@ -3,6 +3,7 @@ use thiserror::Error;
 /// Why there is no manager.
 #[derive(Clone, Copy, Debug, PartialEq, Eq, Error)]
 pub enum ManagerFault {
+    /// There was no memory.
     #[error("no memory")]
     Memory,
     /// A setting is out of its limits.
@@ -13,6 +14,7 @@ pub enum ManagerFault {
 /// Why a session isn't connected.
 #[derive(Clone, Copy, Debug, PartialEq, Eq, Error)]
 pub enum ConnectFault {
+    /// There was no memory. The session isn't connected.
     #[error("no memory")]
     Memory,
     /// As many sessions are connected as may be.

@@ -19,12 +19,13 @@ use xa_model::Event;
 
 /// The longest name of a manager, in bytes.
 const MOST_NAME: usize = 255;
-/// The least and the greatest size of a log, in bytes.
+/// The least size of a log, in bytes.
 const LEAST_LOG: u64 = 64;
-
+/// The greatest size of a log, in bytes.
 const MOST_LOG: u64 = 1 << 30;
 
-/// A resource manager that keeps all in memory.
+/// A resource manager of C193 that keeps all in memory, and orders reads and writes by multiversion timestamp ordering
+/// (Bernstein, Hadzilacos and Goodman, 5.3).
 ///
 /// Whatever state of the sequential resource manager it stood for before a call, it answers as that manager's step and
 /// then stands for the step's new state. Where memory was wanted, it stands for whatever it stood for.
@@ -34,8 +35,8 @@ pub struct Manager {
 }
 
 impl Manager {
-    /// A manager that nothing was asked of. `Setting` comes just where a setting is out of its limits; no memory is
-    /// taken.
+    /// A manager that nothing was asked of. `Setting` comes just where a setting is out of its limits, and no other fault
+    /// does: no memory is taken.
     pub fn new(alloc: Global, settings: Settings) -> Result<Manager, ManagerFault>
         ensures fresh { IfOk result (λ m. StandsFor (kept m) (fresh settings.name settings.log_bytes)) }
         ensures good { length settings.name ≤ 255 → 64 ≤ settings.log_bytes → settings.log_bytes ≤ 1073741824 → IsOk result }
@@ -60,7 +61,8 @@ impl Manager {
         })
     }
 
-    /// Connects a session, whose number is the least from 1 that is free.
+    /// Connects a session, whose number is the least from 1 that is free. `Full` comes where as many are connected as may
+    /// be, `Memory` where there was no memory; neither changes what the manager stands for.
     pub fn connect(&mut self) -> Result<u64, ConnectFault>
         ensures { Answered (kept self.old) Event.Connect (connect_reply result) (kept self.new) }
     {
@@ -73,7 +75,8 @@ impl Manager {
         }
     }
 
-    /// Answers a request of a session. Its reply has place 0.
+    /// Answers a request of a session, by its number, with a code of C193. The reply has place 0. Its detail is Memory
+    /// where there was no memory: then the code is XAER_RMFAIL, but XA_RETRY for a commit in two phases.
     pub fn call(&mut self, session: u64, request: Request) -> Reply
         requires { IsRequest request }
         ensures step { Answered (kept self.old) (Event.Call session request) result (kept self.new) }

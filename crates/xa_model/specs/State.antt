@@ -99,7 +99,7 @@ known_of branches xid = find (is_known_as xid) branches
 abbrev pub known_count : List Branch → ℕ
 known_count branches = length (filter (λ b. is_known b.phase) branches)
 
--- the committed branches, the greatest timestamp first
+-- what the branch wrote is committed
 abbrev pub is_committed : Phase → Bool
 is_committed Working = false
 is_committed Prepared = false
@@ -107,6 +107,7 @@ is_committed HeuristicallyCommitted = true
 is_committed HeuristicallyRolledBack = false
 is_committed Committed = true
 
+-- the committed branches, the greatest timestamp first
 abbrev pub committed_of : List Branch → List Branch
 committed_of branches = filter (λ b. is_committed b.phase) branches
 

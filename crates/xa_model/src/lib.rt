@@ -1,5 +1,6 @@
-//! The sequential resource manager: its states, its one step, and histories. What the contracts of the layers above
-//! speak of stands in `specs/`; the program's part is the types of events and outcomes.
+//! The sequential resource manager: its states, its one step, and histories. It answers by the tables of C193, and
+//! orders reads and writes by multiversion timestamp ordering (Bernstein, Hadzilacos and Goodman, 5.3). What the
+//! contracts of the layers above speak of stands in `specs/`; the program's part is the types of events and outcomes.
 #![tactic(auto)]
 
 mod event;

@@ -34,6 +34,7 @@ impl Writes {
         writes
     }
 
+    /// The writes. Takes no memory.
     pub fn as_slice(&self) -> &[Write]
         ensures { result.now ≡ self.now }
     {
