@@ -12,7 +12,7 @@ use Rattle.xa_model.specs.Answer.{Answer, detailed}
 use Rattle.xa_model.specs.Step.{Asked, step}
 use Rattle.xa_manager.specs.Answered.{Answered}
 use Rattle.xa_manager.specs.Kept.{Kept}
-use Rattle.xa_manager.specs.Stands.{StandsFor, is_memory}
+use Rattle.xa_manager.specs.Stands.{StandsFor, Stays, is_memory}
 use Rattle.xa_xid.specs.Triple.{Triple}
 use Rattle.xarm.specs.declared.line.Line.{Line}
 use Rattle.xarm.specs.declared.line.Line.TheVariants.{Silent, Unknown, Connect, Call}
@@ -33,12 +33,12 @@ follows m' reply None h = absurd h
 follows m' reply (Some a) h = (a.after, ap (λ (r : Reply). Some (record { reply = r; after = a.after })) h.0, h.1)
 
 answers_by : (m m' : Kept) (asked : Event) (reply : Reply) (s : State) (b : Bool) →
-    MatchBool b (m' ≡ m) ((s : State) → StandsFor m s → IsSomeAnd (step s (Asked asked) Quiet) (λ a. (a.reply ≡ reply) × StandsFor m' a.after)) →
+    MatchBool b (Stays m m') ((s : State) → StandsFor m s → IsSomeAnd (step s (Asked asked) Quiet) (λ a. (a.reply ≡ reply) × StandsFor m' a.after)) →
     (b ≡ true → reply ≡ wanted_memory asked) → StandsFor m s →
     (after : State)
     × MatchBool b ((reply ≡ wanted_memory asked) × (after ≡ s)) (step s (Asked asked) Quiet ≡ Some (record { reply = reply; after = after }))
     × StandsFor m' after
-answers_by m m' asked reply s true h wanted stands = (s, (wanted refl, refl), subst (λ (k : Kept). StandsFor k s) (sym h) stands)
+answers_by m m' asked reply s true h wanted stands = (s, (wanted refl, refl), h s stands)
 answers_by m m' asked reply s false h wanted stands = follows m' reply (step s (Asked asked) Quiet) (h s stands)
 
 shows : (m m' : Kept) (asked : Event) (answer : Option Reply) (s : State) → IsSomeAnd answer (λ reply. FullyAnswered m asked reply m') → StandsFor m s →

@@ -10,7 +10,7 @@ use Rattle.xarm.specs.declared.verb.Verb.TheVariants as verb
 use Rattle.xa_xid.specs.Triple.{Triple, IsWithinLimits}
 use Rattle.xa_xid.specs.Spelling.{text_of}
 use Rattle.xa_frame.specs.declared.request.Request.{Request}
-use Rattle.xa_frame.specs.declared.request.Request.TheVariants.{Open, Start, End, Commit, Get, Put}
+use Rattle.xa_frame.specs.declared.request.Request.TheVariants.{Open, Start, End, Commit, Get, Put, Delete}
 
 -- the words that name a request
 abbrev pub named_verbs : List (List ℕ × Verb)
@@ -21,6 +21,7 @@ named_verbs =
     ∷ (codes "commit", verb.Commit)
     ∷ (codes "get", verb.Get)
     ∷ (codes "put", verb.Put)
+    ∷ (codes "delete", verb.Delete)
     ∷ []
 
 abbrev pub verb_of : List ℕ → Option Verb
@@ -53,6 +54,10 @@ open_by words =
 abbrev pub get_by : List (List ℕ) → Option Request
 get_by words = option_map (λ key. Get key) (option_and_then key_of (one_of words))
 
+-- what the words behind `delete` ask
+abbrev pub delete_by : List (List ℕ) → Option Request
+delete_by words = option_map (λ key. Delete key) (option_and_then key_of (one_of words))
+
 -- what the words behind `put` ask
 abbrev pub put_by : List (List ℕ) → Option Request
 put_by words =
@@ -77,3 +82,4 @@ module _ (xid_of : List ℕ → Option Triple) where
   request_of verb.Commit words = option_map (λ pair. Commit pair.0 pair.1) (branch_pair words)
   request_of verb.Get words = get_by words
   request_of verb.Put words = put_by words
+  request_of verb.Delete words = delete_by words

@@ -1,6 +1,7 @@
 ghost use Rattle.std.specs.Io.KnownBytes.{Appends, Keeps};
 ghost use Rattle.std.specs.Prelude.{◌≡◌, ◌<◌, ◌⊎◌, IfErr, IfSome, IsErrOf, List, OnErr, OnOk, length, true, ℕ};
 ghost use Rattle.xa_manager.specs.Answered.{Answered};
+ghost use Rattle.xa_manager.specs.Managed.{kept};
 ghost use Rattle.xa_manager.specs.Stands.{is_memory};
 ghost use Rattle.xa_model.specs.Answer.{detailed};
 ghost use Rattle.xarm.specs.Lines.{IsWithinLimits};
@@ -52,7 +53,7 @@ fn play_lines<W: Write>(
     script: &[u8],
 ) -> Result<(), PlayFault>
     ensures played { OnOk result ((text : List ℕ) × Appends (W.contents writer.old) (W.contents writer.new) text
-        × ScriptPlayed manager.old script.now text) }
+        × ScriptPlayed (kept manager.old) script.now text) }
     ensures faults { IfErr result (λ fault. (fault ≡ PlayFault.Memory) ⊎ (fault ≡ PlayFault.Write)) }
 {
     let mut rest = Some(script);
@@ -71,7 +72,7 @@ fn play_line<W: Write>(
     line: &[u8],
 ) -> Result<(), PlayFault>
     ensures played { OnOk result ((text : List ℕ) × Appends (W.contents writer.old) (W.contents writer.new) text
-        × LinePlayed manager.old line.now text manager.new) }
+        × LinePlayed (kept manager.old) line.now text (kept manager.new)) }
     ensures faults { IfErr result (λ fault. (fault ≡ PlayFault.Memory) ⊎ (fault ≡ PlayFault.Write)) }
 {
     let said = read_line(alloc, line)?;
@@ -88,7 +89,7 @@ fn play_line<W: Write>(
 /// The reply that a line shows, if it shows one.
 fn answer(manager: &mut Manager, said: Line) -> Option<Reply>
     requires { IsWithinLimits said }
-    ensures { LineAnswered manager.old said result manager.new }
+    ensures { LineAnswered (kept manager.old) said result (kept manager.new) }
 {
     match said {
         Line::Silent => None,
@@ -100,7 +101,7 @@ fn answer(manager: &mut Manager, said: Line) -> Option<Reply>
 
 /// Connects a session.
 fn connect(manager: &mut Manager) -> Reply
-    ensures step { Answered manager.old Event.Connect result manager.new }
+    ensures step { Answered (kept manager.old) Event.Connect result (kept manager.new) }
     ensures memory { is_memory result.detail ≡ true → result ≡ detailed XAER_RMFAIL Detail.Memory }
 {
     match manager.connect() {

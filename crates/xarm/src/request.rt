@@ -3,7 +3,7 @@ ghost use Rattle.std.specs.Prelude.{◌≡◌, ℕ, IfOk, IfSome, List, Option};
 ghost use Rattle.xa_frame.specs.Limits.{IsKey, IsRequest, IsValue};
 ghost use Rattle.xa_xid.specs.Triple.{Triple};
 ghost use Rattle.xarm.specs.Parts.{words_behind};
-ghost use Rattle.xarm.specs.Requests.{ReadsTexts, branch_pair, get_by, is_graphic, is_name, key_of, open_by, put_by, request_of, value_of};
+ghost use Rattle.xarm.specs.Requests.{ReadsTexts, branch_pair, delete_by, get_by, is_graphic, is_name, key_of, open_by, put_by, request_of, value_of};
 
 use crate::flags::read_flags;
 use crate::hexadecimal::read_bytes;
@@ -31,6 +31,7 @@ pub fn read_request(
         Verb::Commit => Ok(read_branch(words).map(|(flags, xid)| Request::Commit { flags, xid })),
         Verb::Get => read_get(alloc, words),
         Verb::Put => read_put(alloc, words),
+        Verb::Delete => read_delete(alloc, words),
     }
 }
 
@@ -80,6 +81,16 @@ fn read_get(alloc: Global, words: Option<&[u8]>) -> Result<Option<Request>, Allo
         return Ok(None);
     };
     Ok(read_key(alloc, key)?.map(|key| Request::Get { key }))
+}
+
+fn read_delete(alloc: Global, words: Option<&[u8]>) -> Result<Option<Request>, AllocError>
+    ensures value { IfOk result (λ request. request ≡ delete_by (words_behind (option_copied words.entry))) }
+    ensures limits { IfOk result (λ request. IfSome request IsRequest) }
+{
+    let Some(key) = only_word(words) else {
+        return Ok(None);
+    };
+    Ok(read_key(alloc, key)?.map(|key| Request::Delete { key }))
 }
 
 fn read_put(alloc: Global, words: Option<&[u8]>) -> Result<Option<Request>, AllocError>

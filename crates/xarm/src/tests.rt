@@ -52,12 +52,35 @@ fn worked_rows(rt: HostRuntime) -> Result<(), Fail> {
             "# a comment\n\n1 start 0x0 1:aa:\n1 get 6b\n1 put 6b -\n1 get 6b\n",
             "0 Nothing number 4294967297\n0 Nothing absent\n0 Nothing\n0 Nothing value -\n",
         ),
+        // A delete, and what the branch reads behind it.
+        (
+            "1 start TMNOFLAGS 1:aa:\n1 put 6b -\n1 get 6b\n1 delete 6b\n1 get 6b",
+            "0 Nothing number 4294967297\n0 Nothing\n0 Nothing value -\n0 Nothing\n0 Nothing absent\n",
+        ),
     ] {
         let whole = format!(in rt.alloc(); "connect\n1 open TMNOFLAGS xarm\n{script}")?;
         let want = format!(in rt.alloc(); "{OPENED}{replies}")?;
         let output = printed(rt.alloc(), whole.as_str())?;
         assert_eq!(rt; output.as_slice(), want.as_bytes(), "{script}");
     }
+    Ok(())
+}
+
+/// A branch writes 256 keys, and no further one.
+#[test]
+fn written_keys(rt: HostRuntime) -> Result<(), Fail> {
+    let mut script = String::from_str(rt.alloc(), "connect\n1 open TMNOFLAGS xarm\n1 start TMNOFLAGS 1:aa:\n")?;
+    let mut want = String::from_str(rt.alloc(), OPENED)?;
+    want.push_str("0 Nothing number 4294967297\n")?;
+    for key in 0..256u32 {
+        let line = format!(in rt.alloc(); "1 put {key:04x} 76\n")?;
+        script.push_str(line.as_str())?;
+        want.push_str("0 Nothing\n")?;
+    }
+    script.push_str("1 put 0100 76\n1 put 0000 77\n1 delete 0100\n1 delete 0001\n")?;
+    want.push_str("-5 Limit\n0 Nothing\n-5 Limit\n0 Nothing\n")?;
+    let output = printed(rt.alloc(), script.as_str())?;
+    assert_eq!(rt; output.as_slice(), want.as_bytes());
     Ok(())
 }
 
@@ -79,6 +102,9 @@ fn other_lines(rt: HostRuntime) -> Result<(), Fail> {
         "1 get 6b ",
         "1 get 6b 6b",
         "1 get",
+        "1 delete",
+        "1 delete 6b 6b",
+        "1 delete -",
         "1 put 6b",
         "1 put 6b 76 77",
         "1 open TMNOFLAGS",
@@ -130,7 +156,6 @@ fn other_lines(rt: HostRuntime) -> Result<(), Fail> {
         "1 rollback TMNOFLAGS 1:aa:",
         "1 forget TMNOFLAGS 1:aa:",
         "1 recover TMNOFLAGS 1",
-        "1 delete 6b",
         "1 decide commit 1:aa:",
         "1 doom 1:aa:",
         "1 restart",

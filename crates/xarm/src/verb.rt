@@ -10,6 +10,7 @@ pub enum Verb {
     Commit,
     Get,
     Put,
+    Delete,
 }
 
 /// The verb of a word.
@@ -26,6 +27,7 @@ pub fn read_verb(word: &[u8]) -> Option<Verb>
         "commit" => Some(Verb::Commit),
         "get" => Some(Verb::Get),
         "put" => Some(Verb::Put),
+        "delete" => Some(Verb::Delete),
         _ => None,
     }
 }
