@@ -69,7 +69,10 @@ fn worked_rows(rt: HostRuntime) -> Result<(), Fail> {
 /// A branch writes 256 keys, and no further one.
 #[test]
 fn written_keys(rt: HostRuntime) -> Result<(), Fail> {
-    let mut script = String::from_str(rt.alloc(), "connect\n1 open TMNOFLAGS xarm\n1 start TMNOFLAGS 1:aa:\n")?;
+    let mut script = String::from_str(
+        rt.alloc(),
+        "connect\n1 open TMNOFLAGS xarm\n1 start TMNOFLAGS 1:aa:\n",
+    )?;
     let mut want = String::from_str(rt.alloc(), OPENED)?;
     want.push_str("0 Nothing number 4294967297\n")?;
     for key in 0..256u32 {
