@@ -1,5 +1,5 @@
 -- A text is cut at the first place of a separator.
-use Rattle.std.proofs.Common.{◌≡◌, ℕ, ◌+◌, ◌<◌, ◌≤◌, ◌==◌, nat_lt, Bool, true, false, List, [], ◌∷◌, length, take, drop, Option, Some, None, refl, sym, subst, arith, position, cond}
+use Rattle.std.proofs.Common.{◌≡◌, ℕ, ◌+◌, ◌≤◌, nat_lt, Bool, true, false, List, [], ◌∷◌, length, take, drop, Some, None, refl, subst, arith, position, cond}
 use Rattle.std.specs.List.{slice_split, position_or_len, onto_first}
 use Rattle.xarm.specs.Parts.{one_of}
 use Rattle.std.proofs.lemmas.Bool.{ltb-true, ltb-false}

@@ -1,16 +1,13 @@
 -- Lines are played one after another.
 use Rattle.std.proofs.Common.{◌≡◌, ℕ, Bool, true, false, List, [], ◌∷◌, ◌++◌, Option, Some, None, MatchBool, IsSomeAnd, refl, sym, ap, subst, ◌∙◌, append_assoc, append-nil, map}
 use Rattle.std.specs.Io.KnownBytes.{Appends}
-use Rattle.xa_codes.specs.declared.detail.Detail.TheVariants as detail
-use Rattle.xa_codes.specs.declared.codes.TheConstants.{XAER_INVAL}
 use Rattle.xa_frame.specs.declared.reply.Reply.{Reply}
 use Rattle.xa_model.specs.declared.event.Event.{Event}
 use Rattle.xa_model.specs.declared.event.Event.TheVariants as event
 use Rattle.xa_model.specs.declared.outcome.Outcome.TheVariants.{Quiet}
 use Rattle.xa_model.specs.State.{State}
-use Rattle.xa_model.specs.Answer.{Answer, detailed}
+use Rattle.xa_model.specs.Answer.{Answer}
 use Rattle.xa_model.specs.Step.{Asked, step}
-use Rattle.xa_manager.specs.Answered.{Answered}
 use Rattle.xa_manager.specs.Kept.{Kept}
 use Rattle.xa_manager.specs.Stands.{StandsFor, Stays, is_memory}
 use Rattle.xa_xid.specs.Triple.{Triple}
@@ -18,7 +15,7 @@ use Rattle.xarm.specs.declared.line.Line.{Line}
 use Rattle.xarm.specs.declared.line.Line.TheVariants.{Silent, Unknown, Connect, Call}
 use Rattle.xarm.specs.Lines as lines
 use Rattle.xarm.specs.Parts.{parts, parts_behind}
-use Rattle.xarm.specs.Plays.{Answers, FullyAnswered, wanted_memory, Shows, PlaysLine, PlaysLines, LineAnswered, LinePlayed, lines_of}
+use Rattle.xarm.specs.Plays.{FullyAnswered, wanted_memory, Shows, PlaysLine, PlaysLines, LineAnswered, LinePlayed, lines_of}
 use Rattle.xarm.specs.Replies as replies
 use Rattle.xarm.specs.Requests.{ReadsTexts}
 

@@ -1,5 +1,5 @@
 -- The flags of a word: `TMNOFLAGS`, or names of flags joined by bars, each at most once, or hexadecimal digits behind 0x.
-use Rattle.std.specs.Prelude.{ℕ, ◌+◌, ◌*◌, ◌==◌, ◌&&◌, nat_le, Bool, List, [], ◌∷◌, length, drop, Option, Some, None, if◌then◌else◌, option_and_then, bit_and, bit_or, bytes_eq, codes, find, nat_eq}
+use Rattle.std.specs.Prelude.{ℕ, ◌+◌, ◌*◌, ◌==◌, ◌&&◌, nat_le, List, [], ◌∷◌, length, drop, Option, Some, None, if◌then◌else◌, option_and_then, bit_and, bit_or, bytes_eq, codes, find, nat_eq}
 use Rattle.std.specs.Option.{option_map}
 use Rattle.std.specs.List.{starts_with}
 use Rattle.xarm.specs.Parts.{parts}

@@ -1,5 +1,5 @@
 -- What a line of a script says.
-use Rattle.std.specs.Prelude.{ℕ, ◌==◌, Bool, true, false, List, [], ◌∷◌, Option, Some, None, if◌then◌else◌, option_and_then, bytes_eq, codes, unwrap_or}
+use Rattle.std.specs.Prelude.{ℕ, ◌==◌, Bool, true, List, [], ◌∷◌, Option, if◌then◌else◌, option_and_then, bytes_eq, codes, unwrap_or}
 use Rattle.std.specs.Option.{option_map}
 use Rattle.xarm.specs.Parts.{words}
 use Rattle.xarm.specs.Numbers.{number_of}

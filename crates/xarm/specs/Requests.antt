@@ -1,5 +1,5 @@
 -- What a session asks for, by the words behind its number.
-use Rattle.std.specs.Prelude.{◌≡◌, ℕ, ◌&&◌, ◌==◌, nat_le, Bool, List, [], ◌∷◌, length, Option, Some, None, IfSome, if◌then◌else◌, option_and_then, bytes_eq, codes, find}
+use Rattle.std.specs.Prelude.{◌≡◌, ℕ, ◌&&◌, nat_le, Bool, List, [], ◌∷◌, length, Option, Some, None, IfSome, if◌then◌else◌, option_and_then, bytes_eq, codes, find}
 use Rattle.std.specs.Option.{option_map}
 use Rattle.std.specs.List.{list_all}
 use Rattle.xarm.specs.Flags.{flags_of}

@@ -1,5 +1,5 @@
-use Rattle.std.proofs.Common.{◌≡◌, ◌<◌, arith}
-use Rattle.xarm.proofs.Digits.{fits_eight, more_digits}
+use Rattle.std.proofs.Common.{◌<◌, arith}
+use Rattle.xarm.proofs.Digits.{fits_eight}
 use Rattle.xarm.proofs.flags.read_bits.Goals as goal
 
 pub overflow_mul-bits : goal.overflow_mul-bits

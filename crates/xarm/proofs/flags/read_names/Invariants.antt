@@ -1,5 +1,5 @@
-use Rattle.std.proofs.Common.{◌≡◌, length, ◌+◌}
-use Rattle.std.specs.Option.{option_map, option_copied}
+use Rattle.std.proofs.Common.{◌≡◌, length}
+use Rattle.std.specs.Option.{option_copied}
 use Rattle.xarm.specs.Flags.{joined_from}
 use Rattle.xarm.specs.Parts.{parts, parts_behind}
 use Rattle.xarm.proofs.flags.read_names.Given as goal

@@ -1,5 +1,4 @@
-use Rattle.std.proofs.Common.{◌≡◌, ◌<◌, ◌≤◌, ap, arith, length, IfSome, List, Option, ℕ, vec_len, inl, inr}
-use Rattle.std.specs.Option.{option_map}
+use Rattle.std.proofs.Common.{◌≡◌, ap, arith, inl, inr}
 use Rattle.xarm.proofs.Scripts.{limit_read, whole_read}
 use Rattle.xarm.proofs.script.read_script.Goals as goal
 
