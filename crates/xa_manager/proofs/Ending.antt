@@ -137,13 +137,6 @@ gone_stands m m' s xid slot st f free c = record {
 
 -- Commit
 
-pub commit_unknown : (m : Kept) (flags : ℕ) (xid : Triple) → slot_at m xid ≡ None → Follows m (λ s. commit_by s flags xid) (plain XAER_NOTA) m
-commit_unknown m flags xid h = record {
-  answers = λ s st. let none = not_known m s xid st h in rw none refl;
-  stands = λ s st. let none = not_known m s xid st h in rw none st;
-  served = refl;
-}
-
 or_false : (b : Bool) → (b || false) ≡ b
 or_false true = refl
 or_false false = refl

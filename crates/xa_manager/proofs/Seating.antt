@@ -68,18 +68,6 @@ connected_stands m m' s st none c =
       };
     }
 
-pub connect_follows : (m m' : Kept) → connect_refusal (length m.seats) ≡ None → Connects m 1 m' → Follows m (λ s. connect_by s) (carrying (body.Number 1)) m'
-connect_follows m m' free c = record {
-  answers = λ s st.
-      let free' : connect_refusal (length s.sessions) ≡ None = rw (← st.connected) free in
-      let none : s.sessions ≡ [] = none_connected s.sessions free' in
-      rw free' (rw none refl);
-  stands = λ s st.
-      let free' : connect_refusal (length s.sessions) ≡ None = rw (← st.connected) free in
-      rw free' (connected_stands m m' s st (none_connected s.sessions free') c);
-  served = refl;
-}
-
 -- Open
 
 session_same : (n : ℕ) (f : Session → Session) (keeps : (x : Session) → (f x).number ≡ x.number) (ss : List Session) → session_of (change (λ x. x.number == n) f ss) n ≡ option_map f (session_of ss n)
@@ -268,13 +256,6 @@ start_follows m m' n xid free here c =
     }
 
 -- End
-
-pub end_unknown : (m : Kept) (n : ℕ) (xid : Triple) → slot_at m xid ≡ None → Follows m (λ s. end_by s n xid) (plain XAER_NOTA) m
-end_unknown m n xid h = record {
-  answers = λ s st. let none = not_known m s xid st h in rw none refl;
-  stands = λ s st. let none = not_known m s xid st h in rw none st;
-  served = refl;
-}
 
 holds_is : (m : Kept) (s : State) (n : ℕ) (xid : Triple) → StandsFor m s → can_end s.associations n xid ≡ is_with xid (active_at m n)
 holds_is m s n xid st = can_end_active n xid s.associations st.early.single ∙ ap (is_with xid) (sym (active_is m s n st))
