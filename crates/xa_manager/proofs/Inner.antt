@@ -33,7 +33,7 @@ use Rattle.xa_manager.specs.declared.slot.Slot.{Slot}
 use Rattle.xa_manager.specs.Kept.{Kept, slot_at, own_at}
 use Rattle.xa_manager.specs.Changes.{IsSameManager, Marks, Gets, Puts}
 use Rattle.xa_manager.specs.Stands.{StandsFor, IsEarly, Follows, Stays, slot_of, is_plain}
-use Rattle.xa_manager.proofs.Looks.{Finds, finds, mapped_none, own_slot, own_is, own_none}
+use Rattle.xa_manager.proofs.Looks.{Finds, finds, mapped_none, own_slot, own_is}
 
 -- a change of a branch that leaves its name, its phase and its timestamp
 pub record IsInner (f : Branch → Branch) : Type 0 where

@@ -33,7 +33,7 @@ use Rattle.xa_manager.specs.declared.slot.Slot.{Slot}
 use Rattle.xa_manager.specs.Kept.{Kept, slot_at, own_at}
 use Rattle.xa_manager.specs.Changes.{IsSameManager, Marks, Gets, Puts}
 use Rattle.xa_manager.specs.Stands.{StandsFor, IsEarly, Follows, Stays, slot_of, is_plain}
-use Rattle.xa_manager.proofs.Looks.{Finds, finds, mapped_none, own_slot, own_is, own_none}
+use Rattle.xa_manager.proofs.Looks.{Finds, finds, mapped_none, own_slot, own_is}
 use Rattle.xa_manager.proofs.Inner.{IsInner, inner_stands, same_slot, stays_by, own_mark, time_of, done_inner}
 
 pub put_marked : (m : Kept) (n : ℕ) (key : List ℕ) (value : Option (List ℕ)) (xid : Triple) (slot : Slot) (code : ℤ) → own_at m n ≡ Some (xid, slot) → slot.mark ≡ Some code

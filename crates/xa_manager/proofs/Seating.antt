@@ -1,4 +1,4 @@
--- A manager that stands for a state, after a session connects, opens, begins a branch, or ends its work.
+-- A manager that stands for a state, after a session opens, begins a branch, or ends its work.
 use Rattle.std.proofs.Common.{◌≡◌, ℕ, ℤ, pos, ◌+◌, ◌-◌, ◌==◌, not, Bool, true, false, cond, List, [], ◌∷◌, length, Option, Some, None, refl, ap, sym, ◌∙◌, subst, arith, rules}
 use Rattle.std.specs.Prelude.{option_map, is_some, IsSome, unwrap_or, nat_lt}
 use Rattle.std.specs.List.{list_any}
@@ -22,51 +22,6 @@ use Rattle.xa_manager.specs.Kept.{Kept, seat_at, slot_at, active_at}
 use Rattle.xa_manager.specs.Changes.{Connects, Opens, Begins, Ends, new_seat, opened_seat, working_seat, new_slot, left_slot}
 use Rattle.xa_manager.specs.Stands.{StandsFor, IsEarly, Follows, seat_of, slot_of, is_memory}
 use Rattle.xa_manager.proofs.Looks.{number_is, mapped_none, finds, not_known, active_is}
-
--- Connect
-
-abbrev connect_answer : Bool → Option Reply
-connect_answer b = first ((not b, detailed XAER_RMERR detail.Limit) ∷ [])
-
-full : (b : Bool) → b ≡ false → connect_answer b ≡ None → ⊥
-full true e h = cc e
-full false e h = cc h
-
-none_connected : (sessions : List Session) → connect_refusal (length sessions) ≡ None → sessions ≡ []
-none_connected [] h = refl
-none_connected (x ∷ xs) h = absurd (full (nat_lt (length (x ∷ xs)) 1) (grind (arith, nat_tests)) h)
-
-connected_seat : (held : List Association) (k : ℕ) (c : Bool) → (1 == k) ≡ c → active_of held k ≡ None
-    → cond c (Some new_seat) None ≡ option_map (seat_of held k) (cond c (Some (record { number = 1; opened = false; scan = None })) None)
-connected_seat held k true e none = rw none refl
-connected_seat held k false e none = refl
-
-pub connected_stands : (m m' : Kept) (s : State) → StandsFor m s → s.sessions ≡ [] → Connects m 1 m' → StandsFor m' (connected s).after
-connected_stands m m' s st none c =
-    let nobody : (k : ℕ) → session_of s.sessions k ≡ None = λ (k : ℕ). rw none refl in
-    let empty : (k : ℕ) → seat_at m k ≡ None = λ (k : ℕ). st.seats k ∙ ap (option_map (seat_of s.associations k)) (nobody k) in
-    let first_one : free_number s.sessions ≡ 1 = rw none refl in
-    record {
-      name = c.same.name ∙ st.name;
-      log_bytes = c.same.log_bytes ∙ st.log_bytes;
-      boot = c.same.boot ∙ st.boot;
-      given = c.given ∙ st.given;
-      seats = λ k.
-          c.seats k ∙ rw (number_is 1 k, empty k, first_one, nobody k) (connected_seat s.associations k (1 == k) refl (st.early.seated k (nobody k)));
-      connected = c.connected (empty 1) ∙ rw st.connected (omega arith);
-      slots = λ xid. rw c.slots (st.slots xid);
-      known = rw c.slots st.known;
-      records = rw c.records st.records;
-      early = record {
-        up = st.early.up;
-        orderly = record { descends = st.early.orderly.descends };
-        plain = st.early.plain;
-        unique = st.early.unique;
-        single = st.early.single;
-        seated = λ n h. st.early.seated n (nobody n);
-        bound = st.early.bound;
-      };
-    }
 
 -- Open
 
