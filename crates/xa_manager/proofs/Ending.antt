@@ -29,7 +29,7 @@ use Rattle.xa_manager.specs.declared.slot.Slot.{Slot}
 use Rattle.xa_manager.specs.Kept.{Kept, slot_at}
 use Rattle.xa_manager.specs.Changes.{Finishes}
 use Rattle.xa_manager.specs.Stands.{StandsFor, IsEarly, Follows, slot_of, is_plain}
-use Rattle.xa_manager.proofs.Looks.{Finds, finds, not_known}
+use Rattle.xa_manager.proofs.Looks.{Finds, finds}
 
 committed_ends : EndsKnown as_committed
 committed_ends = record { xid = λ b. refl; known = λ b. refl }

@@ -1,39 +1,30 @@
 -- A manager that stands for a state, after a put or a delete.
-use Rattle.std.proofs.Common.{◌≡◌, ◌≢◌, ℕ, ℤ, pos, ◌+◌, ◌&&◌, not, Bool, true, false, cond, List, ◌∷◌, length, map, Option, Some, None, refl, ap, sym, ◌∙◌, subst, arith}
-use Rattle.std.specs.Prelude.{option_map, is_some, nat_lt, nat_le}
+use Rattle.std.proofs.Common.{◌≡◌, ◌≢◌, ℕ, ℤ, pos, ◌+◌, ◌&&◌, not, Bool, true, false, List, ◌∷◌, map, Option, Some, None, refl, ap, sym, ◌∙◌, subst, arith}
+use Rattle.std.specs.Prelude.{is_some, nat_lt, nat_le}
 use Rattle.std.proofs.lemmas.Bool.Decides.{nat_tests}
-use Rattle.xa_codes.specs.declared.codes.TheConstants.{XAER_PROTO, XAER_INVAL, XA_RETRY, XA_RBTRANSIENT}
+use Rattle.xa_codes.specs.declared.codes.TheConstants.{XAER_INVAL, XA_RBTRANSIENT}
 use Rattle.xa_codes.specs.declared.detail.Detail.TheVariants as detail
 use Rattle.xa_xid.specs.Triple.{Triple, xid_eq}
-use Rattle.xa_xid.proofs.Same.{xid_same}
-use Rattle.xa_frame.specs.declared.body.Body.TheVariants as body
-use Rattle.mv_chain.specs.History.{Written, Answered, seen, has_open, is_late, IsUnsettled}
-use Rattle.mv_rules.specs.declared.answers.Got.{Got}
-use Rattle.mv_rules.specs.declared.answers.Got.TheVariants as got_as
+use Rattle.mv_chain.specs.History.{Written, has_open, is_late, IsUnsettled}
 use Rattle.mv_rules.specs.declared.answers.Put.{Put}
 use Rattle.mv_rules.specs.declared.answers.Put.TheVariants as put_as
-use Rattle.mv_rules.specs.History.{answer_by, answer_of, reads_after, open_keys, put_by, put_of, wrote}
+use Rattle.mv_rules.specs.History.{open_keys, put_by, put_of, wrote}
 use Rattle.mv_rules.specs.Records.{StandsFor as RecordsStandFor}
-use Rattle.mv_rules.specs.Ties.{history_of, writes_in, read_as, seen_as}
-use Rattle.mv_rules.proofs.Ties.{one_source, one_lateness}
+use Rattle.mv_rules.specs.Ties.{history_of, writes_in, read_as}
+use Rattle.mv_rules.proofs.Ties.{one_lateness}
 use Rattle.mv_rules.proofs.Moved.{stands_same}
 use Rattle.mv_rules.proofs.Branches.{unwritten, wrote_first}
 use Rattle.mv_rules.proofs.Open.{at_work, unsettled}
-use Rattle.xa_model.specs.State.{State, Branch, Operation, Got as Read_op, Wrote, Read, is_known, is_known_as, known_of, own_branch, change, timestamp_of}
-use Rattle.xa_model.specs.Source.{Version, write_of, written_keys, source, is_busy, is_late as is_late_among}
-use Rattle.xa_model.specs.Answer.{plain, detailed, carrying}
-use Rattle.xa_model.specs.Records.{having_done, value_body, busy_refusal, got, get_by, is_full, limit_refusal, as_transient, came_late, written, put_by as put_row}
-use Rattle.xa_model.proofs.Lists.{change_all}
+use Rattle.xa_model.specs.State.{State, Operation, Wrote, is_known_as, own_branch, change, timestamp_of}
+use Rattle.xa_model.specs.Source.{write_of, written_keys, is_late as is_late_among}
+use Rattle.xa_model.specs.Answer.{plain, detailed}
+use Rattle.xa_model.specs.Records.{having_done, is_full, limit_refusal, as_transient, came_late, written, put_by as put_row}
 use Rattle.xa_model.proofs.Xids.{cmp_is_eq}
-use Rattle.xa_model.proofs.Order.{KeepsTimestamp}
-use Rattle.xa_model.proofs.Names.{KeepsKnown, known_changed_other, known_changed_same}
-use Rattle.xa_model.proofs.Known.{unique_changed, known_count_changed}
-use Rattle.xa_model.proofs.Ordering.{changed_orderly}
 use Rattle.xa_manager.specs.declared.slot.Slot.{Slot}
 use Rattle.xa_manager.specs.Kept.{Kept, slot_at, own_at}
-use Rattle.xa_manager.specs.Changes.{IsSameManager, Marks, Gets, Puts}
-use Rattle.xa_manager.specs.Stands.{StandsFor, IsEarly, Follows, Stays, slot_of, is_plain}
-use Rattle.xa_manager.proofs.Looks.{Finds, finds, mapped_none, own_slot, own_is}
+use Rattle.xa_manager.specs.Changes.{Marks, Puts}
+use Rattle.xa_manager.specs.Stands.{StandsFor, Follows, Stays, slot_of}
+use Rattle.xa_manager.proofs.Looks.{Finds, finds, own_slot, own_is}
 use Rattle.xa_manager.proofs.Inner.{IsInner, inner_stands, same_slot, stays_by, own_mark, time_of, done_inner}
 
 pub put_marked : (m : Kept) (n : ℕ) (key : List ℕ) (value : Option (List ℕ)) (xid : Triple) (slot : Slot) (code : ℤ) → own_at m n ≡ Some (xid, slot) → slot.mark ≡ Some code

@@ -1,17 +1,16 @@
 -- A manager that stands for a state, after a session opens, begins a branch, or ends its work.
-use Rattle.std.proofs.Common.{◌≡◌, ℕ, ℤ, pos, ◌+◌, ◌-◌, ◌==◌, not, Bool, true, false, cond, List, [], ◌∷◌, length, Option, Some, None, refl, ap, sym, ◌∙◌, subst, arith, rules}
-use Rattle.std.specs.Prelude.{option_map, is_some, IsSome, unwrap_or, nat_lt}
+use Rattle.std.proofs.Common.{◌≡◌, ℕ, ℤ, pos, ◌+◌, ◌-◌, ◌==◌, Bool, true, false, cond, List, [], ◌∷◌, length, Option, Some, None, refl, ap, sym, ◌∙◌, subst, arith, rules}
+use Rattle.std.specs.Prelude.{option_map, is_some, IsSome, unwrap_or}
 use Rattle.std.specs.List.{list_any}
 use Rattle.std.proofs.lemmas.Bool.Decides.{nat_tests}
-use Rattle.xa_codes.specs.declared.codes.TheConstants.{XAER_PROTO, XAER_NOTA, XAER_RMERR}
-use Rattle.xa_codes.specs.declared.detail.Detail.TheVariants as detail
+use Rattle.xa_codes.specs.declared.codes.TheConstants.{XAER_PROTO}
 use Rattle.xa_xid.specs.Triple.{Triple, xid_eq}
 use Rattle.xa_xid.proofs.Same.{xid_same}
 use Rattle.xa_frame.specs.declared.body.Body.TheVariants as body
 use Rattle.xa_frame.specs.declared.reply.Reply.{Reply}
-use Rattle.xa_model.specs.State.{State, Branch, Working, Session, Association, Active, known_of, known_count, session_of, active_of, holders_of, owns, without, change, timestamp_of, free_number}
-use Rattle.xa_model.specs.Answer.{plain, detailed, carrying, ok, first, marked}
-use Rattle.xa_model.specs.Associations.{connect_refusal, connected, connect_by, as_opened, open_by, start_refusal, begun, start_by, can_end, ended, end_by, is_with}
+use Rattle.xa_model.specs.State.{State, Branch, Working, Session, Association, Active, known_of, known_count, session_of, active_of, holders_of, owns, without, change, timestamp_of}
+use Rattle.xa_model.specs.Answer.{plain, carrying, ok, marked}
+use Rattle.xa_model.specs.Associations.{as_opened, open_by, start_refusal, begun, start_by, can_end, ended, end_by, is_with}
 use Rattle.xa_model.specs.Laws.{IsSingle}
 use Rattle.xa_model.proofs.Lists.{find_change_same, find_change_other, length-change}
 use Rattle.xa_model.proofs.Xids.{cmp_is_eq}
@@ -19,7 +18,7 @@ use Rattle.xa_model.proofs.Ordering.{begun_orderly}
 use Rattle.xa_model.proofs.Held.{can_end_active, owns_active, without_active, single_left, ended_same, ended_other, holders_same, holders_other}
 use Rattle.xa_manager.specs.declared.slot.Slot.{Slot}
 use Rattle.xa_manager.specs.Kept.{Kept, seat_at, slot_at, active_at}
-use Rattle.xa_manager.specs.Changes.{Connects, Opens, Begins, Ends, new_seat, opened_seat, working_seat, new_slot, left_slot}
+use Rattle.xa_manager.specs.Changes.{Opens, Begins, Ends, opened_seat, working_seat, new_slot, left_slot}
 use Rattle.xa_manager.specs.Stands.{StandsFor, IsEarly, Follows, seat_of, slot_of, is_memory}
 use Rattle.xa_manager.proofs.Looks.{number_is, mapped_none, finds, not_known, active_is}
 
