@@ -51,6 +51,3 @@ goes_on m mid m' es rs event reply false same ed all one s st =
 pub answers_more : (m mid m' : Kept) (es : List Event) (rs : List Reply) (event : Event) (reply : Reply) → length es ≡ length rs
     → AnswersAll m es rs mid → Answered mid event reply m' → AnswersAll m (es ++ event ∷ []) (rs ++ reply ∷ []) m'
 answers_more m mid m' es rs event reply same all one = goes_on m mid m' es rs event reply (is_memory reply.detail) same refl all one
-
-pub answers_none : (m : Kept) → AnswersAll m [] [] m
-answers_none m s st = (s, refl, st)

@@ -29,7 +29,7 @@ use Rattle.xa_manager.specs.declared.slot.Slot.{Slot}
 use Rattle.xa_manager.specs.Kept.{Kept, slot_at}
 use Rattle.xa_manager.specs.Changes.{Finishes}
 use Rattle.xa_manager.specs.Stands.{StandsFor, IsEarly, Follows, slot_of, is_plain}
-use Rattle.xa_manager.proofs.Looks.{Finds, finds, not_known}
+use Rattle.xa_manager.proofs.Looks.{Finds, finds}
 
 committed_ends : EndsKnown as_committed
 committed_ends = record { xid = λ b. refl; known = λ b. refl }
@@ -136,13 +136,6 @@ gone_stands m m' s xid slot st f free c = record {
 }
 
 -- Commit
-
-pub commit_unknown : (m : Kept) (flags : ℕ) (xid : Triple) → slot_at m xid ≡ None → Follows m (λ s. commit_by s flags xid) (plain XAER_NOTA) m
-commit_unknown m flags xid h = record {
-  answers = λ s st. let none = not_known m s xid st h in rw none refl;
-  stands = λ s st. let none = not_known m s xid st h in rw none st;
-  served = refl;
-}
 
 or_false : (b : Bool) → (b || false) ≡ b
 or_false true = refl

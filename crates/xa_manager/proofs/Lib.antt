@@ -1,6 +1,8 @@
 pub mod Looks
 pub mod Seating
 pub mod Ending
-pub mod Recording
+pub mod Inner
+pub mod Getting
+pub mod Putting
 pub mod Calling
 pub mod Driving

@@ -80,10 +80,3 @@ own_slot m n xid slot h = own_by m xid slot (active_at m n) h
 pub own_is : (m : Kept) (s : State) (n : ℕ) (xid : Triple) (slot : Slot) → StandsFor m s → own_at m n ≡ Some (xid, slot) → (f : Finds s xid slot) → own_branch s n ≡ Some f.branch
 own_is m s n xid slot st h f =
     let active : active_of s.associations n ≡ Some xid = sym (active_is m s n st) ∙ (own_slot m n xid slot h).0 in rw active f.at
-
-none_by : (m : Kept) (s : State) (o : Option Triple) → StandsFor m s → option_and_then (with_slot m) o ≡ None → option_and_then (known_of s.branches) o ≡ None
-none_by m s None st h = refl
-none_by m s (Some x) st h = not_known m s x st (mapped_none (λ (y : Slot). (x, y)) (slot_at m x) h)
-
-pub own_none : (m : Kept) (s : State) (n : ℕ) → StandsFor m s → own_at m n ≡ None → own_branch s n ≡ None
-own_none m s n st h = rw (← active_is m s n st) (none_by m s (active_at m n) st h)

@@ -1,17 +1,16 @@
--- A manager that stands for a state, after a session connects, opens, begins a branch, or ends its work.
-use Rattle.std.proofs.Common.{◌≡◌, ℕ, ℤ, pos, ◌+◌, ◌-◌, ◌==◌, not, Bool, true, false, cond, List, [], ◌∷◌, length, Option, Some, None, refl, ap, sym, ◌∙◌, subst, arith, rules}
-use Rattle.std.specs.Prelude.{option_map, is_some, IsSome, unwrap_or, nat_lt}
+-- A manager that stands for a state, after a session opens, begins a branch, or ends its work.
+use Rattle.std.proofs.Common.{◌≡◌, ℕ, ℤ, pos, ◌+◌, ◌-◌, ◌==◌, Bool, true, false, cond, List, [], ◌∷◌, length, Option, Some, None, refl, ap, sym, ◌∙◌, subst, arith, rules}
+use Rattle.std.specs.Prelude.{option_map, is_some, IsSome, unwrap_or}
 use Rattle.std.specs.List.{list_any}
 use Rattle.std.proofs.lemmas.Bool.Decides.{nat_tests}
-use Rattle.xa_codes.specs.declared.codes.TheConstants.{XAER_PROTO, XAER_NOTA, XAER_RMERR}
-use Rattle.xa_codes.specs.declared.detail.Detail.TheVariants as detail
+use Rattle.xa_codes.specs.declared.codes.TheConstants.{XAER_PROTO}
 use Rattle.xa_xid.specs.Triple.{Triple, xid_eq}
 use Rattle.xa_xid.proofs.Same.{xid_same}
 use Rattle.xa_frame.specs.declared.body.Body.TheVariants as body
 use Rattle.xa_frame.specs.declared.reply.Reply.{Reply}
-use Rattle.xa_model.specs.State.{State, Branch, Working, Session, Association, Active, known_of, known_count, session_of, active_of, holders_of, owns, without, change, timestamp_of, free_number}
-use Rattle.xa_model.specs.Answer.{plain, detailed, carrying, ok, first, marked}
-use Rattle.xa_model.specs.Associations.{connect_refusal, connected, connect_by, as_opened, open_by, start_refusal, begun, start_by, can_end, ended, end_by, is_with}
+use Rattle.xa_model.specs.State.{State, Branch, Working, Session, Association, Active, known_of, known_count, session_of, active_of, holders_of, owns, without, change, timestamp_of}
+use Rattle.xa_model.specs.Answer.{plain, carrying, ok, marked}
+use Rattle.xa_model.specs.Associations.{as_opened, open_by, start_refusal, begun, start_by, can_end, ended, end_by, is_with}
 use Rattle.xa_model.specs.Laws.{IsSingle}
 use Rattle.xa_model.proofs.Lists.{find_change_same, find_change_other, length-change}
 use Rattle.xa_model.proofs.Xids.{cmp_is_eq}
@@ -19,66 +18,9 @@ use Rattle.xa_model.proofs.Ordering.{begun_orderly}
 use Rattle.xa_model.proofs.Held.{can_end_active, owns_active, without_active, single_left, ended_same, ended_other, holders_same, holders_other}
 use Rattle.xa_manager.specs.declared.slot.Slot.{Slot}
 use Rattle.xa_manager.specs.Kept.{Kept, seat_at, slot_at, active_at}
-use Rattle.xa_manager.specs.Changes.{Connects, Opens, Begins, Ends, new_seat, opened_seat, working_seat, new_slot, left_slot}
+use Rattle.xa_manager.specs.Changes.{Opens, Begins, Ends, opened_seat, working_seat, new_slot, left_slot}
 use Rattle.xa_manager.specs.Stands.{StandsFor, IsEarly, Follows, seat_of, slot_of, is_memory}
 use Rattle.xa_manager.proofs.Looks.{number_is, mapped_none, finds, not_known, active_is}
-
--- Connect
-
-abbrev connect_answer : Bool → Option Reply
-connect_answer b = first ((not b, detailed XAER_RMERR detail.Limit) ∷ [])
-
-full : (b : Bool) → b ≡ false → connect_answer b ≡ None → ⊥
-full true e h = cc e
-full false e h = cc h
-
-none_connected : (sessions : List Session) → connect_refusal (length sessions) ≡ None → sessions ≡ []
-none_connected [] h = refl
-none_connected (x ∷ xs) h = absurd (full (nat_lt (length (x ∷ xs)) 1) (grind (arith, nat_tests)) h)
-
-connected_seat : (held : List Association) (k : ℕ) (c : Bool) → (1 == k) ≡ c → active_of held k ≡ None
-    → cond c (Some new_seat) None ≡ option_map (seat_of held k) (cond c (Some (record { number = 1; opened = false; scan = None })) None)
-connected_seat held k true e none = rw none refl
-connected_seat held k false e none = refl
-
-pub connected_stands : (m m' : Kept) (s : State) → StandsFor m s → s.sessions ≡ [] → Connects m 1 m' → StandsFor m' (connected s).after
-connected_stands m m' s st none c =
-    let nobody : (k : ℕ) → session_of s.sessions k ≡ None = λ (k : ℕ). rw none refl in
-    let empty : (k : ℕ) → seat_at m k ≡ None = λ (k : ℕ). st.seats k ∙ ap (option_map (seat_of s.associations k)) (nobody k) in
-    let first_one : free_number s.sessions ≡ 1 = rw none refl in
-    record {
-      name = c.same.name ∙ st.name;
-      log_bytes = c.same.log_bytes ∙ st.log_bytes;
-      boot = c.same.boot ∙ st.boot;
-      given = c.given ∙ st.given;
-      seats = λ k.
-          c.seats k ∙ rw (number_is 1 k, empty k, first_one, nobody k) (connected_seat s.associations k (1 == k) refl (st.early.seated k (nobody k)));
-      connected = c.connected (empty 1) ∙ rw st.connected (omega arith);
-      slots = λ xid. rw c.slots (st.slots xid);
-      known = rw c.slots st.known;
-      records = rw c.records st.records;
-      early = record {
-        up = st.early.up;
-        orderly = record { descends = st.early.orderly.descends };
-        plain = st.early.plain;
-        unique = st.early.unique;
-        single = st.early.single;
-        seated = λ n h. st.early.seated n (nobody n);
-        bound = st.early.bound;
-      };
-    }
-
-pub connect_follows : (m m' : Kept) → connect_refusal (length m.seats) ≡ None → Connects m 1 m' → Follows m (λ s. connect_by s) (carrying (body.Number 1)) m'
-connect_follows m m' free c = record {
-  answers = λ s st.
-      let free' : connect_refusal (length s.sessions) ≡ None = rw (← st.connected) free in
-      let none : s.sessions ≡ [] = none_connected s.sessions free' in
-      rw free' (rw none refl);
-  stands = λ s st.
-      let free' : connect_refusal (length s.sessions) ≡ None = rw (← st.connected) free in
-      rw free' (connected_stands m m' s st (none_connected s.sessions free') c);
-  served = refl;
-}
 
 -- Open
 
@@ -268,13 +210,6 @@ start_follows m m' n xid free here c =
     }
 
 -- End
-
-pub end_unknown : (m : Kept) (n : ℕ) (xid : Triple) → slot_at m xid ≡ None → Follows m (λ s. end_by s n xid) (plain XAER_NOTA) m
-end_unknown m n xid h = record {
-  answers = λ s st. let none = not_known m s xid st h in rw none refl;
-  stands = λ s st. let none = not_known m s xid st h in rw none st;
-  served = refl;
-}
 
 holds_is : (m : Kept) (s : State) (n : ℕ) (xid : Triple) → StandsFor m s → can_end s.associations n xid ≡ is_with xid (active_at m n)
 holds_is m s n xid st = can_end_active n xid s.associations st.early.single ∙ ap (is_with xid) (sym (active_is m s n st))

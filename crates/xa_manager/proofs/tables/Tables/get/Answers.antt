@@ -1,6 +1,6 @@
 use Rattle.std.proofs.Common.{◌≡◌, Some, None, arith, rules}
 use Rattle.xa_manager.specs.Kept.{kept_of, own_at}
-use Rattle.xa_manager.proofs.Recording.{get_value, get_absent, get_busy}
+use Rattle.xa_manager.proofs.Getting.{get_value, get_absent, get_busy}
 use Rattle.xa_manager.proofs.tables.Tables.get.Goals as goal
 
 pub returns-in-Value-clause-ok : goal.returns-in-Value-clause-ok

@@ -2,7 +2,7 @@ use Rattle.std.proofs.Common.{◌≡◌, Some, None, arith, rules}
 use Rattle.xa_model.specs.Answer.{plain}
 use Rattle.xa_manager.specs.Kept.{kept_of, own_at}
 use Rattle.xa_manager.specs.Changes.{items_of}
-use Rattle.xa_manager.proofs.Recording.{put_marked, put_full, put_late, put_follows, put_stays}
+use Rattle.xa_manager.proofs.Putting.{put_marked, put_full, put_late, put_follows, put_stays}
 use Rattle.xa_manager.proofs.tables.Tables.put.Goals as goal
 
 pub returns-in-Some-mark-clause-ok : goal.returns-in-Some-mark-clause-ok

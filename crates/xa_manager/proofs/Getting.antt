@@ -1,0 +1,142 @@
+-- A manager that stands for a state, after a get.
+use Rattle.std.proofs.Common.{◌≡◌, ◌≢◌, ℕ, ◌+◌, Bool, true, false, List, ◌∷◌, map, Option, Some, None, refl, ap, sym, ◌∙◌, subst, arith}
+use Rattle.xa_codes.specs.declared.codes.TheConstants.{XA_RETRY}
+use Rattle.xa_codes.specs.declared.detail.Detail.TheVariants as detail
+use Rattle.xa_xid.specs.Triple.{Triple, xid_eq}
+use Rattle.xa_frame.specs.declared.body.Body.TheVariants as body
+use Rattle.mv_chain.specs.History.{Written, Answered, seen}
+use Rattle.mv_rules.specs.declared.answers.Got.{Got}
+use Rattle.mv_rules.specs.declared.answers.Got.TheVariants as got_as
+use Rattle.mv_rules.specs.History.{answer_by, answer_of, reads_after}
+use Rattle.mv_rules.specs.Records.{StandsFor as RecordsStandFor}
+use Rattle.mv_rules.specs.Ties.{history_of, writes_in, read_as, seen_as}
+use Rattle.mv_rules.proofs.Ties.{one_source}
+use Rattle.mv_rules.proofs.Branches.{unwritten}
+use Rattle.xa_model.specs.State.{State, Operation, Got as Read_op, Read, is_known_as, own_branch, change, timestamp_of}
+use Rattle.xa_model.specs.Source.{Version, source, is_busy}
+use Rattle.xa_model.specs.Answer.{detailed, carrying}
+use Rattle.xa_model.specs.Records.{having_done, value_body, busy_refusal, got, get_by}
+use Rattle.xa_manager.specs.declared.slot.Slot.{Slot}
+use Rattle.xa_manager.specs.Kept.{Kept, slot_at, own_at}
+use Rattle.xa_manager.specs.Changes.{Gets}
+use Rattle.xa_manager.specs.Stands.{StandsFor, Follows}
+use Rattle.xa_manager.proofs.Looks.{Finds, finds, own_slot, own_is}
+use Rattle.xa_manager.proofs.Inner.{inner_stands, same_slot, stays_by, own_mark, time_of, done_inner}
+
+-- what the records see is the source
+sees : (m : Kept) (s : State) (key : List ℕ) (t : ℕ) → StandsFor m s → seen key t (writes_in s.branches) ≡ seen_as (source key t s.branches)
+sees m s key t st = one_source key t (timestamp_of s.boot s.given + 1) s.branches st.early.orderly.descends
+
+answered : (m m' : Kept) (s : State) (xid : Triple) (slot : Slot) (key : List ℕ) (g : Got) → StandsFor m s → (x : Finds s xid slot) → Gets m slot.timestamp key g m' → g ≢ got_as.Memory
+    → g ≡ answer_by (is_busy x.branch.timestamp (source key x.branch.timestamp s.branches)) (source key x.branch.timestamp s.branches).timestamp (source key x.branch.timestamp s.branches).value
+answered m m' s xid slot key g st x c some =
+    c.answer (history_of s) st.records (omega arith) some
+    ∙ ap (answer_of slot.timestamp) (sees m s key slot.timestamp st)
+    ∙ ap (λ (t : ℕ). answer_of t (seen_as (source key t s.branches))) (time_of s xid slot x)
+
+abbrev from_or : ℕ → Got → ℕ
+from_or n (got_as.Value v) = n
+from_or n got_as.Absent = n
+from_or n (got_as.Busy by) = n
+from_or n got_as.Memory = n
+
+value_of : (b : Bool) (from : ℕ) (o : Option (List ℕ)) (v : List ℕ) → got_as.Value v ≡ answer_by b from o → (b ≡ false) × (o ≡ Some v)
+value_of true from o v h = absurd (cc h)
+value_of false from None v h = absurd (cc h)
+value_of false from (Some w) v h = let same : v ≡ w = cc h in (refl, ap Some (sym same))
+
+absent_of : (b : Bool) (from : ℕ) (o : Option (List ℕ)) → got_as.Absent ≡ answer_by b from o → (b ≡ false) × (o ≡ None)
+absent_of true from o h = absurd (cc h)
+absent_of false from None h = (refl, refl)
+absent_of false from (Some w) h = absurd (cc h)
+
+busy_of : (b : Bool) (from by : ℕ) (o : Option (List ℕ)) → got_as.Busy by ≡ answer_by b from o → b ≡ true
+busy_of true from by o h = refl
+busy_of false from by None h = absurd (cc h)
+busy_of false from by (Some w) h = absurd (cc h)
+
+busy_refuses : (t : ℕ) (v : Version) → is_busy t v ≡ true → busy_refusal t v ≡ Some (detailed XA_RETRY detail.Busy)
+busy_refuses t v h = rw h refl
+
+busy_passes : (t : ℕ) (v : Version) → is_busy t v ≡ false → busy_refusal t v ≡ None
+busy_passes t v h = rw h refl
+
+busy_stands : (m m' : Kept) (s : State) (slot : Slot) (key : List ℕ) (by : ℕ) → StandsFor m s → Gets m slot.timestamp key (got_as.Busy by) m' → StandsFor m' s
+busy_stands m m' s slot key by st c = stays_by m m' s st c.same c.given c.seats c.slots (c.records (history_of s) st.records (omega arith))
+
+pub get_busy : (m m' : Kept) (n : ℕ) (key : List ℕ) (xid : Triple) (slot : Slot) (by : ℕ) → own_at m n ≡ Some (xid, slot) → slot.mark ≡ None → Gets m slot.timestamp key (got_as.Busy by) m'
+    → Follows m (λ s. get_by s key (own_branch s n)) (detailed XA_RETRY detail.Busy) m'
+get_busy m m' n key xid slot by h e c = record {
+  answers = λ s st.
+      let x = finds m s xid slot st (own_slot m n xid slot h).1 in
+      let own = own_is m s n xid slot st h x in
+      let mark = own_mark s xid slot None x e in
+      let v = source key x.branch.timestamp s.branches in
+      let busy = busy_of (is_busy x.branch.timestamp v) v.timestamp by v.value (answered m m' s xid slot key (got_as.Busy by) st x c (λ q. cc q)) in
+      let refuses = busy_refuses x.branch.timestamp v busy in rw (own, mark, refuses) refl;
+  stands = λ s st.
+      let x = finds m s xid slot st (own_slot m n xid slot h).1 in
+      let own = own_is m s n xid slot st h x in
+      let mark = own_mark s xid slot None x e in
+      let v = source key x.branch.timestamp s.branches in
+      let busy = busy_of (is_busy x.branch.timestamp v) v.timestamp by v.value (answered m m' s xid slot key (got_as.Busy by) st x c (λ q. cc q)) in
+      let refuses = busy_refuses x.branch.timestamp v busy in rw (own, mark, refuses) (busy_stands m m' s slot key by st c);
+  served = refl;
+}
+
+-- an answered read is added to the reads
+abbrev IsAnswered : Got → Type 0
+IsAnswered g = (t from : ℕ) (key : List ℕ) (reads : List Answered) → reads_after g t key from reads ≡ record { reader = t; key = key; from = from } ∷ reads
+
+got_stands : (m m' : Kept) (s : State) (xid : Triple) (slot : Slot) (key : List ℕ) (g : Got) → StandsFor m s → slot_at m xid ≡ Some slot → (x : Finds s xid slot) → Gets m slot.timestamp key g m' → IsAnswered g
+    → StandsFor m' (got s key x.branch (source key x.branch.timestamp s.branches)).after
+got_stands m m' s xid slot key g st h x c is =
+    let b = x.branch in
+    let v = source key b.timestamp s.branches in
+    let op : Operation = Read_op key v.value v.timestamp in
+    let reads : List Read = record { reader = b.timestamp; key = key; source = v.timestamp } ∷ s.reads in
+    let time = time_of s xid slot x in
+    let noted : RecordsStandFor (record { low = 0; writes = writes_in s.branches; reads = reads_after g slot.timestamp key (seen key slot.timestamp (writes_in s.branches)).from (map read_as s.reads) }) m'.records =
+    c.records (history_of s) st.records (omega arith) in
+    let added : reads_after g slot.timestamp key (seen key slot.timestamp (writes_in s.branches)).from (map read_as s.reads) ≡ map read_as reads =
+    is slot.timestamp (seen key slot.timestamp (writes_in s.branches)).from key (map read_as s.reads)
+    ∙ ap (λ (t : ℕ). record { reader = t; key = key; from = (seen key t (writes_in s.branches)).from } ∷ map read_as s.reads) time
+    ∙ ap (λ (y : ℕ). record { reader = b.timestamp; key = key; from = y } ∷ map read_as s.reads) (ap (λ y. y.from) (sees m s key b.timestamp st)) in
+    let moved : RecordsStandFor (record { low = 0; writes = writes_in s.branches; reads = map read_as reads }) m'.records =
+    subst (λ (rs : List Answered). RecordsStandFor (record { low = 0; writes = writes_in s.branches; reads = rs }) m'.records) added noted in
+    let same : writes_in (change (is_known_as xid) (having_done op) s.branches) ≡ writes_in s.branches = unwritten (is_known_as xid) (having_done op) (λ y. refl) s.branches in
+    let records : RecordsStandFor (record { low = 0; writes = writes_in (change (is_known_as xid) (having_done op) s.branches); reads = map read_as reads }) m'.records =
+    subst (λ (ws : List Written). RecordsStandFor (record { low = 0; writes = ws; reads = map read_as reads }) m'.records) (sym same) moved in
+    let after : StandsFor m' (record s { branches = change (is_known_as xid) (having_done op) s.branches; reads = reads }) =
+    inner_stands m m' s (having_done op) xid reads slot slot (done_inner op) st x x.is c.same c.given c.seats (λ q. rw c.slots (same_slot m xid q slot (xid_eq xid q) h refl)) (rw c.slots refl) records in
+    subst (λ (q : Triple). StandsFor m' (record s { branches = change (is_known_as q) (having_done op) s.branches; reads = reads })) (sym x.xid_is) after
+
+pub get_follows : (m m' : Kept) (n : ℕ) (key : List ℕ) (xid : Triple) (slot : Slot) (g : Got) (o : Option (List ℕ)) → own_at m n ≡ Some (xid, slot) → slot.mark ≡ None → Gets m slot.timestamp key g m' → IsAnswered g → g ≢ got_as.Memory
+    → ((b : Bool) (from : ℕ) (w : Option (List ℕ)) → g ≡ answer_by b from w → (b ≡ false) × (w ≡ o))
+    → Follows m (λ s. get_by s key (own_branch s n)) (carrying (value_body o)) m'
+get_follows m m' n key xid slot g o h e c is some says = record {
+  answers = λ s st.
+      let x = finds m s xid slot st (own_slot m n xid slot h).1 in
+      let own = own_is m s n xid slot st h x in
+      let mark = own_mark s xid slot None x e in
+      let v = source key x.branch.timestamp s.branches in
+      let both = says (is_busy x.branch.timestamp v) v.timestamp v.value (answered m m' s xid slot key g st x c some) in
+      let through = busy_passes x.branch.timestamp v both.0 in rw (own, mark, through) (ap (λ (w : Option (List ℕ)). carrying (value_body w)) both.1);
+  stands = λ s st.
+      let x = finds m s xid slot st (own_slot m n xid slot h).1 in
+      let own = own_is m s n xid slot st h x in
+      let mark = own_mark s xid slot None x e in
+      let v = source key x.branch.timestamp s.branches in
+      let both = says (is_busy x.branch.timestamp v) v.timestamp v.value (answered m m' s xid slot key g st x c some) in
+      let through = busy_passes x.branch.timestamp v both.0 in rw (own, mark, through) (got_stands m m' s xid slot key g st (own_slot m n xid slot h).1 x c is);
+  served = refl;
+}
+
+pub get_value : (m m' : Kept) (n : ℕ) (key : List ℕ) (xid : Triple) (slot : Slot) (value : List ℕ) → own_at m n ≡ Some (xid, slot) → slot.mark ≡ None → Gets m slot.timestamp key (got_as.Value value) m'
+    → Follows m (λ s. get_by s key (own_branch s n)) (carrying (body.Value value)) m'
+get_value m m' n key xid slot value h e c =
+    get_follows m m' n key xid slot (got_as.Value value) (Some value) h e c (λ t from k reads. refl) (λ q. cc q) (λ b from w q. value_of b from w value q)
+
+pub get_absent : (m m' : Kept) (n : ℕ) (key : List ℕ) (xid : Triple) (slot : Slot) → own_at m n ≡ Some (xid, slot) → slot.mark ≡ None → Gets m slot.timestamp key got_as.Absent m'
+    → Follows m (λ s. get_by s key (own_branch s n)) (carrying body.Absent) m'
+get_absent m m' n key xid slot h e c = get_follows m m' n key xid slot got_as.Absent None h e c (λ t from k reads. refl) (λ q. cc q) (λ b from w q. absent_of b from w q)
