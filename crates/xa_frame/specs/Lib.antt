@@ -1,1 +1,6 @@
 pub mod Limits
+pub mod Spelling
+pub mod Faults
+pub mod Reading
+pub mod Answers
+pub mod Rows

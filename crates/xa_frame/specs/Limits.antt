@@ -1,9 +1,11 @@
 -- Which requests and replies some frame spells: those within the limits.
-use Rattle.std.specs.Prelude.{ℕ, ◌≤◌, List, length}
+use Rattle.std.specs.Prelude.{ℕ, ◌<◌, ◌≤◌, ◌^◌, List, length, All, FitsSigned}
+use Rattle.std.specs.Int.{w32}
+use Rattle.xa_xid.specs.Triple.{IsWithinLimits}
 use Rattle.xa_frame.specs.declared.request.Request.{Request}
-use Rattle.xa_frame.specs.declared.request.Request.TheVariants.{Open, Get, Put, Delete}
+use Rattle.xa_frame.specs.declared.request.Request.TheVariants.{Open, Close, Start, End, Prepare, Commit, Rollback, Forget, Recover, Get, Put, Delete, Decide, Doom, Restart}
 use Rattle.xa_frame.specs.declared.body.Body.{Body}
-use Rattle.xa_frame.specs.declared.body.Body.TheVariants.{Value, Xids}
+use Rattle.xa_frame.specs.declared.body.Body.TheVariants.{Number, Value, Xids}
 use Rattle.xa_frame.specs.declared.reply.Reply.{Reply}
 
 abbrev pub IsKey : List ℕ → Type 0
@@ -29,3 +31,29 @@ IsBody _ = Unit {0}
 
 abbrev pub IsReply : Reply → Type 0
 IsReply reply = IsBody reply.body
+
+-- what the types of a program hold anyway: numbers of so many bits, and XIDs
+
+abbrev pub Holds : Request → Type 0
+Holds (Open flags info) = flags < 2 ^ 32
+Holds (Close flags) = flags < 2 ^ 32
+Holds (Start flags xid) = (flags < 2 ^ 32) × IsWithinLimits xid
+Holds (End flags xid) = (flags < 2 ^ 32) × IsWithinLimits xid
+Holds (Prepare flags xid) = (flags < 2 ^ 32) × IsWithinLimits xid
+Holds (Commit flags xid) = (flags < 2 ^ 32) × IsWithinLimits xid
+Holds (Rollback flags xid) = (flags < 2 ^ 32) × IsWithinLimits xid
+Holds (Forget flags xid) = (flags < 2 ^ 32) × IsWithinLimits xid
+Holds (Recover flags count) = (flags < 2 ^ 32) × (count < 2 ^ 32)
+Holds (Decide direction xid) = IsWithinLimits xid
+Holds (Doom xid) = IsWithinLimits xid
+Holds _ = Unit {0}
+
+abbrev pub HoldsBody : Body → Type 0
+HoldsBody (Number number) = number < 2 ^ 64
+HoldsBody (Xids xids) = All IsWithinLimits xids
+HoldsBody _ = Unit {0}
+
+pub record HoldsReply (reply : Reply) : Type 0 where
+  pub code : FitsSigned w32 reply.code
+  pub place : reply.place < 2 ^ 64
+  pub body : HoldsBody reply.body

@@ -1,0 +1,183 @@
+-- What is read is a reply's content, a reply's content is read again, and which fault the others have.
+use Rattle.std.proofs.Common.{◌≡◌, ℕ, ◌+◌, ◌*◌, ◌<◌, ◌≤◌, ◌^◌, Bool, true, false, cond, eqb, List, [], ◌∷◌, ◌++◌, length, All, Option, Some, None, Result, Ok, Err, refl, sym, ap, subst, ◌∙◌, append_assoc, arith}
+use Rattle.std.specs.Int.{w16, w32, w64, to_be_bytes}
+use Rattle.std.specs.Prelude.{ℤ, FitsSigned}
+use Rattle.std.specs.List.{flat_map, AllByRecursion}
+use Rattle.std.proofs.lemmas.List.{length-append}
+use Rattle.std.proofs.lemmas.List.Concat.{flat_map-cons}
+use Rattle.std.proofs.lemmas.List.Elements.{All-from_recursion, recursion_from_All}
+use Rattle.xa_codes.specs.declared.detail.Detail.{Detail}
+use Rattle.xa_xid.specs.Triple.{Triple, IsWithinLimits}
+use Rattle.xa_xid.specs.Spelling.{bytes_of}
+use Rattle.xa_frame.specs.declared.fault.FrameFault.{FrameFault}
+use Rattle.xa_frame.specs.declared.fault.FrameFault.TheVariants.{Field}
+use Rattle.xa_frame.specs.declared.body.Body.{Body}
+use Rattle.xa_frame.specs.declared.body.Body.TheVariants as body
+use Rattle.xa_frame.specs.declared.reply.Reply.{Reply}
+use Rattle.xa_frame.specs.Limits.{IsBody, IsReply, HoldsBody, HoldsReply}
+use Rattle.xa_frame.specs.Spelling.{value_bytes, xids_bytes, detail_bytes, body_bytes, bytes_of_reply, SpellsReply}
+use Rattle.xa_frame.specs.Faults.{After, after_bytes, after_value, after_detail, after_xids, after_body, go_on, fault_in, fault_of_reply}
+use Rattle.xa_frame.specs.Reading.{◌>>=◌, Reads, ended, one_of, made, number_at, value_at, xids_at, code_at, detail_at, body_at, answer_at, versioned_at, reply_at}
+use Rattle.xa_frame.proofs.Digits.{IsBytes, IsBytes-rest, bind_ok, ok_is, Takes, Takes-then}
+use Rattle.xa_frame.proofs.Readers.{IsField, number64, value, xids, AreNames, code, code_bytes, about, eqb_true}
+use Rattle.xa_frame.proofs.Whole.{fault_of, ended_is, ended_fault, step_fault, one_takes, one_again, one_fault, made_ok, made_fault}
+use Rattle.xa_frame.proofs.Requests.{versioned_is, versioned_again, versioned_fault, name_short}
+
+record IsBodyOf (bytes : List ℕ) (b : Body) : Type 0 where
+  limits : IsBody b
+  holds : HoldsBody b
+  bytes_are : bytes ≡ body_bytes b
+
+moved : (k n : ℕ) (text rest : List ℕ) (x b : Body) → IsBodyOf (k ∷ text) x → n ≡ k → rest ≡ text → x ≡ b → IsBodyOf (n ∷ rest) b
+moved k n text rest x b h is e same =
+    let whole : n ∷ rest ≡ k ∷ text = cc (is, e) in
+    subst (λ (y : Body). IsBodyOf (n ∷ rest) y) same (record { limits = h.limits; holds = h.holds; bytes_are = whole ∙ h.bytes_are })
+
+of_kind : {A : Type 0} {at : Reads A} {spell : A → List ℕ} {fits : A → Type 0} {after : After} (F : IsField A at spell fits after) (mk : A → Body) (k n : ℕ)
+    → ((x : A) → fits x → IsBodyOf (k ∷ spell x) (mk x)) → (rest : List ℕ) (b : Body) → n ≡ k → IsBytes rest → made mk (one_of at rest) ≡ Ok b → IsBodyOf (n ∷ rest) b
+of_kind {A} {at = at} {spell = spell} F mk k n h rest b is small e =
+    let m = made_ok mk (one_of at rest) b e in
+    let t = one_takes F rest m.0 small m.1 in
+    moved k n (spell m.0) rest (mk m.0) b (h m.0 t.1) is t.0 m.2
+
+names_body : (xs : List Triple) → AreNames xs → IsBodyOf (4 ∷ xids_bytes xs) (body.Xids xs)
+names_body xs h = record { limits = h.few; holds = All-from_recursion IsWithinLimits xs h.each; bytes_are = refl }
+
+body_tested : (n : ℕ) (a b c d e : Bool) (rest : List ℕ) (r : Body) → eqb n 0 ≡ a → eqb n 1 ≡ b → eqb n 2 ≡ c → eqb n 3 ≡ d → eqb n 4 ≡ e → IsBytes rest
+    → cond a (ended body.Nothing rest) (cond b (made (λ x. body.Number x) (one_of (number_at w64) rest)) (cond c (made (λ x. body.Value x) (one_of value_at rest))
+    (cond d (ended body.Absent rest) (cond e (made (λ x. body.Xids x) (one_of xids_at rest)) (Err Field))))) ≡ Ok r → IsBodyOf (n ∷ rest) r
+body_tested n true b c d e rest r h0 h1 h2 h3 h4 small g =
+    let p = ended_is body.Nothing r rest g in
+    moved 0 n [] rest body.Nothing r (record { limits = tt; holds = tt; bytes_are = refl }) (eqb_true n 0 h0) p.0 p.1
+body_tested n false true c d e rest r h0 h1 h2 h3 h4 small g =
+    of_kind number64 (λ x. body.Number x) 1 n (λ x h. record { limits = tt; holds = h; bytes_are = refl }) rest r (eqb_true n 1 h1) small g
+body_tested n false false true d e rest r h0 h1 h2 h3 h4 small g =
+    of_kind value (λ x. body.Value x) 2 n (λ x h. record { limits = h; holds = tt; bytes_are = refl }) rest r (eqb_true n 2 h2) small g
+body_tested n false false false true e rest r h0 h1 h2 h3 h4 small g =
+    let p = ended_is body.Absent r rest g in
+    moved 3 n [] rest body.Absent r (record { limits = tt; holds = tt; bytes_are = refl }) (eqb_true n 3 h3) p.0 p.1
+body_tested n false false false false true rest r h0 h1 h2 h3 h4 small g = of_kind xids (λ x. body.Xids x) 4 n names_body rest r (eqb_true n 4 h4) small g
+body_tested n false false false false false rest r h0 h1 h2 h3 h4 small g = absurd cc
+
+body_takes : (bytes : List ℕ) (b : Body) → IsBytes bytes → body_at bytes ≡ Ok b → IsBodyOf bytes b
+unfolding body_at
+body_takes [] b small e = absurd cc
+body_takes (n ∷ rest) b small e = body_tested n (eqb n 0) (eqb n 1) (eqb n 2) (eqb n 3) (eqb n 4) rest b refl refl refl refl refl (IsBytes-rest n rest small) e
+
+body_again : (b : Body) → IsBody b → HoldsBody b → body_at (body_bytes b) ≡ Ok b
+unfolding body_at
+body_again body.Nothing h k = refl
+body_again (body.Number n) h k = ap (made (λ x. body.Number x)) (one_again number64 n k)
+body_again (body.Value v) h k = ap (made (λ x. body.Value x)) (one_again value v h)
+body_again body.Absent h k = refl
+body_again (body.Xids xs) h k = ap (made (λ x. body.Xids x)) (one_again xids xs (record { few = h; each = recursion_from_All IsWithinLimits xs k }))
+
+body_kinds : (a b c d e : Bool) (rest : List ℕ)
+    → fault_of (cond a (ended body.Nothing rest) (cond b (made (λ x. body.Number x) (one_of (number_at w64) rest)) (cond c (made (λ x. body.Value x) (one_of value_at rest))
+    (cond d (ended body.Absent rest) (cond e (made (λ x. body.Xids x) (one_of xids_at rest)) (Err Field))))))
+    ≡ go_on (cond a (Ok rest) (cond b (after_bytes 8 rest) (cond c (after_value rest) (cond d (Ok rest) (cond e (after_xids rest) (Err Field)))))) (fault_in [])
+body_kinds true b c d e rest = ended_fault body.Nothing rest
+body_kinds false true c d e rest = made_fault (λ x. body.Number x) (one_of (number_at w64) rest) ∙ one_fault number64 rest
+body_kinds false false true d e rest = made_fault (λ x. body.Value x) (one_of value_at rest) ∙ one_fault value rest
+body_kinds false false false true e rest = ended_fault body.Absent rest
+body_kinds false false false false true rest = made_fault (λ x. body.Xids x) (one_of xids_at rest) ∙ one_fault xids rest
+body_kinds false false false false false rest = refl
+
+body_fault : (bytes : List ℕ) → fault_of (body_at bytes) ≡ fault_in (after_body ∷ []) bytes
+unfolding body_at
+body_fault [] = refl
+body_fault (n ∷ rest) = body_kinds (eqb n 0) (eqb n 1) (eqb n 2) (eqb n 3) (eqb n 4) rest
+
+-- ---- code, detail, place, body
+
+abbrev with_body : ℤ → Detail → ℕ → List ℕ → Result Reply FrameFault
+with_body z d n bytes = body_at bytes >>= λ b. Ok (record { code = z; detail = d; place = n; body = b })
+
+abbrev with_place : ℤ → Detail → List ℕ → Result Reply FrameFault
+with_place z d bytes = number_at w64 bytes >>= λ n. with_body z d n.0 n.1
+
+abbrev with_detail : ℤ → List ℕ → Result Reply FrameFault
+with_detail z bytes = detail_at bytes >>= λ d. with_place z d.0 d.1
+
+abbrev answer_bytes : Reply → List ℕ
+answer_bytes r = code_bytes r.code ++ (detail_bytes r.detail ++ (to_be_bytes w64 r.place ++ body_bytes r.body))
+
+record IsAnswer (bytes : List ℕ) (r : Reply) : Type 0 where
+  limits : IsReply r
+  holds : HoldsReply r
+  bytes_are : bytes ≡ answer_bytes r
+
+answer_takes : (bytes : List ℕ) (r : Reply) → IsBytes bytes → answer_at bytes ≡ Ok r → IsAnswer bytes r
+unfolding answer_at
+answer_takes bytes r small e =
+    let a = bind_ok (code_at bytes) (λ z. with_detail z.0 z.1) r e in
+    let b = bind_ok (detail_at a.0.1) (λ d. with_place a.0.0 d.0 d.1) r a.2 in
+    let c = bind_ok (number_at w64 b.0.1) (λ n. with_body a.0.0 b.0.0 n.0 n.1) r b.2 in
+    let d = bind_ok (body_at c.0.1) (λ x. Ok (record { code = a.0.0; detail = b.0.0; place = c.0.0; body = x })) r c.2 in
+    let made : Reply = record { code = a.0.0; detail = b.0.0; place = c.0.0; body = d.0 } in
+    let t = code.takes bytes a.0.0 a.0.1 small a.1 in
+    let u = about.takes a.0.1 b.0.0 b.0.1 t.0.rest_fits b.1 in
+    let v = number64.takes b.0.1 c.0.0 c.0.1 u.0.rest_fits c.1 in
+    let w = body_takes c.0.1 d.0 v.0.rest_fits d.1 in
+    let whole : bytes ≡ answer_bytes made =
+    t.0.parts ∙ ap (λ (s : List ℕ). code_bytes a.0.0 ++ s) (u.0.parts ∙ ap (λ (s : List ℕ). detail_bytes b.0.0 ++ s) (v.0.parts ∙ ap (λ (s : List ℕ). to_be_bytes w64 c.0.0 ++ s) w.bytes_are)) in
+    subst (λ (y : Reply). IsAnswer bytes y) (ok_is made r d.2) (record { limits = w.limits; holds = record { code = t.1; place = v.1; body = w.holds }; bytes_are = whole })
+
+answer_again : (r : Reply) → IsReply r → HoldsReply r → answer_at (answer_bytes r) ≡ Ok r
+unfolding answer_at
+answer_again r h k =
+    ap (λ (s : Result (ℤ × List ℕ) FrameFault). s >>= λ z. with_detail z.0 z.1) (code.again r.code (detail_bytes r.detail ++ (to_be_bytes w64 r.place ++ body_bytes r.body)) k.code)
+    ∙ ap (λ (s : Result (Detail × List ℕ) FrameFault). s >>= λ d. with_place r.code d.0 d.1) (about.again r.detail (to_be_bytes w64 r.place ++ body_bytes r.body) tt)
+    ∙ ap (λ (s : Result (ℕ × List ℕ) FrameFault). s >>= λ n. with_body r.code r.detail n.0 n.1) (number64.again r.place (body_bytes r.body) k.place)
+    ∙ ap (λ (s : Result Body FrameFault). s >>= λ b. Ok (record { code = r.code; detail = r.detail; place = r.place; body = b })) (body_again r.body h k.body)
+
+ok_fault : {A B : Type 0} (r : Result A FrameFault) (f : A → B) → fault_of (r >>= λ x. Ok (f x)) ≡ fault_of r
+ok_fault (Ok x) f = refl
+ok_fault (Err e) f = refl
+
+answer_fault : (bytes : List ℕ) → fault_of (answer_at bytes) ≡ fault_in (after_bytes 4 ∷ after_detail ∷ after_bytes 8 ∷ after_body ∷ []) bytes
+unfolding answer_at
+answer_fault bytes =
+    step_fault code bytes (λ z. with_detail z.0 z.1) (fault_in (after_detail ∷ after_bytes 8 ∷ after_body ∷ []))
+    (λ z. step_fault about z.1 (λ d. with_place z.0 d.0 d.1) (fault_in (after_bytes 8 ∷ after_body ∷ []))
+    (λ d. step_fault number64 d.1 (λ n. with_body z.0 d.0 n.0 n.1) (fault_in (after_body ∷ []))
+    (λ n. ok_fault {B = Reply} (body_at n.1) (λ b. record { code = z.0; detail = d.0; place = n.0; body = b }) ∙ body_fault n.1)))
+
+-- ---- the whole
+
+names_short : (xs : List Triple) → AllByRecursion IsWithinLimits xs → length (flat_map bytes_of xs) ≤ 134 * length xs
+names_short [] h = omega arith
+names_short (x ∷ xs) h = omega (arith, name_short x h.0, names_short xs h.1, length-append (bytes_of x) (flat_map bytes_of xs))
+
+body_short : (b : Body) → IsBody b → HoldsBody b → length (body_bytes b) ≤ 34400
+body_short body.Nothing h k = omega arith
+body_short (body.Number n) h k = omega arith
+body_short (body.Value v) h k = omega (arith, h, length-append (to_be_bytes w16 (length v)) v)
+body_short body.Absent h k = omega arith
+body_short (body.Xids xs) h k = omega (arith, h, names_short xs (recursion_from_All IsWithinLimits xs k), length-append (to_be_bytes w16 (length xs)) (flat_map bytes_of xs))
+
+answer_short : (r : Reply) → IsReply r → HoldsReply r → length (answer_bytes r) ≤ 65534
+answer_short r h k =
+    let last = to_be_bytes w64 r.place ++ body_bytes r.body in
+    omega (arith, body_short r.body h k.body, length-append (code_bytes r.code) (detail_bytes r.detail ++ last), length-append (detail_bytes r.detail) last, length-append (to_be_bytes w64 r.place) (body_bytes r.body))
+
+pub reply_short : (r : Reply) → IsReply r → HoldsReply r → length (bytes_of_reply r) ≤ 65535
+reply_short r h k = omega (arith, answer_short r h k)
+
+pub reply_takes : (bytes : List ℕ) (r : Reply) → IsBytes bytes → reply_at bytes ≡ Ok r → SpellsReply bytes r
+unfolding reply_at
+reply_takes bytes r small e =
+    let b = bind_ok (versioned_at bytes) answer_at r e in
+    let v = versioned_is bytes b.0 b.1 in
+    let rest_small : IsBytes b.0 = IsBytes-rest 1 b.0 (subst (λ (s : List ℕ). IsBytes s) v small) in
+    let t = answer_takes b.0 r rest_small b.2 in
+    record { limits = t.limits; holds = t.holds; bytes_are = v ∙ ap (λ (s : List ℕ). 1 ∷ s) t.bytes_are }
+
+pub reply_again : (r : Reply) → IsReply r → HoldsReply r → reply_at (bytes_of_reply r) ≡ Ok r
+unfolding reply_at
+reply_again r h k =
+    ap (λ (s : Result (List ℕ) FrameFault). s >>= answer_at) (versioned_again (answer_bytes r) (answer_short r h k)) ∙ answer_again r h k
+
+pub reply_fault : (bytes : List ℕ) → fault_of (reply_at bytes) ≡ fault_of_reply bytes
+unfolding reply_at
+reply_fault bytes = versioned_fault answer_at (fault_in (after_bytes 4 ∷ after_detail ∷ after_bytes 8 ∷ after_body ∷ [])) answer_fault bytes

@@ -1,0 +1,18 @@
+use Rattle.std.proofs.Common.{◌∙◌, ap, arith}
+use Rattle.xa_frame.specs.Reading.{request_at}
+use Rattle.xa_frame.specs.Faults.{fault_of_request}
+use Rattle.xa_frame.specs.Spelling.{SpellsRequest}
+use Rattle.xa_frame.proofs.Decoded.{found, only, fault}
+use Rattle.xa_frame.proofs.Requests.{request_takes, request_again, request_fault}
+use Rattle.xa_frame.proofs.request_decoder.decode_request.Goals as goal
+
+pub returns-clause-found : goal.returns-clause-found
+returns-clause-found c =
+    found c.whole.result (request_at c.args.content.now) (SpellsRequest c.args.content.now) c.whole.ensures
+    (λ r e. request_takes c.args.content.now r (λ i. omega (arith, c.type_inv.content i)) e)
+
+pub returns-clause-only : goal.returns-clause-only
+returns-clause-only c r h = only c.whole.result (request_at c.args.content.now) r c.whole.ensures (ap request_at h.bytes_are ∙ request_again r h.limits h.holds)
+
+pub returns-clause-fault : goal.returns-clause-fault
+returns-clause-fault c = fault c.whole.result (request_at c.args.content.now) (fault_of_request c.args.content.now) c.whole.ensures (request_fault c.args.content.now)

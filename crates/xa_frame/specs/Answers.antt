@@ -1,0 +1,23 @@
+-- What a reading answers.
+use Rattle.std.specs.Prelude.{◌≡◌, ◌⊎◌, Option, Some, None, Result, Ok, Err, IsOk}
+use Rattle.xa_frame.specs.declared.fault.FrameFault.{FrameFault}
+use Rattle.xa_frame.specs.declared.fault.FrameFault.TheVariants.{Memory}
+
+-- what a function returned, seen by view, is what the definition reads
+abbrev pub Gives : {X Y : Type 0} → (X → Y) → Result X FrameFault → Result Y FrameFault → Type 0
+Gives view (Ok x) read = read ≡ Ok (view x)
+Gives view (Err e) read = read ≡ Err e
+
+-- the same, but where memory was wanted for a value that is there
+abbrev pub Answers : {A : Type 0} → Result A FrameFault → Result A FrameFault → Type 0
+Answers (Ok x) read = read ≡ Ok x
+Answers (Err e) read = (read ≡ Err e) ⊎ ((e ≡ Memory) × IsOk read)
+
+-- this value, or want of memory
+abbrev pub IsOrWants : {A : Type 0} → Result A FrameFault → A → Type 0
+IsOrWants (Ok x) y = x ≡ y
+IsOrWants (Err e) y = e ≡ Memory
+
+-- a fault is the one of the rule, or want of memory where the rule has none
+abbrev pub IsFault : Option FrameFault → FrameFault → Type 0
+IsFault fault e = (fault ≡ Some e) ⊎ ((e ≡ Memory) × (fault ≡ None))

@@ -1,0 +1,134 @@
+-- Which fault a content has: it is read from left to right, and the first fault counts.
+use Rattle.std.specs.Prelude.{ℕ, zero, suc, List, [], ◌∷◌, length, take, drop, Option, Some, None, Result, Ok, Err, nat_lt, ◌==◌, ◌||◌, if◌then◌else◌}
+use Rattle.std.specs.Int.{w16, from_be_bytes}
+use Rattle.xa_codes.specs.declared.call.Call.{Call}
+use Rattle.xa_codes.specs.declared.call.Call.TheVariants as call
+use Rattle.xa_xid.specs.Triple.{Triple}
+use Rattle.xa_xid.specs.Reading.{xid_at}
+use Rattle.xa_frame.specs.declared.fault.FrameFault.{FrameFault}
+use Rattle.xa_frame.specs.declared.fault.FrameFault.TheVariants.{Short, Long, Version, Operation, Field, Trailing}
+use Rattle.xa_frame.specs.Spelling.{numbered, detail_numbered}
+
+-- What stands behind a field, or the field's fault.
+abbrev pub After : Type 0
+After = List ℕ → Result (List ℕ) FrameFault
+
+-- so many bytes
+abbrev pub after_bytes : ℕ → After
+after_bytes n bytes = if nat_lt (length bytes) n then Err Short else Ok (drop n bytes)
+
+-- a length of one byte, and so many bytes
+abbrev pub after_info : After
+after_info [] = Err Short
+after_info (n ∷ rest) = after_bytes n rest
+
+-- the same, with 1 to 64 bytes
+abbrev pub after_key : After
+after_key [] = Err Short
+after_key (n ∷ rest) = if (n == 0) || nat_lt 64 n then Err Field else after_bytes n rest
+
+-- a length of two bytes, at most 1,024, and so many bytes
+abbrev pub after_value : After
+after_value bytes =
+    if nat_lt (length bytes) 2 then Err Short
+    else if nat_lt 1024 (from_be_bytes w16 (take 2 bytes)) then Err Field
+    else after_bytes (from_be_bytes w16 (take 2 bytes)) (drop 2 bytes)
+
+-- one byte, 1 or 2
+abbrev pub after_direction : After
+after_direction [] = Err Short
+after_direction (b ∷ rest) = if (b == 1) || (b == 2) then Ok rest else Err Field
+
+abbrev pub if_some : {A : Type 0} → Option A → List ℕ → Result (List ℕ) FrameFault
+if_some None rest = Err Field
+if_some (Some x) rest = Ok rest
+
+-- one byte, a detail's
+abbrev pub after_detail : After
+after_detail [] = Err Short
+after_detail (b ∷ rest) = if_some (detail_numbered b) rest
+
+abbrev pub behind : List ℕ → Option (Triple × ℕ) → Result (List ℕ) FrameFault
+behind bytes None = Err Field
+behind bytes (Some x) = Ok (drop x.1 bytes)
+
+abbrev pub after_xid : After
+after_xid bytes = behind bytes (xid_at bytes)
+
+abbrev pub and_then : Result (List ℕ) FrameFault → After → Result (List ℕ) FrameFault
+and_then (Ok rest) f = f rest
+and_then (Err e) f = Err e
+
+-- so many XIDs
+abbrev pub after_each : ℕ → After
+after_each zero bytes = Ok bytes
+after_each (suc n) bytes = and_then (after_xid bytes) (after_each n)
+
+-- a count of two bytes, at most 256, and so many XIDs
+abbrev pub after_xids : After
+after_xids bytes =
+    if nat_lt (length bytes) 2 then Err Short
+    else if nat_lt 256 (from_be_bytes w16 (take 2 bytes)) then Err Field
+    else after_each (from_be_bytes w16 (take 2 bytes)) (drop 2 bytes)
+
+-- a kind of 0 to 4, and what it carries
+abbrev pub after_body : After
+after_body [] = Err Short
+after_body (kind ∷ rest) =
+    if kind == 0 then Ok rest
+    else if kind == 1 then after_bytes 8 rest
+    else if kind == 2 then after_value rest
+    else if kind == 3 then Ok rest
+    else if kind == 4 then after_xids rest
+    else Err Field
+
+abbrev pub go_on : Result (List ℕ) FrameFault → (List ℕ → Option FrameFault) → Option FrameFault
+go_on (Ok rest) f = f rest
+go_on (Err e) f = Some e
+
+-- the first fault of these fields, of which nothing stands behind the last
+abbrev pub fault_in : List After → List ℕ → Option FrameFault
+fault_in [] bytes = if length bytes == 0 then None else Some Trailing
+fault_in (after ∷ others) bytes = go_on (after bytes) (fault_in others)
+
+-- the fields of each operation
+abbrev pub fields : Call → List After
+fields call.Open = after_bytes 4 ∷ after_info ∷ []
+fields call.Close = after_bytes 4 ∷ []
+fields call.Start = after_bytes 4 ∷ after_xid ∷ []
+fields call.End = after_bytes 4 ∷ after_xid ∷ []
+fields call.Prepare = after_bytes 4 ∷ after_xid ∷ []
+fields call.Commit = after_bytes 4 ∷ after_xid ∷ []
+fields call.Rollback = after_bytes 4 ∷ after_xid ∷ []
+fields call.Recover = after_bytes 4 ∷ after_bytes 4 ∷ []
+fields call.Forget = after_bytes 4 ∷ after_xid ∷ []
+fields call.Get = after_key ∷ []
+fields call.Put = after_key ∷ after_value ∷ []
+fields call.Delete = after_key ∷ []
+fields call.Decide = after_direction ∷ after_xid ∷ []
+fields call.Doom = after_xid ∷ []
+fields call.Restart = []
+
+abbrev pub fault_of_fields : Option Call → List ℕ → Option FrameFault
+fault_of_fields None bytes = Some Operation
+fault_of_fields (Some c) bytes = fault_in (fields c) bytes
+
+abbrev pub fault_of_operation : List ℕ → Option FrameFault
+fault_of_operation [] = Some Short
+fault_of_operation (n ∷ bytes) = fault_of_fields (numbered n) bytes
+
+-- the version is 1, and something of this sort stands behind it
+abbrev pub fault_behind_version : (List ℕ → Option FrameFault) → List ℕ → Option FrameFault
+fault_behind_version f [] = Some Short
+fault_behind_version f (version ∷ bytes) = if version == 1 then f bytes else Some Version
+
+abbrev pub fault_unless_long : (List ℕ → Option FrameFault) → List ℕ → Option FrameFault
+fault_unless_long f bytes = if nat_lt 65535 (length bytes) then Some Long else fault_behind_version f bytes
+
+-- the fault of a request's content, or none
+abbrev pub fault_of_request : List ℕ → Option FrameFault
+fault_of_request bytes = fault_unless_long fault_of_operation bytes
+
+-- the fault of a reply's content, or none: code, detail, place, body
+abbrev pub fault_of_reply : List ℕ → Option FrameFault
+fault_of_reply bytes = fault_unless_long (fault_in (after_bytes 4 ∷ after_detail ∷ after_bytes 8 ∷ after_body ∷ [])) bytes

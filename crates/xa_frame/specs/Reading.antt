@@ -1,0 +1,186 @@
+-- Reading a content from left to right. A field is a value and the bytes after it.
+use Rattle.std.specs.Prelude.{ℕ, ℤ, zero, suc, List, [], ◌∷◌, length, take, drop, Option, Some, None, Result, Ok, Err, nat_lt, ◌==◌, ◌||◌, if◌then◌else◌}
+use Rattle.std.specs.Int.{Width, w16, w32, w64, byte_len, from_be_bytes, cast_signed}
+use Rattle.xa_codes.specs.declared.call.Call.{Call}
+use Rattle.xa_codes.specs.declared.call.Call.TheVariants as call
+use Rattle.xa_codes.specs.declared.detail.Detail.{Detail}
+use Rattle.xa_codes.specs.declared.direction.Direction.{Direction}
+use Rattle.xa_codes.specs.declared.direction.Direction.TheVariants.{Commit, Rollback}
+use Rattle.xa_xid.specs.Triple.{Triple}
+use Rattle.xa_xid.specs.Reading.{xid_at}
+use Rattle.xa_frame.specs.declared.request.Request.{Request}
+use Rattle.xa_frame.specs.declared.request.Request.TheVariants as request
+use Rattle.xa_frame.specs.declared.body.Body.{Body}
+use Rattle.xa_frame.specs.declared.body.Body.TheVariants as body
+use Rattle.xa_frame.specs.declared.reply.Reply.{Reply}
+use Rattle.xa_frame.specs.declared.fault.FrameFault.{FrameFault}
+use Rattle.xa_frame.specs.declared.fault.FrameFault.TheVariants.{Short, Long, Version, Operation, Field, Trailing}
+use Rattle.xa_frame.specs.Spelling.{numbered, detail_numbered}
+
+infixl 10 ◌>>=◌
+abbrev pub ◌>>=◌ : {A B : Type 0} → Result A FrameFault → (A → Result B FrameFault) → Result B FrameFault
+(Ok x) >>= f = f x
+(Err e) >>= f = Err e
+
+abbrev pub Reads : Type 0 → Type 0
+Reads A = List ℕ → Result (A × List ℕ) FrameFault
+
+-- what stands behind a field, and the field's value
+abbrev pub rest_of : {A : Type 0} → Result (A × List ℕ) FrameFault → Result (List ℕ) FrameFault
+rest_of (Ok x) = Ok x.1
+rest_of (Err e) = Err e
+
+abbrev pub value_of_first : {A : Type 0} → Result (A × List ℕ) FrameFault → Result A FrameFault
+value_of_first (Ok x) = Ok x.0
+value_of_first (Err e) = Err e
+
+-- nothing is left
+abbrev pub ended : {A : Type 0} → A → List ℕ → Result A FrameFault
+ended x bytes = if length bytes == 0 then Ok x else Err Trailing
+
+-- one field and nothing behind it, and two
+abbrev pub one_of : {A : Type 0} → Reads A → List ℕ → Result A FrameFault
+one_of f bytes = do
+  x ← f bytes
+  ended x.0 x.1
+
+abbrev pub two_of : {A B : Type 0} → Reads A → Reads B → List ℕ → Result (A × B) FrameFault
+two_of f g bytes = do
+  x ← f bytes
+  y ← g x.1
+  ended (x.0, y.0) y.1
+
+unfoldable pub number_at : Width → Reads ℕ
+number_at w bytes = if nat_lt (length bytes) (byte_len w) then Err Short else Ok (from_be_bytes w (take (byte_len w) bytes), drop (byte_len w) bytes)
+
+-- so many bytes
+abbrev pub bytes_at : ℕ → Reads (List ℕ)
+bytes_at n bytes = if nat_lt (length bytes) n then Err Short else Ok (take n bytes, drop n bytes)
+
+unfoldable pub info_at : Reads (List ℕ)
+info_at [] = Err Short
+info_at (n ∷ rest) = bytes_at n rest
+
+unfoldable pub key_at : Reads (List ℕ)
+key_at [] = Err Short
+key_at (n ∷ rest) = if (n == 0) || nat_lt 64 n then Err Field else bytes_at n rest
+
+unfoldable pub value_at : Reads (List ℕ)
+value_at bytes = do
+  n ← number_at w16 bytes
+  if nat_lt 1024 n.0 then Err Field else bytes_at n.0 n.1
+
+unfoldable pub direction_at : Reads Direction
+direction_at [] = Err Short
+direction_at (b ∷ rest) = if b == 1 then Ok (Commit, rest) else if b == 2 then Ok (Rollback, rest) else Err Field
+
+abbrev pub named : List ℕ → Option (Triple × ℕ) → Result (Triple × List ℕ) FrameFault
+named bytes None = Err Field
+named bytes (Some x) = Ok (x.0, drop x.1 bytes)
+
+unfoldable pub name_at : Reads Triple
+name_at bytes = named bytes (xid_at bytes)
+
+-- so many XIDs
+unfoldable pub names_at : ℕ → Reads (List Triple)
+names_at zero bytes = Ok ([], bytes)
+names_at (suc n) bytes = do
+  first ← name_at bytes
+  others ← names_at n first.1
+  Ok (first.0 ∷ others.0, others.1)
+
+unfoldable pub xids_at : Reads (List Triple)
+xids_at bytes = do
+  n ← number_at w16 bytes
+  if nat_lt 256 n.0 then Err Field else names_at n.0 n.1
+
+abbrev pub made : {A B : Type 0} → (A → B) → Result A FrameFault → Result B FrameFault
+made f (Ok x) = Ok (f x)
+made f (Err e) = Err e
+
+-- the call on a branch with these flags
+abbrev pub branch_request : Call → ℕ → Triple → Request
+branch_request call.Start flags xid = request.Start flags xid
+branch_request call.End flags xid = request.End flags xid
+branch_request call.Prepare flags xid = request.Prepare flags xid
+branch_request call.Commit flags xid = request.Commit flags xid
+branch_request call.Rollback flags xid = request.Rollback flags xid
+branch_request _ flags xid = request.Forget flags xid
+
+-- the request of this call whose fields are all of the bytes
+unfoldable pub fields_at : Call → List ℕ → Result Request FrameFault
+fields_at call.Open bytes = made (λ x. request.Open x.0 x.1) (two_of (number_at w32) info_at bytes)
+fields_at call.Close bytes = made (λ x. request.Close x) (one_of (number_at w32) bytes)
+fields_at call.Start bytes = made (λ x. request.Start x.0 x.1) (two_of (number_at w32) name_at bytes)
+fields_at call.End bytes = made (λ x. request.End x.0 x.1) (two_of (number_at w32) name_at bytes)
+fields_at call.Prepare bytes = made (λ x. request.Prepare x.0 x.1) (two_of (number_at w32) name_at bytes)
+fields_at call.Commit bytes = made (λ x. request.Commit x.0 x.1) (two_of (number_at w32) name_at bytes)
+fields_at call.Rollback bytes = made (λ x. request.Rollback x.0 x.1) (two_of (number_at w32) name_at bytes)
+fields_at call.Recover bytes = made (λ x. request.Recover x.0 x.1) (two_of (number_at w32) (number_at w32) bytes)
+fields_at call.Forget bytes = made (λ x. request.Forget x.0 x.1) (two_of (number_at w32) name_at bytes)
+fields_at call.Get bytes = made (λ x. request.Get x) (one_of key_at bytes)
+fields_at call.Put bytes = made (λ x. request.Put x.0 x.1) (two_of key_at value_at bytes)
+fields_at call.Delete bytes = made (λ x. request.Delete x) (one_of key_at bytes)
+fields_at call.Decide bytes = made (λ x. request.Decide x.0 x.1) (two_of direction_at name_at bytes)
+fields_at call.Doom bytes = made (λ x. request.Doom x) (one_of name_at bytes)
+fields_at call.Restart bytes = ended request.Restart bytes
+
+abbrev pub fields_of : Option Call → List ℕ → Result Request FrameFault
+fields_of None bytes = Err Operation
+fields_of (Some c) bytes = fields_at c bytes
+
+unfoldable pub operation_at : List ℕ → Result Request FrameFault
+operation_at [] = Err Short
+operation_at (n ∷ bytes) = fields_of (numbered n) bytes
+
+abbrev pub behind_version : List ℕ → Result (List ℕ) FrameFault
+behind_version [] = Err Short
+behind_version (version ∷ rest) = if version == 1 then Ok rest else Err Version
+
+-- what stands behind the version of a content that isn't too long
+unfoldable pub versioned_at : List ℕ → Result (List ℕ) FrameFault
+versioned_at bytes = if nat_lt 65535 (length bytes) then Err Long else behind_version bytes
+
+-- all of a request's content
+unfoldable pub request_at : List ℕ → Result Request FrameFault
+request_at bytes = do
+  rest ← versioned_at bytes
+  operation_at rest
+
+unfoldable pub code_at : Reads ℤ
+code_at bytes = do
+  n ← number_at w32 bytes
+  Ok (cast_signed w32 n.0, n.1)
+
+abbrev pub detailed : List ℕ → Option Detail → Result (Detail × List ℕ) FrameFault
+detailed bytes None = Err Field
+detailed bytes (Some d) = Ok (d, bytes)
+
+unfoldable pub detail_at : Reads Detail
+detail_at [] = Err Short
+detail_at (b ∷ rest) = detailed rest (detail_numbered b)
+
+-- the body that is all of the bytes
+unfoldable pub body_at : List ℕ → Result Body FrameFault
+body_at [] = Err Short
+body_at (kind ∷ rest) =
+    if kind == 0 then ended body.Nothing rest
+    else if kind == 1 then made (λ x. body.Number x) (one_of (number_at w64) rest)
+    else if kind == 2 then made (λ x. body.Value x) (one_of value_at rest)
+    else if kind == 3 then ended body.Absent rest
+    else if kind == 4 then made (λ x. body.Xids x) (one_of xids_at rest)
+    else Err Field
+
+unfoldable pub answer_at : List ℕ → Result Reply FrameFault
+answer_at bytes = do
+  code ← code_at bytes
+  detail ← detail_at code.1
+  place ← number_at w64 detail.1
+  body ← body_at place.1
+  Ok (record { code = code.0; detail = detail.0; place = place.0; body = body })
+
+-- all of a reply's content
+unfoldable pub reply_at : List ℕ → Result Reply FrameFault
+reply_at bytes = do
+  rest ← versioned_at bytes
+  answer_at rest

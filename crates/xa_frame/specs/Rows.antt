@@ -1,0 +1,61 @@
+-- Worked contents: how some requests and replies are spelled, and which fault some bytes have.
+use Rattle.std.specs.Prelude.{◌≡◌, ℕ, pos, negsuc, List, [], ◌∷◌, Option, Some, None}
+use Rattle.xa_codes.specs.declared.detail.Detail.TheVariants as detail
+use Rattle.xa_xid.specs.Triple.{Triple}
+use Rattle.xa_frame.specs.declared.request.Request.TheVariants.{Start}
+use Rattle.xa_frame.specs.declared.body.Body.TheVariants as body
+use Rattle.xa_frame.specs.declared.reply.Reply.{Reply}
+use Rattle.xa_frame.specs.declared.fault.FrameFault.TheVariants.{Short, Version, Operation, Field, Trailing}
+use Rattle.xa_frame.specs.Spelling.{bytes_of_request, bytes_of_reply}
+use Rattle.xa_frame.specs.Faults.{fault_of_request, fault_of_reply}
+
+-- 1:aa:bb
+abbrev pub branch : Triple
+branch = record { format = pos 1; gtrid = 170 ∷ []; bqual = 187 ∷ [] }
+
+-- the branch began, with timestamp 4,294,967,297, at place 3
+abbrev pub begun : Reply
+begun = record { code = pos 0; detail = detail.Nothing; place = 3; body = body.Number 4294967297 }
+
+-- the request didn't decode
+abbrev pub refused : Reply
+refused = record { code = negsuc 4; detail = detail.Frame; place = 0; body = body.Nothing }
+
+abbrev pub start_bytes : List ℕ
+start_bytes = 1 ∷ 3 ∷ 0 ∷ 0 ∷ 0 ∷ 0 ∷ 0 ∷ 0 ∷ 0 ∷ 1 ∷ 1 ∷ 1 ∷ 170 ∷ 187 ∷ []
+
+abbrev pub begun_bytes : List ℕ
+begun_bytes = 1 ∷ 0 ∷ 0 ∷ 0 ∷ 0 ∷ 0 ∷ 0 ∷ 0 ∷ 0 ∷ 0 ∷ 0 ∷ 0 ∷ 0 ∷ 3 ∷ 1 ∷ 0 ∷ 0 ∷ 0 ∷ 1 ∷ 0 ∷ 0 ∷ 0 ∷ 1 ∷ []
+
+abbrev pub refused_bytes : List ℕ
+refused_bytes = 1 ∷ 255 ∷ 255 ∷ 255 ∷ 251 ∷ 6 ∷ 0 ∷ 0 ∷ 0 ∷ 0 ∷ 0 ∷ 0 ∷ 0 ∷ 0 ∷ 0 ∷ []
+
+abbrev pub SpelledSo : Type 0
+SpelledSo = (bytes_of_request (Start 0 branch) ≡ start_bytes) × (bytes_of_reply begun ≡ begun_bytes) × (bytes_of_reply refused ≡ refused_bytes)
+
+abbrev pub FaultyRequests : Type 0
+FaultyRequests =
+    (fault_of_request start_bytes ≡ None)
+    -- no byte, another version, no operation
+    × (fault_of_request [] ≡ Some Short)
+    × (fault_of_request (2 ∷ []) ≡ Some Version)
+    × (fault_of_request (1 ∷ []) ≡ Some Short)
+    -- operation 255, a byte behind a restart
+    × (fault_of_request (1 ∷ 255 ∷ []) ≡ Some Operation)
+    × (fault_of_request (1 ∷ 15 ∷ 0 ∷ []) ≡ Some Trailing)
+    -- a doom without an XID, a decision with direction 0, and without one
+    × (fault_of_request (1 ∷ 14 ∷ []) ≡ Some Field)
+    × (fault_of_request (1 ∷ 13 ∷ 0 ∷ []) ≡ Some Field)
+    × (fault_of_request (1 ∷ 13 ∷ []) ≡ Some Short)
+    -- a key of no bytes, one of 65 that are cut, one that is cut
+    × (fault_of_request (1 ∷ 10 ∷ 0 ∷ []) ≡ Some Field)
+    × (fault_of_request (1 ∷ 10 ∷ 65 ∷ []) ≡ Some Field)
+    × (fault_of_request (1 ∷ 10 ∷ 2 ∷ 107 ∷ []) ≡ Some Short)
+
+abbrev pub FaultyReplies : Type 0
+FaultyReplies =
+    (fault_of_reply begun_bytes ≡ None)
+    -- detail 8, kind 5, 257 XIDs
+    × (fault_of_reply (1 ∷ 0 ∷ 0 ∷ 0 ∷ 0 ∷ 8 ∷ []) ≡ Some Field)
+    × (fault_of_reply (1 ∷ 0 ∷ 0 ∷ 0 ∷ 0 ∷ 0 ∷ 0 ∷ 0 ∷ 0 ∷ 0 ∷ 0 ∷ 0 ∷ 0 ∷ 0 ∷ 5 ∷ []) ≡ Some Field)
+    × (fault_of_reply (1 ∷ 0 ∷ 0 ∷ 0 ∷ 0 ∷ 0 ∷ 0 ∷ 0 ∷ 0 ∷ 0 ∷ 0 ∷ 0 ∷ 0 ∷ 0 ∷ 4 ∷ 1 ∷ 1 ∷ []) ≡ Some Field)

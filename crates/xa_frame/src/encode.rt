@@ -1,0 +1,171 @@
+ghost use Rattle.std.specs.Int.{w16, w32, w64, to_be_bytes};
+ghost use Rattle.std.specs.Prelude.{◌≡◌, ◌≤◌, ◌++◌, length, flat_map, All, IfOk, OnOk};
+ghost use Rattle.xa_frame.specs.Limits.{IsRequest, IsBody, IsReply, Holds, HoldsBody};
+ghost use Rattle.xa_frame.specs.Spelling.{short_bytes, value_bytes, xids_bytes, fields_bytes, body_bytes, SpellsRequest, SpellsReply};
+ghost use Rattle.xa_xid.specs.Spelling.{bytes_of};
+ghost use Rattle.xa_xid.specs.Triple.{IsWithinLimits};
+
+use crate::body::Body;
+use crate::numbers::{detail_number, operation_of};
+use crate::reply::Reply;
+use crate::request::Request;
+use arrayvec::ArrayVec;
+use std::alloc::{AllocError, Global};
+use xa_xid::Xid;
+
+/// What each content begins with.
+const VERSION: u8 = 1;
+
+fn put_name(out: &mut Vec<u8>, xid: &Xid) -> Result<(), AllocError>
+    ensures bytes { OnOk result (out.new.items ≡ out.old.items ++ bytes_of xid.now) }
+    ensures limits { IsWithinLimits xid.now }
+{
+    let mut bytes: ArrayVec<u8, 134> = ArrayVec::new();
+    xid.put(&mut bytes);
+    out.extend_from_slice(bytes.as_slice())
+}
+
+fn put_short(out: &mut Vec<u8>, bytes: &[u8]) -> Result<(), AllocError>
+    requires { length bytes.now ≤ 255 }
+    ensures { OnOk result (out.new.items ≡ out.old.items ++ short_bytes bytes.now) }
+{
+    out.push(bytes.len() as u8)?;
+    out.extend_from_slice(bytes)
+}
+
+fn put_value(out: &mut Vec<u8>, value: &[u8]) -> Result<(), AllocError>
+    requires { length value.now ≤ 1024 }
+    ensures { OnOk result (out.new.items ≡ out.old.items ++ value_bytes value.now) }
+{
+    out.extend_from_slice(&(value.len() as u16).to_be_bytes())?;
+    out.extend_from_slice(value)
+}
+
+fn put_flags(out: &mut Vec<u8>, flags: u32) -> Result<(), AllocError>
+    ensures { OnOk result (out.new.items ≡ out.old.items ++ to_be_bytes w32 flags) }
+{
+    out.extend_from_slice(&flags.to_be_bytes())
+}
+
+fn put_fields(out: &mut Vec<u8>, request: &Request) -> Result<(), AllocError>
+    requires { IsRequest request.now }
+    ensures bytes { OnOk result (out.new.items ≡ out.old.items ++ fields_bytes request.now) }
+    ensures holds { OnOk result (Holds request.now) }
+{
+    match request {
+        Request::Open { flags, info } => {
+            put_flags(out, *flags)?;
+            put_short(out, info.as_slice())
+        }
+        Request::Close { flags } => put_flags(out, *flags),
+        Request::Start { flags, xid }
+        | Request::End { flags, xid }
+        | Request::Prepare { flags, xid }
+        | Request::Commit { flags, xid }
+        | Request::Rollback { flags, xid }
+        | Request::Forget { flags, xid } => {
+            put_flags(out, *flags)?;
+            put_name(out, xid)
+        }
+        Request::Recover { flags, count } => {
+            put_flags(out, *flags)?;
+            put_flags(out, *count)
+        }
+        Request::Get { key } | Request::Delete { key } => put_short(out, key.as_slice()),
+        Request::Put { key, value } => {
+            put_short(out, key.as_slice())?;
+            put_value(out, value.as_slice())
+        }
+        Request::Decide { direction, xid } => {
+            out.push(*direction as u8)?;
+            put_name(out, xid)
+        }
+        Request::Doom { xid } => put_name(out, xid),
+        Request::Restart => Ok(()),
+    }
+}
+
+/// Enough bytes for most requests, and for those with a key, a value or an info exactly enough.
+fn room_of(request: &Request) -> usize
+    requires { IsRequest request.now }
+{
+    match request {
+        Request::Open { info, .. } => 7 + info.as_slice().len(),
+        Request::Get { key } | Request::Delete { key } => 3 + key.as_slice().len(),
+        Request::Put { key, value } => 5 + key.as_slice().len() + value.as_slice().len(),
+        Request::Close { .. } | Request::Recover { .. } | Request::Restart => 10,
+        _ => 140,
+    }
+}
+
+/// The content that spells the request.
+pub fn encode_request(alloc: Global, request: &Request) -> Result<Vec<u8>, AllocError>
+    requires { IsRequest request.now }
+    ensures { IfOk result (λ v. SpellsRequest v.items request.now) }
+{
+    let mut content = Vec::with_capacity(alloc, room_of(request))?;
+    content.push(VERSION)?;
+    content.push(operation_of(request.call()))?;
+    put_fields(&mut content, request)?;
+    Ok(content)
+}
+
+fn put_names(out: &mut Vec<u8>, xids: &[Xid]) -> Result<(), AllocError>
+    ensures bytes { OnOk result (out.new.items ≡ out.old.items ++ flat_map bytes_of xids.now) }
+    ensures limits { OnOk result (All IsWithinLimits xids.now) }
+{
+    for xid in xids {
+        put_name(out, xid)?;
+    }
+    Ok(())
+}
+
+fn put_body(out: &mut Vec<u8>, body: &Body) -> Result<(), AllocError>
+    requires { IsBody body.now }
+    ensures bytes { OnOk result (out.new.items ≡ out.old.items ++ body_bytes body.now) }
+    ensures holds { OnOk result (HoldsBody body.now) }
+{
+    match body {
+        Body::Nothing => Ok(out.push(0)?),
+        Body::Number(number) => {
+            out.push(1)?;
+            out.extend_from_slice(&number.to_be_bytes())
+        }
+        Body::Value(value) => {
+            out.push(2)?;
+            put_value(out, value.as_slice())
+        }
+        Body::Absent => Ok(out.push(3)?),
+        Body::Xids(xids) => {
+            let xids = xids.as_slice();
+            out.push(4)?;
+            out.extend_from_slice(&(xids.len() as u16).to_be_bytes())?;
+            put_names(out, xids)
+        }
+    }
+}
+
+/// Enough bytes for most replies.
+fn reply_room(body: &Body) -> usize
+    requires { IsBody body.now }
+{
+    match body {
+        Body::Value(value) => 17 + value.as_slice().len(),
+        Body::Xids(xids) => 17 + 32 * xids.as_slice().len(),
+        Body::Nothing | Body::Number(_) | Body::Absent => 23,
+    }
+}
+
+/// The content that spells the reply.
+pub fn encode_reply(alloc: Global, reply: &Reply) -> Result<Vec<u8>, AllocError>
+    requires { IsReply reply.now }
+    ensures { IfOk result (λ v. SpellsReply v.items reply.now) }
+{
+    let mut content = Vec::with_capacity(alloc, reply_room(&reply.body))?;
+    content.push(VERSION)?;
+    content.extend_from_slice(&reply.code.to_be_bytes())?;
+    content.push(detail_number(reply.detail))?;
+    content.extend_from_slice(&reply.place.to_be_bytes())?;
+    put_body(&mut content, &reply.body)?;
+    Ok(content)
+}

@@ -1,0 +1,39 @@
+ghost use Rattle.std.specs.Prelude.{◌≡◌};
+ghost use Rattle.xa_frame.specs.declared.fault.FrameFault.TheVariants.{Memory};
+
+use std::alloc::{AllocError, AllocFailed};
+
+/// Why a content gave no value: the first fault, read from left to right.
+#[derive(Clone, Copy, Debug, PartialEq, Eq)]
+pub enum FrameFault {
+    /// A number, a length or the bytes that it announces are cut.
+    Short = 1,
+    /// There are more than 65,535 bytes.
+    Long = 2,
+    /// The first byte isn't 1.
+    Version = 3,
+    /// The operation isn't one of 1 to 15.
+    Operation = 4,
+    /// A field is out of its limits, or no XID.
+    Field = 5,
+    /// Bytes are left.
+    Trailing = 6,
+    /// There is a value, but memory was wanted.
+    Memory = 7,
+}
+
+impl From<AllocError> for FrameFault {
+    ghost from_gives = { λ _ e. e ≡ Memory };
+
+    fn from(_e: AllocError) -> FrameFault {
+        FrameFault::Memory
+    }
+}
+
+impl<T: Drop> From<AllocFailed<T>> for FrameFault {
+    ghost from_gives = { λ _ e. e ≡ Memory };
+
+    fn from(_e: AllocFailed<T>) -> FrameFault {
+        FrameFault::Memory
+    }
+}

@@ -1,0 +1,33 @@
+ghost use Rattle.std.specs.Prelude.{◌≡◌, ◌≤◌, ◌<◌, ℕ, List, length, slice_index, None};
+ghost use Rattle.xa_frame.specs.declared.reply.Reply.{Reply};
+ghost use Rattle.xa_frame.specs.declared.request.Request.{Request};
+ghost use Rattle.xa_frame.specs.Faults.{fault_of_request, fault_of_reply};
+ghost use Rattle.xa_frame.specs.Rows.{SpelledSo, FaultyRequests, FaultyReplies};
+ghost use Rattle.xa_frame.specs.Spelling.{SpellsRequest, SpellsReply};
+
+/// A content spells one request at most, and a request has one content. It does nothing.
+pub fn one_request()
+    ensures value { (bytes : List ℕ) (r s : Request) → SpellsRequest bytes r → SpellsRequest bytes s → r ≡ s }
+    ensures content { (a b : List ℕ) (r : Request) → SpellsRequest a r → SpellsRequest b r → a ≡ b }
+    // Bytes have no fault exactly where they spell a request.
+    ensures spelled { (bytes : List ℕ) (r : Request) → SpellsRequest bytes r → fault_of_request bytes ≡ None }
+    ensures faultless { (bytes : List ℕ) → ((i : ℕ) → slice_index bytes i < 256) → fault_of_request bytes ≡ None → (r : Request) × SpellsRequest bytes r }
+{}
+
+/// A content spells one reply at most, a reply has one content, and it fits a frame. It does nothing.
+pub fn one_reply()
+    ensures value { (bytes : List ℕ) (r s : Reply) → SpellsReply bytes r → SpellsReply bytes s → r ≡ s }
+    ensures content { (a b : List ℕ) (r : Reply) → SpellsReply a r → SpellsReply b r → a ≡ b }
+    // Bytes have no fault exactly where they spell a reply.
+    ensures spelled { (bytes : List ℕ) (r : Reply) → SpellsReply bytes r → fault_of_reply bytes ≡ None }
+    ensures faultless { (bytes : List ℕ) → ((i : ℕ) → slice_index bytes i < 256) → fault_of_reply bytes ≡ None → (r : Reply) × SpellsReply bytes r }
+    ensures short { (bytes : List ℕ) (r : Reply) → SpellsReply bytes r → length bytes ≤ 65535 }
+{}
+
+/// Worked contents: what spells some requests and replies, and which fault some bytes have, by the definitions. It does
+/// nothing.
+pub fn worked_contents()
+    ensures spelled { SpelledSo }
+    ensures requests { FaultyRequests }
+    ensures replies { FaultyReplies }
+{}

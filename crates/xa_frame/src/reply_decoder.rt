@@ -1,0 +1,137 @@
+ghost use Rattle.std.specs.Int.{w64};
+ghost use Rattle.std.specs.Prelude.{◌≡◌, IsOk, IfOk, IfErr};
+ghost use Rattle.xa_frame.specs.Answers.{Gives, Answers, IsOrWants, IsFault};
+ghost use Rattle.xa_frame.specs.declared.reply.Reply.{Reply};
+ghost use Rattle.xa_frame.specs.Spelling.{SpellsReply};
+ghost use Rattle.xa_frame.specs.Faults.{fault_of_reply};
+ghost use Rattle.xa_frame.specs.Reading.{made, one_of, rest_of, value_of_first, number_at, value_at, names_at, xids_at, body_at, answer_at, reply_at};
+
+use crate::body::Body;
+use crate::fault::FrameFault;
+use crate::fields::{code_of, detail_front, end, name_of, u16_at, u64_at, value_of};
+use crate::reply::Reply;
+use crate::request_decoder::versioned;
+use crate::xids::Xids;
+use std::alloc::Global;
+use xa_codes::Bytes;
+
+fn number_alone(bytes: &[u8]) -> Result<u64, FrameFault>
+    ensures { result ≡ one_of (number_at w64) bytes.now }
+{
+    let (number, rest) = u64_at(bytes)?;
+    end(rest)?;
+    Ok(number)
+}
+
+fn value_alone(bytes: &[u8]) -> Result<&[u8], FrameFault>
+    ensures { Gives (λ x. x.now) result (one_of value_at bytes.now) }
+{
+    let (value, rest) = value_of(bytes)?;
+    end(rest)?;
+    Ok(value)
+}
+
+/// What stands behind so many XIDs.
+fn behind_names(count: u16, bytes: &[u8]) -> Result<&[u8], FrameFault>
+    ensures { Gives (λ x. x.now) result (rest_of (names_at count bytes.now)) }
+{
+    let mut rest = bytes;
+    for _ in 0..count {
+        let (_, after) = name_of(rest)?;
+        rest = after;
+    }
+    Ok(rest)
+}
+
+/// So many XIDs, which stand there.
+fn names_of(alloc: Global, count: u16, bytes: &[u8]) -> Result<Xids, FrameFault>
+    requires { IsOk (names_at count bytes.now) }
+    ensures { Answers result (value_of_first (names_at count bytes.now)) }
+{
+    let mut xids = Vec::with_capacity(alloc, usize::from(count))?;
+    let mut rest = bytes;
+    for _ in 0..count {
+        let (xid, after) = name_of(rest)?;
+        xids.push(xid)?;
+        rest = after;
+    }
+    Ok(Xids::new(xids))
+}
+
+#[tactic(auto, unfolding(crate::specs::Reading::xids_at))]
+fn xids_alone(alloc: Global, bytes: &[u8]) -> Result<Xids, FrameFault>
+    ensures { Answers result (one_of xids_at bytes.now) }
+{
+    let (count, names) = u16_at(bytes)?;
+    if count > 256 {
+        return Err(FrameFault::Field);
+    }
+    end(behind_names(count, names)?)?;
+    names_of(alloc, count, names)
+}
+
+/// The body that is all of the bytes.
+#[tactic(auto, unfolding(crate::specs::Reading::body_at))]
+fn body_of(alloc: Global, bytes: &[u8]) -> Result<Body, FrameFault>
+    ensures { Answers result (body_at bytes.now) }
+{
+    match bytes {
+        [] => Err(FrameFault::Short),
+        [0, rest @ ..] => {
+            end(rest)?;
+            Ok(Body::Nothing)
+        }
+        [1, rest @ ..] => {
+            let number = number_alone(rest)?;
+            Ok(Body::Number(number))
+        }
+        [2, rest @ ..] => {
+            let value = Bytes::from_slice(alloc, value_alone(rest)?)?;
+            Ok(Body::Value(value))
+        }
+        [3, rest @ ..] => {
+            end(rest)?;
+            Ok(Body::Absent)
+        }
+        [4, rest @ ..] => {
+            let xids = xids_alone(alloc, rest)?;
+            Ok(Body::Xids(xids))
+        }
+        [_, ..] => Err(FrameFault::Field),
+    }
+}
+
+#[tactic(auto, unfolding(crate::specs::Reading::answer_at))]
+fn answer_of(alloc: Global, bytes: &[u8]) -> Result<Reply, FrameFault>
+    ensures { Answers result (answer_at bytes.now) }
+{
+    let (code, rest) = code_of(bytes)?;
+    let (detail, rest) = detail_front(rest)?;
+    let (place, rest) = u64_at(rest)?;
+    let body = body_of(alloc, rest)?;
+    Ok(Reply {
+        code,
+        detail,
+        place,
+        body,
+    })
+}
+
+#[tactic(auto, unfolding(crate::specs::Reading::reply_at))]
+fn whole(alloc: Global, content: &[u8]) -> Result<Reply, FrameFault>
+    ensures { Answers result (reply_at content.now) }
+{
+    answer_of(alloc, versioned(content)?)
+}
+
+/// The reply whose content these bytes are, or the first fault, read from left to right. Memory is wanted only where
+/// they have none.
+pub fn decode_reply(alloc: Global, content: &[u8]) -> Result<Reply, FrameFault>
+    // What is decoded is spelled so.
+    ensures found { IfOk result (λ r. SpellsReply content.now r) }
+    // What is spelled so is decoded, unless memory is wanted.
+    ensures only { (r : Reply) → SpellsReply content.now r → IsOrWants result r }
+    ensures fault { IfErr result (IsFault (fault_of_reply content.now)) }
+{
+    whole(alloc, content)
+}

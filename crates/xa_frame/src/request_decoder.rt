@@ -1,0 +1,200 @@
+ghost use Rattle.std.specs.Int.{w32};
+ghost use Rattle.std.specs.Prelude.{◌≡◌, IfOk, IfErr};
+ghost use Rattle.xa_frame.specs.declared.request.Request.{Request};
+ghost use Rattle.xa_frame.specs.Answers.{Gives, Answers, IsOrWants, IsFault};
+ghost use Rattle.xa_frame.specs.Faults.{fault_of_request};
+ghost use Rattle.xa_frame.specs.Reading.{made, one_of, two_of, number_at, info_at, key_at, value_at, direction_at, name_at, fields_at, operation_at, versioned_at, request_at, branch_request};
+ghost use Rattle.xa_frame.specs.Spelling.{SpellsRequest};
+
+use crate::fault::FrameFault;
+use crate::fields::{direction_of, end, info_of, key_of, name_of, u32_at, value_of};
+use crate::numbers::call_numbered;
+use crate::request::Request;
+use std::alloc::Global;
+use xa_codes::{Bytes, Call, Direction};
+use xa_xid::Xid;
+
+/// The longest content of a frame.
+const LONGEST: usize = 65_535;
+
+fn flags_alone(bytes: &[u8]) -> Result<u32, FrameFault>
+    ensures { result ≡ one_of (number_at w32) bytes.now }
+{
+    let (flags, rest) = u32_at(bytes)?;
+    end(rest)?;
+    Ok(flags)
+}
+
+fn flags_and_info(bytes: &[u8]) -> Result<(u32, &[u8]), FrameFault>
+    ensures { Gives (λ x. (x.0, x.1.now)) result (two_of (number_at w32) info_at bytes.now) }
+{
+    let (flags, rest) = u32_at(bytes)?;
+    let (info, rest) = info_of(rest)?;
+    end(rest)?;
+    Ok((flags, info))
+}
+
+fn flags_and_xid(bytes: &[u8]) -> Result<(u32, Xid), FrameFault>
+    ensures { result ≡ two_of (number_at w32) name_at bytes.now }
+{
+    let (flags, rest) = u32_at(bytes)?;
+    let (xid, rest) = name_of(rest)?;
+    end(rest)?;
+    Ok((flags, xid))
+}
+
+fn flags_and_count(bytes: &[u8]) -> Result<(u32, u32), FrameFault>
+    ensures { result ≡ two_of (number_at w32) (number_at w32) bytes.now }
+{
+    let (flags, rest) = u32_at(bytes)?;
+    let (count, rest) = u32_at(rest)?;
+    end(rest)?;
+    Ok((flags, count))
+}
+
+fn key_alone(bytes: &[u8]) -> Result<&[u8], FrameFault>
+    ensures { Gives (λ x. x.now) result (one_of key_at bytes.now) }
+{
+    let (key, rest) = key_of(bytes)?;
+    end(rest)?;
+    Ok(key)
+}
+
+fn key_and_value(bytes: &[u8]) -> Result<(&[u8], &[u8]), FrameFault>
+    ensures { Gives (λ x. (x.0.now, x.1.now)) result (two_of key_at value_at bytes.now) }
+{
+    let (key, rest) = key_of(bytes)?;
+    let (value, rest) = value_of(rest)?;
+    end(rest)?;
+    Ok((key, value))
+}
+
+fn direction_and_xid(bytes: &[u8]) -> Result<(Direction, Xid), FrameFault>
+    ensures { result ≡ two_of direction_at name_at bytes.now }
+{
+    let (direction, rest) = direction_of(bytes)?;
+    let (xid, rest) = name_of(rest)?;
+    end(rest)?;
+    Ok((direction, xid))
+}
+
+fn xid_alone(bytes: &[u8]) -> Result<Xid, FrameFault>
+    ensures { result ≡ one_of name_at bytes.now }
+{
+    let (xid, rest) = name_of(bytes)?;
+    end(rest)?;
+    Ok(xid)
+}
+
+/// The request of this call whose fields are all of the bytes.
+#[tactic(auto, unfolding(crate::specs::Reading::fields_at))]
+fn fields_of(alloc: Global, call: Call, bytes: &[u8]) -> Result<Request, FrameFault>
+    ensures { Answers result (fields_at call bytes.now) }
+{
+    match call {
+        Call::Open => {
+            let (flags, info) = flags_and_info(bytes)?;
+            let info = Bytes::from_slice(alloc, info)?;
+            Ok(Request::Open { flags, info })
+        }
+        Call::Close => {
+            let flags = flags_alone(bytes)?;
+            Ok(Request::Close { flags })
+        }
+        Call::Recover => {
+            let (flags, count) = flags_and_count(bytes)?;
+            Ok(Request::Recover { flags, count })
+        }
+        Call::Get => {
+            let key = Bytes::from_slice(alloc, key_alone(bytes)?)?;
+            Ok(Request::Get { key })
+        }
+        Call::Put => {
+            let (key, value) = key_and_value(bytes)?;
+            let key = Bytes::from_slice(alloc, key)?;
+            let value = Bytes::from_slice(alloc, value)?;
+            Ok(Request::Put { key, value })
+        }
+        Call::Delete => {
+            let key = Bytes::from_slice(alloc, key_alone(bytes)?)?;
+            Ok(Request::Delete { key })
+        }
+        Call::Restart => {
+            end(bytes)?;
+            Ok(Request::Restart)
+        }
+        Call::Decide => {
+            let (direction, xid) = direction_and_xid(bytes)?;
+            Ok(Request::Decide { direction, xid })
+        }
+        Call::Doom => {
+            let xid = xid_alone(bytes)?;
+            Ok(Request::Doom { xid })
+        }
+        Call::Start | Call::End | Call::Prepare | Call::Commit | Call::Rollback | Call::Forget => {
+            let (flags, xid) = flags_and_xid(bytes)?;
+            Ok(on_branch(call, flags, xid))
+        }
+    }
+}
+
+/// The call on a branch: Forget where it is none of the five before it.
+fn on_branch(call: Call, flags: u32, xid: Xid) -> Request
+    ensures { result ≡ branch_request call flags xid }
+{
+    match call {
+        Call::Start => Request::Start { flags, xid },
+        Call::End => Request::End { flags, xid },
+        Call::Prepare => Request::Prepare { flags, xid },
+        Call::Commit => Request::Commit { flags, xid },
+        Call::Rollback => Request::Rollback { flags, xid },
+        _ => Request::Forget { flags, xid },
+    }
+}
+
+#[tactic(auto, unfolding(crate::specs::Reading::operation_at))]
+fn operation_of(alloc: Global, bytes: &[u8]) -> Result<Request, FrameFault>
+    ensures { Answers result (operation_at bytes.now) }
+{
+    match bytes {
+        [] => Err(FrameFault::Short),
+        [number, fields @ ..] => match call_numbered(*number) {
+            Some(call) => fields_of(alloc, call, fields),
+            None => Err(FrameFault::Operation),
+        },
+    }
+}
+
+/// What stands behind the version of a content that isn't too long.
+#[tactic(auto, unfolding(crate::specs::Reading::versioned_at))]
+pub(crate) fn versioned(bytes: &[u8]) -> Result<&[u8], FrameFault>
+    ensures { Gives (λ x. x.now) result (versioned_at bytes.now) }
+{
+    if bytes.len() > LONGEST {
+        return Err(FrameFault::Long);
+    }
+    match bytes {
+        [] => Err(FrameFault::Short),
+        [1, rest @ ..] => Ok(rest),
+        [_, ..] => Err(FrameFault::Version),
+    }
+}
+
+#[tactic(auto, unfolding(crate::specs::Reading::request_at))]
+fn whole(alloc: Global, content: &[u8]) -> Result<Request, FrameFault>
+    ensures { Answers result (request_at content.now) }
+{
+    operation_of(alloc, versioned(content)?)
+}
+
+/// The request whose content these bytes are, or the first fault, read from left to right. Memory is wanted only where
+/// they have none.
+pub fn decode_request(alloc: Global, content: &[u8]) -> Result<Request, FrameFault>
+    // What is decoded is spelled so.
+    ensures found { IfOk result (λ r. SpellsRequest content.now r) }
+    // What is spelled so is decoded, unless memory is wanted.
+    ensures only { (r : Request) → SpellsRequest content.now r → IsOrWants result r }
+    ensures fault { IfErr result (IsFault (fault_of_request content.now)) }
+{
+    whole(alloc, content)
+}
