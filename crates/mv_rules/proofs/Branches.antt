@@ -11,7 +11,7 @@ use Rattle.xa_model.specs.State.{Branch, Operation, Got, Wrote, Working, is_know
 use Rattle.xa_model.specs.Branches.{as_committed}
 use Rattle.xa_model.specs.Records.{having_done}
 use Rattle.xa_model.specs.Laws.{Descends}
-use Rattle.xa_model.proofs.Times.{stands_known}
+use Rattle.xa_model.proofs.Times.{known_below}
 use Rattle.mv_rules.specs.History.{wrote}
 use Rattle.mv_rules.specs.Ties.{fate_of, writes_by, writes_one, writes_in}
 use Rattle.mv_rules.proofs.Moved.{IsSameWrites, same_itself, same_then, same_after, same_past, same_without}
@@ -58,7 +58,7 @@ pub wrote_first : (xid : Triple) (b : Branch) (key : List ℕ) (value : Option (
     → IsSameWrites (wrote b.timestamp key value ∷ writes_in bs) (writes_in (change (is_known_as xid) (having_done (Wrote key value)) bs))
 wrote_first xid b key value limit [] h found working = absurd (cc found)
 wrote_first xid b key value limit (c ∷ bs) h found working =
-    wrote_by xid b c key value bs (is_known_as xid c) refl found working (λ e. (stands_known xid b c.timestamp bs h.2 e).below) (λ e. wrote_first xid b key value c.timestamp bs h.2 e working)
+    wrote_by xid b c key value bs (is_known_as xid c) refl found working (λ e. known_below xid b c.timestamp bs h.2 e) (λ e. wrote_first xid b key value c.timestamp bs h.2 e working)
 
 -- a fate is decided
 
@@ -105,7 +105,7 @@ committed_by xid b c bs false is found h under ih =
 pub committed_writes : (xid : Triple) (b : Branch) (limit : ℕ) (bs : List Branch) → Descends limit bs → known_of bs xid ≡ Some b → decided b.timestamp kept (writes_in bs) ≡ writes_in (change (is_known_as xid) as_committed bs)
 committed_writes xid b limit [] h found = absurd (cc found)
 committed_writes xid b limit (c ∷ bs) h found =
-    committed_by xid b c bs (is_known_as xid c) refl found h.2 (λ e. (stands_known xid b c.timestamp bs h.2 e).below) (λ e. committed_writes xid b c.timestamp bs h.2 e)
+    committed_by xid b c bs (is_known_as xid c) refl found h.2 (λ e. known_below xid b c.timestamp bs h.2 e) (λ e. committed_writes xid b c.timestamp bs h.2 e)
 
 -- Roll back: the writes may be left out
 
@@ -137,4 +137,4 @@ gone_by xid b c bs false is found h under ih =
 pub gone_writes : (xid : Triple) (b : Branch) (limit : ℕ) (bs : List Branch) → Descends limit bs → known_of bs xid ≡ Some b → IsSameWrites (decided b.timestamp gone (writes_in bs)) (writes_in (without (is_known_as xid) bs))
 gone_writes xid b limit [] h found = absurd (cc found)
 gone_writes xid b limit (c ∷ bs) h found =
-    gone_by xid b c bs (is_known_as xid c) refl found h.2 (λ e. (stands_known xid b c.timestamp bs h.2 e).below) (λ e. gone_writes xid b c.timestamp bs h.2 e)
+    gone_by xid b c bs (is_known_as xid c) refl found h.2 (λ e. known_below xid b c.timestamp bs h.2 e) (λ e. gone_writes xid b c.timestamp bs h.2 e)

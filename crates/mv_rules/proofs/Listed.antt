@@ -46,9 +46,6 @@ pub record SettledUpto (ts : ℕ) (fate : Fate) (own : List Own) (old new : List
   pub listed : (i : ℕ) → i < length old → is_listed i own ≡ true → (get_or new i fresh ≡ settled ts fate (get_or old i fresh)) × IsSettled ts fate (get_or old i fresh) (settled ts fate (get_or old i fresh))
   pub others : (i : ℕ) → is_listed i own ≡ false → get_or new i fresh ≡ get_or old i fresh
 
-pub settled_none : (ts : ℕ) (fate : Fate) (xs : List (List Version)) → SettledUpto ts fate [] xs xs
-settled_none ts fate xs = record { len = refl; listed = λ i lt e. absurd (grind (arith, e)); others = λ i e. refl }
-
 pub listed_append : (i : ℕ) (o : Own) (own : List Own) → is_listed i (own ++ o ∷ []) ≡ (is_listed i own || (i == o.place))
 listed_append i o [] = grind arith
 listed_append i o (x ∷ xs) = grind (arith, listed_append i o xs)

@@ -10,7 +10,7 @@ use Rattle.xa_xid.specs.Triple.{Triple}
 use Rattle.xa_model.specs.State.{Branch, Operation, Got, Wrote, Working, is_known_as, known_of}
 use Rattle.xa_model.specs.Source.{write_of, written_keys}
 use Rattle.xa_model.specs.Laws.{Descends}
-use Rattle.xa_model.proofs.Times.{stands_known}
+use Rattle.xa_model.proofs.Times.{known_below}
 use Rattle.mv_rules.specs.History.{open_keys}
 use Rattle.mv_rules.specs.Ties.{fate_of, writes_by, writes_one, writes_in}
 use Rattle.mv_rules.proofs.Ties.{bytes_eq_swapped}
@@ -140,7 +140,7 @@ works_by xid b c bs false is found working h under ih = tail_works b c bs (under
 pub at_work : (xid : Triple) (b : Branch) (limit : ℕ) (bs : List Branch) → Descends limit bs → known_of bs xid ≡ Some b → b.phase ≡ Working → IsAtWork b bs
 at_work xid b limit [] h found working = absurd (cc found)
 at_work xid b limit (c ∷ bs) h found working =
-    works_by xid b c bs (is_known_as xid c) refl found working h.2 (λ e. (stands_known xid b c.timestamp bs h.2 e).below) (λ e. at_work xid b c.timestamp bs h.2 e working)
+    works_by xid b c bs (is_known_as xid c) refl found working h.2 (λ e. known_below xid b c.timestamp bs h.2 e) (λ e. at_work xid b c.timestamp bs h.2 e working)
 
 -- timestamps of branches are above 0
 pub above_zero : (xid : Triple) (b : Branch) (limit : ℕ) (bs : List Branch) → Descends limit bs → known_of bs xid ≡ Some b → 0 < b.timestamp

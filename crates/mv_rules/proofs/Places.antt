@@ -230,39 +230,6 @@ lists_same h h2 r r2 writes places lists l =
       count = λ t. rw (lists t, writes) (l.count t);
     }
 
--- a key that nobody wrote or read
-fresh_stands : (key : List ℕ) (low : ℕ) → ChainStandsFor key low [] [] fresh
-fresh_stands key low = record { seen = λ gone t le. either (nat_le 0 t); late = λ t le. grind (arith, nat_tests); based = grind (arith, nat_tests) }
-  where
-    base : Seen
-    base = record { from = 0; value = None; pending = false }
-
-    either : (x : Bool) → (if x && true then base else base) ≡ base
-    either true = refl
-    either false = refl
-
-pub stands_new : (low : ℕ) (r : Records) → r.places.entries ≡ [] → r.written.entries ≡ [] → StandsFor (record { low = low; writes = []; reads = [] }) r
-stands_new low r places written =
-    record {
-      chains = record {
-        chains = λ key. rw (none key) (fresh_stands key low);
-        within = λ key i e. let bad : None ≡ Some i = sym (none key) ∙ e in absurd (cc);
-        apart = λ a b i e f. let bad : None ≡ Some i = sym (none a) ∙ e in absurd (cc);
-      };
-      lists = record {
-        listed = λ t key i e. let bad : None ≡ Some i = sym (none key) ∙ e in absurd (cc);
-        unplaced = λ t key e. refl;
-        named = λ t. rw (empty t) tt;
-        count = λ t. rw (empty t) refl;
-      };
-    }
-  where
-    none : (key : List ℕ) → place_of key r ≡ None
-    none key = ap (λ es. found_at key es) places
-
-    empty : (t : ℕ) → own_of t r ≡ []
-    empty t = rw written refl
-
 -- where the code leaves everything as it was
 pub stands_alike : (h : History) (r r2 : Records) → ((q : List ℕ) → place_of q r2 ≡ place_of q r) → r2.chains.items ≡ r.chains.items → ((t : ℕ) → own_of t r2 ≡ own_of t r) → StandsFor h r → StandsFor h r2
 stands_alike h r r2 places same lists s =

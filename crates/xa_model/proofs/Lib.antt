@@ -8,4 +8,3 @@ pub mod Names
 pub mod Known
 pub mod Times
 pub mod Held
-pub mod Newest

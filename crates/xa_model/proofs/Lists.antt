@@ -1,18 +1,8 @@
 -- Lists in which the first member that passes is found, is changed, or leaves.
-use Rattle.std.proofs.Common.{◌≡◌, ℕ, suc, ◌+◌, ◌<◌, ◌≤◌, ltb, Bool, true, false, cond, List, [], ◌∷◌, length, get_or, Some, None, refl, ap, subst, arith}
+use Rattle.std.proofs.Common.{◌≡◌, ℕ, suc, ◌+◌, Bool, true, false, cond, List, [], ◌∷◌, length, Some, None, refl, ap, subst, arith}
 use Rattle.std.specs.Prelude.{option_map}
-use Rattle.std.specs.List.{find, position, position_or_len, AllByRecursion}
-use Rattle.std.proofs.lemmas.Bool.Decides.{nat_tests}
-use Rattle.std.proofs.lemmas.List.Sums.{fails_before_first}
+use Rattle.std.specs.List.{find, AllByRecursion}
 use Rattle.xa_model.specs.State.{without, change}
-
-past_by : (n m : ℕ) → cond (ltb n m) (Some n) None ≡ None → m ≤ n
-past_by n m none = grind (arith, nat_tests)
-
--- where no member passes
-pub position_none : {A : Type 0} (p : A → Bool) (xs : List A) (d : A) → position p xs ≡ None → (k : ℕ) → k < length xs → p (get_or xs k d) ≡ false
-position_none p xs d none k lt =
-    let past : length xs ≤ position_or_len p xs = past_by (position_or_len p xs) (length xs) none in fails_before_first p xs k d (omega arith)
 
 found_by : {A : Type 0} (p : A → Bool) (x y : A) (xs : List A) (c : Bool) → p x ≡ c → (find p xs ≡ Some y → p y ≡ true) → cond c (Some x) (find p xs) ≡ Some y → p y ≡ true
 found_by p x y xs true is rest h = let same : x ≡ y = cc h in subst (λ z. p z ≡ true) same is

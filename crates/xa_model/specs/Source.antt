@@ -1,6 +1,6 @@
 -- Multiversion timestamp ordering (Bernstein, Hadzilacos and Goodman, 5.3): which version of a key a timestamp reads,
 -- and which write comes too late.
-use Rattle.std.specs.Prelude.{ℕ, ◌+◌, ◌==◌, Bool, true, false, not, ◌&&◌, Option, Some, None, List, [], ◌∷◌, fold, find, filter_map, option_map, bytes_eq, is_some, nat_le, nat_lt, if◌then◌else◌}
+use Rattle.std.specs.Prelude.{ℕ, ◌+◌, ◌==◌, Bool, true, false, not, ◌&&◌, Option, Some, None, List, [], ◌∷◌, fold, filter_map, option_map, bytes_eq, is_some, nat_le, nat_lt, if◌then◌else◌}
 use Rattle.std.specs.List.{list_any}
 use Rattle.xa_model.specs.State.{Operation, Got, Wrote, Phase, Working, Prepared, HeuristicallyCommitted, HeuristicallyRolledBack, Committed, Branch, Read, is_committed}
 
@@ -53,10 +53,6 @@ newest t versions = fold (later t) absent versions
 -- what the timestamp t reads of the key
 abbrev pub source : List ℕ → ℕ → List Branch → Version
 source key t branches = newest t (versions_of key branches)
-
--- the version at a timestamp
-abbrev pub version_at : ℕ → List Version → Option Version
-version_at u versions = find (λ v. v.timestamp == u) versions
 
 -- the source is another branch's that is undecided
 abbrev pub is_busy : ℕ → Version → Bool
