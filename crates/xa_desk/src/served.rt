@@ -1,0 +1,14 @@
+/// How a connection ended.
+#[derive(Clone, Copy, Debug, PartialEq, Eq)]
+pub enum Served {
+    /// The input ended before the first byte of a frame.
+    Ended,
+    /// A read failed, the input ended inside a frame, or 4,294,967,295 frames were read.
+    ReadFault,
+    /// A write failed or took nothing.
+    WriteFault,
+    /// A frame's length was above 65,535.
+    TooLong,
+    /// A buffer or a reply's bytes found no memory.
+    Memory,
+}
