@@ -1,5 +1,5 @@
 ghost use Rattle.std.specs.Io.KnownBytes.{Appends, Keeps};
-ghost use Rattle.std.specs.Prelude.{◌≡◌, ◌<◌, ◌⊎◌, IfErr, IfSome, IsErrOf, List, OnErr, OnOk, length, true, ℕ};
+ghost use Rattle.std.specs.Prelude.{◌≡◌, ◌<◌, ◌≤◌, ◌⊎◌, IfErr, IfSome, IsErrOf, List, OnErr, OnOk, length, true, ℕ};
 ghost use Rattle.xa_manager.specs.Answered.{Answered};
 ghost use Rattle.xa_manager.specs.Managed.{kept};
 ghost use Rattle.xa_manager.specs.Stands.{is_memory};
@@ -32,6 +32,7 @@ pub fn play_run<R: Read + Drop, W: Write>(
     // The script is what the reader gives, where that is known.
     ensures played { OnOk result ((script : List ℕ) × IfSome (R.remaining reader.old) (λ bytes. script ≡ bytes)
         × Plays settings.name settings.log_bytes script (W.contents writer.old) (W.contents writer.new)) }
+    ensures limits { OnOk result ((length settings.name ≤ 255) × (64 ≤ settings.log_bytes) × (settings.log_bytes ≤ 1_073_741_824)) }
     ensures setting { IsErrOf result PlayFault.Setting →
         (255 < length settings.name) ⊎ (settings.log_bytes < 64) ⊎ (1_073_741_824 < settings.log_bytes) }
     ensures too_long { IsErrOf result PlayFault.TooLong → IfSome (R.remaining reader.old) (λ bytes. 16_777_216 < length bytes) }
