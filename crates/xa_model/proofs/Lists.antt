@@ -1,5 +1,5 @@
 -- Lists in which the first member that passes is found, is changed, or leaves.
-use Rattle.std.proofs.Common.{◌≡◌, ℕ, suc, ◌+◌, Bool, true, false, cond, List, [], ◌∷◌, length, Some, None, refl, ap, subst, arith}
+use Rattle.std.proofs.Common.{◌≡◌, suc, ◌+◌, Bool, true, false, cond, List, [], ◌∷◌, length, Some, refl, ap, subst, arith}
 use Rattle.std.specs.Prelude.{option_map}
 use Rattle.std.specs.List.{find, AllByRecursion}
 use Rattle.xa_model.specs.State.{without, change}
