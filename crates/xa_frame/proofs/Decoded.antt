@@ -31,6 +31,14 @@ pub fault : {A : Type 0} (r read : Result A FrameFault) (fault : Option FrameFau
 fault (Ok x) read f a h = tt
 fault (Err e) read f a h = which read e f a h
 
+wants : {A : Type 0} (read : Result A FrameFault) (e : FrameFault) (fault : Option FrameFault) → (read ≡ Err e) ⊎ ((e ≡ Memory) × IsOk read) → fault_of read ≡ fault → (fault ≡ Some Memory → ⊥) → e ≡ Memory → fault ≡ None
+wants read e fault (inl p) h s same = absurd (s (sym h ∙ ap fault_of p ∙ ap Some same))
+wants read e fault (inr p) h s same = sym h ∙ none_of read p.1
+
+pub memory : {A : Type 0} (r read : Result A FrameFault) (fault : Option FrameFault) → Answers r read → fault_of read ≡ fault → (fault ≡ Some Memory → ⊥) → r ≡ Err Memory → fault ≡ None
+memory (Ok x) read f a h s e = absurd cc
+memory (Err d) read f a h s e = wants read d f a h s (let same : d ≡ Memory = cc in same)
+
 -- ---- laws
 
 pub no_fault : {A : Type 0} (read : Result A FrameFault) → fault_of read ≡ None → (x : A) × (read ≡ Ok x)
