@@ -204,7 +204,11 @@ fn converse<D: Door, R: Read, W: Write>(
     Served::ReadFault
 }
 
-/// Serves a session on a connection, and hangs it up.
+/// Serves a session on a connection until it ends, and hangs the session up, always and once.
+///
+/// Of each frame it reads the first byte, the other three of the length, and the content, and nothing beyond: what
+/// stands behind the last frame or behind a length above 65,535 is left in the reader. So the caller hands in a reader
+/// with a buffer. The frame of each reply is handed to the writer whole, and again only where the writer took a part.
 pub fn serve<D: Door, R: Read, W: Write>(
     alloc: Global,
     door: &mut D,
