@@ -1,5 +1,5 @@
 -- The rule of faults never says that memory was wanted.
-use Rattle.std.proofs.Common.{◌≡◌, ℕ, zero, suc, Bool, true, false, cond, eqb, ltb, ◌||◌, List, [], ◌∷◌, length, take, drop, Option, Some, None, Result, Ok, Err, sym, ap, ◌∙◌}
+use Rattle.std.proofs.Common.{◌≡◌, ℕ, zero, suc, Bool, true, false, cond, eqb, ltb, ◌||◌, List, [], ◌∷◌, length, take, drop, Option, Some, None, Result, Ok, Err, ap}
 use Rattle.std.specs.Int.{w16, from_be_bytes}
 use Rattle.xa_codes.specs.declared.call.Call.{Call}
 use Rattle.xa_codes.specs.declared.call.Call.TheVariants as call
@@ -7,7 +7,7 @@ use Rattle.xa_codes.specs.declared.detail.Detail.{Detail}
 use Rattle.xa_xid.specs.Triple.{Triple}
 use Rattle.xa_xid.specs.Reading.{xid_at}
 use Rattle.xa_frame.specs.declared.fault.FrameFault.{FrameFault}
-use Rattle.xa_frame.specs.declared.fault.FrameFault.TheVariants.{Short, Long, Version, Operation, Field, Trailing, Memory}
+use Rattle.xa_frame.specs.declared.fault.FrameFault.TheVariants.{Short, Long, Version, Field, Trailing, Memory}
 use Rattle.xa_frame.specs.Spelling.{numbered, detail_numbered}
 use Rattle.xa_frame.specs.Faults.{After, after_bytes, after_info, after_key, after_value, after_direction, after_detail, behind, after_xid, and_then, after_each, after_xids, if_some, after_body, go_on, fault_in, fields, fault_of_fields, fault_of_operation, fault_behind_version, fault_unless_long, fault_of_request, fault_of_reply}
 

@@ -1,6 +1,5 @@
 use Rattle.std.proofs.Common.{◌∙◌, ap, sym, arith, length}
 use Rattle.xa_frame.specs.Reading.{reply_at}
-use Rattle.xa_frame.specs.Faults.{fault_of_reply}
 use Rattle.xa_frame.proofs.Digits.{ok_is}
 use Rattle.xa_frame.proofs.Whole.{fault_of}
 use Rattle.xa_frame.proofs.Decoded.{no_fault}

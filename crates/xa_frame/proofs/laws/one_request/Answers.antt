@@ -1,6 +1,5 @@
 use Rattle.std.proofs.Common.{◌∙◌, ap, sym}
 use Rattle.xa_frame.specs.Reading.{request_at}
-use Rattle.xa_frame.specs.Faults.{fault_of_request}
 use Rattle.xa_frame.proofs.Digits.{ok_is}
 use Rattle.xa_frame.proofs.Whole.{fault_of}
 use Rattle.xa_frame.proofs.Decoded.{no_fault}
