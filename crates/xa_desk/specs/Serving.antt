@@ -1,5 +1,5 @@
 -- What one connection did.
-use Rattle.std.specs.Prelude.{◌≡◌, ◌≢◌, ◌⊎◌, ℕ, ◌<◌, ◌≤◌, List, [], ◌∷◌, ◌++◌, length, Option, Some, Bool, true, false}
+use Rattle.std.specs.Prelude.{◌≡◌, ◌≢◌, ◌⊎◌, ℕ, ◌<◌, ◌≤◌, List, [], ◌∷◌, ◌++◌, length, Option, Some, None, Bool, true, false}
 use Rattle.std.specs.List.{flat_map}
 use Rattle.std.specs.Int.{to_be_bytes, w32}
 use Rattle.std.specs.Io.KnownBytes.{Consumes, Appends}
@@ -7,7 +7,6 @@ use Rattle.xa_frame.specs.declared.fault.FrameFault.{FrameFault}
 use Rattle.xa_frame.specs.declared.fault.FrameFault.TheVariants as faults
 use Rattle.xa_frame.specs.declared.request.Request.{Request}
 use Rattle.xa_frame.specs.declared.reply.Reply.{Reply}
-use Rattle.xa_frame.specs.Answers.{IsFault}
 use Rattle.xa_frame.specs.Faults.{fault_of_request}
 use Rattle.xa_frame.specs.Spelling.{SpellsRequest}
 use Rattle.xa_desk.specs.declared.served.Served.{Served}
@@ -22,9 +21,9 @@ Called called d content reply e = (q : Request) × SpellsRequest content q × ca
 abbrev pub Refused : {D : Type 0} → D → List ℕ → Reply → D → Type 0
 Refused d content reply e = (f : FrameFault) × (f ≢ faults.Memory) × (fault_of_request content ≡ Some f) × (e ≡ d) × (reply ≡ refused)
 
--- decoding found no memory, and no door was reached
+-- the content has no fault, but decoding found no memory, and no door was reached
 abbrev pub Wanted : {D : Type 0} → D → List ℕ → Reply → D → Type 0
-Wanted d content reply e = IsFault (fault_of_request content) faults.Memory × (e ≡ d) × (reply ≡ without_memory)
+Wanted d content reply e = (fault_of_request content ≡ None) × (e ≡ d) × (reply ≡ without_memory)
 
 -- one content and its reply
 abbrev pub Answers : {D : Type 0} → (D → Request → Reply → D → Type 0) → D → List ℕ → Reply → D → Type 0

@@ -35,15 +35,14 @@ fn read_front<R: Read>(reader: &mut R) -> Front
     ensures length { (n : ℕ) → result ≡ Front.Length n → Consumes (R.remaining reader.old) (R.remaining reader.new) (to_be_bytes w32 n) }
     ensures end { result ≡ Front.End → Consumes (R.remaining reader.old) (R.remaining reader.new) [] × IsAtEnd (R.remaining reader.new) }
 {
-    let mut first = [0u8; 1];
-    match reader.read(&mut first) {
+    let mut front = [0u8; 4];
+    let count = match reader.read(&mut front) {
         Ok(0) => return Front::End,
-        Ok(_) => {}
+        Ok(count) => count,
         Err(_) => return Front::Fault,
-    }
-    let mut rest = [0u8; 3];
-    match reader.read_exact(&mut rest) {
-        Ok(()) => Front::Length(number_of(first[0], rest[0], rest[1], rest[2])),
+    };
+    match reader.read_exact(&mut front[count..]) {
+        Ok(()) => Front::Length(number_of(front[0], front[1], front[2], front[3])),
         Err(_) => Front::Fault,
     }
 }
@@ -204,7 +203,12 @@ fn converse<D: Door, R: Read, W: Write>(
     Served::ReadFault
 }
 
-/// Serves a session on a connection, and hangs it up.
+/// Serves a session on a connection until it ends, and hangs the session up, always and once.
+///
+/// Of each frame it reads the length and then the content, each by one read where the reader gives all that is asked,
+/// and nothing beyond: what stands behind the last frame or behind a length above 65,535 is left in the reader. So the
+/// caller may hand in a reader with a buffer. The frame of each reply is handed to the writer whole, and again only
+/// where the writer took a part.
 pub fn serve<D: Door, R: Read, W: Write>(
     alloc: Global,
     door: &mut D,

@@ -8,3 +8,6 @@ mod served;
 pub use connection::serve;
 pub use door::Door;
 pub use served::Served;
+
+#[cfg(test)]
+mod tests;

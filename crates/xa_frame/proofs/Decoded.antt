@@ -1,10 +1,10 @@
 -- What a decoder answered, in the words of the grammar.
-use Rattle.std.proofs.Common.{◌≡◌, ℕ, List, get_or, ◌<◌, Option, Some, None, Result, Ok, Err, refl, sym, ap, subst, ◌∙◌, inl, inr}
+use Rattle.std.proofs.Common.{◌≡◌, Option, Some, None, Result, Ok, Err, refl, sym, ap, ◌∙◌, inl, inr}
 use Rattle.std.specs.Prelude.{IfOk, IfErr, IsOk, ◌⊎◌}
 use Rattle.xa_frame.specs.declared.fault.FrameFault.{FrameFault}
 use Rattle.xa_frame.specs.declared.fault.FrameFault.TheVariants.{Memory}
 use Rattle.xa_frame.specs.Answers.{Answers, IsOrWants, IsFault}
-use Rattle.xa_frame.proofs.Digits.{IsBytes, ok_is}
+use Rattle.xa_frame.proofs.Digits.{ok_is}
 use Rattle.xa_frame.proofs.Whole.{fault_of}
 
 pub found : {A : Type 0} (r read : Result A FrameFault) (P : A → Type 0) → Answers r read → ((x : A) → read ≡ Ok x → P x) → IfOk r P
@@ -30,6 +30,14 @@ which read e fault (inr p) h = inr (p.0, sym h ∙ none_of read p.1)
 pub fault : {A : Type 0} (r read : Result A FrameFault) (fault : Option FrameFault) → Answers r read → fault_of read ≡ fault → IfErr r (IsFault fault)
 fault (Ok x) read f a h = tt
 fault (Err e) read f a h = which read e f a h
+
+wants : {A : Type 0} (read : Result A FrameFault) (e : FrameFault) (fault : Option FrameFault) → (read ≡ Err e) ⊎ ((e ≡ Memory) × IsOk read) → fault_of read ≡ fault → (fault ≡ Some Memory → ⊥) → e ≡ Memory → fault ≡ None
+wants read e fault (inl p) h s same = absurd (s (sym h ∙ ap fault_of p ∙ ap Some same))
+wants read e fault (inr p) h s same = sym h ∙ none_of read p.1
+
+pub memory : {A : Type 0} (r read : Result A FrameFault) (fault : Option FrameFault) → Answers r read → fault_of read ≡ fault → (fault ≡ Some Memory → ⊥) → r ≡ Err Memory → fault ≡ None
+memory (Ok x) read f a h s e = absurd cc
+memory (Err d) read f a h s e = wants read d f a h s (let same : d ≡ Memory = cc in same)
 
 -- ---- laws
 

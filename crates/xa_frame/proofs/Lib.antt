@@ -5,3 +5,4 @@ pub mod Whole
 pub mod Requests
 pub mod Replies
 pub mod Decoded
+pub mod Sound

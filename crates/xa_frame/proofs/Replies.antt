@@ -1,10 +1,9 @@
 -- What is read is a reply's content, a reply's content is read again, and which fault the others have.
-use Rattle.std.proofs.Common.{◌≡◌, ℕ, ◌+◌, ◌*◌, ◌<◌, ◌≤◌, ◌^◌, Bool, true, false, cond, eqb, List, [], ◌∷◌, ◌++◌, length, All, Option, Some, None, Result, Ok, Err, refl, sym, ap, subst, ◌∙◌, append_assoc, arith}
-use Rattle.std.specs.Int.{w16, w32, w64, to_be_bytes}
-use Rattle.std.specs.Prelude.{ℤ, FitsSigned}
+use Rattle.std.proofs.Common.{◌≡◌, ℕ, ◌*◌, ◌≤◌, Bool, true, false, cond, eqb, List, [], ◌∷◌, ◌++◌, length, Result, Ok, Err, refl, ap, subst, ◌∙◌, arith}
+use Rattle.std.specs.Int.{w16, w64, to_be_bytes}
+use Rattle.std.specs.Prelude.{ℤ}
 use Rattle.std.specs.List.{flat_map, AllByRecursion}
 use Rattle.std.proofs.lemmas.List.{length-append}
-use Rattle.std.proofs.lemmas.List.Concat.{flat_map-cons}
 use Rattle.std.proofs.lemmas.List.Elements.{All-from_recursion, recursion_from_All}
 use Rattle.xa_codes.specs.declared.detail.Detail.{Detail}
 use Rattle.xa_xid.specs.Triple.{Triple, IsWithinLimits}
@@ -15,10 +14,10 @@ use Rattle.xa_frame.specs.declared.body.Body.{Body}
 use Rattle.xa_frame.specs.declared.body.Body.TheVariants as body
 use Rattle.xa_frame.specs.declared.reply.Reply.{Reply}
 use Rattle.xa_frame.specs.Limits.{IsBody, IsReply, HoldsBody, HoldsReply}
-use Rattle.xa_frame.specs.Spelling.{value_bytes, xids_bytes, detail_bytes, body_bytes, bytes_of_reply, SpellsReply}
+use Rattle.xa_frame.specs.Spelling.{xids_bytes, detail_bytes, body_bytes, bytes_of_reply, SpellsReply}
 use Rattle.xa_frame.specs.Faults.{After, after_bytes, after_value, after_detail, after_xids, after_body, go_on, fault_in, fault_of_reply}
 use Rattle.xa_frame.specs.Reading.{◌>>=◌, Reads, ended, one_of, made, number_at, value_at, xids_at, code_at, detail_at, body_at, answer_at, versioned_at, reply_at}
-use Rattle.xa_frame.proofs.Digits.{IsBytes, IsBytes-rest, bind_ok, ok_is, Takes, Takes-then}
+use Rattle.xa_frame.proofs.Digits.{IsBytes, IsBytes-rest, bind_ok, ok_is}
 use Rattle.xa_frame.proofs.Readers.{IsField, number64, value, xids, AreNames, code, code_bytes, about, eqb_true}
 use Rattle.xa_frame.proofs.Whole.{fault_of, ended_is, ended_fault, step_fault, one_takes, one_again, one_fault, made_ok, made_fault}
 use Rattle.xa_frame.proofs.Requests.{versioned_is, versioned_again, versioned_fault, name_short}

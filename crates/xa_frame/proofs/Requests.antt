@@ -1,21 +1,20 @@
 -- What is read is a request's content, a request's content is read again, and which fault the others have.
-use Rattle.std.proofs.Common.{◌≡◌, ℕ, ◌+◌, ◌<◌, ◌≤◌, ◌^◌, Bool, true, false, cond, eqb, ltb, List, [], ◌∷◌, ◌++◌, length, Option, Some, None, Result, Ok, Err, refl, sym, ap, subst, ◌∙◌, arith}
+use Rattle.std.proofs.Common.{◌≡◌, ℕ, ◌≤◌, Bool, true, false, cond, eqb, ltb, List, [], ◌∷◌, ◌++◌, length, Option, Some, None, Result, Ok, Err, refl, sym, ap, subst, ◌∙◌, arith}
 use Rattle.std.specs.Int.{w16, w32, to_be_bytes}
-use Rattle.std.proofs.lemmas.Bool.{ltb-false, le-ltb}
+use Rattle.std.proofs.lemmas.Bool.{le-ltb}
 use Rattle.std.proofs.lemmas.List.{length-append}
 use Rattle.xa_codes.specs.declared.call.Call.{Call}
 use Rattle.xa_codes.specs.declared.call.Call.TheVariants as call
-use Rattle.xa_codes.specs.declared.direction.Direction.{Direction}
 use Rattle.xa_xid.specs.Triple.{Triple, IsWithinLimits}
 use Rattle.xa_xid.specs.Spelling.{bytes_of}
 use Rattle.xa_frame.specs.declared.fault.FrameFault.{FrameFault}
 use Rattle.xa_frame.specs.declared.fault.FrameFault.TheVariants.{Long, Version}
 use Rattle.xa_frame.specs.declared.request.Request.{Request}
 use Rattle.xa_frame.specs.declared.request.Request.TheVariants as request
-use Rattle.xa_frame.specs.Limits.{IsKey, IsValue, IsInfo, IsRequest, Holds}
+use Rattle.xa_frame.specs.Limits.{IsRequest, Holds}
 use Rattle.xa_frame.specs.Spelling.{short_bytes, value_bytes, direction_bytes, operation, calls, numbered, call_of, fields_bytes, bytes_of_request, SpellsRequest}
 use Rattle.xa_frame.specs.Faults.{After, fault_in, fields, fault_of_fields, fault_of_operation, fault_behind_version, fault_of_request}
-use Rattle.xa_frame.specs.Reading.{◌>>=◌, Reads, ended, one_of, two_of, made, number_at, info_at, key_at, value_at, direction_at, name_at, fields_at, fields_of, operation_at, behind_version, versioned_at, request_at}
+use Rattle.xa_frame.specs.Reading.{◌>>=◌, Reads, one_of, two_of, made, number_at, info_at, key_at, value_at, direction_at, name_at, fields_at, fields_of, operation_at, behind_version, versioned_at, request_at}
 use Rattle.xa_frame.proofs.Digits.{IsBytes, IsBytes-rest, bind_ok, guard_ok, ok_is, done}
 use Rattle.xa_frame.proofs.Readers.{IsField, number32, info, key, value, direction, name, found_holds, eqb_true}
 use Rattle.xa_frame.proofs.Whole.{fault_of, ended_is, ended_fault, one_takes, one_again, one_fault, two_takes, two_again, two_fault, made_ok, made_fault}

@@ -1,11 +1,11 @@
 -- All of the bytes as one field, or as two: what is read is what was written, and which fault it is.
-use Rattle.std.proofs.Common.{◌≡◌, ℕ, Bool, true, false, cond, eqb, List, [], ◌∷◌, ◌++◌, length, Option, Some, None, Result, Ok, Err, refl, sym, ap, subst, ◌∙◌, arith}
+use Rattle.std.proofs.Common.{◌≡◌, ℕ, Bool, true, false, cond, eqb, List, [], ◌∷◌, ◌++◌, length, Option, Some, None, Result, Ok, Err, refl, sym, ap, subst, ◌∙◌}
 use Rattle.std.proofs.lemmas.List.{append-nil, nil_from_length}
 use Rattle.xa_frame.specs.declared.fault.FrameFault.{FrameFault}
 use Rattle.xa_frame.specs.declared.fault.FrameFault.TheVariants.{Trailing}
 use Rattle.xa_frame.specs.Faults.{After, go_on, fault_in}
 use Rattle.xa_frame.specs.Reading.{◌>>=◌, Reads, rest_of, ended, one_of, two_of, made}
-use Rattle.xa_frame.proofs.Digits.{IsBytes, bind_ok, ok_is, done, Takes, Takes-then}
+use Rattle.xa_frame.proofs.Digits.{IsBytes, bind_ok, ok_is, done, Takes-then}
 use Rattle.xa_frame.proofs.Readers.{IsField, eqb_true}
 
 abbrev pub fault_of : {A : Type 0} → Result A FrameFault → Option FrameFault

@@ -1,4 +1,5 @@
-ghost use Rattle.std.specs.Prelude.{◌≡◌, ◌≤◌, ◌<◌, ℕ, List, length, slice_index, None};
+ghost use Rattle.std.specs.Prelude.{◌≡◌, ◌≢◌, ◌≤◌, ◌<◌, ℕ, List, length, slice_index, Some, None};
+ghost use Rattle.xa_frame.specs.declared.fault.FrameFault.TheVariants.{Memory};
 ghost use Rattle.xa_frame.specs.declared.reply.Reply.{Reply};
 ghost use Rattle.xa_frame.specs.declared.request.Request.{Request};
 ghost use Rattle.xa_frame.specs.Faults.{fault_of_request, fault_of_reply};
@@ -12,6 +13,8 @@ pub fn one_request()
     // Bytes have no fault exactly where they spell a request.
     ensures spelled { (bytes : List ℕ) (r : Request) → SpellsRequest bytes r → fault_of_request bytes ≡ None }
     ensures faultless { (bytes : List ℕ) → ((i : ℕ) → slice_index bytes i < 256) → fault_of_request bytes ≡ None → (r : Request) × SpellsRequest bytes r }
+    // Want of memory is no fault of bytes.
+    ensures memory { (bytes : List ℕ) → fault_of_request bytes ≢ Some Memory }
 {}
 
 /// A content spells one reply at most, a reply has one content, and it fits a frame. It does nothing.
@@ -21,6 +24,8 @@ pub fn one_reply()
     // Bytes have no fault exactly where they spell a reply.
     ensures spelled { (bytes : List ℕ) (r : Reply) → SpellsReply bytes r → fault_of_reply bytes ≡ None }
     ensures faultless { (bytes : List ℕ) → ((i : ℕ) → slice_index bytes i < 256) → fault_of_reply bytes ≡ None → (r : Reply) × SpellsReply bytes r }
+    // Want of memory is no fault of bytes.
+    ensures memory { (bytes : List ℕ) → fault_of_reply bytes ≢ Some Memory }
     ensures short { (bytes : List ℕ) (r : Reply) → SpellsReply bytes r → length bytes ≤ 65535 }
 {}
 

@@ -1,6 +1,7 @@
 ghost use Rattle.std.specs.Int.{w64};
-ghost use Rattle.std.specs.Prelude.{◌≡◌, IsOk, IfOk, IfErr};
+ghost use Rattle.std.specs.Prelude.{◌≡◌, IsOk, IfOk, IfErr, Err, None};
 ghost use Rattle.xa_frame.specs.Answers.{Gives, Answers, IsOrWants, IsFault};
+ghost use Rattle.xa_frame.specs.declared.fault.FrameFault.TheVariants.{Memory};
 ghost use Rattle.xa_frame.specs.declared.reply.Reply.{Reply};
 ghost use Rattle.xa_frame.specs.Spelling.{SpellsReply};
 ghost use Rattle.xa_frame.specs.Faults.{fault_of_reply};
@@ -132,6 +133,7 @@ pub fn decode_reply(alloc: Global, content: &[u8]) -> Result<Reply, FrameFault>
     // What is spelled so is decoded, unless memory is wanted.
     ensures only { (r : Reply) → SpellsReply content.now r → IsOrWants result r }
     ensures fault { IfErr result (IsFault (fault_of_reply content.now)) }
+    ensures memory { result ≡ Err Memory → fault_of_reply content.now ≡ None }
 {
     whole(alloc, content)
 }

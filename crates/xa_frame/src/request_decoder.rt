@@ -1,5 +1,6 @@
 ghost use Rattle.std.specs.Int.{w32};
-ghost use Rattle.std.specs.Prelude.{◌≡◌, IfOk, IfErr};
+ghost use Rattle.std.specs.Prelude.{◌≡◌, IfOk, IfErr, Err, None};
+ghost use Rattle.xa_frame.specs.declared.fault.FrameFault.TheVariants.{Memory};
 ghost use Rattle.xa_frame.specs.declared.request.Request.{Request};
 ghost use Rattle.xa_frame.specs.Answers.{Gives, Answers, IsOrWants, IsFault};
 ghost use Rattle.xa_frame.specs.Faults.{fault_of_request};
@@ -195,6 +196,7 @@ pub fn decode_request(alloc: Global, content: &[u8]) -> Result<Request, FrameFau
     // What is spelled so is decoded, unless memory is wanted.
     ensures only { (r : Request) → SpellsRequest content.now r → IsOrWants result r }
     ensures fault { IfErr result (IsFault (fault_of_request content.now)) }
+    ensures memory { result ≡ Err Memory → fault_of_request content.now ≡ None }
 {
     whole(alloc, content)
 }

@@ -1,4 +1,4 @@
-use Rattle.std.proofs.Common.{◌≡◌, ℕ, List, [], ◌∷◌, ◌++◌, length, take, drop, refl, sym, ap, ◌∙◌, append_assoc, append-nil, arith, Some}
+use Rattle.std.proofs.Common.{[], ◌∷◌, ◌++◌, refl, ap, Some}
 use Rattle.xa_desk.proofs.Known.{consumes-none, appends-none, talked-snoc, talked-same, talked-long, answers-append}
 use Rattle.xa_desk.proofs.connection.converse.Goals as goal
 

@@ -1,4 +1,4 @@
-use Rattle.std.proofs.Common.{◌≡◌, ℕ, List}
+use Rattle.std.proofs.Common.{ℕ, List}
 use Rattle.xa_frame.specs.declared.reply.Reply.{Reply}
 use Rattle.xa_desk.specs.Serving.{Talked}
 use Rattle.xa_desk.proofs.connection.converse.Given as goal

@@ -1,4 +1,4 @@
-use Rattle.std.proofs.Common.{◌≡◌, ℕ, ◌<◌, [], ◌∷◌, get_or, arith, rules, refl}
+use Rattle.std.proofs.Common.{[], ◌∷◌, rules, refl}
 use Rattle.std.proofs.lemmas.Nat.{be_bytes_4}
 use Rattle.xa_desk.proofs.Known.{small, none_small}
 use Rattle.xa_desk.proofs.connection.number_of.Goals as goal

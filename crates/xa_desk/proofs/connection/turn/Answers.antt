@@ -1,8 +1,6 @@
-use Rattle.std.proofs.Common.{◌≡◌, ℕ, List, [], ◌∷◌, ◌++◌, length, take, drop, refl, sym, ap, ◌∙◌, append_assoc, append-nil, arith, subst}
+use Rattle.std.proofs.Common.{◌≡◌, [], ◌∷◌, refl, arith, subst}
 use Rattle.xa_desk.specs.declared.served.Served.TheVariants.{TooLong}
 use Rattle.xa_desk.specs.Serving.{Answers}
-use Rattle.xa_desk.specs.Frames.{reply_frame}
-use Rattle.std.specs.Io.KnownBytes.{Appends}
 use Rattle.xa_desk.proofs.Known.{talked-one}
 use Rattle.xa_desk.proofs.connection.turn.Goals as goal
 

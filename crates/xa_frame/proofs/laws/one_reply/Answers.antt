@@ -1,10 +1,10 @@
 use Rattle.std.proofs.Common.{◌∙◌, ap, sym, arith, length}
 use Rattle.xa_frame.specs.Reading.{reply_at}
-use Rattle.xa_frame.specs.Faults.{fault_of_reply}
 use Rattle.xa_frame.proofs.Digits.{ok_is}
 use Rattle.xa_frame.proofs.Whole.{fault_of}
 use Rattle.xa_frame.proofs.Decoded.{no_fault}
 use Rattle.xa_frame.proofs.Replies.{reply_short, reply_takes, reply_again, reply_fault}
+use Rattle.xa_frame.proofs.Sound.{reply_sound}
 use Rattle.xa_frame.proofs.laws.one_reply.Goals as goal
 
 pub returns-clause-value : goal.returns-clause-value
@@ -24,3 +24,6 @@ returns-clause-faultless c bytes small h =
 
 pub returns-clause-short : goal.returns-clause-short
 returns-clause-short c bytes r h = omega (arith, reply_short r h.limits h.holds, ap length h.bytes_are)
+
+pub returns-clause-memory : goal.returns-clause-memory
+returns-clause-memory c = reply_sound

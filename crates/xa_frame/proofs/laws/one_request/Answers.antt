@@ -1,10 +1,10 @@
 use Rattle.std.proofs.Common.{◌∙◌, ap, sym}
 use Rattle.xa_frame.specs.Reading.{request_at}
-use Rattle.xa_frame.specs.Faults.{fault_of_request}
 use Rattle.xa_frame.proofs.Digits.{ok_is}
 use Rattle.xa_frame.proofs.Whole.{fault_of}
 use Rattle.xa_frame.proofs.Decoded.{no_fault}
 use Rattle.xa_frame.proofs.Requests.{request_takes, request_again, request_fault}
+use Rattle.xa_frame.proofs.Sound.{request_sound}
 use Rattle.xa_frame.proofs.laws.one_request.Goals as goal
 
 pub returns-clause-value : goal.returns-clause-value
@@ -21,3 +21,6 @@ pub returns-clause-faultless : goal.returns-clause-faultless
 returns-clause-faultless c bytes small h =
     let read = no_fault (request_at bytes) (request_fault bytes ∙ h) in
     (read.0, request_takes bytes read.0 small read.1)
+
+pub returns-clause-memory : goal.returns-clause-memory
+returns-clause-memory c = request_sound

@@ -2,8 +2,9 @@ use Rattle.std.proofs.Common.{◌∙◌, ap, arith}
 use Rattle.xa_frame.specs.Reading.{reply_at}
 use Rattle.xa_frame.specs.Faults.{fault_of_reply}
 use Rattle.xa_frame.specs.Spelling.{SpellsReply}
-use Rattle.xa_frame.proofs.Decoded.{found, only, fault}
+use Rattle.xa_frame.proofs.Decoded.{found, only, fault, memory}
 use Rattle.xa_frame.proofs.Replies.{reply_takes, reply_again, reply_fault}
+use Rattle.xa_frame.proofs.Sound.{reply_sound}
 use Rattle.xa_frame.proofs.reply_decoder.decode_reply.Goals as goal
 
 pub returns-clause-found : goal.returns-clause-found
@@ -16,3 +17,6 @@ returns-clause-only c r h = only c.whole.result (reply_at c.args.content.now) r 
 
 pub returns-clause-fault : goal.returns-clause-fault
 returns-clause-fault c = fault c.whole.result (reply_at c.args.content.now) (fault_of_reply c.args.content.now) c.whole.ensures (reply_fault c.args.content.now)
+
+pub returns-clause-memory : goal.returns-clause-memory
+returns-clause-memory c = memory c.whole.result (reply_at c.args.content.now) (fault_of_reply c.args.content.now) c.whole.ensures (reply_fault c.args.content.now) (reply_sound c.args.content.now)

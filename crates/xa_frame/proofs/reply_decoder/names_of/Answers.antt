@@ -1,8 +1,8 @@
-use Rattle.std.proofs.Common.{List, [], ◌∙◌, ap, sym, subst, inl, Ok}
+use Rattle.std.proofs.Common.{List, ◌∙◌, ap, sym, inl, Ok}
 use Rattle.std.proofs.lemmas.Result.{err_from_is_err_and}
 use Rattle.xa_xid.specs.Triple.{Triple}
 use Rattle.xa_frame.specs.Reading.{value_of_first, names_at}
-use Rattle.xa_frame.proofs.Loop.{with_front, read_one, read_none, read_all}
+use Rattle.xa_frame.proofs.Loop.{read_one, read_none, read_all}
 use Rattle.xa_frame.proofs.reply_decoder.names_of.Goals as goal
 
 pub loop-preserved : goal.loop-preserved

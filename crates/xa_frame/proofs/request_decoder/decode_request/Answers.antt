@@ -2,8 +2,9 @@ use Rattle.std.proofs.Common.{◌∙◌, ap, arith}
 use Rattle.xa_frame.specs.Reading.{request_at}
 use Rattle.xa_frame.specs.Faults.{fault_of_request}
 use Rattle.xa_frame.specs.Spelling.{SpellsRequest}
-use Rattle.xa_frame.proofs.Decoded.{found, only, fault}
+use Rattle.xa_frame.proofs.Decoded.{found, only, fault, memory}
 use Rattle.xa_frame.proofs.Requests.{request_takes, request_again, request_fault}
+use Rattle.xa_frame.proofs.Sound.{request_sound}
 use Rattle.xa_frame.proofs.request_decoder.decode_request.Goals as goal
 
 pub returns-clause-found : goal.returns-clause-found
@@ -16,3 +17,6 @@ returns-clause-only c r h = only c.whole.result (request_at c.args.content.now) 
 
 pub returns-clause-fault : goal.returns-clause-fault
 returns-clause-fault c = fault c.whole.result (request_at c.args.content.now) (fault_of_request c.args.content.now) c.whole.ensures (request_fault c.args.content.now)
+
+pub returns-clause-memory : goal.returns-clause-memory
+returns-clause-memory c = memory c.whole.result (request_at c.args.content.now) (fault_of_request c.args.content.now) c.whole.ensures (request_fault c.args.content.now) (request_sound c.args.content.now)
