@@ -206,3 +206,34 @@ fn changes(rt: HostRuntime) -> Result<(), Fail> {
     }
     Ok(())
 }
+
+/// What each content is with each of the operations 1 to 15 in place of its own.
+const OPERATIONS: [&[u8]; 15] = [
+    b"kTFFFFFSFFFFFFT",
+    b"SkFFFFFSFFFFFFT",
+    b"TTkkkkkTkFFFFFT",
+    b"TTkkkkkTkTTTFFT",
+    b"TTkkkkkTkFFFFFT",
+    b"TTkkkkkTkFFFFFT",
+    b"TTkkkkkTkFFFFFT",
+    b"TTFFFFFkFFFFFFT",
+    b"TTkkkkkTkFFFFFT",
+    b"SSSSSSSSSkSkFFT",
+    b"STFFFFFSFTkTFFT",
+    b"SSSSSSSSSkSkFFT",
+    b"TTFFFFFTFTTTkTT",
+    b"TTFFFFFkFFFFFkT",
+    b"SSSSSSSSSSSSSFk",
+];
+
+#[test]
+fn operations(rt: HostRuntime) -> Result<(), Fail> {
+    for ((content, _, _), letters) in CONTENTS.iter().zip(OPERATIONS.iter()) {
+        assert_eq!(rt; letters.len(), 15);
+        for (operation, expected) in (1..=15).zip(letters.iter()) {
+            let bytes = with_byte(rt.alloc(), content, 1, operation)?;
+            assert_eq!(rt; letter(rt.alloc(), &bytes), *expected);
+        }
+    }
+    Ok(())
+}
