@@ -9,8 +9,6 @@ mod detail;
 mod direction;
 mod flags;
 mod names;
-#[cfg(test)]
-mod tests;
 mod write;
 
 pub use bytes::Bytes;

@@ -8,6 +8,3 @@ mod served;
 pub use connection::serve;
 pub use door::Door;
 pub use served::Served;
-
-#[cfg(test)]
-mod tests;

@@ -17,6 +17,3 @@ pub use disk::{Disk, DiskFault};
 pub use file::FileDisk;
 pub use memory::MemDisk;
 pub use plan::Effect;
-
-#[cfg(test)]
-mod tests;

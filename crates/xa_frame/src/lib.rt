@@ -23,6 +23,3 @@ pub use reply_decoder::decode_reply;
 pub use request::Request;
 pub use request_decoder::decode_request;
 pub use xids::Xids;
-
-#[cfg(test)]
-mod tests;

@@ -22,6 +22,3 @@ pub use fault::OpenFault;
 pub use log::{Log, memory_without_chance};
 pub use opened::Opened;
 pub use opening::{create_on, open_on, read_log};
-
-#[cfg(test)]
-mod tests;

@@ -18,6 +18,3 @@ mod tables;
 pub use fault::{ConnectFault, ManagerFault};
 pub use manager::Manager;
 pub use settings::Settings;
-
-#[cfg(test)]
-mod tests;

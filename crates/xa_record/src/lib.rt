@@ -14,6 +14,3 @@ pub use reading::read;
 pub use record::Record;
 pub use writes::Writes;
 pub use writing::{write, write_small};
-
-#[cfg(test)]
-mod tests;

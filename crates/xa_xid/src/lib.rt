@@ -9,6 +9,3 @@ mod xid;
 
 pub use laws::{equal_is_same, one_spelling};
 pub use xid::{Xid, XidFault};
-
-#[cfg(test)]
-mod tests;

@@ -1,5 +1,3 @@
-use crate::fault::PlayFault;
-use crate::play::play_run;
 use clap::{Arg, ArgAction, Command, Error};
 use std::alloc::{AllocError, Global};
 use std::env;
@@ -8,6 +6,7 @@ use std::process::ExitCode;
 use std::rt::Env;
 use xa_codes::Bytes;
 use xa_manager::Settings;
+use xa_play::{PlayFault, play_run};
 
 /// The bytes that a log may take where the command line says nothing of it.
 const LOG_BYTES: u64 = 1_073_741_824;

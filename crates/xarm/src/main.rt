@@ -2,19 +2,8 @@
 #![tactic(auto)]
 
 mod command;
-mod fault;
-mod flags;
-mod hexadecimal;
-mod line;
-mod numbers;
-mod parts;
-mod play;
-mod reply;
-mod request;
-mod script;
 #[cfg(test)]
 mod tests;
-mod verb;
 
 use std::process::ExitCode;
 

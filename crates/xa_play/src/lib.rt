@@ -1,0 +1,9 @@
+//! A script is played: each line that asks something is answered by a manager, and its reply is written.
+#![tactic(auto)]
+
+mod fault;
+mod play;
+mod script;
+
+pub use fault::PlayFault;
+pub use play::play_run;

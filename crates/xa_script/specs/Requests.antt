@@ -1,0 +1,85 @@
+-- What a session asks for, by the words behind its number.
+use Rattle.std.specs.Prelude.{◌≡◌, ℕ, ◌&&◌, nat_le, Bool, List, [], ◌∷◌, length, Option, Some, None, IfSome, if◌then◌else◌, option_and_then, bytes_eq, codes, find}
+use Rattle.std.specs.Option.{option_map}
+use Rattle.std.specs.List.{list_all}
+use Rattle.xa_script.specs.Flags.{flags_of}
+use Rattle.xa_script.specs.Hexadecimal.{bytes_of}
+use Rattle.xa_script.specs.Parts.{one_of, two_of}
+use Rattle.xa_script.specs.declared.verb.Verb.{Verb}
+use Rattle.xa_script.specs.declared.verb.Verb.TheVariants as verb
+use Rattle.xa_xid.specs.Triple.{Triple, IsWithinLimits}
+use Rattle.xa_xid.specs.Spelling.{text_of}
+use Rattle.xa_frame.specs.declared.request.Request.{Request}
+use Rattle.xa_frame.specs.declared.request.Request.TheVariants.{Open, Start, End, Commit, Get, Put, Delete}
+
+-- the words that name a request
+abbrev pub named_verbs : List (List ℕ × Verb)
+named_verbs =
+    (codes "open", verb.Open)
+    ∷ (codes "start", verb.Start)
+    ∷ (codes "end", verb.End)
+    ∷ (codes "commit", verb.Commit)
+    ∷ (codes "get", verb.Get)
+    ∷ (codes "put", verb.Put)
+    ∷ (codes "delete", verb.Delete)
+    ∷ []
+
+abbrev pub verb_of : List ℕ → Option Verb
+verb_of word = option_map (λ entry. entry.1) (find (λ entry. bytes_eq entry.0 word) named_verbs)
+
+-- 1 to 255 bytes from ! to ~
+abbrev pub is_graphic : List ℕ → Bool
+is_graphic word = list_all (λ c. nat_le 33 c && nat_le c 126) word
+
+abbrev pub is_name : List ℕ → Bool
+is_name word = nat_le 1 (length word) && nat_le (length word) 255 && is_graphic word
+
+-- 1 to 64 bytes
+abbrev pub key_of : List ℕ → Option (List ℕ)
+key_of word = if nat_le 1 (length word) && nat_le (length word) 128 then bytes_of word else None
+
+-- at most 1,024 bytes; the empty value is a dash
+abbrev pub value_of : List ℕ → Option (List ℕ)
+value_of word =
+    if bytes_eq word (codes "-") then Some []
+    else if nat_le 1 (length word) && nat_le (length word) 2048 then bytes_of word
+    else None
+
+-- what the words behind `open` ask
+abbrev pub open_by : List (List ℕ) → Option Request
+open_by words =
+    option_and_then (λ w. if is_name w.1 then option_map (λ flags. Open flags w.1) (flags_of w.0) else None) (two_of words)
+
+-- what the words behind `get` ask
+abbrev pub get_by : List (List ℕ) → Option Request
+get_by words = option_map (λ key. Get key) (option_and_then key_of (one_of words))
+
+-- what the words behind `delete` ask
+abbrev pub delete_by : List (List ℕ) → Option Request
+delete_by words = option_map (λ key. Delete key) (option_and_then key_of (one_of words))
+
+-- what the words behind `put` ask
+abbrev pub put_by : List (List ℕ) → Option Request
+put_by words =
+    option_and_then (λ w. option_and_then (λ key. option_map (λ value. Put key value) (value_of w.1)) (key_of w.0)) (two_of words)
+
+-- a function that gives the XID of each XID's text, and of no other text
+pub record ReadsTexts (xid_of : List ℕ → Option Triple) : Type 0 where
+  pub each : (x : Triple) → IsWithinLimits x → xid_of (text_of x) ≡ Some x
+  pub only : (text : List ℕ) → IfSome (xid_of text) (λ x. IsWithinLimits x × (text ≡ text_of x))
+
+-- over what reads the texts of XIDs
+module _ (xid_of : List ℕ → Option Triple) where
+  -- flags and an XID
+  abbrev pub branch_pair : List (List ℕ) → Option (ℕ × Triple)
+  branch_pair words =
+      option_and_then (λ w. option_and_then (λ flags. option_map (λ xid. (flags, xid)) (xid_of w.1)) (flags_of w.0)) (two_of words)
+
+  abbrev pub request_of : Verb → List (List ℕ) → Option Request
+  request_of verb.Open words = open_by words
+  request_of verb.Start words = option_map (λ pair. Start pair.0 pair.1) (branch_pair words)
+  request_of verb.End words = option_map (λ pair. End pair.0 pair.1) (branch_pair words)
+  request_of verb.Commit words = option_map (λ pair. Commit pair.0 pair.1) (branch_pair words)
+  request_of verb.Get words = get_by words
+  request_of verb.Put words = put_by words
+  request_of verb.Delete words = delete_by words

@@ -1,0 +1,132 @@
+ghost use Rattle.std.specs.Option.{option_copied, option_map};
+ghost use Rattle.std.specs.Prelude.{◌≡◌, ℕ, IfOk, IfSome, List, Option};
+ghost use Rattle.xa_frame.specs.Limits.{IsKey, IsRequest, IsValue};
+ghost use Rattle.xa_xid.specs.Triple.{Triple};
+ghost use Rattle.xa_script.specs.Parts.{words_behind};
+ghost use Rattle.xa_script.specs.Requests.{ReadsTexts, branch_pair, delete_by, get_by, is_graphic, is_name, key_of, open_by, put_by, request_of, value_of};
+
+use crate::flags::read_flags;
+use crate::hexadecimal::read_bytes;
+use crate::parts::{only_word, two_words};
+use crate::verb::Verb;
+use std::alloc::{AllocError, Global};
+use xa_codes::Bytes;
+use xa_frame::Request;
+use xa_xid::Xid;
+
+/// The request of a verb and the words behind it, where they are as it wants them.
+pub fn read_request(
+    alloc: Global,
+    verb: Verb,
+    words: Option<&[u8]>,
+) -> Result<Option<Request>, AllocError>
+    ensures value { (xid_of : List ℕ → Option Triple) → ReadsTexts xid_of →
+        IfOk result (λ request. request ≡ request_of xid_of verb (words_behind (option_copied words.entry))) }
+    ensures limits { IfOk result (λ request. IfSome request IsRequest) }
+{
+    match verb {
+        Verb::Open => read_open(alloc, words),
+        Verb::Start => Ok(read_branch(words).map(|(flags, xid)| Request::Start { flags, xid })),
+        Verb::End => Ok(read_branch(words).map(|(flags, xid)| Request::End { flags, xid })),
+        Verb::Commit => Ok(read_branch(words).map(|(flags, xid)| Request::Commit { flags, xid })),
+        Verb::Get => read_get(alloc, words),
+        Verb::Put => read_put(alloc, words),
+        Verb::Delete => read_delete(alloc, words),
+    }
+}
+
+fn read_branch(words: Option<&[u8]>) -> Option<(u32, Xid)>
+    ensures { (xid_of : List ℕ → Option Triple) → ReadsTexts xid_of →
+        result ≡ branch_pair xid_of (words_behind (option_copied words.entry)) }
+{
+    let (flags, xid) = two_words(words)?;
+    Some((read_flags(flags)?, Xid::take_text(xid)?))
+}
+
+fn read_open(alloc: Global, words: Option<&[u8]>) -> Result<Option<Request>, AllocError>
+    ensures value { IfOk result (λ request. request ≡ open_by (words_behind (option_copied words.entry))) }
+    ensures limits { IfOk result (λ request. IfSome request IsRequest) }
+{
+    let Some((flags, name)) = two_words(words) else {
+        return Ok(None);
+    };
+    if !is_name(name) {
+        return Ok(None);
+    }
+    let Some(flags) = read_flags(flags) else {
+        return Ok(None);
+    };
+    let info = Bytes::from_slice(alloc, name)?;
+    Ok(Some(Request::Open { flags, info }))
+}
+
+/// Whether a word is a name: 1 to 255 bytes from `!` to `~`.
+fn is_name(word: &[u8]) -> bool
+    ensures { result ≡ is_name word.now }
+{
+    !word.is_empty() && word.len() <= 255 && is_graphic(word)
+}
+
+fn is_graphic(word: &[u8]) -> bool
+    ensures { result ≡ is_graphic word.now }
+{
+    word.iter().all(|byte| byte.is_ascii_graphic())
+}
+
+fn read_get(alloc: Global, words: Option<&[u8]>) -> Result<Option<Request>, AllocError>
+    ensures value { IfOk result (λ request. request ≡ get_by (words_behind (option_copied words.entry))) }
+    ensures limits { IfOk result (λ request. IfSome request IsRequest) }
+{
+    let Some(key) = only_word(words) else {
+        return Ok(None);
+    };
+    Ok(read_key(alloc, key)?.map(|key| Request::Get { key }))
+}
+
+fn read_delete(alloc: Global, words: Option<&[u8]>) -> Result<Option<Request>, AllocError>
+    ensures value { IfOk result (λ request. request ≡ delete_by (words_behind (option_copied words.entry))) }
+    ensures limits { IfOk result (λ request. IfSome request IsRequest) }
+{
+    let Some(key) = only_word(words) else {
+        return Ok(None);
+    };
+    Ok(read_key(alloc, key)?.map(|key| Request::Delete { key }))
+}
+
+fn read_put(alloc: Global, words: Option<&[u8]>) -> Result<Option<Request>, AllocError>
+    ensures value { IfOk result (λ request. request ≡ put_by (words_behind (option_copied words.entry))) }
+    ensures limits { IfOk result (λ request. IfSome request IsRequest) }
+{
+    let Some((key, value)) = two_words(words) else {
+        return Ok(None);
+    };
+    let Some(key) = read_key(alloc, key)? else {
+        return Ok(None);
+    };
+    Ok(read_value(alloc, value)?.map(|value| Request::Put { key, value }))
+}
+
+/// A key of 1 to 64 bytes.
+fn read_key(alloc: Global, word: &[u8]) -> Result<Option<Bytes>, AllocError>
+    ensures value { IfOk result (λ key. key ≡ key_of word.now) }
+    ensures limits { IfOk result (λ key. IfSome key IsKey) }
+{
+    if word.is_empty() || word.len() > 128 {
+        return Ok(None);
+    }
+    read_bytes(alloc, word)
+}
+
+/// A value of at most 1,024 bytes. The empty one is `-`.
+fn read_value(alloc: Global, word: &[u8]) -> Result<Option<Bytes>, AllocError>
+    ensures value { IfOk result (λ value. value ≡ value_of word.now) }
+    ensures limits { IfOk result (λ value. IfSome value IsValue) }
+{
+    if word == b"-".as_slice() {
+        return Ok(Some(Bytes::new(Vec::new(alloc))));
+    }
+    if word.is_empty() || word.len() > 2048 {
+        return Ok(None);
+    }
+    read_bytes(alloc, word)
+}

@@ -1,0 +1,33 @@
+ghost use Rattle.std.specs.Prelude.{◌≡◌};
+ghost use Rattle.xa_script.specs.Requests.{verb_of};
+
+/// What a session asks for, as a script names it.
+#[derive(Clone, Copy, Debug, PartialEq, Eq)]
+pub enum Verb {
+    Open,
+    Start,
+    End,
+    Commit,
+    Get,
+    Put,
+    Delete,
+}
+
+/// The verb of a word.
+pub fn read_verb(word: &[u8]) -> Option<Verb>
+    ensures { result ≡ verb_of word.now }
+{
+    let Ok(word) = str::from_utf8(word) else {
+        return None;
+    };
+    match word {
+        "open" => Some(Verb::Open),
+        "start" => Some(Verb::Start),
+        "end" => Some(Verb::End),
+        "commit" => Some(Verb::Commit),
+        "get" => Some(Verb::Get),
+        "put" => Some(Verb::Put),
+        "delete" => Some(Verb::Delete),
+        _ => None,
+    }
+}

@@ -1,0 +1,49 @@
+use std::test::Fail;
+use std::{env, fs, process};
+use xa_disk::{Disk, DiskFault, Effect, FileDisk, MemDisk};
+
+#[test]
+fn a_crash_drops_what_no_sync_made_stable(rt: HostRuntime) -> Result<(), Fail> {
+    let mut disk = MemDisk::new(rt.alloc());
+    disk.write_at(1, b"ab".as_slice())?;
+    disk.sync()?;
+    disk.write_at(2, b"cde".as_slice())?;
+    disk.fail(5, Effect::Lost)?;
+    disk.crash()?;
+    assert_eq!(rt; disk.length()?, 3);
+    let mut bytes = [9; 3];
+    disk.read_at(0, &mut bytes)?;
+    assert_eq!(rt; bytes, [0, b'a', b'b']);
+    Ok(())
+}
+
+#[test]
+fn planned_faults_come_once(rt: HostRuntime) -> Result<(), Fail> {
+    let mut disk = MemDisk::with_bytes(vec![in rt.alloc(); 7, 8]?);
+    disk.fail(2, Effect::Lost)?;
+    disk.fail(2, Effect::Kept)?;
+    assert_eq!(rt; disk.length(), Ok(2));
+    assert_eq!(rt; disk.write_at(1, [9].as_slice()), Err(DiskFault));
+    let mut bytes = [0; 2];
+    assert_eq!(rt; disk.read_at(0, &mut bytes), Ok(()));
+    assert_eq!(rt; bytes, [7, 9]);
+    assert_eq!(rt; disk.read_at(1, &mut bytes), Err(DiskFault));
+    Ok(())
+}
+
+#[test]
+fn a_file_in_a_folder(rt: HostRuntime) -> Result<(), Fail> {
+    let alloc = rt.alloc();
+    let name = format!(in alloc; "xa_disk-{}", process::id(rt.process()))?;
+    let path = env::temp_dir(&rt)?.join(alloc, name.as_str())?;
+    let mut disk = FileDisk::at(&rt, path.as_str())?;
+    disk.write_at(2, b"abc".as_slice())?;
+    disk.sync()?;
+    assert_eq!(rt; disk.length(), Ok(5));
+    let mut bytes = [9; 4];
+    disk.read_at(0, &mut bytes)?;
+    assert_eq!(rt; bytes, [0, 0, b'a', b'b']);
+    assert_eq!(rt; disk.read_at(2, &mut bytes), Err(DiskFault));
+    fs::remove_file(&rt, path.as_str())?;
+    Ok(())
+}

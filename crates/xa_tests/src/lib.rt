@@ -1,0 +1,22 @@
+//! Tests of what no clause says, above all crates that they test: worked rows, outside vectors, printed texts, and each
+//! call once with ample memory.
+#![tactic(auto)]
+
+#[cfg(test)]
+mod codes;
+#[cfg(test)]
+mod connections;
+#[cfg(test)]
+mod disks;
+#[cfg(test)]
+mod frames;
+#[cfg(test)]
+mod logs;
+#[cfg(test)]
+mod managers;
+#[cfg(test)]
+mod plays;
+#[cfg(test)]
+mod records;
+#[cfg(test)]
+mod xids;

@@ -1,5 +1,0 @@
-pub mod Tables
-pub mod Cuts
-pub mod Digits
-pub mod Scripts
-pub mod Playing

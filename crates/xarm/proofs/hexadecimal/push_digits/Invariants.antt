@@ -1,6 +1,0 @@
-use Rattle.std.proofs.Common.{◌≡◌, ◌++◌, take}
-use Rattle.xa_xid.specs.Spelling.{hex}
-use Rattle.xarm.proofs.hexadecimal.push_digits.Given as goal
-
-abbrev pub invariant-loop-byte : goal.invariant-loop-byte
-invariant-loop-byte l = l.text.items ≡ l.initial.text.items ++ hex (take l.byte-index l.bytes)
