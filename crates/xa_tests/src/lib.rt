@@ -3,6 +3,8 @@
 #![tactic(auto)]
 
 #[cfg(test)]
+mod chains;
+#[cfg(test)]
 mod codes;
 #[cfg(test)]
 mod connections;
@@ -18,5 +20,7 @@ mod managers;
 mod plays;
 #[cfg(test)]
 mod records;
+#[cfg(test)]
+mod versions;
 #[cfg(test)]
 mod xids;
