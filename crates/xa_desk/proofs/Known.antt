@@ -1,5 +1,5 @@
 -- Known bytes, one step after another.
-use Rattle.std.proofs.Common.{◌≡◌, ℕ, List, [], ◌∷◌, ◌++◌, length, Option, Some, None, refl, sym, ap, ◌∙◌, append_assoc, append-nil, arith, subst, get_or, ◌<◌, ◌≤◌, take, drop, zero, suc}
+use Rattle.std.proofs.Common.{◌≡◌, ℕ, List, [], ◌∷◌, ◌++◌, length, Option, Some, None, refl, sym, ap, ◌∙◌, append_assoc, append-nil, arith, subst, get_or, ◌<◌, ◌^◌, ◌≤◌, take, drop, zero, suc}
 use Rattle.std.proofs.lemmas.List.{take_all, drop_all}
 use Rattle.std.specs.List.{flat_map}
 use Rattle.std.specs.Io.KnownBytes.{Consumes, Appends}
@@ -92,10 +92,11 @@ talked-same {D} called i j k o p q d m e cs rs t same read written =
 
 -- a length that is too great
 pub talked-long : {D : Type 0} (called : D → Request → Reply → D → Type 0) (i j k o p q : Option (List ℕ)) (d m e : D) (cs : List (List ℕ)) (rs : List Reply) (n : ℕ)
-    → Talked called i j o p d m cs rs → e ≡ m → 65535 < n → Consumes j k (to_be_bytes w32 n) → Appends p q (reply_frame refused) → EndsLong called i k o q d e cs rs
-talked-long {D} called i j k o p q d m e cs rs n t same more read written = (
+    → Talked called i j o p d m cs rs → e ≡ m → 65535 < n → n < 2 ^ 32 → Consumes j k (to_be_bytes w32 n) → Appends p q (reply_frame refused) → EndsLong called i k o q d e cs rs
+talked-long {D} called i j k o p q d m e cs rs n t same more bound read written = (
   n,
   more,
+  bound,
   t.short,
   consumes-twice i j k (flat_map frame cs) (to_be_bytes w32 n) t.read read,
   subst (λ (x : D). AnswersAll called d cs rs x) (sym same) t.answered,

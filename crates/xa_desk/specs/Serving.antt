@@ -1,5 +1,5 @@
 -- What one connection did.
-use Rattle.std.specs.Prelude.{◌≡◌, ◌≢◌, ◌⊎◌, ℕ, ◌<◌, ◌≤◌, List, [], ◌∷◌, ◌++◌, length, Option, Some, None, Bool, true, false}
+use Rattle.std.specs.Prelude.{◌≡◌, ◌≢◌, ◌⊎◌, ℕ, ◌<◌, ◌≤◌, ◌^◌, List, [], ◌∷◌, ◌++◌, length, Option, Some, None, Bool, true, false}
 use Rattle.std.specs.List.{flat_map}
 use Rattle.std.specs.Int.{to_be_bytes, w32}
 use Rattle.std.specs.Io.KnownBytes.{Consumes, Appends}
@@ -50,7 +50,7 @@ pub record Talked {D : Type 0} (called : D → Request → Reply → D → Type 
 -- whole frames were answered, and then a length that is too great
 abbrev pub EndsLong : {D : Type 0} → (D → Request → Reply → D → Type 0) → Option (List ℕ) → Option (List ℕ) → Option (List ℕ) → Option (List ℕ) → D → D → List (List ℕ) → List Reply → Type 0
 EndsLong called input input' output output' d e contents replies =
-    (n : ℕ) × (65535 < n) × AreShort contents × Consumes input input' (flat_map frame contents ++ to_be_bytes w32 n)
+    (n : ℕ) × (65535 < n) × (n < 2 ^ 32) × AreShort contents × Consumes input input' (flat_map frame contents ++ to_be_bytes w32 n)
     × AnswersAll called d contents replies e
     × Appends output output' (flat_map reply_frame replies ++ reply_frame refused)
 

@@ -1,4 +1,4 @@
-ghost use Rattle.std.specs.Prelude.{◌≡◌, ℕ, ◌<◌, ◌≤◌, [], ◌∷◌, ◌++◌, length, IfOk, IfErr, IfSome, true, Some, None, List};
+ghost use Rattle.std.specs.Prelude.{◌≡◌, ℕ, ◌<◌, ◌≤◌, ◌^◌, [], ◌∷◌, ◌++◌, length, IfOk, IfErr, IfSome, true, Some, None, List};
 ghost use Rattle.std.specs.Int.{to_be_bytes, w32};
 ghost use Rattle.std.specs.Io.KnownBytes.{Consumes, Appends, IsAtEnd};
 ghost use Rattle.xa_frame.specs.declared.reply.Reply.{Reply};
@@ -152,7 +152,7 @@ fn turn<D: Door, R: Read, W: Write>(
     ensures stands { (contents : List (List ℕ)) × (replies : List Reply) × AnswersAll (D.called session) door.old contents replies door.new }
     ensures goes { result ≡ None → (content : List ℕ) × (reply : Reply) × Talked (D.called session) (R.remaining reader.old) (R.remaining reader.new) (W.contents writer.old) (W.contents writer.new) door.old door.new (content ∷ []) (reply ∷ []) }
     ensures ended { result ≡ Some Served.Ended → (door.new ≡ door.old) × Consumes (R.remaining reader.old) (R.remaining reader.new) [] × IsAtEnd (R.remaining reader.new) × Appends (W.contents writer.old) (W.contents writer.new) [] }
-    ensures long { result ≡ Some Served.TooLong → (door.new ≡ door.old) × ((n : ℕ) × (65535 < n) × Consumes (R.remaining reader.old) (R.remaining reader.new) (to_be_bytes w32 n)) × Appends (W.contents writer.old) (W.contents writer.new) (reply_frame refused) }
+    ensures long { result ≡ Some Served.TooLong → (door.new ≡ door.old) × ((n : ℕ) × (65535 < n) × (n < 2 ^ 32) × Consumes (R.remaining reader.old) (R.remaining reader.new) (to_be_bytes w32 n)) × Appends (W.contents writer.old) (W.contents writer.new) (reply_frame refused) }
 {
     let length = match read_front(reader) {
         Front::Length(length) => length,

@@ -21,7 +21,7 @@ pub returns-in-Some-clause-long : goal.returns-in-Some-clause-long
 returns-in-Some-clause-long g c = λ is.
     let inv = c.loop.invariant in
     let e = c.in-Some.ensures.long (ap Some is) in
-    (inv.0, inv.1, talked-long _ _ _ _ _ _ _ _ _ _ _ _ e.1.0 inv.2 e.0 e.1.1 e.1.2 e.2)
+    (inv.0, inv.1, talked-long _ _ _ _ _ _ _ _ _ _ _ _ e.1.0 inv.2 e.0 e.1.1 e.1.2 e.1.3 e.2)
 
 pub returns-in-Some-clause-stands : goal.returns-in-Some-clause-stands
 returns-in-Some-clause-stands g c =

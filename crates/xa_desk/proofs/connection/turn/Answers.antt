@@ -41,4 +41,4 @@ returns-then-length-gt-LONGEST-clause-stands g c = ([], [], refl)
 pub returns-then-length-gt-LONGEST-clause-long : goal.returns-then-length-gt-LONGEST-clause-long
 returns-then-length-gt-LONGEST-clause-long g c = λ is.
     let e : c.refuse_long.result ≡ TooLong = cc in
-    (refl, (c.in-Length.length, omega arith, c.in-Length.ensures.length c.in-Length.length refl), c.refuse_long.ensures.sent e)
+    (refl, (c.in-Length.length, omega arith, omega arith, c.in-Length.ensures.length c.in-Length.length refl), c.refuse_long.ensures.sent e)
