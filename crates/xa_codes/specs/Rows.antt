@@ -1,7 +1,8 @@
--- Worked rows on flags, in the numbers of C193's header.
+-- Worked rows: flags, in the numbers of C193's header, and the directions' numbers.
 use Rattle.std.specs.Prelude.{◌≡◌, true, false}
 use Rattle.xa_codes.specs.Flags.{legal}
 use Rattle.xa_codes.specs.declared.flags.TheConstants.{TMNOFLAGS, TMASYNC, TMONEPHASE, TMFAIL, TMNOWAIT, TMRESUME, TMSUCCESS, TMSUSPEND, TMSTARTRSCAN, TMENDRSCAN, TMMULTIPLE, TMJOIN, TMMIGRATE}
+use Rattle.xa_codes.specs.declared.direction.TheConstants.{COMMIT, ROLLBACK}
 use Rattle.xa_codes.specs.declared.call.Call.TheVariants.{Open, Close, Start, End, Prepare, Commit, Rollback, Recover, Forget, Get, Put, Restart}
 
 -- the flags' values
@@ -20,6 +21,10 @@ HasValues =
     × (TMMULTIPLE ≡ 0x0040_0000)
     × (TMJOIN ≡ 0x0020_0000)
     × (TMMIGRATE ≡ 0x0010_0000)
+
+-- the directions' numbers
+abbrev pub HasNumbers : Type 0
+HasNumbers = (COMMIT ≡ 1) × (ROLLBACK ≡ 2)
 
 -- flags together that a call may have
 abbrev pub MayHave : Type 0

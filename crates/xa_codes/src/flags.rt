@@ -1,6 +1,6 @@
 ghost use Rattle.std.specs.Prelude.{◌≡◌};
 ghost use Rattle.xa_codes.specs.Flags.{legal};
-ghost use Rattle.xa_codes.specs.Rows.{HasValues, MayHave, MayNotHave};
+ghost use Rattle.xa_codes.specs.Rows.{HasValues, HasNumbers, MayHave, MayNotHave};
 
 use crate::call::Call;
 
@@ -56,10 +56,11 @@ pub fn legal_flags(call: Call, flags: u32) -> bool
     }
 }
 
-/// The law of worked rows: the values of the flags, flags that a call may have, and flags that it may not have, by the
-/// definition of `legal_flags`. It does nothing.
+/// The law of worked rows: the values of the flags, the numbers of the directions, flags that a call may have, and flags
+/// that it may not have, by the definition of `legal_flags`. It does nothing.
 pub fn worked_flags()
     ensures values { HasValues }
+    ensures directions { HasNumbers }
     ensures legal { MayHave }
     ensures illegal { MayNotHave }
 {}

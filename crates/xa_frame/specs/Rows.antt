@@ -1,13 +1,28 @@
--- Worked contents: how some requests and replies are spelled, and which fault some bytes have.
-use Rattle.std.specs.Prelude.{◌≡◌, ℕ, pos, negsuc, List, [], ◌∷◌, Some, None}
+-- Worked contents: the numbers in them, how some requests and replies are spelled, and which fault some bytes have.
+use Rattle.std.specs.Prelude.{◌≡◌, ℕ, pos, negsuc, List, [], ◌∷◌, map, Some, None}
+use Rattle.xa_codes.specs.declared.call.Call.TheVariants as call
 use Rattle.xa_codes.specs.declared.detail.Detail.TheVariants as detail
+use Rattle.xa_codes.specs.declared.direction.Direction.TheVariants as direction
 use Rattle.xa_xid.specs.Triple.{Triple}
 use Rattle.xa_frame.specs.declared.request.Request.TheVariants.{Start}
 use Rattle.xa_frame.specs.declared.body.Body.TheVariants as body
 use Rattle.xa_frame.specs.declared.reply.Reply.{Reply}
 use Rattle.xa_frame.specs.declared.fault.FrameFault.TheVariants.{Short, Version, Operation, Field, Trailing}
-use Rattle.xa_frame.specs.Spelling.{bytes_of_request, bytes_of_reply}
+use Rattle.xa_frame.specs.Spelling.{operation, numbered, detail_byte, detail_numbered, direction_byte, bytes_of_request, bytes_of_reply}
 use Rattle.xa_frame.specs.Faults.{fault_of_request, fault_of_reply}
+
+-- the numbers of the operations, the details and the directions, and numbers that none has
+abbrev pub HasNumbers : Type 0
+HasNumbers =
+    (map operation (call.Open ∷ call.Close ∷ call.Start ∷ call.End ∷ call.Prepare ∷ call.Commit ∷ call.Rollback ∷ call.Recover ∷ [])
+    ≡ 1 ∷ 2 ∷ 3 ∷ 4 ∷ 5 ∷ 6 ∷ 7 ∷ 8 ∷ [])
+    × (map operation (call.Forget ∷ call.Get ∷ call.Put ∷ call.Delete ∷ call.Decide ∷ call.Doom ∷ call.Restart ∷ [])
+    ≡ 9 ∷ 10 ∷ 11 ∷ 12 ∷ 13 ∷ 14 ∷ 15 ∷ [])
+    × (map numbered (0 ∷ 1 ∷ 15 ∷ 16 ∷ []) ≡ None ∷ Some call.Open ∷ Some call.Restart ∷ None ∷ [])
+    × (map detail_byte (detail.Nothing ∷ detail.Memory ∷ detail.Device ∷ detail.Busy ∷ detail.Late ∷ detail.Limit ∷ detail.Frame ∷ detail.LogFull ∷ [])
+    ≡ 0 ∷ 1 ∷ 2 ∷ 3 ∷ 4 ∷ 5 ∷ 6 ∷ 7 ∷ [])
+    × (map detail_numbered (0 ∷ 7 ∷ 8 ∷ []) ≡ Some detail.Nothing ∷ Some detail.LogFull ∷ None ∷ [])
+    × (map direction_byte (direction.Commit ∷ direction.Rollback ∷ []) ≡ 1 ∷ 2 ∷ [])
 
 -- 1:aa:bb
 abbrev pub branch : Triple

@@ -3,7 +3,7 @@ ghost use Rattle.xa_frame.specs.declared.fault.FrameFault.TheVariants.{Memory};
 ghost use Rattle.xa_frame.specs.declared.reply.Reply.{Reply};
 ghost use Rattle.xa_frame.specs.declared.request.Request.{Request};
 ghost use Rattle.xa_frame.specs.Faults.{fault_of_request, fault_of_reply};
-ghost use Rattle.xa_frame.specs.Rows.{SpelledSo, FaultyRequests, FaultyReplies};
+ghost use Rattle.xa_frame.specs.Rows.{HasNumbers, SpelledSo, FaultyRequests, FaultyReplies};
 ghost use Rattle.xa_frame.specs.Spelling.{SpellsRequest, SpellsReply};
 
 /// A content spells one request at most, and a request has one content. It does nothing.
@@ -29,9 +29,10 @@ pub fn one_reply()
     ensures short { (bytes : List ℕ) (r : Reply) → SpellsReply bytes r → length bytes ≤ 65535 }
 {}
 
-/// Worked contents: what spells some requests and replies, and which fault some bytes have, by the definitions. It does
-/// nothing.
+/// Worked contents: the numbers of operations, details and directions, what spells some requests and replies, and which
+/// fault some bytes have, by the definitions. It does nothing.
 pub fn worked_contents()
+    ensures numbers { HasNumbers }
     ensures spelled { SpelledSo }
     ensures requests { FaultyRequests }
     ensures replies { FaultyReplies }
