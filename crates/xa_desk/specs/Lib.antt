@@ -1,2 +1,3 @@
 pub mod Frames
 pub mod Serving
+pub mod Steps

@@ -1,8 +1,8 @@
 -- What one connection did.
-use Rattle.std.specs.Prelude.{◌≡◌, ◌≢◌, ◌⊎◌, ℕ, ◌<◌, ◌≤◌, ◌^◌, List, [], ◌∷◌, ◌++◌, length, Option, Some, None, Bool, true, false}
+use Rattle.std.specs.Prelude.{◌≡◌, ◌≢◌, ◌⊎◌, ℕ, ◌<◌, ◌≤◌, ◌^◌, List, [], ◌∷◌, ◌++◌, length, All, Option, Some, None}
 use Rattle.std.specs.List.{flat_map}
 use Rattle.std.specs.Int.{to_be_bytes, w32}
-use Rattle.std.specs.Io.KnownBytes.{Consumes, Appends}
+use Rattle.std.specs.Io.KnownBytes.{Consumes, Appends, IsAtEnd}
 use Rattle.xa_frame.specs.declared.fault.FrameFault.{FrameFault}
 use Rattle.xa_frame.specs.declared.fault.FrameFault.TheVariants as faults
 use Rattle.xa_frame.specs.declared.request.Request.{Request}
@@ -36,28 +36,54 @@ AnswersAll called d [] (r ∷ rs) e = ⊥
 AnswersAll called d (c ∷ cs) [] e = ⊥
 AnswersAll {D} called d (c ∷ cs) (r ∷ rs) e = (m : D) × Answers called d c r m × AnswersAll called m cs rs e
 
-abbrev pub AreShort : List (List ℕ) → Type 0
-AreShort [] = Unit {0}
-AreShort (c ∷ cs) = (length c ≤ 65535) × AreShort cs
+abbrev pub IsShort : List ℕ → Type 0
+IsShort content = length content ≤ 65535
 
--- whole frames were read, each was answered, and the frames of the replies were written
-pub record Talked {D : Type 0} (called : D → Request → Reply → D → Type 0) (input input' output output' : Option (List ℕ)) (d e : D) (contents : List (List ℕ)) (replies : List Reply) : Type 0 where
-  pub short : AreShort contents
-  pub read : Consumes input input' (flat_map frame contents)
+-- a frame's length alone, a length that is too great for a frame, and a frame that is cut
+abbrev pub IsLength : List ℕ → Type 0
+IsLength bytes = (n : ℕ) × (n ≤ 65535) × (bytes ≡ to_be_bytes w32 n)
+
+abbrev pub IsTooLong : List ℕ → Type 0
+IsTooLong bytes = (n : ℕ) × (65535 < n) × (n < 2 ^ 32) × (bytes ≡ to_be_bytes w32 n)
+
+abbrev pub IsCut : List ℕ → Type 0
+IsCut bytes = (length bytes < 4) ⊎ ((n : ℕ) × (part : List ℕ) × (n ≤ 65535) × (length part < n) × (bytes ≡ to_be_bytes w32 n ++ part))
+
+-- these bytes begin with the part, and go on
+abbrev pub IsPart : List ℕ → List ℕ → Type 0
+IsPart part bytes = (rest : List ℕ) × (rest ≢ []) × (bytes ≡ part ++ rest)
+
+abbrev pub frames_of : List Reply → List ℕ
+frames_of replies = flat_map reply_frame replies
+
+-- the replies that are owed: one to each content, and one to a length that is too great
+abbrev pub Owes : List Reply → List ℕ → List Reply → Type 0
+Owes replies read owed = ((read ≡ []) × (owed ≡ replies)) ⊎ (IsTooLong read × (owed ≡ replies ++ refused ∷ []))
+
+-- By the end, or None where it goes on: what was read behind the whole frames, and what was written.
+abbrev pub Ends : Option Served → List Reply → List ℕ → List ℕ → Type 0
+Ends None replies read written = (read ≡ []) × (written ≡ frames_of replies)
+Ends (Some Ended) replies read written = (read ≡ []) × (written ≡ frames_of replies)
+Ends (Some ReadFault) replies read written = IsCut read × (written ≡ frames_of replies)
+Ends (Some TooLong) replies read written = IsTooLong read × (written ≡ frames_of (replies ++ refused ∷ []))
+-- one reply is not written, or in part
+Ends (Some WriteFault) replies read written =
+    (sent : List Reply) × (reply : Reply) × (part : List ℕ)
+    × Owes replies read (sent ++ reply ∷ []) × IsPart part (reply_frame reply) × (written ≡ frames_of sent ++ part)
+-- a content is not read, or one reply is not written
+Ends (Some Memory) replies read written =
+    (sent : List Reply) × (written ≡ frames_of sent) × ((IsLength read × (sent ≡ replies)) ⊎ ((reply : Reply) × Owes replies read (sent ++ reply ∷ [])))
+
+-- a conversation so far: its whole frames, no more than so many, with their replies, what was read behind them, and all that was written
+pub record Talks {D : Type 0} (called : D → Request → Reply → D → Type 0) (most : ℕ) (end : Option Served) (input input' output output' : Option (List ℕ)) (d e : D) : Type 0 where
+  pub contents : List (List ℕ)
+  pub replies : List Reply
+  pub read : List ℕ
+  pub written : List ℕ
+  pub short : All IsShort contents
+  pub few : length contents ≤ most
+  pub consumed : Consumes input input' (flat_map frame contents ++ read)
   pub answered : AnswersAll called d contents replies e
-  pub written : Appends output output' (flat_map reply_frame replies)
-
--- whole frames were answered, and then a length that is too great
-abbrev pub EndsLong : {D : Type 0} → (D → Request → Reply → D → Type 0) → Option (List ℕ) → Option (List ℕ) → Option (List ℕ) → Option (List ℕ) → D → D → List (List ℕ) → List Reply → Type 0
-EndsLong called input input' output output' d e contents replies =
-    (n : ℕ) × (65535 < n) × (n < 2 ^ 32) × AreShort contents × Consumes input input' (flat_map frame contents ++ to_be_bytes w32 n)
-    × AnswersAll called d contents replies e
-    × Appends output output' (flat_map reply_frame replies ++ reply_frame refused)
-
--- neither at the end of a frame nor at one that is too long
-abbrev pub is_quiet : Served → Bool
-is_quiet Memory = true
-is_quiet WriteFault = true
-is_quiet Ended = false
-is_quiet ReadFault = true
-is_quiet TooLong = false
+  pub appended : Appends output output' written
+  pub ends : Ends end replies read written
+  pub at_end : end ≡ Some Ended → IsAtEnd input'

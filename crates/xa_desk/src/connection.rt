@@ -1,10 +1,10 @@
-ghost use Rattle.std.specs.Prelude.{◌≡◌, ℕ, ◌<◌, ◌≤◌, ◌^◌, [], ◌∷◌, ◌++◌, length, IfOk, IfErr, IfSome, true, Some, None, List};
+ghost use Rattle.std.specs.Prelude.{◌≡◌, ℕ, ◌<◌, ◌≤◌, [], ◌∷◌, length, IfOk, IfErr, true, false, Some, List};
 ghost use Rattle.std.specs.Int.{to_be_bytes, w32};
 ghost use Rattle.std.specs.Io.KnownBytes.{Consumes, Appends, IsAtEnd};
-ghost use Rattle.xa_frame.specs.declared.reply.Reply.{Reply};
 ghost use Rattle.xa_frame.specs.Limits.{IsReply};
-ghost use Rattle.xa_desk.specs.Frames.{frame, reply_frame, refused, without_memory};
-ghost use Rattle.xa_desk.specs.Serving.{Answers, AnswersAll, Talked, EndsLong, is_quiet};
+ghost use Rattle.xa_desk.specs.Frames.{reply_frame, refused, without_memory};
+ghost use Rattle.xa_desk.specs.Serving.{Answers, IsPart, Talks};
+ghost use Rattle.xa_desk.specs.Steps.{Fills, Lacks, Sends};
 
 use crate::door::Door;
 use crate::served::Served;
@@ -17,11 +17,36 @@ use xa_frame::{Body, FrameFault, Reply, decode_request, encode_reply, one_reply}
 const LONGEST: u32 = 65_535;
 
 /// What begins a frame.
-#[derive(Clone, Copy, Debug, PartialEq, Eq)]
+#[derive(Drop)]
 enum Front {
     Length(u32),
     End,
     Fault,
+}
+
+/// How far a buffer was filled.
+#[derive(Drop)]
+enum Filled {
+    Whole,
+    /// The input ended after so many bytes.
+    Ended(usize),
+    /// A read failed after so many bytes.
+    Fault(usize),
+}
+
+// Fills a buffer, in whatever pieces the reader gives.
+fn fill<R: Read>(reader: &mut R, buffer: &mut [u8]) -> Filled
+    ensures { Fills result (R.remaining reader.old) (R.remaining reader.new) buffer.new }
+{
+    let mut count = 0;
+    while count < buffer.len() {
+        match reader.read(&mut buffer[count..]) {
+            Ok(0) => return Filled::Ended(count),
+            Ok(n) => count += n,
+            Err(_) => return Filled::Fault(count),
+        }
+    }
+    Filled::Whole
 }
 
 fn number_of(a: u8, b: u8, c: u8, d: u8) -> u32
@@ -34,22 +59,27 @@ fn number_of(a: u8, b: u8, c: u8, d: u8) -> u32
 fn read_front<R: Read>(reader: &mut R) -> Front
     ensures length { (n : ℕ) → result ≡ Front.Length n → Consumes (R.remaining reader.old) (R.remaining reader.new) (to_be_bytes w32 n) }
     ensures end { result ≡ Front.End → Consumes (R.remaining reader.old) (R.remaining reader.new) [] × IsAtEnd (R.remaining reader.new) }
+    ensures fault { result ≡ Front.Fault → (part : List ℕ) × (length part < 4) × Consumes (R.remaining reader.old) (R.remaining reader.new) part }
 {
     let mut front = [0u8; 4];
-    let count = match reader.read(&mut front) {
-        Ok(0) => return Front::End,
-        Ok(count) => count,
-        Err(_) => return Front::Fault,
-    };
-    match reader.read_exact(&mut front[count..]) {
-        Ok(()) => Front::Length(number_of(front[0], front[1], front[2], front[3])),
-        Err(_) => Front::Fault,
+    match fill(reader, &mut front) {
+        Filled::Whole => Front::Length(number_of(front[0], front[1], front[2], front[3])),
+        Filled::Ended(0) => Front::End,
+        Filled::Ended(_) | Filled::Fault(_) => Front::Fault,
     }
 }
 
-// Writes all the bytes.
+fn is_too_long(length: u32) -> bool
+    ensures long { result ≡ true → 65535 < length }
+    ensures fits { result ≡ false → length ≤ 65535 }
+{
+    length > LONGEST
+}
+
+// Writes all the bytes, in whatever pieces the writer takes.
 fn write_bytes<W: Write>(writer: &mut W, bytes: &[u8]) -> bool
-    ensures { result ≡ true → Appends (W.contents writer.old) (W.contents writer.new) bytes.now }
+    ensures whole { result ≡ true → Appends (W.contents writer.old) (W.contents writer.new) bytes.now }
+    ensures part { result ≡ false → (part : List ℕ) × IsPart part bytes.now × Appends (W.contents writer.old) (W.contents writer.new) part }
 {
     let mut rest = bytes;
     while !rest.is_empty() {
@@ -102,8 +132,7 @@ fn frame_of(alloc: Global, reply: &Reply) -> Result<Vec<u8>, AllocError>
 // Writes the frame of a reply. An end is want of memory or a write that failed.
 fn send<W: Write>(alloc: Global, writer: &mut W, reply: &Reply) -> Option<Served>
     requires { IsReply reply.now }
-    ensures sent { result ≡ None → Appends (W.contents writer.old) (W.contents writer.new) (reply_frame reply.now) }
-    ensures ends { IfSome result (λ s. is_quiet s ≡ true) }
+    ensures { Sends result (reply_frame reply.now) (W.contents writer.old) (W.contents writer.new) }
 {
     let Ok(bytes) = frame_of(alloc, reply) else {
         return Some(Served::Memory);
@@ -115,30 +144,18 @@ fn send<W: Write>(alloc: Global, writer: &mut W, reply: &Reply) -> Option<Served
     }
 }
 
-// Answers a length that is too great.
-fn refuse_long<W: Write>(alloc: Global, writer: &mut W) -> Served
-    ensures sent { result ≡ Served.TooLong → Appends (W.contents writer.old) (W.contents writer.new) (reply_frame refused) }
-    ensures ends { result ≡ Served.Ended → ⊥ }
-{
-    let reply = refusal();
-    match send(alloc, writer, &reply) {
-        Some(end) => end,
-        None => Served::TooLong,
-    }
-}
-
-// The content of a frame.
+// The content of a frame. An end is want of memory or a content that is cut.
 fn read_content<R: Read>(alloc: Global, reader: &mut R, count: usize) -> Result<Vec<u8>, Served>
     ensures read { IfOk result (λ v. (length v.items ≡ count) × Consumes (R.remaining reader.old) (R.remaining reader.new) v.items) }
-    ensures ends { IfErr result (λ s. is_quiet s ≡ true) }
+    ensures ends { IfErr result (λ end. Lacks end count (R.remaining reader.old) (R.remaining reader.new)) }
 {
     let Ok(mut content) = vec![in alloc; 0u8; count] else {
         return Err(Served::Memory);
     };
-    if reader.read_exact(content.as_mut_slice()).is_err() {
-        return Err(Served::ReadFault);
+    match fill(reader, content.as_mut_slice()) {
+        Filled::Whole => Ok(content),
+        Filled::Ended(_) | Filled::Fault(_) => Err(Served::ReadFault),
     }
-    Ok(content)
 }
 
 // Reads a frame and answers it. An end, or nothing where it goes on.
@@ -149,18 +166,16 @@ fn turn<D: Door, R: Read, W: Write>(
     writer: &mut W,
     session: u64,
 ) -> Option<Served>
-    ensures stands { (contents : List (List ℕ)) × (replies : List Reply) × AnswersAll (D.called session) door.old contents replies door.new }
-    ensures goes { result ≡ None → (content : List ℕ) × (reply : Reply) × Talked (D.called session) (R.remaining reader.old) (R.remaining reader.new) (W.contents writer.old) (W.contents writer.new) door.old door.new (content ∷ []) (reply ∷ []) }
-    ensures ended { result ≡ Some Served.Ended → (door.new ≡ door.old) × Consumes (R.remaining reader.old) (R.remaining reader.new) [] × IsAtEnd (R.remaining reader.new) × Appends (W.contents writer.old) (W.contents writer.new) [] }
-    ensures long { result ≡ Some Served.TooLong → (door.new ≡ door.old) × ((n : ℕ) × (65535 < n) × (n < 2 ^ 32) × Consumes (R.remaining reader.old) (R.remaining reader.new) (to_be_bytes w32 n)) × Appends (W.contents writer.old) (W.contents writer.new) (reply_frame refused) }
+    ensures { Talks (D.called session) 1 result (R.remaining reader.old) (R.remaining reader.new) (W.contents writer.old) (W.contents writer.new) door.old door.new }
 {
     let length = match read_front(reader) {
         Front::Length(length) => length,
         Front::End => return Some(Served::Ended),
         Front::Fault => return Some(Served::ReadFault),
     };
-    if length > LONGEST {
-        return Some(refuse_long(alloc, writer));
+    if is_too_long(length) {
+        let reply = refusal();
+        return Some(send(alloc, writer, &reply).unwrap_or(Served::TooLong));
     }
     let content = match read_content(alloc, reader, length as usize) {
         Ok(content) => content,
@@ -190,9 +205,7 @@ fn converse<D: Door, R: Read, W: Write>(
     writer: &mut W,
     session: u64,
 ) -> Served
-    ensures stands { (contents : List (List ℕ)) × (replies : List Reply) × AnswersAll (D.called session) door.old contents replies door.new }
-    ensures ended { result ≡ Served.Ended → (contents : List (List ℕ)) × (replies : List Reply) × Talked (D.called session) (R.remaining reader.old) (R.remaining reader.new) (W.contents writer.old) (W.contents writer.new) door.old door.new contents replies × IsAtEnd (R.remaining reader.new) }
-    ensures long { result ≡ Served.TooLong → (contents : List (List ℕ)) × (replies : List Reply) × EndsLong (D.called session) (R.remaining reader.old) (R.remaining reader.new) (W.contents writer.old) (W.contents writer.new) door.old door.new contents replies }
+    ensures { Talks (D.called session) 4294967295 (Some result) (R.remaining reader.old) (R.remaining reader.new) (W.contents writer.old) (W.contents writer.new) door.old door.new }
 {
     for _ in 0..u32::MAX {
         match turn(alloc, door, reader, writer, session) {
@@ -208,7 +221,7 @@ fn converse<D: Door, R: Read, W: Write>(
 /// Of each frame it reads the length and then the content, each by one read where the reader gives all that is asked,
 /// and nothing beyond: what stands behind the last frame or behind a length above 65,535 is left in the reader. So the
 /// caller may hand in a reader with a buffer. The frame of each reply is handed to the writer whole, and again only
-/// where the writer took a part.
+/// where the writer took a part. A read or a write that fails ends the connection, whatever its error.
 pub fn serve<D: Door, R: Read, W: Write>(
     alloc: Global,
     door: &mut D,
@@ -216,9 +229,7 @@ pub fn serve<D: Door, R: Read, W: Write>(
     writer: &mut W,
     session: u64,
 ) -> Served
-    ensures stands { (contents : List (List ℕ)) × (replies : List Reply) × (d : D) × AnswersAll (D.called session) door.old contents replies d × D.left session d door.new }
-    ensures ended { result ≡ Served.Ended → (contents : List (List ℕ)) × (replies : List Reply) × (d : D) × Talked (D.called session) (R.remaining reader.old) (R.remaining reader.new) (W.contents writer.old) (W.contents writer.new) door.old d contents replies × IsAtEnd (R.remaining reader.new) × D.left session d door.new }
-    ensures long { result ≡ Served.TooLong → (contents : List (List ℕ)) × (replies : List Reply) × (d : D) × EndsLong (D.called session) (R.remaining reader.old) (R.remaining reader.new) (W.contents writer.old) (W.contents writer.new) door.old d contents replies × D.left session d door.new }
+    ensures { (d : D) × Talks (D.called session) 4294967295 (Some result) (R.remaining reader.old) (R.remaining reader.new) (W.contents writer.old) (W.contents writer.new) door.old d × D.left session d door.new }
 {
     let end = converse(alloc, door, reader, writer, session);
     door.hangup(session);

@@ -1,44 +1,24 @@
-use Rattle.std.proofs.Common.{◌≡◌, [], ◌∷◌, refl, arith, subst}
-use Rattle.xa_desk.specs.declared.served.Served.TheVariants.{TooLong}
-use Rattle.xa_desk.specs.Serving.{Answers}
-use Rattle.xa_desk.proofs.Known.{talked-one}
+use Rattle.std.proofs.Common.{arith, refl}
+use Rattle.xa_desk.proofs.Talking.{talks-ended, talks-cut, talks-refused, talks-lacking, talks-answered}
 use Rattle.xa_desk.proofs.connection.turn.Goals as goal
 
-pub returns-clause-goes : goal.returns-clause-goes
-returns-clause-goes g c = λ sent.
-    let body = c.in-Ok.ensures.read in (
-      c.in-Ok.content.items,
-      c.answer-reply.result,
-      talked-one (g.D.Door.called c.args.session) _ _ _ _ _ c.args.door.now c.answer-reply.new.door c.in-Length.length c.in-Ok.content.items c.answer-reply.result
-          (omega arith) (c.in-Length.ensures.length c.in-Length.length refl) body.0 body.1
-          (subst (λ xs. Answers (g.D.Door.called c.args.session) c.args.door.now xs c.answer-reply.result c.answer-reply.new.door) c.as_slice.ensures.value c.answer-reply.ensures.answers)
-          (c.send.ensures.sent sent),
-    )
+pub returns-in-End : goal.returns-in-End
+returns-in-End g c = let e = c.in-End.ensures.end refl in talks-ended _ _ _ _ _ e.0 e.1
 
-pub returns-in-End-clause-stands : goal.returns-in-End-clause-stands
-returns-in-End-clause-stands g c = ([], [], refl)
+pub returns-in-Fault : goal.returns-in-Fault
+returns-in-Fault g c = let e = c.in-Fault.ensures.fault refl in talks-cut _ 1 _ _ _ _ e.0 e.1 e.2
 
-pub returns-in-Fault-clause-stands : goal.returns-in-Fault-clause-stands
-returns-in-Fault-clause-stands g c = ([], [], refl)
+pub returns-then-is_too_long : goal.returns-then-is_too_long
+returns-then-is_too_long g c =
+    talks-refused _ c.send.result c.unwrap_or.result c.refusal-reply.result _ _ _ _ _ c.in-Length.length c.unwrap_or.ensures c.refusal-reply.ensures.reply
+    (c.if-is_too_long.ensures.long refl) (omega arith) (c.in-Length.ensures.length c.in-Length.length refl) c.send.ensures
 
-pub returns-in-Err-clause-stands : goal.returns-in-Err-clause-stands
-returns-in-Err-clause-stands g c = ([], [], refl)
+pub returns-in-Err : goal.returns-in-Err
+returns-in-Err g c =
+    talks-lacking _ c.in-Err.end _ _ _ _ _ c.in-Length.length (c.if-is_too_long.ensures.fits refl) (c.in-Length.ensures.length c.in-Length.length refl) c.in-Err.ensures.ends
 
-pub returns-clause-stands : goal.returns-clause-stands
-returns-clause-stands g c = (
-  c.in-Ok.content.items ∷ [],
-  c.answer-reply.result ∷ [],
-  (
-    c.answer-reply.new.door,
-    subst (λ xs. Answers (g.D.Door.called c.args.session) c.args.door.now xs c.answer-reply.result c.answer-reply.new.door) c.as_slice.ensures.value c.answer-reply.ensures.answers,
-    refl,
-  ),
-)
-
-pub returns-then-length-gt-LONGEST-clause-stands : goal.returns-then-length-gt-LONGEST-clause-stands
-returns-then-length-gt-LONGEST-clause-stands g c = ([], [], refl)
-
-pub returns-then-length-gt-LONGEST-clause-long : goal.returns-then-length-gt-LONGEST-clause-long
-returns-then-length-gt-LONGEST-clause-long g c = λ is.
-    let e : c.refuse_long.result ≡ TooLong = cc in
-    (refl, (c.in-Length.length, omega arith, omega arith, c.in-Length.ensures.length c.in-Length.length refl), c.refuse_long.ensures.sent e)
+pub returns : goal.returns
+returns g c =
+    talks-answered _ c.send-2.result _ _ _ _ _ _ _ c.in-Length.length c.in-Ok.content.items c.as_slice.result.now c.answer-reply.result
+    (c.if-is_too_long.ensures.fits refl) (c.in-Length.ensures.length c.in-Length.length refl) c.in-Ok.ensures.read.0 c.in-Ok.ensures.read.1
+    c.as_slice.ensures.value c.answer-reply.ensures.answers c.send-2.ensures

@@ -1,0 +1,198 @@
+-- One turn, and a turn behind others.
+use Rattle.std.proofs.Common.{◌≡◌, ℕ, ◌+◌, ◌<◌, ◌≤◌, ◌^◌, List, [], ◌∷◌, ◌++◌, length, Option, Some, None, refl, sym, ap, ◌∙◌, inl, inr, append_assoc, append-nil, arith, subst, unwrap_or}
+use Rattle.std.specs.List.{flat_map}
+use Rattle.std.specs.Int.{to_be_bytes, w32}
+use Rattle.std.specs.Io.KnownBytes.{Consumes, Appends, IsAtEnd}
+use Rattle.std.proofs.lemmas.Grind.{flat_map-append}
+use Rattle.std.proofs.lemmas.List.{length-append}
+use Rattle.std.proofs.lemmas.List.Elements.{All-append, All-nil, All-cons}
+use Rattle.xa_frame.specs.declared.request.Request.{Request}
+use Rattle.xa_frame.specs.declared.reply.Reply.{Reply}
+use Rattle.xa_desk.specs.declared.served.Served.{Served}
+use Rattle.xa_desk.specs.declared.served.Served.TheVariants.{Ended, ReadFault, WriteFault, TooLong, Memory}
+use Rattle.xa_desk.specs.Frames.{frame, reply_frame, refused}
+use Rattle.xa_desk.specs.Serving.{Answers, AnswersAll, IsShort, frames_of, Owes, Ends, Talks}
+use Rattle.xa_desk.specs.Steps.{Lacks, Sends}
+use Rattle.xa_desk.proofs.Known.{consumes-none, appends-none, consumes-twice, appends-twice}
+
+answers-append : {D : Type 0} (called : D → Request → Reply → D → Type 0) (d m e : D) (cs ds : List (List ℕ)) (rs qs : List Reply)
+    → AnswersAll called d cs rs m → AnswersAll called m ds qs e → AnswersAll called d (cs ++ ds) (rs ++ qs) e
+answers-append {D} called d m e [] ds [] qs h k = subst (λ (x : D). AnswersAll called x ds qs e) (sym h) k
+answers-append called d m e [] ds (y ∷ rs) qs h k = absurd h
+answers-append called d m e (x ∷ cs) ds [] qs h k = absurd h
+answers-append called d m e (x ∷ cs) ds (y ∷ rs) qs h k = (h.0, h.1, answers-append called h.0 m e cs ds rs qs h.2 k)
+
+-- what was written behind other replies
+frames-behind : (rs qs : List Reply) (written : List ℕ) → written ≡ frames_of qs → frames_of rs ++ written ≡ frames_of (rs ++ qs)
+frames-behind rs qs written h = ap (λ (bs : List ℕ). frames_of rs ++ bs) h ∙ sym (flat_map-append reply_frame rs qs)
+
+owes-behind : (rs qs : List Reply) (read : List ℕ) (owed : List Reply) → Owes qs read owed → Owes (rs ++ qs) read (rs ++ owed)
+owes-behind rs qs read owed (inl h) = inl (h.0, ap (λ (xs : List Reply). rs ++ xs) h.1)
+owes-behind rs qs read owed (inr h) = inr (h.0, ap (λ (xs : List Reply). rs ++ xs) h.1 ∙ sym (append_assoc rs qs (refused ∷ [])))
+
+-- the same, for a last reply
+owes-last : (rs qs sent : List Reply) (reply : Reply) (read : List ℕ) → Owes qs read (sent ++ reply ∷ []) → Owes (rs ++ qs) read ((rs ++ sent) ++ reply ∷ [])
+owes-last rs qs sent reply read h =
+    subst (λ (xs : List Reply). Owes (rs ++ qs) read xs) (sym (append_assoc rs sent (reply ∷ []))) (owes-behind rs qs read (sent ++ reply ∷ []) h)
+
+ends-behind : (end : Option Served) (rs qs : List Reply) (read written : List ℕ) → Ends end qs read written → Ends end (rs ++ qs) read (frames_of rs ++ written)
+ends-behind None rs qs read written h = (h.0, frames-behind rs qs written h.1)
+ends-behind (Some Ended) rs qs read written h = (h.0, frames-behind rs qs written h.1)
+ends-behind (Some ReadFault) rs qs read written h = (h.0, frames-behind rs qs written h.1)
+ends-behind (Some TooLong) rs qs read written h =
+    (h.0, frames-behind rs (qs ++ refused ∷ []) written h.1 ∙ ap frames_of (sym (append_assoc rs qs (refused ∷ []))))
+ends-behind (Some WriteFault) rs qs read written h = (
+  rs ++ h.0,
+  h.1,
+  h.2,
+  owes-last rs qs h.0 h.1 read h.3,
+  h.4,
+  ap (λ (bs : List ℕ). frames_of rs ++ bs) h.5 ∙ (sym (append_assoc (frames_of rs) (frames_of h.0) h.2) ∙ ap (λ (bs : List ℕ). bs ++ h.2) (sym (flat_map-append reply_frame rs h.0))),
+)
+ends-behind (Some Memory) rs qs read written h = (
+  rs ++ h.0,
+  frames-behind rs h.0 written h.1,
+  elim h.2 [ inl k ↦ inl (k.0, ap (λ (xs : List Reply). rs ++ xs) k.1) | inr k ↦ inr (k.0, owes-last rs qs h.0 k.0 read k.1) ],
+)
+
+-- a turn behind others
+pub talks-behind : {D : Type 0} (called : D → Request → Reply → D → Type 0) (most more all : ℕ) (end : Option Served) (i j k o p q : Option (List ℕ)) (d m e : D)
+    → most + more ≤ all → Talks called most None i j o p d m → Talks called more end j k p q m e → Talks called all end i k o q d e
+talks-behind called most more all end i j k o p q d m e within s t =
+    let P : List ℕ → Type 0 = λ bs. Consumes i j bs in
+    let Q : List ℕ → Type 0 = λ bs. Appends o p bs in
+    let R : List ℕ → Type 0 = λ bs. Consumes i k bs in
+    let before : Consumes i j (flat_map frame s.contents) = subst P (ap (λ (bs : List ℕ). flat_map frame s.contents ++ bs) s.ends.0 ∙ append-nil (flat_map frame s.contents)) s.consumed in
+    let sent : Appends o p (frames_of s.replies) = subst Q s.ends.1 s.appended in
+    record {
+      contents = s.contents ++ t.contents;
+      replies = s.replies ++ t.replies;
+      read = t.read;
+      written = frames_of s.replies ++ t.written;
+      short = All-append IsShort s.contents t.contents s.short t.short;
+      few = omega (arith, length-append s.contents t.contents, s.few, t.few, within);
+      consumed = subst R (sym (append_assoc (flat_map frame s.contents) (flat_map frame t.contents) t.read) ∙ ap (λ (bs : List ℕ). bs ++ t.read) (sym (flat_map-append frame s.contents t.contents)))
+          (consumes-twice i j k (flat_map frame s.contents) (flat_map frame t.contents ++ t.read) before t.consumed);
+      answered = answers-append called d m e s.contents t.contents s.replies t.replies s.answered t.answered;
+      appended = appends-twice o p q (frames_of s.replies) t.written sent t.appended;
+      ends = ends-behind end s.replies t.replies t.read t.written t.ends;
+      at_end = t.at_end;
+    }
+
+-- nothing yet
+pub talks-none : {D : Type 0} (called : D → Request → Reply → D → Type 0) (i o : Option (List ℕ)) (d : D) → Talks called 0 None i i o o d d
+talks-none called i o d = record {
+  contents = [];
+  replies = [];
+  read = [];
+  written = [];
+  short = All-nil IsShort;
+  few = omega arith;
+  consumed = consumes-none i;
+  answered = refl;
+  appended = appends-none o;
+  ends = (refl, refl);
+  at_end = λ is. cc;
+}
+
+-- no door was reached, and this was read and written
+alone : {D : Type 0} (called : D → Request → Reply → D → Type 0) (most : ℕ) (end : Served) (i j o p : Option (List ℕ)) (d : D) (read written : List ℕ)
+    → Consumes i j read → Appends o p written → Ends (Some end) [] read written → (Some end ≡ Some Ended → IsAtEnd j) → Talks called most (Some end) i j o p d d
+alone called most end i j o p d read written h k ends at_end = record {
+  contents = [];
+  replies = [];
+  read = read;
+  written = written;
+  short = All-nil IsShort;
+  few = omega arith;
+  consumed = h;
+  answered = refl;
+  appended = k;
+  ends = ends;
+  at_end = at_end;
+}
+
+-- the input ended
+pub talks-ended : {D : Type 0} (called : D → Request → Reply → D → Type 0) (i j o : Option (List ℕ)) (d : D) → Consumes i j [] → IsAtEnd j → Talks called 1 (Some Ended) i j o o d d
+talks-ended called i j o d h at = alone called 1 Ended i j o o d [] [] h (appends-none o) (refl, refl) (λ is. at)
+
+-- a length is cut
+pub talks-cut : {D : Type 0} (called : D → Request → Reply → D → Type 0) (most : ℕ) (i j o : Option (List ℕ)) (d : D) (part : List ℕ) → length part < 4 → Consumes i j part → Talks called most (Some ReadFault) i j o o d d
+talks-cut called most i j o d part less h = alone called most ReadFault i j o o d part [] h (appends-none o) (inl less, refl) (λ is. cc)
+
+-- the bound of frames is met
+pub talks-bound : {D : Type 0} (called : D → Request → Reply → D → Type 0) (most all : ℕ) (i j o p : Option (List ℕ)) (d e : D)
+    → most ≤ all → Talks called most None i j o p d e → Talks called all (Some ReadFault) i j o p d e
+talks-bound called most all i j o p d e within s = talks-behind called most 0 all (Some ReadFault) i j j o p p d e e (omega arith) s (talks-cut called 0 j j p e [] (omega arith) (consumes-none j))
+
+-- a length is too great
+talks-long : {D : Type 0} (called : D → Request → Reply → D → Type 0) (sent : Option Served) (i j o p : Option (List ℕ)) (d : D) (n : ℕ)
+    → 65535 < n → n < 2 ^ 32 → Consumes i j (to_be_bytes w32 n) → Sends sent (reply_frame refused) o p → Talks called 1 (Some (unwrap_or sent TooLong)) i j o p d d
+talks-long called None i j o p d n more bound h k =
+    alone called 1 TooLong i j o p d (to_be_bytes w32 n) (reply_frame refused) h k ((n, more, bound, refl), sym (append-nil (reply_frame refused))) (λ is. cc)
+talks-long called (Some WriteFault) i j o p d n more bound h k =
+    alone called 1 WriteFault i j o p d (to_be_bytes w32 n) k.0 h k.2 ([], refused, k.0, inr ((n, more, bound, refl), refl), k.1, refl) (λ is. cc)
+talks-long called (Some Memory) i j o p d n more bound h k =
+    alone called 1 Memory i j o p d (to_be_bytes w32 n) [] h k ([], refl, inr (refused, inr ((n, more, bound, refl), refl))) (λ is. cc)
+talks-long called (Some Ended) i j o p d n more bound h k = absurd k
+talks-long called (Some ReadFault) i j o p d n more bound h k = absurd k
+talks-long called (Some TooLong) i j o p d n more bound h k = absurd k
+
+-- the same, where the reply and the end are known by equations
+pub talks-refused : {D : Type 0} (called : D → Request → Reply → D → Type 0) (sent : Option Served) (end : Served) (reply : Reply) (i j o p : Option (List ℕ)) (d : D) (n : ℕ)
+    → end ≡ unwrap_or sent TooLong → reply ≡ refused → 65535 < n → n < 2 ^ 32 → Consumes i j (to_be_bytes w32 n) → Sends sent (reply_frame reply) o p → Talks called 1 (Some end) i j o p d d
+talks-refused called sent end reply i j o p d n end_is reply_is more bound h k =
+    let P : Served → Type 0 = λ x. Talks called 1 (Some x) i j o p d d in
+    let Q : Reply → Type 0 = λ x. Sends sent (reply_frame x) o p in
+    subst P (sym end_is) (talks-long called sent i j o p d n more bound h (subst Q reply_is k))
+
+-- a content was not read
+pub talks-lacking : {D : Type 0} (called : D → Request → Reply → D → Type 0) (end : Served) (i j k o : Option (List ℕ)) (d : D) (n : ℕ)
+    → n ≤ 65535 → Consumes i j (to_be_bytes w32 n) → Lacks end n j k → Talks called 1 (Some end) i k o o d d
+talks-lacking called Memory i j k o d n few h l =
+    let P : List ℕ → Type 0 = λ bs. Consumes i k bs in
+    let whole : Consumes i k (to_be_bytes w32 n) = subst P (append-nil (to_be_bytes w32 n)) (consumes-twice i j k (to_be_bytes w32 n) [] h l) in
+    alone called 1 Memory i k o o d (to_be_bytes w32 n) [] whole (appends-none o) ([], refl, inl ((n, few, refl), refl)) (λ is. cc)
+talks-lacking called ReadFault i j k o d n few h l =
+    alone called 1 ReadFault i k o o d (to_be_bytes w32 n ++ l.0) [] (consumes-twice i j k (to_be_bytes w32 n) l.0 h l.2) (appends-none o) (inr (n, l.0, few, l.1, refl), refl) (λ is. cc)
+talks-lacking called Ended i j k o d n few h l = absurd l
+talks-lacking called WriteFault i j k o d n few h l = absurd l
+talks-lacking called TooLong i j k o d n few h l = absurd l
+
+-- a content was answered, and this was written
+answered-so : {D : Type 0} (called : D → Request → Reply → D → Type 0) (end : Option Served) (i j o p : Option (List ℕ)) (d e : D) (c : List ℕ) (r : Reply) (written : List ℕ)
+    → length c ≤ 65535 → Consumes i j (frame c) → Answers called d c r e → Appends o p written → Ends end (r ∷ []) [] written → (end ≡ Some Ended → IsAtEnd j) → Talks called 1 end i j o p d e
+answered-so called end i j o p d e c r written few h said k ends at_end =
+    let P : List ℕ → Type 0 = λ bs. Consumes i j bs in
+    record {
+      contents = c ∷ [];
+      replies = r ∷ [];
+      read = [];
+      written = written;
+      short = All-cons IsShort c [] few (All-nil IsShort);
+      few = omega arith;
+      consumed = subst P (sym (append-nil (frame c ++ []) ∙ append-nil (frame c))) h;
+      answered = (e, said, refl);
+      appended = k;
+      ends = ends;
+      at_end = at_end;
+    }
+
+sent-so : {D : Type 0} (called : D → Request → Reply → D → Type 0) (sent : Option Served) (i j o p : Option (List ℕ)) (d e : D) (c : List ℕ) (r : Reply)
+    → length c ≤ 65535 → Consumes i j (frame c) → Answers called d c r e → Sends sent (reply_frame r) o p → Talks called 1 sent i j o p d e
+sent-so called None i j o p d e c r few h said k = answered-so called None i j o p d e c r (reply_frame r) few h said k (refl, sym (append-nil (reply_frame r))) (λ is. cc)
+sent-so called (Some WriteFault) i j o p d e c r few h said k =
+    answered-so called (Some WriteFault) i j o p d e c r k.0 few h said k.2 ([], r, k.0, inl (refl, refl), k.1, refl) (λ is. cc)
+sent-so called (Some Memory) i j o p d e c r few h said k = answered-so called (Some Memory) i j o p d e c r [] few h said k ([], refl, inr (r, inl (refl, refl))) (λ is. cc)
+sent-so called (Some Ended) i j o p d e c r few h said k = absurd k
+sent-so called (Some ReadFault) i j o p d e c r few h said k = absurd k
+sent-so called (Some TooLong) i j o p d e c r few h said k = absurd k
+
+pub talks-answered : {D : Type 0} (called : D → Request → Reply → D → Type 0) (sent : Option Served) (i j k o p : Option (List ℕ)) (d e : D) (n : ℕ) (c content : List ℕ) (r : Reply)
+    → n ≤ 65535 → Consumes i j (to_be_bytes w32 n) → length c ≡ n → Consumes j k c → content ≡ c → Answers called d content r e → Sends sent (reply_frame r) o p → Talks called 1 sent i k o p d e
+talks-answered called sent i j k o p d e n c content r few front len body same said s =
+    let Q : List ℕ → Type 0 = λ xs. Answers called d xs r e in
+    let P : ℕ → Type 0 = λ m. Consumes i k (to_be_bytes w32 m ++ c) in
+    let whole : Consumes i k (frame c) = subst P (sym len) (consumes-twice i j k (to_be_bytes w32 n) c front body) in
+    let short : length c ≤ 65535 = omega arith in
+    sent-so called sent i k o p d e c r short whole (subst Q same said) s
