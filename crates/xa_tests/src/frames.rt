@@ -240,3 +240,84 @@ fn operations(rt: HostRuntime) -> Result<(), Fail> {
     }
     Ok(())
 }
+
+/// The fields of the requests 1 to 15 and of the bodies of kind 0 to 4, a letter each.
+const REQUESTS: [&[u8]; 15] = [
+    b"fi", b"f", b"fx", b"fx", b"fx", b"fx", b"fx", b"ff", b"fx", b"k", b"kv", b"k", b"dx", b"x",
+    b"",
+];
+
+const BODIES: [&[u8]; 5] = [b"", b"ff", b"v", b"", b"c"];
+
+/// A field at its least and at its greatest: how it begins, and how many bytes follow.
+fn limit(letter: u8, greatest: bool) -> (&'static [u8], usize) {
+    match (letter, greatest) {
+        (b'i', false) => (&[0], 0),
+        (b'i', true) => (&[255], 255),
+        (b'k', false) => (&[1], 1),
+        (b'k', true) => (&[64], 64),
+        (b'v', false) => (&[0, 0], 0),
+        (b'v', true) => (&[4, 0], 1_024),
+        (b'x', false) => (&[128, 0, 0, 0, 1, 0], 1),
+        (b'x', true) => (&[127, 255, 255, 255, 64, 64], 128),
+        (b'd', false) => (&[1], 0),
+        (b'd', true) => (&[2], 0),
+        // how many XIDs
+        (b'c', false) => (&[0, 0], 0),
+        (b'c', true) => (&[1, 0], 0),
+        // flags and a count; two are a number of eight bytes
+        _ => (&[], 4),
+    }
+}
+
+fn put_fields(out: &mut Vec<u8>, letters: &[u8], greatest: bool) -> Result<(), AllocError> {
+    for letter in letters {
+        let (front, rest) = limit(*letter, greatest);
+        out.extend_from_slice(front)?;
+        for _ in 0..rest {
+            out.push(0xa5)?;
+        }
+    }
+    Ok(())
+}
+
+fn request_again(alloc: Global, content: &[u8]) -> Option<Vec<u8>> {
+    match decode_request(alloc, content) {
+        Ok(request) => encode_request(alloc, &request).ok(),
+        Err(_) => None,
+    }
+}
+
+fn reply_again(alloc: Global, content: &[u8]) -> Option<Vec<u8>> {
+    match decode_reply(alloc, content) {
+        Ok(reply) => encode_reply(alloc, &reply).ok(),
+        Err(_) => None,
+    }
+}
+
+#[test]
+fn limits(rt: HostRuntime) -> Result<(), Fail> {
+    for greatest in [false, true] {
+        for (operation, letters) in (1..=15).zip(REQUESTS) {
+            let mut content = [1, operation].to_vec(rt.alloc())?;
+            put_fields(&mut content, letters, greatest)?;
+            let again = request_again(rt.alloc(), &content).ok_or("a request")?;
+            assert_eq!(rt; again, content, "of operation {operation}");
+        }
+        for (kind, letters) in (0..=4).zip(BODIES) {
+            let mut content = [
+                1, 255, 255, 255, 247, 7, 255, 255, 255, 255, 255, 255, 255, 255,
+            ]
+            .to_vec(rt.alloc())?;
+            content.push(kind)?;
+            put_fields(&mut content, letters, greatest)?;
+            let xids = if kind == 4 && greatest { 256 } else { 0 };
+            for _ in 0..xids {
+                put_fields(&mut content, b"x", greatest)?;
+            }
+            let again = reply_again(rt.alloc(), &content).ok_or("a reply")?;
+            assert_eq!(rt; again, content, "of kind {kind}");
+        }
+    }
+    Ok(())
+}

@@ -1,6 +1,6 @@
 use arrayvec::ArrayVec;
+use std::alloc::{AllocError, Global};
 use std::test::Fail;
-use xa_codes::Direction;
 use xa_record::{Record, RecordFault, read, write, write_small};
 use xa_xid::Xid;
 
@@ -31,16 +31,6 @@ fn prepared(rt: HostRuntime) -> Result<(), Fail> {
 }
 
 #[test]
-fn written_again(rt: HostRuntime) -> Result<(), Fail> {
-    let record = read(rt.alloc(), &PREPARED)
-        .ok()
-        .ok_or("the bytes are a record")?;
-    let body = write(rt.alloc(), &record)?;
-    assert_eq!(rt; body.as_slice(), PREPARED.as_slice());
-    Ok(())
-}
-
-#[test]
 fn opened(rt: HostRuntime) -> Result<(), Fail> {
     let mut out: ArrayVec<u8, 136> = ArrayVec::new();
     write_small(&Record::Opened { boot: 1 }, &mut out);
@@ -50,36 +40,109 @@ fn opened(rt: HostRuntime) -> Result<(), Fail> {
     Ok(())
 }
 
-#[test]
-fn completed(rt: HostRuntime) -> Result<(), Fail> {
-    let xid = Xid::take_text(b"1:aa:bb").ok_or("an XID")?;
-    let record = Record::Completed {
-        xid,
-        direction: Direction::Rollback,
-    };
-    let body = write(rt.alloc(), &record)?;
-    assert_eq!(rt;
-        body.as_slice(),
-        [4, 0, 0, 0, 1, 1, 1, 0xaa, 0xbb, 2].as_slice()
-    );
-    Ok(())
-}
-
 // 1:aa: at timestamp 1 deletes k
 const DELETED: [u8; 21] = [
     3, 0, 0, 0, 1, 1, 0, 0xaa, 0, 0, 0, 0, 0, 0, 0, 1, 0, 1, 1, 0x6b, 0,
 ];
 
+/// Bodies of each kind without writes: what stands before the XID, whether there is one, and what stands behind it.
+const SMALL: [(&[u8], bool, &[u8]); 9] = [
+    (&[1, 0, 0, 0, 1], false, &[]),
+    (&[1, 255, 255, 255, 255], false, &[]),
+    (&[4], true, &[1]),
+    (&[4], true, &[2]),
+    (&[5], true, &[1]),
+    (&[5], true, &[2]),
+    (&[6], true, &[]),
+    // with writes, whole
+    (&PREPARED, false, &[]),
+    (&DELETED, false, &[]),
+];
+
+/// Writes at their limits: how many, the length of each key, and of each value, or a delete.
+const WRITES: [(u16, u8, Option<u16>); 8] = [
+    (1, 1, None),
+    (1, 1, Some(0)),
+    (1, 64, Some(1_024)),
+    (2, 1, Some(1_024)),
+    (2, 64, Some(0)),
+    (256, 1, Some(0)),
+    (256, 64, None),
+    (256, 64, Some(1_024)),
+];
+
+fn put_xid(out: &mut Vec<u8>, greatest: bool) -> Result<(), AllocError> {
+    if greatest {
+        out.extend_from_slice(&[127, 255, 255, 255, 64, 64])?;
+        out.extend_from_slice(&[0xa5; 128])
+    } else {
+        out.extend_from_slice(&[128, 0, 0, 0, 1, 0, 0xa5])
+    }
+}
+
+fn put_write(out: &mut Vec<u8>, first: u8, key: u8, value: Option<u16>) -> Result<(), AllocError> {
+    out.push(key)?;
+    out.push(first)?;
+    for _ in 1..key {
+        out.push(0xa5)?;
+    }
+    match value {
+        None => out.push(0)?,
+        Some(n) => {
+            out.push(1)?;
+            out.extend_from_slice(&n.to_be_bytes())?;
+            for _ in 0..n {
+                out.push(0x5a)?;
+            }
+        }
+    }
+    Ok(())
+}
+
+fn branch(
+    alloc: Global,
+    kind: u8,
+    greatest: bool,
+    (count, key, value): (u16, u8, Option<u16>),
+) -> Result<Vec<u8>, AllocError> {
+    let mut out = Vec::new(alloc);
+    out.push(kind)?;
+    put_xid(&mut out, greatest)?;
+    out.extend_from_slice(&[255; 8])?;
+    out.extend_from_slice(&count.to_be_bytes())?;
+    for place in 0..count {
+        let [_, first] = place.to_be_bytes();
+        put_write(&mut out, first, key, value)?;
+    }
+    Ok(out)
+}
+
+fn written_again(alloc: Global, body: &[u8]) -> Option<Vec<u8>> {
+    match read(alloc, body) {
+        Ok(record) => write(alloc, &record).ok(),
+        Err(_) => None,
+    }
+}
+
 #[test]
-fn deleted(rt: HostRuntime) -> Result<(), Fail> {
-    let record = read(rt.alloc(), &DELETED)
-        .ok()
-        .ok_or("the bytes are a record")?;
-    let Record::Committed { writes, .. } = record else {
-        return Err("a committed branch".into());
-    };
-    for write in writes.as_slice() {
-        assert!(rt; write.value.is_none());
+fn limits(rt: HostRuntime) -> Result<(), Fail> {
+    for greatest in [false, true] {
+        for (front, named, end) in SMALL {
+            let mut body = front.to_vec(rt.alloc())?;
+            if named {
+                put_xid(&mut body, greatest)?;
+            }
+            body.extend_from_slice(end)?;
+            let again = written_again(rt.alloc(), &body).ok_or("a record")?;
+            assert_eq!(rt; again, body);
+        }
+        for kind in [2, 3] {
+            for row in WRITES {
+                let body = branch(rt.alloc(), kind, greatest, row)?;
+                let again = written_again(rt.alloc(), &body).ok_or("a branch")?;
+                assert_eq!(rt; again, body);
+            }
+        }
     }
     Ok(())
 }
