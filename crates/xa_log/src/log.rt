@@ -1,8 +1,8 @@
 //! The log on its disk.
-ghost use Rattle.std.specs.Prelude.{◌≡◌, ◌≢◌, ◌⊎◌, ◌+◌, ◌-◌, ◌≤◌, ◌<◌, ◌^◌, ◌↔◌, ◌∷◌, ◌++◌, ◌==◌, [], List, ℕ, true, false, length, if◌then◌else◌, OnOk, OnErr, IfOk, IfErr, IsErrOf, MatchResult, Some, None};
-ghost use Rattle.xa_disk.specs.Disk.{Same, Passes, Rises, LeavesOnly};
+ghost use Rattle.std.specs.Prelude.{◌≡◌, ◌≢◌, ◌⊎◌, ◌+◌, ◌-◌, ◌≤◌, ◌<◌, ◌^◌, ◌↔◌, ◌∷◌, ◌++◌, ◌==◌, [], List, ℕ, true, false, length, if◌then◌else◌, OnOk, OnErr, IfOk, IfErr, MatchResult, Some, None};
+ghost use Rattle.xa_disk.specs.Disk.{Same, Passes, LeavesOnly};
 ghost use Rattle.xa_log.specs.Chain.{IsBody, IsPlain, IsBeforeOrAfter, NoChance, logged};
-ghost use Rattle.xa_log.specs.Answers.{HasCause};
+ghost use Rattle.xa_log.specs.Answers.{HasCause, CountsDevice};
 ghost use Rattle.xa_log.specs.Opened.{IsOpened};
 ghost use Rattle.xa_log.specs.Reading.{bodies_of, fault_of, Explains, ExplainsNew};
 
@@ -96,7 +96,7 @@ impl<D: Disk> Log<D> {
         ensures logged { D.honest → IfOk result (λ r. logged (D.seen self.old.disk) ≡ bodies_of r.items) }
         ensures same { D.honest → D.seen self.new.disk ≡ D.seen self.old.disk }
         ensures time { D.honest → Passes Same (D.moment self.old.disk) (D.moment self.new.disk) (D.left_since self.old.disk) (D.left_since self.new.disk) (D.may_leave self.old.disk) (D.may_leave self.new.disk) }
-        ensures cause { IsErrOf result OpenFault.Device → Rises (D.failures self.old.disk) (D.failures self.new.disk) }
+        ensures count { CountsDevice result (D.failures self.old.disk) (D.failures self.new.disk) }
         ensures settings { self.new.log_bytes ≡ self.old.log_bytes }
         ensures alive { OnOk result (self.new.lost ≡ false) }
         ensures as_before { OnErr result (Untouched self.old self.new) }
@@ -126,6 +126,7 @@ impl<D: Disk + Drop> Log<D> {
         ensures empty { D.honest → OnOk result (D.seen disk ≡ []) }
         ensures room { OnOk result (12 ≤ log_bytes) }
         ensures settings { IfOk result (λ log. log.log_bytes ≡ log_bytes) }
+        ensures count { IfOk result (λ log. D.failures log.disk ≡ D.failures disk) }
         ensures fault { D.honest → IfErr result (λ e. ExplainsNew e log_bytes (D.seen disk)) }
     {
         let opened = create_on(alloc, &mut disk, log_bytes)?;
@@ -145,6 +146,7 @@ impl<D: Disk + Drop> Log<D> {
         ensures same { D.honest → IfOk result (λ r. D.seen r.0.disk ≡ D.seen disk) }
         ensures time { D.honest → IfOk result (λ r. Passes Same (D.moment disk) (D.moment r.0.disk) (D.left_since disk) (D.left_since r.0.disk) (D.may_leave disk) (D.may_leave r.0.disk)) }
         ensures settings { IfOk result (λ r. r.0.log_bytes ≡ log_bytes) }
+        ensures count { IfOk result (λ r. D.failures r.0.disk ≡ D.failures disk) }
     {
         let opened = open_on(alloc, &mut disk, log_bytes)?;
         Ok(Log::on(disk, opened))

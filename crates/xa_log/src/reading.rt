@@ -1,7 +1,8 @@
 //! Reading a log's records from a disk, through a window.
-ghost use Rattle.std.specs.Prelude.{◌≡◌, ◌⊎◌, ◌+◌, ◌-◌, ◌≤◌, ◌<◌, ◌^◌, ◌++◌, ◌∷◌, [], ℕ, length, take, slice_index, OnOk, IfOk, IfErr, IsErrOf, IfSome, None, Some, MatchResult};
-ghost use Rattle.xa_disk.specs.Disk.{Same, Only, Passes, CountsFault, Rises};
+ghost use Rattle.std.specs.Prelude.{◌≡◌, ◌⊎◌, ◌+◌, ◌-◌, ◌≤◌, ◌<◌, ◌^◌, ◌++◌, ◌∷◌, [], ℕ, length, take, slice_index, OnOk, IfOk, IfErr, IfSome, None, Some, MatchResult};
+ghost use Rattle.xa_disk.specs.Disk.{Same, Only, Passes, CountsFault};
 ghost use Rattle.xa_log.specs.Chain.{magic, logged};
+ghost use Rattle.xa_log.specs.Answers.{CountsDevice};
 ghost use Rattle.xa_log.specs.Reading.{Finds, Fits, IsScan, bodies_of, front_fault, fault_of, Explains};
 ghost use Rattle.xa_log.specs.Window.{Caches};
 
@@ -88,7 +89,7 @@ fn read_records<D: Disk>(
     ensures fits { IfOk result (λ s. s.end ≤ len) }
     ensures same { D.honest → D.seen disk.new ≡ D.seen disk.old }
     ensures time { D.honest → Passes Same (D.moment disk.old) (D.moment disk.new) (D.left_since disk.old) (D.left_since disk.new) (D.may_leave disk.old) (D.may_leave disk.new) }
-    ensures cause { IsErrOf result OpenFault.Device → Rises (D.failures disk.old) (D.failures disk.new) }
+    ensures count { CountsDevice result (D.failures disk.old) (D.failures disk.new) }
     ensures kinds { IfErr result (λ e. (e ≡ OpenFault.Device) ⊎ (e ≡ OpenFault.Memory)) }
 {
     let mut bodies = Vec::new(alloc);
@@ -157,7 +158,7 @@ pub(crate) fn read_whole<D: Disk>(
     ensures fits { IfOk result (λ s. s.end ≤ log_bytes) }
     ensures same { D.honest → D.seen disk.new ≡ D.seen disk.old }
     ensures time { D.honest → Passes Same (D.moment disk.old) (D.moment disk.new) (D.left_since disk.old) (D.left_since disk.new) (D.may_leave disk.old) (D.may_leave disk.new) }
-    ensures cause { IsErrOf result OpenFault.Device → Rises (D.failures disk.old) (D.failures disk.new) }
+    ensures count { CountsDevice result (D.failures disk.old) (D.failures disk.new) }
 {
     disk.sync()?;
     let len = disk.length()?;
