@@ -2,17 +2,21 @@
 use Rattle.std.proofs.Common.{◌≡◌, ◌≢◌, ◌⊎◌, inl, inr, ⊎_elim, ℕ, ◌+◌, ◌-◌, ◌^◌, ◌<◌, ◌≤◌, true, List, [], ◌∷◌, ◌++◌, length, take, drop, replicate, refl, sym, ◌∙◌, ap, subst, arith, append_assoc, length-append, suc}
 use Rattle.std.proofs.lemmas.List.{take_at, drop_at, length-replicate}
 use Rattle.xa_disk.specs.Disk.{put, Torn, Only, Passes, LeavesOnly}
-use Rattle.xa_log.specs.Chain.{start, last, text, IsBody, digest, record_of, closed_record, Rests, IsPlain, IsBeforeOrAfter}
+use Rattle.xa_log.specs.Chain.{start, last, text, IsBody, digest, record_of, closed_record, Rests}
 use Rattle.xa_log.specs.Answers.{Went, Fell, HasCause}
-use Rattle.xa_log.specs.Stands.{Stands, MayStand, Answers}
+use Rattle.xa_log.specs.Stands.{Stands, MayStand, Leaves, Answers}
 use Rattle.xa_log.specs.declared.appending.Appended.{Appended}
 use Rattle.xa_log.specs.declared.appending.Appended.TheVariants.{Kept, Refused, Lost, Full}
 use Rattle.xa_log.specs.declared.log.Log.{Log}
 use Rattle.xa_log.proofs.Records.{length-record_of, text_more, last_more, rests_more, closed_zeros, plain_front}
+use Rattle.xa_log.proofs.Again.{no_fault}
 use Rattle.xa_log.proofs.Torn.{torn_same, torn_then, torn_front, put_torn, put_within}
 
+pub length-closed_by : (prev body : List ℕ) → length (record_of prev body ++ 0 ∷ 0 ∷ 0 ∷ 0 ∷ []) ≡ 4 + (36 + length body)
+length-closed_by prev body = omega (arith, length-append (record_of prev body) (0 ∷ 0 ∷ 0 ∷ 0 ∷ []), length-record_of prev body)
+
 pub length-closed : (bodies : List (List ℕ)) (body : List ℕ) → length (closed_record bodies body) ≡ 40 + length body
-length-closed bodies body = omega (arith, length-append (record_of (last start bodies) body) (0 ∷ 0 ∷ 0 ∷ 0 ∷ []), length-record_of (last start bodies) body)
+length-closed bodies body = omega (arith, length-closed_by (last start bodies) body)
 
 module _ (bodies : List (List ℕ)) (body file : List ℕ) (rests : Rests bodies file) where
   abbrev end : ℕ
@@ -25,8 +29,11 @@ module _ (bodies : List (List ℕ)) (body file : List ℕ) (rests : Rests bodies
   front = ap (λ (l : List ℕ). take end l) rests.split ∙ take_at (text bodies) rests.rest end refl
 
   -- what a write behind the log may have left
-  pub torn_plain : (n : ℕ) (c : List ℕ) → Torn end n file c → IsPlain bodies body c → IsBeforeOrAfter bodies body c
-  torn_plain n c torn plain = plain_front bodies body c rests.sizes (torn_front end n file c long torn ∙ front) plain
+  pub torn_leaves : (most n : ℕ) (c : List ℕ) → IsBody body → length file ≤ most → end + n ≤ most → Torn end n file c → Leaves most bodies body c
+  torn_leaves most n c ok whole room torn =
+      let fits : length c ≤ most = omega (arith, torn.no_longer, whole, room) in
+      let kept : take end c ≡ text bodies = torn_front end n file c long torn ∙ front in
+      record { fits = fits; front = kept; opens = no_fault most c bodies fits kept; reads = plain_front bodies body c rests.sizes ok kept }
 
   pub kept : (new : List ℕ) → IsBody body → new ≡ put file end (closed_record bodies body) → Rests (bodies ++ body ∷ []) new
   kept new ok is =
@@ -64,18 +71,17 @@ module _ (bodies : List (List ℕ)) (body file : List ℕ) (rests : Rests bodies
       )
 
   -- from a log at rest, whatever a write behind it left
-  pub moments : {D : Type 0} (moment : D → ℕ) (left_since : D → ℕ → List ℕ → Type 0) (may_leave : D → List ℕ → Type 0) (old new : D) (n : ℕ)
-      → ((c : List ℕ) → left_since old (moment old) c → may_leave old c) → Only file (may_leave old)
-      → Passes (Torn end n) (moment old) (moment new) (left_since old) (left_since new) (may_leave old) (may_leave new)
-      → LeavesOnly moment left_since old new (λ c. IsPlain bodies body c → IsBeforeOrAfter bodies body c)
-  moments moment left_since may_leave old new n only_now durable time = record {
+  pub moments : {D : Type 0} (moment : D → ℕ) (left_since : D → ℕ → List ℕ → Type 0) (may_leave : D → List ℕ → Type 0) (old new : D) (most n : ℕ)
+      → IsBody body → length file ≤ most → end + n ≤ most → ((c : List ℕ) → left_since old (moment old) c → may_leave old c) → Only file (may_leave old)
+      → Passes (Torn end n) (moment old) (moment new) (left_since old) (left_since new) (may_leave old) (may_leave new) → LeavesOnly moment left_since old new (Leaves most bodies body)
+  moments moment left_since may_leave old new most n ok whole room only_now durable time = record {
     later = time.later;
     each = λ c left. ⊎_elim (λ past. good c (torn_to c (durable c (only_now c past)))) (λ x. good c (subst (λ f. Torn end n f c) (durable x.0 x.1) x.2)) (time.nothing_else (moment old) c (omega arith) left);
     before = λ t c le left. ⊎_elim (λ past. inl past) (λ x. inr (good c (subst (λ f. Torn end n f c) (durable x.0 x.1) x.2))) (time.nothing_else t c le left);
   }
     where
-      good : (c : List ℕ) → Torn end n file c → IsPlain bodies body c → IsBeforeOrAfter bodies body c
-      good c torn plain = torn_plain n c torn plain
+      good : (c : List ℕ) → Torn end n file c → Leaves most bodies body c
+      good c torn = torn_leaves most n c ok whole room torn
 
       torn_to : (c : List ℕ) → c ≡ file → Torn end n file c
       torn_to c is = subst (λ f. Torn end n file f) (sym is) (torn_same end n file)
@@ -87,7 +93,7 @@ module _ {D : Type 0} (tears : List ℕ → ℕ → List ℕ → List ℕ → Ty
   Went_by outcome = Went tears outcome old.end (record_of old.digest body ++ 0 ∷ 0 ∷ 0 ∷ 0 ∷ []) (seen old.disk) (seen new.disk) (may_leave new.disk)
 
   length-range : length (record_of old.digest body ++ 0 ∷ 0 ∷ 0 ∷ 0 ∷ []) ≡ 4 + (36 + length body)
-  length-range = omega (arith, length-append (record_of old.digest body) (0 ∷ 0 ∷ 0 ∷ 0 ∷ []), length-record_of old.digest body)
+  length-range = length-closed_by old.digest body
 
   -- the range ends within the log's bytes
   fits_after : old.end + (40 + length body) ≤ old.log_bytes → new.log_bytes ≡ old.log_bytes → Torn old.end (length (record_of old.digest body ++ 0 ∷ 0 ∷ 0 ∷ 0 ∷ [])) (seen old.disk) (seen new.disk) → length (seen new.disk) ≤ new.log_bytes
@@ -128,10 +134,8 @@ module _ {D : Type 0} (tears : List ℕ → ℕ → List ℕ → List ℕ → Ty
 
   pub answer_lost : Room → IsBody body → Went_by Lost → new.lost ≡ true → ((c : List ℕ) → may_leave new.disk c → (d : List ℕ) × may_leave old.disk d × Torn old.end (length (record_of old.digest body ++ 0 ∷ 0 ∷ 0 ∷ 0 ∷ [])) d c) → MayStand tears seen may_leave bodies body new
   answer_lost room ok went lost_is follows = record {
-    front = torn_front (length (text bodies)) range (seen old.disk) (seen new.disk) (long bodies body (seen old.disk) stands.file) (subst (λ e. Torn e range (seen old.disk) (seen new.disk)) stands.end went.0) ∙ front bodies body (seen old.disk) stands.file;
-    fits = fits_after room.0 room.1 went.0;
     seen_is = good (seen new.disk) went.0;
-    seen_on = λ lucky. good (seen new.disk) went.0 (lucky bodies body (seen old.disk) went.1 (seen new.disk) stands.file ok first second);
+    seen_on = λ lucky. (good (seen new.disk) went.0).reads (lucky bodies body (seen old.disk) went.1 (seen new.disk) stands.file ok first second);
     left_is = λ c left. let x = follows c left in good c (subst (λ f. Torn old.end range f c) (stands.durable x.0 x.1) x.2);
     lost = lost_is;
   }
@@ -152,8 +156,10 @@ module _ {D : Type 0} (tears : List ℕ → ℕ → List ℕ → List ℕ → Ty
       range : ℕ
       range = length (record_of old.digest body ++ 0 ∷ 0 ∷ 0 ∷ 0 ∷ [])
 
-      good : (c : List ℕ) → Torn old.end range (seen old.disk) c → IsPlain bodies body c → IsBeforeOrAfter bodies body c
-      good c torn = torn_plain bodies body (seen old.disk) stands.file range c (subst (λ e. Torn e range (seen old.disk) c) stands.end torn)
+      good : (c : List ℕ) → Torn old.end range (seen old.disk) c → Leaves new.log_bytes bodies body c
+      good c torn =
+          torn_leaves bodies body (seen old.disk) stands.file new.log_bytes range c ok (omega (arith, stands.fits, room.1)) (omega (arith, room.0, room.1, forty, stands.end))
+          (subst (λ e. Torn e range (seen old.disk) c) stands.end torn)
 
   abbrev Went_as : Appended → Type 0
   Went_as outcome = Went tears outcome old.end (record_of old.digest body ++ 0 ∷ 0 ∷ 0 ∷ 0 ∷ []) (seen old.disk) (seen new.disk) (may_leave new.disk)
@@ -170,15 +176,24 @@ module _ {D : Type 0} (tears : List ℕ → ℕ → List ℕ → List ℕ → Ty
 
 module _ {D : Type 0} (seen : D → List ℕ) (may_leave : D → List ℕ → Type 0) (bodies : List (List ℕ)) (body : List ℕ) (old : Log D) (stands : Stands seen may_leave bodies old)
     (moment : D → ℕ) (left_since : D → ℕ → List ℕ → Type 0) (only_now : (c : List ℕ) → left_since old.disk (moment old.disk) c → may_leave old.disk c) where
-  pub answer_moments : (new : D) (n : ℕ) → Passes (Torn old.end n) (moment old.disk) (moment new) (left_since old.disk) (left_since new) (may_leave old.disk) (may_leave new)
-      → LeavesOnly moment left_since old.disk new (λ c. IsPlain bodies body c → IsBeforeOrAfter bodies body c)
-  answer_moments new n time =
-      moments bodies body (seen old.disk) stands.file moment left_since may_leave old.disk new n only_now stands.durable
+  pub answer_moments : (new : D) (n : ℕ) → IsBody body → old.end + n ≤ old.log_bytes
+      → Passes (Torn old.end n) (moment old.disk) (moment new) (left_since old.disk) (left_since new) (may_leave old.disk) (may_leave new)
+      → LeavesOnly moment left_since old.disk new (Leaves old.log_bytes bodies body)
+  answer_moments new n ok room time =
+      moments bodies body (seen old.disk) stands.file moment left_since may_leave old.disk new old.log_bytes n ok stands.fits (omega (arith, room, stands.end)) only_now stands.durable
       (subst (λ e. Passes (Torn e n) (moment old.disk) (moment new) (left_since old.disk) (left_since new) (may_leave old.disk) (may_leave new)) stands.end time)
 
+  -- the same, where the range is a record with its closing length
+  pub record_moments : (new : D) (range : List ℕ) → length range ≡ 4 + (36 + length body) → IsBody body → old.end + (40 + length body) ≤ old.log_bytes
+      → Passes (Torn old.end (length range)) (moment old.disk) (moment new) (left_since old.disk) (left_since new) (may_leave old.disk) (may_leave new)
+      → LeavesOnly moment left_since old.disk new (Leaves old.log_bytes bodies body)
+  record_moments new range long ok room time = answer_moments new (length range) ok (omega (arith, long, room)) time
+
   -- nothing was asked of the disk
-  pub no_moments : LeavesOnly moment left_since old.disk old.disk (λ c. IsPlain bodies body c → IsBeforeOrAfter bodies body c)
-  no_moments = answer_moments old.disk 0 (record { later = omega arith; follows = λ c now. (c, now, torn_same old.end 0 c); nothing_else = λ t c le left. inl left; keeps = λ t c le left. left })
+  pub no_moments : IsBody body → old.end ≤ old.log_bytes → LeavesOnly moment left_since old.disk old.disk (Leaves old.log_bytes bodies body)
+  no_moments ok room =
+      answer_moments old.disk 0 ok (omega (arith, room))
+      (record { later = omega arith; follows = λ c now. (c, now, torn_same old.end 0 c); nothing_else = λ t c le left. inl left; keeps = λ t c le left. left })
 
 -- a fault tells itself by the count
 pub kept_if : (o : Appended) (a b : ℕ) → HasCause o a b → a < 2 ^ 64 - 1 → b ≡ a → o ≢ Full → o ≡ Kept

@@ -1,7 +1,8 @@
 -- What a log stands for.
-use Rattle.std.specs.Prelude.{◌≡◌, ◌≤◌, ℕ, ◌+◌, true, false, List, [], ◌∷◌, ◌++◌, length, take, drop, replicate}
+use Rattle.std.specs.Prelude.{◌≡◌, ◌≤◌, ℕ, ◌+◌, true, false, List, [], ◌∷◌, ◌++◌, length, take, drop, replicate, None}
 use Rattle.xa_disk.specs.Disk.{Only}
 use Rattle.xa_log.specs.Chain.{start, last, text, Rests, IsPlain, IsBeforeOrAfter, NoChance}
+use Rattle.xa_log.specs.Reading.{fault_of}
 use Rattle.xa_log.specs.declared.appending.Appended.{Appended}
 use Rattle.xa_log.specs.declared.appending.Appended.TheVariants.{Kept, Refused, Lost, Full}
 use Rattle.xa_log.specs.declared.log.Log.{Log}
@@ -15,14 +16,26 @@ pub record Stands {D : Type 0} (seen : D → List ℕ) (may_leave : D → List �
   pub durable : Only (seen log.disk) (may_leave log.disk)
   pub alive : log.lost ≡ false
 
+-- What a crash leaves of a log of at most so many bytes while this body is appended to these: a log that `open`
+-- accepts, and that begins with the bodies; without chance it is the bodies, or the bodies and this one.
+pub record Leaves (most : ℕ) (bodies : List (List ℕ)) (body file : List ℕ) : Type 0 where
+  pub fits : length file ≤ most
+  pub front : take (length (text bodies)) file ≡ text bodies
+  pub opens : fault_of most file ≡ None
+  pub reads : IsPlain bodies body file → IsBeforeOrAfter bodies body file
+
+-- what a crash leaves of a log that nothing is appended to
+pub record LeavesLog (most : ℕ) (bodies : List (List ℕ)) (file : List ℕ) : Type 0 where
+  pub fits : length file ≤ most
+  pub opens : fault_of most file ≡ None
+  pub rests : Rests bodies file
+
 -- The append of a body to these was lost: without chance, a read and a crash give the bodies, with it or without.
 pub record MayStand {D : Type 0} (tears : List ℕ → ℕ → List ℕ → List ℕ → Type 0) (seen : D → List ℕ) (may_leave : D → List ℕ → Type 0) (bodies : List (List ℕ)) (body : List ℕ) (log : Log D) : Type 0 where
-  pub front : take (length (text bodies)) (seen log.disk) ≡ text bodies
-  pub fits : length (seen log.disk) ≤ log.log_bytes
-  pub seen_is : IsPlain bodies body (seen log.disk) → IsBeforeOrAfter bodies body (seen log.disk)
+  pub seen_is : Leaves log.log_bytes bodies body (seen log.disk)
   -- the same, where the disk's failed writes leave nothing by chance to a read
   pub seen_on : NoChance tears → IsBeforeOrAfter bodies body (seen log.disk)
-  pub left_is : (c : List ℕ) → may_leave log.disk c → IsPlain bodies body c → IsBeforeOrAfter bodies body c
+  pub left_is : (c : List ℕ) → may_leave log.disk c → Leaves log.log_bytes bodies body c
   pub lost : log.lost ≡ true
 
 -- what each answer says

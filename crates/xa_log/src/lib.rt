@@ -19,6 +19,6 @@ mod window;
 
 pub use appending::Appended;
 pub use fault::OpenFault;
-pub use log::{Log, memory_without_chance};
+pub use log::{Log, memory_without_chance, plain_by_body};
 pub use opened::Opened;
 pub use opening::{create_on, open_on, read_log};

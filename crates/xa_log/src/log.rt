@@ -1,7 +1,7 @@
 //! The log on its disk.
 ghost use Rattle.std.specs.Prelude.{◌≡◌, ◌≢◌, ◌⊎◌, ◌+◌, ◌-◌, ◌≤◌, ◌<◌, ◌^◌, ◌↔◌, ◌∷◌, ◌++◌, ◌==◌, [], List, ℕ, true, false, length, if◌then◌else◌, OnOk, OnErr, IfOk, IfErr, MatchResult, Some, None};
 ghost use Rattle.xa_disk.specs.Disk.{Same, Passes, LeavesOnly};
-ghost use Rattle.xa_log.specs.Chain.{IsBody, IsPlain, IsBeforeOrAfter, NoChance, logged};
+ghost use Rattle.xa_log.specs.Chain.{IsBody, NoChance, PlainByBody, logged};
 ghost use Rattle.xa_log.specs.Answers.{HasCause, CountsDevice};
 ghost use Rattle.xa_log.specs.Opened.{IsOpened};
 ghost use Rattle.xa_log.specs.Reading.{bodies_of, fault_of, Explains, ExplainsNew};
@@ -31,16 +31,16 @@ pub struct Log<D> {
 }
 
 impl<D: Disk> Log<D> {
-    ghost use Rattle.xa_log.specs.Stands.{Stands, MayStand, Untouched, Moves, Answers};
+    ghost use Rattle.xa_log.specs.Stands.{Stands, MayStand, Leaves, LeavesLog, Untouched, Moves, Answers};
 
     /// Adds a record of a body of 1 to 524,288 bytes: one write and one sync where nothing fails. Takes no memory.
     /// After `Lost` every append answers so, and asks nothing of the disk, until a rescan succeeds.
     pub fn append(&mut self, body: &[u8]) -> Appended
         requires { IsBody body.now }
         ensures answer { D.honest → (bodies : List (List ℕ)) → Stands D.seen D.may_leave bodies self.old → Answers D.tears D.seen D.may_leave result bodies body.now self.new }
-        // A crash at any moment of the call leaves, without chance, the bodies with the new one or without.
+        // A crash at any moment of the call leaves a log; without chance, of the bodies with the new one or without.
         ensures any_moment { D.honest → (bodies : List (List ℕ)) → Stands D.seen D.may_leave bodies self.old
-            → LeavesOnly D.moment D.left_since self.old.disk self.new.disk (λ c. IsPlain bodies body.now c → IsBeforeOrAfter bodies body.now c) }
+            → LeavesOnly D.moment D.left_since self.old.disk self.new.disk (Leaves self.old.log_bytes bodies body.now) }
         ensures lost { self.old.lost ≡ true → (result ≡ Appended.Lost) × (self.new ≡ self.old) }
         ensures full { self.old.lost ≡ false → (result ≡ Appended.Full) ↔ (self.old.log_bytes < self.old.end + 40 + length body.now) }
         ensures unchanged { result ≡ Appended.Full → self.new ≡ self.old }
@@ -102,6 +102,11 @@ impl<D: Disk> Log<D> {
         ensures as_before { OnErr result (Untouched self.old self.new) }
         ensures stands { D.honest → OnErr result ((bodies : List (List ℕ)) → Stands D.seen D.may_leave bodies self.old → Stands D.seen D.may_leave bodies self.new) }
         ensures may_stand { D.honest → OnErr result ((bodies : List (List ℕ)) (body : List ℕ) → MayStand D.tears D.seen D.may_leave bodies body self.old → MayStand D.tears D.seen D.may_leave bodies body self.new) }
+        // A crash at any moment of the call leaves a log.
+        ensures any_moment { D.honest → (bodies : List (List ℕ)) → Stands D.seen D.may_leave bodies self.old
+            → LeavesOnly D.moment D.left_since self.old.disk self.new.disk (LeavesLog self.old.log_bytes bodies) }
+        ensures any_moment_lost { D.honest → (bodies : List (List ℕ)) (body : List ℕ) → MayStand D.tears D.seen D.may_leave bodies body self.old
+            → LeavesOnly D.moment D.left_since self.old.disk self.new.disk (Leaves self.old.log_bytes bodies body) }
         // What append left is a log.
         ensures readable { D.honest → (bodies : List (List ℕ)) → Stands D.seen D.may_leave bodies self.old → IfErr result (λ e. (e ≡ OpenFault.Device) ⊎ (e ≡ OpenFault.Memory)) }
         ensures readable_lost { D.honest → (bodies : List (List ℕ)) (body : List ℕ) → MayStand D.tears D.seen D.may_leave bodies body self.old → IfErr result (λ e. (e ≡ OpenFault.Device) ⊎ (e ≡ OpenFault.Memory)) }
@@ -194,4 +199,9 @@ impl Log<MemDisk> {
 /// What a failed write of a `MemDisk` leaves to a read is without chance.
 pub fn memory_without_chance()
     ensures { NoChance (⟦<MemDisk as Disk>⟧.tears) }
+{}
+
+/// Of bytes it is enough that what chains behind the bodies has the new one's body: its length and digest follow.
+pub fn plain_by_body()
+    ensures { PlainByBody }
 {}

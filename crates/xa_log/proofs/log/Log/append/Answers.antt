@@ -1,22 +1,22 @@
 use Rattle.std.proofs.Common.{refl, arith}
-use Rattle.xa_log.proofs.Append.{answers_kept, answers_refused, answers_lost, answer_moments, no_moments, kept_if}
+use Rattle.xa_log.proofs.Append.{answers_kept, answers_refused, answers_lost, record_moments, length-closed_by, no_moments, kept_if}
 use Rattle.xa_log.proofs.log.Log.append.Goals as goal
 
 pub returns-then-self-len-clause-any_moment : goal.returns-then-self-len-clause-any_moment
 returns-then-self-len-clause-any_moment g c h bodies s =
-    no_moments _ _ bodies _ c.args.self.now s _ _ (g.met.D.Disk.only_now c.args.self.now.disk)
+    no_moments _ _ bodies _ c.args.self.now s _ _ (g.met.D.Disk.only_now c.args.self.now.disk) c.requires c.args.self.now.within
 
 pub returns-in-Kept-clause-any_moment : goal.returns-in-Kept-clause-any_moment
 returns-in-Kept-clause-any_moment g c h bodies s =
-    answer_moments _ _ bodies _ c.args.self.now s _ _ (g.met.D.Disk.only_now c.args.self.now.disk) c.append_at-outcome.new.disk _ (c.append_at-outcome.ensures.time h)
+    record_moments _ _ bodies _ c.args.self.now s _ _ (g.met.D.Disk.only_now c.args.self.now.disk) c.append_at-outcome.new.disk _ (length-closed_by _ _) c.requires (omega arith) (c.append_at-outcome.ensures.time h)
 
 pub returns-in-Refused-clause-any_moment : goal.returns-in-Refused-clause-any_moment
 returns-in-Refused-clause-any_moment g c h bodies s =
-    answer_moments _ _ bodies _ c.args.self.now s _ _ (g.met.D.Disk.only_now c.args.self.now.disk) c.append_at-outcome.new.disk _ (c.append_at-outcome.ensures.time h)
+    record_moments _ _ bodies _ c.args.self.now s _ _ (g.met.D.Disk.only_now c.args.self.now.disk) c.append_at-outcome.new.disk _ (length-closed_by _ _) c.requires (omega arith) (c.append_at-outcome.ensures.time h)
 
 pub returns-in-Lost-clause-any_moment : goal.returns-in-Lost-clause-any_moment
 returns-in-Lost-clause-any_moment g c h bodies s =
-    answer_moments _ _ bodies _ c.args.self.now s _ _ (g.met.D.Disk.only_now c.args.self.now.disk) c.append_at-outcome.new.disk _ (c.append_at-outcome.ensures.time h)
+    record_moments _ _ bodies _ c.args.self.now s _ _ (g.met.D.Disk.only_now c.args.self.now.disk) c.append_at-outcome.new.disk _ (length-closed_by _ _) c.requires (omega arith) (c.append_at-outcome.ensures.time h)
 
 pub returns-in-Kept-clause-answer : goal.returns-in-Kept-clause-answer
 returns-in-Kept-clause-answer g c h bodies s =
