@@ -35,7 +35,6 @@ wrote_after a b d at bytes s w = record {
   first = w.first ∙ s.same.first;
   noted = (w.noted.0, w.noted.1, w.noted.2 ∙ ap (λ (l : List Call). l ++ Write at w.noted.0 ∷ []) s.same.calls);
   bytes_are = w.bytes_are ∙ ap (λ (l : List ℕ). put l at bytes) s.same.bytes;
-  failures = w.failures ∙ s.failures;
 }
 
 pub ok_wrote_after : {T E : Type 0} (r : Result T E) (a b d : MemDisk) (at : ℕ) (bytes : List ℕ) → Stays a b → OnOk r (Wrote b d at bytes) → OnOk r (Wrote a d at bytes)

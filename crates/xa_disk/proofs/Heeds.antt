@@ -1,12 +1,13 @@
 -- How a device call answers its plan.
-use Rattle.std.proofs.Common.{◌≡◌, ℕ, Bool, true, false, List, refl, ◌∙◌, ap, subst, inl, inr, Option, Some, None, Result, Ok, Err, OnOk, OnErr, MatchBool, IsTrue}
+use Rattle.std.proofs.Common.{◌≡◌, ℕ, Bool, true, false, List, [], ◌∷◌, ◌++◌, refl, ◌∙◌, ap, subst, inl, inr, Option, Some, None, Result, Ok, Err, OnOk, OnErr, MatchBool, IsTrue}
 use Rattle.xa_disk.specs.declared.plan.Effect.{Effect}
 use Rattle.xa_disk.specs.declared.plan.Effect.TheVariants.{Kept, Lost}
+use Rattle.xa_disk.specs.declared.call.Call.{Call}
+use Rattle.xa_disk.specs.declared.call.Call.TheVariants.{Write, Sync}
 use Rattle.xa_disk.specs.declared.disk.DiskFault.{DiskFault}
 use Rattle.xa_disk.specs.declared.memory.MemDisk.{MemDisk}
-use Rattle.xa_disk.specs.Disk.{put, Only}
-use Rattle.xa_disk.specs.Memory.{image_of, Keeps, Stays, Wrote, Synced, Heeds}
-use Rattle.xa_disk.proofs.Time.{durable}
+use Rattle.xa_disk.specs.Disk.{put}
+use Rattle.xa_disk.specs.Memory.{Keeps, Wrote, Synced, Heeds}
 
 keeps_then : (a b d e : MemDisk) → Keeps a b → Keeps b d → Keeps d e → Keeps a e
 keeps_then a b d e p q r = record { first = r.first ∙ q.first ∙ p.first; calls = r.calls ∙ q.calls ∙ p.calls; bytes = r.bytes ∙ q.bytes ∙ p.bytes }
@@ -29,19 +30,34 @@ at_false : (P Q : Type 0) (b : Bool) → MatchBool b P Q → b ≡ false → Q
 at_false P Q true it is = absurd (cc is)
 at_false P Q false it is = it
 
-module _ {T : Type 0} (a b d e : MemDisk) where
-  pub heeds_put : (at : ℕ) (bytes : List ℕ) (plan planned : Option Effect) (r : Result T DiskFault) (done : Bool) → plan ≡ planned → Stays a b → MatchBool done (Wrote b d at bytes) (Stays b d) → (plan ≡ Some Lost → done ≡ false) → Keeps d e
-      → OnOk r ((plan ≡ None) × IsTrue done) → OnErr r (plan ≡ None → done ≡ false) → Heeds planned r (e.bytes.items ≡ put a.bytes.items at bytes) (Keeps a e) (Keeps a e)
-  heeds_put at bytes plan planned r done is s w lost k ok err =
-      subst (λ p. Heeds p r (e.bytes.items ≡ put a.bytes.items at bytes) (Keeps a e) (Keeps a e)) is
-      (heeds (e.bytes.items ≡ put a.bytes.items at bytes) (Keeps a e) plan r done ok err lost
-      (λ yes. let wrote = at_true _ _ done w yes in k.bytes ∙ wrote.bytes_are ∙ ap (λ (l : List ℕ). put l at bytes) s.same.bytes)
-      (λ no. keeps_then a b d e s.same (at_false _ _ done w no).same k))
+module _ (a b d e : MemDisk) where
+  wrote_between : (at : ℕ) (bytes : List ℕ) → Keeps a b → Wrote b d at bytes → Keeps d e → Wrote a e at bytes
+  wrote_between at bytes s w k = record {
+    first = k.first ∙ w.first ∙ s.first;
+    noted = (w.noted.0, w.noted.1, k.calls ∙ w.noted.2 ∙ ap (λ (l : List Call). l ++ Write at w.noted.0 ∷ []) s.calls);
+    bytes_are = k.bytes ∙ w.bytes_are ∙ ap (λ (l : List ℕ). put l at bytes) s.bytes;
+  }
 
-  pub heeds_sync : (plan planned : Option Effect) (r : Result T DiskFault) (done : Bool) → plan ≡ planned → Stays a b → MatchBool done (Synced b d) (Stays b d) → (plan ≡ Some Lost → done ≡ false) → Keeps d e
-      → OnOk r ((plan ≡ None) × IsTrue done) → OnErr r (plan ≡ None → done ≡ false) → Heeds planned r (Only a.bytes.items (image_of e)) (Keeps a e) (Keeps a e)
+  synced_between : Keeps a b → Synced b d → Keeps d e → Synced a e
+  synced_between s w k = record {
+    first = k.first ∙ w.first ∙ s.first;
+    noted = k.calls ∙ w.noted ∙ ap (λ (l : List Call). l ++ Sync ∷ []) s.calls;
+    bytes = k.bytes ∙ w.bytes ∙ s.bytes;
+  }
+
+module _ {T : Type 0} (a b d e : MemDisk) where
+  pub heeds_put : (at : ℕ) (bytes : List ℕ) (plan planned : Option Effect) (r : Result T DiskFault) (done : Bool) → plan ≡ planned → Keeps a b → MatchBool done (Wrote b d at bytes) (Keeps b d) → (plan ≡ Some Lost → done ≡ false) → Keeps d e
+      → OnOk r ((plan ≡ None) × IsTrue done) → OnErr r (plan ≡ None → done ≡ false) → Heeds planned r (Wrote a e at bytes) (Keeps a e) (Keeps a e)
+  heeds_put at bytes plan planned r done is s w lost k ok err =
+      subst (λ p. Heeds p r (Wrote a e at bytes) (Keeps a e) (Keeps a e)) is
+      (heeds (Wrote a e at bytes) (Keeps a e) plan r done ok err lost
+      (λ yes. wrote_between a b d e at bytes s (at_true _ _ done w yes) k)
+      (λ no. keeps_then a b d e s (at_false _ _ done w no) k))
+
+  pub heeds_sync : (plan planned : Option Effect) (r : Result T DiskFault) (done : Bool) → plan ≡ planned → Keeps a b → MatchBool done (Synced b d) (Keeps b d) → (plan ≡ Some Lost → done ≡ false) → Keeps d e
+      → OnOk r ((plan ≡ None) × IsTrue done) → OnErr r (plan ≡ None → done ≡ false) → Heeds planned r (Synced a e) (Keeps a e) (Keeps a e)
   heeds_sync plan planned r done is s w lost k ok err =
-      subst (λ p. Heeds p r (Only a.bytes.items (image_of e)) (Keeps a e) (Keeps a e)) is
-      (heeds (Only a.bytes.items (image_of e)) (Keeps a e) plan r done ok err lost
-      (λ yes. durable a b d e s (at_true _ _ done w yes) k)
-      (λ no. keeps_then a b d e s.same (at_false _ _ done w no).same k))
+      subst (λ p. Heeds p r (Synced a e) (Keeps a e) (Keeps a e)) is
+      (heeds (Synced a e) (Keeps a e) plan r done ok err lost
+      (λ yes. synced_between a b d e s (at_true _ _ done w yes) k)
+      (λ no. keeps_then a b d e s (at_false _ _ done w no) k))

@@ -8,7 +8,7 @@ use Rattle.xa_disk.specs.declared.call.Call.TheVariants.{Write, Sync}
 use Rattle.xa_disk.specs.declared.memory.MemDisk.{MemDisk}
 use Rattle.xa_disk.specs.Replay.{Now, after, replay, replay_more, at_first, IsImage, LeftSince}
 use Rattle.xa_disk.specs.Images.{seen_may_stay}
-use Rattle.xa_disk.specs.Memory.{start_of, Keeps, Stays, Wrote, Synced}
+use Rattle.xa_disk.specs.Memory.{start_of, Keeps, Wrote, Synced}
 
 abbrev Elapsed : (List ℕ → List ℕ → Type 0) → List ℕ → List Call → List ℕ → List Call → Type 0
 Elapsed step first calls first' calls' =
@@ -52,38 +52,38 @@ to step first first' calls calls' calls'' f l passes =
 abbrev Between : (List ℕ → List ℕ → Type 0) → MemDisk → MemDisk → Type 0
 Between step a e = Elapsed step (start_of a) a.calls.items (start_of e) e.calls.items
 
-pub time_put : (a b d e : MemDisk) (done : Bool) (at : ℕ) (bytes : List ℕ) → Stays a b → MatchBool done (Wrote b d at bytes) (Stays b d) → Keeps d e → Between (Torn at (length bytes)) a e
+pub time_put : (a b d e : MemDisk) (done : Bool) (at : ℕ) (bytes : List ℕ) → Keeps a b → MatchBool done (Wrote b d at bytes) (Keeps b d) → Keeps d e → Between (Torn at (length bytes)) a e
 time_put a b d e true at bytes s w k =
     let v = w.noted.0 in
     subst (λ (xs : List ℕ). Between (Torn at (length xs)) a e) w.noted.1
     (to (Torn at (length v.items)) (start_of a) (start_of e) a.calls.items (a.calls.items ++ Write at v ∷ []) e.calls.items
-    (k.first ∙ w.first ∙ s.same.first)
-    (k.calls ∙ w.noted.2 ∙ ap (λ (l : List Call). l ++ Write at v ∷ []) s.same.calls)
+    (k.first ∙ w.first ∙ s.first)
+    (k.calls ∙ w.noted.2 ∙ ap (λ (l : List Call). l ++ Write at v ∷ []) s.calls)
     (more _ (start_of a) a.calls.items (Write at v) (λ c now. now)))
 time_put a b d e false at bytes s w k =
-    to _ (start_of a) (start_of e) a.calls.items a.calls.items e.calls.items (k.first ∙ w.same.first ∙ s.same.first) (k.calls ∙ w.same.calls ∙ s.same.calls)
+    to _ (start_of a) (start_of e) a.calls.items a.calls.items e.calls.items (k.first ∙ w.first ∙ s.first) (k.calls ∙ w.calls ∙ s.calls)
     (none _ (torn_same at (length bytes)) (start_of a) a.calls.items)
 
-pub time_sync : (a b d e : MemDisk) (done : Bool) → Stays a b → MatchBool done (Synced b d) (Stays b d) → Keeps d e → Between Same a e
+pub time_sync : (a b d e : MemDisk) (done : Bool) → Keeps a b → MatchBool done (Synced b d) (Keeps b d) → Keeps d e → Between Same a e
 time_sync a b d e true s w k =
-    to Same (start_of a) (start_of e) a.calls.items (a.calls.items ++ Sync ∷ []) e.calls.items (k.first ∙ w.first ∙ s.same.first)
-    (k.calls ∙ w.noted ∙ ap (λ (l : List Call). l ++ Sync ∷ []) s.same.calls)
+    to Same (start_of a) (start_of e) a.calls.items (a.calls.items ++ Sync ∷ []) e.calls.items (k.first ∙ w.first ∙ s.first)
+    (k.calls ∙ w.noted ∙ ap (λ (l : List Call). l ++ Sync ∷ []) s.calls)
     (more _ (start_of a) a.calls.items Sync (λ c now. ((replay (start_of a) a.calls.items).seen, seen_may_stay (start_of a) a.calls.items, now)))
 time_sync a b d e false s w k =
-    to _ (start_of a) (start_of e) a.calls.items a.calls.items e.calls.items (k.first ∙ w.same.first ∙ s.same.first) (k.calls ∙ w.same.calls ∙ s.same.calls)
+    to _ (start_of a) (start_of e) a.calls.items a.calls.items e.calls.items (k.first ∙ w.first ∙ s.first) (k.calls ∙ w.calls ∙ s.calls)
     (none Same (λ c. refl) (start_of a) a.calls.items)
 
 -- after a sync nothing but what a read gives
-pub durable : (a b d e : MemDisk) → Stays a b → Synced b d → Keeps d e → Only a.bytes.items (IsImage (replay (start_of e) e.calls.items))
+pub durable : (a b d e : MemDisk) → Keeps a b → Synced b d → Keeps d e → Only a.bytes.items (IsImage (replay (start_of e) e.calls.items))
 durable a b d e s w k c now =
     let same : replay (start_of e) e.calls.items ≡ after Sync (replay (start_of a) a.calls.items) =
-    ap (λ (x : List ℕ). replay x e.calls.items) (k.first ∙ w.first ∙ s.same.first)
-    ∙ ap (λ (l : List Call). replay (start_of a) l) (k.calls ∙ w.noted ∙ ap (λ (l : List Call). l ++ Sync ∷ []) s.same.calls)
+    ap (λ (x : List ℕ). replay x e.calls.items) (k.first ∙ w.first ∙ s.first)
+    ∙ ap (λ (l : List Call). replay (start_of a) l) (k.calls ∙ w.noted ∙ ap (λ (l : List Call). l ++ Sync ∷ []) s.calls)
     ∙ replay_more (at_first (start_of a)) a.calls.items Sync in
     let image : c ≡ (replay (start_of a) a.calls.items).seen = subst (λ (x : Now). IsImage x c) same now in
     image ∙ sym a.replayed
 
-pub durable_at : {T F : Type 0} (P : Type 0) (r : Result T F) (done : Bool) (a b d e : MemDisk) → OnOk r (P × IsTrue done) → Stays a b → MatchBool done (Synced b d) (Stays b d) → Keeps d e → OnOk r (Only a.bytes.items (IsImage (replay (start_of e) e.calls.items)))
+pub durable_at : {T F : Type 0} (P : Type 0) (r : Result T F) (done : Bool) (a b d e : MemDisk) → OnOk r (P × IsTrue done) → Keeps a b → MatchBool done (Synced b d) (Keeps b d) → Keeps d e → OnOk r (Only a.bytes.items (IsImage (replay (start_of e) e.calls.items)))
 durable_at P (Ok x) true a b d e ok s w k = durable a b d e s w k
 durable_at P (Ok x) false a b d e ok s w k = absurd (cc)
 durable_at P (Err x) done a b d e ok s w k = tt

@@ -1,5 +1,6 @@
 pub mod Disk
 pub mod Plans
+pub mod Counts
 pub mod Replay
 pub mod Images
 pub mod Memory

@@ -8,6 +8,7 @@ use Rattle.xa_disk.specs.declared.plan.Effect.{Effect}
 use Rattle.xa_disk.specs.declared.plan.Effect.TheVariants.{Kept, Lost}
 use Rattle.xa_disk.specs.Disk.{put, Only}
 use Rattle.xa_disk.specs.Plans.{due}
+use Rattle.xa_disk.specs.Counts.{no_calls}
 use Rattle.xa_disk.specs.Replay.{first_of, replay, IsImage, LeftSince}
 
 -- what a disk held at first
@@ -28,24 +29,28 @@ pub record Keeps (old new : MemDisk) : Type 0 where
   pub calls : new.calls.items ≡ old.calls.items
   pub bytes : new.bytes.items ≡ old.bytes.items
 
--- and so does the count
+-- and so do the counts
 pub record Stays (old new : MemDisk) : Type 0 where
   pub same : Keeps old new
   pub failures : new.failures ≡ old.failures
+  pub counts : new.counts ≡ old.counts
 
--- one write more, with its effect
+-- one write more, with its effect; no crash leaves it for sure
 pub record Wrote (old new : MemDisk) (at : ℕ) (bytes : List ℕ) : Type 0 where
   pub first : start_of new ≡ start_of old
   pub noted : (v : Vec ℕ Global) × (v.items ≡ bytes) × (new.calls.items ≡ old.calls.items ++ Write at v ∷ [])
   pub bytes_are : new.bytes.items ≡ put old.bytes.items at bytes
-  pub failures : new.failures ≡ old.failures
 
 -- one sync more, with its effect
 pub record Synced (old new : MemDisk) : Type 0 where
   pub first : start_of new ≡ start_of old
   pub noted : new.calls.items ≡ old.calls.items ++ Sync ∷ []
   pub bytes : new.bytes.items ≡ old.bytes.items
+
+-- no fault is counted and no call
+pub record SameCounts (old new : MemDisk) : Type 0 where
   pub failures : new.failures ≡ old.failures
+  pub counts : new.counts ≡ old.counts
 
 -- one device call less until each plan
 abbrev pub CountsDown : MemDisk → MemDisk → Type 0
@@ -64,6 +69,7 @@ pub record IsNew (bytes : List ℕ) (disk : MemDisk) : Type 0 where
   pub durable : Only bytes (image_of disk)
   pub plans : (k : ℕ) → due disk.plans.items k ≡ None
   pub failures : disk.failures ≡ 0
+  pub counts : disk.counts ≡ no_calls
 
 -- what was stable is what a read gives now, and all that a crash leaves
 pub record Crashes (old new : MemDisk) : Type 0 where
@@ -72,3 +78,4 @@ pub record Crashes (old new : MemDisk) : Type 0 where
   pub durable : Only new.bytes.items (image_of new)
   pub plans : (k : ℕ) → due new.plans.items k ≡ None
   pub failures : new.failures ≡ old.failures
+  pub counts : new.counts ≡ old.counts

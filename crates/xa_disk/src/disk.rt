@@ -1,4 +1,6 @@
 ghost use Rattle.std.specs.Prelude.{◌≡◌, ◌≤◌, List, ℕ, length, IfOk, OnOk, OnErr};
+ghost use Rattle.xa_disk.specs.Counts.{with_length, with_read, with_write, with_sync};
+ghost use Rattle.xa_disk.specs.declared.counts.Counts.{Counts};
 ghost use Rattle.xa_disk.specs.Disk.{put, Torn, Same, Only, Passes, CountsFault, Reads};
 
 /// A device call that failed.
@@ -13,7 +15,7 @@ pub struct DiskFault;
 /// before it; a sync that fails may have made any part stable; a read or a length that fails changes nothing.
 ///
 /// The ghost members are what these words speak of. Where `honest` doesn't hold of a type, its clauses promise
-/// only the count of failures.
+/// only the counts of calls and of failures.
 pub trait Disk {
     /// The clauses on values hold of this type of disk.
     ghost honest: { Type 0 };
@@ -36,11 +38,15 @@ pub trait Disk {
     /// How many calls have failed. Each fault adds one, and nothing else does; at 2^64 - 1 it stays.
     ghost failures: { Self → ℕ };
 
+    /// How many calls were made, failed or not. Each call adds itself, and nothing else does.
+    ghost counts: { Self → Counts };
+
     /// How many bytes a read can give.
     fn length(&mut self) -> Result<u64, DiskFault>
         ensures value { honest → IfOk result (λ n. n ≡ length (seen self.old)) }
         ensures same { honest → seen self.new ≡ seen self.old }
         ensures time { honest → Passes Same (moment self.old) (moment self.new) (left_since self.old) (left_since self.new) (may_leave self.old) (may_leave self.new) }
+        ensures calls { counts self.new ≡ with_length (counts self.old) }
         ensures count { CountsFault result (failures self.old) (failures self.new) };
 
     /// Fills `into` with the bytes from a place on. A read past the length is a fault.
@@ -48,6 +54,7 @@ pub trait Disk {
         ensures value { honest → OnOk result (Reads (seen self.old) at into.new) }
         ensures same { honest → seen self.new ≡ seen self.old }
         ensures time { honest → Passes Same (moment self.old) (moment self.new) (left_since self.old) (left_since self.new) (may_leave self.old) (may_leave self.new) }
+        ensures calls { counts self.new ≡ with_read (length into.old) (counts self.old) }
         ensures count { CountsFault result (failures self.old) (failures self.new) };
 
     /// Writes over what is there, and past the end; a gap before the place is filled with zeros. Until a sync, a
@@ -56,6 +63,7 @@ pub trait Disk {
         ensures written { honest → OnOk result (seen self.new ≡ put (seen self.old) at from.now) }
         ensures failed { honest → OnErr result (tears (seen self.old) at from.now (seen self.new)) }
         ensures time { honest → Passes (Torn at (length from.now)) (moment self.old) (moment self.new) (left_since self.old) (left_since self.new) (may_leave self.old) (may_leave self.new) }
+        ensures calls { counts self.new ≡ with_write (counts self.old) }
         ensures count { CountsFault result (failures self.old) (failures self.new) };
 
     /// Makes what a read gives what a crash leaves.
@@ -63,6 +71,7 @@ pub trait Disk {
         ensures durable { honest → OnOk result (Only (seen self.old) (may_leave self.new)) }
         ensures same { honest → seen self.new ≡ seen self.old }
         ensures time { honest → Passes Same (moment self.old) (moment self.new) (left_since self.old) (left_since self.new) (may_leave self.old) (may_leave self.new) }
+        ensures calls { counts self.new ≡ with_sync (counts self.old) }
         ensures count { CountsFault result (failures self.old) (failures self.new) };
 
     /// Law: this moment is one of those since an earlier one.

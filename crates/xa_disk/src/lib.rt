@@ -1,18 +1,21 @@
-//! A disk as a log sees it: what a read gives, what a crash may leave, and a count of the calls that failed.
+//! A disk as a log sees it: what a read gives, what a crash may leave, and counts of its calls and of those that failed.
 //!
 //! - `disk`: the trait `Disk`, whose ghost members say what its calls mean, and `DiskFault`
+//! - `counts`: `Counts`, how many device calls of each kind a disk was asked for
 //! - `memory`: `MemDisk`, of which all of that is proved; with `plan` (calls that are to fail), `call` (the
 //!   record of its writes and syncs) and `bytes` (the bytes alone)
-//! - `file`: `FileDisk`, a real file, of which only the count is proved
+//! - `file`: `FileDisk`, a real file, of which only the counts are proved
 #![tactic(auto)]
 
 mod bytes;
 mod call;
+mod counts;
 mod disk;
 mod file;
 mod memory;
 mod plan;
 
+pub use counts::Counts;
 pub use disk::{Disk, DiskFault};
 pub use file::FileDisk;
 pub use memory::MemDisk;

@@ -8,7 +8,7 @@ ghost use Rattle.xa_disk.specs.Images.{counts_now, only_now, stays_of, all_or_no
 use crate::bytes::{put_bytes, read_bytes};
 use crate::call::{Call, note_sync, note_write, replayed, stable_end};
 use crate::plan::{Effect, Plan, take_due};
-use crate::{Disk, DiskFault};
+use crate::{Counts, Disk, DiskFault};
 use std::alloc::{AllocError, Global};
 
 /// A disk in memory. A test plans which of its calls fail, and when it crashes.
@@ -20,6 +20,7 @@ pub struct MemDisk {
     bytes: Vec<u8>,
     plans: Vec<Plan>,
     failures: u64,
+    counts: Counts,
     ghost replayed: { bytes.items ≡ (replay (first_of first bytes.items) calls.items).seen },
 }
 
@@ -54,6 +55,7 @@ impl MemDisk {
             bytes,
             plans: Vec::new(alloc),
             failures: 0,
+            counts: Counts::none(),
         }
     }
 
@@ -89,14 +91,17 @@ impl MemDisk {
 }
 
 impl MemDisk {
-    ghost use Rattle.xa_disk.specs.Memory.{Keeps, Stays, Wrote, Synced, CountsDown};
+    ghost use Rattle.xa_disk.specs.Memory.{Keeps, Stays, CountsDown};
 
-    // The plan for the call that is made now.
-    fn begin(&mut self) -> Option<Effect>
+    // The plan for the call that is made now, with which the counts are these.
+    fn begin(&mut self, counts: Counts) -> Option<Effect>
         ensures plan { result ≡ due self.old.plans.items 1 }
         ensures later { CountsDown self.old self.new }
-        ensures same { Stays self.old self.new }
+        ensures same { Keeps self.old self.new }
+        ensures failures { self.new.failures ≡ self.old.failures }
+        ensures counts { self.new.counts ≡ counts }
     {
+        self.counts = counts;
         take_due(&mut self.plans)
     }
 
@@ -106,6 +111,7 @@ impl MemDisk {
         ensures err { OnErr result (plan ≡ None → done ≡ false) }
         ensures kept { Keeps self.old self.new }
         ensures plans { self.new.plans ≡ self.old.plans }
+        ensures counts { self.new.counts ≡ self.old.counts }
         ensures count { CountsFault result self.old.failures self.new.failures }
     {
         if plan.is_none() && done {
@@ -130,12 +136,13 @@ impl MemDisk {
 }
 
 impl MemDisk {
-    ghost use Rattle.xa_disk.specs.Memory.{Stays, Wrote, Synced};
+    ghost use Rattle.xa_disk.specs.Memory.{Keeps, SameCounts, Wrote, Synced};
 
     // A write with its effect.
     fn put(&mut self, at: u64, from: &[u8]) -> Result<(), AllocError>
         ensures ok { OnOk result (Wrote self.old self.new at from.now) }
-        ensures err { OnErr result (Stays self.old self.new) }
+        ensures err { OnErr result (Keeps self.old self.new) }
+        ensures counted { SameCounts self.old self.new }
         ensures plans { self.new.plans ≡ self.old.plans }
     {
         self.keep_first()?;
@@ -145,7 +152,8 @@ impl MemDisk {
     fn put_kept(&mut self, at: u64, from: &[u8]) -> Result<(), AllocError>
         requires { self.old.first ≢ None }
         ensures ok { OnOk result (Wrote self.old self.new at from.now) }
-        ensures err { OnErr result (Stays self.old self.new) }
+        ensures err { OnErr result (Keeps self.old self.new) }
+        ensures counted { SameCounts self.old self.new }
         ensures plans { self.new.plans ≡ self.old.plans }
     {
         let alloc = *self.bytes.allocator();
@@ -161,7 +169,8 @@ impl MemDisk {
 
     fn mark_sync(&mut self) -> Result<(), AllocError>
         ensures ok { OnOk result (Synced self.old self.new) }
-        ensures err { OnErr result (Stays self.old self.new) }
+        ensures err { OnErr result (Keeps self.old self.new) }
+        ensures counted { SameCounts self.old self.new }
         ensures plans { self.new.plans ≡ self.old.plans }
     {
         note_sync(&mut self.calls)?;
@@ -170,7 +179,8 @@ impl MemDisk {
 
     // A write under a plan.
     fn try_put(&mut self, plan: Option<Effect>, at: u64, from: &[u8]) -> bool
-        ensures done { MatchBool result (Wrote self.old self.new at from.now) (Stays self.old self.new) }
+        ensures done { MatchBool result (Wrote self.old self.new at from.now) (Keeps self.old self.new) }
+        ensures counted { SameCounts self.old self.new }
         ensures lost { plan ≡ Some Effect.Lost → result ≡ false }
         ensures plans { self.new.plans ≡ self.old.plans }
     {
@@ -185,7 +195,8 @@ impl MemDisk {
 
     // A sync under a plan.
     fn try_sync(&mut self, plan: Option<Effect>) -> bool
-        ensures done { MatchBool result (Synced self.old self.new) (Stays self.old self.new) }
+        ensures done { MatchBool result (Synced self.old self.new) (Keeps self.old self.new) }
+        ensures counted { SameCounts self.old self.new }
         ensures lost { plan ≡ Some Effect.Lost → result ≡ false }
         ensures plans { self.new.plans ≡ self.old.plans }
     {
@@ -200,7 +211,8 @@ impl MemDisk {
 }
 
 impl Disk for MemDisk {
-    ghost use Rattle.xa_disk.specs.Memory.{Keeps, CountsDown, Heeds, image_of, since};
+    ghost use Rattle.xa_disk.specs.Counts.{with_length, with_read, with_write, with_sync};
+    ghost use Rattle.xa_disk.specs.Memory.{Keeps, Wrote, Synced, CountsDown, Heeds, image_of, since};
 
     ghost honest = { ⊤ };
 
@@ -218,6 +230,8 @@ impl Disk for MemDisk {
 
     ghost failures = { λ d. d.failures };
 
+    ghost counts = { λ d. d.counts };
+
     ghost counts_now = { λ d t c le now. counts_now (first_of d.first d.bytes.items) d.calls.items t c le now };
 
     ghost only_now = { λ d c left. only_now (first_of d.first d.bytes.items) d.calls.items c left };
@@ -228,11 +242,12 @@ impl Disk for MemDisk {
         ensures value { IfOk result (λ n. n ≡ length self.old.bytes.items) }
         ensures same { self.new.bytes.items ≡ self.old.bytes.items }
         ensures time { Passes Same (length self.old.calls.items) (length self.new.calls.items) (since self.old) (since self.new) (image_of self.old) (image_of self.new) }
+        ensures calls { self.new.counts ≡ with_length self.old.counts }
         ensures count { CountsFault result self.old.failures self.new.failures }
         ensures later { CountsDown self.old self.new }
         ensures heeds { Heeds (due self.old.plans.items 1) result (Keeps self.old self.new) ⊥ (Keeps self.old self.new) }
     {
-        let plan = self.begin();
+        let plan = self.begin(self.counts.with_length());
         self.end(plan, true)?;
         Ok(self.bytes.len() as u64)
     }
@@ -241,11 +256,12 @@ impl Disk for MemDisk {
         ensures value { OnOk result (Reads self.old.bytes.items at into.new) }
         ensures same { self.new.bytes.items ≡ self.old.bytes.items }
         ensures time { Passes Same (length self.old.calls.items) (length self.new.calls.items) (since self.old) (since self.new) (image_of self.old) (image_of self.new) }
+        ensures calls { self.new.counts ≡ with_read (length into.old) self.old.counts }
         ensures count { CountsFault result self.old.failures self.new.failures }
         ensures later { CountsDown self.old self.new }
         ensures heeds { Heeds (due self.old.plans.items 1) result (Keeps self.old self.new) ((length self.old.bytes.items < at + length into.old) × Keeps self.old self.new) (Keeps self.old self.new) }
     {
-        let plan = self.begin();
+        let plan = self.begin(self.counts.with_read(into.len()));
         let done = read_bytes(&self.bytes, at, into);
         self.end(plan, done)
     }
@@ -254,11 +270,12 @@ impl Disk for MemDisk {
         ensures written { OnOk result (self.new.bytes.items ≡ put self.old.bytes.items at from.now) }
         ensures failed { OnErr result (AllOrNone self.old.bytes.items at from.now self.new.bytes.items) }
         ensures time { Passes (Torn at (length from.now)) (length self.old.calls.items) (length self.new.calls.items) (since self.old) (since self.new) (image_of self.old) (image_of self.new) }
+        ensures calls { self.new.counts ≡ with_write self.old.counts }
         ensures count { CountsFault result self.old.failures self.new.failures }
         ensures later { CountsDown self.old self.new }
-        ensures heeds { Heeds (due self.old.plans.items 1) result (self.new.bytes.items ≡ put self.old.bytes.items at from.now) (Keeps self.old self.new) (Keeps self.old self.new) }
+        ensures heeds { Heeds (due self.old.plans.items 1) result (Wrote self.old self.new at from.now) (Keeps self.old self.new) (Keeps self.old self.new) }
     {
-        let plan = self.begin();
+        let plan = self.begin(self.counts.with_write());
         let done = self.try_put(plan, at, from);
         self.end(plan, done)
     }
@@ -267,11 +284,12 @@ impl Disk for MemDisk {
         ensures durable { OnOk result (Only self.old.bytes.items (image_of self.new)) }
         ensures same { self.new.bytes.items ≡ self.old.bytes.items }
         ensures time { Passes Same (length self.old.calls.items) (length self.new.calls.items) (since self.old) (since self.new) (image_of self.old) (image_of self.new) }
+        ensures calls { self.new.counts ≡ with_sync self.old.counts }
         ensures count { CountsFault result self.old.failures self.new.failures }
         ensures later { CountsDown self.old self.new }
-        ensures heeds { Heeds (due self.old.plans.items 1) result (Only self.old.bytes.items (image_of self.new)) (Keeps self.old self.new) (Keeps self.old self.new) }
+        ensures heeds { Heeds (due self.old.plans.items 1) result (Synced self.old self.new) (Keeps self.old self.new) (Keeps self.old self.new) }
     {
-        let plan = self.begin();
+        let plan = self.begin(self.counts.with_sync());
         let done = self.try_sync(plan);
         self.end(plan, done)
     }

@@ -31,6 +31,21 @@ fn planned_faults_come_once(rt: HostRuntime) -> Result<(), Fail> {
     Ok(())
 }
 
+// A write that fails with its effect kept is lost by a crash, and a sync that does so is not.
+#[test]
+fn a_kept_sync_outlasts_a_crash(rt: HostRuntime) -> Result<(), Fail> {
+    let mut disk = MemDisk::new(rt.alloc());
+    disk.fail(2, Effect::Kept)?;
+    disk.fail(3, Effect::Kept)?;
+    disk.write_at(0, b"ab".as_slice())?;
+    assert_eq!(rt; disk.sync(), Err(DiskFault));
+    assert_eq!(rt; disk.write_at(2, b"c".as_slice()), Err(DiskFault));
+    assert_eq!(rt; disk.length(), Ok(3));
+    disk.crash()?;
+    assert_eq!(rt; disk.length(), Ok(2));
+    Ok(())
+}
+
 #[test]
 fn a_file_in_a_folder(rt: HostRuntime) -> Result<(), Fail> {
     let alloc = rt.alloc();

@@ -24,4 +24,5 @@ returns-clause-ok c =
       durable = λ x left. subst (λ (l : List Call). IsImage (replay c.in_ok-bytes.bytes.items l) x) c.clear.ensures.items left;
       plans = λ k. ap (λ (l : List Plan). due l k) c.clear-2.ensures.items;
       failures = refl;
+      counts = refl;
     }
