@@ -10,3 +10,4 @@ pub mod Cached
 pub mod Again
 pub mod Made
 pub mod Rows
+pub mod Fetch

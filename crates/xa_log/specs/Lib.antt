@@ -1,5 +1,6 @@
 pub mod Chain
 pub mod Answers
+pub mod Calls
 pub mod Stands
 pub mod Window
 pub mod Reading

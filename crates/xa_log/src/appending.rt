@@ -3,6 +3,7 @@ ghost use Rattle.std.specs.Prelude.{◌≡◌, ◌≢◌, ◌+◌, ◌≤◌, �
 ghost use Rattle.xa_disk.specs.Disk.{put, Torn, Only, Passes, CountsFault};
 ghost use Rattle.xa_log.specs.Chain.{digest, record_of, IsBody};
 ghost use Rattle.xa_log.specs.Answers.{Went, Fell, HasCause};
+ghost use Rattle.xa_log.specs.Calls.{PutCalls, AppendCalls};
 
 use crate::record::encode;
 use xa_disk::{Disk, DiskFault};
@@ -28,6 +29,7 @@ pub(crate) fn put_synced<D: Disk>(disk: &mut D, at: u64, bytes: &[u8]) -> Result
     ensures fell { D.honest → OnErr result (Fell D.tears (D.seen disk.old) at bytes.now (D.seen disk.new)) }
     ensures time { D.honest → Passes (Torn at (length bytes.now)) (D.moment disk.old) (D.moment disk.new) (D.left_since disk.old) (D.left_since disk.new) (D.may_leave disk.old) (D.may_leave disk.new) }
     ensures count { CountsFault result (D.failures disk.old) (D.failures disk.new) }
+    ensures calls { PutCalls result (D.counts disk.old) (D.counts disk.new) }
 {
     disk.write_at(at, bytes)?;
     disk.sync()
@@ -38,6 +40,7 @@ fn put_or_clear<D: Disk>(disk: &mut D, at: u64, bytes: &mut [u8]) -> Appended
     ensures went { D.honest → Went D.tears result at bytes.old (D.seen disk.old) (D.seen disk.new) (D.may_leave disk.new) }
     ensures time { D.honest → Passes (Torn at (length bytes.old)) (D.moment disk.old) (D.moment disk.new) (D.left_since disk.old) (D.left_since disk.new) (D.may_leave disk.old) (D.may_leave disk.new) }
     ensures cause { HasCause result (D.failures disk.old) (D.failures disk.new) }
+    ensures calls { AppendCalls result (D.counts disk.old) (D.counts disk.new) }
     ensures not_full { result ≢ Appended.Full }
 {
     match put_synced(disk, at, bytes) {
@@ -65,6 +68,7 @@ pub(crate) fn append_at<D: Disk>(
     ensures went { D.honest → Went D.tears result.0 at (record_of prev.now body.now ++ 0 ∷ 0 ∷ 0 ∷ 0 ∷ []) (D.seen disk.old) (D.seen disk.new) (D.may_leave disk.new) }
     ensures time { D.honest → Passes (Torn at (length (record_of prev.now body.now ++ 0 ∷ 0 ∷ 0 ∷ 0 ∷ []))) (D.moment disk.old) (D.moment disk.new) (D.left_since disk.old) (D.left_since disk.new) (D.may_leave disk.old) (D.may_leave disk.new) }
     ensures cause { HasCause result.0 (D.failures disk.old) (D.failures disk.new) }
+    ensures calls { AppendCalls result.0 (D.counts disk.old) (D.counts disk.new) }
     ensures not_full { result.0 ≢ Appended.Full }
 {
     let digest = encode(buffer, prev, body);

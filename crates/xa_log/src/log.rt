@@ -1,6 +1,8 @@
 //! The log on its disk.
-ghost use Rattle.std.specs.Prelude.{◌≡◌, ◌≢◌, ◌⊎◌, ◌+◌, ◌-◌, ◌≤◌, ◌<◌, ◌^◌, ◌↔◌, ◌∷◌, ◌++◌, ◌==◌, [], List, ℕ, true, false, length, if◌then◌else◌, OnOk, OnErr, IfOk, IfErr, MatchResult, Some, None};
+ghost use Rattle.std.specs.Prelude.{◌≡◌, ◌≢◌, ◌⊎◌, ◌+◌, ◌-◌, ◌≤◌, ◌<◌, ◌^◌, ◌↔◌, ◌∷◌, ◌++◌, ◌==◌, [], List, ℕ, true, false, length, if◌then◌else◌, OnOk, OnErr, IfOk, IfErr, IsErrOf, MatchResult, Some, None};
 ghost use Rattle.xa_disk.specs.Disk.{Same, Passes, LeavesOnly};
+ghost use Rattle.xa_disk.specs.Counts.{with_length, with_write, with_sync};
+ghost use Rattle.xa_log.specs.Calls.{AppendCalls, Looks, Reads, asked};
 ghost use Rattle.xa_log.specs.Chain.{IsBody, NoChance, PlainByBody, logged};
 ghost use Rattle.xa_log.specs.Answers.{HasCause, CountsDevice};
 ghost use Rattle.xa_log.specs.Opened.{IsOpened};
@@ -46,6 +48,7 @@ impl<D: Disk> Log<D> {
         ensures unchanged { result ≡ Appended.Full → self.new ≡ self.old }
         ensures moves { Moves result (length body.now) self.old self.new }
         ensures cause { self.old.lost ≡ false → HasCause result (D.failures self.old.disk) (D.failures self.new.disk) }
+        ensures calls { self.old.lost ≡ false → AppendCalls result (D.counts self.old.disk) (D.counts self.new.disk) }
         ensures kept { self.old.lost ≡ false → self.old.end + 40 + length body.now ≤ self.old.log_bytes
             → D.failures self.old.disk < 2 ^ 64 - 1 → D.failures self.new.disk ≡ D.failures self.old.disk → result ≡ Appended.Kept }
         ensures settings { self.new.log_bytes ≡ self.old.log_bytes }
@@ -97,6 +100,8 @@ impl<D: Disk> Log<D> {
         ensures same { D.honest → D.seen self.new.disk ≡ D.seen self.old.disk }
         ensures time { D.honest → Passes Same (D.moment self.old.disk) (D.moment self.new.disk) (D.left_since self.old.disk) (D.left_since self.new.disk) (D.may_leave self.old.disk) (D.may_leave self.new.disk) }
         ensures count { CountsDevice result (D.failures self.old.disk) (D.failures self.new.disk) }
+        ensures calls { Looks result self.old.log_bytes (D.counts self.old.disk) (D.counts self.new.disk) }
+        ensures calls_once { D.honest → Looks result (length (D.seen self.old.disk)) (D.counts self.old.disk) (D.counts self.new.disk) }
         ensures settings { self.new.log_bytes ≡ self.old.log_bytes }
         ensures alive { OnOk result (self.new.lost ≡ false) }
         ensures as_before { OnErr result (Untouched self.old self.new) }
@@ -132,6 +137,8 @@ impl<D: Disk + Drop> Log<D> {
         ensures room { OnOk result (12 ≤ log_bytes) }
         ensures settings { IfOk result (λ log. log.log_bytes ≡ log_bytes) }
         ensures count { IfOk result (λ log. D.failures log.disk ≡ D.failures disk) }
+        ensures calls { IfOk result (λ log. D.counts log.disk ≡ with_sync (with_write (with_length (D.counts disk)))) }
+        ensures too_long { IsErrOf result OpenFault.TooLong ↔ (log_bytes < 12) }
         ensures fault { D.honest → IfErr result (λ e. ExplainsNew e log_bytes (D.seen disk)) }
     {
         let opened = create_on(alloc, &mut disk, log_bytes)?;
@@ -152,6 +159,8 @@ impl<D: Disk + Drop> Log<D> {
         ensures time { D.honest → IfOk result (λ r. Passes Same (D.moment disk) (D.moment r.0.disk) (D.left_since disk) (D.left_since r.0.disk) (D.may_leave disk) (D.may_leave r.0.disk)) }
         ensures settings { IfOk result (λ r. r.0.log_bytes ≡ log_bytes) }
         ensures count { IfOk result (λ r. D.failures r.0.disk ≡ D.failures disk) }
+        ensures calls { IfOk result (λ r. Reads log_bytes (asked (D.counts disk)) (D.counts r.0.disk)) }
+        ensures calls_once { D.honest → IfOk result (λ r. Reads (length (D.seen disk)) (asked (D.counts disk)) (D.counts r.0.disk)) }
     {
         let opened = open_on(alloc, &mut disk, log_bytes)?;
         Ok(Log::on(disk, opened))

@@ -1,10 +1,12 @@
 //! Reading a log's records from a disk, through a window.
 ghost use Rattle.std.specs.Prelude.{◌≡◌, ◌⊎◌, ◌+◌, ◌-◌, ◌≤◌, ◌<◌, ◌^◌, ◌++◌, ◌∷◌, [], ℕ, length, take, slice_index, OnOk, IfOk, IfErr, IfSome, None, Some, MatchResult};
 ghost use Rattle.xa_disk.specs.Disk.{Same, Only, Passes, CountsFault};
+ghost use Rattle.xa_disk.specs.declared.counts.Counts.{Counts};
+ghost use Rattle.xa_log.specs.Calls.{Fetched, FetchedSome, FetchedNext, Looks};
 ghost use Rattle.xa_log.specs.Chain.{magic, logged};
 ghost use Rattle.xa_log.specs.Answers.{CountsDevice};
 ghost use Rattle.xa_log.specs.Reading.{Finds, Fits, IsScan, bodies_of, front_fault, fault_of, Explains};
-ghost use Rattle.xa_log.specs.Window.{Caches};
+ghost use Rattle.xa_log.specs.Window.{Caches, Covers};
 
 use crate::OpenFault;
 use crate::record::{chained, first_digest, size_of};
@@ -39,15 +41,19 @@ fn next_record<D: Disk>(
     len: u64,
     prev: &[u8; 32],
 ) -> Result<Option<Found>, DiskFault>
-    requires room { 524324 ≤ length window.old }
+    requires room { length window.old ≡ 1048576 }
     requires within { at ≤ len }
     requires held { span.have ≤ length window.old }
+    requires begins { span.from ≤ at }
+    requires reaches { at ≤ span.from + span.have }
+    requires inside { span.from + span.have ≤ len }
     ensures finds { D.honest → len ≡ length (D.seen disk.old) → Caches (D.seen disk.old) window.old span → IfOk result (Finds prev.now (D.seen disk.old) at window.new) }
     ensures bytes { (i : ℕ) → slice_index window.new i < 2 ^ 8 }
     ensures fits { IfOk result (λ o. IfSome o (Fits at len (length window.old))) }
     ensures same { D.honest → D.seen disk.new ≡ D.seen disk.old }
     ensures time { D.honest → Passes Same (D.moment disk.old) (D.moment disk.new) (D.left_since disk.old) (D.left_since disk.new) (D.may_leave disk.old) (D.may_leave disk.new) }
     ensures count { CountsFault result (D.failures disk.old) (D.failures disk.new) }
+    ensures fetched { (start : Counts) → Fetched len (span.from + span.have) start (D.counts disk.old) → MatchResult result (FetchedNext len start (D.counts disk.new)) (λ _. FetchedSome len start (D.counts disk.new)) }
 {
     if len - at < 36 {
         return Ok(None);
@@ -81,9 +87,11 @@ fn read_records<D: Disk>(
     first: Span,
     len: u64,
 ) -> Result<Scan, OpenFault>
-    requires room { 524324 ≤ length window.old }
+    requires room { length window.old ≡ 1048576 }
     requires within { 8 ≤ len }
     requires held { first.have ≤ length window.old }
+    requires covers { Covers first 0 8 }
+    requires inside { first.from + first.have ≤ len }
     ensures value { D.honest → Caches (D.seen disk.old) window.old first → len ≡ length (D.seen disk.old) → take 8 (D.seen disk.old) ≡ magic → IfOk result (IsScan (D.seen disk.old)) }
     ensures logged { D.honest → Caches (D.seen disk.old) window.old first → len ≡ length (D.seen disk.old) → take 8 (D.seen disk.old) ≡ magic → IfOk result (λ s. logged (D.seen disk.old) ≡ bodies_of s.bodies.items) }
     ensures fits { IfOk result (λ s. s.end ≤ len) }
@@ -91,6 +99,7 @@ fn read_records<D: Disk>(
     ensures time { D.honest → Passes Same (D.moment disk.old) (D.moment disk.new) (D.left_since disk.old) (D.left_since disk.new) (D.may_leave disk.old) (D.may_leave disk.new) }
     ensures count { CountsDevice result (D.failures disk.old) (D.failures disk.new) }
     ensures kinds { IfErr result (λ e. (e ≡ OpenFault.Device) ⊎ (e ≡ OpenFault.Memory)) }
+    ensures fetched { (start : Counts) → Fetched len (first.from + first.have) start (D.counts disk.old) → FetchedSome len start (D.counts disk.new) }
 {
     let mut bodies = Vec::new(alloc);
     let mut end: u64 = 8;
@@ -118,14 +127,17 @@ fn read_records<D: Disk>(
 
 // Has an empty window hold the file's first bytes.
 fn read_front<D: Disk>(disk: &mut D, window: &mut [u8], len: u64) -> Result<Span, DiskFault>
-    requires room { 8 ≤ length window.old }
+    requires room { length window.old ≡ 1048576 }
     requires within { 8 ≤ len }
     ensures front { D.honest → OnOk result (take 8 window.new ≡ take 8 (D.seen disk.old)) }
     ensures caches { D.honest → IfOk result (Caches (D.seen disk.old) window.new) }
     ensures held { IfOk result (λ s. s.have ≤ length window.old) }
+    ensures covers { IfOk result (λ s. Covers s 0 8) }
+    ensures inside { IfOk result (λ s. s.from + s.have ≤ len) }
     ensures same { D.honest → D.seen disk.new ≡ D.seen disk.old }
     ensures time { D.honest → Passes Same (D.moment disk.old) (D.moment disk.new) (D.left_since disk.old) (D.left_since disk.new) (D.may_leave disk.old) (D.may_leave disk.new) }
     ensures count { CountsFault result (D.failures disk.old) (D.failures disk.new) }
+    ensures fetched { MatchResult result (λ s. Fetched len (s.from + s.have) (D.counts disk.old) (D.counts disk.new)) (λ _. FetchedSome len (D.counts disk.old) (D.counts disk.new)) }
 {
     fill(disk, window, Span { from: 0, have: 0 }, 0, 8, len)
 }
@@ -151,7 +163,7 @@ pub(crate) fn read_whole<D: Disk>(
     window: &mut [u8],
     log_bytes: u64,
 ) -> Result<Scan, OpenFault>
-    requires { 524324 ≤ length window.old }
+    requires { length window.old ≡ 1048576 }
     ensures value { D.honest → MatchResult result (λ s. (fault_of log_bytes (D.seen disk.old) ≡ None) × IsScan (D.seen disk.old) s) (λ e. Explains e (fault_of log_bytes (D.seen disk.old))) }
     ensures logged { D.honest → IfOk result (λ s. logged (D.seen disk.old) ≡ bodies_of s.bodies.items) }
     ensures durable { D.honest → OnOk result (Only (D.seen disk.new) (D.may_leave disk.new)) }
@@ -159,6 +171,8 @@ pub(crate) fn read_whole<D: Disk>(
     ensures same { D.honest → D.seen disk.new ≡ D.seen disk.old }
     ensures time { D.honest → Passes Same (D.moment disk.old) (D.moment disk.new) (D.left_since disk.old) (D.left_since disk.new) (D.may_leave disk.old) (D.may_leave disk.new) }
     ensures count { CountsDevice result (D.failures disk.old) (D.failures disk.new) }
+    ensures calls { Looks result log_bytes (D.counts disk.old) (D.counts disk.new) }
+    ensures calls_once { D.honest → Looks result (length (D.seen disk.old)) (D.counts disk.old) (D.counts disk.new) }
 {
     disk.sync()?;
     let len = disk.length()?;

@@ -1,0 +1,87 @@
+-- Reads of a file from its front, piece by piece.
+use Rattle.std.proofs.Common.{◌≡◌, ℕ, zero, suc, ◌+◌, ◌-◌, ◌*◌, ◌^◌, ◌≤◌, ◌<◌, min, List, ◌++◌, length, take, drop, refl, sym, ◌∙◌, ap, subst, arith, append_assoc, length-append, length-take-le, length-drop, take-append-drop, rules, Option, None, Some, Result, Ok, Err, IsErr, MatchResult}
+use Rattle.std.proofs.lemmas.List.{take_at, take-take, drop-take, drop-drop}
+use Rattle.xa_disk.specs.Counts.{plus, with_read}
+use Rattle.xa_disk.specs.declared.counts.Counts.{Counts}
+use Rattle.xa_log.specs.Calls.{with_reads, Fetched, FetchedSome, FetchedNext, Reads}
+use Rattle.xa_log.specs.declared.reading.Found.{Found}
+
+plus_more : (x r k m : ℕ) → min (min (x + r) m + k) m ≡ min (x + (r + k)) m
+plus_more x r k m = omega arith
+
+reads_more : (r u n : ℕ) (c : Counts) → u ≤ r * 1048576 → with_read n (with_reads r u c) ≡ with_reads (suc r) (u + n) c
+reads_more zero u n c le = let same : n ≡ u + n = omega (arith, le) in ap (λ (k : ℕ). with_read k c) same
+reads_more (suc r) u n c le =
+    let one : suc r + 1 ≡ suc (suc r) = omega arith in
+    λ i. record c { reads = (plus_more c.reads (suc r) 1 (2 ^ 64 - 1) ∙ ap (λ (k : ℕ). plus c.reads k) one) i; read_bytes = plus_more c.read_bytes u n (2 ^ 64 - 1) i }
+
+-- one piece more, as large as the window has room for
+pub fetch_more : (len upto n upto' : ℕ) (first now new : Counts) → Fetched len upto first now → upto < len → upto' ≡ upto + n → upto' ≤ len → n ≤ 1048576 → (upto' < len → 524252 ≤ n) → new ≡ with_read n now
+    → Fetched len upto' first new
+fetch_more len upto n upto' first now new f short next within most large is = record {
+  reads = suc f.reads;
+  counts = is ∙ ap (with_read n) f.counts ∙ reads_more f.reads upto n first f.pieces ∙ ap (λ (u : ℕ). with_reads (suc f.reads) u first) (sym next);
+  within = within;
+  pieces = omega (arith, f.pieces, most, next);
+  few = omega (arith, f.full short, next);
+  full = λ more. omega (arith, f.full short, large more, next);
+}
+
+-- the piece behind what a window has, up to the file's end or the window's
+pub piece : (len from have at count kept last n upto' : ℕ) (first now new : Counts) → Fetched len (from + have) first now → from ≤ at → at ≤ from + have → from + have ≤ len → at + count ≤ len → count ≤ 524324 → from + have < at + count
+    → kept ≡ have - (at - from) → last ≡ min (len - at) 1048576 → n ≡ last - kept → upto' ≡ at + last → new ≡ with_read n now → Fetched len upto' first new
+piece len from have at count kept last n upto' first now new f begins reaches inside within fits missing k l is upto is_new =
+    fetch_more len (from + have) n upto' first now new f (omega (arith, missing, within)) (omega (arith, k, l, is, upto, begins, reaches, inside, missing, within)) (omega (arith, l, upto, within, missing, reaches)) (omega (arith, l, is))
+    (λ more. omega (arith, more, l, is, k, upto, begins, reaches, missing, fits)) is_new
+
+pub length-piece : (window : List ℕ) (kept last : ℕ) → length window ≡ 1048576 → last ≤ 1048576 → kept ≤ last → length (take (last - kept) (drop kept window)) ≡ last - kept
+length-piece window kept last room le fits = length-take-le (last - kept) (drop kept window) (omega (arith, length-drop kept window, room, le, fits))
+
+-- no byte was read yet
+pub fetched_none : (len : ℕ) (c : Counts) → Fetched len 0 c c
+fetched_none len c = record { reads = 0; counts = refl; within = omega arith; pieces = omega arith; few = omega arith; full = λ more. omega arith }
+
+-- what holds of each fault
+pub on_fault : {T E : Type 0} (P : T → Type 0) (Q : Type 0) (r : Result T E) → IsErr r → Q → MatchResult r P (λ _. Q)
+on_fault P Q (Ok x) is q = absurd (search (is, rules))
+on_fault P Q (Err e) is q = q
+
+take_both : (m n : ℕ) (x : List ℕ) → take m x ++ take n (drop m x) ≡ take (m + n) x
+take_both m n x =
+    ap (λ (l : List ℕ). l ++ take n (drop m x)) (sym (take-take m (m + n) x (omega arith)))
+    ∙ ap (λ (l : List ℕ). take m (take (m + n) x) ++ l) (sym (drop-take m n x))
+    ∙ take-append-drop m (take (m + n) x)
+
+-- what was kept at the front, and what was read behind it, is one piece of the file
+pub joined : (file window into rest : List ℕ) (at kept have : ℕ) → kept ≤ have → kept ≤ length window → take kept window ≡ take kept (drop at file) → length into ≡ have - kept → into ≡ take (length into) (drop (at + kept) file)
+    → take have (take kept window ++ (into ++ rest)) ≡ take have (drop at file)
+joined file window into rest at kept have le room same long is =
+    let x = drop at file in
+    let whole : length (take kept window ++ into) ≡ have = omega (arith, length-append (take kept window) into, length-take-le kept window room, long, le) in
+    let n : kept + (have - kept) ≡ have = omega (arith, le) in
+    let behind : into ≡ take (have - kept) (drop kept x) = is ∙ (λ i. take (long i) (sym (drop-drop kept at file) i)) in
+    ap (λ (l : List ℕ). take have l) (sym (append_assoc (take kept window) into rest))
+    ∙ take_at (take kept window ++ into) rest have whole
+    ∙ (λ i. same i ++ behind i)
+    ∙ take_both kept (have - kept) x
+    ∙ ap (λ (k : ℕ). take k x) n
+
+pub next_none : (len : ℕ) (start now : Counts) (o : Option Found) → o ≡ None → FetchedNext len start now o → FetchedSome len start now
+next_none len start now o is f = subst (λ x. FetchedNext len start now x) is f
+
+pub next_found : (len : ℕ) (start now : Counts) (o : Option Found) (r : Found) → o ≡ Some r → FetchedNext len start now o → Fetched len (r.span.from + r.span.have) start now
+next_found len start now o r is f = subst (λ x. FetchedNext len start now x) is f
+
+-- no read, and reads within a file that isn't too long
+pub reads_none : (most : ℕ) (first now : Counts) → now ≡ first → Reads most first now
+reads_none most first now is = record { reads = 0; bytes = 0; counts = is; once = omega arith; pieces = omega arith; few = omega arith }
+
+pub reads_some : (len most : ℕ) (first first' now : Counts) → len ≤ most → first ≡ first' → FetchedSome len first now → Reads most first' now
+reads_some len most first first' now le is f = record {
+  reads = f.fetched.reads;
+  bytes = f.upto;
+  counts = f.fetched.counts ∙ ap (with_reads f.fetched.reads f.upto) is;
+  once = omega (arith, f.fetched.within, le);
+  pieces = f.fetched.pieces;
+  few = f.fetched.few;
+}
