@@ -1,63 +1,107 @@
 //! A real file.
 //!
 //! No contract can say what a file holds, so `honest` is no fact of this type: the clauses on values promise
-//! nothing here, and that a file keeps them is a premise of whoever rests on them. The count of failures is
-//! proved. The code above a `Disk` is generic, so it is the same code that is proved over each honest disk.
-ghost use Rattle.std.specs.Prelude.{◌≡◌, [], ℕ, IfOk, refl};
+//! nothing here, and that a file keeps them is a premise of whoever rests on them. The counts of calls and of
+//! failures are proved, and that no sync succeeds behind one that failed. The code above a `Disk` is generic, so
+//! it is the same code that is proved over each honest disk.
+ghost use Rattle.std.specs.Prelude.{◌≡◌, ◌≢◌, [], ℕ, true, false, None, length, IfOk, IsOk, IsErr, MatchResult, refl};
+ghost use Rattle.xa_disk.specs.Counts.{no_calls, with_length, with_read, with_write, with_sync};
 ghost use Rattle.xa_disk.specs.Disk.{CountsFault};
-ghost use Rattle.xa_disk.specs.Counts.{no_calls};
 ghost use Rattle.xa_disk.specs.Images.{torn_by_nothing};
 
-use crate::{Counts, Disk, DiskFault};
-use std::fs::{File, OpenFile, OpenOptions};
+use crate::opening::locked;
+use crate::{Counts, Disk, DiskFault, FileFault};
+use std::fs::File;
 use std::io;
 use std::os::unix::fs::FileExt;
 
-/// A disk that is a file, with a count of its failed calls.
+/// A disk that is a file, with counts of its calls and of those that failed. While it is there no other
+/// `FileDisk` has the file, in this process or another.
 #[derive(Drop)]
 pub struct FileDisk {
     file: File,
     failures: u64,
     counts: Counts,
+    // A sync has failed. The system may have dropped what that one was to write, so a later one that succeeds would
+    // say nothing of it.
+    unsynced: bool,
+    error: Option<io::Error>,
+}
+
+// How many bytes a file has.
+pub(crate) fn length_of(file: &File) -> io::Result<u64> {
+    Ok(file.metadata()?.len())
 }
 
 impl FileDisk {
-    /// The file at a path, created if it isn't there. Its entry in the folder is not synced.
+    /// The file at a path, created if it isn't there, as `open` takes it.
     pub fn at(rt: &HostRuntime, path: &str) -> Result<FileDisk, DiskFault>
         ensures failures { IfOk result (λ disk. disk.failures ≡ 0) }
         ensures counts { IfOk result (λ disk. disk.counts ≡ no_calls) }
+        ensures whole { IfOk result (λ disk. disk.unsynced ≡ false) }
     {
-        let opened = OpenOptions::new()
-            .read(true)
-            .write(true)
-            .create(true)
-            .open(rt, path);
-        match opened {
+        match FileDisk::open(rt, path) {
+            Ok(disk) => Ok(disk),
+            Err(_) => Err(DiskFault),
+        }
+    }
+
+    /// The regular file at a path, locked for this disk alone until it is dropped. A file that isn't there is
+    /// created, readable and writable by its owner alone. Where the file is empty, as a new one is, its entry in its
+    /// folder is synced.
+    pub fn open(rt: &HostRuntime, path: &str) -> Result<FileDisk, FileFault>
+        ensures failures { IfOk result (λ disk. disk.failures ≡ 0) }
+        ensures counts { IfOk result (λ disk. disk.counts ≡ no_calls) }
+        ensures whole { IfOk result (λ disk. disk.unsynced ≡ false) }
+        ensures error { IfOk result (λ disk. disk.error ≡ None) }
+    {
+        match locked(rt, path) {
             Ok(file) => Ok(FileDisk {
                 file,
                 failures: 0,
                 counts: Counts::none(),
+                unsynced: false,
+                error: None,
             }),
-            Err(_) => Err(DiskFault),
+            Err(fault) => Err(fault),
         }
     }
-}
 
-// Counts a call that failed: once, at each fault.
-fn counted<T: Drop>(answer: io::Result<T>, failures: &mut u64) -> Result<T, DiskFault>
-    ensures { CountsFault result failures.old failures.new }
-{
-    match answer {
-        Ok(value) => Ok(value),
-        Err(_) => {
-            *failures = failures.saturating_add(1);
-            Err(DiskFault)
+    /// What the system said of the last call that failed, as that there is no space; `None` where none has.
+    pub fn error(&self) -> Option<io::Error>
+        ensures { result ≡ self.now.error }
+    {
+        self.error
+    }
+
+    // Answers a call. One that failed is counted, and its error kept.
+    fn answer<T: Drop>(&mut self, answer: io::Result<T>) -> Result<T, DiskFault>
+        ensures kind { MatchResult answer (λ _. IsOk result) (λ _. IsErr result) }
+        ensures count { CountsFault result self.old.failures self.new.failures }
+        ensures told { MatchResult result (λ _. self.new.error ≡ self.old.error) (λ _. self.new.error ≢ None) }
+        ensures counts { self.new.counts ≡ self.old.counts }
+        ensures unsynced { self.new.unsynced ≡ self.old.unsynced }
+    {
+        match answer {
+            Ok(value) => Ok(value),
+            Err(error) => {
+                self.failures = self.failures.saturating_add(1);
+                self.error = Some(error);
+                Err(DiskFault)
+            }
         }
     }
-}
 
-fn length_of(file: &File) -> io::Result<u64> {
-    Ok(file.metadata()?.len())
+    // Syncs by `sync_data`, unless a sync has failed: the bytes, and what of the file's description is needed to read
+    // them, its length included.
+    fn try_sync(&self) -> io::Result<()>
+        ensures { self.now.unsynced ≡ true → IsErr result }
+    {
+        if self.unsynced {
+            return Err(io::Error::other("an earlier sync failed"));
+        }
+        self.file.sync_data()
+    }
 }
 
 impl Disk for FileDisk {
@@ -85,24 +129,51 @@ impl Disk for FileDisk {
 
     ghost seen_may_stay = { λ _. refl };
 
-    fn length(&mut self) -> Result<u64, DiskFault> {
+    fn length(&mut self) -> Result<u64, DiskFault>
+        ensures calls { self.new.counts ≡ with_length self.old.counts }
+        ensures count { CountsFault result self.old.failures self.new.failures }
+        ensures told { MatchResult result (λ _. self.new.error ≡ self.old.error) (λ _. self.new.error ≢ None) }
+        ensures unsynced { self.new.unsynced ≡ self.old.unsynced }
+    {
         self.counts = self.counts.with_length();
-        counted(length_of(&self.file), &mut self.failures)
+        let length = length_of(&self.file);
+        self.answer(length)
     }
 
-    fn read_at(&mut self, at: u64, into: &mut [u8]) -> Result<(), DiskFault> {
+    fn read_at(&mut self, at: u64, into: &mut [u8]) -> Result<(), DiskFault>
+        ensures calls { self.new.counts ≡ with_read (length into.old) self.old.counts }
+        ensures count { CountsFault result self.old.failures self.new.failures }
+        ensures told { MatchResult result (λ _. self.new.error ≡ self.old.error) (λ _. self.new.error ≢ None) }
+        ensures unsynced { self.new.unsynced ≡ self.old.unsynced }
+    {
         self.counts = self.counts.with_read(into.len());
-        counted(self.file.read_exact_at(into, at), &mut self.failures)
+        let read = self.file.read_exact_at(into, at);
+        self.answer(read)
     }
 
-    fn write_at(&mut self, at: u64, from: &[u8]) -> Result<(), DiskFault> {
+    fn write_at(&mut self, at: u64, from: &[u8]) -> Result<(), DiskFault>
+        ensures calls { self.new.counts ≡ with_write self.old.counts }
+        ensures count { CountsFault result self.old.failures self.new.failures }
+        ensures told { MatchResult result (λ _. self.new.error ≡ self.old.error) (λ _. self.new.error ≢ None) }
+        ensures unsynced { self.new.unsynced ≡ self.old.unsynced }
+    {
         self.counts = self.counts.with_write();
-        counted(self.file.write_all_at(from, at), &mut self.failures)
+        let written = self.file.write_all_at(from, at);
+        self.answer(written)
     }
 
-    // By `sync_data`: the bytes, and what of the file's description is needed to read them, its length included.
-    fn sync(&mut self) -> Result<(), DiskFault> {
+    fn sync(&mut self) -> Result<(), DiskFault>
+        ensures calls { self.new.counts ≡ with_sync self.old.counts }
+        ensures count { CountsFault result self.old.failures self.new.failures }
+        ensures told { MatchResult result (λ _. self.new.error ≡ self.old.error) (λ _. self.new.error ≢ None) }
+        // After a sync that failed each later one fails.
+        ensures refused { self.old.unsynced ≡ true → IsErr result }
+        ensures unsynced { MatchResult result (λ _. self.new.unsynced ≡ false) (λ _. self.new.unsynced ≡ true) }
+    {
         self.counts = self.counts.with_sync();
-        counted(self.file.sync_data(), &mut self.failures)
+        let synced = self.try_sync();
+        let answer = self.answer(synced);
+        self.unsynced = answer.is_err();
+        answer
     }
 }

@@ -4,7 +4,7 @@
 //! - `counts`: `Counts`, how many device calls of each kind a disk was asked for
 //! - `memory`: `MemDisk`, of which all of that is proved; with `plan` (calls that are to fail), `call` (the
 //!   record of its writes and syncs) and `bytes` (the bytes alone)
-//! - `file`: `FileDisk`, a real file, of which only the counts are proved
+//! - `file`: `FileDisk`, a real file, of which only the counts are proved; with `opening` (how a file is taken, and why not)
 #![tactic(auto)]
 
 mod bytes;
@@ -13,10 +13,12 @@ mod counts;
 mod disk;
 mod file;
 mod memory;
+mod opening;
 mod plan;
 
 pub use counts::Counts;
 pub use disk::{Disk, DiskFault};
 pub use file::FileDisk;
 pub use memory::MemDisk;
+pub use opening::FileFault;
 pub use plan::Effect;

@@ -131,6 +131,9 @@ fn a_log_in_a_file_is_cut(rt: HostRuntime) -> Result<(), Fail> {
     let mut log = Log::create(alloc, FileDisk::at(&rt, path.as_str())?, MOST)?;
     assert_eq!(rt; log.append(&OPENED), Appended::Kept);
     assert_eq!(rt; log.append(&PREPARED), Appended::Kept);
+    // The file is this log's alone until it is dropped.
+    assert_eq!(rt; FileDisk::at(&rt, path.as_str()).is_err(), true);
+    drop(log);
     let bytes = two_records(alloc)?;
     assert_eq!(rt; fs::read(&rt, path.as_str())?.as_slice(), bytes.as_slice());
     for cut in 49..111 {
@@ -142,5 +145,44 @@ fn a_log_in_a_file_is_cut(rt: HostRuntime) -> Result<(), Fail> {
         }
     }
     fs::remove_file(&rt, path.as_str())?;
+    Ok(())
+}
+
+// Whether a log of so many bodies, each filled with its number, is read after a crash as it was written.
+fn is_read_again(alloc: Global, records: usize, size: usize) -> Result<bool, Fail> {
+    let mut log = Log::create(alloc, MemDisk::new(alloc), MOST)?;
+    for i in 0..records {
+        let body = vec![in alloc; (i % 256) as u8; size]?;
+        if body.is_empty() || body.len() > 524288 || log.append(&body) != Appended::Kept {
+            return Ok(false);
+        }
+    }
+    let mut disk = log.into_disk();
+    disk.crash()?;
+    let bodies = read_log(alloc, &mut disk, MOST)?;
+    for (i, body) in bodies.iter().enumerate() {
+        let number = Some((i % 256) as u8);
+        if body.len() != size || body.first().copied() != number || body.last().copied() != number {
+            return Ok(false);
+        }
+    }
+    Ok(bodies.len() == records)
+}
+
+// Up to the largest body, and past the window of 1 MiB.
+#[test]
+fn logs_of_many_sizes(rt: HostRuntime) -> Result<(), Fail> {
+    let rows = [
+        (0, 1),
+        (1, 1),
+        (12, 100_000),
+        (300, 5),
+        (1, 524_288),
+        (3, 524_288),
+    ];
+    for (records, size) in rows {
+        let right = is_read_again(rt.alloc(), records, size)?;
+        assert_eq!(rt; right, true, "{records} of {size} bytes");
+    }
     Ok(())
 }
