@@ -7,10 +7,10 @@ use Rattle.mv_chain.specs.declared.fate.Fate.{Fate}
 use Rattle.mv_chain.specs.declared.fate.Fate.TheVariants.{Committed as kept, RolledBack as gone}
 use Rattle.mv_chain.specs.History.{Written, deciding, decided}
 use Rattle.xa_xid.specs.Triple.{Triple}
-use Rattle.xa_model.specs.State.{Branch, Operation, Got, Wrote, Working, is_known_as, known_of, change, without}
+use Rattle.xa_model.specs.State.{Branch, Operation, Got, Wrote, is_known_as, known_of, change, without}
 use Rattle.xa_model.specs.Branches.{as_committed}
 use Rattle.xa_model.specs.Records.{having_done}
-use Rattle.xa_model.specs.Laws.{Descends}
+use Rattle.xa_model.specs.Sound.{Descends}
 use Rattle.xa_model.proofs.Times.{known_below}
 use Rattle.mv_rules.specs.History.{wrote}
 use Rattle.mv_rules.specs.Ties.{fate_of, writes_by, writes_one, writes_in}
@@ -36,15 +36,15 @@ above t u lt e = omega (arith, lt, e)
 
 -- Put: the new write may stand before all others
 
-wrote_by : (xid : Triple) (b c : Branch) (key : List ℕ) (value : Option (List ℕ)) (bs : List Branch) (is : Bool) → is_known_as xid c ≡ is → cond is (Some c) (known_of bs xid) ≡ Some b → b.phase ≡ Working
+wrote_by : (xid : Triple) (b c : Branch) (key : List ℕ) (value : Option (List ℕ)) (bs : List Branch) (is : Bool) → is_known_as xid c ≡ is → cond is (Some c) (known_of bs xid) ≡ Some b → fate_of b.phase ≡ None
     → (known_of bs xid ≡ Some b → b.timestamp < c.timestamp)
     → (known_of bs xid ≡ Some b → IsSameWrites (wrote b.timestamp key value ∷ writes_in bs) (writes_in (change (is_known_as xid) (having_done (Wrote key value)) bs)))
     → IsSameWrites (wrote b.timestamp key value ∷ writes_in (c ∷ bs)) (writes_in (cond is (having_done (Wrote key value) c ∷ bs) (c ∷ change (is_known_as xid) (having_done (Wrote key value)) bs)))
 wrote_by xid b c key value bs true is found working under ih =
     let same : c ≡ b = cc found in
-    let phase : c.phase ≡ Working = subst (λ (x : Branch). x.phase ≡ Working) (sym same) working in
+    let phase : fate_of c.phase ≡ None = subst (λ (x : Branch). fate_of x.phase ≡ None) (sym same) working in
     subst (λ (x : Branch). IsSameWrites (wrote x.timestamp key value ∷ writes_in (c ∷ bs)) (writes_in (having_done (Wrote key value) c ∷ bs))) same
-    (here (fate_of c.phase) (rw phase refl))
+    (here (fate_of c.phase) phase)
   where
     here : (fate : Option Fate) → fate ≡ None → IsSameWrites (wrote c.timestamp key value ∷ (writes_by c.timestamp fate c.operations ++ writes_in bs)) ((record { timestamp = c.timestamp; key = key; value = value; fate = fate } ∷ writes_by c.timestamp fate c.operations) ++ writes_in bs)
     here None e = same_itself (wrote c.timestamp key value ∷ (writes_by c.timestamp None c.operations ++ writes_in bs))
@@ -54,7 +54,7 @@ wrote_by xid b c key value bs false is found working under ih =
     (same_past (wrote b.timestamp key value) (writes_one c) (writes_in bs) (apart b.timestamp c.timestamp (fate_of c.phase) c.operations (above b.timestamp c.timestamp (under found))))
     (same_after (writes_one c) (wrote b.timestamp key value ∷ writes_in bs) (writes_in (change (is_known_as xid) (having_done (Wrote key value)) bs)) (ih found))
 
-pub wrote_first : (xid : Triple) (b : Branch) (key : List ℕ) (value : Option (List ℕ)) (limit : ℕ) (bs : List Branch) → Descends limit bs → known_of bs xid ≡ Some b → b.phase ≡ Working
+pub wrote_first : (xid : Triple) (b : Branch) (key : List ℕ) (value : Option (List ℕ)) (limit : ℕ) (bs : List Branch) → Descends limit bs → known_of bs xid ≡ Some b → fate_of b.phase ≡ None
     → IsSameWrites (wrote b.timestamp key value ∷ writes_in bs) (writes_in (change (is_known_as xid) (having_done (Wrote key value)) bs))
 wrote_first xid b key value limit [] h found working = absurd (cc found)
 wrote_first xid b key value limit (c ∷ bs) h found working =

@@ -7,9 +7,9 @@ use Rattle.std.proofs.lemmas.List.Folds.{list_any-append}
 use Rattle.mv_chain.specs.declared.fate.Fate.{Fate}
 use Rattle.mv_chain.specs.History.{Written, has_open, is_undecided, IsOpen, IsUnsettled}
 use Rattle.xa_xid.specs.Triple.{Triple}
-use Rattle.xa_model.specs.State.{Branch, Operation, Got, Wrote, Working, is_known_as, known_of}
+use Rattle.xa_model.specs.State.{Branch, Operation, Got, Wrote, is_known_as, known_of}
 use Rattle.xa_model.specs.Source.{write_of, written_keys}
-use Rattle.xa_model.specs.Laws.{Descends}
+use Rattle.xa_model.specs.Sound.{Descends}
 use Rattle.xa_model.proofs.Times.{known_below}
 use Rattle.mv_rules.specs.History.{open_keys}
 use Rattle.mv_rules.specs.Ties.{fate_of, writes_by, writes_one, writes_in}
@@ -128,16 +128,16 @@ tail_works b c bs lt w =
       count = count_other b.timestamp c.timestamp (fate_of c.phase) c.operations (writes_in bs) ne ∙ w.count;
     }
 
-works_by : (xid : Triple) (b c : Branch) (bs : List Branch) (is : Bool) → is_known_as xid c ≡ is → cond is (Some c) (known_of bs xid) ≡ Some b → b.phase ≡ Working → Descends c.timestamp bs
+works_by : (xid : Triple) (b c : Branch) (bs : List Branch) (is : Bool) → is_known_as xid c ≡ is → cond is (Some c) (known_of bs xid) ≡ Some b → fate_of b.phase ≡ None → Descends c.timestamp bs
     → (known_of bs xid ≡ Some b → b.timestamp < c.timestamp) → (known_of bs xid ≡ Some b → IsAtWork b bs) → IsAtWork b (c ∷ bs)
 works_by xid b c bs true is found working h under ih =
     let same : c ≡ b = cc found in
-    let phase : c.phase ≡ Working = subst (λ (x : Branch). x.phase ≡ Working) (sym same) working in
+    let phase : fate_of c.phase ≡ None = subst (λ (x : Branch). fate_of x.phase ≡ None) (sym same) working in
     let here : IsAtWork c (c ∷ bs) = head_works c bs (fate_of c.phase) refl (rw phase refl) h in
     subst (λ (x : Branch). IsAtWork x (c ∷ bs)) same here
 works_by xid b c bs false is found working h under ih = tail_works b c bs (under found) (ih found)
 
-pub at_work : (xid : Triple) (b : Branch) (limit : ℕ) (bs : List Branch) → Descends limit bs → known_of bs xid ≡ Some b → b.phase ≡ Working → IsAtWork b bs
+pub at_work : (xid : Triple) (b : Branch) (limit : ℕ) (bs : List Branch) → Descends limit bs → known_of bs xid ≡ Some b → fate_of b.phase ≡ None → IsAtWork b bs
 at_work xid b limit [] h found working = absurd (cc found)
 at_work xid b limit (c ∷ bs) h found working =
     works_by xid b c bs (is_known_as xid c) refl found working h.2 (λ e. known_below xid b c.timestamp bs h.2 e) (λ e. at_work xid b c.timestamp bs h.2 e working)
@@ -151,7 +151,7 @@ above_zero xid b limit (c ∷ bs) h found = above_by (is_known_as xid c) found (
     above_by true e rest = let same : c ≡ b = cc e in subst (λ (x : Branch). 0 < x.timestamp) same h.0
     above_by false e rest = rest e
 
-pub unsettled : (xid : Triple) (b : Branch) (limit : ℕ) (bs : List Branch) → Descends limit bs → known_of bs xid ≡ Some b → b.phase ≡ Working → IsUnsettled b.timestamp 0 (writes_in bs)
+pub unsettled : (xid : Triple) (b : Branch) (limit : ℕ) (bs : List Branch) → Descends limit bs → known_of bs xid ≡ Some b → fate_of b.phase ≡ None → IsUnsettled b.timestamp 0 (writes_in bs)
 unsettled xid b limit bs h found working = record {
   positive = above_zero xid b limit bs h found;
   above = omega arith;

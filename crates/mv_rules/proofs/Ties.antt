@@ -6,9 +6,9 @@ use Rattle.std.proofs.lemmas.Bool.Decides.{nat_tests}
 use Rattle.std.proofs.lemmas.Slice.Eq.{bytes_eq-Decides}
 use Rattle.mv_chain.specs.declared.fate.Fate.{Fate}
 use Rattle.mv_chain.specs.History.{Written, Seen, seen, stands, nobody, is_undecided, is_late}
-use Rattle.xa_model.specs.State.{Branch, Operation, Got, Wrote, Phase, Working, Prepared, HeuristicallyCommitted, HeuristicallyRolledBack, Committed, Read, is_committed}
-use Rattle.xa_model.specs.Source.{Version, write_of, counts, version_by, versions_of, absent, later, newest, source, passes_over, is_late as is_late_among}
-use Rattle.xa_model.specs.Laws.{Descends}
+use Rattle.xa_model.specs.State.{Branch, Operation, Got, Wrote, Phase, Working, Prepared, Committed, Read, is_committed}
+use Rattle.xa_model.specs.Source.{Version, write_of, version_by, versions_of, absent, later, newest, source, passes_over, is_late as is_late_among}
+use Rattle.xa_model.specs.Sound.{Descends}
 use Rattle.xa_model.proofs.Times.{version_time}
 use Rattle.mv_rules.specs.Ties.{fate_of, writes_by, writes_in, read_as, seen_as}
 
@@ -57,34 +57,25 @@ seen_group key u t fate (Wrote k value ∷ older) rest le =
     wrote_by key k u t fate value older rest (bytes_eq k key) (stands nobody t fate && nat_le t u) refl refl le (seen_group key u t fate older rest le)
 
 -- what a branch shows is its version
-phase_stands : (t : ℕ) (p : Phase) → stands nobody t (fate_of p) ≡ counts p
-phase_stands t Working = refl
-phase_stands t Prepared = refl
-phase_stands t HeuristicallyCommitted = refl
-phase_stands t HeuristicallyRolledBack = refl
+phase_stands : (t : ℕ) (p : Phase) → stands nobody t (fate_of p) ≡ true
+phase_stands t (Working xid mark) = refl
+phase_stands t (Prepared xid) = refl
 phase_stands t Committed = refl
 
-phase_undecided : (p : Phase) → counts p ≡ true → is_undecided (fate_of p) ≡ not (is_committed p)
-phase_undecided Working h = refl
-phase_undecided Prepared h = refl
-phase_undecided HeuristicallyCommitted h = refl
-phase_undecided HeuristicallyRolledBack h = absurd (cc h)
-phase_undecided Committed h = refl
+phase_undecided : (p : Phase) → is_undecided (fate_of p) ≡ not (is_committed p)
+phase_undecided (Working xid mark) = refl
+phase_undecided (Prepared xid) = refl
+phase_undecided Committed = refl
 
 abbrev later_of : ℕ → Option Version → Seen → Seen
 later_of u None rest = rest
 later_of u (Some v) rest = cond (nat_le v.timestamp u) (seen_as v) rest
 
-version_seen : (key : List ℕ) (u : ℕ) (b : Branch) (rest : Seen) (c d : Bool) (o : Option (Option (List ℕ))) → counts b.phase ≡ c → write_of key b.operations ≡ o → nat_le b.timestamp u ≡ d
+version_seen : (key : List ℕ) (u : ℕ) (b : Branch) (rest : Seen) (d : Bool) (o : Option (Option (List ℕ))) → write_of key b.operations ≡ o → nat_le b.timestamp u ≡ d
     → seen_one u b.timestamp (fate_of b.phase) o rest ≡ later_of u (version_by key b) rest
-version_seen key u b rest true d None ec eo ed = simp (ec, eo)
-version_seen key u b rest true true (Some v) ec eo ed =
-    let st : stands nobody b.timestamp (fate_of b.phase) ≡ true = phase_stands b.timestamp b.phase ∙ ec in simp (ec, eo, ed, st, phase_undecided b.phase ec)
-version_seen key u b rest true false (Some v) ec eo ed =
-    let st : stands nobody b.timestamp (fate_of b.phase) ≡ true = phase_stands b.timestamp b.phase ∙ ec in simp (ec, eo, ed, st)
-version_seen key u b rest false d None ec eo ed = simp ec
-version_seen key u b rest false d (Some v) ec eo ed =
-    let st : stands nobody b.timestamp (fate_of b.phase) ≡ false = phase_stands b.timestamp b.phase ∙ ec in simp (ec, st)
+version_seen key u b rest d None eo ed = simp eo
+version_seen key u b rest true (Some v) eo ed = simp (eo, ed, phase_stands b.timestamp b.phase, phase_undecided b.phase)
+version_seen key u b rest false (Some v) eo ed = simp (eo, ed, phase_stands b.timestamp b.phase)
 
 -- the first of versions that descend is the newest
 abbrev Under : ℕ → List Version → Type 0
@@ -144,7 +135,7 @@ one_source key u limit (b ∷ bs) h =
     let under : (source key u bs).timestamp < b.timestamp = fold_under u b.timestamp absent (versions_of key bs) h.0 (versions_under key b.timestamp bs h.2) in
     let le : (seen key u (writes_in bs)).from ≤ b.timestamp = rw ih (omega (arith, under)) in
     seen_group key u b.timestamp (fate_of b.phase) b.operations (writes_in bs) le
-    ∙ version_seen key u b (seen key u (writes_in bs)) (counts b.phase) (nat_le b.timestamp u) (write_of key b.operations) refl refl refl
+    ∙ version_seen key u b (seen key u (writes_in bs)) (nat_le b.timestamp u) (write_of key b.operations) refl refl
     ∙ ap (later_of u (version_by key b)) ih
     ∙ sym (newest_by u b.timestamp (version_by key b) (versions_of key bs) (λ v e. version_time key b v e) h.0 (versions_under key b.timestamp bs h.2))
 

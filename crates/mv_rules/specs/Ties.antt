@@ -3,18 +3,16 @@
 -- write is late for the one just where it is for the other.
 use Rattle.std.specs.Prelude.{◌≡◌, ℕ, not, List, [], ◌∷◌, ◌++◌, Option, Some, None, map}
 use Rattle.mv_chain.specs.declared.fate.Fate.{Fate}
-use Rattle.mv_chain.specs.declared.fate.Fate.TheVariants.{Committed as kept, RolledBack as gone}
+use Rattle.mv_chain.specs.declared.fate.Fate.TheVariants.{Committed as kept}
 use Rattle.mv_chain.specs.History.{Written, Answered, Seen, seen, is_late}
-use Rattle.xa_model.specs.State.{State, Branch, Operation, Got, Wrote, Phase, Working, Prepared, HeuristicallyCommitted, HeuristicallyRolledBack, Committed, Read}
+use Rattle.xa_model.specs.State.{State, Branch, Operation, Got, Wrote, Phase, Working, Prepared, Committed, Read}
 use Rattle.xa_model.specs.Source.{Version, source, is_late as is_late_among}
-use Rattle.xa_model.specs.Laws.{Descends}
+use Rattle.xa_model.specs.Sound.{Descends}
 use Rattle.mv_rules.specs.History.{History}
 
 abbrev pub fate_of : Phase → Option Fate
-fate_of Working = None
-fate_of Prepared = None
-fate_of HeuristicallyCommitted = Some kept
-fate_of HeuristicallyRolledBack = Some gone
+fate_of (Working xid mark) = None
+fate_of (Prepared xid) = None
 fate_of Committed = Some kept
 
 -- the writes among the operations of a branch, the newest first

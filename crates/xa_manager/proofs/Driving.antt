@@ -1,12 +1,13 @@
 -- A run goes on by one event.
-use Rattle.std.proofs.Common.{◌≡◌, Bool, true, false, cond, List, [], ◌∷◌, ◌++◌, length, Some, refl, ap, sym, ◌∙◌, subst, arith}
+use Rattle.std.proofs.Common.{◌≡◌, Bool, true, false, cond, List, [], ◌∷◌, ◌++◌, length, Option, Some, None, IsSomeAnd, refl, ap, sym, ◌∙◌, subst, arith}
 use Rattle.std.specs.Prelude.{MatchBool}
 use Rattle.std.proofs.lemmas.List.{append-nil}
 use Rattle.xa_frame.specs.declared.reply.Reply.{Reply}
 use Rattle.xa_model.specs.declared.event.Event.{Event}
 use Rattle.xa_model.specs.declared.outcome.Outcome.TheVariants.{Quiet}
 use Rattle.xa_model.specs.State.{State}
-use Rattle.xa_model.specs.Step.{Asked, respond}
+use Rattle.xa_model.specs.Answer.{Answer}
+use Rattle.xa_model.specs.Step.{Asked, step}
 use Rattle.xa_model.specs.History.{Entry, Leads, Steps}
 use Rattle.xa_manager.specs.Kept.{Kept}
 use Rattle.xa_manager.specs.Stands.{StandsFor, Stays, is_memory}
@@ -32,8 +33,13 @@ recorded_more (e ∷ es) [] event reply d same ed = absurd (omega arith)
 recorded_more (e ∷ es) (r ∷ rs) event reply d same ed =
     recorded_step e r es rs event reply (is_memory r.detail) d refl ed (recorded_more es rs event reply d (omega arith) ed)
 
+-- what is answered and followed
+stepped : (m' : Kept) (reply : Reply) (o : Option Answer) → IsSomeAnd o (λ a. (a.reply ≡ reply) × StandsFor m' a.after) → (after : State) × (o ≡ Some (record { reply = reply; after = after })) × StandsFor m' after
+stepped m' reply None h = absurd h
+stepped m' reply (Some a) h = (a.after, ap (λ (r : Reply). Some (record { reply = r; after = a.after })) h.0, h.1)
+
 goes_on : (m mid m' : Kept) (es : List Event) (rs : List Reply) (event : Event) (reply : Reply) (d : Bool) → length es ≡ length rs → is_memory reply.detail ≡ d
-    → AnswersAll m es rs mid → MatchBool d (Stays mid m') ((s : State) → StandsFor mid s → ((respond s event).reply ≡ reply) × StandsFor m' (respond s event).after)
+    → AnswersAll m es rs mid → MatchBool d (Stays mid m') ((s : State) → StandsFor mid s → IsSomeAnd (step s (Asked event) Quiet) (λ a. (a.reply ≡ reply) × StandsFor m' a.after))
     → AnswersAll m (es ++ event ∷ []) (rs ++ reply ∷ []) m'
 goes_on m mid m' es rs event reply true same ed all one s st =
     let h = all s st in
@@ -42,11 +48,9 @@ goes_on m mid m' es rs event reply true same ed all one s st =
 goes_on m mid m' es rs event reply false same ed all one s st =
     let h = all s st in
     let e = recorded_more es rs event reply false same ed in
-    let a = one h.0 h.2 in
-    let s' = (respond h.0 event).after in
+    let a = stepped m' reply (step h.0 (Asked event) Quiet) (one h.0 h.2) in
     let entry : Entry = record { happening = Asked event; outcome = Quiet; reply = reply } in
-    let steps : Steps h.0 entry s' = ap (λ (r : Reply). Some (record { reply = r; after = s' })) a.0 in
-    (s', subst (λ (xs : List Entry). Leads s xs s') (sym e) (leads_more s (recorded es rs) h.0 entry s' h.1 steps), a.1)
+    (a.0, subst (λ (xs : List Entry). Leads s xs a.0) (sym e) (leads_more s (recorded es rs) h.0 entry a.0 h.1 a.1), a.2)
 
 pub answers_more : (m mid m' : Kept) (es : List Event) (rs : List Reply) (event : Event) (reply : Reply) → length es ≡ length rs
     → AnswersAll m es rs mid → Answered mid event reply m' → AnswersAll m (es ++ event ∷ []) (rs ++ reply ∷ []) m'

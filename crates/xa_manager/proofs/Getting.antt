@@ -1,9 +1,10 @@
 -- A manager that stands for a state, after a get.
-use Rattle.std.proofs.Common.{◌≡◌, ◌≢◌, ℕ, ◌+◌, Bool, true, false, List, ◌∷◌, map, Option, Some, None, refl, ap, sym, ◌∙◌, subst, arith}
-use Rattle.xa_codes.specs.declared.codes.TheConstants.{XA_RETRY}
+use Rattle.std.proofs.Common.{◌≡◌, ◌≢◌, ℕ, ℤ, ◌+◌, Bool, true, false, List, ◌∷◌, map, Option, Some, None, refl, ap, sym, ◌∙◌, subst, arith}
+use Rattle.xa_codes.specs.declared.codes.TheConstants.{XA_RETRY, XAER_PROTO}
 use Rattle.xa_codes.specs.declared.detail.Detail.TheVariants as detail
 use Rattle.xa_xid.specs.Triple.{Triple, xid_eq}
 use Rattle.xa_frame.specs.declared.body.Body.TheVariants as body
+use Rattle.xa_frame.specs.declared.reply.Reply.{Reply}
 use Rattle.mv_chain.specs.History.{Written, Answered, seen}
 use Rattle.mv_rules.specs.declared.answers.Got.{Got}
 use Rattle.mv_rules.specs.declared.answers.Got.TheVariants as got_as
@@ -14,18 +15,19 @@ use Rattle.mv_rules.proofs.Ties.{one_source}
 use Rattle.mv_rules.proofs.Branches.{unwritten}
 use Rattle.xa_model.specs.State.{State, Operation, Got as Read_op, Read, is_known_as, own_branch, change, timestamp_of}
 use Rattle.xa_model.specs.Source.{Version, source, is_busy}
-use Rattle.xa_model.specs.Answer.{detailed, carrying}
-use Rattle.xa_model.specs.Records.{having_done, value_body, busy_refusal, got, get_by}
+use Rattle.xa_model.specs.Answer.{plain, detailed, carrying, answer, unless, marked}
+use Rattle.xa_model.specs.Records.{having_done, value_body, busy_refusal, got, get_from, get_by}
+use Rattle.xa_model.specs.Sound.{IsSound}
 use Rattle.xa_manager.specs.declared.slot.Slot.{Slot}
 use Rattle.xa_manager.specs.Kept.{Kept, slot_at, own_at}
 use Rattle.xa_manager.specs.Changes.{Gets}
 use Rattle.xa_manager.specs.Stands.{StandsFor, Follows}
-use Rattle.xa_manager.proofs.Looks.{Finds, finds, own_slot, own_is}
+use Rattle.xa_manager.proofs.Looks.{Finds, finds, own_slot, own_is, no_own, follows_by}
 use Rattle.xa_manager.proofs.Inner.{inner_stands, same_slot, stays_by, own_mark, time_of, done_inner}
 
 -- what the records see is the source
 sees : (m : Kept) (s : State) (key : List ℕ) (t : ℕ) → StandsFor m s → seen key t (writes_in s.branches) ≡ seen_as (source key t s.branches)
-sees m s key t st = one_source key t (timestamp_of s.boot s.given + 1) s.branches st.early.orderly.descends
+sees m s key t st = one_source key t (timestamp_of s.boot s.given + 1) s.branches st.sound.descends
 
 answered : (m m' : Kept) (s : State) (xid : Triple) (slot : Slot) (key : List ℕ) (g : Got) → StandsFor m s → (x : Finds s xid slot) → Gets m slot.timestamp key g m' → g ≢ got_as.Memory
     → g ≡ answer_by (is_busy x.branch.timestamp (source key x.branch.timestamp s.branches)) (source key x.branch.timestamp s.branches).timestamp (source key x.branch.timestamp s.branches).value
@@ -64,33 +66,50 @@ busy_passes t v h = rw h refl
 busy_stands : (m m' : Kept) (s : State) (slot : Slot) (key : List ℕ) (by : ℕ) → StandsFor m s → Gets m slot.timestamp key (got_as.Busy by) m' → StandsFor m' s
 busy_stands m m' s slot key by st c = stays_by m m' s st c.same c.given c.seats c.slots (c.records (history_of s) st.records (omega arith))
 
+-- an unmarked branch gets
+get_unmarked : (m : Kept) (s : State) (n : ℕ) (key : List ℕ) (xid : Triple) (slot : Slot) → StandsFor m s → own_at m n ≡ Some (xid, slot) → slot.mark ≡ None → (x : Finds s xid slot)
+    → get_by s key (own_branch s n) ≡ get_from s key xid x.branch (source key x.branch.timestamp s.branches)
+get_unmarked m s n key xid slot st h e x =
+    ap (get_by s key) (own_is m s n xid slot st h x)
+    ∙ ap (λ (o : Option ℤ). marked o s (get_from s key xid x.branch (source key x.branch.timestamp s.branches))) (own_mark s xid slot None x e)
+
+pub get_alone : (m : Kept) (n : ℕ) (key : List ℕ) → own_at m n ≡ None → Follows m (λ s. get_by s key (own_branch s n)) (plain XAER_PROTO) m
+get_alone m n key h =
+    follows_by m m (λ s. get_by s key (own_branch s n)) (plain XAER_PROTO) refl (λ s st. (answer (plain XAER_PROTO) s, ap (get_by s key) (no_own m s n st h), refl, λ sound. st))
+
+pub get_marked : (m : Kept) (n : ℕ) (key : List ℕ) (xid : Triple) (slot : Slot) (code : ℤ) → own_at m n ≡ Some (xid, slot) → slot.mark ≡ Some code → Follows m (λ s. get_by s key (own_branch s n)) (plain code) m
+get_marked m n key xid slot code h e =
+    follows_by m m (λ s. get_by s key (own_branch s n)) (plain code) refl
+    (λ s st.
+    let x = finds m s xid slot st (own_slot m n xid slot h).1 in (
+      answer (plain code) s,
+      ap (get_by s key) (own_is m s n xid slot st h x)
+          ∙ ap (λ (o : Option ℤ). marked o s (get_from s key xid x.branch (source key x.branch.timestamp s.branches))) (own_mark s xid slot (Some code) x e),
+      refl,
+      λ sound. st,
+    ))
+
 pub get_busy : (m m' : Kept) (n : ℕ) (key : List ℕ) (xid : Triple) (slot : Slot) (by : ℕ) → own_at m n ≡ Some (xid, slot) → slot.mark ≡ None → Gets m slot.timestamp key (got_as.Busy by) m'
     → Follows m (λ s. get_by s key (own_branch s n)) (detailed XA_RETRY detail.Busy) m'
-get_busy m m' n key xid slot by h e c = record {
-  answers = λ s st.
-      let x = finds m s xid slot st (own_slot m n xid slot h).1 in
-      let own = own_is m s n xid slot st h x in
-      let mark = own_mark s xid slot None x e in
-      let v = source key x.branch.timestamp s.branches in
-      let busy = busy_of (is_busy x.branch.timestamp v) v.timestamp by v.value (answered m m' s xid slot key (got_as.Busy by) st x c (λ q. cc q)) in
-      let refuses = busy_refuses x.branch.timestamp v busy in rw (own, mark, refuses) refl;
-  stands = λ s st.
-      let x = finds m s xid slot st (own_slot m n xid slot h).1 in
-      let own = own_is m s n xid slot st h x in
-      let mark = own_mark s xid slot None x e in
-      let v = source key x.branch.timestamp s.branches in
-      let busy = busy_of (is_busy x.branch.timestamp v) v.timestamp by v.value (answered m m' s xid slot key (got_as.Busy by) st x c (λ q. cc q)) in
-      let refuses = busy_refuses x.branch.timestamp v busy in rw (own, mark, refuses) (busy_stands m m' s slot key by st c);
-  served = refl;
-}
+get_busy m m' n key xid slot by h e c =
+    follows_by m m' (λ s. get_by s key (own_branch s n)) (detailed XA_RETRY detail.Busy) refl
+    (λ s st.
+    let x = finds m s xid slot st (own_slot m n xid slot h).1 in
+    let v = source key x.branch.timestamp s.branches in
+    let busy = busy_of (is_busy x.branch.timestamp v) v.timestamp by v.value (answered m m' s xid slot key (got_as.Busy by) st x c (λ q. cc q)) in (
+      answer (detailed XA_RETRY detail.Busy) s,
+      get_unmarked m s n key xid slot st h e x ∙ ap (λ (o : Option Reply). unless o s (got s key xid x.branch v)) (busy_refuses x.branch.timestamp v busy),
+      refl,
+      λ sound. busy_stands m m' s slot key by st c,
+    ))
 
 -- an answered read is added to the reads
 abbrev IsAnswered : Got → Type 0
 IsAnswered g = (t from : ℕ) (key : List ℕ) (reads : List Answered) → reads_after g t key from reads ≡ record { reader = t; key = key; from = from } ∷ reads
 
 got_stands : (m m' : Kept) (s : State) (xid : Triple) (slot : Slot) (key : List ℕ) (g : Got) → StandsFor m s → slot_at m xid ≡ Some slot → (x : Finds s xid slot) → Gets m slot.timestamp key g m' → IsAnswered g
-    → StandsFor m' (got s key x.branch (source key x.branch.timestamp s.branches)).after
-got_stands m m' s xid slot key g st h x c is =
+    → IsSound (got s key xid x.branch (source key x.branch.timestamp s.branches)).after → StandsFor m' (got s key xid x.branch (source key x.branch.timestamp s.branches)).after
+got_stands m m' s xid slot key g st h x c is sound =
     let b = x.branch in
     let v = source key b.timestamp s.branches in
     let op : Operation = Read_op key v.value v.timestamp in
@@ -107,30 +126,22 @@ got_stands m m' s xid slot key g st h x c is =
     let same : writes_in (change (is_known_as xid) (having_done op) s.branches) ≡ writes_in s.branches = unwritten (is_known_as xid) (having_done op) (λ y. refl) s.branches in
     let records : RecordsStandFor (record { low = 0; writes = writes_in (change (is_known_as xid) (having_done op) s.branches); reads = map read_as reads }) m'.records =
     subst (λ (ws : List Written). RecordsStandFor (record { low = 0; writes = ws; reads = map read_as reads }) m'.records) (sym same) moved in
-    let after : StandsFor m' (record s { branches = change (is_known_as xid) (having_done op) s.branches; reads = reads }) =
-    inner_stands m m' s (having_done op) xid reads slot slot (done_inner op) st x x.is c.same c.given c.seats (λ q. rw c.slots (same_slot m xid q slot (xid_eq xid q) h refl)) (rw c.slots refl) records in
-    subst (λ (q : Triple). StandsFor m' (record s { branches = change (is_known_as q) (having_done op) s.branches; reads = reads })) (sym x.xid_is) after
+    inner_stands m m' s (having_done op) xid reads slot slot (done_inner op) st x x.is c.same c.given c.seats (λ q. rw c.slots (same_slot m xid q slot (xid_eq xid q) h refl)) (rw c.slots refl) records sound
 
-pub get_follows : (m m' : Kept) (n : ℕ) (key : List ℕ) (xid : Triple) (slot : Slot) (g : Got) (o : Option (List ℕ)) → own_at m n ≡ Some (xid, slot) → slot.mark ≡ None → Gets m slot.timestamp key g m' → IsAnswered g → g ≢ got_as.Memory
+get_follows : (m m' : Kept) (n : ℕ) (key : List ℕ) (xid : Triple) (slot : Slot) (g : Got) (o : Option (List ℕ)) → own_at m n ≡ Some (xid, slot) → slot.mark ≡ None → Gets m slot.timestamp key g m' → IsAnswered g → g ≢ got_as.Memory
     → ((b : Bool) (from : ℕ) (w : Option (List ℕ)) → g ≡ answer_by b from w → (b ≡ false) × (w ≡ o))
     → Follows m (λ s. get_by s key (own_branch s n)) (carrying (value_body o)) m'
-get_follows m m' n key xid slot g o h e c is some says = record {
-  answers = λ s st.
-      let x = finds m s xid slot st (own_slot m n xid slot h).1 in
-      let own = own_is m s n xid slot st h x in
-      let mark = own_mark s xid slot None x e in
-      let v = source key x.branch.timestamp s.branches in
-      let both = says (is_busy x.branch.timestamp v) v.timestamp v.value (answered m m' s xid slot key g st x c some) in
-      let through = busy_passes x.branch.timestamp v both.0 in rw (own, mark, through) (ap (λ (w : Option (List ℕ)). carrying (value_body w)) both.1);
-  stands = λ s st.
-      let x = finds m s xid slot st (own_slot m n xid slot h).1 in
-      let own = own_is m s n xid slot st h x in
-      let mark = own_mark s xid slot None x e in
-      let v = source key x.branch.timestamp s.branches in
-      let both = says (is_busy x.branch.timestamp v) v.timestamp v.value (answered m m' s xid slot key g st x c some) in
-      let through = busy_passes x.branch.timestamp v both.0 in rw (own, mark, through) (got_stands m m' s xid slot key g st (own_slot m n xid slot h).1 x c is);
-  served = refl;
-}
+get_follows m m' n key xid slot g o h e c is some says =
+    follows_by m m' (λ s. get_by s key (own_branch s n)) (carrying (value_body o)) refl
+    (λ s st.
+    let x = finds m s xid slot st (own_slot m n xid slot h).1 in
+    let v = source key x.branch.timestamp s.branches in
+    let both = says (is_busy x.branch.timestamp v) v.timestamp v.value (answered m m' s xid slot key g st x c some) in (
+      got s key xid x.branch v,
+      get_unmarked m s n key xid slot st h e x ∙ ap (λ (r : Option Reply). unless r s (got s key xid x.branch v)) (busy_passes x.branch.timestamp v both.0),
+      ap (λ (w : Option (List ℕ)). carrying (value_body w)) both.1,
+      λ sound. got_stands m m' s xid slot key g st (own_slot m n xid slot h).1 x c is sound,
+    ))
 
 pub get_value : (m m' : Kept) (n : ℕ) (key : List ℕ) (xid : Triple) (slot : Slot) (value : List ℕ) → own_at m n ≡ Some (xid, slot) → slot.mark ≡ None → Gets m slot.timestamp key (got_as.Value value) m'
     → Follows m (λ s. get_by s key (own_branch s n)) (carrying (body.Value value)) m'

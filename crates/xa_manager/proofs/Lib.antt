@@ -1,4 +1,7 @@
 pub mod Looks
+pub mod Counting
+pub mod Held
+pub mod Flags
 pub mod Seating
 pub mod Ending
 pub mod Inner

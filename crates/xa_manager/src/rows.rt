@@ -1,13 +1,13 @@
-ghost use Rattle.std.specs.Prelude.{◌≡◌, ◌||◌, not, nat_lt, IfOk, OnErr, IsSome};
-ghost use Rattle.xa_codes.specs.Flags.{has};
-ghost use Rattle.xa_model.specs.State.{own_branch};
-ghost use Rattle.xa_model.specs.Associations.{connect_by, open_by, start_by, end_by, is_with};
-ghost use Rattle.xa_model.specs.Branches.{commit_by};
+ghost use Rattle.std.specs.Prelude.{◌≡◌, ◌||◌, not, nat_lt, true, false, IfOk, OnErr};
+ghost use Rattle.xa_codes.specs.Flags.{has, legal};
+ghost use Rattle.xa_model.specs.State.{own_branch, is_with};
+ghost use Rattle.xa_model.specs.Associations.{connect_by, open_by, begin_by, leave_by};
+ghost use Rattle.xa_model.specs.Early.{call_of, flags_of, is_built};
 ghost use Rattle.xa_model.specs.Records.{get_by, put_by};
-ghost use Rattle.xa_model.specs.Step.{row, respond};
+ghost use Rattle.xa_model.specs.Step.{commit_by, row, respond};
 ghost use Rattle.xa_model.specs.declared.event.Event.{Event};
 ghost use Rattle.xa_manager.specs.Changes.{items_of};
-ghost use Rattle.xa_manager.specs.Kept.{kept_of, seat_at, active_at, own_at};
+ghost use Rattle.xa_manager.specs.Kept.{kept_of, active_at, own_at};
 ghost use Rattle.xa_manager.specs.Stands.{Follows, Stays};
 
 use crate::early::early_refusal;
@@ -48,10 +48,8 @@ impl Tables {
         plain(XA_OK)
     }
 
-    /// For a connected session.
     pub fn start(&mut self, session: u64, xid: Xid) -> Result<Reply, AllocError>
-        requires { IsSome (seat_at (kept_of self.old) session) }
-        ensures ok { IfOk result (λ r. Follows (kept_of self.old) (λ s. start_by s session xid) r (kept_of self.new)) }
+        ensures ok { IfOk result (λ r. Follows (kept_of self.old) (λ s. begin_by s session xid) r (kept_of self.new)) }
         ensures err { OnErr result (Stays (kept_of self.old) (kept_of self.new)) }
     {
         let is_at_work = active_of(&self.seats, session).is_some();
@@ -64,7 +62,7 @@ impl Tables {
     }
 
     pub fn end(&mut self, session: u64, xid: &Xid) -> Reply
-        ensures { Follows (kept_of self.old) (λ s. end_by s session xid.now) result (kept_of self.new) }
+        ensures { Follows (kept_of self.old) (λ s. leave_by s session false xid.now) result (kept_of self.new) }
     {
         let Some(slot) = slot_of(&self.slots, xid) else {
             return plain(XAER_NOTA);
@@ -190,9 +188,10 @@ impl Tables {
         self.answer(session, request)
     }
 
-    /// The row of a request, for a connected session.
+    /// The row of a request that is built, with legal flags.
     fn answer(&mut self, session: u64, request: Request) -> Result<Reply, AllocError>
-        requires { IsSome (seat_at (kept_of self.old) session) }
+        requires legal { legal (call_of request) (flags_of request) ≡ true }
+        requires built { is_built (call_of request) (flags_of request) ≡ true }
         ensures ok { IfOk result (λ r. Follows (kept_of self.old) (λ s. row s session request) r (kept_of self.new)) }
         ensures err { OnErr result (Stays (kept_of self.old) (kept_of self.new)) }
     {

@@ -1,86 +1,57 @@
--- Known branches by their XIDs, after a change of one of them.
-use Rattle.std.proofs.Common.{◌≡◌, Bool, true, false, cond, List, [], ◌∷◌, Option, Some, None, refl, ap, subst}
-use Rattle.std.specs.Prelude.{option_map}
+-- Branches that leave their names: rolled back, or committed.
+use Rattle.std.proofs.Common.{◌≡◌, ◌+◌, Bool, true, false, Option, Some, None, refl, sym, subst}
+use Rattle.std.specs.Prelude.{is_some}
 use Rattle.xa_xid.specs.Triple.{Triple, xid_eq}
-use Rattle.xa_model.specs.State.{Branch, is_known, is_known_as, known_of, change, without}
 use Rattle.xa_xid.proofs.Same.{xid_same}
-use Rattle.xa_model.specs.Laws.{IsUnique}
-use Rattle.xa_model.proofs.Xids.{both_true, and_false, xid_apart}
+use Rattle.xa_model.specs.State.{State, Branch, change, without, name_of, is_with, is_known_as, known_of, holders_of, timestamp_of}
+use Rattle.xa_model.specs.Branches.{as_committed, committed, rolled_back}
+use Rattle.xa_model.specs.Sound.{IsSound, is_at_work}
+use Rattle.xa_model.proofs.Counts.{count_changed, count_without}
+use Rattle.xa_model.proofs.Finds.{find_without}
+use Rattle.xa_model.proofs.Lists.{find_change_other}
+use Rattle.xa_model.proofs.Order.{KeepsTimestamp, change_descends, without_descends}
+use Rattle.xa_model.proofs.Parts.{with_branches}
 
--- a change that leaves the XID
-pub record KeepsXid (f : Branch → Branch) : Type 0 where
-  pub xid : (b : Branch) → (f b).xid ≡ b.xid
+-- who is called by one XID isn't called by another
+pub called_apart_by : (x q : Triple) (o : Option Triple) → xid_eq x q ≡ false → is_with x o ≡ true → is_with q o ≡ false
+called_apart_by x q None h is = refl
+called_apart_by x q (Some y) h is = subst (λ (z : Triple). xid_eq z q ≡ false) (sym (xid_same y x is)) h
 
--- and whether the branch is known
-pub record KeepsKnown (f : Branch → Branch) : Type 0 where
-  pub xid : (b : Branch) → (f b).xid ≡ b.xid
-  pub known : (b : Branch) → is_known (f b).phase ≡ is_known b.phase
+pub called_apart : (x q : Triple) (b : Branch) → xid_eq x q ≡ false → is_known_as x b ≡ true → is_known_as q b ≡ false
+called_apart x q b h is = called_apart_by x q (name_of b.phase) h is
 
--- and after which the branch is not known
-pub record EndsKnown (f : Branch → Branch) : Type 0 where
-  pub xid : (b : Branch) → (f b).xid ≡ b.xid
-  pub known : (b : Branch) → is_known (f b).phase ≡ false
+left_bound_by : (s : State) (xid q : Triple) (c : Bool) → xid_eq xid q ≡ c → IsSound s → holders_of s.associations xid ≡ 0
+    → is_at_work (known_of (without (is_known_as xid) s.branches) q) ≡ false → holders_of s.associations q ≡ 0
+left_bound_by s xid q true e h free none = subst (λ (x : Triple). holders_of s.associations x ≡ 0) (xid_same xid q e) free
+left_bound_by s xid q false e h free none =
+    let same : known_of (without (is_known_as xid) s.branches) q ≡ known_of s.branches q = find_without (is_known_as xid) (is_known_as q) (λ b. called_apart xid q b e) s.branches in
+    h.bound q (subst (λ (o : Option Branch). is_at_work o ≡ false) same none)
 
-named_false : (q : Triple) (b : Branch) → xid_eq b.xid q ≡ false → is_known_as q b ≡ false
-named_false q b h = and_false (is_known b.phase) (xid_eq b.xid q) h
+-- a branch that nobody holds is gone
+pub gone_sound : (s : State) (xid : Triple) → IsSound s → holders_of s.associations xid ≡ 0 → IsSound (rolled_back s xid)
+gone_sound s xid h free = with_branches s (without (is_known_as xid) s.branches) h (record {
+  descends = without_descends (is_known_as xid) (timestamp_of s.boot s.given + 1) s.branches h.descends;
+  names = λ q. count_without (is_known_as xid) (is_known_as q) s.branches;
+  known = count_without (is_known_as xid) (λ b. is_some (name_of b.phase)) s.branches;
+  bound = λ q none. left_bound_by s xid q (xid_eq xid q) refl h free none;
+})
 
-apart : (xid q : Triple) (b : Branch) → is_known_as xid b ≡ true → xid_eq xid q ≡ false → xid_eq b.xid q ≡ false
-apart xid q b is h = xid_apart b.xid xid q (both_true (is_known b.phase) (xid_eq b.xid xid) is).1 h
+committed_keeps : KeepsTimestamp as_committed
+committed_keeps = record { same = λ b. refl }
 
-other_by : (f : Branch → Branch) (k : (b : Branch) → (f b).xid ≡ b.xid) (xid q : Triple) (b : Branch) (bs : List Branch) (c : Bool) → is_known_as xid b ≡ c → xid_eq xid q ≡ false
-    → known_of (change (is_known_as xid) f bs) q ≡ known_of bs q → known_of (cond c (f b ∷ bs) (b ∷ change (is_known_as xid) f bs)) q ≡ known_of (b ∷ bs) q
-other_by f k xid q b bs true is h rest =
-    let miss : xid_eq b.xid q ≡ false = apart xid q b is h in
-    let before : is_known_as q b ≡ false = named_false q b miss in
-    let after : is_known_as q (f b) ≡ false = named_false q (f b) (rw (k b) miss) in simp (before, after)
-other_by f k xid q b bs false is h rest = ap (λ (o : Option Branch). cond (is_known_as q b) (Some b) o) rest
+committed_bound_by : (s : State) (xid q : Triple) (c : Bool) → xid_eq xid q ≡ c → IsSound s → holders_of s.associations xid ≡ 0
+    → is_at_work (known_of (change (is_known_as xid) as_committed s.branches) q) ≡ false → holders_of s.associations q ≡ 0
+committed_bound_by s xid q true e h free none = subst (λ (x : Triple). holders_of s.associations x ≡ 0) (xid_same xid q e) free
+committed_bound_by s xid q false e h free none =
+    let same : known_of (change (is_known_as xid) as_committed s.branches) q ≡ known_of s.branches q
+    = find_change_other (is_known_as xid) (is_known_as q) as_committed (λ b is. (called_apart xid q b e is, refl)) s.branches in
+    h.bound q (subst (λ (o : Option Branch). is_at_work o ≡ false) same none)
 
--- another XID's branch stays
-pub known_changed_other : (f : Branch → Branch) (k : (b : Branch) → (f b).xid ≡ b.xid) (xid q : Triple) (bs : List Branch) → xid_eq xid q ≡ false → known_of (change (is_known_as xid) f bs) q ≡ known_of bs q
-known_changed_other f k xid q [] h = refl
-known_changed_other f k xid q (b ∷ bs) h = other_by f k xid q b bs (is_known_as xid b) refl h (known_changed_other f k xid q bs h)
-
-same_by : (f : Branch → Branch) (k : KeepsKnown f) (xid : Triple) (b : Branch) (bs : List Branch) (c : Bool) → is_known_as xid b ≡ c
-    → known_of (change (is_known_as xid) f bs) xid ≡ option_map f (known_of bs xid) → known_of (cond c (f b ∷ bs) (b ∷ change (is_known_as xid) f bs)) xid ≡ option_map f (cond c (Some b) (known_of bs xid))
-same_by f k xid b bs true is rest = let after : is_known_as xid (f b) ≡ true = rw (k.known b, k.xid b) is in simp after
-same_by f k xid b bs false is rest = rw is rest
-
--- the XID's branch is changed
-pub known_changed_same : (f : Branch → Branch) (k : KeepsKnown f) (xid : Triple) (bs : List Branch) → known_of (change (is_known_as xid) f bs) xid ≡ option_map f (known_of bs xid)
-known_changed_same f k xid [] = refl
-known_changed_same f k xid (b ∷ bs) = same_by f k xid b bs (is_known_as xid b) refl (known_changed_same f k xid bs)
-
--- the known branch that is found is the only one with its XID
-only_one : (xid : Triple) (b : Branch) (bs : List Branch) → IsUnique (b ∷ bs) → is_known_as xid b ≡ true → known_of bs xid ≡ None
-only_one xid b bs u is =
-    let both = both_true (is_known b.phase) (xid_eq b.xid xid) is in subst (λ (x : Triple). known_of bs x ≡ None) (xid_same b.xid xid both.1) (u.0 both.0)
-
-ended_by : (f : Branch → Branch) (k : EndsKnown f) (xid : Triple) (b : Branch) (bs : List Branch) (c : Bool) → is_known_as xid b ≡ c → IsUnique (b ∷ bs)
-    → known_of (change (is_known_as xid) f bs) xid ≡ None → known_of (cond c (f b ∷ bs) (b ∷ change (is_known_as xid) f bs)) xid ≡ None
-ended_by f k xid b bs true is u rest =
-    let none : known_of bs xid ≡ None = only_one xid b bs u is in
-    let gone : is_known (f b).phase ≡ false = k.known b in simp (gone, none)
-ended_by f k xid b bs false is u rest = rw is rest
-
--- the XID's branch is known no more
-pub known_ended_same : (f : Branch → Branch) (k : EndsKnown f) (xid : Triple) (bs : List Branch) → IsUnique bs → known_of (change (is_known_as xid) f bs) xid ≡ None
-known_ended_same f k xid [] u = refl
-known_ended_same f k xid (b ∷ bs) u = ended_by f k xid b bs (is_known_as xid b) refl u (known_ended_same f k xid bs u.1)
-
-left_other_by : (xid q : Triple) (b : Branch) (bs : List Branch) (c : Bool) → is_known_as xid b ≡ c → xid_eq xid q ≡ false → known_of (without (is_known_as xid) bs) q ≡ known_of bs q
-    → known_of (cond c bs (b ∷ without (is_known_as xid) bs)) q ≡ known_of (b ∷ bs) q
-left_other_by xid q b bs true is h rest = let before : is_known_as q b ≡ false = named_false q b (apart xid q b is h) in simp before
-left_other_by xid q b bs false is h rest = ap (λ (o : Option Branch). cond (is_known_as q b) (Some b) o) rest
-
-pub known_left_other : (xid q : Triple) (bs : List Branch) → xid_eq xid q ≡ false → known_of (without (is_known_as xid) bs) q ≡ known_of bs q
-known_left_other xid q [] h = refl
-known_left_other xid q (b ∷ bs) h = left_other_by xid q b bs (is_known_as xid b) refl h (known_left_other xid q bs h)
-
-left_same_by : (xid : Triple) (b : Branch) (bs : List Branch) (c : Bool) → is_known_as xid b ≡ c → IsUnique (b ∷ bs) → known_of (without (is_known_as xid) bs) xid ≡ None
-    → known_of (cond c bs (b ∷ without (is_known_as xid) bs)) xid ≡ None
-left_same_by xid b bs true is u rest = only_one xid b bs u is
-left_same_by xid b bs false is u rest = rw is rest
-
-pub known_left_same : (xid : Triple) (bs : List Branch) → IsUnique bs → known_of (without (is_known_as xid) bs) xid ≡ None
-known_left_same xid [] u = refl
-known_left_same xid (b ∷ bs) u = left_same_by xid b bs (is_known_as xid b) refl u (known_left_same xid bs u.1)
+-- a branch that nobody holds is committed
+pub committed_sound : (s : State) (xid : Triple) → IsSound s → holders_of s.associations xid ≡ 0 → IsSound (committed s xid)
+committed_sound s xid h free = with_branches s (change (is_known_as xid) as_committed s.branches) h (record {
+  descends = change_descends as_committed committed_keeps (is_known_as xid) (timestamp_of s.boot s.given + 1) s.branches h.descends;
+  names = λ q. count_changed (is_known_as xid) as_committed (is_known_as q) (λ b is now. absurd (cc now)) s.branches;
+  known = count_changed (is_known_as xid) as_committed (λ b. is_some (name_of b.phase)) (λ b is now. absurd (cc now)) s.branches;
+  bound = λ q none. committed_bound_by s xid q (xid_eq xid q) refl h free none;
+})

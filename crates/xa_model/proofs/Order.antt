@@ -1,7 +1,8 @@
 -- Changes of a list of branches keep the order of their timestamps.
 use Rattle.std.proofs.Common.{◌≡◌, ℕ, ◌≤◌, Bool, true, false, cond, List, [], ◌∷◌, arith}
+use Rattle.std.specs.Prelude.{map}
 use Rattle.xa_model.specs.State.{Branch, change, without}
-use Rattle.xa_model.specs.Laws.{Descends}
+use Rattle.xa_model.specs.Sound.{Descends}
 
 -- a change that leaves the timestamps
 pub record KeepsTimestamp (f : Branch → Branch) : Type 0 where
@@ -19,6 +20,10 @@ changed_by f k p limit b bs false h rest = (h.0, h.1, rest)
 pub change_descends : (f : Branch → Branch) (k : KeepsTimestamp f) (p : Branch → Bool) (limit : ℕ) (bs : List Branch) → Descends limit bs → Descends limit (change p f bs)
 change_descends f k p limit [] h = tt
 change_descends f k p limit (b ∷ bs) h = changed_by f k p limit b bs (p b) h (change_descends f k p b.timestamp bs h.2)
+
+pub map_descends : (f : Branch → Branch) (k : KeepsTimestamp f) (limit : ℕ) (bs : List Branch) → Descends limit bs → Descends limit (map f bs)
+map_descends f k limit [] h = tt
+map_descends f k limit (b ∷ bs) h = rw (k.same b) (h.0, h.1, map_descends f k b.timestamp bs h.2)
 
 left_by : (p : Branch → Bool) (limit : ℕ) (b : Branch) (bs : List Branch) (c : Bool) → Descends limit (b ∷ bs) → Descends b.timestamp (without p bs) → Descends limit (cond c bs (b ∷ without p bs))
 left_by p limit b bs true h rest = descends_below b.timestamp limit bs (omega (arith, h.1)) h.2

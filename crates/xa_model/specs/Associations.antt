@@ -1,12 +1,14 @@
--- The association table: how sessions come to work for branches.
-use Rattle.std.specs.Prelude.{ℕ, ◌+◌, ◌==◌, ℤ, Bool, true, false, not, ◌||◌, Option, Some, None, List, [], ◌∷◌, length, is_some, is_none, nat_lt, option_and_then, if◌then◌else◌}
+-- The association table: how sessions come, and how they come to work for branches.
+use Rattle.std.specs.Prelude.{ℕ, ◌+◌, ◌==◌, ℤ, Bool, true, false, not, ◌||◌, Option, Some, None, List, [], ◌∷◌, filter, length, map, is_some, nat_lt, if◌then◌else◌}
 use Rattle.std.specs.List.{list_any}
-use Rattle.xa_codes.specs.declared.codes.TheConstants.{XAER_PROTO, XAER_NOTA, XAER_DUPID, XAER_RMERR}
+use Rattle.xa_codes.specs.Flags.{has}
+use Rattle.xa_codes.specs.declared.codes.TheConstants.{XAER_PROTO, XAER_NOTA, XAER_DUPID, XAER_RMERR, XA_RBROLLBACK, XA_RBCOMMFAIL}
 use Rattle.xa_codes.specs.declared.detail.Detail.TheVariants as detail
-use Rattle.xa_xid.specs.Triple.{Triple, xid_eq}
+use Rattle.xa_codes.specs.declared.flags.TheConstants.{TMJOIN, TMRESUME, TMSUSPEND, TMMIGRATE, TMFAIL}
+use Rattle.xa_xid.specs.Triple.{Triple}
 use Rattle.xa_frame.specs.declared.body.Body.TheVariants as body
 use Rattle.xa_frame.specs.declared.reply.Reply.{Reply}
-use Rattle.xa_model.specs.State.{State, Session, Branch, Association, Active, Working, known_of, known_count, active_of, owns, is_loose_with, without, change, free_number, timestamp_of}
+use Rattle.xa_model.specs.State.{State, Session, Branch, Phase, Working, Prepared, Committed, Association, Holder, Active, Suspended, Loose, Known, Unknown, AtWork, InDoubt, Completed, known_as, known_in, known_of, active_of, is_own, is_with, is_known_as, owns, works_in, suspends, is_loose_with, loose_of, without, change, free_number, timestamp_of}
 use Rattle.xa_model.specs.Answer.{Answer, plain, detailed, carrying, answer, ok, first, unless, marked}
 
 -- so far one session at a time
@@ -19,6 +21,10 @@ most_branches = 4096
 -- the last timestamp of a boot
 abbrev pub most_given : ℕ
 most_given = 4294967295
+
+-- the most loose associations of a branch
+abbrev pub most_loose : ℕ
+most_loose = 64
 
 -- Connect: the session gets the least number that is free
 
@@ -41,7 +47,57 @@ as_opened x = record x { opened = true }
 abbrev pub open_by : State → ℕ → Answer
 open_by s n = ok (record s { sessions = change (λ x. x.number == n) as_opened s.sessions })
 
+-- Close: no association of the session's own may be left
+
+abbrev pub is_anyones : ℕ → Association → Bool
+is_anyones n a = is_own n a.holder
+
+abbrev pub close_refusal : Bool → Option Reply
+close_refusal holds = first ((holds, plain XAER_PROTO) ∷ [])
+
+abbrev pub as_closed : Session → Session
+as_closed x = record x { opened = false; scan = None }
+
+abbrev pub close_by : State → ℕ → Answer
+close_by s n =
+    unless (close_refusal (list_any (is_anyones n) s.associations)) s (ok (record s { sessions = change (λ x. x.number == n) as_closed s.sessions }))
+
+-- Marks: the first stays, and only a branch that is at work has one
+
+abbrev pub or_mark : Option ℤ → ℤ → Option ℤ
+or_mark (Some code) other = Some code
+or_mark None other = Some other
+
+abbrev pub marked_phase : ℤ → Phase → Phase
+marked_phase code (Working xid mark) = Working xid (or_mark mark code)
+marked_phase code (Prepared xid) = Prepared xid
+marked_phase code Committed = Committed
+
+abbrev pub with_mark : ℤ → Branch → Branch
+with_mark code b = record b { phase = marked_phase code b.phase }
+
+-- A hang-up: each association of the session's own ends, and its branch is marked; the session's number is free again
+
+abbrev pub is_worked_by : List Association → ℕ → Phase → Bool
+is_worked_by held n (Working xid mark) = list_any (owns n xid) held
+is_worked_by held n (Prepared xid) = false
+is_worked_by held n Committed = false
+
+abbrev pub left_behind : List Association → ℕ → Branch → Branch
+left_behind held n b = if is_worked_by held n b.phase then with_mark XA_RBCOMMFAIL b else b
+
+abbrev pub hang_up_by : State → ℕ → Answer
+hang_up_by s n = ok (record s {
+  sessions = without (λ x. x.number == n) s.sessions;
+  associations = filter (λ a. not (is_anyones n a)) s.associations;
+  branches = map (left_behind s.associations n) s.branches;
+})
+
 -- Start with neither TMJOIN nor TMRESUME: a new branch
+
+abbrev pub is_taken : Known → Bool
+is_taken Unknown = false
+is_taken _ = true
 
 abbrev pub start_refusal : Bool → Bool → ℕ → ℕ → Option Reply
 start_refusal is_at_work is_taken known given =
@@ -57,22 +113,116 @@ begun s n xid =
     answer (carrying (body.Number t)) (record s {
       given = s.given + 1;
       associations = record { xid = xid; holder = Active n } ∷ s.associations;
-      branches = record { xid = xid; timestamp = t; operations = []; mark = None; phase = Working } ∷ s.branches;
+      branches = record { timestamp = t; operations = []; phase = Working xid None } ∷ s.branches;
     })
 
-abbrev pub start_by : State → ℕ → Triple → Answer
-start_by s n xid =
-    unless (start_refusal (is_some (active_of s.associations n)) (is_some (known_of s.branches xid)) (known_count s.branches) s.given) s (begun s n xid)
+abbrev pub begin_by : State → ℕ → Triple → Answer
+begin_by s n xid = unless (start_refusal (is_some (active_of s.associations n)) (is_taken (known_as s xid)) (known_in s) s.given) s (begun s n xid)
 
--- whether what a session works for is the branch with this XID
-abbrev pub is_with : Triple → Option Triple → Bool
-is_with xid None = false
-is_with xid (Some x) = xid_eq x xid
+-- Facts of an XID
 
--- End with TMSUCCESS: the session's own association with the XID ends, or a loose one if it has none
+abbrev pub is_unknown : Known → Bool
+is_unknown Unknown = true
+is_unknown _ = false
 
-abbrev pub end_refusal : Bool → Bool → Option Reply
-end_refusal is_unknown holds = first ((is_unknown, plain XAER_NOTA) ∷ (not holds, plain XAER_PROTO) ∷ [])
+-- prepared or completed
+abbrev pub is_settled : Known → Bool
+is_settled InDoubt = true
+is_settled (Completed direction) = true
+is_settled _ = false
+
+abbrev pub mark_in : Known → Option ℤ
+mark_in (AtWork mark) = mark
+mark_in _ = None
+
+-- the branch's timestamp
+abbrev pub timestamp_by : Option Branch → ℕ
+timestamp_by (Some b) = b.timestamp
+timestamp_by None = 0
+
+abbrev pub timestamp_in : State → Triple → ℕ
+timestamp_in s xid = timestamp_by (known_of s.branches xid)
+
+-- Start with TMJOIN: one more association with a branch that is at work
+
+abbrev pub join_refusal : Bool → Bool → Known → Option Reply
+join_refusal is_at_work has_suspended known =
+    first (
+    (is_at_work || has_suspended, plain XAER_PROTO)
+    ∷ (is_unknown known, plain XAER_NOTA)
+    ∷ (is_settled known, plain XAER_PROTO)
+    ∷ [])
+
+abbrev pub joined : State → ℕ → Triple → Answer
+joined s n xid =
+    answer (carrying (body.Number (timestamp_in s xid))) (record s { associations = record { xid = xid; holder = Active n } ∷ s.associations })
+
+abbrev pub join_by : State → ℕ → Triple → Answer
+join_by s n xid =
+    unless (join_refusal (is_some (active_of s.associations n)) (list_any (suspends n xid) s.associations) (known_as s xid)) s
+    (marked (mark_in (known_as s xid)) s (joined s n xid))
+
+-- Start with TMRESUME: the session's own suspended association with the XID becomes its active one, or a loose one if it
+-- has none
+
+abbrev pub resume_refusal : Bool → Known → Bool → Bool → Option Reply
+resume_refusal is_at_work known has_suspended is_loose =
+    first (
+    (is_at_work, plain XAER_PROTO)
+    ∷ (is_unknown known, plain XAER_NOTA)
+    ∷ (not (has_suspended || is_loose), plain XAER_PROTO)
+    ∷ [])
+
+abbrev pub resumable : List Association → ℕ → Triple → Association → Bool
+resumable held n xid a = if list_any (suspends n xid) held then suspends n xid a else is_loose_with xid a
+
+abbrev pub held_by : Holder → Association → Association
+held_by holder a = record a { holder = holder }
+
+abbrev pub resumed : State → ℕ → Triple → Answer
+resumed s n xid =
+    answer (carrying (body.Number (timestamp_in s xid)))
+    (record s { associations = change (resumable s.associations n xid) (held_by (Active n)) s.associations })
+
+-- what is resumed of a marked branch ends
+abbrev pub not_resumed : State → ℕ → Triple → State
+not_resumed s n xid = record s { associations = without (resumable s.associations n xid) s.associations }
+
+abbrev pub resume_by : State → ℕ → Triple → Answer
+resume_by s n xid =
+    unless (resume_refusal (is_some (active_of s.associations n)) (known_as s xid) (list_any (suspends n xid) s.associations) (list_any (is_loose_with xid) s.associations)) s
+    (marked (mark_in (known_as s xid)) (not_resumed s n xid) (resumed s n xid))
+
+abbrev pub start_by : State → ℕ → ℕ → Triple → Answer
+start_by s n flags xid =
+    if has flags TMJOIN then join_by s n xid
+    else if has flags TMRESUME then resume_by s n xid
+    else begin_by s n xid
+
+-- End with TMSUSPEND: the session's active association is suspended, or with TMMIGRATE nobody's
+
+abbrev pub end_refusal : Known → Bool → Option Reply
+end_refusal known holds = first ((is_unknown known, plain XAER_NOTA) ∷ (not holds, plain XAER_PROTO) ∷ [])
+
+abbrev pub loose_refusal : Bool → ℕ → Option Reply
+loose_refusal migrates loose = if migrates then first ((not (nat_lt loose most_loose), detailed XAER_RMERR detail.Limit) ∷ []) else None
+
+abbrev pub suspended : State → ℕ → Bool → Triple → State
+suspended s n migrates xid =
+    record s { associations = change (works_in n xid) (held_by (if migrates then Loose else Suspended n)) s.associations }
+
+-- what would be suspended of a marked branch ends
+abbrev pub not_suspended : State → ℕ → Triple → State
+not_suspended s n xid = record s { associations = without (works_in n xid) s.associations }
+
+abbrev pub suspend_by : State → ℕ → Bool → Triple → Answer
+suspend_by s n migrates xid =
+    unless (end_refusal (known_as s xid) (is_with xid (active_of s.associations n))) s
+    (marked (mark_in (known_as s xid)) (not_suspended s n xid)
+    (unless (loose_refusal migrates (loose_of s.associations xid)) s (ok (suspended s n migrates xid))))
+
+-- End with TMSUCCESS or TMFAIL: the session's own association with the XID ends, or a loose one if it has none. TMFAIL
+-- marks the branch.
 
 -- the session has an association of its own with the XID, or there is a loose one
 abbrev pub can_end : List Association → ℕ → Triple → Bool
@@ -84,10 +234,17 @@ without_one held n xid = if list_any (owns n xid) held then without (owns n xid)
 abbrev pub ended : State → ℕ → Triple → State
 ended s n xid = record s { associations = without_one s.associations n xid }
 
-abbrev pub mark_of : Option Branch → Option ℤ
-mark_of b = option_and_then (λ b. b.mark) b
+abbrev pub failed : State → ℕ → Triple → Answer
+failed s n xid =
+    answer (plain XA_RBROLLBACK)
+    (record s { associations = without_one s.associations n xid; branches = change (is_known_as xid) (with_mark XA_RBROLLBACK) s.branches })
 
-abbrev pub end_by : State → ℕ → Triple → Answer
-end_by s n xid =
-    unless (end_refusal (is_none (known_of s.branches xid)) (can_end s.associations n xid)) s
-    (marked (mark_of (known_of s.branches xid)) (ended s n xid) (ok (ended s n xid)))
+abbrev pub leave_by : State → ℕ → Bool → Triple → Answer
+leave_by s n fails xid =
+    unless (end_refusal (known_as s xid) (can_end s.associations n xid)) s
+    (marked (mark_in (known_as s xid)) (ended s n xid) (if fails then failed s n xid else ok (ended s n xid)))
+
+abbrev pub end_by : State → ℕ → ℕ → Triple → Answer
+end_by s n flags xid =
+    if has flags TMSUSPEND then suspend_by s n (has flags TMMIGRATE) xid
+    else leave_by s n (has flags TMFAIL) xid

@@ -1,13 +1,13 @@
--- The branch table: how branches are completed.
-use Rattle.std.specs.Prelude.{ℕ, Bool, false, not, ◌||◌, Option, Some, None, List, [], ◌∷◌, is_none, nat_lt}
-use Rattle.xa_codes.specs.Flags.{has}
-use Rattle.xa_codes.specs.declared.codes.TheConstants.{XAER_PROTO, XAER_NOTA}
-use Rattle.xa_codes.specs.declared.flags.TheConstants.{TMONEPHASE}
+-- The branch table: how branches are completed, and marked.
+use Rattle.std.specs.Prelude.{ℤ, Bool, not, ◌||◌, Option, Some, None, [], ◌∷◌, nat_lt}
+use Rattle.xa_codes.specs.declared.codes.TheConstants.{XAER_PROTO, XAER_NOTA, XA_HEURCOM, XA_HEURRB, XA_RBOTHER}
+use Rattle.xa_codes.specs.declared.direction.Direction.{Direction}
+use Rattle.xa_codes.specs.declared.direction.Direction.TheVariants as direction
 use Rattle.xa_xid.specs.Triple.{Triple}
 use Rattle.xa_frame.specs.declared.reply.Reply.{Reply}
-use Rattle.xa_model.specs.State.{State, Branch, Committed, Association, known_of, holders_of, is_known_as, is_working, without, change}
+use Rattle.xa_model.specs.State.{State, Branch, Committed, Known, Completed, known_as, holders_of, is_known_as, without, change}
 use Rattle.xa_model.specs.Answer.{Answer, plain, ok, first, unless, marked}
-use Rattle.xa_model.specs.Associations.{mark_of}
+use Rattle.xa_model.specs.Associations.{is_unknown, is_settled, mark_in, with_mark}
 
 -- the branch is rolled back, and gone; the reads that it was answered stay
 abbrev pub rolled_back : State → Triple → State
@@ -20,24 +20,47 @@ as_committed b = record b { phase = Committed }
 abbrev pub committed : State → Triple → State
 committed s xid = record s { branches = change (is_known_as xid) as_committed s.branches }
 
--- Commit. Without TMONEPHASE the branch would have to be prepared, which none is so far.
-abbrev pub commit_refusal : ℕ → Bool → Bool → Option Reply
-commit_refusal flags is_unknown is_bound =
-    first (
-    (is_unknown, plain XAER_NOTA)
-    ∷ (not (has flags TMONEPHASE), plain XAER_PROTO)
-    ∷ (is_bound, plain XAER_PROTO)
-    ∷ [])
+-- whether the branch has any association
+abbrev pub is_associated : State → Triple → Bool
+is_associated s xid = nat_lt 0 (holders_of s.associations xid)
 
-abbrev pub works : Option Branch → Bool
-works (Some b) = is_working b.phase
-works None = false
+-- what the operator did is answered to whoever asks for another completion, or the same
+abbrev pub heuristic_code : Direction → ℤ
+heuristic_code direction.Commit = XA_HEURCOM
+heuristic_code direction.Rollback = XA_HEURRB
 
--- a branch that is associated, prepared or completed is not committed in one phase
-abbrev pub is_bound : List Association → Triple → Option Branch → Bool
-is_bound held xid b = nat_lt 0 (holders_of held xid) || not (works b)
+abbrev pub heuristic_refusal : Known → Option Reply
+heuristic_refusal (Completed direction) = Some (plain (heuristic_code direction))
+heuristic_refusal _ = None
 
-abbrev pub commit_by : State → ℕ → Triple → Answer
-commit_by s flags xid =
-    unless (commit_refusal flags (is_none (known_of s.branches xid)) (is_bound s.associations xid (known_of s.branches xid))) s
-    (marked (mark_of (known_of s.branches xid)) (rolled_back s xid) (ok (committed s xid)))
+-- Commit with TMONEPHASE: a branch that is associated, prepared or completed is not committed in one phase
+
+abbrev pub one_phase_refusal : Known → Bool → Option Reply
+one_phase_refusal known is_associated =
+    first ((is_unknown known, plain XAER_NOTA) ∷ (is_associated || is_settled known, plain XAER_PROTO) ∷ [])
+
+abbrev pub commit_one_phase : State → Triple → Answer
+commit_one_phase s xid =
+    unless (one_phase_refusal (known_as s xid) (is_associated s xid)) s
+    (marked (mark_in (known_as s xid)) (rolled_back s xid) (ok (committed s xid)))
+
+-- Commit in two phases: a branch that is neither prepared nor completed is not committed so
+
+abbrev pub two_phase_refusal : Known → Option Reply
+two_phase_refusal known = first ((is_unknown known, plain XAER_NOTA) ∷ (not (is_settled known), plain XAER_PROTO) ∷ [])
+
+-- Rollback, by any session: of a branch without associations
+
+abbrev pub rollback_refusal : Known → Bool → Option Reply
+rollback_refusal known is_associated = first ((is_unknown known, plain XAER_NOTA) ∷ (is_associated, plain XAER_PROTO) ∷ [])
+
+-- Doom, the operator's mark, also of a branch at which sessions work
+
+abbrev pub doom_refusal : Known → Option Reply
+doom_refusal known = first ((is_unknown known, plain XAER_NOTA) ∷ (is_settled known, plain XAER_PROTO) ∷ [])
+
+abbrev pub doomed : State → Triple → State
+doomed s xid = record s { branches = change (is_known_as xid) (with_mark XA_RBOTHER) s.branches }
+
+abbrev pub doom_by : State → Triple → Answer
+doom_by s xid = unless (doom_refusal (known_as s xid)) s (ok (doomed s xid))

@@ -1,8 +1,8 @@
 -- Histories of the sequential resource manager.
-use Rattle.std.specs.Prelude.{ℕ, ◌≡◌, true, Option, Some, None, List, [], ◌∷◌, option_and_then, option_map}
+use Rattle.std.specs.Prelude.{ℕ, ◌≡◌, Option, Some, None, List, [], ◌∷◌, option_and_then, option_map}
 use Rattle.xa_frame.specs.declared.reply.Reply.{Reply}
 use Rattle.xa_model.specs.declared.outcome.Outcome.{Outcome}
-use Rattle.xa_model.specs.State.{State}
+use Rattle.xa_model.specs.State.{State, Up}
 use Rattle.xa_model.specs.Step.{Happening, step}
 
 -- what happened, what the device did, and what was replied
@@ -27,8 +27,9 @@ fresh name log_bytes = record {
   sessions = [];
   associations = [];
   branches = [];
+  decided = [];
   reads = [];
-  up = true;
+  standing = Up;
   end = 49;
   open_record = None;
 }

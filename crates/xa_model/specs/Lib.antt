@@ -7,5 +7,6 @@ pub mod Branches
 pub mod Records
 pub mod Step
 pub mod History
+pub mod Sound
 pub mod Laws
 pub mod Worked

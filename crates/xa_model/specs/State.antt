@@ -1,5 +1,6 @@
 -- The state of the sequential resource manager.
-use Rattle.std.specs.Prelude.{ℕ, zero, suc, ◌+◌, ◌*◌, ◌^◌, ◌==◌, ℤ, Bool, true, false, ◌&&◌, Option, List, [], ◌∷◌, find, filter, length, option_map, option_and_then, is_some, if◌then◌else◌}
+use Rattle.std.specs.Prelude.{ℕ, zero, suc, ◌+◌, ◌*◌, ◌^◌, ◌==◌, ℤ, Bool, true, false, ◌&&◌, Option, Some, None, List, [], ◌∷◌, find, filter, length, option_map, option_and_then, is_some, if◌then◌else◌}
+use Rattle.xa_codes.specs.declared.direction.Direction.{Direction}
 use Rattle.xa_xid.specs.Triple.{Triple, xid_eq}
 use Rattle.xa_record.specs.declared.record.Record.{Record}
 
@@ -9,21 +10,23 @@ pub data Operation : Type 0 where
   Got : (key : List ℕ) (answer : Option (List ℕ)) (source : ℕ) → Operation
   Wrote : (key : List ℕ) (value : Option (List ℕ)) → Operation
 
--- Where a branch stands. A branch that was rolled back stands nowhere; a committed one is known no more.
+-- Where a branch stands: it is known under an XID, at work with the mark that it may have, or prepared; or it is committed
+-- and known no more. A branch that was rolled back stands nowhere.
 pub data Phase : Type 0 where
-  Working : Phase
-  Prepared : Phase
-  HeuristicallyCommitted : Phase
-  HeuristicallyRolledBack : Phase
+  Working : (xid : Triple) (mark : Option ℤ) → Phase
+  Prepared : (xid : Triple) → Phase
   Committed : Phase
 
 -- The newest operation comes first.
 pub record Branch : Type 0 where
-  pub xid : Triple
   pub timestamp : ℕ
   pub operations : List Operation
-  pub mark : Option ℤ
   pub phase : Phase
+
+-- An XID whose branch the operator completed, in which direction. Until it is forgotten nothing else is known of it.
+pub record Decided : Type 0 where
+  pub xid : Triple
+  pub direction : Direction
 
 -- Who holds an association: a session at work, a session that has suspended it, or nobody.
 pub data Holder : Type 0 where
@@ -47,7 +50,15 @@ pub record Read : Type 0 where
   pub key : List ℕ
   pub source : ℕ
 
--- Known and committed branches stand in one list, the greatest timestamp first.
+-- Whether anybody answers: a manager that is up, one that is down until it is restarted, or one whose process ended, so
+-- that only an opening can follow.
+pub data Standing : Type 0 where
+  Up : Standing
+  Down : Standing
+  Ended : Standing
+
+-- Known and committed branches stand in one list, the greatest timestamp first; beside it stand the XIDs that the operator
+-- completed.
 -- `given` counts the timestamps that this boot has given. `logged_boot` is the greatest boot number in the log, which a
 -- restart that failed may have left above `boot`. `end` is where the log's next record would begin. `open_record` is
 -- the record whose append was lost, and whose fate no restart has settled.
@@ -60,8 +71,9 @@ pub record State : Type 0 where
   pub sessions : List Session
   pub associations : List Association
   pub branches : List Branch
+  pub decided : List Decided
   pub reads : List Read
-  pub up : Bool
+  pub standing : Standing
   pub end : ℕ
   pub open_record : Option Record
 
@@ -69,47 +81,82 @@ pub record State : Type 0 where
 abbrev pub timestamp_of : ℕ → ℕ → ℕ
 timestamp_of boot n = boot * 2 ^ 32 + n
 
--- Phases
-
-abbrev pub is_working : Phase → Bool
-is_working Working = true
-is_working Prepared = false
-is_working HeuristicallyCommitted = false
-is_working HeuristicallyRolledBack = false
-is_working Committed = false
-
--- known from its start until it is gone
-abbrev pub is_known : Phase → Bool
-is_known Working = true
-is_known Prepared = true
-is_known HeuristicallyCommitted = true
-is_known HeuristicallyRolledBack = true
-is_known Committed = false
+-- how many members of a list pass
+abbrev pub count : {A : Type 0} → (A → Bool) → List A → ℕ
+count p [] = 0
+count p (x ∷ xs) = (if p x then 1 else 0) + count p xs
 
 -- Branches
 
+-- the XID that a branch is known under, from its start until it is gone
+abbrev pub name_of : Phase → Option Triple
+name_of (Working xid mark) = Some xid
+name_of (Prepared xid) = Some xid
+name_of Committed = None
+
+-- whether an XID, if there is one, is this one
+abbrev pub is_with : Triple → Option Triple → Bool
+is_with xid None = false
+is_with xid (Some x) = xid_eq x xid
+
 abbrev pub is_known_as : Triple → Branch → Bool
-is_known_as xid b = is_known b.phase && xid_eq b.xid xid
+is_known_as xid b = is_with xid (name_of b.phase)
 
 -- the known branch with this XID
 abbrev pub known_of : List Branch → Triple → Option Branch
 known_of branches xid = find (is_known_as xid) branches
 
+-- the direction in which the operator completed the branch with this XID
+abbrev pub decided_of : List Decided → Triple → Option Direction
+decided_of decided xid = option_map (λ d. d.direction) (find (λ d. xid_eq d.xid xid) decided)
+
 -- how many branches are known
 abbrev pub known_count : List Branch → ℕ
-known_count branches = length (filter (λ b. is_known b.phase) branches)
+known_count branches = count (λ b. is_some (name_of b.phase)) branches
+
+-- how many XIDs are known
+abbrev pub known_in : State → ℕ
+known_in s = known_count s.branches + length s.decided
 
 -- what the branch wrote is committed
 abbrev pub is_committed : Phase → Bool
-is_committed Working = false
-is_committed Prepared = false
-is_committed HeuristicallyCommitted = true
-is_committed HeuristicallyRolledBack = false
+is_committed (Working x mark) = false
+is_committed (Prepared x) = false
 is_committed Committed = true
 
 -- the committed branches, the greatest timestamp first
 abbrev pub committed_of : List Branch → List Branch
 committed_of branches = filter (λ b. is_committed b.phase) branches
+
+-- the mark of a branch that is at work
+abbrev pub mark_of : Phase → Option ℤ
+mark_of (Working x mark) = mark
+mark_of (Prepared x) = None
+mark_of Committed = None
+
+-- What is known of an XID: nothing, a branch at work with the mark that it may have, one in doubt, or what the operator
+-- decided.
+pub data Known : Type 0 where
+  Unknown : Known
+  AtWork : (mark : Option ℤ) → Known
+  InDoubt : Known
+  Completed : (direction : Direction) → Known
+
+abbrev pub known_by : Phase → Known
+known_by (Working x mark) = AtWork mark
+known_by (Prepared x) = InDoubt
+known_by Committed = Unknown
+
+abbrev pub or_completed : Option Direction → Known
+or_completed (Some direction) = Completed direction
+or_completed None = Unknown
+
+abbrev pub known_among : Option Branch → Option Direction → Known
+known_among (Some b) direction = known_by b.phase
+known_among None direction = or_completed direction
+
+abbrev pub known_as : State → Triple → Known
+known_as s xid = known_among (known_of s.branches xid) (decided_of s.decided xid)
 
 -- Associations
 
@@ -129,9 +176,22 @@ is_loose (Active m) = false
 is_loose (Suspended m) = false
 is_loose Loose = true
 
+abbrev pub is_suspended : ℕ → Holder → Bool
+is_suspended n (Active m) = false
+is_suspended n (Suspended m) = m == n
+is_suspended n Loose = false
+
+-- an association of the session's own with the XID: any, the one that it is at work in, one that it has suspended
 abbrev pub owns : ℕ → Triple → Association → Bool
 owns n xid a = is_own n a.holder && xid_eq a.xid xid
 
+abbrev pub works_in : ℕ → Triple → Association → Bool
+works_in n xid a = is_active n a.holder && xid_eq a.xid xid
+
+abbrev pub suspends : ℕ → Triple → Association → Bool
+suspends n xid a = is_suspended n a.holder && xid_eq a.xid xid
+
+-- one of nobody's
 abbrev pub is_loose_with : Triple → Association → Bool
 is_loose_with xid a = is_loose a.holder && xid_eq a.xid xid
 
@@ -139,13 +199,19 @@ is_loose_with xid a = is_loose a.holder && xid_eq a.xid xid
 abbrev pub active_of : List Association → ℕ → Option Triple
 active_of held n = option_map (λ a. a.xid) (find (λ a. is_active n a.holder) held)
 
--- how many associations a branch has, of sessions or loose
+-- how many associations a branch has, of sessions or loose, and how many of them are loose
 abbrev pub holders_of : List Association → Triple → ℕ
-holders_of held xid = length (filter (λ a. xid_eq a.xid xid) held)
+holders_of held xid = count (λ a. xid_eq a.xid xid) held
 
--- the known branch that the session works for
-abbrev pub own_branch : State → ℕ → Option Branch
-own_branch s n = option_and_then (known_of s.branches) (active_of s.associations n)
+abbrev pub loose_of : List Association → Triple → ℕ
+loose_of held xid = count (is_loose_with xid) held
+
+-- the known branch that the session works for, with its XID
+abbrev pub branch_with : List Branch → Triple → Option (Triple × Branch)
+branch_with branches xid = option_map (λ b. (xid, b)) (known_of branches xid)
+
+abbrev pub own_branch : State → ℕ → Option (Triple × Branch)
+own_branch s n = option_and_then (branch_with s.branches) (active_of s.associations n)
 
 -- Sessions
 

@@ -1,4 +1,4 @@
-ghost use Rattle.xa_model.specs.Laws.{OneHistory, Orderly};
+ghost use Rattle.xa_model.specs.Laws.{OneHistory, KeepsSound, AlwaysSound};
 ghost use Rattle.xa_model.specs.Worked.{ReadBack, BusyUntilCommitted, FlagsRefused};
 
 /// From a given start, given events and outcomes have at most one legal history.
@@ -6,10 +6,11 @@ pub fn one_history()
     ensures { OneHistory }
 {}
 
-/// In every history of a new manager the branches stand by timestamp, the greatest first, and none has a timestamp
-/// that was not given.
-pub fn orderly()
-    ensures { Orderly }
+/// Every turn, with every outcome of its device calls, leads from a sound state to a sound one, and so every history of a
+/// new manager goes through sound states.
+pub fn sound()
+    ensures step { KeepsSound }
+    ensures history { AlwaysSound }
 {}
 
 /// Worked rows, computed on the definitions alone.

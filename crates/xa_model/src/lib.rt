@@ -8,5 +8,5 @@ mod laws;
 mod outcome;
 
 pub use event::Event;
-pub use laws::{one_history, orderly, worked_rows};
+pub use laws::{one_history, sound, worked_rows};
 pub use outcome::{Appending, Outcome};

@@ -1,5 +1,4 @@
 use Rattle.std.proofs.Common.{◌≡◌, [], ap, sym}
-use Rattle.std.specs.Io.KnownBytes.{Appends}
 use Rattle.xa_manager.specs.Managed.{kept}
 use Rattle.xa_play.proofs.Playing.{line_played, nothing_appended, printed}
 use Rattle.xa_play.proofs.play.play_line.Goals as goal

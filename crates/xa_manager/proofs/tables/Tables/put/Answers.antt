@@ -2,7 +2,7 @@ use Rattle.std.proofs.Common.{◌≡◌, Some, None, arith, rules}
 use Rattle.xa_model.specs.Answer.{plain}
 use Rattle.xa_manager.specs.Kept.{kept_of, own_at}
 use Rattle.xa_manager.specs.Changes.{items_of}
-use Rattle.xa_manager.proofs.Putting.{put_marked, put_full, put_late, put_follows, put_stays}
+use Rattle.xa_manager.proofs.Putting.{put_alone, put_marked, put_full, put_late, put_follows, put_stays}
 use Rattle.xa_manager.proofs.tables.Tables.put.Goals as goal
 
 pub returns-in-Some-mark-clause-ok : goal.returns-in-Some-mark-clause-ok
@@ -39,3 +39,9 @@ returns-in-Memory-clause-err c =
     let m = kept_of c.args.self.now in
     let own : own_at m c.args.session ≡ Some (c.in-Some.xid, c.in-Some.slot) = grind (arith, c.in-Some.ensures) in
     put_stays m (kept_of c.write.new.self) c.args.session c.args.key.now (items_of c.args.value) c.in-Some.xid c.in-Some.slot own c.in-Memory.ensures
+
+pub returns-in_default-clause-ok : goal.returns-in_default-clause-ok
+returns-in_default-clause-ok c =
+    let m = kept_of c.args.self.now in
+    let none : own_at m c.args.session ≡ None = grind (arith, c.in_default.ensures) in
+    rw c.plain.ensures (put_alone m c.args.session c.args.key.now (items_of c.args.value) none)

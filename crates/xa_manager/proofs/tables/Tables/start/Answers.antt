@@ -17,4 +17,4 @@ returns-clause-ok c =
     let m = kept_of c.args.self.now in
     let free : start_refusal (is_some (active_at m c.args.session)) (is_some (slot_at m c.args.xid)) (length m.slots) m.given ≡ None =
     grind (arith, c.in_default.ensures.value, c.len.ensures.len, c.is_some-is_at_work.ensures, c.active_of.ensures, c.is_some-is_taken.ensures, c.slot_of.ensures) in
-    rw (c.carrying.ensures, c.in_ok-timestamp.ensures.timestamp) (start_follows m (kept_of c.begin.new.self) c.args.session c.args.xid free c.requires c.in_ok-timestamp.ensures.ok)
+    rw (c.carrying.ensures, c.in_ok-timestamp.ensures.timestamp) (start_follows m (kept_of c.begin.new.self) c.args.session c.args.xid free c.in_ok-timestamp.ensures.ok)

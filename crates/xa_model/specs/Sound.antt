@@ -1,0 +1,44 @@
+-- What every state of a history has.
+use Rattle.std.specs.Prelude.{ℕ, ◌≡◌, ◌+◌, ◌<◌, ◌≤◌, ◌==◌, Bool, true, false, Option, Some, None, List, [], ◌∷◌, length}
+use Rattle.xa_xid.specs.Triple.{Triple, xid_eq}
+use Rattle.xa_model.specs.State.{State, Branch, Phase, Working, Prepared, Committed, count, is_active, is_known_as, owns, known_of, known_in, session_of, holders_of, loose_of, timestamp_of}
+use Rattle.xa_model.specs.Associations.{is_anyones, most_sessions, most_branches, most_given, most_loose}
+
+-- the timestamps are above 0, below the limit, and descend
+abbrev pub Descends : ℕ → List Branch → Type 0
+Descends limit [] = Unit {0}
+Descends limit (b ∷ bs) = (0 < b.timestamp) × (b.timestamp < limit) × Descends b.timestamp bs
+
+-- a known branch that is at work
+abbrev pub is_working : Phase → Bool
+is_working (Working xid mark) = true
+is_working (Prepared xid) = false
+is_working Committed = false
+
+abbrev pub is_at_work : Option Branch → Bool
+is_at_work (Some b) = is_working b.phase
+is_at_work None = false
+
+-- how many of the known branches and of the completed ones have this XID
+abbrev pub named : State → Triple → ℕ
+named s xid = count (is_known_as xid) s.branches + count (λ d. xid_eq d.xid xid) s.decided
+
+pub record IsSound (s : State) : Type 0 where
+  -- the branches stand by timestamp, and none has a timestamp that wasn't given
+  pub descends : Descends (timestamp_of s.boot s.given + 1) s.branches
+  -- no two known XIDs are the same
+  pub distinct : (xid : Triple) → named s xid ≤ 1
+  -- no two sessions have one number
+  pub numbered : (n : ℕ) → count (λ x. x.number == n) s.sessions ≤ 1
+  -- a session has at most one active association, and at most one of its own with a branch
+  pub active : (n : ℕ) → count (λ a. is_active n a.holder) s.associations ≤ 1
+  pub own : (n : ℕ) (xid : Triple) → count (owns n xid) s.associations ≤ 1
+  -- who holds one is connected
+  pub connected : (n : ℕ) → session_of s.sessions n ≡ None → count (is_anyones n) s.associations ≡ 0
+  -- an XID that is held is of a known branch at work
+  pub bound : (xid : Triple) → is_at_work (known_of s.branches xid) ≡ false → holders_of s.associations xid ≡ 0
+  -- the limits
+  pub sessions : length s.sessions ≤ most_sessions
+  pub known : known_in s ≤ most_branches
+  pub given : s.given ≤ most_given
+  pub loose : (xid : Triple) → loose_of s.associations xid ≤ most_loose
