@@ -3,7 +3,7 @@ use Rattle.std.proofs.Common.{◌≡◌, ℕ, zero, suc, ◌+◌, ◌-◌, ◌*�
 use Rattle.std.proofs.lemmas.List.{take_at, take-take, drop-take, drop-drop}
 use Rattle.xa_disk.specs.Counts.{plus, with_read}
 use Rattle.xa_disk.specs.declared.counts.Counts.{Counts}
-use Rattle.xa_log.specs.Calls.{with_reads, Fetched, FetchedSome, FetchedNext, Reads}
+use Rattle.xa_log.specs.Calls.{with_reads, Fetched, FetchedSome, FetchedNext, OnlyReads}
 use Rattle.xa_log.specs.declared.reading.Found.{Found}
 
 plus_more : (x r k m : ℕ) → min (min (x + r) m + k) m ≡ min (x + (r + k)) m
@@ -73,10 +73,10 @@ pub next_found : (len : ℕ) (start now : Counts) (o : Option Found) (r : Found)
 next_found len start now o r is f = subst (λ x. FetchedNext len start now x) is f
 
 -- no read, and reads within a file that isn't too long
-pub reads_none : (most : ℕ) (first now : Counts) → now ≡ first → Reads most first now
+pub reads_none : (most : ℕ) (first now : Counts) → now ≡ first → OnlyReads most first now
 reads_none most first now is = record { reads = 0; bytes = 0; counts = is; once = omega arith; pieces = omega arith; few = omega arith }
 
-pub reads_some : (len most : ℕ) (first first' now : Counts) → len ≤ most → first ≡ first' → FetchedSome len first now → Reads most first' now
+pub reads_some : (len most : ℕ) (first first' now : Counts) → len ≤ most → first ≡ first' → FetchedSome len first now → OnlyReads most first' now
 reads_some len most first first' now le is f = record {
   reads = f.fetched.reads;
   bytes = f.upto;

@@ -34,7 +34,7 @@ FetchedNext len first now (Some found) = Fetched len (found.span.from + found.sp
 
 -- Reads of at most so many bytes together, and no other call: pieces of at most 1 MiB, and at most one of them of
 -- less than 524,252 bytes.
-pub record Reads (most : ℕ) (first now : Counts) : Type 0 where
+pub record OnlyReads (most : ℕ) (first now : Counts) : Type 0 where
   pub reads : ℕ
   pub bytes : ℕ
   pub counts : now ≡ with_reads reads bytes first
@@ -46,15 +46,15 @@ abbrev pub asked : Counts → Counts
 asked c = with_length (with_sync c)
 
 abbrev pub LooksAt : OpenFault → ℕ → Counts → Counts → Type 0
-LooksAt Device most old new = (new ≡ with_sync old) ⊎ Reads most (asked old) new
-LooksAt Memory most old new = (new ≡ old) ⊎ Reads most (asked old) new
-LooksAt NotALog most old new = Reads most (asked old) new
-LooksAt TooNew most old new = Reads most (asked old) new
+LooksAt Device most old new = (new ≡ with_sync old) ⊎ OnlyReads most (asked old) new
+LooksAt Memory most old new = (new ≡ old) ⊎ OnlyReads most (asked old) new
+LooksAt NotALog most old new = OnlyReads most (asked old) new
+LooksAt TooNew most old new = OnlyReads most (asked old) new
 LooksAt TooLong most old new = new ≡ asked old
 
 -- the calls of a look at a log: a sync, a length, and reads of at most so many bytes together
 abbrev pub Looks : {T : Type 0} → Result T OpenFault → ℕ → Counts → Counts → Type 0
-Looks result most old new = MatchResult result (λ _. Reads most (asked old) new) (λ e. LooksAt e most old new)
+Looks result most old new = MatchResult result (λ _. OnlyReads most (asked old) new) (λ e. LooksAt e most old new)
 
 -- a write and a sync, of which the first that failed is the last
 abbrev pub PutCalls : {T E : Type 0} → Result T E → Counts → Counts → Type 0

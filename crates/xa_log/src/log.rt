@@ -2,7 +2,7 @@
 ghost use Rattle.std.specs.Prelude.{◌≡◌, ◌≢◌, ◌⊎◌, ◌+◌, ◌-◌, ◌≤◌, ◌<◌, ◌^◌, ◌↔◌, ◌∷◌, ◌++◌, ◌==◌, [], List, ℕ, true, false, length, if◌then◌else◌, OnOk, OnErr, IfOk, IfErr, IsErrOf, MatchResult, Some, None};
 ghost use Rattle.xa_disk.specs.Disk.{Same, Passes, LeavesOnly};
 ghost use Rattle.xa_disk.specs.Counts.{with_length, with_write, with_sync};
-ghost use Rattle.xa_log.specs.Calls.{AppendCalls, Looks, Reads, asked};
+ghost use Rattle.xa_log.specs.Calls.{AppendCalls, Looks, OnlyReads, asked};
 ghost use Rattle.xa_log.specs.Chain.{IsBody, NoChance, PlainByBody, logged};
 ghost use Rattle.xa_log.specs.Answers.{HasCause, CountsDevice};
 ghost use Rattle.xa_log.specs.Opened.{IsOpened};
@@ -159,8 +159,8 @@ impl<D: Disk + Drop> Log<D> {
         ensures time { D.honest → IfOk result (λ r. Passes Same (D.moment disk) (D.moment r.0.disk) (D.left_since disk) (D.left_since r.0.disk) (D.may_leave disk) (D.may_leave r.0.disk)) }
         ensures settings { IfOk result (λ r. r.0.log_bytes ≡ log_bytes) }
         ensures count { IfOk result (λ r. D.failures r.0.disk ≡ D.failures disk) }
-        ensures calls { IfOk result (λ r. Reads log_bytes (asked (D.counts disk)) (D.counts r.0.disk)) }
-        ensures calls_once { D.honest → IfOk result (λ r. Reads (length (D.seen disk)) (asked (D.counts disk)) (D.counts r.0.disk)) }
+        ensures calls { IfOk result (λ r. OnlyReads log_bytes (asked (D.counts disk)) (D.counts r.0.disk)) }
+        ensures calls_once { D.honest → IfOk result (λ r. OnlyReads (length (D.seen disk)) (asked (D.counts disk)) (D.counts r.0.disk)) }
     {
         let opened = open_on(alloc, &mut disk, log_bytes)?;
         Ok(Log::on(disk, opened))
