@@ -7,7 +7,7 @@ use Rattle.xa_model.specs.declared.event.Event.{Event}
 use Rattle.xa_model.specs.declared.event.Event.TheVariants.{Call}
 use Rattle.xa_model.specs.declared.outcome.Outcome.TheVariants.{Quiet}
 use Rattle.xa_model.specs.State.{State, Standing, Session, Association, session_of}
-use Rattle.xa_model.specs.Answer.{Answer, answer, unless}
+use Rattle.xa_model.specs.Answer.{Answer, answer}
 use Rattle.xa_model.specs.Early.{early_refusal}
 use Rattle.xa_model.specs.Step.{Asked, row, respond, opened_of, is_up, asked, taken, step}
 use Rattle.xa_model.proofs.Soundness.{respond_sound}
@@ -15,7 +15,7 @@ use Rattle.xa_manager.specs.declared.seat.Seat.{Seat}
 use Rattle.xa_manager.specs.Kept.{Kept, seat_at}
 use Rattle.xa_manager.specs.Answered.{Answered}
 use Rattle.xa_manager.specs.Stands.{StandsFor, Stays, Follows, seat_of, is_memory}
-use Rattle.xa_manager.proofs.Looks.{follows_by, follows_as}
+use Rattle.xa_manager.proofs.Looks.{follows_by, follows_as, refused_is, passed_is}
 
 opened_by : (held : List Association) (n : ℕ) (o : Option Session) → option_map (λ (x : Seat). x.opened) (option_map (seat_of held n) o) ≡ option_map (λ (x : Session). x.opened) o
 opened_by held n None = refl
@@ -30,13 +30,6 @@ early_same m s n request st =
     ap (λ (standing : Standing). early_refusal (is_up standing) s.name (opened_of s n) request) st.early.up
     ∙ ap (λ (name : List ℕ). early_refusal true name (opened_of s n) request) (sym st.name)
     ∙ ap (λ (o : Option Bool). early_refusal true m.name o request) (opened_is m s n st)
-
--- over plain variables, since the tactics would compute the step
-refused_is : (o : Option Reply) (s : State) (a : Answer) (reply : Reply) → o ≡ Some reply → unless o s a ≡ answer reply s
-refused_is o s a reply e = ap (λ (x : Option Reply). unless x s a) e
-
-passed_is : (o : Option Reply) (s : State) (a : Answer) → o ≡ None → unless o s a ≡ a
-passed_is o s a e = ap (λ (x : Option Reply). unless x s a) e
 
 pub call_refuses : (m : Kept) (n : ℕ) (request : Request) (reply : Reply) → early_refusal true m.name (option_map (λ (x : Seat). x.opened) (seat_at m n)) request ≡ Some reply → is_memory reply.detail ≡ false
     → Follows m (λ s. respond s (Call n request)) reply m

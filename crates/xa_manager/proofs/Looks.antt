@@ -6,7 +6,7 @@ use Rattle.std.specs.Ordering.{nat_cmp, is_eq}
 use Rattle.xa_frame.specs.declared.reply.Reply.{Reply}
 use Rattle.xa_xid.specs.Triple.{Triple}
 use Rattle.xa_model.specs.State.{State, Branch, Phase, Working, Prepared, Committed, Session, Association, Holder, Active, Suspended, Loose, Unknown, AtWork, count, name_of, mark_of, is_with, is_active, is_own, is_known_as, known_of, known_as, session_of, active_of, branch_with, own_branch}
-use Rattle.xa_model.specs.Answer.{Answer}
+use Rattle.xa_model.specs.Answer.{Answer, answer, unless}
 use Rattle.xa_model.specs.Associations.{is_anyones}
 use Rattle.xa_model.specs.Sound.{IsSound}
 use Rattle.xa_model.proofs.Counts.{count_less, found_none}
@@ -119,3 +119,10 @@ follows_by m m' act reply served h = record {
 -- the same row under another name
 pub follows_as : (m m' : Kept) (act as_ : State → Answer) (reply : Reply) → ((s : State) → StandsFor m s → as_ s ≡ act s) → Follows m act reply m' → Follows m as_ reply m'
 follows_as m m' act as_ reply same f = follows_by m m' as_ reply f.served (λ s st. (act s, same s st, f.answers s st, λ sound. f.stands s st sound))
+
+-- what refuses, and what doesn't, over plain variables, since the tactics would compute the step
+pub refused_is : (o : Option Reply) (s : State) (a : Answer) (reply : Reply) → o ≡ Some reply → unless o s a ≡ answer reply s
+refused_is o s a reply e = ap (λ (x : Option Reply). unless x s a) e
+
+pub passed_is : (o : Option Reply) (s : State) (a : Answer) → o ≡ None → unless o s a ≡ a
+passed_is o s a e = ap (λ (x : Option Reply). unless x s a) e

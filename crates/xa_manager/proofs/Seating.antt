@@ -22,7 +22,7 @@ use Rattle.xa_manager.specs.Kept.{Kept, seat_at, slot_at, active_at}
 use Rattle.xa_manager.specs.Changes.{Connects, Opens, Begins, Ends, new_seat, opened_seat, working_seat, new_slot, left_slot}
 use Rattle.xa_manager.specs.Stands.{StandsFor, Follows, seat_of, slot_of, is_memory, works}
 use Rattle.xa_manager.proofs.Held.{IsSingle, single, can_end_active, owns_active, without_active, ended_same, ended_other, holders_same, holders_other}
-use Rattle.xa_manager.proofs.Looks.{number_is, finds, known_is, unknown_is, not_known, not_seated, active_is, follows_by}
+use Rattle.xa_manager.proofs.Looks.{number_is, finds, known_is, unknown_is, not_known, not_seated, active_is, follows_by, refused_is, passed_is}
 
 -- Connect
 
@@ -50,12 +50,6 @@ connected_stands m m' s st c sound =
       early = record { up = st.early.up; plain = st.early.plain; undecided = st.early.undecided; at_work = st.early.at_work };
       sound = sound;
     }
-
-refused_is : (o : Option Reply) (s : State) (a : Answer) (reply : Reply) → o ≡ Some reply → unless o s a ≡ answer reply s
-refused_is o s a reply e = rw e refl
-
-passed_is : (o : Option Reply) (s : State) (a : Answer) → o ≡ None → unless o s a ≡ a
-passed_is o s a e = rw e refl
 
 pub connect_refuses : (m : Kept) (reply : Reply) → connect_refusal (length m.seats) ≡ Some reply → is_memory reply.detail ≡ false → Follows m (λ s. connect_by s) reply m
 connect_refuses m reply h served =

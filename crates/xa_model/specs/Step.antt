@@ -111,6 +111,7 @@ is_up Up = true
 is_up Down = false
 is_up Ended = false
 
+-- a hang-up is not built so far
 abbrev pub respond : State → Event → Answer
 respond s event.Connect = connect_by s
 respond s (event.Hangup n) = unbuilt s
