@@ -1,0 +1,117 @@
+-- A table of sessions where a session opens, closes, connects or hangs up.
+use Rattle.std.proofs.Common.{◌≡◌, ℕ, zero, suc, ◌+◌, ◌-◌, ◌<◌, ◌≤◌, ◌==◌, nat_lt, Bool, true, false, not, cond, List, length, Option, Some, None, refl, ap, sym, ◌∙◌, subst, arith}
+use Rattle.std.specs.Prelude.{option_map, is_some}
+use Rattle.std.proofs.lemmas.Bool.Decides.{nat_tests}
+use Rattle.xa_model.specs.State.{State, Session, session_of, free_from, free_number, change}
+use Rattle.xa_model.specs.Associations.{as_opened, as_closed, open_by}
+use Rattle.xa_model.proofs.Lists.{find_change_same, find_change_other, length-change}
+use Rattle.xa_model.proofs.Numbers.{free_number_free}
+use Rattle.xa_assoc.specs.declared.sessions.Sessions.{Sessions}
+use Rattle.xa_assoc.specs.Free.{is_free}
+use Rattle.xa_assoc.specs.Seats.{opened_at}
+use Rattle.xa_assoc.specs.Changes.{Sets}
+use Rattle.xa_assoc.specs.Sessions.{SessionsStandFor, Follows}
+use Rattle.xa_assoc.proofs.Moves.{same_number}
+
+-- Open and close
+
+pub apart_numbers : (n k a : ℕ) → (n == k) ≡ false → (a == n) ≡ true → (a == k) ≡ false
+apart_numbers n k a apart is = grind (arith, nat_tests)
+
+set_option : (o : Option Session) (b : Bool) (f : Session → Session) → ((x : Session) → (f x).opened ≡ b) → option_map (λ x. x.opened) (option_map f o) ≡ option_map (λ c. b) (option_map (λ x. x.opened) o)
+set_option None b f h = refl
+set_option (Some x) b f h = ap Some (h x)
+
+set_by : (n k : ℕ) (b : Bool) (f : Session → Session) (xs : List Session) (c : Bool) → (n == k) ≡ c → ((x : Session) → (f x).number ≡ x.number) → ((x : Session) → (f x).opened ≡ b)
+    → option_map (λ x. x.opened) (session_of (change (λ x. x.number == n) f xs) k) ≡ cond c (option_map (λ d. b) (option_map (λ x. x.opened) (session_of xs k))) (option_map (λ x. x.opened) (session_of xs k))
+set_by n k b f xs true e keeps sets =
+    let here : option_map (λ (x : Session). x.opened) (session_of (change (λ x. x.number == n) f xs) n) ≡ option_map (λ (c : Bool). b) (option_map (λ (x : Session). x.opened) (session_of xs n))
+    = ap (option_map (λ (x : Session). x.opened)) (find_change_same (λ (x : Session). x.number == n) f (λ x h. rw (keeps x) h) xs) ∙ set_option (session_of xs n) b f sets in
+    subst (λ (i : ℕ). option_map (λ (x : Session). x.opened) (session_of (change (λ x. x.number == n) f xs) i) ≡ option_map (λ (c : Bool). b) (option_map (λ (x : Session). x.opened) (session_of xs i))) (same_number n k e) here
+set_by n k b f xs false e keeps sets =
+    ap (option_map (λ (x : Session). x.opened))
+    (find_change_other (λ (x : Session). x.number == n) (λ (x : Session). x.number == k) f (λ x h. (apart_numbers n k x.number e h, rw (keeps x) (apart_numbers n k x.number e h))) xs)
+
+sets_follow : (m m' : Sessions) (n : ℕ) (b : Bool) (f : Session → Session) (s : State) → Sets m n b m' → ((x : Session) → (f x).number ≡ x.number) → ((x : Session) → (f x).opened ≡ b) → SessionsStandFor m s
+    → SessionsStandFor m' (record s { sessions = change (λ x. x.number == n) f s.sessions })
+sets_follow m m' n b f s d keeps sets st = record {
+  opened = λ k. d.opens k ∙ ap (λ (o : Option Bool). cond (n == k) (option_map (λ (c : Bool). b) o) o) (st.opened k) ∙ sym (set_by n k b f s.sessions (n == k) refl keeps sets);
+  active = λ k. d.active k ∙ st.active k;
+  own = λ k q. d.own k q ∙ st.own k q;
+  connected = d.connected ∙ st.connected ∙ sym (length-change (λ (x : Session). x.number == n) f s.sessions);
+  free = λ k below. ap (λ (words : List ℕ). is_free words k) d.free ∙ st.free k below
+      ∙ ap not (still (n == k + 1) (opened_at m (k + 1))) ∙ ap (λ (o : Option Bool). not (is_some o)) (sym (d.opens (k + 1)));
+}
+  where
+    still : (c : Bool) (o : Option Bool) → is_some o ≡ is_some (cond c (option_map (λ (a : Bool). b) o) o)
+    still true None = refl
+    still true (Some a) = refl
+    still false o = refl
+
+pub open_follows : (m m' : Sessions) (n : ℕ) → Sets m n true m' → Follows m (λ s. (open_by s n).after) m'
+open_follows m m' n d = λ s sound st. sets_follow m m' n true as_opened s d (λ x. refl) (λ x. refl) st
+
+pub closed_follows : (m m' : Sessions) (n : ℕ) (s : State) → Sets m n false m' → SessionsStandFor m s → SessionsStandFor m' (record s { sessions = change (λ x. x.number == n) as_closed s.sessions })
+closed_follows m m' n s d st = sets_follow m m' n false as_closed s d (λ x. refl) (λ x. refl) st
+
+-- The number of a session that connects
+
+lower : (xs : List Session) (tries n : ℕ) → n ≤ free_from xs tries n
+lower xs zero n = omega arith
+lower xs (suc tries) n = lower_by (is_some (session_of xs n)) (lower xs tries (n + 1))
+  where
+    lower_by : (c : Bool) → n + 1 ≤ free_from xs tries (n + 1) → n ≤ cond c (free_from xs tries (n + 1)) n
+    lower_by true h = omega arith
+    lower_by false h = omega arith
+
+upper : (xs : List Session) (tries n : ℕ) → free_from xs tries n ≤ n + tries
+upper xs zero n = omega arith
+upper xs (suc tries) n = upper_by (is_some (session_of xs n)) (upper xs tries (n + 1))
+  where
+    upper_by : (c : Bool) → free_from xs tries (n + 1) ≤ n + 1 + tries → cond c (free_from xs tries (n + 1)) n ≤ n + suc tries
+    upper_by true h = omega arith
+    upper_by false h = omega arith
+
+-- all below it are taken
+taken_below : (xs : List Session) (tries n k : ℕ) → n ≤ k → k < free_from xs tries n → is_some (session_of xs k) ≡ true
+taken_below xs zero n k low high = absurd (omega arith)
+taken_below xs (suc tries) n k low high = by_side (is_some (session_of xs n)) (k == n) refl refl (λ above h. taken_below xs tries (n + 1) k above h) high
+  where
+    by_side : (c d : Bool) → is_some (session_of xs n) ≡ c → (k == n) ≡ d → (n + 1 ≤ k → k < free_from xs tries (n + 1) → is_some (session_of xs k) ≡ true) → k < cond c (free_from xs tries (n + 1)) n → is_some (session_of xs k) ≡ true
+    by_side true true e is rest h = subst (λ (i : ℕ). is_some (session_of xs i) ≡ true) (sym (same_number k n is)) e
+    by_side true false e is rest h = let above : n + 1 ≤ k = grind (arith, nat_tests) in rest above h
+    by_side false d e is rest h = absurd (omega arith)
+
+is_nothing : (o : Option Session) → is_some o ≡ false → o ≡ None
+is_nothing None e = refl
+is_nothing (Some x) e = absurd (cc e)
+
+-- the least number that isn't taken
+pub least_number : (xs : List Session) (t : ℕ) → is_some (session_of xs (t + 1)) ≡ false → ((j : ℕ) → j < t → is_some (session_of xs (j + 1)) ≡ true) → free_number xs ≡ t + 1
+least_number xs t free taken = by_order (nat_lt (free_number xs) (t + 1)) (nat_lt (t + 1) (free_number xs)) refl refl
+  where
+    at_free : is_some (session_of xs (free_number xs)) ≡ false
+    at_free = rw (free_number_free xs) refl
+
+    by_order : (c d : Bool) → nat_lt (free_number xs) (t + 1) ≡ c → nat_lt (t + 1) (free_number xs) ≡ d → free_number xs ≡ t + 1
+    by_order true d e h =
+        let low = lower xs (length xs) 1 in
+        let below : free_number xs < t + 1 = grind (arith, nat_tests) in
+        let place : (free_number xs - 1) + 1 ≡ free_number xs = omega (arith, low) in
+        let there : is_some (session_of xs (free_number xs)) ≡ true = subst (λ (i : ℕ). is_some (session_of xs i) ≡ true) place (taken (free_number xs - 1) (omega (arith, low))) in
+        absurd (cc (at_free, there))
+    by_order false true e h =
+        let above : t + 1 < free_number xs = grind (arith, nat_tests) in
+        let there = taken_below xs (length xs) 1 (t + 1) (omega arith) above in
+        absurd (cc (free, there))
+    by_order false false e h = grind (arith, nat_tests)
+
+-- not all of so many numbers are taken by fewer sessions
+pub never_full : (xs : List Session) (limit : ℕ) → length xs < limit → ((j : ℕ) → j < limit → is_some (session_of xs (j + 1)) ≡ true) → ⊥
+never_full xs limit fewer taken =
+    let low = lower xs (length xs) 1 in
+    let high = upper xs (length xs) 1 in
+    let place : (free_number xs - 1) + 1 ≡ free_number xs = omega (arith, low) in
+    let there : is_some (session_of xs (free_number xs)) ≡ true = subst (λ (i : ℕ). is_some (session_of xs i) ≡ true) place (taken (free_number xs - 1) (omega (arith, low, high))) in
+    let here : is_some (session_of xs (free_number xs)) ≡ false = rw (free_number_free xs) refl in
+    absurd (cc (here, there))

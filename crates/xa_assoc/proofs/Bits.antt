@@ -1,0 +1,41 @@
+-- Bits of an array of words.
+use Rattle.std.proofs.Common.{◌≡◌, ℕ, ◌+◌, ◌*◌, ◌/◌, ◌%◌, ◌<◌, ◌≤◌, ◌^◌, nat_lt, Bool, true, false, List, [], ◌∷◌, zero, suc, ◌-◌, length, get_or, refl, ◌∙◌, arith}
+use Rattle.std.specs.Int.{bit_at}
+use Rattle.std.proofs.lemmas.Bool.Decides.{nat_tests}
+use Rattle.std.proofs.lemmas.Nat.Bits.{bit_at_ones}
+use Rattle.std.specs.List.{AllByRecursion}
+use Rattle.xa_assoc.specs.Free.{is_free}
+
+-- the lowest bit that is set in the first word that isn't 0 is the first place that is free
+first_in_word : (words : List ℕ) (i w t k : ℕ) → get_or words i 0 ≡ w → ((j : ℕ) → j < t → bit_at w j ≡ 0) → 64 * i ≤ k → k < 64 * i + t → t < 64 → is_free words k ≡ false
+first_in_word words i w t k at below low high small =
+    let word : k / 64 ≡ i = omega arith in
+    let bit : k % 64 < t = omega arith in
+    rw (word, at, below (k % 64) bit) refl
+
+pub place_free : (words : List ℕ) (i w t : ℕ) → get_or words i 0 ≡ w → t < 64 → bit_at w t ≡ 1 → is_free words (64 * i + t) ≡ true
+place_free words i w t at small is =
+    let word : (64 * i + t) / 64 ≡ i = omega arith in
+    let bit : (64 * i + t) % 64 ≡ t = omega arith in
+    rw (word, bit, at, is) refl
+
+pub place_first : (words : List ℕ) (i w t : ℕ) → get_or words i 0 ≡ w → t < 64 → ((j : ℕ) → j < t → bit_at w j ≡ 0) → ((k : ℕ) → k < 64 * i → is_free words k ≡ false)
+    → (k : ℕ) → k < 64 * i + t → is_free words k ≡ false
+place_first words i w t at small below before k high = by_side (nat_lt k (64 * i)) refl
+  where
+    by_side : (c : Bool) → nat_lt k (64 * i) ≡ c → is_free words k ≡ false
+    by_side true e = before k (grind (arith, nat_tests))
+    by_side false e = let low : 64 * i ≤ k = grind (arith, nat_tests) in first_in_word words i w t k at below low high small
+
+-- where all words are full, all places are free
+all_same : (xs : List ℕ) (v i : ℕ) → AllByRecursion (λ x. x ≡ v) xs → i < length xs → get_or xs i 0 ≡ v
+all_same [] v i all within = absurd (omega arith)
+all_same (x ∷ xs) v zero all within = all.0
+all_same (x ∷ xs) v (suc i) all within = all_same xs v i all.1 (omega arith)
+
+pub all_free : (words : List ℕ) (v : ℕ) → AllByRecursion (λ x. x ≡ v) words → v ≡ 2 ^ 64 - 1 → length words ≡ 16 → (k : ℕ) → k < 1024 → is_free words k ≡ true
+all_free words v all full sixteen k below =
+    let within : k / 64 < length words = omega arith in
+    let small : k % 64 < 64 = omega arith in
+    let here : get_or words (k / 64) 0 ≡ 2 ^ 64 - 1 = all_same words v (k / 64) all within ∙ full in
+    rw (here, bit_at_ones 64 (k % 64) small) refl

@@ -1,0 +1,12 @@
+pub mod Anys
+pub mod Arrivals
+pub mod Bits
+pub mod Closing
+pub mod Connecting
+pub mod Facts
+pub mod Follows
+pub mod HangingUp
+pub mod Held
+pub mod Leaving
+pub mod Moves
+pub mod Reseats

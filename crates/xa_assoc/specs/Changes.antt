@@ -1,0 +1,54 @@
+-- How the associations of sessions change, seen as two functions: which branch each session is at work for, and with
+-- which XIDs it has an association of its own.
+use Rattle.std.specs.Prelude.{ℕ, ◌≡◌, ◌+◌, ◌<◌, ◌==◌, Bool, true, false, not, ◌&&◌, ◌||◌, Option, Some, None, cond, option_map, is_some, if◌then◌else◌}
+use Rattle.xa_xid.specs.Triple.{Triple, xid_eq}
+use Rattle.xa_model.specs.State.{is_with}
+use Rattle.xa_assoc.specs.declared.sessions.Sessions.{Sessions}
+use Rattle.xa_assoc.specs.Free.{is_free}
+use Rattle.xa_assoc.specs.Seats.{connected_in, opened_at, active_at, owns_at}
+
+module _ (works : ℕ → Option Triple) (owns : ℕ → Triple → Bool) (works' : ℕ → Option Triple) (owns' : ℕ → Triple → Bool) where
+  -- a session comes to work for a branch
+  pub record SitsDown (n : ℕ) (xid : Triple) : Type 0 where
+    pub active : (k : ℕ) → works' k ≡ cond (n == k) (Some xid) (works k)
+    pub own : (k : ℕ) (q : Triple) → owns' k q ≡ (owns k q || (n == k && xid_eq xid q))
+
+  -- a session is at work for no branch, and keeps its associations
+  pub record StandsUp (n : ℕ) : Type 0 where
+    pub active : (k : ℕ) → works' k ≡ cond (n == k) None (works k)
+    pub own : (k : ℕ) (q : Triple) → owns' k q ≡ owns k q
+
+  -- a session has no association of its own with the XID
+  pub record Leaves (n : ℕ) (xid : Triple) : Type 0 where
+    pub active : (k : ℕ) → works' k ≡ cond (n == k && is_with xid (works k)) None (works k)
+    pub own : (k : ℕ) (q : Triple) → owns' k q ≡ (owns k q && not (n == k && xid_eq xid q))
+
+-- the same sessions are connected and opened
+pub record IsSameRoom (m m' : Sessions) : Type 0 where
+  pub opened : (n : ℕ) → opened_at m' n ≡ opened_at m n
+  pub connected : connected_in m' ≡ connected_in m
+  pub free : m'.free ≡ m.free
+
+-- a session, if it is connected, is opened or isn't
+pub record Sets (m : Sessions) (n : ℕ) (opened : Bool) (m' : Sessions) : Type 0 where
+  pub opens : (k : ℕ) → opened_at m' k ≡ cond (n == k) (option_map (λ _. opened) (opened_at m k)) (opened_at m k)
+  pub active : (k : ℕ) → active_at m' k ≡ active_at m k
+  pub own : (k : ℕ) (q : Triple) → owns_at m' k q ≡ owns_at m k q
+  pub connected : connected_in m' ≡ connected_in m
+  pub free : m'.free ≡ m.free
+
+-- a session is connected
+pub record Comes (m : Sessions) (n : ℕ) (m' : Sessions) : Type 0 where
+  pub opened : (k : ℕ) → opened_at m' k ≡ cond (n == k) (Some false) (opened_at m k)
+  pub active : (k : ℕ) → active_at m' k ≡ cond (n == k) None (active_at m k)
+  pub own : (k : ℕ) (q : Triple) → owns_at m' k q ≡ cond (n == k) false (owns_at m k q)
+  pub connected : opened_at m n ≡ None → connected_in m' ≡ connected_in m + 1
+  pub free : (k : ℕ) → k < 1024 → is_free m'.free k ≡ cond (n == k + 1) false (is_free m.free k)
+
+-- a session is connected no more
+pub record Goes (m : Sessions) (n : ℕ) (m' : Sessions) : Type 0 where
+  pub opened : (k : ℕ) → opened_at m' k ≡ cond (n == k) None (opened_at m k)
+  pub active : (k : ℕ) → active_at m' k ≡ cond (n == k) None (active_at m k)
+  pub own : (k : ℕ) (q : Triple) → owns_at m' k q ≡ cond (n == k) false (owns_at m k q)
+  pub connected : connected_in m' + (if is_some (opened_at m n) then 1 else 0) ≡ connected_in m
+  pub free : (k : ℕ) → k < 1024 → is_free m'.free k ≡ cond (n == k + 1) true (is_free m.free k)

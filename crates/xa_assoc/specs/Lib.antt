@@ -1,0 +1,5 @@
+pub mod Changes
+pub mod Free
+pub mod Refusals
+pub mod Seats
+pub mod Sessions

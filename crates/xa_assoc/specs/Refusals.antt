@@ -1,0 +1,8 @@
+-- What contracts say of refusals beside their values.
+use Rattle.std.specs.Prelude.{Bool, true, false}
+use Rattle.xa_codes.specs.declared.detail.Detail.{Detail}
+use Rattle.xa_codes.specs.declared.detail.Detail.TheVariants.{Memory}
+
+abbrev pub is_memory : Detail → Bool
+is_memory Memory = true
+is_memory _ = false

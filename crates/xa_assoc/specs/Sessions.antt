@@ -1,0 +1,51 @@
+-- What states of the sequential resource manager a table of sessions stands for.
+use Rattle.std.specs.Prelude.{ℕ, ◌≡◌, ◌+◌, ◌<◌, not, Option, length, is_some}
+use Rattle.std.specs.List.{list_any}
+use Rattle.xa_xid.specs.Triple.{Triple}
+use Rattle.xa_frame.specs.declared.reply.Reply.{Reply}
+use Rattle.xa_model.specs.State.{State, active_of, owns, suspends, is_with, is_loose_with, known_as, known_in}
+use Rattle.xa_model.specs.Associations.{is_taken, can_end, start_refusal, join_refusal, resume_refusal, end_refusal}
+use Rattle.xa_model.specs.Sound.{IsSound}
+use Rattle.xa_model.specs.Step.{opened_of}
+use Rattle.xa_assoc.specs.declared.sessions.Sessions.{Sessions}
+use Rattle.xa_assoc.specs.Seats.{connected_in, opened_at, active_at, owns_at}
+use Rattle.xa_assoc.specs.Free.{is_free}
+
+-- The same sessions are connected and opened, and each is at work for the same branch and has the same associations of its
+-- own. What it has and isn't at work in is suspended. Of the numbers from 1 to 1,024 the array tells which are free.
+pub record SessionsStandFor (m : Sessions) (s : State) : Type 0 where
+  pub opened : (n : ℕ) → opened_at m n ≡ opened_of s n
+  pub active : (n : ℕ) → active_at m n ≡ active_of s.associations n
+  pub own : (n : ℕ) (xid : Triple) → owns_at m n xid ≡ list_any (owns n xid) s.associations
+  pub connected : connected_in m ≡ length s.sessions
+  pub free : (k : ℕ) → k < 1024 → is_free m.free k ≡ not (is_some (opened_at m (k + 1)))
+
+-- whichever sound state the one stood for, the other stands for what becomes of it
+abbrev pub Follows : Sessions → (State → State) → Sessions → Type 0
+Follows m act m' = (s : State) → IsSound s → SessionsStandFor m s → SessionsStandFor m' (act s)
+
+-- where this holds of the state
+abbrev pub FollowsIf : Sessions → (State → Type 0) → (State → State) → Sessions → Type 0
+FollowsIf m P act m' = (s : State) → IsSound s → P s → SessionsStandFor m s → SessionsStandFor m' (act s)
+
+-- it stands for whichever state it stood for
+abbrev pub Stays : Sessions → Sessions → Type 0
+Stays m m' = (s : State) → SessionsStandFor m s → SessionsStandFor m' s
+
+-- how a start and an end are refused of a session and an XID
+
+abbrev pub begin_refusal_of : State → ℕ → Triple → Option Reply
+begin_refusal_of s n xid = start_refusal (is_some (active_of s.associations n)) (is_taken (known_as s xid)) (known_in s) s.given
+
+abbrev pub join_refusal_of : State → ℕ → Triple → Option Reply
+join_refusal_of s n xid = join_refusal (is_some (active_of s.associations n)) (list_any (suspends n xid) s.associations) (known_as s xid)
+
+abbrev pub resume_refusal_of : State → ℕ → Triple → Option Reply
+resume_refusal_of s n xid =
+    resume_refusal (is_some (active_of s.associations n)) (known_as s xid) (list_any (suspends n xid) s.associations) (list_any (is_loose_with xid) s.associations)
+
+abbrev pub suspend_refusal_of : State → ℕ → Triple → Option Reply
+suspend_refusal_of s n xid = end_refusal (known_as s xid) (is_with xid (active_of s.associations n))
+
+abbrev pub leave_refusal_of : State → ℕ → Triple → Option Reply
+leave_refusal_of s n xid = end_refusal (known_as s xid) (can_end s.associations n xid)

@@ -1,0 +1,85 @@
+ghost use Rattle.std.specs.Prelude.{◌≡◌, ◌+◌, ◌<◌, false, OnOk, OnErr, IsSome};
+ghost use Rattle.xa_assoc.specs.Seats.{seat_at, active_at, owns_at};
+ghost use Rattle.xa_assoc.specs.Changes.{Comes, Goes, Sets, SitsDown, StandsUp, Leaves, IsSameRoom};
+ghost use Rattle.xa_assoc.specs.Sessions.{Stays};
+
+use crate::free::{make_free, make_taken};
+use crate::seat::Seat;
+use crate::sessions::Sessions;
+use std::alloc::AllocError;
+use std::collections::BTreeSet;
+use xa_xid::Xid;
+
+/// Who is connected and opened.
+impl Sessions {
+    /// The session at a free place, whose number is one more, is connected.
+    pub(crate) fn add_seat(&mut self, place: u64) -> Result<(), AllocError>
+        requires { place < 1024 }
+        ensures ok { OnOk result (Comes self.old (place + 1) self.new) }
+        ensures err { OnErr result (Stays self.old self.new) }
+    {
+        let seat = Seat {
+            opened: false,
+            active: None,
+            own: BTreeSet::new(self.alloc),
+        };
+        self.seats.insert(place + 1, seat)?;
+        make_taken(&mut self.free, place);
+        Ok(())
+    }
+
+    pub(crate) fn take_seat(&mut self, session: u64) -> Option<Seat>
+        ensures seat { result ≡ seat_at self.old session }
+        ensures goes { Goes self.old session self.new }
+    {
+        let seat = self.seats.remove(&session);
+        if session > 0 && session <= 1024 {
+            make_free(&mut self.free, session - 1);
+        }
+        seat
+    }
+
+    pub(crate) fn set_opened(&mut self, session: u64, opened: bool)
+        ensures { Sets self.old session opened self.new }
+    {
+        if let Some(seat) = self.seats.get_mut(&session) {
+            seat.opened = opened;
+        }
+    }
+}
+
+/// What calls change of the seat of a connected session.
+impl Sessions {
+    pub(crate) fn sit_down(&mut self, session: u64, xid: Xid) -> Result<(), AllocError>
+        requires { IsSome (seat_at self.old session) }
+        ensures room { OnOk result (IsSameRoom self.old self.new) }
+        ensures seat { OnOk result (SitsDown (active_at self.old) (owns_at self.old) (active_at self.new) (owns_at self.new) session xid) }
+        ensures err { OnErr result (Stays self.old self.new) }
+        ensures absent { OnErr result (owns_at self.old session xid ≡ false) }
+    {
+        if let Some(seat) = self.seats.get_mut(&session) {
+            seat.sit_down(xid)?;
+        }
+        Ok(())
+    }
+
+    pub(crate) fn stand_up(&mut self, session: u64)
+        requires { IsSome (seat_at self.old session) }
+        ensures room { IsSameRoom self.old self.new }
+        ensures seat { StandsUp (active_at self.old) (owns_at self.old) (active_at self.new) (owns_at self.new) session }
+    {
+        if let Some(seat) = self.seats.get_mut(&session) {
+            seat.stand_up();
+        }
+    }
+
+    pub(crate) fn leave_seat(&mut self, session: u64, xid: &Xid)
+        requires { IsSome (seat_at self.old session) }
+        ensures room { IsSameRoom self.old self.new }
+        ensures seat { Leaves (active_at self.old) (owns_at self.old) (active_at self.new) (owns_at self.new) session xid.now }
+    {
+        if let Some(seat) = self.seats.get_mut(&session) {
+            seat.leave(xid);
+        }
+    }
+}

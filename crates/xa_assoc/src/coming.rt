@@ -1,0 +1,68 @@
+ghost use Rattle.std.specs.Prelude.{◌≡◌, false, pos, IfOk, IfErr, OnOk, OnErr};
+ghost use Rattle.xa_frame.specs.declared.body.Body.TheVariants as body;
+ghost use Rattle.xa_codes.specs.declared.detail.Detail.TheVariants as detail;
+ghost use Rattle.xa_codes.specs.declared.codes.TheConstants.{XAER_RMERR};
+ghost use Rattle.xa_model.specs.State.{State};
+ghost use Rattle.xa_model.specs.Answer.{answer, plain, carrying, detailed};
+ghost use Rattle.xa_model.specs.Associations.{connect_by, open_by, close_by, hang_up_by};
+ghost use Rattle.xa_model.specs.Sound.{IsSound};
+ghost use Rattle.xa_assoc.specs.Refusals.{is_memory};
+ghost use Rattle.xa_assoc.specs.Seats.{seat_at};
+ghost use Rattle.xa_assoc.specs.Sessions.{SessionsStandFor, Follows, Stays};
+
+use crate::fault::ConnectFault;
+use crate::free::first_free;
+use crate::refusals::{close_refusal, connect_refusal};
+use crate::seat::Seat;
+use crate::sessions::Sessions;
+use xa_frame::Reply;
+
+/// How sessions come and go.
+impl Sessions {
+    /// The number of a new session: the least that is free.
+    pub fn connect(&mut self) -> Result<u64, ConnectFault>
+        ensures number { IfOk result (λ n. (s : State) → SessionsStandFor self.old s → (connect_by s).reply ≡ carrying (body.Number n)) }
+        ensures ok { OnOk result (Follows self.old (λ s. (connect_by s).after) self.new) }
+        ensures full { result ≡ Err ConnectFault.Full → (s : State) → SessionsStandFor self.old s → connect_by s ≡ answer (detailed XAER_RMERR detail.Limit) s }
+        ensures err { OnErr result (Stays self.old self.new) }
+    {
+        if connect_refusal(self.seats.len()).is_some() {
+            return Err(ConnectFault::Full);
+        }
+        let Some(place) = first_free(&self.free) else {
+            return Err(ConnectFault::Full);
+        };
+        if self.add_seat(place).is_err() {
+            return Err(ConnectFault::Memory);
+        }
+        Ok(place + 1)
+    }
+
+    /// Takes the session's seat away, if it is connected, and gives it back: its associations are no more.
+    pub fn hangup(&mut self, session: u64) -> Option<Seat>
+        ensures seat { result ≡ seat_at self.old session }
+        ensures after { Follows self.old (λ s. (hang_up_by s session).after) self.new }
+    {
+        self.take_seat(session)
+    }
+
+    pub fn open(&mut self, session: u64)
+        ensures { Follows self.old (λ s. (open_by s session).after) self.new }
+    {
+        self.set_opened(session, true);
+    }
+
+    /// A session with an association of its own isn't closed.
+    pub fn close(&mut self, session: u64) -> Result<(), Reply>
+        ensures refused { IfErr result (λ reply. (s : State) → SessionsStandFor self.old s → close_by s session ≡ answer reply s) }
+        ensures served { IfErr result (λ reply. is_memory reply.detail ≡ false) }
+        ensures closed { OnOk result ((s : State) → SessionsStandFor self.old s → (close_by s session).reply ≡ plain (pos 0)) }
+        ensures after { Follows self.old (λ s. (close_by s session).after) self.new }
+    {
+        if let Some(reply) = close_refusal(self.holds_any(session)) {
+            return Err(reply);
+        }
+        self.set_opened(session, false);
+        Ok(())
+    }
+}

@@ -1,0 +1,54 @@
+ghost use Rattle.std.specs.Prelude.{◌≡◌, ◌≢◌, ℕ, ◌<◌, ◌==◌, cond, true, false, IfNone, IfSome};
+ghost use Rattle.std.specs.Int.{bit_at};
+ghost use Rattle.xa_assoc.specs.Free.{is_free};
+
+/// The least of the 1,024 places that is free.
+pub fn first_free(free: &[u64; 16]) -> Option<u64>
+    ensures none { IfNone result ((k : ℕ) → k < 1024 → is_free free.now k ≡ false) }
+    ensures within { IfSome result (λ n. n < 1024) }
+    ensures free { IfSome result (λ n. is_free free.now n ≡ true) }
+    ensures least { IfSome result (λ n. (k : ℕ) → k < n → is_free free.now k ≡ false) }
+{
+    let mut before: u64 = 0;
+    for word in free {
+        if *word != 0 {
+            return Some(before + u64::from(word.trailing_zeros()));
+        }
+        before += 64;
+    }
+    None
+}
+
+/// Makes a place free.
+pub fn make_free(free: &mut [u64; 16], place: u64)
+    requires { place < 1024 }
+    ensures { (k : ℕ) → is_free free.new k ≡ cond (place == k) true (is_free free.old k) }
+{
+    let at = (place / 64) as usize;
+    free[at] = with_bit(free[at], place % 64);
+}
+
+/// Takes a place.
+pub fn make_taken(free: &mut [u64; 16], place: u64)
+    requires { place < 1024 }
+    ensures { (k : ℕ) → is_free free.new k ≡ cond (place == k) false (is_free free.old k) }
+{
+    let at = (place / 64) as usize;
+    free[at] = without_bit(free[at], place % 64);
+}
+
+fn with_bit(word: u64, bit: u64) -> u64
+    requires { bit < 64 }
+    ensures set { bit_at result bit ≡ 1 }
+    ensures others { (i : ℕ) → i < 64 → i ≢ bit → bit_at result i ≡ bit_at word i }
+{
+    word | (1 << bit)
+}
+
+fn without_bit(word: u64, bit: u64) -> u64
+    requires { bit < 64 }
+    ensures clear { bit_at result bit ≡ 0 }
+    ensures others { (i : ℕ) → i < 64 → i ≢ bit → bit_at result i ≡ bit_at word i }
+{
+    word & !(1 << bit)
+}

@@ -1,0 +1,125 @@
+ghost use Rattle.std.specs.Prelude.{◌≡◌, ℕ, IfSome, false};
+ghost use Rattle.xa_model.specs.State.{Known};
+ghost use Rattle.xa_model.specs.Associations.{connect_refusal, close_refusal, start_refusal, join_refusal, resume_refusal, end_refusal, loose_refusal, is_unknown, is_settled};
+ghost use Rattle.xa_assoc.specs.Refusals.{is_memory};
+
+use crate::replies::{detailed, plain};
+use xa_codes::{Detail, XAER_DUPID, XAER_NOTA, XAER_PROTO, XAER_RMERR};
+use xa_frame::Reply;
+
+/// The most sessions that are connected at a time: so far one.
+pub const MOST_SESSIONS: usize = 1;
+/// The most branches that are known at a time.
+pub const MOST_BRANCHES: usize = 4096;
+/// The most timestamps that one boot gives.
+pub const MOST_GIVEN: u64 = 4294967295;
+/// The most loose associations of a branch.
+pub const MOST_LOOSE: u64 = 64;
+
+/// Of a connect, where so many sessions are connected.
+pub fn connect_refusal(connected: usize) -> Option<Reply>
+    ensures value { result ≡ connect_refusal connected }
+    ensures served { IfSome result (λ r. is_memory r.detail ≡ false) }
+{
+    if connected < MOST_SESSIONS {
+        return None;
+    }
+    Some(detailed(XAER_RMERR, Detail::Limit))
+}
+
+/// Of a close, where the session has an association or none.
+pub fn close_refusal(holds: bool) -> Option<Reply>
+    ensures value { result ≡ close_refusal holds }
+    ensures served { IfSome result (λ r. is_memory r.detail ≡ false) }
+{
+    if holds {
+        return Some(plain(XAER_PROTO));
+    }
+    None
+}
+
+/// Of the start of a new branch, where so many branches are known and so many timestamps are given.
+pub fn start_refusal(is_at_work: bool, is_taken: bool, known: usize, given: u64) -> Option<Reply>
+    ensures value { result ≡ start_refusal is_at_work is_taken known given }
+    ensures served { IfSome result (λ r. is_memory r.detail ≡ false) }
+{
+    if is_at_work {
+        return Some(plain(XAER_PROTO));
+    }
+    if is_taken {
+        return Some(plain(XAER_DUPID));
+    }
+    if known >= MOST_BRANCHES || given >= MOST_GIVEN {
+        return Some(detailed(XAER_RMERR, Detail::Limit));
+    }
+    None
+}
+
+/// Of a start with TMJOIN. A branch is settled if it is prepared or completed.
+pub fn join_refusal(
+    is_at_work: bool,
+    has_suspended: bool,
+    unknown: bool,
+    settled: bool,
+) -> Option<Reply>
+    ensures value { (known : Known) → is_unknown known ≡ unknown → is_settled known ≡ settled → result ≡ join_refusal is_at_work has_suspended known }
+    ensures served { IfSome result (λ r. is_memory r.detail ≡ false) }
+{
+    if is_at_work || has_suspended {
+        return Some(plain(XAER_PROTO));
+    }
+    if unknown {
+        return Some(plain(XAER_NOTA));
+    }
+    if settled {
+        return Some(plain(XAER_PROTO));
+    }
+    None
+}
+
+/// Of a start with TMRESUME.
+pub fn resume_refusal(
+    is_at_work: bool,
+    unknown: bool,
+    has_suspended: bool,
+    has_loose: bool,
+) -> Option<Reply>
+    ensures value { (known : Known) → is_unknown known ≡ unknown → result ≡ resume_refusal is_at_work known has_suspended has_loose }
+    ensures served { IfSome result (λ r. is_memory r.detail ≡ false) }
+{
+    if is_at_work {
+        return Some(plain(XAER_PROTO));
+    }
+    if unknown {
+        return Some(plain(XAER_NOTA));
+    }
+    if !(has_suspended || has_loose) {
+        return Some(plain(XAER_PROTO));
+    }
+    None
+}
+
+/// Of an end. The session holds what is to end, or to be suspended, or it doesn't.
+pub fn end_refusal(unknown: bool, holds: bool) -> Option<Reply>
+    ensures value { (known : Known) → is_unknown known ≡ unknown → result ≡ end_refusal known holds }
+    ensures served { IfSome result (λ r. is_memory r.detail ≡ false) }
+{
+    if unknown {
+        return Some(plain(XAER_NOTA));
+    }
+    if !holds {
+        return Some(plain(XAER_PROTO));
+    }
+    None
+}
+
+/// Of an end with TMSUSPEND of a branch with so many loose associations: one more is nobody's with TMMIGRATE.
+pub fn loose_refusal(migrates: bool, loose: u64) -> Option<Reply>
+    ensures value { result ≡ loose_refusal migrates loose }
+    ensures served { IfSome result (λ r. is_memory r.detail ≡ false) }
+{
+    if migrates && loose >= MOST_LOOSE {
+        return Some(detailed(XAER_RMERR, Detail::Limit));
+    }
+    None
+}

@@ -1,0 +1,92 @@
+ghost use Rattle.std.specs.Prelude.{◌≡◌, IfSome, false};
+ghost use Rattle.std.specs.List.{list_any};
+ghost use Rattle.xa_xid.specs.Triple.{Triple};
+ghost use Rattle.xa_model.specs.State.{State, known_as, known_in, is_loose_with};
+ghost use Rattle.xa_model.specs.Associations.{is_taken, is_unknown, is_settled};
+ghost use Rattle.xa_model.specs.Sound.{IsSound};
+ghost use Rattle.xa_assoc.specs.Refusals.{is_memory};
+ghost use Rattle.xa_assoc.specs.Sessions.{SessionsStandFor, begin_refusal_of, join_refusal_of, resume_refusal_of, suspend_refusal_of, leave_refusal_of};
+
+use crate::refusals::{end_refusal, join_refusal, resume_refusal, start_refusal};
+use crate::sessions::Sessions;
+use xa_frame::Reply;
+use xa_xid::Xid;
+
+/// How a start and an end are refused, from what the sessions' table knows and the facts of the branch that are handed in.
+impl Sessions {
+    /// Of the start of a new branch. The XID is taken, or so many branches are known and so many timestamps given.
+    pub fn begin_refusal(
+        &self,
+        session: u64,
+        taken: bool,
+        known: usize,
+        given: u64,
+    ) -> Option<Reply>
+        ensures value { (s : State) (xid : Triple) → SessionsStandFor self.now s → is_taken (known_as s xid) ≡ taken → known_in s ≡ known → s.given ≡ given → result ≡ begin_refusal_of s session xid }
+        ensures served { IfSome result (λ r. is_memory r.detail ≡ false) }
+    {
+        start_refusal(self.current(session).is_some(), taken, known, given)
+    }
+
+    /// Of a start with TMJOIN. The XID is unknown, or its branch is prepared or completed.
+    pub fn join_refusal(
+        &self,
+        session: u64,
+        xid: &Xid,
+        unknown: bool,
+        settled: bool,
+    ) -> Option<Reply>
+        ensures value { (s : State) → IsSound s → SessionsStandFor self.now s → is_unknown (known_as s xid.now) ≡ unknown → is_settled (known_as s xid.now) ≡ settled → result ≡ join_refusal_of s session xid.now }
+        ensures served { IfSome result (λ r. is_memory r.detail ≡ false) }
+    {
+        let has_suspended = self.has_suspended(session, xid);
+        join_refusal(
+            self.current(session).is_some(),
+            has_suspended,
+            unknown,
+            settled,
+        )
+    }
+
+    /// Of a start with TMRESUME. The XID is unknown, or its branch has a loose association.
+    pub fn resume_refusal(
+        &self,
+        session: u64,
+        xid: &Xid,
+        unknown: bool,
+        has_loose: bool,
+    ) -> Option<Reply>
+        ensures value { (s : State) → IsSound s → SessionsStandFor self.now s → is_unknown (known_as s xid.now) ≡ unknown → list_any (is_loose_with xid.now) s.associations ≡ has_loose → result ≡ resume_refusal_of s session xid.now }
+        ensures served { IfSome result (λ r. is_memory r.detail ≡ false) }
+    {
+        let has_suspended = self.has_suspended(session, xid);
+        resume_refusal(
+            self.current(session).is_some(),
+            unknown,
+            has_suspended,
+            has_loose,
+        )
+    }
+
+    /// Of an end with TMSUSPEND: the session has to be at work for the branch.
+    pub fn suspend_refusal(&self, session: u64, xid: &Xid, unknown: bool) -> Option<Reply>
+        ensures value { (s : State) → SessionsStandFor self.now s → is_unknown (known_as s xid.now) ≡ unknown → result ≡ suspend_refusal_of s session xid.now }
+        ensures served { IfSome result (λ r. is_memory r.detail ≡ false) }
+    {
+        end_refusal(unknown, self.works_in(session, xid))
+    }
+
+    /// Of an end with TMSUCCESS or TMFAIL: of an association of the session's own, or of a loose one.
+    pub fn leave_refusal(
+        &self,
+        session: u64,
+        xid: &Xid,
+        unknown: bool,
+        has_loose: bool,
+    ) -> Option<Reply>
+        ensures value { (s : State) → SessionsStandFor self.now s → is_unknown (known_as s xid.now) ≡ unknown → list_any (is_loose_with xid.now) s.associations ≡ has_loose → result ≡ leave_refusal_of s session xid.now }
+        ensures served { IfSome result (λ r. is_memory r.detail ≡ false) }
+    {
+        end_refusal(unknown, self.owns(session, xid) || has_loose)
+    }
+}

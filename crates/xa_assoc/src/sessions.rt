@@ -1,0 +1,98 @@
+ghost use Rattle.std.specs.Prelude.{◌≡◌, [], is_some, option_copied};
+ghost use Rattle.xa_model.specs.State.{State, is_with};
+ghost use Rattle.xa_assoc.specs.Seats.{connected_in, opened_at, active_at, owns_at, suspends_at, holds_any_at};
+ghost use Rattle.xa_assoc.specs.Sessions.{SessionsStandFor};
+
+use crate::seat::Seat;
+use std::alloc::Global;
+use std::collections::BTreeMap;
+use xa_xid::Xid;
+
+/// The connected sessions by their numbers, and the numbers from 1 to 1,024 that are free, a bit each.
+#[derive(Drop)]
+pub struct Sessions {
+    pub(crate) alloc: Global,
+    pub(crate) seats: BTreeMap<u64, Seat>,
+    pub(crate) free: [u64; 16],
+}
+
+impl Sessions {
+    /// No session is connected.
+    pub fn new(alloc: Global) -> Sessions
+        ensures { (s : State) → s.sessions ≡ [] → s.associations ≡ [] → SessionsStandFor result s }
+    {
+        Sessions {
+            alloc,
+            seats: BTreeMap::new(alloc),
+            free: [u64::MAX; 16],
+        }
+    }
+
+    /// How many sessions are connected.
+    pub fn connected(&self) -> usize
+        ensures { result ≡ connected_in self.now }
+    {
+        self.seats.len()
+    }
+
+    /// Whether the session is opened, if it is connected.
+    pub fn opened_of(&self, session: u64) -> Option<bool>
+        ensures { result ≡ opened_at self.now session }
+    {
+        self.seats.get(&session).map(|seat| seat.opened)
+    }
+
+    /// Whether the session is connected.
+    pub fn is_connected(&self, session: u64) -> bool
+        ensures { result ≡ is_some (opened_at self.now session) }
+    {
+        self.opened_of(session).is_some()
+    }
+
+    /// The XID of the branch that the session is at work for.
+    pub fn current(&self, session: u64) -> Option<&Xid>
+        ensures { option_copied result ≡ active_at self.now session }
+    {
+        match self.seats.get(&session) {
+            Some(seat) => seat.active.as_ref(),
+            None => None,
+        }
+    }
+
+    /// Whether the session has an association of its own with the XID.
+    pub fn owns(&self, session: u64, xid: &Xid) -> bool
+        ensures { result ≡ owns_at self.now session xid.now }
+    {
+        match self.seats.get(&session) {
+            Some(seat) => seat.own.contains(xid),
+            None => false,
+        }
+    }
+
+    /// Whether the session has an association of its own.
+    pub fn holds_any(&self, session: u64) -> bool
+        ensures { result ≡ holds_any_at self.now session }
+    {
+        match self.seats.get(&session) {
+            Some(seat) => seat.own.len() > 0,
+            None => false,
+        }
+    }
+
+    /// Whether the session is at work for the branch with this XID.
+    pub fn works_in(&self, session: u64, xid: &Xid) -> bool
+        ensures { result ≡ is_with xid.now (active_at self.now session) }
+    {
+        match self.current(session) {
+            Some(active) => *active == *xid,
+            None => false,
+        }
+    }
+
+    /// Whether the session has suspended an association with the XID.
+    pub fn has_suspended(&self, session: u64, xid: &Xid) -> bool
+        ensures { result ≡ suspends_at self.now session xid.now }
+    {
+        self.owns(session, xid) && !self.works_in(session, xid)
+    }
+}

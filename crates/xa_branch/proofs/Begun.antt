@@ -1,0 +1,84 @@
+-- Known branches that stand for a state, after a branch begins.
+use Rattle.std.proofs.Common.{◌≡◌, ℕ, ℤ, ◌+◌, Bool, true, false, cond, Option, Some, None, List, [], ◌∷◌, length, refl, ap, sym, ◌∙◌, subst, arith}
+use Rattle.std.specs.Prelude.{is_some, option_and_then}
+use Rattle.std.specs.BTreeMap.{BTreeMap, btree_map_len}
+use Rattle.xa_xid.specs.Triple.{Triple, xid_eq}
+use Rattle.xa_xid.proofs.Same.{xid_same}
+use Rattle.xa_model.specs.State.{State, Branch, Phase, Working, Prepared, Committed, Association, Active, known_of, known_count, holders_of, timestamp_of}
+use Rattle.xa_model.specs.Associations.{begun}
+use Rattle.xa_model.specs.Sound.{IsSound}
+use Rattle.xa_model.proofs.Xids.{cmp_is_eq}
+use Rattle.xa_branch.specs.declared.branches.Branches.{Branches}
+use Rattle.xa_branch.specs.declared.kind.Kind.{Kind}
+use Rattle.xa_branch.specs.declared.kind.Kind.TheVariants as kind
+use Rattle.xa_branch.specs.declared.working.Working.{Working as Kept}
+use Rattle.xa_branch.specs.Kinds.{held_as}
+use Rattle.xa_branch.specs.Branches.{BranchesStandFor, kept_of, working_at, working_by, working_in}
+use Rattle.xa_branch.specs.Changes.{Sets, new_kept}
+use Rattle.xa_branch.proofs.Counting.{gained_here, gained_other, joined_gains, holders_by_kind}
+use Rattle.xa_branch.proofs.Looks.{Seen, Nowhere, There, seen_at}
+
+-- where the counts are the same, so is what is kept
+
+pub kept_same : (t : ℕ) (mark : Option ℤ) (a u l a' u' l' : ℕ) → a ≡ a' → u ≡ u' → l ≡ l'
+    → ◌≡◌ {A = Kept} (record { timestamp = t; mark = mark; active = a; suspended = u; loose = l }) (record { timestamp = t; mark = mark; active = a'; suspended = u'; loose = l' })
+kept_same t mark a u l a' u' l' e f g = rw (e, f, g) refl
+
+same_by : (held after : List Association) (q : Triple) (t : ℕ) (p : Phase) → ((j : Kind) → held_as j after q ≡ held_as j held q) → working_by held q t p ≡ working_by after q t p
+same_by held after q t (Working x mark) same =
+    ap Some
+    (kept_same t mark (held_as kind.Active held q) (held_as kind.Suspended held q) (held_as kind.Loose held q) (held_as kind.Active after q) (held_as kind.Suspended after q) (held_as kind.Loose after q)
+    (sym (same kind.Active)) (sym (same kind.Suspended)) (sym (same kind.Loose)))
+same_by held after q t (Prepared x) same = refl
+same_by held after q t Committed same = refl
+
+pub same_in : (held after : List Association) (q : Triple) (o : Option Branch) → ((j : Kind) → held_as j after q ≡ held_as j held q)
+    → option_and_then (working_in held q) o ≡ option_and_then (working_in after q) o
+same_in held after q None same = refl
+same_in held after q (Some b) same = same_by held after q b.timestamp b.phase same
+
+-- A branch begins
+
+nobody : (s : State) (xid : Triple) (o : Option Kept) → is_some o ≡ false → IsSound s → Seen s xid o → holders_of s.associations xid ≡ 0
+nobody s xid None e h (Nowhere none) = h.bound xid (rw none refl)
+nobody s xid (Some w) e h (There v is) = absurd (cc e)
+
+none_held : (held : List Association) (xid : Triple) → holders_of held xid ≡ 0 → (j : Kind) → held_as j held xid ≡ 0
+none_held held xid zero kind.Active = omega (arith, holders_by_kind held xid)
+none_held held xid zero kind.Suspended = omega (arith, holders_by_kind held xid)
+none_held held xid zero kind.Loose = omega (arith, holders_by_kind held xid)
+
+begun_here : (n : ℕ) (xid q : Triple) (held : List Association) (t : ℕ) → xid_eq xid q ≡ true → holders_of held q ≡ 0 → new_kept t ≡ kept_of (record { xid = xid; holder = Active n } ∷ held) q t None
+begun_here n xid q held t e zero =
+    let after : List Association = record { xid = xid; holder = Active n } ∷ held in
+    let gains = joined_gains n xid held in
+    let active : held_as kind.Active after q ≡ 1 = gained_here kind.Active xid held after gains kind.Active q e ∙ omega (arith, none_held held q zero kind.Active) in
+    let suspended : held_as kind.Suspended after q ≡ 0 = gained_here kind.Active xid held after gains kind.Suspended q e ∙ omega (arith, none_held held q zero kind.Suspended) in
+    let loose : held_as kind.Loose after q ≡ 0 = gained_here kind.Active xid held after gains kind.Loose q e ∙ omega (arith, none_held held q zero kind.Loose) in
+    kept_same t None 1 0 0 (held_as kind.Active after q) (held_as kind.Suspended after q) (held_as kind.Loose after q) (sym active) (sym suspended) (sym loose)
+
+begun_look : (m : Branches) (s : State) (n : ℕ) (xid q : Triple) (b : Branch) (c : Bool) → xid_eq xid q ≡ c → BranchesStandFor m s → holders_of s.associations xid ≡ 0 → b.phase ≡ Working xid None
+    → cond c (Some (new_kept b.timestamp)) (working_at m q) ≡ option_and_then (working_in (record { xid = xid; holder = Active n } ∷ s.associations) q) (cond c (Some b) (known_of s.branches q))
+begun_look m s n xid q b true e st zero is =
+    let free : holders_of s.associations q ≡ 0 = subst (λ (x : Triple). holders_of s.associations x ≡ 0) (xid_same xid q e) zero in
+    rw is (ap Some (begun_here n xid q s.associations b.timestamp e free))
+begun_look m s n xid q b false e st zero is =
+    let after : List Association = record { xid = xid; holder = Active n } ∷ s.associations in
+    st.working q ∙ same_in s.associations after q (known_of s.branches q) (λ j. gained_other kind.Active xid s.associations after (joined_gains n xid s.associations) j q e)
+
+one_known : (o : Option Kept) (n k known all : ℕ) → is_some o ≡ false → n + cond (is_some o) 1 0 ≡ k + 1 → k ≡ known + all → n ≡ (1 + known) + all
+one_known None n k known all e h is = omega arith
+one_known (Some w) n k known all e h is = absurd (cc e)
+
+pub begun_stands : (m : Branches) (after : BTreeMap Triple Kept) (s : State) (n : ℕ) (xid : Triple) → IsSound s → BranchesStandFor m s → is_some (working_at m xid) ≡ false
+    → Sets m.working xid (Some (new_kept (timestamp_of s.boot (s.given + 1)))) after → BranchesStandFor (record m { given = m.given + 1; working = after }) (begun s n xid).after
+begun_stands m after s n xid h st free sets = record {
+  boot = st.boot;
+  given = ap (λ (k : ℕ). k + 1) st.given;
+  working = λ q.
+      let b : Branch = record { timestamp = timestamp_of s.boot (s.given + 1); operations = []; phase = Working xid None } in
+      let zero : holders_of s.associations xid ≡ 0 = nobody s xid (working_at m xid) free h (seen_at m s xid (working_at m xid) st refl) in
+      sets.at q ∙ rw (cmp_is_eq xid q) (begun_look m s n xid q b (xid_eq xid q) refl st zero refl);
+  known = one_known (working_at m xid) (btree_map_len after) (btree_map_len m.working) (known_count s.branches) (length s.decided) free sets.number st.known;
+  lasting = record { prepared = (refl, st.lasting.prepared); decided = st.lasting.decided };
+}

@@ -1,0 +1,12 @@
+pub mod Leaving
+pub mod Counting
+pub mod Looks
+pub mod Setting
+pub mod Knowing
+pub mod Beginning
+pub mod Completing
+pub mod Begun
+pub mod Turning
+pub mod Owners
+pub mod Shifting
+pub mod Elsewhere

@@ -1,0 +1,65 @@
+ghost use Rattle.std.specs.Prelude.{◌≡◌, ◌+◌, ℕ, IfOk, OnOk, OnErr};
+ghost use Rattle.xa_model.specs.State.{State as ModelState, known_as, known_in, timestamp_of};
+ghost use Rattle.xa_model.specs.Associations.{begun, is_taken};
+ghost use Rattle.xa_model.specs.Branches.{rolled_back, committed};
+ghost use Rattle.xa_model.specs.Sound.{IsSound};
+ghost use Rattle.xa_branch.specs.Branches.{BranchesStandFor};
+ghost use Rattle.xa_branch.specs.Calls.{begin_fault, fault_of, marked_with};
+
+use crate::branches::Branches;
+use crate::changes::{add, set, take};
+use crate::fault::BeginFault;
+use crate::working::Working;
+use xa_codes::Code;
+use xa_xid::Xid;
+
+/// The most branches that are known at a time.
+const MOST_BRANCHES: usize = 4096;
+/// The most timestamps that one boot gives.
+const MOST_GIVEN: u64 = 4294967295;
+/// How many timestamps a boot's number makes room for.
+const BOOT: u64 = 4294967296;
+
+/// How branches begin, are marked, and are completed.
+impl Branches {
+    /// A branch begins, with one active association, and is given the boot's next timestamp: the boot's number times 2^32,
+    /// and how many timestamps the boot has given with this one. No number is given twice.
+    pub fn begin(&mut self, xid: &Xid) -> Result<u64, BeginFault>
+        ensures refused { (s : ModelState) → BranchesStandFor self.old s → fault_of result ≡ begin_fault (is_taken (known_as s xid.now)) (known_in s) s.given }
+        ensures timestamp { (s : ModelState) → BranchesStandFor self.old s → IfOk result (λ t. t ≡ timestamp_of s.boot (s.given + 1)) }
+        ensures ok { (s : ModelState) (n : ℕ) → IsSound s → BranchesStandFor self.old s → OnOk result (BranchesStandFor self.new (begun s n xid.now).after) }
+        ensures err { (s : ModelState) → BranchesStandFor self.old s → OnErr result (BranchesStandFor self.new s) }
+    {
+        if self.working_of(xid).is_some() {
+            return Err(BeginFault::Duplicate);
+        }
+        if self.len() >= MOST_BRANCHES || self.given >= MOST_GIVEN {
+            return Err(BeginFault::Limit);
+        }
+        let timestamp = u64::from(self.boot) * BOOT + self.given + 1;
+        match add(&mut self.working, xid.copied(), Working::new(timestamp)) {
+            Err(_) => Err(BeginFault::Memory),
+            Ok(()) => {
+                self.given += 1;
+                Ok(timestamp)
+            }
+        }
+    }
+
+    /// Marks a branch at work, unless it is marked: then it can only be rolled back. Of another XID nothing changes.
+    pub fn doom(&mut self, xid: &Xid, code: Code)
+        ensures { (s : ModelState) → BranchesStandFor self.old s → BranchesStandFor self.new (marked_with code s xid.now) }
+    {
+        if let Some(working) = self.working_of(xid) {
+            set(&mut self.working, xid, working.marked(code));
+        }
+    }
+
+    /// A branch is committed or rolled back, and known no more.
+    pub fn finish(&mut self, xid: &Xid)
+        ensures rolled_back { (s : ModelState) → IsSound s → BranchesStandFor self.old s → BranchesStandFor self.new (rolled_back s xid.now) }
+        ensures committed { (s : ModelState) → IsSound s → BranchesStandFor self.old s → BranchesStandFor self.new (committed s xid.now) }
+    {
+        take(&mut self.working, xid);
+    }
+}

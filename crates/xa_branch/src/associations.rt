@@ -1,0 +1,68 @@
+ghost use Rattle.std.specs.Prelude.{◌≡◌, ℕ, Some, true};
+ghost use Rattle.std.specs.List.{list_any};
+ghost use Rattle.xa_model.specs.State.{State as ModelState, works_in};
+ghost use Rattle.xa_model.specs.Associations.{joined, resumed, not_resumed, suspended, not_suspended, ended};
+ghost use Rattle.xa_model.specs.Sound.{IsSound};
+ghost use Rattle.xa_branch.specs.Branches.{BranchesStandFor};
+ghost use Rattle.xa_branch.specs.Kinds.{ended_kind, resumed_kind};
+
+use crate::branches::Branches;
+use crate::changes::set;
+use crate::kind::Kind;
+use xa_xid::Xid;
+
+/// How the associations of branches change. Of an XID that isn't known nothing changes.
+impl Branches {
+    /// A session joins the branch: one more active association.
+    pub fn join(&mut self, xid: &Xid)
+        ensures { (s : ModelState) (n : ℕ) → IsSound s → BranchesStandFor self.old s → BranchesStandFor self.new (joined s n xid.now).after }
+    {
+        if let Some(working) = self.working_of(xid) {
+            set(&mut self.working, xid, working.with_one(Kind::Active));
+        }
+    }
+
+    /// A session resumes its work for the branch: an association of the kind `from`, the session's own suspended one or a
+    /// loose one, becomes active.
+    pub fn resume(&mut self, xid: &Xid, from: Kind)
+        ensures { (s : ModelState) (n : ℕ) → IsSound s → BranchesStandFor self.old s → resumed_kind s.associations n xid.now ≡ Some from → BranchesStandFor self.new (resumed s n xid.now).after }
+    {
+        if let Some(working) = self.working_of(xid) {
+            set(
+                &mut self.working,
+                xid,
+                working.less_one(from).with_one(Kind::Active),
+            );
+        }
+    }
+
+    /// A session suspends its work for the branch: an active association is suspended, or becomes loose where it migrates.
+    pub fn suspend(&mut self, xid: &Xid, migrates: bool)
+        ensures { (s : ModelState) (n : ℕ) → IsSound s → BranchesStandFor self.old s → list_any (works_in n xid.now) s.associations ≡ true → BranchesStandFor self.new (suspended s n migrates xid.now) }
+    {
+        if let Some(working) = self.working_of(xid) {
+            let rests = if migrates {
+                Kind::Loose
+            } else {
+                Kind::Suspended
+            };
+            set(
+                &mut self.working,
+                xid,
+                working.less_one(Kind::Active).with_one(rests),
+            );
+        }
+    }
+
+    /// An association of this kind ends: by an end of the session's work, or where the branch is marked and the session
+    /// would resume or suspend its work.
+    pub fn leave(&mut self, xid: &Xid, kind: Kind)
+        ensures ended { (s : ModelState) (n : ℕ) → IsSound s → BranchesStandFor self.old s → ended_kind s.associations n xid.now ≡ Some kind → BranchesStandFor self.new (ended s n xid.now) }
+        ensures not_resumed { (s : ModelState) (n : ℕ) → BranchesStandFor self.old s → resumed_kind s.associations n xid.now ≡ Some kind → BranchesStandFor self.new (not_resumed s n xid.now) }
+        ensures not_suspended { (s : ModelState) (n : ℕ) → BranchesStandFor self.old s → kind ≡ Kind.Active → list_any (works_in n xid.now) s.associations ≡ true → BranchesStandFor self.new (not_suspended s n xid.now) }
+    {
+        if let Some(working) = self.working_of(xid) {
+            set(&mut self.working, xid, working.less_one(kind));
+        }
+    }
+}

@@ -1,0 +1,68 @@
+ghost use Rattle.std.specs.Prelude.{◌≡◌, ◌≢◌, IfSome};
+ghost use Rattle.xa_model.specs.Answer.{plain};
+ghost use Rattle.xa_model.specs.Branches.{one_phase_refusal, two_phase_refusal, rollback_refusal, doom_refusal};
+ghost use Rattle.xa_branch.specs.Facts.{fact_of};
+
+use crate::known::Known;
+use xa_codes::{Code, Detail, XAER_NOTA, XAER_PROTO};
+use xa_frame::{Body, Reply};
+
+/// A reply that carries nothing.
+fn plain(code: Code) -> Reply
+    ensures { result ≡ plain code }
+{
+    Reply {
+        code,
+        detail: Detail::Nothing,
+        place: 0,
+        body: Body::Nothing,
+    }
+}
+
+/// Why a branch can't be committed in one phase: its XID isn't known, it is associated, or it is prepared or completed.
+pub fn one_phase_refusal(known: Known, is_associated: bool) -> Option<Reply>
+    ensures value { result ≡ one_phase_refusal (fact_of known) is_associated }
+    ensures served { IfSome result (λ r. r.detail ≢ Detail.Memory) }
+{
+    match known {
+        Known::Unknown => Some(plain(XAER_NOTA)),
+        Known::AtWork(_) if !is_associated => None,
+        _ => Some(plain(XAER_PROTO)),
+    }
+}
+
+/// Why a branch can't be committed in two phases: its XID isn't known, or it is neither prepared nor completed.
+pub fn two_phase_refusal(known: Known) -> Option<Reply>
+    ensures value { result ≡ two_phase_refusal (fact_of known) }
+    ensures served { IfSome result (λ r. r.detail ≢ Detail.Memory) }
+{
+    match known {
+        Known::Unknown => Some(plain(XAER_NOTA)),
+        Known::AtWork(_) => Some(plain(XAER_PROTO)),
+        Known::InDoubt | Known::Completed(_) => None,
+    }
+}
+
+/// Why a branch can't be rolled back: its XID isn't known, or it is associated.
+pub fn rollback_refusal(known: Known, is_associated: bool) -> Option<Reply>
+    ensures value { result ≡ rollback_refusal (fact_of known) is_associated }
+    ensures served { IfSome result (λ r. r.detail ≢ Detail.Memory) }
+{
+    match known {
+        Known::Unknown => Some(plain(XAER_NOTA)),
+        _ if is_associated => Some(plain(XAER_PROTO)),
+        _ => None,
+    }
+}
+
+/// Why the operator can't doom a branch: its XID isn't known, or it is prepared or completed.
+pub fn doom_refusal(known: Known) -> Option<Reply>
+    ensures value { result ≡ doom_refusal (fact_of known) }
+    ensures served { IfSome result (λ r. r.detail ≢ Detail.Memory) }
+{
+    match known {
+        Known::Unknown => Some(plain(XAER_NOTA)),
+        Known::AtWork(_) => None,
+        Known::InDoubt | Known::Completed(_) => Some(plain(XAER_PROTO)),
+    }
+}
