@@ -1,9 +1,9 @@
+use crate::rows::none_wrong;
 use mv_chain::{Chain, Fate};
 use std::alloc::{AllocError, Global};
-use std::test::Fail;
 
 /// What is asked of a chain, at a timestamp.
-#[derive(Clone, Copy, Debug)]
+#[derive(Clone, Copy)]
 enum Ask {
     Source,
     Value,
@@ -14,7 +14,7 @@ enum Ask {
     Settle(Fate),
 }
 
-#[derive(Clone, Copy, Debug, PartialEq, Eq)]
+#[derive(Clone, Copy, PartialEq, Eq)]
 enum Told {
     Done,
     From(u64),
@@ -96,17 +96,19 @@ fn answered(alloc: Global, chain: &mut Chain, ts: u64, ask: Ask) -> Result<Told,
     Ok(Told::Done)
 }
 
-#[test]
-fn rows(rt: HostRuntime) -> Result<(), Fail> {
-    for row in ROWS {
-        let mut chain = Chain::new(rt.alloc())?;
-        for (ts, ask, want) in row {
-            assert_eq!(rt;
-                answered(rt.alloc(), &mut chain, *ts, *ask)?,
-                *want,
-                "{ask:?}"
-            );
+fn wrong_answer(alloc: Global, chain: &mut Chain, row: &[(u64, Ask, Told)]) -> Option<usize> {
+    for (place, (ts, ask, want)) in row.iter().enumerate() {
+        if answered(alloc, chain, *ts, *ask) != Ok(*want) {
+            return Some(place);
         }
     }
-    Ok(())
+    None
+}
+
+#[test]
+fn rows(rt: HostRuntime) {
+    for row in ROWS {
+        let mut chain = Chain::new(rt.alloc()).expect(&rt, "a chain");
+        none_wrong(&rt, wrong_answer(rt.alloc(), &mut chain, row));
+    }
 }

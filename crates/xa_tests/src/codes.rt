@@ -1,47 +1,81 @@
+use crate::rows::none_wrong;
+use std::alloc::{AllocError, Global};
 use std::cmp::Ordering;
-use std::test::Fail;
 use xa_codes::{
-    Bytes, Call, TMASYNC, TMJOIN, TMMIGRATE, TMNOFLAGS, TMRESUME, TMSUCCESS, TMSUSPEND, XA_OK,
-    XAER_OUTSIDE, code_name, legal_flags, worked_flags,
+    Bytes, Call, Code, TMASYNC, TMJOIN, TMMIGRATE, TMNOFLAGS, TMRESUME, TMSUCCESS, TMSUSPEND,
+    XA_OK, XAER_OUTSIDE, code_name, legal_flags, worked_flags,
 };
+
+const NAMES: [(Code, &str); 7] = [
+    (XA_OK, "XA_OK"),
+    (107, "XA_RBTRANSIENT"),
+    (XAER_OUTSIDE, "XAER_OUTSIDE"),
+    (-9, "XAER_OUTSIDE"),
+    (1, "?"),
+    (108, "?"),
+    (-1, "?"),
+];
+
+fn is_named(code: Code, name: &str) -> bool {
+    code_name(code) == name
+}
+
+fn wrong_name(rows: &[(Code, &str)]) -> Option<usize> {
+    for (place, (code, name)) in rows.iter().enumerate() {
+        if !is_named(*code, name) {
+            return Some(place);
+        }
+    }
+    None
+}
 
 #[test]
 fn names(rt: HostRuntime) {
-    for (code, name) in [
-        (XA_OK, "XA_OK"),
-        (107, "XA_RBTRANSIENT"),
-        (XAER_OUTSIDE, "XAER_OUTSIDE"),
-        (-9, "XAER_OUTSIDE"),
-        (1, "?"),
-        (108, "?"),
-        (-1, "?"),
-    ] {
-        assert_eq!(rt; code_name(code), name);
+    none_wrong(&rt, wrong_name(&NAMES));
+}
+
+const FLAGS: [(Call, u32, bool); 6] = [
+    (Call::Start, TMJOIN | TMRESUME, false),
+    (Call::End, TMNOFLAGS, false),
+    (Call::End, TMSUCCESS | TMMIGRATE, false),
+    (Call::End, TMSUSPEND | TMMIGRATE, true),
+    (Call::Recover, TMASYNC, false),
+    (Call::Get, TMASYNC, true),
+];
+
+fn is_legal(call: Call, flags: u32) -> bool {
+    legal_flags(call, flags)
+}
+
+fn wrong_flags(rows: &[(Call, u32, bool)]) -> Option<usize> {
+    for (place, (call, flags, legal)) in rows.iter().enumerate() {
+        if is_legal(*call, *flags) != *legal {
+            return Some(place);
+        }
     }
+    None
 }
 
 #[test]
 fn flags(rt: HostRuntime) {
     worked_flags();
-    for (call, flags, legal) in [
-        (Call::Start, TMJOIN | TMRESUME, false),
-        (Call::End, TMNOFLAGS, false),
-        (Call::End, TMSUCCESS | TMMIGRATE, false),
-        (Call::End, TMSUSPEND | TMMIGRATE, true),
-        (Call::Recover, TMASYNC, false),
-        (Call::Get, TMASYNC, true),
-    ] {
-        assert_eq!(rt; legal_flags(call, flags), legal);
-    }
+    none_wrong(&rt, wrong_flags(&FLAGS));
+}
+
+fn is_copied(alloc: Global, bytes: &Bytes) -> Result<bool, AllocError> {
+    let again = Bytes::new(bytes.copied(alloc)?.into_vec());
+    Ok(*bytes == again)
+}
+
+fn is_less(first: &Bytes, other: &Bytes) -> bool {
+    first.cmp(other) == Ordering::Less
 }
 
 #[test]
-fn byte_strings(rt: HostRuntime) -> Result<(), Fail> {
-    let first = Bytes::from_slice(rt.alloc(), b"ab")?;
-    let longer = Bytes::new(first.copied(rt.alloc())?.into_vec());
-    assert!(rt; first == longer);
-    let other = Bytes::from_slice(rt.alloc(), b"abc")?;
-    assert_eq!(rt; first.cmp(&other), Ordering::Less);
-    assert_eq!(rt; other.as_slice().len(), 3);
-    Ok(())
+fn byte_strings(rt: HostRuntime) {
+    let first = Bytes::from_slice(rt.alloc(), b"ab").expect(&rt, "bytes");
+    let other = Bytes::from_slice(rt.alloc(), b"abc").expect(&rt, "bytes");
+    assert!(rt; is_copied(rt.alloc(), &first) == Ok(true));
+    assert!(rt; is_less(&first, &other));
+    assert!(rt; other.as_slice().len() == 3);
 }

@@ -1,8 +1,9 @@
+ghost use Rattle.xa_frame.specs.Limits.{IsRequest};
+
+use crate::rows::none_wrong;
 use std::alloc::{AllocError, Global};
 use std::io;
 use std::io::{Read, Write};
-use std::process::Abort;
-use std::test::Fail;
 use xa_codes::{Detail, XA_OK};
 use xa_desk::{Door, Served, serve};
 use xa_frame::{Body, Reply, Request, encode_request};
@@ -16,22 +17,43 @@ struct Keeper<'a> {
     left: Vec<u64>,
 }
 
+fn new_keeper(alloc: Global, answers: &[(u64, u64)]) -> Keeper {
+    Keeper {
+        alloc,
+        answers,
+        asked: Vec::new(alloc),
+        left: Vec::new(alloc),
+    }
+}
+
+impl Keeper<'_> {
+    fn keep(&mut self, session: u64, request: &Request)
+        requires { IsRequest request.now }
+    {
+        if let Ok(content) = encode_request(self.alloc, request) {
+            let _ = self.asked.push((session, content));
+        }
+    }
+
+    fn answer(&mut self) -> (u64, u64) {
+        match self.answers.split_first() {
+            Some((first, rest)) => {
+                self.answers = rest;
+                *first
+            }
+            None => (0, 0),
+        }
+    }
+}
+
 impl Door for Keeper<'_> {
     ghost called = { λ session door request reply after. Unit {0} };
 
     ghost left = { λ session door after. Unit {0} };
 
     fn call(&mut self, session: u64, request: Request) -> Reply {
-        if let Ok(content) = encode_request(self.alloc, &request) {
-            let _ = self.asked.push((session, content));
-        }
-        let (place, number) = match self.answers.split_first() {
-            Some((first, rest)) => {
-                self.answers = rest;
-                *first
-            }
-            None => (0, 0),
-        };
+        self.keep(session, &request);
+        let (place, number) = self.answer();
         Reply {
             code: XA_OK,
             detail: Detail::Nothing,
@@ -113,12 +135,7 @@ struct Outcome {
 }
 
 fn play(alloc: Global, mut reader: Source, mut writer: Sink, answers: &[(u64, u64)]) -> Outcome {
-    let mut door = Keeper {
-        alloc,
-        answers,
-        asked: Vec::new(alloc),
-        left: Vec::new(alloc),
-    };
+    let mut door = new_keeper(alloc, answers);
     let served = serve(alloc, &mut door, &mut reader, &mut writer, 7);
     let Keeper { asked, left, .. } = door;
     Outcome {
@@ -158,151 +175,211 @@ struct Talk {
     output: Vec<u8>,
 }
 
-fn gets(alloc: Global, frames: u32) -> Result<Talk, AllocError> {
-    let mut input = Vec::new(alloc);
-    let mut answers = Vec::new(alloc);
-    let mut output = Vec::new(alloc);
-    for number in 0..frames {
-        put_get(&mut input, number)?;
+impl Talk {
+    fn put(&mut self, number: u32) -> Result<(), AllocError> {
         let place = u64::from(number) + 3;
         let answer = u64::from(number) + 0x1_0000_0001;
-        answers.push((place, answer))?;
-        put_numbered(&mut output, place, answer)?;
+        put_get(&mut self.input, number)?;
+        self.answers.push((place, answer))?;
+        put_numbered(&mut self.output, place, answer)
     }
-    Ok(Talk {
-        input,
-        answers,
-        output,
-    })
 }
 
-/// The door was asked the first so many gets, in order and for session 7, and then it was hung up once.
-fn assert_asked(rt: &impl Abort, input: &[u8], outcome: &Outcome, frames: usize) {
-    assert_eq!(rt; outcome.asked.len(), frames);
-    for ((session, content), frame) in outcome.asked.iter().zip(input.chunks(GET)) {
-        assert_eq!(rt; *session, 7);
-        assert_eq!(rt; content.as_slice(), frame.get(4..).unwrap_or_default());
+fn gets(alloc: Global, frames: u32) -> Result<Talk, AllocError> {
+    let mut talk = Talk {
+        input: Vec::new(alloc),
+        answers: Vec::new(alloc),
+        output: Vec::new(alloc),
+    };
+    for number in 0..frames {
+        talk.put(number)?;
     }
-    assert_eq!(rt; outcome.left.as_slice(), [7].as_slice());
+    Ok(talk)
 }
 
-#[test]
-fn pieces(rt: HostRuntime) -> Result<(), Fail> {
-    let talk = gets(rt.alloc(), 1_025)?;
-    for (given, taken) in [(usize::MAX, usize::MAX), (1, 1), (3, 5), (usize::MAX, 1)] {
-        let reader = Source {
-            bytes: &talk.input,
-            step: given,
-            fails: false,
-        };
-        let writer = Sink::new(rt.alloc(), usize::MAX, taken, false);
-        let outcome = play(rt.alloc(), reader, writer, &talk.answers);
-        assert_eq!(rt; outcome.served, Served::Ended);
-        assert_eq!(rt; outcome.written.as_slice(), talk.output.as_slice());
-        assert_asked(&rt, &talk.input, &outcome, 1_025);
-    }
-    Ok(())
-}
-
-#[test]
-fn broken_readers(rt: HostRuntime) -> Result<(), Fail> {
-    let talk = gets(rt.alloc(), 2)?;
-    for fails in [false, true] {
-        for n in 0..=talk.input.len() {
-            let reader = Source {
-                bytes: talk.input.get(..n).unwrap_or_default(),
-                step: 4,
-                fails,
-            };
-            let writer = Sink::new(rt.alloc(), usize::MAX, 4, false);
-            let outcome = play(rt.alloc(), reader, writer, &talk.answers);
-            let end = if n % GET == 0 && !fails {
-                Served::Ended
-            } else {
-                Served::ReadFault
-            };
-            assert_eq!(rt; outcome.served, end);
-            assert_eq!(rt;
-                outcome.written.as_slice(),
-                talk.output
-                    .get(..(n / GET).saturating_mul(NUMBERED))
-                    .unwrap_or_default()
-            );
-            assert_asked(&rt, &talk.input, &outcome, n / GET);
+/// What was asked is each frame's content, in order and for session 7.
+fn are_frames(asked: &[(u64, Vec<u8>)], input: &[u8]) -> bool {
+    for ((session, content), frame) in asked.iter().zip(input.chunks(GET)) {
+        if *session != 7 || content.as_slice() != frame.get(4..).unwrap_or_default() {
+            return false;
         }
     }
-    Ok(())
+    true
+}
+
+/// The door was asked the first so many gets of the input, and then it was hung up once.
+fn is_asked(outcome: &Outcome, input: &[u8], frames: usize) -> bool {
+    outcome.asked.len() == frames
+        && are_frames(&outcome.asked, input)
+        && outcome.left.as_slice() == [7].as_slice()
+}
+
+fn is_answered(outcome: &Outcome, served: Served, written: &[u8]) -> bool {
+    outcome.served == served && outcome.written.as_slice() == written
+}
+
+fn is_whole(alloc: Global, talk: &Talk, given: usize, taken: usize) -> bool {
+    let reader = Source {
+        bytes: &talk.input,
+        step: given,
+        fails: false,
+    };
+    let writer = Sink::new(alloc, usize::MAX, taken, false);
+    let outcome = play(alloc, reader, writer, &talk.answers);
+    is_answered(&outcome, Served::Ended, &talk.output) && is_asked(&outcome, &talk.input, 1_025)
+}
+
+fn wrong_pieces(alloc: Global, talk: &Talk, rows: &[(usize, usize)]) -> Option<usize> {
+    for (place, (given, taken)) in rows.iter().enumerate() {
+        if !is_whole(alloc, talk, *given, *taken) {
+            return Some(place);
+        }
+    }
+    None
 }
 
 #[test]
-fn broken_writers(rt: HostRuntime) -> Result<(), Fail> {
-    let talk = gets(rt.alloc(), 2)?;
-    for fails in [false, true] {
-        for n in 0..talk.output.len() {
-            let reader = Source {
-                bytes: &talk.input,
-                step: 4,
-                fails: false,
-            };
-            let writer = Sink::new(rt.alloc(), n, 4, fails);
-            let outcome = play(rt.alloc(), reader, writer, &talk.answers);
-            assert_eq!(rt; outcome.served, Served::WriteFault);
-            assert_eq!(rt;
-                outcome.written.as_slice(),
-                talk.output.get(..n).unwrap_or_default()
-            );
-            assert_asked(&rt, &talk.input, &outcome, n / NUMBERED + 1);
+fn pieces(rt: HostRuntime) {
+    let talk = gets(rt.alloc(), 1_025).expect(&rt, "a talk");
+    let rows = [(usize::MAX, usize::MAX), (1, 1), (3, 5), (usize::MAX, 1)];
+    none_wrong(&rt, wrong_pieces(rt.alloc(), &talk, &rows));
+}
+
+/// The input is cut behind so many bytes, where the reader ends or fails.
+fn is_read(alloc: Global, talk: &Talk, n: usize, fails: bool) -> bool {
+    let reader = Source {
+        bytes: talk.input.get(..n).unwrap_or_default(),
+        step: 4,
+        fails,
+    };
+    let writer = Sink::new(alloc, usize::MAX, 4, false);
+    let outcome = play(alloc, reader, writer, &talk.answers);
+    let end = if n % GET == 0 && !fails {
+        Served::Ended
+    } else {
+        Served::ReadFault
+    };
+    let length = (n / GET).saturating_mul(NUMBERED);
+    is_answered(&outcome, end, talk.output.get(..length).unwrap_or_default())
+        && is_asked(&outcome, &talk.input, n / GET)
+}
+
+fn wrong_read(alloc: Global, talk: &Talk, fails: bool) -> Option<usize> {
+    for n in 0..=talk.input.len() {
+        if !is_read(alloc, talk, n, fails) {
+            return Some(n);
         }
     }
-    Ok(())
+    None
+}
+
+#[test]
+fn broken_readers(rt: HostRuntime) {
+    let talk = gets(rt.alloc(), 2).expect(&rt, "a talk");
+    none_wrong(&rt, wrong_read(rt.alloc(), &talk, false));
+    none_wrong(&rt, wrong_read(rt.alloc(), &talk, true));
+}
+
+/// The writer takes so many bytes, and then nothing or fails.
+fn is_written(alloc: Global, talk: &Talk, n: usize, fails: bool) -> bool {
+    let reader = Source {
+        bytes: &talk.input,
+        step: 4,
+        fails: false,
+    };
+    let writer = Sink::new(alloc, n, 4, fails);
+    let outcome = play(alloc, reader, writer, &talk.answers);
+    is_answered(
+        &outcome,
+        Served::WriteFault,
+        talk.output.get(..n).unwrap_or_default(),
+    ) && is_asked(&outcome, &talk.input, n / NUMBERED + 1)
+}
+
+fn wrong_write(alloc: Global, talk: &Talk, fails: bool) -> Option<usize> {
+    for n in 0..talk.output.len() {
+        if !is_written(alloc, talk, n, fails) {
+            return Some(n);
+        }
+    }
+    None
+}
+
+#[test]
+fn broken_writers(rt: HostRuntime) {
+    let talk = gets(rt.alloc(), 2).expect(&rt, "a talk");
+    none_wrong(&rt, wrong_write(rt.alloc(), &talk, false));
+    none_wrong(&rt, wrong_write(rt.alloc(), &talk, true));
 }
 
 const REFUSED: [u8; 19] = [
     0, 0, 0, 15, 1, 255, 255, 255, 251, 6, 0, 0, 0, 0, 0, 0, 0, 0, 0,
 ];
 
-/// A content of 65,535 bytes that begins 010f, the contents 01ff, 010f00 and the empty one, a length of 65,536, a byte.
+/// The contents 01ff, 010f00 and the empty one, a length of 65,536, a byte.
+const BAD: [u8; 22] = [
+    0, 0, 0, 2, 1, 255, 0, 0, 0, 3, 1, 15, 0, 0, 0, 0, 0, 0, 1, 0, 0, 7,
+];
+
+/// A content of 65,535 bytes that begins 010f, and then the bad ones.
 fn bad_frames(alloc: Global) -> Result<Vec<u8>, AllocError> {
-    let mut input = Vec::new(alloc);
-    input.extend_from_slice(&[0, 0, 255, 255, 1, 15])?;
-    input.extend_from_slice(&[0; 65_533])?;
-    input.extend_from_slice(&[0, 0, 0, 2, 1, 255])?;
-    input.extend_from_slice(&[0, 0, 0, 3, 1, 15, 0])?;
-    input.extend_from_slice(&[0, 0, 0, 0])?;
-    input.extend_from_slice(&[0, 1, 0, 0, 7])?;
+    let mut input = [0, 0, 255, 255, 1, 15].to_vec(alloc)?;
+    for _ in 0..65_533 {
+        input.push(0)?;
+    }
+    input.extend_from_slice(&BAD)?;
     Ok(input)
 }
 
-/// Each content is refused, and then the length: so many bytes a time are given, so many are taken, and so it ends.
-#[test]
-fn refuses(rt: HostRuntime) -> Result<(), Fail> {
-    let input = bad_frames(rt.alloc())?;
-    let mut replies = Vec::new(rt.alloc());
+fn refusals(alloc: Global) -> Result<Vec<u8>, AllocError> {
+    let mut replies = Vec::new(alloc);
     for _ in 0..5 {
         replies.extend_from_slice(&REFUSED)?;
     }
-    for (step, room, end) in [
+    Ok(replies)
+}
+
+/// So many bytes a time are given, so many are taken, and so it ends.
+type Refusal = (usize, usize, Served);
+
+fn is_refused(alloc: Global, bytes: &[u8], replies: &[u8], refusal: Refusal) -> bool {
+    let (step, room, end) = refusal;
+    let reader = Source {
+        bytes,
+        step,
+        fails: false,
+    };
+    let writer = Sink::new(alloc, room, usize::MAX, true);
+    let outcome = play(alloc, reader, writer, &[]);
+    is_answered(
+        &outcome,
+        end,
+        replies.get(..room.min(95)).unwrap_or_default(),
+    ) && outcome.unread == 1
+        && is_asked(&outcome, &[], 0)
+}
+
+fn wrong_refusal(alloc: Global, bytes: &[u8], replies: &[u8], rows: &[Refusal]) -> Option<usize> {
+    for (place, row) in rows.iter().enumerate() {
+        if !is_refused(alloc, bytes, replies, *row) {
+            return Some(place);
+        }
+    }
+    None
+}
+
+/// Each content is refused, and then the length.
+#[test]
+fn refuses(rt: HostRuntime) {
+    let input = bad_frames(rt.alloc()).expect(&rt, "frames");
+    let replies = refusals(rt.alloc()).expect(&rt, "replies");
+    let rows = [
         (usize::MAX, usize::MAX, Served::TooLong),
         (1, usize::MAX, Served::TooLong),
         (usize::MAX, 94, Served::WriteFault),
         (usize::MAX, 76, Served::WriteFault),
-    ] {
-        let reader = Source {
-            bytes: &input,
-            step,
-            fails: false,
-        };
-        let writer = Sink::new(rt.alloc(), room, usize::MAX, true);
-        let outcome = play(rt.alloc(), reader, writer, &[]);
-        assert_eq!(rt; outcome.served, end);
-        assert_eq!(rt; outcome.unread, 1);
-        assert_eq!(rt;
-            outcome.written.as_slice(),
-            replies.get(..room.min(95)).unwrap_or_default()
-        );
-        assert_asked(&rt, &[], &outcome, 0);
-    }
-    Ok(())
+    ];
+    none_wrong(&rt, wrong_refusal(rt.alloc(), &input, &replies, &rows));
 }
 
 /// Start of 1:aa:bb, and the reply at place 3.
@@ -313,18 +390,22 @@ const BEGUN: [u8; 27] = [
 ];
 
 /// Over std's own reader and writer.
+fn begun(alloc: Global, door: &mut Keeper) -> (Served, Vec<u8>) {
+    let mut reader = START.as_slice();
+    let mut output = Vec::new(alloc);
+    let served = serve(alloc, door, &mut reader, &mut output, 1);
+    (served, output)
+}
+
+fn begins_right(alloc: Global) -> bool {
+    let mut door = new_keeper(alloc, &[(3, 0x1_0000_0001)]);
+    let (served, output) = begun(alloc, &mut door);
+    served == Served::Ended
+        && output.as_slice() == BEGUN.as_slice()
+        && door.left.as_slice() == [1].as_slice()
+}
+
 #[test]
 fn begins(rt: HostRuntime) {
-    let mut reader = START.as_slice();
-    let mut output = Vec::new(rt.alloc());
-    let mut door = Keeper {
-        alloc: rt.alloc(),
-        answers: &[(3, 0x1_0000_0001)],
-        asked: Vec::new(rt.alloc()),
-        left: Vec::new(rt.alloc()),
-    };
-    let served = serve(rt.alloc(), &mut door, &mut reader, &mut output, 1);
-    assert_eq!(rt; served, Served::Ended);
-    assert_eq!(rt; output.as_slice(), BEGUN.as_slice());
-    assert_eq!(rt; door.left.as_slice(), [1].as_slice());
+    assert!(rt; begins_right(rt.alloc()));
 }

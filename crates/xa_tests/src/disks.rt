@@ -1,73 +1,124 @@
+use crate::folders::path_of;
+use std::alloc::Global;
+use std::fs;
 use std::io::ErrorKind;
 use std::os::unix::fs::MetadataExt;
-use std::test::Fail;
-use std::{env, fs, process};
 use xa_disk::{Disk, DiskFault, Effect, FileDisk, FileFault, MemDisk};
 
-#[test]
-fn a_crash_drops_what_no_sync_made_stable(rt: HostRuntime) -> Result<(), Fail> {
-    let mut disk = MemDisk::new(rt.alloc());
-    disk.write_at(1, b"ab".as_slice())?;
-    disk.sync()?;
-    disk.write_at(2, b"cde".as_slice())?;
-    disk.fail(5, Effect::Lost)?;
-    disk.crash()?;
-    assert_eq!(rt; disk.length()?, 3);
+// A write that is synced, one that isn't, and a plan.
+fn written(disk: &mut MemDisk) -> Option<()> {
+    disk.write_at(1, b"ab".as_slice()).ok()?;
+    disk.sync().ok()?;
+    disk.write_at(2, b"cde".as_slice()).ok()?;
+    disk.fail(5, Effect::Lost).ok()
+}
+
+// What is there then: its length, and its first three bytes.
+fn length_and_front(disk: &mut MemDisk) -> Option<(u64, [u8; 3])> {
+    let length = disk.length().ok()?;
     let mut bytes = [9; 3];
-    disk.read_at(0, &mut bytes)?;
-    assert_eq!(rt; bytes, [0, b'a', b'b']);
-    Ok(())
+    disk.read_at(0, &mut bytes).ok()?;
+    Some((length, bytes))
+}
+
+fn crashed(alloc: Global) -> Option<(u64, [u8; 3])> {
+    let mut disk = MemDisk::new(alloc);
+    written(&mut disk)?;
+    disk.crash().ok()?;
+    length_and_front(&mut disk)
 }
 
 #[test]
-fn planned_faults_come_once(rt: HostRuntime) -> Result<(), Fail> {
-    let mut disk = MemDisk::with_bytes(vec![in rt.alloc(); 7, 8]?);
-    disk.fail(2, Effect::Lost)?;
-    disk.fail(2, Effect::Kept)?;
-    assert_eq!(rt; disk.length(), Ok(2));
-    assert_eq!(rt; disk.write_at(1, [9].as_slice()), Err(DiskFault));
+fn a_crash_drops_what_no_sync_made_stable(rt: HostRuntime) {
+    assert!(rt; crashed(rt.alloc()) == Some((3, [0, b'a', b'b'])));
+}
+
+// Two bytes of 7, of which the second call keeps its effect and fails, and the fourth fails.
+fn planned(alloc: Global) -> Option<MemDisk> {
+    let mut disk = MemDisk::with_bytes(vec![in alloc; 7, 8].ok()?);
+    disk.fail(2, Effect::Lost).ok()?;
+    disk.fail(2, Effect::Kept).ok()?;
+    Some(disk)
+}
+
+fn length_is(disk: &mut MemDisk, length: u64) -> bool {
+    disk.length() == Ok(length)
+}
+
+fn write_fails(disk: &mut MemDisk, at: u64, bytes: &[u8]) -> bool {
+    disk.write_at(at, bytes) == Err(DiskFault)
+}
+
+fn two_bytes(disk: &mut MemDisk, at: u64) -> Result<[u8; 2], DiskFault> {
     let mut bytes = [0; 2];
-    assert_eq!(rt; disk.read_at(0, &mut bytes), Ok(()));
-    assert_eq!(rt; bytes, [7, 9]);
-    assert_eq!(rt; disk.read_at(1, &mut bytes), Err(DiskFault));
-    Ok(())
+    disk.read_at(at, &mut bytes)?;
+    Ok(bytes)
+}
+
+#[test]
+fn planned_faults_come_once(rt: HostRuntime) {
+    let mut disk = planned(rt.alloc()).expect(&rt, "a disk with plans");
+    assert!(rt; length_is(&mut disk, 2));
+    assert!(rt; write_fails(&mut disk, 1, &[9]));
+    assert!(rt; two_bytes(&mut disk, 0) == Ok([7, 9]));
+    assert!(rt; two_bytes(&mut disk, 1) == Err(DiskFault));
+}
+
+fn planned_sync(alloc: Global) -> Option<MemDisk> {
+    let mut disk = MemDisk::new(alloc);
+    disk.fail(2, Effect::Kept).ok()?;
+    disk.fail(3, Effect::Kept).ok()?;
+    disk.write_at(0, b"ab".as_slice()).ok()?;
+    Some(disk)
+}
+
+fn sync_fails(disk: &mut MemDisk) -> bool {
+    disk.sync() == Err(DiskFault)
 }
 
 // A write that fails with its effect kept is lost by a crash, and a sync that does so is not.
 #[test]
-fn a_kept_sync_outlasts_a_crash(rt: HostRuntime) -> Result<(), Fail> {
-    let mut disk = MemDisk::new(rt.alloc());
-    disk.fail(2, Effect::Kept)?;
-    disk.fail(3, Effect::Kept)?;
-    disk.write_at(0, b"ab".as_slice())?;
-    assert_eq!(rt; disk.sync(), Err(DiskFault));
-    assert_eq!(rt; disk.write_at(2, b"c".as_slice()), Err(DiskFault));
-    assert_eq!(rt; disk.length(), Ok(3));
-    disk.crash()?;
-    assert_eq!(rt; disk.length(), Ok(2));
-    Ok(())
+fn a_kept_sync_outlasts_a_crash(rt: HostRuntime) {
+    let mut disk = planned_sync(rt.alloc()).expect(&rt, "a disk with plans");
+    assert!(rt; sync_fails(&mut disk));
+    assert!(rt; write_fails(&mut disk, 2, b"c"));
+    assert!(rt; length_is(&mut disk, 3));
+    assert!(rt; disk.crash().is_ok());
+    assert!(rt; length_is(&mut disk, 2));
+}
+
+// Bytes 2 to 4 are written and synced.
+fn file_at(rt: &HostRuntime, path: &str) -> Option<FileDisk> {
+    let mut disk = FileDisk::at(rt, path).ok()?;
+    disk.write_at(2, b"abc".as_slice()).ok()?;
+    disk.sync().ok()?;
+    Some(disk)
+}
+
+fn four_bytes(disk: &mut FileDisk, at: u64) -> Result<[u8; 4], DiskFault> {
+    let mut bytes = [9; 4];
+    disk.read_at(at, &mut bytes)?;
+    Ok(bytes)
+}
+
+fn has_five(disk: &mut FileDisk) -> bool {
+    disk.length() == Ok(5)
+}
+
+fn error_kind(disk: &FileDisk) -> Option<ErrorKind> {
+    disk.error().map(|error| error.kind())
 }
 
 #[test]
-fn a_file_in_a_folder(rt: HostRuntime) -> Result<(), Fail> {
-    let alloc = rt.alloc();
-    let name = format!(in alloc; "xa_disk-{}", process::id(rt.process()))?;
-    let path = env::temp_dir(&rt)?.join(alloc, name.as_str())?;
-    let mut disk = FileDisk::at(&rt, path.as_str())?;
-    disk.write_at(2, b"abc".as_slice())?;
-    disk.sync()?;
-    assert_eq!(rt; disk.length(), Ok(5));
-    let mut bytes = [9; 4];
-    disk.read_at(0, &mut bytes)?;
-    assert_eq!(rt; bytes, [0, 0, b'a', b'b']);
-    assert_eq!(rt; disk.error().is_none(), true);
-    assert_eq!(rt; disk.read_at(2, &mut bytes), Err(DiskFault));
-    assert_eq!(rt;
-        disk.error().map(|error| error.kind()),
-        Some(ErrorKind::UnexpectedEof)
-    );
-    fs::remove_file(&rt, path.as_str())?;
-    Ok(())
+fn a_file_in_a_folder(rt: HostRuntime) {
+    let path = path_of(&rt, "xa_disk").expect(&rt, "a path");
+    let mut disk = file_at(&rt, path.as_str()).expect(&rt, "a disk");
+    assert!(rt; has_five(&mut disk));
+    assert!(rt; four_bytes(&mut disk, 0) == Ok([0, 0, b'a', b'b']));
+    assert!(rt; error_kind(&disk).is_none());
+    assert!(rt; four_bytes(&mut disk, 2) == Err(DiskFault));
+    assert!(rt; error_kind(&disk) == Some(ErrorKind::UnexpectedEof));
+    assert!(rt; fs::remove_file(&rt, path.as_str()).is_ok());
 }
 
 // Why a path isn't taken as a disk.
@@ -75,37 +126,50 @@ fn refused(rt: &HostRuntime, path: &str) -> Option<FileFault> {
     FileDisk::open(rt, path).err()
 }
 
-#[test]
-fn a_file_is_one_disk(rt: HostRuntime) -> Result<(), Fail> {
-    let alloc = rt.alloc();
-    let name = format!(in alloc; "xa_disk-one-{}", process::id(rt.process()))?;
-    let path = env::temp_dir(&rt)?.join(alloc, name.as_str())?;
-    let disk = FileDisk::open(&rt, path.as_str())?;
-    assert_eq!(rt; fs::metadata(&rt, path.as_str())?.mode() & 0o777, 0o600);
-    let in_use = match refused(&rt, path.as_str()) {
+fn is_in_use(rt: &HostRuntime, path: &str) -> bool {
+    match refused(rt, path) {
         Some(FileFault::InUse) => true,
         _ => false,
-    };
-    assert_eq!(rt; in_use, true);
-    drop(disk);
-    assert_eq!(rt; refused(&rt, path.as_str()).is_none(), true);
-    fs::remove_file(&rt, path.as_str())?;
-    Ok(())
+    }
+}
+
+fn mode(rt: &HostRuntime, path: &str) -> Option<u32> {
+    Some(fs::metadata(rt, path).ok()?.mode() & 0o777)
+}
+
+// While the file is a disk, it is read by its owner alone, and no other disk.
+fn is_one_disk(rt: &HostRuntime, path: &str) -> bool {
+    match FileDisk::open(rt, path) {
+        Ok(_disk) => mode(rt, path) == Some(0o600) && is_in_use(rt, path),
+        Err(_) => false,
+    }
 }
 
 #[test]
-fn other_files_are_no_disks(rt: HostRuntime) -> Result<(), Fail> {
-    for path in ["/dev/null", "/"] {
-        let irregular = match refused(&rt, path) {
-            Some(FileFault::Irregular) => true,
-            _ => false,
-        };
-        assert_eq!(rt; irregular, true, "{path}");
+fn a_file_is_one_disk(rt: HostRuntime) {
+    let path = path_of(&rt, "xa_disk-one").expect(&rt, "a path");
+    assert!(rt; is_one_disk(&rt, path.as_str()));
+    assert!(rt; refused(&rt, path.as_str()).is_none());
+    assert!(rt; fs::remove_file(&rt, path.as_str()).is_ok());
+}
+
+fn is_irregular(rt: &HostRuntime, path: &str) -> bool {
+    match refused(rt, path) {
+        Some(FileFault::Irregular) => true,
+        _ => false,
     }
-    let kind = match refused(&rt, "/dev/null/log") {
+}
+
+fn opening_kind(rt: &HostRuntime, path: &str) -> Option<ErrorKind> {
+    match refused(rt, path) {
         Some(FileFault::Opening(error)) => Some(error.kind()),
         _ => None,
-    };
-    assert_eq!(rt; kind, Some(ErrorKind::NotADirectory));
-    Ok(())
+    }
+}
+
+#[test]
+fn other_files_are_no_disks(rt: HostRuntime) {
+    assert!(rt; is_irregular(&rt, "/dev/null"));
+    assert!(rt; is_irregular(&rt, "/"));
+    assert!(rt; opening_kind(&rt, "/dev/null/log") == Some(ErrorKind::NotADirectory));
 }

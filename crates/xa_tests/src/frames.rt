@@ -1,5 +1,5 @@
+use crate::rows::none_wrong;
 use std::alloc::{AllocError, Global};
-use std::test::Fail;
 use xa_codes::{Bytes, Detail, XA_OK, XAER_INVAL};
 use xa_frame::{
     Body, FrameFault, Reply, Request, decode_reply, decode_request, encode_reply, encode_request,
@@ -13,81 +13,118 @@ const BEGUN: [u8; 23] = [
     1, 0, 0, 0, 0, 0, 0, 0, 0, 0, 0, 0, 0, 3, 1, 0, 0, 0, 1, 0, 0, 0, 1,
 ];
 
-#[test]
-fn start(rt: HostRuntime) -> Result<(), Fail> {
-    worked_contents();
-    let xid = Xid::take_text(b"1:aa:bb").ok_or("an XID")?;
-    let request = Request::Start { flags: 0, xid };
-    let content = encode_request(rt.alloc(), &request)?;
-    assert_eq!(rt; content.as_slice(), START.as_slice());
-    let read = decode_request(rt.alloc(), &START).ok().ok_or("a start")?;
-    assert!(rt; matches!(read, Request::Start { flags: 0, .. }));
-    Ok(())
+pub fn is_content(content: Option<Vec<u8>>, bytes: &[u8]) -> bool {
+    match content {
+        Some(content) => content.as_slice() == bytes,
+        None => false,
+    }
+}
+
+fn start_content(alloc: Global) -> Option<Vec<u8>> {
+    let xid = Xid::take_text(b"1:aa:bb")?;
+    encode_request(alloc, &Request::Start { flags: 0, xid }).ok()
+}
+
+fn reads_start(alloc: Global) -> bool {
+    match decode_request(alloc, &START) {
+        Ok(read) => matches!(read, Request::Start { flags: 0, .. }),
+        Err(_) => false,
+    }
 }
 
 #[test]
-fn begun(rt: HostRuntime) -> Result<(), Fail> {
+fn start(rt: HostRuntime) {
+    worked_contents();
+    assert!(rt; is_content(start_content(rt.alloc()), &START));
+    assert!(rt; reads_start(rt.alloc()));
+}
+
+fn begun_content(alloc: Global) -> Option<Vec<u8>> {
     let reply = Reply {
         code: XA_OK,
         detail: Detail::Nothing,
         place: 3,
         body: Body::Number(0x1_0000_0001),
     };
-    let content = encode_reply(rt.alloc(), &reply)?;
-    assert_eq!(rt; content.as_slice(), BEGUN.as_slice());
-    let read = decode_reply(rt.alloc(), &BEGUN).ok().ok_or("a reply")?;
-    assert!(rt; matches!(read.body, Body::Number(0x1_0000_0001)));
-    assert_eq!(rt; read.place, 3);
-    Ok(())
+    encode_reply(alloc, &reply).ok()
+}
+
+fn reads_begun(alloc: Global) -> bool {
+    match decode_reply(alloc, &BEGUN) {
+        Ok(read) => read.place == 3 && matches!(read.body, Body::Number(0x1_0000_0001)),
+        Err(_) => false,
+    }
 }
 
 #[test]
-fn two_xids(rt: HostRuntime) -> Result<(), Fail> {
-    let content = [
-        1, 0, 0, 0, 2, 0, 0, 0, 0, 0, 0, 0, 0, 9, 4, 0, 2, 0, 0, 0, 1, 1, 0, 0xaa, 0, 0, 0, 2, 1,
-        1, 0xbb, 0xcc,
-    ];
-    let read = decode_reply(rt.alloc(), &content).ok().ok_or("a reply")?;
-    let again = encode_reply(rt.alloc(), &read)?;
-    assert_eq!(rt; again.as_slice(), content.as_slice());
-    let count = match &read.body {
-        Body::Xids(xids) => xids.as_slice().len(),
-        _ => 0,
-    };
-    assert_eq!(rt; count, 2);
-    Ok(())
+fn begun(rt: HostRuntime) {
+    assert!(rt; is_content(begun_content(rt.alloc()), &BEGUN));
+    assert!(rt; reads_begun(rt.alloc()));
+}
+
+const TWO_XIDS: [u8; 32] = [
+    1, 0, 0, 0, 2, 0, 0, 0, 0, 0, 0, 0, 0, 9, 4, 0, 2, 0, 0, 0, 1, 1, 0, 0xaa, 0, 0, 0, 2, 1, 1,
+    0xbb, 0xcc,
+];
+
+pub fn reply_again(alloc: Global, content: &[u8]) -> Option<Vec<u8>> {
+    match decode_reply(alloc, content) {
+        Ok(reply) => encode_reply(alloc, &reply).ok(),
+        Err(_) => None,
+    }
+}
+
+fn count_of_xids(alloc: Global, content: &[u8]) -> usize {
+    match decode_reply(alloc, content) {
+        Ok(reply) => match &reply.body {
+            Body::Xids(xids) => xids.as_slice().len(),
+            _ => 0,
+        },
+        Err(_) => 0,
+    }
 }
 
 #[test]
-fn refused(rt: HostRuntime) -> Result<(), Fail> {
+fn two_xids(rt: HostRuntime) {
+    assert!(rt; is_content(reply_again(rt.alloc(), &TWO_XIDS), &TWO_XIDS));
+    assert!(rt; count_of_xids(rt.alloc(), &TWO_XIDS) == 2);
+}
+
+const REFUSED: [u8; 15] = [1, 255, 255, 255, 251, 6, 0, 0, 0, 0, 0, 0, 0, 0, 0];
+
+fn refused_content(alloc: Global) -> Option<Vec<u8>> {
     let reply = Reply {
         code: XAER_INVAL,
         detail: Detail::Frame,
         place: 0,
         body: Body::Nothing,
     };
-    let content = encode_reply(rt.alloc(), &reply)?;
-    assert_eq!(rt;
-        content.as_slice(),
-        [1, 255, 255, 255, 251, 6, 0, 0, 0, 0, 0, 0, 0, 0, 0].as_slice()
-    );
-    Ok(())
+    encode_reply(alloc, &reply).ok()
 }
 
 #[test]
-fn puts(rt: HostRuntime) -> Result<(), Fail> {
-    let request = Request::Put {
-        key: Bytes::from_slice(rt.alloc(), b"k")?,
-        value: Bytes::from_slice(rt.alloc(), b"v")?,
-    };
-    let content = encode_request(rt.alloc(), &request)?;
-    assert_eq!(rt; content.as_slice(), [1, 11, 1, 0x6b, 0, 1, 0x76].as_slice());
-    Ok(())
+fn refused(rt: HostRuntime) {
+    assert!(rt; is_content(refused_content(rt.alloc()), &REFUSED));
 }
+
+fn put_content(alloc: Global) -> Option<Vec<u8>> {
+    let request = Request::Put {
+        key: Bytes::from_slice(alloc, b"k").ok()?,
+        value: Bytes::from_slice(alloc, b"v").ok()?,
+    };
+    encode_request(alloc, &request).ok()
+}
+
+#[test]
+fn puts(rt: HostRuntime) {
+    assert!(rt; is_content(put_content(rt.alloc()), &[1, 11, 1, 0x6b, 0, 1, 0x76]));
+}
+
+type Content = (&'static [u8], &'static [u8], &'static [u8]);
 
 /// A content of each operation; what each of its prefixes is, from the empty one to the whole; and what changes of each
 /// byte make of it. k: decoded, S: Short, V: Version, O: Operation, F: Field, T: Trailing.
-const CONTENTS: [(&[u8], &[u8], &[u8]); 15] = [
+const CONTENTS: [Content; 15] = [
     (&[1, 1, 0, 0, 0, 0, 1, 0x78], b"SSSSSSSSk", b"vokkkkik"),
     (&[1, 2, 0, 0, 0, 0], b"SSSSSSk", b"vokkkk"),
     (&START, b"SSSSSSFFFFFFFFk", b"vokkkkkkkkgqkk"),
@@ -174,15 +211,28 @@ fn letter(alloc: Global, content: &[u8]) -> u8 {
     }
 }
 
-#[test]
-fn prefixes(rt: HostRuntime) {
-    for (content, cuts, _) in CONTENTS {
-        assert_eq!(rt; content.len().checked_add(1), Some(cuts.len()));
-        for (n, cut) in cuts.iter().enumerate() {
-            let prefix = content.get(..n).unwrap_or_default();
-            assert_eq!(rt; letter(rt.alloc(), prefix), *cut);
+/// Each prefix of the content is what its letter says.
+fn are_cuts(alloc: Global, content: &[u8], cuts: &[u8]) -> bool {
+    for (n, cut) in cuts.iter().enumerate() {
+        if letter(alloc, content.get(..n).unwrap_or_default()) != *cut {
+            return false;
         }
     }
+    content.len().checked_add(1) == Some(cuts.len())
+}
+
+fn wrong_prefix(alloc: Global, rows: &[Content]) -> Option<usize> {
+    for (place, (content, cuts, _)) in rows.iter().enumerate() {
+        if !are_cuts(alloc, content, cuts) {
+            return Some(place);
+        }
+    }
+    None
+}
+
+#[test]
+fn prefixes(rt: HostRuntime) {
+    none_wrong(&rt, wrong_prefix(rt.alloc(), &CONTENTS));
 }
 
 fn with_byte(alloc: Global, content: &[u8], at: usize, value: u8) -> Result<Vec<u8>, AllocError> {
@@ -193,21 +243,53 @@ fn with_byte(alloc: Global, content: &[u8], at: usize, value: u8) -> Result<Vec<
     Ok(bytes)
 }
 
-#[test]
-fn changes(rt: HostRuntime) -> Result<(), Fail> {
-    for (content, _, kinds) in CONTENTS {
-        assert_eq!(rt; kinds.len(), content.len());
-        for (at, (old, kind)) in content.iter().zip(kinds).enumerate() {
-            for value in 0..=255 {
-                let other = *kind == b'o' && (1..=15).contains(&value);
-                if value != *old && !other {
-                    let bytes = with_byte(rt.alloc(), content, at, value)?;
-                    assert_eq!(rt; letter(rt.alloc(), &bytes), changed(*kind, value));
-                }
-            }
+/// What the content is with this byte in place of its own.
+fn letter_with(alloc: Global, content: &[u8], at: usize, value: u8) -> u8 {
+    match with_byte(alloc, content, at, value) {
+        Ok(bytes) => letter(alloc, &bytes),
+        Err(_) => b'?',
+    }
+}
+
+fn is_other(kind: u8, old: u8, value: u8) -> bool {
+    let is_operation = kind == b'o' && (1..=15).contains(&value);
+    value != old && !is_operation
+}
+
+/// Each other value of the byte there makes of the content what its kind says.
+fn is_kind(alloc: Global, content: &[u8], at: usize, kind: u8) -> bool {
+    let old = content.get(at).copied().unwrap_or_default();
+    for value in 0..=255 {
+        if is_other(kind, old, value)
+            && letter_with(alloc, content, at, value) != changed(kind, value)
+        {
+            return false;
         }
     }
-    Ok(())
+    true
+}
+
+fn are_kinds(alloc: Global, content: &[u8], kinds: &[u8]) -> bool {
+    for (at, kind) in kinds.iter().enumerate() {
+        if !is_kind(alloc, content, at, *kind) {
+            return false;
+        }
+    }
+    kinds.len() == content.len()
+}
+
+fn wrong_change(alloc: Global, rows: &[Content]) -> Option<usize> {
+    for (place, (content, _, kinds)) in rows.iter().enumerate() {
+        if !are_kinds(alloc, content, kinds) {
+            return Some(place);
+        }
+    }
+    None
+}
+
+#[test]
+fn changes(rt: HostRuntime) {
+    none_wrong(&rt, wrong_change(rt.alloc(), &CONTENTS));
 }
 
 /// What each content is with each of the operations 1 to 15 in place of its own.
@@ -229,95 +311,25 @@ const OPERATIONS: [&[u8]; 15] = [
     b"SSSSSSSSSSSSSFk",
 ];
 
-#[test]
-fn operations(rt: HostRuntime) -> Result<(), Fail> {
-    for ((content, _, _), letters) in CONTENTS.iter().zip(OPERATIONS.iter()) {
-        assert_eq!(rt; letters.len(), 15);
-        for (operation, expected) in (1..=15).zip(letters.iter()) {
-            let bytes = with_byte(rt.alloc(), content, 1, operation)?;
-            assert_eq!(rt; letter(rt.alloc(), &bytes), *expected);
+fn are_operations(alloc: Global, content: &[u8], letters: &[u8]) -> bool {
+    for (operation, expected) in (1..=15).zip(letters.iter()) {
+        if letter_with(alloc, content, 1, operation) != *expected {
+            return false;
         }
     }
-    Ok(())
+    letters.len() == 15
 }
 
-/// The fields of the requests 1 to 15 and of the bodies of kind 0 to 4, a letter each.
-const REQUESTS: [&[u8]; 15] = [
-    b"fi", b"f", b"fx", b"fx", b"fx", b"fx", b"fx", b"ff", b"fx", b"k", b"kv", b"k", b"dx", b"x",
-    b"",
-];
-
-const BODIES: [&[u8]; 5] = [b"", b"ff", b"v", b"", b"c"];
-
-/// A field at its least and at its greatest: how it begins, and how many bytes follow.
-fn limit(letter: u8, greatest: bool) -> (&'static [u8], usize) {
-    match (letter, greatest) {
-        (b'i', false) => (&[0], 0),
-        (b'i', true) => (&[255], 255),
-        (b'k', false) => (&[1], 1),
-        (b'k', true) => (&[64], 64),
-        (b'v', false) => (&[0, 0], 0),
-        (b'v', true) => (&[4, 0], 1_024),
-        (b'x', false) => (&[128, 0, 0, 0, 1, 0], 1),
-        (b'x', true) => (&[127, 255, 255, 255, 64, 64], 128),
-        (b'd', false) => (&[1], 0),
-        (b'd', true) => (&[2], 0),
-        // how many XIDs
-        (b'c', false) => (&[0, 0], 0),
-        (b'c', true) => (&[1, 0], 0),
-        // flags and a count; two are a number of eight bytes
-        _ => (&[], 4),
-    }
-}
-
-fn put_fields(out: &mut Vec<u8>, letters: &[u8], greatest: bool) -> Result<(), AllocError> {
-    for letter in letters {
-        let (front, rest) = limit(*letter, greatest);
-        out.extend_from_slice(front)?;
-        for _ in 0..rest {
-            out.push(0xa5)?;
+fn wrong_operation(alloc: Global, rows: &[Content], operations: &[&[u8]]) -> Option<usize> {
+    for (place, ((content, _, _), letters)) in rows.iter().zip(operations).enumerate() {
+        if !are_operations(alloc, content, letters) {
+            return Some(place);
         }
     }
-    Ok(())
-}
-
-fn request_again(alloc: Global, content: &[u8]) -> Option<Vec<u8>> {
-    match decode_request(alloc, content) {
-        Ok(request) => encode_request(alloc, &request).ok(),
-        Err(_) => None,
-    }
-}
-
-fn reply_again(alloc: Global, content: &[u8]) -> Option<Vec<u8>> {
-    match decode_reply(alloc, content) {
-        Ok(reply) => encode_reply(alloc, &reply).ok(),
-        Err(_) => None,
-    }
+    None
 }
 
 #[test]
-fn limits(rt: HostRuntime) -> Result<(), Fail> {
-    for greatest in [false, true] {
-        for (operation, letters) in (1..=15).zip(REQUESTS) {
-            let mut content = [1, operation].to_vec(rt.alloc())?;
-            put_fields(&mut content, letters, greatest)?;
-            let again = request_again(rt.alloc(), &content).ok_or("a request")?;
-            assert_eq!(rt; again, content, "of operation {operation}");
-        }
-        for (kind, letters) in (0..=4).zip(BODIES) {
-            let mut content = [
-                1, 255, 255, 255, 247, 7, 255, 255, 255, 255, 255, 255, 255, 255,
-            ]
-            .to_vec(rt.alloc())?;
-            content.push(kind)?;
-            put_fields(&mut content, letters, greatest)?;
-            let xids = if kind == 4 && greatest { 256 } else { 0 };
-            for _ in 0..xids {
-                put_fields(&mut content, b"x", greatest)?;
-            }
-            let again = reply_again(rt.alloc(), &content).ok_or("a reply")?;
-            assert_eq!(rt; again, content, "of kind {kind}");
-        }
-    }
-    Ok(())
+fn operations(rt: HostRuntime) {
+    none_wrong(&rt, wrong_operation(rt.alloc(), &CONTENTS, &OPERATIONS));
 }

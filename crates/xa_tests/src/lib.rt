@@ -11,7 +11,13 @@ mod connections;
 #[cfg(test)]
 mod disks;
 #[cfg(test)]
+mod folders;
+#[cfg(test)]
+mod frame_limits;
+#[cfg(test)]
 mod frames;
+#[cfg(test)]
+mod lines;
 #[cfg(test)]
 mod logs;
 #[cfg(test)]
@@ -20,6 +26,8 @@ mod managers;
 mod plays;
 #[cfg(test)]
 mod records;
+#[cfg(test)]
+mod rows;
 #[cfg(test)]
 mod versions;
 #[cfg(test)]

@@ -1,6 +1,9 @@
+ghost use Rattle.xa_log.specs.Chain.{IsBody};
+
+use crate::folders::path_of;
+use crate::rows::none_wrong;
 use std::alloc::Global;
-use std::test::Fail;
-use std::{env, fs, process};
+use std::fs;
 use xa_disk::{Disk, Effect, FileDisk, MemDisk};
 use xa_log::{Appended, Log, OpenFault, open_on, read_log};
 
@@ -21,17 +24,33 @@ const DIGEST: [u8; 32] = [
     0x00, 0xf2, 0x67, 0x2b, 0x94, 0x6d, 0x2c, 0x74, 0x13, 0x21, 0x17, 0xed, 0xec, 0x1f, 0x91, 0xf2,
 ];
 
-// The 114 bytes of a log of both.
-fn two_records(alloc: Global) -> Result<[u8; 114], Fail> {
-    let mut log = Log::create(alloc, MemDisk::new(alloc), MOST)?;
-    if log.append(&OPENED) != Appended::Kept || log.append(&PREPARED) != Appended::Kept {
-        return Err(Fail::new("no record was kept"));
+fn keeps<D: Disk>(log: &mut Log<D>, body: &[u8]) -> bool
+    requires { IsBody body.now }
+{
+    log.append(body) == Appended::Kept
+}
+
+// Both are appended and kept.
+fn keeps_both<D: Disk>(log: &mut Log<D>) -> bool {
+    keeps(log, &OPENED) && keeps(log, &PREPARED)
+}
+
+fn log_of_both(alloc: Global) -> Option<Log<MemDisk>> {
+    let mut log = Log::create(alloc, MemDisk::new(alloc), MOST).ok()?;
+    if keeps_both(&mut log) {
+        Some(log)
+    } else {
+        None
     }
-    let mut disk = log.into_disk();
-    disk.crash()?;
+}
+
+// The 114 bytes of a log of both.
+fn two_records(alloc: Global) -> Option<[u8; 114]> {
+    let mut disk = log_of_both(alloc)?.into_disk();
+    disk.crash().ok()?;
     let mut bytes = [0; 114];
-    disk.read_at(0, &mut bytes)?;
-    Ok(bytes)
+    disk.read_at(0, &mut bytes).ok()?;
+    Some(bytes)
 }
 
 // How many bodies a disk of these bytes gives.
@@ -41,59 +60,79 @@ fn bodies_in(alloc: Global, bytes: &[u8]) -> Result<usize, OpenFault> {
     Ok(bodies.len())
 }
 
-#[test]
-fn a_log_ends_where_its_last_record_is_cut(rt: HostRuntime) -> Result<(), Fail> {
-    let bytes = two_records(rt.alloc())?;
-    assert_eq!(rt; &bytes[17..49], DIGEST.as_slice());
+fn bodies_left(cut: usize) -> usize {
+    if cut < 110 { 1 } else { 2 }
+}
+
+// The first cut behind which another count of bodies is left.
+fn wrong_cut(alloc: Global, bytes: &[u8]) -> Option<usize> {
     for cut in 49..111 {
-        let whole = if cut < 110 { 1 } else { 2 };
-        assert_eq!(rt;
-            bodies_in(rt.alloc(), &bytes[..cut]),
-            Ok(whole),
-            "cut to {cut}"
-        );
+        if bodies_in(alloc, bytes.get(..cut).unwrap_or_default()) != Ok(bodies_left(cut)) {
+            return Some(cut);
+        }
     }
-    Ok(())
+    None
+}
+
+#[test]
+fn a_log_ends_where_its_last_record_is_cut(rt: HostRuntime) {
+    let bytes = two_records(rt.alloc()).expect(&rt, "two records");
+    assert_eq!(rt; &bytes[17..49], DIGEST.as_slice());
+    none_wrong(&rt, wrong_cut(rt.alloc(), &bytes));
+}
+
+// The bytes of a log of both, to which a third record is appended.
+fn with_third(alloc: Global) -> Option<MemDisk> {
+    let disk = MemDisk::with_bytes(Vec::from_slice(alloc, &two_records(alloc)?).ok()?);
+    let (mut log, _bodies) = Log::open(alloc, disk, MOST).ok()?;
+    if keeps(&mut log, &OPENED) {
+        Some(log.into_disk())
+    } else {
+        None
+    }
+}
+
+fn count_on(alloc: Global, disk: &mut MemDisk) -> Result<usize, OpenFault> {
+    Ok(read_log(alloc, disk, MOST)?.len())
 }
 
 // A third record behind the two, and one byte of the second's digest changed.
-#[test]
-fn a_log_ends_where_a_digest_does_not_chain(rt: HostRuntime) -> Result<(), Fail> {
-    let alloc = rt.alloc();
-    let disk = MemDisk::with_bytes(Vec::from_slice(alloc, &two_records(alloc)?)?);
-    let (mut log, _bodies) = Log::open(alloc, disk, MOST)?;
-    assert_eq!(rt; log.append(&OPENED), Appended::Kept);
-    let mut disk = log.into_disk();
-    assert_eq!(rt; read_log(alloc, &mut disk, MOST)?.len(), 3);
-    disk.write_at(100, [0].as_slice())?;
-    assert_eq!(rt; read_log(alloc, &mut disk, MOST)?.len(), 1);
-    Ok(())
+fn counts_unchained(alloc: Global) -> Option<(usize, usize)> {
+    let mut disk = with_third(alloc)?;
+    let before = count_on(alloc, &mut disk).ok()?;
+    disk.write_at(100, [0].as_slice()).ok()?;
+    let after = count_on(alloc, &mut disk).ok()?;
+    Some((before, after))
 }
 
 #[test]
-fn other_bytes_are_refused(rt: HostRuntime) -> Result<(), Fail> {
-    let alloc = rt.alloc();
-    assert_eq!(rt; bodies_in(alloc, b"".as_slice()), Err(OpenFault::NotALog));
-    assert_eq!(rt;
-        bodies_in(alloc, b"XARMLOGx".as_slice()),
-        Err(OpenFault::NotALog)
-    );
-    assert_eq!(rt;
-        bodies_in(alloc, b"XARMLOG2".as_slice()),
-        Err(OpenFault::TooNew)
-    );
-    // Too long: found by the second call, with no read behind it.
-    let mut disk = MemDisk::with_bytes(Vec::from_slice(alloc, &two_records(alloc)?)?);
-    disk.fail(3, Effect::Lost)?;
-    assert_eq!(rt;
-        open_on(alloc, &mut disk, 113).err(),
-        Some(OpenFault::TooLong)
-    );
-    assert_eq!(rt; disk.length().is_err(), true);
-    Ok(())
+fn a_log_ends_where_a_digest_does_not_chain(rt: HostRuntime) {
+    assert!(rt; counts_unchained(rt.alloc()) == Some((3, 1)));
 }
 
-// A log of one body, whose next device calls fail so.
+fn fault_of(alloc: Global, bytes: &[u8]) -> Option<OpenFault> {
+    bodies_in(alloc, bytes).err()
+}
+
+// A log of both in 113 bytes: too long by the second call, with no read behind it.
+fn is_too_long(alloc: Global, bytes: &[u8]) -> Option<bool> {
+    let mut disk = MemDisk::with_bytes(Vec::from_slice(alloc, bytes).ok()?);
+    disk.fail(3, Effect::Lost).ok()?;
+    let fault = open_on(alloc, &mut disk, 113).err();
+    Some(fault == Some(OpenFault::TooLong) && disk.length().is_err())
+}
+
+#[test]
+fn other_bytes_are_refused(rt: HostRuntime) {
+    let alloc = rt.alloc();
+    assert!(rt; fault_of(alloc, b"") == Some(OpenFault::NotALog));
+    assert!(rt; fault_of(alloc, b"XARMLOGx") == Some(OpenFault::NotALog));
+    assert!(rt; fault_of(alloc, b"XARMLOG2") == Some(OpenFault::TooNew));
+    let bytes = two_records(alloc).expect(&rt, "two records");
+    assert!(rt; is_too_long(alloc, &bytes) == Some(true));
+}
+
+// A log of no body, whose next device calls fail so.
 fn with_plans(alloc: Global, plans: &[(u64, Effect)]) -> Result<Log<MemDisk>, OpenFault> {
     let mut log = Log::create(alloc, MemDisk::new(alloc), MOST)?;
     for (k, effect) in plans {
@@ -102,76 +141,153 @@ fn with_plans(alloc: Global, plans: &[(u64, Effect)]) -> Result<Log<MemDisk>, Op
     Ok(log)
 }
 
+fn append(log: &mut Log<MemDisk>) -> Appended {
+    log.append(&OPENED)
+}
+
+// What two appends in a row come to.
+fn two_appends(log: &mut Log<MemDisk>) -> (Appended, Appended) {
+    (append(log), append(log))
+}
+
+fn is_refused_once(alloc: Global) -> Option<bool> {
+    let mut log = with_plans(alloc, &[(1, Effect::Lost)]).ok()?;
+    let came = two_appends(&mut log);
+    Some(came == (Appended::Refused, Appended::Kept) && log.free() == MOST - 53)
+}
+
+fn bodies_again(log: &mut Log<MemDisk>) -> Option<usize> {
+    Some(log.rescan().ok()?.len())
+}
+
+fn is_lost_until_read(alloc: Global) -> Option<bool> {
+    let mut log = with_plans(alloc, &[(1, Effect::Lost), (2, Effect::Lost)]).ok()?;
+    let came = two_appends(&mut log);
+    let bodies = bodies_again(&mut log);
+    Some(
+        came == (Appended::Lost, Appended::Lost)
+            && bodies == Some(0)
+            && append(&mut log) == Appended::Kept,
+    )
+}
+
+fn one_append(alloc: Global, plans: &[(u64, Effect)]) -> Option<(Appended, bool)> {
+    let mut log = with_plans(alloc, plans).ok()?;
+    let came = append(&mut log);
+    Some((came, log.into_disk().length().is_err()))
+}
+
+fn is_lost(alloc: Global) -> bool {
+    match one_append(alloc, &[(2, Effect::Kept), (3, Effect::Kept)]) {
+        Some((came, _)) => came == Appended::Lost,
+        None => false,
+    }
+}
+
 #[test]
-fn device_faults_in_an_append(rt: HostRuntime) -> Result<(), Fail> {
+fn device_faults_in_an_append(rt: HostRuntime) {
     let alloc = rt.alloc();
-    let mut log = with_plans(alloc, [(1, Effect::Lost)].as_slice())?;
-    assert_eq!(rt; log.append(&OPENED), Appended::Refused);
-    assert_eq!(rt; log.append(&OPENED), Appended::Kept);
-    assert_eq!(rt; log.free(), MOST - 53);
-    let mut log = with_plans(alloc, [(1, Effect::Lost), (2, Effect::Lost)].as_slice())?;
-    assert_eq!(rt; log.append(&OPENED), Appended::Lost);
-    assert_eq!(rt; log.append(&OPENED), Appended::Lost);
-    assert_eq!(rt; log.rescan()?.len(), 0);
-    assert_eq!(rt; log.append(&OPENED), Appended::Kept);
-    let mut log = with_plans(alloc, [(2, Effect::Kept), (3, Effect::Kept)].as_slice())?;
-    assert_eq!(rt; log.append(&OPENED), Appended::Lost);
+    assert!(rt; is_refused_once(alloc) == Some(true));
+    assert!(rt; is_lost_until_read(alloc) == Some(true));
+    assert!(rt; is_lost(alloc));
     // A write and a sync are all that an append asks for: the third call is another's.
-    let mut log = with_plans(alloc, [(3, Effect::Lost)].as_slice())?;
-    assert_eq!(rt; log.append(&OPENED), Appended::Kept);
-    assert_eq!(rt; log.into_disk().length().is_err(), true);
-    Ok(())
+    assert!(rt; one_append(alloc, &[(3, Effect::Lost)]) == Some((Appended::Kept, true)));
+}
+
+// The file is the log's alone until it is dropped.
+fn keeps_both_in(rt: &HostRuntime, path: &str) -> Option<bool> {
+    let mut log = Log::create(rt.alloc(), FileDisk::at(rt, path).ok()?, MOST).ok()?;
+    Some(keeps_both(&mut log) && FileDisk::at(rt, path).is_err())
+}
+
+fn contains(rt: &HostRuntime, path: &str, bytes: &[u8]) -> bool {
+    match fs::read(rt, path) {
+        Ok(read) => read.as_slice() == bytes,
+        Err(_) => false,
+    }
+}
+
+// So many bodies, of which the first is the boot's record.
+fn are_bodies(bodies: &[Vec<u8>], count: usize) -> bool {
+    match bodies.first() {
+        Some(first) => bodies.len() == count && first.as_slice() == OPENED.as_slice(),
+        None => false,
+    }
+}
+
+fn is_opened(rt: &HostRuntime, path: &str, count: usize) -> Option<bool> {
+    let (_log, bodies) = Log::open(rt.alloc(), FileDisk::at(rt, path).ok()?, MOST).ok()?;
+    Some(are_bodies(&bodies, count))
+}
+
+fn wrong_file(rt: &HostRuntime, path: &str, bytes: &[u8]) -> Option<usize> {
+    for cut in 49..111 {
+        let written = fs::write(rt, path, bytes.get(..cut).unwrap_or_default());
+        if written.is_err() || is_opened(rt, path, bodies_left(cut)) != Some(true) {
+            return Some(cut);
+        }
+    }
+    None
 }
 
 #[test]
-fn a_log_in_a_file_is_cut(rt: HostRuntime) -> Result<(), Fail> {
-    let alloc = rt.alloc();
-    let name = format!(in alloc; "xa_log-{}", process::id(rt.process()))?;
-    let path = env::temp_dir(&rt)?.join(alloc, name.as_str())?;
-    let mut log = Log::create(alloc, FileDisk::at(&rt, path.as_str())?, MOST)?;
-    assert_eq!(rt; log.append(&OPENED), Appended::Kept);
-    assert_eq!(rt; log.append(&PREPARED), Appended::Kept);
-    // The file is this log's alone until it is dropped.
-    assert_eq!(rt; FileDisk::at(&rt, path.as_str()).is_err(), true);
-    drop(log);
-    let bytes = two_records(alloc)?;
-    assert_eq!(rt; fs::read(&rt, path.as_str())?.as_slice(), bytes.as_slice());
-    for cut in 49..111 {
-        fs::write(&rt, path.as_str(), &bytes[..cut])?;
-        let (_log, bodies) = Log::open(alloc, FileDisk::at(&rt, path.as_str())?, MOST)?;
-        assert_eq!(rt; bodies.len(), if cut < 110 { 1 } else { 2 }, "cut to {cut}");
-        for body in bodies.iter().take(1) {
-            assert_eq!(rt; body.as_slice(), OPENED.as_slice());
-        }
-    }
-    fs::remove_file(&rt, path.as_str())?;
-    Ok(())
+fn a_log_in_a_file_is_cut(rt: HostRuntime) {
+    let path = path_of(&rt, "xa_log").expect(&rt, "a path");
+    assert!(rt; keeps_both_in(&rt, path.as_str()) == Some(true));
+    let bytes = two_records(rt.alloc()).expect(&rt, "two records");
+    assert!(rt; contains(&rt, path.as_str(), &bytes));
+    none_wrong(&rt, wrong_file(&rt, path.as_str(), &bytes));
+    assert!(rt; fs::remove_file(&rt, path.as_str()).is_ok());
 }
 
-// Whether a log of so many bodies, each filled with its number, is read after a crash as it was written.
-fn is_read_again(alloc: Global, records: usize, size: usize) -> Result<bool, Fail> {
-    let mut log = Log::create(alloc, MemDisk::new(alloc), MOST)?;
-    for i in 0..records {
-        let body = vec![in alloc; (i % 256) as u8; size]?;
-        if body.is_empty() || body.len() > 524288 || log.append(&body) != Appended::Kept {
-            return Ok(false);
-        }
-    }
-    let mut disk = log.into_disk();
-    disk.crash()?;
-    let bodies = read_log(alloc, &mut disk, MOST)?;
+// Each body is of this size, and filled with its number.
+fn are_numbered(bodies: &[Vec<u8>], size: usize) -> bool {
     for (i, body) in bodies.iter().enumerate() {
         let number = Some((i % 256) as u8);
         if body.len() != size || body.first().copied() != number || body.last().copied() != number {
-            return Ok(false);
+            return false;
         }
     }
-    Ok(bodies.len() == records)
+    true
+}
+
+fn keeps_filled(alloc: Global, log: &mut Log<MemDisk>, number: u8, size: usize) -> bool {
+    match vec![in alloc; number; size] {
+        Ok(body) => !body.is_empty() && body.len() <= 524288 && keeps(log, &body),
+        Err(_) => false,
+    }
+}
+
+fn log_of(alloc: Global, records: usize, size: usize) -> Option<Log<MemDisk>> {
+    let mut log = Log::create(alloc, MemDisk::new(alloc), MOST).ok()?;
+    for i in 0..records {
+        if !keeps_filled(alloc, &mut log, (i % 256) as u8, size) {
+            return None;
+        }
+    }
+    Some(log)
+}
+
+// Whether a log of so many bodies, each filled with its number, is read after a crash as it was written.
+fn is_read_again(alloc: Global, records: usize, size: usize) -> Option<bool> {
+    let mut disk = log_of(alloc, records, size)?.into_disk();
+    disk.crash().ok()?;
+    let bodies = read_log(alloc, &mut disk, MOST).ok()?;
+    Some(bodies.len() == records && are_numbered(&bodies, size))
+}
+
+fn wrong_size(alloc: Global, rows: &[(usize, usize)]) -> Option<usize> {
+    for (place, (records, size)) in rows.iter().enumerate() {
+        if is_read_again(alloc, *records, *size) != Some(true) {
+            return Some(place);
+        }
+    }
+    None
 }
 
 // Up to the largest body, and past the window of 1 MiB.
 #[test]
-fn logs_of_many_sizes(rt: HostRuntime) -> Result<(), Fail> {
+fn logs_of_many_sizes(rt: HostRuntime) {
     let rows = [
         (0, 1),
         (1, 1),
@@ -180,9 +296,5 @@ fn logs_of_many_sizes(rt: HostRuntime) -> Result<(), Fail> {
         (1, 524_288),
         (3, 524_288),
     ];
-    for (records, size) in rows {
-        let right = is_read_again(rt.alloc(), records, size)?;
-        assert_eq!(rt; right, true, "{records} of {size} bytes");
-    }
-    Ok(())
+    none_wrong(&rt, wrong_size(rt.alloc(), &rows));
 }

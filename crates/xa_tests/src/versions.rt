@@ -1,18 +1,18 @@
+use crate::rows::none_wrong;
 use mv_chain::Fate;
 use mv_rules::{Got, Put, Records};
 use std::alloc::{AllocError, Global};
-use std::test::Fail;
 use xa_codes::Write;
 
 /// What is asked of records, for a branch of a timestamp.
-#[derive(Clone, Copy, Debug)]
+#[derive(Clone, Copy)]
 enum Ask {
     Get(&'static [u8]),
     Put(&'static [u8], Option<u8>),
     Settle(Fate),
 }
 
-#[derive(Clone, Copy, Debug, PartialEq, Eq)]
+#[derive(Clone, Copy, PartialEq, Eq)]
 enum Told {
     Done,
     Late,
@@ -107,19 +107,21 @@ fn answered(alloc: Global, records: &mut Records, ts: u64, ask: Ask) -> Result<T
     }
 }
 
-#[test]
-fn rows(rt: HostRuntime) -> Result<(), Fail> {
-    for row in ROWS {
-        let mut records = Records::new(rt.alloc());
-        for (ts, ask, want) in row {
-            assert_eq!(rt;
-                answered(rt.alloc(), &mut records, *ts, *ask)?,
-                *want,
-                "{ask:?}"
-            );
+fn wrong_answer(alloc: Global, records: &mut Records, row: &[(u64, Ask, Told)]) -> Option<usize> {
+    for (place, (ts, ask, want)) in row.iter().enumerate() {
+        if answered(alloc, records, *ts, *ask) != Ok(*want) {
+            return Some(place);
         }
     }
-    Ok(())
+    None
+}
+
+#[test]
+fn rows(rt: HostRuntime) {
+    for row in ROWS {
+        let mut records = Records::new(rt.alloc());
+        none_wrong(&rt, wrong_answer(rt.alloc(), &mut records, row));
+    }
 }
 
 fn is_write(write: &Write, key: &[u8], byte: Option<u8>) -> bool {
@@ -131,39 +133,73 @@ fn is_write(write: &Write, key: &[u8], byte: Option<u8>) -> bool {
     same && write.key.as_slice() == key
 }
 
+type KeyWrite = (&'static [u8], Option<u8>);
+
+const PUTS: [KeyWrite; 4] = [
+    (b"m", Some(1)),
+    (b"ka", Some(2)),
+    (b"k", None),
+    (b"m", Some(3)),
+];
+
+const WRITES: [KeyWrite; 3] = [(b"k", None), (b"ka", Some(2)), (b"m", Some(3))];
+
+fn put_byte(records: &mut Records, alloc: Global, key: &[u8], byte: Option<u8>) -> Told {
+    match value_of(alloc, byte) {
+        Ok(value) => put(records, FIRST, key, value),
+        Err(_) => Told::Memory,
+    }
+}
+
+fn wrong_put(records: &mut Records, alloc: Global, rows: &[KeyWrite]) -> Option<usize> {
+    for (place, (key, byte)) in rows.iter().enumerate() {
+        if put_byte(records, alloc, key, *byte) != Told::Done {
+            return Some(place);
+        }
+    }
+    None
+}
+
+fn are_writes(writes: &[Write], wanted: &[KeyWrite]) -> bool {
+    for (write, (key, byte)) in writes.iter().zip(wanted) {
+        if !is_write(write, key, *byte) {
+            return false;
+        }
+    }
+    writes.len() == wanted.len()
+}
+
+fn has_writes(records: &Records, ts: u64, wanted: &[KeyWrite]) -> bool {
+    match records.writes_of(ts) {
+        Ok(writes) => are_writes(&writes, wanted),
+        Err(_) => false,
+    }
+}
+
 // The last write of each key, ascending by key.
 #[test]
-fn writes(rt: HostRuntime) -> Result<(), Fail> {
+fn writes(rt: HostRuntime) {
     let mut records = Records::new(rt.alloc());
-    let puts: [(&[u8], Option<u8>); 4] = [
-        (b"m", Some(1)),
-        (b"ka", Some(2)),
-        (b"k", None),
-        (b"m", Some(3)),
-    ];
-    for (key, byte) in puts {
-        let value = value_of(rt.alloc(), byte)?;
-        assert_eq!(rt; put(&mut records, FIRST, key, value), Told::Done);
+    none_wrong(&rt, wrong_put(&mut records, rt.alloc(), &PUTS));
+    assert!(rt; has_writes(&records, FIRST, &WRITES));
+    assert!(rt; has_writes(&records, SECOND, &[]));
+}
+
+fn refused_key(records: &mut Records) -> Option<usize> {
+    for byte in 0..=255u8 {
+        if put(records, FIRST, &[byte], None) != Told::Done {
+            return Some(usize::from(byte));
+        }
     }
-    let writes = records.writes_of(FIRST)?;
-    let wanted: [(&[u8], Option<u8>); 3] = [(b"k", None), (b"ka", Some(2)), (b"m", Some(3))];
-    assert_eq!(rt; writes.len(), wanted.len());
-    for (write, (key, byte)) in writes.iter().zip(wanted) {
-        assert!(rt; is_write(write, key, byte));
-    }
-    assert_eq!(rt; records.writes_of(SECOND)?.len(), 0);
-    Ok(())
+    None
 }
 
 // The 257th key is refused, a further write of one of the 256 isn't.
 #[test]
-fn limit(rt: HostRuntime) -> Result<(), Fail> {
+fn limit(rt: HostRuntime) {
     let mut records = Records::new(rt.alloc());
-    for byte in 0..=255u8 {
-        assert_eq!(rt; put(&mut records, FIRST, &[byte], None), Told::Done);
-    }
-    assert_eq!(rt; put(&mut records, FIRST, b"kk", None), Told::Limit);
-    assert_eq!(rt; put(&mut records, FIRST, b"k", None), Told::Done);
-    assert_eq!(rt; put(&mut records, SECOND, b"kk", None), Told::Done);
-    Ok(())
+    none_wrong(&rt, refused_key(&mut records));
+    assert!(rt; put(&mut records, FIRST, b"kk", None) == Told::Limit);
+    assert!(rt; put(&mut records, FIRST, b"k", None) == Told::Done);
+    assert!(rt; put(&mut records, SECOND, b"kk", None) == Told::Done);
 }

@@ -1,80 +1,138 @@
+use crate::rows::none_wrong;
 use arrayvec::ArrayVec;
 use std::cmp::Ordering;
-use std::test::Fail;
 use xa_xid::{Xid, XidFault};
 
-fn xid(format: i32, gtrid: &[u8], bqual: &[u8]) -> Result<Xid, Fail> {
-    Ok(Xid::new(format, gtrid, bqual).ok().ok_or("an XID")?)
-}
-
-#[test]
-fn bytes(rt: HostRuntime) -> Result<(), Fail> {
+fn is_put(xid: &Xid, bytes: &[u8]) -> bool {
     let mut out: ArrayVec<u8, 134> = ArrayVec::new();
-    xid(1, &[0xaa], &[0xbb])?.put(&mut out);
-    assert_eq!(rt; out.as_slice(), [0, 0, 0, 1, 1, 1, 0xaa, 0xbb].as_slice());
-    let (read, len) = Xid::take(&[0, 0, 0, 1, 1, 1, 0xaa, 0xbb, 7]).ok_or("an XID")?;
-    assert_eq!(rt; len, 8);
-    assert!(rt; read == xid(1, &[0xaa], &[0xbb])?);
-    assert!(rt; Xid::take(&[0, 0, 0, 1, 1, 1, 0xaa]).is_none());
-    assert!(rt; Xid::take(&[255, 255, 255, 255, 1, 0, 0xaa]).is_none());
-    Ok(())
+    xid.put(&mut out);
+    out.as_slice() == bytes
+}
+
+fn is_taken(bytes: &[u8], xid: &Xid, length: usize) -> bool {
+    match Xid::take(bytes) {
+        Some((read, len)) => len == length && read == *xid,
+        None => false,
+    }
+}
+
+fn is_no_xid(bytes: &[u8]) -> bool {
+    Xid::take(bytes).is_none()
+}
+
+fn xid(format: i32, gtrid: &[u8], bqual: &[u8]) -> Option<Xid> {
+    Xid::new(format, gtrid, bqual).ok()
 }
 
 #[test]
-fn texts(rt: HostRuntime) -> Result<(), Fail> {
-    let texts: [&[u8]; 4] = [
-        b"1:aa:bb",
-        b"1:aabb:",
-        b"-2147483648:00:ff",
-        b"2147483647:0123456789abcdef:",
-    ];
-    for text in texts {
-        let mut out: ArrayVec<u8, 269> = ArrayVec::new();
-        Xid::take_text(text).ok_or("an XID")?.put_text(&mut out);
-        assert_eq!(rt; out.as_slice(), text);
+fn bytes(rt: HostRuntime) {
+    let named = xid(1, &[0xaa], &[0xbb]).expect(&rt, "an XID");
+    assert!(rt; is_put(&named, &[0, 0, 0, 1, 1, 1, 0xaa, 0xbb]));
+    assert!(rt; is_taken(&[0, 0, 0, 1, 1, 1, 0xaa, 0xbb, 7], &named, 8));
+    assert!(rt; is_no_xid(&[0, 0, 0, 1, 1, 1, 0xaa]));
+    assert!(rt; is_no_xid(&[255, 255, 255, 255, 1, 0, 0xaa]));
+}
+
+const TEXTS: [&[u8]; 4] = [
+    b"1:aa:bb",
+    b"1:aabb:",
+    b"-2147483648:00:ff",
+    b"2147483647:0123456789abcdef:",
+];
+
+fn is_text(text: &[u8]) -> bool {
+    let mut out: ArrayVec<u8, 269> = ArrayVec::new();
+    match Xid::take_text(text) {
+        Some(xid) => xid.put_text(&mut out),
+        None => {}
     }
-    let joined = Xid::take_text(b"1:aabb:").ok_or("an XID")?;
-    assert!(rt; joined == xid(1, &[0xaa, 0xbb], &[])?);
-    Ok(())
+    out.as_slice() == text
+}
+
+fn wrong_text(texts: &[&[u8]]) -> Option<usize> {
+    for (place, text) in texts.iter().enumerate() {
+        if !is_text(text) {
+            return Some(place);
+        }
+    }
+    None
+}
+
+fn is_joined(joined: &Xid) -> bool {
+    match Xid::take_text(b"1:aabb:") {
+        Some(read) => read == *joined,
+        None => false,
+    }
+}
+
+#[test]
+fn texts(rt: HostRuntime) {
+    none_wrong(&rt, wrong_text(&TEXTS));
+    let joined = xid(1, &[0xaa, 0xbb], &[]).expect(&rt, "an XID");
+    assert!(rt; is_joined(&joined));
+}
+
+const REFUSED: [&[u8]; 13] = [
+    b"-1:aa:",
+    b"-0:aa:",
+    b"01:aa:",
+    b"+1:aa:",
+    b":aa:",
+    b"-:aa:",
+    b"2147483648:aa:",
+    b"1::bb",
+    b"1:AA:bb",
+    b"1:a:bb",
+    b"1:aa",
+    b"1:aa:bb:",
+    b"1:aa:bb ",
+];
+
+fn read_text(texts: &[&[u8]]) -> Option<usize> {
+    for (place, text) in texts.iter().enumerate() {
+        if Xid::take_text(text).is_some() {
+            return Some(place);
+        }
+    }
+    None
 }
 
 #[test]
 fn refused_texts(rt: HostRuntime) {
-    let texts: [&[u8]; 13] = [
-        b"-1:aa:",
-        b"-0:aa:",
-        b"01:aa:",
-        b"+1:aa:",
-        b":aa:",
-        b"-:aa:",
-        b"2147483648:aa:",
-        b"1::bb",
-        b"1:AA:bb",
-        b"1:a:bb",
-        b"1:aa",
-        b"1:aa:bb:",
-        b"1:aa:bb ",
-    ];
-    for text in texts {
-        assert!(rt; Xid::take_text(text).is_none());
-    }
+    none_wrong(&rt, read_text(&REFUSED));
+}
+
+fn fault(format: i32, gtrid: &[u8], bqual: &[u8]) -> Option<XidFault> {
+    Xid::new(format, gtrid, bqual).err()
 }
 
 #[test]
 fn limits(rt: HostRuntime) {
-    assert!(rt; matches!(Xid::new(-1, &[], &[]), Err(XidFault::Null)));
-    assert!(rt; matches!(Xid::new(1, &[], &[0; 65]), Err(XidFault::GtridLength)));
-    assert!(rt; matches!(Xid::new(1, &[0; 65], &[]), Err(XidFault::GtridLength)));
-    assert!(rt; matches!(Xid::new(1, &[0; 64], &[0; 65]), Err(XidFault::BqualLength)));
-    assert!(rt; Xid::new(1, &[0; 64], &[0; 64]).is_ok());
+    assert!(rt; matches!(fault(-1, &[], &[]), Some(XidFault::Null)));
+    assert!(rt; matches!(fault(1, &[], &[0; 65]), Some(XidFault::GtridLength)));
+    assert!(rt; matches!(fault(1, &[0; 65], &[]), Some(XidFault::GtridLength)));
+    assert!(rt; matches!(fault(1, &[0; 64], &[0; 65]), Some(XidFault::BqualLength)));
+    assert!(rt; fault(1, &[0; 64], &[0; 64]).is_none());
+}
+
+fn is_less(first: &Xid, second: &Xid) -> bool {
+    first < second
+}
+
+fn is_equal_to_copy(xid: &Xid) -> bool {
+    xid.cmp(&xid.copied()) == Ordering::Equal
 }
 
 #[test]
-fn order(rt: HostRuntime) -> Result<(), Fail> {
-    assert!(rt; xid(1, &[0xaa, 0xbb], &[])? != xid(1, &[0xaa], &[0xbb])?);
-    assert!(rt; xid(-5, &[9], &[])? < xid(1, &[1], &[])?);
-    assert!(rt; xid(1, &[0xaa], &[0xbb])? < xid(1, &[0xaa, 0], &[])?);
-    let xid = xid(7, &[1], &[2])?;
-    assert!(rt; xid.cmp(&xid.copied()) == Ordering::Equal);
-    Ok(())
+fn order(rt: HostRuntime) {
+    let whole = xid(1, &[0xaa, 0xbb], &[]).expect(&rt, "an XID");
+    let parts = xid(1, &[0xaa], &[0xbb]).expect(&rt, "an XID");
+    assert!(rt; whole != parts);
+    let longer = xid(1, &[0xaa, 0], &[]).expect(&rt, "an XID");
+    assert!(rt; is_less(&parts, &longer));
+    let below = xid(-5, &[9], &[]).expect(&rt, "an XID");
+    let above = xid(1, &[1], &[]).expect(&rt, "an XID");
+    assert!(rt; is_less(&below, &above));
+    let named = xid(7, &[1], &[2]).expect(&rt, "an XID");
+    assert!(rt; is_equal_to_copy(&named));
 }

@@ -1,0 +1,157 @@
+use crate::plays::prints;
+use crate::rows::none_wrong;
+use std::alloc::{AllocError, Global};
+
+/// Lines that are no commands, each a script.
+const OTHERS: [&str; 72] = [
+    // Words and blanks.
+    "connect x",
+    "connect ",
+    " connect",
+    "connect\r",
+    "\r",
+    " ",
+    " #",
+    "1",
+    "1 ",
+    "1  get 6b",
+    "1 get  6b",
+    "1 get 6b ",
+    "1 get 6b 6b",
+    "1 get",
+    "1 delete",
+    "1 delete 6b 6b",
+    "1 delete -",
+    "1 put 6b",
+    "1 put 6b 76 77",
+    "1 open TMNOFLAGS",
+    "1 start TMNOFLAGS 1:aa:bb x",
+    "1 Get 6b",
+    // Numbers.
+    "0 get 6b",
+    "01 get 6b",
+    "+1 get 6b",
+    "-1 get 6b",
+    "1a get 6b",
+    "18446744073709551616 get 6b",
+    // Flags.
+    "1 end TMNOFLAGS|TMSUCCESS 1:aa:",
+    "1 end TMSUCCESS|TMSUCCESS 1:aa:",
+    "1 end TMSUCCESS| 1:aa:",
+    "1 end |TMSUCCESS 1:aa:",
+    "1 end tmsuccess 1:aa:",
+    "1 end 0x 1:aa:",
+    "1 end 0X0 1:aa:",
+    "1 end 0x000000000 1:aa:",
+    "1 end 0x0400000A 1:aa:",
+    "1 end 0x04000000|TMFAIL 1:aa:",
+    "1 end 67108864 1:aa:",
+    // XIDs.
+    "1 start TMNOFLAGS -1:aa:",
+    "1 start TMNOFLAGS -0:aa:",
+    "1 start TMNOFLAGS 01:aa:",
+    "1 start TMNOFLAGS 1::",
+    "1 start TMNOFLAGS 1:aa",
+    "1 start TMNOFLAGS 1:AA:",
+    "1 start TMNOFLAGS 1:aaa:",
+    "1 start TMNOFLAGS 1:aa:bb:",
+    "1 start TMNOFLAGS 2147483648:aa:",
+    // Keys and values.
+    "1 get -",
+    "1 get 6",
+    "1 get 6B",
+    "1 get 6g",
+    "1 put 6b --",
+    "1 put 6b ",
+    "1 put - 76",
+    "1 put 6b 7",
+    // Lines that are not built yet.
+    "1 hangup",
+    "0 hangup",
+    "1 close TMNOFLAGS",
+    "1 prepare TMNOFLAGS 1:aa:",
+    "1 rollback TMNOFLAGS 1:aa:",
+    "1 forget TMNOFLAGS 1:aa:",
+    "1 recover TMNOFLAGS 1",
+    "1 decide commit 1:aa:",
+    "1 doom 1:aa:",
+    "1 restart",
+    "fail 1 lost",
+    "reopen",
+    "crash",
+    // No ASCII.
+    "1 open TMNOFLAGS \u{e4}",
+    "1 get \u{e4}",
+    "\u{e4}",
+];
+
+/// Scripts without a reply.
+const SILENT: [&str; 6] = ["", "\n", "\n\n", "#", "# \u{e4} connect", "#\n#"];
+
+fn wrong_script(alloc: Global, scripts: &[&str], want: &str) -> Option<usize> {
+    for (place, script) in scripts.iter().enumerate() {
+        if !prints(alloc, script, want) {
+            return Some(place);
+        }
+    }
+    None
+}
+
+#[test]
+fn other_lines(rt: HostRuntime) {
+    none_wrong(&rt, wrong_script(rt.alloc(), &OTHERS, "-5 Frame\n"));
+}
+
+#[test]
+fn lines_without_reply(rt: HostRuntime) {
+    none_wrong(&rt, wrong_script(rt.alloc(), &SILENT, ""));
+}
+
+/// A line: what it begins with, how many times then 61, and what it ends with. Then its reply.
+type Limit = (&'static str, usize, &'static str, &'static str);
+
+const LIMITS: [Limit; 11] = [
+    // A session that isn't connected, so that the request itself is refused as such.
+    ("9 get ", 64, "", "-6 Nothing\n"),
+    ("9 get ", 65, "", "-5 Frame\n"),
+    ("9 put 61 ", 1024, "", "-6 Nothing\n"),
+    ("9 put 61 ", 1025, "", "-5 Frame\n"),
+    ("9 start TMNOFLAGS 1:", 64, ":", "-6 Nothing\n"),
+    ("9 start TMNOFLAGS 1:", 65, ":", "-5 Frame\n"),
+    ("9 start TMNOFLAGS 1:61:", 64, "", "-6 Nothing\n"),
+    ("9 start TMNOFLAGS 1:61:", 65, "", "-5 Frame\n"),
+    ("9 open TMNOFLAGS a", 127, "", "-6 Nothing\n"),
+    ("9 open TMNOFLAGS aa", 127, "", "-5 Frame\n"),
+    ("18446744073709551615 get 61", 0, "", "-6 Nothing\n"),
+];
+
+fn limit_line(alloc: Global, row: &Limit) -> Result<String, AllocError> {
+    let (before, count, behind, _) = row;
+    let mut text = String::from_str(alloc, before)?;
+    for _ in 0..*count {
+        text.push_str("61")?;
+    }
+    text.push_str(behind)?;
+    Ok(text)
+}
+
+fn is_limit(alloc: Global, row: &Limit) -> bool {
+    match limit_line(alloc, row) {
+        Ok(line) => prints(alloc, line.as_str(), row.3),
+        Err(_) => false,
+    }
+}
+
+fn wrong_limit(alloc: Global, rows: &[Limit]) -> Option<usize> {
+    for (place, row) in rows.iter().enumerate() {
+        if !is_limit(alloc, row) {
+            return Some(place);
+        }
+    }
+    None
+}
+
+#[test]
+fn limits(rt: HostRuntime) {
+    none_wrong(&rt, wrong_limit(rt.alloc(), &LIMITS));
+}
