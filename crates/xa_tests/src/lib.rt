@@ -29,6 +29,8 @@ mod records;
 #[cfg(test)]
 mod rows;
 #[cfg(test)]
+mod tables;
+#[cfg(test)]
 mod versions;
 #[cfg(test)]
 mod xids;
