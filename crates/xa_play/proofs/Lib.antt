@@ -1,2 +1,4 @@
+pub mod Pieces
 pub mod Scripts
 pub mod Playing
+pub mod Runs

@@ -1,5 +1,5 @@
 -- What a script prints: each line that asks something shows the reply of one step of the sequential resource manager.
-use Rattle.std.specs.Prelude.{ℕ, ◌≡◌, ◌≤◌, List, [], ◌∷◌, ◌++◌, length, map, true, Option, Some, None, MatchBool, IsSomeAnd}
+use Rattle.std.specs.Prelude.{ℕ, ◌≡◌, ◌≢◌, ◌≤◌, ◌<◌, ◌⊎◌, List, [], ◌∷◌, ◌++◌, length, map, take, true, Option, Some, None, IfSome, Result, Ok, Err, MatchBool, IsSomeAnd}
 use Rattle.std.specs.Io.KnownBytes.{Appends}
 use Rattle.xa_codes.specs.declared.codes.TheConstants.{XAER_INVAL, XAER_RMFAIL}
 use Rattle.xa_codes.specs.declared.detail.Detail.TheVariants as detail
@@ -21,6 +21,8 @@ use Rattle.xa_script.specs.Lines as lines
 use Rattle.xa_script.specs.Parts.{parts}
 use Rattle.xa_script.specs.Replies as replies
 use Rattle.xa_script.specs.Requests.{ReadsTexts}
+use Rattle.xa_play.specs.declared.fault.PlayFault.{PlayFault}
+use Rattle.xa_play.specs.declared.fault.PlayFault.TheVariants.{Memory, Write}
 
 -- the reply where memory was wanted
 abbrev pub wanted_memory : Event → Reply
@@ -54,11 +56,52 @@ PlaysLines s (line ∷ lines) text =
 abbrev pub lines_of : (List ℕ → Option Triple) → List ℕ → List Line
 lines_of xid_of script = map (lines.line_of xid_of) (parts 10 script)
 
--- a whole script is run on a manager that was just made, and what it prints is written
-abbrev pub Plays : List ℕ → ℕ → List ℕ → Option (List ℕ) → Option (List ℕ) → Type 0
-Plays name log_bytes script old new =
-    (length script ≤ 16_777_216) × ((text : List ℕ) × Appends old new text
-    × ((xid_of : List ℕ → Option Triple) → ReadsTexts xid_of → PlaysLines (fresh name log_bytes) (lines_of xid_of script) text))
+-- the first lines are played, and others stand behind them
+abbrev pub PlaysSome : State → List Line → List ℕ → Type 0
+PlaysSome s lines text = (n : ℕ) × (n < length lines) × PlaysLines s (take n lines) text
+
+-- the first bytes of a text, and not all
+abbrev pub IsPart : List ℕ → List ℕ → Type 0
+IsPart part text = (rest : List ℕ) × (rest ≢ []) × (text ≡ part ++ rest)
+
+-- a part of what a line prints
+abbrev pub CutsLine : State → Line → List ℕ → Type 0
+CutsLine s line part = (text : List ℕ) × (after : State) × PlaysLine s line text after × IsPart part text
+
+-- what lines print, up to one of which a part is printed
+abbrev pub PlaysCut : State → List Line → List ℕ → Type 0
+PlaysCut s [] text = ⊥
+PlaysCut s (line ∷ lines) text =
+    CutsLine s line text
+    ⊎ ((first : List ℕ) × (others : List ℕ) × (after : State) × PlaysLine s line first after × (text ≡ first ++ others) × PlaysCut after lines others)
+
+-- By the end of a play, what was printed. No memory: all that some first lines print. A write or the flush failed: what
+-- the lines up to one of them print, but for a last part of it, or what all lines print. Before that nothing was printed.
+abbrev pub Prints : {X : Type 0} → Result X PlayFault → State → List Line → List ℕ → Type 0
+Prints (Ok x) s lines text = PlaysLines s lines text
+Prints (Err Memory) s lines text = PlaysSome s lines text
+Prints (Err Write) s lines text = PlaysCut s lines text ⊎ PlaysLines s lines text
+Prints (Err _) s lines text = text ≡ []
+
+-- the ends that come only once a whole script was read
+abbrev pub WasRead : {X : Type 0} → Result X PlayFault → Type 0
+WasRead (Ok x) = Unit {0}
+WasRead (Err Write) = Unit {0}
+WasRead (Err _) = ⊥
+
+-- A run, on a manager that was just made: its script, which is what the reader had where that is known, and the text that
+-- was written, which is what the end says.
+pub record Plays {X : Type 0} (name : List ℕ) (log_bytes : ℕ) (end : Result X PlayFault) (input output output' : Option (List ℕ)) : Type 0 where
+  pub script : List ℕ
+  pub text : List ℕ
+  pub given : IfSome input (λ bytes. script ≡ bytes)
+  pub short : WasRead end → length script ≤ 16_777_216
+  pub written : Appends output output' text
+  pub printed : (xid_of : List ℕ → Option Triple) → ReadsTexts xid_of → Prints end (fresh name log_bytes) (lines_of xid_of script) text
+
+-- settings that are out of their limits
+abbrev pub IsBadSetting : List ℕ → ℕ → Type 0
+IsBadSetting name log_bytes = (255 < length name) ⊎ (log_bytes < 64) ⊎ (1_073_741_824 < log_bytes)
 
 -- What one line is answered by a manager, and leaves of it.
 abbrev pub FullyAnswered : Kept → Event → Reply → Kept → Type 0
@@ -75,6 +118,17 @@ abbrev pub LinePlayed : Kept → List ℕ → List ℕ → Kept → Type 0
 LinePlayed m line text m' = (xid_of : List ℕ → Option Triple) → ReadsTexts xid_of → (s : State) → StandsFor m s →
     (after : State) × PlaysLine s (lines.line_of xid_of line) text after × StandsFor m' after
 
--- the same of a script
-abbrev pub ScriptPlayed : Kept → List ℕ → List ℕ → Type 0
-ScriptPlayed m script text = (xid_of : List ℕ → Option Triple) → ReadsTexts xid_of → (s : State) → StandsFor m s → PlaysLines s (lines_of xid_of script) text
+-- the same of a part of what it prints
+abbrev pub LineCut : Kept → List ℕ → List ℕ → Type 0
+LineCut m line part = (xid_of : List ℕ → Option Triple) → ReadsTexts xid_of → (s : State) → StandsFor m s → CutsLine s (lines.line_of xid_of line) part
+
+-- by its end, what a line printed: no memory is found before anything of it is written
+abbrev pub LineEnds : {X : Type 0} → Result X PlayFault → Kept → List ℕ → List ℕ → Kept → Type 0
+LineEnds (Ok x) m line text m' = LinePlayed m line text m'
+LineEnds (Err Memory) m line text m' = text ≡ []
+LineEnds (Err Write) m line text m' = LineCut m line text
+LineEnds (Err _) m line text m' = ⊥
+
+-- by its end, what a script printed, from whichever state the manager stood for
+abbrev pub ScriptEnds : {X : Type 0} → Result X PlayFault → Kept → List ℕ → List ℕ → Type 0
+ScriptEnds end m script text = (xid_of : List ℕ → Option Triple) → ReadsTexts xid_of → (s : State) → StandsFor m s → Prints end s (lines_of xid_of script) text

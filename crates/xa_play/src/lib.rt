@@ -2,6 +2,7 @@
 #![tactic(auto)]
 
 mod fault;
+mod output;
 mod play;
 mod script;
 

@@ -1,16 +1,18 @@
-ghost use Rattle.std.specs.Io.KnownBytes.{Appends, Keeps};
-ghost use Rattle.std.specs.Prelude.{◌≡◌, ◌<◌, ◌≤◌, ◌⊎◌, IfErr, IfSome, IsErrOf, List, OnErr, OnOk, length, true, ℕ};
+ghost use Rattle.std.specs.Io.KnownBytes.{Appends};
+ghost use Rattle.std.specs.Prelude.{◌≡◌, ◌↔◌, ◌<◌, ◌⊎◌, IfErr, IfSome, IsErrOf, List, length, true, ℕ};
 ghost use Rattle.xa_manager.specs.Answered.{Answered};
 ghost use Rattle.xa_manager.specs.Managed.{kept};
 ghost use Rattle.xa_manager.specs.Stands.{is_memory};
 ghost use Rattle.xa_model.specs.Answer.{detailed};
 ghost use Rattle.xa_script.specs.Lines.{IsWithinLimits};
-ghost use Rattle.xa_play.specs.Plays.{LineAnswered, LinePlayed, Plays, ScriptPlayed};
+ghost use Rattle.xa_play.specs.Faults.{end_of};
+ghost use Rattle.xa_play.specs.Plays.{IsBadSetting, LineAnswered, LineEnds, Plays, ScriptEnds, WasRead};
 
 use crate::fault::PlayFault;
+use crate::output::write_text;
 use crate::script::read_script;
 use std::alloc::Global;
-use std::io::{Read, Write};
+use std::io::{self, Read, Write};
 use xa_codes::{Code, Detail, XA_OK, XAER_INVAL, XAER_RMERR, XAER_RMFAIL};
 use xa_frame::{Body, Reply};
 use xa_manager::{ConnectFault, Manager, Settings};
@@ -19,28 +21,33 @@ use xa_script::{Line, first_part, read_line, reply_line};
 
 /// Makes a manager, reads the whole script, and then runs it: each line that asks something is answered by one line.
 ///
-/// Settings out of their limits, a script that can't be read and one that is too long are found before anything is
-/// written. What was answered before a later fault is written.
+/// Settings out of their limits are found before anything is read, a script that can't be read and one that is too long
+/// before anything is written. What was answered before a later fault is written.
 pub fn play_run<R: Read + Drop, W: Write>(
     alloc: Global,
     reader: &mut R,
     writer: &mut W,
     settings: Settings,
 ) -> Result<(), PlayFault>
-    // The script is what the reader gives, where that is known.
-    ensures played { OnOk result ((script : List ℕ) × IfSome (R.remaining reader.old) (λ bytes. script ≡ bytes)
-        × Plays settings.name settings.log_bytes script (W.contents writer.old) (W.contents writer.new)) }
-    ensures limits { OnOk result ((length settings.name ≤ 255) × (64 ≤ settings.log_bytes) × (settings.log_bytes ≤ 1_073_741_824)) }
-    ensures setting { IsErrOf result PlayFault.Setting →
-        (255 < length settings.name) ⊎ (settings.log_bytes < 64) ⊎ (1_073_741_824 < settings.log_bytes) }
+    ensures played { Plays settings.name settings.log_bytes result (R.remaining reader.old) (W.contents writer.old) (W.contents writer.new) }
+    ensures setting { IsErrOf result PlayFault.Setting ↔ IsBadSetting settings.name settings.log_bytes }
+    ensures unread { IsErrOf result PlayFault.Setting → (reader.new ≡ reader.old) × (writer.new ≡ writer.old) }
     ensures too_long { IsErrOf result PlayFault.TooLong → IfSome (R.remaining reader.old) (λ bytes. 16_777_216 < length bytes) }
-    ensures nothing_written { IsErrOf result PlayFault.Setting ⊎ IsErrOf result PlayFault.Read ⊎ IsErrOf result PlayFault.TooLong →
-        Keeps (W.contents writer.old) (W.contents writer.new) }
+    // The reader of a longer script may fail before its end is reached, and then `Read` or `Memory` comes.
+    ensures longer { IfSome (R.remaining reader.old) (λ bytes. 16_777_216 < length bytes → (¬ WasRead result) × (writer.new ≡ writer.old)) }
+    ensures unwritten { IsErrOf result PlayFault.Read ⊎ IsErrOf result PlayFault.TooLong → writer.new ≡ writer.old }
 {
     let mut manager = Manager::new(alloc, settings)?;
     let script = read_script(alloc, reader)?;
     let played = play_lines(alloc, &mut manager, writer, script.as_slice());
     let flushed = writer.flush();
+    end_of(played, flushed)
+}
+
+/// The end of a play, by how its lines ended and by what the flush behind them was answered.
+fn end_of(played: Result<(), PlayFault>, flushed: io::Result<()>) -> Result<(), PlayFault>
+    ensures { result ≡ end_of played flushed }
+{
     played?;
     flushed.map_err(|_| PlayFault::Write)
 }
@@ -51,8 +58,8 @@ fn play_lines<W: Write>(
     writer: &mut W,
     script: &[u8],
 ) -> Result<(), PlayFault>
-    ensures played { OnOk result ((text : List ℕ) × Appends (W.contents writer.old) (W.contents writer.new) text
-        × ScriptPlayed (kept manager.old) script.now text) }
+    ensures played { (text : List ℕ) × Appends (W.contents writer.old) (W.contents writer.new) text
+        × ScriptEnds result (kept manager.old) script.now text }
     ensures faults { IfErr result (λ fault. (fault ≡ PlayFault.Memory) ⊎ (fault ≡ PlayFault.Write)) }
 {
     let mut rest = Some(script);
@@ -70,18 +77,18 @@ fn play_line<W: Write>(
     writer: &mut W,
     line: &[u8],
 ) -> Result<(), PlayFault>
-    ensures played { OnOk result ((text : List ℕ) × Appends (W.contents writer.old) (W.contents writer.new) text
-        × LinePlayed (kept manager.old) line.now text (kept manager.new)) }
-    ensures faults { IfErr result (λ fault. (fault ≡ PlayFault.Memory) ⊎ (fault ≡ PlayFault.Write)) }
+    ensures { (text : List ℕ) × Appends (W.contents writer.old) (W.contents writer.new) text
+        × LineEnds result (kept manager.old) line.now text (kept manager.new) }
 {
     let said = read_line(alloc, line)?;
     let Some(reply) = answer(manager, said) else {
         return Ok(());
     };
     let text = reply_line(alloc, &reply)?;
-    match writer.write_all(text.as_slice()) {
-        Ok(()) => Ok(()),
-        Err(_) => Err(PlayFault::Write),
+    if write_text(writer, text.as_slice()) {
+        Ok(())
+    } else {
+        Err(PlayFault::Write)
     }
 }
 

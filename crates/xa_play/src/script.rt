@@ -1,8 +1,9 @@
-ghost use Rattle.std.specs.Prelude.{◌≡◌, ◌≤◌, ◌<◌, ◌⊎◌, IfErr, IfOk, IfSome, IsErrOf, length};
+ghost use Rattle.std.specs.IoError.{error_kind};
+ghost use Rattle.std.specs.Prelude.{◌≡◌, ◌≢◌, ◌≤◌, ◌<◌, ◌⊎◌, IfErr, IfOk, IfSome, IsErrOf, OnErr, OnOk, length};
 
 use crate::fault::PlayFault;
 use std::alloc::Global;
-use std::io::{Error, ErrorKind, Read};
+use std::io::{self, Error, ErrorKind, Read};
 
 /// The most bytes that a script has.
 const MOST_BYTES: u64 = 16_777_216;
@@ -16,17 +17,29 @@ pub fn read_script<R: Read + Drop>(alloc: Global, reader: &mut R) -> Result<Vec<
 {
     let mut script = Vec::new(alloc);
     let read = reader.take(MOST_BYTES + 1).read_to_end(&mut script);
-    if let Err(error) = read {
-        return Err(read_fault(&error));
-    }
-    if script.len() as u64 > MOST_BYTES {
-        return Err(PlayFault::TooLong);
-    }
-    Ok(script)
+    script_of(read, script)
 }
 
+/// What a reading comes to, by what the reader answered and the bytes that it gave.
+fn script_of(read: io::Result<usize>, script: Vec<u8>) -> Result<Vec<u8>, PlayFault>
+    ensures memory { IfErr read (λ error. error_kind error ≡ ErrorKind.OutOfMemory → IsErrOf result PlayFault.Memory) }
+    ensures failed { IfErr read (λ error. error_kind error ≢ ErrorKind.OutOfMemory → IsErrOf result PlayFault.Read) }
+    ensures faults { OnErr read (IsErrOf result PlayFault.Memory ⊎ IsErrOf result PlayFault.Read) }
+    ensures too_long { OnOk read (16_777_216 < length script.items → IsErrOf result PlayFault.TooLong) }
+    ensures whole { OnOk read (length script.items ≤ 16_777_216 → result ≡ Ok script) }
+{
+    match read {
+        Err(error) => Err(read_fault(&error)),
+        Ok(_) if script.len() as u64 > MOST_BYTES => Err(PlayFault::TooLong),
+        Ok(_) => Ok(script),
+    }
+}
+
+/// What a reading that failed comes to, by the kind of its error.
 fn read_fault(error: &Error) -> PlayFault
-    ensures { (result ≡ PlayFault.Memory) ⊎ (result ≡ PlayFault.Read) }
+    ensures memory { error_kind error.now ≡ ErrorKind.OutOfMemory → result ≡ PlayFault.Memory }
+    ensures failed { error_kind error.now ≢ ErrorKind.OutOfMemory → result ≡ PlayFault.Read }
+    ensures faults { (result ≡ PlayFault.Memory) ⊎ (result ≡ PlayFault.Read) }
 {
     match error.kind() {
         ErrorKind::OutOfMemory => PlayFault::Memory,

@@ -1,0 +1,67 @@
+-- How a whole run ends.
+use Rattle.std.proofs.Common.{◌≡◌, ℕ, ◌≤◌, ◌<◌, ◌==◌, List, [], length, Option, Some, None, IfSome, Result, Ok, Err, refl, subst, arith, inr, append-nil}
+use Rattle.std.specs.Prelude.{unwrap_or}
+use Rattle.std.specs.Io.KnownBytes.{Appends, Keeps}
+use Rattle.std.proofs.lemmas.List.{length-map}
+use Rattle.std.proofs.lemmas.List.Splits.{length-slice_split}
+use Rattle.xa_model.specs.History.{fresh}
+use Rattle.xa_model.specs.State.{State}
+use Rattle.xa_manager.specs.Kept.{Kept}
+use Rattle.xa_manager.specs.Stands.{StandsFor}
+use Rattle.xa_manager.specs.declared.fault.ManagerFault.{ManagerFault}
+use Rattle.xa_manager.specs.declared.fault.ManagerFault.TheVariants as manager
+use Rattle.xa_xid.specs.Triple.{Triple}
+use Rattle.xa_script.specs.Lines as lines
+use Rattle.xa_script.specs.Parts.{parts}
+use Rattle.xa_script.specs.declared.line.Line.{Line}
+use Rattle.xa_play.specs.declared.fault.PlayFault.{PlayFault}
+use Rattle.xa_play.specs.declared.fault.PlayFault.TheVariants.{Memory, Setting, TooLong, Read, Write}
+use Rattle.xa_play.specs.Faults.{end_of, fault_of}
+use Rattle.xa_play.specs.Plays.{Plays, Prints, ScriptEnds, lines_of}
+use Rattle.xa_play.proofs.Pieces.{appends_both, keeps_appends, nothing_appended}
+
+given : (input : Option (List ℕ)) → IfSome input (λ bytes. unwrap_or input [] ≡ bytes)
+given None = tt
+given (Some bytes) = refl
+
+some_line : (xid_of : List ℕ → Option Triple) (script : List ℕ) → 0 < length (lines_of xid_of script)
+some_line xid_of script =
+    let count : length (lines_of xid_of script) ≡ length (parts 10 script) = length-map (parts 10 script) (lines.line_of xid_of) in
+    omega (arith, count, length-slice_split (λ b. b == 10) script)
+
+pub no_write : (f : ManagerFault) → fault_of f ≡ Write → ⊥
+no_write manager.Memory e = cc
+no_write manager.Setting e = cc
+
+-- nothing was played, so no line was
+pub unplayed : (X : Type 0) (fault : PlayFault) (name : List ℕ) (log_bytes : ℕ) (input output : Option (List ℕ)) → (fault ≡ Write → ⊥) → Plays {X = X} name log_bytes (Err fault) input output output
+unplayed X Write name log_bytes input output h = absurd (h refl)
+unplayed X Memory name log_bytes input output h = record {
+  script = unwrap_or input [];
+  text = [];
+  given = given input;
+  short = λ no. absurd no;
+  written = nothing_appended output;
+  printed = λ xid_of reads. (0, some_line xid_of (unwrap_or input []), refl);
+}
+unplayed X Setting name log_bytes input output h = record { script = unwrap_or input []; text = []; given = given input; short = λ none. absurd none; written = nothing_appended output; printed = λ xid_of reads. refl }
+unplayed X TooLong name log_bytes input output h = record { script = unwrap_or input []; text = []; given = given input; short = λ none. absurd none; written = nothing_appended output; printed = λ xid_of reads. refl }
+unplayed X Read name log_bytes input output h = record { script = unwrap_or input []; text = []; given = given input; short = λ none. absurd none; written = nothing_appended output; printed = λ xid_of reads. refl }
+
+prints_end : (X E : Type 0) (played : Result X PlayFault) (flushed : Result X E) (s : State) (lines : List Line) (text : List ℕ) → Prints played s lines text → Prints (end_of played flushed) s lines text
+prints_end X E (Err fault) flushed s lines text h = h
+prints_end X E (Ok x) (Ok y) s lines text h = h
+prints_end X E (Ok x) (Err error) s lines text h = inr h
+
+-- the script was played, whatever the flush was answered
+pub ran : (X E : Type 0) (played : Result X PlayFault) (flushed : Result X E) (m : Kept) (name : List ℕ) (log_bytes : ℕ) (input old mid new : Option (List ℕ)) (script text : List ℕ) →
+    IfSome input (λ bytes. script ≡ bytes) → length script ≤ 16_777_216 → Appends old mid text → Keeps mid new →
+    ScriptEnds played m script text → StandsFor m (fresh name log_bytes) → Plays name log_bytes (end_of played flushed) input old new
+ran X E played flushed m name log_bytes input old mid new script text known short written kept ends stands = record {
+  script = script;
+  text = text;
+  given = known;
+  short = λ read. short;
+  written = subst (λ (t : List ℕ). Appends old new t) (append-nil text) (appends_both old mid new text [] written (keeps_appends mid new kept));
+  printed = λ xid_of reads. prints_end X E played flushed (fresh name log_bytes) (lines_of xid_of script) text (ends xid_of reads (fresh name log_bytes) stands);
+}
