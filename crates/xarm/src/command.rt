@@ -1,3 +1,7 @@
+ghost use Rattle.std.specs.IoError.{error_kind};
+ghost use Rattle.std.specs.Prelude.{◌≡◌, ◌≢◌, ◌<◌, ◌⊎◌, IfOk, IsErrOf, OnErr, OnOk, length};
+ghost use Rattle.std.specs.Process.{exit_status};
+
 use clap::{Arg, ArgAction, Command, Error};
 use std::alloc::{AllocError, Global};
 use std::env;
@@ -50,10 +54,7 @@ pub fn run<R: AllocGlobal + Env + Input + Print + Eprint>(rt: &R) -> ExitCode {
         Err(error) => return words_fault(rt, &error),
     };
     match read_words(rt.alloc(), words.as_slice()) {
-        Ok(Asked::Play { name }) => match play(rt, name) {
-            Ok(()) => ExitCode::SUCCESS,
-            Err(fault) => failed(rt, fault),
-        },
+        Ok(Asked::Play { name }) => ended(rt, &play(rt, name)),
         Err(error) => refused(rt, &error),
     }
 }
@@ -62,11 +63,12 @@ fn words<R: AllocGlobal + Env>(rt: &R) -> io::Result<Vec<String>> {
     Ok(env::args(rt)?.collect(rt.alloc())?)
 }
 
-fn play<R: AllocGlobal + Input + Print>(rt: &R, name: &str) -> Result<(), PlayFault> {
-    let settings = Settings {
-        name: Bytes::from_slice(rt.alloc(), name.as_bytes())?,
-        log_bytes: LOG_BYTES,
-    };
+/// Plays standard input. The name is the one setting that a command line can have wrong.
+fn play<R: AllocGlobal + Input + Print>(rt: &R, name: &str) -> Result<(), PlayFault>
+    ensures setting { IsErrOf result PlayFault.Setting → 255 < length name.now }
+    ensures long_name { 255 < length name.now → IsErrOf result PlayFault.Setting ⊎ IsErrOf result PlayFault.Memory }
+{
+    let settings = settings_of(rt.alloc(), name, LOG_BYTES)?;
     let Ok(mut writer) = BufWriter::new(rt.alloc(), io::writer(rt)) else {
         return Err(PlayFault::Memory);
     };
@@ -74,10 +76,22 @@ fn play<R: AllocGlobal + Input + Print>(rt: &R, name: &str) -> Result<(), PlayFa
     play_run(rt.alloc(), &mut reader, &mut writer, settings)
 }
 
+/// The settings that a command line asks for.
+fn settings_of(alloc: Global, name: &str, log_bytes: u64) -> Result<Settings, AllocError>
+    ensures name { IfOk result (λ settings. settings.name ≡ name.now) }
+    ensures log_bytes { IfOk result (λ settings. settings.log_bytes ≡ log_bytes) }
+{
+    let name = Bytes::from_slice(alloc, name.as_bytes())?;
+    Ok(Settings { name, log_bytes })
+}
+
 /// A word that is no text is refused as `clap` refuses it elsewhere.
-fn words_fault<R: Eprint>(rt: &R, error: &io::Error) -> ExitCode {
+fn words_fault<R: Eprint>(rt: &R, error: &io::Error) -> ExitCode
+    ensures memory { error_kind error.now ≡ ErrorKind.OutOfMemory → exit_status result ≡ 1 }
+    ensures no_text { error_kind error.now ≢ ErrorKind.OutOfMemory → exit_status result ≡ 2 }
+{
     match error.kind() {
-        ErrorKind::OutOfMemory => failed(rt, PlayFault::Memory),
+        ErrorKind::OutOfMemory => ended(rt, &Err(PlayFault::Memory)),
         _ => {
             let _ = rt.eprintln("error: invalid UTF-8 was detected in one or more arguments");
             ExitCode::from(2)
@@ -87,16 +101,33 @@ fn words_fault<R: Eprint>(rt: &R, error: &io::Error) -> ExitCode {
 
 fn refused<R: Print + Eprint>(rt: &R, error: &Error) -> ExitCode {
     if error.kind() == clap::error::ErrorKind::OutOfMemory {
-        return failed(rt, PlayFault::Memory);
+        return ended(rt, &Err(PlayFault::Memory));
     }
     match error.print(rt) {
         Ok(()) if !error.use_stderr() => ExitCode::SUCCESS,
-        Err(_) if !error.use_stderr() => failed(rt, PlayFault::Write),
+        Err(_) if !error.use_stderr() => ended(rt, &Err(PlayFault::Write)),
         _ => ExitCode::from(2),
     }
 }
 
-fn failed<R: Eprint>(rt: &R, fault: PlayFault) -> ExitCode {
-    let _ = eprintln!(rt; "xarm: {fault}");
-    ExitCode::from(1)
+/// The status of an end, and its line on standard error where it is a fault.
+fn ended<R: Eprint>(rt: &R, end: &Result<(), PlayFault>) -> ExitCode
+    ensures done { OnOk end.now (exit_status result ≡ 0) }
+    ensures fault { OnErr end.now (exit_status result ≡ 1) }
+{
+    if let Err(fault) = end {
+        let _ = eprintln!(rt; "xarm: {fault}");
+    }
+    status_of(end)
+}
+
+/// The status of an end.
+fn status_of(end: &Result<(), PlayFault>) -> ExitCode
+    ensures done { OnOk end.now (exit_status result ≡ 0) }
+    ensures fault { OnErr end.now (exit_status result ≡ 1) }
+{
+    match end {
+        Ok(()) => ExitCode::SUCCESS,
+        Err(_) => ExitCode::from(1),
+    }
 }

@@ -3,6 +3,8 @@
 
 mod command;
 #[cfg(test)]
+mod host;
+#[cfg(test)]
 mod tests;
 
 use std::process::ExitCode;

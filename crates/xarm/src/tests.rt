@@ -1,5 +1,9 @@
-use crate::command::{Asked, read_words};
+use crate::command::{Asked, read_words, run};
+use crate::host::{Given, Host};
 use std::alloc::Global;
+use std::cell::RefCell;
+use std::io::ErrorKind;
+use std::process::ExitCode;
 use std::test::Fail;
 
 /// Words of a command line.
@@ -62,4 +66,170 @@ fn command_lines_that_are_refused(rt: HostRuntime) -> Result<(), Fail> {
         assert!(rt; shown.starts_with(text), "{shown}");
     }
     Ok(())
+}
+
+/// A command line and its input, whether its output is taken, and then: the status, what is printed, and what standard
+/// error begins with, which is all of it where that ends a line.
+struct Run {
+    words: &'static [&'static [u8]],
+    input: Given,
+    takes: bool,
+    status: u8,
+    printed: &'static str,
+    errors: &'static str,
+}
+
+const PLAY: &[&[u8]] = &[b"xarm", b"play"];
+
+const NAMED: &[&[u8]] = &[b"xarm", b"play", b"--name", &[b'a'; 256]];
+
+const HELP: &[&[u8]] = &[b"xarm", b"play", b"--help"];
+
+const MISSPELLED: &[&[u8]] = &[b"xarm", b"paly"];
+
+const NO_TEXT: &[&[u8]] = &[b"xarm", b"play", b"\xff"];
+
+const CONNECT: Given = Given {
+    text: b"connect\n",
+    times: 1,
+    error: None,
+};
+
+const BROKEN: Given = Given {
+    text: b"connect\n",
+    times: 1,
+    error: Some(ErrorKind::BrokenPipe),
+};
+
+const WITHOUT_MEMORY: Given = Given {
+    text: b"connect\n",
+    times: 1,
+    error: Some(ErrorKind::OutOfMemory),
+};
+
+const LONG: Given = Given {
+    text: b"#2345678901234567890123456789012",
+    times: 524_289,
+    error: None,
+};
+
+const RUNS: [Run; 9] = [
+    Run {
+        words: PLAY,
+        input: CONNECT,
+        takes: true,
+        status: 0,
+        printed: "0 Nothing number 1\n",
+        errors: "",
+    },
+    // Bad settings are found before the reader fails.
+    Run {
+        words: NAMED,
+        input: BROKEN,
+        takes: true,
+        status: 1,
+        printed: "",
+        errors: "xarm: bad setting\n",
+    },
+    Run {
+        words: PLAY,
+        input: BROKEN,
+        takes: true,
+        status: 1,
+        printed: "",
+        errors: "xarm: cannot read\n",
+    },
+    Run {
+        words: PLAY,
+        input: WITHOUT_MEMORY,
+        takes: true,
+        status: 1,
+        printed: "",
+        errors: "xarm: no memory\n",
+    },
+    Run {
+        words: PLAY,
+        input: LONG,
+        takes: true,
+        status: 1,
+        printed: "",
+        errors: "xarm: script too long\n",
+    },
+    // The reply waits in a buffer, so that it is the flush that fails.
+    Run {
+        words: PLAY,
+        input: CONNECT,
+        takes: false,
+        status: 1,
+        printed: "",
+        errors: "xarm: cannot write\n",
+    },
+    // The help isn't taken.
+    Run {
+        words: HELP,
+        input: CONNECT,
+        takes: false,
+        status: 1,
+        printed: "",
+        errors: "xarm: cannot write\n",
+    },
+    Run {
+        words: MISSPELLED,
+        input: CONNECT,
+        takes: true,
+        status: 2,
+        printed: "",
+        errors: "error: unrecognized subcommand 'paly'",
+    },
+    Run {
+        words: NO_TEXT,
+        input: CONNECT,
+        takes: true,
+        status: 2,
+        printed: "",
+        errors: "error: invalid UTF-8 was detected in one or more arguments\n",
+    },
+];
+
+fn is_run(alloc: Global, row: &Run) -> bool {
+    let host = Host {
+        alloc,
+        words: row.words,
+        input: row.input,
+        takes: row.takes,
+        printed: RefCell::new(Vec::new(alloc)),
+        errors: RefCell::new(Vec::new(alloc)),
+    };
+    let status = run(&host);
+    let Host {
+        alloc: _,
+        words: _,
+        input: _,
+        takes: _,
+        printed,
+        errors,
+    } = host;
+    status == ExitCode::from(row.status)
+        && printed.into_inner().as_slice() == row.printed.as_bytes()
+        && is_said(errors.into_inner().as_slice(), row.errors.as_bytes())
+}
+
+/// Whether a text begins so, and is no more where that is nothing or ends a line.
+fn is_said(text: &[u8], front: &[u8]) -> bool {
+    text.starts_with(front)
+        && (text.len() == front.len() || !(front.is_empty() || front.ends_with(b"\n")))
+}
+
+fn wrong_run(alloc: Global, rows: &[Run]) -> Option<usize> {
+    for (place, row) in rows.iter().enumerate() {
+        if !is_run(alloc, row) {
+            return Some(place);
+        }
+    }
+    None
+}
+
+#[test]
+fn each_end_has_its_status_and_its_line(rt: HostRuntime) {
+    assert_eq!(rt; wrong_run(rt.alloc(), &RUNS), None, "the first wrong row");
 }

@@ -1,0 +1,133 @@
+use std::alloc::{Allocator, Global};
+use std::cell::RefCell;
+use std::env::FillError;
+use std::fmt::Display;
+use std::io::{self, BufRead, ErrorKind, Lines, Read};
+use std::rt::Env;
+
+/// A runtime of the tests: the words of a command line, what its reader gives, and whether its output is taken.
+#[derive(Drop)]
+pub struct Host<'a> {
+    pub alloc: Global,
+    pub words: &'a [&'a [u8]],
+    pub input: Given,
+    pub takes: bool,
+    pub printed: RefCell<Vec<u8>>,
+    pub errors: RefCell<Vec<u8>>,
+}
+
+/// A reader that gives a text so many times, and then fails or ends.
+#[derive(Clone, Copy, Drop)]
+pub struct Given {
+    pub text: &'static [u8],
+    pub times: usize,
+    pub error: Option<ErrorKind>,
+}
+
+impl Read for Given {
+    fn read(&mut self, buf: &mut [u8]) -> io::Result<usize> {
+        if self.times == 0 {
+            return match self.error {
+                Some(kind) => Err(io::Error::from(kind)),
+                None => Ok(0),
+            };
+        }
+        let count = self.text.len().min(buf.len());
+        buf[..count].copy_from_slice(&self.text[..count]);
+        self.times -= 1;
+        Ok(count)
+    }
+}
+
+impl BufRead for Given {
+    fn fill_buf(&mut self) -> io::Result<&[u8]> {
+        Ok(self.text)
+    }
+
+    fn consume(&mut self, _amount: usize) {}
+}
+
+impl Alloc for Host<'_> {
+    type A = Global;
+
+    fn alloc(&self) -> Global {
+        self.alloc
+    }
+}
+
+impl Env for Host<'_> {
+    fn arg(&self, i: usize, buf: &mut [u8]) -> Result<usize, FillError> {
+        let Some(word) = self.words.get(i) else {
+            return Err(FillError::NotPresent);
+        };
+        if word.len() > buf.len() {
+            return Err(FillError::TooLong);
+        }
+        buf[..word.len()].copy_from_slice(word);
+        Ok(word.len())
+    }
+
+    fn var(&self, _name: &str, _buf: &mut [u8]) -> Result<usize, FillError> {
+        Err(FillError::NotPresent)
+    }
+
+    fn var_at(&self, _i: usize, _buf: &mut [u8]) -> Result<usize, FillError> {
+        Err(FillError::NotPresent)
+    }
+}
+
+impl io::Input for Host<'_> {
+    type Reader = Given;
+
+    fn read_line<A: Allocator + Clone>(&self, _buf: &mut String<A>) -> io::Result<usize> {
+        Ok(0)
+    }
+
+    fn lines<A: Allocator>(&self, alloc: A) -> Lines<Given, A> {
+        self.input.lines(alloc)
+    }
+
+    fn reader(&self) -> Given {
+        self.input
+    }
+}
+
+impl Host<'_> {
+    fn put(&self, to: &RefCell<Vec<u8>>, bytes: &[u8]) -> io::Result<()> {
+        let Ok(mut text) = to.try_borrow_mut() else {
+            return Err(io::Error::from(ErrorKind::Other));
+        };
+        Ok(text.extend_from_slice(bytes)?)
+    }
+}
+
+impl io::Print for Host<'_> {
+    fn print<D: Display + Drop>(&self, value: D) -> io::Result<()> {
+        let text = format!(in self.alloc; "{value}")?;
+        io::Print::write_all(self, text.as_bytes())
+    }
+
+    fn println<D: Display + Drop>(&self, value: D) -> io::Result<()> {
+        let text = format!(in self.alloc; "{value}\n")?;
+        io::Print::write_all(self, text.as_bytes())
+    }
+
+    fn write_all(&self, bytes: &[u8]) -> io::Result<()> {
+        if !self.takes {
+            return Err(io::Error::from(ErrorKind::BrokenPipe));
+        }
+        self.put(&self.printed, bytes)
+    }
+}
+
+impl io::Eprint for Host<'_> {
+    fn eprint<D: Display + Drop>(&self, value: D) -> io::Result<()> {
+        let text = format!(in self.alloc; "{value}")?;
+        self.put(&self.errors, text.as_bytes())
+    }
+
+    fn eprintln<D: Display + Drop>(&self, value: D) -> io::Result<()> {
+        let text = format!(in self.alloc; "{value}\n")?;
+        self.put(&self.errors, text.as_bytes())
+    }
+}
