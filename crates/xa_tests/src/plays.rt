@@ -139,13 +139,13 @@ fn written_keys(rt: HostRuntime) {
 #[derive(Drop)]
 struct Zeros {
     left: usize,
-    fails: bool,
+    error: Option<ErrorKind>,
 }
 
 impl Read for Zeros {
     fn read(&mut self, buf: &mut [u8]) -> io::Result<usize> {
-        if self.left == 0 && self.fails {
-            return Err(io::Error::from(ErrorKind::BrokenPipe));
+        if let (0, Some(kind)) = (self.left, self.error) {
+            return Err(io::Error::from(kind));
         }
         let count = self.left.min(buf.len());
         self.left -= count;
@@ -157,23 +157,42 @@ impl Read for Zeros {
 }
 
 /// How the play of zeros ends, with the length of what it wrote.
-fn zeros_played(alloc: Global, left: usize, fails: bool) -> Option<(Result<(), PlayFault>, usize)> {
+fn zeros_played(
+    alloc: Global,
+    left: usize,
+    error: Option<ErrorKind>,
+) -> Option<(Result<(), PlayFault>, usize)> {
     let mut output: Vec<u8> = Vec::new(alloc);
-    let mut reader = Zeros { left, fails };
+    let mut reader = Zeros { left, error };
     let settings = settings(alloc, b"xarm").ok()?;
     let outcome = played(alloc, &mut reader, &mut output, settings);
     Some((outcome, output.len()))
 }
 
-fn is_unplayed(alloc: Global, left: usize, fails: bool, fault: PlayFault) -> bool {
-    zeros_played(alloc, left, fails) == Some((Err(fault), 0))
+fn is_unplayed(alloc: Global, left: usize, error: Option<ErrorKind>, fault: PlayFault) -> bool {
+    zeros_played(alloc, left, error) == Some((Err(fault), 0))
 }
 
 #[test]
 fn scripts_that_are_not_played(rt: HostRuntime) {
-    assert!(rt; is_unplayed(rt.alloc(), 16_777_217, false, PlayFault::TooLong));
-    assert!(rt; is_unplayed(rt.alloc(), usize::MAX, false, PlayFault::TooLong));
-    assert!(rt; is_unplayed(rt.alloc(), 1_000, true, PlayFault::Read));
+    assert!(rt; is_unplayed(rt.alloc(), 16_777_217, None, PlayFault::TooLong));
+    assert!(rt; is_unplayed(rt.alloc(), usize::MAX, None, PlayFault::TooLong));
+    assert!(rt;
+        is_unplayed(
+            rt.alloc(),
+            1_000,
+            Some(ErrorKind::BrokenPipe),
+            PlayFault::Read
+        )
+    );
+    assert!(rt;
+        is_unplayed(
+            rt.alloc(),
+            1_000,
+            Some(ErrorKind::OutOfMemory),
+            PlayFault::Memory
+        )
+    );
 }
 
 /// Settings out of their limits are found before the reader fails.
@@ -181,7 +200,7 @@ fn is_bad_setting(alloc: Global, name: Bytes, log_bytes: u64) -> bool {
     let mut output: Vec<u8> = Vec::new(alloc);
     let mut reader = Zeros {
         left: 0,
-        fails: true,
+        error: Some(ErrorKind::BrokenPipe),
     };
     let settings = Settings { name, log_bytes };
     played(alloc, &mut reader, &mut output, settings) == Err(PlayFault::Setting)
@@ -241,6 +260,36 @@ fn output_that_is_not_taken(rt: HostRuntime) {
     assert!(rt; is_played(rt.alloc(), 18, true, Err(PlayFault::Write)));
     assert!(rt; is_played(rt.alloc(), 18, false, Err(PlayFault::Write)));
     assert!(rt; is_played(rt.alloc(), 0, true, Err(PlayFault::Write)));
+}
+
+/// Takes all, and fails to flush it.
+#[derive(Drop)]
+struct Unflushed;
+
+impl Write for Unflushed {
+    fn write(&mut self, buf: &[u8]) -> io::Result<usize> {
+        Ok(buf.len())
+    }
+
+    fn flush(&mut self) -> io::Result<()> {
+        Err(io::Error::from(ErrorKind::StorageFull))
+    }
+}
+
+fn is_unflushed(alloc: Global, script: &str) -> bool {
+    let mut reader = script.as_bytes();
+    match settings(alloc, b"xarm") {
+        Ok(settings) => {
+            played(alloc, &mut reader, &mut Unflushed, settings) == Err(PlayFault::Write)
+        }
+        Err(_) => false,
+    }
+}
+
+#[test]
+fn output_that_is_not_flushed(rt: HostRuntime) {
+    assert!(rt; is_unflushed(rt.alloc(), "connect"));
+    assert!(rt; is_unflushed(rt.alloc(), ""));
 }
 
 const FAULTS: [(PlayFault, &str); 5] = [
