@@ -1,9 +1,12 @@
 -- Reads of a file from its front, piece by piece.
-use Rattle.std.proofs.Common.{◌≡◌, ℕ, zero, suc, ◌+◌, ◌-◌, ◌*◌, ◌^◌, ◌≤◌, ◌<◌, min, List, ◌++◌, length, take, drop, refl, sym, ◌∙◌, ap, subst, arith, append_assoc, length-append, length-take-le, length-drop, take-append-drop, rules, Option, None, Some, Result, Ok, Err, IsErr, MatchResult}
+use Rattle.std.proofs.Common.{◌≡◌, ◌⊎◌, inl, inr, ⊎_elim, ℕ, zero, suc, ◌+◌, ◌-◌, ◌*◌, ◌^◌, ◌≤◌, ◌<◌, min, List, ◌++◌, length, take, drop, refl, sym, ◌∙◌, ap, subst, arith, append_assoc, length-append, length-take-le, length-drop, take-append-drop, rules, Option, None, Some, Result, Ok, Err, IsErr, MatchResult}
 use Rattle.std.proofs.lemmas.List.{take_at, take-take, drop-take, drop-drop}
-use Rattle.xa_disk.specs.Counts.{plus, with_read}
+use Rattle.std.specs.Result.{IsErrAnd}
+use Rattle.xa_disk.specs.Counts.{plus, with_read, with_sync}
 use Rattle.xa_disk.specs.declared.counts.Counts.{Counts}
-use Rattle.xa_log.specs.Calls.{with_reads, Fetched, FetchedSome, FetchedNext, OnlyReads}
+use Rattle.xa_log.specs.Calls.{with_reads, Fetched, FetchedSome, FetchedNext, OnlyReads, Looks, LooksAt, asked}
+use Rattle.xa_log.specs.declared.fault.OpenFault.{OpenFault}
+use Rattle.xa_log.specs.declared.fault.OpenFault.TheVariants.{Device}
 use Rattle.xa_log.specs.declared.reading.Found.{Found}
 
 plus_more : (x r k m : ℕ) → min (min (x + r) m + k) m ≡ min (x + (r + k)) m
@@ -75,6 +78,11 @@ next_found len start now o r is f = subst (λ x. FetchedNext len start now x) is
 -- no read, and reads within a file that isn't too long
 pub reads_none : (most : ℕ) (first now : Counts) → now ≡ first → OnlyReads most first now
 reads_none most first now is = record { reads = 0; bytes = 0; counts = is; once = omega arith; pieces = omega arith; few = omega arith }
+
+-- a sync or a length that failed
+pub looked : {T : Type 0} (r : Result T OpenFault) (most : ℕ) (first now : Counts) → IsErr r × IsErrAnd r (λ e. e ≡ Device) → (now ≡ with_sync first) ⊎ (now ≡ asked first) → Looks r most first now
+looked (Ok x) most first now is calls = absurd (search (is.0, rules))
+looked (Err e) most first now is calls = subst (λ f. LooksAt f most first now) (sym is.1) (⊎_elim (λ sync. inl sync) (λ length. inr (reads_none most (asked first) now length)) calls)
 
 pub reads_some : (len most : ℕ) (first first' now : Counts) → len ≤ most → first ≡ first' → FetchedSome len first now → OnlyReads most first' now
 reads_some len most first first' now le is f = record {

@@ -2,7 +2,8 @@
 ghost use Rattle.std.specs.Prelude.{◌≡◌, ◌⊎◌, ◌+◌, ◌-◌, ◌≤◌, ◌<◌, ◌^◌, ◌++◌, ◌∷◌, [], ℕ, length, take, slice_index, OnOk, IfOk, IfErr, IfSome, None, Some, MatchResult};
 ghost use Rattle.xa_disk.specs.Disk.{Same, Only, Passes, CountsFault};
 ghost use Rattle.xa_disk.specs.declared.counts.Counts.{Counts};
-ghost use Rattle.xa_log.specs.Calls.{Fetched, FetchedSome, FetchedNext, Looks};
+ghost use Rattle.xa_log.specs.Calls.{Fetched, FetchedSome, FetchedNext, Looks, asked};
+ghost use Rattle.xa_disk.specs.Counts.{with_sync};
 ghost use Rattle.xa_log.specs.Chain.{magic, logged};
 ghost use Rattle.xa_log.specs.Answers.{CountsDevice};
 ghost use Rattle.xa_log.specs.Reading.{Finds, Fits, IsScan, bodies_of, front_fault, fault_of, Explains};
@@ -156,6 +157,19 @@ fn test_front(front: &[u8]) -> Result<(), OpenFault>
     Err(OpenFault::NotALog)
 }
 
+// Syncs, and asks the length.
+fn synced_length<D: Disk>(disk: &mut D) -> Result<u64, DiskFault>
+    ensures value { D.honest → IfOk result (λ len. len ≡ length (D.seen disk.old)) }
+    ensures durable { D.honest → OnOk result (Only (D.seen disk.new) (D.may_leave disk.new)) }
+    ensures same { D.honest → D.seen disk.new ≡ D.seen disk.old }
+    ensures time { D.honest → Passes Same (D.moment disk.old) (D.moment disk.new) (D.left_since disk.old) (D.left_since disk.new) (D.may_leave disk.old) (D.may_leave disk.new) }
+    ensures count { CountsFault result (D.failures disk.old) (D.failures disk.new) }
+    ensures calls { MatchResult result (λ _. D.counts disk.new ≡ asked (D.counts disk.old)) (λ _. (D.counts disk.new ≡ with_sync (D.counts disk.old)) ⊎ (D.counts disk.new ≡ asked (D.counts disk.old))) }
+{
+    disk.sync()?;
+    disk.length()
+}
+
 // Syncs, asks the length, and reads the log that the disk is.
 pub(crate) fn read_whole<D: Disk>(
     alloc: Global,
@@ -174,8 +188,7 @@ pub(crate) fn read_whole<D: Disk>(
     ensures calls { Looks result log_bytes (D.counts disk.old) (D.counts disk.new) }
     ensures calls_once { D.honest → Looks result (length (D.seen disk.old)) (D.counts disk.old) (D.counts disk.new) }
 {
-    disk.sync()?;
-    let len = disk.length()?;
+    let len = synced_length(disk)?;
     if len > log_bytes {
         return Err(OpenFault::TooLong);
     }

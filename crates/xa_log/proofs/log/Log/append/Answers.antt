@@ -1,4 +1,4 @@
-use Rattle.std.proofs.Common.{refl, arith}
+use Rattle.std.proofs.Common.{rules, refl, arith}
 use Rattle.xa_log.proofs.Append.{answers_kept, answers_refused, answers_lost, record_moments, length-closed_by, no_moments, kept_if}
 use Rattle.xa_log.proofs.log.Log.append.Goals as goal
 
@@ -38,3 +38,15 @@ returns-in-Refused-clause-kept g c alive fits low same = kept_if _ _ _ c.append_
 
 pub returns-in-Lost-clause-kept : goal.returns-in-Lost-clause-kept
 returns-in-Lost-clause-kept g c alive fits low same = kept_if _ _ _ c.append_at-outcome.ensures.cause low same c.append_at-outcome.ensures.not_full
+
+pub returns-then-self-clause-lost : goal.returns-then-self-clause-lost
+returns-then-self-clause-lost g c = search rules
+
+pub returns-then-self-clause-moves : goal.returns-then-self-clause-moves
+returns-then-self-clause-moves g c = search rules
+
+pub returns-then-self-len-clause-full : goal.returns-then-self-len-clause-full
+returns-then-self-len-clause-full g c = search rules
+
+pub returns-then-self-len-clause-kept : goal.returns-then-self-len-clause-kept
+returns-then-self-len-clause-kept g c = search rules
