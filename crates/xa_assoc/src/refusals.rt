@@ -7,8 +7,8 @@ use crate::replies::{detailed, plain};
 use xa_codes::{Detail, XAER_DUPID, XAER_NOTA, XAER_PROTO, XAER_RMERR};
 use xa_frame::Reply;
 
-/// The most sessions that are connected at a time: so far one.
-pub const MOST_SESSIONS: usize = 1;
+/// The most sessions that are connected at a time.
+pub const MOST_SESSIONS: usize = 1024;
 /// The most branches that are known at a time.
 pub const MOST_BRANCHES: usize = 4096;
 /// The most timestamps that one boot gives.

@@ -2,6 +2,7 @@ ghost use Rattle.std.specs.Prelude.{◌≡◌, None, false, OnOk, OnErr, IsSome}
 ghost use Rattle.xa_model.specs.State.{State};
 ghost use Rattle.xa_model.specs.Associations.{begun, joined, resumed, not_resumed, suspended, not_suspended, ended, failed};
 ghost use Rattle.xa_assoc.specs.Seats.{opened_at, owns_at};
+ghost use Rattle.xa_assoc.specs.Changes.{IsSameRoom};
 ghost use Rattle.xa_assoc.specs.Sessions.{Follows, FollowsIf, Stays, resume_refusal_of, suspend_refusal_of};
 
 use crate::sessions::Sessions;
@@ -14,6 +15,7 @@ impl Sessions {
     /// Start of a new branch.
     pub fn begin(&mut self, session: u64, xid: Xid) -> Result<(), AllocError>
         requires { IsSome (opened_at self.old session) }
+        ensures room { OnOk result (IsSameRoom self.old self.new) }
         ensures ok { OnOk result (Follows self.old (λ s. (begun s session xid).after) self.new) }
         ensures err { OnErr result (Stays self.old self.new) }
     {

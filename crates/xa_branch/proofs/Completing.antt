@@ -38,7 +38,7 @@ marked_name code Committed = refl
 marked_known : (code : ℤ) (xid : Triple) (b : Branch) → is_known_as xid (with_mark code b) ≡ is_known_as xid b
 marked_known code xid b = ap (λ (o : Option Triple). is_with xid o) (marked_name code b.phase)
 
-marked_plain : (code : ℤ) (p : Phase) → is_prepared (marked_phase code p) ≡ is_prepared p
+pub marked_plain : (code : ℤ) (p : Phase) → is_prepared (marked_phase code p) ≡ is_prepared p
 marked_plain code (Working x mark) = refl
 marked_plain code (Prepared x) = refl
 marked_plain code Committed = refl

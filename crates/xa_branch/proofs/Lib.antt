@@ -10,3 +10,5 @@ pub mod Turning
 pub mod Owners
 pub mod Shifting
 pub mod Elsewhere
+pub mod Behind
+pub mod HangingUp

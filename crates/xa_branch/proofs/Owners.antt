@@ -20,7 +20,8 @@ is_held_in sessions Loose = false
 abbrev holds_in : List Session → Triple → Association → Bool
 holds_in sessions xid a = is_held_in sessions a.holder && xid_eq a.xid xid
 
-never : {A : Type 0} (p : A → Bool) (h : (x : A) → p x ≡ false) (xs : List A) → count p xs ≡ 0
+-- what nobody passes counts nobody
+pub never : {A : Type 0} (p : A → Bool) (h : (x : A) → p x ≡ false) (xs : List A) → count p xs ≡ 0
 never p h [] = refl
 never p h (x ∷ xs) = let rest : count p xs ≡ 0 = never p h xs in rw (h x, rest) refl
 

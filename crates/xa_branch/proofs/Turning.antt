@@ -29,7 +29,7 @@ turns_then xid held between after f g x y = record {
   others = λ q e j. y.others q e j ∙ x.others q e j;
 }
 
-less : (k : Kind) (t : ℕ) (mark : Option ℤ) (a u l a' u' l' : ℕ)
+pub less : (k : Kind) (t : ℕ) (mark : Option ℤ) (a u l a' u' l' : ℕ)
     → a' + cond (same_kind k kind.Active) 1 0 ≡ a → u' + cond (same_kind k kind.Suspended) 1 0 ≡ u → l' + cond (same_kind k kind.Loose) 1 0 ≡ l
     → less_one k (record { timestamp = t; mark = mark; active = a; suspended = u; loose = l }) ≡ record { timestamp = t; mark = mark; active = a'; suspended = u'; loose = l' }
 less kind.Active t mark a u l a' u' l' e f g = kept_same t mark (a - 1) u l a' u' l' (omega arith) (omega arith) (omega arith)

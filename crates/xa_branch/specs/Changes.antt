@@ -1,12 +1,15 @@
 -- What calls change of what is kept.
-use Rattle.std.specs.Prelude.{ℕ, ◌≡◌, ◌+◌, ◌-◌, ◌^◌, ℤ, min, Option, None, cond, is_some}
+use Rattle.std.specs.Prelude.{ℕ, ◌≡◌, ◌+◌, ◌-◌, ◌^◌, ℤ, min, Option, None, cond, is_some, option_map}
 use Rattle.std.specs.BTreeMap.{BTreeMap, get, btree_map_len}
+use Rattle.std.specs.BTreeSet.{BTreeSet, contains}
 use Rattle.std.specs.Ordering.{is_eq}
+use Rattle.xa_codes.specs.declared.codes.TheConstants.{XA_RBCOMMFAIL}
 use Rattle.xa_xid.specs.Triple.{Triple, xid_cmp}
 use Rattle.xa_model.specs.Associations.{or_mark}
 use Rattle.xa_branch.specs.declared.kind.Kind.{Kind}
 use Rattle.xa_branch.specs.declared.kind.Kind.TheVariants as kind
 use Rattle.xa_branch.specs.declared.working.Working.{Working as Kept}
+use Rattle.xa_branch.specs.Kinds.{own_kind}
 
 -- what is at one XID is another, and nothing else is
 pub record Sets (m : BTreeMap Triple Kept) (xid : Triple) (o : Option Kept) (m' : BTreeMap Triple Kept) : Type 0 where
@@ -34,3 +37,12 @@ abbrev pub less_one : Kind → Kept → Kept
 less_one kind.Active w = record w { active = w.active - 1 }
 less_one kind.Suspended w = record w { suspended = w.suspended - 1 }
 less_one kind.Loose w = record w { loose = w.loose - 1 }
+
+-- a branch that a session leaves behind where it hangs up: its association of this kind ends, and the branch is marked
+abbrev pub left_behind : Kind → Kept → Kept
+left_behind k w = marked XA_RBCOMMFAIL (less_one k w)
+
+-- Each of these branches is left behind once, by a session that is at work for one of them or for none; nothing else changes.
+pub record LeavesAll (m : BTreeMap Triple Kept) (own : BTreeSet Triple) (active : Option Triple) (m' : BTreeMap Triple Kept) : Type 0 where
+  pub at : (q : Triple) → get xid_cmp m' q ≡ cond (contains xid_cmp own q) (option_map (left_behind (own_kind active q)) (get xid_cmp m q)) (get xid_cmp m q)
+  pub number : btree_map_len m' ≡ btree_map_len m

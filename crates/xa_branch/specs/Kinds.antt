@@ -2,7 +2,7 @@
 use Rattle.std.specs.Prelude.{ℕ, Bool, true, false, ◌&&◌, Option, Some, None, List, if◌then◌else◌}
 use Rattle.std.specs.List.{list_any}
 use Rattle.xa_xid.specs.Triple.{Triple, xid_eq}
-use Rattle.xa_model.specs.State.{Association, Holder, Active, Suspended, Loose, count, works_in, suspends, is_loose_with}
+use Rattle.xa_model.specs.State.{Association, Holder, Active, Suspended, Loose, count, is_with, works_in, suspends, is_loose_with}
 use Rattle.xa_branch.specs.declared.kind.Kind.{Kind}
 use Rattle.xa_branch.specs.declared.kind.Kind.TheVariants as kind
 
@@ -40,3 +40,7 @@ resumed_kind held n xid =
     if list_any (suspends n xid) held then Some kind.Suspended
     else if list_any (is_loose_with xid) held then Some kind.Loose
     else None
+
+-- of a session's own association with an XID, by the XID that the session is at work for
+abbrev pub own_kind : Option Triple → Triple → Kind
+own_kind active xid = if is_with xid active then kind.Active else kind.Suspended

@@ -1,14 +1,17 @@
-ghost use Rattle.std.specs.Prelude.{◌≡◌, ℕ, Some, true};
+ghost use Rattle.std.specs.Prelude.{◌≡◌, ℕ, Some, true, option_copied};
+ghost use Rattle.std.specs.BTreeSet.{contains};
 ghost use Rattle.std.specs.List.{list_any};
-ghost use Rattle.xa_model.specs.State.{State as ModelState, works_in};
-ghost use Rattle.xa_model.specs.Associations.{joined, resumed, not_resumed, suspended, not_suspended, ended};
+ghost use Rattle.xa_xid.specs.Triple.{Triple, xid_cmp};
+ghost use Rattle.xa_model.specs.State.{State as ModelState, active_of, owns, works_in};
+ghost use Rattle.xa_model.specs.Associations.{joined, resumed, not_resumed, suspended, not_suspended, ended, hang_up_by};
 ghost use Rattle.xa_model.specs.Sound.{IsSound};
 ghost use Rattle.xa_branch.specs.Branches.{BranchesStandFor};
 ghost use Rattle.xa_branch.specs.Kinds.{ended_kind, resumed_kind};
 
 use crate::branches::Branches;
-use crate::changes::set;
+use crate::changes::{leave_all, set};
 use crate::kind::Kind;
+use std::collections::BTreeSet;
 use xa_xid::Xid;
 
 /// How the associations of branches change. Of an XID that isn't known nothing changes.
@@ -64,5 +67,15 @@ impl Branches {
         if let Some(working) = self.working_of(xid) {
             set(&mut self.working, xid, working.less_one(kind));
         }
+    }
+
+    /// What a session that hung up leaves behind: each of its own associations ends, and its branch is marked
+    /// XA_RBCOMMFAIL, unless it was marked. `own` are the XIDs of these associations, and `active` the one that the
+    /// session was at work for.
+    pub fn hang_up(&mut self, own: &BTreeSet<Xid>, active: Option<&Xid>)
+        ensures { (s : ModelState) (n : ℕ) → IsSound s → ((q : Triple) → contains xid_cmp own.now q ≡ list_any (owns n q) s.associations) → option_copied active.entry ≡ active_of s.associations n →
+            BranchesStandFor self.old s → BranchesStandFor self.new (hang_up_by s n).after }
+    {
+        leave_all(&mut self.working, own, active);
     }
 }

@@ -15,7 +15,8 @@ use xa_xid::Xid;
 /// The known branches, by their XIDs, and how many timestamps this boot gave.
 ///
 /// What a call promises holds for every state of the sequential resource manager that the branches stood for. Each call
-/// takes time that grows with the logarithm of the number of branches, and only `begin` takes memory.
+/// takes time that grows with the logarithm of the number of branches, `hang_up` that for each branch that the session
+/// leaves behind, and only `begin` takes memory.
 #[derive(Drop)]
 pub struct Branches {
     pub(crate) boot: u32,
@@ -47,6 +48,13 @@ impl Branches {
         ensures known { (s : ModelState) → BranchesStandFor self.now s → result ≡ known_in s }
     {
         self.working.len()
+    }
+
+    /// How many timestamps this boot gave.
+    pub fn given(&self) -> u64
+        ensures { (s : ModelState) → BranchesStandFor self.now s → result ≡ s.given }
+    {
+        self.given
     }
 
     /// The branch at work with this XID.

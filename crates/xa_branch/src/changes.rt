@@ -1,11 +1,13 @@
-ghost use Rattle.std.specs.Prelude.{◌≡◌, None, Some, OnOk, OnErr, option_map};
+ghost use Rattle.std.specs.Prelude.{◌≡◌, None, Some, OnOk, OnErr, option_map, option_copied};
 ghost use Rattle.std.specs.BTreeMap.{get};
 ghost use Rattle.xa_xid.specs.Triple.{xid_cmp};
-ghost use Rattle.xa_branch.specs.Changes.{Sets};
+ghost use Rattle.xa_branch.specs.Changes.{Sets, LeavesAll, left_behind};
 
+use crate::kind::Kind;
 use crate::working::Working;
 use std::alloc::AllocError;
-use std::collections::BTreeMap;
+use std::collections::{BTreeMap, BTreeSet};
+use xa_codes::XA_RBCOMMFAIL;
 use xa_xid::Xid;
 
 /// Adds a branch, or puts it in the place of another with its XID.
@@ -31,4 +33,22 @@ pub fn take(working: &mut BTreeMap<Xid, Working>, xid: &Xid)
     ensures { Sets working.old xid.now None working.new }
 {
     working.remove(xid);
+}
+
+/// A session leaves a branch behind: its association of this kind ends, and the branch is marked.
+fn leave_behind(working: &mut BTreeMap<Xid, Working>, xid: &Xid, kind: Kind)
+    ensures { Sets working.old xid.now (option_map (left_behind kind) (get xid_cmp working.old xid.now)) working.new }
+{
+    if let Some(was) = working.get(xid).copied() {
+        set(working, xid, was.less_one(kind).marked(XA_RBCOMMFAIL));
+    }
+}
+
+/// A session leaves each of its own branches behind, once. It is at work for `active`, or for none.
+pub fn leave_all(working: &mut BTreeMap<Xid, Working>, own: &BTreeSet<Xid>, active: Option<&Xid>)
+    ensures { LeavesAll working.old own.now (option_copied active.entry) working.new }
+{
+    for xid in own {
+        leave_behind(working, xid, Kind::of_own(xid, active));
+    }
 }

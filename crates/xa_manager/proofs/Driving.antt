@@ -1,5 +1,5 @@
 -- A run goes on by one event.
-use Rattle.std.proofs.Common.{◌≡◌, Bool, true, false, cond, List, [], ◌∷◌, ◌++◌, length, Option, Some, None, IsSomeAnd, refl, ap, sym, ◌∙◌, subst, arith}
+use Rattle.std.proofs.Common.{◌≡◌, ℕ, suc, Bool, true, false, cond, List, [], ◌∷◌, ◌++◌, length, Option, Some, None, IsSomeAnd, refl, ap, sym, ◌∙◌, subst, arith}
 use Rattle.std.specs.Prelude.{MatchBool}
 use Rattle.std.proofs.lemmas.List.{append-nil}
 use Rattle.xa_frame.specs.declared.reply.Reply.{Reply}
@@ -10,8 +10,9 @@ use Rattle.xa_model.specs.Answer.{Answer}
 use Rattle.xa_model.specs.Step.{Asked, step}
 use Rattle.xa_model.specs.History.{Entry, Leads, Steps}
 use Rattle.xa_manager.specs.Kept.{Kept}
-use Rattle.xa_manager.specs.Stands.{StandsFor, Stays, is_memory}
-use Rattle.xa_manager.specs.Answered.{Answered, AnswersAll, recorded}
+use Rattle.xa_assoc.specs.Refusals.{is_memory}
+use Rattle.xa_manager.specs.Stands.{StandsFor, Stays}
+use Rattle.xa_manager.specs.Answered.{Answered, AnswersAll, ArePinned, IsPinned, recorded}
 
 -- a legal history goes on by one entry
 leads_more : (s : State) (es : List Entry) (mid : State) (e : Entry) (s' : State) → Leads s es mid → Steps mid e s' → Leads s (es ++ e ∷ []) s'
@@ -55,3 +56,16 @@ goes_on m mid m' es rs event reply false same ed all one s st =
 pub answers_more : (m mid m' : Kept) (es : List Event) (rs : List Reply) (event : Event) (reply : Reply) → length es ≡ length rs
     → AnswersAll m es rs mid → Answered mid event reply m' → AnswersAll m (es ++ event ∷ []) (rs ++ reply ∷ []) m'
 answers_more m mid m' es rs event reply same all one = goes_on m mid m' es rs event reply (is_memory reply.detail) same refl all one
+
+-- as many replies as events, each pinned
+pub pinned_each : (es : List Event) (rs : List Reply) → ArePinned es rs → length es ≡ length rs
+pinned_each [] [] h = refl
+pinned_each [] (r ∷ rs) h = absurd h
+pinned_each (e ∷ es) [] h = absurd h
+pinned_each (e ∷ es) (r ∷ rs) h = ap (λ (n : ℕ). suc n) (pinned_each es rs h.1)
+
+pub pinned_more : (es : List Event) (rs : List Reply) (event : Event) (reply : Reply) → ArePinned es rs → IsPinned event reply → ArePinned (es ++ event ∷ []) (rs ++ reply ∷ [])
+pinned_more [] [] event reply h one = (one, tt)
+pinned_more [] (r ∷ rs) event reply h one = absurd h
+pinned_more (e ∷ es) [] event reply h one = absurd h
+pinned_more (e ∷ es) (r ∷ rs) event reply h one = (h.0, pinned_more es rs event reply h.1 one)

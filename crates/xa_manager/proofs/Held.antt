@@ -1,123 +1,105 @@
--- Associations, as long as all are active: one a session.
-use Rattle.std.proofs.Common.{◌≡◌, ℕ, ◌+◌, ◌≤◌, ◌==◌, ◌||◌, Bool, true, false, cond, List, [], ◌∷◌, None, refl, ap, ◌∙◌, arith}
-use Rattle.std.specs.Prelude.{option_map}
-use Rattle.std.specs.List.{list_any, AllByRecursion}
-use Rattle.std.proofs.Math.Bool.{or-false}
+-- Of which kind the association is that a session takes up or leaves, as the tables tell it.
+use Rattle.std.proofs.Common.{◌≡◌, ℕ, ◌+◌, not, ◌&&◌, ◌||◌, Bool, true, false, cond, List, [], ◌∷◌, Option, Some, None, refl, ap, sym, ◌∙◌, arith}
+use Rattle.std.specs.Prelude.{nat_lt}
+use Rattle.std.specs.List.{list_any}
 use Rattle.std.proofs.lemmas.Bool.Decides.{nat_tests}
-use Rattle.xa_xid.specs.Triple.{Triple, xid_eq}
-use Rattle.xa_model.specs.State.{Association, Holder, Active, Suspended, Loose, count, is_active, is_own, is_with, owns, is_loose_with, active_of, holders_of, without}
-use Rattle.xa_model.specs.Associations.{can_end, without_one}
-use Rattle.xa_model.proofs.Counts.{found_none}
-use Rattle.xa_model.proofs.Xids.{both_true, xid_apart}
-use Rattle.xa_manager.specs.Stands.{works}
-use Rattle.xa_manager.proofs.Counting.{count_left, count_apart}
+use Rattle.xa_codes.specs.declared.codes.TheConstants.{XAER_NOTA, XAER_PROTO}
+use Rattle.xa_xid.specs.Triple.{Triple}
+use Rattle.xa_model.specs.State.{State, count, is_with, active_of, known_as, owns, suspends, works_in, is_loose_with, loose_of}
+use Rattle.xa_model.specs.Answer.{plain}
+use Rattle.xa_model.specs.Associations.{is_unknown, can_end}
+use Rattle.xa_model.proofs.Rows.{passed}
+use Rattle.xa_assoc.specs.Seats.{active_at, owns_at, suspends_at}
+use Rattle.xa_assoc.specs.Sessions.{resume_refusal_of, suspend_refusal_of, leave_refusal_of}
+use Rattle.xa_assoc.proofs.Facts.{suspends_is}
+use Rattle.xa_assoc.proofs.Follows.{resume_passed, working_where}
+use Rattle.xa_assoc.proofs.Held.{works_somewhere, works_nowhere}
+use Rattle.xa_branch.specs.declared.kind.Kind.{Kind}
+use Rattle.xa_branch.specs.declared.kind.Kind.TheVariants as kind
+use Rattle.xa_branch.specs.Kinds.{resumed_kind, ended_kind}
+use Rattle.xa_manager.specs.Kept.{Kept}
+use Rattle.xa_manager.specs.Stands.{StandsFor}
 
-abbrev IsOnly : Holder → List Association → Type 0
-IsOnly (Active n) held = active_of held n ≡ None
-IsOnly (Suspended n) held = ⊥
-IsOnly Loose held = ⊥
+any_by : (c b : Bool) (n : ℕ) → b ≡ nat_lt 0 n → (c || b) ≡ nat_lt 0 (cond c 1 0 + n)
+any_by true b n e = grind (arith, nat_tests)
+any_by false b n e = e ∙ ap (nat_lt 0) (omega arith)
 
--- each is active, and no other is its session's
-abbrev pub IsSingle : List Association → Type 0
-IsSingle [] = Unit {0}
-IsSingle (a ∷ held) = IsOnly a.holder held × IsSingle held
+-- some pass just where more than none do
+pub any_counted : {A : Type 0} (p : A → Bool) (xs : List A) → list_any p xs ≡ nat_lt 0 (count p xs)
+any_counted p [] = refl
+any_counted p (x ∷ xs) = any_by (p x) (list_any p xs) (count p xs) (any_counted p xs)
 
-only_by : (a : Association) (held : List Association) (h : Holder) → a.holder ≡ h → works h ≡ true → ((n : ℕ) → count (λ x. is_active n x.holder) (a ∷ held) ≤ 1) → IsOnly h held
-only_by a held (Active m) e w most =
-    let same : (m == m) ≡ true = grind (arith, nat_tests) in
-    let here : ◌≡◌ {A = ℕ} (cond (is_active m a.holder) 1 0) 1 = rw (e, same) refl in
-    let none : count (λ (x : Association). is_active m x.holder) held ≡ 0 = omega (arith, most m, here) in
-    ap (option_map (λ (x : Association). x.xid)) (found_none (λ (x : Association). is_active m x.holder) held none)
-only_by a held (Suspended m) e w most = absurd (cc w)
-only_by a held Loose e w most = absurd (cc w)
+pub loose_told : (s : State) (xid : Triple) (n : ℕ) → n ≡ loose_of s.associations xid → list_any (is_loose_with xid) s.associations ≡ nat_lt 0 n
+loose_told s xid n e = any_counted (is_loose_with xid) s.associations ∙ ap (nat_lt 0) (sym e)
 
-pub single : (held : List Association) → AllByRecursion (λ a. works a.holder ≡ true) held → ((n : ℕ) → count (λ a. is_active n a.holder) held ≤ 1) → IsSingle held
-single [] all most = tt
-single (a ∷ held) all most = (only_by a held a.holder refl all.0 most, single held all.1 (λ n. omega (arith, most n)))
+-- which of several kinds, over plain variables
+of_first : (a : Bool) (x : Kind) (others : Option Kind) → a ≡ true → cond a (Some x) others ≡ Some x
+of_first a x others e = rw e refl
 
--- nobody holds a loose one
-no_loose_by : (xid : Triple) (a : Association) (held : List Association) (h : Holder) → a.holder ≡ h → IsOnly h held → list_any (is_loose_with xid) held ≡ false → list_any (is_loose_with xid) (a ∷ held) ≡ false
-no_loose_by xid a held (Active n) e only rest = simp (e, rest)
-no_loose_by xid a held (Suspended n) e only rest = absurd only
-no_loose_by xid a held Loose e only rest = absurd only
+of_second : (a b : Bool) (x y : Kind) (others : Option Kind) → a ≡ false → b ≡ true → cond a (Some x) (cond b (Some y) others) ≡ Some y
+of_second a b x y others e h = rw (e, h) refl
 
-pub no_loose : (xid : Triple) (held : List Association) → IsSingle held → list_any (is_loose_with xid) held ≡ false
-no_loose xid [] s = refl
-no_loose xid (a ∷ held) s = no_loose_by xid a held a.holder refl s.0 (no_loose xid held s.1)
+of_third : (a b c : Bool) (x y z : Kind) → a ≡ false → b ≡ false → c ≡ true → cond a (Some x) (cond b (Some y) (cond c (Some z) None)) ≡ Some z
+of_third a b c x y z e h k = rw (e, h, k) refl
 
-owns_by : (n m : ℕ) (xid : Triple) (a : Association) (held : List Association) (c : Bool) → a.holder ≡ Active m → (m == n) ≡ c → active_of held m ≡ None
-    → list_any (owns n xid) held ≡ is_with xid (active_of held n) → list_any (owns n xid) (a ∷ held) ≡ is_with xid (active_of (a ∷ held) n)
-owns_by n m xid a held true e same none rest =
-    let here : n ≡ m = grind (arith, nat_tests) in
-    let nothing : active_of held n ≡ None = rw here none in
-    let no : list_any (owns n xid) held ≡ false = rest ∙ ap (is_with xid) nothing in
-    simp (e, same, no) (or-false (xid_eq a.xid xid))
-owns_by n m xid a held false e same none rest = simp (e, same, rest)
+other_of : (a b : Bool) → (a || b) ≡ true → a ≡ false → b ≡ true
+other_of true b e h = absurd (cc h)
+other_of false b e h = e
 
-owns_holder : (n : ℕ) (xid : Triple) (a : Association) (held : List Association) (h : Holder) → a.holder ≡ h → IsOnly h held
-    → list_any (owns n xid) held ≡ is_with xid (active_of held n) → list_any (owns n xid) (a ∷ held) ≡ is_with xid (active_of (a ∷ held) n)
-owns_holder n xid a held (Active m) e only rest = owns_by n m xid a held (m == n) e refl only rest
-owns_holder n xid a held (Suspended m) e only rest = absurd only
-owns_holder n xid a held Loose e only rest = absurd only
+not_false : (b : Bool) → not b ≡ false → b ≡ true
+not_false true e = refl
+not_false false e = absurd (cc e)
 
--- what a session owns is what it is at work in
-pub owns_active : (n : ℕ) (xid : Triple) (held : List Association) → IsSingle held → list_any (owns n xid) held ≡ is_with xid (active_of held n)
-owns_active n xid [] s = refl
-owns_active n xid (a ∷ held) s = owns_holder n xid a held a.holder refl s.0 (owns_active n xid held s.1)
+-- Start with TMRESUME
 
-pub can_end_active : (n : ℕ) (xid : Triple) (held : List Association) → IsSingle held → can_end held n xid ≡ is_with xid (active_of held n)
-can_end_active n xid held s = ap (λ b. list_any (owns n xid) held || b) (no_loose xid held s) ∙ or-false (list_any (owns n xid) held) ∙ owns_active n xid held s
+suspends_told : (m : Kept) (s : State) (n : ℕ) (xid : Triple) (b : Bool) → StandsFor m s → suspends_at m.sessions n xid ≡ b → list_any (suspends n xid) s.associations ≡ b
+suspends_told m s n xid b st e = sym (suspends_is m.sessions s n xid st.sound st.sessions) ∙ e
 
-pub without_active : (n : ℕ) (xid : Triple) (held : List Association) → list_any (owns n xid) held ≡ true → without_one held n xid ≡ without (owns n xid) held
-without_active n xid held h = rw h refl
+pub resumes_own : (m : Kept) (s : State) (n : ℕ) (xid : Triple) → StandsFor m s → suspends_at m.sessions n xid ≡ true → resumed_kind s.associations n xid ≡ Some kind.Suspended
+resumes_own m s n xid st e = of_first (list_any (suspends n xid) s.associations) kind.Suspended _ (suspends_told m s n xid true st e)
 
--- after an End the session has no active association, and the others have theirs
-ended_active : (n m : ℕ) (xid : Triple) (a : Association) (held : List Association) (c d : Bool) → a.holder ≡ Active m → (m == n) ≡ c → xid_eq a.xid xid ≡ d → active_of held m ≡ None → IsSingle held
-    → list_any (owns n xid) (a ∷ held) ≡ true → (list_any (owns n xid) held ≡ true → active_of (without (owns n xid) held) n ≡ None)
-    → active_of (without (owns n xid) (a ∷ held)) n ≡ None
-ended_active n m xid a held true true e ec ed none s h rest = let here : n ≡ m = grind (arith, nat_tests) in simp (e, ec, ed) (rw here none)
-ended_active n m xid a held true false e ec ed none s h rest =
-    let here : n ≡ m = grind (arith, nat_tests) in
-    let nothing : active_of held n ≡ None = rw here none in
-    let no : list_any (owns n xid) held ≡ false = owns_active n xid held s ∙ ap (is_with xid) nothing in
-    let yes : list_any (owns n xid) held ≡ true = simp (e, ec, ed) at h in absurd (cc (no, yes))
-ended_active n m xid a held false d e ec ed none s h rest = let yes : list_any (owns n xid) held ≡ true = simp (e, ec) at h in simp (e, ec, rest yes)
+pub resumes_loose : (m : Kept) (s : State) (n : ℕ) (xid : Triple) → StandsFor m s → suspends_at m.sessions n xid ≡ false → resume_refusal_of s n xid ≡ None
+    → resumed_kind s.associations n xid ≡ Some kind.Loose
+resumes_loose m s n xid st e free =
+    let none = suspends_told m s n xid false st e in
+    of_second (list_any (suspends n xid) s.associations) (list_any (is_loose_with xid) s.associations) kind.Suspended kind.Loose None none
+    (other_of (list_any (suspends n xid) s.associations) (list_any (is_loose_with xid) s.associations) (resume_passed s n xid free).1 none)
 
-ended_holder : (n : ℕ) (xid : Triple) (a : Association) (held : List Association) (o : Holder) → a.holder ≡ o → IsOnly o held → IsSingle held
-    → list_any (owns n xid) (a ∷ held) ≡ true → (list_any (owns n xid) held ≡ true → active_of (without (owns n xid) held) n ≡ None)
-    → active_of (without (owns n xid) (a ∷ held)) n ≡ None
-ended_holder n xid a held (Active m) e only s h rest = ended_active n m xid a held (m == n) (xid_eq a.xid xid) e refl refl only s h rest
-ended_holder n xid a held (Suspended m) e only s h rest = absurd only
-ended_holder n xid a held Loose e only s h rest = absurd only
+-- End
 
-pub ended_same : (n : ℕ) (xid : Triple) (held : List Association) → IsSingle held → list_any (owns n xid) held ≡ true → active_of (without (owns n xid) held) n ≡ None
-ended_same n xid [] s h = refl
-ended_same n xid (a ∷ held) s h = ended_holder n xid a held a.holder refl s.0 s.1 h (ended_same n xid held s.1)
+works_told : (m : Kept) (s : State) (n : ℕ) (xid : Triple) (b : Bool) → StandsFor m s → is_with xid (active_at m.sessions n) ≡ b → is_with xid (active_of s.associations n) ≡ b
+works_told m s n xid b st e = ap (is_with xid) (sym (st.sessions.active n)) ∙ e
 
-not_active : (n k : ℕ) (xid : Triple) (a : Association) (o : Holder) → a.holder ≡ o → owns n xid a ≡ true → (n == k) ≡ false → is_active k a.holder ≡ false
-not_active n k xid a (Active m) e own apart =
-    let is : (m == n) ≡ true = (both_true (m == n) (xid_eq a.xid xid) (simp e at own)).0 in
-    let no : (m == k) ≡ false = grind (arith, nat_tests) in simp (e, no)
-not_active n k xid a (Suspended m) e own apart = simp e
-not_active n k xid a Loose e own apart = simp e
+pub leaves_active : (m : Kept) (s : State) (n : ℕ) (xid : Triple) → StandsFor m s → is_with xid (active_at m.sessions n) ≡ true → ended_kind s.associations n xid ≡ Some kind.Active
+leaves_active m s n xid st e = of_first (list_any (works_in n xid) s.associations) kind.Active _ (works_somewhere n xid s.associations (works_told m s n xid true st e))
 
-active_after : (k : ℕ) (a : Association) (xs ys : List Association) (c : Bool) → is_active k a.holder ≡ c → active_of xs k ≡ active_of ys k → active_of (a ∷ xs) k ≡ active_of (a ∷ ys) k
-active_after k a xs ys true e rest = simp e
-active_after k a xs ys false e rest = simp (e, rest)
+idle : (m : Kept) (s : State) (n : ℕ) (xid : Triple) → StandsFor m s → is_with xid (active_at m.sessions n) ≡ false → list_any (works_in n xid) s.associations ≡ false
+idle m s n xid st e = works_nowhere n xid s.associations (works_told m s n xid false st e) (st.sound.active n)
 
-ended_other_by : (n k : ℕ) (xid : Triple) (a : Association) (held : List Association) (c : Bool) → owns n xid a ≡ c → (n == k) ≡ false → active_of (without (owns n xid) held) k ≡ active_of held k
-    → active_of (cond c held (a ∷ without (owns n xid) held)) k ≡ active_of (a ∷ held) k
-ended_other_by n k xid a held true own apart rest = let no : is_active k a.holder ≡ false = not_active n k xid a a.holder refl own apart in simp no
-ended_other_by n k xid a held false own apart rest = active_after k a (without (owns n xid) held) held (is_active k a.holder) refl rest
+suspends_by : (owned at : Bool) → owned ≡ true → at ≡ false → (owned && not at) ≡ true
+suspends_by owned at e h = rw (e, h) refl
 
-pub ended_other : (n k : ℕ) (xid : Triple) (held : List Association) → (n == k) ≡ false → active_of (without (owns n xid) held) k ≡ active_of held k
-ended_other n k xid [] apart = refl
-ended_other n k xid (a ∷ held) apart = ended_other_by n k xid a held (owns n xid a) refl apart (ended_other n k xid held apart)
+pub leaves_suspended : (m : Kept) (s : State) (n : ℕ) (xid : Triple) → StandsFor m s → is_with xid (active_at m.sessions n) ≡ false → owns_at m.sessions n xid ≡ true
+    → ended_kind s.associations n xid ≡ Some kind.Suspended
+leaves_suspended m s n xid st e own =
+    of_second (list_any (works_in n xid) s.associations) (list_any (suspends n xid) s.associations) kind.Active kind.Suspended _ (idle m s n xid st e)
+    (suspends_told m s n xid true st (suspends_by (owns_at m.sessions n xid) (is_with xid (active_at m.sessions n)) own e))
 
--- how many associations a branch has
-pub holders_same : (n : ℕ) (xid : Triple) (held : List Association) → list_any (owns n xid) held ≡ true → holders_of (without (owns n xid) held) xid + 1 ≡ holders_of held xid
-holders_same n xid held h = count_left (owns n xid) (λ a. xid_eq a.xid xid) (λ a own. (both_true (is_own n a.holder) (xid_eq a.xid xid) own).1) held h
+can_end_where : (s : State) (n : ℕ) (xid : Triple) → leave_refusal_of s n xid ≡ None → can_end s.associations n xid ≡ true
+can_end_where s n xid free =
+    not_false (can_end s.associations n xid)
+    (passed (not (can_end s.associations n xid)) (plain XAER_PROTO) None (passed (is_unknown (known_as s xid)) (plain XAER_NOTA) (cond (not (can_end s.associations n xid)) (Some (plain XAER_PROTO)) None) free).1).0
 
-pub holders_other : (n : ℕ) (xid q : Triple) (held : List Association) → xid_eq xid q ≡ false → holders_of (without (owns n xid) held) q ≡ holders_of held q
-holders_other n xid q held apart =
-    count_apart (owns n xid) (λ a. xid_eq a.xid q) (λ a own. xid_apart a.xid xid q (both_true (is_own n a.holder) (xid_eq a.xid xid) own).1 apart) held
+no_own : (b c : Bool) → b ≡ false → (b && c) ≡ false
+no_own b c e = rw e refl
+
+pub leaves_loose : (m : Kept) (s : State) (n : ℕ) (xid : Triple) → StandsFor m s → is_with xid (active_at m.sessions n) ≡ false → owns_at m.sessions n xid ≡ false → leave_refusal_of s n xid ≡ None
+    → ended_kind s.associations n xid ≡ Some kind.Loose
+leaves_loose m s n xid st e own free =
+    of_third (list_any (works_in n xid) s.associations) (list_any (suspends n xid) s.associations) (list_any (is_loose_with xid) s.associations) kind.Active kind.Suspended kind.Loose (idle m s n xid st e)
+    (suspends_told m s n xid false st (no_own (owns_at m.sessions n xid) (not (is_with xid (active_at m.sessions n))) own))
+    (other_of (list_any (owns n xid) s.associations) (list_any (is_loose_with xid) s.associations) (can_end_where s n xid free) (sym (st.sessions.own n xid) ∙ own))
+
+-- a session that may suspend its work for a branch is at work for it
+pub works_where : (s : State) (n : ℕ) (xid : Triple) → suspend_refusal_of s n xid ≡ None → list_any (works_in n xid) s.associations ≡ true
+works_where s n xid free = works_somewhere n xid s.associations (working_where s n xid free)

@@ -4,53 +4,54 @@ use Rattle.std.specs.Prelude.{is_some, nat_lt, nat_le}
 use Rattle.std.proofs.lemmas.Bool.Decides.{nat_tests}
 use Rattle.xa_codes.specs.declared.codes.TheConstants.{XAER_INVAL, XAER_PROTO, XA_RBTRANSIENT}
 use Rattle.xa_codes.specs.declared.detail.Detail.TheVariants as detail
-use Rattle.xa_xid.specs.Triple.{Triple, xid_eq}
-use Rattle.mv_chain.specs.declared.fate.Fate.{Fate}
-use Rattle.mv_chain.specs.History.{Written, has_open, is_late, IsUnsettled}
+use Rattle.xa_xid.specs.Triple.{Triple}
+use Rattle.mv_chain.specs.History.{has_open, is_late, IsUnsettled}
 use Rattle.mv_rules.specs.declared.answers.Put.{Put}
 use Rattle.mv_rules.specs.declared.answers.Put.TheVariants as put_as
 use Rattle.mv_rules.specs.History.{open_keys, put_by, put_of, wrote}
 use Rattle.mv_rules.specs.Records.{StandsFor as RecordsStandFor}
-use Rattle.mv_rules.specs.Ties.{history_of, writes_in, writes_by, fate_of, read_as}
+use Rattle.mv_rules.specs.Ties.{history_of, writes_in, read_as}
 use Rattle.mv_rules.proofs.Ties.{one_lateness}
 use Rattle.mv_rules.proofs.Moved.{stands_same}
-use Rattle.mv_rules.proofs.Branches.{unwritten, wrote_first}
+use Rattle.mv_rules.proofs.Branches.{wrote_first}
 use Rattle.mv_rules.proofs.Open.{at_work, unsettled}
-use Rattle.xa_model.specs.State.{State, Branch, Phase, Working, Prepared, Committed, Association, Operation, Wrote, is_known_as, own_branch, change, timestamp_of}
+use Rattle.xa_model.specs.State.{State, Operation, Wrote, is_known_as, own_branch, change, timestamp_of}
 use Rattle.xa_model.specs.Source.{write_of, written_keys, is_late as is_late_among}
 use Rattle.xa_model.specs.Answer.{Answer, plain, detailed, answer, unless, marked}
-use Rattle.xa_model.specs.Associations.{with_mark, marked_phase}
 use Rattle.xa_model.specs.Records.{having_done, is_full, limit_refusal, came_late, written, in_time, put_from, put_by as put_row}
 use Rattle.xa_model.specs.Sound.{IsSound}
-use Rattle.xa_model.proofs.Xids.{cmp_is_eq}
-use Rattle.xa_manager.specs.declared.slot.Slot.{Slot}
-use Rattle.xa_manager.specs.Kept.{Kept, slot_at, own_at}
-use Rattle.xa_manager.specs.Changes.{Marks, Puts}
-use Rattle.xa_manager.specs.Stands.{StandsFor, Follows, Stays, slot_of}
-use Rattle.xa_manager.proofs.Looks.{Finds, finds, own_slot, own_is, no_own, follows_by}
-use Rattle.xa_manager.proofs.Inner.{inner_stands, same_slot, stays_by, own_mark, time_of, open_fate, done_inner, mark_inner}
+use Rattle.xa_branch.specs.declared.working.Working.{Working as Kept_branch}
+use Rattle.xa_branch.specs.Branches.{working_at}
+use Rattle.xa_branch.specs.Calls.{marked_with}
+use Rattle.xa_branch.proofs.Looks.{IsWorking}
+use Rattle.xa_manager.specs.Kept.{Kept, own_at}
+use Rattle.xa_manager.specs.Changes.{Puts}
+use Rattle.xa_manager.specs.Stands.{StandsFor, Follows, Stays}
+use Rattle.xa_manager.proofs.Looks.{finds, own_works, own_is, no_own, own_mark, time_of, open_fate}
+use Rattle.xa_manager.proofs.Done.{done_stands, stays_by}
+use Rattle.xa_manager.proofs.Rows.{follows_by}
 
 pub put_alone : (m : Kept) (n : ℕ) (key : List ℕ) (value : Option (List ℕ)) → own_at m n ≡ None → Follows m (λ s. put_row s key value (own_branch s n)) (plain XAER_PROTO) m
 put_alone m n key value h =
     follows_by m m (λ s. put_row s key value (own_branch s n)) (plain XAER_PROTO) refl (λ s st. (answer (plain XAER_PROTO) s, ap (put_row s key value) (no_own m s n st h), refl, λ sound. st))
 
-pub put_marked : (m : Kept) (n : ℕ) (key : List ℕ) (value : Option (List ℕ)) (xid : Triple) (slot : Slot) (code : ℤ) → own_at m n ≡ Some (xid, slot) → slot.mark ≡ Some code
+pub put_marked : (m : Kept) (n : ℕ) (key : List ℕ) (value : Option (List ℕ)) (xid : Triple) (w : Kept_branch) (code : ℤ) → own_at m n ≡ Some (xid, w) → w.mark ≡ Some code
     → Follows m (λ s. put_row s key value (own_branch s n)) (plain code) m
-put_marked m n key value xid slot code h e =
+put_marked m n key value xid w code h e =
     follows_by m m (λ s. put_row s key value (own_branch s n)) (plain code) refl
     (λ s st.
-    let x = finds m s xid slot st (own_slot m n xid slot h).1 in (
+    let x = finds m s xid w st (own_works m n xid w h).1 in (
       answer (plain code) s,
-      ap (put_row s key value) (own_is m s n xid slot st h x) ∙ ap (λ (o : Option ℤ). marked o s (put_from s key value xid x.branch)) (own_mark s xid slot (Some code) x e),
+      ap (put_row s key value) (own_is m s n xid w st h x) ∙ ap (λ (o : Option ℤ). marked o s (put_from s key value xid x.branch)) (own_mark s xid w (Some code) x e),
       refl,
       λ sound. st,
     ))
 
 -- an unmarked branch puts
-put_unmarked : (m : Kept) (s : State) (n : ℕ) (key : List ℕ) (value : Option (List ℕ)) (xid : Triple) (slot : Slot) → StandsFor m s → own_at m n ≡ Some (xid, slot) → slot.mark ≡ None → (x : Finds s xid slot)
+put_unmarked : (m : Kept) (s : State) (n : ℕ) (key : List ℕ) (value : Option (List ℕ)) (xid : Triple) (w : Kept_branch) → StandsFor m s → own_at m n ≡ Some (xid, w) → w.mark ≡ None → (x : IsWorking s xid w)
     → put_row s key value (own_branch s n) ≡ put_from s key value xid x.branch
-put_unmarked m s n key value xid slot st h e x =
-    ap (put_row s key value) (own_is m s n xid slot st h x) ∙ ap (λ (o : Option ℤ). marked o s (put_from s key value xid x.branch)) (own_mark s xid slot None x e)
+put_unmarked m s n key value xid w st h e x =
+    ap (put_row s key value) (own_is m s n xid w st h x) ∙ ap (λ (o : Option ℤ). marked o s (put_from s key value xid x.branch)) (own_mark s xid w None x e)
 
 judge_full : (full : Bool) (s : State) (a : Answer) → full ≡ true → unless (limit_refusal full) s a ≡ answer (detailed XAER_INVAL detail.Limit) s
 judge_full full s a e = rw e refl
@@ -59,24 +60,23 @@ judge_rest : (full late : Bool) (s : State) (a b : Answer) (c : Bool) → full �
 judge_rest full late s a b true e h = rw (e, h) refl
 judge_rest full late s a b false e h = rw (e, h) refl
 
-marked_fate : (code : ℤ) (p : Phase) → fate_of (marked_phase code p) ≡ fate_of p
-marked_fate code (Working xid mark) = refl
-marked_fate code (Prepared xid) = refl
-marked_fate code Committed = refl
+-- what marking a late branch comes to
+abbrev pub Marks : Kept → Triple → Kept → Type 0
+Marks m xid m' = (s : State) → StandsFor m s → IsSound (marked_with XA_RBTRANSIENT s xid) → StandsFor m' (marked_with XA_RBTRANSIENT s xid)
 
 -- the branch's writes are open
-open_at : (m : Kept) (s : State) (xid : Triple) (slot : Slot) → StandsFor m s → (x : Finds s xid slot) → IsUnsettled slot.timestamp 0 (writes_in s.branches)
-open_at m s xid slot st x =
-    subst (λ (t : ℕ). IsUnsettled t 0 (writes_in s.branches)) (sym (time_of s xid slot x)) (unsettled xid x.branch (timestamp_of s.boot s.given + 1) s.branches st.sound.descends x.at (open_fate s xid slot x))
+open_at : (m : Kept) (s : State) (xid : Triple) (w : Kept_branch) → StandsFor m s → (x : IsWorking s xid w) → IsUnsettled w.timestamp 0 (writes_in s.branches)
+open_at m s xid w st x =
+    subst (λ (t : ℕ). IsUnsettled t 0 (writes_in s.branches)) (sym (time_of s xid w x)) (unsettled xid x.branch (timestamp_of s.boot s.given + 1) s.branches st.sound.descends x.found (open_fate s xid w x))
 
 -- what a put answers, by whether the keys are used up and whether it is late
-judged : (m m' : Kept) (s : State) (xid : Triple) (slot : Slot) (key : List ℕ) (value : Option (List ℕ)) (put : Put) → StandsFor m s → (x : Finds s xid slot) → Puts m slot.timestamp key value put m' → put ≢ put_as.Memory
+judged : (m m' : Kept) (s : State) (xid : Triple) (w : Kept_branch) (key : List ℕ) (value : Option (List ℕ)) (put : Put) → StandsFor m s → (x : IsWorking s xid w) → Puts m w.timestamp key value put m' → put ≢ put_as.Memory
     → put ≡ put_by (not (is_some (write_of key x.branch.operations)) && nat_le 256 (written_keys x.branch.operations)) (is_late_among key x.branch.timestamp s.reads)
-judged m m' s xid slot key value put st x c some =
+judged m m' s xid w key value put st x c some =
     let b = x.branch in
-    let works = at_work xid b (timestamp_of s.boot s.given + 1) s.branches st.sound.descends x.at (open_fate s xid slot x) in
-    c.answer (history_of s) st.records (open_at m s xid slot st x) some
-    ∙ ap (λ (t : ℕ). put_of (has_open key t (writes_in s.branches)) (open_keys t (writes_in s.branches)) (is_late key t (map read_as s.reads))) (time_of s xid slot x)
+    let works = at_work xid b (timestamp_of s.boot s.given + 1) s.branches st.sound.descends x.found (open_fate s xid w x) in
+    c.answer (history_of s) st.records (open_at m s xid w st x) some
+    ∙ ap (λ (t : ℕ). put_of (has_open key t (writes_in s.branches)) (open_keys t (writes_in s.branches)) (is_late key t (map read_as s.reads))) (time_of s xid w x)
     ∙ ap (λ (held : Bool). put_of held (open_keys b.timestamp (writes_in s.branches)) (is_late key b.timestamp (map read_as s.reads))) (works.held key)
     ∙ ap (λ (count : ℕ). put_of (is_some (write_of key b.operations)) count (is_late key b.timestamp (map read_as s.reads))) works.count
     ∙ ap (λ (late : Bool). put_of (is_some (write_of key b.operations)) (written_keys b.operations) late) (one_lateness key b.timestamp s.reads)
@@ -99,83 +99,69 @@ done_of true b h = absurd (cc h)
 done_of false true h = absurd (cc h)
 done_of false false h = (refl, refl)
 
-pub put_full : (m m' : Kept) (n : ℕ) (key : List ℕ) (value : Option (List ℕ)) (xid : Triple) (slot : Slot) → own_at m n ≡ Some (xid, slot) → slot.mark ≡ None → Puts m slot.timestamp key value put_as.Limit m'
+pub put_full : (m m' : Kept) (n : ℕ) (key : List ℕ) (value : Option (List ℕ)) (xid : Triple) (w : Kept_branch) → own_at m n ≡ Some (xid, w) → w.mark ≡ None → Puts m w.timestamp key value put_as.Limit m'
     → Follows m (λ s. put_row s key value (own_branch s n)) (detailed XAER_INVAL detail.Limit) m'
-put_full m m' n key value xid slot h e c =
+put_full m m' n key value xid w h e c =
     follows_by m m' (λ s. put_row s key value (own_branch s n)) (detailed XAER_INVAL detail.Limit) refl
     (λ s st.
-    let x = finds m s xid slot st (own_slot m n xid slot h).1 in
+    let x = finds m s xid w st (own_works m n xid w h).1 in
     let ops = x.branch.operations in
-    let full = limit_of (not (is_some (write_of key ops)) && nat_le 256 (written_keys ops)) (is_late_among key x.branch.timestamp s.reads) (judged m m' s xid slot key value put_as.Limit st x c (λ q. cc q)) in (
+    let full = limit_of (not (is_some (write_of key ops)) && nat_le 256 (written_keys ops)) (is_late_among key x.branch.timestamp s.reads) (judged m m' s xid w key value put_as.Limit st x c (λ q. cc q)) in (
       answer (detailed XAER_INVAL detail.Limit) s,
-      put_unmarked m s n key value xid slot st h e x ∙ judge_full (is_full key ops) s _ (full_by (is_some (write_of key ops)) (written_keys ops) ∙ full),
+      put_unmarked m s n key value xid w st h e x ∙ judge_full (is_full key ops) s _ (full_by (is_some (write_of key ops)) (written_keys ops) ∙ full),
       refl,
-      λ sound. stays_by m m' s st c.same c.given c.seats c.slots (c.records (history_of s) st.records (open_at m s xid slot st x)),
+      λ sound. stays_by m m' s st c.same (c.records (history_of s) st.records (open_at m s xid w st x)),
     ))
 
-abbrev pub transient_slot : Slot → Slot
-transient_slot x = record x { mark = Some XA_RBTRANSIENT }
+-- the branch is marked after the put was answered
+late_stands : (m mid m' : Kept) (s : State) (xid : Triple) (w : Kept_branch) (key : List ℕ) (value : Option (List ℕ)) → StandsFor m s → (x : IsWorking s xid w) → Puts m w.timestamp key value put_as.Late mid
+    → Marks mid xid m' → IsSound (came_late s xid).after → StandsFor m' (came_late s xid).after
+late_stands m mid m' s xid w key value st x c k sound = k s (stays_by m mid s st c.same (c.records (history_of s) st.records (open_at m s xid w st x))) sound
 
-late_slot : (held : List Association) (xid : Triple) (b : Branch) (slot : Slot) → slot ≡ slot_of held xid b → b.phase ≡ Working xid None → transient_slot slot ≡ slot_of held xid (with_mark XA_RBTRANSIENT b)
-late_slot held xid b slot is phase =
-    ap transient_slot is ∙ ap (λ (p : Phase). slot_of held xid (record b { phase = marked_phase XA_RBTRANSIENT p })) (sym phase)
-
--- the slot is marked after the put was answered
-late_stands : (m mid m' : Kept) (s : State) (xid : Triple) (slot : Slot) (key : List ℕ) (value : Option (List ℕ)) → StandsFor m s → (x : Finds s xid slot) → slot.mark ≡ None → Puts m slot.timestamp key value put_as.Late mid
-    → Marks mid xid (transient_slot slot) m' → IsSound (came_late s xid).after → StandsFor m' (came_late s xid).after
-late_stands m mid m' s xid slot key value st x e c k sound =
-    let f = with_mark XA_RBTRANSIENT in
-    let between : StandsFor mid s = stays_by m mid s st c.same c.given c.seats c.slots (c.records (history_of s) st.records (open_at m s xid slot st x)) in
-    let is : transient_slot slot ≡ slot_of s.associations xid (f x.branch) = late_slot s.associations xid x.branch slot x.is (x.phase ∙ ap (λ (o : Option ℤ). Working xid o) e) in
-    let same : writes_in (change (is_known_as xid) f s.branches) ≡ writes_in s.branches = unwritten (is_known_as xid) f (λ y. ap (λ (fate : Option Fate). writes_by y.timestamp fate y.operations) (marked_fate XA_RBTRANSIENT y.phase)) s.branches in
-    let records : RecordsStandFor (record { low = 0; writes = writes_in (change (is_known_as xid) f s.branches); reads = map read_as s.reads }) m'.records =
-    rw k.records (subst (λ (ws : List Written). RecordsStandFor (record { low = 0; writes = ws; reads = map read_as s.reads }) mid.records) (sym same) between.records) in
-    inner_stands mid m' s f xid s.reads slot (transient_slot slot) (mark_inner XA_RBTRANSIENT) between x is k.same k.given k.seats (λ q. k.slots q ∙ rw (cmp_is_eq xid q) refl) k.known records sound
-
-pub put_late : (m mid m' : Kept) (n : ℕ) (key : List ℕ) (value : Option (List ℕ)) (xid : Triple) (slot : Slot) → own_at m n ≡ Some (xid, slot) → slot.mark ≡ None → Puts m slot.timestamp key value put_as.Late mid
-    → Marks mid xid (transient_slot slot) m' → Follows m (λ s. put_row s key value (own_branch s n)) (detailed XA_RBTRANSIENT detail.Late) m'
-put_late m mid m' n key value xid slot h e c k =
+pub put_late : (m mid m' : Kept) (n : ℕ) (key : List ℕ) (value : Option (List ℕ)) (xid : Triple) (w : Kept_branch) → own_at m n ≡ Some (xid, w) → w.mark ≡ None → Puts m w.timestamp key value put_as.Late mid
+    → Marks mid xid m' → Follows m (λ s. put_row s key value (own_branch s n)) (detailed XA_RBTRANSIENT detail.Late) m'
+put_late m mid m' n key value xid w h e c k =
     follows_by m m' (λ s. put_row s key value (own_branch s n)) (detailed XA_RBTRANSIENT detail.Late) refl
     (λ s st.
-    let x = finds m s xid slot st (own_slot m n xid slot h).1 in
+    let x = finds m s xid w st (own_works m n xid w h).1 in
     let ops = x.branch.operations in
-    let both = late_of (not (is_some (write_of key ops)) && nat_le 256 (written_keys ops)) (is_late_among key x.branch.timestamp s.reads) (judged m mid s xid slot key value put_as.Late st x c (λ q. cc q)) in
+    let both = late_of (not (is_some (write_of key ops)) && nat_le 256 (written_keys ops)) (is_late_among key x.branch.timestamp s.reads) (judged m mid s xid w key value put_as.Late st x c (λ q. cc q)) in
     let free = full_by (is_some (write_of key ops)) (written_keys ops) ∙ both.0 in (
       came_late s xid,
-      put_unmarked m s n key value xid slot st h e x ∙ judge_rest (is_full key ops) (is_late_among key x.branch.timestamp s.reads) s (came_late s xid) (written s key value xid) true free both.1,
+      put_unmarked m s n key value xid w st h e x ∙ judge_rest (is_full key ops) (is_late_among key x.branch.timestamp s.reads) s (came_late s xid) (written s key value xid) true free both.1,
       refl,
-      λ sound. late_stands m mid m' s xid slot key value st x e c k sound,
+      λ sound. late_stands m mid m' s xid w key value st x c k sound,
     ))
 
-written_stands : (m m' : Kept) (s : State) (xid : Triple) (slot : Slot) (key : List ℕ) (value : Option (List ℕ)) → StandsFor m s → slot_at m xid ≡ Some slot → (x : Finds s xid slot) → Puts m slot.timestamp key value put_as.Done m'
+written_stands : (m m' : Kept) (s : State) (xid : Triple) (w : Kept_branch) (key : List ℕ) (value : Option (List ℕ)) → StandsFor m s → working_at m.branches xid ≡ Some w → (x : IsWorking s xid w) → Puts m w.timestamp key value put_as.Done m'
     → IsSound (written s key value xid).after → StandsFor m' (written s key value xid).after
-written_stands m m' s xid slot key value st h x c sound =
+written_stands m m' s xid w key value st h x c sound =
     let b = x.branch in
     let limit = timestamp_of s.boot s.given + 1 in
     let op : Operation = Wrote key value in
-    let added : RecordsStandFor (record { low = 0; writes = wrote slot.timestamp key value ∷ writes_in s.branches; reads = map read_as s.reads }) m'.records = c.records (history_of s) st.records (open_at m s xid slot st x) in
+    let added : RecordsStandFor (record { low = 0; writes = wrote w.timestamp key value ∷ writes_in s.branches; reads = map read_as s.reads }) m'.records = c.records (history_of s) st.records (open_at m s xid w st x) in
     let there : RecordsStandFor (record { low = 0; writes = wrote b.timestamp key value ∷ writes_in s.branches; reads = map read_as s.reads }) m'.records =
-    subst (λ (t : ℕ). RecordsStandFor (record { low = 0; writes = wrote t key value ∷ writes_in s.branches; reads = map read_as s.reads }) m'.records) (time_of s xid slot x) added in
+    subst (λ (t : ℕ). RecordsStandFor (record { low = 0; writes = wrote t key value ∷ writes_in s.branches; reads = map read_as s.reads }) m'.records) (time_of s xid w x) added in
     let records : RecordsStandFor (record { low = 0; writes = writes_in (change (is_known_as xid) (having_done op) s.branches); reads = map read_as s.reads }) m'.records =
     stands_same 0 (wrote b.timestamp key value ∷ writes_in s.branches) (writes_in (change (is_known_as xid) (having_done op) s.branches)) (map read_as s.reads) m'.records
-    (wrote_first xid b key value limit s.branches st.sound.descends x.at (open_fate s xid slot x)) there in
-    inner_stands m m' s (having_done op) xid s.reads slot slot (done_inner op) st x x.is c.same c.given c.seats (λ q. rw c.slots (same_slot m xid q slot (xid_eq xid q) h refl)) (rw c.slots refl) records sound
+    (wrote_first xid b key value limit s.branches st.sound.descends x.found (open_fate s xid w x)) there in
+    done_stands m m' s xid op s.reads st c.same records sound
 
-pub put_follows : (m m' : Kept) (n : ℕ) (key : List ℕ) (value : Option (List ℕ)) (xid : Triple) (slot : Slot) → own_at m n ≡ Some (xid, slot) → slot.mark ≡ None → Puts m slot.timestamp key value put_as.Done m'
+pub put_follows : (m m' : Kept) (n : ℕ) (key : List ℕ) (value : Option (List ℕ)) (xid : Triple) (w : Kept_branch) → own_at m n ≡ Some (xid, w) → w.mark ≡ None → Puts m w.timestamp key value put_as.Done m'
     → Follows m (λ s. put_row s key value (own_branch s n)) (plain (pos 0)) m'
-put_follows m m' n key value xid slot h e c =
+put_follows m m' n key value xid w h e c =
     follows_by m m' (λ s. put_row s key value (own_branch s n)) (plain (pos 0)) refl
     (λ s st.
-    let x = finds m s xid slot st (own_slot m n xid slot h).1 in
+    let x = finds m s xid w st (own_works m n xid w h).1 in
     let ops = x.branch.operations in
-    let both = done_of (not (is_some (write_of key ops)) && nat_le 256 (written_keys ops)) (is_late_among key x.branch.timestamp s.reads) (judged m m' s xid slot key value put_as.Done st x c (λ q. cc q)) in
+    let both = done_of (not (is_some (write_of key ops)) && nat_le 256 (written_keys ops)) (is_late_among key x.branch.timestamp s.reads) (judged m m' s xid w key value put_as.Done st x c (λ q. cc q)) in
     let free = full_by (is_some (write_of key ops)) (written_keys ops) ∙ both.0 in (
       written s key value xid,
-      put_unmarked m s n key value xid slot st h e x ∙ judge_rest (is_full key ops) (is_late_among key x.branch.timestamp s.reads) s (came_late s xid) (written s key value xid) false free both.1,
+      put_unmarked m s n key value xid w st h e x ∙ judge_rest (is_full key ops) (is_late_among key x.branch.timestamp s.reads) s (came_late s xid) (written s key value xid) false free both.1,
       refl,
-      λ sound. written_stands m m' s xid slot key value st (own_slot m n xid slot h).1 x c sound,
+      λ sound. written_stands m m' s xid w key value st (own_works m n xid w h).1 x c sound,
     ))
 
-pub put_stays : (m m' : Kept) (n : ℕ) (key : List ℕ) (value : Option (List ℕ)) (xid : Triple) (slot : Slot) → own_at m n ≡ Some (xid, slot) → Puts m slot.timestamp key value put_as.Memory m' → Stays m m'
-put_stays m m' n key value xid slot h c s st =
-    let x = finds m s xid slot st (own_slot m n xid slot h).1 in stays_by m m' s st c.same c.given c.seats c.slots (c.records (history_of s) st.records (open_at m s xid slot st x))
+pub put_stays : (m m' : Kept) (n : ℕ) (key : List ℕ) (value : Option (List ℕ)) (xid : Triple) (w : Kept_branch) → own_at m n ≡ Some (xid, w) → Puts m w.timestamp key value put_as.Memory m' → Stays m m'
+put_stays m m' n key value xid w h c s st =
+    let x = finds m s xid w st (own_works m n xid w h).1 in stays_by m m' s st c.same (c.records (history_of s) st.records (open_at m s xid w st x))

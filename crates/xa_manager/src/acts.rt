@@ -1,84 +1,121 @@
-ghost use Rattle.std.specs.Prelude.{◌≡◌, ◌+◌, ◌<◌, ◌≤◌, ◌^◌, IfOk, OnOk, OnErr, IsSome, Some};
-ghost use Rattle.xa_model.specs.State.{timestamp_of};
-ghost use Rattle.xa_manager.specs.Kept.{kept_of, seat_at, slot_at};
-ghost use Rattle.xa_manager.specs.Changes.{Connects, Opens, Begins, Ends, Finishes, Marks, Gets, Puts, items_of};
+ghost use Rattle.std.specs.Prelude.{◌≡◌, ◌+◌, None, Some, true, IfOk, OnOk, OnErr, IsSome};
+ghost use Rattle.xa_model.specs.State.{State, known_of, timestamp_of};
+ghost use Rattle.xa_model.specs.Associations.{begun, joined, resumed, not_resumed, suspended, not_suspended, ended, failed};
+ghost use Rattle.xa_model.specs.Branches.{rolled_back, committed};
+ghost use Rattle.xa_model.specs.Sound.{IsSound, is_at_work};
+ghost use Rattle.xa_assoc.specs.Seats.{opened_at};
+ghost use Rattle.xa_assoc.specs.Sessions.{begin_refusal_of, resume_refusal_of, suspend_refusal_of};
+ghost use Rattle.xa_branch.specs.Calls.{marked_with};
+ghost use Rattle.xa_branch.specs.Kinds.{ended_kind, resumed_kind};
+ghost use Rattle.xa_manager.specs.Kept.{kept_of};
+ghost use Rattle.xa_manager.specs.Stands.{StandsFor, Becomes, Stays};
+ghost use Rattle.xa_manager.specs.Changes.{Gets, Puts, items_of};
 
-use crate::changes::{add_seat, add_slot, drop_slot, employ, open_seat, set_slot};
-use crate::slot::Slot;
 use crate::tables::Tables;
 use mv_chain::Fate;
 use mv_rules::{Got, Put};
 use std::alloc::AllocError;
-use xa_codes::Bytes;
+use xa_branch::Kind;
+use xa_codes::{Bytes, Code, XA_RBROLLBACK};
 use xa_xid::Xid;
 
-/// How many timestamps a boot's number makes room for.
-const BOOT: u64 = 4294967296;
-
-/// What calls change, each in one act: what can fail comes first.
+/// How a session comes to work for a branch, in each table alike, once nothing is refused. What can fail comes first.
 impl Tables {
-    /// Connects a session.
-    pub fn add_session(&mut self, session: u64) -> Result<(), AllocError>
-        ensures ok { OnOk result (Connects (kept_of self.old) session (kept_of self.new)) }
-        ensures err { OnErr result (kept_of self.new ≡ kept_of self.old) }
+    /// Begins a branch, for which the session is at work. Answers its timestamp.
+    pub fn begin_branch(&mut self, session: u64, xid: &Xid) -> Result<u64, AllocError>
+        requires connected { IsSome (opened_at self.old.sessions session) }
+        requires free { (s : State) → StandsFor (kept_of self.old) s → begin_refusal_of s session xid.now ≡ None }
+        ensures timestamp { IfOk result (λ t. (s : State) → StandsFor (kept_of self.old) s → t ≡ timestamp_of s.boot (s.given + 1)) }
+        ensures ok { OnOk result ((s : State) → StandsFor (kept_of self.old) s → StandsFor (kept_of self.new) (begun s session xid.now).after) }
+        ensures err { OnErr result (Stays (kept_of self.old) (kept_of self.new)) }
     {
-        add_seat(&mut self.seats, session)
+        self.sessions.begin(session, xid.copied())?;
+        match self.branches.begin(xid) {
+            Ok(timestamp) => Ok(timestamp),
+            Err(_) => {
+                self.sessions.leave(session, xid);
+                Err(AllocError)
+            }
+        }
     }
 
-    /// Opens a session.
-    pub fn open_session(&mut self, session: u64)
-        ensures { Opens (kept_of self.old) session (kept_of self.new) }
+    pub fn join_branch(&mut self, session: u64, xid: &Xid) -> Result<(), AllocError>
+        requires connected { IsSome (opened_at self.old.sessions session) }
+        ensures ok { OnOk result ((s : State) → StandsFor (kept_of self.old) s → IsSound (joined s session xid.now).after → StandsFor (kept_of self.new) (joined s session xid.now).after) }
+        ensures err { OnErr result (Stays (kept_of self.old) (kept_of self.new)) }
     {
-        open_seat(&mut self.seats, session);
+        self.sessions.join(session, xid.copied())?;
+        self.branches.join(xid);
+        Ok(())
     }
 
-    /// Begins a branch, and puts the session to work for it. Answers its timestamp.
-    pub fn begin(&mut self, session: u64, xid: Xid) -> Result<u64, AllocError>
-        requires { self.old.given < 4294967295 }
-        ensures timestamp { IfOk result (λ t. t ≡ timestamp_of self.old.boot (self.old.given + 1)) }
-        ensures ok { OnOk result (Begins (kept_of self.old) session xid (kept_of self.new)) }
-        ensures err { OnErr result (kept_of self.new ≡ kept_of self.old) }
+    /// Resumes an association of this kind.
+    pub fn resume_branch(&mut self, session: u64, xid: &Xid, from: Kind) -> Result<(), AllocError>
+        requires connected { IsSome (opened_at self.old.sessions session) }
+        ensures ok { OnOk result (Becomes (kept_of self.old) (λ s. (resume_refusal_of s session xid.now ≡ None) × (resumed_kind s.associations session xid.now ≡ Some from))
+            (λ s. (resumed s session xid.now).after) (kept_of self.new)) }
+        ensures err { OnErr result (Stays (kept_of self.old) (kept_of self.new)) }
     {
-        let timestamp = u64::from(self.boot) * BOOT + self.given + 1;
-        let slot = Slot {
-            timestamp,
-            mark: None,
-            holders: 1,
-        };
-        let active = xid.copied();
-        add_slot(&mut self.slots, xid, slot)?;
-        employ(&mut self.seats, session, Some(active));
-        self.given += 1;
-        Ok(timestamp)
+        self.sessions.resume(session, xid.copied())?;
+        self.branches.resume(xid, from);
+        Ok(())
+    }
+}
+
+/// How a session leaves a branch.
+impl Tables {
+    pub fn suspend_branch(&mut self, session: u64, xid: &Xid, migrates: bool)
+        requires connected { IsSome (opened_at self.old.sessions session) }
+        ensures { Becomes (kept_of self.old) (λ s. suspend_refusal_of s session xid.now ≡ None) (λ s. suspended s session migrates xid.now) (kept_of self.new) }
+    {
+        self.sessions.suspend(session, xid, migrates);
+        self.branches.suspend(xid, migrates);
     }
 
-    /// Ends the session's work for a branch.
-    pub fn leave(&mut self, session: u64, xid: &Xid, slot: Slot)
-        requires known { slot_at (kept_of self.old) xid.now ≡ Some slot }
-        ensures { Ends (kept_of self.old) session xid.now (kept_of self.new) }
+    /// An association of this kind ends.
+    pub fn leave_branch(&mut self, session: u64, xid: &Xid, kind: Kind)
+        requires connected { IsSome (opened_at self.old.sessions session) }
+        ensures ended { Becomes (kept_of self.old) (λ s. ended_kind s.associations session xid.now ≡ Some kind) (λ s. ended s session xid.now) (kept_of self.new) }
+        ensures not_resumed { Becomes (kept_of self.old) (λ s. (resume_refusal_of s session xid.now ≡ None) × (resumed_kind s.associations session xid.now ≡ Some kind)) (λ s. not_resumed s session xid.now) (kept_of self.new) }
+        ensures not_suspended { Becomes (kept_of self.old) (λ s. (suspend_refusal_of s session xid.now ≡ None) × (kind ≡ Kind.Active)) (λ s. not_suspended s session xid.now) (kept_of self.new) }
     {
-        let holders = slot.holders.saturating_sub(1);
-        set_slot(&mut self.slots, xid, Slot { holders, ..slot });
-        employ(&mut self.seats, session, None);
+        self.sessions.leave(session, xid);
+        self.branches.leave(xid, kind);
     }
 
-    /// The branch's fate is decided, and it is known no more.
-    pub fn finish(&mut self, xid: &Xid, slot: Slot, fate: Fate)
-        requires known { slot_at (kept_of self.old) xid.now ≡ Some slot }
-        ensures { Finishes (kept_of self.old) xid.now slot.timestamp fate (kept_of self.new) }
+    /// An association of this kind ends, and its branch is marked.
+    pub fn fail_branch(&mut self, session: u64, xid: &Xid, kind: Kind)
+        requires connected { IsSome (opened_at self.old.sessions session) }
+        ensures { Becomes (kept_of self.old) (λ s. ended_kind s.associations session xid.now ≡ Some kind) (λ s. (failed s session xid.now).after) (kept_of self.new) }
     {
-        drop_slot(&mut self.slots, xid);
-        self.records.settle(slot.timestamp, fate);
+        self.sessions.leave(session, xid);
+        self.branches.leave(xid, kind);
+        self.branches.doom(xid, XA_RBROLLBACK);
+    }
+}
+
+/// How a branch is marked, and completed.
+impl Tables {
+    /// A branch at work is marked, unless it is.
+    pub fn mark_branch(&mut self, xid: &Xid, code: Code)
+        ensures { (s : State) → StandsFor (kept_of self.old) s → IsSound (marked_with code s xid.now) → StandsFor (kept_of self.new) (marked_with code s xid.now) }
+    {
+        self.branches.doom(xid, code);
     }
 
-    /// The branch's slot becomes this one.
-    pub fn mark(&mut self, xid: &Xid, slot: Slot)
-        requires known { IsSome (slot_at (kept_of self.old) xid.now) }
-        ensures { Marks (kept_of self.old) xid.now slot (kept_of self.new) }
+    /// The fate of a branch at work is decided, and it is known no more.
+    pub fn finish_branch(&mut self, xid: &Xid, fate: Fate)
+        ensures rolled_back { fate ≡ Fate.RolledBack → Becomes (kept_of self.old) (λ s. is_at_work (known_of s.branches xid.now) ≡ true) (λ s. rolled_back s xid.now) (kept_of self.new) }
+        ensures committed { fate ≡ Fate.Committed → Becomes (kept_of self.old) (λ s. is_at_work (known_of s.branches xid.now) ≡ true) (λ s. committed s xid.now) (kept_of self.new) }
     {
-        set_slot(&mut self.slots, xid, slot);
+        let timestamp = self.branches.timestamp(xid);
+        self.branches.finish(xid);
+        self.records.settle(timestamp, fate);
     }
+}
 
+/// What a branch reads and writes.
+impl Tables {
     /// What a branch of this timestamp reads of a key. An answered read is noted.
     pub fn read(&mut self, timestamp: u64, key: &Bytes) -> Got
         ensures { Gets (kept_of self.old) timestamp key.now result (kept_of self.new) }

@@ -1,12 +1,9 @@
-ghost use Rattle.std.specs.Prelude.{◌≡◌, IfSome, Option, Bool, true, false};
+ghost use Rattle.std.specs.Prelude.{◌≡◌, IfSome, IsSome, None, Option, Bool, true, false};
 ghost use Rattle.xa_model.specs.Early.{flags_of, call_of, needs_open, is_async, is_built, has_wrong_info, has_wrong_count, is_invalid, is_opened, early_refusal};
-ghost use Rattle.xa_manager.specs.Stands.{is_memory};
+ghost use Rattle.xa_assoc.specs.Refusals.{is_memory};
 
 use crate::replies::plain;
-use xa_codes::{
-    Bytes, Call, TMASYNC, TMJOIN, TMRESUME, TMSUCCESS, XAER_ASYNC, XAER_INVAL, XAER_PROTO,
-    legal_flags,
-};
+use xa_codes::{Bytes, Call, TMASYNC, XAER_ASYNC, XAER_INVAL, XAER_PROTO, legal_flags};
 use xa_frame::{Reply, Request};
 
 /// The most XIDs that a recovery lists.
@@ -83,15 +80,22 @@ fn is_async(call: Call, flags: u32) -> bool
     }
 }
 
-/// Whether the call with these flags is built so far.
-fn is_built(call: Call, flags: u32) -> bool
-    ensures { result ≡ is_built call flags }
+/// Whether the call is built so far.
+fn is_built(call: Call) -> bool
+    ensures { result ≡ is_built call }
 {
     match call {
-        Call::Open | Call::Commit | Call::Get | Call::Put | Call::Delete => true,
-        Call::Start => flags & TMJOIN != TMJOIN && flags & TMRESUME != TMRESUME,
-        Call::End => flags & TMSUCCESS == TMSUCCESS,
-        _ => false,
+        Call::Prepare | Call::Forget | Call::Recover | Call::Decide | Call::Restart => false,
+        Call::Open
+        | Call::Close
+        | Call::Start
+        | Call::End
+        | Call::Commit
+        | Call::Rollback
+        | Call::Get
+        | Call::Put
+        | Call::Delete
+        | Call::Doom => true,
     }
 }
 
@@ -119,7 +123,7 @@ fn is_invalid(name: &Bytes, request: &Request) -> bool
     let call = call_of(request);
     let flags = flags_of(request);
     !legal_flags(call, flags)
-        || !is_built(call, flags)
+        || !is_built(call)
         || has_wrong_info(name, request)
         || has_wrong_count(request)
 }
@@ -129,6 +133,8 @@ fn is_invalid(name: &Bytes, request: &Request) -> bool
 pub fn early_refusal(name: &Bytes, session: Option<bool>, request: &Request) -> Option<Reply>
     ensures value { result ≡ early_refusal true name.now session request.now }
     ensures served { IfSome result (λ r. is_memory r.detail ≡ false) }
+    ensures connected { result ≡ None → IsSome session }
+    ensures built { result ≡ None → is_built (call_of request.now) ≡ true }
 {
     let call = call_of(request);
     let Some(opened) = session else {

@@ -1,19 +1,20 @@
-ghost use Rattle.std.specs.Prelude.{◌≡◌, ◌≤◌, ◌<◌, ◌⊎◌, IfOk, IfErr, IsOk, OnErr, length, true};
+ghost use Rattle.std.specs.Prelude.{◌≡◌, ◌≤◌, ◌<◌, ◌⊎◌, pos, IfOk, IfErr, IsOk, OnErr, length, true};
 ghost use Rattle.xa_frame.specs.Limits.{IsRequest};
-ghost use Rattle.xa_model.specs.Answer.{detailed};
+ghost use Rattle.xa_model.specs.Answer.{plain};
 ghost use Rattle.xa_model.specs.History.{fresh};
 ghost use Rattle.xa_manager.specs.Managed.{kept};
-ghost use Rattle.xa_manager.specs.Stands.{StandsFor, is_memory};
-ghost use Rattle.xa_manager.specs.Answered.{Answered, AnswersAll, AreEvents, IsEvent, connect_reply, memory_code};
+ghost use Rattle.xa_manager.specs.Stands.{StandsFor};
+ghost use Rattle.xa_manager.specs.Answered.{FullyAnswered, AnswersAll, ArePinned, AreEvents, IsEvent, connect_reply, memory_code};
 
-use crate::fault::{ConnectFault, ManagerFault};
+use crate::fault::ManagerFault;
 use crate::replies::{carrying, detailed, plain};
 use crate::settings::Settings;
 use crate::tables::Tables;
 use mv_rules::Records;
 use std::alloc::{AllocError, Global};
-use std::collections::BTreeMap;
-use xa_codes::{Code, Detail, TMONEPHASE, XA_RETRY, XAER_INVAL, XAER_RMERR, XAER_RMFAIL};
+use xa_assoc::{ConnectFault, Sessions};
+use xa_branch::Branches;
+use xa_codes::{Code, Detail, TMONEPHASE, XA_OK, XA_RETRY, XAER_RMERR, XAER_RMFAIL};
 use xa_frame::{Body, Reply, Request};
 use xa_model::Event;
 
@@ -23,6 +24,8 @@ const MOST_NAME: usize = 255;
 const LEAST_LOG: u64 = 64;
 /// The greatest size of a log, in bytes.
 const MOST_LOG: u64 = 1 << 30;
+/// The boot of a manager that was just made.
+const FIRST_BOOT: u32 = 1;
 
 /// A resource manager of C193 that keeps all in memory, and orders reads and writes by multiversion timestamp ordering
 /// (Bernstein, Hadzilacos and Goodman, 5.3).
@@ -52,35 +55,27 @@ impl Manager {
                 alloc,
                 name,
                 log_bytes,
-                boot: 1,
-                given: 0,
-                seats: BTreeMap::new(alloc),
-                slots: BTreeMap::new(alloc),
+                sessions: Sessions::new(alloc),
+                branches: Branches::new(alloc, FIRST_BOOT, 1),
                 records: Records::new(alloc),
             },
         })
     }
 
-    /// Connects a session, whose number is the least from 1 that is free. `Full` comes where as many are connected as may
-    /// be, `Memory` where there was no memory; neither changes what the manager stands for.
+    /// Connects a session, whose number is the least from 1 that is free. `Full` comes where 1,024 are connected, `Memory`
+    /// where there was no memory; neither changes what the manager stands for.
     pub fn connect(&mut self) -> Result<u64, ConnectFault>
-        ensures { Answered (kept self.old) Event.Connect (connect_reply result) (kept self.new) }
+        ensures { FullyAnswered (kept self.old) Event.Connect (connect_reply result) (kept self.new) }
     {
-        match self.tables.connect() {
-            Err(_) => Err(ConnectFault::Memory),
-            Ok(reply) => match reply.body {
-                Body::Number(number) => Ok(number),
-                _ => Err(ConnectFault::Full),
-            },
-        }
+        self.tables.connect()
     }
 
     /// Answers a request of a session, by its number, with a code of C193. The reply has place 0. Its detail is Memory
-    /// where there was no memory: then the code is XAER_RMFAIL, but XA_RETRY for a commit in two phases.
+    /// where there was no memory: then the code is XAER_RMFAIL, but XA_RETRY for a commit in two phases, and nothing
+    /// changed. Open, Close, End, Commit, Rollback and Doom take no memory.
     pub fn call(&mut self, session: u64, request: Request) -> Reply
         requires { IsRequest request }
-        ensures step { Answered (kept self.old) (Event.Call session request) result (kept self.new) }
-        ensures memory { is_memory result.detail ≡ true → result ≡ detailed (memory_code request) Detail.Memory }
+        ensures { FullyAnswered (kept self.old) (Event.Call session request) result (kept self.new) }
     {
         let code = memory_code(&request);
         match self.tables.call(session, request) {
@@ -88,13 +83,21 @@ impl Manager {
             Err(_) => detailed(code, Detail::Memory),
         }
     }
+
+    /// Hangs a session up: each association of its own ends, and the branch is marked XA_RBCOMMFAIL unless it is marked.
+    /// The session's number is free again. Of a session that isn't connected nothing changes. Takes no memory.
+    pub fn hangup(&mut self, session: u64)
+        ensures { FullyAnswered (kept self.old) (Event.Hangup session) (plain (pos 0)) (kept self.new) }
+    {
+        self.tables.hangup(session);
+    }
 }
 
 impl Manager {
     /// One event, with the reply that stands for it.
     fn happen(&mut self, event: Event) -> Reply
         requires { IsEvent event }
-        ensures { Answered (kept self.old) event result (kept self.new) }
+        ensures { FullyAnswered (kept self.old) event result (kept self.new) }
     {
         match event {
             Event::Connect => match self.connect() {
@@ -102,7 +105,10 @@ impl Manager {
                 Err(ConnectFault::Full) => detailed(XAER_RMERR, Detail::Limit),
                 Err(ConnectFault::Memory) => detailed(XAER_RMFAIL, Detail::Memory),
             },
-            Event::Hangup(_) => plain(XAER_INVAL),
+            Event::Hangup(session) => {
+                self.hangup(session);
+                plain(XA_OK)
+            }
             Event::Call(session, request) => self.call(session, request),
         }
     }
@@ -110,11 +116,11 @@ impl Manager {
     /// Answers events in order. Those that found their memory are a legal history with their replies.
     ///
     /// A connect answers 0 with its number, XAER_RMERR with detail Limit where no more may connect, or XAER_RMFAIL with
-    /// detail Memory. A hang-up, which isn't built, answers XAER_INVAL.
+    /// detail Memory. A hang-up answers 0. Room for the replies is made first, and its want changes nothing.
     pub fn drive(&mut self, events: Vec<Event>) -> Result<Vec<Reply>, AllocError>
         requires { AreEvents events.items }
         ensures history { IfOk result (λ replies. AnswersAll (kept self.old) events.items replies.items (kept self.new)) }
-        ensures each { IfOk result (λ replies. length replies.items ≡ length events.items) }
+        ensures pinned { IfOk result (λ replies. ArePinned events.items replies.items) }
         ensures err { OnErr result (kept self.new ≡ kept self.old) }
     {
         let mut replies = Vec::with_capacity(self.tables.alloc, events.len())?;

@@ -1,40 +1,107 @@
 ghost use Rattle.std.specs.Prelude.{◌≡◌, IfSome, false};
-ghost use Rattle.xa_model.specs.Associations.{connect_refusal, start_refusal};
-ghost use Rattle.xa_manager.specs.Stands.{is_memory};
+ghost use Rattle.xa_model.specs.State.{State, known_as, loose_of};
+ghost use Rattle.xa_model.specs.Associations.{loose_refusal};
+ghost use Rattle.xa_model.specs.Branches.{one_phase_refusal, two_phase_refusal, rollback_refusal, doom_refusal, is_associated};
+ghost use Rattle.xa_assoc.specs.Refusals.{is_memory};
+ghost use Rattle.xa_assoc.specs.Sessions.{begin_refusal_of, join_refusal_of, resume_refusal_of, suspend_refusal_of, leave_refusal_of};
+ghost use Rattle.xa_manager.specs.Kept.{kept_of};
+ghost use Rattle.xa_manager.specs.Stands.{StandsFor};
 
-use crate::replies::{detailed, plain};
-use xa_codes::{Detail, XAER_DUPID, XAER_PROTO, XAER_RMERR};
+use crate::tables::Tables;
+use xa_assoc::loose_refusal;
+use xa_branch::{doom_refusal, one_phase_refusal, rollback_refusal, two_phase_refusal};
 use xa_frame::Reply;
+use xa_xid::Xid;
 
-/// The most sessions that are connected at a time, so far.
-pub const MOST_SESSIONS: usize = 1;
-/// The most branches that are known at a time.
-pub const MOST_BRANCHES: usize = 4096;
-/// The most timestamps that one boot gives.
-pub const MOST_GIVEN: u64 = 4294967295;
-
-pub fn connect_refusal(connected: usize) -> Option<Reply>
-    ensures value { result ≡ connect_refusal connected }
-    ensures served { IfSome result (λ r. is_memory r.detail ≡ false) }
-{
-    if connected < MOST_SESSIONS {
-        return None;
+/// How starts and ends are refused.
+impl Tables {
+    /// Of the start of a new branch.
+    pub fn begin_refusal(&self, session: u64, xid: &Xid) -> Option<Reply>
+        ensures value { (s : State) → StandsFor (kept_of self.now) s → result ≡ begin_refusal_of s session xid.now }
+        ensures served { IfSome result (λ r. is_memory r.detail ≡ false) }
+    {
+        let taken = self.is_taken(xid);
+        self.sessions
+            .begin_refusal(session, taken, self.branches.len(), self.branches.given())
     }
-    Some(detailed(XAER_RMERR, Detail::Limit))
+
+    /// Of a start with TMJOIN.
+    pub fn join_refusal(&self, session: u64, xid: &Xid) -> Option<Reply>
+        ensures value { (s : State) → StandsFor (kept_of self.now) s → result ≡ join_refusal_of s session xid.now }
+        ensures served { IfSome result (λ r. is_memory r.detail ≡ false) }
+    {
+        let unknown = self.is_unknown(xid);
+        let settled = self.is_settled(xid);
+        self.sessions.join_refusal(session, xid, unknown, settled)
+    }
+
+    /// Of a start with TMRESUME.
+    pub fn resume_refusal(&self, session: u64, xid: &Xid) -> Option<Reply>
+        ensures value { (s : State) → StandsFor (kept_of self.now) s → result ≡ resume_refusal_of s session xid.now }
+        ensures served { IfSome result (λ r. is_memory r.detail ≡ false) }
+    {
+        let unknown = self.is_unknown(xid);
+        let has_loose = self.has_loose(xid);
+        self.sessions
+            .resume_refusal(session, xid, unknown, has_loose)
+    }
+
+    /// Of an end with TMSUSPEND.
+    pub fn suspend_refusal(&self, session: u64, xid: &Xid) -> Option<Reply>
+        ensures value { (s : State) → StandsFor (kept_of self.now) s → result ≡ suspend_refusal_of s session xid.now }
+        ensures served { IfSome result (λ r. is_memory r.detail ≡ false) }
+    {
+        let unknown = self.is_unknown(xid);
+        self.sessions.suspend_refusal(session, xid, unknown)
+    }
+
+    /// Of an end with TMSUSPEND, of a branch that isn't marked: one more loose association with TMMIGRATE.
+    pub fn loose_refusal(&self, migrates: bool, xid: &Xid) -> Option<Reply>
+        ensures value { (s : State) → StandsFor (kept_of self.now) s → result ≡ loose_refusal migrates (loose_of s.associations xid.now) }
+        ensures served { IfSome result (λ r. is_memory r.detail ≡ false) }
+    {
+        loose_refusal(migrates, self.branches.loose(xid))
+    }
+
+    /// Of an end with TMSUCCESS or TMFAIL.
+    pub fn leave_refusal(&self, session: u64, xid: &Xid) -> Option<Reply>
+        ensures value { (s : State) → StandsFor (kept_of self.now) s → result ≡ leave_refusal_of s session xid.now }
+        ensures served { IfSome result (λ r. is_memory r.detail ≡ false) }
+    {
+        let unknown = self.is_unknown(xid);
+        let has_loose = self.has_loose(xid);
+        self.sessions
+            .leave_refusal(session, xid, unknown, has_loose)
+    }
 }
 
-pub fn start_refusal(is_at_work: bool, is_taken: bool, known: usize, given: u64) -> Option<Reply>
-    ensures value { result ≡ start_refusal is_at_work is_taken known given }
-    ensures served { IfSome result (λ r. is_memory r.detail ≡ false) }
-{
-    if is_at_work {
-        return Some(plain(XAER_PROTO));
+/// How the completion of a branch is refused, and the operator's mark.
+impl Tables {
+    pub fn one_phase_refusal(&self, xid: &Xid) -> Option<Reply>
+        ensures value { (s : State) → StandsFor (kept_of self.now) s → result ≡ one_phase_refusal (known_as s xid.now) (is_associated s xid.now) }
+        ensures served { IfSome result (λ r. is_memory r.detail ≡ false) }
+    {
+        one_phase_refusal(self.branches.known(xid), self.branches.is_associated(xid))
     }
-    if is_taken {
-        return Some(plain(XAER_DUPID));
+
+    pub fn two_phase_refusal(&self, xid: &Xid) -> Option<Reply>
+        ensures value { (s : State) → StandsFor (kept_of self.now) s → result ≡ two_phase_refusal (known_as s xid.now) }
+        ensures served { IfSome result (λ r. is_memory r.detail ≡ false) }
+    {
+        two_phase_refusal(self.branches.known(xid))
     }
-    if known >= MOST_BRANCHES || given >= MOST_GIVEN {
-        return Some(detailed(XAER_RMERR, Detail::Limit));
+
+    pub fn rollback_refusal(&self, xid: &Xid) -> Option<Reply>
+        ensures value { (s : State) → StandsFor (kept_of self.now) s → result ≡ rollback_refusal (known_as s xid.now) (is_associated s xid.now) }
+        ensures served { IfSome result (λ r. is_memory r.detail ≡ false) }
+    {
+        rollback_refusal(self.branches.known(xid), self.branches.is_associated(xid))
     }
-    None
+
+    pub fn doom_refusal(&self, xid: &Xid) -> Option<Reply>
+        ensures value { (s : State) → StandsFor (kept_of self.now) s → result ≡ doom_refusal (known_as s xid.now) }
+        ensures served { IfSome result (λ r. is_memory r.detail ≡ false) }
+    {
+        doom_refusal(self.branches.known(xid))
+    }
 }

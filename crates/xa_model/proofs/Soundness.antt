@@ -26,7 +26,7 @@ use Rattle.xa_model.specs.Sound.{IsSound}
 use Rattle.xa_model.proofs.Marks.{mark_keeps, done_keeps, changed_sound}
 use Rattle.xa_model.proofs.Names.{gone_sound, committed_sound}
 use Rattle.xa_model.proofs.Rows.{unless_sound, marked_sound, cond_sound, passed, neither}
-use Rattle.xa_model.proofs.Seats.{connected_sound, seat_sound}
+use Rattle.xa_model.proofs.Seats.{connected_sound, seat_sound, hung_up_sound}
 use Rattle.xa_model.proofs.Working.{start_sound, end_sound}
 
 -- the rows of the branch table
@@ -137,7 +137,7 @@ reached up name request None allowed = let second = (passed (not up && not (pass
 
 pub respond_sound : (s : State) (e : Event) → IsSound s → IsSound (respond s e).after
 respond_sound s event.Connect h = connected_sound s h
-respond_sound s (event.Hangup n) h = h
+respond_sound s (event.Hangup n) h = hung_up_sound s n h
 respond_sound s (event.Call n request) h =
     unless_sound (early_refusal (is_up s.standing) s.name (opened_of s n) request) s (row s n request) h
     (λ allowed. row_sound s n request h (reached (is_up s.standing) s.name request (session_of s.sessions n) allowed))

@@ -11,9 +11,8 @@ use Rattle.xa_frame.specs.declared.reply.Reply.{Reply}
 use Rattle.xa_model.specs.State.{State, Session, Branch, Phase, Working, Prepared, Committed, Association, Holder, Active, Suspended, Loose, Known, Unknown, AtWork, InDoubt, Completed, known_as, known_in, known_of, active_of, is_own, is_with, is_known_as, owns, works_in, suspends, is_loose_with, loose_of, without, change, free_number, timestamp_of}
 use Rattle.xa_model.specs.Answer.{Answer, plain, detailed, carrying, answer, ok, first, unless, marked}
 
--- so far one session at a time
 abbrev pub most_sessions : ℕ
-most_sessions = 1
+most_sessions = 1024
 
 abbrev pub most_branches : ℕ
 most_branches = 4096

@@ -3,7 +3,7 @@
 use Rattle.std.specs.Prelude.{ℕ, Bool, true, false, not, ◌&&◌, ◌||◌, Option, Some, None, List, [], ◌∷◌, bytes_eq, nat_lt, is_none}
 use Rattle.xa_codes.specs.Flags.{has, legal}
 use Rattle.xa_codes.specs.declared.codes.TheConstants.{XAER_PROTO, XAER_ASYNC, XAER_INVAL, XAER_RMFAIL}
-use Rattle.xa_codes.specs.declared.flags.TheConstants.{TMASYNC, TMJOIN, TMRESUME, TMSUCCESS}
+use Rattle.xa_codes.specs.declared.flags.TheConstants.{TMASYNC}
 use Rattle.xa_codes.specs.declared.call.Call.{Call}
 use Rattle.xa_codes.specs.declared.call.Call.TheVariants as call
 use Rattle.xa_frame.specs.declared.reply.Reply.{Reply}
@@ -67,16 +67,14 @@ abbrev pub is_async : Call → ℕ → Bool
 is_async call.Recover flags = false
 is_async _ flags = has flags TMASYNC
 
--- The calls and flags that are built so far. What is not built is refused like an illegal flag.
-abbrev pub is_built : Call → ℕ → Bool
-is_built call.Open flags = true
-is_built call.Start flags = not (has flags TMJOIN) && not (has flags TMRESUME)
-is_built call.End flags = has flags TMSUCCESS
-is_built call.Commit flags = true
-is_built call.Get flags = true
-is_built call.Put flags = true
-is_built call.Delete flags = true
-is_built _ flags = false
+-- The calls that are built so far. What is not built is refused like an illegal flag.
+abbrev pub is_built : Call → Bool
+is_built call.Prepare = false
+is_built call.Forget = false
+is_built call.Recover = false
+is_built call.Decide = false
+is_built call.Restart = false
+is_built _ = true
 
 -- the open info has to be the manager's name
 abbrev pub has_wrong_info : List ℕ → Request → Bool
@@ -90,7 +88,7 @@ has_wrong_count _ = false
 
 abbrev pub is_invalid : List ℕ → Request → Bool
 is_invalid name request =
-    not (legal (call_of request) (flags_of request)) || (not (is_built (call_of request) (flags_of request)) || (has_wrong_info name request || has_wrong_count request))
+    not (legal (call_of request) (flags_of request)) || (not (is_built (call_of request)) || (has_wrong_info name request || has_wrong_count request))
 
 abbrev pub is_opened : Option Bool → Bool
 is_opened (Some opened) = opened

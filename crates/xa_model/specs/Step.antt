@@ -15,7 +15,7 @@ use Rattle.xa_model.specs.declared.outcome.Appending.{Appending}
 use Rattle.xa_model.specs.State.{State, Standing, Up, Down, Ended, Known, AtWork, known_as, own_branch, session_of}
 use Rattle.xa_model.specs.Answer.{Answer, plain, answer, ok, unless, marked}
 use Rattle.xa_model.specs.Early.{early_refusal}
-use Rattle.xa_model.specs.Associations.{connect_by, open_by, close_by, start_by, end_by}
+use Rattle.xa_model.specs.Associations.{connect_by, open_by, close_by, hang_up_by, start_by, end_by}
 use Rattle.xa_model.specs.Branches.{commit_one_phase, two_phase_refusal, rollback_refusal, heuristic_refusal, is_associated, rolled_back, doom_by}
 use Rattle.xa_model.specs.Records.{get_by, put_by}
 
@@ -111,10 +111,9 @@ is_up Up = true
 is_up Down = false
 is_up Ended = false
 
--- a hang-up is not built so far
 abbrev pub respond : State → Event → Answer
 respond s event.Connect = connect_by s
-respond s (event.Hangup n) = unbuilt s
+respond s (event.Hangup n) = hang_up_by s n
 respond s (event.Call n request) = unless (early_refusal (is_up s.standing) s.name (opened_of s n) request) s (row s n request)
 
 -- An opening that was refused or stopped leaves the state as it was, with the settings handed in and without sessions, and

@@ -8,13 +8,15 @@ use Rattle.xa_model.specs.State.{State}
 use Rattle.xa_model.specs.Answer.{Answer}
 use Rattle.xa_model.specs.Step.{Asked, step}
 use Rattle.xa_manager.specs.Kept.{Kept}
-use Rattle.xa_manager.specs.Stands.{StandsFor, Stays, is_memory}
+use Rattle.xa_assoc.specs.Refusals.{is_memory}
+use Rattle.xa_manager.specs.Answered.{FullyAnswered, may_want_memory, wanted_memory}
+use Rattle.xa_manager.specs.Stands.{StandsFor, Stays}
 use Rattle.xa_xid.specs.Triple.{Triple}
 use Rattle.xa_script.specs.declared.line.Line.{Line}
-use Rattle.xa_script.specs.declared.line.Line.TheVariants.{Silent, Unknown, Connect, Call}
+use Rattle.xa_script.specs.declared.line.Line.TheVariants.{Silent, Unknown, Connect, Hangup, Call}
 use Rattle.xa_script.specs.Lines as lines
 use Rattle.xa_script.specs.Parts.{parts, parts_behind}
-use Rattle.xa_play.specs.Plays.{FullyAnswered, wanted_memory, Shows, IsPart, PlaysLine, PlaysLines, PlaysSome, PlaysCut, LineAnswered, LinePlayed, LineCut, LineEnds, ScriptEnds, lines_of}
+use Rattle.xa_play.specs.Plays.{Shows, IsPart, PlaysLine, PlaysLines, PlaysSome, PlaysCut, LineAnswered, LinePlayed, LineCut, LineEnds, ScriptEnds, lines_of}
 use Rattle.xa_play.specs.declared.fault.PlayFault.{PlayFault}
 use Rattle.xa_play.specs.declared.fault.PlayFault.TheVariants as faults
 use Rattle.xa_script.specs.Replies as replies
@@ -32,18 +34,18 @@ follows m' reply (Some a) h = (a.after, ap (λ (r : Reply). Some (record { reply
 
 answers_by : (m m' : Kept) (asked : Event) (reply : Reply) (s : State) (b : Bool) →
     MatchBool b (Stays m m') ((s : State) → StandsFor m s → IsSomeAnd (step s (Asked asked) Quiet) (λ a. (a.reply ≡ reply) × StandsFor m' a.after)) →
-    (b ≡ true → reply ≡ wanted_memory asked) → StandsFor m s →
+    (b ≡ true → (may_want_memory asked ≡ true) × (reply ≡ wanted_memory asked)) → StandsFor m s →
     (after : State)
-    × MatchBool b ((reply ≡ wanted_memory asked) × (after ≡ s)) (step s (Asked asked) Quiet ≡ Some (record { reply = reply; after = after }))
+    × MatchBool b ((may_want_memory asked ≡ true) × (reply ≡ wanted_memory asked) × (after ≡ s)) (step s (Asked asked) Quiet ≡ Some (record { reply = reply; after = after }))
     × StandsFor m' after
-answers_by m m' asked reply s true h wanted stands = (s, (wanted refl, refl), h s stands)
+answers_by m m' asked reply s true h wanted stands = let w = wanted refl in (s, (w.0, w.1, refl), h s stands)
 answers_by m m' asked reply s false h wanted stands = follows m' reply (step s (Asked asked) Quiet) (h s stands)
 
 shows : (m m' : Kept) (asked : Event) (answer : Option Reply) (s : State) → IsSomeAnd answer (λ reply. FullyAnswered m asked reply m') → StandsFor m s →
     (after : State) × Shows s asked (printed answer) after × StandsFor m' after
 shows m m' asked None s h stands = absurd h
 shows m m' asked (Some reply) s h stands =
-    let a = answers_by m m' asked reply s (is_memory reply.detail) h.0 h.1 stands in
+    let a = answers_by m m' asked reply s (is_memory reply.detail) h.answered h.pinned stands in
     (a.0, (reply, refl, a.1), a.2)
 
 -- an answer of a manager is a line of the model, from whichever state the manager stood for
@@ -52,6 +54,7 @@ pub line_plays : (m m' : Kept) (said : Line) (answer : Option Reply) (s : State)
 line_plays m m' Silent answer s h stands = (s, (ap printed h.0, refl), subst (λ (k : Kept). StandsFor k s) (sym h.1) stands)
 line_plays m m' Unknown answer s h stands = (s, (ap printed h.0, refl), subst (λ (k : Kept). StandsFor k s) (sym h.1) stands)
 line_plays m m' Connect answer s h stands = shows m m' event.Connect answer s h stands
+line_plays m m' (Hangup n) answer s h stands = shows m m' (event.Hangup n) answer s h stands
 line_plays m m' (Call n request) answer s h stands = shows m m' (event.Call n request) answer s h stands
 
 -- the line is read so, answered so, and its answer printed so

@@ -1,7 +1,7 @@
 -- What a script prints: each line that asks something shows the reply of one step of the sequential resource manager.
 use Rattle.std.specs.Prelude.{ℕ, ◌≡◌, ◌≢◌, ◌≤◌, ◌<◌, ◌⊎◌, List, [], ◌∷◌, ◌++◌, length, map, take, true, Option, Some, None, IfSome, Result, Ok, Err, MatchBool, IsSomeAnd}
 use Rattle.std.specs.Io.KnownBytes.{Appends}
-use Rattle.xa_codes.specs.declared.codes.TheConstants.{XAER_INVAL, XAER_RMFAIL}
+use Rattle.xa_codes.specs.declared.codes.TheConstants.{XAER_INVAL}
 use Rattle.xa_codes.specs.declared.detail.Detail.TheVariants as detail
 use Rattle.xa_frame.specs.declared.reply.Reply.{Reply}
 use Rattle.xa_model.specs.declared.event.Event.{Event}
@@ -11,12 +11,13 @@ use Rattle.xa_model.specs.State.{State}
 use Rattle.xa_model.specs.Answer.{detailed}
 use Rattle.xa_model.specs.Step.{Asked, step}
 use Rattle.xa_model.specs.History.{fresh}
-use Rattle.xa_manager.specs.Answered.{Answered, memory_code}
+use Rattle.xa_assoc.specs.Refusals.{is_memory}
+use Rattle.xa_manager.specs.Answered.{FullyAnswered, may_want_memory, wanted_memory}
 use Rattle.xa_manager.specs.Kept.{Kept}
-use Rattle.xa_manager.specs.Stands.{StandsFor, is_memory}
+use Rattle.xa_manager.specs.Stands.{StandsFor}
 use Rattle.xa_xid.specs.Triple.{Triple}
 use Rattle.xa_script.specs.declared.line.Line.{Line}
-use Rattle.xa_script.specs.declared.line.Line.TheVariants.{Silent, Unknown, Connect, Call}
+use Rattle.xa_script.specs.declared.line.Line.TheVariants.{Silent, Unknown, Connect, Hangup, Call}
 use Rattle.xa_script.specs.Lines as lines
 use Rattle.xa_script.specs.Parts.{parts}
 use Rattle.xa_script.specs.Replies as replies
@@ -24,15 +25,10 @@ use Rattle.xa_script.specs.Requests.{ReadsTexts}
 use Rattle.xa_play.specs.declared.fault.PlayFault.{PlayFault}
 use Rattle.xa_play.specs.declared.fault.PlayFault.TheVariants.{Memory, Write}
 
--- the reply where memory was wanted
-abbrev pub wanted_memory : Event → Reply
-wanted_memory (event.Call n request) = detailed (memory_code request) detail.Memory
-wanted_memory _ = detailed XAER_RMFAIL detail.Memory
-
--- the reply is the step's, or memory was wanted and the state is as it was
+-- the reply is the step's, or memory was wanted, where it may be, and the state is as it was
 abbrev pub Answers : State → Event → Reply → State → Type 0
 Answers s asked reply after =
-    MatchBool (is_memory reply.detail) ((reply ≡ wanted_memory asked) × (after ≡ s))
+    MatchBool (is_memory reply.detail) ((may_want_memory asked ≡ true) × (reply ≡ wanted_memory asked) × (after ≡ s))
     (step s (Asked asked) Quiet ≡ Some (record { reply = reply; after = after }))
 
 -- an event is answered, and its reply shown
@@ -44,6 +40,7 @@ abbrev pub PlaysLine : State → Line → List ℕ → State → Type 0
 PlaysLine s Silent text after = (text ≡ []) × (after ≡ s)
 PlaysLine s Unknown text after = (text ≡ replies.line_of (detailed XAER_INVAL detail.Frame)) × (after ≡ s)
 PlaysLine s Connect text after = Shows s event.Connect text after
+PlaysLine s (Hangup n) text after = Shows s (event.Hangup n) text after
 PlaysLine s (Call n request) text after = Shows s (event.Call n request) text after
 
 -- what lines print, one after another
@@ -104,13 +101,11 @@ abbrev pub IsBadSetting : List ℕ → ℕ → Type 0
 IsBadSetting name log_bytes = (255 < length name) ⊎ (log_bytes < 64) ⊎ (1_073_741_824 < log_bytes)
 
 -- What one line is answered by a manager, and leaves of it.
-abbrev pub FullyAnswered : Kept → Event → Reply → Kept → Type 0
-FullyAnswered m asked reply m' = Answered m asked reply m' × (is_memory reply.detail ≡ true → reply ≡ wanted_memory asked)
-
 abbrev pub LineAnswered : Kept → Line → Option Reply → Kept → Type 0
 LineAnswered m Silent answer m' = (answer ≡ None) × (m' ≡ m)
 LineAnswered m Unknown answer m' = (answer ≡ Some (detailed XAER_INVAL detail.Frame)) × (m' ≡ m)
 LineAnswered m Connect answer m' = IsSomeAnd answer (λ reply. FullyAnswered m event.Connect reply m')
+LineAnswered m (Hangup n) answer m' = IsSomeAnd answer (λ reply. FullyAnswered m (event.Hangup n) reply m')
 LineAnswered m (Call n request) answer m' = IsSomeAnd answer (λ reply. FullyAnswered m (event.Call n request) reply m')
 
 -- from whichever state the manager stood for, the line prints this

@@ -1,8 +1,7 @@
 ghost use Rattle.std.specs.Io.KnownBytes.{Appends};
 ghost use Rattle.std.specs.Prelude.{◌≡◌, ◌↔◌, ◌<◌, ◌⊎◌, IfErr, IfSome, IsErrOf, List, length, true, ℕ};
-ghost use Rattle.xa_manager.specs.Answered.{Answered};
+ghost use Rattle.xa_manager.specs.Answered.{FullyAnswered};
 ghost use Rattle.xa_manager.specs.Managed.{kept};
-ghost use Rattle.xa_manager.specs.Stands.{is_memory};
 ghost use Rattle.xa_model.specs.Answer.{detailed};
 ghost use Rattle.xa_script.specs.Lines.{IsWithinLimits};
 ghost use Rattle.xa_play.specs.Faults.{end_of};
@@ -13,9 +12,10 @@ use crate::output::write_text;
 use crate::script::read_script;
 use std::alloc::Global;
 use std::io::{self, Read, Write};
+use xa_assoc::ConnectFault;
 use xa_codes::{Code, Detail, XA_OK, XAER_INVAL, XAER_RMERR, XAER_RMFAIL};
 use xa_frame::{Body, Reply};
-use xa_manager::{ConnectFault, Manager, Settings};
+use xa_manager::{Manager, Settings};
 use xa_model::Event;
 use xa_script::{Line, first_part, read_line, reply_line};
 
@@ -99,16 +99,16 @@ fn answer(manager: &mut Manager, said: Line) -> Option<Reply>
 {
     match said {
         Line::Silent => None,
-        Line::Unknown => Some(refusal(XAER_INVAL, Detail::Frame)),
+        Line::Unknown => Some(bare(XAER_INVAL, Detail::Frame)),
         Line::Connect => Some(connect(manager)),
+        Line::Hangup(session) => Some(hang_up(manager, session)),
         Line::Call(session, request) => Some(manager.call(session, request)),
     }
 }
 
 /// Connects a session.
 fn connect(manager: &mut Manager) -> Reply
-    ensures step { Answered (kept manager.old) Event.Connect result (kept manager.new) }
-    ensures memory { is_memory result.detail ≡ true → result ≡ detailed XAER_RMFAIL Detail.Memory }
+    ensures { FullyAnswered (kept manager.old) Event.Connect result (kept manager.new) }
 {
     match manager.connect() {
         Ok(number) => Reply {
@@ -117,12 +117,21 @@ fn connect(manager: &mut Manager) -> Reply
             place: 0,
             body: Body::Number(number),
         },
-        Err(ConnectFault::Full) => refusal(XAER_RMERR, Detail::Limit),
-        Err(ConnectFault::Memory) => refusal(XAER_RMFAIL, Detail::Memory),
+        Err(ConnectFault::Full) => bare(XAER_RMERR, Detail::Limit),
+        Err(ConnectFault::Memory) => bare(XAER_RMFAIL, Detail::Memory),
     }
 }
 
-fn refusal(code: Code, detail: Detail) -> Reply
+/// Hangs a session up, whether it is connected or not.
+fn hang_up(manager: &mut Manager, session: u64) -> Reply
+    ensures { FullyAnswered (kept manager.old) (Event.Hangup session) result (kept manager.new) }
+{
+    manager.hangup(session);
+    bare(XA_OK, Detail::Nothing)
+}
+
+/// A reply that carries nothing.
+fn bare(code: Code, detail: Detail) -> Reply
     ensures { result ≡ detailed code detail }
 {
     Reply {

@@ -1,6 +1,7 @@
 -- A text is cut at the first place of a separator.
 use Rattle.std.proofs.Common.{◌≡◌, ℕ, ◌+◌, ◌≤◌, nat_lt, Bool, true, false, List, [], ◌∷◌, length, take, drop, Some, None, refl, subst, arith, position, cond}
 use Rattle.std.specs.List.{slice_split, position_or_len, onto_first}
+use Rattle.xa_script.specs.Lines.{hangup_of}
 use Rattle.xa_script.specs.Parts.{one_of}
 use Rattle.std.proofs.lemmas.Bool.{ltb-true, ltb-false}
 use Rattle.std.proofs.lemmas.List.Splits.{slice_split_first, slice_split_none}
@@ -36,3 +37,14 @@ not_one p first [] = refl
 not_one p first (x ∷ xs) =
     elim (p x) as (λ b. one_of (first ∷ cond b ([] ∷ slice_split p xs) (onto_first x (slice_split p xs))) ≡ None)
     [ true ↦ refl | false ↦ onto_not_one first x (slice_split p xs) ]
+
+onto_not_none : (n x : ℕ) (others : List (List ℕ)) → hangup_of n (onto_first x others) ≡ None
+onto_not_none n x [] = refl
+onto_not_none n x (other ∷ others) = refl
+
+-- the parts of a text are one or more, so that no hang-up is in front of them
+pub no_hangup : (n : ℕ) (p : ℕ → Bool) (text : List ℕ) → hangup_of n (slice_split p text) ≡ None
+no_hangup n p [] = refl
+no_hangup n p (x ∷ xs) =
+    elim (p x) as (λ b. hangup_of n (cond b ([] ∷ slice_split p xs) (onto_first x (slice_split p xs))) ≡ None)
+    [ true ↦ refl | false ↦ onto_not_none n x (slice_split p xs) ]

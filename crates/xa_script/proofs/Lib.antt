@@ -1,3 +1,4 @@
 pub mod Tables
 pub mod Cuts
 pub mod Digits
+pub mod Readers

@@ -10,15 +10,18 @@ use Rattle.xa_script.specs.declared.verb.Verb.TheVariants as verb
 use Rattle.xa_xid.specs.Triple.{Triple, IsWithinLimits}
 use Rattle.xa_xid.specs.Spelling.{text_of}
 use Rattle.xa_frame.specs.declared.request.Request.{Request}
-use Rattle.xa_frame.specs.declared.request.Request.TheVariants.{Open, Start, End, Commit, Get, Put, Delete}
+use Rattle.xa_frame.specs.declared.request.Request.TheVariants.{Open, Close, Start, End, Commit, Rollback, Doom, Get, Put, Delete}
 
 -- the words that name a request
 abbrev pub named_verbs : List (List ℕ × Verb)
 named_verbs =
     (codes "open", verb.Open)
+    ∷ (codes "close", verb.Close)
     ∷ (codes "start", verb.Start)
     ∷ (codes "end", verb.End)
     ∷ (codes "commit", verb.Commit)
+    ∷ (codes "rollback", verb.Rollback)
+    ∷ (codes "doom", verb.Doom)
     ∷ (codes "get", verb.Get)
     ∷ (codes "put", verb.Put)
     ∷ (codes "delete", verb.Delete)
@@ -50,6 +53,10 @@ abbrev pub open_by : List (List ℕ) → Option Request
 open_by words =
     option_and_then (λ w. if is_name w.1 then option_map (λ flags. Open flags w.1) (flags_of w.0) else None) (two_of words)
 
+-- what the words behind `close` ask
+abbrev pub close_by : List (List ℕ) → Option Request
+close_by words = option_map (λ flags. Close flags) (option_and_then flags_of (one_of words))
+
 -- what the words behind `get` ask
 abbrev pub get_by : List (List ℕ) → Option Request
 get_by words = option_map (λ key. Get key) (option_and_then key_of (one_of words))
@@ -75,11 +82,18 @@ module _ (xid_of : List ℕ → Option Triple) where
   branch_pair words =
       option_and_then (λ w. option_and_then (λ flags. option_map (λ xid. (flags, xid)) (xid_of w.1)) (flags_of w.0)) (two_of words)
 
+  -- what the words behind `doom` ask
+  abbrev pub doom_by : List (List ℕ) → Option Request
+  doom_by words = option_map (λ xid. Doom xid) (option_and_then xid_of (one_of words))
+
   abbrev pub request_of : Verb → List (List ℕ) → Option Request
   request_of verb.Open words = open_by words
+  request_of verb.Close words = close_by words
   request_of verb.Start words = option_map (λ pair. Start pair.0 pair.1) (branch_pair words)
   request_of verb.End words = option_map (λ pair. End pair.0 pair.1) (branch_pair words)
   request_of verb.Commit words = option_map (λ pair. Commit pair.0 pair.1) (branch_pair words)
+  request_of verb.Rollback words = option_map (λ pair. Rollback pair.0 pair.1) (branch_pair words)
+  request_of verb.Doom words = doom_by words
   request_of verb.Get words = get_by words
   request_of verb.Put words = put_by words
   request_of verb.Delete words = delete_by words

@@ -1,8 +1,8 @@
 ghost use Rattle.std.specs.Option.{option_copied};
-ghost use Rattle.std.specs.Prelude.{◌≡◌, ◌≢◌, ◌∷◌, [], ℕ, IfOk, List, Option, false};
+ghost use Rattle.std.specs.Prelude.{◌≡◌, ◌≢◌, ◌∷◌, [], ℕ, IfOk, List, Option, false, unwrap_or};
 ghost use Rattle.xa_xid.specs.Triple.{Triple};
-ghost use Rattle.xa_script.specs.Lines.{IsWithinLimits, by_words, line_of};
-ghost use Rattle.xa_script.specs.Parts.{words};
+ghost use Rattle.xa_script.specs.Lines.{IsWithinLimits, by_words, hangup_of, line_of};
+ghost use Rattle.xa_script.specs.Parts.{words, words_behind};
 ghost use Rattle.xa_script.specs.Requests.{ReadsTexts};
 
 use crate::numbers::read_number;
@@ -20,6 +20,8 @@ pub enum Line {
     /// No line that is known.
     Unknown,
     Connect,
+    /// A session is gone.
+    Hangup(u64),
     /// A request of a session.
     Call(u64, Request),
 }
@@ -50,11 +52,24 @@ fn read_call(alloc: Global, session: &[u8], call: &[u8]) -> Result<Line, AllocEr
     let Some(session) = read_number(session) else {
         return Ok(Line::Unknown);
     };
+    if verb == b"hangup".as_slice() {
+        return Ok(read_hangup(session, words));
+    }
     let Some(verb) = read_verb(verb) else {
         return Ok(Line::Unknown);
     };
     match read_request(alloc, verb, words)? {
         Some(request) => Ok(Line::Call(session, request)),
         None => Ok(Line::Unknown),
+    }
+}
+
+/// A hang-up, behind which no words stand.
+fn read_hangup(session: u64, words: Option<&[u8]>) -> Line
+    ensures { result ≡ unwrap_or (hangup_of session (words_behind (option_copied words.entry))) Line.Unknown }
+{
+    match words {
+        None => Line::Hangup(session),
+        Some(_) => Line::Unknown,
     }
 }

@@ -3,7 +3,7 @@ ghost use Rattle.std.specs.Prelude.{◌≡◌, ℕ, IfOk, IfSome, List, Option};
 ghost use Rattle.xa_frame.specs.Limits.{IsKey, IsRequest, IsValue};
 ghost use Rattle.xa_xid.specs.Triple.{Triple};
 ghost use Rattle.xa_script.specs.Parts.{words_behind};
-ghost use Rattle.xa_script.specs.Requests.{ReadsTexts, branch_pair, delete_by, get_by, is_graphic, is_name, key_of, open_by, put_by, request_of, value_of};
+ghost use Rattle.xa_script.specs.Requests.{ReadsTexts, branch_pair, close_by, delete_by, doom_by, get_by, is_graphic, is_name, key_of, open_by, put_by, request_of, value_of};
 
 use crate::flags::read_flags;
 use crate::hexadecimal::read_bytes;
@@ -26,9 +26,14 @@ pub fn read_request(
 {
     match verb {
         Verb::Open => read_open(alloc, words),
+        Verb::Close => Ok(read_close(words)),
         Verb::Start => Ok(read_branch(words).map(|(flags, xid)| Request::Start { flags, xid })),
         Verb::End => Ok(read_branch(words).map(|(flags, xid)| Request::End { flags, xid })),
         Verb::Commit => Ok(read_branch(words).map(|(flags, xid)| Request::Commit { flags, xid })),
+        Verb::Rollback => {
+            Ok(read_branch(words).map(|(flags, xid)| Request::Rollback { flags, xid }))
+        }
+        Verb::Doom => Ok(read_doom(words)),
         Verb::Get => read_get(alloc, words),
         Verb::Put => read_put(alloc, words),
         Verb::Delete => read_delete(alloc, words),
@@ -41,6 +46,22 @@ fn read_branch(words: Option<&[u8]>) -> Option<(u32, Xid)>
 {
     let (flags, xid) = two_words(words)?;
     Some((read_flags(flags)?, Xid::take_text(xid)?))
+}
+
+fn read_close(words: Option<&[u8]>) -> Option<Request>
+    ensures { result ≡ close_by (words_behind (option_copied words.entry)) }
+{
+    let flags = read_flags(only_word(words)?)?;
+    Some(Request::Close { flags })
+}
+
+fn read_doom(words: Option<&[u8]>) -> Option<Request>
+    ensures value { (xid_of : List ℕ → Option Triple) → ReadsTexts xid_of →
+        result ≡ doom_by xid_of (words_behind (option_copied words.entry)) }
+    ensures limits { IfSome result IsRequest }
+{
+    let xid = Xid::take_text(only_word(words)?)?;
+    Some(Request::Doom { xid })
 }
 
 fn read_open(alloc: Global, words: Option<&[u8]>) -> Result<Option<Request>, AllocError>

@@ -5,9 +5,12 @@ ghost use Rattle.xa_script.specs.Requests.{verb_of};
 #[derive(Clone, Copy, Debug, PartialEq, Eq)]
 pub enum Verb {
     Open,
+    Close,
     Start,
     End,
     Commit,
+    Rollback,
+    Doom,
     Get,
     Put,
     Delete,
@@ -22,9 +25,12 @@ pub fn read_verb(word: &[u8]) -> Option<Verb>
     };
     match word {
         "open" => Some(Verb::Open),
+        "close" => Some(Verb::Close),
         "start" => Some(Verb::Start),
         "end" => Some(Verb::End),
         "commit" => Some(Verb::Commit),
+        "rollback" => Some(Verb::Rollback),
+        "doom" => Some(Verb::Doom),
         "get" => Some(Verb::Get),
         "put" => Some(Verb::Put),
         "delete" => Some(Verb::Delete),

@@ -3,6 +3,8 @@
 #![tactic(auto)]
 
 #[cfg(test)]
+mod calls;
+#[cfg(test)]
 mod chains;
 #[cfg(test)]
 mod codes;
@@ -28,6 +30,8 @@ mod plays;
 mod records;
 #[cfg(test)]
 mod rows;
+#[cfg(test)]
+mod sessions;
 #[cfg(test)]
 mod tables;
 #[cfg(test)]

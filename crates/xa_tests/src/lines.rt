@@ -1,9 +1,10 @@
 use crate::plays::prints;
 use crate::rows::none_wrong;
 use std::alloc::{AllocError, Global};
+use xa_script::read_line;
 
 /// Lines that are no commands, each a script.
-const OTHERS: [&str; 72] = [
+const OTHERS: [&str; 83] = [
     // Words and blanks.
     "connect x",
     "connect ",
@@ -65,16 +66,28 @@ const OTHERS: [&str; 72] = [
     "1 put 6b ",
     "1 put - 76",
     "1 put 6b 7",
-    // Lines that are not built yet.
-    "1 hangup",
+    // A hang-up, a close, a rollback and a doom with a word too many or too few.
+    "hangup",
     "0 hangup",
-    "1 close TMNOFLAGS",
+    "1 hangup ",
+    "1 hangup 1",
+    "1 Hangup",
+    "1 close",
+    "1 close TMNOFLAGS ",
+    "1 close TMNOFLAGS 1:aa:",
+    "1 close 1:aa:",
+    "1 rollback 1:aa:",
+    "1 rollback TMNOFLAGS",
+    "1 rollback TMNOFLAGS 1:aa: ",
+    "1 doom",
+    "1 doom TMNOFLAGS",
+    "1 doom 1:aa: 1:aa:",
+    "1 doom TMNOFLAGS 1:aa:",
+    // Lines that are not built yet.
     "1 prepare TMNOFLAGS 1:aa:",
-    "1 rollback TMNOFLAGS 1:aa:",
     "1 forget TMNOFLAGS 1:aa:",
     "1 recover TMNOFLAGS 1",
     "1 decide commit 1:aa:",
-    "1 doom 1:aa:",
     "1 restart",
     "fail 1 lost",
     "reopen",
@@ -87,6 +100,53 @@ const OTHERS: [&str; 72] = [
 
 /// Scripts without a reply.
 const SILENT: [&str; 6] = ["", "\n", "\n\n", "#", "# \u{e4} connect", "#\n#"];
+
+/// Lines that ask something of a session, each with what it says.
+const ASKED: [(&str, &str); 5] = [
+    ("9 hangup", "Hangup(9)"),
+    (
+        "18446744073709551615 hangup",
+        "Hangup(18446744073709551615)",
+    ),
+    (
+        "9 close TMNOWAIT|TMFAIL",
+        "Call(9, Close { flags: 805306368 })",
+    ),
+    (
+        "9 rollback TMNOFLAGS 1:aabb:cc",
+        "Call(9, Rollback { flags: 0, xid: Xid { format: 1, gtrid: [170, 187], bqual: [204] } })",
+    ),
+    (
+        "9 doom -2:aa:",
+        "Call(9, Doom { xid: Xid { format: -2, gtrid: [170], bqual: [] } })",
+    ),
+];
+
+fn line_text(alloc: Global, line: &str) -> Result<String, AllocError> {
+    let said = read_line(alloc, line.as_bytes())?;
+    format!(in alloc; "{said:?}")
+}
+
+fn says(alloc: Global, line: &str, want: &str) -> bool {
+    match line_text(alloc, line) {
+        Ok(text) => text.as_str() == want,
+        Err(_) => false,
+    }
+}
+
+fn wrong_line(alloc: Global, rows: &[(&str, &str)]) -> Option<usize> {
+    for (place, (line, want)) in rows.iter().enumerate() {
+        if !says(alloc, line, want) {
+            return Some(place);
+        }
+    }
+    None
+}
+
+#[test]
+fn asked_lines(rt: HostRuntime) {
+    none_wrong(&rt, wrong_line(rt.alloc(), &ASKED));
+}
 
 fn wrong_script(alloc: Global, scripts: &[&str], want: &str) -> Option<usize> {
     for (place, script) in scripts.iter().enumerate() {

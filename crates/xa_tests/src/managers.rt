@@ -4,10 +4,7 @@ ghost use Rattle.xa_manager.specs.Answered.{AreEvents};
 
 use crate::rows::none_wrong;
 use std::alloc::{AllocError, Global};
-use xa_codes::{
-    Bytes, Code, Detail, TMNOFLAGS, TMONEPHASE, TMSUCCESS, XA_OK, XAER_INVAL, XAER_PROTO,
-    XAER_RMERR,
-};
+use xa_codes::{Bytes, Code, Detail, TMNOFLAGS, TMONEPHASE, TMSUCCESS, XA_OK, XAER_PROTO};
 use xa_frame::{Body, Reply, Request};
 use xa_manager::{Manager, Settings};
 use xa_model::Event;
@@ -148,19 +145,20 @@ fn a_write_is_read_back(rt: HostRuntime) {
 }
 
 fn driven(manager: &mut Manager, alloc: Global) -> Option<Vec<Reply>> {
+    let info = Bytes::from_slice(alloc, b"xarm").ok()?;
+    let open = Request::Open {
+        flags: TMNOFLAGS,
+        info,
+    };
+    let close = Request::Close { flags: TMNOFLAGS };
     let events = vec![in alloc;
         Event::Connect,
+        Event::Call(1, open),
+        Event::Call(1, close),
         Event::Hangup(1),
-        Event::Call(2, Request::Restart),
+        Event::Call(1, Request::Restart),
     ];
     manager.drive(events.ok()?).ok()
-}
-
-fn drive(manager: &mut Manager, alloc: Global) -> Option<Vec<Reply>> {
-    match driven(manager, alloc) {
-        Some(replies) => Some(replies),
-        None => driven(manager, alloc),
-    }
 }
 
 fn are_codes(replies: &[Reply], codes: &[Code]) -> bool {
@@ -172,9 +170,17 @@ fn are_codes(replies: &[Reply], codes: &[Code]) -> bool {
     replies.len() == codes.len()
 }
 
+fn answers_in_order(alloc: Global) -> bool {
+    let Ok(mut manager) = manager(alloc) else {
+        return false;
+    };
+    match driven(&mut manager, alloc) {
+        Some(replies) => are_codes(&replies, &[XA_OK, XA_OK, XA_OK, XA_OK, XAER_PROTO]),
+        None => false,
+    }
+}
+
 #[test]
 fn events_are_answered_in_order(rt: HostRuntime) {
-    let mut manager = session(rt.alloc()).expect(&rt, "session 1");
-    let replies = drive(&mut manager, rt.alloc()).expect(&rt, "replies");
-    assert!(rt; are_codes(&replies, &[XAER_RMERR, XAER_INVAL, XAER_PROTO]));
+    assert!(rt; answers_in_order(rt.alloc()) || answers_in_order(rt.alloc()));
 }

@@ -50,12 +50,12 @@ const WORKED: [(&str, &str); 5] = [
         "0 Nothing number 4294967297\n0 Nothing\n0 Nothing\n0 Nothing\n\
          0 Nothing number 4294967298\n0 Nothing value 76\n",
     ),
-    // Another branch's write is not read before it commits, and there is one session.
+    // Another branch's write is not read before it commits.
     (
         "1 start TMNOFLAGS 1:aa:\n1 put 6b 76\n1 end TMSUCCESS 1:aa:\n1 start TMNOFLAGS 1:bb:\n1 get 6b\n\
-         1 end TMSUCCESS 1:bb:\n1 commit TMONEPHASE 1:aa:\n1 start TMNOFLAGS 1:cc:\n1 get 6b\nconnect",
+         1 end TMSUCCESS 1:bb:\n1 commit TMONEPHASE 1:aa:\n1 start TMNOFLAGS 1:cc:\n1 get 6b",
         "0 Nothing number 4294967297\n0 Nothing\n0 Nothing\n0 Nothing number 4294967298\n4 Busy\n\
-         0 Nothing\n0 Nothing\n0 Nothing number 4294967299\n0 Nothing value 76\n-3 Limit\n",
+         0 Nothing\n0 Nothing\n0 Nothing number 4294967299\n0 Nothing value 76\n",
     ),
     // Flags.
     (

@@ -1,5 +1,5 @@
 use std::test::Fail;
-use xa_assoc::{ConnectFault, Sessions};
+use xa_assoc::Sessions;
 use xa_branch::{BeginFault, Branches, Kind, Known, State};
 use xa_codes::{XA_RBOTHER, XAER_NOTA, XAER_PROTO};
 use xa_xid::Xid;
@@ -10,7 +10,7 @@ fn sessions(rt: HostRuntime) -> Result<(), Fail> {
     let xid = Xid::new(1, &[0xaa], &[0xbb]).ok().ok_or("an XID")?;
     let mut sessions = Sessions::new(rt.alloc());
     assert_eq!(rt; sessions.connect().ok(), Some(1));
-    assert_eq!(rt; sessions.connect(), Err(ConnectFault::Full));
+    assert_eq!(rt; sessions.connect().ok(), Some(2));
     if !sessions.is_connected(1) {
         return Err("connected".into());
     }

@@ -1,8 +1,7 @@
-use Rattle.std.proofs.Common.{sym, subst, arith}
-use Rattle.std.proofs.lemmas.Grind.{common_steps}
+use Rattle.std.proofs.Common.{subst, arith}
 use Rattle.xa_manager.specs.Managed.{kept}
 use Rattle.xa_manager.specs.Answered.{AreEvents}
-use Rattle.xa_manager.proofs.Driving.{answers_more}
+use Rattle.xa_manager.proofs.Driving.{answers_more, pinned_each, pinned_more}
 use Rattle.xa_manager.proofs.manager.Manager.drive.Goals as goal
 
 pub push_reserved-requires : goal.push_reserved-requires
@@ -15,9 +14,9 @@ pub loop-event-preserved : goal.loop-event-preserved
 loop-event-preserved c = record {
   answered =
       let more = answers_more (kept c.args.self.now) (kept c.loop-event.self) (kept c.happen-reply.new.self) c.loop-event.yielded c.loop-event.replies.items c.in-Some.event c.happen-reply.result
-      (sym c.loop-event.invariant.each) c.loop-event.invariant.answered c.happen-reply.ensures in
+      (pinned_each c.loop-event.yielded c.loop-event.replies.items c.loop-event.invariant.pinned) c.loop-event.invariant.answered c.happen-reply.ensures.answered in
       rw c.push_reserved.ensures.items more;
-  each = grind (arith, common_steps, c.push_reserved.ensures.items, c.loop-event.invariant.each);
+  pinned = rw c.push_reserved.ensures.items (pinned_more c.loop-event.yielded c.loop-event.replies.items c.in-Some.event c.happen-reply.result c.loop-event.invariant.pinned c.happen-reply.ensures.pinned);
   room = grind (arith, c.loop-event.invariant.room, c.in-Some.ensures.steps.1, c.push_reserved.ensures.len, c.push_reserved.ensures.capacity);
   spelled = (subst AreEvents c.in-Some.ensures.steps.0 c.loop-event.invariant.spelled).1;
 }

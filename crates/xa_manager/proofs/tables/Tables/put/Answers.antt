@@ -8,37 +8,37 @@ use Rattle.xa_manager.proofs.tables.Tables.put.Goals as goal
 pub returns-in-Some-mark-clause-ok : goal.returns-in-Some-mark-clause-ok
 returns-in-Some-mark-clause-ok c =
     let m = kept_of c.args.self.now in
-    let own : own_at m c.args.session ≡ Some (c.in-Some.xid, c.in-Some.slot) = grind (arith, c.in-Some.ensures) in
-    let marked : c.in-Some.slot.mark ≡ Some c.in-Some-mark.code = search rules in
+    let own : own_at m c.args.session ≡ Some (c.in-Some.xid, c.in-Some.working) = grind (arith, c.in-Some.ensures) in
+    let marked : c.in-Some.working.mark ≡ Some c.in-Some-mark.code = search rules in
     let said : c.plain-in-Some-mark.result ≡ plain c.in-Some-mark.code = search rules in
-    rw said (put_marked m c.args.session c.args.key.now (items_of c.args.value) c.in-Some.xid c.in-Some.slot c.in-Some-mark.code own marked)
+    rw said (put_marked m c.args.session c.args.key.now (items_of c.args.value) c.in-Some.xid c.in-Some.working c.in-Some-mark.code own marked)
 
 pub returns-in-Done-clause-ok : goal.returns-in-Done-clause-ok
 returns-in-Done-clause-ok c =
     let m = kept_of c.args.self.now in
-    let own : own_at m c.args.session ≡ Some (c.in-Some.xid, c.in-Some.slot) = grind (arith, c.in-Some.ensures) in
-    let free : c.in-Some.slot.mark ≡ None = search rules in
-    rw c.plain-in-Done.ensures (put_follows m (kept_of c.write.new.self) c.args.session c.args.key.now (items_of c.args.value) c.in-Some.xid c.in-Some.slot own free c.in-Done.ensures)
+    let own : own_at m c.args.session ≡ Some (c.in-Some.xid, c.in-Some.working) = grind (arith, c.in-Some.ensures) in
+    let free : c.in-Some.working.mark ≡ None = search rules in
+    rw c.plain-in-Done.ensures (put_follows m (kept_of c.write.new.self) c.args.session c.args.key.now (items_of c.args.value) c.in-Some.xid c.in-Some.working own free c.in-Done.ensures)
 
 pub returns-in-Late-clause-ok : goal.returns-in-Late-clause-ok
 returns-in-Late-clause-ok c =
     let m = kept_of c.args.self.now in
-    let own : own_at m c.args.session ≡ Some (c.in-Some.xid, c.in-Some.slot) = grind (arith, c.in-Some.ensures) in
-    let free : c.in-Some.slot.mark ≡ None = search rules in
-    rw c.detailed.ensures (put_late m (kept_of c.write.new.self) (kept_of c.mark.new.self) c.args.session c.args.key.now (items_of c.args.value) c.in-Some.xid c.in-Some.slot own free c.in-Late.ensures c.mark.ensures)
+    let own : own_at m c.args.session ≡ Some (c.in-Some.xid, c.in-Some.working) = grind (arith, c.in-Some.ensures) in
+    let free : c.in-Some.working.mark ≡ None = search rules in
+    rw c.detailed.ensures (put_late m (kept_of c.write.new.self) (kept_of c.mark_branch.new.self) c.args.session c.args.key.now (items_of c.args.value) c.in-Some.xid c.in-Some.working own free c.in-Late.ensures c.mark_branch.ensures)
 
 pub returns-in-Limit-clause-ok : goal.returns-in-Limit-clause-ok
 returns-in-Limit-clause-ok c =
     let m = kept_of c.args.self.now in
-    let own : own_at m c.args.session ≡ Some (c.in-Some.xid, c.in-Some.slot) = grind (arith, c.in-Some.ensures) in
-    let free : c.in-Some.slot.mark ≡ None = search rules in
-    rw c.detailed-in-Limit.ensures (put_full m (kept_of c.write.new.self) c.args.session c.args.key.now (items_of c.args.value) c.in-Some.xid c.in-Some.slot own free c.in-Limit.ensures)
+    let own : own_at m c.args.session ≡ Some (c.in-Some.xid, c.in-Some.working) = grind (arith, c.in-Some.ensures) in
+    let free : c.in-Some.working.mark ≡ None = search rules in
+    rw c.detailed-in-Limit.ensures (put_full m (kept_of c.write.new.self) c.args.session c.args.key.now (items_of c.args.value) c.in-Some.xid c.in-Some.working own free c.in-Limit.ensures)
 
 pub returns-in-Memory-clause-err : goal.returns-in-Memory-clause-err
 returns-in-Memory-clause-err c =
     let m = kept_of c.args.self.now in
-    let own : own_at m c.args.session ≡ Some (c.in-Some.xid, c.in-Some.slot) = grind (arith, c.in-Some.ensures) in
-    put_stays m (kept_of c.write.new.self) c.args.session c.args.key.now (items_of c.args.value) c.in-Some.xid c.in-Some.slot own c.in-Memory.ensures
+    let own : own_at m c.args.session ≡ Some (c.in-Some.xid, c.in-Some.working) = grind (arith, c.in-Some.ensures) in
+    put_stays m (kept_of c.write.new.self) c.args.session c.args.key.now (items_of c.args.value) c.in-Some.xid c.in-Some.working own c.in-Memory.ensures
 
 pub returns-in_default-clause-ok : goal.returns-in_default-clause-ok
 returns-in_default-clause-ok c =

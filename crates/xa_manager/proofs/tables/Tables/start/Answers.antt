@@ -1,20 +1,31 @@
-use Rattle.std.proofs.Common.{◌≡◌, length, Some, None, arith}
-use Rattle.std.specs.Prelude.{is_some}
-use Rattle.xa_model.specs.Associations.{start_refusal}
-use Rattle.xa_manager.specs.Kept.{kept_of, active_at, slot_at}
-use Rattle.xa_manager.proofs.Seating.{start_refuses, start_follows}
+use Rattle.std.proofs.Common.{◌≡◌, true, false, rules}
+use Rattle.std.proofs.lemmas.Result.{IfOk-weaker}
+use Rattle.xa_codes.specs.Flags.{has}
+use Rattle.xa_codes.specs.declared.flags.TheConstants.{TMJOIN, TMRESUME}
+use Rattle.xa_frame.specs.declared.reply.Reply.{Reply}
+use Rattle.xa_model.specs.State.{State}
+use Rattle.xa_model.specs.Associations.{resume_by, begin_by, start_by}
+use Rattle.xa_manager.specs.Kept.{kept_of}
+use Rattle.xa_manager.specs.Stands.{Follows}
+use Rattle.xa_manager.proofs.Flags.{start_resumes, start_begins}
 use Rattle.xa_manager.proofs.tables.Tables.start.Goals as goal
 
-pub returns-in-Some-clause-ok : goal.returns-in-Some-clause-ok
-returns-in-Some-clause-ok c =
+pub returns-then-flags-eq-TMRESUME-clause-ok : goal.returns-then-flags-eq-TMRESUME-clause-ok
+returns-then-flags-eq-TMRESUME-clause-ok c =
     let m = kept_of c.args.self.now in
-    let refused : start_refusal (is_some (active_at m c.args.session)) (is_some (slot_at m c.args.xid)) (length m.slots) m.given ≡ Some c.in-Some.reply =
-    grind (arith, c.in-Some.ensures.value, c.len.ensures.len, c.is_some-is_at_work.ensures, c.active_of.ensures, c.is_some-is_taken.ensures, c.slot_of.ensures) in
-    start_refuses m c.args.session c.args.xid c.in-Some.reply refused c.in-Some.ensures.served
+    let m' = kept_of c.resume.new.self in
+    let n = c.args.session in
+    let joins : has c.args.flags TMJOIN ≡ false = search rules in
+    let resumes : has c.args.flags TMRESUME ≡ true = search rules in
+    IfOk-weaker c.resume.result (λ (r : Reply). Follows m (λ (s : State). resume_by s n c.args.xid.now) r m') (λ (r : Reply). Follows m (λ (s : State). start_by s n c.args.flags c.args.xid.now) r m')
+    (λ r f. start_resumes m m' n c.args.flags c.args.xid.now r joins resumes f) c.resume.ensures.ok
 
-pub returns-clause-ok : goal.returns-clause-ok
-returns-clause-ok c =
+pub returns-else-flags-eq-TMRESUME-clause-ok : goal.returns-else-flags-eq-TMRESUME-clause-ok
+returns-else-flags-eq-TMRESUME-clause-ok c =
     let m = kept_of c.args.self.now in
-    let free : start_refusal (is_some (active_at m c.args.session)) (is_some (slot_at m c.args.xid)) (length m.slots) m.given ≡ None =
-    grind (arith, c.in_default.ensures.value, c.len.ensures.len, c.is_some-is_at_work.ensures, c.active_of.ensures, c.is_some-is_taken.ensures, c.slot_of.ensures) in
-    rw (c.carrying.ensures, c.in_ok-timestamp.ensures.timestamp) (start_follows m (kept_of c.begin.new.self) c.args.session c.args.xid free c.in_ok-timestamp.ensures.ok)
+    let m' = kept_of c.begin.new.self in
+    let n = c.args.session in
+    let joins : has c.args.flags TMJOIN ≡ false = search rules in
+    let resumes : has c.args.flags TMRESUME ≡ false = search rules in
+    IfOk-weaker c.begin.result (λ (r : Reply). Follows m (λ (s : State). begin_by s n c.args.xid.now) r m') (λ (r : Reply). Follows m (λ (s : State). start_by s n c.args.flags c.args.xid.now) r m')
+    (λ r f. start_begins m m' n c.args.flags c.args.xid.now r joins resumes f) c.begin.ensures.ok

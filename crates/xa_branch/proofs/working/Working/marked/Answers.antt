@@ -1,0 +1,5 @@
+use Rattle.std.proofs.Common.{rules}
+use Rattle.xa_branch.proofs.working.Working.marked.Goals as goal
+
+pub returns : goal.returns
+returns c = search rules

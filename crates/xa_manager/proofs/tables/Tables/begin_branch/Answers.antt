@@ -1,0 +1,32 @@
+use Rattle.std.proofs.Common.{subst}
+use Rattle.xa_xid.specs.Triple.{Triple}
+use Rattle.xa_assoc.specs.Sessions.{SessionsStandFor}
+use Rattle.xa_model.specs.Associations.{begun}
+use Rattle.xa_manager.specs.Kept.{kept_of}
+use Rattle.xa_manager.proofs.Beginning.{begun_sound, undone_follows}
+use Rattle.xa_manager.proofs.tables.Tables.begin_branch.Goals as goal
+
+pub returns-in-Ok-clause-ok : goal.returns-in-Ok-clause-ok
+returns-in-Ok-clause-ok c = λ s st. record {
+  name = st.name;
+  log_bytes = st.log_bytes;
+  up = st.up;
+  sessions = subst (λ (x : Triple). SessionsStandFor c.begin.new.self (begun s c.args.session x).after) c.copied.ensures (c.in_ok-begin.ensures.ok s st.sound st.sessions);
+  branches = c.in-Ok.ensures.ok s c.args.session st.sound st.branches;
+  records = st.records;
+  sound = begun_sound (kept_of c.args.self.now) s c.args.session c.args.xid.now st c.requires.connected (c.requires.free s st);
+}
+
+pub returns-in-Err-clause-err : goal.returns-in-Err-clause-err
+returns-in-Err-clause-err c = λ s st.
+    let n = c.args.session in
+    let there = subst (λ (x : Triple). SessionsStandFor c.begin.new.self (begun s n x).after) c.copied.ensures (c.in_ok-begin.ensures.ok s st.sound st.sessions) in
+    let sound = begun_sound (kept_of c.args.self.now) s n c.args.xid.now st c.requires.connected (c.requires.free s st) in record {
+      name = st.name;
+      log_bytes = st.log_bytes;
+      up = st.up;
+      sessions = undone_follows c.begin.new.self c.leave.new.self s n c.args.xid.now sound there c.leave.ensures.ended;
+      branches = c.in-Err.ensures.err s st.branches;
+      records = st.records;
+      sound = st.sound;
+    }

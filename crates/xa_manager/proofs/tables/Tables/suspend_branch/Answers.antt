@@ -1,0 +1,13 @@
+use Rattle.xa_manager.proofs.Held.{works_where}
+use Rattle.xa_manager.proofs.tables.Tables.suspend_branch.Goals as goal
+
+pub returns : goal.returns
+returns c = λ s st p sound. record {
+  name = st.name;
+  log_bytes = st.log_bytes;
+  up = st.up;
+  sessions = c.suspend.ensures s st.sound p st.sessions;
+  branches = c.suspend-2.ensures s c.args.session st.sound st.branches (works_where s c.args.session c.args.xid.now p);
+  records = st.records;
+  sound = sound;
+}

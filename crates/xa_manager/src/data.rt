@@ -1,0 +1,61 @@
+ghost use Rattle.std.specs.Prelude.{◌≡◌, IfOk, OnErr};
+ghost use Rattle.xa_model.specs.State.{own_branch};
+ghost use Rattle.xa_model.specs.Records.{get_by, put_by};
+ghost use Rattle.xa_manager.specs.Changes.{items_of};
+ghost use Rattle.xa_manager.specs.Kept.{kept_of};
+ghost use Rattle.xa_manager.specs.Stands.{Follows, Stays};
+
+use crate::replies::{carrying, detailed, plain};
+use crate::tables::Tables;
+use mv_rules::{Got, Put};
+use std::alloc::AllocError;
+use xa_codes::{Bytes, Detail, XA_OK, XA_RBTRANSIENT, XA_RETRY, XAER_INVAL, XAER_PROTO};
+use xa_frame::{Body, Reply};
+
+/// The rows of gets and puts, of the branch that the session is at work for.
+impl Tables {
+    pub fn get(&mut self, session: u64, key: &Bytes) -> Result<Reply, AllocError>
+        ensures ok { IfOk result (λ r. Follows (kept_of self.old) (λ s. get_by s key.now (own_branch s session)) r (kept_of self.new)) }
+        ensures err { OnErr result (Stays (kept_of self.old) (kept_of self.new)) }
+    {
+        let Some((_, working)) = self.own_branch(session) else {
+            return Ok(plain(XAER_PROTO));
+        };
+        if let Some(code) = working.mark {
+            return Ok(plain(code));
+        }
+        match self.read(working.timestamp, key) {
+            Got::Value(value) => Ok(carrying(Body::Value(value))),
+            Got::Absent => Ok(carrying(Body::Absent)),
+            Got::Busy(_) => Ok(detailed(XA_RETRY, Detail::Busy)),
+            Got::Memory => Err(AllocError),
+        }
+    }
+
+    /// A put, or a delete, which has no value.
+    pub fn put(
+        &mut self,
+        session: u64,
+        key: &Bytes,
+        value: Option<Vec<u8>>,
+    ) -> Result<Reply, AllocError>
+        ensures ok { IfOk result (λ r. Follows (kept_of self.old) (λ s. put_by s key.now (items_of value) (own_branch s session)) r (kept_of self.new)) }
+        ensures err { OnErr result (Stays (kept_of self.old) (kept_of self.new)) }
+    {
+        let Some((xid, working)) = self.own_branch(session) else {
+            return Ok(plain(XAER_PROTO));
+        };
+        if let Some(code) = working.mark {
+            return Ok(plain(code));
+        }
+        match self.write(working.timestamp, key, value) {
+            Put::Done => Ok(plain(XA_OK)),
+            Put::Late => {
+                self.mark_branch(&xid, XA_RBTRANSIENT);
+                Ok(detailed(XA_RBTRANSIENT, Detail::Late))
+            }
+            Put::Limit => Ok(detailed(XAER_INVAL, Detail::Limit)),
+            Put::Memory => Err(AllocError),
+        }
+    }
+}
