@@ -16,3 +16,8 @@ pub mod Soundness
 pub mod Times
 pub mod Histories
 pub mod Worked
+pub mod WorkedCalls
+pub mod WorkedVersions
+pub mod WorkedRefusals
+pub mod WorkedBranches
+pub mod WorkedLimits

@@ -10,3 +10,9 @@ pub mod History
 pub mod Sound
 pub mod Laws
 pub mod Worked
+pub mod WorkedScripts
+pub mod WorkedCalls
+pub mod WorkedVersions
+pub mod WorkedRefusals
+pub mod WorkedBranches
+pub mod WorkedLimits

@@ -8,5 +8,8 @@ mod laws;
 mod outcome;
 
 pub use event::Event;
-pub use laws::{one_history, sound, worked_rows};
+pub use laws::{
+    one_history, sound, worked_associations, worked_limits, worked_marks, worked_refusals,
+    worked_rows, worked_versions,
+};
 pub use outcome::{Appending, Outcome};
