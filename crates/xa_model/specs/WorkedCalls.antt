@@ -10,6 +10,10 @@ use Rattle.xa_model.specs.WorkedScripts.{Replied, new_manager, xid_a, xid_b, xid
 
 -- Associations
 
+-- a session comes, opens and closes the resource manager, and goes
+abbrev pub ComesAndGoes : Type 0
+ComesAndGoes = Replied new_manager (session 1 ++ closes 1 done ∷ hangs_up 1 ∷ [])
+
 -- what one session lets go, another goes on with; what it only suspends, no other may, and it is not closed meanwhile
 abbrev pub Migration : Type 0
 Migration =

@@ -1,6 +1,6 @@
 ghost use Rattle.xa_model.specs.Laws.{OneHistory, KeepsSound, AlwaysSound};
 ghost use Rattle.xa_model.specs.Worked.{ReadBack, BusyUntilCommitted, FlagsRefused};
-ghost use Rattle.xa_model.specs.WorkedCalls.{Migration, OwnBeforeLoose, LooseEnds, BrokenConnection, SuspendedAndBroken, NumbersAgain, Opening, Marks, FirstMark};
+ghost use Rattle.xa_model.specs.WorkedCalls.{ComesAndGoes, Migration, OwnBeforeLoose, LooseEnds, BrokenConnection, SuspendedAndBroken, NumbersAgain, Opening, Marks, FirstMark};
 ghost use Rattle.xa_model.specs.WorkedVersions.{LateWrite, LateDelete, BlindWrite, BusyBelow, BusyInDoubt, SharedBranch, NotBusyAbove, Deleted, DeletedAfterwards, ReadOver};
 ghost use Rattle.xa_model.specs.WorkedRefusals.{EarlyRefused, DownRefused, UnbuiltRefused, CloseRefused, StartRefused, JoinRefused, ResumeRefused, SuspendRefused, EndRefused};
 ghost use Rattle.xa_model.specs.WorkedBranches.{OnePhaseRefused, TwoPhaseRefused, RollbackRefused, DoomRefused, RecordsRefused};
@@ -27,6 +27,7 @@ pub fn worked_rows()
 
 /// Worked rows of several sessions: how they work for branches together, and what a broken connection leaves.
 pub fn worked_associations()
+    ensures comes_and_goes { ComesAndGoes }
     ensures migration { Migration }
     ensures own_before_loose { OwnBeforeLoose }
     ensures loose_ends { LooseEnds }

@@ -1,5 +1,8 @@
-use Rattle.xa_model.proofs.WorkedCalls.{migration, own_before_loose, loose_ends, broken_connection, suspended_and_broken, numbers_again, opening}
+use Rattle.xa_model.proofs.WorkedCalls.{comes_and_goes, migration, own_before_loose, loose_ends, broken_connection, suspended_and_broken, numbers_again, opening}
 use Rattle.xa_model.proofs.laws.worked_associations.Goals as goal
+
+pub returns-clause-comes_and_goes : goal.returns-clause-comes_and_goes
+returns-clause-comes_and_goes c = comes_and_goes
 
 pub returns-clause-migration : goal.returns-clause-migration
 returns-clause-migration c = migration
