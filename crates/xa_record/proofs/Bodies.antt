@@ -15,11 +15,11 @@ use Rattle.xa_xid.specs.Spelling.{bytes_of}
 use Rattle.xa_record.specs.declared.fault.RecordFault.{RecordFault}
 use Rattle.xa_record.specs.declared.fault.RecordFault.TheVariants.{Malformed, Memory}
 use Rattle.xa_record.specs.declared.record.Record.{Record}
-use Rattle.xa_record.specs.declared.record.Record.TheVariants.{Opened, Prepared, Committed, Completed, Decided, Forgotten}
+use Rattle.xa_record.specs.declared.record.Record.TheVariants.{Opened, Prepared, Committed, Completed, Decided, Forgotten, Base, Held, Known}
 use Rattle.xa_record.specs.Answers.{Answers, Gives}
-use Rattle.xa_record.specs.Limits.{IsWrite, AscendsFrom, IsBranch, IsRecord}
-use Rattle.xa_record.specs.Spelling.{value_bytes, write_bytes, branch_bytes, direction_byte, spelled}
-use Rattle.xa_record.specs.Reading.{◌>>=◌, ended, number_at, xid_front, direction_at, key_at, value_at, write_at, writes_at, head_at, opened_at, branch_at, directed_at, forgotten_at, record_at}
+use Rattle.xa_record.specs.Limits.{IsWrite, AscendsFrom, IsStamped, IsBranch, IsRecord}
+use Rattle.xa_record.specs.Spelling.{value_bytes, write_bytes, stamped_bytes, branch_bytes, direction_byte, spelled}
+use Rattle.xa_record.specs.Reading.{◌>>=◌, ended, number_at, xid_front, direction_at, key_at, value_at, write_at, writes_at, head_at, stamped_at, opened_at, branch_at, directed_at, forgotten_at, record_at}
 use Rattle.xa_record.proofs.Fields.{IsBytes, IsBytes-rest, bind_some, both_true, leb_true, true_leb, zero_from, ended_is, Takes, Takes-then, wide16, wide32, wide64, number_takes, number_again, name_takes, name_again, direction_takes, direction_again, key_takes, key_again, value_takes, value_again}
 
 -- ---- writes
@@ -84,79 +84,95 @@ writes_again (w ∷ ws) previous h k =
     ap (λ (o : Option (Write × List ℕ)). o >>= λ v. writes_at (length ws) v.0.key v.1 >>= λ vs. Some (v.0 ∷ vs)) (write_again previous w (flat_map write_bytes ws) h.0 k.0)
     ∙ ap (λ (o : Option (List Write)). o >>= λ vs. Some (w ∷ vs)) (writes_again ws w.key h.1 k.1)
 
--- ---- branches
+-- ---- stamped writes, and branches
 
-pub record ReadHead (bytes : List ℕ) (head : Triple × ℕ × ℕ × List ℕ) : Type 0 where
-  pub takes : Takes bytes (bytes_of head.0 ++ (to_be_bytes w64 head.1 ++ to_be_bytes w16 head.2)) head.3
-  pub name : IsWithinLimits head.0
-  pub stamp : head.1 < 2 ^ 64
-  pub some : 1 ≤ head.2
-  pub few : head.2 ≤ 256
+pub record ReadHead (bytes : List ℕ) (head : ℕ × ℕ × List ℕ) : Type 0 where
+  pub takes : Takes bytes (to_be_bytes w64 head.0 ++ to_be_bytes w16 head.1) head.2
+  pub stamp : head.0 < 2 ^ 64
+  pub some : 1 ≤ head.1
+  pub few : head.1 ≤ 256
 
-abbrev counted : Triple → ℕ → ℕ → List ℕ → Option (Triple × ℕ × ℕ × List ℕ)
-counted x t n rest = cond (leb 1 n && leb n 256) (Some (x, t, n, rest)) None
+abbrev counted : ℕ → ℕ → List ℕ → Option (ℕ × ℕ × List ℕ)
+counted t n rest = cond (leb 1 n && leb n 256) (Some (t, n, rest)) None
 
-head_takes : (bytes : List ℕ) (head : Triple × ℕ × ℕ × List ℕ) → IsBytes bytes → head_at bytes ≡ Some head → ReadHead bytes head
+head_takes : (bytes : List ℕ) (head : ℕ × ℕ × List ℕ) → IsBytes bytes → head_at bytes ≡ Some head → ReadHead bytes head
 unfolding head_at
 head_takes bytes head fits e =
-    let a = bind_some (xid_front bytes) (λ x. number_at w64 x.1 >>= λ t. number_at w16 t.1 >>= λ n. counted x.0 t.0 n.0 n.1) head e in
-    let b = bind_some (number_at w64 a.0.1) (λ t. number_at w16 t.1 >>= λ n. counted a.0.0 t.0 n.0 n.1) head a.2 in
-    let c = bind_some (number_at w16 b.0.1) (λ n. counted a.0.0 b.0.0 n.0 n.1) head b.2 in
-    let made : Triple × ℕ × ℕ × List ℕ = (a.0.0, b.0.0, c.0.0, c.0.1) in
-    let g = cond_some (leb 1 c.0.0 && leb c.0.0 256) made head c.2 in
-    let u = both_true (leb 1 c.0.0) (leb c.0.0 256) g.0 in
-    let t0 = name_takes bytes a.0.0 a.0.1 fits a.1 in
-    let t1 = number_takes w64 (2 ^ 64) wide64 a.0.1 b.0.0 b.0.1 t0.0.rest_fits b.1 in
-    let t2 = number_takes w16 (2 ^ 16) wide16 b.0.1 c.0.0 c.0.1 t1.0.rest_fits c.1 in
-    let e12 = Takes-then a.0.1 (to_be_bytes w64 b.0.0) b.0.1 (to_be_bytes w16 c.0.0) c.0.1 t1.0 t2.0 in
-    let e02 = Takes-then bytes (bytes_of a.0.0) a.0.1 (to_be_bytes w64 b.0.0 ++ to_be_bytes w16 c.0.0) c.0.1 t0.0 e12 in
-    subst (λ (h : Triple × ℕ × ℕ × List ℕ). ReadHead bytes h) {x = made} g.1 (record {
-      takes = e02;
-      name = t0.1;
-      stamp = t1.1;
-      some = leb_true 1 c.0.0 u.0;
-      few = leb_true c.0.0 256 u.1;
+    let a = bind_some (number_at w64 bytes) (λ t. number_at w16 t.1 >>= λ n. counted t.0 n.0 n.1) head e in
+    let b = bind_some (number_at w16 a.0.1) (λ n. counted a.0.0 n.0 n.1) head a.2 in
+    let made : ℕ × ℕ × List ℕ = (a.0.0, b.0.0, b.0.1) in
+    let g = cond_some (leb 1 b.0.0 && leb b.0.0 256) made head b.2 in
+    let u = both_true (leb 1 b.0.0) (leb b.0.0 256) g.0 in
+    let t0 = number_takes w64 (2 ^ 64) wide64 bytes a.0.0 a.0.1 fits a.1 in
+    let t1 = number_takes w16 (2 ^ 16) wide16 a.0.1 b.0.0 b.0.1 t0.0.rest_fits b.1 in
+    subst (λ (h : ℕ × ℕ × List ℕ). ReadHead bytes h) {x = made} g.1 (record {
+      takes = Takes-then bytes (to_be_bytes w64 a.0.0) a.0.1 (to_be_bytes w16 b.0.0) b.0.1 t0.0 t1.0;
+      stamp = t0.1;
+      some = leb_true 1 b.0.0 u.0;
+      few = leb_true b.0.0 256 u.1;
     })
 
-head_again : (x : Triple) (t n : ℕ) (rest : List ℕ) → IsWithinLimits x → t < 2 ^ 64 → 1 ≤ n → n ≤ 256 → head_at (bytes_of x ++ (to_be_bytes w64 t ++ (to_be_bytes w16 n ++ rest))) ≡ Some (x, t, n, rest)
+head_again : (t n : ℕ) (rest : List ℕ) → t < 2 ^ 64 → 1 ≤ n → n ≤ 256
+    → head_at (to_be_bytes w64 t ++ (to_be_bytes w16 n ++ rest)) ≡ Some (t, n, rest)
 unfolding head_at
-head_again x t n rest h lt some few =
+head_again t n rest lt some few =
     let one : leb 1 n ≡ true = true_leb 1 n some in
     let two : leb n 256 ≡ true = true_leb n 256 few in
-    ap (λ (o : Option (Triple × List ℕ)). o >>= λ x. number_at w64 x.1 >>= λ t. number_at w16 t.1 >>= λ n. counted x.0 t.0 n.0 n.1) (name_again x (to_be_bytes w64 t ++ (to_be_bytes w16 n ++ rest)) h)
-    ∙ ap (λ (o : Option (ℕ × List ℕ)). o >>= λ t. number_at w16 t.1 >>= λ n. counted x t.0 n.0 n.1) (number_again w64 (2 ^ 64) wide64 t (to_be_bytes w16 n ++ rest) lt)
-    ∙ ap (λ (o : Option (ℕ × List ℕ)). o >>= λ n. counted x t n.0 n.1) (number_again w16 (2 ^ 16) wide16 n rest (omega arith))
+    ap (λ (o : Option (ℕ × List ℕ)). o >>= λ t. number_at w16 t.1 >>= λ n. counted t.0 n.0 n.1) (number_again w64 (2 ^ 64) wide64 t (to_be_bytes w16 n ++ rest) lt)
+    ∙ ap (λ (o : Option (ℕ × List ℕ)). o >>= λ n. counted t n.0 n.1) (number_again w16 (2 ^ 16) wide16 n rest (omega arith))
     ∙ rw (one, two) refl
 
 some_one : {A : Type 0} (x y : A) → ◌≡◌ {A = Option A} (Some x) (Some y) → x ≡ y
 some_one x y e = cc
 
-branch_takes : (bytes : List ℕ) (b : Triple × ℕ × List Write) → IsBytes bytes → branch_at bytes ≡ Some b → (bytes ≡ branch_bytes b.0 b.1 b.2) × IsBranch b.0 b.1 b.2
-unfolding branch_at
-branch_takes bytes b fits e =
-    let p = bind_some (head_at bytes) (λ head. writes_at head.2 [] head.3 >>= λ ws. Some (head.0, head.1, ws)) b e in
-    let q = bind_some (writes_at p.0.2 [] p.0.3) (λ ws. Some (p.0.0, p.0.1, ws)) b p.2 in
+stamped_takes : (bytes : List ℕ) (s : ℕ × List Write) → IsBytes bytes → stamped_at bytes ≡ Some s
+    → (bytes ≡ stamped_bytes s.0 s.1) × IsStamped s.0 s.1
+unfolding stamped_at
+stamped_takes bytes s fits e =
+    let p = bind_some (head_at bytes) (λ head. writes_at head.1 [] head.2 >>= λ ws. Some (head.0, ws)) s e in
+    let q = bind_some (writes_at p.0.1 [] p.0.2) (λ ws. Some (p.0.0, ws)) s p.2 in
     let head = head_takes bytes p.0 fits p.1 in
-    let ws = writes_take p.0.2 [] p.0.3 q.0 head.takes.rest_fits q.1 in
-    let made : Triple × ℕ × List Write = (p.0.0, p.0.1, q.0) in
-    let same : made ≡ b = some_one made b q.2 in
-    let front : bytes ≡ (bytes_of p.0.0 ++ (to_be_bytes w64 p.0.1 ++ to_be_bytes w16 (length q.0))) ++ flat_map write_bytes q.0 =
-    head.takes.parts ∙ ap (λ (k : ℕ). (bytes_of p.0.0 ++ (to_be_bytes w64 p.0.1 ++ to_be_bytes w16 k)) ++ p.0.3) (sym ws.len) ∙ ap (λ (t : List ℕ). (bytes_of p.0.0 ++ (to_be_bytes w64 p.0.1 ++ to_be_bytes w16 (length q.0))) ++ t) ws.parts in
-    let grouped : bytes ≡ branch_bytes p.0.0 p.0.1 q.0 = front ∙ append_assoc (bytes_of p.0.0) (to_be_bytes w64 p.0.1 ++ to_be_bytes w16 (length q.0)) (flat_map write_bytes q.0) in
-    subst (λ (c : Triple × ℕ × List Write). (bytes ≡ branch_bytes c.0 c.1 c.2) × IsBranch c.0 c.1 c.2) same (
-      grouped,
+    let ws = writes_take p.0.1 [] p.0.2 q.0 head.takes.rest_fits q.1 in
+    let made : ℕ × List Write = (p.0.0, q.0) in
+    let same : made ≡ s = some_one made s q.2 in
+    let counted_is = ap (λ (k : ℕ). (to_be_bytes w64 p.0.0 ++ to_be_bytes w16 k) ++ p.0.2) (sym ws.len) in
+    let writes_are = ap (λ (t : List ℕ). (to_be_bytes w64 p.0.0 ++ to_be_bytes w16 (length q.0)) ++ t) ws.parts in
+    let whole : bytes ≡ stamped_bytes p.0.0 q.0 = head.takes.parts ∙ counted_is ∙ writes_are in
+    subst (λ (c : ℕ × List Write). (bytes ≡ stamped_bytes c.0 c.1) × IsStamped c.0 c.1) same (
+      whole,
       record {
-        name = head.name;
         stamp = head.stamp;
         writes = record { some = subst (λ (k : ℕ). 1 ≤ k) (sym ws.len) head.some; few = subst (λ (k : ℕ). k ≤ 256) (sym ws.len) head.few; each = ws.each; ascending = ws.ascending };
       },
     )
 
+stamped_again : (t : ℕ) (ws : List Write) → IsStamped t ws → stamped_at (stamped_bytes t ws) ≡ Some (t, ws)
+unfolding stamped_at
+stamped_again t ws h =
+    let front = head_again t (length ws) (flat_map write_bytes ws) h.stamp h.writes.some h.writes.few in
+    ap (λ (o : Option (ℕ × ℕ × List ℕ)). o >>= λ head. writes_at head.1 [] head.2 >>= λ vs. Some (head.0, vs)) front
+    ∙ ap (λ (o : Option (List Write)). o >>= λ vs. Some (t, vs)) (writes_again ws [] h.writes.each h.writes.ascending)
+
+branch_takes : (bytes : List ℕ) (b : Triple × ℕ × List Write) → IsBytes bytes → branch_at bytes ≡ Some b
+    → (bytes ≡ branch_bytes b.0 b.1 b.2) × IsBranch b.0 b.1 b.2
+unfolding branch_at
+branch_takes bytes b fits e =
+    let p = bind_some (xid_front bytes) (λ x. stamped_at x.1 >>= λ s. Some (x.0, s.0, s.1)) b e in
+    let q = bind_some (stamped_at p.0.1) (λ s. Some (p.0.0, s.0, s.1)) b p.2 in
+    let name = name_takes bytes p.0.0 p.0.1 fits p.1 in
+    let stamped = stamped_takes p.0.1 q.0 name.0.rest_fits q.1 in
+    let made : Triple × ℕ × List Write = (p.0.0, q.0.0, q.0.1) in
+    let whole : bytes ≡ branch_bytes p.0.0 q.0.0 q.0.1 = name.0.parts ∙ ap (λ (r : List ℕ). bytes_of p.0.0 ++ r) stamped.0 in
+    subst (λ (c : Triple × ℕ × List Write). (bytes ≡ branch_bytes c.0 c.1 c.2) × IsBranch c.0 c.1 c.2) (some_one made b q.2) (
+      whole,
+      record { name = name.1; stamped = stamped.1 },
+    )
+
 branch_again : (x : Triple) (t : ℕ) (ws : List Write) → IsBranch x t ws → branch_at (branch_bytes x t ws) ≡ Some (x, t, ws)
 unfolding branch_at
 branch_again x t ws h =
-    ap (λ (o : Option (Triple × ℕ × ℕ × List ℕ)). o >>= λ head. writes_at head.2 [] head.3 >>= λ vs. Some (head.0, head.1, vs)) (head_again x t (length ws) (flat_map write_bytes ws) h.name h.stamp h.writes.some h.writes.few)
-    ∙ ap (λ (o : Option (List Write)). o >>= λ vs. Some (x, t, vs)) (writes_again ws [] h.writes.each h.writes.ascending)
+    ap (λ (o : Option (Triple × List ℕ)). o >>= λ y. stamped_at y.1 >>= λ s. Some (y.0, s.0, s.1)) (name_again x (stamped_bytes t ws) h.name)
+    ∙ ap (λ (o : Option (ℕ × List Write)). o >>= λ s. Some (x, s.0, s.1)) (stamped_again t ws h.stamped)
 
 -- ---- the other kinds
 
@@ -220,6 +236,9 @@ record_again (Committed x t ws) h = ap (option_map (λ b. Committed b.0 b.1 b.2)
 record_again (Completed x d) h = ap (option_map (λ p. Completed p.0 p.1)) (directed_again x d h)
 record_again (Decided x d) h = ap (option_map (λ p. Decided p.0 p.1)) (directed_again x d h)
 record_again (Forgotten x) h = ap (option_map (λ y. Forgotten y)) (forgotten_again x h)
+record_again (Base t ws) h = ap (option_map (λ s. Base s.0 s.1)) (stamped_again t ws h)
+record_again (Held x t ws) h = ap (option_map (λ b. Held b.0 b.1 b.2)) (branch_again x t ws h)
+record_again (Known x d) h = ap (option_map (λ p. Known p.0 p.1)) (directed_again x d h)
 
 mapped : {A B : Type 0} (f : A → B) (o : Option A) (y : B) → option_map f o ≡ Some y → (x : A) × (o ≡ Some x) × (f x ≡ y)
 mapped f None y e = absurd cc
@@ -250,7 +269,19 @@ record_takes (suc (suc (suc (suc (suc (suc zero))))) ∷ rest) r fits e =
     let m = mapped (λ x. Forgotten x) (forgotten_at rest) r e in
     let t = forgotten_takes rest m.0 (IsBytes-rest 6 rest fits) m.1 in
     subst (λ (q : Record). IsRecord q × (6 ∷ rest ≡ spelled q)) m.2 (t.1, ap (λ (s : List ℕ). 6 ∷ s) t.0)
-record_takes (suc (suc (suc (suc (suc (suc (suc kind)))))) ∷ rest) r fits e = absurd cc
+record_takes (suc (suc (suc (suc (suc (suc (suc zero)))))) ∷ rest) r fits e =
+    let m = mapped (λ s. Base s.0 s.1) (stamped_at rest) r e in
+    let t = stamped_takes rest m.0 (IsBytes-rest 7 rest fits) m.1 in
+    subst (λ (q : Record). IsRecord q × (7 ∷ rest ≡ spelled q)) m.2 (t.1, ap (λ (s : List ℕ). 7 ∷ s) t.0)
+record_takes (suc (suc (suc (suc (suc (suc (suc (suc zero))))))) ∷ rest) r fits e =
+    let m = mapped (λ b. Held b.0 b.1 b.2) (branch_at rest) r e in
+    let t = branch_takes rest m.0 (IsBytes-rest 8 rest fits) m.1 in
+    subst (λ (q : Record). IsRecord q × (8 ∷ rest ≡ spelled q)) m.2 (t.1, ap (λ (s : List ℕ). 8 ∷ s) t.0)
+record_takes (suc (suc (suc (suc (suc (suc (suc (suc (suc zero)))))))) ∷ rest) r fits e =
+    let m = mapped (λ d. Known d.0 d.1) (directed_at rest) r e in
+    let t = directed_takes rest m.0 (IsBytes-rest 9 rest fits) m.1 in
+    subst (λ (q : Record). IsRecord q × (9 ∷ rest ≡ spelled q)) m.2 (t.1, ap (λ (s : List ℕ). 9 ∷ s) t.0)
+record_takes (suc (suc (suc (suc (suc (suc (suc (suc (suc (suc kind))))))))) ∷ rest) r fits e = absurd cc
 
 -- ---- answers
 

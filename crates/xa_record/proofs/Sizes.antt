@@ -1,6 +1,5 @@
 -- How long bodies are.
-use Rattle.std.proofs.Common.{◌≡◌, ℕ, ◌*◌, ◌≤◌, List, [], ◌∷◌, ◌++◌, length, Option, Some, None, refl, arith}
-use Rattle.std.specs.Int.{w16, w64, to_be_bytes}
+use Rattle.std.proofs.Common.{◌≡◌, ℕ, ◌*◌, ◌≤◌, List, [], ◌∷◌, length, Option, Some, None, refl, arith}
 use Rattle.std.specs.List.{AllByRecursion}
 use Rattle.std.specs.Prelude.{IfSome, flat_map}
 use Rattle.std.proofs.lemmas.List.{length-append}
@@ -9,9 +8,9 @@ use Rattle.xa_codes.specs.declared.write.Write.{Write}
 use Rattle.xa_xid.specs.Triple.{Triple, IsWithinLimits}
 use Rattle.xa_xid.specs.Spelling.{bytes_of}
 use Rattle.xa_record.specs.declared.record.Record.{Record}
-use Rattle.xa_record.specs.declared.record.Record.TheVariants.{Opened, Prepared, Committed, Completed, Decided, Forgotten}
-use Rattle.xa_record.specs.Limits.{IsWrite, IsBranch, IsRecord}
-use Rattle.xa_record.specs.Spelling.{value_bytes, write_bytes, branch_bytes, direction_byte, spelled}
+use Rattle.xa_record.specs.declared.record.Record.TheVariants.{Opened, Prepared, Committed, Completed, Decided, Forgotten, Base, Held, Known}
+use Rattle.xa_record.specs.Limits.{IsWrite, IsStamped, IsBranch, IsRecord}
+use Rattle.xa_record.specs.Spelling.{value_bytes, write_bytes, stamped_bytes, branch_bytes, direction_byte, spelled}
 
 name_short : (x : Triple) → IsWithinLimits x → length (bytes_of x) ≤ 134
 name_short x h = omega (arith, length-append x.gtrid x.bqual, h.lengths.2, h.lengths.3)
@@ -28,6 +27,9 @@ decided x d h = omega (arith, name_short x h, length-append (bytes_of x) (direct
 pub forgotten : (x : Triple) → IsWithinLimits x → length (spelled (Forgotten x)) ≤ 135
 forgotten x h = omega (arith, name_short x h)
 
+pub known : (x : Triple) (d : Direction) → IsWithinLimits x → length (spelled (Known x d)) ≤ 136
+known x d h = omega (arith, name_short x h, length-append (bytes_of x) (direction_byte d ∷ []))
+
 value_short : (v : Option (List ℕ)) → IfSome v (λ s. length s ≤ 1024) → length (value_bytes v) ≤ 1027
 value_short None h = omega arith
 value_short (Some s) h = omega (arith, h)
@@ -39,9 +41,11 @@ writes_short : (ws : List Write) → AllByRecursion IsWrite ws → length (flat_
 writes_short [] h = omega arith
 writes_short (w ∷ ws) h = omega (arith, write_short w h.0, writes_short ws h.1, length-append (write_bytes w) (flat_map write_bytes ws))
 
+stamped_short : (t : ℕ) (ws : List Write) → IsStamped t ws → length (stamped_bytes t ws) ≤ 279562
+stamped_short t ws h = omega (arith, writes_short ws h.writes.each, h.writes.few)
+
 branch_short : (x : Triple) (t : ℕ) (ws : List Write) → IsBranch x t ws → length (branch_bytes x t ws) ≤ 279696
-branch_short x t ws h =
-    omega (arith, name_short x h.name, writes_short ws h.writes.each, h.writes.few, length-append (bytes_of x) (to_be_bytes w64 t ++ (to_be_bytes w16 (length ws) ++ flat_map write_bytes ws)))
+branch_short x t ws h = omega (arith, name_short x h.name, stamped_short t ws h.stamped, length-append (bytes_of x) (stamped_bytes t ws))
 
 pub any : (r : Record) → IsRecord r → (1 ≤ length (spelled r)) × (length (spelled r) ≤ 524288)
 any (Opened boot) h = (omega arith, omega arith)
@@ -50,3 +54,6 @@ any (Committed x t ws) h = (omega arith, omega (arith, branch_short x t ws h))
 any (Completed x d) h = (omega arith, omega (arith, completed x d h))
 any (Decided x d) h = (omega arith, omega (arith, decided x d h))
 any (Forgotten x) h = (omega arith, omega (arith, forgotten x h))
+any (Base t ws) h = (omega arith, omega (arith, stamped_short t ws h))
+any (Held x t ws) h = (omega arith, omega (arith, branch_short x t ws h))
+any (Known x d) h = (omega arith, omega (arith, known x d h))

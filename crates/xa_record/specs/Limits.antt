@@ -7,7 +7,7 @@ use Rattle.std.specs.Ordering.{nat_cmp}
 use Rattle.xa_codes.specs.declared.write.Write.{Write}
 use Rattle.xa_xid.specs.Triple.{Triple, IsWithinLimits}
 use Rattle.xa_record.specs.declared.record.Record.{Record}
-use Rattle.xa_record.specs.declared.record.Record.TheVariants.{Opened, Prepared, Committed, Completed, Decided, Forgotten}
+use Rattle.xa_record.specs.declared.record.Record.TheVariants.{Opened, Prepared, Committed, Completed, Decided, Forgotten, Base, Held, Known}
 
 -- a key of 1 to 64 bytes, and a value of at most 1,024
 pub record IsWrite (w : Write) : Type 0 where
@@ -27,10 +27,14 @@ pub record AreWrites (ws : List Write) : Type 0 where
   pub each : AllByRecursion IsWrite ws
   pub ascending : AscendsFrom [] ws
 
-pub record IsBranch (xid : Triple) (timestamp : ℕ) (ws : List Write) : Type 0 where
-  pub name : IsWithinLimits xid
+-- a timestamp, and what was written at it
+pub record IsStamped (timestamp : ℕ) (ws : List Write) : Type 0 where
   pub stamp : timestamp < 2 ^ 64
   pub writes : AreWrites ws
+
+pub record IsBranch (xid : Triple) (timestamp : ℕ) (ws : List Write) : Type 0 where
+  pub name : IsWithinLimits xid
+  pub stamped : IsStamped timestamp ws
 
 abbrev pub IsRecord : Record → Type 0
 IsRecord (Opened boot) = (1 ≤ boot) × (boot < 2 ^ 32)
@@ -39,3 +43,6 @@ IsRecord (Committed xid timestamp ws) = IsBranch xid timestamp ws
 IsRecord (Completed xid direction) = IsWithinLimits xid
 IsRecord (Decided xid direction) = IsWithinLimits xid
 IsRecord (Forgotten xid) = IsWithinLimits xid
+IsRecord (Base timestamp ws) = IsStamped timestamp ws
+IsRecord (Held xid timestamp ws) = IsBranch xid timestamp ws
+IsRecord (Known xid direction) = IsWithinLimits xid

@@ -9,7 +9,7 @@ use Rattle.xa_codes.specs.declared.write.Write.{Write}
 use Rattle.xa_xid.specs.Triple.{Triple}
 use Rattle.xa_xid.specs.Reading.{xid_at}
 use Rattle.xa_record.specs.declared.record.Record.{Record}
-use Rattle.xa_record.specs.declared.record.Record.TheVariants.{Opened, Prepared, Committed, Completed, Decided, Forgotten}
+use Rattle.xa_record.specs.declared.record.Record.TheVariants.{Opened, Prepared, Committed, Completed, Decided, Forgotten, Base, Held, Known}
 
 infixl 10 ◌>>=◌
 abbrev pub ◌>>=◌ : {A B : Type 0} → Option A → (A → Option B) → Option B
@@ -63,13 +63,18 @@ writes_at (suc n) previous bytes = do
   ws ← writes_at n w.0.key w.1
   Some (w.0 ∷ ws)
 
--- what stands before the writes: the XID, the timestamp, the count
-unfoldable pub head_at : List ℕ → Option (Triple × ℕ × ℕ × List ℕ)
+-- what stands before the writes: the timestamp, the count
+unfoldable pub head_at : List ℕ → Option (ℕ × ℕ × List ℕ)
 head_at bytes = do
-  x ← xid_front bytes
-  t ← number_at w64 x.1
+  t ← number_at w64 bytes
   n ← number_at w16 t.1
-  if nat_le 1 n.0 && nat_le n.0 256 then Some (x.0, t.0, n.0, n.1) else None
+  if nat_le 1 n.0 && nat_le n.0 256 then Some (t.0, n.0, n.1) else None
+
+unfoldable pub stamped_at : List ℕ → Option (ℕ × List Write)
+stamped_at bytes = do
+  head ← head_at bytes
+  ws ← writes_at head.1 [] head.2
+  Some (head.0, ws)
 
 unfoldable pub opened_at : List ℕ → Option Record
 opened_at bytes = do
@@ -78,9 +83,9 @@ opened_at bytes = do
 
 unfoldable pub branch_at : List ℕ → Option (Triple × ℕ × List Write)
 branch_at bytes = do
-  head ← head_at bytes
-  ws ← writes_at head.2 [] head.3
-  Some (head.0, head.1, ws)
+  x ← xid_front bytes
+  s ← stamped_at x.1
+  Some (x.0, s.0, s.1)
 
 unfoldable pub directed_at : List ℕ → Option (Triple × Direction)
 directed_at bytes = do
@@ -103,4 +108,7 @@ record_at (suc (suc (suc zero)) ∷ rest) = option_map (λ b. Committed b.0 b.1 
 record_at (suc (suc (suc (suc zero))) ∷ rest) = option_map (λ d. Completed d.0 d.1) (directed_at rest)
 record_at (suc (suc (suc (suc (suc zero)))) ∷ rest) = option_map (λ d. Decided d.0 d.1) (directed_at rest)
 record_at (suc (suc (suc (suc (suc (suc zero))))) ∷ rest) = option_map (λ x. Forgotten x) (forgotten_at rest)
-record_at (suc (suc (suc (suc (suc (suc (suc kind)))))) ∷ rest) = None
+record_at (suc (suc (suc (suc (suc (suc (suc zero)))))) ∷ rest) = option_map (λ s. Base s.0 s.1) (stamped_at rest)
+record_at (suc (suc (suc (suc (suc (suc (suc (suc zero))))))) ∷ rest) = option_map (λ b. Held b.0 b.1 b.2) (branch_at rest)
+record_at (suc (suc (suc (suc (suc (suc (suc (suc (suc zero)))))))) ∷ rest) = option_map (λ d. Known d.0 d.1) (directed_at rest)
+record_at (suc (suc (suc (suc (suc (suc (suc (suc (suc (suc kind))))))))) ∷ rest) = None

@@ -7,7 +7,7 @@ use Rattle.xa_codes.specs.declared.write.Write.{Write}
 use Rattle.xa_xid.specs.Triple.{Triple}
 use Rattle.xa_xid.specs.Spelling.{bytes_of}
 use Rattle.xa_record.specs.declared.record.Record.{Record}
-use Rattle.xa_record.specs.declared.record.Record.TheVariants.{Opened, Prepared, Committed, Completed, Decided, Forgotten}
+use Rattle.xa_record.specs.declared.record.Record.TheVariants.{Opened, Prepared, Committed, Completed, Decided, Forgotten, Base, Held, Known}
 
 -- 0 for what was deleted, or 1, two bytes of length, and the value
 abbrev pub value_bytes : Option (List ℕ) → List ℕ
@@ -18,9 +18,13 @@ value_bytes (Some value) = 1 ∷ (to_be_bytes w16 (length value) ++ value)
 abbrev pub write_bytes : Write → List ℕ
 write_bytes w = to_be_bytes w8 (length w.key) ++ (w.key ++ value_bytes w.value)
 
--- the XID, eight bytes of timestamp, two bytes of count, and the writes
+-- eight bytes of timestamp, two bytes of count, and the writes
+abbrev pub stamped_bytes : ℕ → List Write → List ℕ
+stamped_bytes timestamp ws = to_be_bytes w64 timestamp ++ (to_be_bytes w16 (length ws) ++ flat_map write_bytes ws)
+
+-- the XID before them
 abbrev pub branch_bytes : Triple → ℕ → List Write → List ℕ
-branch_bytes xid timestamp ws = bytes_of xid ++ (to_be_bytes w64 timestamp ++ (to_be_bytes w16 (length ws) ++ flat_map write_bytes ws))
+branch_bytes xid timestamp ws = bytes_of xid ++ stamped_bytes timestamp ws
 
 abbrev pub direction_byte : Direction → ℕ
 direction_byte Commit = 1
@@ -33,3 +37,6 @@ spelled (Committed xid timestamp ws) = 3 ∷ branch_bytes xid timestamp ws
 spelled (Completed xid direction) = 4 ∷ (bytes_of xid ++ direction_byte direction ∷ [])
 spelled (Decided xid direction) = 5 ∷ (bytes_of xid ++ direction_byte direction ∷ [])
 spelled (Forgotten xid) = 6 ∷ bytes_of xid
+spelled (Base timestamp ws) = 7 ∷ stamped_bytes timestamp ws
+spelled (Held xid timestamp ws) = 8 ∷ branch_bytes xid timestamp ws
+spelled (Known xid direction) = 9 ∷ (bytes_of xid ++ direction_byte direction ∷ [])

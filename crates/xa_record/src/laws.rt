@@ -1,7 +1,7 @@
 ghost use Rattle.std.specs.Prelude.{◌≡◌, ◌≤◌, ℕ, length, Some};
 ghost use Rattle.xa_codes.specs.declared.direction.Direction.{Direction};
 ghost use Rattle.xa_record.specs.declared.record.Record.{Record};
-ghost use Rattle.xa_record.specs.declared.record.Record.TheVariants.{Opened, Completed, Decided, Forgotten};
+ghost use Rattle.xa_record.specs.declared.record.Record.TheVariants.{Opened, Completed, Decided, Forgotten, Known};
 ghost use Rattle.xa_record.specs.Limits.{IsRecord};
 ghost use Rattle.xa_record.specs.Reading.{record_at};
 ghost use Rattle.xa_record.specs.Spelling.{spelled};
@@ -20,4 +20,5 @@ pub fn body_sizes()
     ensures completed { (x : Triple) (d : Direction) → IsWithinLimits x → length (spelled (Completed x d)) ≤ 136 }
     ensures decided { (x : Triple) (d : Direction) → IsWithinLimits x → length (spelled (Decided x d)) ≤ 136 }
     ensures forgotten { (x : Triple) → IsWithinLimits x → length (spelled (Forgotten x)) ≤ 135 }
+    ensures known { (x : Triple) (d : Direction) → IsWithinLimits x → length (spelled (Known x d)) ≤ 136 }
 {}

@@ -2,9 +2,10 @@ ghost use Rattle.std.specs.Int.{w16, w32, w64};
 ghost use Rattle.std.specs.Prelude.{◌≡◌, [], Err, IfOk, option_map, is_some, IsSome};
 ghost use Rattle.xa_record.specs.declared.fault.RecordFault.TheVariants.{Memory};
 ghost use Rattle.xa_record.specs.declared.record.Record.{Record};
+ghost use Rattle.xa_record.specs.declared.record.Record.TheVariants.{Prepared, Committed, Base, Held};
 ghost use Rattle.xa_record.specs.Answers.{Answers, Gives};
 ghost use Rattle.xa_record.specs.Limits.{IsRecord};
-ghost use Rattle.xa_record.specs.Reading.{number_at, xid_front, direction_at, key_at, value_at, write_at, writes_at, head_at, opened_at, branch_at, directed_at, forgotten_at, record_at};
+ghost use Rattle.xa_record.specs.Reading.{number_at, xid_front, direction_at, key_at, value_at, write_at, writes_at, head_at, stamped_at, opened_at, branch_at, directed_at, forgotten_at, record_at};
 ghost use Rattle.xa_record.specs.Spelling.{spelled};
 
 use crate::fault::RecordFault;
@@ -160,32 +161,41 @@ fn made(alloc: Global, key: &[u8], value: Option<&[u8]>) -> Result<Write, AllocE
     Ok(Write { key, value })
 }
 
-/// The XID, the timestamp, the number of writes, and the bytes of the writes.
+/// The timestamp, the number of writes, and the bytes of the writes.
 #[tactic(auto, unfolding(crate::specs::Reading::head_at))]
-fn head_of(bytes: &[u8]) -> Option<(Xid, u64, u16, &[u8])>
-    ensures { option_map (λ x. (x.0, x.1, x.2, x.3.now)) result ≡ head_at bytes.now }
+fn head_of(bytes: &[u8]) -> Option<(u64, u16, &[u8])>
+    ensures { option_map (λ x. (x.0, x.1, x.2.now)) result ≡ head_at bytes.now }
 {
-    let (xid, rest) = xid_of(bytes)?;
-    let (timestamp, rest) = u64_at(rest)?;
+    let (timestamp, rest) = u64_at(bytes)?;
     let (count, rest) = u16_at(rest)?;
     if (1..=256).contains(&count) {
-        Some((xid, timestamp, count, rest))
+        Some((timestamp, count, rest))
     } else {
         None
     }
 }
 
-#[tactic(auto, unfolding(crate::specs::Reading::branch_at))]
-fn branch_of(alloc: Global, bytes: &[u8]) -> Result<(Xid, u64, Writes), RecordFault>
-    ensures { Answers result (branch_at bytes.now) }
+/// A timestamp and the writes at it.
+#[tactic(auto, unfolding(crate::specs::Reading::stamped_at))]
+fn stamped_of(alloc: Global, bytes: &[u8]) -> Result<(u64, Writes), RecordFault>
+    ensures { Answers result (stamped_at bytes.now) }
 {
-    let Some((xid, timestamp, count, rest)) = head_of(bytes) else {
+    let Some((timestamp, count, rest)) = head_of(bytes) else {
         return Err(RecordFault::Malformed);
     };
     if !are_writes(count, rest) {
         return Err(RecordFault::Malformed);
     }
     let writes = writes_of(alloc, count, rest)?;
+    Ok((timestamp, writes))
+}
+
+#[tactic(auto, unfolding(crate::specs::Reading::branch_at))]
+fn branch_of(alloc: Global, bytes: &[u8]) -> Result<(Xid, u64, Writes), RecordFault>
+    ensures { Answers result (branch_at bytes.now) }
+{
+    let (xid, rest) = xid_of(bytes).ok_or(RecordFault::Malformed)?;
+    let (timestamp, writes) = stamped_of(alloc, rest)?;
     Ok((xid, timestamp, writes))
 }
 
@@ -217,28 +227,55 @@ fn forgotten(bytes: &[u8]) -> Option<Xid>
     if rest.is_empty() { Some(xid) } else { None }
 }
 
+fn prepared(alloc: Global, bytes: &[u8]) -> Result<Record, RecordFault>
+    ensures { Answers result (option_map (λ b. Prepared b.0 b.1 b.2) (branch_at bytes.now)) }
+{
+    let (xid, timestamp, writes) = branch_of(alloc, bytes)?;
+    Ok(Record::Prepared {
+        xid,
+        timestamp,
+        writes,
+    })
+}
+
+fn committed(alloc: Global, bytes: &[u8]) -> Result<Record, RecordFault>
+    ensures { Answers result (option_map (λ b. Committed b.0 b.1 b.2) (branch_at bytes.now)) }
+{
+    let (xid, timestamp, writes) = branch_of(alloc, bytes)?;
+    Ok(Record::Committed {
+        xid,
+        timestamp,
+        writes,
+    })
+}
+
+fn base(alloc: Global, bytes: &[u8]) -> Result<Record, RecordFault>
+    ensures { Answers result (option_map (λ s. Base s.0 s.1) (stamped_at bytes.now)) }
+{
+    let (timestamp, writes) = stamped_of(alloc, bytes)?;
+    Ok(Record::Base { timestamp, writes })
+}
+
+fn held(alloc: Global, bytes: &[u8]) -> Result<Record, RecordFault>
+    ensures { Answers result (option_map (λ b. Held b.0 b.1 b.2) (branch_at bytes.now)) }
+{
+    let (xid, timestamp, writes) = branch_of(alloc, bytes)?;
+    Ok(Record::Held {
+        xid,
+        timestamp,
+        writes,
+    })
+}
+
+/// By the kind. Only what has writes takes memory.
 #[tactic(auto, unfolding(crate::specs::Reading::record_at))]
 fn body(alloc: Global, bytes: &[u8]) -> Result<Record, RecordFault>
     ensures { Answers result (record_at bytes.now) }
 {
     match bytes {
         [1, rest @ ..] => opened(rest).ok_or(RecordFault::Malformed),
-        [2, rest @ ..] => {
-            let (xid, timestamp, writes) = branch_of(alloc, rest)?;
-            Ok(Record::Prepared {
-                xid,
-                timestamp,
-                writes,
-            })
-        }
-        [3, rest @ ..] => {
-            let (xid, timestamp, writes) = branch_of(alloc, rest)?;
-            Ok(Record::Committed {
-                xid,
-                timestamp,
-                writes,
-            })
-        }
+        [2, rest @ ..] => prepared(alloc, rest),
+        [3, rest @ ..] => committed(alloc, rest),
         [4, rest @ ..] => {
             let (xid, direction) = directed(rest).ok_or(RecordFault::Malformed)?;
             Ok(Record::Completed { xid, direction })
@@ -250,6 +287,12 @@ fn body(alloc: Global, bytes: &[u8]) -> Result<Record, RecordFault>
         [6, rest @ ..] => {
             let xid = forgotten(rest).ok_or(RecordFault::Malformed)?;
             Ok(Record::Forgotten { xid })
+        }
+        [7, rest @ ..] => base(alloc, rest),
+        [8, rest @ ..] => held(alloc, rest),
+        [9, rest @ ..] => {
+            let (xid, direction) = directed(rest).ok_or(RecordFault::Malformed)?;
+            Ok(Record::Known { xid, direction })
         }
         _ => Err(RecordFault::Malformed),
     }

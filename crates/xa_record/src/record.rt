@@ -35,4 +35,20 @@ pub enum Record {
     Forgotten {
         xid: Xid,
     },
+    /// Snapshot: a committed branch, with those of its writes that are the last of their keys.
+    Base {
+        timestamp: u64,
+        writes: Writes,
+    },
+    /// Snapshot: a branch is prepared.
+    Held {
+        xid: Xid,
+        timestamp: u64,
+        writes: Writes,
+    },
+    /// Snapshot: the operator completed a branch that isn't forgotten.
+    Known {
+        xid: Xid,
+        direction: Direction,
+    },
 }

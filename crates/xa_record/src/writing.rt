@@ -1,7 +1,7 @@
 ghost use Rattle.arrayvec.specs.ArrayVec.{array_vec_len};
 ghost use Rattle.std.specs.Int.{w16, to_be_bytes};
 ghost use Rattle.std.specs.Prelude.{◌≡◌, ◌≤◌, [], ◌∷◌, ◌++◌, flat_map, IfOk, OnOk};
-ghost use Rattle.xa_record.specs.Spelling.{spelled, branch_bytes, write_bytes, value_bytes};
+ghost use Rattle.xa_record.specs.Spelling.{spelled, branch_bytes, stamped_bytes, write_bytes, value_bytes};
 ghost use Rattle.xa_record.specs.Small.{IsSmall};
 ghost use Rattle.xa_xid.specs.Spelling.{bytes_of};
 
@@ -27,6 +27,12 @@ pub fn write(alloc: Global, record: &Record) -> Result<Vec<u8>, AllocError>
             timestamp,
             writes,
         } => branch(alloc, 3, xid, *timestamp, writes),
+        Record::Base { timestamp, writes } => base(alloc, *timestamp, writes),
+        Record::Held {
+            xid,
+            timestamp,
+            writes,
+        } => branch(alloc, 8, xid, *timestamp, writes),
         _ => {
             let mut small: ArrayVec<u8, 136> = ArrayVec::new();
             write_small(record, &mut small);
@@ -55,7 +61,14 @@ pub fn write_small(record: &Record, out: &mut ArrayVec<u8, 136>)
             out.push(*direction as u8);
         }
         Record::Forgotten { xid } => put_xid(out, 6, xid),
-        Record::Prepared { .. } | Record::Committed { .. } => unreachable!(),
+        Record::Known { xid, direction } => {
+            put_xid(out, 9, xid);
+            out.push(*direction as u8);
+        }
+        Record::Prepared { .. }
+        | Record::Committed { .. }
+        | Record::Base { .. }
+        | Record::Held { .. } => unreachable!(),
     }
 }
 
@@ -81,14 +94,29 @@ fn branch(
 {
     let mut bytes: ArrayVec<u8, 134> = ArrayVec::new();
     xid.put(&mut bytes);
-    let writes = writes.as_slice();
     let mut out = Vec::new(alloc);
     out.push(kind)?;
     out.extend_from_slice(bytes.as_slice())?;
-    out.extend_from_slice(&timestamp.to_be_bytes())?;
-    put_length(&mut out, writes.len())?;
-    put_writes(&mut out, writes)?;
+    put_stamped(&mut out, timestamp, writes)?;
     Ok(out)
+}
+
+fn base(alloc: Global, timestamp: u64, writes: &Writes) -> Result<Vec<u8>, AllocError>
+    ensures { IfOk result (λ v. v.items ≡ 7 ∷ stamped_bytes timestamp writes.now) }
+{
+    let mut out = Vec::new(alloc);
+    out.push(7)?;
+    put_stamped(&mut out, timestamp, writes)?;
+    Ok(out)
+}
+
+fn put_stamped(out: &mut Vec<u8>, timestamp: u64, writes: &Writes) -> Result<(), AllocError>
+    ensures { OnOk result (out.new.items ≡ out.old.items ++ stamped_bytes timestamp writes.now) }
+{
+    let writes = writes.as_slice();
+    out.extend_from_slice(&timestamp.to_be_bytes())?;
+    put_length(out, writes.len())?;
+    put_writes(out, writes)
 }
 
 fn put_writes(out: &mut Vec<u8>, writes: &[Write]) -> Result<(), AllocError>

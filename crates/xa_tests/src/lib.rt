@@ -27,6 +27,8 @@ mod managers;
 #[cfg(test)]
 mod plays;
 #[cfg(test)]
+mod record_limits;
+#[cfg(test)]
 mod records;
 #[cfg(test)]
 mod rows;

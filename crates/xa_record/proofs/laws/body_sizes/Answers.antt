@@ -1,4 +1,4 @@
-use Rattle.xa_record.proofs.Sizes.{any, opened, completed, decided, forgotten}
+use Rattle.xa_record.proofs.Sizes.{any, opened, completed, decided, forgotten, known}
 use Rattle.xa_record.proofs.laws.body_sizes.Goals as goal
 
 pub returns-clause-any : goal.returns-clause-any
@@ -15,3 +15,6 @@ returns-clause-decided c = decided
 
 pub returns-clause-forgotten : goal.returns-clause-forgotten
 returns-clause-forgotten c = forgotten
+
+pub returns-clause-known : goal.returns-clause-known
+returns-clause-known c = known
