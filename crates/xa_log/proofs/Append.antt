@@ -2,7 +2,8 @@
 use Rattle.std.proofs.Common.{◌≡◌, ◌≢◌, ◌⊎◌, inl, inr, ⊎_elim, ℕ, ◌+◌, ◌-◌, ◌^◌, ◌<◌, ◌≤◌, true, List, [], ◌∷◌, ◌++◌, length, take, drop, replicate, refl, sym, ◌∙◌, ap, subst, arith, append_assoc, length-append, suc}
 use Rattle.std.proofs.lemmas.List.{take_at, drop_at, length-replicate}
 use Rattle.xa_disk.specs.Disk.{put, Torn, Only, Passes, LeavesOnly}
-use Rattle.xa_log.specs.Chain.{start, last, text, IsBody, digest, record_of, closed_record, Rests}
+use Rattle.xa_log.specs.Chain.{start, last, text, IsBody, digest, record_of, closed_record, Rests, IsBeforeOrAfter}
+use Rattle.xa_log.specs.declared.format.Format.{Format}
 use Rattle.xa_log.specs.Answers.{Went, Fell, HasCause}
 use Rattle.xa_log.specs.Stands.{Stands, MayStand, Leaves, Answers}
 use Rattle.xa_log.specs.declared.appending.Appended.{Appended}
@@ -15,72 +16,72 @@ use Rattle.xa_log.proofs.Torn.{torn_same, torn_then, torn_front, put_torn, put_w
 pub length-closed_by : (prev body : List ℕ) → length (record_of prev body ++ 0 ∷ 0 ∷ 0 ∷ 0 ∷ []) ≡ 4 + (36 + length body)
 length-closed_by prev body = omega (arith, length-append (record_of prev body) (0 ∷ 0 ∷ 0 ∷ 0 ∷ []), length-record_of prev body)
 
-pub length-closed : (bodies : List (List ℕ)) (body : List ℕ) → length (closed_record bodies body) ≡ 40 + length body
-length-closed bodies body = omega (arith, length-closed_by (last start bodies) body)
+pub length-closed : (format : Format) (bodies : List (List ℕ)) (body : List ℕ) → length (closed_record format bodies body) ≡ 40 + length body
+length-closed format bodies body = omega (arith, length-closed_by (last (start format) bodies) body)
 
-module _ (bodies : List (List ℕ)) (body file : List ℕ) (rests : Rests bodies file) where
+module _ (format : Format) (bodies : List (List ℕ)) (body file : List ℕ) (rests : Rests format bodies file) where
   abbrev end : ℕ
-  end = length (text bodies)
+  end = length (text format bodies)
 
   long : end ≤ length file
-  long = omega (arith, ap length rests.split, length-append (text bodies) rests.rest)
+  long = omega (arith, ap length rests.split, length-append (text format bodies) rests.rest)
 
-  front : take end file ≡ text bodies
-  front = ap (λ (l : List ℕ). take end l) rests.split ∙ take_at (text bodies) rests.rest end refl
+  front : take end file ≡ text format bodies
+  front = ap (λ (l : List ℕ). take end l) rests.split ∙ take_at (text format bodies) rests.rest end refl
 
   -- what a write behind the log may have left
-  pub torn_leaves : (most n : ℕ) (c : List ℕ) → IsBody body → length file ≤ most → end + n ≤ most → Torn end n file c → Leaves most bodies body c
+  pub torn_leaves : (most n : ℕ) (c : List ℕ) → IsBody body → length file ≤ most → end + n ≤ most → Torn end n file c → Leaves most format bodies body c
   torn_leaves most n c ok whole room torn =
       let fits : length c ≤ most = omega (arith, torn.no_longer, whole, room) in
-      let kept : take end c ≡ text bodies = torn_front end n file c long torn ∙ front in
-      record { fits = fits; front = kept; opens = no_fault most c bodies fits kept; reads = plain_front bodies body c rests.sizes ok kept }
+      let kept : take end c ≡ text format bodies = torn_front end n file c long torn ∙ front in
+      record { fits = fits; front = kept; opens = no_fault most format c bodies fits kept; reads = plain_front format bodies body c rests.sizes ok kept }
 
-  pub kept : (new : List ℕ) → IsBody body → new ≡ put file end (closed_record bodies body) → Rests (bodies ++ body ∷ []) new
+  pub kept : (new : List ℕ) → IsBody body → new ≡ put file end (closed_record format bodies body) → Rests format (bodies ++ body ∷ []) new
   kept new ok is =
-      let n = end + length (closed_record bodies body) in
-      rests_more bodies body new (drop n file) rests.sizes ok
-      (is ∙ put_within file end (closed_record bodies body) long
-      ∙ ap (λ (l : List ℕ). l ++ closed_record bodies body ++ drop n file) front
-      ∙ append_assoc (text bodies) (closed_record bodies body) (drop n file))
+      let n = end + length (closed_record format bodies body) in
+      rests_more format bodies body new (drop n file) rests.sizes ok
+      (is ∙ put_within file end (closed_record format bodies body) long
+      ∙ ap (λ (l : List ℕ). l ++ closed_record format bodies body ++ drop n file) front
+      ∙ append_assoc (text format bodies) (closed_record format bodies body) (drop n file))
 
   zeros_split : (n : ℕ) → replicate {A = ℕ} (4 + n) 0 ≡ 0 ∷ 0 ∷ 0 ∷ 0 ∷ replicate n 0
   zeros_split n = let m : 4 + n ≡ suc (suc (suc (suc n))) = omega arith in ap (λ (k : ℕ). replicate {A = ℕ} k 0) m
 
-  pub cleared : (n : ℕ) (mid new : List ℕ) → Torn end (4 + n) file mid → new ≡ put mid end (replicate (4 + n) 0) → new ≡ text bodies ++ (replicate (4 + n) 0 ++ drop (end + length {A = ℕ} (replicate (4 + n) 0)) mid)
+  pub cleared : (n : ℕ) (mid new : List ℕ) → Torn end (4 + n) file mid → new ≡ put mid end (replicate (4 + n) 0) → new ≡ text format bodies ++ (replicate (4 + n) 0 ++ drop (end + length {A = ℕ} (replicate (4 + n) 0)) mid)
   cleared n mid new torn is =
       let zeros : List ℕ = replicate (4 + n) 0 in
       let tail = drop (end + length zeros) mid in
       is ∙ put_within mid end zeros (omega (arith, long, torn.no_shorter))
       ∙ ap (λ (l : List ℕ). l ++ zeros ++ tail) (torn_front end (4 + n) file mid long torn ∙ front)
-      ∙ append_assoc (text bodies) zeros tail
+      ∙ append_assoc (text format bodies) zeros tail
 
-  pub refused : (n : ℕ) (mid new : List ℕ) → Torn end (4 + n) file mid → new ≡ put mid end (replicate (4 + n) 0) → Rests bodies new × (take (4 + n) (drop end new) ≡ replicate (4 + n) 0)
+  pub refused : (n : ℕ) (mid new : List ℕ) → Torn end (4 + n) file mid → new ≡ put mid end (replicate (4 + n) 0) → Rests format bodies new × (take (4 + n) (drop end new) ≡ replicate (4 + n) 0)
   refused n mid new torn is =
       let zeros : List ℕ = replicate (4 + n) 0 in
       let tail = drop (end + length zeros) mid in
       let whole = cleared n mid new torn is in (
         record {
           rest = 0 ∷ 0 ∷ 0 ∷ 0 ∷ (replicate n 0 ++ tail);
-          split = whole ∙ ap (λ (l : List ℕ). text bodies ++ (l ++ tail)) (zeros_split n);
+          split = whole ∙ ap (λ (l : List ℕ). text format bodies ++ (l ++ tail)) (zeros_split n);
           sizes = rests.sizes;
-          closed = closed_zeros (last start bodies) (replicate n 0 ++ tail);
+          closed = closed_zeros (last (start format) bodies) (replicate n 0 ++ tail);
         },
         ap (λ (l : List ℕ). take (4 + n) (drop end l)) whole
-            ∙ ap (λ (l : List ℕ). take (4 + n) l) (drop_at (text bodies) (zeros ++ tail) end refl)
+            ∙ ap (λ (l : List ℕ). take (4 + n) l) (drop_at (text format bodies) (zeros ++ tail) end refl)
             ∙ take_at zeros tail (4 + n) (length-replicate (4 + n) 0),
       )
 
   -- from a log at rest, whatever a write behind it left
   pub moments : {D : Type 0} (moment : D → ℕ) (left_since : D → ℕ → List ℕ → Type 0) (may_leave : D → List ℕ → Type 0) (old new : D) (most n : ℕ)
       → IsBody body → length file ≤ most → end + n ≤ most → ((c : List ℕ) → left_since old (moment old) c → may_leave old c) → Only file (may_leave old)
-      → Passes (Torn end n) (moment old) (moment new) (left_since old) (left_since new) (may_leave old) (may_leave new) → LeavesOnly moment left_since old new (Leaves most bodies body)
+      → Passes (Torn end n) (moment old) (moment new) (left_since old) (left_since new) (may_leave old) (may_leave new) → LeavesOnly moment left_since old new (Leaves most format bodies body)
   moments moment left_since may_leave old new most n ok whole room only_now durable time = record {
     later = time.later;
     each = λ c left. ⊎_elim (λ past. good c (torn_to c (durable c (only_now c past)))) (λ x. good c (subst (λ f. Torn end n f c) (durable x.0 x.1) x.2)) (time.nothing_else (moment old) c (omega arith) left);
     before = λ t c le left. ⊎_elim (λ past. inl past) (λ x. inr (good c (subst (λ f. Torn end n f c) (durable x.0 x.1) x.2))) (time.nothing_else t c le left);
   }
     where
-      good : (c : List ℕ) → Torn end n file c → Leaves most bodies body c
+      good : (c : List ℕ) → Torn end n file c → Leaves most format bodies body c
       good c torn = torn_leaves most n c ok whole room torn
 
       torn_to : (c : List ℕ) → c ≡ file → Torn end n file c
@@ -89,6 +90,9 @@ module _ (bodies : List (List ℕ)) (body file : List ℕ) (rests : Rests bodies
 -- ---- what a log stands for after each answer
 
 module _ {D : Type 0} (tears : List ℕ → ℕ → List ℕ → List ℕ → Type 0) (seen : D → List ℕ) (may_leave : D → List ℕ → Type 0) (bodies : List (List ℕ)) (body : List ℕ) (old new : Log D) (stands : Stands seen may_leave bodies old) where
+  abbrev format : Format
+  format = old.format
+
   abbrev Went_by : Appended → Type 0
   Went_by outcome = Went tears outcome old.end (record_of old.digest body ++ 0 ∷ 0 ∷ 0 ∷ 0 ∷ []) (seen old.disk) (seen new.disk) (may_leave new.disk)
 
@@ -110,45 +114,54 @@ module _ {D : Type 0} (tears : List ℕ → ℕ → List ℕ → List ℕ → Ty
       torn_then old.end range (seen old.disk) went.0 (seen new.disk) went.1 (subst (λ n. Torn old.end n went.0 (seen new.disk)) (length-replicate range 0) cleared)
 
   abbrev Room : Type 0
-  Room = (old.end + (40 + length body) ≤ old.log_bytes) × (new.log_bytes ≡ old.log_bytes)
+  Room = (old.end + (40 + length body) ≤ old.log_bytes) × (new.log_bytes ≡ old.log_bytes) × (new.format ≡ old.format)
 
   pub answer_kept : Room → IsBody body → Went_by Kept → new.end ≡ old.end + (36 + length body) → new.digest ≡ digest old.digest body → new.lost ≡ old.lost → Stands seen may_leave (bodies ++ body ∷ []) new
   answer_kept room ok went end_is digest_is lost_is = record {
     fits = fits_after room.0 room.1 (torn_kept went);
-    file = kept bodies body (seen old.disk) stands.file (seen new.disk) ok (went.0 ∙ (λ i. put (seen old.disk) (stands.end i) (record_of (stands.digest i) body ++ 0 ∷ 0 ∷ 0 ∷ 0 ∷ [])));
-    end = omega (arith, end_is, stands.end, ap length (text_more bodies body), length-append (text bodies) (record_of (last start bodies) body), length-record_of (last start bodies) body);
-    digest = digest_is ∙ ap (λ (d : List ℕ). digest d body) stands.digest ∙ sym (last_more start bodies body);
+    file = subst (λ k. Rests k (bodies ++ body ∷ []) (seen new.disk)) (sym room.2) (kept format bodies body (seen old.disk) stands.file (seen new.disk) ok (went.0 ∙ (λ i. put (seen old.disk) (stands.end i) (record_of (stands.digest i) body ++ 0 ∷ 0 ∷ 0 ∷ 0 ∷ []))));
+    end = subst (λ k. new.end ≡ length (text k (bodies ++ body ∷ []))) (sym room.2)
+        (omega (arith, end_is, stands.end, ap length (text_more format bodies body), length-append (text format bodies) (record_of (last (start format) bodies) body), length-record_of (last (start format) bodies) body));
+    digest = subst (λ k. new.digest ≡ last (start k) (bodies ++ body ∷ [])) (sym room.2) (digest_is ∙ ap (λ (d : List ℕ). digest d body) stands.digest ∙ sym (last_more (start format) bodies body));
     durable = went.1;
     alive = lost_is ∙ stands.alive;
   }
 
-  pub answer_refused : Room → Went_by Refused → new.end ≡ old.end → new.digest ≡ old.digest → new.lost ≡ old.lost → Stands seen may_leave bodies new × (take (40 + length body) (drop (length (text bodies)) (seen new.disk)) ≡ replicate (40 + length body) 0)
+  pub answer_refused : Room → Went_by Refused → new.end ≡ old.end → new.digest ≡ old.digest → new.lost ≡ old.lost → Stands seen may_leave bodies new × (take (40 + length body) (drop (length (text new.format bodies)) (seen new.disk)) ≡ replicate (40 + length body) 0)
   answer_refused room went end_is digest_is lost_is =
-      let torn : Torn (length (text bodies)) (4 + (36 + length body)) (seen old.disk) went.0 = subst (λ n. Torn (length (text bodies)) n (seen old.disk) went.0) length-range (subst (λ e. Torn e (length (record_of old.digest body ++ 0 ∷ 0 ∷ 0 ∷ 0 ∷ [])) (seen old.disk) went.0) stands.end went.1) in
-      let is : seen new.disk ≡ put went.0 (length (text bodies)) (replicate (4 + (36 + length body)) 0) = went.2 ∙ (λ i. put went.0 (stands.end i) (replicate (length-range i) 0)) in
-      let it = refused bodies body (seen old.disk) stands.file (36 + length body) went.0 (seen new.disk) torn is in
+      let torn : Torn (length (text format bodies)) (4 + (36 + length body)) (seen old.disk) went.0 = subst (λ n. Torn (length (text format bodies)) n (seen old.disk) went.0) length-range (subst (λ e. Torn e (length (record_of old.digest body ++ 0 ∷ 0 ∷ 0 ∷ 0 ∷ [])) (seen old.disk) went.0) stands.end went.1) in
+      let is : seen new.disk ≡ put went.0 (length (text format bodies)) (replicate (4 + (36 + length body)) 0) = went.2 ∙ (λ i. put went.0 (stands.end i) (replicate (length-range i) 0)) in
+      let it = refused format bodies body (seen old.disk) stands.file (36 + length body) went.0 (seen new.disk) torn is in
       let n : 40 + length body ≡ 4 + (36 + length body) = omega arith in (
-        record { file = it.0; fits = fits_after room.0 room.1 (torn_refused went); end = end_is ∙ stands.end; digest = digest_is ∙ stands.digest; durable = went.3; alive = lost_is ∙ stands.alive },
-        subst (λ k. take k (drop (length (text bodies)) (seen new.disk)) ≡ replicate k 0) (sym n) it.1,
+        record {
+          file = subst (λ k. Rests k bodies (seen new.disk)) (sym room.2) it.0;
+          fits = fits_after room.0 room.1 (torn_refused went);
+          end = subst (λ k. new.end ≡ length (text k bodies)) (sym room.2) (end_is ∙ stands.end);
+          digest = subst (λ k. new.digest ≡ last (start k) bodies) (sym room.2) (digest_is ∙ stands.digest);
+          durable = went.3;
+          alive = lost_is ∙ stands.alive;
+        },
+        subst (λ k. take (40 + length body) (drop (length (text k bodies)) (seen new.disk)) ≡ replicate (40 + length body) 0) (sym room.2)
+            (subst (λ k. take k (drop (length (text format bodies)) (seen new.disk)) ≡ replicate k 0) (sym n) it.1),
       )
 
   pub answer_lost : Room → IsBody body → Went_by Lost → new.lost ≡ true → ((c : List ℕ) → may_leave new.disk c → (d : List ℕ) × may_leave old.disk d × Torn old.end (length (record_of old.digest body ++ 0 ∷ 0 ∷ 0 ∷ 0 ∷ [])) d c) → MayStand tears seen may_leave bodies body new
   answer_lost room ok went lost_is follows = record {
-    seen_is = good (seen new.disk) went.0;
-    seen_on = λ lucky. (good (seen new.disk) went.0).reads (lucky bodies body (seen old.disk) went.1 (seen new.disk) stands.file ok first second);
-    left_is = λ c left. let x = follows c left in good c (subst (λ f. Torn old.end range f c) (stands.durable x.0 x.1) x.2);
+    seen_is = its (seen new.disk) (good (seen new.disk) went.0);
+    seen_on = λ lucky. subst (λ k. IsBeforeOrAfter k bodies body (seen new.disk)) (sym room.2) ((good (seen new.disk) went.0).reads (lucky format bodies body (seen old.disk) went.1 (seen new.disk) stands.file ok first second));
+    left_is = λ c left. let x = follows c left in its c (good c (subst (λ f. Torn old.end range f c) (stands.durable x.0 x.1) x.2));
     lost = lost_is;
   }
     where
-      first : Fell tears (seen old.disk) (length (text bodies)) (closed_record bodies body) went.1
+      first : Fell tears (seen old.disk) (length (text format bodies)) (closed_record format bodies body) went.1
       first =
-          subst (λ d. Fell tears (seen old.disk) (length (text bodies)) (record_of d body ++ 0 ∷ 0 ∷ 0 ∷ 0 ∷ []) went.1) stands.digest
+          subst (λ d. Fell tears (seen old.disk) (length (text format bodies)) (record_of d body ++ 0 ∷ 0 ∷ 0 ∷ 0 ∷ []) went.1) stands.digest
           (subst (λ e. Fell tears (seen old.disk) e (record_of old.digest body ++ 0 ∷ 0 ∷ 0 ∷ 0 ∷ []) went.1) stands.end went.2)
 
       forty : length (record_of old.digest body ++ 0 ∷ 0 ∷ 0 ∷ 0 ∷ []) ≡ 40 + length body
       forty = omega (arith, length-range)
 
-      second : Fell tears went.1 (length (text bodies)) (replicate (40 + length body) 0) (seen new.disk)
+      second : Fell tears went.1 (length (text format bodies)) (replicate (40 + length body) 0) (seen new.disk)
       second =
           subst (λ e. Fell tears went.1 e (replicate (40 + length body) 0) (seen new.disk)) stands.end
           (subst (λ n. Fell tears went.1 old.end (replicate n 0) (seen new.disk)) forty went.3)
@@ -156,10 +169,13 @@ module _ {D : Type 0} (tears : List ℕ → ℕ → List ℕ → List ℕ → Ty
       range : ℕ
       range = length (record_of old.digest body ++ 0 ∷ 0 ∷ 0 ∷ 0 ∷ [])
 
-      good : (c : List ℕ) → Torn old.end range (seen old.disk) c → Leaves new.log_bytes bodies body c
+      good : (c : List ℕ) → Torn old.end range (seen old.disk) c → Leaves new.log_bytes format bodies body c
       good c torn =
-          torn_leaves bodies body (seen old.disk) stands.file new.log_bytes range c ok (omega (arith, stands.fits, room.1)) (omega (arith, room.0, room.1, forty, stands.end))
+          torn_leaves format bodies body (seen old.disk) stands.file new.log_bytes range c ok (omega (arith, stands.fits, room.1)) (omega (arith, room.0, room.1, forty, stands.end))
           (subst (λ e. Torn e range (seen old.disk) c) stands.end torn)
+
+      its : (c : List ℕ) → Leaves new.log_bytes format bodies body c → Leaves new.log_bytes new.format bodies body c
+      its c it = subst (λ k. Leaves new.log_bytes k bodies body c) (sym room.2) it
 
   abbrev Went_as : Appended → Type 0
   Went_as outcome = Went tears outcome old.end (record_of old.digest body ++ 0 ∷ 0 ∷ 0 ∷ 0 ∷ []) (seen old.disk) (seen new.disk) (may_leave new.disk)
@@ -178,19 +194,19 @@ module _ {D : Type 0} (seen : D → List ℕ) (may_leave : D → List ℕ → Ty
     (moment : D → ℕ) (left_since : D → ℕ → List ℕ → Type 0) (only_now : (c : List ℕ) → left_since old.disk (moment old.disk) c → may_leave old.disk c) where
   pub answer_moments : (new : D) (n : ℕ) → IsBody body → old.end + n ≤ old.log_bytes
       → Passes (Torn old.end n) (moment old.disk) (moment new) (left_since old.disk) (left_since new) (may_leave old.disk) (may_leave new)
-      → LeavesOnly moment left_since old.disk new (Leaves old.log_bytes bodies body)
+      → LeavesOnly moment left_since old.disk new (Leaves old.log_bytes old.format bodies body)
   answer_moments new n ok room time =
-      moments bodies body (seen old.disk) stands.file moment left_since may_leave old.disk new old.log_bytes n ok stands.fits (omega (arith, room, stands.end)) only_now stands.durable
+      moments old.format bodies body (seen old.disk) stands.file moment left_since may_leave old.disk new old.log_bytes n ok stands.fits (omega (arith, room, stands.end)) only_now stands.durable
       (subst (λ e. Passes (Torn e n) (moment old.disk) (moment new) (left_since old.disk) (left_since new) (may_leave old.disk) (may_leave new)) stands.end time)
 
   -- the same, where the range is a record with its closing length
   pub record_moments : (new : D) (range : List ℕ) → length range ≡ 4 + (36 + length body) → IsBody body → old.end + (40 + length body) ≤ old.log_bytes
       → Passes (Torn old.end (length range)) (moment old.disk) (moment new) (left_since old.disk) (left_since new) (may_leave old.disk) (may_leave new)
-      → LeavesOnly moment left_since old.disk new (Leaves old.log_bytes bodies body)
+      → LeavesOnly moment left_since old.disk new (Leaves old.log_bytes old.format bodies body)
   record_moments new range long ok room time = answer_moments new (length range) ok (omega (arith, long, room)) time
 
   -- nothing was asked of the disk
-  pub no_moments : IsBody body → old.end ≤ old.log_bytes → LeavesOnly moment left_since old.disk old.disk (Leaves old.log_bytes bodies body)
+  pub no_moments : IsBody body → old.end ≤ old.log_bytes → LeavesOnly moment left_since old.disk old.disk (Leaves old.log_bytes old.format bodies body)
   no_moments ok room =
       answer_moments old.disk 0 ok (omega (arith, room))
       (record { later = omega arith; follows = λ c now. (c, now, torn_same old.end 0 c); nothing_else = λ t c le left. inl left; keeps = λ t c le left. left })

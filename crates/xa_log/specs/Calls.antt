@@ -1,5 +1,5 @@
 -- Which device calls a log makes. The counts of a disk say how many of each kind; they stay at the top of a u64.
-use Rattle.std.specs.Prelude.{◌≡◌, ◌⊎◌, ℕ, zero, suc, ◌+◌, ◌*◌, ◌≤◌, ◌<◌, Option, None, Some, Result, MatchResult}
+use Rattle.std.specs.Prelude.{◌≡◌, ◌⊎◌, ℕ, zero, suc, ◌+◌, ◌*◌, ◌≤◌, ◌<◌, Bool, true, false, Option, None, Some, Result, MatchResult}
 use Rattle.xa_disk.specs.Counts.{plus, with_length, with_write, with_sync}
 use Rattle.xa_disk.specs.declared.counts.Counts.{Counts}
 use Rattle.xa_log.specs.declared.reading.Found.{Found}
@@ -56,6 +56,18 @@ LooksAt TooLong most old new = new ≡ asked old
 abbrev pub Looks : {T : Type 0} → Result T OpenFault → ℕ → Counts → Counts → Type 0
 Looks result most old new = MatchResult result (λ _. OnlyReads most (asked old) new) (λ e. LooksAt e most old new)
 
+-- the same of the second of two files: where a call to the first one failed it may have been asked nothing
+abbrev pub LooksSecondAt : OpenFault → ℕ → Counts → Counts → Type 0
+LooksSecondAt e most old new = ((e ≡ Device) × (new ≡ old)) ⊎ LooksAt e most old new
+
+abbrev pub LooksSecond : {T : Type 0} → Result T OpenFault → ℕ → Counts → Counts → Type 0
+LooksSecond result most old new = MatchResult result (λ _. OnlyReads most (asked old) new) (λ e. LooksSecondAt e most old new)
+
+-- of the file that isn't the current one at most 1 MiB is read, where the current one is the first or isn't
+abbrev pub ReadsLittle : Bool → Counts → Counts → Counts → Counts → Type 0
+ReadsLittle true first first_new second second_new = OnlyReads 1048576 (asked second) second_new
+ReadsLittle false first first_new second second_new = OnlyReads 1048576 (asked first) first_new
+
 -- a write and a sync, of which the first that failed is the last
 abbrev pub PutCalls : {T E : Type 0} → Result T E → Counts → Counts → Type 0
 PutCalls result old new = MatchResult result (λ _. new ≡ with_sync (with_write old)) (λ _. (new ≡ with_write old) ⊎ (new ≡ with_sync (with_write old)))
@@ -68,6 +80,34 @@ AppendCalls Refused old new = (new ≡ with_sync (with_write (with_write old))) 
 AppendCalls Lost old new = (new ≡ with_write (with_write old)) ⊎ (new ≡ with_sync (with_write (with_write old))) ⊎ (new ≡ with_sync (with_sync (with_write (with_write old))))
 AppendCalls Full old new = new ≡ old
 
+-- so many writes more
+abbrev pub with_writes : ℕ → Counts → Counts
+with_writes zero c = c
+with_writes (suc more) c = with_write (with_writes more c)
+
+-- a write of each of so many records and a sync, of which the first that failed is the last
+abbrev pub RecordsCalls : {T E : Type 0} → Result T E → ℕ → Counts → Counts → Type 0
+RecordsCalls result n old new = MatchResult result (λ _. new ≡ with_sync (with_writes n old))
+    (λ _. ((k : ℕ) × (1 ≤ k) × (k ≤ n) × (new ≡ with_writes k old)) ⊎ (new ≡ with_sync (with_writes n old)))
+
+-- the calls of a checkpoint of so many records before its seal: the header's write and sync, the records' writes and sync
+abbrev pub readied : ℕ → Counts → Counts
+readied n c = with_sync (with_writes n (with_sync (with_write c)))
+
+-- those up to one of them that failed
+abbrev pub StopsBefore : ℕ → Counts → Counts → Type 0
+StopsBefore n old new =
+    (new ≡ with_write old) ⊎ (new ≡ with_sync (with_write old))
+    ⊎ ((k : ℕ) × (1 ≤ k) × (k ≤ n) × (new ≡ with_writes k (with_sync (with_write old)))) ⊎ (new ≡ readied n old)
+
+-- The calls of a checkpoint of so many records on the disk that it writes: nothing is repaired before the seal, and the
+-- seal is as an append.
+abbrev pub CheckpointCalls : Appended → ℕ → Counts → Counts → Type 0
+CheckpointCalls Kept n old new = AppendCalls Kept (readied n old) new
+CheckpointCalls Refused n old new = StopsBefore n old new ⊎ AppendCalls Refused (readied n old) new
+CheckpointCalls Lost n old new = AppendCalls Lost (readied n old) new
+CheckpointCalls Full n old new = new ≡ old
+
 abbrev pub MakesAt : OpenFault → Counts → Counts → Type 0
 MakesAt Device old new = (new ≡ with_length old) ⊎ (new ≡ with_write (with_length old)) ⊎ (new ≡ with_sync (with_write (with_length old)))
 MakesAt Memory old new = new ≡ old
@@ -75,6 +115,17 @@ MakesAt NotALog old new = new ≡ with_length old
 MakesAt TooNew old new = ⊥
 MakesAt TooLong old new = new ≡ old
 
--- the calls that make a log: a length, a write and a sync
+-- the calls that make a log on the first of two disks: a length, a write and a sync
 abbrev pub Makes : {T : Type 0} → Result T OpenFault → Counts → Counts → Type 0
 Makes result old new = MatchResult result (λ _. new ≡ with_sync (with_write (with_length old))) (λ e. MakesAt e old new)
+
+abbrev pub MakesSecondAt : OpenFault → Counts → Counts → Type 0
+MakesSecondAt Device old new = (new ≡ old) ⊎ (new ≡ with_length old) ⊎ (new ≡ with_sync (with_length old))
+MakesSecondAt Memory old new = new ≡ old
+MakesSecondAt NotALog old new = new ≡ with_length old
+MakesSecondAt TooNew old new = ⊥
+MakesSecondAt TooLong old new = new ≡ old
+
+-- and on the second one: a length and a sync
+abbrev pub MakesSecond : {T : Type 0} → Result T OpenFault → Counts → Counts → Type 0
+MakesSecond result old new = MatchResult result (λ _. new ≡ with_sync (with_length old)) (λ e. MakesSecondAt e old new)

@@ -6,3 +6,9 @@ pub mod Window
 pub mod Reading
 pub mod Opened
 pub mod Planned
+pub mod Pair
+pub mod Checkpoint
+pub mod Laws
+pub mod TwoFiles
+pub mod Looking
+pub mod Worked

@@ -3,39 +3,40 @@ use Rattle.std.specs.Prelude.{◌≡◌, ◌≤◌, ℕ, ◌+◌, true, false, L
 use Rattle.xa_disk.specs.Disk.{Only}
 use Rattle.xa_log.specs.Chain.{start, last, text, Rests, IsPlain, IsBeforeOrAfter, NoChance}
 use Rattle.xa_log.specs.Reading.{fault_of}
+use Rattle.xa_log.specs.declared.format.Format.{Format}
 use Rattle.xa_log.specs.declared.appending.Appended.{Appended}
 use Rattle.xa_log.specs.declared.appending.Appended.TheVariants.{Kept, Refused, Lost, Full}
 use Rattle.xa_log.specs.declared.log.Log.{Log}
 
 -- a log of these bodies, which a read gives and each crash leaves
 pub record Stands {D : Type 0} (seen : D → List ℕ) (may_leave : D → List ℕ → Type 0) (bodies : List (List ℕ)) (log : Log D) : Type 0 where
-  pub file : Rests bodies (seen log.disk)
+  pub file : Rests log.format bodies (seen log.disk)
   pub fits : length (seen log.disk) ≤ log.log_bytes
-  pub end : log.end ≡ length (text bodies)
-  pub digest : log.digest ≡ last start bodies
+  pub end : log.end ≡ length (text log.format bodies)
+  pub digest : log.digest ≡ last (start log.format) bodies
   pub durable : Only (seen log.disk) (may_leave log.disk)
   pub alive : log.lost ≡ false
 
 -- What a crash leaves of a log of at most so many bytes while this body is appended to these: a log that `open`
 -- accepts, and that begins with the bodies; without chance it is the bodies, or the bodies and this one.
-pub record Leaves (most : ℕ) (bodies : List (List ℕ)) (body file : List ℕ) : Type 0 where
+pub record Leaves (most : ℕ) (format : Format) (bodies : List (List ℕ)) (body file : List ℕ) : Type 0 where
   pub fits : length file ≤ most
-  pub front : take (length (text bodies)) file ≡ text bodies
+  pub front : take (length (text format bodies)) file ≡ text format bodies
   pub opens : fault_of most file ≡ None
-  pub reads : IsPlain bodies body file → IsBeforeOrAfter bodies body file
+  pub reads : IsPlain format bodies body file → IsBeforeOrAfter format bodies body file
 
 -- what a crash leaves of a log that nothing is appended to
-pub record LeavesLog (most : ℕ) (bodies : List (List ℕ)) (file : List ℕ) : Type 0 where
+pub record LeavesLog (most : ℕ) (format : Format) (bodies : List (List ℕ)) (file : List ℕ) : Type 0 where
   pub fits : length file ≤ most
   pub opens : fault_of most file ≡ None
-  pub rests : Rests bodies file
+  pub rests : Rests format bodies file
 
 -- The append of a body to these was lost: without chance, a read and a crash give the bodies, with it or without.
 pub record MayStand {D : Type 0} (tears : List ℕ → ℕ → List ℕ → List ℕ → Type 0) (seen : D → List ℕ) (may_leave : D → List ℕ → Type 0) (bodies : List (List ℕ)) (body : List ℕ) (log : Log D) : Type 0 where
-  pub seen_is : Leaves log.log_bytes bodies body (seen log.disk)
+  pub seen_is : Leaves log.log_bytes log.format bodies body (seen log.disk)
   -- the same, where the disk's failed writes leave nothing by chance to a read
-  pub seen_on : NoChance tears → IsBeforeOrAfter bodies body (seen log.disk)
-  pub left_is : (c : List ℕ) → may_leave log.disk c → Leaves log.log_bytes bodies body c
+  pub seen_on : NoChance tears → IsBeforeOrAfter log.format bodies body (seen log.disk)
+  pub left_is : (c : List ℕ) → may_leave log.disk c → Leaves log.log_bytes log.format bodies body c
   pub lost : log.lost ≡ true
 
 -- what each answer says
@@ -43,20 +44,22 @@ abbrev pub Answers : {D : Type 0} → (List ℕ → ℕ → List ℕ → List �
 Answers tears seen may_leave Kept bodies body log = Stands seen may_leave (bodies ++ body ∷ []) log
 -- a read gives zeros over the whole range that the record and its closing length took
 Answers tears seen may_leave Refused bodies body log =
-    Stands seen may_leave bodies log × (take (40 + length body) (drop (length (text bodies)) (seen log.disk)) ≡ replicate (40 + length body) 0)
+    Stands seen may_leave bodies log × (take (40 + length body) (drop (length (text log.format bodies)) (seen log.disk)) ≡ replicate (40 + length body) 0)
 Answers tears seen may_leave Lost bodies body log = MayStand tears seen may_leave bodies body log
 Answers tears seen may_leave Full bodies body log = Stands seen may_leave bodies log
 
 -- a log's own fields stay
 pub record Untouched {D : Type 0} (old new : Log D) : Type 0 where
+  pub on_first : new.on_first ≡ old.on_first
   pub log_bytes : new.log_bytes ≡ old.log_bytes
+  pub format : new.format ≡ old.format
   pub end : new.end ≡ old.end
   pub digest : new.digest ≡ old.digest
   pub lost : new.lost ≡ old.lost
 
 -- where a log's next record begins after an append of so many bytes
 abbrev pub Moves : {D : Type 0} → Appended → ℕ → Log D → Log D → Type 0
-Moves Kept n old new = (new.end ≡ old.end + (36 + n)) × (new.lost ≡ old.lost)
-Moves Refused n old new = (new.end ≡ old.end) × (new.digest ≡ old.digest) × (new.lost ≡ old.lost)
-Moves Lost n old new = (new.end ≡ old.end) × (new.digest ≡ old.digest) × (new.lost ≡ true)
+Moves Kept n old new = (new.end ≡ old.end + (36 + n)) × (new.format ≡ old.format) × (new.lost ≡ old.lost)
+Moves Refused n old new = (new.end ≡ old.end) × (new.format ≡ old.format) × (new.digest ≡ old.digest) × (new.lost ≡ old.lost)
+Moves Lost n old new = (new.end ≡ old.end) × (new.format ≡ old.format) × (new.digest ≡ old.digest) × (new.lost ≡ true)
 Moves Full n old new = new ≡ old

@@ -8,14 +8,14 @@ ghost use Rattle.xa_log.specs.Calls.{PutCalls, AppendCalls};
 use crate::record::encode;
 use xa_disk::{Disk, DiskFault};
 
-/// What became of a record.
+/// What became of a record, or of a checkpoint.
 #[derive(Clone, Copy, Debug, PartialEq, Eq)]
 pub enum Appended {
     /// It stands, and outlasts a crash.
     Kept,
-    /// A device call failed, and the record's place was cleared: the log is as before.
+    /// A device call failed, and what was begun is cleared or doesn't count: the log is as before.
     Refused,
-    /// A device call failed, and the repair too: the record stands or doesn't, as a rescan will show.
+    /// A device call failed, and the repair too: it stands or doesn't, as a rescan will show.
     Lost,
     /// It doesn't fit. Nothing changed.
     Full,
@@ -36,7 +36,7 @@ pub(crate) fn put_synced<D: Disk>(disk: &mut D, at: u64, bytes: &[u8]) -> Result
 }
 
 // Writes the bytes and syncs. If that fails, writes zeros over the whole range and syncs.
-fn put_or_clear<D: Disk>(disk: &mut D, at: u64, bytes: &mut [u8]) -> Appended
+pub(crate) fn put_or_clear<D: Disk>(disk: &mut D, at: u64, bytes: &mut [u8]) -> Appended
     ensures went { D.honest → Went D.tears result at bytes.old (D.seen disk.old) (D.seen disk.new) (D.may_leave disk.new) }
     ensures time { D.honest → Passes (Torn at (length bytes.old)) (D.moment disk.old) (D.moment disk.new) (D.left_since disk.old) (D.left_since disk.new) (D.may_leave disk.old) (D.may_leave disk.new) }
     ensures cause { HasCause result (D.failures disk.old) (D.failures disk.new) }

@@ -1,21 +1,22 @@
 //! Reading a log's records from a disk, through a window.
-ghost use Rattle.std.specs.Prelude.{◌≡◌, ◌⊎◌, ◌+◌, ◌-◌, ◌≤◌, ◌<◌, ◌^◌, ◌++◌, ◌∷◌, [], ℕ, length, take, slice_index, OnOk, IfOk, IfErr, IfSome, None, Some, MatchResult};
+ghost use Rattle.std.specs.Prelude.{◌≡◌, ◌⊎◌, ◌+◌, ◌-◌, ◌≤◌, ◌<◌, ◌^◌, ◌++◌, ◌∷◌, [], ℕ, min, length, take, slice_index, OnOk, IfOk, IfErr, IfSome, None, Some, MatchResult};
 ghost use Rattle.xa_disk.specs.Disk.{Same, Only, Passes, CountsFault};
 ghost use Rattle.xa_disk.specs.declared.counts.Counts.{Counts};
 ghost use Rattle.xa_log.specs.Calls.{Fetched, FetchedSome, FetchedNext, Looks, asked};
 ghost use Rattle.xa_disk.specs.Counts.{with_sync};
 ghost use Rattle.xa_log.specs.Chain.{magic, logged};
 ghost use Rattle.xa_log.specs.Answers.{CountsDevice};
-ghost use Rattle.xa_log.specs.Reading.{Finds, Fits, IsScan, bodies_of, front_fault, fault_of, Explains};
+ghost use Rattle.xa_log.specs.Reading.{Finds, Fits, IsScan, bodies_of, fault_of, Explains};
 ghost use Rattle.xa_log.specs.Window.{Caches, Covers};
 
 use crate::OpenFault;
-use crate::record::{chained, first_digest, size_of};
+use crate::format::Format;
+use crate::record::{chained, size_of};
 use crate::window::{Span, fill};
 use std::alloc::{AllocError, Global};
 use xa_disk::{Disk, DiskFault};
 
-const MAX_BODY: usize = 524288;
+pub(crate) const MAX_BODY: usize = 524288;
 
 /// A record that chains: its body's length, its digest, and what the window has by then, all of it included.
 #[derive(Clone, Copy)]
@@ -28,6 +29,7 @@ pub struct Found {
 /// What reading a log gave.
 #[derive(Drop)]
 pub struct Scan {
+    pub format: Format,
     pub bodies: Vec<Vec<u8>>,
     pub end: u64,
     pub digest: [u8; 32],
@@ -81,20 +83,23 @@ fn push_body(bodies: &mut Vec<Vec<u8>>, alloc: Global, body: &[u8]) -> Result<()
 }
 
 // The records from byte 8 on, where a window has the file's first bytes.
-fn read_records<D: Disk>(
+pub(crate) fn read_records<D: Disk>(
     alloc: Global,
     disk: &mut D,
     window: &mut [u8],
     first: Span,
     len: u64,
+    format: Format,
 ) -> Result<Scan, OpenFault>
     requires room { length window.old ≡ 1048576 }
     requires within { 8 ≤ len }
     requires held { first.have ≤ length window.old }
-    requires covers { Covers first 0 8 }
+    requires begins { first.from ≤ 8 }
+    requires reaches { 8 ≤ first.from + first.have }
     requires inside { first.from + first.have ≤ len }
-    ensures value { D.honest → Caches (D.seen disk.old) window.old first → len ≡ length (D.seen disk.old) → take 8 (D.seen disk.old) ≡ magic → IfOk result (IsScan (D.seen disk.old)) }
-    ensures logged { D.honest → Caches (D.seen disk.old) window.old first → len ≡ length (D.seen disk.old) → take 8 (D.seen disk.old) ≡ magic → IfOk result (λ s. logged (D.seen disk.old) ≡ bodies_of s.bodies.items) }
+    ensures value { D.honest → Caches (D.seen disk.old) window.old first → len ≡ length (D.seen disk.old) → take 8 (D.seen disk.old) ≡ magic format → IfOk result (IsScan (D.seen disk.old)) }
+    ensures logged { D.honest → Caches (D.seen disk.old) window.old first → len ≡ length (D.seen disk.old) → take 8 (D.seen disk.old) ≡ magic format → IfOk result (λ s. logged (D.seen disk.old) ≡ bodies_of s.bodies.items) }
+    ensures format { IfOk result (λ s. s.format ≡ format) }
     ensures fits { IfOk result (λ s. s.end ≤ len) }
     ensures same { D.honest → D.seen disk.new ≡ D.seen disk.old }
     ensures time { D.honest → Passes Same (D.moment disk.old) (D.moment disk.new) (D.left_since disk.old) (D.left_since disk.new) (D.may_leave disk.old) (D.may_leave disk.new) }
@@ -104,12 +109,13 @@ fn read_records<D: Disk>(
 {
     let mut bodies = Vec::new(alloc);
     let mut end: u64 = 8;
-    let mut digest = first_digest();
+    let mut digest = format.first_digest();
     let mut span = first;
     'records: loop {
         match next_record(disk, window, span, end, len, &digest)? {
             None => {
                 return Ok(Scan {
+                    format,
                     bodies,
                     end,
                     digest,
@@ -127,13 +133,18 @@ fn read_records<D: Disk>(
 }
 
 // Has an empty window hold the file's first bytes.
-fn read_front<D: Disk>(disk: &mut D, window: &mut [u8], len: u64) -> Result<Span, DiskFault>
+pub(crate) fn read_front<D: Disk>(
+    disk: &mut D,
+    window: &mut [u8],
+    len: u64,
+) -> Result<Span, DiskFault>
     requires room { length window.old ≡ 1048576 }
     requires within { 8 ≤ len }
     ensures front { D.honest → OnOk result (take 8 window.new ≡ take 8 (D.seen disk.old)) }
     ensures caches { D.honest → IfOk result (Caches (D.seen disk.old) window.new) }
     ensures held { IfOk result (λ s. s.have ≤ length window.old) }
     ensures covers { IfOk result (λ s. Covers s 0 8) }
+    ensures whole { IfOk result (λ s. (s.from ≡ 0) × (s.have ≡ min len 1048576)) }
     ensures inside { IfOk result (λ s. s.from + s.have ≤ len) }
     ensures same { D.honest → D.seen disk.new ≡ D.seen disk.old }
     ensures time { D.honest → Passes Same (D.moment disk.old) (D.moment disk.new) (D.left_since disk.old) (D.left_since disk.new) (D.may_leave disk.old) (D.may_leave disk.new) }
@@ -143,22 +154,8 @@ fn read_front<D: Disk>(disk: &mut D, window: &mut [u8], len: u64) -> Result<Span
     fill(disk, window, Span { from: 0, have: 0 }, 0, 8, len)
 }
 
-// Tests the first eight bytes.
-fn test_front(front: &[u8]) -> Result<(), OpenFault>
-    requires { length front.now ≡ 8 }
-    ensures { MatchResult result (λ _. front_fault front.now ≡ None) (λ e. front_fault front.now ≡ Some e) }
-{
-    if front == b"XARMLOG1".as_slice() {
-        return Ok(());
-    }
-    if &front[..7] == b"XARMLOG".as_slice() && front[7] >= b'2' && front[7] <= b'9' {
-        return Err(OpenFault::TooNew);
-    }
-    Err(OpenFault::NotALog)
-}
-
 // Syncs, and asks the length.
-fn synced_length<D: Disk>(disk: &mut D) -> Result<u64, DiskFault>
+pub(crate) fn synced_length<D: Disk>(disk: &mut D) -> Result<u64, DiskFault>
     ensures value { D.honest → IfOk result (λ len. len ≡ length (D.seen disk.old)) }
     ensures durable { D.honest → OnOk result (Only (D.seen disk.new) (D.may_leave disk.new)) }
     ensures same { D.honest → D.seen disk.new ≡ D.seen disk.old }
@@ -196,6 +193,6 @@ pub(crate) fn read_whole<D: Disk>(
         return Err(OpenFault::NotALog);
     }
     let span = read_front(disk, window, len)?;
-    test_front(&window[..8])?;
-    read_records(alloc, disk, window, span, len)
+    let format = Format::of(&window[..8])?;
+    read_records(alloc, disk, window, span, len, format)
 }

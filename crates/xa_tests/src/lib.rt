@@ -7,9 +7,15 @@ mod calls;
 #[cfg(test)]
 mod chains;
 #[cfg(test)]
+mod checkpoint_files;
+#[cfg(test)]
+mod checkpoints;
+#[cfg(test)]
 mod codes;
 #[cfg(test)]
 mod connections;
+#[cfg(test)]
+mod current_files;
 #[cfg(test)]
 mod disks;
 #[cfg(test)]
@@ -20,6 +26,10 @@ mod frame_limits;
 mod frames;
 #[cfg(test)]
 mod lines;
+#[cfg(test)]
+mod log_images;
+#[cfg(test)]
+mod log_pairs;
 #[cfg(test)]
 mod logs;
 #[cfg(test)]

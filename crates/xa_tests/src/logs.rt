@@ -1,21 +1,10 @@
-ghost use Rattle.xa_log.specs.Chain.{IsBody};
-
 use crate::folders::path_of;
+use crate::log_pairs::{MOST, OLD, OPENED, appends, crashed, disk_of, file_of, keeps_all, log_of};
 use crate::rows::none_wrong;
 use std::alloc::Global;
 use std::fs;
 use xa_disk::{Disk, Effect, FileDisk, MemDisk};
 use xa_log::{Appended, Log, OpenFault, open_on, read_log};
-
-const MOST: u64 = 1 << 30;
-
-// The first boot's record.
-const OPENED: [u8; 5] = [1, 0, 0, 0, 1];
-
-// Branch 1:aa:bb of timestamp 4294967297 prepared, with the value 76 under the key 6b.
-const PREPARED: [u8; 25] = [
-    2, 0, 0, 0, 1, 1, 1, 0xaa, 0xbb, 0, 0, 0, 1, 0, 0, 0, 1, 0, 1, 1, 0x6b, 1, 0, 1, 0x76,
-];
 
 // SHA-256 of SHA-256 of "XARMLOG1", the length 00000005 and OPENED, by sha256sum:
 // (printf XARMLOG1 | sha256sum | cut -c-64 | xxd -r -p; echo 000000050100000001 | xxd -r -p) | sha256sum
@@ -24,39 +13,15 @@ const DIGEST: [u8; 32] = [
     0x00, 0xf2, 0x67, 0x2b, 0x94, 0x6d, 0x2c, 0x74, 0x13, 0x21, 0x17, 0xed, 0xec, 0x1f, 0x91, 0xf2,
 ];
 
-fn keeps<D: Disk>(log: &mut Log<D>, body: &[u8]) -> bool
-    requires { IsBody body.now }
-{
-    log.append(body) == Appended::Kept
-}
-
-// Both are appended and kept.
-fn keeps_both<D: Disk>(log: &mut Log<D>) -> bool {
-    keeps(log, &OPENED) && keeps(log, &PREPARED)
-}
-
-fn log_of_both(alloc: Global) -> Option<Log<MemDisk>> {
-    let mut log = Log::create(alloc, MemDisk::new(alloc), MOST).ok()?;
-    if keeps_both(&mut log) {
-        Some(log)
-    } else {
-        None
-    }
-}
-
 // The 114 bytes of a log of both.
-fn two_records(alloc: Global) -> Option<[u8; 114]> {
-    let mut disk = log_of_both(alloc)?.into_disk();
-    disk.crash().ok()?;
-    let mut bytes = [0; 114];
-    disk.read_at(0, &mut bytes).ok()?;
-    Some(bytes)
+fn two_records(alloc: Global) -> Option<Vec<u8>> {
+    file_of(alloc, &OLD)
 }
 
-// How many bodies a disk of these bytes gives.
+// How many bodies a disk of these bytes gives, beside an empty one.
 fn bodies_in(alloc: Global, bytes: &[u8]) -> Result<usize, OpenFault> {
     let disk = MemDisk::with_bytes(Vec::from_slice(alloc, bytes)?);
-    let (_log, bodies) = Log::open(alloc, disk, MOST)?;
+    let (_log, bodies) = Log::open(alloc, disk, MemDisk::new(alloc), MOST)?;
     Ok(bodies.len())
 }
 
@@ -77,16 +42,17 @@ fn wrong_cut(alloc: Global, bytes: &[u8]) -> Option<usize> {
 #[test]
 fn a_log_ends_where_its_last_record_is_cut(rt: HostRuntime) {
     let bytes = two_records(rt.alloc()).expect(&rt, "two records");
+    assert_eq!(rt; bytes.len(), 114);
     assert_eq!(rt; &bytes[17..49], DIGEST.as_slice());
     none_wrong(&rt, wrong_cut(rt.alloc(), &bytes));
 }
 
 // The bytes of a log of both, to which a third record is appended.
 fn with_third(alloc: Global) -> Option<MemDisk> {
-    let disk = MemDisk::with_bytes(Vec::from_slice(alloc, &two_records(alloc)?).ok()?);
-    let (mut log, _bodies) = Log::open(alloc, disk, MOST).ok()?;
-    if keeps(&mut log, &OPENED) {
-        Some(log.into_disk())
+    let disk = disk_of(alloc, &two_records(alloc)?)?;
+    let (mut log, _bodies) = Log::open(alloc, disk, MemDisk::new(alloc), MOST).ok()?;
+    if keeps_all(&mut log, &[&OPENED]) {
+        Some(log.into_disks().0)
     } else {
         None
     }
@@ -116,10 +82,20 @@ fn fault_of(alloc: Global, bytes: &[u8]) -> Option<OpenFault> {
 
 // A log of both in 113 bytes: too long by the second call, with no read behind it.
 fn is_too_long(alloc: Global, bytes: &[u8]) -> Option<bool> {
-    let mut disk = MemDisk::with_bytes(Vec::from_slice(alloc, bytes).ok()?);
+    let mut disk = disk_of(alloc, bytes)?;
     disk.fail(3, Effect::Lost).ok()?;
-    let fault = open_on(alloc, &mut disk, 113).err();
+    let fault = read_log(alloc, &mut disk, 113).err();
     Some(fault == Some(OpenFault::TooLong) && disk.length().is_err())
+}
+
+// The same of the second of two, where the first has no read behind it either.
+fn is_second_too_long(alloc: Global, bytes: &[u8]) -> Option<bool> {
+    let mut first = disk_of(alloc, b"XARMLOG2")?;
+    let mut second = disk_of(alloc, bytes)?;
+    first.fail(3, Effect::Lost).ok()?;
+    second.fail(3, Effect::Lost).ok()?;
+    let fault = open_on(alloc, &mut first, &mut second, 113).err();
+    Some(fault == Some(OpenFault::TooLong) && first.length().is_err() && second.length().is_err())
 }
 
 #[test]
@@ -130,11 +106,12 @@ fn other_bytes_are_refused(rt: HostRuntime) {
     assert!(rt; fault_of(alloc, b"XARMLOG2") == Some(OpenFault::TooNew));
     let bytes = two_records(alloc).expect(&rt, "two records");
     assert!(rt; is_too_long(alloc, &bytes) == Some(true));
+    assert!(rt; is_second_too_long(alloc, &bytes) == Some(true));
 }
 
 // A log of no body, whose next device calls fail so.
 fn with_plans(alloc: Global, plans: &[(u64, Effect)]) -> Result<Log<MemDisk>, OpenFault> {
-    let mut log = Log::create(alloc, MemDisk::new(alloc), MOST)?;
+    let mut log = Log::create(alloc, MemDisk::new(alloc), MemDisk::new(alloc), MOST)?;
     for (k, effect) in plans {
         log.fail(*k, *effect)?;
     }
@@ -174,7 +151,8 @@ fn is_lost_until_read(alloc: Global) -> Option<bool> {
 fn one_append(alloc: Global, plans: &[(u64, Effect)]) -> Option<(Appended, bool)> {
     let mut log = with_plans(alloc, plans).ok()?;
     let came = append(&mut log);
-    Some((came, log.into_disk().length().is_err()))
+    let (mut disk, _empty) = log.into_disks();
+    Some((came, disk.length().is_err()))
 }
 
 fn is_lost(alloc: Global) -> bool {
@@ -194,13 +172,16 @@ fn device_faults_in_an_append(rt: HostRuntime) {
     assert!(rt; one_append(alloc, &[(3, Effect::Lost)]) == Some((Appended::Kept, true)));
 }
 
-// The file is the log's alone until it is dropped.
-fn keeps_both_in(rt: &HostRuntime, path: &str) -> Option<bool> {
-    let mut log = Log::create(rt.alloc(), FileDisk::at(rt, path).ok()?, MOST).ok()?;
-    Some(keeps_both(&mut log) && FileDisk::at(rt, path).is_err())
+// The files are the log's alone until it is dropped.
+fn keeps_both_in(rt: &HostRuntime, path: &str, other: &str) -> Option<bool> {
+    let first = FileDisk::at(rt, path).ok()?;
+    let second = FileDisk::at(rt, other).ok()?;
+    let mut log = Log::create(rt.alloc(), first, second, MOST).ok()?;
+    let kept = keeps_all(&mut log, &OLD);
+    Some(kept && FileDisk::at(rt, path).is_err() && FileDisk::at(rt, other).is_err())
 }
 
-fn contains(rt: &HostRuntime, path: &str, bytes: &[u8]) -> bool {
+pub fn contains(rt: &HostRuntime, path: &str, bytes: &[u8]) -> bool {
     match fs::read(rt, path) {
         Ok(read) => read.as_slice() == bytes,
         Err(_) => false,
@@ -215,15 +196,17 @@ fn are_bodies(bodies: &[Vec<u8>], count: usize) -> bool {
     }
 }
 
-fn is_opened(rt: &HostRuntime, path: &str, count: usize) -> Option<bool> {
-    let (_log, bodies) = Log::open(rt.alloc(), FileDisk::at(rt, path).ok()?, MOST).ok()?;
+fn is_opened(rt: &HostRuntime, path: &str, other: &str, count: usize) -> Option<bool> {
+    let first = FileDisk::at(rt, path).ok()?;
+    let second = FileDisk::at(rt, other).ok()?;
+    let (_log, bodies) = Log::open(rt.alloc(), first, second, MOST).ok()?;
     Some(are_bodies(&bodies, count))
 }
 
-fn wrong_file(rt: &HostRuntime, path: &str, bytes: &[u8]) -> Option<usize> {
+fn wrong_file(rt: &HostRuntime, path: &str, other: &str, bytes: &[u8]) -> Option<usize> {
     for cut in 49..111 {
         let written = fs::write(rt, path, bytes.get(..cut).unwrap_or_default());
-        if written.is_err() || is_opened(rt, path, bodies_left(cut)) != Some(true) {
+        if written.is_err() || is_opened(rt, path, other, bodies_left(cut)) != Some(true) {
             return Some(cut);
         }
     }
@@ -233,15 +216,18 @@ fn wrong_file(rt: &HostRuntime, path: &str, bytes: &[u8]) -> Option<usize> {
 #[test]
 fn a_log_in_a_file_is_cut(rt: HostRuntime) {
     let path = path_of(&rt, "xa_log").expect(&rt, "a path");
-    assert!(rt; keeps_both_in(&rt, path.as_str()) == Some(true));
+    let other = path_of(&rt, "xa_log-empty").expect(&rt, "a path");
+    assert!(rt; keeps_both_in(&rt, path.as_str(), other.as_str()) == Some(true));
     let bytes = two_records(rt.alloc()).expect(&rt, "two records");
     assert!(rt; contains(&rt, path.as_str(), &bytes));
-    none_wrong(&rt, wrong_file(&rt, path.as_str(), &bytes));
+    assert!(rt; contains(&rt, other.as_str(), &[]));
+    none_wrong(&rt, wrong_file(&rt, path.as_str(), other.as_str(), &bytes));
     assert!(rt; fs::remove_file(&rt, path.as_str()).is_ok());
+    assert!(rt; fs::remove_file(&rt, other.as_str()).is_ok());
 }
 
-// Each body is of this size, and filled with its number.
-fn are_numbered(bodies: &[Vec<u8>], size: usize) -> bool {
+/// Each body is of this size, and filled with its number.
+pub fn are_numbered(bodies: &[Vec<u8>], size: usize) -> bool {
     for (i, body) in bodies.iter().enumerate() {
         let number = Some((i % 256) as u8);
         if body.len() != size || body.first().copied() != number || body.last().copied() != number {
@@ -251,17 +237,19 @@ fn are_numbered(bodies: &[Vec<u8>], size: usize) -> bool {
     true
 }
 
-fn keeps_filled(alloc: Global, log: &mut Log<MemDisk>, number: u8, size: usize) -> bool {
-    match vec![in alloc; number; size] {
-        Ok(body) => !body.is_empty() && body.len() <= 524288 && keeps(log, &body),
-        Err(_) => false,
-    }
+/// A body of this size, filled with its number.
+pub fn filled(alloc: Global, place: usize, size: usize) -> Option<Vec<u8>> {
+    vec![in alloc; (place % 256) as u8; size].ok()
 }
 
-fn log_of(alloc: Global, records: usize, size: usize) -> Option<Log<MemDisk>> {
-    let mut log = Log::create(alloc, MemDisk::new(alloc), MOST).ok()?;
-    for i in 0..records {
-        if !keeps_filled(alloc, &mut log, (i % 256) as u8, size) {
+fn keeps_filled(alloc: Global, log: &mut Log<MemDisk>, place: usize, size: usize) -> Option<bool> {
+    Some(appends(log, &filled(alloc, place, size)?)? == Appended::Kept)
+}
+
+fn log_of_filled(alloc: Global, records: usize, size: usize) -> Option<Log<MemDisk>> {
+    let mut log = log_of(alloc, &[])?;
+    for place in 0..records {
+        if keeps_filled(alloc, &mut log, place, size) != Some(true) {
             return None;
         }
     }
@@ -270,8 +258,7 @@ fn log_of(alloc: Global, records: usize, size: usize) -> Option<Log<MemDisk>> {
 
 // Whether a log of so many bodies, each filled with its number, is read after a crash as it was written.
 fn is_read_again(alloc: Global, records: usize, size: usize) -> Option<bool> {
-    let mut disk = log_of(alloc, records, size)?.into_disk();
-    disk.crash().ok()?;
+    let (mut disk, _empty) = crashed(log_of_filled(alloc, records, size)?)?;
     let bodies = read_log(alloc, &mut disk, MOST).ok()?;
     Some(bodies.len() == records && are_numbered(&bodies, size))
 }

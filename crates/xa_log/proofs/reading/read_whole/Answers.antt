@@ -19,8 +19,8 @@ returns-then-len-lt8-clause-calls_once g c h = reads_none _ _ _ c.in_ok-len.ensu
 pub returns-in_err-span-clause-time : goal.returns-in_err-span-clause-time
 returns-in_err-span-clause-time g c h = then Same (λ a b d p q. q ∙ p) _ _ _ _ _ _ _ _ _ (c.in_ok-len.ensures.time h) (c.in_err-span.ensures.time h)
 
-pub returns-in_err-test_front-clause-time : goal.returns-in_err-test_front-clause-time
-returns-in_err-test_front-clause-time g c h = then Same (λ a b d p q. q ∙ p) _ _ _ _ _ _ _ _ _ (c.in_ok-len.ensures.time h) (c.in_ok-span.ensures.time h)
+pub returns-in_err-format-clause-time : goal.returns-in_err-format-clause-time
+returns-in_err-format-clause-time g c h = then Same (λ a b d p q. q ∙ p) _ _ _ _ _ _ _ _ _ (c.in_ok-len.ensures.time h) (c.in_ok-span.ensures.time h)
 
 pub returns-clause-time : goal.returns-clause-time
 returns-clause-time g c h =

@@ -1,0 +1,149 @@
+-- Two files that were read or made.
+use Rattle.std.proofs.Common.{◌≡◌, inl, inr, ⊎_elim, ℕ, zero, suc, ◌≤◌, Bool, true, false, not, ◌&&◌, ◌||◌, List, [], ◌∷◌, length, take, drop, refl, sym, ◌∙◌, ap, subst, arith, cond, nat_lt, nat_eq, Some, None, length-drop}
+use Rattle.std.proofs.lemmas.Bool.{and_parts, and_from, or_left, or_right, or_cases, or_parts, cases_order, ltb-false, eq-eqb, and_cases}
+use Rattle.std.proofs.lemmas.Bool.Decides.{nat_tests}
+use Rattle.xa_disk.specs.Disk.{Only}
+use Rattle.xa_log.specs.declared.fault.OpenFault.TheVariants.{NotALog, TooNew, TooLong}
+use Rattle.xa_log.specs.declared.log.Log.{Log}
+use Rattle.xa_log.specs.declared.reading.Scan.{Scan}
+use Rattle.xa_log.specs.Chain.{start, last, text, format_in, is_record, body_at, rest_at, digest_at, bodies_from, Rests, logged}
+use Rattle.xa_log.specs.Reading.{is_newer, bodies_of, IsScan}
+use Rattle.xa_log.specs.Pair.{generation, is_nil, beats, has_log, logged_pair, pair_fault, Behind, IsCalm}
+use Rattle.xa_log.specs.Checkpoint.{IsOther, IsQuiet}
+use Rattle.xa_log.specs.Looking.{IsCurrent}
+use Rattle.xa_log.specs.Stands.{Stands}
+use Rattle.xa_log.specs.TwoFiles.{Pair, IsOpenPair}
+use Rattle.xa_log.proofs.Records.{record_to, rests_logged}
+use Rattle.xa_log.proofs.Pair.{beats_nil}
+use Rattle.xa_log.proofs.Torn.{torn_same}
+
+-- of two files without a fault
+pub record Sound (most : ℕ) (a b : List ℕ) : Type 0 where
+  pub first_fits : length a ≤ most
+  pub second_fits : length b ≤ most
+  pub first_known : is_newer (take 8 a) ≡ false
+  pub second_known : is_newer (take 8 b) ≡ false
+
+pub sound : (most : ℕ) (a b : List ℕ) → pair_fault most a b ≡ None → Sound most a b
+sound most a b none = by (nat_lt most (length a) || nat_lt most (length b)) refl (is_newer (take 8 a) || is_newer (take 8 b)) refl none
+  where
+    by : (s : Bool) → (nat_lt most (length a) || nat_lt most (length b)) ≡ s → (t : Bool) → (is_newer (take 8 a) || is_newer (take 8 b)) ≡ t → cond s (Some TooLong) (cond t (Some TooNew) (cond (has_log a || has_log b) None (Some NotALog))) ≡ None → Sound most a b
+    by true p t q fault = absurd (cc fault)
+    by false p true q fault = absurd (cc fault)
+    by false p false q fault =
+        let l = or_parts (nat_lt most (length a)) _ p in
+        let k = or_parts (is_newer (take 8 a)) _ q in
+        record { first_fits = ltb-false most (length a) l.0; second_fits = ltb-false most (length b) l.1; first_known = k.0; second_known = k.1 }
+
+-- what isn't taken comes behind
+beats_other : (x y : List (List ℕ)) → beats true x y ≡ false → beats false y x ≡ true
+beats_other x y loses =
+    let parts = or_parts (nat_lt (generation y) (generation x)) _ loses in
+    elim (cases_order (generation x) (generation y)) [
+      | inl same ↦ or_right (nat_lt (generation x) (generation y)) _ (tie x y same (⊎_elim (λ other. absurd (cc (other, eq-eqb (generation y) (generation x) (sym same)))) (λ z. z) (and_cases (nat_eq (generation y) (generation x)) _ parts.1)))
+      | inr (inl lt) ↦ let b : nat_lt (generation x) (generation y) ≡ true = grind (arith, nat_tests) in or_left _ _ b
+      | inr (inr gt) ↦ let b : nat_lt (generation y) (generation x) ≡ true = grind (arith, nat_tests) in absurd (cc (b, parts.0))
+    ]
+  where
+    tie : (x y : List (List ℕ)) → generation x ≡ generation y → (is_nil y || (true && not (is_nil x))) ≡ false → (nat_eq (generation x) (generation y) && (is_nil x || (false && not (is_nil y)))) ≡ true
+    tie [] y same neither = and_from _ _ (eq-eqb (generation []) (generation y) same) refl
+    tie (b ∷ x) [] same neither = absurd (cc neither)
+    tie (b ∷ x) (d ∷ y) same neither = absurd (cc neither)
+
+-- ---- the other file, as it was read
+
+first_body : (m : ℕ) (prev x : List ℕ) → 1 ≤ m → is_record prev x ≡ true → take 1 (bodies_from m prev x) ≡ body_at x ∷ []
+first_body zero prev x some there = absurd (omega arith)
+first_body (suc m) prev x some there = ap (λ (b : Bool). take 1 (cond b (body_at x ∷ bodies_from m (digest_at prev x) (rest_at x)) [])) there
+
+-- a file that isn't a later format's is calm beside its own log
+own_calm : (file : List ℕ) → is_newer (take 8 file) ≡ false → IsCalm (logged file) file
+own_calm file known = record {
+  known = known;
+  only = λ there. first_body (length file) (start (format_in file)) (drop 8 file) (omega (arith, (record_to (start (format_in file)) (drop 8 file) there).whole, length-drop 8 file)) there;
+}
+
+module _ {D : Type 0} (seen : D → List ℕ) (may_leave : D → List ℕ → Type 0) (most : ℕ) (disk : D) (only : Only (seen disk) (may_leave disk)) (fits : length (seen disk) ≤ most) (known : is_newer (take 8 (seen disk)) ≡ false) where
+  behind : Behind (logged (seen disk)) (seen disk)
+  behind = inr (seen disk, refl, torn_same 0 12 (seen disk))
+
+  calm : IsCalm (logged (seen disk)) (seen disk)
+  calm = own_calm (seen disk) known
+
+  pub read_other : IsOther seen may_leave most (logged (seen disk)) disk
+  read_other = record {
+    fits = fits;
+    behind = behind;
+    left_fits = λ c left. subst (λ f. length f ≤ most) (sym (only c left)) fits;
+    left_behind = λ c left. subst (λ f. Behind (logged (seen disk)) f) (sym (only c left)) behind;
+  }
+
+  pub read_quiet : IsQuiet seen may_leave (logged (seen disk)) disk
+  read_quiet = record { calm = calm; left_calm = λ c left. subst (λ f. IsCalm (logged (seen disk)) f) (sym (only c left)) calm }
+
+-- ---- both
+
+pub scan_logged : (file : List ℕ) (scan : Scan) → IsScan file scan → logged file ≡ bodies_of scan.bodies.items
+scan_logged file scan it = rests_logged scan.format (bodies_of scan.bodies.items) file it.rests
+
+-- the log that was found is that of the two
+pub current_logged : (a b : List ℕ) (first : Bool) (scan : Scan) → IsCurrent a b first scan → logged_pair a b ≡ bodies_of scan.bodies.items
+current_logged a b first scan it = by first it
+  where
+    by : (t : Bool) → IsCurrent a b t scan → logged_pair a b ≡ bodies_of scan.bodies.items
+    by true it = ap (λ (t : Bool). cond t (logged a) (logged b)) (sym it.choice) ∙ scan_logged a scan it.scan_is
+    by false it = ap (λ (t : Bool). cond t (logged a) (logged b)) (sym it.choice) ∙ scan_logged b scan it.scan_is
+
+module _ {D : Type 0} (seen : D → List ℕ) (may_leave : D → List ℕ → Type 0) (a b : List ℕ) (log : Log D) (scan : Scan) (s : Sound log.log_bytes a b) (one : Only (seen log.disk) (may_leave log.disk)) (two : Only (seen log.other) (may_leave log.other))
+    (format : log.format ≡ scan.format) (end : log.end ≡ scan.end) (digest : log.digest ≡ scan.digest) (alive : log.lost ≡ false) where
+  abbrev bodies : List (List ℕ)
+  bodies = bodies_of scan.bodies.items
+
+  stood : (file : List ℕ) → seen log.disk ≡ file → length file ≤ log.log_bytes → IsScan file scan → Stands seen may_leave bodies log
+  stood file is fits it = record {
+    file = subst (λ f. Rests log.format bodies f) (sym is) (subst (λ k. Rests k bodies file) (sym format) it.rests);
+    fits = subst (λ f. length f ≤ log.log_bytes) (sym is) fits;
+    end = subst (λ k. log.end ≡ length (text k bodies)) (sym format) (end ∙ it.end);
+    digest = subst (λ k. log.digest ≡ last (start k) bodies) (sym format) (digest ∙ it.digest);
+    durable = one;
+    alive = alive;
+  }
+
+  opens_first : seen log.disk ≡ a → seen log.other ≡ b → log.on_first ≡ true → IsCurrent a b true scan → IsOpenPair seen may_leave bodies (logged (seen log.other)) log
+  opens_first da db first it = record {
+    current = stood a da s.first_fits it.scan_is;
+    other = read_other seen may_leave log.log_bytes log.other two (subst (λ f. length f ≤ log.log_bytes) (sym db) s.second_fits) (subst (λ f. is_newer (take 8 f) ≡ false) (sym db) s.second_known);
+    quiet = read_quiet seen may_leave log.log_bytes log.other two (subst (λ f. length f ≤ log.log_bytes) (sym db) s.second_fits) (subst (λ f. is_newer (take 8 f) ≡ false) (sym db) s.second_known);
+    older = λ has.
+        let hb : has_log b ≡ true = subst (λ f. has_log f ≡ true) db has in
+        let more = (and_parts (has_log a) _ (sym it.choice)).1 in
+        let wins : beats true (logged a) (logged b) ≡ true = ⊎_elim (λ absent. absurd (cc (absent, ap not hb))) (λ x. x) (or_cases (not (has_log b)) _ more) in
+        ap (λ (t : Bool). beats t bodies (logged (seen log.other))) first ∙ ap (λ (l : List (List ℕ)). beats true l (logged (seen log.other))) (sym (scan_logged a scan it.scan_is)) ∙ ap (λ (f : List ℕ). beats true (logged a) (logged f)) db ∙ wins;
+  }
+
+  opens_second : seen log.disk ≡ b → seen log.other ≡ a → log.on_first ≡ false → IsCurrent a b false scan → IsOpenPair seen may_leave bodies (logged (seen log.other)) log
+  opens_second db da first it = record {
+    current = stood b db s.second_fits it.scan_is;
+    other = read_other seen may_leave log.log_bytes log.other two (subst (λ f. length f ≤ log.log_bytes) (sym da) s.first_fits) (subst (λ f. is_newer (take 8 f) ≡ false) (sym da) s.first_known);
+    quiet = read_quiet seen may_leave log.log_bytes log.other two (subst (λ f. length f ≤ log.log_bytes) (sym da) s.first_fits) (subst (λ f. is_newer (take 8 f) ≡ false) (sym da) s.first_known);
+    older = λ has.
+        let ha : has_log a ≡ true = subst (λ f. has_log f ≡ true) da has in
+        let less : beats true (logged a) (logged b) ≡ false = ⊎_elim (λ absent. absurd (cc (absent, ha))) (λ x. (or_parts (not (has_log b)) _ x).1) (and_cases (has_log a) _ (sym it.choice)) in
+        ap (λ (t : Bool). beats t bodies (logged (seen log.other))) first ∙ ap (λ (l : List (List ℕ)). beats false l (logged (seen log.other))) (sym (scan_logged b scan it.scan_is)) ∙ ap (λ (f : List ℕ). beats false (logged b) (logged f)) da ∙ beats_other (logged a) (logged b) less;
+  }
+
+  -- what was read stands on the two disks
+  pub opens : (t : Bool) → log.on_first ≡ t → seen (cond t log.disk log.other) ≡ a → seen (cond t log.other log.disk) ≡ b → IsCurrent a b t scan → IsOpenPair seen may_leave bodies (logged (seen log.other)) log
+  opens true first x y it = opens_first x y first it
+  opens false first x y it = opens_second y x first it
+
+-- what was read of two files is read of what a crash leaves of them
+pub opened_leaves : (most : ℕ) (a b : List ℕ) (found : List (List ℕ)) (c d : List ℕ) → c ≡ a → d ≡ b → pair_fault most a b ≡ None → logged_pair a b ≡ found → (pair_fault most c d ≡ None) × (logged_pair c d ≡ found)
+opened_leaves most a b found c d p q none is = ((λ i. pair_fault most (p i) (q i)) ∙ none, (λ i. logged_pair (p i) (q i)) ∙ is)
+
+-- where the other file has no record it comes behind
+pub made_pair : {D : Type 0} (tears : List ℕ → ℕ → List ℕ → List ℕ → Type 0) (seen : D → List ℕ) (may_leave : D → List ℕ → Type 0) (found stood : List (List ℕ)) (log : Log D) → found ≡ [] → stood ≡ [] → IsOpenPair seen may_leave found stood log
+    → Pair tears seen may_leave [] [] log × IsQuiet seen may_leave [] log.other
+made_pair tears seen may_leave found stood log none nothing it =
+    let now : IsOpenPair seen may_leave [] [] log = subst (λ s. IsOpenPair seen may_leave [] s log) nothing (subst (λ b. IsOpenPair seen may_leave b stood log) none it) in
+    (record { current = now.current; other = now.other; calm_on = λ lucky. now.quiet.calm; older = beats_nil log.on_first [] }, now.quiet)

@@ -1,0 +1,174 @@
+-- Which of two files has the log.
+use Rattle.std.proofs.Common.{◌≡◌, inl, inr, ⊎_elim, ℕ, zero, suc, ◌+◌, ◌≤◌, ◌<◌, Bool, true, false, not, List, [], ◌∷◌, ◌++◌, length, take, drop, refl, sym, ◌∙◌, ap, subst, arith, cond, nat_lt, nat_eq, Some, None, length-drop}
+use Rattle.std.proofs.lemmas.Bool.{cases_Bool, or_left, or_right, or_cases, and_from, and_parts, cases_order, ltb-true, eqb-true}
+use Rattle.std.proofs.lemmas.Bool.Decides.{nat_tests}
+use Rattle.std.proofs.lemmas.List.{drop-drop, length-take-le, ext_get_or, get_or-drop}
+use Rattle.xa_disk.specs.Disk.{Torn, AllOrNone}
+use Rattle.xa_log.specs.declared.fault.OpenFault.TheVariants.{NotALog}
+use Rattle.xa_log.specs.declared.format.Format.{Format}
+use Rattle.xa_log.specs.Chain.{start, opening, format_in, size_at, body_at, rest_at, digest_at, is_record, bodies_from, logged}
+use Rattle.xa_log.specs.Reading.{is_newer}
+use Rattle.xa_log.specs.Pair.{generation, beats, has_log, on_first, logged_of, fault_pair, IsCalm, Behind, AllOrNoBodies, CalmTears}
+use Rattle.xa_log.proofs.Records.{one_format, record_to, bodies_closed, closed_zeros}
+use Rattle.xa_log.proofs.Torn.{torn_then}
+use Rattle.xa_log.proofs.Header.{header_magic, header_closed, magic_known, put_header}
+
+tie : (x y : List (List ℕ)) → beats true x y ≡ true → beats false y x ≡ true → x ≡ y
+tie [] [] p q = refl
+tie [] (b ∷ bs) p q = absurd (⊎_elim (λ lt. omega (arith, ltb-true (generation (b ∷ bs)) 0 lt))
+    (λ both. cc ((and_parts (nat_eq (generation (b ∷ bs)) 0) false both).1)) (or_cases (nat_lt (generation (b ∷ bs)) 0) _ p))
+tie (b ∷ bs) [] p q = absurd (⊎_elim (λ lt. omega (arith, ltb-true (generation (b ∷ bs)) 0 lt))
+    (λ both. cc ((and_parts (nat_eq (generation (b ∷ bs)) 0) false both).1)) (or_cases (nat_lt (generation (b ∷ bs)) 0) _ q))
+tie (b ∷ bs) (d ∷ ds) p q =
+    let x = generation (b ∷ bs) in
+    let y = generation (d ∷ ds) in
+    let less : x < y = ⊎_elim (λ lt. ltb-true x y lt) (λ both. absurd (cc ((and_parts (nat_eq x y) false both).1))) (or_cases (nat_lt x y) _ q) in
+    absurd (⊎_elim (λ lt. omega (arith, ltb-true y x lt)) (λ both. omega (arith, eqb-true y x (and_parts (nat_eq y x) _ both).0)) (or_cases (nat_lt y x) _ p))
+
+-- a log without records comes before none
+pub beats_nil : (first : Bool) (bodies : List (List ℕ)) → beats first bodies [] ≡ true
+beats_nil first bodies = elim (cases_order 0 (generation bodies)) [
+  | inl same ↦ let a : nat_eq 0 (generation bodies) ≡ true = grind (arith, nat_tests) in or_right (nat_lt 0 (generation bodies)) _ (and_from _ true a refl)
+  | inr (inl lt) ↦ let b : nat_lt 0 (generation bodies) ≡ true = grind (arith, nat_tests) in or_left _ _ b
+  | inr (inr gt) ↦ absurd (omega arith)
+]
+
+-- a greater generation comes before
+pub beats_above : (first : Bool) (mine other : List (List ℕ)) → generation other < generation mine → beats first mine other ≡ true
+beats_above first mine other lt =
+    let b : nat_lt (generation other) (generation mine) ≡ true = grind (arith, nat_tests) in
+    or_left _ _ b
+
+module _ (most : ℕ) (bodies : List (List ℕ)) (current other : List ℕ) (log : has_log current ≡ true) (old : is_newer (take 8 current) ≡ false)
+    (fits : length current ≤ most) (is : logged current ≡ bodies) (short : length other ≤ most) (known : is_newer (take 8 other) ≡ false) where
+  a : nat_lt most (length current) ≡ false
+  a = grind (arith, nat_tests, fits)
+
+  b : nat_lt most (length other) ≡ false
+  b = grind (arith, nat_tests, short)
+
+  -- two files of which one is a log, and none is too long or too new, have a log
+  pub no_pair_fault : (first : Bool) → fault_pair most first current other ≡ None
+  no_pair_fault true = rw (a, b, old, known, log) refl
+  no_pair_fault false = rw (a, b, old, known, log) (ap (λ (x : Bool). cond x None (Some NotALog)) (or_right (has_log other) true refl))
+
+  -- and it is the current one's, where the other doesn't come before it
+  pub pair_log : (first : Bool) → beats first bodies (logged other) ≡ true → logged_of first current other ≡ bodies
+  pair_log true wins =
+      let on : on_first current other ≡ true =
+      and_from (has_log current) _ log (or_right (not (has_log other)) _ (ap (λ (l : List (List ℕ)). beats true l (logged other)) is ∙ wins)) in
+      ap (λ (x : Bool). cond x (logged current) (logged other)) on ∙ is
+  pair_log false wins = elim (cases_Bool (on_first other current)) [
+    | inl on ↦
+        let parts = and_parts (has_log other) _ on in
+        let more : beats true (logged other) (logged current) ≡ true =
+        ⊎_elim (λ absent. absurd (cc (absent, ap not log))) (λ wins. wins) (or_cases (not (has_log current)) _ parts.1) in
+        ap (λ (x : Bool). cond x (logged other) (logged current)) on
+        ∙ tie (logged other) bodies (ap (λ (l : List (List ℕ)). beats true (logged other) l) (sym is) ∙ more) wins
+    | inr off ↦ ap (λ (x : Bool). cond x (logged other) (logged current)) off ∙ is
+  ]
+
+-- ---- what the other file stands for
+
+-- what stands first
+record First (m : ℕ) (prev x body : List ℕ) : Type 0 where
+  pub is : is_record prev x ≡ true
+  pub body_is : body_at x ≡ body
+  pub some : 1 ≤ m
+
+first_of : (m : ℕ) (prev x body : List ℕ) → take 1 (bodies_from m prev x) ≡ body ∷ [] → First m prev x body
+first_of zero prev x body is = absurd (cc is)
+first_of (suc m) prev x body is = elim (cases_Bool (is_record prev x)) [
+  | inl stands ↦
+      let whole : bodies_from (suc m) prev x ≡ body_at x ∷ bodies_from m (digest_at prev x) (rest_at x) =
+      ap (λ (b : Bool). cond b (body_at x ∷ bodies_from m (digest_at prev x) (rest_at x)) []) stands in
+      let one : body_at x ∷ [] ≡ body ∷ [] = sym (ap (λ (l : List (List ℕ)). take 1 l) whole) ∙ is in
+      record { is = stands; body_is = cc one; some = omega arith }
+  | inr other ↦
+      let none : bodies_from (suc m) prev x ≡ [] = bodies_closed (suc m) prev x other in
+      absurd (cc (sym (ap (λ (l : List (List ℕ)). take 1 l) none) ∙ is))
+]
+
+-- a record's body is as long as its length says
+length-body : (prev x : List ℕ) → is_record prev x ≡ true → length (body_at x) ≡ size_at x
+length-body prev x is = let r = record_to prev x is in length-take-le (size_at x) (drop 4 x) (omega (arith, r.whole, length-drop 4 x))
+
+-- two files that differ in the first length alone, and have one first body, have one log
+same_first : (m : ℕ) (prev x y : List ℕ) → drop 4 x ≡ drop 4 y → is_record prev x ≡ true → is_record prev y ≡ true → body_at x ≡ body_at y
+    → bodies_from m prev x ≡ bodies_from m prev y
+same_first zero prev x y tail p q same = refl
+same_first (suc m) prev x y tail p q same =
+    let n : size_at x ≡ size_at y = sym (length-body prev x p) ∙ ap (λ (l : List ℕ). length l) same ∙ length-body prev y q in
+    let k : 4 + (32 + size_at x) ≡ 36 + size_at x = omega arith in
+    let j : 4 + (32 + size_at y) ≡ 36 + size_at y = omega arith in
+    let digest : digest_at prev x ≡ digest_at prev y =
+    sym (record_to prev x p).chains
+    ∙ ap (λ (l : List ℕ). take 32 l) (sym (drop-drop (size_at x) 4 x) ∙ ap (λ (l : List ℕ). drop (size_at x) l) tail ∙ ap (λ (i : ℕ). drop i (drop 4 y)) n ∙ drop-drop (size_at y) 4 y)
+    ∙ (record_to prev y q).chains in
+    let rest : rest_at x ≡ rest_at y =
+    ap (λ (i : ℕ). drop i x) (sym k) ∙ sym (drop-drop (32 + size_at x) 4 x) ∙ ap (λ (l : List ℕ). drop (32 + size_at x) l) tail
+    ∙ ap (λ (i : ℕ). drop (32 + i) (drop 4 y)) n ∙ drop-drop (32 + size_at y) 4 y ∙ ap (λ (i : ℕ). drop i y) j in
+    ap (λ (b : Bool). cond b (body_at x ∷ bodies_from m (digest_at prev x) (rest_at x)) []) p
+    ∙ (λ i. same i ∷ bodies_from m (digest i) (rest i))
+    ∙ sym (ap (λ (b : Bool). cond b (body_at y ∷ bodies_from m (digest_at prev y) (rest_at y)) []) q)
+
+record SameBehind (base file : List ℕ) : Type 0 where
+  pub long : length file ≡ length base
+  pub tail : drop 12 file ≡ drop 12 base
+
+same_tail : (base file : List ℕ) → 12 ≤ length base → Torn 0 12 base file → SameBehind base file
+same_tail base file le t =
+    let long : length file ≡ length base = omega (arith, t.no_shorter, t.no_longer, le) in
+    record {
+      long = long;
+      tail = ext_get_or 0 (drop 12 file) (drop 12 base) (omega (arith, long, length-drop 12 file, length-drop 12 base))
+          (λ i lt.
+          let within : 12 + i < length base = omega (arith, lt, long, length-drop 12 file) in
+          get_or-drop 12 file i 0 ∙ t.above (12 + i) within (omega arith) ∙ sym (get_or-drop 12 base i 0));
+    }
+
+-- without chance it is what stood there, or nothing
+pub calm_logged : (stood : List (List ℕ)) (file : List ℕ) → Behind stood file → IsCalm stood file → AllOrNoBodies stood file
+calm_logged stood file behind calm = elim (cases_Bool (is_record (start (format_in file)) (drop 8 file))) [
+  | inr other ↦ inr (bodies_closed (length file) (start (format_in file)) (drop 8 file) other)
+  | inl there ↦ standing there behind
+]
+  where
+    standing : is_record (start (format_in file)) (drop 8 file) ≡ true → Behind stood file → AllOrNoBodies stood file
+    standing there (inl nil) = absurd (cc (ap (λ (l : List (List ℕ)). take 1 l) (sym nil) ∙ calm.only there))
+    standing there (inr it) =
+        let base = it.0 in
+        let prev = start (format_in file) in
+        -- old records behind the header of another format would chain by chance alone
+        let stood_is : bodies_from (length base) prev (drop 8 base) ≡ stood =
+        ap (λ (f : Format). bodies_from (length base) (start f) (drop 8 base)) (one_format (format_in file) (format_in base)) ∙ it.1 in
+        let f : First (length base) prev (drop 8 base) (body_at (drop 8 file)) =
+        first_of (length base) prev (drop 8 base) (body_at (drop 8 file)) (ap (λ (l : List (List ℕ)). take 1 l) stood_is ∙ calm.only there) in
+        let far : 12 ≤ length base = omega (arith, (record_to prev (drop 8 base) f.is).whole, length-drop 8 base) in
+        let s : SameBehind base file = same_tail base file far it.2 in
+        let tail : drop 4 (drop 8 file) ≡ drop 4 (drop 8 base) = drop-drop 4 8 file ∙ s.tail ∙ sym (drop-drop 4 8 base) in
+        inl (ap (λ (m : ℕ). bodies_from m prev (drop 8 file)) s.long ∙ same_first (length base) prev (drop 8 file) (drop 8 base) tail there f.is (sym f.body_is) ∙ stood_is)
+
+pub behind_torn : (stood : List (List ℕ)) (old new : List ℕ) → Behind stood old → Torn 0 12 old new → Behind stood new
+behind_torn stood old new (inl nil) t = inl nil
+behind_torn stood old new (inr b) t = inr (b.0, b.1, torn_then 0 12 b.0 old new b.2 t)
+
+pub beats_read : (first : Bool) (bodies stood : List (List ℕ)) (file : List ℕ) → beats first bodies stood ≡ true → AllOrNoBodies stood file
+    → beats first bodies (logged file) ≡ true
+beats_read first bodies stood file wins (inl is) = ap (λ (l : List (List ℕ)). beats first bodies l) is ∙ wins
+beats_read first bodies stood file wins (inr none) = ap (λ (l : List (List ℕ)). beats first bodies l) none ∙ beats_nil first bodies
+
+-- behind a whole header and a length 0 nothing chains
+pub calm_front : (format : Format) (stood : List (List ℕ)) (file rest : List ℕ) → file ≡ opening format ++ rest → IsCalm stood file
+calm_front format stood file rest is =
+    let prev = start (format_in file) in
+    let closed : is_record prev (drop 8 file) ≡ false =
+    ap (λ (l : List ℕ). is_record prev (drop 8 l)) is ∙ ap (λ (l : List ℕ). is_record prev l) (header_closed format rest) ∙ closed_zeros prev rest in
+    record {
+      known = ap (λ (l : List ℕ). is_newer (take 8 l)) is ∙ ap (λ (l : List ℕ). is_newer l) (header_magic format rest) ∙ magic_known format;
+      only = λ there. absurd (cc (there, closed));
+    }
+
+pub calm_in_memory : CalmTears AllOrNone
+calm_in_memory format stood old new calm (inl is) = subst (λ f. IsCalm stood f) (sym is) calm
+calm_in_memory format stood old new calm (inr is) = calm_front format stood new (drop 12 old) (is ∙ put_header format old)

@@ -1,0 +1,230 @@
+-- A checkpoint's parts, one behind the other.
+use Rattle.std.proofs.Common.{◌≡◌, ◌≢◌, inl, inr, ⊎_elim, ℕ, zero, suc, ◌+◌, ◌≤◌, Bool, true, false, List, [], ◌∷◌, ◌++◌, length, take, drop, refl, sym, ◌∙◌, ap, subst, arith, append_assoc, length-append, length-drop, cond, Result, Err, OnErr}
+use Rattle.std.specs.List.{AllByRecursion}
+use Rattle.std.specs.Int.{w32, to_be_bytes}
+use Rattle.xa_disk.specs.Disk.{put, Torn, Only, Passes, LeavesOnly, AllOrNone}
+use Rattle.xa_log.specs.declared.format.Format.{Format}
+use Rattle.xa_log.specs.Chain.{magic, start, opening, format_in, records, IsBody, Rests, logged, is_record, body_at, rest_at, digest_at, bodies_from}
+use Rattle.xa_log.specs.Reading.{is_newer}
+use Rattle.xa_log.specs.Answers.{Fell, Went}
+use Rattle.xa_log.specs.declared.appending.Appended.{Appended}
+use Rattle.xa_log.specs.declared.appending.Appended.TheVariants.{Kept, Refused, Lost, Full}
+use Rattle.xa_log.specs.Pair.{IsCalm, Behind}
+use Rattle.xa_log.specs.Checkpoint.{behind_front, first_length, IsReady, IsOther, IsQuiet, LeavesOf, LeavesNone, LeavesAny, SealTears, Checkpointed}
+use Rattle.std.proofs.lemmas.List.{take_at}
+use Rattle.xa_log.proofs.Records.{length-magic, record_to, bodies_closed, closed_zeros, rests_logged}
+use Rattle.xa_log.proofs.Torn.{torn_same, torn_front, put_within, put_torn}
+use Rattle.xa_log.proofs.Header.{length-opening, header_split, header_closed, header_whole, magic_known}
+use Rattle.xa_log.proofs.Pair.{calm_front}
+use Rattle.xa_log.proofs.Ready.{leaves_by, sealed_rests, seal_leaves, seal_cleared}
+
+-- one call behind another
+pub leaves_then : {D : Type 0} (moment : D → ℕ) (left_since : D → ℕ → List ℕ → Type 0) (a b c : D) (P Q R : List ℕ → Type 0)
+    → ((x : List ℕ) → P x → R x) → ((x : List ℕ) → Q x → R x)
+    → LeavesOnly moment left_since a b P → LeavesOnly moment left_since b c Q → LeavesOnly moment left_since a c R
+leaves_then moment left_since a b c P Q R f g p q = record {
+  later = omega (arith, p.later, q.later);
+  each = λ x left. ⊎_elim (λ past. f x (p.each x past)) (λ now. g x now) (q.before (moment a) x p.later left);
+  before = λ t x le left. ⊎_elim (λ past. ⊎_elim (λ was. inl was) (λ then. inr (f x then)) (p.before t x le past)) (λ now. inr (g x now))
+      (q.before t x (omega (arith, le, p.later)) left);
+}
+
+pub leaves_more : {D : Type 0} (moment : D → ℕ) (left_since : D → ℕ → List ℕ → Type 0) (a b : D) (P R : List ℕ → Type 0) → ((x : List ℕ) → P x → R x)
+    → LeavesOnly moment left_since a b P → LeavesOnly moment left_since a b R
+leaves_more moment left_since a b P R f p = record {
+  later = p.later;
+  each = λ x left. f x (p.each x left);
+  before = λ t x le left. ⊎_elim (λ was. inl was) (λ then. inr (f x then)) (p.before t x le left);
+}
+
+-- ---- behind a whole header and a length 0
+
+pub none_calm : (format : Format) (stood : List (List ℕ)) (c : List ℕ) → take 12 c ≡ opening format → IsCalm stood c
+none_calm format stood c front = calm_front format stood c (drop 12 c) (header_split format c front)
+
+none_logged : (format : Format) (c : List ℕ) → take 12 c ≡ opening format → logged c ≡ []
+none_logged format c front =
+    let prev = start (format_in c) in
+    let closed : is_record prev (drop 8 c) ≡ false =
+    ap (λ (l : List ℕ). is_record prev (drop 8 l)) (header_split format c front)
+    ∙ ap (λ (l : List ℕ). is_record prev l) (header_closed format (drop 12 c))
+    ∙ closed_zeros prev (drop 12 c) in
+    bodies_closed (length c) prev (drop 8 c) closed
+
+pub none_of : (format : Format) (most : ℕ) (stood : List (List ℕ)) (c : List ℕ) → LeavesNone most format c → LeavesOf most stood c
+none_of format most stood c none = record { fits = none.fits; reads = λ calm. inr (none_logged format c none.front) }
+
+pub none_long : (format : Format) (most : ℕ) (c : List ℕ) → LeavesNone most format c → 12 ≤ length c
+none_long format most c none = omega (arith, ap (λ (l : List ℕ). length l) (header_split format c none.front), length-append (opening format) (drop 12 c), length-opening format)
+
+pub none_torn : (format : Format) (most n : ℕ) (d c : List ℕ) → 12 + n ≤ most → LeavesNone most format d → Torn 12 n d c → LeavesNone most format c
+none_torn format most n d c room none torn = record {
+  fits = omega (arith, torn.no_longer, none.fits, room);
+  front = torn_front 12 n d c (none_long format most d none) torn ∙ none.front;
+}
+
+-- at each moment while the records are written
+pub during : {D : Type 0} (format : Format) (moment : D → ℕ) (left_since : D → ℕ → List ℕ → Type 0) (may_leave : D → List ℕ → Type 0)
+    (seen : D → List ℕ) (old new : D) (n : ℕ) → ((c : List ℕ) → left_since old (moment old) c → may_leave old c)
+    → Passes (Torn 12 n) (moment old) (moment new) (left_since old) (left_since new) (may_leave old) (may_leave new)
+    → (most : ℕ) → 12 + n ≤ most → LeavesNone most format (seen old) → Only (seen old) (may_leave old)
+    → LeavesOnly moment left_since old new (LeavesNone most format)
+during format moment left_since may_leave seen old new n only_now time most room none only =
+    leaves_by moment left_since may_leave old new (Torn 12 n) (LeavesNone most format) only_now (torn_same 12 n)
+    (λ d c left torn. none_torn format most n d c room (subst (λ f. LeavesNone most format f) (sym (only d left)) none) torn) time
+
+-- at each moment of all three parts, one behind the other
+module _ {D : Type 0} (moment : D → ℕ) (left_since : D → ℕ → List ℕ → Type 0) (most : ℕ) (format : Format) (stood bodies : List (List ℕ))
+    (a b c : D) where
+  abbrev Any : List ℕ → Type 0
+  Any x = LeavesAny most format stood bodies x
+
+  pub first_part : LeavesOnly moment left_since a b (LeavesOf most stood) → LeavesOnly moment left_since a b (LeavesAny most format stood bodies)
+  first_part p = leaves_more moment left_since a b (LeavesOf most stood) Any (λ x leaves. inl leaves) p
+
+  pub second_part : LeavesOnly moment left_since a b (LeavesOf most stood) → LeavesOnly moment left_since b c (LeavesNone most format)
+      → LeavesOnly moment left_since a c (LeavesAny most format stood bodies)
+  second_part p q = leaves_then moment left_since a b c (LeavesOf most stood) (LeavesNone most format) Any (λ x leaves. inl leaves) (λ x none. inr (inl none)) p q
+
+  pub third_part : LeavesOnly moment left_since a b (LeavesAny most format stood bodies) → LeavesOnly moment left_since b c (LeavesOf most bodies)
+      → LeavesOnly moment left_since a c (LeavesAny most format stood bodies)
+  third_part p q = leaves_then moment left_since a b c Any (LeavesOf most bodies) Any (λ x leaves. leaves) (λ x leaves. inr (inr leaves)) p q
+
+-- a file of which only such images are left
+pub others_none : {D : Type 0} (format : Format) (seen : D → List ℕ) (may_leave : D → List ℕ → Type 0) (most : ℕ) (disk : D)
+    → LeavesNone most format (seen disk) → ((c : List ℕ) → may_leave disk c → LeavesNone most format c)
+    → IsOther seen may_leave most [] disk × IsQuiet seen may_leave [] disk
+others_none format seen may_leave most disk none each = (
+  record { fits = none.fits; behind = inl refl; left_fits = λ c left. (each c left).fits; left_behind = λ c left. inl refl },
+  record { calm = none_calm format [] (seen disk) none.front; left_calm = λ c left. none_calm format [] c (each c left).front },
+)
+
+-- the first part's result
+pub opened_none : (format : Format) (most : ℕ) (old new : List ℕ) → 12 ≤ most → length old ≤ most → new ≡ opening format ++ drop 12 old
+    → LeavesNone most format new
+opened_none format most old new room fits is = record {
+  fits = omega (arith, ap (λ (l : List ℕ). length l) is, length-append (opening format) (drop 12 old), length-opening format, length-drop 12 old);
+  front = ap (λ (l : List ℕ). take 12 l) is ∙ header_whole format (drop 12 old);
+}
+
+-- the second's
+pub records_ready : (format : Format) (bodies : List (List ℕ)) (mid new : List ℕ) → take 12 mid ≡ opening format → 12 ≤ length mid
+    → AllByRecursion IsBody bodies → 1 ≤ length bodies → new ≡ put mid 12 (behind_front format bodies) → IsReady format bodies new
+records_ready format bodies mid new front long sizes some is =
+    let tail : List ℕ = drop (12 + length (behind_front format bodies)) mid in
+    record {
+      rest = tail;
+      split = is ∙ put_within mid 12 (behind_front format bodies) long
+          ∙ ap (λ (l : List ℕ). l ++ behind_front format bodies ++ tail) front
+          ∙ append_assoc (opening format) (behind_front format bodies) tail;
+      sizes = sizes;
+      some = some;
+    }
+
+ready_front : (format : Format) (bodies : List (List ℕ)) (file : List ℕ) → IsReady format bodies file → take 12 file ≡ opening format
+ready_front format bodies file ready = ap (λ (l : List ℕ). take 12 l) ready.split ∙ header_whole format (behind_front format bodies ++ ready.rest)
+
+-- ---- a log's own bytes are no chance
+
+pub calm_log : (bodies : List (List ℕ)) (file : List ℕ) → is_newer (take 8 file) ≡ false → logged file ≡ bodies → IsCalm bodies file
+calm_log bodies file known is = record { known = known; only = λ there. first (length file) (start (format_in file)) bodies (drop 8 file) there (long there) is }
+  where
+    long : is_record (start (format_in file)) (drop 8 file) ≡ true → 1 ≤ length file
+    long there = omega (arith, (record_to (start (format_in file)) (drop 8 file) there).whole, length-drop 8 file)
+
+    first : (m : ℕ) (prev : List ℕ) (bs : List (List ℕ)) (x : List ℕ) → is_record prev x ≡ true → 1 ≤ m → bodies_from m prev x ≡ bs
+        → take 1 bs ≡ body_at x ∷ []
+    first zero prev bs x there some same = absurd (omega arith)
+    first (suc m) prev bs x there some same =
+        ap (λ (l : List (List ℕ)). take 1 l) (sym same)
+        ∙ ap (λ (b : Bool). take 1 (cond b (body_at x ∷ bodies_from m (digest_at prev x) (rest_at x)) [])) there
+
+pub rests_magic : (format : Format) (bodies : List (List ℕ)) (file : List ℕ) → Rests format bodies file → take 8 file ≡ magic format
+rests_magic format bodies file r =
+    ap (λ (l : List ℕ). take 8 l) (r.split ∙ append_assoc (magic format) (records (start format) bodies) r.rest)
+    ∙ take_at (magic format) (records (start format) bodies ++ r.rest) 8 (length-magic format)
+
+pub calm_rests : (format : Format) (bodies : List (List ℕ)) (file : List ℕ) → Rests format bodies file → IsCalm bodies file
+calm_rests format bodies file r =
+    calm_log bodies file (ap (λ (l : List ℕ). is_newer l) (rests_magic format bodies file r) ∙ magic_known format) (rests_logged format bodies file r)
+
+-- what was the current file
+pub others_log : {D : Type 0} (format : Format) (seen : D → List ℕ) (may_leave : D → List ℕ → Type 0) (most : ℕ) (bodies : List (List ℕ)) (disk : D)
+    → Rests format bodies (seen disk) → length (seen disk) ≤ most → Only (seen disk) (may_leave disk)
+    → IsOther seen may_leave most bodies disk × IsQuiet seen may_leave bodies disk
+others_log format seen may_leave most bodies disk r fits only = (
+  record {
+    fits = fits;
+    behind = behind;
+    left_fits = λ c left. omega (arith, ap (λ (l : List ℕ). length l) (only c left), fits);
+    left_behind = λ c left. subst (λ f. Behind bodies f) (sym (only c left)) behind;
+  },
+  record { calm = calm_rests format bodies (seen disk) r; left_calm = λ c left. subst (λ f. IsCalm bodies f) (sym (only c left)) (calm_rests format bodies (seen disk) r) },
+)
+  where
+    behind : Behind bodies (seen disk)
+    behind = inr (seen disk, rests_logged format bodies (seen disk) r, torn_same 0 12 (seen disk))
+
+-- ---- the seal's answers
+
+module _ {D : Type 0} (format : Format) (tears : List ℕ → ℕ → List ℕ → List ℕ → Type 0) (seen : D → List ℕ) (may_leave : D → List ℕ → Type 0)
+    (most : ℕ) (stood bodies : List (List ℕ)) (old mid new : D) (ready : IsReady format bodies (seen mid)) (fits : length (seen mid) ≤ most)
+    (durable : Only (seen mid) (may_leave mid)) where
+  abbrev seal : List ℕ
+  seal = to_be_bytes w32 (first_length bodies)
+
+  long : 12 ≤ length (seen mid)
+  long = omega (arith, ap (λ (l : List ℕ). length l) ready.split, length-append (opening format) (behind_front format bodies ++ ready.rest), length-opening format)
+
+  pub sealed : (o : Appended) → o ≢ Full → Went tears o 8 (to_be_bytes w32 (first_length bodies)) (seen mid) (seen new) (may_leave new)
+      → ((c : List ℕ) → may_leave new c → (d : List ℕ) × may_leave mid d × Torn 8 4 d c)
+      → Checkpointed tears seen may_leave o most format stood bodies old new
+  sealed Kept other went follows =
+      let whole : Torn 8 4 (seen mid) (put (seen mid) 8 seal) = put_torn (seen mid) 8 seal in (
+        subst (λ f. Rests format bodies f) (sym went.0) (sealed_rests format bodies (seen mid) ready),
+        omega (arith, ap (λ (l : List ℕ). length l) went.0, whole.no_longer, long, fits),
+        went.1,
+      )
+  sealed Refused other went follows =
+      let same : seen new ≡ seen mid = seal_cleared format bodies (seen mid) ready went.0 (seen new) went.1 went.2 in
+      let none : LeavesNone most format (seen mid) = record { fits = fits; front = ready_front format bodies (seen mid) ready } in
+      let now : LeavesNone most format (seen new) = subst (λ f. LeavesNone most format f) (sym same) none in
+      inr (others_none format seen may_leave most new now (λ c left. subst (λ f. LeavesNone most format f) (sym (went.3 c left)) now))
+  sealed Lost other went follows = (
+    seal_leaves format bodies (seen mid) ready most (seen new) fits went.0,
+    (λ lucky. lucky format bodies (seen mid) went.1 (seen new) ready went.2 went.3),
+    (λ c left. let x = follows c left in seal_leaves format bodies (seen mid) ready most c fits (subst (λ f. Torn 8 4 f c) (durable x.0 x.1) x.2)),
+  )
+  sealed Full other went follows = absurd (other refl)
+
+-- ---- a disk in memory
+
+pub seal_in_memory : SealTears AllOrNone
+seal_in_memory format bodies old mid new ready first second = after second
+  where
+    calm_old : IsCalm bodies old
+    calm_old = none_calm format bodies old (ready_front format bodies old ready)
+
+    calm_sealed : mid ≡ put old 8 (to_be_bytes w32 (first_length bodies)) → IsCalm bodies mid
+    calm_sealed is = subst (λ f. IsCalm bodies f) (sym is) (calm_rests format bodies (put old 8 (to_be_bytes w32 (first_length bodies))) (sealed_rests format bodies old ready))
+
+    torn_mid : Fell AllOrNone old 8 (to_be_bytes w32 (first_length bodies)) mid → Torn 8 4 old mid
+    torn_mid (inl is) = subst (λ f. Torn 8 4 old f) (sym is) (put_torn old 8 (to_be_bytes w32 (first_length bodies)))
+    torn_mid (inr (inl is)) = subst (λ f. Torn 8 4 old f) (sym is) (torn_same 8 4 old)
+    torn_mid (inr (inr is)) = subst (λ f. Torn 8 4 old f) (sym is) (put_torn old 8 (to_be_bytes w32 (first_length bodies)))
+
+    calm_mid : Fell AllOrNone old 8 (to_be_bytes w32 (first_length bodies)) mid → IsCalm bodies mid
+    calm_mid (inl is) = calm_sealed is
+    calm_mid (inr (inl is)) = subst (λ f. IsCalm bodies f) (sym is) calm_old
+    calm_mid (inr (inr is)) = calm_sealed is
+
+    cleared : new ≡ put mid 8 (0 ∷ 0 ∷ 0 ∷ 0 ∷ []) → IsCalm bodies new
+    cleared is = subst (λ f. IsCalm bodies f) (sym (seal_cleared format bodies old ready mid new (torn_mid first) is)) calm_old
+
+    after : Fell AllOrNone mid 8 (0 ∷ 0 ∷ 0 ∷ 0 ∷ []) new → IsCalm bodies new
+    after (inl is) = cleared is
+    after (inr (inl is)) = subst (λ f. IsCalm bodies f) (sym is) (calm_mid first)
+    after (inr (inr is)) = cleared is
+
+pub at_err : {T E : Type 0} (P : Type 0) (r : Result T E) (e : E) → r ≡ Err e → OnErr r P → P
+at_err P r e is p = subst (λ x. OnErr x P) is p

@@ -1,0 +1,232 @@
+-- A checkpoint's records, one more at a time.
+use Rattle.std.proofs.Common.{◌≡◌, ℕ, zero, suc, ◌+◌, ◌-◌, ◌≤◌, ◌<◌, List, [], ◌∷◌, ◌++◌, length, take, drop, get_or, refl, sym, ◌∙◌, ap, subst, arith, append_assoc, length-append, length-drop, ⊎_elim, inl, inr, Vec, Global}
+use Rattle.std.specs.List.{AllByRecursion}
+use Rattle.std.proofs.Math.Seq.{drop-append-add}
+use Rattle.std.proofs.lemmas.List.{append-nil, drop-append-le, drop-drop, length-take-le, take_more, take-map, map-append, take_all, length-take, length-map, get_or-take, take_at}
+use Rattle.xa_disk.specs.Disk.{put, Torn, Passes}
+use Rattle.xa_log.specs.declared.format.Format.{Format}
+use Rattle.xa_log.specs.Chain.{start, last, text, records, record_of, digest, IsBody}
+use Rattle.xa_log.specs.Reading.{bodies_of}
+use Rattle.xa_log.specs.Checkpoint.{tailed, first_length}
+use Rattle.xa_log.proofs.Records.{records_more, text_more, last_more, length-record_of, length-text}
+use Rattle.xa_log.proofs.Torn.{put_within, torn_then, then}
+
+-- one write behind another is one write of both
+pub put_put : (old : List ℕ) (at : ℕ) (a b : List ℕ) → at ≤ length old → put (put old at a) (at + length a) b ≡ put old at (a ++ b)
+put_put old at a b le =
+    let n : length (take at old ++ a) ≡ at + length a = omega (arith, length-append (take at old) a, length-take-le at old le) in
+    let mid : put old at a ≡ (take at old ++ a) ++ drop (at + length a) old = put_within old at a le in
+    let long : at + length a ≤ length (put old at a) =
+    omega (arith, ap (λ (l : List ℕ). length l) mid, length-append (take at old ++ a) (drop (at + length a) old), n) in
+    let k : length (take at old ++ a) + length b ≡ at + length a + length b = omega (arith, n) in
+    let j : at + length a + length b ≡ at + length (a ++ b) = omega (arith, length-append a b) in
+    put_within (put old at a) (at + length a) b long
+    ∙ ap (λ (l : List ℕ). take (at + length a) l ++ b ++ drop (at + length a + length b) l) mid
+    ∙ (λ i. take_at (take at old ++ a) (drop (at + length a) old) (at + length a) n i ++ b
+    ++ (ap (λ (x : ℕ). drop x ((take at old ++ a) ++ drop (at + length a) old)) (sym k) ∙ drop-append-add (take at old ++ a)
+    (drop (at + length a) old) (length b) ∙ drop-drop (length b) (at + length a) old) i)
+    ∙ ap (λ (l : List ℕ). l ++ drop (at + length a + length b) old) (append_assoc (take at old) a b)
+    ∙ ap (λ (x : ℕ). take at old ++ (a ++ b) ++ drop x old) j
+    ∙ sym (put_within old at (a ++ b) le)
+
+pub step_seen : (format : Format) (done : List (List ℕ)) (body old a b : List ℕ) (at zeros : ℕ) → 12 ≤ length old → at ≡ length (text format done)
+    → a ≡ put old 12 (drop 4 (records (start format) done))
+    → b ≡ put a (at + (12 - at)) (drop (12 - at) (tailed (last (start format) done) body zeros))
+    → b ≡ put old 12 (drop 4 (records (start format) (done ++ body ∷ [])) ++ take zeros (0 ∷ 0 ∷ 0 ∷ 0 ∷ []))
+step_seen format [] body old a b at zeros long here first then =
+    let z : List ℕ = take zeros (0 ∷ 0 ∷ 0 ∷ 0 ∷ []) in
+    let r : List ℕ = record_of (start format) body in
+    let here8 : at ≡ 8 = omega (arith, here, length-text format []) in
+    let p : at + (12 - at) ≡ 12 + 0 = omega (arith, here8) in
+    let s : 12 - at ≡ 4 = omega (arith, here8) in
+    then
+    ∙ (λ i. put (first i) (p i) (drop (s i) (r ++ z)))
+    ∙ put_put old 12 [] (drop 4 (r ++ z)) long
+    ∙ ap (λ (l : List ℕ). put old 12 l) (drop-append-le 4 r z (omega (arith, length-record_of (start format) body)) ∙ ap (λ (l : List ℕ). drop 4 l ++ z) (sym (append-nil r)))
+step_seen format (d ∷ ds) body old a b at zeros long here first then =
+    let done : List (List ℕ) = d ∷ ds in
+    let z : List ℕ = take zeros (0 ∷ 0 ∷ 0 ∷ 0 ∷ []) in
+    let R : List ℕ = records (start format) (d ∷ ds) in
+    let r : List ℕ = record_of (last (start format) (d ∷ ds)) body in
+    let far : 36 ≤ length R =
+    omega (arith, length-append (record_of (start format) d) (records (digest (start format) d) ds), length-record_of (start format) d) in
+    let p : at + (12 - at) ≡ 12 + length (drop 4 R) = omega (arith, here, length-text format (d ∷ ds), length-drop 4 R, far) in
+    let s : 12 - at ≡ 0 = omega (arith, here, length-text format (d ∷ ds), far) in
+    then
+    ∙ (λ i. put (first i) (p i) (drop (s i) (r ++ z)))
+    ∙ put_put old 12 (drop 4 R) (r ++ z) long
+    ∙ ap (λ (l : List ℕ). put old 12 l)
+    (sym (append_assoc (drop 4 R) r z)
+    ∙ ap (λ (l : List ℕ). l ++ z) (sym (drop-append-le 4 R r (omega (arith, far))) ∙ ap (λ (l : List ℕ). drop 4 l) (sym (records_more (start format) (d ∷ ds) body))))
+
+pub prefix : (i : ℕ) (p : List ℕ) (bodies : List (List ℕ)) → length (records p (take i bodies)) ≤ length (records p bodies)
+prefix zero p bodies = omega arith
+prefix (suc i) p [] = omega arith
+prefix (suc i) p (b ∷ bodies) = omega (
+  arith,
+  prefix i (digest p b) bodies,
+  length-append (record_of p b) (records (digest p b) bodies),
+  length-append
+      (record_of p b) (records (digest p b) (take i bodies)),
+)
+
+pub wider : (p m q n : ℕ) (a b : List ℕ) → q ≤ p → p + m ≤ q + n → Torn p m a b → Torn q n a b
+wider p m q n a b low high t = record {
+  no_shorter = t.no_shorter;
+  no_longer = omega (arith, t.no_longer);
+  below = λ i lt h. t.below i lt (omega (arith, h, low));
+  above = λ i lt h. t.above i lt (omega (arith, h, high));
+}
+
+pub weaker : (s r : List ℕ → List ℕ → Type 0) → ((a b : List ℕ) → s a b → r a b)
+    → (m n : ℕ) (past since : ℕ → List ℕ → Type 0) (old new : List ℕ → Type 0) → Passes s m n past since old new → Passes r m n past since old new
+weaker s r f m n past since old new p = record {
+  later = p.later;
+  follows = λ c now. let x = p.follows c now in (x.0, x.1, f x.0 c x.2);
+  nothing_else = λ t c le left. ⊎_elim (λ was. inl was) (λ x. inr (x.0, x.1, f x.0 c x.2)) (p.nothing_else t c le left);
+  keeps = p.keeps;
+}
+
+pub all_at : (P : List ℕ → Type 0) (bodies : List (List ℕ)) (i : ℕ) (d : List ℕ) → i < length bodies → AllByRecursion P bodies → P (get_or bodies i d)
+all_at P [] i d lt all = absurd (omega arith)
+all_at P (b ∷ bodies) zero d lt all = all.0
+all_at P (b ∷ bodies) (suc i) d lt all = all_at P bodies i d (omega arith) all.1
+
+-- the next body of those that are written
+pub next_body : (bodies : List (Vec ℕ Global)) (i : ℕ) (v : Vec ℕ Global) → i < length bodies → v ≡ get_or bodies i v
+    → take (i + 1) (bodies_of bodies) ≡ take i (bodies_of bodies) ++ v.items ∷ []
+next_body bodies i v lt is =
+    let items : Vec ℕ Global → List ℕ = λ b. b.items in
+    take-map items (i + 1) bodies
+    ∙ ap (λ (l : List (Vec ℕ Global)). bodies_of l) (take_more bodies i v lt ∙ ap (λ (x : Vec ℕ Global). take i bodies ++ x ∷ []) (sym is))
+    ∙ map-append items (take i bodies) (v ∷ [])
+    ∙ ap (λ (l : List (List ℕ)). l ++ v.items ∷ []) (sym (take-map items i bodies))
+
+pub body_ok : (bodies : List (Vec ℕ Global)) (i : ℕ) (v : Vec ℕ Global) → i < length bodies → v ≡ get_or bodies i v
+    → AllByRecursion IsBody (bodies_of bodies) → IsBody v.items
+body_ok (b ∷ bodies) zero v lt is all = subst (λ (x : Vec ℕ Global). IsBody x.items) (sym is) all.0
+body_ok (b ∷ bodies) (suc i) v lt is all = body_ok bodies i v (omega arith) is all.1
+body_ok [] i v lt is all = absurd (omega arith)
+
+-- where one record more fits
+pub record Next (format : Format) (bodies : List (List ℕ)) (done : List (List ℕ)) (body : List ℕ) (at : ℕ) : Type 0 where
+  pub more : at + (36 + length body) ≡ length (text format (done ++ body ∷ []))
+  pub within : at + (36 + length body) ≤ 8 + length (records (start format) bodies)
+  pub from : 8 ≤ at
+
+pub next : (format : Format) (bodies : List (List ℕ)) (i : ℕ) (body : List ℕ) (at : ℕ) → take (i + 1) bodies ≡ take i bodies ++ body ∷ []
+    → at ≡ length (text format (take i bodies)) → Next format bodies (take i bodies) body at
+next format bodies i body at is here =
+    let done = take i bodies in
+    let more : at + (36 + length body) ≡ length (text format (done ++ body ∷ [])) =
+    omega (
+      arith,
+      here,
+      ap (λ (l : List ℕ). length l) (text_more format done body),
+      length-append (text format done)
+          (record_of (last (start format) done) body),
+      length-record_of (last (start format) done) body,
+    ) in
+    let below : length (records (start format) (done ++ body ∷ [])) ≤ length (records (start format) bodies) =
+    subst (λ (l : List (List ℕ)). length (records (start format) l) ≤ length (records (start format) bodies)) is (prefix (i + 1) (start format) bodies) in
+    record {
+      more = more;
+      within = omega (arith, more, below, length-text format (done ++ body ∷ []));
+      from = omega (arith, here, length-text format done);
+    }
+
+-- how many bytes the records take from byte 12 on, with the closing length
+abbrev pub span : Format → List (List ℕ) → ℕ
+span format bodies = length (records (start format) bodies)
+
+-- one body of those that are written
+pub record Item (format : Format) (bodies : List (List ℕ)) (i : ℕ) (body : List ℕ) (at : ℕ) : Type 0 where
+  pub is : take (i + 1) bodies ≡ take i bodies ++ body ∷ []
+  pub ok : IsBody body
+  pub place : Next format bodies (take i bodies) body at
+
+pub item : (format : Format) (bodies : List (Vec ℕ Global)) (i : ℕ) (v : Vec ℕ Global) (body : List ℕ) (at : ℕ) → i < length bodies
+    → v ≡ get_or bodies i v → body ≡ v.items → AllByRecursion IsBody (bodies_of bodies) → at ≡ length (text format (take i (bodies_of bodies)))
+    → Item format (bodies_of bodies) i body at
+item format bodies i v body at lt is same all here =
+    let n : take (i + 1) (bodies_of bodies) ≡ take i (bodies_of bodies) ++ body ∷ [] =
+    next_body bodies i v lt is ∙ ap (λ (l : List ℕ). take i (bodies_of bodies) ++ l ∷ []) (sym same) in
+    record { is = n; ok = subst IsBody (sym same) (body_ok bodies i v lt is all); place = next format (bodies_of bodies) i body at n here }
+
+pub item_in : (format : Format) (bodies : List (Vec ℕ Global)) (n i : ℕ) (v : Vec ℕ Global) (body : List ℕ) (at : ℕ) → i < length (take n bodies)
+    → v ≡ get_or (take n bodies) i v → body ≡ v.items → AllByRecursion IsBody (bodies_of bodies)
+    → at ≡ length (text format (take i (bodies_of bodies))) → Item format (bodies_of bodies) i body at
+item_in format bodies n i v body at lt is same all here =
+    let few : i < n = omega (arith, lt, length-take n bodies) in
+    item format bodies i v body at (omega (arith, lt, length-take n bodies)) (is ∙ get_or-take n bodies i v few) same all here
+
+pub item_last : (format : Format) (bodies : List (Vec ℕ Global)) (i : ℕ) (v : Vec ℕ Global) (body : List ℕ) (at : ℕ) → 1 ≤ length bodies
+    → length (take (length bodies - 1) bodies) ≤ i → i ≤ length (take (length bodies - 1) bodies) → v ≡ get_or bodies (length bodies - 1) v
+    → body ≡ v.items
+    → AllByRecursion IsBody (bodies_of bodies) → at ≡ length (text format (take i (bodies_of bodies))) → Item format (bodies_of bodies) i body at
+item_last format bodies i v body at some low high is same all here =
+    let n : length bodies - 1 ≡ i = omega (arith, low, high, length-take (length bodies - 1) bodies) in
+    item format bodies i v body at (omega (arith, n, some)) (is ∙ ap (λ (k : ℕ). get_or bodies k v) n) same all here
+
+-- a write of one record, with so many zeros behind it, within what all of them take
+module _ (format : Format) (bodies : List (List ℕ)) (i : ℕ) (body : List ℕ) (at zeros : ℕ) (few : zeros ≤ 4) (it : Item format bodies i body at) where
+  abbrev Writes : List ℕ → List ℕ → Type 0
+  Writes a b = Torn (at + (12 - at)) (36 + length body + zeros - (12 - at)) a b
+
+  inside : (a b : List ℕ) → Writes a b → Torn 12 (span format bodies) a b
+  inside a b t =
+      wider (at + (12 - at)) (36 + length body + zeros - (12 - at)) 12 (span format bodies) a b
+      (omega (arith, it.place.from)) (omega (arith, it.place.within, it.place.from, few)) t
+
+  pub torn_step : (old a b : List ℕ) → Torn 12 (span format bodies) old a → Writes a b → Torn 12 (span format bodies) old b
+  torn_step old a b so t = torn_then 12 (span format bodies) old a b so (inside a b t)
+
+  pub time_step : (l m n : ℕ) (s0 s1 s2 : ℕ → List ℕ → Type 0) (m0 m1 m2 : List ℕ → Type 0) → Passes (Torn 12 (span format bodies)) l m s0 s1 m0 m1
+      → Passes Writes m n s1 s2 m1 m2
+      → Passes (Torn 12 (span format bodies)) l n s0 s2 m0 m2
+  time_step l m n s0 s1 s2 m0 m1 m2 so now =
+      then (Torn 12 (span format bodies)) (torn_then 12 (span format bodies)) l m n s0 s1 s2 m0 m1 m2 so
+      (weaker Writes (Torn 12 (span format bodies)) inside m n s1 s2 m1 m2 now)
+
+-- the records written so far and one more, with zeros behind it
+pub seen_step : (format : Format) (bodies : List (List ℕ)) (i : ℕ) (body d : List ℕ) (at zeros : ℕ) (it : Item format bodies i body at)
+    (old a b : List ℕ) → 12 ≤ length old → at ≡ length (text format (take i bodies))
+    → d ≡ last (start format) (take i bodies) → a ≡ put old 12 (drop 4 (records (start format) (take i bodies)))
+    → b ≡ put a (at + (12 - at)) (drop (12 - at) (tailed d body zeros))
+    → b ≡ put old 12 (drop 4 (records (start format) (take (i + 1) bodies)) ++ take zeros (0 ∷ 0 ∷ 0 ∷ 0 ∷ []))
+seen_step format bodies i body d at zeros it old a b long here digest_is so now =
+    step_seen format (take i bodies) body old a b at zeros long here so
+    (now ∙ ap (λ (x : List ℕ). put a (at + (12 - at)) (drop (12 - at) (tailed x body zeros))) digest_is)
+    ∙ ap (λ (l : List (List ℕ)). put old 12 (drop 4 (records (start format) l) ++ take zeros (0 ∷ 0 ∷ 0 ∷ 0 ∷ []))) (sym it.is)
+
+pub digest_step : (format : Format) (bodies : List (List ℕ)) (i : ℕ) (body d : List ℕ) (at : ℕ) (it : Item format bodies i body at)
+    → d ≡ last (start format) (take i bodies) → digest d body ≡ last (start format) (take (i + 1) bodies)
+digest_step format bodies i body d at it digest_is =
+    ap (λ (x : List ℕ). digest x body) digest_is ∙ sym (last_more (start format) (take i bodies) body)
+    ∙ ap (λ (l : List (List ℕ)). last (start format) l) (sym it.is)
+
+pub end_step : (format : Format) (bodies : List (List ℕ)) (i : ℕ) (body : List ℕ) (at : ℕ) (it : Item format bodies i body at)
+    → at + (36 + length body) ≡ length (text format (take (i + 1) bodies))
+end_step format bodies i body at it = it.place.more ∙ ap (λ (l : List (List ℕ)). length (text format l)) (sym it.is)
+
+-- the last of them
+pub last_all : (bodies : List (Vec ℕ Global)) (i : ℕ) → 1 ≤ length bodies → length (take (length bodies - 1) bodies) ≤ i
+    → i ≤ length (take (length bodies - 1) bodies) → take (i + 1) (bodies_of bodies) ≡ bodies_of bodies
+last_all bodies i some low high = take_all (i + 1) (bodies_of bodies)
+    (omega (arith, low, some, length-take (length bodies - 1) bodies, length-map bodies (λ (b : Vec ℕ Global). b.items)))
+
+pub first_len : (bodies : List (Vec ℕ Global)) (v : Vec ℕ Global) → 1 ≤ length bodies → v ≡ get_or bodies 0 v
+    → first_length (bodies_of bodies) ≡ length v.items
+first_len [] v some is = absurd (omega arith)
+first_len (b ∷ bodies) v some is = ap (λ (x : Vec ℕ Global). length x.items) (sym is)
+
+-- one body less that fits
+pub longer : (format : Format) (bodies : List (Vec ℕ Global)) (i : ℕ) (v : Vec ℕ Global) → i < length bodies → v ≡ get_or bodies i v
+    → Next format (bodies_of bodies) (take i (bodies_of bodies)) v.items
+    (length (text format (take i (bodies_of bodies)))) ×
+    (length (text format (take (i + 1) (bodies_of bodies))) ≡ length (text format (take i (bodies_of bodies))) + (36 + length v.items))
+longer format bodies i v lt is =
+    let n = next_body bodies i v lt is in
+    let it : Next format (bodies_of bodies) (take i (bodies_of bodies)) v.items (length (text format (take i (bodies_of bodies)))) =
+    next format (bodies_of bodies) i v.items (length (text format (take i (bodies_of bodies)))) n refl in
+    (it, ap (λ (l : List (List ℕ)). length (text format l)) n ∙ sym it.more)

@@ -1,0 +1,110 @@
+use Rattle.std.proofs.Common.{rules, ◌≡◌, ◌+◌, ◌≤◌, length, refl, arith}
+use Rattle.xa_log.specs.Chain.{newest, start, text, records}
+use Rattle.xa_log.specs.Reading.{bodies_of}
+use Rattle.xa_log.proofs.Records.{length-text}
+use Rattle.xa_log.proofs.Two.{kept_pair, refused_pair, lost_pair, other_still, wrote_kept, wrote_lost, wrote_refused, moments_of, kept_by}
+use Rattle.xa_log.proofs.log.Log.checkpoint.Goals as goal
+
+pub returns-in-None-clause-any_moment : goal.returns-in-None-clause-any_moment
+returns-in-None-clause-any_moment g c h old stood p =
+    let log = c.args.self.now in
+    other_still _ _ g.D.Disk.may_leave old stood log log p g.D.Disk.moment g.D.Disk.left_since (g.met.D.Disk.only_now log.other) newest (bodies_of c.args.bodies.now)
+
+pub returns-in-Kept-clause-any_moment : goal.returns-in-Kept-clause-any_moment
+returns-in-Kept-clause-any_moment g c h old stood p =
+    let old_log = c.args.self.now in
+    let most = old_log.log_bytes in
+    let fresh = bodies_of c.args.bodies.now in
+    let wrote = c.checkpoint_on-outcome in
+    let format = c.newest-format.result in
+    let end : c.in-Some.end ≡ length (text format (bodies_of c.args.bodies.now)) = c.in-Some.ensures.some.0 in
+    let room : 12 + length (records (start format) (bodies_of c.args.bodies.now)) ≤ c.args.self.now.log_bytes =
+    omega (arith, c.in-Some.ensures.some.0, c.in-Some.ensures.some.1, length-text format (bodies_of c.args.bodies.now)) in
+    moments_of g.D.Disk.moment g.D.Disk.left_since most format stood fresh old_log.other wrote.new.disk _ (wrote_kept _ _ wrote.new.disk c.in-Kept.is c.swap.ensures.x_after)
+    c.newest-format.ensures (wrote.ensures.any_moment h most stood room p.other)
+
+pub returns-in-Lost-clause-any_moment : goal.returns-in-Lost-clause-any_moment
+returns-in-Lost-clause-any_moment g c h old stood p =
+    let old_log = c.args.self.now in
+    let most = old_log.log_bytes in
+    let fresh = bodies_of c.args.bodies.now in
+    let wrote = c.checkpoint_on-outcome in
+    let format = c.newest-format.result in
+    let end : c.in-Some.end ≡ length (text format (bodies_of c.args.bodies.now)) = c.in-Some.ensures.some.0 in
+    let room : 12 + length (records (start format) (bodies_of c.args.bodies.now)) ≤ c.args.self.now.log_bytes =
+    omega (arith, c.in-Some.ensures.some.0, c.in-Some.ensures.some.1, length-text format (bodies_of c.args.bodies.now)) in
+    moments_of g.D.Disk.moment g.D.Disk.left_since most format stood fresh old_log.other wrote.new.disk _ (wrote_lost _ _ wrote.new.disk c.in-Lost.is refl)
+    c.newest-format.ensures (wrote.ensures.any_moment h most stood room p.other)
+
+pub returns-in-Refused-clause-any_moment : goal.returns-in-Refused-clause-any_moment
+returns-in-Refused-clause-any_moment g c h old stood p =
+    let old_log = c.args.self.now in
+    let most = old_log.log_bytes in
+    let fresh = bodies_of c.args.bodies.now in
+    let wrote = c.checkpoint_on-outcome in
+    let format = c.newest-format.result in
+    let end : c.in-Some.end ≡ length (text format (bodies_of c.args.bodies.now)) = c.in-Some.ensures.some.0 in
+    let room : 12 + length (records (start format) (bodies_of c.args.bodies.now)) ≤ c.args.self.now.log_bytes =
+    omega (arith, c.in-Some.ensures.some.0, c.in-Some.ensures.some.1, length-text format (bodies_of c.args.bodies.now)) in
+    moments_of g.D.Disk.moment g.D.Disk.left_since most format stood fresh old_log.other wrote.new.disk _ (wrote_refused _ _ wrote.new.disk c.in-Refused.is refl)
+    c.newest-format.ensures (wrote.ensures.any_moment h most stood room p.other)
+
+pub returns-in-Kept-clause-answer : goal.returns-in-Kept-clause-answer
+returns-in-Kept-clause-answer g c h old stood p above =
+    let old_log = c.args.self.now in
+    let most = old_log.log_bytes in
+    let fresh = bodies_of c.args.bodies.now in
+    let wrote = c.checkpoint_on-outcome in
+    let format = c.newest-format.result in
+    let end : c.in-Some.end ≡ length (text format (bodies_of c.args.bodies.now)) = c.in-Some.ensures.some.0 in
+    let room : 12 + length (records (start format) (bodies_of c.args.bodies.now)) ≤ c.args.self.now.log_bytes =
+    omega (arith, c.in-Some.ensures.some.0, c.in-Some.ensures.some.1, length-text format (bodies_of c.args.bodies.now)) in
+    kept_pair g.D.Disk.tears _ _ old stood old_log _ p format fresh above _ wrote.new.disk c.in-Kept.is
+    (wrote.ensures.answer h most stood room p.other)
+    c.swap.ensures.x_after c.swap.ensures.y_after refl refl end (wrote.ensures.digest c.in-Kept.is) refl
+
+pub returns-in-Lost-clause-answer : goal.returns-in-Lost-clause-answer
+returns-in-Lost-clause-answer g c h old stood p above =
+    let old_log = c.args.self.now in
+    let most = old_log.log_bytes in
+    let fresh = bodies_of c.args.bodies.now in
+    let wrote = c.checkpoint_on-outcome in
+    let format = c.newest-format.result in
+    let end : c.in-Some.end ≡ length (text format (bodies_of c.args.bodies.now)) = c.in-Some.ensures.some.0 in
+    let room : 12 + length (records (start format) (bodies_of c.args.bodies.now)) ≤ c.args.self.now.log_bytes =
+    omega (arith, c.in-Some.ensures.some.0, c.in-Some.ensures.some.1, length-text format (bodies_of c.args.bodies.now)) in
+    lost_pair g.D.Disk.tears _ _ old stood old_log _ p format fresh above _ c.in-Lost.is
+    (wrote.ensures.answer h most stood room p.other)
+    refl refl refl refl
+
+pub returns-in-Refused-clause-answer : goal.returns-in-Refused-clause-answer
+returns-in-Refused-clause-answer g c h old stood p above =
+    let old_log = c.args.self.now in
+    let most = old_log.log_bytes in
+    let fresh = bodies_of c.args.bodies.now in
+    let wrote = c.checkpoint_on-outcome in
+    let format = c.newest-format.result in
+    let end : c.in-Some.end ≡ length (text format (bodies_of c.args.bodies.now)) = c.in-Some.ensures.some.0 in
+    let room : 12 + length (records (start format) (bodies_of c.args.bodies.now)) ≤ c.args.self.now.log_bytes =
+    omega (arith, c.in-Some.ensures.some.0, c.in-Some.ensures.some.1, length-text format (bodies_of c.args.bodies.now)) in
+    refused_pair g.D.Disk.tears _ _ old stood old_log _ p format fresh _ c.in-Refused.is wrote.ensures.not_full
+    (wrote.ensures.answer h most stood room p.other)
+    refl refl refl refl refl refl refl
+
+pub returns-in-Kept-clause-kept : goal.returns-in-Kept-clause-kept
+returns-in-Kept-clause-kept g c alive fits low same =
+    let wrote = c.checkpoint_on-outcome in
+    kept_by g.D.Disk.failures _ wrote.new.disk _ _ (wrote_kept _ _ wrote.new.disk c.in-Kept.is c.swap.ensures.x_after) wrote.ensures.cause low same wrote.ensures.not_full
+
+pub returns-in-Refused-clause-kept : goal.returns-in-Refused-clause-kept
+returns-in-Refused-clause-kept g c alive fits low same =
+    let wrote = c.checkpoint_on-outcome in
+    kept_by g.D.Disk.failures _ wrote.new.disk _ _ (wrote_refused _ _ wrote.new.disk c.in-Refused.is refl) wrote.ensures.cause low same wrote.ensures.not_full
+
+pub returns-in-Lost-clause-kept : goal.returns-in-Lost-clause-kept
+returns-in-Lost-clause-kept g c alive fits low same =
+    let wrote = c.checkpoint_on-outcome in
+    kept_by g.D.Disk.failures _ wrote.new.disk _ _ (wrote_lost _ _ wrote.new.disk c.in-Lost.is refl) wrote.ensures.cause low same wrote.ensures.not_full
+
+pub returns-in-Kept-clause-swaps : goal.returns-in-Kept-clause-swaps
+returns-in-Kept-clause-swaps g c = search rules

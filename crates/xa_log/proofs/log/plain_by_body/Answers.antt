@@ -1,5 +1,0 @@
-use Rattle.xa_log.proofs.Chance as chance
-use Rattle.xa_log.proofs.log.plain_by_body.Goals as goal
-
-pub returns : goal.returns
-returns c = chance.plain_by_body

@@ -1,0 +1,17 @@
+use Rattle.xa_log.proofs.Rows.{row_greater, row_unsealed, row_ties, row_one, row_faults}
+use Rattle.xa_log.proofs.worked.worked_pairs.Goals as goal
+
+pub returns-clause-greater : goal.returns-clause-greater
+returns-clause-greater c = row_greater
+
+pub returns-clause-unsealed : goal.returns-clause-unsealed
+returns-clause-unsealed c = row_unsealed
+
+pub returns-clause-ties : goal.returns-clause-ties
+returns-clause-ties c = row_ties
+
+pub returns-clause-one_log : goal.returns-clause-one_log
+returns-clause-one_log c = row_one
+
+pub returns-clause-faults : goal.returns-clause-faults
+returns-clause-faults c = row_faults

@@ -1,0 +1,62 @@
+-- What reading two files finds.
+use Rattle.std.specs.Prelude.{◌≡◌, ◌≢◌, ℕ, ◌≤◌, min, Bool, true, false, ◌||◌, if◌then◌else◌, List, [], length, take, Option, Some, None}
+use Rattle.xa_log.specs.declared.format.Format.{Format}
+use Rattle.xa_log.specs.declared.looking.Front.{Front}
+use Rattle.xa_log.specs.declared.looking.Head.{Head}
+use Rattle.xa_log.specs.declared.reading.Scan.{Scan}
+use Rattle.xa_log.specs.Chain.{format_of, is_record, body_at, logged}
+use Rattle.xa_log.specs.Reading.{is_newer, IsScan}
+use Rattle.xa_log.specs.Pair.{number_in, generation, is_nil, has_log, on_first}
+use Rattle.xa_log.specs.Window.{Caches}
+
+-- lengths of two files that aren't too long
+pub record AreShort (most : ℕ) (first second : List ℕ) (m n : ℕ) : Type 0 where
+  pub first_is : m ≡ length first
+  pub second_is : n ≡ length second
+  pub first_fits : m ≤ most
+  pub second_fits : n ≤ most
+
+-- how a file begins, and that a window has it
+pub record IsFront (file window : List ℕ) (front : Front) : Type 0 where
+  pub format : front.format ≡ format_of (take 8 file)
+  pub newer : front.newer ≡ is_newer (take 8 file)
+  pub caches : Caches file window front.span
+
+-- a window of 1 MiB has the first bytes of a file of this length, where its first eight say that it is a log
+pub record HasFront (len : ℕ) (front : Front) : Type 0 where
+  pub from : front.span.from ≡ 0
+  pub held : front.span.have ≤ 1048576
+  pub inside : front.span.have ≤ len
+  pub whole : front.format ≢ None → (front.span.have ≡ min len 1048576) × (8 ≤ len)
+
+-- one of two files is of a later format, or is a log
+abbrev pub either_newer : List ℕ → List ℕ → Bool
+either_newer first second = is_newer (take 8 first) || is_newer (take 8 second)
+
+abbrev pub either_log : List ℕ → List ℕ → Bool
+either_log first second = has_log first || has_log second
+
+-- the number of the record that stands at the front, or that none does
+abbrev pub Numbers : List ℕ → List ℕ → Option ℕ → Type 0
+Numbers prev bytes None = is_record prev bytes ≡ false
+Numbers prev bytes (Some number) = (is_record prev bytes ≡ true) × (number ≡ number_in (body_at bytes))
+
+-- what a log's first record tells of it
+abbrev pub Tells : List (List ℕ) → Option ℕ → Type 0
+Tells bodies None = bodies ≡ []
+Tells bodies (Some number) = (is_nil bodies ≡ false) × (generation bodies ≡ number)
+
+abbrev pub IsHead : List ℕ → Option Head → Type 0
+IsHead file None = format_of (take 8 file) ≡ None
+IsHead file (Some head) = (format_of (take 8 file) ≡ Some head.format) × Tells (logged file) head.number
+
+-- which of two files is the current one, with its format
+abbrev pub Chooses : List ℕ → List ℕ → Option (Bool × Format) → Type 0
+Chooses first second None = either_log first second ≡ false
+Chooses first second (Some choice) =
+    (either_log first second ≡ true) × (choice.0 ≡ on_first first second) × (format_of (take 8 (if choice.0 then first else second)) ≡ Some choice.1)
+
+-- the current file's log, of two
+pub record IsCurrent (first second : List ℕ) (is_first : Bool) (scan : Scan) : Type 0 where
+  pub choice : is_first ≡ on_first first second
+  pub scan_is : IsScan (if is_first then first else second) scan

@@ -1,0 +1,89 @@
+-- What a log of two files stands for.
+use Rattle.std.specs.Prelude.{◌≡◌, ◌⊎◌, ◌≤◌, ◌<◌, ℕ, true, not, if◌then◌else◌, List, [], ◌∷◌, ◌++◌, length}
+use Rattle.xa_disk.specs.Disk.{Only}
+use Rattle.xa_log.specs.Chain.{newest, start, last, text, Rests}
+use Rattle.xa_log.specs.Pair.{generation, beats, has_log, IsCalm, CalmTears}
+use Rattle.xa_log.specs.Checkpoint.{IsOther, IsQuiet, LeavesOf, SealTears}
+use Rattle.xa_log.specs.Stands.{Stands, MayStand}
+use Rattle.xa_log.specs.declared.appending.Appended.{Appended}
+use Rattle.xa_log.specs.declared.appending.Appended.TheVariants.{Kept, Refused, Lost, Full}
+use Rattle.xa_log.specs.declared.log.Log.{Log}
+
+-- The current file is a log of these bodies; of the other one, each image is without chance a log that comes behind
+-- it, of those bodies that stood there, or none.
+pub record Pair {D : Type 0} (tears : List ℕ → ℕ → List ℕ → List ℕ → Type 0) (seen : D → List ℕ) (may_leave : D → List ℕ → Type 0) (bodies stood : List (List ℕ)) (log : Log D) : Type 0 where
+  pub current : Stands seen may_leave bodies log
+  pub other : IsOther seen may_leave log.log_bytes stood log.other
+  pub calm_on : CalmTears tears → IsCalm stood (seen log.other)
+  pub older : beats log.on_first bodies stood ≡ true
+
+-- The append of a body to these was lost; of the other file the same is said as before, and it comes behind either way.
+pub record MayStandPair {D : Type 0} (tears : List ℕ → ℕ → List ℕ → List ℕ → Type 0) (seen : D → List ℕ) (may_leave : D → List ℕ → Type 0) (bodies : List (List ℕ)) (body : List ℕ) (stood : List (List ℕ)) (log : Log D) : Type 0 where
+  pub current : MayStand tears seen may_leave bodies body log
+  pub other : IsOther seen may_leave log.log_bytes stood log.other
+  pub calm_on : CalmTears tears → IsCalm stood (seen log.other)
+  pub older : beats log.on_first bodies stood ≡ true
+  pub older_after : beats log.on_first (bodies ++ body ∷ []) stood ≡ true
+
+-- The checkpoint of new bodies was lost: without chance, the other file is a log of them or of none.
+pub record MaySeal {D : Type 0} (tears : List ℕ → ℕ → List ℕ → List ℕ → Type 0) (seen : D → List ℕ) (may_leave : D → List ℕ → Type 0) (bodies fresh : List (List ℕ)) (log : Log D) : Type 0 where
+  pub file : Rests log.format bodies (seen log.disk)
+  pub fits : length (seen log.disk) ≤ log.log_bytes
+  pub durable : Only (seen log.disk) (may_leave log.disk)
+  pub other : LeavesOf log.log_bytes fresh (seen log.other)
+  pub calm_on : SealTears tears → IsCalm fresh (seen log.other)
+  pub left : (c : List ℕ) → may_leave log.other c → LeavesOf log.log_bytes fresh c
+  pub above : generation bodies < generation fresh
+  pub lost : log.lost ≡ true
+
+-- what each answer of a checkpoint says
+abbrev pub Checkpoints : {D : Type 0} → (List ℕ → ℕ → List ℕ → List ℕ → Type 0) → (D → List ℕ) → (D → List ℕ → Type 0) → Appended → List (List ℕ) → List (List ℕ) → List (List ℕ) → Log D → Type 0
+Checkpoints tears seen may_leave Kept bodies stood fresh log = Pair tears seen may_leave fresh bodies log × IsQuiet seen may_leave bodies log.other
+-- by a fault in the first part, or behind it
+Checkpoints tears seen may_leave Refused bodies stood fresh log = Pair tears seen may_leave bodies stood log ⊎ (Pair tears seen may_leave bodies [] log × IsQuiet seen may_leave [] log.other)
+Checkpoints tears seen may_leave Lost bodies stood fresh log = MaySeal tears seen may_leave bodies fresh log
+Checkpoints tears seen may_leave Full bodies stood fresh log = Pair tears seen may_leave bodies stood log
+
+-- the file that a checkpoint wrote, by its answer: the current one is not touched
+abbrev pub written : {D : Type 0} → Appended → Log D → D
+written Kept log = log.disk
+written Refused log = log.other
+written Lost log = log.other
+written Full log = log.other
+
+-- a log's fields after a checkpoint of new bodies
+abbrev pub Swaps : {D : Type 0} → Appended → List (List ℕ) → Log D → Log D → Type 0
+Swaps Kept fresh old new =
+    (new.other ≡ old.disk) × (new.on_first ≡ not old.on_first) × (new.format ≡ newest) × (new.end ≡ length (text newest fresh)) × (new.digest ≡ last (start newest) fresh) × (new.lost ≡ old.lost)
+Swaps Refused fresh old new = (new.disk ≡ old.disk) × (new.on_first ≡ old.on_first) × (new.format ≡ old.format) × (new.end ≡ old.end) × (new.digest ≡ old.digest) × (new.lost ≡ old.lost)
+Swaps Lost fresh old new = (new.disk ≡ old.disk) × (new.on_first ≡ old.on_first) × (new.format ≡ old.format) × (new.end ≡ old.end) × (new.digest ≡ old.digest) × (new.lost ≡ true)
+Swaps Full fresh old new = new ≡ old
+
+-- what each answer of an append says of two files
+abbrev pub AppendsTo : {D : Type 0} → (List ℕ → ℕ → List ℕ → List ℕ → Type 0) → (D → List ℕ) → (D → List ℕ → Type 0) → Appended → List (List ℕ) → List ℕ → List (List ℕ) → Log D → Type 0
+AppendsTo tears seen may_leave Kept bodies body stood log = Pair tears seen may_leave (bodies ++ body ∷ []) stood log
+AppendsTo tears seen may_leave Refused bodies body stood log = Pair tears seen may_leave bodies stood log
+AppendsTo tears seen may_leave Lost bodies body stood log = MayStandPair tears seen may_leave bodies body stood log
+AppendsTo tears seen may_leave Full bodies body stood log = Pair tears seen may_leave bodies stood log
+
+-- Two files that were read: the current one stands, and the other one is what it was, on its disk too. It comes behind
+-- where both are logs; where it isn't one, that is a premise on what stands behind its first 8 bytes.
+pub record IsOpenPair {D : Type 0} (seen : D → List ℕ) (may_leave : D → List ℕ → Type 0) (bodies stood : List (List ℕ)) (log : Log D) : Type 0 where
+  pub current : Stands seen may_leave bodies log
+  pub other : IsOther seen may_leave log.log_bytes stood log.other
+  pub quiet : IsQuiet seen may_leave stood log.other
+  pub older : (has_log (seen log.other) ≡ true) → beats log.on_first bodies stood ≡ true
+
+-- the two disks in the order in which they were given
+abbrev pub first_of : {D : Type 0} → Log D → D
+first_of log = if log.on_first then log.disk else log.other
+
+abbrev pub second_of : {D : Type 0} → Log D → D
+second_of log = if log.on_first then log.other else log.disk
+
+-- where a look has put the disk of the file that was the current one, and that of the other
+abbrev pub disk_after : {D : Type 0} → Log D → Log D → D
+disk_after old new = if old.on_first then first_of new else second_of new
+
+abbrev pub other_after : {D : Type 0} → Log D → Log D → D
+other_after old new = if old.on_first then second_of new else first_of new

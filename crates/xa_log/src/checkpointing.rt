@@ -1,0 +1,166 @@
+//! A checkpoint's three parts, each on the disk that it writes.
+ghost use Rattle.std.specs.Prelude.{◌≡◌, ◌≢◌, ◌⊎◌, ◌+◌, ◌-◌, ◌≤◌, ◌<◌, ◌^◌, ◌++◌, ◌∷◌, [], List, ℕ, length, take, drop, OnOk, OnErr, IfOk, IfSome, IfNone};
+ghost use Rattle.std.specs.Int.{w32, to_be_bytes};
+ghost use Rattle.std.specs.List.{AllByRecursion};
+ghost use Rattle.xa_disk.specs.Disk.{put, Torn, Only, Passes, CountsFault, LeavesOnly};
+ghost use Rattle.xa_disk.specs.Counts.{with_write};
+ghost use Rattle.xa_log.specs.declared.format.Format.{Format};
+ghost use Rattle.xa_log.specs.Chain.{start, opening, last, digest, records, text, IsBody};
+ghost use Rattle.xa_log.specs.Reading.{bodies_of};
+ghost use Rattle.xa_log.specs.Answers.{Went, Fell, HasCause};
+ghost use Rattle.xa_log.specs.Calls.{PutCalls, RecordsCalls, AppendCalls, CheckpointCalls};
+ghost use Rattle.xa_log.specs.Pair.{IsCalm, CalmTears};
+ghost use Rattle.xa_log.specs.Checkpoint.{tailed, behind_front, first_length, IsReady, IsOther, LeavesOf, LeavesNone, LeavesAny, Checkpointed};
+
+use crate::appending::{Appended, put_or_clear, put_synced};
+use crate::format::Format;
+use crate::record::encode;
+use xa_disk::{Disk, DiskFault};
+
+// The first part: writes the 8 bytes and a length 0, and syncs. A fault is not repaired.
+pub(crate) fn put_front<D: Disk>(disk: &mut D, format: Format) -> Result<(), DiskFault>
+    ensures made { D.honest → OnOk result (D.seen disk.new ≡ opening format ++ drop 12 (D.seen disk.old)) }
+    ensures durable { D.honest → OnOk result (Only (D.seen disk.new) (D.may_leave disk.new)) }
+    ensures stays { D.honest → (most : ℕ) (stood : List (List ℕ)) → 12 ≤ most → IsOther D.seen D.may_leave most stood disk.old
+        → OnErr result (IsOther D.seen D.may_leave most stood disk.new) }
+    ensures calm { D.honest → CalmTears D.tears → (stood : List (List ℕ)) → IsCalm stood (D.seen disk.old)
+        → OnErr result (IsCalm stood (D.seen disk.new)) }
+    // Whichever image is left: without chance what stood there, or nothing.
+    ensures any_moment { D.honest → (most : ℕ) (stood : List (List ℕ)) → 12 ≤ most → IsOther D.seen D.may_leave most stood disk.old
+        → LeavesOnly D.moment D.left_since disk.old disk.new (LeavesOf most stood) }
+    ensures count { CountsFault result (D.failures disk.old) (D.failures disk.new) }
+    ensures calls { PutCalls result (D.counts disk.old) (D.counts disk.new) }
+{
+    put_synced(disk, 0, format.opening().as_slice())
+}
+
+// Writes a body's record and so many zero bytes behind it, but nothing before byte 12. Gives its digest.
+fn put_record<D: Disk>(
+    disk: &mut D,
+    at: u64,
+    prev: &[u8; 32],
+    buffer: &mut [u8],
+    body: &[u8],
+    zeros: usize,
+) -> Result<[u8; 32], DiskFault>
+    requires room { 40 + length body.now ≤ length buffer.old }
+    requires body { IsBody body.now }
+    requires from { 8 ≤ at }
+    requires zeros { zeros ≤ 4 }
+    ensures digest { IfOk result (λ d. d ≡ digest prev.now body.now) }
+    ensures written { D.honest
+        → OnOk result (D.seen disk.new ≡ put (D.seen disk.old) (at + (12 - at)) (drop (12 - at) (tailed prev.now body.now zeros))) }
+    ensures torn { D.honest → Torn (at + (12 - at)) (36 + length body.now + zeros - (12 - at)) (D.seen disk.old) (D.seen disk.new) }
+    ensures time { D.honest
+        → Passes (Torn (at + (12 - at)) (36 + length body.now + zeros - (12 - at))) (D.moment disk.old) (D.moment disk.new) (D.left_since disk.old) (D.left_since disk.new) (D.may_leave disk.old) (D.may_leave disk.new) }
+    ensures count { CountsFault result (D.failures disk.old) (D.failures disk.new) }
+    ensures calls { D.counts disk.new ≡ with_write (D.counts disk.old) }
+{
+    let digest = encode(buffer, prev, body);
+    let skip = 12u64.saturating_sub(at);
+    let end = 36 + body.len() + zeros;
+    disk.write_at(at.max(12), &buffer[skip as usize..end])?;
+    Ok(digest)
+}
+
+// The second part: writes the records from byte 12 on, each in one write, a closing length behind the last, and syncs.
+// Gives the last record's digest. A fault is not repaired: the first length is still 0.
+pub(crate) fn put_records<D: Disk>(
+    disk: &mut D,
+    format: Format,
+    buffer: &mut [u8],
+    bodies: &[Vec<u8>],
+) -> Result<[u8; 32], DiskFault>
+    requires room { 524328 ≤ length buffer.old }
+    requires some { 1 ≤ length bodies.now }
+    requires sizes { AllByRecursion IsBody (bodies_of bodies.now) }
+    requires fits { 12 + length (records (start format) (bodies_of bodies.now)) < 2 ^ 64 }
+    ensures digest { IfOk result (λ d. d ≡ last (start format) (bodies_of bodies.now)) }
+    ensures written { D.honest → 12 ≤ length (D.seen disk.old)
+        → OnOk result (D.seen disk.new ≡ put (D.seen disk.old) 12 (behind_front format (bodies_of bodies.now))) }
+    ensures durable { D.honest → OnOk result (Only (D.seen disk.new) (D.may_leave disk.new)) }
+    ensures torn { D.honest → Torn 12 (length (records (start format) (bodies_of bodies.now))) (D.seen disk.old) (D.seen disk.new) }
+    // Whichever image is left: nothing.
+    ensures any_moment { D.honest → (most : ℕ) → 12 + length (records (start format) (bodies_of bodies.now)) ≤ most
+        → LeavesNone most format (D.seen disk.old) → Only (D.seen disk.old) (D.may_leave disk.old)
+        → LeavesOnly D.moment D.left_since disk.old disk.new (LeavesNone most format) }
+    ensures time { D.honest
+        → Passes (Torn 12 (length (records (start format) (bodies_of bodies.now)))) (D.moment disk.old) (D.moment disk.new) (D.left_since disk.old) (D.left_since disk.new) (D.may_leave disk.old) (D.may_leave disk.new) }
+    ensures count { CountsFault result (D.failures disk.old) (D.failures disk.new) }
+    ensures calls { RecordsCalls result (length bodies.now) (D.counts disk.old) (D.counts disk.new) }
+{
+    let most = bodies.len() - 1;
+    let mut end: u64 = 8;
+    let mut digest = format.first_digest();
+    for body in &bodies[..most] {
+        digest = put_record(disk, end, &digest, buffer, body, 0)?;
+        end += 36 + body.len() as u64;
+    }
+    let digest = put_record(disk, end, &digest, buffer, &bodies[most], 4)?;
+    disk.sync()?;
+    Ok(digest)
+}
+
+// The third part, the seal: writes the first length and syncs; if that fails, writes a length 0 and syncs.
+pub(crate) fn put_seal<D: Disk>(disk: &mut D, size: u32) -> Appended
+    ensures went { D.honest → Went D.tears result 8 (to_be_bytes w32 size) (D.seen disk.old) (D.seen disk.new) (D.may_leave disk.new) }
+    ensures any_moment { D.honest → (most : ℕ) (format : Format) (bodies : List (List ℕ)) → IsReady format bodies (D.seen disk.old)
+        → size ≡ first_length bodies → length (D.seen disk.old) ≤ most → Only (D.seen disk.old) (D.may_leave disk.old)
+        → LeavesOnly D.moment D.left_since disk.old disk.new (LeavesOf most bodies) }
+    ensures time { D.honest
+        → Passes (Torn 8 4) (D.moment disk.old) (D.moment disk.new) (D.left_since disk.old) (D.left_since disk.new) (D.may_leave disk.old) (D.may_leave disk.new) }
+    ensures cause { HasCause result (D.failures disk.old) (D.failures disk.new) }
+    ensures calls { AppendCalls result (D.counts disk.old) (D.counts disk.new) }
+    ensures not_full { result ≢ Appended.Full }
+{
+    let mut bytes = size.to_be_bytes();
+    put_or_clear(disk, 8, &mut bytes)
+}
+
+// The three parts. Gives the last record's digest, if the checkpoint is kept.
+pub(crate) fn checkpoint_on<D: Disk>(
+    disk: &mut D,
+    format: Format,
+    buffer: &mut [u8],
+    bodies: &[Vec<u8>],
+) -> (Appended, [u8; 32])
+    requires room { 524328 ≤ length buffer.old }
+    requires some { 1 ≤ length bodies.now }
+    requires sizes { AllByRecursion IsBody (bodies_of bodies.now) }
+    requires fits { 12 + length (records (start format) (bodies_of bodies.now)) < 2 ^ 64 }
+    ensures digest { result.0 ≡ Appended.Kept → result.1 ≡ last (start format) (bodies_of bodies.now) }
+    ensures answer { D.honest → (most : ℕ) (stood : List (List ℕ)) → 12 + length (records (start format) (bodies_of bodies.now)) ≤ most
+        → IsOther D.seen D.may_leave most stood disk.old
+        → Checkpointed D.tears D.seen D.may_leave result.0 most format stood (bodies_of bodies.now) disk.old disk.new }
+    ensures any_moment { D.honest → (most : ℕ) (stood : List (List ℕ)) → 12 + length (records (start format) (bodies_of bodies.now)) ≤ most
+        → IsOther D.seen D.may_leave most stood disk.old
+        → LeavesOnly D.moment D.left_since disk.old disk.new (LeavesAny most format stood (bodies_of bodies.now)) }
+    ensures cause { HasCause result.0 (D.failures disk.old) (D.failures disk.new) }
+    ensures calls { CheckpointCalls result.0 (length bodies.now) (D.counts disk.old) (D.counts disk.new) }
+    ensures not_full { result.0 ≢ Appended.Full }
+{
+    match put_front(disk, format) {
+        Ok(()) => {}
+        Err(_) => return (Appended::Refused, [0; 32]),
+    }
+    match put_records(disk, format, buffer, bodies) {
+        Ok(digest) => {
+            let outcome = put_seal(disk, bodies[0].len() as u32);
+            (outcome, digest)
+        }
+        Err(_) => (Appended::Refused, [0; 32]),
+    }
+}
+
+// Where a log of these bodies ends, if it fits with its closing length.
+pub(crate) fn end_of(format: Format, bodies: &[Vec<u8>], most: u64) -> Option<u64>
+    requires sizes { AllByRecursion IsBody (bodies_of bodies.now) }
+    ensures some { IfSome result (λ end. (end ≡ length (text format (bodies_of bodies.now))) × (end + 4 ≤ most)) }
+    ensures none { IfNone result (most < length (text format (bodies_of bodies.now)) + 4) }
+{
+    let mut left = most.checked_sub(format.opening().len() as u64)?;
+    for body in bodies {
+        left = left.checked_sub(36 + body.len() as u64)?;
+    }
+    Some(most - left - 4)
+}

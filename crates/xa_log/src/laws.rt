@@ -1,0 +1,42 @@
+//! What can be said of every log, and of logs on disks in memory.
+ghost use Rattle.xa_log.specs.Chain.{NoChance, PlainByBody};
+ghost use Rattle.xa_log.specs.Pair.{CalmTears};
+ghost use Rattle.xa_log.specs.Checkpoint.{SealTears};
+ghost use Rattle.xa_log.specs.Laws.{BehindLaw, PairLaw, AppendLaw, HeaderLaw, SealLaw, StrayLaw};
+
+use xa_disk::{Disk, MemDisk};
+
+/// What a failed write of a `MemDisk` leaves to a read is without chance.
+pub fn memory_without_chance()
+    ensures { NoChance (⟦<MemDisk as Disk>⟧.tears) }
+{}
+
+/// What failed writes of a `MemDisk` leave of a checkpoint to a read is without chance.
+pub fn memory_without_chance_beside()
+    ensures header { CalmTears (⟦<MemDisk as Disk>⟧.tears) }
+    ensures seal { SealTears (⟦<MemDisk as Disk>⟧.tears) }
+{}
+
+/// Of two files the current one's log is taken where the other one comes behind it: also while a record is appended to
+/// it, and while a checkpoint's header and records are written to the other one.
+pub fn pair_is_current()
+    ensures behind { BehindLaw }
+    ensures other { PairLaw }
+    ensures appended { AppendLaw }
+    ensures unsealed { HeaderLaw }
+{}
+
+/// From the seal of a checkpoint on, the current file's log is taken or the new one.
+pub fn pair_is_current_or_new()
+    ensures { SealLaw }
+{}
+
+/// A file that is no log can become one by a torn write of its first 12 bytes.
+pub fn stray_is_possible()
+    ensures { StrayLaw }
+{}
+
+/// Of bytes it is enough that what chains behind the bodies has the new one's body: its length and digest follow.
+pub fn plain_by_body()
+    ensures { PlainByBody }
+{}

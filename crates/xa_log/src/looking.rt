@@ -1,0 +1,337 @@
+//! Which of two files is the current one, and reading its log.
+ghost use Rattle.std.specs.Prelude.{◌≡◌, ◌≢◌, ◌⊎◌, ◌+◌, ◌≤◌, ◌<◌, min, true, false, List, ℕ, length, drop, OnOk, IfOk, IfErr, IfSome, MatchResult, MatchBool, Some, None, if◌then◌else◌};
+ghost use Rattle.xa_disk.specs.Disk.{Same, Only, Passes, CountsFault};
+ghost use Rattle.xa_disk.specs.declared.counts.Counts.{Counts};
+ghost use Rattle.xa_log.specs.Answers.{CountsDeviceOf};
+ghost use Rattle.xa_log.specs.Calls.{Fetched, FetchedSome, Looks, LooksSecond, LooksAt, LooksSecondAt, ReadsLittle, asked};
+ghost use Rattle.xa_log.specs.Reading.{Explains};
+ghost use Rattle.xa_log.specs.Pair.{number_in, beats, pair_fault, fault_pair};
+ghost use Rattle.xa_log.specs.Looking.{AreShort, IsFront, HasFront, either_newer, either_log, Numbers, Tells, IsHead, Chooses, IsCurrent};
+ghost use Rattle.xa_log.specs.Window.{Caches};
+
+use crate::OpenFault;
+use crate::format::Format;
+use crate::reading::{MAX_BODY, Scan, read_front, read_records, synced_length};
+use crate::record::{chained, size_of};
+use crate::window::Span;
+use std::alloc::Global;
+use std::mem;
+use xa_disk::{Disk, DiskFault};
+
+/// How a file begins: its format, if it names one, or that it names a later one; and what a window has of it.
+#[derive(Clone, Copy)]
+pub struct Front {
+    pub format: Option<Format>,
+    pub newer: bool,
+    pub span: Span,
+}
+
+/// A file that is a log: its format, and the number of its first record, if it has one.
+#[derive(Clone, Copy)]
+pub struct Head {
+    pub format: Format,
+    pub number: Option<usize>,
+}
+
+// Syncs and measures one file and then the other.
+fn measure<D: Disk>(first: &mut D, second: &mut D, log_bytes: u64) -> Result<(u64, u64), OpenFault>
+    ensures value { D.honest → MatchResult result (λ r. AreShort log_bytes (D.seen first.old) (D.seen second.old) r.0 r.1) (λ e. Explains e (pair_fault log_bytes (D.seen first.old) (D.seen second.old))) }
+    ensures fits { IfOk result (λ r. (r.0 ≤ log_bytes) × (r.1 ≤ log_bytes)) }
+    ensures durable { D.honest → OnOk result (Only (D.seen first.new) (D.may_leave first.new)) }
+    ensures durable_second { D.honest → OnOk result (Only (D.seen second.new) (D.may_leave second.new)) }
+    ensures same { D.honest → D.seen first.new ≡ D.seen first.old }
+    ensures same_second { D.honest → D.seen second.new ≡ D.seen second.old }
+    ensures time { D.honest → Passes Same (D.moment first.old) (D.moment first.new) (D.left_since first.old) (D.left_since first.new) (D.may_leave first.old) (D.may_leave first.new) }
+    ensures time_second { D.honest → Passes Same (D.moment second.old) (D.moment second.new) (D.left_since second.old) (D.left_since second.new) (D.may_leave second.old) (D.may_leave second.new) }
+    ensures count { CountsDeviceOf result (D.failures first.old) (D.failures first.new) (D.failures second.old) (D.failures second.new) }
+    ensures calls { (most : ℕ) → MatchResult result (λ _. D.counts first.new ≡ asked (D.counts first.old)) (λ e. LooksAt e most (D.counts first.old) (D.counts first.new)) }
+    ensures calls_second { (most : ℕ) → MatchResult result (λ _. D.counts second.new ≡ asked (D.counts second.old)) (λ e. LooksSecondAt e most (D.counts second.old) (D.counts second.new)) }
+{
+    let len = synced_length(first)?;
+    let other_len = synced_length(second)?;
+    if len > log_bytes || other_len > log_bytes {
+        return Err(OpenFault::TooLong);
+    }
+    Ok((len, other_len))
+}
+
+// How a file of this length begins, as an empty window has it then. Fewer than 8 bytes are not read.
+fn front_of<D: Disk>(disk: &mut D, window: &mut [u8], len: u64) -> Result<Front, DiskFault>
+    requires { length window.old ≡ 1048576 }
+    ensures front { D.honest → len ≡ length (D.seen disk.old) → IfOk result (IsFront (D.seen disk.old) window.new) }
+    ensures holds { IfOk result (HasFront len) }
+    ensures same { D.honest → D.seen disk.new ≡ D.seen disk.old }
+    ensures time { D.honest → Passes Same (D.moment disk.old) (D.moment disk.new) (D.left_since disk.old) (D.left_since disk.new) (D.may_leave disk.old) (D.may_leave disk.new) }
+    ensures count { CountsFault result (D.failures disk.old) (D.failures disk.new) }
+    ensures fetched { MatchResult result (λ f. Fetched len (f.span.from + f.span.have) (D.counts disk.old) (D.counts disk.new)) (λ _. FetchedSome len (D.counts disk.old) (D.counts disk.new)) }
+{
+    if len < 8 {
+        return Ok(Front {
+            format: None,
+            newer: false,
+            span: Span { from: 0, have: 0 },
+        });
+    }
+    let span = read_front(disk, window, len)?;
+    match Format::of(&window[..8]) {
+        Ok(format) => Ok(Front {
+            format: Some(format),
+            newer: false,
+            span,
+        }),
+        Err(OpenFault::TooNew) => Ok(Front {
+            format: None,
+            newer: true,
+            span,
+        }),
+        Err(_) => Ok(Front {
+            format: None,
+            newer: false,
+            span,
+        }),
+    }
+}
+
+// The number in bytes 1 to 4 of a body.
+fn number_of(body: &[u8]) -> usize
+    ensures { result ≡ number_in body.now }
+{
+    if body.len() < 5 {
+        return 0;
+    }
+    size_of(&body[1..5])
+}
+
+// The number of the record behind a log's first 8 bytes, if one stands there that chains. The window has the file's
+// first bytes, so all of it.
+fn first_number(window: &[u8], span: Span, len: u64, prev: &[u8; 32]) -> Option<usize>
+    requires room { length window.now ≡ 1048576 }
+    requires from { span.from ≡ 0 }
+    requires have { span.have ≡ min len 1048576 }
+    ensures { (file : List ℕ) → len ≡ length file → Caches file window.now span → Numbers prev.now (drop 8 file) result }
+{
+    if len < 44 {
+        return None;
+    }
+    let size = size_of(&window[8..12]);
+    if size == 0 || size > MAX_BODY || len < 44 + size as u64 {
+        return None;
+    }
+    match chained(&window[8..44 + size], size, prev) {
+        Some(_digest) => Some(number_of(&window[12..12 + size])),
+        None => None,
+    }
+}
+
+// What of a file tells whether it is the current one of two, if it is a log.
+fn head_of(window: &[u8], front: Front, len: u64) -> Option<Head>
+    requires room { length window.now ≡ 1048576 }
+    requires holds { HasFront len front }
+    ensures head { (file : List ℕ) → len ≡ length file → IsFront file window.now front → IsHead file result }
+    ensures some { result ≢ None → front.format ≢ None }
+{
+    match front.format {
+        None => None,
+        Some(format) => {
+            let number = first_number(window, front.span, len, &format.first_digest());
+            Some(Head { format, number })
+        }
+    }
+}
+
+// Whether a log is taken before that of the second file.
+fn is_before(mine: Option<usize>, other: Option<usize>) -> bool
+    ensures { (bodies stood : List (List ℕ)) → Tells bodies mine → Tells stood other → result ≡ beats true bodies stood }
+{
+    let generation = mine.unwrap_or(0);
+    let behind = other.unwrap_or(0);
+    behind < generation || (behind == generation && (other.is_none() || mine.is_some()))
+}
+
+// Which of two files is the current one, and its format.
+fn choose(first: Option<Head>, second: Option<Head>) -> Option<(bool, Format)>
+    ensures choice { (a b : List ℕ) → IsHead a first → IsHead b second → Chooses a b result }
+    ensures some { IfSome result (λ c. (if c.0 then first else second) ≢ None) }
+{
+    match (first, second) {
+        (Some(first), Some(second)) => {
+            if is_before(first.number, second.number) {
+                Some((true, first.format))
+            } else {
+                Some((false, second.format))
+            }
+        }
+        (Some(first), None) => Some((true, first.format)),
+        (None, Some(second)) => Some((false, second.format)),
+        (None, None) => None,
+    }
+}
+
+// Reads how both files begin. `TooNew` where either is of a later format.
+fn read_fronts<D: Disk>(
+    first: &mut D,
+    second: &mut D,
+    window: &mut [u8],
+    other_window: &mut [u8],
+    lens: (u64, u64),
+) -> Result<(Front, Front), OpenFault>
+    requires room { length window.old ≡ 1048576 }
+    requires other_room { length other_window.old ≡ 1048576 }
+    ensures front { D.honest → lens.0 ≡ length (D.seen first.old) → IfOk result (λ r. IsFront (D.seen first.old) window.new r.0) }
+    ensures other_front { D.honest → lens.1 ≡ length (D.seen second.old) → IfOk result (λ r. IsFront (D.seen second.old) other_window.new r.1) }
+    ensures newer { D.honest → lens.0 ≡ length (D.seen first.old) → lens.1 ≡ length (D.seen second.old)
+        → MatchResult result (λ _. either_newer (D.seen first.old) (D.seen second.old) ≡ false) (λ e. e ≡ OpenFault.TooNew → either_newer (D.seen first.old) (D.seen second.old) ≡ true) }
+    ensures holds { IfOk result (λ r. HasFront lens.0 r.0 × HasFront lens.1 r.1) }
+    ensures kinds { IfErr result (λ e. (e ≡ OpenFault.Device) ⊎ (e ≡ OpenFault.TooNew)) }
+    ensures same { D.honest → D.seen first.new ≡ D.seen first.old }
+    ensures same_second { D.honest → D.seen second.new ≡ D.seen second.old }
+    ensures time { D.honest → Passes Same (D.moment first.old) (D.moment first.new) (D.left_since first.old) (D.left_since first.new) (D.may_leave first.old) (D.may_leave first.new) }
+    ensures time_second { D.honest → Passes Same (D.moment second.old) (D.moment second.new) (D.left_since second.old) (D.left_since second.new) (D.may_leave second.old) (D.may_leave second.new) }
+    ensures count { CountsDeviceOf result (D.failures first.old) (D.failures first.new) (D.failures second.old) (D.failures second.new) }
+    ensures fetched { MatchResult result (λ r. Fetched lens.0 (r.0.span.from + r.0.span.have) (D.counts first.old) (D.counts first.new))
+        (λ _. FetchedSome lens.0 (D.counts first.old) (D.counts first.new)) }
+    ensures fetched_second { MatchResult result (λ r. Fetched lens.1 (r.1.span.from + r.1.span.have) (D.counts second.old) (D.counts second.new))
+        (λ _. FetchedSome lens.1 (D.counts second.old) (D.counts second.new)) }
+{
+    let front = front_of(first, window, lens.0)?;
+    let other_front = front_of(second, other_window, lens.1)?;
+    if front.newer || other_front.newer {
+        return Err(OpenFault::TooNew);
+    }
+    Ok((front, other_front))
+}
+
+// Reads the log of the current one of two files that begin so. The other one isn't touched.
+fn read_current<D: Disk>(
+    alloc: Global,
+    first: &mut D,
+    second: &mut D,
+    window: &mut [u8],
+    other_window: &mut [u8],
+    lens: (u64, u64),
+    fronts: (Front, Front),
+) -> Result<(bool, Scan), OpenFault>
+    requires room { length window.old ≡ 1048576 }
+    requires other_room { length other_window.old ≡ 1048576 }
+    requires holds { HasFront lens.0 fronts.0 }
+    requires other_holds { HasFront lens.1 fronts.1 }
+    ensures value { D.honest → lens.0 ≡ length (D.seen first.old) → lens.1 ≡ length (D.seen second.old)
+        → IsFront (D.seen first.old) window.old fronts.0 → IsFront (D.seen second.old) other_window.old fronts.1
+        → MatchResult result (λ r. (either_log (D.seen first.old) (D.seen second.old) ≡ true) × IsCurrent (D.seen first.old) (D.seen second.old) r.0 r.1)
+        (λ e. e ≡ OpenFault.NotALog → either_log (D.seen first.old) (D.seen second.old) ≡ false) }
+    ensures kinds { IfErr result (λ e. (e ≡ OpenFault.Device) ⊎ (e ≡ OpenFault.Memory) ⊎ (e ≡ OpenFault.NotALog)) }
+    ensures fits { (most : ℕ) → lens.0 ≤ most → lens.1 ≤ most → IfOk result (λ r. r.1.end ≤ most) }
+    ensures other { IfOk result (λ r. MatchBool r.0 (second.new ≡ second.old) (first.new ≡ first.old)) }
+    ensures same { D.honest → D.seen first.new ≡ D.seen first.old }
+    ensures same_second { D.honest → D.seen second.new ≡ D.seen second.old }
+    ensures time { D.honest → Passes Same (D.moment first.old) (D.moment first.new) (D.left_since first.old) (D.left_since first.new) (D.may_leave first.old) (D.may_leave first.new) }
+    ensures time_second { D.honest → Passes Same (D.moment second.old) (D.moment second.new) (D.left_since second.old) (D.left_since second.new) (D.may_leave second.old) (D.may_leave second.new) }
+    ensures count { CountsDeviceOf result (D.failures first.old) (D.failures first.new) (D.failures second.old) (D.failures second.new) }
+    ensures fetched { (start : Counts) → Fetched lens.0 (fronts.0.span.from + fronts.0.span.have) start (D.counts first.old) → FetchedSome lens.0 start (D.counts first.new) }
+    ensures fetched_second { (start : Counts) → Fetched lens.1 (fronts.1.span.from + fronts.1.span.have) start (D.counts second.old) → FetchedSome lens.1 start (D.counts second.new) }
+{
+    let head = head_of(window, fronts.0, lens.0);
+    let other_head = head_of(other_window, fronts.1, lens.1);
+    match choose(head, other_head) {
+        Some((true, format)) => {
+            let scan = read_records(alloc, first, window, fronts.0.span, lens.0, format)?;
+            Ok((true, scan))
+        }
+        Some((false, format)) => {
+            let scan = read_records(alloc, second, other_window, fronts.1.span, lens.1, format)?;
+            Ok((false, scan))
+        }
+        None => Err(OpenFault::NotALog),
+    }
+}
+
+// Syncs and measures both files, reads how both begin, and then the log of the current one. Gives it, and whether it is
+// the first file's. Each file has a window of its own, so that no byte is read twice.
+pub(crate) fn read_pair<D: Disk>(
+    alloc: Global,
+    first: &mut D,
+    second: &mut D,
+    window: &mut [u8],
+    other_window: &mut [u8],
+    log_bytes: u64,
+) -> Result<(bool, Scan), OpenFault>
+    requires room { length window.old ≡ 1048576 }
+    requires other_room { length other_window.old ≡ 1048576 }
+    ensures value { D.honest
+        → MatchResult result (λ r. (pair_fault log_bytes (D.seen first.old) (D.seen second.old) ≡ None) × IsCurrent (D.seen first.old) (D.seen second.old) r.0 r.1)
+        (λ e. Explains e (pair_fault log_bytes (D.seen first.old) (D.seen second.old))) }
+    ensures durable { D.honest → OnOk result (Only (D.seen first.new) (D.may_leave first.new)) }
+    ensures durable_second { D.honest → OnOk result (Only (D.seen second.new) (D.may_leave second.new)) }
+    ensures fits { IfOk result (λ r. r.1.end ≤ log_bytes) }
+    ensures same { D.honest → D.seen first.new ≡ D.seen first.old }
+    ensures same_second { D.honest → D.seen second.new ≡ D.seen second.old }
+    ensures time { D.honest → Passes Same (D.moment first.old) (D.moment first.new) (D.left_since first.old) (D.left_since first.new) (D.may_leave first.old) (D.may_leave first.new) }
+    ensures time_second { D.honest → Passes Same (D.moment second.old) (D.moment second.new) (D.left_since second.old) (D.left_since second.new) (D.may_leave second.old) (D.may_leave second.new) }
+    ensures count { CountsDeviceOf result (D.failures first.old) (D.failures first.new) (D.failures second.old) (D.failures second.new) }
+    ensures calls { Looks result log_bytes (D.counts first.old) (D.counts first.new) }
+    ensures calls_second { LooksSecond result log_bytes (D.counts second.old) (D.counts second.new) }
+    ensures calls_once { D.honest → Looks result (length (D.seen first.old)) (D.counts first.old) (D.counts first.new) }
+    ensures calls_once_second { D.honest → LooksSecond result (length (D.seen second.old)) (D.counts second.old) (D.counts second.new) }
+    ensures little { IfOk result (λ r. ReadsLittle r.0 (D.counts first.old) (D.counts first.new) (D.counts second.old) (D.counts second.new)) }
+{
+    let lens = measure(first, second, log_bytes)?;
+    let fronts = read_fronts(first, second, window, other_window, lens)?;
+    read_current(alloc, first, second, window, other_window, lens, fronts)
+}
+
+// The same of the current file and the other one, in the order of the two.
+pub(crate) fn read_again<D: Disk>(
+    alloc: Global,
+    disk: &mut D,
+    other: &mut D,
+    on_first: bool,
+    window: &mut [u8],
+    other_window: &mut [u8],
+    log_bytes: u64,
+) -> Result<(bool, Scan), OpenFault>
+    requires room { length window.old ≡ 1048576 }
+    requires other_room { length other_window.old ≡ 1048576 }
+    ensures value { D.honest → MatchResult result
+        (λ r. (fault_pair log_bytes on_first (D.seen disk.old) (D.seen other.old) ≡ None)
+        × IsCurrent (D.seen (if on_first then disk.old else other.old)) (D.seen (if on_first then other.old else disk.old)) r.0 r.1)
+        (λ e. Explains e (fault_pair log_bytes on_first (D.seen disk.old) (D.seen other.old))) }
+    ensures durable { D.honest → OnOk result (Only (D.seen disk.new) (D.may_leave disk.new)) }
+    ensures durable_other { D.honest → OnOk result (Only (D.seen other.new) (D.may_leave other.new)) }
+    ensures fits { IfOk result (λ r. r.1.end ≤ log_bytes) }
+    ensures same { D.honest → D.seen disk.new ≡ D.seen disk.old }
+    ensures same_other { D.honest → D.seen other.new ≡ D.seen other.old }
+    ensures time { D.honest → Passes Same (D.moment disk.old) (D.moment disk.new) (D.left_since disk.old) (D.left_since disk.new) (D.may_leave disk.old) (D.may_leave disk.new) }
+    ensures time_other { D.honest → Passes Same (D.moment other.old) (D.moment other.new) (D.left_since other.old) (D.left_since other.new) (D.may_leave other.old) (D.may_leave other.new) }
+    ensures count { CountsDeviceOf result (D.failures (if on_first then disk.old else other.old)) (D.failures (if on_first then disk.new else other.new))
+        (D.failures (if on_first then other.old else disk.old)) (D.failures (if on_first then other.new else disk.new)) }
+    ensures calls { Looks result log_bytes (D.counts (if on_first then disk.old else other.old)) (D.counts (if on_first then disk.new else other.new)) }
+    ensures calls_second { LooksSecond result log_bytes (D.counts (if on_first then other.old else disk.old)) (D.counts (if on_first then other.new else disk.new)) }
+    ensures calls_once { D.honest → Looks result (length (D.seen (if on_first then disk.old else other.old)))
+        (D.counts (if on_first then disk.old else other.old)) (D.counts (if on_first then disk.new else other.new)) }
+    ensures calls_once_second { D.honest → LooksSecond result (length (D.seen (if on_first then other.old else disk.old)))
+        (D.counts (if on_first then other.old else disk.old)) (D.counts (if on_first then other.new else disk.new)) }
+    ensures little { IfOk result (λ r. ReadsLittle r.0 (D.counts (if on_first then disk.old else other.old)) (D.counts (if on_first then disk.new else other.new))
+        (D.counts (if on_first then other.old else disk.old)) (D.counts (if on_first then other.new else disk.new))) }
+{
+    if on_first {
+        return read_pair(alloc, disk, other, window, other_window, log_bytes);
+    }
+    read_pair(alloc, other, disk, window, other_window, log_bytes)
+}
+
+// Has the two, of which the first was the current one or not, change places, or not.
+pub(crate) fn place<D>(disk: &mut D, other: &mut D, on_first: bool, is_first: bool)
+    ensures first { (if is_first then disk.new else other.new) ≡ (if on_first then disk.old else other.old) }
+    ensures second { (if is_first then other.new else disk.new) ≡ (if on_first then other.old else disk.old) }
+{
+    if on_first != is_first {
+        mem::swap(disk, other);
+    }
+}
+
+// The two, with the one that is the first of them or isn't before the other one.
+pub(crate) fn in_order<D>(one: D, other: D, is_first: bool) -> (D, D)
+    ensures { result ≡ (if is_first then (one, other) else (other, one)) }
+{
+    if is_first { (one, other) } else { (other, one) }
+}

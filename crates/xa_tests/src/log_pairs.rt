@@ -1,0 +1,134 @@
+ghost use Rattle.std.specs.Prelude.{◌≡◌, true};
+ghost use Rattle.std.specs.List.{AllByRecursion};
+ghost use Rattle.xa_log.specs.Chain.{IsBody};
+ghost use Rattle.xa_log.specs.Reading.{bodies_of};
+
+use std::alloc::Global;
+use xa_disk::{Disk, MemDisk};
+use xa_log::{Appended, Log};
+
+pub const MOST: u64 = 1 << 30;
+
+// The first boot's record.
+pub const OPENED: [u8; 5] = [1, 0, 0, 0, 1];
+
+// Branch 1:aa:bb of timestamp 4294967297 prepared, with the value 76 under the key 6b.
+pub const PREPARED: [u8; 25] = [
+    2, 0, 0, 0, 1, 1, 1, 0xaa, 0xbb, 0, 0, 0, 1, 0, 0, 0, 1, 0, 1, 1, 0x6b, 1, 0, 1, 0x76,
+];
+
+// The second boot's record, and the branch as a snapshot has it.
+pub const AGAIN: [u8; 5] = [1, 0, 0, 0, 2];
+
+pub const HELD: [u8; 25] = [
+    8, 0, 0, 0, 1, 1, 1, 0xaa, 0xbb, 0, 0, 0, 1, 0, 0, 0, 1, 0, 1, 1, 0x6b, 1, 0, 1, 0x76,
+];
+
+// A completion of the branch by the operator.
+pub const DECIDED: [u8; 10] = [5, 0, 0, 0, 1, 1, 1, 0xaa, 0xbb, 1];
+
+// Two records before a checkpoint, and two of it.
+pub const OLD: [&[u8]; 2] = [&OPENED, &PREPARED];
+
+pub const NEW: [&[u8]; 2] = [&AGAIN, &HELD];
+
+fn are_bodies(bodies: &[Vec<u8>]) -> bool
+    ensures { result ≡ true → AllByRecursion IsBody (bodies_of bodies.now) }
+{
+    for body in bodies {
+        if body.is_empty() || body.len() > 524288 {
+            return false;
+        }
+    }
+    true
+}
+
+/// What a checkpoint of these comes to, if they are bodies.
+pub fn checkpoints<D: Disk>(log: &mut Log<D>, bodies: &[Vec<u8>]) -> Option<Appended> {
+    if bodies.is_empty() || !are_bodies(bodies) {
+        return None;
+    }
+    Some(log.checkpoint(bodies))
+}
+
+/// What an append of this comes to, if it is a body.
+pub fn appends<D: Disk>(log: &mut Log<D>, body: &[u8]) -> Option<Appended> {
+    if body.is_empty() || body.len() > 524288 {
+        return None;
+    }
+    Some(log.append(body))
+}
+
+/// All are appended and kept.
+pub fn keeps_all<D: Disk>(log: &mut Log<D>, bodies: &[&[u8]]) -> bool {
+    for body in bodies {
+        if appends(log, body) != Some(Appended::Kept) {
+            return false;
+        }
+    }
+    true
+}
+
+pub fn copies(alloc: Global, bodies: &[&[u8]]) -> Option<Vec<Vec<u8>>> {
+    let mut all = Vec::new(alloc);
+    for body in bodies {
+        all.push(Vec::from_slice(alloc, body).ok()?).ok()?;
+    }
+    Some(all)
+}
+
+/// What a checkpoint of these comes to.
+pub fn checkpoint_of<D: Disk>(
+    alloc: Global,
+    log: &mut Log<D>,
+    bodies: &[&[u8]],
+) -> Option<Appended> {
+    checkpoints(log, &copies(alloc, bodies)?)
+}
+
+/// These are the bodies.
+pub fn are(bodies: &[Vec<u8>], rows: &[&[u8]]) -> bool {
+    for (body, row) in bodies.iter().zip(rows) {
+        if body.as_slice() != *row {
+            return false;
+        }
+    }
+    bodies.len() == rows.len()
+}
+
+/// A log of these on the first of two disks in memory, of which the second is empty.
+pub fn log_of(alloc: Global, bodies: &[&[u8]]) -> Option<Log<MemDisk>> {
+    let mut log = Log::create(alloc, MemDisk::new(alloc), MemDisk::new(alloc), MOST).ok()?;
+    if keeps_all(&mut log, bodies) {
+        Some(log)
+    } else {
+        None
+    }
+}
+
+/// The two disks behind a crash.
+pub fn crashed(log: Log<MemDisk>) -> Option<(MemDisk, MemDisk)> {
+    let (mut first, mut second) = log.into_disks();
+    first.crash().ok()?;
+    second.crash().ok()?;
+    Some((first, second))
+}
+
+/// All bytes of a disk.
+pub fn bytes_on(alloc: Global, disk: &mut MemDisk) -> Option<Vec<u8>> {
+    let len = disk.length().ok()?;
+    let mut bytes = vec![in alloc; 0; len as usize].ok()?;
+    disk.read_at(0, &mut bytes).ok()?;
+    Some(bytes)
+}
+
+/// The bytes of a log of these.
+pub fn file_of(alloc: Global, bodies: &[&[u8]]) -> Option<Vec<u8>> {
+    let (mut disk, _empty) = crashed(log_of(alloc, bodies)?)?;
+    bytes_on(alloc, &mut disk)
+}
+
+/// A disk of these bytes, all of them stable.
+pub fn disk_of(alloc: Global, bytes: &[u8]) -> Option<MemDisk> {
+    Some(MemDisk::with_bytes(Vec::from_slice(alloc, bytes).ok()?))
+}
