@@ -3,9 +3,9 @@ use Rattle.std.specs.Prelude.{ℤ, Bool, not, ◌||◌, Option, Some, None, [], 
 use Rattle.xa_codes.specs.declared.codes.TheConstants.{XAER_PROTO, XAER_NOTA, XA_HEURCOM, XA_HEURRB, XA_RBOTHER}
 use Rattle.xa_codes.specs.declared.direction.Direction.{Direction}
 use Rattle.xa_codes.specs.declared.direction.Direction.TheVariants as direction
-use Rattle.xa_xid.specs.Triple.{Triple}
+use Rattle.xa_xid.specs.Triple.{Triple, xid_eq}
 use Rattle.xa_frame.specs.declared.reply.Reply.{Reply}
-use Rattle.xa_model.specs.State.{State, Branch, Committed, Known, Completed, known_as, holders_of, is_known_as, without, change}
+use Rattle.xa_model.specs.State.{State, Branch, Decided, Phase, Working, Prepared, Committed, Known, Completed, known_as, holders_of, is_known_as, without, change}
 use Rattle.xa_model.specs.Answer.{Answer, plain, ok, first, unless, marked}
 use Rattle.xa_model.specs.Associations.{is_unknown, is_settled, mark_in, with_mark}
 
@@ -64,3 +64,33 @@ doomed s xid = record s { branches = change (is_known_as xid) (with_mark XA_RBOT
 
 abbrev pub doom_by : State → Triple → Answer
 doom_by s xid = unless (doom_refusal (known_as s xid)) s (ok (doomed s xid))
+
+-- What lasts: branches that are prepared, and XIDs whose branches the operator completed. No call that is built leads here.
+
+abbrev pub prepared_phase : Phase → Phase
+prepared_phase (Working xid mark) = Prepared xid
+prepared_phase (Prepared xid) = Prepared xid
+prepared_phase Committed = Committed
+
+abbrev pub as_prepared : Branch → Branch
+as_prepared b = record b { phase = prepared_phase b.phase }
+
+-- the branch at work is prepared
+abbrev pub prepared : State → Triple → State
+prepared s xid = record s { branches = change (is_known_as xid) as_prepared s.branches }
+
+-- a branch that is completed in this direction
+abbrev pub completed : State → Direction → Triple → State
+completed s direction.Commit xid = committed s xid
+completed s direction.Rollback xid = rolled_back s xid
+
+-- the operator completes the prepared branch, and the XID keeps the direction
+abbrev pub decided_by : State → Direction → Triple → State
+decided_by s direction xid = record (completed s direction xid) { decided = record { xid = xid; direction = direction } ∷ s.decided }
+
+abbrev pub is_decision_of : Triple → Decided → Bool
+is_decision_of xid d = xid_eq d.xid xid
+
+-- what the operator decided is forgotten
+abbrev pub forgotten : State → Triple → State
+forgotten s xid = record s { decided = without (is_decision_of xid) s.decided }

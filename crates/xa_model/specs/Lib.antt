@@ -8,7 +8,17 @@ pub mod Records
 pub mod Step
 pub mod History
 pub mod Sound
+pub mod Durable
+pub mod Fold
+pub mod Logging
+pub mod Completions
+pub mod Restarting
+pub mod Listed
 pub mod Laws
+pub mod DurableLaws
+pub mod LoggingLaws
+pub mod EventLaws
+pub mod OrderLaws
 pub mod Worked
 pub mod WorkedScripts
 pub mod WorkedCalls
@@ -16,3 +26,6 @@ pub mod WorkedVersions
 pub mod WorkedRefusals
 pub mod WorkedBranches
 pub mod WorkedLimits
+pub mod WorkedLog
+pub mod WorkedTurns
+pub mod WorkedLasting

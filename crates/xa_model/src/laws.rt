@@ -1,4 +1,11 @@
-ghost use Rattle.xa_model.specs.Laws.{OneHistory, KeepsSound, AlwaysSound};
+ghost use Rattle.xa_model.specs.Laws.{OneHistory, KeepsSound, AlwaysSound, KeepsSoundPrepared, KeepsSoundDecided, KeepsSoundForgotten};
+ghost use Rattle.xa_model.specs.DurableLaws.{FoldReads, OneMore, FirstFault, FoldIsByKey, FoldIsDurable, LastWritesStay, LeavesDurable, OneValue, SnapshotFolds, SnapshotIsShort, SnapshotIsWritten, WritesOf};
+ghost use Rattle.xa_model.specs.LoggingLaws.{KeepsSoundApplied, AppliedLasts, AppliedFits, CallsLogWhatLasts, RestartLasts, ReopenLasts};
+ghost use Rattle.xa_model.specs.EventLaws.{EventsLogNothing};
+ghost use Rattle.xa_model.specs.OrderLaws.{LoggedInOrder};
+ghost use Rattle.xa_model.specs.WorkedLog.{HeldAndCommitted, DecidedAndForgotten, RolledBack, LastWrites, InOrder, BootsInOrder, TimestampsInOrder, NamesInOrder, SnapshotsInOrder};
+ghost use Rattle.xa_model.specs.WorkedLasting.{StatesLeave, CommittedLeaves};
+ghost use Rattle.xa_model.specs.WorkedTurns.{PreparedAndCommitted, RolledBackAgain, MarkedIsGone, ReadOnly, Room, RefusedAppends, LostAppends, LostBoots, DecidedByOperator, OpenedAgain};
 ghost use Rattle.xa_model.specs.Worked.{ReadBack, BusyUntilCommitted, FlagsRefused};
 ghost use Rattle.xa_model.specs.WorkedCalls.{ComesAndGoes, Migration, OwnBeforeLoose, LooseEnds, BrokenConnection, SuspendedAndBroken, NumbersAgain, Opening, Marks, FirstMark};
 ghost use Rattle.xa_model.specs.WorkedVersions.{LateWrite, LateDelete, BlindWrite, BusyBelow, BusyInDoubt, SharedBranch, NotBusyAbove, Deleted, DeletedAfterwards, ReadOver};
@@ -16,6 +23,13 @@ pub fn one_history()
 pub fn sound()
     ensures step { KeepsSound }
     ensures history { AlwaysSound }
+{}
+
+/// What lasts of branches keeps a state sound too: prepared ones, the operator's decisions, and that these are forgotten.
+pub fn sound_lasting()
+    ensures prepared { KeepsSoundPrepared }
+    ensures decided { KeepsSoundDecided }
+    ensures forgotten { KeepsSoundForgotten }
 {}
 
 /// Worked rows, computed on the definitions alone.
@@ -83,4 +97,74 @@ pub fn worked_limits()
     ensures timestamps { ManyTimestamps }
     ensures loose { ManyLoose }
     ensures keys { ManyKeys }
+{}
+
+/// What the log's records come to, and the snapshot that a new file begins with: one record more, the first that is out of
+/// order, the one form of what lasts, that a snapshot comes to the same and is no longer, and that a sound state would leave
+/// that form.
+pub fn lasting()
+    ensures reads { FoldReads }
+    ensures one_more { OneMore }
+    ensures first_fault { FirstFault }
+    ensures one_form { FoldIsDurable }
+    ensures by_key { FoldIsByKey }
+    ensures one_value { OneValue }
+    ensures last_writes { LastWritesStay }
+    ensures snapshot { SnapshotFolds }
+    ensures short { SnapshotIsShort }
+    ensures written { SnapshotIsWritten }
+    ensures writes { WritesOf }
+    ensures leaves { LeavesDurable }
+{}
+
+/// Worked rows of the log: what a restart writes of it, what is out of order, and what states would leave.
+pub fn worked_logs()
+    ensures held { HeldAndCommitted }
+    ensures decided { DecidedAndForgotten }
+    ensures rolled_back { RolledBack }
+    ensures last_writes { LastWrites }
+    ensures in_order { InOrder }
+    ensures boots { BootsInOrder }
+    ensures timestamps { TimestampsInOrder }
+    ensures names { NamesInOrder }
+    ensures snapshots { SnapshotsInOrder }
+    ensures states { StatesLeave }
+    ensures committed { CommittedLeaves }
+{}
+
+/// Worked rows of the calls that log, as turns: the record, and what each outcome of its append leads to; and restarts.
+pub fn worked_turns()
+    ensures prepared { PreparedAndCommitted }
+    ensures rolled_back { RolledBackAgain }
+    ensures marked { MarkedIsGone }
+    ensures read_only { ReadOnly }
+    ensures room { Room }
+    ensures refused { RefusedAppends }
+    ensures lost { LostAppends }
+    ensures boots { LostBoots }
+    ensures decided { DecidedByOperator }
+    ensures opened { OpenedAgain }
+{}
+
+/// What is logged is what lasts: what a record does to a state that may log it keeps the state sound, and does to what would
+/// last what it does to what the log's records come to; behind records that come to what would last, it fits if its timestamp
+/// is a new one. So each call that logs, a restart and an opening leave what lasts.
+pub fn logged_lasts()
+    ensures sound { KeepsSoundApplied }
+    ensures applied { AppliedLasts }
+    ensures fits { AppliedFits }
+    ensures calls { CallsLogWhatLasts }
+    ensures restart { RestartLasts }
+    ensures reopen { ReopenLasts }
+{}
+
+/// What stands of the step logs nothing: each event but a commit in one phase leaves what lasts, and where the log ends.
+pub fn logs_nothing()
+    ensures { EventsLogNothing }
+{}
+
+/// What a state may log fits behind the log's records, where these come to what would last of the state, and none of them has
+/// the timestamp of a branch at work.
+pub fn logged_in_order()
+    ensures { LoggedInOrder }
 {}

@@ -9,7 +9,8 @@ mod outcome;
 
 pub use event::Event;
 pub use laws::{
-    one_history, sound, worked_associations, worked_limits, worked_marks, worked_refusals,
-    worked_rows, worked_versions,
+    lasting, logged_in_order, logged_lasts, logs_nothing, one_history, sound, sound_lasting,
+    worked_associations, worked_limits, worked_logs, worked_marks, worked_refusals, worked_rows,
+    worked_turns, worked_versions,
 };
 pub use outcome::{Appending, Outcome};

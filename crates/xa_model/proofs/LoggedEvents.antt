@@ -1,0 +1,300 @@
+-- What the rows that stand leave of the log.
+use Rattle.std.proofs.Common.{◌≡◌, ℕ, ℤ, ◌+◌, ◌==◌, Bool, true, false, not, ◌&&◌, cond, List, [], ◌∷◌, Option, Some, None, refl, ap, sym, ◌∙◌, subst, arith}
+use Rattle.std.specs.Prelude.{find, map, filter_map, reverse, is_some, option_map, option_and_then}
+use Rattle.std.specs.List.{list_any, AllByRecursion}
+use Rattle.std.proofs.lemmas.Bool.Decides.{nat_tests}
+use Rattle.xa_codes.specs.Flags.{has}
+use Rattle.xa_codes.specs.declared.codes.TheConstants.{XA_RBTRANSIENT, XA_RBOTHER, XA_RBROLLBACK, XA_RBCOMMFAIL}
+use Rattle.xa_codes.specs.declared.flags.TheConstants.{TMONEPHASE, TMJOIN, TMRESUME, TMSUSPEND, TMMIGRATE, TMFAIL}
+use Rattle.xa_frame.specs.declared.reply.Reply.{Reply}
+use Rattle.xa_frame.specs.declared.request.Request.{Request}
+use Rattle.xa_frame.specs.declared.request.Request.TheVariants.{Open, Close, Start, End, Prepare, Commit, Rollback, Forget, Recover, Get, Put, Delete, Decide, Doom, Restart}
+use Rattle.xa_xid.specs.Triple.{Triple, xid_eq}
+use Rattle.xa_xid.proofs.Same.{xid_eq_itself}
+use Rattle.xa_model.specs.declared.event.Event.{Event}
+use Rattle.xa_model.specs.declared.event.Event.TheVariants as event
+use Rattle.xa_model.specs.State.{State, Session, Association, Read, Branch, Operation, Got, Wrote, Phase, Working, Prepared, Committed, Known, Unknown, AtWork, InDoubt, Completed, known_as, known_of, is_known_as, is_active, active_of, branch_with, own_branch, holders_of, mark_of, change, session_of, suspends, is_loose_with, known_in}
+use Rattle.xa_model.specs.Source.{Version, source, is_late}
+use Rattle.xa_model.specs.Answer.{Answer, ok, unless, marked}
+use Rattle.xa_model.specs.Early.{early_refusal}
+use Rattle.xa_model.specs.Associations.{connect_refusal, connected, close_refusal, as_closed, as_opened, is_anyones, with_mark, marked_phase, left_behind, is_worked_by, start_refusal, begun, begin_by, is_taken, join_refusal, joined, join_by, resume_refusal, resumed, not_resumed, resume_by, start_by, end_refusal, loose_refusal, suspended, not_suspended, suspend_by, can_end, ended, failed, leave_by, end_by, mark_in, is_unknown, is_settled}
+use Rattle.xa_model.specs.Branches.{rolled_back, two_phase_refusal, heuristic_refusal, rollback_refusal, doom_refusal, doomed, is_associated, commit_one_phase}
+use Rattle.xa_model.specs.Records.{having_done, got, get_from, get_by, busy_refusal, is_full, limit_refusal, came_late, written, in_time, put_from, put_by}
+use Rattle.xa_model.specs.Step.{row, respond, opened_of, is_up, unbuilt, commit_by, roll_back, rollback_by}
+use Rattle.xa_model.specs.Sound.{IsSound, is_working, is_at_work}
+use Rattle.xa_model.specs.Durable.{durable, last_writes, by_name, writes_of, committed_part, prepared_part}
+use Rattle.xa_model.specs.LoggingLaws.{KeepsLog}
+use Rattle.xa_model.specs.EventLaws.{is_one_phase, commits_in_one_phase, EventsLogNothing}
+use Rattle.xa_model.proofs.Lists.{found_all}
+use Rattle.xa_model.proofs.Rows.{passed}
+use Rattle.xa_model.proofs.Splits.{split, uncounted, parts, parts_none}
+use Rattle.xa_model.proofs.Applied.{committed_of, prepared_of, same_durable}
+use Rattle.xa_model.proofs.LoggedTurns.{idle_of, gone_keeps}
+use Rattle.xa_model.proofs.Soundness.{respond_sound}
+
+-- what is the same of the log
+record IsSame (s t : State) : Type 0 where
+  lasts : durable t ≡ durable s
+  end : t.end ≡ s.end
+  boot : t.boot ≡ s.boot
+  logged_boot : t.logged_boot ≡ s.logged_boot
+  open_record : t.open_record ≡ s.open_record
+  standing : t.standing ≡ s.standing
+
+abbrev with_all : State → ℕ → List Session → List Association → List Branch → List Read → State
+with_all s given sessions held bs reads = record s { given = given; sessions = sessions; associations = held; branches = bs; reads = reads }
+
+kept : (s : State) (given : ℕ) (sessions : List Session) (held : List Association) (bs : List Branch) (reads : List Read)
+    → parts committed_of bs ≡ parts committed_of s.branches → parts prepared_of bs ≡ parts prepared_of s.branches → IsSame s (with_all s given sessions held bs reads)
+kept s given sessions held bs reads e f = record {
+  lasts = same_durable s.logged_boot (last_writes (parts committed_of bs)) (last_writes (parts committed_of s.branches)) (parts prepared_of bs) (parts prepared_of s.branches) (by_name s.decided) (ap last_writes e) f;
+  end = refl;
+  boot = refl;
+  logged_boot = refl;
+  open_record = refl;
+  standing = refl;
+}
+
+alike : (s : State) (given : ℕ) (sessions : List Session) (held : List Association) (reads : List Read) → IsSame s (with_all s given sessions held s.branches reads)
+alike s given sessions held reads = kept s given sessions held s.branches reads refl refl
+
+itself : (s : State) → IsSame s s
+itself s = record { lasts = refl; end = refl; boot = refl; logged_boot = refl; open_record = refl; standing = refl }
+
+unless_same : (o : Option Reply) (s : State) (a : Answer) → (o ≡ None → IsSame s a.after) → IsSame s (unless o s a).after
+unless_same None s a k = k refl
+unless_same (Some reply) s a k = itself s
+
+marked_same : (o : Option ℤ) (s left : State) (a : Answer) → IsSame s left → IsSame s a.after → IsSame s (marked o left a).after
+marked_same None s left a h k = k
+marked_same (Some code) s left a h k = h
+
+cond_same : (c : Bool) (s : State) (a b : Answer) → IsSame s a.after → IsSame s b.after → IsSame s (cond c a b).after
+cond_same true s a b h k = h
+cond_same false s a b h k = k
+
+only_false : (c : Bool) (s : State) (a b : Answer) → c ≡ false → IsSame s b.after → IsSame s (cond c a b).after
+only_false true s a b e k = absurd (cc e)
+only_false false s a b e k = k
+
+-- branches
+
+added_by : {B : Type 0} (m : Branch → Option B) (b c : Branch) (xs ys : List Branch) (o : Option B) → m b ≡ o → m c ≡ o → filter_map m xs ≡ filter_map m ys → filter_map m (b ∷ xs) ≡ filter_map m (c ∷ ys)
+added_by m b c xs ys None e f h = rw (e, f) h
+added_by m b c xs ys (Some y) e f h = rw (e, f) (ap (λ l. y ∷ l) h)
+
+map_made : {B : Type 0} (m : Branch → Option B) (f : Branch → Branch) → ((b : Branch) → m (f b) ≡ m b) → (bs : List Branch) → filter_map m (map f bs) ≡ filter_map m bs
+map_made m f same [] = refl
+map_made m f same (b ∷ bs) = added_by m (f b) b (map f bs) bs (m b) (same b) refl (map_made m f same bs)
+
+changed_by : {B : Type 0} (m : Branch → Option B) (f : Branch → Branch) (b : Branch) (xs ys : List Branch) (c : Bool) → m (f b) ≡ m b → filter_map m ys ≡ filter_map m xs
+    → filter_map m (cond c (f b ∷ xs) (b ∷ ys)) ≡ filter_map m (b ∷ xs)
+changed_by m f b xs ys true same rest = added_by m (f b) b xs xs (m b) same refl refl
+changed_by m f b xs ys false same rest = added_by m b b ys xs (m b) refl refl rest
+
+change_made : {B : Type 0} (m : Branch → Option B) (p : Branch → Bool) (f : Branch → Branch) → ((b : Branch) → m (f b) ≡ m b) → (bs : List Branch) → filter_map m (change p f bs) ≡ filter_map m bs
+change_made m p f same [] = refl
+change_made m p f same (b ∷ bs) = changed_by m f b bs (change p f bs) (p b) (same b) (change_made m p f same bs)
+
+mark_committed : (code : ℤ) (b : Branch) (p : Phase) → committed_part b.timestamp (writes_of b.operations) (marked_phase code p) ≡ committed_part b.timestamp (writes_of b.operations) p
+mark_committed code b (Working x mark) = refl
+mark_committed code b (Prepared x) = refl
+mark_committed code b Committed = refl
+
+mark_prepared : (code : ℤ) (b : Branch) (p : Phase) → prepared_part b.timestamp (writes_of b.operations) (marked_phase code p) ≡ prepared_part b.timestamp (writes_of b.operations) p
+mark_prepared code b (Working x mark) = refl
+mark_prepared code b (Prepared x) = refl
+mark_prepared code b Committed = refl
+
+with_mark_same : (s : State) (given : ℕ) (sessions : List Session) (held : List Association) (xid : Triple) (code : ℤ) (reads : List Read)
+    → IsSame s (with_all s given sessions held (change (is_known_as xid) (with_mark code) s.branches) reads)
+with_mark_same s given sessions held xid code reads =
+    kept s given sessions held (change (is_known_as xid) (with_mark code) s.branches) reads
+    (ap reverse (change_made committed_of (is_known_as xid) (with_mark code) (λ b. mark_committed code b b.phase) s.branches))
+    (ap reverse (change_made prepared_of (is_known_as xid) (with_mark code) (λ b. mark_prepared code b b.phase) s.branches))
+
+behind_committed : (b : Branch) (c : Bool) → committed_of (cond c (with_mark XA_RBCOMMFAIL b) b) ≡ committed_of b
+behind_committed b true = mark_committed XA_RBCOMMFAIL b b.phase
+behind_committed b false = refl
+
+behind_prepared : (b : Branch) (c : Bool) → prepared_of (cond c (with_mark XA_RBCOMMFAIL b) b) ≡ prepared_of b
+behind_prepared b true = mark_prepared XA_RBCOMMFAIL b b.phase
+behind_prepared b false = refl
+
+hung_up_same : (s : State) (n : ℕ) (sessions : List Session) (held : List Association) → IsSame s (with_all s s.given sessions held (map (left_behind s.associations n) s.branches) s.reads)
+hung_up_same s n sessions held =
+    kept s s.given sessions held (map (left_behind s.associations n) s.branches) s.reads
+    (ap reverse (map_made committed_of (left_behind s.associations n) (λ b. behind_committed b (is_worked_by s.associations n b.phase)) s.branches))
+    (ap reverse (map_made prepared_of (left_behind s.associations n) (λ b. behind_prepared b (is_worked_by s.associations n b.phase)) s.branches))
+
+-- the association table
+
+start_same : (s : State) (n flags : ℕ) (xid : Triple) → IsSame s (start_by s n flags xid).after
+start_same s n flags xid =
+    cond_same (has flags TMJOIN) s (join_by s n xid) (cond (has flags TMRESUME) (resume_by s n xid) (begin_by s n xid))
+    (unless_same (join_refusal (is_some (active_of s.associations n)) (list_any (suspends n xid) s.associations) (known_as s xid)) s _
+    (λ none. marked_same (mark_in (known_as s xid)) s s (joined s n xid) (itself s) (alike s s.given s.sessions _ s.reads)))
+    (cond_same (has flags TMRESUME) s (resume_by s n xid) (begin_by s n xid)
+    (unless_same (resume_refusal (is_some (active_of s.associations n)) (known_as s xid) (list_any (suspends n xid) s.associations) (list_any (is_loose_with xid) s.associations)) s _
+    (λ none. marked_same (mark_in (known_as s xid)) s (not_resumed s n xid) (resumed s n xid) (alike s s.given s.sessions _ s.reads) (alike s s.given s.sessions _ s.reads)))
+    (unless_same (start_refusal (is_some (active_of s.associations n)) (is_taken (known_as s xid)) (known_in s) s.given) s (begun s n xid)
+    (λ none. kept s (s.given + 1) s.sessions _ _ s.reads refl refl)))
+
+suspend_same : (s : State) (n : ℕ) (migrates : Bool) (xid : Triple) → IsSame s (suspend_by s n migrates xid).after
+suspend_same s n migrates xid =
+    unless_same (end_refusal (known_as s xid) (_)) s _
+    (λ none. marked_same (mark_in (known_as s xid)) s (not_suspended s n xid) _ (alike s s.given s.sessions _ s.reads)
+    (unless_same (loose_refusal migrates _) s (ok (suspended s n migrates xid)) (λ free. alike s s.given s.sessions _ s.reads)))
+
+leave_same : (s : State) (n : ℕ) (fails : Bool) (xid : Triple) → IsSame s (leave_by s n fails xid).after
+leave_same s n fails xid =
+    unless_same (end_refusal (known_as s xid) (can_end s.associations n xid)) s _
+    (λ none. marked_same (mark_in (known_as s xid)) s (ended s n xid) (cond fails (failed s n xid) (ok (ended s n xid))) (alike s s.given s.sessions _ s.reads)
+    (cond_same fails s (failed s n xid) (ok (ended s n xid)) (with_mark_same s s.given s.sessions _ xid XA_RBROLLBACK s.reads) (alike s s.given s.sessions _ s.reads)))
+
+end_same : (s : State) (n flags : ℕ) (xid : Triple) → IsSame s (end_by s n flags xid).after
+end_same s n flags xid =
+    cond_same (has flags TMSUSPEND) s (suspend_by s n (has flags TMMIGRATE) xid) (leave_by s n (has flags TMFAIL) xid) (suspend_same s n (has flags TMMIGRATE) xid) (leave_same s n (has flags TMFAIL) xid)
+
+-- the branch table
+
+commit_same : (s : State) (flags : ℕ) (xid : Triple) → has flags TMONEPHASE ≡ false → IsSame s (commit_by s flags xid).after
+commit_same s flags xid e =
+    only_false (has flags TMONEPHASE) s (commit_one_phase s xid) _ e
+    (unless_same (two_phase_refusal (known_as s xid)) s _ (λ none. unless_same (heuristic_refusal (known_as s xid)) s (unbuilt s) (λ nor. itself s)))
+
+gone_same : (s : State) (xid : Triple) → KeepsLog s (rolled_back s xid) → IsSame s (rolled_back s xid)
+gone_same s xid k = record { lasts = k.lasts; end = refl; boot = refl; logged_boot = refl; open_record = refl; standing = refl }
+
+roll_back_same : (s : State) (xid : Triple) (k : Known) → known_as s xid ≡ k → is_associated s xid ≡ false → IsSound s → IsSame s (roll_back s xid k).after
+roll_back_same s xid Unknown e free h = itself s
+roll_back_same s xid InDoubt e free h = itself s
+roll_back_same s xid (Completed direction) e free h = itself s
+roll_back_same s xid (AtWork mark) e free h =
+    let gone = gone_same s xid (gone_keeps s xid h (idle_of s xid (ap is_unknown e) free (ap is_settled e))) in
+    marked_same mark s (rolled_back s xid) (ok (rolled_back s xid)) gone gone
+
+rollback_same : (s : State) (xid : Triple) → IsSound s → IsSame s (rollback_by s xid).after
+rollback_same s xid h =
+    unless_same (rollback_refusal (known_as s xid) (is_associated s xid)) s _
+    (λ allowed. unless_same (heuristic_refusal (known_as s xid)) s (roll_back s xid (known_as s xid))
+    (λ none. roll_back_same s xid (known_as s xid) refl (passed _ _ _ (passed _ _ _ allowed).1).0 h))
+
+-- gets and puts
+
+got_same : (s : State) (key : List ℕ) (xid : Triple) (b : Branch) (v : Version) → IsSame s (got s key xid b v).after
+got_same s key xid b v =
+    kept s s.given s.sessions s.associations _ _
+    (ap reverse (change_made committed_of (is_known_as xid) (having_done (Got key v.value v.timestamp)) (λ b. refl) s.branches))
+    (ap reverse (change_made prepared_of (is_known_as xid) (having_done (Got key v.value v.timestamp)) (λ b. refl) s.branches))
+
+get_same : (s : State) (key : List ℕ) (o : Option (Triple × Branch)) → IsSame s (get_by s key o).after
+get_same s key None = itself s
+get_same s key (Some (xid, b)) =
+    let v = source key b.timestamp s.branches in
+    marked_same (mark_of b.phase) s s (get_from s key xid b v) (itself s) (unless_same (busy_refusal b.timestamp v) s (got s key xid b v) (λ none. got_same s key xid b v))
+
+unmade_by : (b : Branch) (p : Phase) → is_working p ≡ true → (committed_part b.timestamp (writes_of b.operations) p ≡ None) × (prepared_part b.timestamp (writes_of b.operations) p ≡ None)
+unmade_by b (Working x mark) works = (refl, refl)
+unmade_by b (Prepared x) works = absurd (cc works)
+unmade_by b Committed works = absurd (cc works)
+
+-- the session's own branch is at work
+
+holds_by : (s : State) (n : ℕ) (x : Triple) (a : Association) (c : Bool) → is_at_work (known_of s.branches x) ≡ c → IsSound s → find (λ (q : Association). is_active n q.holder) s.associations ≡ Some a
+    → a.xid ≡ x → c ≡ true
+holds_by s n x a true e h found named = refl
+holds_by s n x a false e h found named =
+    let none : AllByRecursion (λ (q : Association). xid_eq q.xid x ≡ false) s.associations = uncounted (λ (q : Association). xid_eq q.xid x) s.associations (h.bound x e) in
+    let apart : xid_eq a.xid x ≡ false = found_all (λ (q : Association). xid_eq q.xid x ≡ false) (λ (q : Association). is_active n q.holder) a s.associations none found in
+    let itself : xid_eq x x ≡ false = subst (λ (y : Triple). xid_eq y x ≡ false) named apart in
+    absurd (cc (xid_eq_itself x, itself))
+
+record IsOwn (s : State) (xid : Triple) (b : Branch) : Type 0 where
+  found : known_of s.branches xid ≡ Some b
+  works : is_working b.phase ≡ true
+
+own_by : (s : State) (n : ℕ) (xid : Triple) (b : Branch) (f : Option Association) (o : Option Branch) (x : Triple) (a : Association) → find (λ (q : Association). is_active n q.holder) s.associations ≡ Some a → a.xid ≡ x
+    → known_of s.branches x ≡ o → option_map {U = Triple × Branch} (λ (c : Branch). (x, c)) o ≡ Some (xid, b) → IsSound s → IsOwn s xid b
+own_by s n xid b f None x a held named found e h = absurd (cc e)
+own_by s n xid b f (Some c) x a held named found e h =
+    let pair : (x, c) ≡ (xid, b) = cc e in
+    let same : x ≡ xid = ap (λ (q : Triple × Branch). q.0) pair in
+    let one : c ≡ b = ap (λ (q : Triple × Branch). q.1) pair in
+    let work : is_at_work (known_of s.branches x) ≡ true = holds_by s n x a (is_at_work (known_of s.branches x)) refl h held named in
+    record {
+      found = subst (λ (y : Triple). known_of s.branches y ≡ Some b) same (found ∙ ap (λ (d : Branch). Some d) one);
+      works = let here : is_at_work (Some c) ≡ true = sym (ap is_at_work found) ∙ work in subst (λ (d : Branch). is_working d.phase ≡ true) one here;
+    }
+
+owned_by : (s : State) (n : ℕ) (xid : Triple) (b : Branch) (f : Option Association) → find (λ (q : Association). is_active n q.holder) s.associations ≡ f
+    → option_and_then (branch_with s.branches) (option_map (λ (q : Association). q.xid) f) ≡ Some (xid, b) → IsSound s → IsOwn s xid b
+owned_by s n xid b None held e h = absurd (cc e)
+owned_by s n xid b (Some a) held e h = own_by s n xid b (Some a) (known_of s.branches a.xid) a.xid a held refl refl e h
+
+owned : (s : State) (n : ℕ) (xid : Triple) (b : Branch) → own_branch s n ≡ Some (xid, b) → IsSound s → IsOwn s xid b
+owned s n xid b e h = owned_by s n xid b (find (λ (q : Association). is_active n q.holder) s.associations) refl e h
+
+unmade : {B : Type 0} (m : Branch → Option B) (f : Branch → Branch) (xid : Triple) (b : Branch) (bs : List Branch) → known_of bs xid ≡ Some b → m b ≡ None → m (f b) ≡ None
+    → parts m (change (is_known_as xid) f bs) ≡ parts m bs
+unmade m f xid b bs found none still =
+    let here = split (is_known_as xid) b bs found in
+    ap (parts m) (here.changed f) ∙ parts_none m here.front (f b) here.back still ∙ sym (ap (parts m) here.whole ∙ parts_none m here.front b here.back none)
+
+written_same : (s : State) (key : List ℕ) (value : Option (List ℕ)) (xid : Triple) (b : Branch) → IsOwn s xid b → IsSame s (written s key value xid).after
+written_same s key value xid b own =
+    let none = unmade_by b b.phase own.works in
+    let still = unmade_by (having_done (Wrote key value) b) b.phase own.works in
+    kept s s.given s.sessions s.associations _ s.reads
+    (unmade committed_of (having_done (Wrote key value)) xid b s.branches own.found none.0 still.0)
+    (unmade prepared_of (having_done (Wrote key value)) xid b s.branches own.found none.1 still.1)
+
+in_time_same : (late : Bool) (s : State) (a b : Answer) → IsSame s a.after → IsSame s b.after → IsSame s (in_time late a b).after
+in_time_same true s a b h k = h
+in_time_same false s a b h k = k
+
+put_same : (s : State) (n : ℕ) (key : List ℕ) (value : Option (List ℕ)) (o : Option (Triple × Branch)) → own_branch s n ≡ o → IsSound s → IsSame s (put_by s key value o).after
+put_same s n key value None e h = itself s
+put_same s n key value (Some (xid, b)) e h =
+    marked_same (mark_of b.phase) s s (put_from s key value xid b) (itself s)
+    (unless_same (limit_refusal (is_full key b.operations)) s (in_time (is_late key b.timestamp s.reads) (came_late s xid) (written s key value xid))
+    (λ none. in_time_same (is_late key b.timestamp s.reads) s (came_late s xid) (written s key value xid)
+    (with_mark_same s s.given s.sessions s.associations xid XA_RBTRANSIENT s.reads) (written_same s key value xid b (owned s n xid b e h))))
+
+-- all rows
+
+row_same : (s : State) (n : ℕ) (request : Request) → IsSound s → is_one_phase request ≡ false → IsSame s (row s n request).after
+row_same s n (Open flags info) h other = alike s s.given _ s.associations s.reads
+row_same s n (Close flags) h other = unless_same (close_refusal (list_any (is_anyones n) s.associations)) s _ (λ none. alike s s.given _ s.associations s.reads)
+row_same s n (Start flags xid) h other = start_same s n flags xid
+row_same s n (End flags xid) h other = end_same s n flags xid
+row_same s n (Prepare flags xid) h other = itself s
+row_same s n (Commit flags xid) h other = commit_same s flags xid other
+row_same s n (Rollback flags xid) h other = rollback_same s xid h
+row_same s n (Forget flags xid) h other = itself s
+row_same s n (Recover flags count) h other = itself s
+row_same s n (Get key) h other = get_same s key (own_branch s n)
+row_same s n (Put key value) h other = put_same s n key (Some value) (own_branch s n) refl h
+row_same s n (Delete key) h other = put_same s n key None (own_branch s n) refl h
+row_same s n (Decide direction xid) h other = itself s
+row_same s n (Doom xid) h other = unless_same (doom_refusal (known_as s xid)) s (ok (doomed s xid)) (λ none. with_mark_same s s.given s.sessions s.associations xid XA_RBOTHER s.reads)
+row_same s n Restart h other = itself s
+
+event_same : (s : State) (e : Event) → IsSound s → commits_in_one_phase e ≡ false → IsSame s (respond s e).after
+event_same s event.Connect h other = unless_same (connect_refusal _) s (connected s) (λ none. alike s s.given _ s.associations s.reads)
+event_same s (event.Hangup n) h other = hung_up_same s n _ _
+event_same s (event.Call n request) h other =
+    unless_same (early_refusal (is_up s.standing) s.name (opened_of s n) request) s (row s n request) (λ allowed. row_same s n request h other)
+
+pub events_log_nothing : EventsLogNothing
+events_log_nothing s e h other =
+    let same = event_same s e h other in
+    record {
+      sound = respond_sound s e h;
+      lasts = same.lasts;
+      end = same.end;
+      boot = same.boot;
+      logged_boot = same.logged_boot;
+      open_record = same.open_record;
+      standing = same.standing;
+    }

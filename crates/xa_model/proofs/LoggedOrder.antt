@@ -1,0 +1,126 @@
+-- What a state may log fits behind the log that stands behind the state.
+use Rattle.std.proofs.Common.{◌≡◌, ℕ, ◌+◌, ◌≤◌, ◌==◌, Bool, true, false, not, ◌&&◌, ◌||◌, cond, List, [], ◌∷◌, ◌++◌, Option, Some, None, refl, ap, sym, ◌∙◌, subst, arith}
+use Rattle.std.specs.Prelude.{find, nat_lt, nat_le, option_map}
+use Rattle.std.specs.List.{list_any, AllByRecursion}
+use Rattle.std.proofs.lemmas.Bool.Decides.{nat_tests}
+use Rattle.xa_codes.specs.declared.direction.Direction.{Direction}
+use Rattle.xa_codes.specs.declared.write.Write.{Write}
+use Rattle.xa_record.specs.declared.record.Record.{Record}
+use Rattle.xa_record.specs.declared.record.Record.TheVariants as logged
+use Rattle.xa_xid.specs.Triple.{Triple, xid_eq}
+use Rattle.xa_model.specs.State.{State, Branch, Phase, Working, Prepared, Committed, Known, InDoubt, Decided, count, known_as, known_among, known_by, known_of, decided_of, or_completed, is_known_as}
+use Rattle.xa_model.specs.Sound.{IsSound, is_working, is_at_work}
+use Rattle.xa_model.specs.Durable.{Durable, PreparedBranch, durable, insert, named_before, by_name, is_prepared, is_decided, boot_of, number_of}
+use Rattle.xa_model.specs.Fold.{Reading, fits, is_new, is_unknown, is_used, prepared_as}
+use Rattle.xa_model.specs.Completions.{is_completed}
+use Rattle.xa_model.specs.LoggingLaws.{IsIdle, MayLog}
+use Rattle.xa_model.specs.OrderLaws.{IsNewTime, Backs, LoggedInOrder}
+use Rattle.xa_model.proofs.Inserts.{none_passes}
+use Rattle.xa_model.proofs.Leaving.{found_any}
+use Rattle.xa_model.proofs.Lists.{found_all, found_passes}
+use Rattle.xa_model.proofs.Splits.{parts, parts_none, parts_all, all_append, uncounted}
+use Rattle.xa_model.proofs.Applied.{prepared_of, among, unnamed_by, doubt_by, doubted, idle_branch}
+use Rattle.xa_model.proofs.AppliedDecisions.{all_by_name}
+
+-- names
+
+idle_unprepared : (s : State) (xid : Triple) (t : ℕ) (ws : List Write) → IsSound s → IsIdle s xid t ws → is_prepared xid (durable s).prepared ≡ false
+idle_unprepared s xid t ws h idle =
+    let i = idle_branch s xid t ws idle in
+    let k = among s xid i.branch h i.found in
+    let before : parts prepared_of s.branches ≡ parts prepared_of k.here.back ++ parts prepared_of k.here.front =
+    ap (parts prepared_of) k.here.whole ∙ parts_none prepared_of k.here.front i.branch k.here.back i.work.unprepared in
+    none_passes (λ q. xid_eq q.xid xid) (parts prepared_of s.branches)
+    (subst (AllByRecursion (λ (q : PreparedBranch). xid_eq q.xid xid ≡ false)) (sym before)
+    (all_append (λ (q : PreparedBranch). xid_eq q.xid xid ≡ false) (parts prepared_of k.here.back) (parts prepared_of k.here.front)
+    (parts_all (λ (c : Branch). is_known_as xid c ≡ false) (λ (q : PreparedBranch). xid_eq q.xid xid ≡ false) prepared_of (λ x y e other. unnamed_by xid x x.phase y e other) k.here.back k.alone)
+    (parts_all (λ (c : Branch). is_known_as xid c ≡ false) (λ (q : PreparedBranch). xid_eq q.xid xid ≡ false) prepared_of (λ x y e other. unnamed_by xid x x.phase y e other) k.here.front k.here.first)))
+
+idle_undecided : (s : State) (xid : Triple) (t : ℕ) (ws : List Write) → IsSound s → IsIdle s xid t ws → is_decided xid (durable s).decided ≡ false
+idle_undecided s xid t ws h idle =
+    let i = idle_branch s xid t ws idle in
+    let k = among s xid i.branch h i.found in
+    let none : count (λ (d : Decided). xid_eq d.xid xid) s.decided ≡ 0 = omega (arith, k.here.counted, h.distinct xid) in
+    none_passes (λ d. xid_eq d.xid xid) (by_name s.decided) (all_by_name (λ (d : Decided). xid_eq d.xid xid ≡ false) s.decided (uncounted (λ (d : Decided). xid_eq d.xid xid) s.decided none))
+
+no_doubt : (o : Option Direction) → or_completed o ≡ InDoubt → ⊥
+no_doubt None e = cc e
+no_doubt (Some direction) e = cc e
+
+prepared_by : (s : State) (xid : Triple) (o : Option Branch) → IsSound s → known_of s.branches xid ≡ o → known_among o (decided_of s.decided xid) ≡ InDoubt → is_prepared xid (durable s).prepared ≡ true
+prepared_by s xid None h found doubt = absurd (no_doubt (decided_of s.decided xid) doubt)
+prepared_by s xid (Some b) h found doubt =
+    let made = doubt_by b b.phase xid refl (found_passes (is_known_as xid) b s.branches found) doubt in
+    found_any (prepared_as xid) _ (parts prepared_of s.branches) (doubted s xid b (among s xid b h found) made.1).found
+
+-- completed by the operator
+
+inserted_any_by : (p : Decided → Bool) (x y : Decided) (ys : List Decided) (c : Bool) → list_any p (insert named_before x ys) ≡ (p x || list_any p ys)
+    → list_any p (cond c (y ∷ insert named_before x ys) (x ∷ y ∷ ys)) ≡ (p x || (p y || list_any p ys))
+inserted_any_by p x y ys true ih = ap (λ b. p y || b) ih ∙ swapped (p y) (p x) (list_any p ys)
+  where
+    swapped : (a b c : Bool) → (a || (b || c)) ≡ (b || (a || c))
+    swapped true true c = refl
+    swapped true false c = refl
+    swapped false true c = refl
+    swapped false false c = refl
+inserted_any_by p x y ys false ih = refl
+
+inserted_any : (p : Decided → Bool) (x : Decided) (ys : List Decided) → list_any p (insert named_before x ys) ≡ (p x || list_any p ys)
+inserted_any p x [] = refl
+inserted_any p x (y ∷ ys) = inserted_any_by p x y ys (named_before y x) (inserted_any p x ys)
+
+any_by_name : (p : Decided → Bool) (ds : List Decided) → list_any p (by_name ds) ≡ list_any p ds
+any_by_name p [] = refl
+any_by_name p (d ∷ ds) = inserted_any p d (by_name ds) ∙ ap (λ b. p d || b) (any_by_name p ds)
+
+phase_uncompleted : (b : Branch) → is_completed (known_by b.phase) ≡ false
+phase_uncompleted b = by_phase b.phase
+  where
+    by_phase : (p : Phase) → is_completed (known_by p) ≡ false
+    by_phase (Working x mark) = refl
+    by_phase (Prepared x) = refl
+    by_phase Committed = refl
+
+decided_found : (s : State) (xid : Triple) (f : Option Decided) → find (λ (d : Decided). xid_eq d.xid xid) s.decided ≡ f → is_completed (or_completed (option_map (λ (d : Decided). d.direction) f)) ≡ true
+    → is_decided xid (durable s).decided ≡ true
+decided_found s xid None found e = absurd (cc e)
+decided_found s xid (Some d) found e = any_by_name (λ (c : Decided). xid_eq c.xid xid) s.decided ∙ found_any (λ (c : Decided). xid_eq c.xid xid) d s.decided found
+
+decided_is : (s : State) (xid : Triple) (o : Option Branch) → is_completed (known_among o (decided_of s.decided xid)) ≡ true → is_decided xid (durable s).decided ≡ true
+decided_is s xid (Some b) e = absurd (cc (phase_uncompleted b, e))
+decided_is s xid None e = decided_found s xid (find (λ (d : Decided). xid_eq d.xid xid) s.decided) refl e
+
+-- a branch at work is new
+
+working_by : (s : State) (xid : Triple) (b : Branch) → known_of s.branches xid ≡ Some b → is_at_work (known_of s.branches xid) ≡ true → is_working b.phase ≡ true
+working_by s xid b found works = sym (ap is_at_work found) ∙ works
+
+one_at_least : (n : ℕ) → 1 ≤ n → nat_le 1 n ≡ true
+one_at_least n h = grind (arith, nat_tests)
+
+all_true : (a b c d e f : Bool) → a ≡ true → b ≡ true → c ≡ false → d ≡ false → e ≡ false → f ≡ false → (a && b && not c && not d && (not e && not f)) ≡ true
+all_true a b c d e f ha hb hc hd he hf = rw (ha, hb, hc, hd, he, hf) refl
+
+new_fits : (x : Reading) (s : State) (xid : Triple) (t : ℕ) (ws : List Write) → IsSound s → Backs x s → IsIdle s xid t ws → is_new xid t x ≡ true
+new_fits x s xid t ws h k idle =
+    let i = idle_branch s xid t ws idle in
+    let working : is_working i.branch.phase ≡ true = working_by s xid i.branch i.found idle.working in
+    let there : is_working i.branch.phase ≡ true → IsNewTime x i.branch.timestamp =
+    found_all (λ (b : Branch). is_working b.phase ≡ true → IsNewTime x b.timestamp) (is_known_as xid) i.branch s.branches k.new i.found in
+    let new : IsNewTime x t = subst (IsNewTime x) i.time (there working) in
+    let unprepared : is_prepared xid x.durable.prepared ≡ false = ap (λ (d : Durable). is_prepared xid d.prepared) k.lasts ∙ idle_unprepared s xid t ws h idle in
+    let undecided : is_decided xid x.durable.decided ≡ false = ap (λ (d : Durable). is_decided xid d.decided) k.lasts ∙ idle_undecided s xid t ws h idle in
+    all_true (nat_le 1 x.durable.boot) (boot_of t == x.durable.boot) (number_of t == 0) (is_used t x.timestamps) (is_prepared xid x.durable.prepared) (is_decided xid x.durable.decided)
+    (one_at_least x.durable.boot k.some) new.boot new.number new.unused unprepared undecided
+
+pub logged_in_order : LoggedInOrder
+logged_in_order x s (logged.Opened boot) h k may = let same : x.durable.boot ≡ s.logged_boot = ap (λ (d : Durable). d.boot) k.lasts in grind (arith, nat_tests)
+logged_in_order x s (logged.Prepared xid t ws) h k may = new_fits x s xid t ws h k may
+logged_in_order x s (logged.Committed xid t ws) h k may = new_fits x s xid t ws h k may
+logged_in_order x s (logged.Completed xid direction) h k may = ap (λ (d : Durable). is_prepared xid d.prepared) k.lasts ∙ prepared_by s xid (known_of s.branches xid) h refl may
+logged_in_order x s (logged.Decided xid direction) h k may = ap (λ (d : Durable). is_prepared xid d.prepared) k.lasts ∙ prepared_by s xid (known_of s.branches xid) h refl may
+logged_in_order x s (logged.Forgotten xid) h k may = ap (λ (d : Durable). is_decided xid d.decided) k.lasts ∙ decided_is s xid (known_of s.branches xid) may
+logged_in_order x s (logged.Base t ws) h k may = absurd may
+logged_in_order x s (logged.Held xid t ws) h k may = absurd may
+logged_in_order x s (logged.Known xid direction) h k may = absurd may

@@ -1,0 +1,319 @@
+-- Restarts and openings: what lasts is settled, and the new boot begins with it.
+use Rattle.std.proofs.Common.{◌≡◌, ℕ, ◌+◌, ◌<◌, ◌≤◌, ◌==◌, Bool, true, false, not, ◌&&◌, cond, List, [], ◌∷◌, length, Option, Some, None, refl, ap, sym, subst, arith}
+use Rattle.std.specs.Prelude.{filter, filter_map, map, reverse, is_some, nat_lt, option_map, IfSome}
+use Rattle.xa_codes.specs.declared.direction.Direction.TheVariants as direction
+use Rattle.xa_record.specs.declared.record.Record.{Record}
+use Rattle.xa_record.specs.declared.record.Record.TheVariants as logged
+use Rattle.xa_model.specs.State.{State, Session, Branch, Phase, Working, Prepared, Committed, is_known_as, name_of, timestamp_of}
+use Rattle.xa_codes.specs.declared.codes.TheConstants.{XAER_RMFAIL}
+use Rattle.xa_codes.specs.declared.detail.Detail.TheVariants as detail
+use Rattle.xa_model.specs.Answer.{answer, detailed, ok}
+use Rattle.xa_model.specs.Fold.{apply}
+use Rattle.xa_model.specs.Sound.{IsSound, Descends, is_working}
+use Rattle.xa_model.specs.Durable.{durable, last_writes, by_name, writes_of, committed_part, prepared_part}
+use Rattle.xa_model.specs.Step.{Stops, Opens, refused_opening}
+use Rattle.xa_model.specs.Logging.{applied, down}
+use Rattle.xa_model.specs.Restarting.{fates_with, missed, survived, without_scan, lasts, restarted, boot_became, reopen_became, restarting, reopened, reopening, can_open}
+use Rattle.xa_model.specs.LoggingLaws.{MayLog, IsRecoverable, Fails, BootLasts, RestartLasts, ReopenLasts}
+use Rattle.xa_model.proofs.Counts.{count_filter, count_map}
+use Rattle.xa_model.proofs.Order.{descends_below}
+use Rattle.xa_model.proofs.Applied.{committed_of, prepared_of, same_durable}
+use Rattle.xa_model.proofs.AppliedDecisions.{applied_lasts, applied_sound}
+
+-- branches that were at work are gone, and nothing that lasts
+
+kept_by : {B : Type 0} (m : Branch → Option B) (b : Branch) (bs : List Branch) (c : Bool) → lasts b ≡ c → (lasts b ≡ false → m b ≡ None) → filter_map m (filter lasts bs) ≡ filter_map m bs
+    → filter_map m (cond c (b ∷ filter lasts bs) (filter lasts bs)) ≡ filter_map m (b ∷ bs)
+kept_by m b bs true e gone rest = by_part m b (filter lasts bs) bs (m b) refl rest
+  where
+    by_part : {B : Type 0} (m : Branch → Option B) (b : Branch) (xs ys : List Branch) (o : Option B) → m b ≡ o → filter_map m xs ≡ filter_map m ys → filter_map m (b ∷ xs) ≡ filter_map m (b ∷ ys)
+    by_part m b xs ys None e h = rw e h
+    by_part m b xs ys (Some y) e h = rw e (ap (λ l. y ∷ l) h)
+kept_by m b bs false e gone rest = rw (gone e) rest
+
+kept : {B : Type 0} (m : Branch → Option B) → ((b : Branch) → lasts b ≡ false → m b ≡ None) → (bs : List Branch) → filter_map m (filter lasts bs) ≡ filter_map m bs
+kept m gone [] = refl
+kept m gone (b ∷ bs) = kept_by m b bs (lasts b) refl (gone b) (kept m gone bs)
+
+uncommitted : (b : Branch) (p : Phase) → not (is_working p) ≡ false → committed_part b.timestamp (writes_of b.operations) p ≡ None
+uncommitted b (Working x mark) e = refl
+uncommitted b (Prepared x) e = absurd (cc e)
+uncommitted b Committed e = absurd (cc e)
+
+unprepared : (b : Branch) (p : Phase) → not (is_working p) ≡ false → prepared_part b.timestamp (writes_of b.operations) p ≡ None
+unprepared b (Working x mark) e = refl
+unprepared b (Prepared x) e = absurd (cc e)
+unprepared b Committed e = absurd (cc e)
+
+booted_lasts : (s : State) (boot : ℕ) → durable (restarted s boot) ≡ record (durable s) { boot = boot }
+booted_lasts s boot =
+    same_durable boot (last_writes (reverse (filter_map committed_of (filter lasts s.branches)))) (last_writes (reverse (filter_map committed_of s.branches)))
+    (reverse (filter_map prepared_of (filter lasts s.branches))) (reverse (filter_map prepared_of s.branches)) (by_name s.decided)
+    (ap (λ l. last_writes (reverse l)) (kept committed_of (λ b e. uncommitted b b.phase e) s.branches))
+    (ap reverse (kept prepared_of (λ b e. unprepared b b.phase e) s.branches))
+
+-- and the state is sound
+
+left_descend_by : (limit : ℕ) (b : Branch) (bs ys : List Branch) (c : Bool) → Descends limit (b ∷ bs) → Descends b.timestamp ys → Descends limit (cond c (b ∷ ys) ys)
+left_descend_by limit b bs ys true h rest = (h.0, h.1, rest)
+left_descend_by limit b bs ys false h rest = descends_below b.timestamp limit ys (omega (arith, h.1)) rest
+
+left_descend : (limit : ℕ) (bs : List Branch) → Descends limit bs → Descends limit (filter lasts bs)
+left_descend limit [] h = tt
+left_descend limit (b ∷ bs) h = left_descend_by limit b bs (filter lasts bs) (lasts b) h (left_descend b.timestamp bs h.2)
+
+next_above : (boot given next : ℕ) → given ≤ 4294967295 → boot < next → timestamp_of boot given + 1 ≤ timestamp_of next 0 + 1
+next_above boot given next most less = omega (arith, most, less)
+
+same_length : (xs : List Session) → length (map without_scan xs) ≡ length xs
+same_length [] = refl
+same_length (x ∷ xs) = let rest : length (map without_scan xs) ≡ length xs = same_length xs in omega (arith, rest)
+
+booted_sound : (s : State) (next : ℕ) → IsSound s → s.boot < next → IsSound (restarted s next)
+booted_sound s next h less = record {
+  descends = descends_below (timestamp_of s.boot s.given + 1) (timestamp_of next 0 + 1) (filter lasts s.branches) (next_above s.boot s.given next h.given less)
+      (left_descend (timestamp_of s.boot s.given + 1) s.branches h.descends);
+  distinct = λ xid. omega (arith, h.distinct xid, count_filter lasts (is_known_as xid) s.branches);
+  numbered = λ n. let same = count_map without_scan (λ (x : Session). x.number == n) (λ x. refl) s.sessions in omega (arith, same, h.numbered n);
+  active = λ n. omega arith;
+  own = λ n xid. omega arith;
+  connected = λ n none. refl;
+  bound = λ xid none. refl;
+  sessions = let same = same_length s.sessions in omega (arith, same, h.sessions);
+  known = omega (arith, h.known, count_filter lasts (λ b. is_some (name_of b.phase)) s.branches);
+  given = omega arith;
+  loose = λ xid. omega arith;
+}
+
+reopened_sound : (s : State) (name : List ℕ) (log_bytes next : ℕ) → IsSound s → s.boot < next → IsSound (reopened s name log_bytes next)
+reopened_sound s name log_bytes next h less = let k = booted_sound s next h less in record {
+  descends = k.descends;
+  distinct = k.distinct;
+  numbered = λ n. omega arith;
+  active = λ n. omega arith;
+  own = λ n xid. omega arith;
+  connected = λ n none. refl;
+  bound = λ xid none. refl;
+  sessions = omega arith;
+  known = k.known;
+  given = k.given;
+  loose = λ xid. omega arith;
+}
+
+-- a manager that is down, or ended, with any open record
+
+down_sound : (s : State) (r : Option Record) → IsSound s → IsSound (record (down s) { open_record = r })
+down_sound s r h = record {
+  descends = h.descends;
+  distinct = h.distinct;
+  numbered = h.numbered;
+  active = h.active;
+  own = h.own;
+  connected = h.connected;
+  bound = h.bound;
+  sessions = h.sessions;
+  known = h.known;
+  given = h.given;
+  loose = h.loose;
+}
+
+ended_sound : (s : State) (name : List ℕ) (log_bytes : ℕ) (r : Option Record) → IsSound s → IsSound (record (refused_opening s name log_bytes) { open_record = r })
+ended_sound s name log_bytes r h = record {
+  descends = h.descends;
+  distinct = h.distinct;
+  numbered = λ n. omega arith;
+  active = λ n. omega arith;
+  own = λ n xid. omega arith;
+  connected = λ n none. refl;
+  bound = λ xid none. refl;
+  sessions = omega arith;
+  known = h.known;
+  given = h.given;
+  loose = λ xid. omega arith;
+}
+
+-- what may be logged still may
+
+down_may : (s : State) (r : Record) (o : Option Record) → MayLog s r → MayLog (record (down s) { open_record = o }) r
+down_may s (logged.Opened boot) o may = may
+down_may s (logged.Prepared xid t ws) o may = record { free = may.free; working = may.working; timestamp = may.timestamp; writes = may.writes }
+down_may s (logged.Committed xid t ws) o may = record { free = may.free; working = may.working; timestamp = may.timestamp; writes = may.writes }
+down_may s (logged.Completed xid direction) o may = may
+down_may s (logged.Decided xid direction) o may = may
+down_may s (logged.Forgotten xid) o may = may
+down_may s (logged.Base t ws) o may = may
+down_may s (logged.Held xid t ws) o may = may
+down_may s (logged.Known xid direction) o may = may
+
+ended_may : (s : State) (name : List ℕ) (log_bytes : ℕ) (r : Record) (o : Option Record) → MayLog s r → MayLog (record (refused_opening s name log_bytes) { open_record = o }) r
+ended_may s name log_bytes (logged.Opened boot) o may = may
+ended_may s name log_bytes (logged.Prepared xid t ws) o may = record { free = refl; working = may.working; timestamp = may.timestamp; writes = may.writes }
+ended_may s name log_bytes (logged.Committed xid t ws) o may = record { free = refl; working = may.working; timestamp = may.timestamp; writes = may.writes }
+ended_may s name log_bytes (logged.Completed xid direction) o may = may
+ended_may s name log_bytes (logged.Decided xid direction) o may = may
+ended_may s name log_bytes (logged.Forgotten xid) o may = may
+ended_may s name log_bytes (logged.Base t ws) o may = may
+ended_may s name log_bytes (logged.Held xid t ws) o may = may
+ended_may s name log_bytes (logged.Known xid direction) o may = may
+
+if_may : (s t : State) (o : Option Record) → ((r : Record) → MayLog s r → MayLog t r) → IfSome o (MayLog s) → IfSome o (MayLog t)
+if_may s t None f h = h
+if_may s t (Some r) f h = f r h
+
+-- fates are told by what lasts and by what the open record does
+
+down_durable : (s : State) (o : Option Record) (r : Record) → durable (applied r (record (down s) { open_record = o })) ≡ durable (applied r s)
+down_durable s o (logged.Opened boot) = refl
+down_durable s o (logged.Prepared xid t ws) = refl
+down_durable s o (logged.Committed xid t ws) = refl
+down_durable s o (logged.Completed xid direction.Commit) = refl
+down_durable s o (logged.Completed xid direction.Rollback) = refl
+down_durable s o (logged.Decided xid direction.Commit) = refl
+down_durable s o (logged.Decided xid direction.Rollback) = refl
+down_durable s o (logged.Forgotten xid) = refl
+down_durable s o (logged.Base t ws) = refl
+down_durable s o (logged.Held xid t ws) = refl
+down_durable s o (logged.Known xid direction) = refl
+
+ended_durable : (s : State) (name : List ℕ) (log_bytes : ℕ) (r : Record) → durable (applied r (refused_opening s name log_bytes)) ≡ durable (applied r s)
+ended_durable s name log_bytes (logged.Opened boot) = refl
+ended_durable s name log_bytes (logged.Prepared xid t ws) = refl
+ended_durable s name log_bytes (logged.Committed xid t ws) = refl
+ended_durable s name log_bytes (logged.Completed xid direction.Commit) = refl
+ended_durable s name log_bytes (logged.Completed xid direction.Rollback) = refl
+ended_durable s name log_bytes (logged.Decided xid direction.Commit) = refl
+ended_durable s name log_bytes (logged.Decided xid direction.Rollback) = refl
+ended_durable s name log_bytes (logged.Forgotten xid) = refl
+ended_durable s name log_bytes (logged.Base t ws) = refl
+ended_durable s name log_bytes (logged.Held xid t ws) = refl
+ended_durable s name log_bytes (logged.Known xid direction) = refl
+
+same_fates : (s t : State) (o : Option Record) → durable t ≡ durable s → ((r : Record) → durable (applied r t) ≡ durable (applied r s)) → fates_with t o ≡ fates_with s o
+same_fates s t None e f = rw e refl
+same_fates s t (Some r) e f = rw (e, f r) refl
+
+down_fails : (s : State) → IsRecoverable s → Fails s (down s)
+down_fails s h = record {
+  recoverable = record { sound = down_sound s s.open_record h.sound; open_record = if_may s (down s) s.open_record (λ r may. down_may s r s.open_record may) h.open_record; boots = h.boots };
+  fates = same_fates s (down s) s.open_record refl (down_durable s s.open_record);
+}
+
+ended_fails : (s : State) (name : List ℕ) (log_bytes : ℕ) → IsRecoverable s → Fails s (refused_opening s name log_bytes)
+ended_fails s name log_bytes h = record {
+  recoverable = record {
+    sound = ended_sound s name log_bytes s.open_record h.sound;
+    open_record = if_may s (refused_opening s name log_bytes) s.open_record (λ r may. ended_may s name log_bytes r s.open_record may) h.open_record;
+    boots = h.boots;
+  };
+  fates = same_fates s (refused_opening s name log_bytes) s.open_record refl (ended_durable s name log_bytes);
+}
+
+-- once the open record is settled
+
+none_may : (s : State) (o : Option Record) → o ≡ None → IfSome o (MayLog s)
+none_may s o e = subst (λ (q : Option Record). IfSome q (MayLog s)) (sym e) tt
+
+restarts_by : (s : State) (c : Bool) → IsRecoverable s → s.open_record ≡ None
+    → BootLasts s (cond c (Opens (logged.Opened (s.logged_boot + 1)) (boot_became s (s.logged_boot + 1))) (Stops (answer (detailed XAER_RMFAIL detail.Limit) (down s))))
+restarts_by s true h settled =
+    let less : s.boot < s.logged_boot + 1 = omega (arith, h.boots) in (
+      refl,
+      record {
+        recoverable = record { sound = booted_sound s (s.logged_boot + 1) h.sound less; open_record = none_may (restarted s (s.logged_boot + 1)) s.open_record settled; boots = omega arith };
+        lasts = booted_lasts s (s.logged_boot + 1);
+        boot = refl;
+        up = refl;
+        settled = settled;
+      },
+      down_fails s h,
+      record {
+        recoverable = record { sound = down_sound s (Some (logged.Opened (s.logged_boot + 1))) h.sound; open_record = omega arith; boots = h.boots };
+        lasts = refl;
+        open_record = refl;
+      },
+    )
+restarts_by s false h settled = down_fails s h
+
+restarts : (s : State) → IsRecoverable s → s.open_record ≡ None → BootLasts s (restarting s)
+restarts s h settled = restarts_by s (nat_lt s.logged_boot 4294967295) h settled
+
+reopens_by : (s : State) (name : List ℕ) (log_bytes : ℕ) (c : Bool) → IsRecoverable s → s.open_record ≡ None
+    → BootLasts s (cond c (Opens (logged.Opened (s.logged_boot + 1)) (reopen_became s name log_bytes (s.logged_boot + 1))) (Stops (ok (refused_opening s name log_bytes))))
+reopens_by s name log_bytes true h settled =
+    let less : s.boot < s.logged_boot + 1 = omega (arith, h.boots) in (
+      refl,
+      record {
+        recoverable = record {
+          sound = reopened_sound s name log_bytes (s.logged_boot + 1) h.sound less;
+          open_record = none_may (reopened s name log_bytes (s.logged_boot + 1)) s.open_record settled;
+          boots = omega arith;
+        };
+        lasts = booted_lasts s (s.logged_boot + 1);
+        boot = refl;
+        up = refl;
+        settled = settled;
+      },
+      ended_fails s name log_bytes h,
+      record {
+        recoverable = record { sound = ended_sound s name log_bytes (Some (logged.Opened (s.logged_boot + 1))) h.sound; open_record = omega arith; boots = h.boots };
+        lasts = refl;
+        open_record = refl;
+      },
+    )
+reopens_by s name log_bytes false h settled = ended_fails s name log_bytes h
+
+reopens : (s : State) (name : List ℕ) (log_bytes : ℕ) → IsRecoverable s → s.open_record ≡ None → BootLasts s (reopening name log_bytes s)
+reopens s name log_bytes h settled = reopens_by s name log_bytes (nat_lt s.logged_boot 4294967295 && can_open s log_bytes (s.logged_boot + 1)) h settled
+
+-- the open record is settled
+
+settled_sound : (s : State) → IsSound s → IsSound (missed s)
+settled_sound s h = record {
+  descends = h.descends;
+  distinct = h.distinct;
+  numbered = h.numbered;
+  active = h.active;
+  own = h.own;
+  connected = h.connected;
+  bound = h.bound;
+  sessions = h.sessions;
+  known = h.known;
+  given = h.given;
+  loose = h.loose;
+}
+
+applied_boots : (s : State) (r : Record) → MayLog s r → s.boot ≤ s.logged_boot → (applied r s).boot ≤ (applied r s).logged_boot
+applied_boots s (logged.Opened boot) may h = omega (arith, h, may)
+applied_boots s (logged.Prepared xid t ws) may h = h
+applied_boots s (logged.Committed xid t ws) may h = h
+applied_boots s (logged.Completed xid direction.Commit) may h = h
+applied_boots s (logged.Completed xid direction.Rollback) may h = h
+applied_boots s (logged.Decided xid direction.Commit) may h = h
+applied_boots s (logged.Decided xid direction.Rollback) may h = h
+applied_boots s (logged.Forgotten xid) may h = h
+applied_boots s (logged.Base t ws) may h = h
+applied_boots s (logged.Held xid t ws) may h = h
+applied_boots s (logged.Known xid direction) may h = h
+
+missed_recoverable : (s : State) → IsRecoverable s → IsRecoverable (missed s)
+missed_recoverable s h = record { sound = settled_sound s h.sound; open_record = tt; boots = h.boots }
+
+survived_recoverable : (s : State) (r : Record) → IsRecoverable s → MayLog s r → IsRecoverable (survived s r)
+survived_recoverable s r h may = record { sound = settled_sound (applied r s) (applied_sound s r h.sound may); open_record = tt; boots = applied_boots s r may h.boots }
+
+found_restarts : (s : State) (o : Option Record) → IsRecoverable s → IfSome o (MayLog s)
+    → IfSome o (λ r. (durable (survived s r) ≡ apply r (durable s)) × IfSome (option_map (λ q. restarting (survived s q)) o) (BootLasts (survived s r)))
+found_restarts s None h may = tt
+found_restarts s (Some r) h may = (applied_lasts s r h.sound may, restarts (survived s r) (survived_recoverable s r h may) refl)
+
+found_reopens : (s : State) (name : List ℕ) (log_bytes : ℕ) (o : Option Record) → IsRecoverable s → IfSome o (MayLog s)
+    → IfSome o (λ r. (durable (survived s r) ≡ apply r (durable s)) × IfSome (option_map (λ q. reopening name log_bytes (survived s q)) o) (BootLasts (survived s r)))
+found_reopens s name log_bytes None h may = tt
+found_reopens s name log_bytes (Some r) h may = (applied_lasts s r h.sound may, reopens (survived s r) name log_bytes (survived_recoverable s r h may) refl)
+
+pub restart_lasts : RestartLasts
+restart_lasts s h = (down_fails s h, found_restarts s s.open_record h h.open_record, refl, restarts (missed s) (missed_recoverable s h) refl)
+
+pub reopen_lasts : ReopenLasts
+reopen_lasts s name log_bytes h =
+    (ended_fails s name log_bytes h, found_reopens s name log_bytes s.open_record h h.open_record, refl, reopens (missed s) name log_bytes (missed_recoverable s h) refl)

@@ -1,0 +1,133 @@
+-- Worked rows of the log: what records come to, what a restart writes into the other file, and which order is refused.
+use Rattle.std.specs.Prelude.{ℕ, ◌≡◌, ◌+◌, Some, None, Result, Ok, Err, List, [], ◌∷◌}
+use Rattle.xa_codes.specs.declared.direction.Direction.TheVariants.{Commit, Rollback}
+use Rattle.xa_codes.specs.declared.write.Write.{Write}
+use Rattle.xa_xid.specs.Triple.{Triple}
+use Rattle.xa_record.specs.declared.record.Record.{Record}
+use Rattle.xa_record.specs.declared.record.Record.TheVariants.{Opened, Prepared, Committed, Completed, Decided, Forgotten, Base, Held, Known}
+use Rattle.xa_model.specs.Durable.{Durable}
+use Rattle.xa_model.specs.Fold.{fold, snapshot, size_of}
+use Rattle.xa_model.specs.Worked.{byte, xid}
+
+-- where each record begins in a log, and where the next would
+abbrev pub places : ℕ → List Record → List ℕ
+places at [] = at ∷ []
+places at (r ∷ rs) = at ∷ places (at + size_of r) rs
+
+-- what a restart with this boot writes into the other file
+abbrev pub with_boot : ℕ → Result Durable ℕ → Result (List Record) ℕ
+with_boot boot (Ok d) = Ok (snapshot d boot)
+with_boot boot (Err i) = Err i
+
+abbrev pub restarted : ℕ → List Record → Result (List Record) ℕ
+restarted boot rs = with_boot boot (fold rs)
+
+abbrev pub write : ℕ → ℕ → Write
+write key value = record { key = byte key; value = Some (byte value) }
+
+abbrev pub delete : ℕ → Write
+delete key = record { key = byte key; value = None }
+
+-- the branch 1:aa:bb, which put 76 at 6b
+abbrev pub xid_1 : Triple
+xid_1 = xid 0xaa (byte 0xbb)
+
+abbrev pub xid_2 : Triple
+xid_2 = xid 0xcc []
+
+abbrev pub put_1 : List Write
+put_1 = write 0x6b 0x76 ∷ []
+
+-- A branch that is prepared is held over a restart, and committed over the next one.
+abbrev pub HeldAndCommitted : Type 0
+HeldAndCommitted =
+    let first : List Record = Opened 1 ∷ Prepared xid_1 4294967297 put_1 ∷ [] in
+    let second : List Record = Opened 2 ∷ Held xid_1 4294967297 put_1 ∷ [] in
+    let committed : List Record = Opened 2 ∷ Held xid_1 4294967297 put_1 ∷ Completed xid_1 Commit ∷ [] in
+    let third : List Record = Opened 3 ∷ Base 4294967297 put_1 ∷ [] in
+    (places 8 first ≡ 8 ∷ 49 ∷ 110 ∷ [])
+    × (restarted 2 first ≡ Ok second)
+    × (places 8 second ≡ 8 ∷ 49 ∷ 110 ∷ [])
+    × (places 8 committed ≡ 8 ∷ 49 ∷ 110 ∷ 156 ∷ [])
+    × (restarted 3 committed ≡ Ok third)
+    × (places 8 third ≡ 8 ∷ 49 ∷ 102 ∷ [])
+    × (restarted 4 third ≡ Ok (Opened 4 ∷ Base 4294967297 put_1 ∷ []))
+
+-- What the operator decided is known over a restart, until it is forgotten.
+abbrev pub DecidedAndForgotten : Type 0
+DecidedAndForgotten =
+    let first : List Record = Opened 1 ∷ Prepared xid_1 4294967297 put_1 ∷ Decided xid_1 Commit ∷ [] in
+    let second : List Record = Opened 2 ∷ Base 4294967297 put_1 ∷ Known xid_1 Commit ∷ [] in
+    (restarted 2 first ≡ Ok second)
+    × (places 8 second ≡ 8 ∷ 49 ∷ 102 ∷ 148 ∷ [])
+    × (restarted 3 (Opened 2 ∷ Base 4294967297 put_1 ∷ Known xid_1 Commit ∷ Forgotten xid_1 ∷ []) ≡ Ok (Opened 3 ∷ Base 4294967297 put_1 ∷ []))
+    × (restarted 2 (Opened 1 ∷ Prepared xid_1 4294967297 put_1 ∷ Decided xid_1 Rollback ∷ []) ≡ Ok (Opened 2 ∷ Known xid_1 Rollback ∷ []))
+
+-- Rolled back, nothing is left; the XID may come back.
+abbrev pub RolledBack : Type 0
+RolledBack =
+    (restarted 2 (Opened 1 ∷ Prepared xid_1 4294967297 put_1 ∷ Completed xid_1 Rollback ∷ []) ≡ Ok (Opened 2 ∷ []))
+    × (restarted 2 (Opened 1 ∷ Prepared xid_1 4294967297 put_1 ∷ Completed xid_1 Rollback ∷ Prepared xid_1 4294967298 put_1 ∷ [])
+    ≡ Ok (Opened 2 ∷ Held xid_1 4294967298 put_1 ∷ []))
+
+-- The last write of a key is that of the greatest timestamp, whichever was committed last. A delete is kept. A branch whose
+-- writes were all written over is left out.
+abbrev pub LastWrites : Type 0
+LastWrites =
+    (restarted 2 (Opened 1 ∷ Committed xid_2 4294967298 (write 0x6b 0x32 ∷ []) ∷ Committed xid_1 4294967297 (write 0x6b 0x31 ∷ write 0x6c 0x31 ∷ []) ∷ [])
+    ≡ Ok (Opened 2 ∷ Base 4294967297 (write 0x6c 0x31 ∷ []) ∷ Base 4294967298 (write 0x6b 0x32 ∷ []) ∷ []))
+    × (restarted 2 (Opened 1 ∷ Committed xid_1 4294967297 put_1 ∷ Committed xid_2 4294967298 (delete 0x6b ∷ []) ∷ [])
+    ≡ Ok (Opened 2 ∷ Base 4294967298 (delete 0x6b ∷ []) ∷ []))
+
+-- Prepared branches stand by timestamp, completed XIDs by XID, in whichever order they were prepared and decided.
+abbrev pub InOrder : Type 0
+InOrder =
+    (restarted 2 (Opened 1 ∷ Prepared xid_2 4294967298 put_1 ∷ Prepared xid_1 4294967297 put_1 ∷ [])
+    ≡ Ok (Opened 2 ∷ Held xid_1 4294967297 put_1 ∷ Held xid_2 4294967298 put_1 ∷ []))
+    × (restarted 2 (Opened 1 ∷ Prepared xid_2 4294967297 put_1 ∷ Prepared xid_1 4294967298 put_1 ∷ Decided xid_2 Rollback ∷ Decided xid_1 Rollback ∷ [])
+    ≡ Ok (Opened 2 ∷ Known xid_1 Rollback ∷ Known xid_2 Rollback ∷ []))
+
+-- The first record that is out of order, by its index.
+
+-- nothing before the first boot, and each boot above those before
+abbrev pub BootsInOrder : Type 0
+BootsInOrder =
+    (fold (Prepared xid_1 4294967297 put_1 ∷ []) ≡ Err 0)
+    × (fold (Base 4294967297 put_1 ∷ []) ≡ Err 0)
+    × (fold (Opened 2 ∷ Opened 2 ∷ []) ≡ Err 1)
+    × (fold (Opened 1 ∷ Opened 3 ∷ Opened 2 ∷ []) ≡ Err 2)
+
+-- a branch's timestamp is of the last boot, isn't its 0th, and is no other branch's
+abbrev pub TimestampsInOrder : Type 0
+TimestampsInOrder =
+    (fold (Opened 2 ∷ Prepared xid_1 4294967297 put_1 ∷ []) ≡ Err 1)
+    × (fold (Opened 1 ∷ Committed xid_1 4294967296 put_1 ∷ []) ≡ Err 1)
+    × (fold (Opened 1 ∷ Committed xid_1 4294967297 put_1 ∷ Prepared xid_1 4294967297 put_1 ∷ []) ≡ Err 2)
+    × (fold (Opened 1 ∷ Prepared xid_1 4294967297 put_1 ∷ Completed xid_1 Rollback ∷ Prepared xid_1 4294967297 put_1 ∷ []) ≡ Err 3)
+
+-- an XID isn't prepared twice, and what wasn't prepared isn't completed, nor forgotten what the operator didn't complete
+abbrev pub NamesInOrder : Type 0
+NamesInOrder =
+    (fold (Opened 1 ∷ Prepared xid_1 4294967297 put_1 ∷ Prepared xid_1 4294967298 put_1 ∷ []) ≡ Err 2)
+    × (fold (Opened 1 ∷ Prepared xid_1 4294967297 put_1 ∷ Decided xid_1 Commit ∷ Committed xid_1 4294967298 put_1 ∷ []) ≡ Err 3)
+    × (fold (Opened 1 ∷ Prepared xid_1 4294967297 put_1 ∷ Completed xid_2 Commit ∷ []) ≡ Err 2)
+    × (fold (Opened 1 ∷ Prepared xid_1 4294967297 put_1 ∷ Decided xid_1 Commit ∷ Decided xid_1 Commit ∷ []) ≡ Err 3)
+    × (fold (Opened 1 ∷ Prepared xid_1 4294967297 put_1 ∷ Forgotten xid_1 ∷ []) ≡ Err 2)
+
+-- a snapshot stands directly behind the first boot, of branches of earlier boots, each kind in its order
+abbrev pub SnapshotsInOrder : Type 0
+SnapshotsInOrder =
+    (fold (Opened 2 ∷ Opened 3 ∷ Base 4294967297 put_1 ∷ []) ≡ Err 2)
+    × (fold (Opened 2 ∷ Committed xid_1 8589934593 put_1 ∷ Base 4294967297 put_1 ∷ []) ≡ Err 2)
+    × (fold (Opened 2 ∷ Base 8589934593 put_1 ∷ []) ≡ Err 1)
+    × (fold (Opened 2 ∷ Base 1 put_1 ∷ []) ≡ Err 1)
+    × (fold (Opened 3 ∷ Base 8589934592 put_1 ∷ []) ≡ Err 1)
+    × (fold (Opened 2 ∷ Base 4294967298 put_1 ∷ Base 4294967297 (delete 0x6c ∷ []) ∷ []) ≡ Err 2)
+    × (fold (Opened 2 ∷ Base 4294967297 put_1 ∷ Held xid_1 4294967297 put_1 ∷ []) ≡ Err 2)
+    × (fold (Opened 2 ∷ Held xid_1 4294967298 put_1 ∷ Held xid_2 4294967297 put_1 ∷ []) ≡ Err 2)
+    × (fold (Opened 2 ∷ Held xid_1 4294967297 put_1 ∷ Base 4294967298 put_1 ∷ []) ≡ Err 2)
+    × (fold (Opened 2 ∷ Held xid_1 4294967297 put_1 ∷ Held xid_1 4294967298 put_1 ∷ []) ≡ Err 2)
+    × (fold (Opened 2 ∷ Held xid_1 4294967297 put_1 ∷ Known xid_1 Commit ∷ []) ≡ Err 2)
+    × (fold (Opened 2 ∷ Known xid_2 Commit ∷ Known xid_1 Commit ∷ []) ≡ Err 2)
+    × (fold (Opened 2 ∷ Known xid_1 Commit ∷ Base 4294967297 put_1 ∷ []) ≡ Err 2)
+    × (fold (Opened 2 ∷ Known xid_1 Commit ∷ Held xid_2 4294967297 put_1 ∷ []) ≡ Err 2)

@@ -1,0 +1,174 @@
+-- Worked rows of the calls that log: what each asks of the device, and what its outcomes lead to.
+use Rattle.std.specs.Prelude.{ℕ, ◌≡◌, true, false, Option, Some, None, Ok, [], ◌∷◌}
+use Rattle.xa_codes.specs.declared.codes.TheConstants.{XAER_PROTO, XAER_NOTA, XAER_RMERR, XAER_RMFAIL, XA_RDONLY, XA_RETRY, XA_RBOTHER, XA_HEURCOM}
+use Rattle.xa_codes.specs.declared.detail.Detail.TheVariants as detail
+use Rattle.xa_codes.specs.declared.direction.Direction.TheVariants as direction
+use Rattle.xa_record.specs.declared.record.Record.{Record}
+use Rattle.xa_record.specs.declared.record.Record.TheVariants as logged
+use Rattle.xa_frame.specs.declared.reply.Reply.{Reply}
+use Rattle.xa_model.specs.declared.outcome.Appending.TheVariants.{Kept, Refused, Lost}
+use Rattle.xa_model.specs.declared.outcome.Outcome.{Outcome}
+use Rattle.xa_model.specs.declared.outcome.Outcome.TheVariants.{Quiet, Appended, Failed, Reread}
+use Rattle.xa_model.specs.State.{State, Wrote, Working, Prepared, Committed, Phase, Down, Ended}
+use Rattle.xa_model.specs.Answer.{plain, detailed, answer}
+use Rattle.xa_model.specs.Step.{Turn, Nobody, Now, Appends, Rereads, taken}
+use Rattle.xa_model.specs.Durable.{Durable}
+use Rattle.xa_model.specs.Fold.{nothing, fold}
+use Rattle.xa_model.specs.Logging.{log_room}
+use Rattle.xa_model.specs.Completions.{prepare_turn, commit_one_phase_turn, commit_two_phase_turn, rollback_turn, decide_turn, forget_turn}
+use Rattle.xa_model.specs.Restarting.{fates, opening, restart_turn, reopen_turn}
+use Rattle.xa_model.specs.Worked.{xarm, byte, done}
+use Rattle.xa_model.specs.WorkedLog.{xid_1, put_1}
+use Rattle.xa_model.specs.WorkedScripts.{new_manager}
+
+-- the turn, with this outcome, is replied this, and leaves this state
+abbrev pub Takes : Turn → Outcome → Reply → State → Type 0
+Takes t outcome reply after = taken t outcome ≡ Some (answer reply after)
+
+-- the record that a turn appends
+abbrev pub record_of : Turn → Option Record
+record_of Nobody = None
+record_of (Now a) = None
+record_of (Appends r after) = Some r
+record_of (Rereads failed survived missing) = None
+
+-- session 1 is opened, and 1:aa:bb put 76 at 6b, and was left; or what became of it, where the log ends then
+abbrev pub with_branch : Phase → ℕ → State
+with_branch phase end = record new_manager {
+  given = 1;
+  sessions = record { number = 1; opened = true; scan = Some None } ∷ [];
+  branches = record { timestamp = 4294967297; operations = Wrote (byte 0x6b) (Some (byte 0x76)) ∷ []; phase = phase } ∷ [];
+  end = end;
+}
+
+abbrev pub idle : State
+idle = with_branch (Working xid_1 None) 49
+
+abbrev pub in_doubt : State
+in_doubt = with_branch (Prepared xid_1) 110
+
+-- rolled back, and gone
+abbrev pub without_branch : State
+without_branch = record idle { branches = [] }
+
+-- a branch that wrote nothing
+abbrev pub read_only : State
+read_only = record idle { branches = record { timestamp = 4294967297; operations = []; phase = Working xid_1 None } ∷ [] }
+
+abbrev pub prepared_1 : Record
+prepared_1 = logged.Prepared xid_1 4294967297 put_1
+
+-- A branch is prepared, and committed; or committed in one phase.
+abbrev pub PreparedAndCommitted : Type 0
+PreparedAndCommitted =
+    (record_of (prepare_turn idle xid_1) ≡ Some prepared_1)
+    × Takes (prepare_turn idle xid_1) (Appended Kept) done in_doubt
+    × (taken (prepare_turn idle xid_1) Quiet ≡ None)
+    × (record_of (commit_two_phase_turn in_doubt xid_1) ≡ Some (logged.Completed xid_1 direction.Commit))
+    × Takes (commit_two_phase_turn in_doubt xid_1) (Appended Kept) done (with_branch Committed 156)
+    × (record_of (commit_one_phase_turn idle xid_1) ≡ Some (logged.Committed xid_1 4294967297 put_1))
+    × Takes (commit_one_phase_turn idle xid_1) (Appended Kept) done (with_branch Committed 110)
+    × Takes (commit_two_phase_turn idle xid_1) Quiet (plain XAER_PROTO) idle
+    × Takes (prepare_turn in_doubt xid_1) Quiet (plain XAER_PROTO) in_doubt
+
+-- A prepared branch is rolled back, which is logged; one at work isn't.
+abbrev pub RolledBackAgain : Type 0
+RolledBackAgain =
+    (record_of (rollback_turn in_doubt xid_1) ≡ Some (logged.Completed xid_1 direction.Rollback))
+    × Takes (rollback_turn in_doubt xid_1) (Appended Kept) done (record without_branch { end = 156 })
+    × Takes (rollback_turn idle xid_1) Quiet done without_branch
+    × Takes (rollback_turn without_branch xid_1) Quiet (plain XAER_NOTA) without_branch
+
+-- A branch that is marked is rolled back, and gone.
+abbrev pub MarkedIsGone : Type 0
+MarkedIsGone =
+    Takes (prepare_turn (with_branch (Working xid_1 (Some XA_RBOTHER)) 49) xid_1) Quiet (plain XA_RBOTHER) without_branch
+    × Takes (commit_one_phase_turn (with_branch (Working xid_1 (Some XA_RBOTHER)) 49) xid_1) Quiet (plain XA_RBOTHER) without_branch
+
+-- A branch without writes is gone, as committed, and nothing is logged.
+abbrev pub ReadOnly : Type 0
+ReadOnly =
+    let gone = record read_only { branches = record { timestamp = 4294967297; operations = []; phase = Committed } ∷ [] } in
+    Takes (prepare_turn read_only xid_1) Quiet (plain XA_RDONLY) gone
+    × Takes (commit_one_phase_turn read_only xid_1) Quiet done gone
+
+-- At equality there is room, for the record, the closing length, and what is kept for the branch: 49 + 61 + 4 + 343. A branch
+-- for which there is none is rolled back. A commit in one phase needs no more than its record.
+abbrev pub Room : Type 0
+Room =
+    Takes (prepare_turn (record idle { log_bytes = 457 }) xid_1) (Appended Kept) done (record in_doubt { log_bytes = 457 })
+    × Takes (prepare_turn (record idle { log_bytes = 456 }) xid_1) Quiet (detailed XA_RBOTHER detail.LogFull) (record without_branch { log_bytes = 456 })
+    × Takes (commit_one_phase_turn (record idle { log_bytes = 114 }) xid_1) (Appended Kept) done (record (with_branch Committed 110) { log_bytes = 114 })
+    × Takes (commit_one_phase_turn (record idle { log_bytes = 113 }) xid_1) Quiet (detailed XA_RBOTHER detail.LogFull) (record without_branch { log_bytes = 113 })
+    × (log_room 860 0 1 3 ≡ true)
+    × (log_room 859 0 1 3 ≡ false)
+
+-- A record that is refused leaves the branch as it was, save for a commit in one phase.
+abbrev pub RefusedAppends : Type 0
+RefusedAppends =
+    Takes (prepare_turn idle xid_1) (Appended Refused) (detailed XAER_RMERR detail.Device) idle
+    × Takes (rollback_turn in_doubt xid_1) (Appended Refused) (detailed XAER_RMERR detail.Device) in_doubt
+    × Takes (commit_two_phase_turn in_doubt xid_1) (Appended Refused) (detailed XA_RETRY detail.Device) in_doubt
+    × Takes (commit_one_phase_turn idle xid_1) (Appended Refused) (detailed XAER_RMERR detail.Device) without_branch
+    × Takes (decide_turn in_doubt direction.Commit xid_1) (Appended Refused) (detailed XAER_RMERR detail.Device) in_doubt
+
+-- after a restart with this boot
+abbrev pub booted : State → ℕ → ℕ → State
+booted s boot end = record s { boot = boot; given = 0; logged_boot = boot; sessions = record { number = 1; opened = true; scan = None } ∷ []; end = end }
+
+abbrev pub no_device : Reply
+no_device = detailed XAER_RMFAIL detail.Device
+
+-- A record that was lost is found by a restart, or isn't. A restart that fails settles nothing.
+abbrev pub LostAppends : Type 0
+LostAppends =
+    let lost = record idle { standing = Down; open_record = Some prepared_1 } in
+    let held : Durable = record { boot = 1; committed = []; prepared = record { xid = xid_1; timestamp = 4294967297; writes = put_1 } ∷ []; decided = [] } in
+    Takes (prepare_turn idle xid_1) (Appended Lost) no_device lost
+    × (fates lost ≡ record { boot = 1; committed = []; prepared = []; decided = [] } ∷ held ∷ [])
+    × Takes (restart_turn lost) (Reread true (Some Kept)) done (booted in_doubt 2 110)
+    × Takes (restart_turn lost) (Reread false (Some Kept)) done (booted without_branch 2 49)
+    × Takes (restart_turn lost) Failed no_device lost
+    × Takes (restart_turn lost) (Reread true (Some Refused)) no_device (record in_doubt { standing = Down })
+    × (taken (restart_turn lost) (Reread true None) ≡ None)
+    × (taken (restart_turn idle) (Reread true (Some Kept)) ≡ None)
+
+-- The boot of a restart that was lost is used up, where it is found.
+abbrev pub LostBoots : Type 0
+LostBoots =
+    let lost = record in_doubt { standing = Down; open_record = Some (logged.Opened 2) } in
+    Takes (restart_turn in_doubt) (Reread false (Some Lost)) no_device lost
+    × Takes (restart_turn lost) (Reread true (Some Kept)) done (booted in_doubt 3 110)
+    × Takes (restart_turn lost) (Reread false (Some Kept)) done (booted in_doubt 2 110)
+    × Takes (restart_turn (record idle { logged_boot = 4294967295 })) (Reread false None) (detailed XAER_RMFAIL detail.Limit)
+    (record idle { logged_boot = 4294967295; standing = Down })
+
+-- The operator completes a branch in doubt, which is kept over a restart, and forgets it.
+abbrev pub DecidedByOperator : Type 0
+DecidedByOperator =
+    let decision = record { xid = xid_1; direction = direction.Commit } ∷ [] in
+    let decided = record (with_branch Committed 156) { decided = decision } in
+    Takes (decide_turn in_doubt direction.Commit xid_1) (Appended Kept) done decided
+    × Takes (decide_turn in_doubt direction.Rollback xid_1) (Appended Kept) done
+    (record without_branch { decided = record { xid = xid_1; direction = direction.Rollback } ∷ []; end = 156 })
+    × Takes (decide_turn idle direction.Commit xid_1) Quiet (plain XAER_PROTO) idle
+    × Takes (commit_two_phase_turn decided xid_1) Quiet (plain XA_HEURCOM) decided
+    × Takes (rollback_turn decided xid_1) Quiet (plain XA_HEURCOM) decided
+    × Takes (decide_turn decided direction.Commit xid_1) Quiet (plain XAER_PROTO) decided
+    × Takes (restart_turn decided) (Reread false (Some Kept)) done (booted decided 2 148)
+    × Takes (forget_turn decided xid_1) (Appended Kept) done (with_branch Committed 201)
+    × Takes (forget_turn in_doubt xid_1) Quiet (plain XAER_PROTO) in_doubt
+    × Takes (forget_turn without_branch xid_1) Quiet (plain XAER_NOTA) without_branch
+
+-- A manager that is opened again has no sessions, and stands as one that is opened on the log's records. It isn't opened where
+-- there is no room: 110 + 4 + 343.
+abbrev pub OpenedAgain : Type 0
+OpenedAgain =
+    let ended = record in_doubt { log_bytes = 456; sessions = []; standing = Ended } in
+    let held : Durable = record { boot = 1; committed = []; prepared = record { xid = xid_1; timestamp = 4294967297; writes = put_1 } ∷ []; decided = [] } in
+    Takes (reopen_turn in_doubt xarm 457) (Reread false (Some Kept)) done (opening held xarm 457 2)
+    × (fold (logged.Opened 1 ∷ prepared_1 ∷ []) ≡ Ok held)
+    × Takes (reopen_turn in_doubt xarm 456) (Reread false None) done ended
+    × Takes (reopen_turn in_doubt xarm 456) Failed done ended
+    × Takes (reopen_turn ended xarm 457) (Reread false (Some Lost)) done (record ended { log_bytes = 457; open_record = Some (logged.Opened 2) })
+    × (opening nothing xarm 1073741824 1 ≡ new_manager)
