@@ -1,7 +1,6 @@
 -- No branch is known, and a branch begins.
-use Rattle.std.proofs.Common.{◌≡◌, ℕ, ◌+◌, ◌<◌, ◌≤◌, Bool, true, false, ◌&&◌, ◌⊎◌, inl, inr, cond, Option, Some, None, List, [], ◌∷◌, length, refl, ap, ◌∙◌, arith}
+use Rattle.std.proofs.Common.{◌≡◌, ℕ, ◌<◌, ◌≤◌, Bool, true, false, ◌&&◌, ◌||◌, ◌⊎◌, inl, inr, Option, Some, None, List, [], ◌∷◌, length, refl, ap, ◌∙◌, arith}
 use Rattle.std.specs.Prelude.{is_some, nat_lt}
-use Rattle.std.specs.List.{AllByRecursion}
 use Rattle.xa_xid.specs.Triple.{Triple}
 use Rattle.std.proofs.lemmas.Bool.Decides.{nat_tests}
 use Rattle.xa_model.specs.State.{State, Branch, Decided, Phase, Working, Prepared, Committed, count, name_of, is_with, is_known_as, known_of, known_in, known_as, known_count}
@@ -9,8 +8,10 @@ use Rattle.xa_model.specs.Associations.{is_taken}
 use Rattle.xa_model.proofs.Counts.{count_less, found_none}
 use Rattle.xa_branch.specs.declared.branches.Branches.{Branches}
 use Rattle.xa_branch.specs.declared.fault.BeginFault.TheVariants.{Limit}
+use Rattle.xa_branch.specs.declared.lasting.Lasting.{Lasting}
+use Rattle.xa_branch.specs.declared.lasting.Lasting.TheVariants as lasts
 use Rattle.xa_branch.specs.declared.working.Working.{Working as Kept}
-use Rattle.xa_branch.specs.Branches.{BranchesStandFor, working_at, is_prepared, number_of}
+use Rattle.xa_branch.specs.Branches.{BranchesStandFor, working_at, lasting_at, is_prepared, prepared_among, number_of}
 use Rattle.xa_branch.specs.Calls.{begin_fault}
 use Rattle.xa_branch.proofs.Looks.{fact_at, known_is}
 
@@ -27,37 +28,50 @@ unknown s xid none =
     let zero : count (is_known_as xid) s.branches ≡ 0 = omega arith in
     found_none (is_known_as xid) s.branches zero
 
-unprepared_by : (p : Phase) (n : ℕ) → cond (is_some (name_of p)) 1 0 + n ≡ 0 → (is_prepared p ≡ false) × (n ≡ 0)
-unprepared_by (Working x mark) n e = absurd (omega arith)
-unprepared_by (Prepared x) n e = absurd (omega arith)
-unprepared_by Committed n e = (refl, omega arith)
+prepared_by : (p : Phase) → is_prepared p ≡ true → is_some (name_of p) ≡ true
+prepared_by (Working x mark) e = absurd (cc e)
+prepared_by (Prepared x) e = refl
+prepared_by Committed e = absurd (cc e)
 
-unprepared : (bs : List Branch) → known_count bs ≡ 0 → AllByRecursion (λ b. is_prepared b.phase ≡ false) bs
-unprepared [] none = tt
-unprepared (b ∷ bs) none = let here = unprepared_by b.phase (known_count bs) none in (here.0, unprepared bs here.1)
+-- the prepared branches are known ones
+pub prepared_known : (bs : List Branch) → prepared_among bs ≤ known_count bs
+prepared_known bs = count_less (λ b. is_prepared b.phase) (λ b. is_some (name_of b.phase)) (λ b e. prepared_by b.phase e) bs
 
 empty : (ds : List Decided) → length ds ≡ 0 → ds ≡ []
 empty [] e = refl
 empty (d ∷ ds) e = absurd (omega arith)
 
-pub new_stands : (m : Branches) (s : State) → m.boot ≡ s.boot → m.given ≡ s.given → m.working.entries ≡ [] → known_in s ≡ 0 → BranchesStandFor m s
-new_stands m s boot given none unknown_ = record {
+pub new_stands : (m : Branches) (s : State) → m.boot ≡ s.boot → m.given ≡ s.given → m.working.entries ≡ [] → m.lasting.entries ≡ [] → m.prepared ≡ 0 → m.completed ≡ 0 → known_in s ≡ 0
+    → BranchesStandFor m s
+new_stands m s boot given none nor prepared completed unknown_ = record {
   boot = boot;
   given = given;
   working = λ xid. rw (none, unknown s xid unknown_) refl;
-  known = rw none (omega arith);
-  lasting = record { prepared = unprepared s.branches (omega arith); decided = empty s.decided (omega arith) };
+  lasting = λ xid. let nothing : s.decided ≡ [] = empty s.decided (omega arith) in rw (nor, unknown s xid unknown_, nothing) refl;
+  known = rw (none, nor) (omega arith);
+  prepared = omega (arith, prepared_known s.branches);
+  completed = omega arith;
 }
 
 -- A branch begins
 
-taken_at : (o : Option Kept) → is_taken (fact_at o) ≡ is_some o
-taken_at None = refl
-taken_at (Some w) = refl
+pub none_of : {A : Type 0} (o : Option A) → is_some o ≡ false → o ≡ None
+none_of None e = refl
+none_of (Some x) e = absurd (cc e)
 
-pub fault_is : (m : Branches) (s : State) (xid : Triple) → BranchesStandFor m s → begin_fault (is_taken (known_as s xid)) (known_in s) s.given ≡ begin_fault (is_some (working_at m xid)) (number_of m) m.given
+-- whether anything is kept at an XID
+abbrev pub taken_in : Branches → Triple → Bool
+taken_in m xid = is_some (working_at m xid) || is_some (lasting_at m xid)
+
+taken_at : (o : Option Kept) (l : Option Lasting) → is_taken (fact_at o l) ≡ (is_some o || is_some l)
+taken_at None None = refl
+taken_at None (Some (lasts.Prepared t)) = refl
+taken_at None (Some (lasts.Completed direction)) = refl
+taken_at (Some w) l = refl
+
+pub fault_is : (m : Branches) (s : State) (xid : Triple) → BranchesStandFor m s → begin_fault (is_taken (known_as s xid)) (known_in s) s.given ≡ begin_fault (taken_in m xid) (number_of m) m.given
 fault_is m s xid st =
-    let taken : is_taken (known_as s xid) ≡ is_some (working_at m xid) = ap is_taken (known_is m s xid (working_at m xid) st refl) ∙ taken_at (working_at m xid) in
+    let taken : is_taken (known_as s xid) ≡ taken_in m xid = ap is_taken (known_is m s xid (working_at m xid) (lasting_at m xid) st refl refl) ∙ taken_at (working_at m xid) (lasting_at m xid) in
     rw (taken, ← st.known, ← st.given) refl
 
 no_room : (known given : ℕ) → (4096 ≤ known) ⊎ (4294967295 ≤ given) → (nat_lt known 4096 && nat_lt given 4294967295) ≡ false

@@ -1,10 +1,10 @@
 -- Known branches that stand for a state, after a branch begins.
-use Rattle.std.proofs.Common.{◌≡◌, ℕ, ℤ, ◌+◌, Bool, true, false, cond, Option, Some, None, List, [], ◌∷◌, length, refl, ap, sym, ◌∙◌, subst, arith}
-use Rattle.std.specs.Prelude.{is_some, option_and_then}
+use Rattle.std.proofs.Common.{◌≡◌, ℕ, ℤ, ◌+◌, Bool, true, false, cond, Option, Some, None, List, [], ◌∷◌, refl, ap, sym, ◌∙◌, subst, arith}
+use Rattle.std.specs.Prelude.{option_and_then}
 use Rattle.std.specs.BTreeMap.{BTreeMap, btree_map_len}
 use Rattle.xa_xid.specs.Triple.{Triple, xid_eq}
 use Rattle.xa_xid.proofs.Same.{xid_same}
-use Rattle.xa_model.specs.State.{State, Branch, Phase, Working, Prepared, Committed, Association, Active, known_of, known_count, holders_of, timestamp_of}
+use Rattle.xa_model.specs.State.{State, Branch, Phase, Working, Prepared, Committed, Association, Active, known_of, decided_of, holders_of, timestamp_of}
 use Rattle.xa_model.specs.Associations.{begun}
 use Rattle.xa_model.specs.Sound.{IsSound}
 use Rattle.xa_model.proofs.Xids.{cmp_is_eq}
@@ -13,10 +13,10 @@ use Rattle.xa_branch.specs.declared.kind.Kind.{Kind}
 use Rattle.xa_branch.specs.declared.kind.Kind.TheVariants as kind
 use Rattle.xa_branch.specs.declared.working.Working.{Working as Kept}
 use Rattle.xa_branch.specs.Kinds.{held_as}
-use Rattle.xa_branch.specs.Branches.{BranchesStandFor, kept_of, working_at, working_by, working_in}
+use Rattle.xa_branch.specs.Branches.{BranchesStandFor, kept_of, working_at, working_by, working_in, lasting_at, lasting_among}
 use Rattle.xa_branch.specs.Changes.{Sets, new_kept}
 use Rattle.xa_branch.proofs.Counting.{gained_here, gained_other, joined_gains, holders_by_kind}
-use Rattle.xa_branch.proofs.Looks.{Seen, Nowhere, There, seen_at}
+use Rattle.xa_branch.proofs.Looks.{idle_at}
 
 -- where the counts are the same, so is what is kept
 
@@ -38,10 +38,6 @@ same_in held after q None same = refl
 same_in held after q (Some b) same = same_by held after q b.timestamp b.phase same
 
 -- A branch begins
-
-nobody : (s : State) (xid : Triple) (o : Option Kept) → is_some o ≡ false → IsSound s → Seen s xid o → holders_of s.associations xid ≡ 0
-nobody s xid None e h (Nowhere none) = h.bound xid (rw none refl)
-nobody s xid (Some w) e h (There v is) = absurd (cc e)
 
 none_held : (held : List Association) (xid : Triple) → holders_of held xid ≡ 0 → (j : Kind) → held_as j held xid ≡ 0
 none_held held xid zero kind.Active = omega (arith, holders_by_kind held xid)
@@ -66,19 +62,26 @@ begun_look m s n xid q b false e st zero is =
     let after : List Association = record { xid = xid; holder = Active n } ∷ s.associations in
     st.working q ∙ same_in s.associations after q (known_of s.branches q) (λ j. gained_other kind.Active xid s.associations after (joined_gains n xid s.associations) j q e)
 
-one_known : (o : Option Kept) (n k known all : ℕ) → is_some o ≡ false → n + cond (is_some o) 1 0 ≡ k + 1 → k ≡ known + all → n ≡ (1 + known) + all
-one_known None n k known all e h is = omega arith
-one_known (Some w) n k known all e h is = absurd (cc e)
+-- what lasts of others
+begun_lasting : (m : Branches) (s : State) (xid q : Triple) (b : Branch) (c : Bool) → xid_eq xid q ≡ c → BranchesStandFor m s → lasting_at m xid ≡ None → b.phase ≡ Working xid None
+    → lasting_at m q ≡ lasting_among (cond c (Some b) (known_of s.branches q)) (decided_of s.decided q)
+begun_lasting m s xid q b true e st none is = rw is (subst (λ (x : Triple). lasting_at m x ≡ None) (xid_same xid q e) none)
+begun_lasting m s xid q b false e st none is = st.lasting q
 
-pub begun_stands : (m : Branches) (after : BTreeMap Triple Kept) (s : State) (n : ℕ) (xid : Triple) → IsSound s → BranchesStandFor m s → is_some (working_at m xid) ≡ false
+pub begun_stands : (m : Branches) (after : BTreeMap Triple Kept) (s : State) (n : ℕ) (xid : Triple) → IsSound s → BranchesStandFor m s → working_at m xid ≡ None → lasting_at m xid ≡ None
     → Sets m.working xid (Some (new_kept (timestamp_of s.boot (s.given + 1)))) after → BranchesStandFor (record m { given = m.given + 1; working = after }) (begun s n xid).after
-begun_stands m after s n xid h st free sets = record {
+begun_stands m after s n xid h st free nor sets = record {
   boot = st.boot;
   given = ap (λ (k : ℕ). k + 1) st.given;
   working = λ q.
       let b : Branch = record { timestamp = timestamp_of s.boot (s.given + 1); operations = []; phase = Working xid None } in
-      let zero : holders_of s.associations xid ≡ 0 = nobody s xid (working_at m xid) free h (seen_at m s xid (working_at m xid) st refl) in
+      let zero : holders_of s.associations xid ≡ 0 = h.bound xid (idle_at m s xid st free) in
       sets.at q ∙ rw (cmp_is_eq xid q) (begun_look m s n xid q b (xid_eq xid q) refl st zero refl);
-  known = one_known (working_at m xid) (btree_map_len after) (btree_map_len m.working) (known_count s.branches) (length s.decided) free sets.number st.known;
-  lasting = record { prepared = (refl, st.lasting.prepared); decided = st.lasting.decided };
+  lasting = λ q.
+      let b : Branch = record { timestamp = timestamp_of s.boot (s.given + 1); operations = []; phase = Working xid None } in begun_lasting m s xid q b (xid_eq xid q) refl st nor refl;
+  known =
+      let one : btree_map_len after ≡ btree_map_len m.working + 1 = let more = rw free at sets.number in omega (arith, more) in
+      omega (arith, one, st.known);
+  prepared = omega (arith, st.prepared);
+  completed = st.completed;
 }

@@ -13,7 +13,7 @@ use Rattle.xa_model.proofs.Xids.{cmp_is_eq}
 use Rattle.xa_branch.specs.declared.working.Working.{Working as Kept}
 use Rattle.xa_branch.specs.Kinds.{own_kind}
 use Rattle.xa_branch.specs.Changes.{Sets, left_behind}
-use Rattle.xa_branch.proofs.Completing.{same_number}
+use Rattle.xa_branch.proofs.Marking.{same_number}
 
 -- what is at an XID, once these are left behind
 abbrev pub behind : Option Triple → List Triple → Triple → Option Kept → Option Kept

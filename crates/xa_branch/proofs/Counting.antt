@@ -11,7 +11,7 @@ use Rattle.xa_model.proofs.Xids.{and_false}
 use Rattle.xa_branch.specs.declared.kind.Kind.{Kind}
 use Rattle.xa_branch.specs.declared.kind.Kind.TheVariants as kind
 use Rattle.xa_branch.specs.Kinds.{kind_of, same_kind, is_as, held_as}
-use Rattle.xa_branch.proofs.Leaving.{count_left, count_turned}
+use Rattle.xa_model.proofs.Leaving.{count_left, count_turned}
 
 and_true : (b : Bool) → (b && true) ≡ b
 and_true true = refl

@@ -3,13 +3,14 @@ use Rattle.std.proofs.Common.{◌≡◌, ℕ, ◌+◌, Bool, true, false, Option
 use Rattle.std.specs.Prelude.{is_some, option_map, option_and_then}
 use Rattle.xa_xid.specs.Triple.{Triple, xid_eq}
 use Rattle.xa_xid.proofs.Same.{xid_same}
-use Rattle.xa_model.specs.State.{State, Branch, Association, Operation, name_of, is_known_as, known_of, known_count}
+use Rattle.xa_model.specs.State.{State, Branch, Association, Operation, name_of, is_known_as, known_of, known_count, decided_of}
 use Rattle.xa_model.specs.Records.{having_done, did}
 use Rattle.xa_model.proofs.Counts.{count_same}
-use Rattle.xa_model.proofs.Lists.{find_change_same, find_change_other, change_all}
+use Rattle.xa_model.proofs.Lists.{find_change_same, find_change_other}
 use Rattle.xa_model.proofs.Names.{called_apart}
 use Rattle.xa_branch.specs.declared.branches.Branches.{Branches}
-use Rattle.xa_branch.specs.Branches.{BranchesStandFor, working_in, is_prepared}
+use Rattle.xa_branch.specs.Branches.{BranchesStandFor, working_in}
+use Rattle.xa_branch.proofs.Lastings.{KeepsLasting, lasting_change, prepared_change}
 
 -- a state with the same parts: sessions, reads and the rest may be others
 pub stands_elsewhere : (m : Branches) (s t : State) → t.boot ≡ s.boot → t.given ≡ s.given → t.associations ≡ s.associations → t.branches ≡ s.branches → t.decided ≡ s.decided → BranchesStandFor m s
@@ -18,8 +19,10 @@ stands_elsewhere m s t boot given associations branches decided st = record {
   boot = st.boot ∙ sym boot;
   given = st.given ∙ sym given;
   working = λ xid. rw (associations, branches) (st.working xid);
+  lasting = λ xid. rw (branches, decided) (st.lasting xid);
   known = rw (branches, decided) st.known;
-  lasting = rw (branches, decided) st.lasting;
+  prepared = rw branches st.prepared;
+  completed = rw decided st.completed;
 }
 
 -- what a branch does changes neither its timestamp nor its phase
@@ -39,6 +42,9 @@ done_look op s xid q false e =
     ap (option_and_then (working_in s.associations q))
     (find_change_other (is_known_as xid) (is_known_as q) (having_done op) (λ b is. (called_apart xid q b e is, called_apart xid q b e is)) s.branches)
 
+done_keeps : (op : Operation) → KeepsLasting (having_done op)
+done_keeps op = record { name = λ b. refl; lasts = λ b. refl; plain = λ b. refl }
+
 pub done_stands : (m : Branches) (s : State) (xid : Triple) (op : Operation) → BranchesStandFor m s → BranchesStandFor m (record s { branches = did xid op s.branches })
 done_stands m s xid op st = record {
   boot = st.boot;
@@ -47,8 +53,7 @@ done_stands m s xid op st = record {
   known =
       let names : known_count (did xid op s.branches) ≡ known_count s.branches = count_same (is_known_as xid) (having_done op) (λ b. is_some (name_of b.phase)) (λ b. refl) s.branches in
       st.known ∙ ap (λ (n : ℕ). n + length s.decided) (sym names);
-  lasting = record {
-    prepared = change_all (λ (b : Branch). is_prepared b.phase ≡ false) (is_known_as xid) (having_done op) (λ b plain. plain) s.branches st.lasting.prepared;
-    decided = st.lasting.decided;
-  };
+  lasting = λ q. st.lasting q ∙ sym (lasting_change (is_known_as xid) (having_done op) (done_keeps op) q (decided_of s.decided q) s.branches);
+  prepared = st.prepared ∙ sym (prepared_change (is_known_as xid) (having_done op) (done_keeps op) s.branches);
+  completed = st.completed;
 }

@@ -1,13 +1,13 @@
 -- Known branches that stand for a state, after a session hangs up.
 use Rattle.std.proofs.Common.{◌≡◌, ℕ, ℤ, ◌+◌, ◌≤◌, Bool, true, false, not, ◌&&◌, ◌||◌, cond, Option, Some, None, List, [], ◌∷◌, length, refl, ap, sym, ◌∙◌, arith}
 use Rattle.std.specs.Prelude.{find, filter, map, is_some, option_map, option_and_then}
-use Rattle.std.specs.BTreeMap.{BTreeMap}
+use Rattle.std.specs.BTreeMap.{BTreeMap, btree_map_len}
 use Rattle.std.specs.BTreeSet.{BTreeSet, contains}
-use Rattle.std.specs.List.{AllByRecursion, list_any}
+use Rattle.std.specs.List.{list_any}
 use Rattle.xa_codes.specs.declared.codes.TheConstants.{XA_RBCOMMFAIL}
 use Rattle.xa_xid.specs.Triple.{Triple, xid_eq, xid_cmp}
 use Rattle.xa_xid.proofs.Same.{xid_same}
-use Rattle.xa_model.specs.State.{State, Branch, Phase, Working, Prepared, Committed, Association, Holder, Active, Suspended, Loose, count, name_of, is_with, is_active, is_own, is_suspended, is_known_as, known_of, known_count, owns, works_in, suspends, active_of}
+use Rattle.xa_model.specs.State.{State, Branch, Phase, Working, Prepared, Committed, Association, Holder, Active, Suspended, Loose, count, name_of, is_with, is_active, is_own, is_suspended, is_known_as, known_of, known_count, decided_of, owns, works_in, suspends, active_of}
 use Rattle.xa_model.specs.Associations.{is_anyones, is_worked_by, marked_phase, with_mark, left_behind as left_by_session, hang_up_by}
 use Rattle.xa_model.specs.Sound.{IsSound}
 use Rattle.xa_model.proofs.Counts.{count_less, count_nowhere, count_map}
@@ -18,11 +18,12 @@ use Rattle.xa_branch.specs.declared.branches.Branches.{Branches}
 use Rattle.xa_branch.specs.declared.kind.Kind.TheVariants as kind
 use Rattle.xa_branch.specs.declared.working.Working.{Working as Kept}
 use Rattle.xa_branch.specs.Kinds.{kind_of, same_kind, is_as, held_as, own_kind}
-use Rattle.xa_branch.specs.Branches.{BranchesStandFor, kept_of, working_by, working_in, is_prepared}
+use Rattle.xa_branch.specs.Branches.{BranchesStandFor, kept_of, working_by, working_in, lasting_in, is_prepared}
 use Rattle.xa_branch.specs.Changes.{LeavesAll, marked, less_one, left_behind}
-use Rattle.xa_branch.proofs.Leaving.{any_counts, none_counted}
+use Rattle.xa_model.proofs.Leaving.{any_counts, none_counted}
 use Rattle.xa_branch.proofs.Begun.{kept_same}
-use Rattle.xa_branch.proofs.Completing.{marked_plain}
+use Rattle.xa_branch.proofs.Lastings.{KeepsLasting, lasting_map, prepared_map}
+use Rattle.xa_branch.proofs.Marking.{marked_keeps}
 use Rattle.xa_branch.proofs.Owners.{never}
 use Rattle.xa_branch.proofs.Turning.{less}
 
@@ -50,10 +51,6 @@ find_map_by p f x xs false rest = rest
 find_map : {A : Type 0} (p : A → Bool) (f : A → A) (h : (x : A) → p (f x) ≡ p x) (xs : List A) → find p (map f xs) ≡ option_map f (find p xs)
 find_map p f h [] = refl
 find_map p f h (x ∷ xs) = rw (h x) (find_map_by p f x xs (p x) (find_map p f h xs))
-
-map_all : {A : Type 0} (P : A → Type 0) (f : A → A) (keeps : (x : A) → P x → P (f x)) (xs : List A) → AllByRecursion P xs → AllByRecursion P (map f xs)
-map_all P f keeps [] all = tt
-map_all P f keeps (x ∷ xs) all = (keeps x all.0, map_all P f keeps xs all.1)
 
 -- The session's own associations with an XID
 
@@ -200,9 +197,16 @@ behind_look n q held bs d works one =
     find_map (is_known_as q) (left_by_session held n) (same_known held n q) bs in
     behind_in n q held (known_of bs q) d (λ b e. found_passes (is_known_as q) b bs e) works one ∙ sym (ap (option_and_then (working_in (left_of n held) q)) found)
 
-plain_by : (b : Branch) (c : Bool) → is_prepared b.phase ≡ false → is_prepared (cond c (with_mark XA_RBCOMMFAIL b) b).phase ≡ false
-plain_by b true plain = marked_plain XA_RBCOMMFAIL b.phase ∙ plain
-plain_by b false plain = plain
+lasts_by : (b : Branch) (c : Bool) → lasting_in (cond c (with_mark XA_RBCOMMFAIL b) b) ≡ lasting_in b
+lasts_by b true = (marked_keeps XA_RBCOMMFAIL).lasts b
+lasts_by b false = refl
+
+plain_by : (b : Branch) (c : Bool) → is_prepared (cond c (with_mark XA_RBCOMMFAIL b) b).phase ≡ is_prepared b.phase
+plain_by b true = (marked_keeps XA_RBCOMMFAIL).plain b
+plain_by b false = refl
+
+behind_keeps : (held : List Association) (n : ℕ) → KeepsLasting (left_by_session held n)
+behind_keeps held n = record { name = (left_keeps held n).name; lasts = λ b. lasts_by b (is_worked_by held n b.phase); plain = λ b. plain_by b (is_worked_by held n b.phase) }
 
 pub hung_up_stands : (m : Branches) (kept : BTreeMap Triple Kept) (s : State) (n : ℕ) (own : BTreeSet Triple) (active : Option Triple) → IsSound s
     → ((q : Triple) → contains xid_cmp own q ≡ list_any (owns n q) s.associations) → active ≡ active_of s.associations n → BranchesStandFor m s → LeavesAll m.working own active kept
@@ -218,9 +222,8 @@ hung_up_stands m kept s n own active h owned_ active_ st all = record {
   known =
       let names : known_count (map (left_by_session s.associations n) s.branches) ≡ known_count s.branches =
       count_map (left_by_session s.associations n) (λ b. is_some (name_of b.phase)) (λ b. ap (λ (o : Option Triple). is_some o) ((left_keeps s.associations n).name b)) s.branches in
-      all.number ∙ st.known ∙ ap (λ (k : ℕ). k + length s.decided) (sym names);
-  lasting = record {
-    prepared = map_all (λ (b : Branch). is_prepared b.phase ≡ false) (left_by_session s.associations n) (λ b plain. plain_by b (is_worked_by s.associations n b.phase) plain) s.branches st.lasting.prepared;
-    decided = st.lasting.decided;
-  };
+      ap (λ (k : ℕ). k + btree_map_len m.lasting) all.number ∙ st.known ∙ ap (λ (k : ℕ). k + length s.decided) (sym names);
+  lasting = λ q. st.lasting q ∙ sym (lasting_map (left_by_session s.associations n) (behind_keeps s.associations n) q (decided_of s.decided q) s.branches);
+  prepared = st.prepared ∙ sym (prepared_map (left_by_session s.associations n) (behind_keeps s.associations n) s.branches);
+  completed = st.completed;
 }

@@ -1,10 +1,14 @@
-pub mod Leaving
 pub mod Counting
 pub mod Looks
 pub mod Setting
 pub mod Knowing
 pub mod Beginning
-pub mod Completing
+pub mod Lastings
+pub mod Marking
+pub mod Finding
+pub mod Finishing
+pub mod Preparing
+pub mod Deciding
 pub mod Begun
 pub mod Turning
 pub mod Owners

@@ -16,7 +16,7 @@ use Rattle.xa_branch.specs.Kinds.{kind_of, held_as, ended_kind, resumed_kind}
 use Rattle.xa_branch.specs.Branches.{BranchesStandFor, working_at}
 use Rattle.xa_branch.specs.Changes.{Sets, with_one, less_one}
 use Rattle.xa_branch.proofs.Counting.{Picks, Loses, joined_gains, left_loses, turned_gains}
-use Rattle.xa_branch.proofs.Leaving.{more_any, neither_any, without_same}
+use Rattle.xa_model.proofs.Leaving.{more_any, neither_any, without_same}
 use Rattle.xa_branch.proofs.Owners.{few}
 use Rattle.xa_branch.proofs.Turning.{Turns, turns_then, lost_turns, gained_turns, turned_stands}
 

@@ -14,7 +14,7 @@ use Rattle.xa_branch.specs.Kinds.{same_kind, held_as}
 use Rattle.xa_branch.specs.Branches.{BranchesStandFor, kept_of, working_at, working_by, working_in}
 use Rattle.xa_branch.specs.Changes.{Sets, with_one, less_one}
 use Rattle.xa_branch.proofs.Counting.{Gains, Loses, gained_here, gained_other, lost_here, lost_other}
-use Rattle.xa_branch.proofs.Completing.{same_number}
+use Rattle.xa_branch.proofs.Marking.{same_number}
 use Rattle.xa_branch.proofs.Begun.{kept_same, same_in}
 
 -- What becomes of what is kept of the branch with the XID, where the associations become others; nothing becomes of the
@@ -84,6 +84,8 @@ turned_stands m kept s xid after f st turns sets = record {
   boot = st.boot;
   given = st.given;
   working = λ q. sets.at q ∙ rw (cmp_is_eq xid q) (turned_look m s xid q after f (xid_eq xid q) refl st turns);
-  known = same_number f (working_at m xid) (btree_map_len kept) (btree_map_len m.working) sets.number ∙ st.known;
   lasting = st.lasting;
+  known = ap (λ (k : ℕ). k + btree_map_len m.lasting) (same_number f (working_at m xid) (btree_map_len kept) (btree_map_len m.working) sets.number) ∙ st.known;
+  prepared = st.prepared;
+  completed = st.completed;
 }

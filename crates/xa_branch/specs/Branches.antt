@@ -1,11 +1,13 @@
 -- Which states of the sequential resource manager the known branches stand for.
-use Rattle.std.specs.Prelude.{ℕ, ◌≡◌, ℤ, Bool, true, false, Option, Some, None, List, [], option_and_then}
+use Rattle.std.specs.Prelude.{ℕ, ◌≡◌, ◌+◌, ℤ, Bool, true, false, Option, Some, None, List, length, option_map, option_and_then}
 use Rattle.std.specs.BTreeMap.{get, btree_map_len}
-use Rattle.std.specs.List.{AllByRecursion}
+use Rattle.xa_codes.specs.declared.direction.Direction.{Direction}
 use Rattle.xa_xid.specs.Triple.{Triple, xid_cmp}
-use Rattle.xa_model.specs.State.{State, Branch, Phase, Working, Prepared, Committed, Association, Decided, known_of, known_in}
+use Rattle.xa_model.specs.State.{State, Branch, Phase, Working, Prepared, Committed, Association, count, known_of, known_in, decided_of}
 use Rattle.xa_branch.specs.declared.branches.Branches.{Branches}
 use Rattle.xa_branch.specs.declared.kind.Kind.TheVariants as kind
+use Rattle.xa_branch.specs.declared.lasting.Lasting.{Lasting}
+use Rattle.xa_branch.specs.declared.lasting.Lasting.TheVariants as lasting
 use Rattle.xa_branch.specs.declared.working.Working.{Working as Kept}
 use Rattle.xa_branch.specs.Kinds.{held_as}
 
@@ -13,9 +15,13 @@ use Rattle.xa_branch.specs.Kinds.{held_as}
 abbrev pub working_at : Branches → Triple → Option Kept
 working_at m xid = get xid_cmp m.working xid
 
+-- what is kept of the prepared or completed branch with this XID
+abbrev pub lasting_at : Branches → Triple → Option Lasting
+lasting_at m xid = get xid_cmp m.lasting xid
+
 -- how many branches are kept
 abbrev pub number_of : Branches → ℕ
-number_of m = btree_map_len m.working
+number_of m = btree_map_len m.working + btree_map_len m.lasting
 
 -- a branch at work: its timestamp and mark, and how many associations of each kind it has
 abbrev pub kept_of : List Association → Triple → ℕ → Option ℤ → Kept
@@ -39,20 +45,41 @@ working_in held xid b = working_by held xid b.timestamp b.phase
 abbrev pub working_of : State → Triple → Option Kept
 working_of s xid = option_and_then (working_in s.associations xid) (known_of s.branches xid)
 
+-- what lasts of a branch: of one at work nothing
+abbrev pub lasting_by : ℕ → Phase → Option Lasting
+lasting_by timestamp (Working x mark) = None
+lasting_by timestamp (Prepared x) = Some (lasting.Prepared timestamp)
+lasting_by timestamp Committed = None
+
+abbrev pub lasting_in : Branch → Option Lasting
+lasting_in b = lasting_by b.timestamp b.phase
+
+abbrev pub lasting_among : Option Branch → Option Direction → Option Lasting
+lasting_among (Some b) direction = lasting_in b
+lasting_among None direction = option_map lasting.Completed direction
+
+-- what lasts of the known branch with this XID, or the direction in which the operator completed it
+abbrev pub lasting_of : State → Triple → Option Lasting
+lasting_of s xid = lasting_among (known_of s.branches xid) (decided_of s.decided xid)
+
 abbrev pub is_prepared : Phase → Bool
 is_prepared (Working x mark) = false
 is_prepared (Prepared x) = true
 is_prepared Committed = false
 
--- no branch is prepared, and none was completed by the operator
-pub record NothingLasts (bs : List Branch) (ds : List Decided) : Type 0 where
-  pub prepared : AllByRecursion (λ b. is_prepared b.phase ≡ false) bs
-  pub decided : ds ≡ []
+-- how many branches are prepared
+abbrev pub prepared_among : List Branch → ℕ
+prepared_among branches = count (λ b. is_prepared b.phase) branches
 
--- Nothing is said of what branches did, of sessions or of reads. So far no branch lasts.
+abbrev pub prepared_in : State → ℕ
+prepared_in s = prepared_among s.branches
+
+-- Nothing is said of what branches did, of sessions or of reads.
 pub record BranchesStandFor (m : Branches) (s : State) : Type 0 where
   pub boot : m.boot ≡ s.boot
   pub given : m.given ≡ s.given
   pub working : (xid : Triple) → working_at m xid ≡ working_of s xid
+  pub lasting : (xid : Triple) → lasting_at m xid ≡ lasting_of s xid
   pub known : number_of m ≡ known_in s
-  pub lasting : NothingLasts s.branches s.decided
+  pub prepared : m.prepared ≡ prepared_in s
+  pub completed : m.completed ≡ length s.decided

@@ -12,7 +12,7 @@ use Rattle.xa_branch.specs.declared.working.Working.{Working as Kept}
 use Rattle.xa_branch.specs.Kinds.{own_kind}
 
 -- what is at one XID is another, and nothing else is
-pub record Sets (m : BTreeMap Triple Kept) (xid : Triple) (o : Option Kept) (m' : BTreeMap Triple Kept) : Type 0 where
+pub record Sets {V : Type 0} (m : BTreeMap Triple V) (xid : Triple) (o : Option V) (m' : BTreeMap Triple V) : Type 0 where
   pub at : (q : Triple) → get xid_cmp m' q ≡ cond (is_eq (xid_cmp xid q)) o (get xid_cmp m q)
   pub number : btree_map_len m' + cond (is_some (get xid_cmp m xid)) 1 0 ≡ btree_map_len m + cond (is_some o) 1 0
 

@@ -1,13 +1,12 @@
 ghost use Rattle.std.specs.Prelude.{◌≡◌, ◌+◌, ℕ, IfOk, OnOk, OnErr};
 ghost use Rattle.xa_model.specs.State.{State as ModelState, known_as, known_in, timestamp_of};
 ghost use Rattle.xa_model.specs.Associations.{begun, is_taken};
-ghost use Rattle.xa_model.specs.Branches.{rolled_back, committed};
 ghost use Rattle.xa_model.specs.Sound.{IsSound};
 ghost use Rattle.xa_branch.specs.Branches.{BranchesStandFor};
 ghost use Rattle.xa_branch.specs.Calls.{begin_fault, fault_of, marked_with};
 
 use crate::branches::Branches;
-use crate::changes::{add, set, take};
+use crate::changes::{add, set};
 use crate::fault::BeginFault;
 use crate::working::Working;
 use xa_codes::Code;
@@ -20,7 +19,7 @@ const MOST_GIVEN: u64 = 4294967295;
 /// How many timestamps a boot's number makes room for.
 const BOOT: u64 = 4294967296;
 
-/// How branches begin, are marked, and are completed.
+/// How branches begin, and are marked.
 impl Branches {
     /// A branch begins, with one active association, and is given the boot's next timestamp: the boot's number times 2^32,
     /// and how many timestamps the boot has given with this one. No number is given twice.
@@ -30,7 +29,7 @@ impl Branches {
         ensures ok { (s : ModelState) (n : ℕ) → IsSound s → BranchesStandFor self.old s → OnOk result (BranchesStandFor self.new (begun s n xid.now).after) }
         ensures err { (s : ModelState) → BranchesStandFor self.old s → OnErr result (BranchesStandFor self.new s) }
     {
-        if self.working_of(xid).is_some() {
+        if self.working_of(xid).is_some() || self.lasting_of(xid).is_some() {
             return Err(BeginFault::Duplicate);
         }
         if self.len() >= MOST_BRANCHES || self.given >= MOST_GIVEN {
@@ -53,13 +52,5 @@ impl Branches {
         if let Some(working) = self.working_of(xid) {
             set(&mut self.working, xid, working.marked(code));
         }
-    }
-
-    /// A branch is committed or rolled back, and known no more.
-    pub fn finish(&mut self, xid: &Xid)
-        ensures rolled_back { (s : ModelState) → IsSound s → BranchesStandFor self.old s → BranchesStandFor self.new (rolled_back s xid.now) }
-        ensures committed { (s : ModelState) → IsSound s → BranchesStandFor self.old s → BranchesStandFor self.new (committed s xid.now) }
-    {
-        take(&mut self.working, xid);
     }
 }

@@ -1,31 +1,36 @@
-ghost use Rattle.std.specs.Prelude.{◌≡◌, ◌+◌, MatchResult, None, Some};
+ghost use Rattle.std.specs.Prelude.{◌≡◌, ◌+◌, MatchResult, None, Some, length};
 ghost use Rattle.xa_model.specs.State.{State as ModelState, known_as, known_in, loose_of};
 ghost use Rattle.xa_model.specs.Associations.{timestamp_in};
 ghost use Rattle.xa_model.specs.Branches.{is_associated};
 ghost use Rattle.xa_model.specs.Sound.{IsSound};
 
 use crate::known::Known;
+use crate::lasting::Lasting;
 use crate::state::State;
 use crate::working::Working;
 use std::alloc::Global;
 use std::collections::BTreeMap;
-use xa_codes::{Code, XAER_NOTA, XAER_PROTO};
+use xa_codes::{Code, Direction, XAER_NOTA, XAER_PROTO};
 use xa_xid::Xid;
 
-/// The known branches, by their XIDs, and how many timestamps this boot gave.
+/// The known branches, by their XIDs, and how many timestamps this boot gave. What lasts over a restart stands by itself:
+/// the prepared branches, and the XIDs whose branches the operator completed, with how many there are of each.
 ///
 /// What a call promises holds for every state of the sequential resource manager that the branches stood for. Each call
 /// takes time that grows with the logarithm of the number of branches, `hang_up` that for each branch that the session
-/// leaves behind, and only `begin` takes memory.
+/// leaves behind, and only `begin` and `prepare` take memory.
 #[derive(Drop)]
 pub struct Branches {
     pub(crate) boot: u32,
     pub(crate) given: u64,
     pub(crate) working: BTreeMap<Xid, Working>,
+    pub(crate) lasting: BTreeMap<Xid, Lasting>,
+    pub(crate) prepared: usize,
+    pub(crate) completed: usize,
 }
 
 impl Branches {
-    ghost use Rattle.xa_branch.specs.Branches.{BranchesStandFor, working_at, number_of};
+    ghost use Rattle.xa_branch.specs.Branches.{BranchesStandFor, working_at, lasting_at, number_of, prepared_in};
     ghost use Rattle.xa_branch.specs.Calls.{readiness};
     ghost use Rattle.xa_branch.specs.Facts.{fact_of};
     ghost use Rattle.xa_branch.specs.State.{state_of};
@@ -39,6 +44,9 @@ impl Branches {
             boot,
             given: next.saturating_sub(1),
             working: BTreeMap::new(alloc),
+            lasting: BTreeMap::new(alloc),
+            prepared: 0,
+            completed: 0,
         }
     }
 
@@ -47,7 +55,21 @@ impl Branches {
         ensures value { result ≡ number_of self.now }
         ensures known { (s : ModelState) → BranchesStandFor self.now s → result ≡ known_in s }
     {
-        self.working.len()
+        self.working.len() + self.lasting.len()
+    }
+
+    /// How many branches are prepared.
+    pub fn prepared(&self) -> usize
+        ensures { (s : ModelState) → BranchesStandFor self.now s → result ≡ prepared_in s }
+    {
+        self.prepared
+    }
+
+    /// How many branches the operator completed, and are not forgotten.
+    pub fn completed(&self) -> usize
+        ensures { (s : ModelState) → BranchesStandFor self.now s → result ≡ length s.decided }
+    {
+        self.completed
     }
 
     /// How many timestamps this boot gave.
@@ -64,13 +86,24 @@ impl Branches {
         self.working.get(xid).copied()
     }
 
-    /// The timestamp of the known branch with this XID, or 0.
+    /// What lasts of the branch with this XID.
+    pub fn lasting_of(&self, xid: &Xid) -> Option<Lasting>
+        ensures { result ≡ lasting_at self.now xid.now }
+    {
+        self.lasting.get(xid).copied()
+    }
+
+    /// The timestamp of the branch with this XID that is at work or prepared, or 0.
     pub fn timestamp(&self, xid: &Xid) -> u64
         ensures { (s : ModelState) → BranchesStandFor self.now s → result ≡ timestamp_in s xid.now }
     {
         match self.working_of(xid) {
-            None => 0,
             Some(working) => working.timestamp,
+            None => match self.lasting_of(xid) {
+                Some(Lasting::Prepared(timestamp)) => timestamp,
+                Some(Lasting::Completed(_)) => 0,
+                None => 0,
+            },
         }
     }
 
@@ -89,8 +122,12 @@ impl Branches {
         ensures { (s : ModelState) → BranchesStandFor self.now s → fact_of result ≡ known_as s xid.now }
     {
         match self.working_of(xid) {
-            None => Known::Unknown,
             Some(working) => Known::AtWork(working.mark),
+            None => match self.lasting_of(xid) {
+                Some(Lasting::Prepared(_)) => Known::InDoubt,
+                Some(Lasting::Completed(direction)) => Known::Completed(direction),
+                None => Known::Unknown,
+            },
         }
     }
 
@@ -108,20 +145,27 @@ impl Branches {
     pub fn state(&self, xid: &Xid) -> Option<State>
         ensures { (s : ModelState) → BranchesStandFor self.now s → result ≡ state_of s xid.now }
     {
-        let Some(working) = self.working_of(xid) else {
-            return None;
-        };
-        Some(working.state())
+        if let Some(working) = self.working_of(xid) {
+            return Some(working.state());
+        }
+        match self.lasting_of(xid)? {
+            Lasting::Prepared(_) => Some(State::Prepared),
+            Lasting::Completed(Direction::Commit) => Some(State::HeurCommitted),
+            Lasting::Completed(Direction::Rollback) => Some(State::HeurRolledBack),
+        }
     }
 
     /// Whether the branch may be prepared, or else the code that answers: XAER_NOTA where it isn't known, XAER_PROTO where
-    /// it is associated, or its mark.
+    /// it is associated, prepared or completed, or its mark.
     pub fn ready_to_prepare(&self, xid: &Xid) -> Result<(), Code>
         ensures { (s : ModelState) → BranchesStandFor self.now s →
             MatchResult result (λ _. readiness (known_as s xid.now) (is_associated s xid.now) ≡ None) (λ code. readiness (known_as s xid.now) (is_associated s xid.now) ≡ Some code) }
     {
         let Some(working) = self.working_of(xid) else {
-            return Err(XAER_NOTA);
+            return match self.lasting_of(xid) {
+                Some(_) => Err(XAER_PROTO),
+                None => Err(XAER_NOTA),
+            };
         };
         if working.is_associated() {
             return Err(XAER_PROTO);

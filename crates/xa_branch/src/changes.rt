@@ -10,29 +10,29 @@ use std::collections::{BTreeMap, BTreeSet};
 use xa_codes::XA_RBCOMMFAIL;
 use xa_xid::Xid;
 
-/// Adds a branch, or puts it in the place of another with its XID.
-pub fn add(working: &mut BTreeMap<Xid, Working>, xid: Xid, new: Working) -> Result<(), AllocError>
-    ensures ok { OnOk result (Sets working.old xid (Some new) working.new) }
-    ensures err { OnErr result (working.new.entries ≡ working.old.entries) }
+/// Adds what is kept of a branch, or puts it in the place of what was kept at its XID.
+pub fn add<V: Drop>(kept: &mut BTreeMap<Xid, V>, xid: Xid, new: V) -> Result<(), AllocError>
+    ensures ok { OnOk result (Sets kept.old xid (Some new) kept.new) }
+    ensures err { OnErr result (kept.new.entries ≡ kept.old.entries) }
 {
-    working.insert(xid, new)?;
+    kept.insert(xid, new)?;
     Ok(())
 }
 
 /// Puts another in the place of what is kept of a branch.
-pub fn set(working: &mut BTreeMap<Xid, Working>, xid: &Xid, new: Working)
-    ensures { Sets working.old xid.now (option_map (λ _. new) (get xid_cmp working.old xid.now)) working.new }
+pub fn set<V: Drop>(kept: &mut BTreeMap<Xid, V>, xid: &Xid, new: V)
+    ensures { Sets kept.old xid.now (option_map (λ _. new) (get xid_cmp kept.old xid.now)) kept.new }
 {
-    if let Some(place) = working.get_mut(xid) {
+    if let Some(place) = kept.get_mut(xid) {
         *place = new;
     }
 }
 
-/// Takes a branch away.
-pub fn take(working: &mut BTreeMap<Xid, Working>, xid: &Xid)
-    ensures { Sets working.old xid.now None working.new }
+/// Takes what is kept of a branch away.
+pub fn take<V: Drop>(kept: &mut BTreeMap<Xid, V>, xid: &Xid)
+    ensures { Sets kept.old xid.now None kept.new }
 {
-    working.remove(xid);
+    kept.remove(xid);
 }
 
 /// A session leaves a branch behind: its association of this kind ends, and the branch is marked.

@@ -1,10 +1,10 @@
 ghost use Rattle.std.specs.Prelude.{◌≡◌, ◌≢◌, IfSome};
 ghost use Rattle.xa_model.specs.Answer.{plain};
-ghost use Rattle.xa_model.specs.Branches.{one_phase_refusal, two_phase_refusal, rollback_refusal, doom_refusal};
+ghost use Rattle.xa_model.specs.Branches.{one_phase_refusal, two_phase_refusal, rollback_refusal, heuristic_refusal, doom_refusal};
 ghost use Rattle.xa_branch.specs.Facts.{fact_of};
 
 use crate::known::Known;
-use xa_codes::{Code, Detail, XAER_NOTA, XAER_PROTO};
+use xa_codes::{Code, Detail, Direction, XA_HEURCOM, XA_HEURRB, XAER_NOTA, XAER_PROTO};
 use xa_frame::{Body, Reply};
 
 /// A reply that carries nothing.
@@ -52,6 +52,18 @@ pub fn rollback_refusal(known: Known, is_associated: bool) -> Option<Reply>
         Known::Unknown => Some(plain(XAER_NOTA)),
         _ if is_associated => Some(plain(XAER_PROTO)),
         _ => None,
+    }
+}
+
+/// What a commit or rollback of a branch that the operator completed is answered.
+pub fn heuristic_refusal(known: Known) -> Option<Reply>
+    ensures value { result ≡ heuristic_refusal (fact_of known) }
+    ensures served { IfSome result (λ r. r.detail ≢ Detail.Memory) }
+{
+    match known {
+        Known::Completed(Direction::Commit) => Some(plain(XA_HEURCOM)),
+        Known::Completed(Direction::Rollback) => Some(plain(XA_HEURRB)),
+        Known::Unknown | Known::AtWork(_) | Known::InDoubt => None,
     }
 }
 

@@ -1,16 +1,20 @@
 -- What a manager's look-ups say of the states that it stands for.
-use Rattle.std.proofs.Common.{◌≡◌, ℕ, ℤ, true, false, Option, Some, None, refl, ap, sym, ◌∙◌, subst}
+use Rattle.std.proofs.Common.{◌≡◌, ℕ, ℤ, ◌≤◌, true, false, Option, Some, None, refl, ap, sym, ◌∙◌, subst, arith, rules}
 use Rattle.std.specs.Prelude.{option_map, option_and_then}
+use Rattle.std.specs.List.{list_any}
 use Rattle.mv_rules.specs.Ties.{fate_of}
-use Rattle.xa_xid.specs.Triple.{Triple}
-use Rattle.xa_model.specs.State.{State, Branch, Known, Unknown, AtWork, InDoubt, Completed, mark_of, known_of, known_as, active_of, branch_with, own_branch}
+use Rattle.xa_xid.specs.Triple.{Triple, xid_eq}
+use Rattle.xa_model.specs.State.{State, Branch, Known, Unknown, AtWork, InDoubt, Completed, count, is_with, is_active, works_in, mark_of, known_of, known_as, active_of, holders_of, branch_with, own_branch}
 use Rattle.xa_model.specs.Associations.{is_unknown, is_settled, mark_in}
-use Rattle.xa_model.specs.Sound.{is_at_work}
-use Rattle.xa_model.proofs.Rows.{at_work}
+use Rattle.xa_model.specs.Sound.{IsSound, is_at_work}
+use Rattle.xa_model.proofs.Counts.{count_less}
+use Rattle.xa_model.proofs.Leaving.{any_counts}
+use Rattle.xa_model.proofs.Xids.{both_true}
+use Rattle.xa_assoc.proofs.Held.{works_somewhere}
 use Rattle.xa_assoc.specs.Seats.{active_at}
 use Rattle.xa_branch.specs.declared.working.Working.{Working as Kept_branch}
 use Rattle.xa_branch.specs.Branches.{working_at}
-use Rattle.xa_branch.proofs.Looks.{IsWorking, Seen, Nowhere, There, seen_at, fact_at, known_is}
+use Rattle.xa_branch.proofs.Looks.{IsWorking, works_at, idle_at}
 use Rattle.xa_manager.specs.Kept.{Kept, with_working, own_at}
 use Rattle.xa_manager.specs.Stands.{StandsFor}
 
@@ -24,29 +28,8 @@ mapped_some f None y h = absurd (cc h)
 mapped_some f (Some x) y h = (x, refl, cc h)
 
 -- a branch that is kept is a known one at work
-seen_some : (s : State) (xid : Triple) (w : Kept_branch) → Seen s xid (Some w) → IsWorking s xid w
-seen_some s xid w (There v is) = is
-
 pub finds : (m : Kept) (s : State) (xid : Triple) (w : Kept_branch) → StandsFor m s → working_at m.branches xid ≡ Some w → IsWorking s xid w
-finds m s xid w st h = seen_some s xid w (seen_at m.branches s xid (Some w) st.branches h)
-
-seen_none : (s : State) (xid : Triple) → Seen s xid None → known_of s.branches xid ≡ None
-seen_none s xid (Nowhere e) = e
-
-pub not_known : (m : Kept) (s : State) (xid : Triple) → StandsFor m s → working_at m.branches xid ≡ None → known_of s.branches xid ≡ None
-not_known m s xid st h = seen_none s xid (seen_at m.branches s xid None st.branches h)
-
--- so far nothing lasts: what is known is at work
-
-fact_unsettled : (o : Option Kept_branch) → is_settled (fact_at o) ≡ false
-fact_unsettled None = refl
-fact_unsettled (Some w) = refl
-
-pub unsettled_known : (m : Kept) (s : State) (xid : Triple) → StandsFor m s → is_settled (known_as s xid) ≡ false
-unsettled_known m s xid st = ap is_settled (known_is m.branches s xid (working_at m.branches xid) st.branches refl) ∙ fact_unsettled (working_at m.branches xid)
-
-pub at_work_where : (m : Kept) (s : State) (xid : Triple) → StandsFor m s → is_unknown (known_as s xid) ≡ false → is_at_work (known_of s.branches xid) ≡ true
-at_work_where m s xid st e = at_work s xid e (unsettled_known m s xid st)
+finds m s xid w st h = works_at m.branches s xid w st.branches h
 
 work_by : (k : Known) → is_unknown k ≡ false → is_settled k ≡ false → k ≡ AtWork (mark_in k)
 work_by Unknown e h = absurd (cc e)
@@ -54,8 +37,8 @@ work_by (AtWork mark) e h = refl
 work_by InDoubt e h = absurd (cc h)
 work_by (Completed direction) e h = absurd (cc h)
 
-pub work_is : (m : Kept) (s : State) (xid : Triple) → StandsFor m s → is_unknown (known_as s xid) ≡ false → known_as s xid ≡ AtWork (mark_in (known_as s xid))
-work_is m s xid st e = work_by (known_as s xid) e (unsettled_known m s xid st)
+pub work_is : (s : State) (xid : Triple) → is_unknown (known_as s xid) ≡ false → is_settled (known_as s xid) ≡ false → known_as s xid ≡ AtWork (mark_in (known_as s xid))
+work_is s xid e h = work_by (known_as s xid) e h
 
 -- the branch that a session is at work for
 
@@ -75,13 +58,26 @@ own_is m s n xid w st h x =
     let active : active_of s.associations n ≡ Some xid = sym (st.sessions.active n) ∙ (own_works m n xid w h).0 in
     ap (option_and_then (branch_with s.branches)) active ∙ ap (option_map (λ (b : Branch). (xid, b))) x.found
 
-no_own_by : (m : Kept) (s : State) (o : Option Triple) → StandsFor m s → option_and_then (with_working m) o ≡ None → option_and_then (branch_with s.branches) o ≡ None
-no_own_by m s None st h = refl
-no_own_by m s (Some x) st h =
-    let none = not_known m s x st (mapped_none (λ (y : Kept_branch). (x, y)) (working_at m.branches x) h) in ap (option_map (λ (b : Branch). (x, b))) none
+itself : (xid : Triple) → xid_eq xid xid ≡ true
+itself xid = search rules
+
+-- whom a session works for is at work
+never_idle : (s : State) (n : ℕ) (xid : Triple) → IsSound s → active_of s.associations n ≡ Some xid → is_at_work (known_of s.branches xid) ≡ false → ⊥
+never_idle s n xid h active idle =
+    let zero : holders_of s.associations xid ≡ 0 = h.bound xid idle in
+    let any : list_any (works_in n xid) s.associations ≡ true = works_somewhere n xid s.associations (ap (is_with xid) active ∙ itself xid) in
+    let some : 1 ≤ count (works_in n xid) s.associations = any_counts (works_in n xid) s.associations any in
+    let fewer : count (works_in n xid) s.associations ≤ holders_of s.associations xid =
+    count_less (works_in n xid) (λ a. xid_eq a.xid xid) (λ a is. (both_true (is_active n a.holder) (xid_eq a.xid xid) is).1) s.associations in
+    omega arith
+
+no_own_by : (m : Kept) (s : State) (n : ℕ) (o : Option Triple) → StandsFor m s → active_of s.associations n ≡ o → option_and_then (with_working m) o ≡ None → option_and_then (branch_with s.branches) o ≡ None
+no_own_by m s n None st active h = refl
+no_own_by m s n (Some x) st active h =
+    absurd (never_idle s n x st.sound active (idle_at m.branches s x st.branches (mapped_none (λ (y : Kept_branch). (x, y)) (working_at m.branches x) h)))
 
 pub no_own : (m : Kept) (s : State) (n : ℕ) → StandsFor m s → own_at m n ≡ None → own_branch s n ≡ None
-no_own m s n st h = ap (option_and_then (branch_with s.branches)) (sym (st.sessions.active n)) ∙ no_own_by m s (active_at m.sessions n) st h
+no_own m s n st h = ap (option_and_then (branch_with s.branches)) (sym (st.sessions.active n)) ∙ no_own_by m s n (active_at m.sessions n) st (sym (st.sessions.active n)) h
 
 -- what is kept of it
 

@@ -13,14 +13,17 @@ use xa_xid::Xid;
 
 /// The rows of the branch table: how branches are completed, and marked by the operator.
 impl Tables {
-    /// Nothing is prepared so far, so that a commit in two phases is always refused.
+    /// The commit of a prepared branch in two phases is not built.
     pub fn commit(&mut self, flags: u32, xid: &Xid) -> Reply
         ensures { Follows (kept_of self.old) (λ s. commit_by s flags xid.now) result (kept_of self.new) }
     {
         if flags & TMONEPHASE == TMONEPHASE {
             return self.commit_one_phase(xid);
         }
-        match self.two_phase_refusal(xid) {
+        if let Some(reply) = self.two_phase_refusal(xid) {
+            return reply;
+        }
+        match self.heuristic_refusal(xid) {
             Some(reply) => reply,
             None => plain(XAER_INVAL),
         }
@@ -40,11 +43,18 @@ impl Tables {
         plain(XA_OK)
     }
 
+    /// The rollback of a prepared branch is not built.
     pub fn rollback(&mut self, xid: &Xid) -> Reply
         ensures { Follows (kept_of self.old) (λ s. rollback_by s xid.now) result (kept_of self.new) }
     {
         if let Some(reply) = self.rollback_refusal(xid) {
             return reply;
+        }
+        if let Some(reply) = self.heuristic_refusal(xid) {
+            return reply;
+        }
+        if self.is_settled(xid) {
+            return plain(XAER_INVAL);
         }
         let mark = self.mark_of(xid);
         self.finish_branch(xid, Fate::RolledBack);

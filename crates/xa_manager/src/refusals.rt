@@ -1,7 +1,7 @@
 ghost use Rattle.std.specs.Prelude.{◌≡◌, IfSome, false};
 ghost use Rattle.xa_model.specs.State.{State, known_as, loose_of};
 ghost use Rattle.xa_model.specs.Associations.{loose_refusal};
-ghost use Rattle.xa_model.specs.Branches.{one_phase_refusal, two_phase_refusal, rollback_refusal, doom_refusal, is_associated};
+ghost use Rattle.xa_model.specs.Branches.{one_phase_refusal, two_phase_refusal, rollback_refusal, heuristic_refusal, doom_refusal, is_associated};
 ghost use Rattle.xa_assoc.specs.Refusals.{is_memory};
 ghost use Rattle.xa_assoc.specs.Sessions.{begin_refusal_of, join_refusal_of, resume_refusal_of, suspend_refusal_of, leave_refusal_of};
 ghost use Rattle.xa_manager.specs.Kept.{kept_of};
@@ -9,7 +9,9 @@ ghost use Rattle.xa_manager.specs.Stands.{StandsFor};
 
 use crate::tables::Tables;
 use xa_assoc::loose_refusal;
-use xa_branch::{doom_refusal, one_phase_refusal, rollback_refusal, two_phase_refusal};
+use xa_branch::{
+    doom_refusal, heuristic_refusal, one_phase_refusal, rollback_refusal, two_phase_refusal,
+};
 use xa_frame::Reply;
 use xa_xid::Xid;
 
@@ -96,6 +98,14 @@ impl Tables {
         ensures served { IfSome result (λ r. is_memory r.detail ≡ false) }
     {
         rollback_refusal(self.branches.known(xid), self.branches.is_associated(xid))
+    }
+
+    /// Of a branch that the operator completed.
+    pub fn heuristic_refusal(&self, xid: &Xid) -> Option<Reply>
+        ensures value { (s : State) → StandsFor (kept_of self.now) s → result ≡ heuristic_refusal (known_as s xid.now) }
+        ensures served { IfSome result (λ r. is_memory r.detail ≡ false) }
+    {
+        heuristic_refusal(self.branches.known(xid))
     }
 
     pub fn doom_refusal(&self, xid: &Xid) -> Option<Reply>

@@ -1,7 +1,7 @@
 use std::test::Fail;
 use xa_assoc::Sessions;
-use xa_branch::{BeginFault, Branches, Kind, Known, State};
-use xa_codes::{XA_RBOTHER, XAER_NOTA, XAER_PROTO};
+use xa_branch::{BeginFault, Branches, Kind, Known, Lasting, State};
+use xa_codes::{Direction, XA_RBOTHER, XAER_NOTA, XAER_PROTO};
 use xa_xid::Xid;
 
 // One session begins a branch, suspends its work, resumes it and ends it.
@@ -44,5 +44,47 @@ fn branches(rt: HostRuntime) -> Result<(), Fail> {
     assert_eq!(rt; branches.known(&xid), Known::AtWork(Some(XA_RBOTHER)));
     branches.finish(&xid);
     assert_eq!(rt; branches.ready_to_prepare(&xid), Err(XAER_NOTA));
+    Ok(())
+}
+
+// A branch is prepared, and committed by the operator, which is then forgotten.
+#[test]
+fn lasting_branches(rt: HostRuntime) -> Result<(), Fail> {
+    let xid = Xid::new(1, &[0xaa], &[0xbb]).ok().ok_or("an XID")?;
+    let mut branches = Branches::new(rt.alloc(), 1, 1);
+    assert_eq!(rt; branches.begin(&xid), Ok(4294967297));
+    branches.leave(&xid, Kind::Active);
+    branches.prepare(&xid)?;
+    assert_eq!(rt; branches.state(&xid), Some(State::Prepared));
+    assert_eq!(rt;
+        branches.lasting_of(&xid),
+        Some(Lasting::Prepared(4294967297))
+    );
+    assert_eq!(rt; branches.begin(&xid), Err(BeginFault::Duplicate));
+    branches.decide(&xid, Direction::Commit);
+    assert_eq!(rt; branches.state(&xid), Some(State::HeurCommitted));
+    assert_eq!(rt; branches.begin(&xid), Err(BeginFault::Duplicate));
+    branches.forget(&xid);
+    assert_eq!(rt; branches.known(&xid), Known::Unknown);
+    Ok(())
+}
+
+// How many branches are prepared and completed: one is rolled back by the operator, and one by its transaction manager.
+#[test]
+fn lasting_counts(rt: HostRuntime) -> Result<(), Fail> {
+    let first = Xid::new(1, &[0xaa], &[0xbb]).ok().ok_or("an XID")?;
+    let second = Xid::new(1, &[0xaa], &[0xbc]).ok().ok_or("an XID")?;
+    let mut branches = Branches::new(rt.alloc(), 1, 1);
+    assert_eq!(rt; branches.begin(&first), Ok(4294967297));
+    assert_eq!(rt; branches.begin(&second), Ok(4294967298));
+    branches.prepare(&first)?;
+    branches.prepare(&second)?;
+    assert_eq!(rt; branches.prepared(), 2);
+    branches.decide(&first, Direction::Rollback);
+    assert_eq!(rt; branches.state(&first), Some(State::HeurRolledBack));
+    branches.finish(&second);
+    assert_eq!(rt; branches.prepared(), 0);
+    assert_eq!(rt; branches.completed(), 1);
+    assert_eq!(rt; branches.len(), 1);
     Ok(())
 }

@@ -1,9 +1,9 @@
 use Rattle.std.proofs.Common.{◌≡◌, ◌≤◌, ◌+◌, ◌*◌, ◌⊎◌, inl, inr, false, sym, ◌∙◌, ap, arith}
 use Rattle.std.specs.Prelude.{is_some}
 use Rattle.xa_model.specs.State.{timestamp_of}
-use Rattle.xa_branch.specs.Branches.{working_at, number_of}
+use Rattle.xa_branch.specs.Branches.{working_at, lasting_at, number_of}
 use Rattle.xa_branch.specs.Changes.{new_kept}
-use Rattle.xa_branch.proofs.Beginning.{fault_is, limited, let_in}
+use Rattle.xa_branch.proofs.Beginning.{taken_in, fault_is, limited, let_in, none_of}
 use Rattle.xa_branch.proofs.Setting.{set_same}
 use Rattle.xa_branch.proofs.Begun.{begun_stands}
 use Rattle.xa_branch.proofs.branches.Branches.begin.Goals as goal
@@ -12,30 +12,37 @@ use Rattle.xa_branch.proofs.branches.Branches.begin.Goals.{then-len-ge-MOST_BRAN
 pub returns-then-len-ge-MOST_BRANCHES-clause-refused : goal.returns-then-len-ge-MOST_BRANCHES-clause-refused
 returns-then-len-ge-MOST_BRANCHES-clause-refused c = λ s st.
     let m = c.args.self.now in
-    let free : is_some (working_at m c.args.xid.now) ≡ false = grind (arith, c.working_of.ensures, c.is_some.ensures, c.if-is_some.false) in
+    let idle : is_some (working_at m c.args.xid.now) ≡ false = grind (arith, c.working_of.ensures, c.is_some.ensures, c.if-is_some.false) in
+    let nor : is_some (lasting_at m c.args.xid.now) ≡ false = grind (arith, c.lasting_of.ensures, c.is_some-else-is_some.ensures, c.if-is_some-2.false) in
+    let free : taken_in m c.args.xid.now ≡ false = rw idle nor in
     let full : (4096 ≤ number_of m) ⊎ (4294967295 ≤ m.given) =
     elim c.then-len-ge-MOST_BRANCHES.branch [
       | then-len-ge-MOST_BRANCHES-via-then-len-ge-MOST_BRANCHES w ↦ inl (omega (arith, c.len.ensures.value))
       | then-len-ge-MOST_BRANCHES-via-else-len-ge-MOST_BRANCHES+then-self-ge-MOST_GIVEN w ↦ inr (omega arith)
     ] in
-    sym (fault_is m s c.args.xid.now st ∙ limited (is_some (working_at m c.args.xid.now)) (number_of m) m.given free full)
+    sym (fault_is m s c.args.xid.now st ∙ limited (taken_in m c.args.xid.now) (number_of m) m.given free full)
 
 pub returns-in-Err-clause-refused : goal.returns-in-Err-clause-refused
 returns-in-Err-clause-refused c = λ s st.
     let m = c.args.self.now in
-    let free : is_some (working_at m c.args.xid.now) ≡ false = grind (arith, c.working_of.ensures, c.is_some.ensures, c.if-is_some.false) in
-    sym (fault_is m s c.args.xid.now st ∙ let_in (is_some (working_at m c.args.xid.now)) (number_of m) m.given free (omega (arith, c.len.ensures.value)) (omega arith))
+    let idle : is_some (working_at m c.args.xid.now) ≡ false = grind (arith, c.working_of.ensures, c.is_some.ensures, c.if-is_some.false) in
+    let nor : is_some (lasting_at m c.args.xid.now) ≡ false = grind (arith, c.lasting_of.ensures, c.is_some-else-is_some.ensures, c.if-is_some-2.false) in
+    let free : taken_in m c.args.xid.now ≡ false = rw idle nor in
+    sym (fault_is m s c.args.xid.now st ∙ let_in (taken_in m c.args.xid.now) (number_of m) m.given free (omega (arith, c.len.ensures.value)) (omega arith))
 
 pub returns-in-Ok-clause-refused : goal.returns-in-Ok-clause-refused
 returns-in-Ok-clause-refused c = λ s st.
     let m = c.args.self.now in
-    let free : is_some (working_at m c.args.xid.now) ≡ false = grind (arith, c.working_of.ensures, c.is_some.ensures, c.if-is_some.false) in
-    sym (fault_is m s c.args.xid.now st ∙ let_in (is_some (working_at m c.args.xid.now)) (number_of m) m.given free (omega (arith, c.len.ensures.value)) (omega arith))
+    let idle : is_some (working_at m c.args.xid.now) ≡ false = grind (arith, c.working_of.ensures, c.is_some.ensures, c.if-is_some.false) in
+    let nor : is_some (lasting_at m c.args.xid.now) ≡ false = grind (arith, c.lasting_of.ensures, c.is_some-else-is_some.ensures, c.if-is_some-2.false) in
+    let free : taken_in m c.args.xid.now ≡ false = rw idle nor in
+    sym (fault_is m s c.args.xid.now st ∙ let_in (taken_in m c.args.xid.now) (number_of m) m.given free (omega (arith, c.len.ensures.value)) (omega arith))
 
 pub returns-in-Ok-clause-ok : goal.returns-in-Ok-clause-ok
 returns-in-Ok-clause-ok c = λ s n h st.
     let m = c.args.self.now in
-    let free : is_some (working_at m c.args.xid.now) ≡ false = grind (arith, c.working_of.ensures, c.is_some.ensures, c.if-is_some.false) in
+    let idle : is_some (working_at m c.args.xid.now) ≡ false = grind (arith, c.working_of.ensures, c.is_some.ensures, c.if-is_some.false) in
+    let nor : is_some (lasting_at m c.args.xid.now) ≡ false = grind (arith, c.lasting_of.ensures, c.is_some-else-is_some.ensures, c.if-is_some-2.false) in
     let time : c.from.result * 4294967296 + m.given + 1 ≡ timestamp_of s.boot (s.given + 1) = omega (arith, c.from.ensures, st.boot, st.given) in
     let new : c.new.result ≡ new_kept (timestamp_of s.boot (s.given + 1)) = c.new.ensures ∙ ap new_kept time in
-    begun_stands m _ s n c.args.xid.now h st free (set_same m.working _ c.copied.result c.args.xid.now c.new.result _ c.copied.ensures new c.in-Ok.ensures.ok)
+    begun_stands m _ s n c.args.xid.now h st (none_of (working_at m c.args.xid.now) idle) (none_of (lasting_at m c.args.xid.now) nor) (set_same m.working _ c.copied.result c.args.xid.now c.new.result _ c.copied.ensures new c.in-Ok.ensures.ok)

@@ -3,7 +3,7 @@ use Rattle.std.proofs.lemmas.Int.{to_z-of_z}
 use Rattle.xa_branch.specs.Branches.{working_at}
 use Rattle.xa_branch.specs.Changes.{marked}
 use Rattle.xa_branch.proofs.Setting.{set_by, unset_by_any}
-use Rattle.xa_branch.proofs.Completing.{marked_stands}
+use Rattle.xa_branch.proofs.Marking.{marked_stands}
 use Rattle.xa_branch.proofs.branches.Branches.doom.Goals as goal
 
 pub returns-in-Some : goal.returns-in-Some

@@ -1,0 +1,79 @@
+ghost use Rattle.std.specs.Prelude.{◌≡◌, ◌≢◌, OnOk, OnErr};
+ghost use Rattle.xa_model.specs.State.{State as ModelState, InDoubt, known_as};
+ghost use Rattle.xa_model.specs.Branches.{rolled_back, committed, prepared, decided_by, forgotten};
+ghost use Rattle.xa_model.specs.Sound.{IsSound};
+ghost use Rattle.xa_branch.specs.Branches.{BranchesStandFor};
+
+use crate::branches::Branches;
+use crate::changes::{add, set, take};
+use crate::lasting::Lasting;
+use std::alloc::AllocError;
+use xa_codes::Direction;
+use xa_xid::Xid;
+
+/// How branches are prepared, completed, and forgotten.
+impl Branches {
+    /// A branch at work is prepared: of it, only the timestamp is kept. Whether it may be prepared is to be asked before
+    /// (`ready_to_prepare`). Of another XID nothing changes, nor where there is no memory.
+    pub fn prepare(&mut self, xid: &Xid) -> Result<(), AllocError>
+        ensures ok { (s : ModelState) → IsSound s → BranchesStandFor self.old s → OnOk result (BranchesStandFor self.new (prepared s xid.now)) }
+        ensures err { (s : ModelState) → BranchesStandFor self.old s → OnErr result (BranchesStandFor self.new s) }
+    {
+        let Some(working) = self.working_of(xid) else {
+            return Ok(());
+        };
+        add(
+            &mut self.lasting,
+            xid.copied(),
+            Lasting::Prepared(working.timestamp),
+        )?;
+        take(&mut self.working, xid);
+        self.prepared = self.prepared.saturating_add(1);
+        Ok(())
+    }
+
+    /// The operator completes a prepared branch. Of another XID nothing changes.
+    pub fn decide(&mut self, xid: &Xid, direction: Direction)
+        ensures decided { (s : ModelState) → IsSound s → BranchesStandFor self.old s → known_as s xid.now ≡ InDoubt → BranchesStandFor self.new (decided_by s direction xid.now) }
+        ensures other { (s : ModelState) → BranchesStandFor self.old s → known_as s xid.now ≢ InDoubt → BranchesStandFor self.new s }
+    {
+        match self.lasting_of(xid) {
+            Some(Lasting::Prepared(_)) => {
+                set(&mut self.lasting, xid, Lasting::Completed(direction));
+                self.prepared = self.prepared.saturating_sub(1);
+                self.completed = self.completed.saturating_add(1);
+            }
+            Some(Lasting::Completed(_)) => {}
+            None => {}
+        }
+    }
+
+    /// A branch at work or a prepared one is committed or rolled back, and known no more. Of another XID nothing changes.
+    pub fn finish(&mut self, xid: &Xid)
+        ensures rolled_back { (s : ModelState) → IsSound s → BranchesStandFor self.old s → BranchesStandFor self.new (rolled_back s xid.now) }
+        ensures committed { (s : ModelState) → IsSound s → BranchesStandFor self.old s → BranchesStandFor self.new (committed s xid.now) }
+    {
+        match self.lasting_of(xid) {
+            Some(Lasting::Prepared(_)) => {
+                take(&mut self.lasting, xid);
+                self.prepared = self.prepared.saturating_sub(1);
+            }
+            Some(Lasting::Completed(_)) => {}
+            None => take(&mut self.working, xid),
+        }
+    }
+
+    /// What the operator decided is forgotten. Of another XID nothing changes.
+    pub fn forget(&mut self, xid: &Xid)
+        ensures { (s : ModelState) → IsSound s → BranchesStandFor self.old s → BranchesStandFor self.new (forgotten s xid.now) }
+    {
+        match self.lasting_of(xid) {
+            Some(Lasting::Completed(_)) => {
+                take(&mut self.lasting, xid);
+                self.completed = self.completed.saturating_sub(1);
+            }
+            Some(Lasting::Prepared(_)) => {}
+            None => {}
+        }
+    }
+}
