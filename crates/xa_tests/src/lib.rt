@@ -41,6 +41,8 @@ mod record_limits;
 #[cfg(test)]
 mod records;
 #[cfg(test)]
+mod recoveries;
+#[cfg(test)]
 mod rows;
 #[cfg(test)]
 mod sessions;

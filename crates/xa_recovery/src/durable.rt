@@ -1,0 +1,71 @@
+ghost use Rattle.std.specs.Prelude.{◌≡◌, ◌+◌, map, nat_lt, if◌then◌else◌, None, Some};
+ghost use Rattle.xa_recovery.specs.Durable.{as_committed, as_prepared, as_decided};
+
+use std::collections::BTreeMap;
+use std::marker::Model;
+use xa_codes::Direction;
+use xa_record::Writes;
+use xa_xid::Xid;
+
+/// A branch that was prepared and isn't completed.
+#[derive(Debug, Drop)]
+pub struct InDoubt {
+    pub xid: Xid,
+    pub writes: Writes,
+}
+
+/// What lasts: what the records of a log come to.
+#[derive(Drop)]
+pub struct Durable {
+    pub(crate) boot: u32,
+    pub(crate) committed: BTreeMap<u64, Writes>,
+    pub(crate) prepared: BTreeMap<u64, InDoubt>,
+    pub(crate) decided: BTreeMap<Xid, Direction>,
+}
+
+impl Model for Durable {
+    ghost use Rattle.std.specs.Prelude.{map};
+    ghost use Rattle.xa_model.specs.Durable.{Durable as Seen};
+    ghost use Rattle.xa_recovery.specs.Durable.{as_committed, as_prepared, as_decided};
+
+    ghost Value = { Seen };
+
+    ghost view = { λ d. record { boot = d.boot; committed = map as_committed d.committed.entries; prepared = map as_prepared d.prepared.entries; decided = map as_decided d.decided.entries } };
+}
+
+impl Durable {
+    /// The greatest boot that was logged, or 0.
+    pub fn boot(&self) -> u32
+        ensures { result ≡ self.now.boot }
+    {
+        self.boot
+    }
+
+    /// The committed branches by timestamp, each with those of its writes that are the last of their keys.
+    pub fn committed(&self) -> &BTreeMap<u64, Writes>
+        ensures { map as_committed result.now.entries ≡ self.now.committed }
+    {
+        &self.committed
+    }
+
+    /// The branches in doubt by timestamp.
+    pub fn prepared(&self) -> &BTreeMap<u64, InDoubt>
+        ensures { map as_prepared result.now.entries ≡ self.now.prepared }
+    {
+        &self.prepared
+    }
+
+    /// What the operator decided and isn't forgotten, by XID.
+    pub fn decided(&self) -> &BTreeMap<Xid, Direction>
+        ensures { map as_decided result.now.entries ≡ self.now.decided }
+    {
+        &self.decided
+    }
+}
+
+/// The number of the boot after those that were logged. None after 4,294,967,295. Takes no memory.
+pub fn next_boot(durable: &Durable) -> Option<u32>
+    ensures { result ≡ (if nat_lt durable.now.boot 4294967295 then Some (durable.now.boot + 1) else None) }
+{
+    durable.boot.checked_add(1)
+}

@@ -1,0 +1,62 @@
+ghost use Rattle.std.specs.Prelude.{◌≡◌, ◌||◌, List, ℕ, map, filter, not, IfOk, OnOk};
+ghost use Rattle.std.specs.BTreeMap.{insert_entry};
+ghost use Rattle.std.specs.BTreeSet.{contains};
+ghost use Rattle.std.specs.Cmp.Lexicographic.{slice_cmp};
+ghost use Rattle.std.specs.Ordering.{nat_cmp};
+ghost use Rattle.xa_codes.specs.declared.write.Write.{Write};
+ghost use Rattle.xa_model.specs.Durable.{CommittedBranch, Pairwise, commits_before, is_written_in, last_writes};
+ghost use Rattle.xa_recovery.specs.Durable.{as_committed};
+
+use std::alloc::{AllocError, Global};
+use std::collections::{BTreeMap, BTreeSet};
+use xa_codes::{Bytes, Write};
+use xa_record::Writes;
+
+/// The writes of keys that aren't in the set.
+fn unwritten(alloc: Global, written: &BTreeSet<Bytes>, writes: Writes) -> Result<Writes, AllocError>
+    ensures { IfOk result (λ ws. ws ≡ filter (λ w. not (contains (slice_cmp nat_cmp) written.now w.key)) writes) }
+{
+    let mut kept = Vec::new(alloc);
+    for write in writes.into_vec() {
+        if !written.contains(&write.key) {
+            kept.push(write)?;
+        }
+    }
+    Ok(Writes::new(kept))
+}
+
+/// Adds the keys of writes to the set.
+fn note(alloc: Global, written: &mut BTreeSet<Bytes>, writes: &[Write]) -> Result<(), AllocError>
+    ensures { OnOk result ((key : List ℕ) → contains (slice_cmp nat_cmp) written.new key ≡ (is_written_in key writes.now || contains (slice_cmp nat_cmp) written.old key)) }
+{
+    for write in writes {
+        written.insert(write.key.copied(alloc)?)?;
+    }
+    Ok(())
+}
+
+fn keep(last: &mut BTreeMap<u64, Writes>, timestamp: u64, writes: Writes) -> Result<(), AllocError>
+    ensures { OnOk result (last.new.entries ≡ insert_entry nat_cmp last.old.entries timestamp writes) }
+{
+    last.insert(timestamp, writes)?;
+    Ok(())
+}
+
+/// Of branches by timestamp, the writes that are the last of their keys.
+pub(crate) fn last_writes(
+    alloc: Global,
+    mut all: BTreeMap<u64, Writes>,
+) -> Result<BTreeMap<u64, Writes>, AllocError>
+    ensures { Pairwise commits_before (map as_committed all.entries) → IfOk result (λ m. map as_committed m.entries ≡ last_writes (map as_committed all.entries)) }
+{
+    let mut written = BTreeSet::new(alloc);
+    let mut last = BTreeMap::new(alloc);
+    while let Some((timestamp, writes)) = all.pop_last() {
+        let kept = unwritten(alloc, &written, writes)?;
+        if !kept.as_slice().is_empty() {
+            note(alloc, &mut written, kept.as_slice())?;
+            keep(&mut last, timestamp, kept)?;
+        }
+    }
+    Ok(last)
+}

@@ -1,0 +1,21 @@
+//! What the log's records come to when a resource manager starts, and what follows from it: the next boot's number, the
+//! records that a new file begins with, and the XIDs that recovery lists.
+#![tactic(auto)]
+
+mod acts;
+mod copies;
+mod durable;
+mod fault;
+mod last;
+mod listing;
+mod order;
+mod rebuilding;
+mod records;
+mod snapshots;
+
+pub use durable::{Durable, InDoubt, next_boot};
+pub use fault::{AddFault, RebuildFault};
+pub use listing::list_after;
+pub use rebuilding::Rebuilding;
+pub use records::rebuild;
+pub use snapshots::snapshot;
