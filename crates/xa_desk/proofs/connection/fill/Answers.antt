@@ -1,4 +1,4 @@
-use Rattle.std.proofs.Common.{◌≡◌, ℕ, ◌+◌, ◌-◌, ◌≤◌, List, ◌++◌, length, take, drop, Option, ap, ◌∙◌, arith, subst, sym}
+use Rattle.std.proofs.Common.{◌≡◌, ℕ, ◌+◌, ◌-◌, ◌<◌, ◌≤◌, List, ◌++◌, length, take, drop, Option, ap, ◌∙◌, arith, subst, sym}
 use Rattle.std.proofs.lemmas.List.{length-append, length-take-le, take-append-le}
 use Rattle.std.proofs.Math.Seq.{take-append-add}
 use Rattle.std.specs.Io.KnownBytes.{Consumes}
@@ -25,3 +25,24 @@ pub loop-count-preserved : goal.loop-count-preserved
 loop-count-preserved g c =
     let inv = c.loop-count.invariant in
     more _ _ _ c.loop-count.count c.in-Ok.n c.loop-count.buffer c.read.new.buf inv.0 (omega (arith, c.read.auto.buf)) (omega (arith, c.in-Ok.ensures.bound)) inv.1 c.in-Ok.ensures.bytes.0
+
+-- what is written behind the first k leaves a place behind them
+place-left : (k : ℕ) (xs ys : List ℕ) → k < length xs → length ys ≡ length xs - k → k < length (put_mid k (length xs - k) xs ys)
+place-left k xs ys within len =
+    let rest : List ℕ = drop (length xs - k) (drop k xs) in
+    omega (arith, length-append (take k xs) (ys ++ rest), length-append ys rest, length-take-le k xs (omega (arith, within)), len, within)
+
+pub returns-in-Ok-eq0 : goal.returns-in-Ok-eq0
+returns-in-Ok-eq0 g c =
+    let inv = c.loop-count.invariant in
+    let k = c.loop-count.count in
+    let n = c.in-Ok-eq0.field-0 in
+    let all = put_mid k (length c.loop-count.buffer - k) c.loop-count.buffer c.read.new.buf in
+    let len : length c.read.new.buf ≡ length c.loop-count.buffer - k = omega (arith, c.read.auto.buf) in
+    let piece = more _ _ _ k n c.loop-count.buffer c.read.new.buf inv.0 len (omega (arith, c.in-Ok-eq0.ensures.bound)) inv.1 c.in-Ok-eq0.ensures.bytes.0 in
+    let same : k + n ≡ k = omega (arith, c.in-Ok-eq0.field-0-test) in
+    let P : ℕ → Type 0 = λ j. Consumes (g.R.Read.remaining c.args.reader.now) (g.R.Read.remaining c.read.new.self) (take j all) in (
+      place-left k c.loop-count.buffer c.read.new.buf c.loop-count-test.true len,
+      subst P same piece.1,
+      c.in-Ok-eq0.ensures.bytes.1 c.in-Ok-eq0.field-0-test (omega (arith, len, c.loop-count-test.true)),
+    )

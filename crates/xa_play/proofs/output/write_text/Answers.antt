@@ -1,4 +1,4 @@
-use Rattle.std.proofs.Common.{◌≡◌, ◌≢◌, ◌==◌, [], Option, List, ℕ, Some, None, true, length, ap, subst}
+use Rattle.std.proofs.Common.{◌≡◌, ◌≢◌, ◌==◌, [], Option, List, ℕ, Some, None, true, length, ap, subst, rules}
 use Rattle.std.specs.Option.{option_copied}
 use Rattle.xa_play.proofs.Pieces.{LeftOf, left_over, more_written, part_written}
 use Rattle.xa_play.proofs.output.write_text.Goals as goal
@@ -19,3 +19,6 @@ returns-in-None-clause-part g c = λ _.
     let none : option_copied c.left_of.result ≡ None = ap option_copied c.in-None.is in
     let more : c.loop.rest.now ≢ [] = λ e. let empty : (length c.loop.rest.now == 0) ≡ true = ap (λ (xs : List ℕ). length xs == 0) e in cc in
     part_written c.args.text.now c.loop.rest.now (g.W.Write.contents c.args.writer.now) old new c.loop.invariant (subst (λ (o : Option (List ℕ)). LeftOf c.loop.rest.now o old new) none left) more
+
+pub returns-clause-part : goal.returns-clause-part
+returns-clause-part g c = search rules

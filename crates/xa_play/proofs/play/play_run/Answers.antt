@@ -1,4 +1,4 @@
-use Rattle.std.proofs.Common.{List, ℕ, subst, inl, inr}
+use Rattle.std.proofs.Common.{List, ℕ, subst, inl, inr, rules}
 use Rattle.std.proofs.lemmas.Result.{err_from_is_err_and}
 use Rattle.xa_manager.specs.Managed.{kept}
 use Rattle.xa_play.specs.Faults.{fault_of}
@@ -31,3 +31,9 @@ returns-clause-played g c =
     rw c.end_of.ensures
     (ran (Unit {0}) _ c.play_lines-played.result c.flush-flushed.result (kept c.in_ok-manager.manager) c.args.settings.name c.args.settings.log_bytes (g.R.Read.remaining c.args.reader.now) old mid new
     c.in_ok-script.script.items played.0 c.in_ok-script.ensures.all c.in_ok-script.ensures.limit played.1 c.flush-flushed.ensures.bytes ends c.in_ok-manager.ensures.fresh)
+
+pub returns-in_err-manager-clause-unread : goal.returns-in_err-manager-clause-unread
+returns-in_err-manager-clause-unread g c = search rules
+
+pub returns-clause-longer : goal.returns-clause-longer
+returns-clause-longer g c = search rules
