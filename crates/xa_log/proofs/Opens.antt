@@ -1,6 +1,6 @@
 -- Two files that were read or made.
-use Rattle.std.proofs.Common.{◌≡◌, inl, inr, ⊎_elim, ℕ, zero, suc, ◌≤◌, Bool, true, false, not, ◌&&◌, ◌||◌, List, [], ◌∷◌, length, take, drop, refl, sym, ◌∙◌, ap, subst, arith, cond, nat_lt, nat_eq, Some, None, length-drop}
-use Rattle.std.proofs.lemmas.Bool.{and_parts, and_from, or_left, or_right, or_cases, or_parts, cases_order, ltb-false, eq-eqb, and_cases}
+use Rattle.std.proofs.Common.{◌≡◌, ◌⊎◌, inl, inr, ⊎_elim, ℕ, zero, suc, ◌≤◌, Bool, true, false, not, ◌&&◌, ◌||◌, List, [], ◌∷◌, length, take, drop, refl, sym, ◌∙◌, ap, subst, arith, cond, nat_lt, nat_eq, Some, None, length-drop}
+use Rattle.std.proofs.lemmas.Bool.{cases_Bool, and_parts, and_from, or_left, or_right, or_cases, or_parts, cases_order, ltb-false, eq-eqb, and_cases}
 use Rattle.std.proofs.lemmas.Bool.Decides.{nat_tests}
 use Rattle.xa_disk.specs.Disk.{Only}
 use Rattle.xa_log.specs.declared.fault.OpenFault.TheVariants.{NotALog, TooNew, TooLong}
@@ -12,7 +12,8 @@ use Rattle.xa_log.specs.Pair.{generation, is_nil, beats, has_log, logged_pair, p
 use Rattle.xa_log.specs.Checkpoint.{IsOther, IsQuiet}
 use Rattle.xa_log.specs.Looking.{IsCurrent}
 use Rattle.xa_log.specs.Stands.{Stands}
-use Rattle.xa_log.specs.TwoFiles.{Pair, IsOpenPair}
+use Rattle.xa_log.specs.TwoFiles.{Pair, IsOpenPair, NoStray}
+use Rattle.xa_log.specs.Laws.{OpenedLaw}
 use Rattle.xa_log.proofs.Records.{record_to, rests_logged}
 use Rattle.xa_log.proofs.Pair.{beats_nil}
 use Rattle.xa_log.proofs.Torn.{torn_same}
@@ -147,3 +148,17 @@ pub made_pair : {D : Type 0} (tears : List ℕ → ℕ → List ℕ → List ℕ
 made_pair tears seen may_leave found stood log none nothing it =
     let now : IsOpenPair seen may_leave [] [] log = subst (λ s. IsOpenPair seen may_leave [] s log) nothing (subst (λ b. IsOpenPair seen may_leave b stood log) none it) in
     (record { current = now.current; other = now.other; calm_on = λ lucky. now.quiet.calm; older = beats_nil log.on_first [] }, now.quiet)
+
+-- what was read is a pair, where no stray records come before it
+pub opened_law : {D : Type 0} (tears : List ℕ → ℕ → List ℕ → List ℕ → Type 0) (seen : D → List ℕ) (may_leave : D → List ℕ → Type 0) → OpenedLaw tears seen may_leave
+opened_law {D} tears seen may_leave bodies log it stray =
+    record { current = it.current; other = it.other; calm_on = λ lucky. it.quiet.calm; older = by log.on_first refl stray (cases_Bool (has_log (seen log.other))) }
+  where
+    has : logged (seen log.disk) ≡ bodies
+    has = rests_logged log.format bodies (seen log.disk) it.current.file
+
+    by : (t : Bool) → log.on_first ≡ t → NoStray (seen (cond t log.disk log.other)) (seen (cond t log.other log.disk))
+        → (has_log (seen log.other) ≡ true) ⊎ (has_log (seen log.other) ≡ false) → beats log.on_first bodies (logged (seen log.other)) ≡ true
+    by t on none (inl begins) = it.older begins
+    by true on none (inr other) = (λ i. beats (on i) (sym has i) (logged (seen log.other))) ∙ none.1 other
+    by false on none (inr other) = (λ i. beats (on i) (sym has i) (logged (seen log.other))) ∙ none.0 other

@@ -1,20 +1,21 @@
 -- A checkpoint's parts, one behind the other.
-use Rattle.std.proofs.Common.{◌≡◌, ◌≢◌, inl, inr, ⊎_elim, ℕ, zero, suc, ◌+◌, ◌≤◌, Bool, true, false, List, [], ◌∷◌, ◌++◌, length, take, drop, refl, sym, ◌∙◌, ap, subst, arith, append_assoc, length-append, length-drop, cond, Result, Err, OnErr}
+use Rattle.std.proofs.Common.{◌≡◌, ◌≢◌, inl, inr, ⊎_elim, ℕ, zero, suc, ◌+◌, ◌≤◌, Bool, true, false, List, [], ◌∷◌, ◌++◌, length, take, drop, refl, sym, ◌∙◌, ap, subst, arith, append_assoc, length-append, length-drop, cond, Option, is_some, Result, Err, OnErr}
 use Rattle.std.specs.List.{AllByRecursion}
 use Rattle.std.specs.Int.{w32, to_be_bytes}
 use Rattle.xa_disk.specs.Disk.{put, Torn, Only, Passes, LeavesOnly, AllOrNone}
 use Rattle.xa_log.specs.declared.format.Format.{Format}
-use Rattle.xa_log.specs.Chain.{magic, start, opening, format_in, records, IsBody, Rests, logged, is_record, body_at, rest_at, digest_at, bodies_from}
+use Rattle.xa_log.specs.Chain.{magic, start, opening, format_of, format_in, records, IsBody, Rests, logged, is_record, body_at, rest_at, digest_at, bodies_from}
 use Rattle.xa_log.specs.Reading.{is_newer}
 use Rattle.xa_log.specs.Answers.{Fell, Went}
 use Rattle.xa_log.specs.declared.appending.Appended.{Appended}
 use Rattle.xa_log.specs.declared.appending.Appended.TheVariants.{Kept, Refused, Lost, Full}
-use Rattle.xa_log.specs.Pair.{IsCalm, Behind}
+use Rattle.xa_log.specs.Pair.{has_log, IsCalm, Behind}
 use Rattle.xa_log.specs.Checkpoint.{behind_front, first_length, IsReady, IsOther, IsQuiet, LeavesOf, LeavesNone, LeavesAny, SealTears, Checkpointed}
 use Rattle.std.proofs.lemmas.List.{take_at}
 use Rattle.xa_log.proofs.Records.{length-magic, record_to, bodies_closed, closed_zeros, rests_logged}
 use Rattle.xa_log.proofs.Torn.{torn_same, torn_front, put_within, put_torn}
-use Rattle.xa_log.proofs.Header.{length-opening, header_split, header_closed, header_whole, magic_known}
+use Rattle.xa_log.proofs.Header.{length-opening, header_magic, header_split, header_closed, header_whole, magic_known}
+use Rattle.xa_log.proofs.Again.{format_magic}
 use Rattle.xa_log.proofs.Pair.{calm_front}
 use Rattle.xa_log.proofs.Ready.{leaves_by, sealed_rests, seal_leaves, seal_cleared}
 
@@ -176,6 +177,13 @@ module _ {D : Type 0} (format : Format) (tears : List ℕ → ℕ → List ℕ �
   long : 12 ≤ length (seen mid)
   long = omega (arith, ap (λ (l : List ℕ). length l) ready.split, length-append (opening format) (behind_front format bodies ++ ready.rest), length-opening format)
 
+  -- a torn seal leaves the header
+  torn_log : (c : List ℕ) → Torn 8 4 (seen mid) c → has_log c ≡ true
+  torn_log c torn =
+      let front : take 8 c ≡ magic format =
+      torn_front 8 4 (seen mid) c (omega (arith, long)) torn ∙ ap (λ (l : List ℕ). take 8 l) ready.split ∙ header_magic format (behind_front format bodies ++ ready.rest) in
+      ap (λ (o : Option Format). is_some o) (ap (λ (l : List ℕ). format_of l) front ∙ format_magic format)
+
   pub sealed : (o : Appended) → o ≢ Full → Went tears o 8 (to_be_bytes w32 (first_length bodies)) (seen mid) (seen new) (may_leave new)
       → ((c : List ℕ) → may_leave new c → (d : List ℕ) × may_leave mid d × Torn 8 4 d c)
       → Checkpointed tears seen may_leave o most format stood bodies old new
@@ -194,6 +202,8 @@ module _ {D : Type 0} (format : Format) (tears : List ℕ → ℕ → List ℕ �
     seal_leaves format bodies (seen mid) ready most (seen new) fits went.0,
     (λ lucky. lucky format bodies (seen mid) went.1 (seen new) ready went.2 went.3),
     (λ c left. let x = follows c left in seal_leaves format bodies (seen mid) ready most c fits (subst (λ f. Torn 8 4 f c) (durable x.0 x.1) x.2)),
+    torn_log (seen new) went.0,
+    (λ c left. let x = follows c left in torn_log c (subst (λ f. Torn 8 4 f c) (durable x.0 x.1) x.2)),
   )
   sealed Full other went follows = absurd (other refl)
 

@@ -7,7 +7,7 @@ use Rattle.xa_log.specs.declared.fault.OpenFault.{OpenFault}
 use Rattle.xa_log.specs.declared.fault.OpenFault.TheVariants.{Device, Memory}
 use Rattle.xa_log.specs.Chain.{start, last, text, Rests, IsBeforeOrAfter, logged}
 use Rattle.xa_log.specs.Reading.{is_newer, fault_of}
-use Rattle.xa_log.specs.Pair.{beats, Behind, IsCalm, CalmTears, pair_fault, fault_pair, logged_pair, logged_of}
+use Rattle.xa_log.specs.Pair.{beats, has_log, Behind, IsCalm, CalmTears, pair_fault, fault_pair, logged_pair, logged_of}
 use Rattle.xa_log.specs.Checkpoint.{IsOther, IsQuiet, LeavesOf, SealTears}
 use Rattle.xa_log.specs.Stands.{Stands, MayStand, Leaves, LeavesLog, Untouched}
 use Rattle.xa_log.specs.TwoFiles.{Pair, MayStandPair, MaySeal}
@@ -73,8 +73,10 @@ module _ {D : Type 0} (tears : List ℕ → ℕ → List ℕ → List ℕ → Ty
     fits = omega (arith, ap (λ (l : List ℕ). length l) same, u.log_bytes, p.fits);
     durable = λ c now. p.durable c (left c now) ∙ sym same;
     other = subst (λ m. LeavesOf m fresh (seen new.other)) (sym u.log_bytes) (subst (λ f. LeavesOf old.log_bytes fresh f) (sym same_other) p.other);
+    front = ap (λ (f : List ℕ). has_log f) same_other ∙ p.front;
     calm_on = λ lucky. calm_kept fresh (p.calm_on lucky);
     left = λ c now. subst (λ m. LeavesOf m fresh c) (sym u.log_bytes) (p.left c (left_other c now));
+    left_front = λ c now. p.left_front c (left_other c now);
     above = p.above;
     lost = u.lost ∙ p.lost;
   }

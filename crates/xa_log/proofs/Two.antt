@@ -127,7 +127,9 @@ module _ {D : Type 0} (tears : List ℕ → ℕ → List ℕ → List ℕ → Ty
         durable = subst (λ x. Only (seen x) (may_leave x)) (sym disk) p.current.durable;
         other = subst (λ m. LeavesOf m fresh (seen new.other)) (sym most) now.0;
         calm_on = now.1;
+        front = now.3;
         left = λ c l. subst (λ m. LeavesOf m fresh c) (sym most) (now.2 c l);
+        left_front = now.4;
         above = above;
         lost = lost;
       })

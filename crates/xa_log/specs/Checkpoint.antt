@@ -1,5 +1,5 @@
 -- What a checkpoint's parts do to the file that they write.
-use Rattle.std.specs.Prelude.{◌≡◌, ◌⊎◌, ℕ, ◌≤◌, List, [], ◌∷◌, ◌++◌, length, take, drop}
+use Rattle.std.specs.Prelude.{◌≡◌, ◌⊎◌, ℕ, ◌≤◌, true, List, [], ◌∷◌, ◌++◌, length, take, drop}
 use Rattle.std.specs.List.{AllByRecursion}
 use Rattle.std.specs.Int.{w32, to_be_bytes}
 use Rattle.xa_disk.specs.Disk.{Only}
@@ -8,7 +8,7 @@ use Rattle.xa_log.specs.declared.appending.Appended.TheVariants.{Kept, Refused, 
 use Rattle.xa_log.specs.Answers.{Fell}
 use Rattle.xa_log.specs.declared.format.Format.{Format}
 use Rattle.xa_log.specs.Chain.{start, opening, record_of, records, IsBody, Rests}
-use Rattle.xa_log.specs.Pair.{IsCalm, Behind, AllOrNoBodies, CalmTears}
+use Rattle.xa_log.specs.Pair.{has_log, IsCalm, Behind, AllOrNoBodies, CalmTears}
 
 -- a record, and so many bytes of a closing length
 abbrev pub tailed : List ℕ → List ℕ → ℕ → List ℕ
@@ -71,4 +71,6 @@ Checkpointed tears seen may_leave Refused most format stood bodies old new =
     ⊎ (IsOther seen may_leave most [] new × IsQuiet seen may_leave [] new)
 Checkpointed tears seen may_leave Lost most format stood bodies old new =
     LeavesOf most bodies (seen new) × (SealTears tears → IsCalm bodies (seen new)) × ((c : List ℕ) → may_leave new c → LeavesOf most bodies c)
+    -- the seal is behind the first 8 bytes, which were synced
+    × (has_log (seen new) ≡ true) × ((c : List ℕ) → may_leave new c → has_log c ≡ true)
 Checkpointed tears seen may_leave Full most format stood bodies old new = ⊥

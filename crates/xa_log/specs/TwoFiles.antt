@@ -1,7 +1,7 @@
 -- What a log of two files stands for.
-use Rattle.std.specs.Prelude.{◌≡◌, ◌⊎◌, ◌≤◌, ◌<◌, ℕ, true, not, if◌then◌else◌, List, [], ◌∷◌, ◌++◌, length}
+use Rattle.std.specs.Prelude.{◌≡◌, ◌⊎◌, ◌≤◌, ◌<◌, ℕ, true, false, not, if◌then◌else◌, List, [], ◌∷◌, ◌++◌, length}
 use Rattle.xa_disk.specs.Disk.{Only}
-use Rattle.xa_log.specs.Chain.{newest, start, last, text, Rests}
+use Rattle.xa_log.specs.Chain.{newest, start, last, text, Rests, logged}
 use Rattle.xa_log.specs.Pair.{generation, beats, has_log, IsCalm, CalmTears}
 use Rattle.xa_log.specs.Checkpoint.{IsOther, IsQuiet, LeavesOf, SealTears}
 use Rattle.xa_log.specs.Stands.{Stands, MayStand}
@@ -25,14 +25,16 @@ pub record MayStandPair {D : Type 0} (tears : List ℕ → ℕ → List ℕ → 
   pub older : beats log.on_first bodies stood ≡ true
   pub older_after : beats log.on_first (bodies ++ body ∷ []) stood ≡ true
 
--- The checkpoint of new bodies was lost: without chance, the other file is a log of them or of none.
+-- The checkpoint of new bodies was lost: the other file begins as a log, and without chance it is one of them or of none.
 pub record MaySeal {D : Type 0} (tears : List ℕ → ℕ → List ℕ → List ℕ → Type 0) (seen : D → List ℕ) (may_leave : D → List ℕ → Type 0) (bodies fresh : List (List ℕ)) (log : Log D) : Type 0 where
   pub file : Rests log.format bodies (seen log.disk)
   pub fits : length (seen log.disk) ≤ log.log_bytes
   pub durable : Only (seen log.disk) (may_leave log.disk)
   pub other : LeavesOf log.log_bytes fresh (seen log.other)
+  pub front : has_log (seen log.other) ≡ true
   pub calm_on : SealTears tears → IsCalm fresh (seen log.other)
   pub left : (c : List ℕ) → may_leave log.other c → LeavesOf log.log_bytes fresh c
+  pub left_front : (c : List ℕ) → may_leave log.other c → has_log c ≡ true
   pub above : generation bodies < generation fresh
   pub lost : log.lost ≡ true
 
@@ -67,12 +69,18 @@ AppendsTo tears seen may_leave Lost bodies body stood log = MayStandPair tears s
 AppendsTo tears seen may_leave Full bodies body stood log = Pair tears seen may_leave bodies stood log
 
 -- Two files that were read: the current one stands, and the other one is what it was, on its disk too. It comes behind
--- where both are logs; where it isn't one, that is a premise on what stands behind its first 8 bytes.
+-- where both are logs; where it isn't one, that is a premise on what stands behind its first 8 bytes, NoStray.
 pub record IsOpenPair {D : Type 0} (seen : D → List ℕ) (may_leave : D → List ℕ → Type 0) (bodies stood : List (List ℕ)) (log : Log D) : Type 0 where
   pub current : Stands seen may_leave bodies log
   pub other : IsOther seen may_leave log.log_bytes stood log.other
   pub quiet : IsQuiet seen may_leave stood log.other
   pub older : (has_log (seen log.other) ≡ true) → beats log.on_first bodies stood ≡ true
+
+-- The premise of an opening on the first and the second file: where one begins as no log, the records that chain behind
+-- its first 8 bytes, if any do, come behind those of the other one.
+abbrev pub NoStray : List ℕ → List ℕ → Type 0
+NoStray first second =
+    (has_log first ≡ false → beats false (logged second) (logged first) ≡ true) × (has_log second ≡ false → beats true (logged first) (logged second) ≡ true)
 
 -- the two disks in the order in which they were given
 abbrev pub first_of : {D : Type 0} → Log D → D

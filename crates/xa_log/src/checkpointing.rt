@@ -152,8 +152,9 @@ pub(crate) fn checkpoint_on<D: Disk>(
     }
 }
 
-// Where a log of these bodies ends, if it fits with its closing length.
-pub(crate) fn end_of(format: Format, bodies: &[Vec<u8>], most: u64) -> Option<u64>
+/// Where a log of these bodies, each of 1 to 524,288 bytes, ends in a format, if it fits into so many bytes with its closing
+/// length.
+pub fn end_of(format: Format, bodies: &[Vec<u8>], most: u64) -> Option<u64>
     requires sizes { AllByRecursion IsBody (bodies_of bodies.now) }
     ensures some { IfSome result (λ end. (end ≡ length (text format (bodies_of bodies.now))) × (end + 4 ≤ most)) }
     ensures none { IfNone result (most < length (text format (bodies_of bodies.now)) + 4) }

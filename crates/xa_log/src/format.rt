@@ -13,8 +13,8 @@ pub enum Format {
 }
 
 impl Format {
-    // The format in which logs are made.
-    pub(crate) fn newest() -> Format
+    /// The format in which logs are made.
+    pub fn newest() -> Format
         ensures { result ≡ newest }
     {
         Format::One

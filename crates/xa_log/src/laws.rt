@@ -2,7 +2,7 @@
 ghost use Rattle.xa_log.specs.Chain.{NoChance, PlainByBody};
 ghost use Rattle.xa_log.specs.Pair.{CalmTears};
 ghost use Rattle.xa_log.specs.Checkpoint.{SealTears};
-ghost use Rattle.xa_log.specs.Laws.{BehindLaw, PairLaw, AppendLaw, HeaderLaw, SealLaw, StrayLaw};
+ghost use Rattle.xa_log.specs.Laws.{BehindLaw, PairLaw, AppendLaw, HeaderLaw, SealLaw, OpenedLaw, StrayLaw};
 
 use xa_disk::{Disk, MemDisk};
 
@@ -29,6 +29,12 @@ pub fn pair_is_current()
 /// From the seal of a checkpoint on, the current file's log is taken or the new one.
 pub fn pair_is_current_or_new()
     ensures { SealLaw }
+{}
+
+/// Two files that were read are a pair, with the other one behind, where no file that is no log has records that would
+/// come before the other one's.
+pub fn opened_is_pair<D: Disk>()
+    ensures { OpenedLaw D.tears D.seen D.may_leave }
 {}
 
 /// A file that is no log can become one by a torn write of its first 12 bytes.

@@ -30,6 +30,7 @@ mod window;
 mod worked;
 
 pub use appending::Appended;
+pub use checkpointing::end_of;
 pub use fault::OpenFault;
 pub use format::Format;
 pub use laws::{

@@ -88,6 +88,13 @@ impl<D: Disk> Log<D> {
         outcome
     }
 
+    /// Where the next record begins.
+    pub fn end(&self) -> u64
+        ensures { result ≡ self.now.end }
+    {
+        self.end
+    }
+
     /// How many bytes are left for records: `log_bytes` less the log with its closing length, or 0.
     pub fn free(&self) -> u64
         ensures { result ≡ self.now.log_bytes - (self.now.end + 4) }

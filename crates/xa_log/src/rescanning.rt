@@ -66,6 +66,11 @@ impl<D: Disk> Log<D> {
             → NoChance D.tears → CalmTears D.tears ⊎ IsQuiet D.seen D.may_leave stood self.old.other
             → IfOk result (λ r. ((bodies_of r.items ≡ bodies) ⊎ (bodies_of r.items ≡ bodies ++ body ∷ [])) × Pair D.tears D.seen D.may_leave (bodies_of r.items) (logged (D.seen self.new.other)) self.new
             × IsQuiet D.seen D.may_leave (logged (D.seen self.new.other)) self.new.other) }
+        ensures anew_sealed { D.honest → (bodies fresh : List (List ℕ)) → MaySeal D.tears D.seen D.may_leave bodies fresh self.old
+            → SealTears D.tears ⊎ IsQuiet D.seen D.may_leave fresh self.old.other
+            → IfOk result (λ r. ((bodies_of r.items ≡ bodies) ⊎ (bodies_of r.items ≡ fresh))
+            × Pair D.tears D.seen D.may_leave (bodies_of r.items) (logged (D.seen self.new.other)) self.new
+            × IsQuiet D.seen D.may_leave (logged (D.seen self.new.other)) self.new.other) }
         // A crash at any moment of the call leaves of each file what one before the call could have left.
         ensures any_moment { D.honest → (bodies : List (List ℕ)) → Stands D.seen D.may_leave bodies self.old
             → LeavesOnly D.moment D.left_since self.old.disk (disk_after self.old self.new) (LeavesLog self.old.log_bytes self.old.format bodies) }

@@ -2,7 +2,7 @@ use Rattle.std.proofs.Common.{◌≡◌, ◌∙◌, refl, subst}
 use Rattle.xa_disk.specs.Disk.{Same, Only, Passes}
 use Rattle.xa_log.specs.Reading.{Explains}
 use Rattle.xa_log.proofs.Again.{explained, left_log, on_err}
-use Rattle.xa_log.proofs.Anew.{pair_anew, may_stand_anew}
+use Rattle.xa_log.proofs.Anew.{pair_anew, may_stand_anew, may_seal_anew}
 use Rattle.xa_log.proofs.Opens.{sound, opens, current_logged}
 use Rattle.xa_log.proofs.Still.{pair_kept, may_stand_kept, may_stand_pair_kept, may_seal_kept, left_other, left_sealed, pair_reads, may_stand_reads, may_seal_reads, left_back, unasked, err_only, in_turn, came_back, of_both, fault_order, logged_order, look}
 use Rattle.xa_log.proofs.log.Log.rescan.Goals as goal
@@ -132,3 +132,8 @@ pub returns-clause-anew_lost : goal.returns-clause-anew_lost
 returns-clause-anew_lost g c h =
     let same = in_turn (λ x y. g.D.Disk.seen y ≡ g.D.Disk.seen x) c.args.self.now.on_first c.args.self.now.disk c.args.self.now.other c.read_again.new.disk c.read_again.new.other _ _ c.place.ensures.first c.place.ensures.second (c.read_again.ensures.same h) (c.read_again.ensures.same_other h) in
     may_stand_anew g.D.Disk.tears g.D.Disk.seen g.D.Disk.may_leave c.args.self.now _ _ same.0 same.1 (returns-clause-log g c h) (returns-clause-logged g c h)
+
+pub returns-clause-anew_sealed : goal.returns-clause-anew_sealed
+returns-clause-anew_sealed g c h =
+    let same = in_turn (λ x y. g.D.Disk.seen y ≡ g.D.Disk.seen x) c.args.self.now.on_first c.args.self.now.disk c.args.self.now.other c.read_again.new.disk c.read_again.new.other _ _ c.place.ensures.first c.place.ensures.second (c.read_again.ensures.same h) (c.read_again.ensures.same_other h) in
+    may_seal_anew g.D.Disk.tears g.D.Disk.seen g.D.Disk.may_leave c.args.self.now _ _ same.0 same.1 (returns-clause-log g c h) (returns-clause-logged g c h)
