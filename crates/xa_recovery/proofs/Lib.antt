@@ -6,3 +6,5 @@ pub mod OneMore
 pub mod Upto
 pub mod Loops
 pub mod ListedMaps
+pub mod Spelled
+pub mod Boots
