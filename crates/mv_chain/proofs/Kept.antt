@@ -5,7 +5,7 @@ use Rattle.std.specs.List.{AllByRecursion as Each}
 use Rattle.std.proofs.lemmas.Bool.Decides.{nat_tests}
 use Rattle.mv_chain.specs.declared.fate.Fate.TheVariants.{Committed}
 use Rattle.mv_chain.specs.declared.version.Version.{Version}
-use Rattle.mv_chain.specs.History.{Written, Answered, shown, seen, is_busy, nobody, decided, IsUnsettled}
+use Rattle.mv_chain.specs.History.{Written, Answered, shown, seen, is_busy, nobody, decided, IsOpen}
 use Rattle.mv_chain.specs.Chain.{as_written, StandsFor, IsChain, IsPlace, raised}
 use Rattle.mv_chain.proofs.Chains.{each_at, chain_set, place_within, shows_last}
 use Rattle.mv_chain.proofs.Exact.{set_itself}
@@ -73,9 +73,9 @@ pub replaced_chain : (vs : List Version) (i ts : ℕ) (w d : Version) (value : O
 replaced_chain vs i ts w d value c h e =
     chain_set i ts vs w d h c (ap (λ v. v.timestamp) e) (omega (arith, ap (λ v. v.mark) e)) (λ p. omega (arith, own_mark i vs d (place_within ts i vs h) c (sym (ap (λ v. v.pending) e) ∙ p), ap (λ v. v.mark) e, ap (λ v. v.timestamp) e))
 
-pub replaced_stands : (vs : List Version) (i ts : ℕ) (w d : Version) (value : Option (List ℕ)) → IsChain vs → IsPlace ts (suc i) vs → (get_or vs i d).timestamp ≡ ts → (get_or vs i d).pending ≡ true → w ≡ record (get_or vs i d) { value = value } → (key : List ℕ) (low : ℕ) (ws : List Written) (rs : List Answered) → StandsFor key low ws rs vs → StandsFor key low (record { timestamp = ts; key = key; value = value; fate = None } ∷ ws) rs (set vs i w)
-replaced_stands vs i ts w d value c h own p e key low ws rs s =
-    let stands = stands_replaced key low ws rs vs i w d (place_within ts i vs h) c (sym (ap (λ v. v.timestamp) e)) p (ap (λ v. v.pending) e ∙ p) (ap (λ v. v.mark) e) s in
+pub replaced_stands : (vs : List Version) (i ts : ℕ) (w d : Version) (value : Option (List ℕ)) → IsChain vs → IsPlace ts (suc i) vs → (get_or vs i d).timestamp ≡ ts → (get_or vs i d).pending ≡ true → w ≡ record (get_or vs i d) { value = value } → (key : List ℕ) (low : ℕ) (ws : List Written) (rs : List Answered) → StandsFor key low ws rs vs → low ≤ ts → StandsFor key low (record { timestamp = ts; key = key; value = value; fate = None } ∷ ws) rs (set vs i w)
+replaced_stands vs i ts w d value c h own p e key low ws rs s above =
+    let stands = stands_replaced key low ws rs vs i w d (place_within ts i vs h) c (sym (ap (λ v. v.timestamp) e)) p (ap (λ v. v.pending) e ∙ p) (ap (λ v. v.mark) e) (omega (arith, above, own, ap (λ v. v.timestamp) e)) s in
     subst (λ (x : Written). StandsFor key low (x ∷ ws) rs (set vs i w)) (ap (λ (v : Version). record { timestamp = v.timestamp; key = key; value = v.value; fate = None }) e ∙ ap (λ (t : ℕ). record { timestamp = t; key = key; value = value; fate = None }) own) stands
 
 -- a branch's version once its branch has committed
@@ -83,9 +83,9 @@ pub committed_chain : (vs : List Version) (i ts : ℕ) (w d : Version) → IsCha
 committed_chain vs i ts w d c h e =
     chain_set i ts vs w d h c (ap (λ v. v.timestamp) e) (omega (arith, ap (λ v. v.mark) e)) (λ p. absurd (cc (p, ap (λ (v : Version). v.pending) e)))
 
-pub committed_stands : (vs : List Version) (i ts : ℕ) (w d : Version) → IsChain vs → IsPlace ts (suc i) vs → (get_or vs i d).timestamp ≡ ts → (get_or vs i d).pending ≡ true → w ≡ record (get_or vs i d) { pending = false } → (key : List ℕ) (low : ℕ) (ws : List Written) (rs : List Answered) → StandsFor key low ws rs vs → IsUnsettled ts low ws → StandsFor key low (decided ts Committed ws) rs (set vs i w)
-committed_stands vs i ts w d c h own p e key low ws rs s u =
-    stands_committed key low ts ws rs vs i w d (place_within ts i vs h) c u.open_ own p (ap (λ v. v.timestamp) e ∙ own) (ap (λ v. v.value) e) (ap (λ v. v.pending) e) (ap (λ v. v.mark) e) s
+pub committed_stands : (vs : List Version) (i ts : ℕ) (w d : Version) → IsChain vs → IsPlace ts (suc i) vs → (get_or vs i d).timestamp ≡ ts → (get_or vs i d).pending ≡ true → w ≡ record (get_or vs i d) { pending = false } → (key : List ℕ) (low : ℕ) (ws : List Written) (rs : List Answered) → StandsFor key low ws rs vs → IsOpen ts ws → StandsFor key low (decided ts Committed ws) rs (set vs i w)
+committed_stands vs i ts w d c h own p e key low ws rs s open_ =
+    stands_committed key low ts ws rs vs i w d (place_within ts i vs h) c open_ own p (ap (λ v. v.timestamp) e ∙ own) (ap (λ v. v.value) e) (ap (λ v. v.pending) e) (ap (λ v. v.mark) e) s
 
 -- a branch without a pending version
 pub own_decided : (ts i : ℕ) (vs : List Version) (d : Version) → i < length vs → IsChain vs → (get_or vs i d).timestamp ≡ ts → (get_or vs i d).pending ≡ false → Each (λ v. v.timestamp ≡ ts → v.pending ≡ false) vs

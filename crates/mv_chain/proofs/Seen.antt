@@ -1,5 +1,5 @@
 -- What is seen after a change of the writes.
-use Rattle.std.proofs.Common.{◌≡◌, ℕ, ◌<◌, ◌≤◌, Bool, true, false, not, ◌||◌, ◌&&◌, List, [], ◌∷◌, Option, None, Some, refl, inl, inr, ◌⊎◌, arith}
+use Rattle.std.proofs.Common.{◌≡◌, ℕ, ◌<◌, ◌≤◌, Bool, true, false, not, ◌||◌, ◌&&◌, List, [], ◌∷◌, Option, None, Some, refl, sym, ◌∙◌, inl, inr, ◌⊎◌, arith}
 use Rattle.std.specs.Prelude.{if◌then◌else◌, bytes_eq, nat_le, ◌==◌}
 use Rattle.std.specs.List.{AllByRecursion as Each}
 use Rattle.std.proofs.lemmas.Bool.Decides.{nat_tests}
@@ -70,6 +70,19 @@ seen_untouched gone q t ts f (w ∷ ws) o n = at (bytes_eq q w.key) refl (w.time
     at false e y e2 ih = rw (e, ih) refl
     at true e false e2 ih = rw (e, e2, ih) refl
     at true e true e2 ih = absurd (grind (arith, nat_tests, n, e, e2, o.0))
+
+-- what is open once a fate is decided
+pub open_decided : (q : List ℕ) (t ts : ℕ) (f : Fate) (ws : List Written) → has_open q t (decided ts f ws) ≡ (if t == ts then false else has_open q t ws)
+open_decided q t ts f [] = grind arith
+open_decided q t ts f (w ∷ ws) = grind (arith, nat_tests, open_decided q t ts f ws)
+
+-- what is still open then was open, and is another branch's
+pub still_open : (q : List ℕ) (t ts : ℕ) (f : Fate) (ws : List Written) → has_open q t (decided ts f ws) ≡ true → ((t == ts) ≡ false) × (has_open q t ws ≡ true)
+still_open q t ts f ws o = at (t == ts) refl (sym (open_decided q t ts f ws) ∙ o)
+  where
+    at : (x : Bool) → (t == ts) ≡ x → (if x then false else has_open q t ws) ≡ true → ((t == ts) ≡ false) × (has_open q t ws ≡ true)
+    at true e h = absurd (cc h)
+    at false e h = (e, h)
 
 bound : (q : List ℕ) (ts : ℕ) (ws : List Written) → (seen q ts ws).from ≤ ts
 bound q ts [] = omega arith

@@ -1,14 +1,14 @@
 -- Each call keeps what a chain stands for.
-use Rattle.std.proofs.Common.{◌≡◌, ℕ, zero, suc, ◌<◌, ◌≤◌, Bool, true, false, not, ◌&&◌, List, [], ◌∷◌, length, get_or, set, None, refl, sym, ap, ◌∙◌, max, arith}
+use Rattle.std.proofs.Common.{◌≡◌, ℕ, zero, suc, ◌<◌, ◌≤◌, Bool, true, false, not, ◌&&◌, List, [], ◌∷◌, length, get_or, set, Option, None, refl, sym, ap, ◌∙◌, max, arith}
 use Rattle.std.specs.Prelude.{if◌then◌else◌, bytes_eq, nat_le, ◌==◌}
 use Rattle.std.specs.List.{list_any, AllByRecursion as Each, insert, remove}
 use Rattle.std.proofs.lemmas.Bool.Decides.{nat_tests}
 use Rattle.mv_chain.specs.declared.fate.Fate.{Fate}
 use Rattle.mv_chain.specs.declared.fate.Fate.TheVariants.{Committed, RolledBack}
 use Rattle.mv_chain.specs.declared.version.Version.{Version}
-use Rattle.mv_chain.specs.History.{Written, Answered, seen_of, stands, nobody, deciding, decided, is_late, IsOpen, IsUnsettled, has_open, seen, absent}
-use Rattle.mv_chain.specs.Chain.{as_written, shows, has_base, StandsFor, IsChain, IsPlace, may_install, fresh}
-use Rattle.mv_chain.proofs.Seen.{and_gone, but_not, cleared, seen_rolled_back, seen_committed, seen_untouched, open_seen, seen_open}
+use Rattle.mv_chain.specs.History.{Written, Answered, shown, seen_of, seen_without, stands, nobody, deciding, decided, is_late, IsOpen, IsUnsettled, has_open, seen, absent}
+use Rattle.mv_chain.specs.Chain.{as_written, shows, shows_without, has_base, StandsFor, IsChain, IsPlace, may_install, fresh}
+use Rattle.mv_chain.proofs.Seen.{and_gone, but_not, cleared, seen_rolled_back, seen_committed, still_open, open_seen, seen_open}
 use Rattle.mv_chain.proofs.Chains.{place_within, shows_none, shows_inserted, marked_inserted, marked_set, writes_set, shows_replaced, shows_committed, shows_removed, marked_removed}
 use Rattle.std.specs.Cmp.Lexicographic.{bytes_decides}
 
@@ -39,6 +39,7 @@ pub stands_marked : (key : List ℕ) (low : ℕ) (ws : List Written) (rs : List 
 stands_marked key low ws rs vs i reader w d c h same p m s =
     record {
       seen = λ gone t le. ap (λ xs. seen_of (λ k. true) gone t xs) (writes_set i vs w d lt same) ∙ s.seen gone t le;
+      own = λ gone t g o. ap (λ xs. seen_of (λ k. true) gone t xs) (writes_set i vs w d lt same) ∙ s.own gone t g o;
       late = λ t le. rw (key_itself key, marked_set t i reader vs w d lt (ap (λ x. x.timestamp) same) m, s.late t le) refl;
       based = base_set low i vs w d lt (ap (λ x. x.timestamp) same) (λ q. sym p ∙ q) s.based;
     }
@@ -46,18 +47,29 @@ stands_marked key low ws rs vs i reader w d c h same p m s =
     lt : i < length vs
     lt = place_within reader i vs h
 
-pub stands_inserted : (key : List ℕ) (low : ℕ) (ws : List Written) (rs : List Answered) (vs : List Version) (i : ℕ) (w : Version) → w.mark ≡ 0 → w.pending ≡ true → Each (λ v. v.timestamp ≡ w.timestamp → ⊥) vs → StandsFor key low ws rs vs → StandsFor key low (record { timestamp = w.timestamp; key = key; value = w.value; fate = None } ∷ ws) rs (insert vs i w)
-stands_inserted key low ws rs vs i w m p new s =
+-- a branch is shown what its key had before it wrote that again
+shown_before : (key : List ℕ) (low n : ℕ) (value : Option (List ℕ)) (ws : List Written) (rs : List Answered) (vs : List Version) (gone : ℕ → Bool) (t : ℕ) → StandsFor key low ws rs vs → low ≤ n → gone t ≡ false
+    → has_open key t (record { timestamp = n; key = key; value = value; fate = None } ∷ ws) ≡ true → shows_without gone t vs ≡ seen_without gone key t ws
+shown_before key low n value ws rs vs gone t s le g o = at (n == t) refl
+  where
+    at : (x : Bool) → (n == t) ≡ x → shows_without gone t vs ≡ seen_without gone key t ws
+    at true e = let same : n ≡ t = grind (arith, nat_tests, e) in s.seen gone t (omega (arith, le, same))
+    at false e = s.own gone t g (grind (arith, o, e))
+
+pub stands_inserted : (key : List ℕ) (low : ℕ) (ws : List Written) (rs : List Answered) (vs : List Version) (i : ℕ) (w : Version) → w.mark ≡ 0 → w.pending ≡ true → Each (λ v. v.timestamp ≡ w.timestamp → ⊥) vs → low ≤ w.timestamp → StandsFor key low ws rs vs → StandsFor key low (record { timestamp = w.timestamp; key = key; value = w.value; fate = None } ∷ ws) rs (insert vs i w)
+stands_inserted key low ws rs vs i w m p new above s =
     record {
       seen = λ gone t le. shows_inserted (λ x. stands gone x.timestamp x.fate && nat_le x.timestamp t) i vs w new ∙ rw (p, key_itself key, s.seen gone t le) refl;
+      own = λ gone t g o. shows_inserted (λ x. stands gone x.timestamp x.fate && nat_le x.timestamp t) i vs w new ∙ rw (p, key_itself key, shown_before key low w.timestamp w.value ws rs vs gone t s above g o) refl;
       late = λ t le. marked_inserted t i vs w m ∙ s.late t le;
       based = base_inserted low i vs w s.based;
     }
 
-pub stands_replaced : (key : List ℕ) (low : ℕ) (ws : List Written) (rs : List Answered) (vs : List Version) (i : ℕ) (w d : Version) → i < length vs → IsChain vs → (get_or vs i d).timestamp ≡ w.timestamp → (get_or vs i d).pending ≡ true → w.pending ≡ true → w.mark ≡ (get_or vs i d).mark → StandsFor key low ws rs vs → StandsFor key low (record { timestamp = w.timestamp; key = key; value = w.value; fate = None } ∷ ws) rs (set vs i w)
-stands_replaced key low ws rs vs i w d lt c e p q m s =
+pub stands_replaced : (key : List ℕ) (low : ℕ) (ws : List Written) (rs : List Answered) (vs : List Version) (i : ℕ) (w d : Version) → i < length vs → IsChain vs → (get_or vs i d).timestamp ≡ w.timestamp → (get_or vs i d).pending ≡ true → w.pending ≡ true → w.mark ≡ (get_or vs i d).mark → low ≤ w.timestamp → StandsFor key low ws rs vs → StandsFor key low (record { timestamp = w.timestamp; key = key; value = w.value; fate = None } ∷ ws) rs (set vs i w)
+stands_replaced key low ws rs vs i w d lt c e p q m above s =
     record {
       seen = λ gone t le. shows_replaced gone t i vs w d lt c e p q ∙ rw (q, key_itself key, s.seen gone t le) refl;
+      own = λ gone t g o. shows_replaced gone t i vs w d lt c e p q ∙ rw (q, key_itself key, shown_before key low w.timestamp w.value ws rs vs gone t s above g o) refl;
       late = λ t le. marked_set t i 0 vs w d lt (sym e) (omega arith) ∙ grind (arith, nat_tests, s.late t le);
       based = base_set low i vs w d lt (sym e) (λ _. p) s.based;
     }
@@ -66,6 +78,9 @@ pub stands_committed : (key : List ℕ) (low ts : ℕ) (ws : List Written) (rs :
 stands_committed key low ts ws rs vs i w d lt c open_ e p e2 v q m s =
     record {
       seen = λ gone t le. shows_committed gone t ts i vs w d lt c e p same ∙ (ap (cleared ts) (s.seen (but_not ts gone) t le) ∙ sym (seen_committed (λ k. bytes_eq key k) gone t ts ws open_));
+      own = λ gone t g o.
+          let k = still_open key t ts Committed ws o in
+          shows_committed gone t ts i vs w d lt c e p same ∙ (ap (cleared ts) (s.own (but_not ts gone) t (rw (k.0, g) refl) k.1) ∙ sym (seen_committed (λ k. bytes_eq key k) gone t ts ws open_));
       late = λ t le. marked_set t i 0 vs w d lt (e2 ∙ sym e) (omega arith) ∙ grind (arith, nat_tests, s.late t le);
       based = base_set low i vs w d lt (e2 ∙ sym e) (λ r. absurd (cc)) s.based;
     }
@@ -83,34 +98,62 @@ pub stands_rolled_back : (key : List ℕ) (low ts : ℕ) (ws : List Written) (rs
 stands_rolled_back key low ts ws rs vs i d lt c open_ e p s =
     record {
       seen = λ gone t le. shows_removed gone t ts i vs d lt c e p ∙ (s.seen (and_gone ts gone) t le ∙ sym (seen_rolled_back (λ k. bytes_eq key k) gone t ts ws open_));
+      own = λ gone t g o.
+          let k = still_open key t ts RolledBack ws o in
+          shows_removed gone t ts i vs d lt c e p ∙ (s.own (and_gone ts gone) t (rw (k.0, g) refl) k.1 ∙ sym (seen_rolled_back (λ k. bytes_eq key k) gone t ts ws open_));
       late = λ t le. marked_removed t i vs d lt (own_mark i vs d lt c p) ∙ s.late t le;
       based = base_removed low i vs d lt p s.based;
     }
 
--- a branch that wrote nothing here
-pub stands_untouched : (key : List ℕ) (low ts : ℕ) (fate : Fate) (ws : List Written) (rs : List Answered) (vs : List Version) → Each (λ v. v.timestamp ≡ ts → v.pending ≡ false) vs → StandsFor key low ws rs vs → IsUnsettled ts low ws → StandsFor key low (decided ts fate ws) rs vs
-stands_untouched key low ts fate ws rs vs none s u =
+-- a branch without a pending version here shows the same whether it is gone or not
+untouched_alike : (f g : ℕ → Bool) (t ts : ℕ) (vs : List Version) → ((x : ℕ) → (x == ts) ≡ false → f x ≡ g x) → Each (λ v. v.timestamp ≡ ts → v.pending ≡ false) vs → shows_without f t vs ≡ shows_without g t vs
+untouched_alike f g t ts [] same none = refl
+untouched_alike f g t ts (v ∷ vs) same none = rw (stays v.pending refl (v.timestamp == ts) refl, untouched_alike f g t ts vs same none.1) refl
+  where
+    stays : (p : Bool) → v.pending ≡ p → (q : Bool) → (v.timestamp == ts) ≡ q → stands f v.timestamp (as_written v).fate ≡ stands g v.timestamp (as_written v).fate
+    stays false e q h = rw e refl
+    stays true e false h = rw (e, same v.timestamp h) refl
+    stays true e true h = absurd (grind (arith, nat_tests, e, h, none.0))
+
+untouched_cleared : (gone : ℕ → Bool) (t ts : ℕ) (vs : List Version) → Each (λ v. v.timestamp ≡ ts → v.pending ≡ false) vs → cleared ts (shows_without gone t vs) ≡ shows_without gone t vs
+untouched_cleared gone t ts [] none = refl
+untouched_cleared gone t ts (v ∷ vs) none = at ((stands gone v.timestamp (as_written v).fate && nat_le v.timestamp t) && nat_le (shows_without gone t vs).from v.timestamp) (untouched_cleared gone t ts vs none.1)
+  where
+    own : (p q : Bool) → v.pending ≡ p → (v.timestamp == ts) ≡ q → cleared ts (shown (as_written v)) ≡ shown (as_written v)
+    own false q e h = rw e refl
+    own true false e h = rw (e, h) refl
+    own true true e h = absurd (grind (arith, nat_tests, e, h, none.0))
+
+    at : (x : Bool) → cleared ts (shows_without gone t vs) ≡ shows_without gone t vs → cleared ts (if x then shown (as_written v) else shows_without gone t vs) ≡ (if x then shown (as_written v) else shows_without gone t vs)
+    at true rest = own v.pending (v.timestamp == ts) refl refl
+    at false rest = rest
+
+-- a branch that has no pending version here: its fate changes nothing
+pub stands_untouched : (key : List ℕ) (low ts : ℕ) (fate : Fate) (ws : List Written) (rs : List Answered) (vs : List Version) → Each (λ v. v.timestamp ≡ ts → v.pending ≡ false) vs → StandsFor key low ws rs vs → IsOpen ts ws → StandsFor key low (decided ts fate ws) rs vs
+stands_untouched key low ts Committed ws rs vs none s open_ =
     record {
-      seen = λ gone t le. s.seen gone t le ∙ sym (seen_untouched gone key t ts fate ws u.open_ (unwritten (has_open key ts ws) refl));
+      seen = λ gone t le.
+          sym (untouched_cleared gone t ts vs none)
+          ∙ (ap (cleared ts) (untouched_alike gone (but_not ts gone) t ts vs (λ x e. rw e refl) none ∙ s.seen (but_not ts gone) t le) ∙ sym (seen_committed (λ k. bytes_eq key k) gone t ts ws open_));
+      own = λ gone t g o.
+          let k = still_open key t ts Committed ws o in
+          sym (untouched_cleared gone t ts vs none)
+          ∙ (ap (cleared ts) (untouched_alike gone (but_not ts gone) t ts vs (λ x e. rw e refl) none ∙ s.own (but_not ts gone) t (rw (k.0, g) refl) k.1) ∙ sym (seen_committed (λ k. bytes_eq key k) gone t ts ws open_));
       late = s.late;
       based = s.based;
     }
-  where
-    settled_here : (xs : List Version) → Each (λ v. v.timestamp ≡ ts → v.pending ≡ false) xs → (shows ts xs).from ≡ ts → (shows ts xs).pending ≡ false
-    settled_here [] h e = refl
-    settled_here (v ∷ xs) h e = at ((stands nobody v.timestamp (as_written v).fate && nat_le v.timestamp ts) && nat_le (shows ts xs).from v.timestamp) refl (settled_here xs h.1)
-      where
-        at : (q : Bool) → ((stands nobody v.timestamp (as_written v).fate && nat_le v.timestamp ts) && nat_le (shows ts xs).from v.timestamp) ≡ q → ((shows ts xs).from ≡ ts → (shows ts xs).pending ≡ false) → (shows ts (v ∷ xs)).pending ≡ false
-        at true q ih = let own : v.timestamp ≡ ts = rw q at e in rw (q, h.0 own) refl
-        at false q ih = let below : (shows ts xs).from ≡ ts = rw q at e in rw q (ih below)
-
-    unwritten : (x : Bool) → has_open key ts ws ≡ x → has_open key ts ws ≡ false
-    unwritten false e = e
-    unwritten true e =
-        let own = open_seen key ts ws u.open_ e in
-        let same : shows ts vs ≡ seen key ts ws = s.seen nobody ts u.above in
-        let p : (shows ts vs).pending ≡ false = settled_here vs none (ap (λ r. r.from) same ∙ own.0) in
-        absurd (cc (p, same, own.1))
+stands_untouched key low ts RolledBack ws rs vs none s open_ =
+    record {
+      seen = λ gone t le.
+          untouched_alike gone (and_gone ts gone) t ts vs (λ x e. rw e refl) none
+          ∙ (s.seen (and_gone ts gone) t le ∙ sym (seen_rolled_back (λ k. bytes_eq key k) gone t ts ws open_));
+      own = λ gone t g o.
+          let k = still_open key t ts RolledBack ws o in
+          untouched_alike gone (and_gone ts gone) t ts vs (λ x e. rw e refl) none
+          ∙ (s.own (and_gone ts gone) t (rw (k.0, g) refl) k.1 ∙ sym (seen_rolled_back (λ k. bytes_eq key k) gone t ts ws open_));
+      late = s.late;
+      based = s.based;
+    }
 
 -- a write that isn't late, by a branch that is undecided, may be installed
 pub stands_free : (key : List ℕ) (low ts : ℕ) (ws : List Written) (rs : List Answered) (vs : List Version) → IsChain vs → StandsFor key low ws rs vs → IsUnsettled ts low ws → is_late key ts rs ≡ false → may_install ts vs ≡ true
@@ -152,7 +195,7 @@ stands_free key low ts ws rs vs c s u l = rw (s.late ts u.above, l) (at (list_an
 
 -- a key that nobody wrote or read
 pub stands_fresh : (key : List ℕ) (low : ℕ) → StandsFor key low [] [] fresh
-stands_fresh key low = record { seen = λ gone t le. either (nat_le 0 t); late = λ t le. grind (arith, nat_tests); based = grind (arith, nat_tests) }
+stands_fresh key low = record { seen = λ gone t le. either (nat_le 0 t); own = λ gone t g o. absurd (cc o); late = λ t le. grind (arith, nat_tests); based = grind (arith, nat_tests) }
   where
     either : (x : Bool) → (if x && true then absent else absent) ≡ absent
     either true = refl

@@ -4,7 +4,7 @@ use Rattle.std.specs.List.{list_any, AllByRecursion as Each}
 use Rattle.mv_chain.specs.declared.fate.Fate.{Fate}
 use Rattle.mv_chain.specs.declared.fate.Fate.TheVariants.{Committed, RolledBack}
 use Rattle.mv_chain.specs.declared.version.Version.{Version}
-use Rattle.mv_chain.specs.History.{Written, Answered, Seen, seen_of, seen_without, nobody, is_late}
+use Rattle.mv_chain.specs.History.{Written, Answered, Seen, seen_of, seen_without, nobody, is_late, has_open}
 
 -- what a key has that nobody wrote: a committed version at 0, absent
 abbrev pub base : Version
@@ -68,9 +68,10 @@ abbrev pub has_base : ℕ → List Version → Bool
 has_base low versions = list_any (λ v. nat_le v.timestamp low && not v.pending) versions
 
 -- From the timestamp low on, the versions of a key show what its writes and its answered reads say, whichever
--- undecided branches are rolled back later.
+-- undecided branches are rolled back later. An undecided branch is shown its own write also below low.
 pub record StandsFor (key : List ℕ) (low : ℕ) (writes : List Written) (reads : List Answered) (versions : List Version) : Type 0 where
   pub seen : (gone : ℕ → Bool) (t : ℕ) → low ≤ t → shows_without gone t versions ≡ seen_without gone key t writes
+  pub own : (gone : ℕ → Bool) (t : ℕ) → gone t ≡ false → has_open key t writes ≡ true → shows_without gone t versions ≡ seen_without gone key t writes
   pub late : (t : ℕ) → low ≤ t → is_marked t versions ≡ is_late key t reads
   pub based : has_base low versions ≡ true
 

@@ -1,5 +1,5 @@
 ghost use Rattle.std.specs.Prelude.{◌≡◌, ℕ, ◌≤◌, List, [], ◌∷◌, None, IfOk, OnOk, OnErr, false, option_map};
-ghost use Rattle.mv_chain.specs.History.{Written, Answered, seen, is_busy, is_late, decided, IsUnsettled};
+ghost use Rattle.mv_chain.specs.History.{Written, Answered, seen, is_busy, is_late, decided, IsOpen, IsUnsettled};
 ghost use Rattle.mv_chain.specs.Chain.{StandsFor, fresh, shows, is_marked, marked, installed, settled};
 
 use crate::changes::{install_in, mark_in, settle_in};
@@ -113,11 +113,11 @@ impl Chain {
         install_in(&mut self.versions, ts, content_of(value))
     }
 
-    /// Decides the fate of a branch's write: it stays, or it goes with its mark. Where the branch has no
-    /// pending version, nothing changes.
+    /// Decides the fate of a branch's write, also of one below the low water: it stays, or it goes with its
+    /// mark. Where the branch has no pending version, nothing changes.
     pub fn settle(&mut self, ts: u64, fate: Fate)
         ensures versions { self.new ≡ settled ts fate self.old }
-        ensures stands { (key : List ℕ) (low : ℕ) (writes : List Written) (reads : List Answered) → StandsFor key low writes reads self.old → IsUnsettled ts low writes → StandsFor key low (decided ts fate writes) reads self.new }
+        ensures stands { (key : List ℕ) (low : ℕ) (writes : List Written) (reads : List Answered) → StandsFor key low writes reads self.old → IsOpen ts writes → StandsFor key low (decided ts fate writes) reads self.new }
     {
         settle_in(&mut self.versions, ts, fate);
     }

@@ -2,7 +2,7 @@ ghost use Rattle.std.specs.Prelude.{◌≡◌, ℕ, ◌<◌, ◌≤◌, List, �
 ghost use Rattle.std.specs.List.{AllByRecursion as Each};
 ghost use Rattle.mv_chain.specs.declared.version.Version.{Version};
 ghost use Rattle.mv_chain.specs.declared.changes.Slot.{Slot};
-ghost use Rattle.mv_chain.specs.History.{Written, Answered, seen, is_busy, is_late, decided, IsUnsettled};
+ghost use Rattle.mv_chain.specs.History.{Written, Answered, seen, is_busy, is_late, decided, IsOpen, IsUnsettled};
 ghost use Rattle.mv_chain.specs.Chain.{IsChain, IsPlace, StandsFor, shows, raised, marked, may_install, installed, settled};
 ghost use Rattle.mv_chain.specs.Slot.{IsSlot};
 
@@ -111,7 +111,7 @@ pub(crate) fn settle_in(versions: &mut Vec<Version>, ts: u64, fate: Fate)
     requires { IsChain versions.old.items }
     ensures items { versions.new.items ≡ settled ts fate versions.old.items }
     ensures chain { IsChain versions.new.items }
-    ensures stands { (key : List ℕ) (low : ℕ) (writes : List Written) (reads : List Answered) → StandsFor key low writes reads versions.old.items → IsUnsettled ts low writes → StandsFor key low (decided ts fate writes) reads versions.new.items }
+    ensures stands { (key : List ℕ) (low : ℕ) (writes : List Written) (reads : List Answered) → StandsFor key low writes reads versions.old.items → IsOpen ts writes → StandsFor key low (decided ts fate writes) reads versions.new.items }
 {
     let Some(i) = pending_at(versions, ts) else {
         return;

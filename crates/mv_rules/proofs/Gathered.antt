@@ -16,7 +16,7 @@ use Rattle.std.proofs.lemmas.Map.Text.{is_eq-slice_cmp}
 use Rattle.std.proofs.lemmas.Slice.Eq.{bytes_eq-Decides}
 use Rattle.xa_codes.specs.declared.write.Write.{Write}
 use Rattle.mv_chain.specs.declared.version.Version.{Version}
-use Rattle.mv_chain.specs.History.{Written, nobody, seen, stands, shown, has_open, IsOpen, IsUnsettled}
+use Rattle.mv_chain.specs.History.{Written, nobody, seen, stands, shown, has_open, IsOpen}
 use Rattle.mv_chain.specs.Chain.{fresh, shows, StandsFor as ChainStandsFor}
 use Rattle.mv_rules.specs.declared.own.Own.{Own}
 use Rattle.mv_rules.specs.declared.records.Records.{Records}
@@ -119,19 +119,19 @@ collected_some r ts q i (o ∷ own) best apart here named = at (bytes_eq o.key q
             absurd (grind (arith, t, e))
 
 -- what is collected from the branch's list is its last write of each key
-pub collected_is : (h : History) (r : Records) (ts : ℕ) (q : List ℕ) → StandsFor h r → IsUnsettled ts h.low h.writes → collected ts r.chains.items q (own_of ts r) ≡ last_write q ts h.writes
+pub collected_is : (h : History) (r : Records) (ts : ℕ) (q : List ℕ) → StandsFor h r → IsOpen ts h.writes → collected ts r.chains.items q (own_of ts r) ≡ last_write q ts h.writes
 collected_is h r ts q s u = at (place_of q r) refl
   where
     at : (p : Option ℕ) → place_of q r ≡ p → collected ts r.chains.items q (own_of ts r) ≡ last_write q ts h.writes
-    at None e = collected_none r ts q (own_of ts r) None e (s.lists.named ts) ∙ sym (last_unwritten q ts h.writes u.open_ (s.lists.unplaced ts q e))
+    at None e = collected_none r ts q (own_of ts r) None e (s.lists.named ts) ∙ sym (last_unwritten q ts h.writes u (s.lists.unplaced ts q e))
     at (Some i) e = collected_some r ts q i (own_of ts r) None s.chains.apart e (s.lists.named ts) ∙ listed (is_listed i (own_of ts r)) refl
       where
         listed : (x : Bool) → is_listed i (own_of ts r) ≡ x → (if is_listed i (own_of ts r) then Some (shows ts (chain_at i r)).value else None) ≡ last_write q ts h.writes
-        listed false l = rw l (sym (last_unwritten q ts h.writes u.open_ (sym (s.lists.listed ts q i e) ∙ l)))
+        listed false l = rw l (sym (last_unwritten q ts h.writes u (sym (s.lists.listed ts q i e) ∙ l)))
         listed true l =
             let c : ChainStandsFor q h.low h.writes h.reads (chain_at i r) = rw e at (s.chains.chains q) in
-            let same : shows ts (chain_at i r) ≡ seen q ts h.writes = c.seen nobody ts u.above in
-            rw (l, same) (sym (last_written q ts h.writes u.open_ (sym (s.lists.listed ts q i e) ∙ l)))
+            let same : shows ts (chain_at i r) ≡ seen q ts h.writes = c.own nobody ts refl (sym (s.lists.listed ts q i e) ∙ l) in
+            rw (l, same) (sym (last_written q ts h.writes u (sym (s.lists.listed ts q i e) ∙ l)))
 
 -- one more key is collected
 pub collected_more : (ts : ℕ) (chains : List (List Version)) (key : List ℕ) (own : List Own) (o : Own) (old new : Option (Option (List ℕ))) (k : List ℕ) (v : Option (List ℕ)) → new ≡ (if is_eq (slice_cmp nat_cmp k key) then Some v else old) → k ≡ o.key → v ≡ (shows ts (get_or chains o.place fresh)).value → old ≡ collected ts chains key own → new ≡ collected ts chains key (own ++ o ∷ [])

@@ -7,3 +7,9 @@ pub mod Moved
 pub mod Branches
 pub mod Open
 pub mod Gathered
+pub mod PutBack
+pub mod Rebuilt
+pub mod Shown
+pub mod Counted
+pub mod Remade
+pub mod Orderly

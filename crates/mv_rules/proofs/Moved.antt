@@ -109,6 +109,7 @@ stands_same low ws vs reads r same st = record {
   chains = record {
     chains = λ key. record {
       seen = λ gone_ t le. (st.chains.chains key).seen gone_ t le ∙ same_seen ws vs same gone_ key t;
+      own = λ gone_ t g o. (st.chains.chains key).own gone_ t g (same.held key t ∙ o) ∙ same_seen ws vs same gone_ key t;
       late = (st.chains.chains key).late;
       based = (st.chains.chains key).based;
     };

@@ -46,7 +46,7 @@ held_other key t u fate (Wrote k value ∷ older) ne = rw (ne, held_other key t 
     no_or true = refl
     no_or false = refl
 
-count_other : (t u : ℕ) (fate : Option Fate) (ops : List Operation) (ws : List Written) → (u == t) ≡ false → open_keys t (writes_by u fate ops ++ ws) ≡ open_keys t ws
+pub count_other : (t u : ℕ) (fate : Option Fate) (ops : List Operation) (ws : List Written) → (u == t) ≡ false → open_keys t (writes_by u fate ops ++ ws) ≡ open_keys t ws
 count_other t u fate [] ws ne = refl
 count_other t u fate (Got k answer from ∷ older) ws ne = count_other t u fate older ws ne
 count_other t u fate (Wrote k value ∷ older) ws ne = rw ne (count_other t u fate older ws ne)
@@ -58,13 +58,13 @@ open_below t limit (b ∷ bs) h le =
     each_append (λ (w : Written). w.timestamp ≡ t → w.fate ≡ None) (writes_one b) (writes_in bs) (open_other t b.timestamp (fate_of b.phase) b.operations (not_same_below t b.timestamp (omega (arith, h.1))))
     (open_below t b.timestamp bs h.2 (omega (arith, h.1)))
 
-held_below : (key : List ℕ) (t limit : ℕ) (bs : List Branch) → Descends limit bs → limit ≤ t → has_open key t (writes_in bs) ≡ false
+pub held_below : (key : List ℕ) (t limit : ℕ) (bs : List Branch) → Descends limit bs → limit ≤ t → has_open key t (writes_in bs) ≡ false
 held_below key t limit [] h le = refl
 held_below key t limit (b ∷ bs) h le =
     list_any-append (λ (w : Written). bytes_eq key w.key && ((w.timestamp == t) && is_undecided w.fate)) (writes_one b) (writes_in bs)
     ∙ rw (held_other key t b.timestamp (fate_of b.phase) b.operations (not_same_below t b.timestamp (omega (arith, h.1)))) (held_below key t b.timestamp bs h.2 (omega (arith, h.1)))
 
-count_below : (t limit : ℕ) (bs : List Branch) → Descends limit bs → limit ≤ t → open_keys t (writes_in bs) ≡ 0
+pub count_below : (t limit : ℕ) (bs : List Branch) → Descends limit bs → limit ≤ t → open_keys t (writes_in bs) ≡ 0
 count_below t limit [] h le = refl
 count_below t limit (b ∷ bs) h le =
     count_other t b.timestamp (fate_of b.phase) b.operations (writes_in bs) (not_same_below t b.timestamp (omega (arith, h.1))) ∙ count_below t b.timestamp bs h.2 (omega (arith, h.1))
@@ -97,7 +97,7 @@ count_by : (t n m : ℕ) (c : Bool) → n ≡ m → cond (not c) (n + 1) n ≡ c
 count_by t n m true e = e
 count_by t n m false e = ap (λ (i : ℕ). i + 1) e
 
-count_own : (t : ℕ) (ops : List Operation) (ws : List Written) → ((key : List ℕ) → has_open key t ws ≡ false) → open_keys t ws ≡ 0 → open_keys t (writes_by t None ops ++ ws) ≡ written_keys ops
+pub count_own : (t : ℕ) (ops : List Operation) (ws : List Written) → ((key : List ℕ) → has_open key t ws ≡ false) → open_keys t ws ≡ 0 → open_keys t (writes_by t None ops ++ ws) ≡ written_keys ops
 count_own t [] ws none zero_ = zero_
 count_own t (Got k answer from ∷ older) ws none zero_ = count_own t older ws none zero_
 count_own t (Wrote k value ∷ older) ws none zero_ =
@@ -151,9 +151,13 @@ above_zero xid b limit (c ∷ bs) h found = above_by (is_known_as xid c) found (
     above_by true e rest = let same : c ≡ b = cc e in subst (λ (x : Branch). 0 < x.timestamp) same h.0
     above_by false e rest = rest e
 
-pub unsettled : (xid : Triple) (b : Branch) (limit : ℕ) (bs : List Branch) → Descends limit bs → known_of bs xid ≡ Some b → fate_of b.phase ≡ None → IsUnsettled b.timestamp 0 (writes_in bs)
-unsettled xid b limit bs h found working = record {
+pub unsettled : (xid : Triple) (b : Branch) (limit low : ℕ) (bs : List Branch) → Descends limit bs → known_of bs xid ≡ Some b → fate_of b.phase ≡ None → low ≤ b.timestamp → IsUnsettled b.timestamp low (writes_in bs)
+unsettled xid b limit low bs h found working above = record {
   positive = above_zero xid b limit bs h found;
-  above = omega arith;
+  above = above;
   open_ = (at_work xid b limit bs h found working).open_;
 }
+
+-- a branch in doubt may be settled whichever boot it is of
+pub undecided : (xid : Triple) (b : Branch) (limit : ℕ) (bs : List Branch) → Descends limit bs → known_of bs xid ≡ Some b → fate_of b.phase ≡ None → IsOpen b.timestamp (writes_in bs)
+undecided xid b limit bs h found working = (at_work xid b limit bs h found working).open_

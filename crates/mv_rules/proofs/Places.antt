@@ -148,7 +148,7 @@ stands_at h h2 r r2 key i vs here same changed own others s =
 pub read_elsewhere : (key q : List ℕ) (low t from : ℕ) (ws : List Written) (rs : List Answered) (vs : List Version) → bytes_eq q key ≡ false → ChainStandsFor q low ws rs vs → ChainStandsFor q low ws (record { reader = t; key = key; from = from } ∷ rs) vs
 read_elsewhere key q low t from ws rs vs d s =
     let back : bytes_eq key q ≡ false = differ_back q key d in
-    record { seen = s.seen; late = λ u le. rw (back, s.late u le) refl; based = s.based }
+    record { seen = s.seen; own = s.own; late = λ u le. rw (back, s.late u le) refl; based = s.based }
 
 pub reads_elsewhere : (res : Got) (key q : List ℕ) (low t from : ℕ) (ws : List Written) (rs : List Answered) (vs : List Version) → bytes_eq q key ≡ false → ChainStandsFor q low ws rs vs → ChainStandsFor q low ws (reads_after res t key from rs) vs
 reads_elsewhere (Value v) key q low t from ws rs vs d s = read_elsewhere key q low t from ws rs vs d s

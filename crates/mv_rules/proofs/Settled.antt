@@ -5,8 +5,9 @@ use Rattle.std.specs.List.{AllByRecursion as Each}
 use Rattle.std.proofs.lemmas.Bool.Decides.{nat_tests}
 use Rattle.mv_chain.specs.declared.version.Version.{Version}
 use Rattle.mv_chain.specs.declared.fate.Fate.{Fate}
-use Rattle.mv_chain.specs.History.{Written, seen, seen_without, decided, has_open, IsOpen, IsUnsettled}
+use Rattle.mv_chain.specs.History.{Written, seen, decided, has_open, IsOpen}
 use Rattle.mv_chain.specs.Chain.{fresh, StandsFor as ChainStandsFor}
+use Rattle.mv_chain.proofs.Seen.{seen_untouched, open_decided, still_open}
 use Rattle.mv_rules.specs.declared.own.Own.{Own}
 use Rattle.mv_rules.specs.declared.records.Records.{Records}
 use Rattle.mv_rules.specs.History.{History, open_keys}
@@ -14,19 +15,6 @@ use Rattle.mv_rules.specs.Own.{is_listed}
 use Rattle.mv_rules.specs.Records.{StandsFor, place_of, chain_at, chain_of_place, own_of}
 use Rattle.mv_rules.specs.Steps.{IsSettled}
 use Rattle.mv_rules.proofs.Places.{named_moved}
-
--- a key that the branch didn't write shows what it showed
-seen_untouched : (gone : ℕ → Bool) (q : List ℕ) (t ts : ℕ) (f : Fate) (ws : List Written) → IsOpen ts ws → has_open q ts ws ≡ false → seen_without gone q t (decided ts f ws) ≡ seen_without gone q t ws
-seen_untouched gone q t ts f [] o n = refl
-seen_untouched gone q t ts f (w ∷ ws) o n = at (bytes_eq q w.key) refl (w.timestamp == ts) refl (seen_untouched gone q t ts f ws o.1 (rest n))
-  where
-    rest : has_open q ts (w ∷ ws) ≡ false → has_open q ts ws ≡ false
-    rest e = grind (arith, e)
-
-    at : (x : Bool) → bytes_eq q w.key ≡ x → (y : Bool) → (w.timestamp == ts) ≡ y → seen_without gone q t (decided ts f ws) ≡ seen_without gone q t ws → seen_without gone q t (decided ts f (w ∷ ws)) ≡ seen_without gone q t (w ∷ ws)
-    at false e y e2 ih = rw (e, ih) refl
-    at true e false e2 ih = rw (e, e2, ih) refl
-    at true e true e2 ih = absurd (grind (arith, nat_tests, n, e, e2, o.0))
 
 bound : (q : List ℕ) (ts : ℕ) (ws : List Written) → (seen q ts ws).from ≤ ts
 bound q ts [] = omega arith
@@ -48,10 +36,6 @@ open_seen q ts (w ∷ ws) o h = at (bytes_eq q w.key) refl (w.timestamp == ts) r
         let b = bound q ts ws in
         (grind (arith, nat_tests, e, own, f, b), grind (arith, nat_tests, e, own, f, b))
 
-open_decided : (q : List ℕ) (t ts : ℕ) (f : Fate) (ws : List Written) → has_open q t (decided ts f ws) ≡ (if t == ts then false else has_open q t ws)
-open_decided q t ts f [] = grind arith
-open_decided q t ts f (w ∷ ws) = grind (arith, nat_tests, open_decided q t ts f ws)
-
 keys_decided : (t ts : ℕ) (f : Fate) (ws : List Written) → open_keys t (decided ts f ws) ≡ (if t == ts then 0 else open_keys t ws)
 keys_decided t ts f [] = grind arith
 keys_decided t ts f (w ∷ ws) = grind (arith, nat_tests, keys_decided t ts f ws, open_decided w.key t ts f ws)
@@ -62,7 +46,7 @@ pub record SettlesListed (ts : ℕ) (fate : Fate) (own : List Own) (old new : Li
   pub listed : (i : ℕ) → i < length old → is_listed i own ≡ true → IsSettled ts fate (get_or old i fresh) (get_or new i fresh)
   pub others : (i : ℕ) → is_listed i own ≡ false → get_or new i fresh ≡ get_or old i fresh
 
-pub stands_settled : (h : History) (r r2 : Records) (ts : ℕ) (fate : Fate) → IsUnsettled ts h.low h.writes → ((q : List ℕ) → place_of q r2 ≡ place_of q r) → SettlesListed ts fate (own_of ts r) r.chains.items r2.chains.items → ((t : ℕ) → own_of t r2 ≡ (if t == ts then [] else own_of t r)) → StandsFor h r → StandsFor (record h { writes = decided ts fate h.writes }) r2
+pub stands_settled : (h : History) (r r2 : Records) (ts : ℕ) (fate : Fate) → IsOpen ts h.writes → ((q : List ℕ) → place_of q r2 ≡ place_of q r) → SettlesListed ts fate (own_of ts r) r.chains.items r2.chains.items → ((t : ℕ) → own_of t r2 ≡ (if t == ts then [] else own_of t r)) → StandsFor h r → StandsFor (record h { writes = decided ts fate h.writes }) r2
 stands_settled h r r2 ts fate u places settled lists s =
     record {
       chains = record {
@@ -79,7 +63,12 @@ stands_settled h r r2 ts fate u places settled lists s =
     }
   where
     untouched : (q : List ℕ) (vs : List Version) → has_open q ts h.writes ≡ false → ChainStandsFor q h.low h.writes h.reads vs → ChainStandsFor q h.low (decided ts fate h.writes) h.reads vs
-    untouched q vs n c = record { seen = λ gone t up. c.seen gone t up ∙ sym (seen_untouched gone q t ts fate h.writes u.open_ n); late = c.late; based = c.based }
+    untouched q vs n c = record {
+      seen = λ gone t up. c.seen gone t up ∙ sym (seen_untouched gone q t ts fate h.writes u n);
+      own = λ gone t g o. c.own gone t g (still_open q t ts fate h.writes o).1 ∙ sym (seen_untouched gone q t ts fate h.writes u n);
+      late = c.late;
+      based = c.based;
+    }
 
     chain : (q : List ℕ) (p : Option ℕ) → place_of q r ≡ p → ChainStandsFor q h.low (decided ts fate h.writes) h.reads (chain_of_place (place_of q r2) r2)
     chain q None e = rw (places q, e) (untouched q fresh (s.lists.unplaced ts q e) (rw e at (s.chains.chains q)))

@@ -5,7 +5,7 @@ use Rattle.std.specs.List.{cons_option, AllByRecursion as Each}
 use Rattle.std.proofs.lemmas.Bool.Decides.{nat_tests}
 use Rattle.std.proofs.lemmas.Slice.Eq.{bytes_eq-Decides}
 use Rattle.mv_chain.specs.declared.fate.Fate.{Fate}
-use Rattle.mv_chain.specs.History.{Written, Seen, seen, stands, nobody, is_undecided, is_late}
+use Rattle.mv_chain.specs.History.{Written, Seen, seen, seen_without, stands, nobody, is_undecided, is_late}
 use Rattle.xa_model.specs.State.{Branch, Operation, Got, Wrote, Phase, Working, Prepared, Committed, Read, is_committed}
 use Rattle.xa_model.specs.Source.{Version, write_of, version_by, versions_of, absent, later, newest, source, passes_over, is_late as is_late_among}
 use Rattle.xa_model.specs.Sound.{Descends}
@@ -22,39 +22,39 @@ pub bytes_eq_swapped : (a b : List ℕ) → bytes_eq a b ≡ bytes_eq b a
 bytes_eq_swapped a b = same_bytes_by a b (bytes_eq a b) (bytes_eq b a) refl refl
 
 -- what one branch's writes show before others of lower timestamps
-abbrev seen_one : ℕ → ℕ → Option Fate → Option (Option (List ℕ)) → Seen → Seen
-seen_one u t fate None rest = rest
-seen_one u t fate (Some v) rest = cond (stands nobody t fate && nat_le t u) (record { from = t; value = v; pending = is_undecided fate }) rest
+abbrev pub seen_one : (ℕ → Bool) → ℕ → ℕ → Option Fate → Option (Option (List ℕ)) → Seen → Seen
+seen_one gone u t fate None rest = rest
+seen_one gone u t fate (Some v) rest = cond (stands gone t fate && nat_le t u) (record { from = t; value = v; pending = is_undecided fate }) rest
 
-one_under : (u t : ℕ) (fate : Option Fate) (o : Option (Option (List ℕ))) (rest : Seen) (c : Bool) → (stands nobody t fate && nat_le t u) ≡ c → rest.from ≤ t → (seen_one u t fate o rest).from ≤ t
-one_under u t fate None rest c e le = le
-one_under u t fate (Some v) rest true e le = rw e (omega arith)
-one_under u t fate (Some v) rest false e le = rw e le
+pub one_under : (gone : ℕ → Bool) (u t : ℕ) (fate : Option Fate) (o : Option (Option (List ℕ))) (rest : Seen) (c : Bool) → (stands gone t fate && nat_le t u) ≡ c → rest.from ≤ t → (seen_one gone u t fate o rest).from ≤ t
+one_under gone u t fate None rest c e le = le
+one_under gone u t fate (Some v) rest true e le = rw e (omega arith)
+one_under gone u t fate (Some v) rest false e le = rw e le
 
-wrote_by : (key k : List ℕ) (u t : ℕ) (fate : Option Fate) (value : Option (List ℕ)) (older : List Operation) (rest : List Written) (x c : Bool) → bytes_eq k key ≡ x → (stands nobody t fate && nat_le t u) ≡ c
-    → (seen key u rest).from ≤ t → seen key u (writes_by t fate older ++ rest) ≡ seen_one u t fate (write_of key older) (seen key u rest)
-    → seen key u (writes_by t fate (Wrote k value ∷ older) ++ rest) ≡ seen_one u t fate (write_of key (Wrote k value ∷ older)) (seen key u rest)
-wrote_by key k u t fate value older rest true true e ec le ih =
+wrote_by : (gone : ℕ → Bool) (key k : List ℕ) (u t : ℕ) (fate : Option Fate) (value : Option (List ℕ)) (older : List Operation) (rest : List Written) (x c : Bool) → bytes_eq k key ≡ x → (stands gone t fate && nat_le t u) ≡ c
+    → (seen_without gone key u rest).from ≤ t → seen_without gone key u (writes_by t fate older ++ rest) ≡ seen_one gone u t fate (write_of key older) (seen_without gone key u rest)
+    → seen_without gone key u (writes_by t fate (Wrote k value ∷ older) ++ rest) ≡ seen_one gone u t fate (write_of key (Wrote k value ∷ older)) (seen_without gone key u rest)
+wrote_by gone key k u t fate value older rest true true e ec le ih =
     let here : bytes_eq key k ≡ true = bytes_eq_swapped key k ∙ e in
-    let under : (seen key u (writes_by t fate older ++ rest)).from ≤ t = rw ih (one_under u t fate (write_of key older) (seen key u rest) true ec le) in
-    let yes : nat_le (seen key u (writes_by t fate older ++ rest)).from t ≡ true = grind (arith, nat_tests, under) in
+    let under : (seen_without gone key u (writes_by t fate older ++ rest)).from ≤ t = rw ih (one_under gone u t fate (write_of key older) (seen_without gone key u rest) true ec le) in
+    let yes : nat_le (seen_without gone key u (writes_by t fate older ++ rest)).from t ≡ true = grind (arith, nat_tests, under) in
     rw (e, here, ec, yes) refl
-wrote_by key k u t fate value older rest true false e ec le ih =
+wrote_by gone key k u t fate value older rest true false e ec le ih =
     let here : bytes_eq key k ≡ true = bytes_eq_swapped key k ∙ e in
     rw (e, here, ec) (ih ∙ unseen (write_of key older))
   where
-    unseen : (o : Option (Option (List ℕ))) → seen_one u t fate o (seen key u rest) ≡ seen key u rest
+    unseen : (o : Option (Option (List ℕ))) → seen_one gone u t fate o (seen_without gone key u rest) ≡ seen_without gone key u rest
     unseen None = refl
     unseen (Some v) = rw ec refl
-wrote_by key k u t fate value older rest false c e ec le ih =
+wrote_by gone key k u t fate value older rest false c e ec le ih =
     let here : bytes_eq key k ≡ false = bytes_eq_swapped key k ∙ e in rw (e, here) ih
 
-pub seen_group : (key : List ℕ) (u t : ℕ) (fate : Option Fate) (ops : List Operation) (rest : List Written) → (seen key u rest).from ≤ t
-    → seen key u (writes_by t fate ops ++ rest) ≡ seen_one u t fate (write_of key ops) (seen key u rest)
-seen_group key u t fate [] rest le = refl
-seen_group key u t fate (Got k answer from ∷ older) rest le = seen_group key u t fate older rest le
-seen_group key u t fate (Wrote k value ∷ older) rest le =
-    wrote_by key k u t fate value older rest (bytes_eq k key) (stands nobody t fate && nat_le t u) refl refl le (seen_group key u t fate older rest le)
+pub seen_group : (gone : ℕ → Bool) (key : List ℕ) (u t : ℕ) (fate : Option Fate) (ops : List Operation) (rest : List Written) → (seen_without gone key u rest).from ≤ t
+    → seen_without gone key u (writes_by t fate ops ++ rest) ≡ seen_one gone u t fate (write_of key ops) (seen_without gone key u rest)
+seen_group gone key u t fate [] rest le = refl
+seen_group gone key u t fate (Got k answer from ∷ older) rest le = seen_group gone key u t fate older rest le
+seen_group gone key u t fate (Wrote k value ∷ older) rest le =
+    wrote_by gone key k u t fate value older rest (bytes_eq k key) (stands gone t fate && nat_le t u) refl refl le (seen_group gone key u t fate older rest le)
 
 -- what a branch shows is its version
 phase_stands : (t : ℕ) (p : Phase) → stands nobody t (fate_of p) ≡ true
@@ -72,7 +72,7 @@ later_of u None rest = rest
 later_of u (Some v) rest = cond (nat_le v.timestamp u) (seen_as v) rest
 
 version_seen : (key : List ℕ) (u : ℕ) (b : Branch) (rest : Seen) (d : Bool) (o : Option (Option (List ℕ))) → write_of key b.operations ≡ o → nat_le b.timestamp u ≡ d
-    → seen_one u b.timestamp (fate_of b.phase) o rest ≡ later_of u (version_by key b) rest
+    → seen_one nobody u b.timestamp (fate_of b.phase) o rest ≡ later_of u (version_by key b) rest
 version_seen key u b rest d None eo ed = simp eo
 version_seen key u b rest true (Some v) eo ed = simp (eo, ed, phase_stands b.timestamp b.phase, phase_undecided b.phase)
 version_seen key u b rest false (Some v) eo ed = simp (eo, ed, phase_stands b.timestamp b.phase)
@@ -134,7 +134,7 @@ one_source key u limit (b ∷ bs) h =
     let ih : seen key u (writes_in bs) ≡ seen_as (source key u bs) = one_source key u b.timestamp bs h.2 in
     let under : (source key u bs).timestamp < b.timestamp = fold_under u b.timestamp absent (versions_of key bs) h.0 (versions_under key b.timestamp bs h.2) in
     let le : (seen key u (writes_in bs)).from ≤ b.timestamp = rw ih (omega (arith, under)) in
-    seen_group key u b.timestamp (fate_of b.phase) b.operations (writes_in bs) le
+    seen_group nobody key u b.timestamp (fate_of b.phase) b.operations (writes_in bs) le
     ∙ version_seen key u b (seen key u (writes_in bs)) (nat_le b.timestamp u) (write_of key b.operations) refl refl
     ∙ ap (later_of u (version_by key b)) ih
     ∙ sym (newest_by u b.timestamp (version_by key b) (versions_of key bs) (λ v e. version_time key b v e) h.0 (versions_under key b.timestamp bs h.2))

@@ -37,7 +37,7 @@ itself : (a : List ℕ) → bytes_eq a a ≡ true
 itself a = (bytes_eq-Decides a a).1 refl
 
 write_elsewhere : (key q : List ℕ) (ts : ℕ) (value : Option (List ℕ)) (low : ℕ) (ws : List Written) (rs : List Answered) (vs : List Version) → bytes_eq q key ≡ false → ChainStandsFor q low ws rs vs → ChainStandsFor q low (wrote ts key value ∷ ws) rs vs
-write_elsewhere key q ts value low ws rs vs d s = record { seen = λ gone t le. rw (d, s.seen gone t le) refl; late = s.late; based = s.based }
+write_elsewhere key q ts value low ws rs vs d s = record { seen = λ gone t le. rw (d, s.seen gone t le) refl; own = λ gone t g o. rw (d, s.own gone t g (grind (arith, o, d))) refl; late = s.late; based = s.based }
 
 pub stands_written : (h : History) (r r2 : Records) (key : List ℕ) (i ts : ℕ) (value : Option (List ℕ)) (new : List Version) → IsUnsettled ts h.low h.writes → is_late key ts h.reads ≡ false → place_of key r ≡ Some i → ((q : List ℕ) → place_of q r2 ≡ place_of q r) → r2.chains.items ≡ set r.chains.items i new
     → IsWritten ts value (chain_at i r) new

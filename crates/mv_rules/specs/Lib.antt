@@ -5,3 +5,4 @@ pub mod Steps
 pub mod Verdict
 pub mod Ties
 pub mod Collected
+pub mod Restoring

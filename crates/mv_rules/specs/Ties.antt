@@ -5,7 +5,7 @@ use Rattle.std.specs.Prelude.{◌≡◌, ℕ, not, List, [], ◌∷◌, ◌++◌
 use Rattle.mv_chain.specs.declared.fate.Fate.{Fate}
 use Rattle.mv_chain.specs.declared.fate.Fate.TheVariants.{Committed as kept}
 use Rattle.mv_chain.specs.History.{Written, Answered, Seen, seen, is_late}
-use Rattle.xa_model.specs.State.{State, Branch, Operation, Got, Wrote, Phase, Working, Prepared, Committed, Read}
+use Rattle.xa_model.specs.State.{State, Branch, Operation, Got, Wrote, Phase, Working, Prepared, Committed, Read, timestamp_of}
 use Rattle.xa_model.specs.Source.{Version, source, is_late as is_late_among}
 use Rattle.xa_model.specs.Sound.{Descends}
 use Rattle.mv_rules.specs.History.{History}
@@ -31,8 +31,9 @@ writes_in (b ∷ bs) = writes_one b ++ writes_in bs
 abbrev pub read_as : Read → Answered
 read_as r = record { reader = r.reader; key = r.key; from = r.source }
 
+-- this boot's timestamps begin at the low water
 abbrev pub history_of : State → History
-history_of s = record { low = 0; writes = writes_in s.branches; reads = map read_as s.reads }
+history_of s = record { low = timestamp_of s.boot 0; writes = writes_in s.branches; reads = map read_as s.reads }
 
 abbrev pub seen_as : Version → Seen
 seen_as v = record { from = v.timestamp; value = v.value; pending = not v.committed }

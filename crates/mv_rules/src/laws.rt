@@ -1,8 +1,18 @@
 ghost use Rattle.mv_rules.specs.Ties.{OneSource, OneLateness};
+ghost use Rattle.mv_rules.specs.Restoring.{AreInTurn, LowRises, StandsRestored};
 
 /// What a timestamp reads of a key among the branches of the sequential resource manager, and which writes are late
 /// there, are what the flat list of their writes and reads says.
 pub fn one_history()
     ensures source { OneSource }
     ensures late { OneLateness }
+{}
+
+/// The branches that lasted may be added to new records in their order. Records that were built anew of what lasted, from timestamps above 0 on, stand for each state that is restored to it: from
+/// the timestamps of its boot on, and those are above all of its branches, they show the same, whether or not the writes that
+/// were written over are among them.
+pub fn restoring()
+    ensures order { AreInTurn }
+    ensures low { LowRises }
+    ensures restored { StandsRestored }
 {}

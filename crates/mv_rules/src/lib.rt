@@ -15,6 +15,6 @@ mod verdict;
 mod writes;
 
 pub use answers::{Got, Put};
-pub use laws::one_history;
+pub use laws::{one_history, restoring};
 pub use own::Own;
 pub use records::Records;

@@ -1,11 +1,11 @@
-ghost use Rattle.std.specs.Prelude.{◌≡◌, ◌≢◌, ℕ, ◌≤◌, List, [], Some, IfOk, option_map};
-ghost use Rattle.mv_chain.specs.History.{seen, is_late, has_open, decided, IsUnsettled};
+ghost use Rattle.std.specs.Prelude.{◌≡◌, ◌≢◌, ℕ, ◌≤◌, List, [], ◌∷◌, Some, false, IfOk, OnOk, option_map};
+ghost use Rattle.mv_chain.specs.History.{seen, is_late, has_open, decided, IsOpen, IsUnsettled};
 
 use crate::answers::{Got, Put};
 use crate::own::{Own, count, take_list};
 use crate::steps::{add, read, settle_all};
 use crate::verdict::{Verdict, judge};
-use crate::writes::{collect, listed};
+use crate::writes::{collect, copied, listed};
 use mv_chain::{Chain, Fate};
 use std::alloc::{AllocError, Global};
 use std::collections::BTreeMap;
@@ -25,8 +25,9 @@ pub struct Records {
 }
 
 impl Records {
-    ghost use Rattle.mv_rules.specs.History.{History, answer_of, reads_after, open_keys, put_of, after_put, IsWritesOf};
+    ghost use Rattle.mv_rules.specs.History.{History, answer_of, reads_after, open_keys, put_of, after_put, wrote, IsWritesOf};
     ghost use Rattle.mv_rules.specs.Records.{StandsFor, place_of};
+    ghost use Rattle.mv_rules.specs.Restoring.{with_branch, IsRestorable};
 
     /// No key was written or read. Takes no memory.
     pub fn new(alloc: Global) -> Records
@@ -111,21 +112,63 @@ impl Records {
         }
     }
 
-    /// Decides the fate of a branch: its writes stay, or go. Takes no memory.
+    /// Decides the fate of a branch, also of one below the low water: its writes stay, or go. Takes no memory.
     pub fn settle(&mut self, ts: u64, fate: Fate)
-        ensures { (h : History) → StandsFor h self.old → IsUnsettled ts h.low h.writes → StandsFor (record h { writes = decided ts fate h.writes }) self.new }
+        ensures { (h : History) → StandsFor h self.old → IsOpen ts h.writes → StandsFor (record h { writes = decided ts fate h.writes }) self.new }
     {
         if let Some(own) = take_list(&mut self.written, ts) {
             settle_all(&mut self.chains, &own, ts, fate);
         }
     }
 
-    /// The branch's last write of each key, ascending by key, while the branch is undecided.
+    /// Adds a branch's write, however many keys it has written.
+    fn put_back(&mut self, ts: u64, key: &[u8], value: Option<Vec<u8>>) -> Result<(), AllocError>
+        ensures { OnOk result ((h : History) → StandsFor h self.old → IsUnsettled ts h.low h.writes → is_late key.now ts h.reads ≡ false → StandsFor (record h { writes = wrote ts key.now (option_map (λ v. v.items) value) ∷ h.writes }) self.new) }
+    {
+        let i = self.place(key)?;
+        let Some(chain) = self.chains.get_mut(i) else {
+            return Err(AllocError);
+        };
+        if chain.source(ts).from == ts {
+            return chain.install(ts, value);
+        }
+        let own = Own {
+            key: Bytes::from_slice(self.alloc, key)?,
+            place: i,
+        };
+        add(self.alloc, chain, &mut self.written, ts, own, value)
+    }
+
+    /// Adds the writes of a branch that lasted, as the log was read, and decides its fate where that is known:
+    /// `None` leaves it undecided. Values are copied. Nobody may have read, and each branch is added once.
+    ///
+    /// # Errors
+    /// Want of memory. Some of the writes are then missing, and the records stand for nothing: drop them.
+    pub fn restore(
+        &mut self,
+        ts: u64,
+        writes: &[Write],
+        fate: Option<Fate>,
+    ) -> Result<(), AllocError>
+        ensures { OnOk result ((h : History) → StandsFor h self.old → IsRestorable ts h → StandsFor (record h { writes = with_branch ts fate writes.now h.writes }) self.new) }
+    {
+        for write in writes {
+            let value = copied(self.alloc, &write.value)?;
+            self.put_back(ts, write.key.as_slice(), value)?;
+        }
+        if let Some(decided) = fate {
+            self.settle(ts, decided);
+        }
+        Ok(())
+    }
+
+    /// The branch's last write of each key, ascending by key, while the branch is undecided, also of one below
+    /// the low water.
     ///
     /// # Errors
     /// Want of memory.
     pub fn writes_of(&self, ts: u64) -> Result<Vec<Write>, AllocError>
-        ensures { IfOk result (λ v. (h : History) → StandsFor h self.now → IsUnsettled ts h.low h.writes → IsWritesOf ts h.writes v.items) }
+        ensures { IfOk result (λ v. (h : History) → StandsFor h self.now → IsOpen ts h.writes → IsWritesOf ts h.writes v.items) }
     {
         match self.written.get(&ts) {
             Some(own) => {

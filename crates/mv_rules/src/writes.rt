@@ -1,4 +1,4 @@
-ghost use Rattle.std.specs.Prelude.{◌≡◌, ℕ, List, map, slice_index_or, IfOk};
+ghost use Rattle.std.specs.Prelude.{◌≡◌, ℕ, List, map, slice_index_or, IfOk, option_map};
 ghost use Rattle.std.specs.BTreeMap.{get, IsOrdered};
 ghost use Rattle.std.specs.Cmp.Lexicographic.{slice_cmp};
 ghost use Rattle.std.specs.Ordering.{nat_cmp};
@@ -10,6 +10,16 @@ use mv_chain::Chain;
 use std::alloc::{AllocError, Global};
 use std::collections::BTreeMap;
 use xa_codes::{Bytes, Write};
+
+/// A copy of a value.
+pub(crate) fn copied(alloc: Global, value: &Option<Bytes>) -> Result<Option<Vec<u8>>, AllocError>
+    ensures { IfOk result (λ v. option_map (λ b. b.items) v ≡ value.now) }
+{
+    match value {
+        Some(bytes) => Ok(Some(bytes.as_slice().to_vec(alloc)?)),
+        None => Ok(None),
+    }
+}
 
 /// What a read at `ts` sees in the chain at this place.
 fn value_at(

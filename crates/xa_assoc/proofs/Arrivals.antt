@@ -1,14 +1,16 @@
 -- A table of sessions where a session opens, closes, connects or hangs up.
 use Rattle.std.proofs.Common.{◌≡◌, ℕ, zero, suc, ◌+◌, ◌-◌, ◌<◌, ◌≤◌, ◌==◌, nat_lt, Bool, true, false, not, cond, List, length, Option, Some, None, refl, ap, sym, ◌∙◌, subst, arith}
-use Rattle.std.specs.Prelude.{option_map, is_some}
+use Rattle.std.specs.Prelude.{option_map, option_and_then, is_some}
 use Rattle.std.proofs.lemmas.Bool.Decides.{nat_tests}
 use Rattle.xa_model.specs.State.{State, Session, session_of, free_from, free_number, change}
 use Rattle.xa_model.specs.Associations.{as_opened, as_closed, open_by}
+use Rattle.xa_model.specs.Recovering.{with_scan, scanning}
+use Rattle.xa_xid.specs.Triple.{Triple}
 use Rattle.xa_model.proofs.Lists.{find_change_same, find_change_other, length-change}
 use Rattle.xa_model.proofs.Numbers.{free_number_free}
 use Rattle.xa_assoc.specs.declared.sessions.Sessions.{Sessions}
 use Rattle.xa_assoc.specs.Free.{is_free}
-use Rattle.xa_assoc.specs.Seats.{opened_at}
+use Rattle.xa_assoc.specs.Seats.{opened_at, scan_at}
 use Rattle.xa_assoc.specs.Changes.{Sets}
 use Rattle.xa_assoc.specs.Sessions.{SessionsStandFor, Follows}
 use Rattle.xa_assoc.proofs.Moves.{same_number}
@@ -18,41 +20,62 @@ use Rattle.xa_assoc.proofs.Moves.{same_number}
 pub apart_numbers : (n k a : ℕ) → (n == k) ≡ false → (a == n) ≡ true → (a == k) ≡ false
 apart_numbers n k a apart is = grind (arith, nat_tests)
 
-set_option : (o : Option Session) (b : Bool) (f : Session → Session) → ((x : Session) → (f x).opened ≡ b) → option_map (λ x. x.opened) (option_map f o) ≡ option_map (λ c. b) (option_map (λ x. x.opened) o)
-set_option None b f h = refl
-set_option (Some x) b f h = ap Some (h x)
+-- what a change of sessions makes of one
+pub record Makes (opens : Bool → Bool) (scans : Option (Option Triple) → Option (Option Triple)) (f : Session → Session) : Type 0 where
+  pub number : (x : Session) → (f x).number ≡ x.number
+  pub opened : (x : Session) → (f x).opened ≡ opens x.opened
+  pub scan : (x : Session) → (f x).scan ≡ scans x.scan
 
-set_by : (n k : ℕ) (b : Bool) (f : Session → Session) (xs : List Session) (c : Bool) → (n == k) ≡ c → ((x : Session) → (f x).number ≡ x.number) → ((x : Session) → (f x).opened ≡ b)
-    → option_map (λ x. x.opened) (session_of (change (λ x. x.number == n) f xs) k) ≡ cond c (option_map (λ d. b) (option_map (λ x. x.opened) (session_of xs k))) (option_map (λ x. x.opened) (session_of xs k))
-set_by n k b f xs true e keeps sets =
-    let here : option_map (λ (x : Session). x.opened) (session_of (change (λ x. x.number == n) f xs) n) ≡ option_map (λ (c : Bool). b) (option_map (λ (x : Session). x.opened) (session_of xs n))
-    = ap (option_map (λ (x : Session). x.opened)) (find_change_same (λ (x : Session). x.number == n) f (λ x h. rw (keeps x) h) xs) ∙ set_option (session_of xs n) b f sets in
-    subst (λ (i : ℕ). option_map (λ (x : Session). x.opened) (session_of (change (λ x. x.number == n) f xs) i) ≡ option_map (λ (c : Bool). b) (option_map (λ (x : Session). x.opened) (session_of xs i))) (same_number n k e) here
-set_by n k b f xs false e keeps sets =
-    ap (option_map (λ (x : Session). x.opened))
-    (find_change_other (λ (x : Session). x.number == n) (λ (x : Session). x.number == k) f (λ x h. (apart_numbers n k x.number e h, rw (keeps x) (apart_numbers n k x.number e h))) xs)
+-- whatever is looked up of a session
+changed_by : {A : Type 0} (g : Option Session → A) (n k : ℕ) (f : Session → Session) (xs : List Session) (c : Bool) → (n == k) ≡ c → ((x : Session) → (f x).number ≡ x.number)
+    → g (session_of (change (λ x. x.number == n) f xs) k) ≡ cond c (g (option_map f (session_of xs k))) (g (session_of xs k))
+changed_by g n k f xs true e keeps =
+    let here : g (session_of (change (λ x. x.number == n) f xs) n) ≡ g (option_map f (session_of xs n)) = ap g (find_change_same (λ (x : Session). x.number == n) f (λ x h. rw (keeps x) h) xs) in
+    subst (λ (i : ℕ). g (session_of (change (λ x. x.number == n) f xs) i) ≡ g (option_map f (session_of xs i))) (same_number n k e) here
+changed_by g n k f xs false e keeps =
+    ap g (find_change_other (λ (x : Session). x.number == n) (λ (x : Session). x.number == k) f (λ x h. (apart_numbers n k x.number e h, rw (keeps x) (apart_numbers n k x.number e h))) xs)
 
-sets_follow : (m m' : Sessions) (n : ℕ) (b : Bool) (f : Session → Session) (s : State) → Sets m n b m' → ((x : Session) → (f x).number ≡ x.number) → ((x : Session) → (f x).opened ≡ b) → SessionsStandFor m s
-    → SessionsStandFor m' (record s { sessions = change (λ x. x.number == n) f s.sessions })
-sets_follow m m' n b f s d keeps sets st = record {
-  opened = λ k. d.opens k ∙ ap (λ (o : Option Bool). cond (n == k) (option_map (λ (c : Bool). b) o) o) (st.opened k) ∙ sym (set_by n k b f s.sessions (n == k) refl keeps sets);
+set_opened : (opens : Bool → Bool) (f : Session → Session) (o : Option Session) → ((x : Session) → (f x).opened ≡ opens x.opened)
+    → option_map opens (option_map (λ x. x.opened) o) ≡ option_map (λ x. x.opened) (option_map f o)
+set_opened opens f None h = refl
+set_opened opens f (Some x) h = ap Some (sym (h x))
+
+set_scan : (scans : Option (Option Triple) → Option (Option Triple)) (f : Session → Session) (o : Option Session) → ((x : Session) → (f x).scan ≡ scans x.scan)
+    → option_and_then (λ (_ : Bool). scans (option_and_then (λ x. x.scan) o)) (option_map (λ x. x.opened) o) ≡ option_and_then (λ x. x.scan) (option_map f o)
+set_scan scans f None h = refl
+set_scan scans f (Some x) h = sym (h x)
+
+sets_follow : (m m' : Sessions) (n : ℕ) (opens : Bool → Bool) (scans : Option (Option Triple) → Option (Option Triple)) (f : Session → Session) (s : State) → Sets m n opens scans m' → Makes opens scans f
+    → SessionsStandFor m s → SessionsStandFor m' (record s { sessions = change (λ x. x.number == n) f s.sessions })
+sets_follow m m' n opens scans f s d makes st = record {
+  opened = λ k. d.opened k ∙ ap (λ (o : Option Bool). cond (n == k) (option_map opens o) o) (st.opened k)
+      ∙ ap (λ (o : Option Bool). cond (n == k) o (option_map (λ (x : Session). x.opened) (session_of s.sessions k))) (set_opened opens f (session_of s.sessions k) makes.opened)
+      ∙ sym (changed_by (option_map (λ (x : Session). x.opened)) n k f s.sessions (n == k) refl makes.number);
   active = λ k. d.active k ∙ st.active k;
   own = λ k q. d.own k q ∙ st.own k q;
+  scan = λ k. d.scan k
+      ∙ ap (λ (o : Option Bool). cond (n == k) (option_and_then (λ (_ : Bool). scans (scan_at m k)) o) (scan_at m k)) (st.opened k)
+      ∙ ap (λ (o : Option (Option Triple)). cond (n == k) (option_and_then (λ (_ : Bool). scans o) (option_map (λ (x : Session). x.opened) (session_of s.sessions k))) o) (st.scan k)
+      ∙ ap (λ (o : Option (Option Triple)). cond (n == k) o (option_and_then (λ (x : Session). x.scan) (session_of s.sessions k))) (set_scan scans f (session_of s.sessions k) makes.scan)
+      ∙ sym (changed_by (option_and_then (λ (x : Session). x.scan)) n k f s.sessions (n == k) refl makes.number);
   connected = d.connected ∙ st.connected ∙ sym (length-change (λ (x : Session). x.number == n) f s.sessions);
   free = λ k below. ap (λ (words : List ℕ). is_free words k) d.free ∙ st.free k below
-      ∙ ap not (still (n == k + 1) (opened_at m (k + 1))) ∙ ap (λ (o : Option Bool). not (is_some o)) (sym (d.opens (k + 1)));
+      ∙ ap not (still (n == k + 1) (opened_at m (k + 1))) ∙ ap (λ (o : Option Bool). not (is_some o)) (sym (d.opened (k + 1)));
 }
   where
-    still : (c : Bool) (o : Option Bool) → is_some o ≡ is_some (cond c (option_map (λ (a : Bool). b) o) o)
+    still : (c : Bool) (o : Option Bool) → is_some o ≡ is_some (cond c (option_map opens o) o)
     still true None = refl
     still true (Some a) = refl
     still false o = refl
 
-pub open_follows : (m m' : Sessions) (n : ℕ) → Sets m n true m' → Follows m (λ s. (open_by s n).after) m'
-open_follows m m' n d = λ s sound st. sets_follow m m' n true as_opened s d (λ x. refl) (λ x. refl) st
+pub open_follows : (m m' : Sessions) (n : ℕ) → Sets m n (λ _. true) (λ scan. scan) m' → Follows m (λ s. (open_by s n).after) m'
+open_follows m m' n d = λ s sound st. sets_follow m m' n (λ _. true) (λ scan. scan) as_opened s d (record { number = λ x. refl; opened = λ x. refl; scan = λ x. refl }) st
 
-pub closed_follows : (m m' : Sessions) (n : ℕ) (s : State) → Sets m n false m' → SessionsStandFor m s → SessionsStandFor m' (record s { sessions = change (λ x. x.number == n) as_closed s.sessions })
-closed_follows m m' n s d st = sets_follow m m' n false as_closed s d (λ x. refl) (λ x. refl) st
+pub closed_follows : (m m' : Sessions) (n : ℕ) (s : State) → Sets m n (λ _. false) (λ _. None) m' → SessionsStandFor m s → SessionsStandFor m' (record s { sessions = change (λ x. x.number == n) as_closed s.sessions })
+closed_follows m m' n s d st = sets_follow m m' n (λ _. false) (λ _. None) as_closed s d (record { number = λ x. refl; opened = λ x. refl; scan = λ x. refl }) st
+
+pub scan_follows : (m m' : Sessions) (n : ℕ) (scan : Option (Option Triple)) (s : State) → Sets m n (λ opened. opened) (λ _. scan) m' → SessionsStandFor m s → SessionsStandFor m' (scanning s n scan)
+scan_follows m m' n scan s d st = sets_follow m m' n (λ opened. opened) (λ _. scan) (with_scan scan) s d (record { number = λ x. refl; opened = λ x. refl; scan = λ x. refl }) st
 
 -- The number of a session that connects
 

@@ -1,9 +1,10 @@
 -- A table of sessions where a session connects, or hangs up.
 use Rattle.std.proofs.Common.{◌≡◌, ℕ, ◌+◌, ◌<◌, ◌==◌, nat_lt, Bool, true, false, not, cond, List, [], ◌∷◌, length, Option, Some, None, refl, ap, sym, ◌∙◌, subst, arith}
-use Rattle.std.specs.Prelude.{option_map, option_and_then, is_some}
+use Rattle.std.specs.Prelude.{option_map, option_and_then, is_some, OnOk, Result, Ok, Err, is_err}
 use Rattle.std.proofs.lemmas.Bool.Decides.{nat_tests}
 use Rattle.xa_codes.specs.declared.codes.TheConstants.{XAER_RMERR}
 use Rattle.xa_codes.specs.declared.detail.Detail.TheVariants as detail
+use Rattle.xa_xid.specs.Triple.{Triple}
 use Rattle.xa_frame.specs.declared.body.Body.TheVariants as body
 use Rattle.xa_frame.specs.declared.reply.Reply.{Reply}
 use Rattle.xa_model.specs.State.{State, Session, session_of, free_number}
@@ -91,6 +92,11 @@ came_opened : (n k : ℕ) (xs : List Session) (c : Bool)
 came_opened n k xs true = refl
 came_opened n k xs false = refl
 
+came_scan : (n k : ℕ) (xs : List Session) (c : Bool)
+    → option_and_then (λ (x : Session). x.scan) (cond c (Some (record { number = n; opened = false; scan = None })) (session_of xs k)) ≡ cond c None (option_and_then (λ (x : Session). x.scan) (session_of xs k))
+came_scan n k xs true = refl
+came_scan n k xs false = refl
+
 came_free : (b c : Bool) (o : Option Bool) → b ≡ not (is_some o) → cond c false b ≡ not (is_some (cond c (Some false) o))
 came_free b true o e = refl
 came_free b false o e = e
@@ -101,9 +107,15 @@ came m m' n s d none st = record {
   opened = λ k. d.opened k ∙ ap (λ (o : Option Bool). cond (n == k) (Some false) o) (st.opened k) ∙ sym (came_opened n k s.sessions (n == k));
   active = λ k. d.active k ∙ nothing_at n k None (active_at m) (n == k) refl (ap (option_and_then (λ x. x.active)) (unseated m n none)) ∙ st.active k;
   own = λ k q. d.own k q ∙ nothing_at n k false (λ (i : ℕ). owns_at m i q) (n == k) refl (ap (holds q) (unseated m n none)) ∙ st.own k q;
+  scan = λ k. d.scan k ∙ ap (λ (o : Option (Option Triple)). cond (n == k) None o) (st.scan k) ∙ sym (came_scan n k s.sessions (n == k));
   connected = omega (arith, d.connected none, st.connected);
   free = λ k below. d.free k below ∙ came_free (is_free m.free k) (n == k + 1) (opened_at m (k + 1)) (st.free k below) ∙ ap (λ (o : Option Bool). not (is_some o)) (sym (d.opened (k + 1)));
 }
+
+-- what holds of a success
+pub done : {A F : Type 0} (r : Result A F) (P : Type 0) → is_err r ≡ false → OnOk r P → P
+done (Ok x) P e h = h
+done (Err f) P e h = absurd (cc e)
 
 is_nothing : (o : Option Bool) → true ≡ not (is_some o) → o ≡ None
 is_nothing None e = refl

@@ -1,6 +1,6 @@
 -- A table of sessions where a session hangs up.
 use Rattle.std.proofs.Common.{◌≡◌, ℕ, ◌+◌, ◌≤◌, ◌==◌, Bool, true, false, not, cond, List, [], ◌∷◌, length, Option, Some, None, refl, ap, sym, ◌∙◌, subst, arith}
-use Rattle.std.specs.Prelude.{filter, option_map, is_some, if◌then◌else◌}
+use Rattle.std.specs.Prelude.{filter, option_map, option_and_then, is_some, if◌then◌else◌}
 use Rattle.std.specs.List.{list_any}
 use Rattle.std.proofs.lemmas.Bool.Decides.{nat_tests}
 use Rattle.xa_xid.specs.Triple.{Triple, xid_eq}
@@ -31,12 +31,13 @@ none_counted n xs false e one =
     let none : count (has_number n) xs ≡ 0 = count_nowhere (has_number n) xs e in
     let fewer = count_without (has_number n) (has_number n) xs in omega (arith, fewer)
 
-gone_by : (n k : ℕ) (xs : List Session) (c : Bool) → (n == k) ≡ c → count (has_number n) xs ≤ 1
-    → cond c None (option_map (λ (x : Session). x.opened) (session_of xs k)) ≡ option_map (λ (x : Session). x.opened) (session_of (without (has_number n) xs) k)
-gone_by n k xs true e one =
+-- whatever is looked up of it
+gone_by : {A : Type 0} (g : Option Session → A) (n k : ℕ) (xs : List Session) (c : Bool) → (n == k) ≡ c → count (has_number n) xs ≤ 1
+    → cond c (g None) (g (session_of xs k)) ≡ g (session_of (without (has_number n) xs) k)
+gone_by g n k xs true e one =
     let none : session_of (without (has_number n) xs) n ≡ None = found_none (has_number n) (without (has_number n) xs) (none_counted n xs (list_any (has_number n) xs) refl one) in
-    sym (ap (option_map (λ (x : Session). x.opened)) (subst (λ (i : ℕ). session_of (without (has_number n) xs) i ≡ None) (same_number n k e) none))
-gone_by n k xs false e one = sym (ap (option_map (λ (x : Session). x.opened)) (find_without (has_number n) (has_number k) (λ x is. apart_numbers n k x.number e is) xs))
+    sym (ap g (subst (λ (i : ℕ). session_of (without (has_number n) xs) i ≡ None) (same_number n k e) none))
+gone_by g n k xs false e one = sym (ap g (find_without (has_number n) (has_number k) (λ x is. apart_numbers n k x.number e is) xs))
 
 length_by : (x : Session) (xs ys : List Session) (o : Option Session) (c : Bool) → length ys + (if is_some o then 1 else 0) ≡ length xs
     → length (cond c xs (x ∷ ys)) + (if is_some (cond c (Some x) o) then 1 else 0) ≡ length (x ∷ xs)
@@ -93,9 +94,10 @@ fewer_by a b false true x y e h i j = absurd (cc e)
 
 pub hang_up_follows : (m m' : Sessions) (n : ℕ) → Goes m n m' → Follows m (λ s. (hang_up_by s n).after) m'
 hang_up_follows m m' n d = λ s sound st. record {
-  opened = λ k. d.opened k ∙ ap (λ (o : Option Bool). cond (n == k) None o) (st.opened k) ∙ gone_by n k s.sessions (n == k) refl (sound.numbered n);
+  opened = λ k. d.opened k ∙ ap (λ (o : Option Bool). cond (n == k) None o) (st.opened k) ∙ gone_by (option_map (λ (x : Session). x.opened)) n k s.sessions (n == k) refl (sound.numbered n);
   active = λ k. d.active k ∙ ap (λ (o : Option Triple). cond (n == k) None o) (st.active k) ∙ out_active n k s.associations (n == k) refl;
   own = λ k q. d.own k q ∙ ap (λ (b : Bool). cond (n == k) false b) (st.own k q) ∙ out_own n k q s.associations (n == k) refl;
+  scan = λ k. d.scan k ∙ ap (λ (o : Option (Option Triple)). cond (n == k) None o) (st.scan k) ∙ gone_by (option_and_then (λ (x : Session). x.scan)) n k s.sessions (n == k) refl (sound.numbered n);
   connected =
       fewer_by (length m'.seats.entries) (length (without (has_number n) s.sessions)) (is_some (opened_at m n)) (is_some (session_of s.sessions n)) (length m.seats.entries) (length s.sessions)
       (ap (λ (o : Option Bool). is_some o) (st.opened n) ∙ opened_some (session_of s.sessions n)) st.connected d.connected (length-without n s.sessions);

@@ -1,6 +1,7 @@
 pub mod Anys
 pub mod Arrivals
 pub mod Bits
+pub mod Clearing
 pub mod Closing
 pub mod Connecting
 pub mod Facts
@@ -10,3 +11,4 @@ pub mod Held
 pub mod Leaving
 pub mod Moves
 pub mod Reseats
+pub mod Scanning

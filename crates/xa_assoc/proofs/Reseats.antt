@@ -10,7 +10,7 @@ use Rattle.xa_model.specs.State.{is_with}
 use Rattle.xa_model.proofs.Xids.{cmp_is_eq}
 use Rattle.xa_assoc.specs.declared.seat.Seat.{Seat}
 use Rattle.xa_assoc.specs.declared.sessions.Sessions.{Sessions}
-use Rattle.xa_assoc.specs.Seats.{seat_at, opened_at, active_at, owns_at, holds}
+use Rattle.xa_assoc.specs.Seats.{seat_at, opened_at, active_at, owns_at, scan_at, holds}
 use Rattle.xa_assoc.specs.Changes.{SitsDown, StandsUp, Leaves, IsSameRoom}
 
 pub number_is : (n k : ℕ) → is_eq (nat_cmp n k) ≡ (n == k)
@@ -21,6 +21,7 @@ pub record Reseats (m m' : Sessions) (n : ℕ) (x x' : Seat) : Type 0 where
   pub was : seat_at m n ≡ Some x
   pub at : (k : ℕ) → seat_at m' k ≡ cond (is_eq (nat_cmp n k)) (Some x') (seat_at m k)
   pub opened : x'.opened ≡ x.opened
+  pub scan : x'.scan ≡ x.scan
   pub connected : length m'.seats.entries ≡ length m.seats.entries
   pub free : m'.free ≡ m.free
 
@@ -41,6 +42,8 @@ pub same_room : (m m' : Sessions) (n : ℕ) (x x' : Seat) → Reseats m m' n x x
 same_room m m' n x x' r = record {
   opened = λ k. seen (λ o. option_map (λ y. y.opened) o) m m' n x x' r k
       ∙ here_by (opened_at m) n k (Some x.opened) (Some x'.opened) (n == k) refl (ap (λ (o : Option Seat). option_map (λ y. y.opened) o) r.was) (λ h. ap Some r.opened);
+  scan = λ k. seen (λ o. option_and_then (λ y. y.scan) o) m m' n x x' r k
+      ∙ here_by (scan_at m) n k x.scan x'.scan (n == k) refl (ap (λ (o : Option Seat). option_and_then (λ y. y.scan) o) r.was) (λ h. r.scan);
   connected = r.connected;
   free = r.free;
 }

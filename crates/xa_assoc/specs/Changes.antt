@@ -1,11 +1,11 @@
 -- How the associations of sessions change, seen as two functions: which branch each session is at work for, and with
 -- which XIDs it has an association of its own.
-use Rattle.std.specs.Prelude.{ℕ, ◌≡◌, ◌+◌, ◌<◌, ◌==◌, Bool, true, false, not, ◌&&◌, ◌||◌, Option, Some, None, cond, option_map, is_some, if◌then◌else◌}
+use Rattle.std.specs.Prelude.{ℕ, ◌≡◌, ◌+◌, ◌<◌, ◌==◌, Bool, true, false, not, ◌&&◌, ◌||◌, Option, Some, None, cond, option_map, option_and_then, is_some, if◌then◌else◌}
 use Rattle.xa_xid.specs.Triple.{Triple, xid_eq}
 use Rattle.xa_model.specs.State.{is_with}
 use Rattle.xa_assoc.specs.declared.sessions.Sessions.{Sessions}
 use Rattle.xa_assoc.specs.Free.{is_free}
-use Rattle.xa_assoc.specs.Seats.{connected_in, opened_at, active_at, owns_at}
+use Rattle.xa_assoc.specs.Seats.{connected_in, opened_at, active_at, owns_at, scan_at}
 
 module _ (works : ℕ → Option Triple) (owns : ℕ → Triple → Bool) (works' : ℕ → Option Triple) (owns' : ℕ → Triple → Bool) where
   -- a session comes to work for a branch
@@ -23,15 +23,17 @@ module _ (works : ℕ → Option Triple) (owns : ℕ → Triple → Bool) (works
     pub active : (k : ℕ) → works' k ≡ cond (n == k && is_with xid (works k)) None (works k)
     pub own : (k : ℕ) (q : Triple) → owns' k q ≡ (owns k q && not (n == k && xid_eq xid q))
 
--- the same sessions are connected and opened
+-- the same sessions are connected and opened, and their scans stand where they stood
 pub record IsSameRoom (m m' : Sessions) : Type 0 where
   pub opened : (n : ℕ) → opened_at m' n ≡ opened_at m n
+  pub scan : (n : ℕ) → scan_at m' n ≡ scan_at m n
   pub connected : connected_in m' ≡ connected_in m
   pub free : m'.free ≡ m.free
 
--- a session, if it is connected, is opened or isn't
-pub record Sets (m : Sessions) (n : ℕ) (opened : Bool) (m' : Sessions) : Type 0 where
-  pub opens : (k : ℕ) → opened_at m' k ≡ cond (n == k) (option_map (λ _. opened) (opened_at m k)) (opened_at m k)
+-- what becomes of a session, if it is connected: of whether it is opened, and of its scan
+pub record Sets (m : Sessions) (n : ℕ) (opens : Bool → Bool) (scans : Option (Option Triple) → Option (Option Triple)) (m' : Sessions) : Type 0 where
+  pub opened : (k : ℕ) → opened_at m' k ≡ cond (n == k) (option_map opens (opened_at m k)) (opened_at m k)
+  pub scan : (k : ℕ) → scan_at m' k ≡ cond (n == k) (option_and_then (λ _. scans (scan_at m k)) (opened_at m k)) (scan_at m k)
   pub active : (k : ℕ) → active_at m' k ≡ active_at m k
   pub own : (k : ℕ) (q : Triple) → owns_at m' k q ≡ owns_at m k q
   pub connected : connected_in m' ≡ connected_in m
@@ -42,6 +44,7 @@ pub record Comes (m : Sessions) (n : ℕ) (m' : Sessions) : Type 0 where
   pub opened : (k : ℕ) → opened_at m' k ≡ cond (n == k) (Some false) (opened_at m k)
   pub active : (k : ℕ) → active_at m' k ≡ cond (n == k) None (active_at m k)
   pub own : (k : ℕ) (q : Triple) → owns_at m' k q ≡ cond (n == k) false (owns_at m k q)
+  pub scan : (k : ℕ) → scan_at m' k ≡ cond (n == k) None (scan_at m k)
   pub connected : opened_at m n ≡ None → connected_in m' ≡ connected_in m + 1
   pub free : (k : ℕ) → k < 1024 → is_free m'.free k ≡ cond (n == k + 1) false (is_free m.free k)
 
@@ -50,5 +53,15 @@ pub record Goes (m : Sessions) (n : ℕ) (m' : Sessions) : Type 0 where
   pub opened : (k : ℕ) → opened_at m' k ≡ cond (n == k) None (opened_at m k)
   pub active : (k : ℕ) → active_at m' k ≡ cond (n == k) None (active_at m k)
   pub own : (k : ℕ) (q : Triple) → owns_at m' k q ≡ cond (n == k) false (owns_at m k q)
+  pub scan : (k : ℕ) → scan_at m' k ≡ cond (n == k) None (scan_at m k)
   pub connected : connected_in m' + (if is_some (opened_at m n) then 1 else 0) ≡ connected_in m
   pub free : (k : ℕ) → k < 1024 → is_free m'.free k ≡ cond (n == k + 1) true (is_free m.free k)
+
+-- the same sessions are connected and opened, and nothing else is left of them
+pub record Clears (m m' : Sessions) : Type 0 where
+  pub opened : (k : ℕ) → opened_at m' k ≡ opened_at m k
+  pub active : (k : ℕ) → active_at m' k ≡ None
+  pub own : (k : ℕ) (q : Triple) → owns_at m' k q ≡ false
+  pub scan : (k : ℕ) → scan_at m' k ≡ None
+  pub connected : connected_in m' ≡ connected_in m
+  pub free : m'.free ≡ m.free

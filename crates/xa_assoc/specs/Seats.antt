@@ -36,6 +36,10 @@ owns_at m n xid = holds xid (seat_at m n)
 abbrev pub suspends_at : Sessions → ℕ → Triple → Bool
 suspends_at m n xid = owns_at m n xid && not (is_with xid (active_at m n))
 
+-- the cursor of the session's recovery scan, if one is open
+abbrev pub scan_at : Sessions → ℕ → Option (Option Triple)
+scan_at m n = option_and_then (λ x. x.scan) (seat_at m n)
+
 -- whether it has any association of its own
 abbrev pub holds_any : Option Seat → Bool
 holds_any None = false

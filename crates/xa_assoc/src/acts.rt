@@ -1,6 +1,6 @@
-ghost use Rattle.std.specs.Prelude.{◌≡◌, ◌+◌, ◌<◌, false, OnOk, OnErr, IsSome};
+ghost use Rattle.std.specs.Prelude.{◌≡◌, ◌+◌, ◌<◌, true, false, None, OnOk, OnErr, IsSome};
 ghost use Rattle.xa_assoc.specs.Seats.{seat_at, active_at, owns_at};
-ghost use Rattle.xa_assoc.specs.Changes.{Comes, Goes, Sets, SitsDown, StandsUp, Leaves, IsSameRoom};
+ghost use Rattle.xa_assoc.specs.Changes.{Comes, Goes, Sets, Clears, SitsDown, StandsUp, Leaves, IsSameRoom};
 ghost use Rattle.xa_assoc.specs.Sessions.{Stays};
 
 use crate::free::{make_free, make_taken};
@@ -22,6 +22,7 @@ impl Sessions {
             opened: false,
             active: None,
             own: BTreeSet::new(self.alloc),
+            scan: None,
         };
         self.seats.insert(place + 1, seat)?;
         make_taken(&mut self.free, place);
@@ -39,12 +40,40 @@ impl Sessions {
         seat
     }
 
-    pub(crate) fn set_opened(&mut self, session: u64, opened: bool)
-        ensures { Sets self.old session opened self.new }
+    pub(crate) fn set_opened(&mut self, session: u64)
+        ensures { Sets self.old session (λ _. true) (λ scan. scan) self.new }
     {
         if let Some(seat) = self.seats.get_mut(&session) {
-            seat.opened = opened;
+            seat.opened = true;
         }
+    }
+
+    /// The session isn't opened, and its scan is over.
+    pub(crate) fn set_closed(&mut self, session: u64)
+        ensures { Sets self.old session (λ _. false) (λ _. None) self.new }
+    {
+        if let Some(seat) = self.seats.get_mut(&session) {
+            seat.opened = false;
+            seat.scan = None;
+        }
+    }
+
+    pub(crate) fn put_scan(&mut self, session: u64, scan: Option<Option<Xid>>)
+        ensures { Sets self.old session (λ opened. opened) (λ _. scan) self.new }
+    {
+        if let Some(seat) = self.seats.get_mut(&session) {
+            seat.scan = scan;
+        }
+    }
+
+    /// All associations end, and all scans.
+    pub(crate) fn clear_seats(&mut self)
+        ensures { Clears self.old self.new }
+    {
+        self.seats.retain(|_, seat| {
+            seat.clear();
+            true
+        });
     }
 }
 

@@ -49,10 +49,10 @@ impl Sessions {
     pub fn open(&mut self, session: u64)
         ensures { Follows self.old (λ s. (open_by s session).after) self.new }
     {
-        self.set_opened(session, true);
+        self.set_opened(session);
     }
 
-    /// A session with an association of its own isn't closed.
+    /// A session with an association of its own isn't closed. With a session that is closed its scan ends.
     pub fn close(&mut self, session: u64) -> Result<(), Reply>
         ensures refused { IfErr result (λ reply. (s : State) → SessionsStandFor self.old s → close_by s session ≡ answer reply s) }
         ensures served { IfErr result (λ reply. is_memory reply.detail ≡ false) }
@@ -62,7 +62,7 @@ impl Sessions {
         if let Some(reply) = close_refusal(self.holds_any(session)) {
             return Err(reply);
         }
-        self.set_opened(session, false);
+        self.set_closed(session);
         Ok(())
     }
 }

@@ -1,5 +1,5 @@
-//! The session's part of the association table: which sessions are connected and opened, and the branches that they are
-//! associated with.
+//! The session's part of the association table: which sessions are connected and opened, the branches that they are
+//! associated with, and where their recovery scans stand.
 #![tactic(auto)]
 
 mod acts;
@@ -9,6 +9,8 @@ mod free;
 mod refusals;
 mod refusing;
 mod replies;
+mod restarts;
+mod scans;
 mod seat;
 mod sessions;
 mod work;

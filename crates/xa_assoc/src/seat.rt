@@ -1,4 +1,4 @@
-ghost use Rattle.std.specs.Prelude.{◌≡◌, None, Some, cond, true, false, OnOk, OnErr};
+ghost use Rattle.std.specs.Prelude.{◌≡◌, None, Some, [], cond, true, false, OnOk, OnErr};
 ghost use Rattle.std.specs.BTreeSet.{contains};
 ghost use Rattle.std.specs.Ordering.{is_eq};
 ghost use Rattle.xa_xid.specs.Triple.{Triple, xid_cmp};
@@ -9,12 +9,14 @@ use std::collections::BTreeSet;
 use xa_xid::Xid;
 
 /// What is kept of a connected session: whether it is opened, the branch that it is at work for, and all branches that it
-/// is associated with. Those that it isn't at work for are suspended.
+/// is associated with. Those that it isn't at work for are suspended. `scan` is the cursor of its recovery scan: no scan is
+/// open, or it stands before all XIDs (None), or at one.
 #[derive(Debug, Drop)]
 pub struct Seat {
     pub opened: bool,
     pub active: Option<Xid>,
     pub own: BTreeSet<Xid>,
+    pub scan: Option<Option<Xid>>,
 }
 
 impl Seat {
@@ -23,6 +25,7 @@ impl Seat {
         ensures opened { self.new.opened ≡ self.old.opened }
         ensures active { OnOk result (self.new.active ≡ Some xid) }
         ensures own { OnOk result ((q : Triple) → contains xid_cmp self.new.own q ≡ cond (is_eq (xid_cmp xid q)) true (contains xid_cmp self.old.own q)) }
+        ensures scan { self.new.scan ≡ self.old.scan }
         ensures err { OnErr result (self.new ≡ self.old) }
         ensures absent { OnErr result (contains xid_cmp self.old.own xid ≡ false) }
     {
@@ -37,6 +40,7 @@ impl Seat {
         ensures opened { self.new.opened ≡ self.old.opened }
         ensures active { self.new.active ≡ None }
         ensures own { self.new.own ≡ self.old.own }
+        ensures scan { self.new.scan ≡ self.old.scan }
     {
         self.active = None;
     }
@@ -46,11 +50,24 @@ impl Seat {
         ensures opened { self.new.opened ≡ self.old.opened }
         ensures active { self.new.active ≡ cond (is_with xid.now self.old.active) None self.old.active }
         ensures own { (q : Triple) → contains xid_cmp self.new.own q ≡ cond (is_eq (xid_cmp xid.now q)) false (contains xid_cmp self.old.own q) }
+        ensures scan { self.new.scan ≡ self.old.scan }
     {
         self.own.remove(xid);
         if is_for(&self.active, xid) {
             self.active = None;
         }
+    }
+
+    /// The session's associations end, and its scan. It stays opened, if it was.
+    pub(crate) fn clear(&mut self)
+        ensures opened { self.new.opened ≡ self.old.opened }
+        ensures active { self.new.active ≡ None }
+        ensures own { self.new.own.keys ≡ [] }
+        ensures scan { self.new.scan ≡ None }
+    {
+        self.active = None;
+        self.own.clear();
+        self.scan = None;
     }
 }
 

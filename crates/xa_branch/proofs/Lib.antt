@@ -1,6 +1,7 @@
 pub mod Counting
 pub mod Looks
 pub mod Setting
+pub mod Listing
 pub mod Knowing
 pub mod Beginning
 pub mod Lastings
@@ -16,3 +17,4 @@ pub mod Shifting
 pub mod Elsewhere
 pub mod Behind
 pub mod HangingUp
+pub mod Returning

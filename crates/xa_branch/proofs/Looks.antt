@@ -58,14 +58,14 @@ seen_at m s xid o l st e h =
 
 -- a branch that is kept as at work is
 
-works : (s : State) (xid : Triple) (w : Kept) (l : Option Lasting) → Seen s xid (Some w) l → IsWorking s xid w
+pub works : (s : State) (xid : Triple) (w : Kept) (l : Option Lasting) → Seen s xid (Some w) l → IsWorking s xid w
 works s xid w None (There v is) = is
 works s xid w (Some l) x = elim x [ ]
 
 pub works_at : (m : Branches) (s : State) (xid : Triple) (w : Kept) → BranchesStandFor m s → working_at m xid ≡ Some w → IsWorking s xid w
 works_at m s xid w st e = works s xid w (lasting_at m xid) (seen_at m s xid (Some w) (lasting_at m xid) st e refl)
 
-idle : (s : State) (xid : Triple) (l : Option Lasting) → Seen s xid None l → is_at_work (known_of s.branches xid) ≡ false
+pub idle : (s : State) (xid : Triple) (l : Option Lasting) → Seen s xid None l → is_at_work (known_of s.branches xid) ≡ false
 idle s xid None (Nowhere e h) = rw e refl
 idle s xid (Some l) (Doubtful t is) = rw (is.found, is.phase) refl
 idle s xid (Some l) (Done direction e h) = rw e refl

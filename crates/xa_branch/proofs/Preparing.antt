@@ -1,4 +1,4 @@
--- Known branches that stand for a state, after a branch is prepared.
+-- Known branches that stand for a state, after room is made for what will last of a branch, and after it is prepared.
 use Rattle.std.proofs.Common.{◌≡◌, ℕ, ◌+◌, ◌-◌, ◌^◌, Bool, true, false, cond, min, Option, Some, None, List, refl, ap, sym, ◌∙◌, subst, arith}
 use Rattle.std.specs.Prelude.{is_some, option_map, option_and_then}
 use Rattle.std.specs.BTreeMap.{BTreeMap}
@@ -17,11 +17,12 @@ use Rattle.xa_branch.specs.declared.branches.Branches.{Branches}
 use Rattle.xa_branch.specs.declared.lasting.Lasting.{Lasting}
 use Rattle.xa_branch.specs.declared.lasting.Lasting.TheVariants as lasts
 use Rattle.xa_branch.specs.declared.working.Working.{Working as Kept}
-use Rattle.xa_branch.specs.Branches.{BranchesStandFor, working_at, working_in, lasting_at, lasting_among, is_prepared, prepared_among}
+use Rattle.xa_branch.specs.Branches.{BranchesStandFor, working_at, working_in, working_of, lasting_at, lasting_among, lasting_of, is_prepared, prepared_among}
 use Rattle.xa_branch.specs.Changes.{Sets}
+use Rattle.xa_branch.specs.Room.{HasRoom, kept_twice}
 use Rattle.xa_branch.proofs.Beginning.{prepared_known as prepared_are_known}
 use Rattle.xa_branch.proofs.Finding.{found_turned, found_fixed}
-use Rattle.xa_branch.proofs.Looks.{IsWorking, Seen, Nowhere, There, Doubtful, Done, seen_at, works_at}
+use Rattle.xa_branch.proofs.Looks.{IsWorking, Seen, Nowhere, There, Doubtful, Done, seen, works, idle}
 
 -- the branches after it
 
@@ -35,51 +36,7 @@ there : (s : State) (xid q : Triple) → xid_eq xid q ≡ false → known_of (af
 there s xid q e =
     find_change_other (is_known_as xid) (is_known_as q) as_prepared (λ b named. (called_apart xid q b e named, prepared_known q b ∙ called_apart xid q b e named)) s.branches
 
-prepared_look : (m : Branches) (s : State) (xid q : Triple) (w : Kept) (c : Bool) → xid_eq xid q ≡ c → BranchesStandFor m s → (is : IsWorking s xid w)
-    → cond c None (working_at m q) ≡ option_and_then (working_in s.associations q) (known_of (after_of s xid) q)
-prepared_look m s xid q w true e st is =
-    let found : known_of (after_of s xid) q ≡ Some (as_prepared is.branch) = subst (λ (x : Triple). known_of (after_of s xid) x ≡ Some (as_prepared is.branch)) (xid_same xid q e) (here s xid w is) in
-    rw (found, is.phase) refl
-prepared_look m s xid q w false e st is = st.working q ∙ sym (ap (option_and_then (working_in s.associations q)) (there s xid q e))
-
-prepared_lasting : (m : Branches) (s : State) (xid q : Triple) (w : Kept) (c : Bool) → xid_eq xid q ≡ c → BranchesStandFor m s → (is : IsWorking s xid w)
-    → cond c (Some (lasts.Prepared w.timestamp)) (lasting_at m q) ≡ lasting_among (known_of (after_of s xid) q) (decided_of s.decided q)
-prepared_lasting m s xid q w true e st is =
-    let found : known_of (after_of s xid) q ≡ Some (as_prepared is.branch) = subst (λ (x : Triple). known_of (after_of s xid) x ≡ Some (as_prepared is.branch)) (xid_same xid q e) (here s xid w is) in
-    let time : w.timestamp ≡ is.branch.timestamp = ap (λ (k : Kept). k.timestamp) is.kept in
-    rw (found, is.phase) (ap (λ (t : ℕ). Some (lasts.Prepared t)) time)
-prepared_lasting m s xid q w false e st is = st.lasting q ∙ sym (ap (λ (o : Option Branch). lasting_among o (decided_of s.decided q)) (there s xid q e))
-
--- one more is prepared
-one_more : (s : State) (xid : Triple) (w : Kept) → (is : IsWorking s xid w) → prepared_among (after_of s xid) ≡ prepared_among s.branches + 1
-one_more s xid w is =
-    let turned = found_turned (is_known_as xid) (λ b. is_prepared b.phase) as_prepared is.branch s.branches is.found in
-    let counted = rw is.phase at turned in omega (arith, counted)
-
-unlasting : (s : State) (xid : Triple) (w : Kept) (l : Option Lasting) → Seen s xid (Some w) l → l ≡ None
-unlasting s xid w None (There v is) = refl
-unlasting s xid w (Some l) x = elim x [ ]
-
-pub prepared_stands : (m : Branches) (working : BTreeMap Triple Kept) (lasting : BTreeMap Triple Lasting) (n : ℕ) (s : State) (xid : Triple) (w : Kept) → IsSound s → BranchesStandFor m s → working_at m xid ≡ Some w
-    → Sets m.working xid None working → Sets m.lasting xid (Some (lasts.Prepared w.timestamp)) lasting → n ≡ min (m.prepared + 1) (2 ^ 64 - 1)
-    → BranchesStandFor (record m { working = working; lasting = lasting; prepared = n }) (prepared s xid)
-prepared_stands m working lasting n s xid w h st e takes adds more = record {
-  boot = st.boot;
-  given = st.given;
-  working = λ q. takes.at q ∙ rw (cmp_is_eq xid q) (prepared_look m s xid q w (xid_eq xid q) refl st (works_at m s xid w st e));
-  lasting = λ q. adds.at q ∙ rw (cmp_is_eq xid q) (prepared_lasting m s xid q w (xid_eq xid q) refl st (works_at m s xid w st e));
-  known =
-      let nor : lasting_at m xid ≡ None = unlasting s xid w (lasting_at m xid) (seen_at m s xid (Some w) (lasting_at m xid) st e refl) in
-      let less = rw e at takes.number in
-      let more_ = rw nor at adds.number in
-      let names : known_count (after_of s xid) ≡ known_count s.branches =
-      count_same (is_known_as xid) as_prepared (λ b. is_some (name_of b.phase)) (λ b. ap (λ (o : Option Triple). is_some o) (prepared_name b.phase)) s.branches in
-      omega (arith, less, more_, names, st.known);
-  prepared = omega (arith, more, st.prepared, one_more s xid w (works_at m s xid w st e), h.known, prepared_are_known s.branches);
-  completed = st.completed;
-}
-
--- where no branch is at work, nothing is prepared
+-- where no branch is at work, nothing is prepared, and nothing lasts of one at work
 
 same_phase : (b : Branch) (x : Triple) → b.phase ≡ Prepared x → as_prepared b ≡ b
 same_phase b x e =
@@ -91,5 +48,152 @@ unprepared s xid None (Nowhere none nor) = change_none (is_known_as xid) as_prep
 unprepared s xid (Some l) (Doubtful t is) = found_fixed (is_known_as xid) as_prepared is.branch s.branches (same_phase is.branch is.named is.phase) is.found
 unprepared s xid (Some l) (Done direction none was) = change_none (is_known_as xid) as_prepared s.branches none
 
-pub unprepared_stands : (m : Branches) (s : State) (xid : Triple) → BranchesStandFor m s → working_at m xid ≡ None → BranchesStandFor m (prepared s xid)
-unprepared_stands m s xid st e = rw (unprepared s xid (lasting_at m xid) (seen_at m s xid None (lasting_at m xid) st e refl)) st
+unlasting : (s : State) (xid : Triple) (w : Kept) (l : Option Lasting) → Seen s xid (Some w) l → l ≡ None
+unlasting s xid w None (There v is) = refl
+unlasting s xid w (Some l) x = elim x [ ]
+
+there_none : (s : State) (xid : Triple) → working_of s xid ≡ None → after_of s xid ≡ s.branches
+there_none s xid e = unprepared s xid (lasting_of s xid) (subst (λ (o : Option Kept). Seen s xid o (lasting_of s xid)) e (seen s xid))
+
+works_of : (s : State) (xid : Triple) (w : Kept) → working_of s xid ≡ Some w → IsWorking s xid w
+works_of s xid w e = works s xid w (lasting_of s xid) (subst (λ (o : Option Kept). Seen s xid o (lasting_of s xid)) e (seen s xid))
+
+nor_lasting : (s : State) (xid : Triple) (w : Kept) → working_of s xid ≡ Some w → lasting_of s xid ≡ None
+nor_lasting s xid w e = unlasting s xid w (lasting_of s xid) (subst (λ (o : Option Kept). Seen s xid o (lasting_of s xid)) e (seen s xid))
+
+-- at the branch's XID, and elsewhere
+
+prepared_look : (m : Branches) (s : State) (xid q : Triple) (w : Kept) (c : Bool) → xid_eq xid q ≡ c → HasRoom xid m s → (is : IsWorking s xid w)
+    → cond c None (working_at m q) ≡ option_and_then (working_in s.associations q) (known_of (after_of s xid) q)
+prepared_look m s xid q w true e st is =
+    let found : known_of (after_of s xid) q ≡ Some (as_prepared is.branch) = subst (λ (x : Triple). known_of (after_of s xid) x ≡ Some (as_prepared is.branch)) (xid_same xid q e) (here s xid w is) in
+    rw (found, is.phase) refl
+prepared_look m s xid q w false e st is = st.working q ∙ sym (ap (option_and_then (working_in s.associations q)) (there s xid q e))
+
+prepared_lasting : (s : State) (xid q : Triple) (w : Kept) (o : Option Lasting) (c : Bool) → xid_eq xid q ≡ c → o ≡ lasting_of s q → (is : IsWorking s xid w)
+    → cond c (Some (lasts.Prepared w.timestamp)) o ≡ lasting_among (known_of (after_of s xid) q) (decided_of s.decided q)
+prepared_lasting s xid q w o true e same is =
+    let found : known_of (after_of s xid) q ≡ Some (as_prepared is.branch) = subst (λ (x : Triple). known_of (after_of s xid) x ≡ Some (as_prepared is.branch)) (xid_same xid q e) (here s xid w is) in
+    let time : w.timestamp ≡ is.branch.timestamp = ap (λ (k : Kept). k.timestamp) is.kept in
+    rw (found, is.phase) (ap (λ (t : ℕ). Some (lasts.Prepared t)) time)
+prepared_lasting s xid q w o false e same is = same ∙ sym (ap (λ (o : Option Branch). lasting_among o (decided_of s.decided q)) (there s xid q e))
+
+-- what is taken away again
+unprepared_lasting : (s : State) (xid q : Triple) (c : Bool) → xid_eq xid q ≡ c → lasting_of s xid ≡ None → cond c None (lasting_of (prepared s xid) q) ≡ lasting_of s q
+unprepared_lasting s xid q true e none = sym (subst (λ (x : Triple). lasting_of s x ≡ None) (xid_same xid q e) none)
+unprepared_lasting s xid q false e none = ap (λ (o : Option Branch). lasting_among o (decided_of s.decided q)) (there s xid q e)
+
+-- one more is prepared
+one_more : (s : State) (xid : Triple) (w : Kept) → (is : IsWorking s xid w) → prepared_among (after_of s xid) ≡ prepared_among s.branches + 1
+one_more s xid w is =
+    let turned = found_turned (is_known_as xid) (λ b. is_prepared b.phase) as_prepared is.branch s.branches is.found in
+    let counted = rw is.phase at turned in omega (arith, counted)
+
+as_many : (s : State) (xid : Triple) → known_count (after_of s xid) ≡ known_count s.branches
+as_many s xid = count_same (is_known_as xid) as_prepared (λ b. is_some (name_of b.phase)) (λ b. ap (λ (o : Option Triple). is_some o) (prepared_name b.phase)) s.branches
+
+-- one that is at work has room
+twice : (s : State) (xid : Triple) (w : Kept) → IsWorking s xid w → kept_twice s xid ≡ 1
+twice s xid w is = rw (is.found, is.phase) refl
+
+kept_once : (s : State) (xid : Triple) (l : Option Lasting) → Seen s xid None l → kept_twice s xid ≡ 0
+kept_once s xid l x = rw (idle s xid l x) refl
+
+once_of : (s : State) (xid : Triple) → working_of s xid ≡ None → kept_twice s xid ≡ 0
+once_of s xid e = kept_once s xid (lasting_of s xid) (subst (λ (o : Option Kept). Seen s xid o (lasting_of s xid)) e (seen s xid))
+
+-- room is made
+
+pub room_made : (m : Branches) (lasting : BTreeMap Triple Lasting) (s : State) (xid : Triple) (w : Kept) → BranchesStandFor m s → working_at m xid ≡ Some w
+    → Sets m.lasting xid (Some (lasts.Prepared w.timestamp)) lasting → HasRoom xid (record m { lasting = lasting }) s
+room_made m lasting s xid w st e adds =
+    let works : working_of s xid ≡ Some w = sym (st.working xid) ∙ e in
+    let is : IsWorking s xid w = works_of s xid w works in
+    record {
+      boot = st.boot;
+      given = st.given;
+      working = st.working;
+      lasting = λ q. adds.at q ∙ rw (cmp_is_eq xid q) (prepared_lasting s xid q w (lasting_at m q) (xid_eq xid q) refl (st.lasting q) is);
+      known =
+          let nor : lasting_at m xid ≡ None = st.lasting xid ∙ nor_lasting s xid w works in
+          let more = rw nor at adds.number in
+          omega (arith, more, twice s xid w is, st.known);
+      prepared = st.prepared;
+      completed = st.completed;
+    }
+
+pub no_room_made : (m : Branches) (s : State) (xid : Triple) → BranchesStandFor m s → working_at m xid ≡ None → HasRoom xid m s
+no_room_made m s xid st e =
+    let none : working_of s xid ≡ None = sym (st.working xid) ∙ e in
+    record {
+      boot = st.boot;
+      given = st.given;
+      working = st.working;
+      lasting = λ q. st.lasting q ∙ sym (ap (λ (bs : List Branch). lasting_among (known_of bs q) (decided_of s.decided q)) (there_none s xid none));
+      known = omega (arith, st.known, once_of s xid none);
+      prepared = st.prepared;
+      completed = st.completed;
+    }
+
+-- the branch is prepared
+
+pub prepared_stands : (m : Branches) (working : BTreeMap Triple Kept) (n : ℕ) (s : State) (xid : Triple) (w : Kept) → IsSound s → HasRoom xid m s → working_at m xid ≡ Some w
+    → Sets m.working xid None working → n ≡ min (m.prepared + 1) (2 ^ 64 - 1) → BranchesStandFor (record m { working = working; prepared = n }) (prepared s xid)
+prepared_stands m working n s xid w h st e takes more =
+    let is : IsWorking s xid w = works_of s xid w (sym (st.working xid) ∙ e) in
+    record {
+      boot = st.boot;
+      given = st.given;
+      working = λ q. takes.at q ∙ rw (cmp_is_eq xid q) (prepared_look m s xid q w (xid_eq xid q) refl st is);
+      lasting = st.lasting;
+      known = let less = rw e at takes.number in omega (arith, less, twice s xid w is, as_many s xid, st.known);
+      prepared = omega (arith, more, st.prepared, one_more s xid w is, h.known, prepared_are_known s.branches);
+      completed = st.completed;
+    }
+
+pub unprepared_stands : (m : Branches) (s : State) (xid : Triple) → HasRoom xid m s → working_at m xid ≡ None → BranchesStandFor m (prepared s xid)
+unprepared_stands m s xid st e =
+    let none : working_of s xid ≡ None = sym (st.working xid) ∙ e in
+    let same : after_of s xid ≡ s.branches = there_none s xid none in
+    record {
+      boot = st.boot;
+      given = st.given;
+      working = λ q. st.working q ∙ sym (ap (λ (bs : List Branch). option_and_then (working_in s.associations q) (known_of bs q)) same);
+      lasting = st.lasting;
+      known = omega (arith, st.known, once_of s xid none, as_many s xid);
+      prepared = st.prepared ∙ sym (ap prepared_among same);
+      completed = st.completed;
+    }
+
+-- the room is given back
+
+pub given_back : (m : Branches) (lasting : BTreeMap Triple Lasting) (s : State) (xid : Triple) (w : Kept) → HasRoom xid m s → working_at m xid ≡ Some w → Sets m.lasting xid None lasting
+    → BranchesStandFor (record m { lasting = lasting }) s
+given_back m lasting s xid w st e takes =
+    let works : working_of s xid ≡ Some w = sym (st.working xid) ∙ e in
+    let is : IsWorking s xid w = works_of s xid w works in
+    record {
+      boot = st.boot;
+      given = st.given;
+      working = st.working;
+      lasting = λ q. takes.at q ∙ rw (cmp_is_eq xid q, st.lasting q) (unprepared_lasting s xid q (xid_eq xid q) refl (nor_lasting s xid w works));
+      known =
+          let there : lasting_at m xid ≡ Some (lasts.Prepared is.branch.timestamp) = st.lasting xid ∙ rw (here s xid w is, is.phase) refl in
+          let less = rw there at takes.number in
+          omega (arith, less, twice s xid w is, st.known);
+      prepared = st.prepared;
+      completed = st.completed;
+    }
+
+pub nothing_back : (m : Branches) (s : State) (xid : Triple) → HasRoom xid m s → working_at m xid ≡ None → BranchesStandFor m s
+nothing_back m s xid st e =
+    let none : working_of s xid ≡ None = sym (st.working xid) ∙ e in
+    record {
+      boot = st.boot;
+      given = st.given;
+      working = st.working;
+      lasting = λ q. st.lasting q ∙ ap (λ (bs : List Branch). lasting_among (known_of bs q) (decided_of s.decided q)) (there_none s xid none);
+      known = omega (arith, st.known, once_of s xid none);
+      prepared = st.prepared;
+      completed = st.completed;
+    }

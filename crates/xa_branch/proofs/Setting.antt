@@ -1,5 +1,5 @@
 -- What is kept, where a change finds nothing to change.
-use Rattle.std.proofs.Common.{◌≡◌, Bool, true, false, cond, Option, Some, None, refl, sym, ◌∙◌, ap, subst}
+use Rattle.std.proofs.Common.{◌≡◌, Bool, true, false, cond, Option, Some, None, Result, Ok, Err, OnOk, refl, sym, ◌∙◌, ap, subst}
 use Rattle.std.specs.Prelude.{option_map}
 use Rattle.std.specs.BTreeMap.{BTreeMap, get}
 use Rattle.std.specs.Ordering.{is_eq}
@@ -41,3 +41,8 @@ unset_by_any {V} f m xid none =
 -- a change at the same XID to the same
 pub set_same : {V : Type 0} (m after : BTreeMap Triple V) (x y : Triple) (w v : V) → x ≡ y → w ≡ v → Sets m x (Some w) after → Sets m y (Some v) after
 set_same m after x y w v e f sets = rw (← e, ← f) sets
+
+-- what holds on success comes to more
+pub on_ok : {A E : Type 0} (r : Result A E) (P Q : Type 0) → (P → Q) → OnOk r P → OnOk r Q
+on_ok (Ok a) P Q f p = f p
+on_ok (Err e) P Q f p = p

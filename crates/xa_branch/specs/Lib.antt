@@ -1,6 +1,8 @@
 pub mod Kinds
 pub mod Facts
 pub mod Branches
+pub mod Room
+pub mod Restored
 pub mod State
 pub mod Calls
 pub mod Changes

@@ -1,4 +1,4 @@
-ghost use Rattle.std.specs.Prelude.{◌≡◌, ◌+◌, MatchResult, None, Some, length};
+ghost use Rattle.std.specs.Prelude.{◌≡◌, ◌+◌, MatchResult, None, Some, [], length};
 ghost use Rattle.xa_model.specs.State.{State as ModelState, known_as, known_in, loose_of};
 ghost use Rattle.xa_model.specs.Associations.{timestamp_in};
 ghost use Rattle.xa_model.specs.Branches.{is_associated};
@@ -18,7 +18,7 @@ use xa_xid::Xid;
 ///
 /// What a call promises holds for every state of the sequential resource manager that the branches stood for. Each call
 /// takes time that grows with the logarithm of the number of branches, `hang_up` that for each branch that the session
-/// leaves behind, and only `begin` and `prepare` take memory.
+/// leaves behind, and `list_after` also time for each XID that it lists. Only calls that can fail for want of memory take it.
 #[derive(Drop)]
 pub struct Branches {
     pub(crate) boot: u32,
@@ -33,12 +33,14 @@ impl Branches {
     ghost use Rattle.xa_branch.specs.Branches.{BranchesStandFor, working_at, lasting_at, number_of, prepared_in};
     ghost use Rattle.xa_branch.specs.Calls.{readiness};
     ghost use Rattle.xa_branch.specs.Facts.{fact_of};
+    ghost use Rattle.xa_branch.specs.Restored.{HasRestored};
     ghost use Rattle.xa_branch.specs.State.{state_of};
 
     /// No branch is known in this boot, and `next` is the number of the boot's next timestamp: 1 where it gave none, else
     /// one more than how many it gave. 0 counts as 1. Takes no memory.
     pub fn new(alloc: Global, boot: u32, next: u64) -> Branches
-        ensures { (s : ModelState) → s.boot ≡ boot → s.given + 1 ≡ next → known_in s ≡ 0 → BranchesStandFor result s }
+        ensures fresh { (s : ModelState) → s.boot ≡ boot → s.given + 1 ≡ next → known_in s ≡ 0 → BranchesStandFor result s }
+        ensures restored { next ≡ 1 → HasRestored result boot [] [] }
     {
         Branches {
             boot,

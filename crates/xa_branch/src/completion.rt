@@ -3,6 +3,7 @@ ghost use Rattle.xa_model.specs.State.{State as ModelState, InDoubt, known_as};
 ghost use Rattle.xa_model.specs.Branches.{rolled_back, committed, prepared, decided_by, forgotten};
 ghost use Rattle.xa_model.specs.Sound.{IsSound};
 ghost use Rattle.xa_branch.specs.Branches.{BranchesStandFor};
+ghost use Rattle.xa_branch.specs.Room.{HasRoom};
 
 use crate::branches::Branches;
 use crate::changes::{add, set, take};
@@ -13,10 +14,11 @@ use xa_xid::Xid;
 
 /// How branches are prepared, completed, and forgotten.
 impl Branches {
-    /// A branch at work is prepared: of it, only the timestamp is kept. Whether it may be prepared is to be asked before
+    /// Makes room for what will be kept of a branch at work once it is prepared, so that `prepare` takes no memory and
+    /// can't fail. Either that or `give_back` has to follow. Whether the branch may be prepared is to be asked before
     /// (`ready_to_prepare`). Of another XID nothing changes, nor where there is no memory.
-    pub fn prepare(&mut self, xid: &Xid) -> Result<(), AllocError>
-        ensures ok { (s : ModelState) → IsSound s → BranchesStandFor self.old s → OnOk result (BranchesStandFor self.new (prepared s xid.now)) }
+    pub fn make_room(&mut self, xid: &Xid) -> Result<(), AllocError>
+        ensures ok { (s : ModelState) → BranchesStandFor self.old s → OnOk result (HasRoom xid.now self.new s) }
         ensures err { (s : ModelState) → BranchesStandFor self.old s → OnErr result (BranchesStandFor self.new s) }
     {
         let Some(working) = self.working_of(xid) else {
@@ -26,10 +28,30 @@ impl Branches {
             &mut self.lasting,
             xid.copied(),
             Lasting::Prepared(working.timestamp),
-        )?;
-        take(&mut self.working, xid);
-        self.prepared = self.prepared.saturating_add(1);
-        Ok(())
+        )
+    }
+
+    /// The branch that room was made for is prepared: of it, only the timestamp is kept. Takes no memory.
+    pub fn prepare(&mut self, xid: &Xid)
+        ensures { (s : ModelState) → IsSound s → HasRoom xid.now self.old s → BranchesStandFor self.new (prepared s xid.now) }
+    {
+        match self.working_of(xid) {
+            Some(_) => {
+                take(&mut self.working, xid);
+                self.prepared = self.prepared.saturating_add(1);
+            }
+            None => {}
+        }
+    }
+
+    /// The branch that room was made for is not prepared: it stays at work, and the room is given back.
+    pub fn give_back(&mut self, xid: &Xid)
+        ensures { (s : ModelState) → HasRoom xid.now self.old s → BranchesStandFor self.new s }
+    {
+        match self.working_of(xid) {
+            Some(_) => take(&mut self.lasting, xid),
+            None => {}
+        }
     }
 
     /// The operator completes a prepared branch. Of another XID nothing changes.

@@ -12,7 +12,9 @@ mod kind;
 mod known;
 mod lasting;
 mod laws;
+mod recovery;
 mod refusals;
+mod restoring;
 mod state;
 mod working;
 
@@ -21,7 +23,7 @@ pub use fault::BeginFault;
 pub use kind::Kind;
 pub use known::Known;
 pub use lasting::Lasting;
-pub use laws::worked_states;
+pub use laws::{restored_stand, worked_states};
 pub use refusals::{
     doom_refusal, heuristic_refusal, one_phase_refusal, rollback_refusal, two_phase_refusal,
 };

@@ -26,7 +26,7 @@ seated m s n st h = seated_by (session_of s.sessions n) (subst (λ (o : Option B
 
 pub begun_sound : (m : Kept) (s : State) (n : ℕ) (xid : Triple) → StandsFor m s → IsSome (opened_at m.sessions n) → begin_refusal_of s n xid ≡ None → IsSound (begun s n xid).after
 begun_sound m s n xid st here free =
-    subst (λ (a : Answer). IsSound a.after) (passed_is (begin_refusal_of s n xid) s (begun s n xid) free) (begin_sound s n xid st.sound (seated m s n st here))
+    subst (λ (a : Answer). IsSound a.after) (passed_is (begin_refusal_of s n xid) s (begun s n xid) free) (begin_sound s n xid st.recoverable.sound (seated m s n st here))
 
 -- the session's new association is the first that ends
 first_own : (b : Bool) (a : Association) (held : List Association) (p q : Association → Bool) → p a ≡ b → b ≡ true → (cond (p a || list_any p held) (without p (a ∷ held)) (without q (a ∷ held))) ≡ held

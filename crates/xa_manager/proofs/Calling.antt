@@ -1,80 +1,212 @@
--- A manager that stands for a state, after a call.
-use Rattle.std.proofs.Common.{◌≡◌, ◌≢◌, ℕ, Bool, true, false, List, Option, Some, None, IsSomeAnd, MatchBool, refl, ap, sym, ◌∙◌, subst}
-use Rattle.std.specs.Prelude.{Result, Ok, Err}
+-- What a call has done, by its refusals and its row.
+use Rattle.std.proofs.Common.{◌≡◌, ◌≢◌, inl, inr, ◌⊎◌, ⊎_elim, ℕ, ℤ, Bool, true, false, List, Option, Some, None, IsSomeAnd, MatchBool, if◌then◌else◌, refl, ap, sym, ◌∙◌, subst, w32, to_z, of_z}
+use Rattle.std.specs.Prelude.{Result, Ok, Err, IsOk}
+use Rattle.xa_disk.specs.declared.counts.Counts.{Counts}
+use Rattle.xa_codes.specs.Flags.{has}
+use Rattle.xa_codes.specs.declared.codes.TheConstants.{XAER_RMFAIL, XA_RETRY}
+use Rattle.xa_codes.specs.declared.flags.TheConstants.{TMONEPHASE}
+use Rattle.xa_codes.specs.declared.detail.Detail.TheVariants as detail
 use Rattle.xa_frame.specs.declared.reply.Reply.{Reply}
 use Rattle.xa_frame.specs.declared.request.Request.{Request}
+use Rattle.xa_frame.specs.declared.request.Request.TheVariants as request
+use Rattle.xa_frame.specs.declared.request.Request.TheVariants.{Restart}
+use Rattle.xa_log.specs.declared.log.Log.{Log}
 use Rattle.xa_model.specs.declared.event.Event.{Event}
 use Rattle.xa_model.specs.declared.event.Event.TheVariants.{Connect, Call}
+use Rattle.xa_model.specs.declared.outcome.Outcome.{Outcome}
 use Rattle.xa_model.specs.declared.outcome.Outcome.TheVariants.{Quiet}
 use Rattle.xa_model.specs.State.{State, Standing}
-use Rattle.xa_model.specs.Answer.{Answer, answer}
+use Rattle.xa_model.specs.Answer.{Answer, answer, detailed}
 use Rattle.xa_model.specs.Associations.{connect_by}
 use Rattle.xa_model.specs.Early.{early_refusal}
-use Rattle.xa_model.specs.Step.{Asked, row, respond, opened_of, is_up, asked, taken, step}
-use Rattle.xa_model.proofs.Soundness.{respond_sound}
+use Rattle.xa_model.specs.Events.{IsEvent, IsAsked, asks_restart, is_restart}
+use Rattle.xa_model.specs.Loggable.{IsRecoverable}
+use Rattle.xa_model.specs.Restarting.{restart_turn}
+use Rattle.xa_model.specs.Turn.{Turn, Now, Asked, taken, unless_now}
+use Rattle.xa_model.specs.Step.{row, respond, opened_of, is_up, asked, step}
 use Rattle.xa_assoc.specs.Refusals.{is_memory}
 use Rattle.xa_assoc.specs.Seats.{opened_at}
 use Rattle.xa_assoc.specs.declared.fault.ConnectFault.{ConnectFault}
 use Rattle.xa_assoc.specs.declared.fault.ConnectFault.TheVariants.{Memory, Full}
+use Rattle.xa_manager.specs.declared.manager.Manager.{Manager}
+use Rattle.xa_manager.specs.Answered.{FullyAnswered, StaysFor, HasCalled, connect_reply, may_want, memory_code, wanted_memory}
 use Rattle.xa_manager.specs.Kept.{Kept}
-use Rattle.xa_manager.specs.Answered.{FullyAnswered, connect_reply}
-use Rattle.xa_manager.specs.Stands.{StandsFor, Stays, Follows}
-use Rattle.xa_manager.proofs.Rows.{follows_by, refused_is, passed_is}
+use Rattle.xa_manager.specs.LogStands.{Trusts}
+use Rattle.xa_manager.specs.Managed.{kept, ManagerStandsFor}
+use Rattle.xa_manager.specs.Stands.{TablesStandFor, Follows, FollowsDown, Stays, StaysDown}
+use Rattle.xa_manager.specs.Turns.{Takes, TakesTurn, HasDone, HasRestarted}
+use Rattle.xa_manager.proofs.OnePhase.{refused_turn, passed_turn}
+use Rattle.xa_manager.proofs.Stepping.{asked_by, has_done}
 
-early_same : (m : Kept) (s : State) (n : ℕ) (request : Request) → StandsFor m s
-    → early_refusal (is_up s.standing) s.name (opened_of s n) request ≡ early_refusal true m.name (opened_at m.sessions n) request
-early_same m s n request st =
+early_by : (b : Bool) (k : Kept) (s : State) (n : ℕ) (request : Request) → TablesStandFor b k s → early_refusal (is_up s.standing) s.name (opened_of s n) request ≡ early_refusal b k.name (opened_at k.sessions n) request
+early_by true k s n request st =
     ap (λ (standing : Standing). early_refusal (is_up standing) s.name (opened_of s n) request) st.up
     ∙ ap (λ (name : List ℕ). early_refusal true name (opened_of s n) request) (sym st.name)
-    ∙ ap (λ (o : Option Bool). early_refusal true m.name o request) (sym (st.sessions.opened n))
-
-pub call_refuses : (m : Kept) (n : ℕ) (request : Request) (reply : Reply) → early_refusal true m.name (opened_at m.sessions n) request ≡ Some reply → is_memory reply.detail ≡ false
-    → Follows m (λ s. respond s (Call n request)) reply m
-call_refuses m n request reply h served =
-    follows_by m m (λ s. respond s (Call n request)) reply served
-    (λ s st. (
-      answer reply s,
-      refused_is (early_refusal (is_up s.standing) s.name (opened_of s n) request) s (row s n request) reply (early_same m s n request st ∙ h),
-      refl,
-      λ sound. st,
-    ))
-
-pub call_follows : (m m' : Kept) (n : ℕ) (request : Request) (reply : Reply) → early_refusal true m.name (opened_at m.sessions n) request ≡ None → Follows m (λ s. row s n request) reply m'
-    → Follows m (λ s. respond s (Call n request)) reply m'
-call_follows m m' n request reply h f =
-    follows_by m m' (λ s. respond s (Call n request)) reply f.served
-    (λ s st. (
-      row s n request,
-      passed_is (early_refusal (is_up s.standing) s.name (opened_of s n) request) s (row s n request) (early_same m s n request st ∙ h),
-      f.answers s st,
-      λ sound. f.stands s st sound,
-    ))
-
--- what a row's answer is as a step's
-
-answered_by : (m m' : Kept) (event : Event) (reply : Reply) (c : Bool) → is_memory reply.detail ≡ c → c ≡ false
-    → ((s : State) → StandsFor m s → IsSomeAnd (step s (Asked event) Quiet) (λ a. (a.reply ≡ reply) × StandsFor m' a.after))
-    → MatchBool c (Stays m m') ((s : State) → StandsFor m s → IsSomeAnd (step s (Asked event) Quiet) (λ a. (a.reply ≡ reply) × StandsFor m' a.after))
-answered_by m m' event reply true e served h = absurd (cc served)
-answered_by m m' event reply false e served h = h
+    ∙ ap (λ (o : Option Bool). early_refusal true k.name o request) (sym (st.sessions.opened n))
+early_by false k s n request st =
+    ap (λ (standing : Standing). early_refusal (is_up standing) s.name (opened_of s n) request) st.down
+    ∙ ap (λ (name : List ℕ). early_refusal false name (opened_of s n) request) (sym st.name)
+    ∙ ap (λ (o : Option Bool). early_refusal false k.name o request) (sym (st.sessions.opened n))
 
 never : (b : Bool) (A : Type 0) → b ≡ false → b ≡ true → A
 never true A e h = absurd (cc e)
 never false A e h = absurd (cc h)
 
-pub follows_answered : (m m' : Kept) (event : Event) (reply : Reply) → Follows m (λ s. respond s event) reply m' → FullyAnswered m event reply m'
-follows_answered m m' event reply f = record {
-  answered =
-      answered_by m m' event reply (is_memory reply.detail) refl f.served
-      (λ s st.
-      let now : step s (Asked event) Quiet ≡ Some (respond s event) = ap (λ (standing : Standing). taken (asked standing (respond s event)) Quiet) st.up in
-      subst (λ (o : Option Answer). IsSomeAnd o (λ a. (a.reply ≡ reply) × StandsFor m' a.after)) (sym now) (f.answers s st, f.stands s st (respond_sound s event st.sound)));
-  pinned = λ wants. never (is_memory reply.detail) _ f.served wants;
-}
+either_tables : (b : Bool) (k k' : Kept) (s : State) (act : State → Answer) (reply : Reply) → Follows k act reply k' → FollowsDown k act reply k' → TablesStandFor b k s
+    → ((act s).reply ≡ reply) × (IsRecoverable (act s).after → TablesStandFor b k' (act s).after)
+either_tables true k k' s act reply f d st = (f.answers s st, λ r. f.stands s st r)
+either_tables false k k' s act reply f d st = (d.answers s st, λ r. d.stands s st r)
 
--- Connect
-pub connect_answered : (m m' : Kept) (r : Result ℕ ConnectFault) → (r ≢ Err Memory → Follows m (λ s. connect_by s) (connect_reply r) m') → (r ≡ Err Memory → Stays m m')
-    → FullyAnswered m Connect (connect_reply r) m'
-connect_answered m m' (Ok n) f stays = follows_answered m m' Connect (connect_reply (Ok n)) (f (λ q. cc q))
-connect_answered m m' (Err Full) f stays = follows_answered m m' Connect (connect_reply (Err Full)) (f (λ q. cc q))
-connect_answered m m' (Err Memory) f stays = record { answered = stays refl; pinned = λ wants. (refl, refl) }
+either_stays : (b : Bool) (k k' : Kept) (s : State) → Stays k k' → StaysDown k k' → TablesStandFor b k s → TablesStandFor b k' s
+either_stays true k k' s f d st = f s st
+either_stays false k k' s f d st = d s st
+
+wants_by : {T E : Type 0} (r : Result T E) (e : E) (b : Bool) → r ≡ Err e → (b ≡ false → IsOk r) → b ≡ true
+wants_by r e true is h = refl
+wants_by (Ok x) e false is h = absurd (cc is)
+wants_by (Err x) e false is h = absurd (cc (h refl))
+
+pub wants : {T E : Type 0} (r : Result T E) (e : E) (b : Bool) → r ≡ Err e → (b ≡ false → IsOk r) → b ≡ true
+wants r e b is h = wants_by r e b is h
+
+-- a code of the standard is a word of its own
+one_phase_kept : (b : Bool) → to_z w32 (of_z w32 (if b then XAER_RMFAIL else XA_RETRY)) ≡ (if b then XAER_RMFAIL else XA_RETRY)
+one_phase_kept true = refl
+one_phase_kept false = refl
+
+pub code_kept : (request : Request) → to_z w32 (of_z w32 (memory_code request)) ≡ memory_code request
+code_kept (request.Open flags info) = refl
+code_kept (request.Close flags) = refl
+code_kept (request.Start flags xid) = refl
+code_kept (request.End flags xid) = refl
+code_kept (request.Prepare flags xid) = refl
+code_kept (request.Commit flags xid) = one_phase_kept (has flags TMONEPHASE)
+code_kept (request.Rollback flags xid) = refl
+code_kept (request.Forget flags xid) = refl
+code_kept (request.Recover flags count) = refl
+code_kept (request.Get key) = refl
+code_kept (request.Put key value) = refl
+code_kept (request.Delete key) = refl
+code_kept (request.Decide direction xid) = refl
+code_kept (request.Doom xid) = refl
+code_kept request.Restart = refl
+
+module _ {D : Type 0} (honest : Type 0) (tears : List ℕ → ℕ → List ℕ → List ℕ → Type 0) (seen : D → List ℕ) (may_leave : D → List ℕ → Type 0) (failures : D → ℕ) (counts : D → Counts) where
+  answers_by : (m : Manager D) (s : State) (n : ℕ) (request : Request) → ManagerStandsFor honest tears seen may_leave m s → step s (Asked (Call n request)) ≡ taken (respond s (Call n request))
+  answers_by m s n request st = ap taken (asked_by m.up (kept m) s (respond s (Call n request)) st.tables)
+
+  early_same : (m : Manager D) (s : State) (n : ℕ) (request : Request) → ManagerStandsFor honest tears seen may_leave m s
+      → early_refusal (is_up s.standing) s.name (opened_of s n) request ≡ early_refusal m.up (kept m).name (opened_at (kept m).sessions n) request
+  early_same m s n request st = early_by m.up (kept m) s n request st.tables
+
+  pub refused_done : (m : Manager D) (n : ℕ) (request : Request) (reply : Reply) → Some reply ≡ early_refusal m.up (kept m).name (opened_at (kept m).sessions n) request → is_memory reply.detail ≡ false
+      → HasDone honest tears seen may_leave failures counts m (Call n request) reply Quiet m
+  refused_done m n request reply h served = record {
+    steps = λ s st premises.
+        let is : respond s (Call n request) ≡ Now (answer reply s) = refused_turn (early_refusal (is_up s.standing) s.name (opened_of s n) request) s (row s n request) reply (h ∙ sym (early_same m s n request st)) in
+        let steps : step s (Asked (Call n request)) Quiet ≡ Some (answer reply s) = ap (λ (t : Turn). taken t Quiet) (asked_by m.up (kept m) s (respond s (Call n request)) st.tables ∙ is) in
+        subst (λ (o : Option Answer). IsSomeAnd o (λ a. (a.reply ≡ reply) × ManagerStandsFor honest tears seen may_leave m a.after)) (sym steps) (refl, st);
+    called = λ s st premises. refl;
+    served = served;
+  }
+
+  passed_row : (m : Manager D) (s : State) (n : ℕ) (request : Request) → None ≡ early_refusal m.up (kept m).name (opened_at (kept m).sessions n) request → ManagerStandsFor honest tears seen may_leave m s
+      → respond s (Call n request) ≡ row s n request
+  passed_row m s n request h st = passed_turn (early_refusal (is_up s.standing) s.name (opened_of s n) request) s (row s n request) (h ∙ sym (early_same m s n request st))
+
+  pub row_done : (m m' : Manager D) (n : ℕ) (request : Request) (reply : Reply) (outcome : Outcome) → IsAsked request → asks_restart request ≡ false → None ≡ early_refusal m.up (kept m).name (opened_at (kept m).sessions n) request
+      → is_memory reply.detail ≡ false → ((s : State) → ManagerStandsFor honest tears seen may_leave m s → Takes honest tears seen may_leave failures counts m (row s n request) reply outcome m')
+      → HasDone honest tears seen may_leave failures counts m (Call n request) reply outcome m'
+  row_done m m' n request reply outcome event other h served takes =
+      has_done tears seen may_leave honest failures counts m m' (Call n request) reply outcome event other served
+      (λ s st. subst (λ (t : Turn). Takes honest tears seen may_leave failures counts m t reply outcome m') (sym (passed_row m s n request h st)) (takes s st))
+
+  -- a row that is answered also while the manager is down
+  pub takes_either : (m m' : Manager D) (act : State → Answer) (reply : Reply) (outcome : Outcome) → outcome ≡ Quiet → m'.log ≡ m.log → m'.up ≡ m.up → m'.doubt ≡ m.doubt
+      → Follows (kept m) act reply (kept m') → FollowsDown (kept m) act reply (kept m') → (s : State) → ManagerStandsFor honest tears seen may_leave m s
+      → Takes honest tears seen may_leave failures counts m (Now (act s)) reply outcome m'
+  takes_either m m' act reply outcome quiet log up doubt f d s st =
+      let x = either_tables m.up (kept m) (kept m') s act reply f d st.tables in
+      record {
+        reply_is = x.0;
+        outcome_is = quiet;
+        log = log;
+        up = up;
+        doubt = doubt;
+        tables = λ r. subst (λ (b : Bool). TablesStandFor b (kept m') (act s).after) (sym up) (x.1 r);
+      }
+
+  pub both_done : (m m' : Manager D) (n : ℕ) (request : Request) (act : State → Answer) (reply : Reply) → IsAsked request → asks_restart request ≡ false
+      → None ≡ early_refusal m.up (kept m).name (opened_at (kept m).sessions n) request → ((s : State) → row s n request ≡ Now (act s)) → m'.log ≡ m.log → m'.up ≡ m.up → m'.doubt ≡ m.doubt
+      → Follows (kept m) act reply (kept m') → FollowsDown (kept m) act reply (kept m') → HasDone honest tears seen may_leave failures counts m (Call n request) reply Quiet m'
+  both_done m m' n request act reply event other h is log up doubt f d =
+      row_done m m' n request reply Quiet event other h f.served
+      (λ s st. subst (λ (t : Turn). Takes honest tears seen may_leave failures counts m t reply Quiet m') (sym (is s)) (takes_either m m' act reply Quiet refl log up doubt f d s st))
+
+  -- the row of a manager that is up
+  pub up_done : (m m' : Manager D) (n : ℕ) (request handed : Request) (reply : Reply) (outcome : Outcome) → handed ≡ request → IsAsked request → asks_restart request ≡ false
+      → None ≡ early_refusal m.up (kept m).name (opened_at (kept m).sessions n) request → m.up ≡ true → TakesTurn honest tears seen may_leave failures counts m (λ s. row s n handed) reply outcome m'
+      → HasDone honest tears seen may_leave failures counts m (Call n request) reply outcome m'
+  up_done m m' n request handed reply outcome same event other h is_up x =
+      row_done m m' n request reply outcome event other h x.served
+      (λ s st. subst (λ (r : Request). Takes honest tears seen may_leave failures counts m (row s n r) reply outcome m') same (x.takes s st is_up))
+
+  pub restart_done : (m m' : Manager D) (n : ℕ) (reply : Reply) (outcome : Outcome) → None ≡ early_refusal m.up (kept m).name (opened_at (kept m).sessions n) Restart
+      → HasRestarted honest tears seen may_leave failures counts m reply outcome m' → HasDone honest tears seen may_leave failures counts m (Call n Restart) reply outcome m'
+  restart_done m m' n reply outcome h x = record {
+    steps = λ s st premises.
+        let steps : step s (Asked (Call n Restart)) outcome ≡ taken (restart_turn s) outcome =
+        ap (λ (t : Turn). taken t outcome) (asked_by m.up (kept m) s (respond s (Call n Restart)) st.tables ∙ passed_row m s n Restart h st) in
+        subst (λ (o : Option Answer). IsSomeAnd o (λ a. (a.reply ≡ reply) × ManagerStandsFor honest tears seen may_leave m' a.after)) (sym steps)
+        (⊎_elim (λ trusts. x.turn trusts s st) (λ no. absurd (cc no)) premises);
+    called = λ s st premises. ⊎_elim (λ trusts. x.called trusts s st) (λ no. absurd (cc no)) premises;
+    served = x.served;
+  }
+
+  -- the outcome is no part of what a manager stands for
+  told : (m : Manager D) (o : Outcome) (s : State) → ManagerStandsFor honest tears seen may_leave m s → ManagerStandsFor honest tears seen may_leave (record m { outcome = o }) s
+  told m o s st = record { tables = st.tables; roomy = st.roomy; end = st.end; alive = st.alive; log_bytes = st.log_bytes; doubt = st.doubt; log = st.log }
+
+  and_then : (o : Option Answer) (P Q : Answer → Type 0) → ((a : Answer) → P a → Q a) → IsSomeAnd o P → IsSomeAnd o Q
+  and_then None P Q f h = h
+  and_then (Some a) P Q f h = f a h
+
+  served_not : (b : Bool) (A B : Type 0) → b ≡ false → B → MatchBool b A B
+  served_not true A B e h = absurd (cc e)
+  served_not false A B e h = h
+
+  pub done_answered : (m m' : Manager D) (e : Event) (reply : Reply) (outcome : Outcome) → HasDone honest tears seen may_leave failures counts m e reply outcome m'
+      → FullyAnswered honest tears seen may_leave failures counts m e reply (record m' { outcome = outcome })
+  done_answered m m' e reply outcome x = record {
+    answered = served_not (is_memory reply.detail) _ _ x.served
+        (λ s st premises. and_then (step s (Asked e) outcome) _ _ (λ a h. (h.0, told m' outcome a.after h.1)) (x.steps s st premises));
+    pinned = λ w. never (is_memory reply.detail) _ x.served w;
+    called = λ served s st premises. x.called s st premises;
+  }
+
+  -- where memory was wanted
+  pub wanted_answered : (m m' : Manager D) (n : ℕ) (request : Request) (reply : Reply) → reply ≡ detailed (memory_code request) detail.Memory → StaysFor honest tears seen may_leave m m' → m'.outcome ≡ m.outcome → may_want request ≡ true
+      → FullyAnswered honest tears seen may_leave failures counts m (Call n request) reply m'
+  wanted_answered m m' n request reply is stays outcome may = rw is (record { answered = (stays, outcome); pinned = λ w. (may, refl); called = λ served. absurd (cc served) })
+
+  pub either_stays_for : (m m' : Manager D) → m'.up ≡ m.up → m'.log ≡ m.log → m'.doubt ≡ m.doubt → Stays (kept m) (kept m') → StaysDown (kept m) (kept m') → StaysFor honest tears seen may_leave m m'
+  either_stays_for m m' up log doubt stays down s st = record {
+    tables = subst (λ (b : Bool). TablesStandFor b (kept m') s) (sym up) (either_stays m.up (kept m) (kept m') s stays down st.tables);
+    roomy = st.roomy;
+    end = λ e. ap (λ (l : Log D). l.end) log ∙ st.end (sym up ∙ e);
+    alive = λ e. ap (λ (l : Log D). l.lost) log ∙ st.alive (sym up ∙ e);
+    log_bytes = ap (λ (l : Log D). l.log_bytes) log ∙ st.log_bytes;
+    doubt = rw doubt st.doubt;
+    log = λ trusts. rw log (st.log trusts);
+  }
+
+  -- an event without a request
+  pub event_answered : (m m' : Manager D) (e : Event) (act : State → Answer) (reply : Reply) → IsEvent e → is_restart e ≡ false → ((s : State) → respond s e ≡ Now (act s)) → m'.log ≡ m.log → m'.up ≡ m.up → m'.doubt ≡ m.doubt
+      → Follows (kept m) act reply (kept m') → FollowsDown (kept m) act reply (kept m') → FullyAnswered honest tears seen may_leave failures counts m e reply (record m' { outcome = Quiet })
+  event_answered m m' e act reply event other is log up doubt f d =
+      done_answered m m' e reply Quiet
+      (has_done tears seen may_leave honest failures counts m m' e reply Quiet event other f.served
+      (λ s st. subst (λ (t : Turn). Takes honest tears seen may_leave failures counts m t reply Quiet m') (sym (is s)) (takes_either m m' act reply Quiet refl log up doubt f d s st)))
+
+  pub connect_wanted : (m m' : Manager D) → StaysFor honest tears seen may_leave m m' → m'.outcome ≡ m.outcome → FullyAnswered honest tears seen may_leave failures counts m Connect (connect_reply (Err Memory)) m'
+  connect_wanted m m' stays outcome = record { answered = (stays, outcome); pinned = λ w. (refl, refl); called = λ served. absurd (cc served) }

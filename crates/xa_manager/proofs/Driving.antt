@@ -1,61 +1,122 @@
 -- A run goes on by one event.
-use Rattle.std.proofs.Common.{◌≡◌, ℕ, suc, Bool, true, false, cond, List, [], ◌∷◌, ◌++◌, length, Option, Some, None, IsSomeAnd, refl, ap, sym, ◌∙◌, subst, arith}
+use Rattle.std.proofs.Common.{◌≡◌, ◌⊎◌, inl, inr, ℕ, suc, Bool, true, false, cond, List, [], ◌∷◌, ◌++◌, length, Option, Some, None, IsSomeAnd}
+use Rattle.std.proofs.Common.{refl, ap, sym, ◌∙◌, subst, arith}
 use Rattle.std.specs.Prelude.{MatchBool}
 use Rattle.std.proofs.lemmas.List.{append-nil}
 use Rattle.xa_frame.specs.declared.reply.Reply.{Reply}
 use Rattle.xa_model.specs.declared.event.Event.{Event}
+use Rattle.xa_model.specs.declared.outcome.Outcome.{Outcome}
 use Rattle.xa_model.specs.declared.outcome.Outcome.TheVariants.{Quiet}
 use Rattle.xa_model.specs.State.{State}
 use Rattle.xa_model.specs.Answer.{Answer}
-use Rattle.xa_model.specs.Step.{Asked, step}
+use Rattle.xa_model.specs.Turn.{Asked}
+use Rattle.xa_model.specs.Step.{step}
 use Rattle.xa_model.specs.History.{Entry, Leads, Steps}
-use Rattle.xa_manager.specs.Kept.{Kept}
+use Rattle.xa_model.specs.Events.{is_restart}
 use Rattle.xa_assoc.specs.Refusals.{is_memory}
-use Rattle.xa_manager.specs.Stands.{StandsFor, Stays}
-use Rattle.xa_manager.specs.Answered.{Answered, AnswersAll, ArePinned, IsPinned, recorded}
+use Rattle.xa_manager.specs.declared.manager.Manager.{Manager}
+use Rattle.xa_manager.specs.LogStands.{Trusts}
+use Rattle.xa_manager.specs.Managed.{ManagerStandsFor}
+use Rattle.xa_manager.specs.Answered.{Answered, AnswersAll, ArePinned, IsPinned, StaysFor, StepsAs, recorded, no_restart}
 
 -- a legal history goes on by one entry
 leads_more : (s : State) (es : List Entry) (mid : State) (e : Entry) (s' : State) → Leads s es mid → Steps mid e s' → Leads s (es ++ e ∷ []) s'
 leads_more s [] mid e s' h st = (s', subst (λ (x : State). Steps x e s') h st, refl)
 leads_more s (x ∷ es) mid e s' h st = (h.0, h.1, leads_more h.0 es mid e s' h.2 st)
 
-recorded_step : (e : Event) (r : Reply) (es : List Event) (rs : List Reply) (event : Event) (reply : Reply) (c d : Bool) → is_memory r.detail ≡ c → is_memory reply.detail ≡ d
-    → recorded (es ++ event ∷ []) (rs ++ reply ∷ []) ≡ recorded es rs ++ cond d [] (record { happening = Asked event; outcome = Quiet; reply = reply } ∷ [])
-    → recorded ((e ∷ es) ++ event ∷ []) ((r ∷ rs) ++ reply ∷ []) ≡ recorded (e ∷ es) (r ∷ rs) ++ cond d [] (record { happening = Asked event; outcome = Quiet; reply = reply } ∷ [])
-recorded_step e r es rs event reply true d ec ed rest = rw ec rest
-recorded_step e r es rs event reply false d ec ed rest = rw ec (ap (λ (xs : List Entry). record { happening = Asked e; outcome = Quiet; reply = r } ∷ xs) rest)
+-- what an event adds to the record
+abbrev added : Event → Outcome → Reply → Bool → List Entry
+added event o reply d = cond d [] (record { happening = Asked event; outcome = o; reply = reply } ∷ [])
 
-recorded_more : (es : List Event) (rs : List Reply) (event : Event) (reply : Reply) (d : Bool) → length es ≡ length rs → is_memory reply.detail ≡ d
-    → recorded (es ++ event ∷ []) (rs ++ reply ∷ []) ≡ recorded es rs ++ cond d [] (record { happening = Asked event; outcome = Quiet; reply = reply } ∷ [])
-recorded_more [] [] event reply true same ed = simp ed
-recorded_more [] [] event reply false same ed = simp ed
-recorded_more [] (r ∷ rs) event reply d same ed = absurd (omega arith)
-recorded_more (e ∷ es) [] event reply d same ed = absurd (omega arith)
-recorded_more (e ∷ es) (r ∷ rs) event reply d same ed =
-    recorded_step e r es rs event reply (is_memory r.detail) d refl ed (recorded_more es rs event reply d (omega arith) ed)
+recorded_step : (e : Event) (x : Outcome) (r : Reply) (es : List Event) (os : List Outcome) (rs : List Reply) (event : Event) (o : Outcome)
+    (reply : Reply) (c d : Bool) → is_memory r.detail ≡ c
+    → recorded (es ++ event ∷ []) (os ++ o ∷ []) (rs ++ reply ∷ []) ≡ recorded es os rs ++ added event o reply d
+    → recorded ((e ∷ es) ++ event ∷ []) ((x ∷ os) ++ o ∷ []) ((r ∷ rs) ++ reply ∷ []) ≡ recorded (e ∷ es) (x ∷ os) (r ∷ rs) ++ added event o reply d
+recorded_step e x r es os rs event o reply true d ec rest = rw ec rest
+recorded_step e x r es os rs event o reply false d ec rest = rw ec (ap (λ (xs : List Entry). record { happening = Asked e; outcome = x; reply = r } ∷ xs) rest)
+
+recorded_more : (es : List Event) (os : List Outcome) (rs : List Reply) (event : Event) (o : Outcome) (reply : Reply) (d : Bool)
+    → length os ≡ length es → length es ≡ length rs → is_memory reply.detail ≡ d
+    → recorded (es ++ event ∷ []) (os ++ o ∷ []) (rs ++ reply ∷ []) ≡ recorded es os rs ++ added event o reply d
+recorded_more [] [] [] event o reply true told same ed = simp ed
+recorded_more [] [] [] event o reply false told same ed = simp ed
+recorded_more [] (x ∷ os) rs event o reply d told same ed = absurd (omega arith)
+recorded_more [] [] (r ∷ rs) event o reply d told same ed = absurd (omega arith)
+recorded_more (e ∷ es) [] rs event o reply d told same ed = absurd (omega arith)
+recorded_more (e ∷ es) (x ∷ os) [] event o reply d told same ed = absurd (omega arith)
+recorded_more (e ∷ es) (x ∷ os) (r ∷ rs) event o reply d told same ed =
+    recorded_step e x r es os rs event o reply (is_memory r.detail) d refl (recorded_more es os rs event o reply d (omega arith) (omega arith) ed)
+
+-- as many outcomes as events, and one more of each
+told_more : (es : List Event) (os : List Outcome) (event : Event) (o : Outcome) → length os ≡ length es → length (os ++ o ∷ []) ≡ length (es ++ event ∷ [])
+told_more [] [] event o same = refl
+told_more [] (x ∷ os) event o same = absurd (omega arith)
+told_more (e ∷ es) [] event o same = absurd (omega arith)
+told_more (e ∷ es) (x ∷ os) event o same = ap (λ (n : ℕ). suc n) (told_more es os event o (omega arith))
+
+-- Where there is no restart among the events, there is none before the last, and the last is none.
+
+no_restart_first : (r rest : Bool) → cond r false rest ≡ true → rest ≡ true
+no_restart_first true rest h = absurd (cc h)
+no_restart_first false rest h = h
+
+no_restart_head : (r rest : Bool) → cond r false rest ≡ true → r ≡ false
+no_restart_head true rest h = absurd (cc h)
+no_restart_head false rest h = refl
+
+no_restart_both : (r rest : Bool) → r ≡ false → rest ≡ true → cond r false rest ≡ true
+no_restart_both r rest er h = rw er h
+
+no_restart_before : (es : List Event) (event : Event) → no_restart (es ++ event ∷ []) ≡ true → no_restart es ≡ true
+no_restart_before [] event h = refl
+no_restart_before (e ∷ es) event h =
+    no_restart_both (is_restart e) (no_restart es) (no_restart_head (is_restart e) (no_restart (es ++ event ∷ [])) h)
+    (no_restart_before es event (no_restart_first (is_restart e) (no_restart (es ++ event ∷ [])) h))
+
+no_restart_last : (es : List Event) (event : Event) → no_restart (es ++ event ∷ []) ≡ true → is_restart event ≡ false
+no_restart_last [] event h = no_restart_head (is_restart event) true h
+no_restart_last (e ∷ es) event h = no_restart_last es event (no_restart_first (is_restart e) (no_restart (es ++ event ∷ [])) h)
+
+trusted_before : (trusts : Type 0) (es : List Event) (event : Event) → trusts ⊎ (no_restart (es ++ event ∷ []) ≡ true) → trusts ⊎ (no_restart es ≡ true)
+trusted_before trusts es event (inl t) = inl t
+trusted_before trusts es event (inr h) = inr (no_restart_before es event h)
+
+trusted_last : (trusts : Type 0) (es : List Event) (event : Event) → trusts ⊎ (no_restart (es ++ event ∷ []) ≡ true) → trusts ⊎ (is_restart event ≡ false)
+trusted_last trusts es event (inl t) = inl t
+trusted_last trusts es event (inr h) = inr (no_restart_last es event h)
 
 -- what is answered and followed
-stepped : (m' : Kept) (reply : Reply) (o : Option Answer) → IsSomeAnd o (λ a. (a.reply ≡ reply) × StandsFor m' a.after) → (after : State) × (o ≡ Some (record { reply = reply; after = after })) × StandsFor m' after
-stepped m' reply None h = absurd h
-stepped m' reply (Some a) h = (a.after, ap (λ (r : Reply). Some (record { reply = r; after = a.after })) h.0, h.1)
+stepped : (Stands : State → Type 0) (reply : Reply) (o : Option Answer) → IsSomeAnd o (λ a. (a.reply ≡ reply) × Stands a.after)
+    → (after : State) × (o ≡ Some (record { reply = reply; after = after })) × Stands after
+stepped Stands reply None h = absurd h
+stepped Stands reply (Some a) h = (a.after, ap (λ (r : Reply). Some (record { reply = r; after = a.after })) h.0, h.1)
 
-goes_on : (m mid m' : Kept) (es : List Event) (rs : List Reply) (event : Event) (reply : Reply) (d : Bool) → length es ≡ length rs → is_memory reply.detail ≡ d
-    → AnswersAll m es rs mid → MatchBool d (Stays mid m') ((s : State) → StandsFor mid s → IsSomeAnd (step s (Asked event) Quiet) (λ a. (a.reply ≡ reply) × StandsFor m' a.after))
-    → AnswersAll m (es ++ event ∷ []) (rs ++ reply ∷ []) m'
-goes_on m mid m' es rs event reply true same ed all one s st =
-    let h = all s st in
-    let e = recorded_more es rs event reply true same ed in
-    (h.0, subst (λ (xs : List Entry). Leads s xs h.0) (sym (e ∙ append-nil (recorded es rs))) h.1, one h.0 h.2)
-goes_on m mid m' es rs event reply false same ed all one s st =
-    let h = all s st in
-    let e = recorded_more es rs event reply false same ed in
-    let a = stepped m' reply (step h.0 (Asked event) Quiet) (one h.0 h.2) in
-    let entry : Entry = record { happening = Asked event; outcome = Quiet; reply = reply } in
-    (a.0, subst (λ (xs : List Entry). Leads s xs a.0) (sym e) (leads_more s (recorded es rs) h.0 entry a.0 h.1 a.1), a.2)
+-- The run with one more event: the outcome that is added is the manager's. Where memory was wanted no entry tells it, and it is Quiet.
+goes_on : {D : Type 0} (honest : Type 0) (tears : List ℕ → ℕ → List ℕ → List ℕ → Type 0) (seen : D → List ℕ) (may_leave : D → List ℕ → Type 0)
+    (m mid m' : Manager D) (es : List Event) (rs : List Reply) (event : Event) (reply : Reply) (d : Bool) → length es ≡ length rs → is_memory reply.detail ≡ d
+    → AnswersAll honest tears seen may_leave m es rs mid
+    → MatchBool d (StaysFor honest tears seen may_leave mid m' × (m'.outcome ≡ mid.outcome)) (StepsAs honest tears seen may_leave mid event reply m')
+    → AnswersAll honest tears seen may_leave m (es ++ event ∷ []) (rs ++ reply ∷ []) m'
+goes_on honest tears seen may_leave m mid m' es rs event reply true same ed all one s st trusted =
+    let h = all s st (trusted_before (Trusts honest tears) es event trusted) in
+    let e = recorded_more es h.0 rs event Quiet reply true h.2 same ed in
+    let leads = subst (λ (xs : List Entry). Leads s xs h.1) (sym (e ∙ append-nil (recorded es h.0 rs))) h.3 in
+    (h.0 ++ Quiet ∷ [], h.1, told_more es h.0 event Quiet h.2, leads, one.0 h.1 h.4)
+goes_on honest tears seen may_leave m mid m' es rs event reply false same ed all one s st trusted =
+    let h = all s st (trusted_before (Trusts honest tears) es event trusted) in
+    let e = recorded_more es h.0 rs event m'.outcome reply false h.2 same ed in
+    let a = stepped (λ (x : State). ManagerStandsFor honest tears seen may_leave m' x) reply (step h.1 (Asked event) m'.outcome)
+    (one h.1 h.4 (trusted_last (Trusts honest tears) es event trusted)) in
+    let entry : Entry = record { happening = Asked event; outcome = m'.outcome; reply = reply } in
+    let leads = subst (λ (xs : List Entry). Leads s xs a.0) (sym e) (leads_more s (recorded es h.0 rs) h.1 entry a.0 h.3 a.1) in
+    (h.0 ++ m'.outcome ∷ [], a.0, told_more es h.0 event m'.outcome h.2, leads, a.2)
 
-pub answers_more : (m mid m' : Kept) (es : List Event) (rs : List Reply) (event : Event) (reply : Reply) → length es ≡ length rs
-    → AnswersAll m es rs mid → Answered mid event reply m' → AnswersAll m (es ++ event ∷ []) (rs ++ reply ∷ []) m'
-answers_more m mid m' es rs event reply same all one = goes_on m mid m' es rs event reply (is_memory reply.detail) same refl all one
+pub answers_more : {D : Type 0} (honest : Type 0) (tears : List ℕ → ℕ → List ℕ → List ℕ → Type 0) (seen : D → List ℕ) (may_leave : D → List ℕ → Type 0)
+    (m mid m' : Manager D) (es : List Event) (rs : List Reply) (event : Event) (reply : Reply) → length es ≡ length rs
+    → AnswersAll honest tears seen may_leave m es rs mid → Answered honest tears seen may_leave mid event reply m'
+    → AnswersAll honest tears seen may_leave m (es ++ event ∷ []) (rs ++ reply ∷ []) m'
+answers_more honest tears seen may_leave m mid m' es rs event reply same all one =
+    goes_on honest tears seen may_leave m mid m' es rs event reply (is_memory reply.detail) same refl all one
 
 -- as many replies as events, each pinned
 pub pinned_each : (es : List Event) (rs : List Reply) → ArePinned es rs → length es ≡ length rs

@@ -1,59 +1,130 @@
--- The fate of a branch at work is decided.
-use Rattle.std.proofs.Common.{◌≡◌, ℕ, ◌+◌, true, List, map, Option, Some, None, refl, ap, sym, ◌∙◌, subst}
+-- The fate of a branch at work, or of a prepared one, is decided.
+use Rattle.std.proofs.Common.{◌≡◌, ℕ, ◌+◌, Bool, true, false, cond, List, [], ◌∷◌, map, Option, Some, None, refl, ap, sym, ◌∙◌, subst}
+use Rattle.std.specs.Prelude.{IsSome, find}
 use Rattle.mv_chain.specs.declared.fate.Fate.{Fate}
 use Rattle.mv_chain.specs.declared.fate.Fate.TheVariants.{Committed as kept, RolledBack as gone}
-use Rattle.mv_chain.specs.History.{Written, decided, IsUnsettled}
+use Rattle.mv_chain.specs.History.{Written, decided, IsOpen}
 use Rattle.mv_rules.specs.declared.records.Records.{Records}
 use Rattle.mv_rules.specs.History.{History}
 use Rattle.mv_rules.specs.Records.{StandsFor as RecordsStandFor}
 use Rattle.mv_rules.specs.Ties.{history_of, writes_in, fate_of, read_as}
 use Rattle.mv_rules.proofs.Moved.{stands_same}
 use Rattle.mv_rules.proofs.Branches.{committed_writes, gone_writes}
-use Rattle.mv_rules.proofs.Open.{unsettled}
+use Rattle.mv_rules.proofs.Open.{at_work}
 use Rattle.xa_xid.specs.Triple.{Triple}
-use Rattle.xa_model.specs.State.{State, Branch, Phase, Working, Prepared, Committed, known_of, is_known_as, without, timestamp_of}
+use Rattle.xa_branch.specs.declared.branches.Branches.{Branches}
+use Rattle.xa_branch.specs.Branches.{BranchesStandFor}
+use Rattle.xa_branch.proofs.Elsewhere.{stands_elsewhere}
+use Rattle.xa_codes.specs.declared.direction.Direction.{Direction}
+use Rattle.xa_codes.specs.declared.direction.Direction.TheVariants.{Commit, Rollback}
+use Rattle.xa_model.specs.Loggable.{IsRecoverable}
+use Rattle.xa_assoc.specs.declared.sessions.Sessions.{Sessions}
+use Rattle.xa_assoc.specs.Sessions.{SessionsStandFor}
+use Rattle.xa_assoc.proofs.Follows.{unmoved}
+use Rattle.xa_manager.specs.Kept.{Kept}
+use Rattle.xa_manager.specs.Changes.{fate_of as direction_fate}
+use Rattle.xa_manager.specs.Stands.{StandsFor, ending}
+use Rattle.xa_model.specs.State.{State, Branch, Phase, Working, Prepared, Committed, InDoubt, name_of, is_with, known_as, known_among, decided_of, or_completed, known_of, is_known_as, without, timestamp_of}
 use Rattle.xa_model.specs.Associations.{timestamp_in, timestamp_by}
-use Rattle.xa_model.specs.Branches.{rolled_back, committed}
-use Rattle.xa_model.specs.Sound.{IsSound, is_at_work, is_working}
+use Rattle.xa_model.specs.Branches.{rolled_back, committed, decided_by}
+use Rattle.xa_model.specs.Sound.{IsSound}
 
--- a branch at work
-record IsHere (s : State) (xid : Triple) : Type 0 where
-  branch : Branch
-  at : known_of s.branches xid ≡ Some branch
-  open_ : fate_of branch.phase ≡ None
+passes_by : (q : Branch → Bool) (x b : Branch) (rest : Option Branch) (c : Bool) → q x ≡ c → cond c (Some x) rest ≡ Some b → (rest ≡ Some b → q b ≡ true) → q b ≡ true
+passes_by q x b rest true e h more = let same : x ≡ b = cc h in subst (λ (y : Branch). q y ≡ true) same e
+passes_by q x b rest false e h more = more h
 
-working_open : (p : Phase) → is_working p ≡ true → fate_of p ≡ None
-working_open (Working xid mark) e = refl
-working_open (Prepared xid) e = absurd (cc e)
-working_open Committed e = absurd (cc e)
+-- what is found passes
+pub found_passes : (q : Branch → Bool) (bs : List Branch) (b : Branch) → find q bs ≡ Some b → q b ≡ true
+found_passes q [] b h = absurd (cc h)
+found_passes q (x ∷ bs) b h = passes_by q x b (find q bs) (q x) refl h (found_passes q bs b)
 
-here_by : (s : State) (xid : Triple) (o : Option Branch) → known_of s.branches xid ≡ o → is_at_work o ≡ true → IsHere s xid
+-- a branch at work, or a prepared one
+pub record IsHere (s : State) (xid : Triple) : Type 0 where
+  pub branch : Branch
+  pub at : known_of s.branches xid ≡ Some branch
+  pub open_ : fate_of branch.phase ≡ None
+
+named_open : (xid : Triple) (p : Phase) → is_with xid (name_of p) ≡ true → fate_of p ≡ None
+named_open xid (Working x mark) e = refl
+named_open xid (Prepared x) e = refl
+named_open xid Committed e = absurd (cc e)
+
+pub here_by : (s : State) (xid : Triple) (o : Option Branch) → known_of s.branches xid ≡ o → IsSome o → IsHere s xid
 here_by s xid None e h = absurd (cc h)
-here_by s xid (Some b) e h = record { branch = b; at = e; open_ = working_open b.phase h }
+here_by s xid (Some b) e h = record { branch = b; at = e; open_ = named_open xid b.phase (found_passes (is_known_as xid) s.branches b e) }
 
 -- what settling its writes comes to
 abbrev pub Settles : ℕ → Fate → Records → Records → Type 0
-Settles t fate r r' = (h : History) → RecordsStandFor h r → IsUnsettled t h.low h.writes → RecordsStandFor (record h { writes = decided t fate h.writes }) r'
+Settles t fate r r' = (h : History) → RecordsStandFor h r → IsOpen t h.writes → RecordsStandFor (record h { writes = decided t fate h.writes }) r'
 
 decided_at : (s : State) (xid : Triple) (t : ℕ) (fate : Fate) (r r' : Records) → IsSound s → (x : IsHere s xid) → t ≡ timestamp_in s xid → RecordsStandFor (history_of s) r → Settles t fate r r'
-    → RecordsStandFor (record { low = 0; writes = decided x.branch.timestamp fate (writes_in s.branches); reads = map read_as s.reads }) r'
+    → RecordsStandFor (record { low = timestamp_of s.boot 0; writes = decided x.branch.timestamp fate (writes_in s.branches); reads = map read_as s.reads }) r'
 decided_at s xid t fate r r' sound x time st settles =
     let b = x.branch in
     let is : t ≡ b.timestamp = time ∙ ap timestamp_by x.at in
-    let open_ : IsUnsettled b.timestamp 0 (writes_in s.branches) = unsettled xid b (timestamp_of s.boot s.given + 1) s.branches sound.descends x.at x.open_ in
-    let here : IsUnsettled t 0 (writes_in s.branches) = subst (λ (u : ℕ). IsUnsettled u 0 (writes_in s.branches)) (sym is) open_ in
-    subst (λ (u : ℕ). RecordsStandFor (record { low = 0; writes = decided u fate (writes_in s.branches); reads = map read_as s.reads }) r') is (settles (history_of s) st here)
+    let open_ : IsOpen b.timestamp (writes_in s.branches) = (at_work xid b (timestamp_of s.boot s.given + 1) s.branches sound.descends x.at x.open_).open_ in
+    let here : IsOpen t (writes_in s.branches) = subst (λ (u : ℕ). IsOpen u (writes_in s.branches)) (sym is) open_ in
+    subst (λ (u : ℕ). RecordsStandFor (record { low = timestamp_of s.boot 0; writes = decided u fate (writes_in s.branches); reads = map read_as s.reads }) r') is (settles (history_of s) st here)
 
-pub committed_records : (s : State) (xid : Triple) (t : ℕ) (r r' : Records) → IsSound s → is_at_work (known_of s.branches xid) ≡ true → t ≡ timestamp_in s xid → RecordsStandFor (history_of s) r → Settles t kept r r'
+pub committed_records : (s : State) (xid : Triple) (t : ℕ) (r r' : Records) → IsSound s → IsSome (known_of s.branches xid) → t ≡ timestamp_in s xid → RecordsStandFor (history_of s) r → Settles t kept r r'
     → RecordsStandFor (history_of (committed s xid)) r'
-committed_records s xid t r r' sound at_work time st settles =
-    let x = here_by s xid (known_of s.branches xid) refl at_work in
+committed_records s xid t r r' sound here time st settles =
+    let x = here_by s xid (known_of s.branches xid) refl here in
     let e = committed_writes xid x.branch (timestamp_of s.boot s.given + 1) s.branches sound.descends x.at in
-    subst (λ (ws : List Written). RecordsStandFor (record { low = 0; writes = ws; reads = map read_as s.reads }) r') e (decided_at s xid t kept r r' sound x time st settles)
+    subst (λ (ws : List Written). RecordsStandFor (record { low = timestamp_of s.boot 0; writes = ws; reads = map read_as s.reads }) r') e (decided_at s xid t kept r r' sound x time st settles)
 
-pub gone_records : (s : State) (xid : Triple) (t : ℕ) (r r' : Records) → IsSound s → is_at_work (known_of s.branches xid) ≡ true → t ≡ timestamp_in s xid → RecordsStandFor (history_of s) r → Settles t gone r r'
+pub gone_records : (s : State) (xid : Triple) (t : ℕ) (r r' : Records) → IsSound s → IsSome (known_of s.branches xid) → t ≡ timestamp_in s xid → RecordsStandFor (history_of s) r → Settles t gone r r'
     → RecordsStandFor (history_of (rolled_back s xid)) r'
-gone_records s xid t r r' sound at_work time st settles =
-    let x = here_by s xid (known_of s.branches xid) refl at_work in
-    stands_same 0 (decided x.branch.timestamp gone (writes_in s.branches)) (writes_in (without (is_known_as xid) s.branches)) (map read_as s.reads) r'
+gone_records s xid t r r' sound here time st settles =
+    let x = here_by s xid (known_of s.branches xid) refl here in
+    stands_same (timestamp_of s.boot 0) (decided x.branch.timestamp gone (writes_in s.branches)) (writes_in (without (is_known_as xid) s.branches)) (map read_as s.reads) r'
     (gone_writes xid x.branch (timestamp_of s.boot s.given + 1) s.branches sound.descends x.at) (decided_at s xid t gone r r' sound x time st settles)
+
+-- where the log ends says nothing of branches
+pub moved_end : (m : Branches) (s : State) (end : ℕ) → BranchesStandFor m s → BranchesStandFor m (ending s end)
+moved_end m s end st = stands_elsewhere m s (ending s end) refl refl refl refl refl st
+
+-- The operator completes a prepared branch.
+
+named_phase : (xid : Triple) (s : State) (o : Option Branch) → known_of s.branches xid ≡ o → known_among o (decided_of s.decided xid) ≡ InDoubt → IsSome (known_of s.branches xid)
+named_phase xid s (Some b) e h = rw e refl
+named_phase xid s None e h = absurd (undecided_by (decided_of s.decided xid) h)
+  where
+    undecided_by : (o : Option Direction) → or_completed o ≡ InDoubt → ⊥
+    undecided_by None h = cc h
+    undecided_by (Some direction) h = cc h
+
+-- what is in doubt is known
+pub doubtful_known : (s : State) (xid : Triple) → known_as s xid ≡ InDoubt → IsSome (known_of s.branches xid)
+doubtful_known s xid h = named_phase xid s (known_of s.branches xid) refl h
+
+pub decided_records : (s : State) (xid : Triple) (direction : Direction) (t : ℕ) (r r' : Records) → IsSound s → known_as s xid ≡ InDoubt → t ≡ timestamp_in s xid → RecordsStandFor (history_of s) r
+    → Settles t (direction_fate direction) r r' → RecordsStandFor (history_of (decided_by s direction xid)) r'
+decided_records s xid Commit t r r' sound doubt time st settles = committed_records s xid t r r' sound (doubtful_known s xid doubt) time st settles
+decided_records s xid Rollback t r r' sound doubt time st settles = gone_records s xid t r r' sound (doubtful_known s xid doubt) time st settles
+
+pub decided_sessions : (m : Sessions) (s : State) (xid : Triple) (direction : Direction) (end : ℕ) → SessionsStandFor m s → SessionsStandFor m (ending (decided_by s direction xid) end)
+decided_sessions m s xid Commit end st = unmoved m s (ending (decided_by s Commit xid) end) refl refl st
+decided_sessions m s xid Rollback end st = unmoved m s (ending (decided_by s Rollback xid) end) refl refl st
+
+pub decided_stands : (m m' : Kept) (s : State) (xid : Triple) (direction : Direction) (end t : ℕ) → StandsFor m s → known_as s xid ≡ InDoubt → t ≡ timestamp_in s xid
+    → m'.name ≡ m.name → m'.log_bytes ≡ m.log_bytes → m'.sessions ≡ m.sessions → BranchesStandFor m'.branches (decided_by s direction xid) → Settles t (direction_fate direction) m.records m'.records
+    → IsRecoverable (ending (decided_by s direction xid) end) → StandsFor m' (ending (decided_by s direction xid) end)
+decided_stands m m' s xid Commit end t st doubt time name bytes sessions branches settles recoverable = record {
+  name = name ∙ st.name;
+  log_bytes = bytes ∙ st.log_bytes;
+  up = st.up;
+  sessions = rw sessions (decided_sessions m.sessions s xid Commit end st.sessions);
+  branches = moved_end m'.branches (decided_by s Commit xid) end branches;
+  records = decided_records s xid Commit t m.records m'.records st.recoverable.sound doubt time st.records settles;
+  recoverable = recoverable;
+}
+decided_stands m m' s xid Rollback end t st doubt time name bytes sessions branches settles recoverable = record {
+  name = name ∙ st.name;
+  log_bytes = bytes ∙ st.log_bytes;
+  up = st.up;
+  sessions = rw sessions (decided_sessions m.sessions s xid Rollback end st.sessions);
+  branches = moved_end m'.branches (decided_by s Rollback xid) end branches;
+  records = decided_records s xid Rollback t m.records m'.records st.recoverable.sound doubt time st.records settles;
+  recoverable = recoverable;
+}

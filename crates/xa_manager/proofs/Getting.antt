@@ -17,25 +17,25 @@ use Rattle.xa_model.specs.State.{State, Operation, Got as Read_op, Read, is_know
 use Rattle.xa_model.specs.Source.{Version, source, is_busy}
 use Rattle.xa_model.specs.Answer.{plain, detailed, carrying, answer, unless, marked}
 use Rattle.xa_model.specs.Records.{having_done, value_body, busy_refusal, got, get_from, get_by}
-use Rattle.xa_model.specs.Sound.{IsSound}
+use Rattle.xa_model.specs.Loggable.{IsRecoverable}
 use Rattle.xa_branch.specs.declared.working.Working.{Working as Kept_branch}
 use Rattle.xa_branch.specs.Branches.{working_at}
 use Rattle.xa_branch.proofs.Looks.{IsWorking}
 use Rattle.xa_manager.specs.Kept.{Kept, own_at}
 use Rattle.xa_manager.specs.Changes.{Gets}
-use Rattle.xa_manager.specs.Stands.{StandsFor, Follows}
-use Rattle.xa_manager.proofs.Looks.{finds, own_works, own_is, no_own, own_mark, time_of}
-use Rattle.xa_manager.proofs.Done.{done_stands, stays_by}
+use Rattle.xa_manager.specs.Stands.{StandsFor, Follows, Stays}
+use Rattle.xa_manager.proofs.Looks.{finds, own_works, own_is, no_own, own_mark, time_of, above_low}
+use Rattle.xa_manager.proofs.Changed.{done_stands, stays_by}
 use Rattle.xa_manager.proofs.Rows.{follows_by}
 
 -- what the records see is the source
 sees : (m : Kept) (s : State) (key : List ℕ) (t : ℕ) → StandsFor m s → seen key t (writes_in s.branches) ≡ seen_as (source key t s.branches)
-sees m s key t st = one_source key t (timestamp_of s.boot s.given + 1) s.branches st.sound.descends
+sees m s key t st = one_source key t (timestamp_of s.boot s.given + 1) s.branches st.recoverable.sound.descends
 
 answered : (m m' : Kept) (s : State) (xid : Triple) (w : Kept_branch) (key : List ℕ) (g : Got) → StandsFor m s → (x : IsWorking s xid w) → Gets m w.timestamp key g m' → g ≢ got_as.Memory
     → g ≡ answer_by (is_busy x.branch.timestamp (source key x.branch.timestamp s.branches)) (source key x.branch.timestamp s.branches).timestamp (source key x.branch.timestamp s.branches).value
 answered m m' s xid w key g st x c some =
-    c.answer (history_of s) st.records (omega arith) some
+    c.answer (history_of s) st.records (above_low m s xid w st x) some
     ∙ ap (answer_of w.timestamp) (sees m s key w.timestamp st)
     ∙ ap (λ (t : ℕ). answer_of t (seen_as (source key t s.branches))) (time_of s xid w x)
 
@@ -66,8 +66,8 @@ busy_refuses t v h = rw h refl
 busy_passes : (t : ℕ) (v : Version) → is_busy t v ≡ false → busy_refusal t v ≡ None
 busy_passes t v h = rw h refl
 
-busy_stands : (m m' : Kept) (s : State) (w : Kept_branch) (key : List ℕ) (by : ℕ) → StandsFor m s → Gets m w.timestamp key (got_as.Busy by) m' → StandsFor m' s
-busy_stands m m' s w key by st c = stays_by m m' s st c.same (c.records (history_of s) st.records (omega arith))
+busy_stands : (m m' : Kept) (s : State) (xid : Triple) (w : Kept_branch) (key : List ℕ) (by : ℕ) → StandsFor m s → (x : IsWorking s xid w) → Gets m w.timestamp key (got_as.Busy by) m' → StandsFor m' s
+busy_stands m m' s xid w key by st x c = stays_by m m' s st c.same (c.records (history_of s) st.records (above_low m s xid w st x))
 
 -- an unmarked branch gets
 get_unmarked : (m : Kept) (s : State) (n : ℕ) (key : List ℕ) (xid : Triple) (w : Kept_branch) → StandsFor m s → own_at m n ≡ Some (xid, w) → w.mark ≡ None → (x : IsWorking s xid w)
@@ -78,7 +78,7 @@ get_unmarked m s n key xid w st h e x =
 
 pub get_alone : (m : Kept) (n : ℕ) (key : List ℕ) → own_at m n ≡ None → Follows m (λ s. get_by s key (own_branch s n)) (plain XAER_PROTO) m
 get_alone m n key h =
-    follows_by m m (λ s. get_by s key (own_branch s n)) (plain XAER_PROTO) refl (λ s st. (answer (plain XAER_PROTO) s, ap (get_by s key) (no_own m s n st h), refl, λ sound. st))
+    follows_by m m (λ s. get_by s key (own_branch s n)) (plain XAER_PROTO) refl (λ s st. (answer (plain XAER_PROTO) s, ap (get_by s key) (no_own m s n st h), refl, λ recoverable. st))
 
 pub get_marked : (m : Kept) (n : ℕ) (key : List ℕ) (xid : Triple) (w : Kept_branch) (code : ℤ) → own_at m n ≡ Some (xid, w) → w.mark ≡ Some code → Follows m (λ s. get_by s key (own_branch s n)) (plain code) m
 get_marked m n key xid w code h e =
@@ -89,7 +89,7 @@ get_marked m n key xid w code h e =
       ap (get_by s key) (own_is m s n xid w st h x)
           ∙ ap (λ (o : Option ℤ). marked o s (get_from s key xid x.branch (source key x.branch.timestamp s.branches))) (own_mark s xid w (Some code) x e),
       refl,
-      λ sound. st,
+      λ recoverable. st,
     ))
 
 pub get_busy : (m m' : Kept) (n : ℕ) (key : List ℕ) (xid : Triple) (w : Kept_branch) (by : ℕ) → own_at m n ≡ Some (xid, w) → w.mark ≡ None → Gets m w.timestamp key (got_as.Busy by) m'
@@ -103,7 +103,7 @@ get_busy m m' n key xid w by h e c =
       answer (detailed XA_RETRY detail.Busy) s,
       get_unmarked m s n key xid w st h e x ∙ ap (λ (o : Option Reply). unless o s (got s key xid x.branch v)) (busy_refuses x.branch.timestamp v busy),
       refl,
-      λ sound. busy_stands m m' s w key by st c,
+      λ recoverable. busy_stands m m' s xid w key by st x c,
     ))
 
 -- an answered read is added to the reads
@@ -111,25 +111,25 @@ abbrev IsAnswered : Got → Type 0
 IsAnswered g = (t from : ℕ) (key : List ℕ) (reads : List Answered) → reads_after g t key from reads ≡ record { reader = t; key = key; from = from } ∷ reads
 
 got_stands : (m m' : Kept) (s : State) (xid : Triple) (w : Kept_branch) (key : List ℕ) (g : Got) → StandsFor m s → working_at m.branches xid ≡ Some w → (x : IsWorking s xid w) → Gets m w.timestamp key g m' → IsAnswered g
-    → IsSound (got s key xid x.branch (source key x.branch.timestamp s.branches)).after → StandsFor m' (got s key xid x.branch (source key x.branch.timestamp s.branches)).after
-got_stands m m' s xid w key g st h x c is sound =
+    → IsRecoverable (got s key xid x.branch (source key x.branch.timestamp s.branches)).after → StandsFor m' (got s key xid x.branch (source key x.branch.timestamp s.branches)).after
+got_stands m m' s xid w key g st h x c is recoverable =
     let b = x.branch in
     let v = source key b.timestamp s.branches in
     let op : Operation = Read_op key v.value v.timestamp in
     let reads : List Read = record { reader = b.timestamp; key = key; source = v.timestamp } ∷ s.reads in
     let time = time_of s xid w x in
-    let noted : RecordsStandFor (record { low = 0; writes = writes_in s.branches; reads = reads_after g w.timestamp key (seen key w.timestamp (writes_in s.branches)).from (map read_as s.reads) }) m'.records =
-    c.records (history_of s) st.records (omega arith) in
+    let noted : RecordsStandFor (record { low = timestamp_of s.boot 0; writes = writes_in s.branches; reads = reads_after g w.timestamp key (seen key w.timestamp (writes_in s.branches)).from (map read_as s.reads) }) m'.records =
+    c.records (history_of s) st.records (above_low m s xid w st x) in
     let added : reads_after g w.timestamp key (seen key w.timestamp (writes_in s.branches)).from (map read_as s.reads) ≡ map read_as reads =
     is w.timestamp (seen key w.timestamp (writes_in s.branches)).from key (map read_as s.reads)
     ∙ ap (λ (t : ℕ). record { reader = t; key = key; from = (seen key t (writes_in s.branches)).from } ∷ map read_as s.reads) time
     ∙ ap (λ (y : ℕ). record { reader = b.timestamp; key = key; from = y } ∷ map read_as s.reads) (ap (λ y. y.from) (sees m s key b.timestamp st)) in
-    let moved : RecordsStandFor (record { low = 0; writes = writes_in s.branches; reads = map read_as reads }) m'.records =
-    subst (λ (rs : List Answered). RecordsStandFor (record { low = 0; writes = writes_in s.branches; reads = rs }) m'.records) added noted in
+    let moved : RecordsStandFor (record { low = timestamp_of s.boot 0; writes = writes_in s.branches; reads = map read_as reads }) m'.records =
+    subst (λ (rs : List Answered). RecordsStandFor (record { low = timestamp_of s.boot 0; writes = writes_in s.branches; reads = rs }) m'.records) added noted in
     let same : writes_in (change (is_known_as xid) (having_done op) s.branches) ≡ writes_in s.branches = unwritten (is_known_as xid) (having_done op) (λ y. refl) s.branches in
-    let records : RecordsStandFor (record { low = 0; writes = writes_in (change (is_known_as xid) (having_done op) s.branches); reads = map read_as reads }) m'.records =
-    subst (λ (ws : List Written). RecordsStandFor (record { low = 0; writes = ws; reads = map read_as reads }) m'.records) (sym same) moved in
-    done_stands m m' s xid op reads st c.same records sound
+    let records : RecordsStandFor (record { low = timestamp_of s.boot 0; writes = writes_in (change (is_known_as xid) (having_done op) s.branches); reads = map read_as reads }) m'.records =
+    subst (λ (ws : List Written). RecordsStandFor (record { low = timestamp_of s.boot 0; writes = ws; reads = map read_as reads }) m'.records) (sym same) moved in
+    done_stands m m' s xid op reads st c.same records recoverable
 
 get_follows : (m m' : Kept) (n : ℕ) (key : List ℕ) (xid : Triple) (w : Kept_branch) (g : Got) (o : Option (List ℕ)) → own_at m n ≡ Some (xid, w) → w.mark ≡ None → Gets m w.timestamp key g m' → IsAnswered g → g ≢ got_as.Memory
     → ((b : Bool) (from : ℕ) (w : Option (List ℕ)) → g ≡ answer_by b from w → (b ≡ false) × (w ≡ o))
@@ -143,7 +143,7 @@ get_follows m m' n key xid w g o h e c is some says =
       got s key xid x.branch v,
       get_unmarked m s n key xid w st h e x ∙ ap (λ (r : Option Reply). unless r s (got s key xid x.branch v)) (busy_passes x.branch.timestamp v both.0),
       ap (λ (w : Option (List ℕ)). carrying (value_body w)) both.1,
-      λ sound. got_stands m m' s xid w key g st (own_works m n xid w h).1 x c is sound,
+      λ recoverable. got_stands m m' s xid w key g st (own_works m n xid w h).1 x c is recoverable,
     ))
 
 pub get_value : (m m' : Kept) (n : ℕ) (key : List ℕ) (xid : Triple) (w : Kept_branch) (value : List ℕ) → own_at m n ≡ Some (xid, w) → w.mark ≡ None → Gets m w.timestamp key (got_as.Value value) m'
@@ -154,3 +154,7 @@ get_value m m' n key xid w value h e c =
 pub get_absent : (m m' : Kept) (n : ℕ) (key : List ℕ) (xid : Triple) (w : Kept_branch) → own_at m n ≡ Some (xid, w) → w.mark ≡ None → Gets m w.timestamp key got_as.Absent m'
     → Follows m (λ s. get_by s key (own_branch s n)) (carrying body.Absent) m'
 get_absent m m' n key xid w h e c = get_follows m m' n key xid w got_as.Absent None h e c (λ t from k reads. refl) (λ q. cc q) (λ b from w q. absent_of b from w q)
+
+pub get_stays : (m m' : Kept) (n : ℕ) (key : List ℕ) (xid : Triple) (w : Kept_branch) → own_at m n ≡ Some (xid, w) → Gets m w.timestamp key got_as.Memory m' → Stays m m'
+get_stays m m' n key xid w h c s st =
+    let x = finds m s xid w st (own_works m n xid w h).1 in stays_by m m' s st c.same (c.records (history_of s) st.records (above_low m s xid w st x))

@@ -18,5 +18,5 @@ none_own = record { keys = [] }
 
 pub nobody_stands : (m : Kept) (s : State) (n : ℕ) → StandsFor m s → seat_at m.sessions n ≡ None → BranchesStandFor m.branches (hang_up_by s n).after
 nobody_stands m s n st none =
-    hung_up_stands m.branches m.branches.working s n none_own None st.sound (λ q. ap (holds q) (sym none) ∙ st.sessions.own n q)
+    hung_up_stands m.branches m.branches.working s n none_own None st.recoverable.sound (λ q. ap (holds q) (sym none) ∙ st.sessions.own n q)
     (ap (λ (o : Option Seat). option_and_then (λ x. x.active) o) (sym none) ∙ st.sessions.active n) st.branches (record { at = λ q. refl; number = refl })

@@ -53,7 +53,7 @@ not_false false e = absurd (cc e)
 -- Start with TMRESUME
 
 suspends_told : (m : Kept) (s : State) (n : ℕ) (xid : Triple) (b : Bool) → StandsFor m s → suspends_at m.sessions n xid ≡ b → list_any (suspends n xid) s.associations ≡ b
-suspends_told m s n xid b st e = sym (suspends_is m.sessions s n xid st.sound st.sessions) ∙ e
+suspends_told m s n xid b st e = sym (suspends_is m.sessions s n xid st.recoverable.sound st.sessions) ∙ e
 
 pub resumes_own : (m : Kept) (s : State) (n : ℕ) (xid : Triple) → StandsFor m s → suspends_at m.sessions n xid ≡ true → resumed_kind s.associations n xid ≡ Some kind.Suspended
 resumes_own m s n xid st e = of_first (list_any (suspends n xid) s.associations) kind.Suspended _ (suspends_told m s n xid true st e)
@@ -74,7 +74,7 @@ pub leaves_active : (m : Kept) (s : State) (n : ℕ) (xid : Triple) → StandsFo
 leaves_active m s n xid st e = of_first (list_any (works_in n xid) s.associations) kind.Active _ (works_somewhere n xid s.associations (works_told m s n xid true st e))
 
 idle : (m : Kept) (s : State) (n : ℕ) (xid : Triple) → StandsFor m s → is_with xid (active_at m.sessions n) ≡ false → list_any (works_in n xid) s.associations ≡ false
-idle m s n xid st e = works_nowhere n xid s.associations (works_told m s n xid false st e) (st.sound.active n)
+idle m s n xid st e = works_nowhere n xid s.associations (works_told m s n xid false st e) (st.recoverable.sound.active n)
 
 suspends_by : (owned at : Bool) → owned ≡ true → at ≡ false → (owned && not at) ≡ true
 suspends_by owned at e h = rw (e, h) refl

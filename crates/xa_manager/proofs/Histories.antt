@@ -8,7 +8,8 @@ use Rattle.mv_rules.specs.Records.{StandsFor as RecordsStandFor}
 use Rattle.mv_rules.specs.Ties.{history_of, writes_in, writes_by, writes_one, fate_of, read_as}
 use Rattle.mv_rules.proofs.Branches.{unwritten}
 use Rattle.xa_codes.specs.declared.codes.TheConstants.{XA_RBCOMMFAIL}
-use Rattle.xa_model.specs.State.{State, Branch, Phase, Working, Prepared, Committed, Association, is_known_as, change}
+use Rattle.xa_model.specs.State.{State, Branch, Phase, Working, Prepared, Committed, Association, is_known_as, change, timestamp_of}
+use Rattle.xa_model.specs.Branches.{prepared, prepared_phase, as_prepared}
 use Rattle.xa_model.specs.Associations.{with_mark, marked_phase, left_behind, is_worked_by}
 
 marked_fate : (code : ℤ) (p : Phase) → fate_of (marked_phase code p) ≡ fate_of p
@@ -21,9 +22,9 @@ marked_one code b = ap (λ (fate : Option Fate). writes_by b.timestamp fate b.op
 
 -- a branch is marked
 pub marked_records : (code : ℤ) (xid : Triple) (s : State) (r : Records) → RecordsStandFor (history_of s) r
-    → RecordsStandFor (record { low = 0; writes = writes_in (change (is_known_as xid) (with_mark code) s.branches); reads = map read_as s.reads }) r
+    → RecordsStandFor (record { low = timestamp_of s.boot 0; writes = writes_in (change (is_known_as xid) (with_mark code) s.branches); reads = map read_as s.reads }) r
 marked_records code xid s r st =
-    subst (λ (ws : List Written). RecordsStandFor (record { low = 0; writes = ws; reads = map read_as s.reads }) r) (sym (unwritten (is_known_as xid) (with_mark code) (marked_one code) s.branches)) st
+    subst (λ (ws : List Written). RecordsStandFor (record { low = timestamp_of s.boot 0; writes = ws; reads = map read_as s.reads }) r) (sym (unwritten (is_known_as xid) (with_mark code) (marked_one code) s.branches)) st
 
 left_one : (c : Bool) (b : Branch) → writes_one (cond c (with_mark XA_RBCOMMFAIL b) b) ≡ writes_one b
 left_one true b = marked_one XA_RBCOMMFAIL b
@@ -36,6 +37,20 @@ left_writes held n (b ∷ bs) =
 
 -- a session hangs up
 pub left_records : (n : ℕ) (s : State) (r : Records) → RecordsStandFor (history_of s) r
-    → RecordsStandFor (record { low = 0; writes = writes_in (map (left_behind s.associations n) s.branches); reads = map read_as s.reads }) r
+    → RecordsStandFor (record { low = timestamp_of s.boot 0; writes = writes_in (map (left_behind s.associations n) s.branches); reads = map read_as s.reads }) r
 left_records n s r st =
-    subst (λ (ws : List Written). RecordsStandFor (record { low = 0; writes = ws; reads = map read_as s.reads }) r) (sym (left_writes s.associations n s.branches)) st
+    subst (λ (ws : List Written). RecordsStandFor (record { low = timestamp_of s.boot 0; writes = ws; reads = map read_as s.reads }) r) (sym (left_writes s.associations n s.branches)) st
+
+-- a branch is prepared
+
+prepared_fate : (p : Phase) → fate_of (prepared_phase p) ≡ fate_of p
+prepared_fate (Working xid mark) = refl
+prepared_fate (Prepared xid) = refl
+prepared_fate Committed = refl
+
+prepared_one : (b : Branch) → writes_one (as_prepared b) ≡ writes_one b
+prepared_one b = ap (λ (fate : Option Fate). writes_by b.timestamp fate b.operations) (prepared_fate b.phase)
+
+pub prepared_records : (xid : Triple) (s : State) (r : Records) → RecordsStandFor (history_of s) r → RecordsStandFor (history_of (prepared s xid)) r
+prepared_records xid s r st =
+    subst (λ (ws : List Written). RecordsStandFor (record { low = timestamp_of s.boot 0; writes = ws; reads = map read_as s.reads }) r) (sym (unwritten (is_known_as xid) as_prepared prepared_one s.branches)) st

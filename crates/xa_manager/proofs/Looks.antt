@@ -4,9 +4,12 @@ use Rattle.std.specs.Prelude.{option_map, option_and_then}
 use Rattle.std.specs.List.{list_any}
 use Rattle.mv_rules.specs.Ties.{fate_of}
 use Rattle.xa_xid.specs.Triple.{Triple, xid_eq}
-use Rattle.xa_model.specs.State.{State, Branch, Known, Unknown, AtWork, InDoubt, Completed, count, is_with, is_active, works_in, mark_of, known_of, known_as, active_of, holders_of, branch_with, own_branch}
+use Rattle.xa_model.specs.State.{State, Branch, Known, Unknown, AtWork, InDoubt, Completed, count, is_with, is_active, works_in, mark_of, known_of, known_as, active_of, holders_of, branch_with, own_branch, is_known_as, timestamp_of}
 use Rattle.xa_model.specs.Associations.{is_unknown, is_settled, mark_in}
-use Rattle.xa_model.specs.Sound.{IsSound, is_at_work}
+use Rattle.xa_model.specs.Sound.{IsSound, is_at_work, is_working}
+use Rattle.xa_model.specs.Durable.{boot_of}
+use Rattle.xa_model.specs.Loggable.{IsLoggable}
+use Rattle.xa_model.proofs.Lists.{found_all}
 use Rattle.xa_model.proofs.Counts.{count_less}
 use Rattle.xa_model.proofs.Leaving.{any_counts}
 use Rattle.xa_model.proofs.Xids.{both_true}
@@ -74,7 +77,7 @@ never_idle s n xid h active idle =
 no_own_by : (m : Kept) (s : State) (n : ℕ) (o : Option Triple) → StandsFor m s → active_of s.associations n ≡ o → option_and_then (with_working m) o ≡ None → option_and_then (branch_with s.branches) o ≡ None
 no_own_by m s n None st active h = refl
 no_own_by m s n (Some x) st active h =
-    absurd (never_idle s n x st.sound active (idle_at m.branches s x st.branches (mapped_none (λ (y : Kept_branch). (x, y)) (working_at m.branches x) h)))
+    absurd (never_idle s n x st.recoverable.sound active (idle_at m.branches s x st.branches (mapped_none (λ (y : Kept_branch). (x, y)) (working_at m.branches x) h)))
 
 pub no_own : (m : Kept) (s : State) (n : ℕ) → StandsFor m s → own_at m n ≡ None → own_branch s n ≡ None
 no_own m s n st h = ap (option_and_then (branch_with s.branches)) (sym (st.sessions.active n)) ∙ no_own_by m s n (active_at m.sessions n) st (sym (st.sessions.active n)) h
@@ -89,3 +92,16 @@ time_of s xid w x = ap (λ (y : Kept_branch). y.timestamp) x.kept
 
 pub open_fate : (s : State) (xid : Triple) (w : Kept_branch) → (x : IsWorking s xid w) → fate_of x.branch.phase ≡ None
 open_fate s xid w x = ap fate_of x.phase
+
+-- a branch at work has its timestamp from this boot
+
+boot_at : (t boot : ℕ) → boot_of t ≡ boot → timestamp_of boot 0 ≤ t
+boot_at t boot e = omega arith
+
+pub from_boot : (s : State) (xid : Triple) (w : Kept_branch) → (x : IsWorking s xid w) → IsLoggable s → timestamp_of s.boot 0 ≤ x.branch.timestamp
+from_boot s xid w x h =
+    let works : is_working x.branch.phase ≡ true = ap is_working x.phase in
+    boot_at x.branch.timestamp s.boot (found_all (λ (b : Branch). is_working b.phase ≡ true → boot_of b.timestamp ≡ s.boot) (is_known_as xid) x.branch s.branches h.begun x.found works)
+
+pub above_low : (m : Kept) (s : State) (xid : Triple) (w : Kept_branch) → StandsFor m s → (x : IsWorking s xid w) → timestamp_of s.boot 0 ≤ w.timestamp
+above_low m s xid w st x = subst (λ (t : ℕ). timestamp_of s.boot 0 ≤ t) (sym (time_of s xid w x)) (from_boot s xid w x st.recoverable.loggable)

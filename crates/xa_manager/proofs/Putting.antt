@@ -19,7 +19,7 @@ use Rattle.xa_model.specs.State.{State, Operation, Wrote, is_known_as, own_branc
 use Rattle.xa_model.specs.Source.{write_of, written_keys, is_late as is_late_among}
 use Rattle.xa_model.specs.Answer.{Answer, plain, detailed, answer, unless, marked}
 use Rattle.xa_model.specs.Records.{having_done, is_full, limit_refusal, came_late, written, in_time, put_from, put_by as put_row}
-use Rattle.xa_model.specs.Sound.{IsSound}
+use Rattle.xa_model.specs.Loggable.{IsRecoverable}
 use Rattle.xa_branch.specs.declared.working.Working.{Working as Kept_branch}
 use Rattle.xa_branch.specs.Branches.{working_at}
 use Rattle.xa_branch.specs.Calls.{marked_with}
@@ -27,13 +27,13 @@ use Rattle.xa_branch.proofs.Looks.{IsWorking}
 use Rattle.xa_manager.specs.Kept.{Kept, own_at}
 use Rattle.xa_manager.specs.Changes.{Puts}
 use Rattle.xa_manager.specs.Stands.{StandsFor, Follows, Stays}
-use Rattle.xa_manager.proofs.Looks.{finds, own_works, own_is, no_own, own_mark, time_of, open_fate}
-use Rattle.xa_manager.proofs.Done.{done_stands, stays_by}
+use Rattle.xa_manager.proofs.Looks.{finds, own_works, own_is, no_own, own_mark, time_of, open_fate, from_boot}
+use Rattle.xa_manager.proofs.Changed.{done_stands, stays_by}
 use Rattle.xa_manager.proofs.Rows.{follows_by}
 
 pub put_alone : (m : Kept) (n : ℕ) (key : List ℕ) (value : Option (List ℕ)) → own_at m n ≡ None → Follows m (λ s. put_row s key value (own_branch s n)) (plain XAER_PROTO) m
 put_alone m n key value h =
-    follows_by m m (λ s. put_row s key value (own_branch s n)) (plain XAER_PROTO) refl (λ s st. (answer (plain XAER_PROTO) s, ap (put_row s key value) (no_own m s n st h), refl, λ sound. st))
+    follows_by m m (λ s. put_row s key value (own_branch s n)) (plain XAER_PROTO) refl (λ s st. (answer (plain XAER_PROTO) s, ap (put_row s key value) (no_own m s n st h), refl, λ recoverable. st))
 
 pub put_marked : (m : Kept) (n : ℕ) (key : List ℕ) (value : Option (List ℕ)) (xid : Triple) (w : Kept_branch) (code : ℤ) → own_at m n ≡ Some (xid, w) → w.mark ≡ Some code
     → Follows m (λ s. put_row s key value (own_branch s n)) (plain code) m
@@ -44,7 +44,7 @@ put_marked m n key value xid w code h e =
       answer (plain code) s,
       ap (put_row s key value) (own_is m s n xid w st h x) ∙ ap (λ (o : Option ℤ). marked o s (put_from s key value xid x.branch)) (own_mark s xid w (Some code) x e),
       refl,
-      λ sound. st,
+      λ recoverable. st,
     ))
 
 -- an unmarked branch puts
@@ -62,19 +62,20 @@ judge_rest full late s a b false e h = rw (e, h) refl
 
 -- what marking a late branch comes to
 abbrev pub Marks : Kept → Triple → Kept → Type 0
-Marks m xid m' = (s : State) → StandsFor m s → IsSound (marked_with XA_RBTRANSIENT s xid) → StandsFor m' (marked_with XA_RBTRANSIENT s xid)
+Marks m xid m' = (s : State) → StandsFor m s → IsRecoverable (marked_with XA_RBTRANSIENT s xid) → StandsFor m' (marked_with XA_RBTRANSIENT s xid)
 
 -- the branch's writes are open
-open_at : (m : Kept) (s : State) (xid : Triple) (w : Kept_branch) → StandsFor m s → (x : IsWorking s xid w) → IsUnsettled w.timestamp 0 (writes_in s.branches)
+open_at : (m : Kept) (s : State) (xid : Triple) (w : Kept_branch) → StandsFor m s → (x : IsWorking s xid w) → IsUnsettled w.timestamp (timestamp_of s.boot 0) (writes_in s.branches)
 open_at m s xid w st x =
-    subst (λ (t : ℕ). IsUnsettled t 0 (writes_in s.branches)) (sym (time_of s xid w x)) (unsettled xid x.branch (timestamp_of s.boot s.given + 1) s.branches st.sound.descends x.found (open_fate s xid w x))
+    subst (λ (t : ℕ). IsUnsettled t (timestamp_of s.boot 0) (writes_in s.branches)) (sym (time_of s xid w x))
+    (unsettled xid x.branch (timestamp_of s.boot s.given + 1) (timestamp_of s.boot 0) s.branches st.recoverable.sound.descends x.found (open_fate s xid w x) (from_boot s xid w x st.recoverable.loggable))
 
 -- what a put answers, by whether the keys are used up and whether it is late
 judged : (m m' : Kept) (s : State) (xid : Triple) (w : Kept_branch) (key : List ℕ) (value : Option (List ℕ)) (put : Put) → StandsFor m s → (x : IsWorking s xid w) → Puts m w.timestamp key value put m' → put ≢ put_as.Memory
     → put ≡ put_by (not (is_some (write_of key x.branch.operations)) && nat_le 256 (written_keys x.branch.operations)) (is_late_among key x.branch.timestamp s.reads)
 judged m m' s xid w key value put st x c some =
     let b = x.branch in
-    let works = at_work xid b (timestamp_of s.boot s.given + 1) s.branches st.sound.descends x.found (open_fate s xid w x) in
+    let works = at_work xid b (timestamp_of s.boot s.given + 1) s.branches st.recoverable.sound.descends x.found (open_fate s xid w x) in
     c.answer (history_of s) st.records (open_at m s xid w st x) some
     ∙ ap (λ (t : ℕ). put_of (has_open key t (writes_in s.branches)) (open_keys t (writes_in s.branches)) (is_late key t (map read_as s.reads))) (time_of s xid w x)
     ∙ ap (λ (held : Bool). put_of held (open_keys b.timestamp (writes_in s.branches)) (is_late key b.timestamp (map read_as s.reads))) (works.held key)
@@ -110,13 +111,13 @@ put_full m m' n key value xid w h e c =
       answer (detailed XAER_INVAL detail.Limit) s,
       put_unmarked m s n key value xid w st h e x ∙ judge_full (is_full key ops) s _ (full_by (is_some (write_of key ops)) (written_keys ops) ∙ full),
       refl,
-      λ sound. stays_by m m' s st c.same (c.records (history_of s) st.records (open_at m s xid w st x)),
+      λ recoverable. stays_by m m' s st c.same (c.records (history_of s) st.records (open_at m s xid w st x)),
     ))
 
 -- the branch is marked after the put was answered
 late_stands : (m mid m' : Kept) (s : State) (xid : Triple) (w : Kept_branch) (key : List ℕ) (value : Option (List ℕ)) → StandsFor m s → (x : IsWorking s xid w) → Puts m w.timestamp key value put_as.Late mid
-    → Marks mid xid m' → IsSound (came_late s xid).after → StandsFor m' (came_late s xid).after
-late_stands m mid m' s xid w key value st x c k sound = k s (stays_by m mid s st c.same (c.records (history_of s) st.records (open_at m s xid w st x))) sound
+    → Marks mid xid m' → IsRecoverable (came_late s xid).after → StandsFor m' (came_late s xid).after
+late_stands m mid m' s xid w key value st x c k recoverable = k s (stays_by m mid s st c.same (c.records (history_of s) st.records (open_at m s xid w st x))) recoverable
 
 pub put_late : (m mid m' : Kept) (n : ℕ) (key : List ℕ) (value : Option (List ℕ)) (xid : Triple) (w : Kept_branch) → own_at m n ≡ Some (xid, w) → w.mark ≡ None → Puts m w.timestamp key value put_as.Late mid
     → Marks mid xid m' → Follows m (λ s. put_row s key value (own_branch s n)) (detailed XA_RBTRANSIENT detail.Late) m'
@@ -130,22 +131,22 @@ put_late m mid m' n key value xid w h e c k =
       came_late s xid,
       put_unmarked m s n key value xid w st h e x ∙ judge_rest (is_full key ops) (is_late_among key x.branch.timestamp s.reads) s (came_late s xid) (written s key value xid) true free both.1,
       refl,
-      λ sound. late_stands m mid m' s xid w key value st x c k sound,
+      λ recoverable. late_stands m mid m' s xid w key value st x c k recoverable,
     ))
 
 written_stands : (m m' : Kept) (s : State) (xid : Triple) (w : Kept_branch) (key : List ℕ) (value : Option (List ℕ)) → StandsFor m s → working_at m.branches xid ≡ Some w → (x : IsWorking s xid w) → Puts m w.timestamp key value put_as.Done m'
-    → IsSound (written s key value xid).after → StandsFor m' (written s key value xid).after
-written_stands m m' s xid w key value st h x c sound =
+    → IsRecoverable (written s key value xid).after → StandsFor m' (written s key value xid).after
+written_stands m m' s xid w key value st h x c recoverable =
     let b = x.branch in
     let limit = timestamp_of s.boot s.given + 1 in
     let op : Operation = Wrote key value in
-    let added : RecordsStandFor (record { low = 0; writes = wrote w.timestamp key value ∷ writes_in s.branches; reads = map read_as s.reads }) m'.records = c.records (history_of s) st.records (open_at m s xid w st x) in
-    let there : RecordsStandFor (record { low = 0; writes = wrote b.timestamp key value ∷ writes_in s.branches; reads = map read_as s.reads }) m'.records =
-    subst (λ (t : ℕ). RecordsStandFor (record { low = 0; writes = wrote t key value ∷ writes_in s.branches; reads = map read_as s.reads }) m'.records) (time_of s xid w x) added in
-    let records : RecordsStandFor (record { low = 0; writes = writes_in (change (is_known_as xid) (having_done op) s.branches); reads = map read_as s.reads }) m'.records =
-    stands_same 0 (wrote b.timestamp key value ∷ writes_in s.branches) (writes_in (change (is_known_as xid) (having_done op) s.branches)) (map read_as s.reads) m'.records
-    (wrote_first xid b key value limit s.branches st.sound.descends x.found (open_fate s xid w x)) there in
-    done_stands m m' s xid op s.reads st c.same records sound
+    let added : RecordsStandFor (record { low = timestamp_of s.boot 0; writes = wrote w.timestamp key value ∷ writes_in s.branches; reads = map read_as s.reads }) m'.records = c.records (history_of s) st.records (open_at m s xid w st x) in
+    let there : RecordsStandFor (record { low = timestamp_of s.boot 0; writes = wrote b.timestamp key value ∷ writes_in s.branches; reads = map read_as s.reads }) m'.records =
+    subst (λ (t : ℕ). RecordsStandFor (record { low = timestamp_of s.boot 0; writes = wrote t key value ∷ writes_in s.branches; reads = map read_as s.reads }) m'.records) (time_of s xid w x) added in
+    let records : RecordsStandFor (record { low = timestamp_of s.boot 0; writes = writes_in (change (is_known_as xid) (having_done op) s.branches); reads = map read_as s.reads }) m'.records =
+    stands_same (timestamp_of s.boot 0) (wrote b.timestamp key value ∷ writes_in s.branches) (writes_in (change (is_known_as xid) (having_done op) s.branches)) (map read_as s.reads) m'.records
+    (wrote_first xid b key value limit s.branches st.recoverable.sound.descends x.found (open_fate s xid w x)) there in
+    done_stands m m' s xid op s.reads st c.same records recoverable
 
 pub put_follows : (m m' : Kept) (n : ℕ) (key : List ℕ) (value : Option (List ℕ)) (xid : Triple) (w : Kept_branch) → own_at m n ≡ Some (xid, w) → w.mark ≡ None → Puts m w.timestamp key value put_as.Done m'
     → Follows m (λ s. put_row s key value (own_branch s n)) (plain (pos 0)) m'
@@ -159,7 +160,7 @@ put_follows m m' n key value xid w h e c =
       written s key value xid,
       put_unmarked m s n key value xid w st h e x ∙ judge_rest (is_full key ops) (is_late_among key x.branch.timestamp s.reads) s (came_late s xid) (written s key value xid) false free both.1,
       refl,
-      λ sound. written_stands m m' s xid w key value st (own_works m n xid w h).1 x c sound,
+      λ recoverable. written_stands m m' s xid w key value st (own_works m n xid w h).1 x c recoverable,
     ))
 
 pub put_stays : (m m' : Kept) (n : ℕ) (key : List ℕ) (value : Option (List ℕ)) (xid : Triple) (w : Kept_branch) → own_at m n ≡ Some (xid, w) → Puts m w.timestamp key value put_as.Memory m' → Stays m m'

@@ -3,22 +3,22 @@ use Rattle.std.proofs.Common.{◌≡◌, ℤ, false, Option, Some, None, refl, a
 use Rattle.xa_frame.specs.declared.reply.Reply.{Reply}
 use Rattle.xa_model.specs.State.{State}
 use Rattle.xa_model.specs.Answer.{Answer, plain, answer, unless, marked}
-use Rattle.xa_model.specs.Sound.{IsSound}
+use Rattle.xa_model.specs.Loggable.{IsRecoverable}
 use Rattle.xa_assoc.specs.Refusals.{is_memory}
 use Rattle.xa_manager.specs.Kept.{Kept}
 use Rattle.xa_manager.specs.Stands.{StandsFor, Follows}
 
 pub follows_by : (m m' : Kept) (act : State → Answer) (reply : Reply) → is_memory reply.detail ≡ false
-    → ((s : State) → StandsFor m s → (a : Answer) × (act s ≡ a) × (a.reply ≡ reply) × (IsSound a.after → StandsFor m' a.after)) → Follows m act reply m'
+    → ((s : State) → StandsFor m s → (a : Answer) × (act s ≡ a) × (a.reply ≡ reply) × (IsRecoverable a.after → StandsFor m' a.after)) → Follows m act reply m'
 follows_by m m' act reply served h = record {
   answers = λ s st. let x = h s st in ap (λ (a : Answer). a.reply) x.1 ∙ x.2;
-  stands = λ s st sound. let x = h s st in subst (λ (a : Answer). StandsFor m' a.after) (sym x.1) (x.3 (subst (λ (a : Answer). IsSound a.after) x.1 sound));
+  stands = λ s st recoverable. let x = h s st in subst (λ (a : Answer). StandsFor m' a.after) (sym x.1) (x.3 (subst (λ (a : Answer). IsRecoverable a.after) x.1 recoverable));
   served = served;
 }
 
 -- the same row under another name
 pub follows_as : (m m' : Kept) (act as_ : State → Answer) (reply : Reply) → ((s : State) → StandsFor m s → as_ s ≡ act s) → Follows m act reply m' → Follows m as_ reply m'
-follows_as m m' act as_ reply same f = follows_by m m' as_ reply f.served (λ s st. (act s, same s st, f.answers s st, λ sound. f.stands s st sound))
+follows_as m m' act as_ reply same f = follows_by m m' as_ reply f.served (λ s st. (act s, same s st, f.answers s st, λ recoverable. f.stands s st recoverable))
 
 -- what refuses, and what doesn't, over plain variables, since the tactics would compute the step
 pub refused_is : (o : Option Reply) (s : State) (a : Answer) (reply : Reply) → o ≡ Some reply → unless o s a ≡ answer reply s
@@ -37,16 +37,16 @@ goes_on_is o mark s left go e f = rw (e, f) refl
 
 pub follows_refused : (m : Kept) (o : State → Option Reply) (go : State → Answer) (reply : Reply) → is_memory reply.detail ≡ false → ((s : State) → StandsFor m s → Some reply ≡ o s) → Follows m (λ s. unless (o s) s (go s)) reply m
 follows_refused m o go reply served h =
-    follows_by m m (λ s. unless (o s) s (go s)) reply served (λ s st. (answer reply s, refused_is (o s) s (go s) reply (sym (h s st)), refl, λ sound. st))
+    follows_by m m (λ s. unless (o s) s (go s)) reply served (λ s st. (answer reply s, refused_is (o s) s (go s) reply (sym (h s st)), refl, λ recoverable. st))
 
 pub follows_passed : (m m' : Kept) (o : State → Option Reply) (go : State → Answer) (reply : Reply) → is_memory reply.detail ≡ false → ((s : State) → StandsFor m s → None ≡ o s)
-    → ((s : State) → StandsFor m s → o s ≡ None → ((go s).reply ≡ reply) × (IsSound (go s).after → StandsFor m' (go s).after)) → Follows m (λ s. unless (o s) s (go s)) reply m'
+    → ((s : State) → StandsFor m s → o s ≡ None → ((go s).reply ≡ reply) × (IsRecoverable (go s).after → StandsFor m' (go s).after)) → Follows m (λ s. unless (o s) s (go s)) reply m'
 follows_passed m m' o go reply served free h =
     follows_by m m' (λ s. unless (o s) s (go s)) reply served
     (λ s st. let x = h s st (sym (free s st)) in (go s, passed_is (o s) s (go s) (sym (free s st)), x.0, x.1))
 
 pub follows_marked : (m m' : Kept) (o : State → Option Reply) (mark : State → Option ℤ) (left : State → State) (go : State → Answer) (code : ℤ) → ((s : State) → StandsFor m s → None ≡ o s)
-    → ((s : State) → StandsFor m s → mark s ≡ Some code) → ((s : State) → StandsFor m s → o s ≡ None → IsSound (left s) → StandsFor m' (left s))
+    → ((s : State) → StandsFor m s → mark s ≡ Some code) → ((s : State) → StandsFor m s → o s ≡ None → IsRecoverable (left s) → StandsFor m' (left s))
     → Follows m (λ s. unless (o s) s (marked (mark s) (left s) (go s))) (plain code) m'
 follows_marked m m' o mark left go code free is h =
     follows_by m m' (λ s. unless (o s) s (marked (mark s) (left s) (go s))) (plain code) refl
@@ -54,7 +54,7 @@ follows_marked m m' o mark left go code free is h =
 
 pub follows_unmarked : (m m' : Kept) (o : State → Option Reply) (mark : State → Option ℤ) (left : State → State) (go : State → Answer) (reply : Reply) → is_memory reply.detail ≡ false
     → ((s : State) → StandsFor m s → None ≡ o s) → ((s : State) → StandsFor m s → mark s ≡ None)
-    → ((s : State) → StandsFor m s → o s ≡ None → ((go s).reply ≡ reply) × (IsSound (go s).after → StandsFor m' (go s).after))
+    → ((s : State) → StandsFor m s → o s ≡ None → ((go s).reply ≡ reply) × (IsRecoverable (go s).after → StandsFor m' (go s).after))
     → Follows m (λ s. unless (o s) s (marked (mark s) (left s) (go s))) reply m'
 follows_unmarked m m' o mark left go reply served free is h =
     follows_by m m' (λ s. unless (o s) s (marked (mark s) (left s) (go s))) reply served
@@ -62,9 +62,9 @@ follows_unmarked m m' o mark left go reply served free is h =
 
 -- a second refusal behind those
 
-pub turned_away : (m : Kept) (o : Option Reply) (s : State) (a : Answer) (reply : Reply) → Some reply ≡ o → StandsFor m s → ((unless o s a).reply ≡ reply) × (IsSound (unless o s a).after → StandsFor m (unless o s a).after)
-turned_away m o s a reply e st = rw (← e) (refl, λ sound. st)
+pub turned_away : (m : Kept) (o : Option Reply) (s : State) (a : Answer) (reply : Reply) → Some reply ≡ o → StandsFor m s → ((unless o s a).reply ≡ reply) × (IsRecoverable (unless o s a).after → StandsFor m (unless o s a).after)
+turned_away m o s a reply e st = rw (← e) (refl, λ recoverable. st)
 
-pub let_on : (m' : Kept) (o : Option Reply) (s : State) (a : Answer) (reply : Reply) → None ≡ o → a.reply ≡ reply → (IsSound a.after → StandsFor m' a.after)
-    → ((unless o s a).reply ≡ reply) × (IsSound (unless o s a).after → StandsFor m' (unless o s a).after)
+pub let_on : (m' : Kept) (o : Option Reply) (s : State) (a : Answer) (reply : Reply) → None ≡ o → a.reply ≡ reply → (IsRecoverable a.after → StandsFor m' a.after)
+    → ((unless o s a).reply ≡ reply) × (IsRecoverable (unless o s a).after → StandsFor m' (unless o s a).after)
 let_on m' o s a reply e said stands = rw (← e) (said, stands)

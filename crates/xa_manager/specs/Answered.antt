@@ -1,45 +1,96 @@
 -- What a manager's answers are.
-use Rattle.std.specs.Prelude.{ℕ, ℤ, ◌≡◌, Bool, true, false, List, [], ◌∷◌, Result, Ok, Err, MatchBool, IsSomeAnd, if◌then◌else◌}
-use Rattle.std.specs.List.{AllByRecursion}
+use Rattle.std.specs.Prelude.{ℕ, ℤ, ◌≡◌, ◌⊎◌, Bool, true, false, List, [], ◌∷◌, length, Option, None, Some, Result, Ok, Err, MatchBool, IsSomeAnd, if◌then◌else◌}
 use Rattle.xa_codes.specs.declared.codes.TheConstants.{XAER_RMERR, XAER_RMFAIL, XA_RETRY}
 use Rattle.xa_codes.specs.declared.detail.Detail.TheVariants as detail
 use Rattle.xa_codes.specs.Flags.{has}
 use Rattle.xa_codes.specs.declared.flags.TheConstants.{TMONEPHASE}
-use Rattle.xa_frame.specs.Limits.{IsRequest}
+use Rattle.xa_disk.specs.Disk.{Rises}
+use Rattle.xa_disk.specs.declared.counts.Counts.{Counts}
 use Rattle.xa_frame.specs.declared.request.Request.{Request}
-use Rattle.xa_frame.specs.declared.request.Request.TheVariants.{Open, Close, End, Commit, Rollback, Doom}
+use Rattle.xa_frame.specs.declared.request.Request.TheVariants.{Start, Prepare, Commit, Recover, Get, Put, Delete, Restart}
 use Rattle.xa_frame.specs.declared.reply.Reply.{Reply}
 use Rattle.xa_frame.specs.declared.body.Body.TheVariants as body
+use Rattle.xa_log.specs.Answers.{HasCause}
+use Rattle.xa_log.specs.Calls.{AppendCalls}
+use Rattle.xa_log.specs.TwoFiles.{first_of, second_of}
+use Rattle.xa_log.specs.declared.appending.Appended.{Appended}
+use Rattle.xa_log.specs.declared.appending.Appended.TheVariants as appended
+use Rattle.xa_log.specs.declared.log.Log.{Log}
 use Rattle.xa_model.specs.declared.event.Event.{Event}
 use Rattle.xa_model.specs.declared.event.Event.TheVariants.{Connect, Hangup, Call}
-use Rattle.xa_model.specs.declared.outcome.Outcome.TheVariants.{Quiet}
+use Rattle.xa_model.specs.declared.outcome.Outcome.{Outcome}
+use Rattle.xa_model.specs.declared.outcome.Outcome.TheVariants as outcome
+use Rattle.xa_model.specs.declared.outcome.Appending.{Appending}
+use Rattle.xa_model.specs.declared.outcome.Appending.TheVariants.{Kept, Refused, Lost}
 use Rattle.xa_model.specs.State.{State}
 use Rattle.xa_model.specs.Answer.{detailed, carrying}
-use Rattle.xa_model.specs.Step.{Asked, step}
+use Rattle.xa_model.specs.Turn.{Asked}
+use Rattle.xa_model.specs.Step.{step}
 use Rattle.xa_model.specs.History.{Entry, Leads}
+use Rattle.xa_model.specs.Events.{is_restart}
 use Rattle.xa_assoc.specs.Refusals.{is_memory}
 use Rattle.xa_assoc.specs.declared.fault.ConnectFault.{ConnectFault}
 use Rattle.xa_assoc.specs.declared.fault.ConnectFault.TheVariants.{Memory, Full}
-use Rattle.xa_manager.specs.Kept.{Kept}
-use Rattle.xa_manager.specs.Stands.{StandsFor, Stays}
+use Rattle.xa_manager.specs.declared.manager.Manager.{Manager}
+use Rattle.xa_manager.specs.LogStands.{Trusts}
+use Rattle.xa_manager.specs.Managed.{ManagerStandsFor}
 
--- where memory was wanted, it stands for whichever state it stood for; else the answer is the step's, and it stands for
--- the step's new state
-abbrev pub Answered : Kept → Event → Reply → Kept → Type 0
-Answered m event reply m' =
-    MatchBool (is_memory reply.detail) (Stays m m')
-    ((s : State) → StandsFor m s → IsSomeAnd (step s (Asked event) Quiet) (λ a. (a.reply ≡ reply) × StandsFor m' a.after))
+-- the manager stands for whichever state it stood for
+abbrev pub StaysFor : {D : Type 0} → Type 0 → (List ℕ → ℕ → List ℕ → List ℕ → Type 0) → (D → List ℕ) → (D → List ℕ → Type 0) → Manager D → Manager D → Type 0
+StaysFor honest tears seen may_leave m m' = (s : State) → ManagerStandsFor honest tears seen may_leave m s → ManagerStandsFor honest tears seen may_leave m' s
 
--- Which events may want memory: a request to end what stands never does. Prepare, Recover, Restart and the operator's
--- calls are not built, and nothing is promised of them.
+-- The answer is the step's, with the outcome that the manager tells, and it stands for the step's new state. What a restart
+-- finds in its files is said under the premises on the type of disks.
+abbrev pub StepsAs : {D : Type 0} → Type 0 → (List ℕ → ℕ → List ℕ → List ℕ → Type 0) → (D → List ℕ) → (D → List ℕ → Type 0) → Manager D → Event → Reply → Manager D → Type 0
+StepsAs honest tears seen may_leave m event reply m' =
+    (s : State) → ManagerStandsFor honest tears seen may_leave m s → Trusts honest tears ⊎ (is_restart event ≡ false)
+    → IsSomeAnd (step s (Asked event) m'.outcome) (λ a. (a.reply ≡ reply) × ManagerStandsFor honest tears seen may_leave m' a.after)
+
+-- where memory was wanted, it stands for whichever state it stood for, and tells the outcome of the event before
+abbrev pub Answered : {D : Type 0} → Type 0 → (List ℕ → ℕ → List ℕ → List ℕ → Type 0) → (D → List ℕ) → (D → List ℕ → Type 0) → Manager D → Event → Reply → Manager D → Type 0
+Answered honest tears seen may_leave m event reply m' =
+    MatchBool (is_memory reply.detail) (StaysFor honest tears seen may_leave m m' × (m'.outcome ≡ m.outcome))
+    (StepsAs honest tears seen may_leave m event reply m')
+
+-- What the device did of each outcome. Where it is Quiet no device call was made.
+
+abbrev pub as_appended : Appending → Appended
+as_appended Kept = appended.Kept
+as_appended Refused = appended.Refused
+as_appended Lost = appended.Lost
+
+-- a device call of one of the two files failed, or none
+abbrev pub OneRises : {D : Type 0} → (D → ℕ) → Log D → Log D → Type 0
+OneRises failures old new = Rises (failures (first_of old)) (failures (first_of new)) ⊎ Rises (failures (second_of old)) (failures (second_of new))
+
+abbrev pub NoneRises : {D : Type 0} → (D → ℕ) → Log D → Log D → Type 0
+NoneRises failures old new = (failures (first_of new) ≡ failures (first_of old)) × (failures (second_of new) ≡ failures (second_of old))
+
+abbrev pub RisesBy : {D : Type 0} → (D → ℕ) → Option Appending → Log D → Log D → Type 0
+RisesBy failures None old new = NoneRises failures old new
+RisesBy failures (Some Kept) old new = NoneRises failures old new
+RisesBy failures (Some Refused) old new = OneRises failures old new
+RisesBy failures (Some Lost) old new = OneRises failures old new
+
+abbrev pub HasCalled : {D : Type 0} → Type 0 → (List ℕ → ℕ → List ℕ → List ℕ → Type 0) → (D → ℕ) → (D → Counts) → Outcome → Log D → Log D → Type 0
+HasCalled honest tears failures counts outcome.Quiet old new = new ≡ old
+HasCalled honest tears failures counts (outcome.Appended appending) old new =
+    (new.other ≡ old.other) × HasCause (as_appended appending) (failures old.disk) (failures new.disk) × AppendCalls (as_appended appending) (counts old.disk) (counts new.disk)
+HasCalled honest tears failures counts outcome.Failed old new = OneRises failures old new
+HasCalled honest tears failures counts (outcome.Reread survived appended) old new = RisesBy failures appended old new
+
+-- Which events may want memory: a request to end what stands never does, but that a commit in one phase has to write what
+-- it commits.
 abbrev pub may_want : Request → Bool
-may_want (Open flags info) = false
-may_want (Close flags) = false
-may_want (End flags xid) = false
-may_want (Commit flags xid) = false
-may_want (Rollback flags xid) = false
-may_want (Doom xid) = false
-may_want _ = true
+may_want (Start flags xid) = true
+may_want (Prepare flags xid) = true
+may_want (Commit flags xid) = has flags TMONEPHASE
+may_want (Recover flags count) = true
+may_want (Get key) = true
+may_want (Put key value) = true
+may_want (Delete key) = true
+may_want Restart = true
+may_want _ = false
 
 abbrev pub may_want_memory : Event → Bool
 may_want_memory Connect = true
@@ -61,9 +112,12 @@ abbrev pub IsPinned : Event → Reply → Type 0
 IsPinned event reply = is_memory reply.detail ≡ true → (may_want_memory event ≡ true) × (reply ≡ wanted_memory event)
 
 -- what is said of every call
-pub record FullyAnswered (m : Kept) (event : Event) (reply : Reply) (m' : Kept) : Type 0 where
-  pub answered : Answered m event reply m'
+pub record FullyAnswered {D : Type 0} (honest : Type 0) (tears : List ℕ → ℕ → List ℕ → List ℕ → Type 0) (seen : D → List ℕ) (may_leave : D → List ℕ → Type 0) (failures : D → ℕ) (counts : D → Counts) (m : Manager D) (event : Event) (reply : Reply) (m' : Manager D) : Type 0 where
+  pub answered : Answered honest tears seen may_leave m event reply m'
   pub pinned : IsPinned event reply
+  -- a restart that found its log unreadable tells that it failed: only with the premises that is the device's doing
+  pub called : is_memory reply.detail ≡ false → (s : State) → ManagerStandsFor honest tears seen may_leave m s → Trusts honest tears ⊎ (is_restart event ≡ false)
+      → HasCalled honest tears failures counts m'.outcome m.log m'.log
 
 -- the reply that a connect's result stands for
 abbrev pub connect_reply : Result ℕ ConnectFault → Reply
@@ -71,26 +125,25 @@ connect_reply (Ok number) = carrying (body.Number number)
 connect_reply (Err Full) = detailed XAER_RMERR detail.Limit
 connect_reply (Err Memory) = detailed XAER_RMFAIL detail.Memory
 
--- a request in an event is one that some frame spells
-abbrev pub IsEvent : Event → Type 0
-IsEvent Connect = Unit {0}
-IsEvent (Hangup session) = Unit {0}
-IsEvent (Call session request) = IsRequest request
+-- the events with their outcomes and replies, those that wanted memory left out
+abbrev pub recorded : List Event → List Outcome → List Reply → List Entry
+recorded [] outcomes replies = []
+recorded (event ∷ events) [] replies = []
+recorded (event ∷ events) (o ∷ outcomes) [] = []
+recorded (event ∷ events) (o ∷ outcomes) (reply ∷ replies) =
+    if is_memory reply.detail then recorded events outcomes replies
+    else record { happening = Asked event; outcome = o; reply = reply } ∷ recorded events outcomes replies
 
-abbrev pub AreEvents : List Event → Type 0
-AreEvents events = AllByRecursion IsEvent events
+abbrev pub no_restart : List Event → Bool
+no_restart [] = true
+no_restart (event ∷ events) = if is_restart event then false else no_restart events
 
--- the events with their replies, those that wanted memory left out
-abbrev pub recorded : List Event → List Reply → List Entry
-recorded [] replies = []
-recorded (event ∷ events) [] = []
-recorded (event ∷ events) (reply ∷ replies) =
-    if is_memory reply.detail then recorded events replies
-    else record { happening = Asked event; outcome = Quiet; reply = reply } ∷ recorded events replies
-
--- the events and their replies are a legal history
-abbrev pub AnswersAll : Kept → List Event → List Reply → Kept → Type 0
-AnswersAll m events replies m' = (s : State) → StandsFor m s → (s' : State) × Leads s (recorded events replies) s' × StandsFor m' s'
+-- With some outcomes, one for each event, the events and their replies are a legal history. Without a restart among them
+-- nothing is asked of the type of disks.
+abbrev pub AnswersAll : {D : Type 0} → Type 0 → (List ℕ → ℕ → List ℕ → List ℕ → Type 0) → (D → List ℕ) → (D → List ℕ → Type 0) → Manager D → List Event → List Reply → Manager D → Type 0
+AnswersAll honest tears seen may_leave m events replies m' =
+    (s : State) → ManagerStandsFor honest tears seen may_leave m s → Trusts honest tears ⊎ (no_restart events ≡ true)
+    → (outcomes : List Outcome) × (s' : State) × (length outcomes ≡ length events) × Leads s (recorded events outcomes replies) s' × ManagerStandsFor honest tears seen may_leave m' s'
 
 -- each of the replies is pinned, and there are as many as events
 abbrev pub ArePinned : List Event → List Reply → Type 0

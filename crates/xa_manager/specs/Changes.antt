@@ -1,6 +1,8 @@
 -- What gets and puts change of what a manager keeps.
 use Rattle.std.specs.Prelude.{ℕ, ◌≡◌, ◌≢◌, ◌≤◌, Option, List, Vec, option_map}
 use Rattle.std.specs.declared.alloc.Global.{Global}
+use Rattle.mv_chain.specs.declared.fate.Fate.{Fate}
+use Rattle.mv_chain.specs.declared.fate.Fate.TheVariants.{Committed, RolledBack}
 use Rattle.mv_chain.specs.History.{seen, has_open, is_late, IsUnsettled}
 use Rattle.mv_rules.specs.declared.answers.Got.{Got}
 use Rattle.mv_rules.specs.declared.answers.Got.TheVariants as got_as
@@ -8,7 +10,14 @@ use Rattle.mv_rules.specs.declared.answers.Put.{Put}
 use Rattle.mv_rules.specs.declared.answers.Put.TheVariants as put_as
 use Rattle.mv_rules.specs.History.{History, answer_of, reads_after, open_keys, put_of, after_put}
 use Rattle.mv_rules.specs.Records.{StandsFor as RecordsStandFor}
+use Rattle.xa_codes.specs.declared.direction.Direction.{Direction}
+use Rattle.xa_codes.specs.declared.direction.Direction.TheVariants.{Commit, Rollback}
 use Rattle.xa_manager.specs.Kept.{Kept}
+
+-- the fate of a branch that is completed in this direction
+abbrev pub fate_of : Direction → Fate
+fate_of Commit = Committed
+fate_of Rollback = RolledBack
 
 -- the bytes of a value
 abbrev pub items_of : Option (Vec ℕ Global) → Option (List ℕ)

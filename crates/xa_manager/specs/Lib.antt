@@ -1,5 +1,13 @@
 pub mod Kept
-pub mod Managed
 pub mod Stands
+pub mod LogStands
+pub mod Managed
 pub mod Changes
 pub mod Answered
+pub mod Turns
+pub mod Files
+pub mod Rebuilding
+pub mod Rereading
+pub mod Opening
+pub mod Faults
+pub mod CrashLaws

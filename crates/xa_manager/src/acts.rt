@@ -1,22 +1,23 @@
 ghost use Rattle.std.specs.Prelude.{◌≡◌, ◌+◌, None, Some, true, IfOk, OnOk, OnErr, IsSome};
-ghost use Rattle.xa_model.specs.State.{State, known_of, timestamp_of};
+ghost use Rattle.xa_model.specs.State.{State, InDoubt, known_as, known_of, timestamp_of};
 ghost use Rattle.xa_model.specs.Associations.{begun, joined, resumed, not_resumed, suspended, not_suspended, ended, failed};
-ghost use Rattle.xa_model.specs.Branches.{rolled_back, committed};
-ghost use Rattle.xa_model.specs.Sound.{IsSound, is_at_work};
+ghost use Rattle.xa_model.specs.Branches.{rolled_back, committed, decided_by, forgotten};
+ghost use Rattle.xa_model.specs.Completions.{is_completed};
+ghost use Rattle.xa_model.specs.Loggable.{IsRecoverable};
 ghost use Rattle.xa_assoc.specs.Seats.{opened_at};
 ghost use Rattle.xa_assoc.specs.Sessions.{begin_refusal_of, resume_refusal_of, suspend_refusal_of};
 ghost use Rattle.xa_branch.specs.Calls.{marked_with};
 ghost use Rattle.xa_branch.specs.Kinds.{ended_kind, resumed_kind};
 ghost use Rattle.xa_manager.specs.Kept.{kept_of};
-ghost use Rattle.xa_manager.specs.Stands.{StandsFor, Becomes, Stays};
-ghost use Rattle.xa_manager.specs.Changes.{Gets, Puts, items_of};
+ghost use Rattle.xa_manager.specs.Stands.{StandsFor, Becomes, BecomesAt, Stays};
+ghost use Rattle.xa_manager.specs.Changes.{Gets, Puts, items_of, fate_of};
 
 use crate::tables::Tables;
 use mv_chain::Fate;
 use mv_rules::{Got, Put};
 use std::alloc::AllocError;
 use xa_branch::Kind;
-use xa_codes::{Bytes, Code, XA_RBROLLBACK};
+use xa_codes::{Bytes, Code, Direction, XA_RBROLLBACK};
 use xa_xid::Xid;
 
 /// How a session comes to work for a branch, in each table alike, once nothing is refused. What can fail comes first.
@@ -26,7 +27,7 @@ impl Tables {
         requires connected { IsSome (opened_at self.old.sessions session) }
         requires free { (s : State) → StandsFor (kept_of self.old) s → begin_refusal_of s session xid.now ≡ None }
         ensures timestamp { IfOk result (λ t. (s : State) → StandsFor (kept_of self.old) s → t ≡ timestamp_of s.boot (s.given + 1)) }
-        ensures ok { OnOk result ((s : State) → StandsFor (kept_of self.old) s → StandsFor (kept_of self.new) (begun s session xid.now).after) }
+        ensures ok { OnOk result ((s : State) → StandsFor (kept_of self.old) s → IsRecoverable (begun s session xid.now).after → StandsFor (kept_of self.new) (begun s session xid.now).after) }
         ensures err { OnErr result (Stays (kept_of self.old) (kept_of self.new)) }
     {
         self.sessions.begin(session, xid.copied())?;
@@ -41,7 +42,7 @@ impl Tables {
 
     pub fn join_branch(&mut self, session: u64, xid: &Xid) -> Result<(), AllocError>
         requires connected { IsSome (opened_at self.old.sessions session) }
-        ensures ok { OnOk result ((s : State) → StandsFor (kept_of self.old) s → IsSound (joined s session xid.now).after → StandsFor (kept_of self.new) (joined s session xid.now).after) }
+        ensures ok { OnOk result ((s : State) → StandsFor (kept_of self.old) s → IsRecoverable (joined s session xid.now).after → StandsFor (kept_of self.new) (joined s session xid.now).after) }
         ensures err { OnErr result (Stays (kept_of self.old) (kept_of self.new)) }
     {
         self.sessions.join(session, xid.copied())?;
@@ -98,19 +99,44 @@ impl Tables {
 impl Tables {
     /// A branch at work is marked, unless it is.
     pub fn mark_branch(&mut self, xid: &Xid, code: Code)
-        ensures { (s : State) → StandsFor (kept_of self.old) s → IsSound (marked_with code s xid.now) → StandsFor (kept_of self.new) (marked_with code s xid.now) }
+        ensures { (s : State) → StandsFor (kept_of self.old) s → IsRecoverable (marked_with code s xid.now) → StandsFor (kept_of self.new) (marked_with code s xid.now) }
     {
         self.branches.doom(xid, code);
     }
 
-    /// The fate of a branch at work is decided, and it is known no more.
+    /// The fate of a branch at work or of a prepared one is decided, and it is known no more.
     pub fn finish_branch(&mut self, xid: &Xid, fate: Fate)
-        ensures rolled_back { fate ≡ Fate.RolledBack → Becomes (kept_of self.old) (λ s. is_at_work (known_of s.branches xid.now) ≡ true) (λ s. rolled_back s xid.now) (kept_of self.new) }
-        ensures committed { fate ≡ Fate.Committed → Becomes (kept_of self.old) (λ s. is_at_work (known_of s.branches xid.now) ≡ true) (λ s. committed s xid.now) (kept_of self.new) }
+        ensures rolled_back { fate ≡ Fate.RolledBack → BecomesAt (kept_of self.old) (λ s. IsSome (known_of s.branches xid.now)) (λ s. rolled_back s xid.now) (kept_of self.new) }
+        ensures committed { fate ≡ Fate.Committed → BecomesAt (kept_of self.old) (λ s. IsSome (known_of s.branches xid.now)) (λ s. committed s xid.now) (kept_of self.new) }
     {
         let timestamp = self.branches.timestamp(xid);
         self.branches.finish(xid);
         self.records.settle(timestamp, fate);
+    }
+
+    /// The operator completes a prepared branch.
+    pub fn decide_branch(&mut self, xid: &Xid, direction: Direction)
+        ensures { BecomesAt (kept_of self.old) (λ s. known_as s xid.now ≡ InDoubt) (λ s. decided_by s direction xid.now) (kept_of self.new) }
+    {
+        let timestamp = self.branches.timestamp(xid);
+        self.branches.decide(xid, direction);
+        self.records.settle(timestamp, fate_of(direction));
+    }
+
+    /// What the operator completed is forgotten.
+    pub fn forget_branch(&mut self, xid: &Xid)
+        ensures { BecomesAt (kept_of self.old) (λ s. is_completed (known_as s xid.now) ≡ true) (λ s. forgotten s xid.now) (kept_of self.new) }
+    {
+        self.branches.forget(xid);
+    }
+}
+
+pub fn fate_of(direction: Direction) -> Fate
+    ensures { result ≡ fate_of direction }
+{
+    match direction {
+        Direction::Commit => Fate::Committed,
+        Direction::Rollback => Fate::RolledBack,
     }
 }
 

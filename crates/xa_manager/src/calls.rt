@@ -1,58 +1,89 @@
-ghost use Rattle.std.specs.Prelude.{◌≡◌, false, true, IfOk, IsOk, OnErr, IsSome};
-ghost use Rattle.xa_model.specs.Early.{call_of, is_built};
-ghost use Rattle.xa_model.specs.Step.{row, respond};
+ghost use Rattle.std.specs.Prelude.{◌≡◌, IfOk, OnErr, IfSome, IsOk, IsSome, None, true, false};
 ghost use Rattle.xa_model.specs.declared.event.Event.{Event};
+ghost use Rattle.xa_model.specs.Early.{call_of, passes_down, has_wrong_count, early_refusal};
+ghost use Rattle.xa_model.specs.Step.{row};
+ghost use Rattle.xa_model.specs.Events.{IsAsked, asks_restart};
+ghost use Rattle.xa_assoc.specs.Refusals.{is_memory};
 ghost use Rattle.xa_assoc.specs.Seats.{opened_at};
-ghost use Rattle.xa_manager.specs.Answered.{may_want};
-ghost use Rattle.xa_manager.specs.Kept.{kept_of};
-ghost use Rattle.xa_manager.specs.Stands.{Follows, Stays};
+ghost use Rattle.xa_manager.specs.Answered.{StaysFor, may_want};
+ghost use Rattle.xa_manager.specs.Turns.{HasDone, TakesTurn};
 
+use crate::done::Done;
 use crate::early::early_refusal;
-use crate::replies::plain;
-use crate::tables::Tables;
+use crate::manager::Manager;
 use std::alloc::AllocError;
-use xa_codes::XAER_INVAL;
+use xa_disk::Disk;
 use xa_frame::{Reply, Request};
 
-/// All requests.
-impl Tables {
-    /// Answers a request of a session.
-    pub fn call(&mut self, session: u64, request: Request) -> Result<Reply, AllocError>
-        ensures ok { IfOk result (λ r. Follows (kept_of self.old) (λ s. respond s (Event.Call session request)) r (kept_of self.new)) }
-        ensures err { OnErr result (Stays (kept_of self.old) (kept_of self.new)) }
-        ensures room { may_want request ≡ false → IsOk result }
+/// The way of a request.
+impl<D: Disk> Manager<D> {
+    /// How a request of a session is refused before its row is looked at.
+    fn refusal(&self, session: u64, request: &Request) -> Option<Reply>
+        ensures value { result ≡ early_refusal self.now.up self.now.tables.name (opened_at self.now.tables.sessions session) request.now }
+        ensures served { IfSome result (λ r. is_memory r.detail ≡ false) }
+        ensures connected { result ≡ None → IsSome (opened_at self.now.tables.sessions session) }
+        ensures counted { result ≡ None → has_wrong_count request.now ≡ false }
+        ensures answered { result ≡ None → self.now.up ≡ false → passes_down (call_of request.now) ≡ true }
     {
-        let opened = self.sessions.opened_of(session);
-        if let Some(reply) = early_refusal(&self.name, opened, &request) {
-            return Ok(reply);
-        }
-        self.answer(session, request)
+        let opened = self.tables.sessions.opened_of(session);
+        early_refusal(self.up, &self.tables.name, opened, request)
     }
 
-    /// The row of a request that is built, of a connected session.
-    fn answer(&mut self, session: u64, request: Request) -> Result<Reply, AllocError>
-        requires connected { IsSome (opened_at self.old.sessions session) }
-        requires built { is_built (call_of request) ≡ true }
-        ensures ok { IfOk result (λ r. Follows (kept_of self.old) (λ s. row s session request) r (kept_of self.new)) }
-        ensures err { OnErr result (Stays (kept_of self.old) (kept_of self.new)) }
+    /// Answers a request of a session: the refusals that come before its row, then the row.
+    #[tactic(auto, using(crate::proofs::Calling::refused_done, crate::proofs::Calling::row_done, crate::proofs::Calling::restart_done, crate::proofs::Calling::takes_either))]
+    pub(crate) fn answer(&mut self, session: u64, request: Request) -> Result<Done, AllocError>
+        requires { IsAsked request }
+        ensures ok { IfOk result (λ d. HasDone D.honest D.tears D.seen D.may_leave D.failures D.counts self.old (Event.Call session request) d.reply d.outcome self.new) }
+        ensures err { OnErr result (StaysFor D.honest D.tears D.seen D.may_leave self.old self.new) }
+        ensures outcome { self.new.outcome ≡ self.old.outcome }
+        ensures room { may_want request ≡ false → IsOk result }
+    {
+        if let Some(reply) = self.refusal(session, &request) {
+            return Ok(Done::now(reply));
+        }
+        match &request {
+            Request::Open { .. } => Ok(Done::now(self.tables.open(session))),
+            Request::Close { .. } => Ok(Done::now(self.tables.close(session))),
+            Request::Restart => self.asked_restart(),
+            _ => self.answer_up(session, request),
+        }
+    }
+
+    /// The row of a request that only a manager answers which is up, of a connected session.
+    fn answer_up(&mut self, session: u64, request: Request) -> Result<Done, AllocError>
+        requires asked { IsAsked request }
+        requires other { asks_restart request ≡ false }
+        requires counted { has_wrong_count request ≡ false }
+        requires up { self.old.up ≡ true }
+        requires connected { IsSome (opened_at self.old.tables.sessions session) }
+        ensures ok { IfOk result (λ d. TakesTurn D.honest D.tears D.seen D.may_leave D.failures D.counts self.old (λ s. row s session request) d.reply d.outcome self.new) }
+        ensures err { OnErr result (StaysFor D.honest D.tears D.seen D.may_leave self.old self.new) }
+        ensures outcome { self.new.outcome ≡ self.old.outcome }
         ensures room { may_want request ≡ false → IsOk result }
     {
         match request {
-            Request::Open { .. } => Ok(self.open(session)),
-            Request::Close { .. } => Ok(self.close(session)),
-            Request::Start { flags, xid } => self.start(session, flags, &xid),
-            Request::End { flags, xid } => Ok(self.end(session, flags, &xid)),
-            Request::Commit { flags, xid } => Ok(self.commit(flags, &xid)),
+            Request::Start { flags, xid } => Ok(Done::now(
+                self.tables.start(session, flags, &xid)?,
+            )),
+            Request::End { flags, xid } => Ok(Done::now(self.tables.end(session, flags, &xid))),
+            Request::Prepare { xid, .. } => self.prepare(&xid),
+            Request::Commit { flags, xid } => self.commit(flags, &xid),
             Request::Rollback { xid, .. } => Ok(self.rollback(&xid)),
-            Request::Doom { xid } => Ok(self.doom(&xid)),
-            Request::Get { key } => self.get(session, &key),
-            Request::Put { key, value } => self.put(session, &key, Some(value.into_vec())),
-            Request::Delete { key } => self.put(session, &key, None),
-            Request::Prepare { .. }
-            | Request::Forget { .. }
-            | Request::Recover { .. }
-            | Request::Decide { .. }
-            | Request::Restart => Ok(plain(XAER_INVAL)),
+            Request::Forget { xid, .. } => Ok(self.forget(&xid)),
+            Request::Recover { flags, count } => Ok(Done::now(
+                self.tables.recover(session, flags, count)?,
+            )),
+            Request::Get { key } => Ok(Done::now(self.tables.get(session, &key)?)),
+            Request::Put { key, value } => {
+                let value = Some(value.into_vec());
+                Ok(Done::now(self.tables.put(session, &key, value)?))
+            }
+            Request::Delete { key } => Ok(Done::now(self.tables.put(session, &key, None)?)),
+            Request::Decide { direction, xid } => Ok(self.decide(direction, &xid)),
+            Request::Doom { xid } => Ok(Done::now(self.tables.doom(&xid))),
+            Request::Open { .. } => Ok(Done::now(self.tables.open(session))),
+            Request::Close { .. } => Ok(Done::now(self.tables.close(session))),
+            Request::Restart => unreachable!(),
         }
     }
 }

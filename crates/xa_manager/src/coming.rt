@@ -3,7 +3,7 @@ ghost use Rattle.xa_model.specs.Answer.{plain};
 ghost use Rattle.xa_model.specs.Associations.{connect_by, open_by, close_by, hang_up_by};
 ghost use Rattle.xa_manager.specs.Answered.{connect_reply};
 ghost use Rattle.xa_manager.specs.Kept.{kept_of};
-ghost use Rattle.xa_manager.specs.Stands.{Follows, Stays};
+ghost use Rattle.xa_manager.specs.Stands.{Follows, FollowsDown, Stays, StaysDown};
 
 use crate::replies::plain;
 use crate::tables::Tables;
@@ -11,19 +11,22 @@ use xa_assoc::ConnectFault;
 use xa_codes::XA_OK;
 use xa_frame::Reply;
 
-/// How sessions come and go: the rows of the association table without a branch.
+/// How sessions come and go: the rows of the association table without a branch, which a manager answers also while it is down.
 impl Tables {
     /// The number of a new session, the least that is free.
     pub fn connect(&mut self) -> Result<u64, ConnectFault>
         ensures ok { result ≢ Err ConnectFault.Memory → Follows (kept_of self.old) (λ s. connect_by s) (connect_reply result) (kept_of self.new) }
         ensures memory { result ≡ Err ConnectFault.Memory → Stays (kept_of self.old) (kept_of self.new) }
+        ensures down { result ≢ Err ConnectFault.Memory → FollowsDown (kept_of self.old) (λ s. connect_by s) (connect_reply result) (kept_of self.new) }
+        ensures memory_down { result ≡ Err ConnectFault.Memory → StaysDown (kept_of self.old) (kept_of self.new) }
     {
         self.sessions.connect()
     }
 
     /// The session is connected no more, its associations end, and their branches are marked.
     pub fn hangup(&mut self, session: u64)
-        ensures { Follows (kept_of self.old) (λ s. hang_up_by s session) (plain (pos 0)) (kept_of self.new) }
+        ensures up { Follows (kept_of self.old) (λ s. hang_up_by s session) (plain (pos 0)) (kept_of self.new) }
+        ensures down { FollowsDown (kept_of self.old) (λ s. hang_up_by s session) (plain (pos 0)) (kept_of self.new) }
     {
         if let Some(seat) = self.sessions.hangup(session) {
             self.branches.hang_up(&seat.own, seat.active.as_ref());
@@ -31,7 +34,8 @@ impl Tables {
     }
 
     pub fn open(&mut self, session: u64) -> Reply
-        ensures { Follows (kept_of self.old) (λ s. open_by s session) result (kept_of self.new) }
+        ensures up { Follows (kept_of self.old) (λ s. open_by s session) result (kept_of self.new) }
+        ensures down { FollowsDown (kept_of self.old) (λ s. open_by s session) result (kept_of self.new) }
     {
         self.sessions.open(session);
         plain(XA_OK)
@@ -39,7 +43,8 @@ impl Tables {
 
     /// A session with an association of its own isn't closed.
     pub fn close(&mut self, session: u64) -> Reply
-        ensures { Follows (kept_of self.old) (λ s. close_by s session) result (kept_of self.new) }
+        ensures up { Follows (kept_of self.old) (λ s. close_by s session) result (kept_of self.new) }
+        ensures down { FollowsDown (kept_of self.old) (λ s. close_by s session) result (kept_of self.new) }
     {
         match self.sessions.close(session) {
             Err(reply) => reply,

@@ -1,66 +1,163 @@
-ghost use Rattle.std.specs.Prelude.{◌≡◌};
-ghost use Rattle.xa_model.specs.Branches.{commit_one_phase, doom_by};
-ghost use Rattle.xa_model.specs.Step.{commit_by, rollback_by};
+ghost use Rattle.std.specs.Prelude.{◌≡◌, IfOk, OnErr, IsOk, true, false};
+ghost use Rattle.xa_codes.specs.Flags.{has};
+ghost use Rattle.xa_xid.specs.Triple.{IsWithinLimits};
+ghost use Rattle.xa_model.specs.Completions.{prepare_turn, commit_one_phase_turn, commit_two_phase_turn, rollback_turn};
+ghost use Rattle.xa_model.specs.Branches.{doom_by};
+ghost use Rattle.xa_model.specs.Step.{commit_turn};
+ghost use Rattle.xa_manager.specs.Answered.{StaysFor};
 ghost use Rattle.xa_manager.specs.Kept.{kept_of};
 ghost use Rattle.xa_manager.specs.Stands.{Follows};
+ghost use Rattle.xa_manager.specs.Turns.{TakesTurn};
 
+use crate::done::Done;
+use crate::manager::Manager;
 use crate::replies::plain;
 use crate::tables::Tables;
 use mv_chain::Fate;
-use xa_codes::{TMONEPHASE, XA_OK, XA_RBOTHER, XAER_INVAL};
+use std::alloc::AllocError;
+use xa_codes::{Direction, TMONEPHASE, XA_OK, XA_RBOTHER, XA_RDONLY, XA_RETRY, XAER_RMERR};
+use xa_disk::Disk;
 use xa_frame::Reply;
+use xa_record::{Record, Writes, write};
 use xa_xid::Xid;
 
-/// The rows of the branch table: how branches are completed, and marked by the operator.
-impl Tables {
-    /// The commit of a prepared branch in two phases is not built.
-    pub fn commit(&mut self, flags: u32, xid: &Xid) -> Reply
-        ensures { Follows (kept_of self.old) (λ s. commit_by s flags xid.now) result (kept_of self.new) }
+/// The rows of the branch table that log: how branches are prepared and completed.
+impl<D: Disk> Manager<D> {
+    /// A branch without writes isn't logged: it counts as committed. One that would leave too little room in the log is rolled back.
+    /// All memory is taken before the record is appended.
+    pub(crate) fn prepare(&mut self, xid: &Xid) -> Result<Done, AllocError>
+        requires up { self.old.up ≡ true }
+        requires name { IsWithinLimits xid.now }
+        ensures ok { IfOk result (λ d. TakesTurn D.honest D.tears D.seen D.may_leave D.failures D.counts self.old (λ s. prepare_turn s xid.now) d.reply d.outcome self.new) }
+        ensures err { OnErr result (StaysFor D.honest D.tears D.seen D.may_leave self.old self.new) }
+        ensures outcome { self.new.outcome ≡ self.old.outcome }
+    {
+        if let Some(reply) = self.tables.one_phase_refusal(xid) {
+            return Ok(Done::now(reply));
+        }
+        if let Some(code) = self.tables.mark_of(xid) {
+            self.tables.finish_branch(xid, Fate::RolledBack);
+            return Ok(Done::now(plain(code)));
+        }
+        let timestamp = self.tables.branches.timestamp(xid);
+        let writes = self.tables.records.writes_of(timestamp)?;
+        if writes.is_empty() {
+            self.tables.finish_branch(xid, Fate::Committed);
+            return Ok(Done::now(plain(XA_RDONLY)));
+        }
+        let record = Record::Prepared {
+            xid: xid.copied(),
+            timestamp,
+            writes: Writes::new(writes),
+        };
+        let body = write(self.tables.alloc, &record)?;
+        if !self.has_room(body.len(), 1) {
+            return Ok(Done::now(self.tables.log_full(xid)));
+        }
+        self.tables.make_room(xid)?;
+        let answer = self.journal(&body);
+        self.tables.take_prepared(xid, answer);
+        Ok(Done::appended(answer, XAER_RMERR))
+    }
+
+    pub(crate) fn commit(&mut self, flags: u32, xid: &Xid) -> Result<Done, AllocError>
+        requires up { self.old.up ≡ true }
+        requires name { IsWithinLimits xid.now }
+        ensures ok { IfOk result (λ d. TakesTurn D.honest D.tears D.seen D.may_leave D.failures D.counts self.old (λ s. commit_turn s flags xid.now) d.reply d.outcome self.new) }
+        ensures room { has flags TMONEPHASE ≡ false → IsOk result }
+        ensures err { OnErr result (StaysFor D.honest D.tears D.seen D.may_leave self.old self.new) }
+        ensures outcome { self.new.outcome ≡ self.old.outcome }
     {
         if flags & TMONEPHASE == TMONEPHASE {
-            return self.commit_one_phase(xid);
-        }
-        if let Some(reply) = self.two_phase_refusal(xid) {
-            return reply;
-        }
-        match self.heuristic_refusal(xid) {
-            Some(reply) => reply,
-            None => plain(XAER_INVAL),
+            self.commit_one_phase(xid)
+        } else {
+            Ok(self.commit_two_phase(xid))
         }
     }
 
-    fn commit_one_phase(&mut self, xid: &Xid) -> Reply
-        ensures { Follows (kept_of self.old) (λ s. commit_one_phase s xid.now) result (kept_of self.new) }
+    /// A branch whose record is refused is rolled back, and gone.
+    fn commit_one_phase(&mut self, xid: &Xid) -> Result<Done, AllocError>
+        requires up { self.old.up ≡ true }
+        requires name { IsWithinLimits xid.now }
+        ensures ok { IfOk result (λ d. TakesTurn D.honest D.tears D.seen D.may_leave D.failures D.counts self.old (λ s. commit_one_phase_turn s xid.now) d.reply d.outcome self.new) }
+        ensures err { OnErr result (StaysFor D.honest D.tears D.seen D.may_leave self.old self.new) }
+        ensures outcome { self.new.outcome ≡ self.old.outcome }
     {
-        if let Some(reply) = self.one_phase_refusal(xid) {
-            return reply;
+        if let Some(reply) = self.tables.one_phase_refusal(xid) {
+            return Ok(Done::now(reply));
         }
-        if let Some(code) = self.mark_of(xid) {
-            self.finish_branch(xid, Fate::RolledBack);
-            return plain(code);
+        if let Some(code) = self.tables.mark_of(xid) {
+            self.tables.finish_branch(xid, Fate::RolledBack);
+            return Ok(Done::now(plain(code)));
         }
-        self.finish_branch(xid, Fate::Committed);
-        plain(XA_OK)
+        let timestamp = self.tables.branches.timestamp(xid);
+        let writes = self.tables.records.writes_of(timestamp)?;
+        if writes.is_empty() {
+            self.tables.finish_branch(xid, Fate::Committed);
+            return Ok(Done::now(plain(XA_OK)));
+        }
+        let record = Record::Committed {
+            xid: xid.copied(),
+            timestamp,
+            writes: Writes::new(writes),
+        };
+        let body = write(self.tables.alloc, &record)?;
+        if !self.has_room(body.len(), 0) {
+            return Ok(Done::now(self.tables.log_full(xid)));
+        }
+        let answer = self.journal(&body);
+        self.tables.take_committed(xid, answer);
+        Ok(Done::appended(answer, XAER_RMERR))
     }
 
-    /// The rollback of a prepared branch is not built.
-    pub fn rollback(&mut self, xid: &Xid) -> Reply
-        ensures { Follows (kept_of self.old) (λ s. rollback_by s xid.now) result (kept_of self.new) }
+    /// Takes no memory.
+    fn commit_two_phase(&mut self, xid: &Xid) -> Done
+        requires name { IsWithinLimits xid.now }
+        ensures turn { TakesTurn D.honest D.tears D.seen D.may_leave D.failures D.counts self.old (λ s. commit_two_phase_turn s xid.now) result.reply result.outcome self.new }
+        ensures outcome { self.new.outcome ≡ self.old.outcome }
     {
-        if let Some(reply) = self.rollback_refusal(xid) {
-            return reply;
+        if let Some(reply) = self.tables.two_phase_refusal(xid) {
+            return Done::now(reply);
         }
-        if let Some(reply) = self.heuristic_refusal(xid) {
-            return reply;
+        if let Some(reply) = self.tables.heuristic_refusal(xid) {
+            return Done::now(reply);
         }
-        if self.is_settled(xid) {
-            return plain(XAER_INVAL);
-        }
-        let mark = self.mark_of(xid);
-        self.finish_branch(xid, Fate::RolledBack);
-        plain(mark.unwrap_or(XA_OK))
+        let answer = self.journal_small(&Record::Completed {
+            xid: xid.copied(),
+            direction: Direction::Commit,
+        });
+        self.tables.take_completed(xid, Direction::Commit, answer);
+        Done::appended(answer, XA_RETRY)
     }
 
+    /// Of a branch at work nothing is logged. Takes no memory.
+    pub(crate) fn rollback(&mut self, xid: &Xid) -> Done
+        requires name { IsWithinLimits xid.now }
+        ensures turn { TakesTurn D.honest D.tears D.seen D.may_leave D.failures D.counts self.old (λ s. rollback_turn s xid.now) result.reply result.outcome self.new }
+        ensures outcome { self.new.outcome ≡ self.old.outcome }
+    {
+        if let Some(reply) = self.tables.rollback_refusal(xid) {
+            return Done::now(reply);
+        }
+        if let Some(reply) = self.tables.heuristic_refusal(xid) {
+            return Done::now(reply);
+        }
+        if !self.tables.is_settled(xid) {
+            let mark = self.tables.mark_of(xid);
+            self.tables.finish_branch(xid, Fate::RolledBack);
+            return Done::now(plain(mark.unwrap_or(XA_OK)));
+        }
+        let answer = self.journal_small(&Record::Completed {
+            xid: xid.copied(),
+            direction: Direction::Rollback,
+        });
+        self.tables.take_completed(xid, Direction::Rollback, answer);
+        Done::appended(answer, XAER_RMERR)
+    }
+}
+
+/// The operator's mark.
+impl Tables {
     pub fn doom(&mut self, xid: &Xid) -> Reply
         ensures { Follows (kept_of self.old) (λ s. doom_by s xid.now) result (kept_of self.new) }
     {

@@ -1,9 +1,11 @@
 ghost use Rattle.std.specs.Prelude.{◌≡◌, IfSome, IsSome, None, Option, Bool, true, false};
-ghost use Rattle.xa_model.specs.Early.{flags_of, call_of, needs_open, is_async, is_built, has_wrong_info, has_wrong_count, is_invalid, is_opened, early_refusal};
+ghost use Rattle.xa_model.specs.Early.{flags_of, call_of, needs_open, passes_down, is_async, has_wrong_info, has_wrong_count, is_invalid, is_opened, early_refusal};
 ghost use Rattle.xa_assoc.specs.Refusals.{is_memory};
 
 use crate::replies::plain;
-use xa_codes::{Bytes, Call, TMASYNC, XAER_ASYNC, XAER_INVAL, XAER_PROTO, legal_flags};
+use xa_codes::{
+    Bytes, Call, TMASYNC, XAER_ASYNC, XAER_INVAL, XAER_PROTO, XAER_RMFAIL, legal_flags,
+};
 use xa_frame::{Reply, Request};
 
 /// The most XIDs that a recovery lists.
@@ -80,22 +82,24 @@ fn is_async(call: Call, flags: u32) -> bool
     }
 }
 
-/// Whether the call is built so far.
-fn is_built(call: Call) -> bool
-    ensures { result ≡ is_built call }
+/// Whether a manager that is down answers the call.
+fn passes_down(call: Call) -> bool
+    ensures { result ≡ passes_down call }
 {
     match call {
-        Call::Prepare | Call::Forget | Call::Recover | Call::Decide | Call::Restart => false,
-        Call::Open
-        | Call::Close
-        | Call::Start
+        Call::Open | Call::Close | Call::Restart => true,
+        Call::Start
         | Call::End
+        | Call::Prepare
         | Call::Commit
         | Call::Rollback
+        | Call::Recover
+        | Call::Forget
         | Call::Get
         | Call::Put
         | Call::Delete
-        | Call::Doom => true,
+        | Call::Decide
+        | Call::Doom => false,
     }
 }
 
@@ -122,21 +126,27 @@ fn is_invalid(name: &Bytes, request: &Request) -> bool
 {
     let call = call_of(request);
     let flags = flags_of(request);
-    !legal_flags(call, flags)
-        || !is_built(call)
-        || has_wrong_info(name, request)
-        || has_wrong_count(request)
+    !legal_flags(call, flags) || has_wrong_info(name, request) || has_wrong_count(request)
 }
 
 /// The refusals that come before the row of a call. The session is connected if there is a word on whether it is
 /// opened.
-pub fn early_refusal(name: &Bytes, session: Option<bool>, request: &Request) -> Option<Reply>
-    ensures value { result ≡ early_refusal true name.now session request.now }
+pub fn early_refusal(
+    up: bool,
+    name: &Bytes,
+    session: Option<bool>,
+    request: &Request,
+) -> Option<Reply>
+    ensures value { result ≡ early_refusal up name.now session request.now }
     ensures served { IfSome result (λ r. is_memory r.detail ≡ false) }
     ensures connected { result ≡ None → IsSome session }
-    ensures built { result ≡ None → is_built (call_of request.now) ≡ true }
+    ensures counted { result ≡ None → has_wrong_count request.now ≡ false }
+    ensures answered { result ≡ None → up ≡ false → passes_down (call_of request.now) ≡ true }
 {
     let call = call_of(request);
+    if !up && !passes_down(call) {
+        return Some(plain(XAER_RMFAIL));
+    }
     let Some(opened) = session else {
         return Some(plain(XAER_PROTO));
     };

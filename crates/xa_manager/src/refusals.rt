@@ -2,16 +2,19 @@ ghost use Rattle.std.specs.Prelude.{◌≡◌, IfSome, false};
 ghost use Rattle.xa_model.specs.State.{State, known_as, loose_of};
 ghost use Rattle.xa_model.specs.Associations.{loose_refusal};
 ghost use Rattle.xa_model.specs.Branches.{one_phase_refusal, two_phase_refusal, rollback_refusal, heuristic_refusal, doom_refusal, is_associated};
+ghost use Rattle.xa_model.specs.Completions.{decide_refusal, forget_refusal};
 ghost use Rattle.xa_assoc.specs.Refusals.{is_memory};
 ghost use Rattle.xa_assoc.specs.Sessions.{begin_refusal_of, join_refusal_of, resume_refusal_of, suspend_refusal_of, leave_refusal_of};
 ghost use Rattle.xa_manager.specs.Kept.{kept_of};
 ghost use Rattle.xa_manager.specs.Stands.{StandsFor};
 
+use crate::replies::plain;
 use crate::tables::Tables;
 use xa_assoc::loose_refusal;
 use xa_branch::{
-    doom_refusal, heuristic_refusal, one_phase_refusal, rollback_refusal, two_phase_refusal,
+    Known, doom_refusal, heuristic_refusal, one_phase_refusal, rollback_refusal, two_phase_refusal,
 };
+use xa_codes::{XAER_NOTA, XAER_PROTO};
 use xa_frame::Reply;
 use xa_xid::Xid;
 
@@ -77,7 +80,7 @@ impl Tables {
     }
 }
 
-/// How the completion of a branch is refused, and the operator's mark.
+/// How the completion of a branch is refused, and what the operator asks.
 impl Tables {
     pub fn one_phase_refusal(&self, xid: &Xid) -> Option<Reply>
         ensures value { (s : State) → StandsFor (kept_of self.now) s → result ≡ one_phase_refusal (known_as s xid.now) (is_associated s xid.now) }
@@ -106,6 +109,30 @@ impl Tables {
         ensures served { IfSome result (λ r. is_memory r.detail ≡ false) }
     {
         heuristic_refusal(self.branches.known(xid))
+    }
+
+    /// Of an operator's decision: only a prepared branch is decided.
+    pub fn decide_refusal(&self, xid: &Xid) -> Option<Reply>
+        ensures value { (s : State) → StandsFor (kept_of self.now) s → result ≡ decide_refusal (known_as s xid.now) }
+        ensures served { IfSome result (λ r. is_memory r.detail ≡ false) }
+    {
+        match self.branches.known(xid) {
+            Known::Unknown => Some(plain(XAER_NOTA)),
+            Known::InDoubt => None,
+            Known::AtWork(_) | Known::Completed(_) => Some(plain(XAER_PROTO)),
+        }
+    }
+
+    /// Of a Forget: only what the operator completed is forgotten.
+    pub fn forget_refusal(&self, xid: &Xid) -> Option<Reply>
+        ensures value { (s : State) → StandsFor (kept_of self.now) s → result ≡ forget_refusal (known_as s xid.now) }
+        ensures served { IfSome result (λ r. is_memory r.detail ≡ false) }
+    {
+        match self.branches.known(xid) {
+            Known::Unknown => Some(plain(XAER_NOTA)),
+            Known::Completed(_) => None,
+            Known::AtWork(_) | Known::InDoubt => Some(plain(XAER_PROTO)),
+        }
     }
 
     pub fn doom_refusal(&self, xid: &Xid) -> Option<Reply>

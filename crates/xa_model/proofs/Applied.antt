@@ -14,7 +14,7 @@ use Rattle.xa_model.specs.Branches.{as_prepared, as_committed, prepared, committ
 use Rattle.xa_model.specs.Sound.{IsSound, Descends, is_working, is_at_work}
 use Rattle.xa_model.specs.Durable.{Durable, CommittedBranch, PreparedBranch, Pairwise, insert, commits_before, prepares_before, committed_part, prepared_part, durable, last_writes, writes_of, by_name}
 use Rattle.xa_model.specs.Fold.{prepare, commit_writes, complete, prepared_as}
-use Rattle.xa_model.specs.LoggingLaws.{IsIdle}
+use Rattle.xa_model.specs.MayLog.{IsIdle}
 use Rattle.xa_model.proofs.Lists.{found_passes}
 use Rattle.xa_model.proofs.Order.{descends_below}
 use Rattle.xa_model.proofs.Commits.{commit_last}
@@ -28,12 +28,12 @@ abbrev pub prepared_of : Branch → Option PreparedBranch
 prepared_of b = prepared_part b.timestamp (writes_of b.operations) b.phase
 
 -- and has its timestamp
-committed_time : (b : Branch) (p : Phase) (c : CommittedBranch) → committed_part b.timestamp (writes_of b.operations) p ≡ Some c → c.timestamp ≡ b.timestamp
+pub committed_time : (b : Branch) (p : Phase) (c : CommittedBranch) → committed_part b.timestamp (writes_of b.operations) p ≡ Some c → c.timestamp ≡ b.timestamp
 committed_time b (Working x mark) c e = absurd (cc e)
 committed_time b (Prepared x) c e = absurd (cc e)
 committed_time b Committed c e = let same : record { timestamp = b.timestamp; writes = writes_of b.operations } ≡ c = cc e in ap (λ (d : CommittedBranch). d.timestamp) (sym same)
 
-prepared_time : (b : Branch) (p : Phase) (c : PreparedBranch) → prepared_part b.timestamp (writes_of b.operations) p ≡ Some c → c.timestamp ≡ b.timestamp
+pub prepared_time : (b : Branch) (p : Phase) (c : PreparedBranch) → prepared_part b.timestamp (writes_of b.operations) p ≡ Some c → c.timestamp ≡ b.timestamp
 prepared_time b (Working x mark) c e = absurd (cc e)
 prepared_time b Committed c e = absurd (cc e)
 prepared_time b (Prepared x) c e = let same : record { xid = x; timestamp = b.timestamp; writes = writes_of b.operations } ≡ c = cc e in ap (λ (d : PreparedBranch). d.timestamp) (sym same)

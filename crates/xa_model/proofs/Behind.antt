@@ -11,7 +11,8 @@ use Rattle.xa_model.specs.Sound.{IsSound, is_working, is_at_work}
 use Rattle.xa_model.specs.Durable.{Durable, durable, writes_of, insert, named_before, by_name, is_prepared, is_decided}
 use Rattle.xa_model.specs.Fold.{Reading, apply, fits, reading, unread, is_new, is_timely, is_unknown, prepared_as}
 use Rattle.xa_model.specs.Completions.{is_completed}
-use Rattle.xa_model.specs.LoggingLaws.{MayLog, is_in_time, AppliedFits}
+use Rattle.xa_model.specs.MayLog.{MayLog}
+use Rattle.xa_model.specs.LoggingLaws.{is_in_time, AppliedFits}
 use Rattle.xa_model.proofs.Counts.{found_none}
 use Rattle.xa_model.proofs.Inserts.{none_passes}
 use Rattle.xa_model.proofs.Ascending.{parts, is_less, absent, found_in}

@@ -4,7 +4,8 @@ use Rattle.xa_frame.specs.declared.reply.Reply.{Reply}
 use Rattle.xa_model.specs.declared.outcome.Outcome.{Outcome}
 use Rattle.xa_model.specs.State.{State}
 use Rattle.xa_model.specs.Answer.{Answer}
-use Rattle.xa_model.specs.Step.{Happening, step}
+use Rattle.xa_model.specs.Turn.{Happening}
+use Rattle.xa_model.specs.Step.{step}
 use Rattle.xa_model.specs.History.{Entry, Leads}
 use Rattle.xa_model.specs.Laws.{happened}
 

@@ -28,7 +28,7 @@ above_by a b Less e f g = absurd (cc g)
 above_by a b Equal e f g = let same : is_eq Equal ≡ bytes_eq a b = ap is_eq (sym e) ∙ keys_cmp a b in absurd (cc (same, f))
 above_by a b Greater e f g = ap is_lt (reversed (slice_cmp nat_cmp b a) (sym e ∙ nat_list_cmp_total.antisymm a b))
 
-above : (a b : List ℕ) → bytes_eq a b ≡ false → is_lt (slice_cmp nat_cmp a b) ≡ false → is_lt (slice_cmp nat_cmp b a) ≡ true
+pub above : (a b : List ℕ) → bytes_eq a b ≡ false → is_lt (slice_cmp nat_cmp a b) ≡ false → is_lt (slice_cmp nat_cmp b a) ≡ true
 above a b f g = above_by a b (slice_cmp nat_cmp a b) refl f g
 
 same_key : (a b key : List ℕ) → bytes_eq a b ≡ true → bytes_eq b key ≡ bytes_eq a key
@@ -69,7 +69,7 @@ all_by P w v vs new true d here all rest = (here, all.1)
 all_by P w v vs new false true here all rest = (all.0, rest)
 all_by P w v vs new false false here all rest = (here, all)
 
-put_all : (P : Write → Type 0) (w : Write) (ws : List Write) → P w → AllByRecursion P ws → AllByRecursion P (put_write w ws)
+pub put_all : (P : Write → Type 0) (w : Write) (ws : List Write) → P w → AllByRecursion P ws → AllByRecursion P (put_write w ws)
 put_all P w [] here all = (here, tt)
 put_all P w (v ∷ vs) here all = all_by P w v vs (put_write w vs) (bytes_eq v.key w.key) (is_lt (slice_cmp nat_cmp v.key w.key)) here all (put_all P w vs here all.1)
 

@@ -21,7 +21,7 @@ use Rattle.xa_model.proofs.Folds.{stepped}
 abbrev lasts : Durable → ℕ
 lasts d = sizes (map base d.committed) + (sizes (map held d.prepared) + sizes (map known d.decided))
 
-sizes-append : (rs ss : List Record) → sizes (rs ++ ss) ≡ sizes rs + sizes ss
+pub sizes-append : (rs ss : List Record) → sizes (rs ++ ss) ≡ sizes rs + sizes ss
 sizes-append [] ss = omega arith
 sizes-append (r ∷ rs) ss = let rest : sizes (rs ++ ss) ≡ sizes rs + sizes ss = sizes-append rs ss in omega arith
 

@@ -1,8 +1,7 @@
--- What the rows that stand leave of the log.
-use Rattle.std.proofs.Common.{◌≡◌, ℕ, ℤ, ◌+◌, ◌==◌, Bool, true, false, not, ◌&&◌, cond, List, [], ◌∷◌, Option, Some, None, refl, ap, sym, ◌∙◌, subst, arith}
+-- What each event but a restart leaves of the log.
+use Rattle.std.proofs.Common.{◌≡◌, ℕ, ℤ, ◌+◌, Bool, true, false, cond, List, [], ◌∷◌, Option, Some, None, refl, ap, sym, ◌∙◌, subst}
 use Rattle.std.specs.Prelude.{find, map, filter_map, reverse, is_some, option_map, option_and_then}
 use Rattle.std.specs.List.{list_any, AllByRecursion}
-use Rattle.std.proofs.lemmas.Bool.Decides.{nat_tests}
 use Rattle.xa_codes.specs.Flags.{has}
 use Rattle.xa_codes.specs.declared.codes.TheConstants.{XA_RBTRANSIENT, XA_RBOTHER, XA_RBROLLBACK, XA_RBCOMMFAIL}
 use Rattle.xa_codes.specs.declared.flags.TheConstants.{TMONEPHASE, TMJOIN, TMRESUME, TMSUSPEND, TMMIGRATE, TMFAIL}
@@ -11,26 +10,29 @@ use Rattle.xa_frame.specs.declared.request.Request.{Request}
 use Rattle.xa_frame.specs.declared.request.Request.TheVariants.{Open, Close, Start, End, Prepare, Commit, Rollback, Forget, Recover, Get, Put, Delete, Decide, Doom, Restart}
 use Rattle.xa_xid.specs.Triple.{Triple, xid_eq}
 use Rattle.xa_xid.proofs.Same.{xid_eq_itself}
-use Rattle.xa_model.specs.declared.event.Event.{Event}
 use Rattle.xa_model.specs.declared.event.Event.TheVariants as event
-use Rattle.xa_model.specs.State.{State, Session, Association, Read, Branch, Operation, Got, Wrote, Phase, Working, Prepared, Committed, Known, Unknown, AtWork, InDoubt, Completed, known_as, known_of, is_known_as, is_active, active_of, branch_with, own_branch, holders_of, mark_of, change, session_of, suspends, is_loose_with, known_in}
+use Rattle.xa_model.specs.State.{State, Session, Association, Read, Branch, Got, Wrote, Phase, Working, Prepared, Committed, known_as, known_of, is_known_as, is_active, active_of, branch_with, own_branch, mark_of, change, session_of, suspends, is_loose_with, known_in}
 use Rattle.xa_model.specs.Source.{Version, source, is_late}
 use Rattle.xa_model.specs.Answer.{Answer, ok, unless, marked}
 use Rattle.xa_model.specs.Early.{early_refusal}
-use Rattle.xa_model.specs.Associations.{connect_refusal, connected, close_refusal, as_closed, as_opened, is_anyones, with_mark, marked_phase, left_behind, is_worked_by, start_refusal, begun, begin_by, is_taken, join_refusal, joined, join_by, resume_refusal, resumed, not_resumed, resume_by, start_by, end_refusal, loose_refusal, suspended, not_suspended, suspend_by, can_end, ended, failed, leave_by, end_by, mark_in, is_unknown, is_settled}
-use Rattle.xa_model.specs.Branches.{rolled_back, two_phase_refusal, heuristic_refusal, rollback_refusal, doom_refusal, doomed, is_associated, commit_one_phase}
+use Rattle.xa_model.specs.Associations.{connect_refusal, connected, connect_by, hang_up_by, open_by, close_refusal, close_by, as_opened, is_anyones, with_mark, marked_phase, left_behind, is_worked_by, start_refusal, begun, begin_by, is_taken, join_refusal, joined, join_by, resume_refusal, resumed, not_resumed, resume_by, start_by, end_refusal, loose_refusal, suspended, not_suspended, suspend_by, can_end, ended, failed, leave_by, end_by, mark_in}
+use Rattle.xa_model.specs.Branches.{doom_refusal, doomed, doom_by}
 use Rattle.xa_model.specs.Records.{having_done, got, get_from, get_by, busy_refusal, is_full, limit_refusal, came_late, written, in_time, put_from, put_by}
-use Rattle.xa_model.specs.Step.{row, respond, opened_of, is_up, unbuilt, commit_by, roll_back, rollback_by}
+use Rattle.xa_model.specs.Completions.{commit_one_phase_turn, commit_two_phase_turn}
+use Rattle.xa_model.specs.Recovering.{scan_of, scan_from, recovered_from, recover_by}
+use Rattle.xa_model.specs.Step.{row, opened_of, is_up}
+use Rattle.xa_model.specs.Events.{asks_restart}
 use Rattle.xa_model.specs.Sound.{IsSound, is_working, is_at_work}
 use Rattle.xa_model.specs.Durable.{durable, last_writes, by_name, writes_of, committed_part, prepared_part}
-use Rattle.xa_model.specs.LoggingLaws.{KeepsLog}
-use Rattle.xa_model.specs.EventLaws.{is_one_phase, commits_in_one_phase, EventsLogNothing}
+use Rattle.xa_model.specs.LoggingLaws.{KeepsLog, LogsWhatLasts, EventsLogWhatLasts}
 use Rattle.xa_model.proofs.Lists.{found_all}
-use Rattle.xa_model.proofs.Rows.{passed}
 use Rattle.xa_model.proofs.Splits.{split, uncounted, parts, parts_none}
 use Rattle.xa_model.proofs.Applied.{committed_of, prepared_of, same_durable}
-use Rattle.xa_model.proofs.LoggedTurns.{idle_of, gone_keeps}
-use Rattle.xa_model.proofs.Soundness.{respond_sound}
+use Rattle.xa_model.proofs.Seats.{connected_sound, seat_sound, hung_up_sound}
+use Rattle.xa_model.proofs.Working.{start_sound, end_sound}
+use Rattle.xa_model.proofs.Soundness.{close_sound, doom_sound, get_sound, put_sound, recover_sound, reached}
+use Rattle.xa_model.proofs.LoggedTurns.{unless_logs, cond_logs, prepares, commits, commits_in_doubt, rolls_back, decides, forgets}
+use Rattle.xa_model.proofs.LoggedTurns.{itself as logged_itself}
 
 -- what is the same of the log
 record IsSame (s t : State) : Type 0 where
@@ -72,10 +74,6 @@ marked_same (Some code) s left a h k = h
 cond_same : (c : Bool) (s : State) (a b : Answer) → IsSame s a.after → IsSame s b.after → IsSame s (cond c a b).after
 cond_same true s a b h k = h
 cond_same false s a b h k = k
-
-only_false : (c : Bool) (s : State) (a b : Answer) → c ≡ false → IsSame s b.after → IsSame s (cond c a b).after
-only_false true s a b e k = absurd (cc e)
-only_false false s a b e k = k
 
 -- branches
 
@@ -156,29 +154,11 @@ end_same : (s : State) (n flags : ℕ) (xid : Triple) → IsSame s (end_by s n f
 end_same s n flags xid =
     cond_same (has flags TMSUSPEND) s (suspend_by s n (has flags TMMIGRATE) xid) (leave_by s n (has flags TMFAIL) xid) (suspend_same s n (has flags TMMIGRATE) xid) (leave_same s n (has flags TMFAIL) xid)
 
--- the branch table
+-- recoveries
 
-commit_same : (s : State) (flags : ℕ) (xid : Triple) → has flags TMONEPHASE ≡ false → IsSame s (commit_by s flags xid).after
-commit_same s flags xid e =
-    only_false (has flags TMONEPHASE) s (commit_one_phase s xid) _ e
-    (unless_same (two_phase_refusal (known_as s xid)) s _ (λ none. unless_same (heuristic_refusal (known_as s xid)) s (unbuilt s) (λ nor. itself s)))
-
-gone_same : (s : State) (xid : Triple) → KeepsLog s (rolled_back s xid) → IsSame s (rolled_back s xid)
-gone_same s xid k = record { lasts = k.lasts; end = refl; boot = refl; logged_boot = refl; open_record = refl; standing = refl }
-
-roll_back_same : (s : State) (xid : Triple) (k : Known) → known_as s xid ≡ k → is_associated s xid ≡ false → IsSound s → IsSame s (roll_back s xid k).after
-roll_back_same s xid Unknown e free h = itself s
-roll_back_same s xid InDoubt e free h = itself s
-roll_back_same s xid (Completed direction) e free h = itself s
-roll_back_same s xid (AtWork mark) e free h =
-    let gone = gone_same s xid (gone_keeps s xid h (idle_of s xid (ap is_unknown e) free (ap is_settled e))) in
-    marked_same mark s (rolled_back s xid) (ok (rolled_back s xid)) gone gone
-
-rollback_same : (s : State) (xid : Triple) → IsSound s → IsSame s (rollback_by s xid).after
-rollback_same s xid h =
-    unless_same (rollback_refusal (known_as s xid) (is_associated s xid)) s _
-    (λ allowed. unless_same (heuristic_refusal (known_as s xid)) s (roll_back s xid (known_as s xid))
-    (λ none. roll_back_same s xid (known_as s xid) refl (passed _ _ _ (passed _ _ _ allowed).1).0 h))
+recovered_same : (s : State) (n flags count : ℕ) (scan : Option (Option Triple)) → IsSame s (recovered_from s n flags count scan).after
+recovered_same s n flags count None = itself s
+recovered_same s n flags count (Some cursor) = alike s s.given _ s.associations s.reads
 
 -- gets and puts
 
@@ -261,40 +241,45 @@ put_same s n key value (Some (xid, b)) e h =
     (λ none. in_time_same (is_late key b.timestamp s.reads) s (came_late s xid) (written s key value xid)
     (with_mark_same s s.given s.sessions s.associations xid XA_RBTRANSIENT s.reads) (written_same s key value xid b (owned s n xid b e h))))
 
--- all rows
+-- all rows, of a session that is connected
 
-row_same : (s : State) (n : ℕ) (request : Request) → IsSound s → is_one_phase request ≡ false → IsSame s (row s n request).after
-row_same s n (Open flags info) h other = alike s s.given _ s.associations s.reads
-row_same s n (Close flags) h other = unless_same (close_refusal (list_any (is_anyones n) s.associations)) s _ (λ none. alike s s.given _ s.associations s.reads)
-row_same s n (Start flags xid) h other = start_same s n flags xid
-row_same s n (End flags xid) h other = end_same s n flags xid
-row_same s n (Prepare flags xid) h other = itself s
-row_same s n (Commit flags xid) h other = commit_same s flags xid other
-row_same s n (Rollback flags xid) h other = rollback_same s xid h
-row_same s n (Forget flags xid) h other = itself s
-row_same s n (Recover flags count) h other = itself s
-row_same s n (Get key) h other = get_same s key (own_branch s n)
-row_same s n (Put key value) h other = put_same s n key (Some value) (own_branch s n) refl h
-row_same s n (Delete key) h other = put_same s n key None (own_branch s n) refl h
-row_same s n (Decide direction xid) h other = itself s
-row_same s n (Doom xid) h other = unless_same (doom_refusal (known_as s xid)) s (ok (doomed s xid)) (λ none. with_mark_same s s.given s.sessions s.associations xid XA_RBOTHER s.reads)
-row_same s n Restart h other = itself s
+keeps : (s t : State) → IsSame s t → IsSound t → KeepsLog s t
+keeps s t same sound = record {
+  sound = sound;
+  lasts = same.lasts;
+  end = same.end;
+  boot = same.boot;
+  logged_boot = same.logged_boot;
+  open_record = same.open_record;
+  standing = same.standing;
+}
 
-event_same : (s : State) (e : Event) → IsSound s → commits_in_one_phase e ≡ false → IsSame s (respond s e).after
-event_same s event.Connect h other = unless_same (connect_refusal _) s (connected s) (λ none. alike s s.given _ s.associations s.reads)
-event_same s (event.Hangup n) h other = hung_up_same s n _ _
-event_same s (event.Call n request) h other =
-    unless_same (early_refusal (is_up s.standing) s.name (opened_of s n) request) s (row s n request) (λ allowed. row_same s n request h other)
+row_logs : (s : State) (n : ℕ) (request : Request) → IsSound s → is_some (session_of s.sessions n) ≡ true → asks_restart request ≡ false → LogsWhatLasts s (row s n request)
+row_logs s n (Open flags info) h seated other = keeps s (open_by s n).after (alike s s.given _ s.associations s.reads) (seat_sound s n as_opened (λ x. refl) h)
+row_logs s n (Close flags) h seated other =
+    keeps s (close_by s n).after (unless_same (close_refusal (list_any (is_anyones n) s.associations)) s _ (λ none. alike s s.given _ s.associations s.reads)) (close_sound s n h)
+row_logs s n (Start flags xid) h seated other = keeps s (start_by s n flags xid).after (start_same s n flags xid) (start_sound s n flags xid h seated)
+row_logs s n (End flags xid) h seated other = keeps s (end_by s n flags xid).after (end_same s n flags xid) (end_sound s n flags xid h)
+row_logs s n (Prepare flags xid) h seated other = prepares s xid h
+row_logs s n (Commit flags xid) h seated other =
+    cond_logs (has flags TMONEPHASE) s (commit_one_phase_turn s xid) (commit_two_phase_turn s xid) (λ one. commits s xid h) (commits_in_doubt s xid h)
+row_logs s n (Rollback flags xid) h seated other = rolls_back s xid h
+row_logs s n (Forget flags xid) h seated other = forgets s xid h
+row_logs s n (Recover flags count) h seated other =
+    keeps s (recover_by s n flags count).after (recovered_same s n flags count (scan_from flags (scan_of s.sessions n))) (recover_sound s n flags count h)
+row_logs s n (Get key) h seated other = keeps s (get_by s key (own_branch s n)).after (get_same s key (own_branch s n)) (get_sound s key (own_branch s n) h)
+row_logs s n (Put key value) h seated other =
+    keeps s (put_by s key (Some value) (own_branch s n)).after (put_same s n key (Some value) (own_branch s n) refl h) (put_sound s key (Some value) (own_branch s n) h)
+row_logs s n (Delete key) h seated other =
+    keeps s (put_by s key None (own_branch s n)).after (put_same s n key None (own_branch s n) refl h) (put_sound s key None (own_branch s n) h)
+row_logs s n (Decide direction xid) h seated other = decides s direction xid h
+row_logs s n (Doom xid) h seated other =
+    keeps s (doom_by s xid).after (unless_same (doom_refusal (known_as s xid)) s (ok (doomed s xid)) (λ none. with_mark_same s s.given s.sessions s.associations xid XA_RBOTHER s.reads)) (doom_sound s xid h)
+row_logs s n Restart h seated other = absurd (cc other)
 
-pub events_log_nothing : EventsLogNothing
-events_log_nothing s e h other =
-    let same = event_same s e h other in
-    record {
-      sound = respond_sound s e h;
-      lasts = same.lasts;
-      end = same.end;
-      boot = same.boot;
-      logged_boot = same.logged_boot;
-      open_record = same.open_record;
-      standing = same.standing;
-    }
+pub events_log_what_lasts : EventsLogWhatLasts
+events_log_what_lasts s event.Connect h other = keeps s (connect_by s).after (unless_same (connect_refusal _) s (connected s) (λ none. alike s s.given _ s.associations s.reads)) (connected_sound s h)
+events_log_what_lasts s (event.Hangup n) h other = keeps s (hang_up_by s n).after (hung_up_same s n _ _) (hung_up_sound s n h)
+events_log_what_lasts s (event.Call n request) h other =
+    unless_logs (early_refusal (is_up s.standing) s.name (opened_of s n) request) s (row s n request) (logged_itself s h)
+    (λ allowed. row_logs s n request h (reached (is_up s.standing) s.name request (session_of s.sessions n) allowed) other)

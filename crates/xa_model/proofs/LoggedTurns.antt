@@ -2,6 +2,7 @@
 use Rattle.std.proofs.Common.{◌≡◌, ℤ, Bool, true, false, cond, List, [], ◌∷◌, length, Option, Some, None, refl, ap, ◌∙◌, arith}
 use Rattle.std.proofs.lemmas.Bool.{eqb-true}
 use Rattle.std.proofs.lemmas.Bool.Decides.{nat_tests}
+use Rattle.xa_codes.specs.declared.direction.Direction.{Direction}
 use Rattle.xa_codes.specs.declared.direction.Direction.TheVariants as direction
 use Rattle.xa_codes.specs.declared.codes.TheConstants.{XAER_RMERR, XA_RETRY, XA_RDONLY}
 use Rattle.xa_codes.specs.declared.write.Write.{Write}
@@ -10,16 +11,17 @@ use Rattle.xa_record.specs.declared.record.Record.{Record}
 use Rattle.xa_record.specs.declared.record.Record.TheVariants as logged
 use Rattle.xa_xid.specs.Triple.{Triple}
 use Rattle.xa_model.specs.State.{State, Known, Unknown, AtWork, InDoubt, Completed, known_as, holders_of}
-use Rattle.xa_model.specs.Answer.{plain, answer, ok, marked}
+use Rattle.xa_model.specs.Answer.{plain, answer, ok}
 use Rattle.xa_model.specs.Associations.{is_unknown, is_settled, mark_in, timestamp_in}
 use Rattle.xa_model.specs.Branches.{is_associated, one_phase_refusal, two_phase_refusal, rollback_refusal, heuristic_refusal, rolled_back, committed}
 use Rattle.xa_model.specs.Sound.{IsSound}
 use Rattle.xa_model.specs.Durable.{durable}
 use Rattle.xa_model.specs.Fold.{is_empty, commit_writes}
-use Rattle.xa_model.specs.Step.{Turn, Now}
-use Rattle.xa_model.specs.Logging.{logs, has_room, log_full, unless_now, marked_now, writes_in}
-use Rattle.xa_model.specs.Completions.{prepare_written, commit_written, roll_back_turn, decide_refusal, forget_refusal, is_completed}
-use Rattle.xa_model.specs.LoggingLaws.{IsIdle, MayLog, KeepsLog, LogsWhatLasts, Prepares, CommitsInOnePhase, CommitsInTwoPhases, RollsBack, Decides, Forgets, CallsLogWhatLasts}
+use Rattle.xa_model.specs.Turn.{Turn, Now, unless_now, marked_now}
+use Rattle.xa_model.specs.Logging.{logs, has_room, log_full, writes_in}
+use Rattle.xa_model.specs.Completions.{prepare_written, prepare_turn, commit_written, commit_one_phase_turn, commit_two_phase_turn, roll_back_turn, rollback_turn, decide_refusal, decide_turn, forget_refusal, forget_turn, is_completed}
+use Rattle.xa_model.specs.MayLog.{IsIdle, MayLog}
+use Rattle.xa_model.specs.LoggingLaws.{KeepsLog, LogsWhatLasts}
 use Rattle.xa_model.proofs.Rows.{passed, neither, at_work}
 use Rattle.xa_model.proofs.Names.{gone_sound, committed_sound}
 use Rattle.xa_model.proofs.LastWrites.{last_are_last, last_same}
@@ -29,7 +31,7 @@ use Rattle.xa_model.proofs.Applied.{committed_of, committed_lasts, rolled_back_l
 
 -- turns
 
-unless_logs : (o : Option Reply) (s : State) (t : Turn) → KeepsLog s s → (o ≡ None → LogsWhatLasts s t) → LogsWhatLasts s (unless_now o s t)
+pub unless_logs : (o : Option Reply) (s : State) (t : Turn) → KeepsLog s s → (o ≡ None → LogsWhatLasts s t) → LogsWhatLasts s (unless_now o s t)
 unless_logs None s t h k = k refl
 unless_logs (Some reply) s t h k = h
 
@@ -37,14 +39,14 @@ marked_logs : (o : Option ℤ) (s left : State) (t : Turn) → KeepsLog s left �
 marked_logs None s left t h k = k
 marked_logs (Some code) s left t h k = h
 
-cond_logs : (c : Bool) (s : State) (t u : Turn) → (c ≡ true → LogsWhatLasts s t) → LogsWhatLasts s u → LogsWhatLasts s (cond c t u)
+pub cond_logs : (c : Bool) (s : State) (t u : Turn) → (c ≡ true → LogsWhatLasts s t) → LogsWhatLasts s u → LogsWhatLasts s (cond c t u)
 cond_logs true s t u h k = h refl
 cond_logs false s t u h k = k
 
 logs_lasts : (s : State) (r : Record) (code : ℤ) (left : State) → MayLog s r → KeepsLog s left → LogsWhatLasts s (logs s r code left)
 logs_lasts s r code left may h = (may, refl, h, refl)
 
-itself : (s : State) → IsSound s → KeepsLog s s
+pub itself : (s : State) → IsSound s → KeepsLog s s
 itself s h = record { sound = h; lasts = refl; end = refl; boot = refl; logged_boot = refl; open_record = refl; standing = refl }
 
 -- an idle branch
@@ -91,8 +93,7 @@ read_only_keeps s xid h idle empty = record {
 
 -- calls
 
-prepares : (s : State) (xid : Triple) → IsSound s → LogsWhatLasts s (unless_now (one_phase_refusal (known_as s xid) (is_associated s xid)) s (marked_now (mark_in (known_as s xid)) (rolled_back s xid)
-    (cond (is_empty (writes_in s xid)) (Now (answer (plain XA_RDONLY) (committed s xid))) (prepare_written s xid))))
+pub prepares : (s : State) (xid : Triple) → IsSound s → LogsWhatLasts s (prepare_turn s xid)
 prepares s xid h =
     unless_logs (one_phase_refusal (known_as s xid) (is_associated s xid)) s _ (itself s h)
     (λ allowed. let idle = allowed_idle s xid allowed in
@@ -101,8 +102,7 @@ prepares s xid h =
     (let r = logged.Prepared xid (timestamp_in s xid) (writes_in s xid) in
     cond_logs (has_room s r 1) s (logs s r XAER_RMERR s) (Now (log_full s xid)) (λ room. logs_lasts s r XAER_RMERR s idle (itself s h)) (gone_keeps s xid h idle))))
 
-commits : (s : State) (xid : Triple) → IsSound s → LogsWhatLasts s (unless_now (one_phase_refusal (known_as s xid) (is_associated s xid)) s (marked_now (mark_in (known_as s xid)) (rolled_back s xid)
-    (cond (is_empty (writes_in s xid)) (Now (ok (committed s xid))) (commit_written s xid))))
+pub commits : (s : State) (xid : Triple) → IsSound s → LogsWhatLasts s (commit_one_phase_turn s xid)
 commits s xid h =
     unless_logs (one_phase_refusal (known_as s xid) (is_associated s xid)) s _ (itself s h)
     (λ allowed. let idle = allowed_idle s xid allowed in
@@ -129,31 +129,35 @@ forget_completed (AtWork mark) e = absurd (cc e)
 forget_completed InDoubt e = absurd (cc e)
 forget_completed (Completed direction) e = refl
 
-marked_keeps : (mark : Option ℤ) (s left : State) → KeepsLog s left → KeepsLog s (marked mark left (ok left)).after
-marked_keeps None s left h = h
-marked_keeps (Some code) s left h = h
+marked_keeps : (mark : Option ℤ) (s left : State) → KeepsLog s left → LogsWhatLasts s (marked_now mark left (Now (ok left)))
+marked_keeps mark s left h = marked_logs mark s left (Now (ok left)) h h
 
-rolls_back : (s : State) (xid : Triple) (k : Known) → known_as s xid ≡ k → is_associated s xid ≡ false → IsSound s → LogsWhatLasts s (roll_back_turn s xid k)
-rolls_back s xid Unknown e free h = itself s h
-rolls_back s xid (AtWork mark) e free h =
-    marked_keeps mark s (rolled_back s xid) (gone_keeps s xid h (idle_of s xid (ap is_unknown e) free (ap is_settled e)))
-rolls_back s xid InDoubt e free h = logs_lasts s (logged.Completed xid direction.Rollback) XAER_RMERR s e (itself s h)
-rolls_back s xid (Completed direction) e free h = itself s h
-
-pub calls_log_what_lasts : CallsLogWhatLasts
-calls_log_what_lasts s (Prepares xid) h = prepares s xid h
-calls_log_what_lasts s (CommitsInOnePhase xid) h = commits s xid h
-calls_log_what_lasts s (CommitsInTwoPhases xid) h =
+pub commits_in_doubt : (s : State) (xid : Triple) → IsSound s → LogsWhatLasts s (commit_two_phase_turn s xid)
+commits_in_doubt s xid h =
     unless_logs (two_phase_refusal (known_as s xid)) s _ (itself s h)
     (λ allowed. unless_logs (heuristic_refusal (known_as s xid)) s _ (itself s h)
     (λ none. logs_lasts s (logged.Completed xid direction.Commit) XA_RETRY s (two_phase_doubt (known_as s xid) allowed none) (itself s h)))
-calls_log_what_lasts s (RollsBack xid) h =
+
+rolls_back_known : (s : State) (xid : Triple) (k : Known) → known_as s xid ≡ k → is_unknown k ≡ false → is_associated s xid ≡ false → heuristic_refusal k ≡ None → IsSound s
+    → LogsWhatLasts s (roll_back_turn s xid k)
+rolls_back_known s xid Unknown e known free none h = absurd (cc known)
+rolls_back_known s xid (AtWork mark) e known free none h =
+    marked_keeps mark s (rolled_back s xid) (gone_keeps s xid h (idle_of s xid (ap is_unknown e) free (ap is_settled e)))
+rolls_back_known s xid InDoubt e known free none h = logs_lasts s (logged.Completed xid direction.Rollback) XAER_RMERR s e (itself s h)
+rolls_back_known s xid (Completed direction) e known free none h = absurd (cc none)
+
+pub rolls_back : (s : State) (xid : Triple) → IsSound s → LogsWhatLasts s (rollback_turn s xid)
+rolls_back s xid h =
     unless_logs (rollback_refusal (known_as s xid) (is_associated s xid)) s _ (itself s h)
-    (λ allowed. let free = (passed _ _ _ (passed _ _ _ allowed).1).0 in
-    unless_logs (heuristic_refusal (known_as s xid)) s _ (itself s h) (λ none. rolls_back s xid (known_as s xid) refl free h))
-calls_log_what_lasts s (Decides direction xid) h =
+    (λ allowed. let first = passed _ _ _ allowed in let second = passed _ _ _ first.1 in
+    unless_logs (heuristic_refusal (known_as s xid)) s _ (itself s h) (λ none. rolls_back_known s xid (known_as s xid) refl first.0 second.0 none h))
+
+pub decides : (s : State) (direction : Direction) (xid : Triple) → IsSound s → LogsWhatLasts s (decide_turn s direction xid)
+decides s direction xid h =
     unless_logs (decide_refusal (known_as s xid)) s _ (itself s h)
     (λ allowed. logs_lasts s (logged.Decided xid direction) XAER_RMERR s (decide_doubt (known_as s xid) allowed) (itself s h))
-calls_log_what_lasts s (Forgets xid) h =
+
+pub forgets : (s : State) (xid : Triple) → IsSound s → LogsWhatLasts s (forget_turn s xid)
+forgets s xid h =
     unless_logs (forget_refusal (known_as s xid)) s _ (itself s h)
     (λ allowed. logs_lasts s (logged.Forgotten xid) XAER_RMERR s (forget_completed (known_as s xid) allowed) (itself s h))

@@ -82,10 +82,10 @@ never_below : (x : Triple) (c : Bool) → is_lt (xid_cmp x x) ≡ c → c ≡ fa
 never_below x false e = refl
 never_below x true e = absurd (cc (below_apart x x e, xid_eq_itself x))
 
-names_strict : IsStrict named_before
+pub names_strict : IsStrict named_before
 names_strict = record { never = λ x. never_below x.xid (is_lt (xid_cmp x.xid x.xid)) refl }
 
-less_is : (o : Ordering) → is_lt o ≡ true → o ≡ Less
+pub less_is : (o : Ordering) → is_lt o ≡ true → o ≡ Less
 less_is Less e = refl
 less_is Equal e = absurd (cc e)
 less_is Greater e = absurd (cc e)

@@ -1,24 +1,29 @@
 -- Restarts and openings: what lasts is settled, and the new boot begins with it.
-use Rattle.std.proofs.Common.{◌≡◌, ℕ, ◌+◌, ◌<◌, ◌≤◌, ◌==◌, Bool, true, false, not, ◌&&◌, cond, List, [], ◌∷◌, length, Option, Some, None, refl, ap, sym, subst, arith}
+use Rattle.std.proofs.Common.{◌≡◌, ℕ, ◌+◌, ◌<◌, ◌≤◌, ◌==◌, Bool, true, false, not, ◌&&◌, cond, List, [], ◌∷◌, length, Option, Some, None, refl, ap, sym, ◌∙◌, subst, arith}
 use Rattle.std.specs.Prelude.{filter, filter_map, map, reverse, is_some, nat_lt, option_map, IfSome}
 use Rattle.xa_codes.specs.declared.direction.Direction.TheVariants as direction
 use Rattle.xa_record.specs.declared.record.Record.{Record}
 use Rattle.xa_record.specs.declared.record.Record.TheVariants as logged
-use Rattle.xa_model.specs.State.{State, Session, Branch, Phase, Working, Prepared, Committed, is_known_as, name_of, timestamp_of}
+use Rattle.xa_model.specs.State.{State, Session, Branch, Phase, Working, Prepared, Committed, Up, is_known_as, name_of, timestamp_of}
 use Rattle.xa_codes.specs.declared.codes.TheConstants.{XAER_RMFAIL}
 use Rattle.xa_codes.specs.declared.detail.Detail.TheVariants as detail
 use Rattle.xa_model.specs.Answer.{answer, detailed, ok}
 use Rattle.xa_model.specs.Fold.{apply}
 use Rattle.xa_model.specs.Sound.{IsSound, Descends, is_working}
 use Rattle.xa_model.specs.Durable.{durable, last_writes, by_name, writes_of, committed_part, prepared_part}
-use Rattle.xa_model.specs.Step.{Stops, Opens, refused_opening}
+use Rattle.xa_model.specs.Turn.{Stops, Opens}
+use Rattle.xa_model.specs.Restarting.{refused_opening, fates_with, missed, survived, without_scan, lasts, restarted, boot_became, reopen_became, restarting, reopened, reopening, can_open}
 use Rattle.xa_model.specs.Logging.{applied, down}
-use Rattle.xa_model.specs.Restarting.{fates_with, missed, survived, without_scan, lasts, restarted, boot_became, reopen_became, restarting, reopened, reopening, can_open}
-use Rattle.xa_model.specs.LoggingLaws.{MayLog, IsRecoverable, Fails, BootLasts, RestartLasts, ReopenLasts}
+use Rattle.xa_model.specs.Loggable.{MayBeLast, IsLoggable, IsRecoverable}
+use Rattle.xa_model.specs.LoggingLaws.{Fails, BootLasts, RestartLasts, ReopenLasts}
+use Rattle.std.proofs.lemmas.Bool.{and_parts}
+use Rattle.std.proofs.lemmas.Bool.Decides.{nat_tests}
 use Rattle.xa_model.proofs.Counts.{count_filter, count_map}
 use Rattle.xa_model.proofs.Order.{descends_below}
 use Rattle.xa_model.proofs.Applied.{committed_of, prepared_of, same_durable}
 use Rattle.xa_model.proofs.AppliedDecisions.{applied_lasts, applied_sound}
+use Rattle.xa_model.proofs.Stopped.{down_sound, ended_sound, down_may, ended_may, down_durable, ended_durable}
+use Rattle.xa_model.proofs.Recordable.{recordable, loggable, relogged, applied_loggable, lasting_recordable}
 
 -- branches that were at work are gone, and nothing that lasts
 
@@ -45,7 +50,7 @@ unprepared b (Working x mark) e = refl
 unprepared b (Prepared x) e = absurd (cc e)
 unprepared b Committed e = absurd (cc e)
 
-booted_lasts : (s : State) (boot : ℕ) → durable (restarted s boot) ≡ record (durable s) { boot = boot }
+pub booted_lasts : (s : State) (boot : ℕ) → durable (restarted s boot) ≡ record (durable s) { boot = boot }
 booted_lasts s boot =
     same_durable boot (last_writes (reverse (filter_map committed_of (filter lasts s.branches)))) (last_writes (reverse (filter_map committed_of s.branches)))
     (reverse (filter_map prepared_of (filter lasts s.branches))) (reverse (filter_map prepared_of s.branches)) (by_name s.decided)
@@ -100,101 +105,33 @@ reopened_sound s name log_bytes next h less = let k = booted_sound s next h less
   loose = λ xid. omega arith;
 }
 
--- a manager that is down, or ended, with any open record
+-- a manager that is down, or ended
 
-down_sound : (s : State) (r : Option Record) → IsSound s → IsSound (record (down s) { open_record = r })
-down_sound s r h = record {
-  descends = h.descends;
-  distinct = h.distinct;
-  numbered = h.numbered;
-  active = h.active;
-  own = h.own;
-  connected = h.connected;
-  bound = h.bound;
-  sessions = h.sessions;
-  known = h.known;
-  given = h.given;
-  loose = h.loose;
-}
-
-ended_sound : (s : State) (name : List ℕ) (log_bytes : ℕ) (r : Option Record) → IsSound s → IsSound (record (refused_opening s name log_bytes) { open_record = r })
-ended_sound s name log_bytes r h = record {
-  descends = h.descends;
-  distinct = h.distinct;
-  numbered = λ n. omega arith;
-  active = λ n. omega arith;
-  own = λ n xid. omega arith;
-  connected = λ n none. refl;
-  bound = λ xid none. refl;
-  sessions = omega arith;
-  known = h.known;
-  given = h.given;
-  loose = λ xid. omega arith;
-}
-
--- what may be logged still may
-
-down_may : (s : State) (r : Record) (o : Option Record) → MayLog s r → MayLog (record (down s) { open_record = o }) r
-down_may s (logged.Opened boot) o may = may
-down_may s (logged.Prepared xid t ws) o may = record { free = may.free; working = may.working; timestamp = may.timestamp; writes = may.writes }
-down_may s (logged.Committed xid t ws) o may = record { free = may.free; working = may.working; timestamp = may.timestamp; writes = may.writes }
-down_may s (logged.Completed xid direction) o may = may
-down_may s (logged.Decided xid direction) o may = may
-down_may s (logged.Forgotten xid) o may = may
-down_may s (logged.Base t ws) o may = may
-down_may s (logged.Held xid t ws) o may = may
-down_may s (logged.Known xid direction) o may = may
-
-ended_may : (s : State) (name : List ℕ) (log_bytes : ℕ) (r : Record) (o : Option Record) → MayLog s r → MayLog (record (refused_opening s name log_bytes) { open_record = o }) r
-ended_may s name log_bytes (logged.Opened boot) o may = may
-ended_may s name log_bytes (logged.Prepared xid t ws) o may = record { free = refl; working = may.working; timestamp = may.timestamp; writes = may.writes }
-ended_may s name log_bytes (logged.Committed xid t ws) o may = record { free = refl; working = may.working; timestamp = may.timestamp; writes = may.writes }
-ended_may s name log_bytes (logged.Completed xid direction) o may = may
-ended_may s name log_bytes (logged.Decided xid direction) o may = may
-ended_may s name log_bytes (logged.Forgotten xid) o may = may
-ended_may s name log_bytes (logged.Base t ws) o may = may
-ended_may s name log_bytes (logged.Held xid t ws) o may = may
-ended_may s name log_bytes (logged.Known xid direction) o may = may
-
-if_may : (s t : State) (o : Option Record) → ((r : Record) → MayLog s r → MayLog t r) → IfSome o (MayLog s) → IfSome o (MayLog t)
+if_may : (s t : State) (o : Option Record) → ((r : Record) → MayBeLast s r → MayBeLast t r) → IfSome o (MayBeLast s) → IfSome o (MayBeLast t)
 if_may s t None f h = h
 if_may s t (Some r) f h = f r h
 
 -- fates are told by what lasts and by what the open record does
 
-down_durable : (s : State) (o : Option Record) (r : Record) → durable (applied r (record (down s) { open_record = o })) ≡ durable (applied r s)
-down_durable s o (logged.Opened boot) = refl
-down_durable s o (logged.Prepared xid t ws) = refl
-down_durable s o (logged.Committed xid t ws) = refl
-down_durable s o (logged.Completed xid direction.Commit) = refl
-down_durable s o (logged.Completed xid direction.Rollback) = refl
-down_durable s o (logged.Decided xid direction.Commit) = refl
-down_durable s o (logged.Decided xid direction.Rollback) = refl
-down_durable s o (logged.Forgotten xid) = refl
-down_durable s o (logged.Base t ws) = refl
-down_durable s o (logged.Held xid t ws) = refl
-down_durable s o (logged.Known xid direction) = refl
-
-ended_durable : (s : State) (name : List ℕ) (log_bytes : ℕ) (r : Record) → durable (applied r (refused_opening s name log_bytes)) ≡ durable (applied r s)
-ended_durable s name log_bytes (logged.Opened boot) = refl
-ended_durable s name log_bytes (logged.Prepared xid t ws) = refl
-ended_durable s name log_bytes (logged.Committed xid t ws) = refl
-ended_durable s name log_bytes (logged.Completed xid direction.Commit) = refl
-ended_durable s name log_bytes (logged.Completed xid direction.Rollback) = refl
-ended_durable s name log_bytes (logged.Decided xid direction.Commit) = refl
-ended_durable s name log_bytes (logged.Decided xid direction.Rollback) = refl
-ended_durable s name log_bytes (logged.Forgotten xid) = refl
-ended_durable s name log_bytes (logged.Base t ws) = refl
-ended_durable s name log_bytes (logged.Held xid t ws) = refl
-ended_durable s name log_bytes (logged.Known xid direction) = refl
-
 same_fates : (s t : State) (o : Option Record) → durable t ≡ durable s → ((r : Record) → durable (applied r t) ≡ durable (applied r s)) → fates_with t o ≡ fates_with s o
 same_fates s t None e f = rw e refl
 same_fates s t (Some r) e f = rw (e, f r) refl
 
+down_last : (s : State) (r : Record) → MayBeLast s r → MayBeLast (down s) r
+down_last s r h = record { may = down_may s r s.open_record h.may; limits = h.limits; current = h.current }
+
+ended_last : (s : State) (name : List ℕ) (log_bytes : ℕ) (r : Record) → MayBeLast s r → MayBeLast (refused_opening s name log_bytes) r
+ended_last s name log_bytes r h = record { may = ended_may s name log_bytes r s.open_record h.may; limits = h.limits; current = h.current }
+
 down_fails : (s : State) → IsRecoverable s → Fails s (down s)
 down_fails s h = record {
-  recoverable = record { sound = down_sound s s.open_record h.sound; open_record = if_may s (down s) s.open_record (λ r may. down_may s r s.open_record may) h.open_record; boots = h.boots };
+  recoverable = record {
+    sound = down_sound s s.open_record h.sound;
+    loggable = relogged s (down s) h.loggable refl refl (recordable s h.loggable);
+    open_record = if_may s (down s) s.open_record (down_last s) h.open_record;
+    settled = λ up. absurd (cc up);
+    current = λ up. absurd (cc up);
+  };
   fates = same_fates s (down s) s.open_record refl (down_durable s s.open_record);
 }
 
@@ -202,24 +139,59 @@ ended_fails : (s : State) (name : List ℕ) (log_bytes : ℕ) → IsRecoverable 
 ended_fails s name log_bytes h = record {
   recoverable = record {
     sound = ended_sound s name log_bytes s.open_record h.sound;
-    open_record = if_may s (refused_opening s name log_bytes) s.open_record (λ r may. ended_may s name log_bytes r s.open_record may) h.open_record;
-    boots = h.boots;
+    loggable = relogged s (refused_opening s name log_bytes) h.loggable refl refl (recordable s h.loggable);
+    open_record = if_may s (refused_opening s name log_bytes) s.open_record (ended_last s name log_bytes) h.open_record;
+    settled = λ up. absurd (cc up);
+    current = λ up. absurd (cc up);
   };
   fates = same_fates s (refused_opening s name log_bytes) s.open_record refl (ended_durable s name log_bytes);
 }
 
+-- the next boot
+
+booted_loggable : (s : State) → IsLoggable s → s.logged_boot < 4294967295 → IsLoggable (restarted s (s.logged_boot + 1))
+booted_loggable s h less =
+    loggable (restarted s (s.logged_boot + 1)) (record { first = omega arith; boots = omega arith; last = omega (arith, less) })
+    (lasting_recordable s.boot s.logged_boot (s.logged_boot + 1) s.branches (omega arith) (recordable s h))
+
+pub none_last : (s : State) (o : Option Record) → o ≡ None → IfSome o (MayBeLast s)
+none_last s o e = subst (λ (q : Option Record). IfSome q (MayBeLast s)) (sym e) tt
+
+pub booted_recoverable : (s : State) → IsRecoverable s → s.open_record ≡ None → s.logged_boot < 4294967295 → IsRecoverable (restarted s (s.logged_boot + 1))
+booted_recoverable s h settled less = record {
+  sound = booted_sound s (s.logged_boot + 1) h.sound (omega (arith, h.loggable.boots));
+  loggable = booted_loggable s h.loggable less;
+  open_record = none_last (restarted s (s.logged_boot + 1)) s.open_record settled;
+  settled = λ up. settled;
+  current = λ up. refl;
+}
+
+pub reopened_recoverable : (s : State) (name : List ℕ) (log_bytes : ℕ) → IsRecoverable s → s.open_record ≡ None → s.logged_boot < 4294967295
+    → IsRecoverable (reopened s name log_bytes (s.logged_boot + 1))
+reopened_recoverable s name log_bytes h settled less =
+    let booted = booted_loggable s h.loggable less in record {
+      sound = reopened_sound s name log_bytes (s.logged_boot + 1) h.sound (omega (arith, h.loggable.boots));
+      loggable = relogged (restarted s (s.logged_boot + 1)) (reopened s name log_bytes (s.logged_boot + 1)) booted refl refl (recordable (restarted s (s.logged_boot + 1)) booted);
+      open_record = none_last (reopened s name log_bytes (s.logged_boot + 1)) s.open_record settled;
+      settled = λ up. settled;
+      current = λ up. refl;
+    }
+
+-- its record was lost
+
+opened_last : (t : State) → t.logged_boot < 4294967295 → MayBeLast t (logged.Opened (t.logged_boot + 1))
+opened_last t less = record { may = omega arith; limits = (omega arith, omega (arith, less)); current = λ other. absurd (cc other) }
+
 -- once the open record is settled
 
-none_may : (s : State) (o : Option Record) → o ≡ None → IfSome o (MayLog s)
-none_may s o e = subst (λ (q : Option Record). IfSome q (MayLog s)) (sym e) tt
-
-restarts_by : (s : State) (c : Bool) → IsRecoverable s → s.open_record ≡ None
+restarts_by : (s : State) (c : Bool) → nat_lt s.logged_boot 4294967295 ≡ c → IsRecoverable s → s.open_record ≡ None
     → BootLasts s (cond c (Opens (logged.Opened (s.logged_boot + 1)) (boot_became s (s.logged_boot + 1))) (Stops (answer (detailed XAER_RMFAIL detail.Limit) (down s))))
-restarts_by s true h settled =
-    let less : s.boot < s.logged_boot + 1 = omega (arith, h.boots) in (
+restarts_by s true e h settled =
+    let less : s.logged_boot < 4294967295 = grind (arith, nat_tests) in
+    let lost : State = record (down s) { open_record = Some (logged.Opened (s.logged_boot + 1)) } in (
       refl,
       record {
-        recoverable = record { sound = booted_sound s (s.logged_boot + 1) h.sound less; open_record = none_may (restarted s (s.logged_boot + 1)) s.open_record settled; boots = omega arith };
+        recoverable = booted_recoverable s h settled less;
         lasts = booted_lasts s (s.logged_boot + 1);
         boot = refl;
         up = refl;
@@ -227,27 +199,31 @@ restarts_by s true h settled =
       },
       down_fails s h,
       record {
-        recoverable = record { sound = down_sound s (Some (logged.Opened (s.logged_boot + 1))) h.sound; open_record = omega arith; boots = h.boots };
+        recoverable = record {
+          sound = down_sound s (Some (logged.Opened (s.logged_boot + 1))) h.sound;
+          loggable = relogged s lost h.loggable refl refl (recordable s h.loggable);
+          open_record = opened_last lost less;
+          settled = λ up. absurd (cc up);
+          current = λ up. absurd (cc up);
+        };
         lasts = refl;
         open_record = refl;
       },
     )
-restarts_by s false h settled = down_fails s h
+restarts_by s false e h settled = down_fails s h
 
 restarts : (s : State) → IsRecoverable s → s.open_record ≡ None → BootLasts s (restarting s)
-restarts s h settled = restarts_by s (nat_lt s.logged_boot 4294967295) h settled
+restarts s h settled = restarts_by s (nat_lt s.logged_boot 4294967295) refl h settled
 
-reopens_by : (s : State) (name : List ℕ) (log_bytes : ℕ) (c : Bool) → IsRecoverable s → s.open_record ≡ None
+reopens_by : (s : State) (name : List ℕ) (log_bytes : ℕ) (c : Bool) → (nat_lt s.logged_boot 4294967295 && can_open s log_bytes (s.logged_boot + 1)) ≡ c → IsRecoverable s → s.open_record ≡ None
     → BootLasts s (cond c (Opens (logged.Opened (s.logged_boot + 1)) (reopen_became s name log_bytes (s.logged_boot + 1))) (Stops (ok (refused_opening s name log_bytes))))
-reopens_by s name log_bytes true h settled =
-    let less : s.boot < s.logged_boot + 1 = omega (arith, h.boots) in (
+reopens_by s name log_bytes true e h settled =
+    let first = (and_parts (nat_lt s.logged_boot 4294967295) (can_open s log_bytes (s.logged_boot + 1)) e).0 in
+    let less : s.logged_boot < 4294967295 = grind (arith, nat_tests) in
+    let lost : State = record (refused_opening s name log_bytes) { open_record = Some (logged.Opened (s.logged_boot + 1)) } in (
       refl,
       record {
-        recoverable = record {
-          sound = reopened_sound s name log_bytes (s.logged_boot + 1) h.sound less;
-          open_record = none_may (reopened s name log_bytes (s.logged_boot + 1)) s.open_record settled;
-          boots = omega arith;
-        };
+        recoverable = reopened_recoverable s name log_bytes h settled less;
         lasts = booted_lasts s (s.logged_boot + 1);
         boot = refl;
         up = refl;
@@ -255,15 +231,21 @@ reopens_by s name log_bytes true h settled =
       },
       ended_fails s name log_bytes h,
       record {
-        recoverable = record { sound = ended_sound s name log_bytes (Some (logged.Opened (s.logged_boot + 1))) h.sound; open_record = omega arith; boots = h.boots };
+        recoverable = record {
+          sound = ended_sound s name log_bytes (Some (logged.Opened (s.logged_boot + 1))) h.sound;
+          loggable = relogged s lost h.loggable refl refl (recordable s h.loggable);
+          open_record = opened_last lost less;
+          settled = λ up. absurd (cc up);
+          current = λ up. absurd (cc up);
+        };
         lasts = refl;
         open_record = refl;
       },
     )
-reopens_by s name log_bytes false h settled = ended_fails s name log_bytes h
+reopens_by s name log_bytes false e h settled = ended_fails s name log_bytes h
 
 reopens : (s : State) (name : List ℕ) (log_bytes : ℕ) → IsRecoverable s → s.open_record ≡ None → BootLasts s (reopening name log_bytes s)
-reopens s name log_bytes h settled = reopens_by s name log_bytes (nat_lt s.logged_boot 4294967295 && can_open s log_bytes (s.logged_boot + 1)) h settled
+reopens s name log_bytes h settled = reopens_by s name log_bytes (nat_lt s.logged_boot 4294967295 && can_open s log_bytes (s.logged_boot + 1)) refl h settled
 
 -- the open record is settled
 
@@ -282,38 +264,58 @@ settled_sound s h = record {
   loose = h.loose;
 }
 
-applied_boots : (s : State) (r : Record) → MayLog s r → s.boot ≤ s.logged_boot → (applied r s).boot ≤ (applied r s).logged_boot
-applied_boots s (logged.Opened boot) may h = omega (arith, h, may)
-applied_boots s (logged.Prepared xid t ws) may h = h
-applied_boots s (logged.Committed xid t ws) may h = h
-applied_boots s (logged.Completed xid direction.Commit) may h = h
-applied_boots s (logged.Completed xid direction.Rollback) may h = h
-applied_boots s (logged.Decided xid direction.Commit) may h = h
-applied_boots s (logged.Decided xid direction.Rollback) may h = h
-applied_boots s (logged.Forgotten xid) may h = h
-applied_boots s (logged.Base t ws) may h = h
-applied_boots s (logged.Held xid t ws) may h = h
-applied_boots s (logged.Known xid direction) may h = h
+pub applied_standing : (s : State) (r : Record) → (applied r s).standing ≡ s.standing
+applied_standing s (logged.Opened boot) = refl
+applied_standing s (logged.Prepared xid t ws) = refl
+applied_standing s (logged.Committed xid t ws) = refl
+applied_standing s (logged.Completed xid direction.Commit) = refl
+applied_standing s (logged.Completed xid direction.Rollback) = refl
+applied_standing s (logged.Decided xid direction.Commit) = refl
+applied_standing s (logged.Decided xid direction.Rollback) = refl
+applied_standing s (logged.Forgotten xid) = refl
+applied_standing s (logged.Base t ws) = refl
+applied_standing s (logged.Held xid t ws) = refl
+applied_standing s (logged.Known xid direction) = refl
 
-missed_recoverable : (s : State) → IsRecoverable s → IsRecoverable (missed s)
-missed_recoverable s h = record { sound = settled_sound s h.sound; open_record = tt; boots = h.boots }
+pub missed_recoverable : (s : State) → IsRecoverable s → IsRecoverable (missed s)
+missed_recoverable s h = record {
+  sound = settled_sound s h.sound;
+  loggable = relogged s (missed s) h.loggable refl refl (recordable s h.loggable);
+  open_record = tt;
+  settled = λ up. refl;
+  current = h.current;
+}
 
-survived_recoverable : (s : State) (r : Record) → IsRecoverable s → MayLog s r → IsRecoverable (survived s r)
-survived_recoverable s r h may = record { sound = settled_sound (applied r s) (applied_sound s r h.sound may); open_record = tt; boots = applied_boots s r may h.boots }
+-- a manager with an open record isn't up
+not_up : (s : State) (r : Record) → IsRecoverable s → s.open_record ≡ Some r → (applied r s).standing ≡ Up → ⊥
+not_up s r h found up = let none : s.open_record ≡ None = h.settled (sym (applied_standing s r) ∙ up) in some_none r (sym found ∙ none)
+  where
+    some_none : (r : Record) → Some r ≡ None → ⊥
+    some_none r e = cc e
 
-found_restarts : (s : State) (o : Option Record) → IsRecoverable s → IfSome o (MayLog s)
+pub survived_recoverable : (s : State) (r : Record) → IsRecoverable s → s.open_record ≡ Some r → MayBeLast s r → IsRecoverable (survived s r)
+survived_recoverable s r h found last =
+    let loggable = applied_loggable s r h.loggable last.may last.limits in record {
+      sound = settled_sound (applied r s) (applied_sound s r h.sound last.may);
+      loggable = relogged (applied r s) (survived s r) loggable refl refl (recordable (applied r s) loggable);
+      open_record = tt;
+      settled = λ up. refl;
+      current = λ up. absurd (not_up s r h found up);
+    }
+
+found_restarts : (s : State) (o : Option Record) → IsRecoverable s → s.open_record ≡ o → IfSome o (MayBeLast s)
     → IfSome o (λ r. (durable (survived s r) ≡ apply r (durable s)) × IfSome (option_map (λ q. restarting (survived s q)) o) (BootLasts (survived s r)))
-found_restarts s None h may = tt
-found_restarts s (Some r) h may = (applied_lasts s r h.sound may, restarts (survived s r) (survived_recoverable s r h may) refl)
+found_restarts s None h found last = tt
+found_restarts s (Some r) h found last = (applied_lasts s r h.sound last.may, restarts (survived s r) (survived_recoverable s r h found last) refl)
 
-found_reopens : (s : State) (name : List ℕ) (log_bytes : ℕ) (o : Option Record) → IsRecoverable s → IfSome o (MayLog s)
+found_reopens : (s : State) (name : List ℕ) (log_bytes : ℕ) (o : Option Record) → IsRecoverable s → s.open_record ≡ o → IfSome o (MayBeLast s)
     → IfSome o (λ r. (durable (survived s r) ≡ apply r (durable s)) × IfSome (option_map (λ q. reopening name log_bytes (survived s q)) o) (BootLasts (survived s r)))
-found_reopens s name log_bytes None h may = tt
-found_reopens s name log_bytes (Some r) h may = (applied_lasts s r h.sound may, reopens (survived s r) name log_bytes (survived_recoverable s r h may) refl)
+found_reopens s name log_bytes None h found last = tt
+found_reopens s name log_bytes (Some r) h found last = (applied_lasts s r h.sound last.may, reopens (survived s r) name log_bytes (survived_recoverable s r h found last) refl)
 
 pub restart_lasts : RestartLasts
-restart_lasts s h = (down_fails s h, found_restarts s s.open_record h h.open_record, refl, restarts (missed s) (missed_recoverable s h) refl)
+restart_lasts s h = (down_fails s h, found_restarts s s.open_record h refl h.open_record, refl, restarts (missed s) (missed_recoverable s h) refl)
 
 pub reopen_lasts : ReopenLasts
 reopen_lasts s name log_bytes h =
-    (ended_fails s name log_bytes h, found_reopens s name log_bytes s.open_record h h.open_record, refl, reopens (missed s) name log_bytes (missed_recoverable s h) refl)
+    (ended_fails s name log_bytes h, found_reopens s name log_bytes s.open_record h refl h.open_record, refl, reopens (missed s) name log_bytes (missed_recoverable s h) refl)

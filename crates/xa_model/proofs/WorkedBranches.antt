@@ -1,6 +1,6 @@
 -- The worked refusals of the branch table compute.
 use Rattle.std.proofs.Common.{refl}
-use Rattle.xa_model.specs.WorkedBranches.{OnePhaseRefused, TwoPhaseRefused, RollbackRefused, DoomRefused, RecordsRefused}
+use Rattle.xa_model.specs.WorkedBranches.{OnePhaseRefused, TwoPhaseRefused, RollbackRefused, PrepareRefused, DoomRefused, RecordsRefused}
 
 pub one_phase_refused : OnePhaseRefused
 one_phase_refused = refl
@@ -10,6 +10,9 @@ two_phase_refused = refl
 
 pub rollback_refused : RollbackRefused
 rollback_refused = refl
+
+pub prepare_refused : PrepareRefused
+prepare_refused = refl
 
 pub doom_refused : DoomRefused
 doom_refused = refl

@@ -16,7 +16,7 @@ use Rattle.xa_record.specs.declared.record.Record.TheVariants.{Opened, Prepared,
 use Rattle.xa_model.specs.State.{without}
 use Rattle.xa_model.specs.State.{Decided as Decision}
 use Rattle.xa_model.specs.Durable.{Durable, CommittedBranch, PreparedBranch, Pairwise, keys_before, insert, commit, commits_before, prepares_before, named_before, is_written, left_by, with_writes, last_writes}
-use Rattle.xa_model.specs.Fold.{Reading, apply, complete, commit_prepared, prepared_as, read, fold_from, unread, base, held, known}
+use Rattle.xa_model.specs.Fold.{Reading, apply, complete, commit_prepared, prepared_as, read, fold, fold_from, unread, base, held, known}
 use Rattle.xa_model.specs.DurableLaws.{FoldIsByKey, SnapshotIsWritten}
 use Rattle.xa_model.proofs.Lists.{found_all, without_all}
 use Rattle.xa_model.proofs.Inserts.{all_imply, insert_all}
@@ -65,7 +65,7 @@ some_stamped p t ws h some = record {
 
 -- last writes are within limits
 
-abbrev AreStamped : List CommittedBranch → Type 0
+abbrev pub AreStamped : List CommittedBranch → Type 0
 AreStamped bs = AllByRecursion (λ b. IsStamped b.timestamp b.writes) bs
 
 with_stamped : (t : ℕ) (ws : List Write) (bs : List CommittedBranch) → (1 ≤ length ws → IsStamped t ws) → AreStamped bs → AreStamped (with_writes t ws bs)
@@ -82,13 +82,13 @@ commit_stamped b bs here h = last_stamped (insert commits_before b bs) (insert_a
 
 -- what records within their limits come to
 
-abbrev AreBranches : List PreparedBranch → Type 0
+abbrev pub AreBranches : List PreparedBranch → Type 0
 AreBranches ps = AllByRecursion (λ p. IsBranch p.xid p.timestamp p.writes) ps
 
-record IsWritten (d : Durable) : Type 0 where
-  committed : AreStamped d.committed
-  prepared : AreBranches d.prepared
-  decided : AllByRecursion (λ e. IsWithinLimits e.xid) d.decided
+pub record IsWritten (d : Durable) : Type 0 where
+  pub committed : AreStamped d.committed
+  pub prepared : AreBranches d.prepared
+  pub decided : AllByRecursion (λ e. IsWithinLimits e.xid) d.decided
 
 written_prepared : (xid : Triple) (d : Durable) (o : Option PreparedBranch) → find (prepared_as xid) d.prepared ≡ o → IsWritten d
     → IsWritten (commit_prepared o (record d { prepared = without (prepared_as xid) d.prepared }))
@@ -131,19 +131,22 @@ fold_written : (i : ℕ) (x : Reading) (rs : List Record) (d : Durable) → AllB
 fold_written i x [] d k h e = let same : x.durable ≡ d = cc e in subst IsWritten same h
 fold_written i x (r ∷ rs) d k h e = fold_written (i + 1) (read r x) rs d k.1 (apply_written r x.durable k.0 h) (stepped r x i rs d e).1
 
+pub log_written : (rs : List Record) (d : Durable) → AllByRecursion IsRecord rs → fold rs ≡ Ok d → IsWritten d
+log_written rs d k e = fold_written 0 unread rs d k (record { committed = tt; prepared = tt; decided = tt }) e
+
 -- in which writes ascend by key
 
 all_above : (key : List ℕ) (ws : List Write) → AscendsFrom key ws → AllByRecursion (λ w. is_lt (slice_cmp nat_cmp key w.key) ≡ true) ws
 all_above key [] h = tt
 all_above key (w ∷ ws) h = (ap is_lt h.0, all_above key ws (ascends_lower key w.key ws h.0 h.1))
 
-by_key : (key : List ℕ) (ws : List Write) → AscendsFrom key ws → Pairwise keys_before ws
+pub by_key : (key : List ℕ) (ws : List Write) → AscendsFrom key ws → Pairwise keys_before ws
 by_key key [] h = tt
 by_key key (w ∷ ws) h = (all_above w.key ws h.1, by_key w.key ws h.1)
 
 pub fold_is_by_key : FoldIsByKey
 fold_is_by_key rs d k e =
-    let h : IsWritten d = fold_written 0 unread rs d k (record { committed = tt; prepared = tt; decided = tt }) e in
+    let h : IsWritten d = log_written rs d k e in
     all_imply (λ b. IsStamped b.timestamp b.writes) (λ b. Pairwise keys_before b.writes) (λ b stamped. by_key [] b.writes stamped.writes.ascending) d.committed h.committed
 
 -- its snapshot
@@ -158,7 +161,7 @@ all_map P f (x ∷ xs) h = (h.0, all_map P f xs h.1)
 
 pub snapshot_is_written : SnapshotIsWritten
 snapshot_is_written rs d boot k e low high =
-    let h : IsWritten d = fold_written 0 unread rs d k (record { committed = tt; prepared = tt; decided = tt }) e in (
+    let h : IsWritten d = log_written rs d k e in (
       (low, high),
       all_append IsRecord (map base d.committed) (map held d.prepared ++ map known d.decided) (all_map IsRecord base d.committed h.committed)
           (all_append IsRecord (map held d.prepared) (map known d.decided) (all_map IsRecord held d.prepared h.prepared) (all_map IsRecord known d.decided h.decided)),

@@ -39,11 +39,6 @@ abbrev pub one_phase_refusal : Known → Bool → Option Reply
 one_phase_refusal known is_associated =
     first ((is_unknown known, plain XAER_NOTA) ∷ (is_associated || is_settled known, plain XAER_PROTO) ∷ [])
 
-abbrev pub commit_one_phase : State → Triple → Answer
-commit_one_phase s xid =
-    unless (one_phase_refusal (known_as s xid) (is_associated s xid)) s
-    (marked (mark_in (known_as s xid)) (rolled_back s xid) (ok (committed s xid)))
-
 -- Commit in two phases: a branch that is neither prepared nor completed is not committed so
 
 abbrev pub two_phase_refusal : Known → Option Reply
@@ -65,7 +60,7 @@ doomed s xid = record s { branches = change (is_known_as xid) (with_mark XA_RBOT
 abbrev pub doom_by : State → Triple → Answer
 doom_by s xid = unless (doom_refusal (known_as s xid)) s (ok (doomed s xid))
 
--- What lasts: branches that are prepared, and XIDs whose branches the operator completed. No call that is built leads here.
+-- What lasts: branches that are prepared, and XIDs whose branches the operator completed
 
 abbrev pub prepared_phase : Phase → Phase
 prepared_phase (Working xid mark) = Prepared xid

@@ -11,8 +11,8 @@ use Rattle.xa_model.specs.Answer.{plain, answer, ok, first}
 use Rattle.xa_model.specs.Associations.{is_unknown, mark_in, timestamp_in}
 use Rattle.xa_model.specs.Branches.{is_associated, one_phase_refusal, two_phase_refusal, rollback_refusal, heuristic_refusal, rolled_back, committed}
 use Rattle.xa_model.specs.Fold.{is_empty}
-use Rattle.xa_model.specs.Step.{Turn, Now, roll_back}
-use Rattle.xa_model.specs.Logging.{logs, has_room, log_full, unless_now, marked_now, writes_in}
+use Rattle.xa_model.specs.Turn.{Turn, Now, unless_now, marked_now}
+use Rattle.xa_model.specs.Logging.{logs, has_room, log_full, writes_in}
 
 -- Prepare: a branch that is associated, prepared or completed isn't prepared, as it isn't committed in one phase. A branch
 -- without writes counts as committed, and nothing is logged of it.
@@ -48,7 +48,7 @@ commit_two_phase_turn s xid =
 -- Rollback: only of a prepared branch anything is logged
 abbrev pub roll_back_turn : State → Triple → Known → Turn
 roll_back_turn s xid InDoubt = logs s (logged.Completed xid Rollback) XAER_RMERR s
-roll_back_turn s xid known = Now (roll_back s xid known)
+roll_back_turn s xid known = marked_now (mark_in known) (rolled_back s xid) (Now (ok (rolled_back s xid)))
 
 abbrev pub rollback_turn : State → Triple → Turn
 rollback_turn s xid =

@@ -67,15 +67,6 @@ abbrev pub is_async : Call → ℕ → Bool
 is_async call.Recover flags = false
 is_async _ flags = has flags TMASYNC
 
--- The calls that are built so far. What is not built is refused like an illegal flag.
-abbrev pub is_built : Call → Bool
-is_built call.Prepare = false
-is_built call.Forget = false
-is_built call.Recover = false
-is_built call.Decide = false
-is_built call.Restart = false
-is_built _ = true
-
 -- the open info has to be the manager's name
 abbrev pub has_wrong_info : List ℕ → Request → Bool
 has_wrong_info name (Open flags info) = not (bytes_eq info name)
@@ -88,7 +79,7 @@ has_wrong_count _ = false
 
 abbrev pub is_invalid : List ℕ → Request → Bool
 is_invalid name request =
-    not (legal (call_of request) (flags_of request)) || (not (is_built (call_of request)) || (has_wrong_info name request || has_wrong_count request))
+    not (legal (call_of request) (flags_of request)) || (has_wrong_info name request || has_wrong_count request)
 
 abbrev pub is_opened : Option Bool → Bool
 is_opened (Some opened) = opened

@@ -3,7 +3,8 @@ use Rattle.std.specs.Prelude.{ℕ, ◌≡◌, Option, Some, None, List, [], ◌�
 use Rattle.xa_frame.specs.declared.reply.Reply.{Reply}
 use Rattle.xa_model.specs.declared.outcome.Outcome.{Outcome}
 use Rattle.xa_model.specs.State.{State, Up}
-use Rattle.xa_model.specs.Step.{Happening, step}
+use Rattle.xa_model.specs.Turn.{Happening}
+use Rattle.xa_model.specs.Step.{step}
 
 -- what happened, what the device did, and what was replied
 pub record Entry : Type 0 where

@@ -2,13 +2,16 @@
 use Rattle.std.specs.Prelude.{ℕ, ◌≡◌, false, Some, List, [], ◌∷◌}
 use Rattle.xa_codes.specs.declared.direction.Direction.{Direction}
 use Rattle.xa_xid.specs.Triple.{Triple}
+use Rattle.xa_model.specs.declared.event.Event.{Event}
 use Rattle.xa_model.specs.declared.outcome.Outcome.{Outcome}
 use Rattle.xa_model.specs.State.{State, InDoubt, known_as}
 use Rattle.xa_model.specs.Answer.{Answer}
 use Rattle.xa_model.specs.Branches.{is_associated, prepared, decided_by, forgotten}
-use Rattle.xa_model.specs.Step.{Happening, step}
+use Rattle.xa_model.specs.Turn.{Happening, Asked}
+use Rattle.xa_model.specs.Step.{step}
 use Rattle.xa_model.specs.Sound.{IsSound}
-use Rattle.xa_model.specs.History.{Entry, Leads, fresh}
+use Rattle.xa_model.specs.History.{Entry, Leads}
+use Rattle.xa_model.specs.Events.{is_restart}
 
 -- what happened in a history, each with its outcome
 abbrev pub happened : List Entry → List (Happening × Outcome)
@@ -20,13 +23,10 @@ abbrev pub OneHistory : Type 0
 OneHistory =
     (start : State) (es fs : List Entry) (last end : State) → happened es ≡ happened fs → Leads start es last → Leads start fs end → (es ≡ fs) × (last ≡ end)
 
--- every step keeps a state sound, whatever is asked of it and whatever the device did
+-- every event but a restart keeps a state sound, whatever the device did
 abbrev pub KeepsSound : Type 0
-KeepsSound = (s : State) (happening : Happening) (outcome : Outcome) (a : Answer) → IsSound s → step s happening outcome ≡ Some a → IsSound a.after
-
--- so every history of a new manager goes through sound states
-abbrev pub AlwaysSound : Type 0
-AlwaysSound = (name : List ℕ) (log_bytes : ℕ) (entries : List Entry) (last : State) → Leads (fresh name log_bytes) entries last → IsSound last
+KeepsSound =
+    (s : State) (e : Event) (outcome : Outcome) (a : Answer) → IsSound s → is_restart e ≡ false → step s (Asked e) outcome ≡ Some a → IsSound a.after
 
 -- a state stays sound where a branch without associations is prepared, where the operator completes one in doubt, and where
 -- that is forgotten

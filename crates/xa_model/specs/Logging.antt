@@ -1,5 +1,4 @@
--- What the calls that log append, how much room the log keeps, and what becomes of an append. The manager has no log yet, so
--- no turn of its step is one of these.
+-- What the calls that log append, how much room the log keeps, and what becomes of an append.
 use Rattle.std.specs.Prelude.{ℕ, ◌+◌, ◌*◌, ℤ, Bool, true, false, nat_le, Option, Some, None, List, [], length}
 use Rattle.xa_codes.specs.declared.codes.TheConstants.{XAER_RMFAIL, XA_RBOTHER}
 use Rattle.xa_codes.specs.declared.detail.Detail.TheVariants as detail
@@ -15,7 +14,7 @@ use Rattle.xa_model.specs.Answer.{Answer, plain, detailed, answer, ok}
 use Rattle.xa_model.specs.Branches.{prepared, committed, completed, decided_by, forgotten, rolled_back}
 use Rattle.xa_model.specs.Durable.{durable, writes_of}
 use Rattle.xa_model.specs.Fold.{snapshot, size_of, sizes}
-use Rattle.xa_model.specs.Step.{Turn, Now, Appends}
+use Rattle.xa_model.specs.Turn.{Turn, Appends}
 
 -- Room: what is prepared can always be completed and forgotten, and what the operator completed be forgotten
 
@@ -87,16 +86,6 @@ append_became s r code left Lost = lost s r
 
 abbrev pub logs : State → Record → ℤ → State → Turn
 logs s r code left = Appends r (append_became s r code left)
-
--- What is answered at once
-
-abbrev pub unless_now : Option Reply → State → Turn → Turn
-unless_now (Some reply) s go_on = Now (answer reply s)
-unless_now None s go_on = go_on
-
-abbrev pub marked_now : Option ℤ → State → Turn → Turn
-marked_now (Some code) s go_on = Now (answer (plain code) s)
-marked_now None s go_on = go_on
 
 -- what the branch with this XID wrote
 abbrev pub writes_by : Option Branch → List Write

@@ -7,12 +7,12 @@ use Rattle.xa_record.specs.declared.record.Record.{Record}
 use Rattle.xa_record.specs.declared.record.Record.TheVariants as logged
 use Rattle.xa_model.specs.declared.outcome.Appending.{Appending}
 use Rattle.xa_model.specs.declared.outcome.Appending.TheVariants.{Kept, Refused, Lost}
-use Rattle.xa_model.specs.State.{State, Session, Branch, Operation, Wrote, Prepared, Committed, Up}
+use Rattle.xa_model.specs.State.{State, Session, Branch, Operation, Wrote, Prepared, Committed, Up, Ended}
 use Rattle.xa_model.specs.Answer.{Answer, detailed, answer, ok}
 use Rattle.xa_model.specs.Sound.{is_working}
 use Rattle.xa_model.specs.Durable.{Durable, CommittedBranch, PreparedBranch, durable, insert}
 use Rattle.xa_model.specs.Fold.{snapshot, sizes}
-use Rattle.xa_model.specs.Step.{Turn, Rereads, Rereading, Stops, Opens, refused_opening}
+use Rattle.xa_model.specs.Turn.{Turn, Rereads, Rereading, Stops, Opens}
 use Rattle.xa_model.specs.Logging.{applied, snapshot_end, log_room, prepared_count, append_became, down}
 
 -- What a crash may leave of a state: the record whose append was lost stands in the log, or doesn't
@@ -71,6 +71,11 @@ abbrev pub restart_turn : State → Turn
 restart_turn s =
     Rereads (answer (detailed XAER_RMFAIL detail.Device) (down s)) (option_map (λ r. restarting (survived s r)) s.open_record)
     (Some (restarting (missed s)))
+
+-- An opening that was refused or stopped leaves the state as it was, with the settings handed in and without sessions, and
+-- only an opening may follow it.
+abbrev pub refused_opening : State → List ℕ → ℕ → State
+refused_opening s name log_bytes = record s { name = name; log_bytes = log_bytes; sessions = []; associations = []; standing = Ended }
 
 -- Opened again: as a restart, without sessions, and with the settings handed in. A log that leaves no room for its snapshot
 -- isn't opened.

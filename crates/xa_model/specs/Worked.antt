@@ -10,9 +10,10 @@ use Rattle.xa_frame.specs.declared.request.Request.{Request}
 use Rattle.xa_frame.specs.declared.request.Request.TheVariants.{Open, Start, End, Commit, Get, Put}
 use Rattle.xa_model.specs.declared.event.Event.TheVariants.{Connect, Call}
 use Rattle.xa_model.specs.declared.outcome.Outcome.{Outcome}
-use Rattle.xa_model.specs.declared.outcome.Outcome.TheVariants.{Quiet}
+use Rattle.xa_model.specs.declared.outcome.Outcome.TheVariants.{Quiet, Appended}
+use Rattle.xa_model.specs.declared.outcome.Appending.TheVariants.{Kept}
 use Rattle.xa_model.specs.Answer.{plain, detailed, carrying}
-use Rattle.xa_model.specs.Step.{Happening, Asked}
+use Rattle.xa_model.specs.Turn.{Happening, Asked}
 use Rattle.xa_model.specs.History.{fresh, replay}
 
 -- the name xarm, and what a script writes as hexadecimal
@@ -33,6 +34,10 @@ connects = (Asked Connect, Quiet)
 abbrev pub asks : Request → Happening × Outcome
 asks request = (Asked (Call 1 request), Quiet)
 
+-- it asks, and the record that is appended is kept
+abbrev pub logs : Request → Happening × Outcome
+logs request = (Asked (Call 1 request), Appended Kept)
+
 abbrev pub done : Reply
 done = plain (pos 0)
 
@@ -52,7 +57,7 @@ ReadBack =
     ∷ asks (Start TMNOFLAGS (xid 0xaa (byte 0xbb)))
     ∷ asks (Put (byte 0x6b) (byte 0x76))
     ∷ asks (End TMSUCCESS (xid 0xaa (byte 0xbb)))
-    ∷ asks (Commit TMONEPHASE (xid 0xaa (byte 0xbb)))
+    ∷ logs (Commit TMONEPHASE (xid 0xaa (byte 0xbb)))
     ∷ asks (Start TMNOFLAGS (xid 0xab []))
     ∷ asks (Get (byte 0x6b))
     ∷ [])
@@ -79,7 +84,7 @@ BusyUntilCommitted =
     ∷ asks (Start TMNOFLAGS (xid 0xbb []))
     ∷ asks (Get (byte 0x6b))
     ∷ asks (End TMSUCCESS (xid 0xbb []))
-    ∷ asks (Commit TMONEPHASE (xid 0xaa []))
+    ∷ logs (Commit TMONEPHASE (xid 0xaa []))
     ∷ asks (Start TMNOFLAGS (xid 0xcc []))
     ∷ asks (Get (byte 0x6b))
     ∷ [])

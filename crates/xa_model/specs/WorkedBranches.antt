@@ -1,9 +1,10 @@
 -- Worked rows: each refusal of a row of the branch table and of gets, puts and deletes, and what it leaves.
 use Rattle.std.specs.Prelude.{[], ◌∷◌, ◌++◌}
 use Rattle.xa_codes.specs.declared.codes.TheConstants.{XAER_PROTO, XAER_NOTA, XA_HEURCOM, XA_HEURRB, XA_RBOTHER}
+use Rattle.xa_codes.specs.declared.direction.Direction.TheVariants as direction
 use Rattle.xa_model.specs.Answer.{plain}
 use Rattle.xa_model.specs.Worked.{done, number}
-use Rattle.xa_model.specs.WorkedScripts.{Replied, new_manager, xid_a, time, connects, session, begins, resumes, suspends, migrates, ends, commits, completes, rolls_back, dooms, gets, puts, deletes}
+use Rattle.xa_model.specs.WorkedScripts.{Replied, new_manager, xid_a, time, connects, session, begins, resumes, suspends, migrates, ends, commits, completes, prepares, rolls_back, dooms, decides, forgets, gets, puts, deletes}
 use Rattle.xa_model.specs.WorkedRefusals.{in_doubt, was_committed, was_rolled_back, settled}
 
 -- no commit in one phase with an association left, active, suspended or nobody's, nor of a branch that isn't at work; a
@@ -71,6 +72,31 @@ RollbackRefused =
     ∷ rolls_back 2 xid_a (plain XAER_NOTA)
     ∷ rolls_back 1 was_committed (plain XA_HEURCOM)
     ∷ rolls_back 1 was_rolled_back (plain XA_HEURRB)
+    ∷ [])
+
+-- no prepare with an association left, nor of a branch that isn't at work; no decision but of a branch in doubt, and only what
+-- was decided is forgotten
+abbrev pub PrepareRefused : Type 0
+PrepareRefused =
+    Replied settled (
+    session 1
+    ++ prepares 1 xid_a (plain XAER_NOTA)
+    ∷ begins 1 xid_a (time 4)
+    ∷ prepares 1 xid_a (plain XAER_PROTO)
+    ∷ decides 1 direction.Commit xid_a (plain XAER_PROTO)
+    ∷ forgets 1 xid_a (plain XAER_PROTO)
+    ∷ suspends 1 xid_a done
+    ∷ prepares 1 xid_a (plain XAER_PROTO)
+    ∷ ends 1 xid_a done
+    ∷ dooms 1 xid_a done
+    ∷ prepares 1 xid_a (plain XA_RBOTHER)
+    ∷ decides 1 direction.Commit xid_a (plain XAER_NOTA)
+    ∷ forgets 1 xid_a (plain XAER_NOTA)
+    ∷ prepares 1 in_doubt (plain XAER_PROTO)
+    ∷ forgets 1 in_doubt (plain XAER_PROTO)
+    ∷ prepares 1 was_committed (plain XAER_PROTO)
+    ∷ decides 1 direction.Commit was_committed (plain XAER_PROTO)
+    ∷ decides 1 direction.Commit was_rolled_back (plain XAER_PROTO)
     ∷ [])
 
 -- the operator marks a branch at work, once, by any session that is connected

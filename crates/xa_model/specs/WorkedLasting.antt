@@ -7,12 +7,13 @@ use Rattle.xa_record.specs.declared.record.Record.{Record}
 use Rattle.xa_record.specs.declared.record.Record.TheVariants.{Opened, Prepared, Committed, Completed, Decided, Forgotten}
 use Rattle.xa_model.specs.declared.outcome.Outcome.{Outcome}
 use Rattle.xa_model.specs.State.{State}
-use Rattle.xa_model.specs.Step.{Happening, step}
+use Rattle.xa_model.specs.Turn.{Happening}
+use Rattle.xa_model.specs.Step.{step}
 use Rattle.xa_model.specs.History.{fresh}
 use Rattle.xa_model.specs.Durable.{Durable, durable}
 use Rattle.xa_model.specs.Fold.{fold}
 use Rattle.xa_model.specs.Logging.{applied}
-use Rattle.xa_model.specs.Worked.{xarm, byte, connects, asks}
+use Rattle.xa_model.specs.Worked.{xarm, byte, connects, asks, logs}
 use Rattle.xa_model.specs.WorkedLog.{xid_1, xid_2, write, delete}
 
 -- the state that these happenings lead to
@@ -74,4 +75,4 @@ StatesLeave =
 
 -- What is committed in one phase by a call leaves what its record comes to.
 abbrev pub CommittedLeaves : Type 0
-CommittedLeaves = option_map durable (option_and_then (λ s. led s (asks (request.Commit TMONEPHASE xid_1) ∷ [])) at_work) ≡ Some kept
+CommittedLeaves = option_map durable (option_and_then (λ s. led s (logs (request.Commit TMONEPHASE xid_1) ∷ [])) at_work) ≡ Some kept

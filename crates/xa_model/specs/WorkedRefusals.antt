@@ -1,14 +1,14 @@
 -- Worked rows: each refusal before the row of a call, and each of a row of the association table, and what it leaves.
-use Rattle.std.specs.Prelude.{◌+◌, [], ◌∷◌, ◌++◌}
+use Rattle.std.specs.Prelude.{◌+◌, false, [], ◌∷◌, ◌++◌}
 use Rattle.xa_codes.specs.declared.codes.TheConstants.{XAER_ASYNC, XAER_PROTO, XAER_INVAL, XAER_NOTA, XAER_DUPID, XAER_RMFAIL, XA_RBROLLBACK, XA_RBOTHER}
 use Rattle.xa_codes.specs.declared.direction.Direction.TheVariants as direction
-use Rattle.xa_codes.specs.declared.flags.TheConstants.{TMNOFLAGS, TMASYNC, TMSTARTRSCAN, TMJOIN, TMRESUME, TMSUCCESS, TMFAIL, TMSUSPEND, TMMIGRATE, TMONEPHASE, TMNOWAIT}
+use Rattle.xa_codes.specs.declared.flags.TheConstants.{TMASYNC, TMJOIN, TMRESUME, TMSUCCESS, TMFAIL, TMSUSPEND, TMMIGRATE, TMONEPHASE, TMNOWAIT}
 use Rattle.xa_xid.specs.Triple.{Triple}
-use Rattle.xa_frame.specs.declared.request.Request.TheVariants.{Open, Close, Start, End, Prepare, Commit, Rollback, Forget, Recover, Decide, Restart}
+use Rattle.xa_frame.specs.declared.request.Request.TheVariants.{Open, Close, Start, End, Prepare, Commit, Rollback, Forget, Recover}
 use Rattle.xa_model.specs.State.{State, Prepared, Down}
 use Rattle.xa_model.specs.Answer.{plain}
 use Rattle.xa_model.specs.Worked.{xarm, xid, done, number}
-use Rattle.xa_model.specs.WorkedScripts.{Replied, new_manager, xid_a, xid_b, time, connects, asks_by, opens, closes, session, begins, joins, resumes, suspends, migrates, ends, fails, commits, completes, rolls_back, dooms, gets}
+use Rattle.xa_model.specs.WorkedScripts.{Replied, new_manager, xid_a, xid_b, time, connects, asks_by, opens, closes, session, begins, joins, resumes, suspends, migrates, ends, fails, rolls_back, dooms, gets, restarts}
 
 abbrev pub in_doubt : Triple
 in_doubt = xid 0xdd []
@@ -19,8 +19,7 @@ was_committed = xid 0xee []
 abbrev pub was_rolled_back : Triple
 was_rolled_back = xid 0xff []
 
--- No call that is built yet prepares a branch, or completes it by the operator's word. So this state is written out: three
--- branches began, one is in doubt, and the operator committed one and rolled one back.
+-- Three branches began; one is in doubt, and the operator committed one and rolled one back. What they did is left out.
 abbrev pub settled : State
 settled = record new_manager {
   given = 3;
@@ -43,6 +42,8 @@ EarlyRefused =
     ∷ asks_by 1 (End (TMASYNC + TMSUCCESS) xid_a) (plain XAER_ASYNC)
     ∷ asks_by 1 (Commit (TMASYNC + TMONEPHASE) xid_a) (plain XAER_ASYNC)
     ∷ asks_by 1 (Rollback TMASYNC xid_a) (plain XAER_ASYNC)
+    ∷ asks_by 1 (Prepare TMASYNC xid_a) (plain XAER_ASYNC)
+    ∷ asks_by 1 (Forget TMASYNC xid_a) (plain XAER_ASYNC)
     ∷ asks_by 1 (Close TMASYNC) (plain XAER_ASYNC)
     ∷ asks_by 1 (Close TMNOWAIT) (plain XAER_INVAL)
     ∷ asks_by 1 (Start TMSUSPEND xid_a) (plain XAER_INVAL)
@@ -50,9 +51,12 @@ EarlyRefused =
     ∷ asks_by 1 (End TMMIGRATE xid_a) (plain XAER_INVAL)
     ∷ asks_by 1 (Commit TMFAIL xid_a) (plain XAER_INVAL)
     ∷ asks_by 1 (Rollback TMNOWAIT xid_a) (plain XAER_INVAL)
+    ∷ asks_by 1 (Prepare TMONEPHASE xid_a) (plain XAER_INVAL)
+    ∷ asks_by 1 (Forget TMFAIL xid_a) (plain XAER_INVAL)
+    ∷ asks_by 1 (Recover TMASYNC 1) (plain XAER_INVAL)
     ∷ [])
 
--- a manager that is down serves no call but Open and Close; that comes before all other refusals
+-- a manager that is down serves no call but Open, Close and Restart; that comes before all other refusals
 abbrev pub DownRefused : Type 0
 DownRefused =
     Replied (record new_manager { standing = Down }) (
@@ -63,25 +67,8 @@ DownRefused =
     ∷ gets 1 (plain XAER_RMFAIL)
     ∷ dooms 1 xid_a (plain XAER_RMFAIL)
     ∷ closes 1 done
-    ∷ [])
-
--- what isn't built, also the completion of a branch in doubt; nothing changes
-abbrev pub UnbuiltRefused : Type 0
-UnbuiltRefused =
-    Replied settled (
-    session 1
-    ++ begins 1 xid_a (time 4)
-    ∷ ends 1 xid_a done
-    ∷ asks_by 1 (Prepare TMNOFLAGS xid_a) (plain XAER_INVAL)
-    ∷ completes 1 in_doubt (plain XAER_INVAL)
-    ∷ rolls_back 1 in_doubt (plain XAER_INVAL)
-    ∷ asks_by 1 (Forget TMNOFLAGS was_committed) (plain XAER_INVAL)
-    ∷ asks_by 1 (Recover TMSTARTRSCAN 256) (plain XAER_INVAL)
-    ∷ asks_by 1 (Decide direction.Commit in_doubt) (plain XAER_INVAL)
-    ∷ asks_by 1 Restart (plain XAER_INVAL)
-    ∷ begins 1 in_doubt (plain XAER_DUPID)
-    ∷ begins 1 was_committed (plain XAER_DUPID)
-    ∷ commits 1 xid_a done
+    ∷ restarts 1 false done
+    ∷ begins 1 xid_a (plain XAER_PROTO)
     ∷ [])
 
 -- The association table

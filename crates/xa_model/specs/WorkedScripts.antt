@@ -1,17 +1,20 @@
 -- How worked rows of several sessions are written: each call beside its reply.
-use Rattle.std.specs.Prelude.{ℕ, ◌≡◌, ◌+◌, Some, List, [], ◌∷◌, map}
+use Rattle.std.specs.Prelude.{ℕ, ◌≡◌, ◌+◌, Bool, Some, List, [], ◌∷◌, map}
 use Rattle.xa_codes.specs.declared.flags.TheConstants.{TMNOFLAGS, TMJOIN, TMRESUME, TMSUCCESS, TMFAIL, TMSUSPEND, TMMIGRATE, TMONEPHASE}
+use Rattle.xa_codes.specs.declared.direction.Direction.{Direction}
 use Rattle.xa_xid.specs.Triple.{Triple}
 use Rattle.xa_frame.specs.declared.body.Body.TheVariants as body
 use Rattle.xa_frame.specs.declared.reply.Reply.{Reply}
 use Rattle.xa_frame.specs.declared.request.Request.{Request}
-use Rattle.xa_frame.specs.declared.request.Request.TheVariants.{Open, Close, Start, End, Commit, Rollback, Get, Put, Delete, Doom}
+use Rattle.xa_frame.specs.declared.request.Request.TheVariants.{Open, Close, Start, End, Prepare, Commit, Rollback, Forget, Recover, Get, Put, Delete, Decide, Doom, Restart}
 use Rattle.xa_model.specs.declared.event.Event.{Event}
 use Rattle.xa_model.specs.declared.event.Event.TheVariants.{Connect, Hangup, Call}
-use Rattle.xa_model.specs.declared.outcome.Outcome.TheVariants.{Quiet}
+use Rattle.xa_model.specs.declared.outcome.Outcome.{Outcome}
+use Rattle.xa_model.specs.declared.outcome.Outcome.TheVariants.{Quiet, Appended, Reread}
+use Rattle.xa_model.specs.declared.outcome.Appending.TheVariants.{Kept, Refused, Lost}
 use Rattle.xa_model.specs.State.{State}
 use Rattle.xa_model.specs.Answer.{carrying}
-use Rattle.xa_model.specs.Step.{Asked}
+use Rattle.xa_model.specs.Turn.{Asked}
 use Rattle.xa_model.specs.History.{Entry, fresh, replay}
 use Rattle.xa_model.specs.Laws.{happened}
 use Rattle.xa_model.specs.Worked.{xarm, byte, xid, done, number}
@@ -45,6 +48,21 @@ found b = carrying (body.Value (byte b))
 
 abbrev pub not_there : Reply
 not_there = carrying body.Absent
+
+-- What the device did
+
+abbrev pub with_outcome : Outcome → Entry → Entry
+with_outcome outcome e = record e { outcome = outcome }
+
+-- the record that is appended is kept, refused or lost
+abbrev pub kept : Entry → Entry
+kept e = with_outcome (Appended Kept) e
+
+abbrev pub refused : Entry → Entry
+refused e = with_outcome (Appended Refused) e
+
+abbrev pub lost : Entry → Entry
+lost e = with_outcome (Appended Lost) e
 
 -- Sessions
 
@@ -100,11 +118,29 @@ commits n x reply = asks_by n (Commit TMONEPHASE x) reply
 abbrev pub completes : ℕ → Triple → Reply → Entry
 completes n x reply = asks_by n (Commit TMNOFLAGS x) reply
 
+abbrev pub prepares : ℕ → Triple → Reply → Entry
+prepares n x reply = asks_by n (Prepare TMNOFLAGS x) reply
+
 abbrev pub rolls_back : ℕ → Triple → Reply → Entry
 rolls_back n x reply = asks_by n (Rollback TMNOFLAGS x) reply
 
 abbrev pub dooms : ℕ → Triple → Reply → Entry
 dooms n x reply = asks_by n (Doom x) reply
+
+abbrev pub decides : ℕ → Direction → Triple → Reply → Entry
+decides n direction x reply = asks_by n (Decide direction x) reply
+
+abbrev pub forgets : ℕ → Triple → Reply → Entry
+forgets n x reply = asks_by n (Forget TMNOFLAGS x) reply
+
+-- What session n asks of all branches
+
+abbrev pub recovers : ℕ → ℕ → ℕ → Reply → Entry
+recovers n flags count reply = asks_by n (Recover flags count) reply
+
+-- the record whose fate was unknown is there, or isn't, and the new boot is logged
+abbrev pub restarts : ℕ → Bool → Reply → Entry
+restarts n survived reply = with_outcome (Reread survived (Some Kept)) (asks_by n Restart reply)
 
 -- What session n asks of the one key that the rows are about, 6b
 

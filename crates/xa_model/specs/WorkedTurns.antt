@@ -2,21 +2,26 @@
 use Rattle.std.specs.Prelude.{ℕ, ◌≡◌, true, false, Option, Some, None, Ok, [], ◌∷◌}
 use Rattle.xa_codes.specs.declared.codes.TheConstants.{XAER_PROTO, XAER_NOTA, XAER_RMERR, XAER_RMFAIL, XA_RDONLY, XA_RETRY, XA_RBOTHER, XA_HEURCOM}
 use Rattle.xa_codes.specs.declared.detail.Detail.TheVariants as detail
+use Rattle.xa_codes.specs.declared.direction.Direction.{Direction}
 use Rattle.xa_codes.specs.declared.direction.Direction.TheVariants as direction
+use Rattle.xa_codes.specs.declared.flags.TheConstants.{TMNOFLAGS, TMONEPHASE}
 use Rattle.xa_record.specs.declared.record.Record.{Record}
 use Rattle.xa_record.specs.declared.record.Record.TheVariants as logged
 use Rattle.xa_frame.specs.declared.reply.Reply.{Reply}
+use Rattle.xa_frame.specs.declared.request.Request.{Request}
+use Rattle.xa_frame.specs.declared.request.Request.TheVariants as request
+use Rattle.xa_model.specs.declared.event.Event.TheVariants.{Call}
 use Rattle.xa_model.specs.declared.outcome.Appending.TheVariants.{Kept, Refused, Lost}
 use Rattle.xa_model.specs.declared.outcome.Outcome.{Outcome}
 use Rattle.xa_model.specs.declared.outcome.Outcome.TheVariants.{Quiet, Appended, Failed, Reread}
 use Rattle.xa_model.specs.State.{State, Wrote, Working, Prepared, Committed, Phase, Down, Ended}
 use Rattle.xa_model.specs.Answer.{plain, detailed, answer}
-use Rattle.xa_model.specs.Step.{Turn, Nobody, Now, Appends, Rereads, taken}
+use Rattle.xa_model.specs.Turn.{Asked, Reopened, Turn, Nobody, Now, Appends, Rereads, taken}
 use Rattle.xa_model.specs.Durable.{Durable}
 use Rattle.xa_model.specs.Fold.{nothing, fold}
 use Rattle.xa_model.specs.Logging.{log_room}
-use Rattle.xa_model.specs.Completions.{prepare_turn, commit_one_phase_turn, commit_two_phase_turn, rollback_turn, decide_turn, forget_turn}
-use Rattle.xa_model.specs.Restarting.{fates, opening, restart_turn, reopen_turn}
+use Rattle.xa_model.specs.Step.{turn}
+use Rattle.xa_model.specs.Restarting.{fates, opening}
 use Rattle.xa_model.specs.Worked.{xarm, byte, done}
 use Rattle.xa_model.specs.WorkedLog.{xid_1, put_1}
 use Rattle.xa_model.specs.WorkedScripts.{new_manager}
@@ -58,59 +63,89 @@ read_only = record idle { branches = record { timestamp = 4294967297; operations
 abbrev pub prepared_1 : Record
 prepared_1 = logged.Prepared xid_1 4294967297 put_1
 
+-- What session 1 asks of that branch
+
+abbrev pub asking : State → Request → Turn
+asking s request = turn s (Asked (Call 1 request))
+
+abbrev pub preparing : State → Turn
+preparing s = asking s (request.Prepare TMNOFLAGS xid_1)
+
+abbrev pub committing_at_once : State → Turn
+committing_at_once s = asking s (request.Commit TMONEPHASE xid_1)
+
+abbrev pub committing : State → Turn
+committing s = asking s (request.Commit TMNOFLAGS xid_1)
+
+abbrev pub rolling_back : State → Turn
+rolling_back s = asking s (request.Rollback TMNOFLAGS xid_1)
+
+abbrev pub deciding : State → Direction → Turn
+deciding s direction = asking s (request.Decide direction xid_1)
+
+abbrev pub forgetting : State → Turn
+forgetting s = asking s (request.Forget TMNOFLAGS xid_1)
+
+abbrev pub restarting : State → Turn
+restarting s = asking s request.Restart
+
+-- the manager is opened again, with a log of so many bytes
+abbrev pub reopening : State → ℕ → Turn
+reopening s log_bytes = turn s (Reopened xarm log_bytes)
+
 -- A branch is prepared, and committed; or committed in one phase.
 abbrev pub PreparedAndCommitted : Type 0
 PreparedAndCommitted =
-    (record_of (prepare_turn idle xid_1) ≡ Some prepared_1)
-    × Takes (prepare_turn idle xid_1) (Appended Kept) done in_doubt
-    × (taken (prepare_turn idle xid_1) Quiet ≡ None)
-    × (record_of (commit_two_phase_turn in_doubt xid_1) ≡ Some (logged.Completed xid_1 direction.Commit))
-    × Takes (commit_two_phase_turn in_doubt xid_1) (Appended Kept) done (with_branch Committed 156)
-    × (record_of (commit_one_phase_turn idle xid_1) ≡ Some (logged.Committed xid_1 4294967297 put_1))
-    × Takes (commit_one_phase_turn idle xid_1) (Appended Kept) done (with_branch Committed 110)
-    × Takes (commit_two_phase_turn idle xid_1) Quiet (plain XAER_PROTO) idle
-    × Takes (prepare_turn in_doubt xid_1) Quiet (plain XAER_PROTO) in_doubt
+    (record_of (preparing idle) ≡ Some prepared_1)
+    × Takes (preparing idle) (Appended Kept) done in_doubt
+    × (taken (preparing idle) Quiet ≡ None)
+    × (record_of (committing in_doubt) ≡ Some (logged.Completed xid_1 direction.Commit))
+    × Takes (committing in_doubt) (Appended Kept) done (with_branch Committed 156)
+    × (record_of (committing_at_once idle) ≡ Some (logged.Committed xid_1 4294967297 put_1))
+    × Takes (committing_at_once idle) (Appended Kept) done (with_branch Committed 110)
+    × Takes (committing idle) Quiet (plain XAER_PROTO) idle
+    × Takes (preparing in_doubt) Quiet (plain XAER_PROTO) in_doubt
 
 -- A prepared branch is rolled back, which is logged; one at work isn't.
 abbrev pub RolledBackAgain : Type 0
 RolledBackAgain =
-    (record_of (rollback_turn in_doubt xid_1) ≡ Some (logged.Completed xid_1 direction.Rollback))
-    × Takes (rollback_turn in_doubt xid_1) (Appended Kept) done (record without_branch { end = 156 })
-    × Takes (rollback_turn idle xid_1) Quiet done without_branch
-    × Takes (rollback_turn without_branch xid_1) Quiet (plain XAER_NOTA) without_branch
+    (record_of (rolling_back in_doubt) ≡ Some (logged.Completed xid_1 direction.Rollback))
+    × Takes (rolling_back in_doubt) (Appended Kept) done (record without_branch { end = 156 })
+    × Takes (rolling_back idle) Quiet done without_branch
+    × Takes (rolling_back without_branch) Quiet (plain XAER_NOTA) without_branch
 
 -- A branch that is marked is rolled back, and gone.
 abbrev pub MarkedIsGone : Type 0
 MarkedIsGone =
-    Takes (prepare_turn (with_branch (Working xid_1 (Some XA_RBOTHER)) 49) xid_1) Quiet (plain XA_RBOTHER) without_branch
-    × Takes (commit_one_phase_turn (with_branch (Working xid_1 (Some XA_RBOTHER)) 49) xid_1) Quiet (plain XA_RBOTHER) without_branch
+    Takes (preparing (with_branch (Working xid_1 (Some XA_RBOTHER)) 49)) Quiet (plain XA_RBOTHER) without_branch
+    × Takes (committing_at_once (with_branch (Working xid_1 (Some XA_RBOTHER)) 49)) Quiet (plain XA_RBOTHER) without_branch
 
 -- A branch without writes is gone, as committed, and nothing is logged.
 abbrev pub ReadOnly : Type 0
 ReadOnly =
     let gone = record read_only { branches = record { timestamp = 4294967297; operations = []; phase = Committed } ∷ [] } in
-    Takes (prepare_turn read_only xid_1) Quiet (plain XA_RDONLY) gone
-    × Takes (commit_one_phase_turn read_only xid_1) Quiet done gone
+    Takes (preparing read_only) Quiet (plain XA_RDONLY) gone
+    × Takes (committing_at_once read_only) Quiet done gone
 
 -- At equality there is room, for the record, the closing length, and what is kept for the branch: 49 + 61 + 4 + 343. A branch
 -- for which there is none is rolled back. A commit in one phase needs no more than its record.
 abbrev pub Room : Type 0
 Room =
-    Takes (prepare_turn (record idle { log_bytes = 457 }) xid_1) (Appended Kept) done (record in_doubt { log_bytes = 457 })
-    × Takes (prepare_turn (record idle { log_bytes = 456 }) xid_1) Quiet (detailed XA_RBOTHER detail.LogFull) (record without_branch { log_bytes = 456 })
-    × Takes (commit_one_phase_turn (record idle { log_bytes = 114 }) xid_1) (Appended Kept) done (record (with_branch Committed 110) { log_bytes = 114 })
-    × Takes (commit_one_phase_turn (record idle { log_bytes = 113 }) xid_1) Quiet (detailed XA_RBOTHER detail.LogFull) (record without_branch { log_bytes = 113 })
+    Takes (preparing (record idle { log_bytes = 457 })) (Appended Kept) done (record in_doubt { log_bytes = 457 })
+    × Takes (preparing (record idle { log_bytes = 456 })) Quiet (detailed XA_RBOTHER detail.LogFull) (record without_branch { log_bytes = 456 })
+    × Takes (committing_at_once (record idle { log_bytes = 114 })) (Appended Kept) done (record (with_branch Committed 110) { log_bytes = 114 })
+    × Takes (committing_at_once (record idle { log_bytes = 113 })) Quiet (detailed XA_RBOTHER detail.LogFull) (record without_branch { log_bytes = 113 })
     × (log_room 860 0 1 3 ≡ true)
     × (log_room 859 0 1 3 ≡ false)
 
 -- A record that is refused leaves the branch as it was, save for a commit in one phase.
 abbrev pub RefusedAppends : Type 0
 RefusedAppends =
-    Takes (prepare_turn idle xid_1) (Appended Refused) (detailed XAER_RMERR detail.Device) idle
-    × Takes (rollback_turn in_doubt xid_1) (Appended Refused) (detailed XAER_RMERR detail.Device) in_doubt
-    × Takes (commit_two_phase_turn in_doubt xid_1) (Appended Refused) (detailed XA_RETRY detail.Device) in_doubt
-    × Takes (commit_one_phase_turn idle xid_1) (Appended Refused) (detailed XAER_RMERR detail.Device) without_branch
-    × Takes (decide_turn in_doubt direction.Commit xid_1) (Appended Refused) (detailed XAER_RMERR detail.Device) in_doubt
+    Takes (preparing idle) (Appended Refused) (detailed XAER_RMERR detail.Device) idle
+    × Takes (rolling_back in_doubt) (Appended Refused) (detailed XAER_RMERR detail.Device) in_doubt
+    × Takes (committing in_doubt) (Appended Refused) (detailed XA_RETRY detail.Device) in_doubt
+    × Takes (committing_at_once idle) (Appended Refused) (detailed XAER_RMERR detail.Device) without_branch
+    × Takes (deciding in_doubt direction.Commit) (Appended Refused) (detailed XAER_RMERR detail.Device) in_doubt
 
 -- after a restart with this boot
 abbrev pub booted : State → ℕ → ℕ → State
@@ -124,23 +159,23 @@ abbrev pub LostAppends : Type 0
 LostAppends =
     let lost = record idle { standing = Down; open_record = Some prepared_1 } in
     let held : Durable = record { boot = 1; committed = []; prepared = record { xid = xid_1; timestamp = 4294967297; writes = put_1 } ∷ []; decided = [] } in
-    Takes (prepare_turn idle xid_1) (Appended Lost) no_device lost
+    Takes (preparing idle) (Appended Lost) no_device lost
     × (fates lost ≡ record { boot = 1; committed = []; prepared = []; decided = [] } ∷ held ∷ [])
-    × Takes (restart_turn lost) (Reread true (Some Kept)) done (booted in_doubt 2 110)
-    × Takes (restart_turn lost) (Reread false (Some Kept)) done (booted without_branch 2 49)
-    × Takes (restart_turn lost) Failed no_device lost
-    × Takes (restart_turn lost) (Reread true (Some Refused)) no_device (record in_doubt { standing = Down })
-    × (taken (restart_turn lost) (Reread true None) ≡ None)
-    × (taken (restart_turn idle) (Reread true (Some Kept)) ≡ None)
+    × Takes (restarting lost) (Reread true (Some Kept)) done (booted in_doubt 2 110)
+    × Takes (restarting lost) (Reread false (Some Kept)) done (booted without_branch 2 49)
+    × Takes (restarting lost) Failed no_device lost
+    × Takes (restarting lost) (Reread true (Some Refused)) no_device (record in_doubt { standing = Down })
+    × (taken (restarting lost) (Reread true None) ≡ None)
+    × (taken (restarting idle) (Reread true (Some Kept)) ≡ None)
 
 -- The boot of a restart that was lost is used up, where it is found.
 abbrev pub LostBoots : Type 0
 LostBoots =
     let lost = record in_doubt { standing = Down; open_record = Some (logged.Opened 2) } in
-    Takes (restart_turn in_doubt) (Reread false (Some Lost)) no_device lost
-    × Takes (restart_turn lost) (Reread true (Some Kept)) done (booted in_doubt 3 110)
-    × Takes (restart_turn lost) (Reread false (Some Kept)) done (booted in_doubt 2 110)
-    × Takes (restart_turn (record idle { logged_boot = 4294967295 })) (Reread false None) (detailed XAER_RMFAIL detail.Limit)
+    Takes (restarting in_doubt) (Reread false (Some Lost)) no_device lost
+    × Takes (restarting lost) (Reread true (Some Kept)) done (booted in_doubt 3 110)
+    × Takes (restarting lost) (Reread false (Some Kept)) done (booted in_doubt 2 110)
+    × Takes (restarting (record idle { logged_boot = 4294967295 })) (Reread false None) (detailed XAER_RMFAIL detail.Limit)
     (record idle { logged_boot = 4294967295; standing = Down })
 
 -- The operator completes a branch in doubt, which is kept over a restart, and forgets it.
@@ -148,17 +183,17 @@ abbrev pub DecidedByOperator : Type 0
 DecidedByOperator =
     let decision = record { xid = xid_1; direction = direction.Commit } ∷ [] in
     let decided = record (with_branch Committed 156) { decided = decision } in
-    Takes (decide_turn in_doubt direction.Commit xid_1) (Appended Kept) done decided
-    × Takes (decide_turn in_doubt direction.Rollback xid_1) (Appended Kept) done
+    Takes (deciding in_doubt direction.Commit) (Appended Kept) done decided
+    × Takes (deciding in_doubt direction.Rollback) (Appended Kept) done
     (record without_branch { decided = record { xid = xid_1; direction = direction.Rollback } ∷ []; end = 156 })
-    × Takes (decide_turn idle direction.Commit xid_1) Quiet (plain XAER_PROTO) idle
-    × Takes (commit_two_phase_turn decided xid_1) Quiet (plain XA_HEURCOM) decided
-    × Takes (rollback_turn decided xid_1) Quiet (plain XA_HEURCOM) decided
-    × Takes (decide_turn decided direction.Commit xid_1) Quiet (plain XAER_PROTO) decided
-    × Takes (restart_turn decided) (Reread false (Some Kept)) done (booted decided 2 148)
-    × Takes (forget_turn decided xid_1) (Appended Kept) done (with_branch Committed 201)
-    × Takes (forget_turn in_doubt xid_1) Quiet (plain XAER_PROTO) in_doubt
-    × Takes (forget_turn without_branch xid_1) Quiet (plain XAER_NOTA) without_branch
+    × Takes (deciding idle direction.Commit) Quiet (plain XAER_PROTO) idle
+    × Takes (committing decided) Quiet (plain XA_HEURCOM) decided
+    × Takes (rolling_back decided) Quiet (plain XA_HEURCOM) decided
+    × Takes (deciding decided direction.Commit) Quiet (plain XAER_PROTO) decided
+    × Takes (restarting decided) (Reread false (Some Kept)) done (booted decided 2 148)
+    × Takes (forgetting decided) (Appended Kept) done (with_branch Committed 201)
+    × Takes (forgetting in_doubt) Quiet (plain XAER_PROTO) in_doubt
+    × Takes (forgetting without_branch) Quiet (plain XAER_NOTA) without_branch
 
 -- A manager that is opened again has no sessions, and stands as one that is opened on the log's records. It isn't opened where
 -- there is no room: 110 + 4 + 343.
@@ -166,9 +201,9 @@ abbrev pub OpenedAgain : Type 0
 OpenedAgain =
     let ended = record in_doubt { log_bytes = 456; sessions = []; standing = Ended } in
     let held : Durable = record { boot = 1; committed = []; prepared = record { xid = xid_1; timestamp = 4294967297; writes = put_1 } ∷ []; decided = [] } in
-    Takes (reopen_turn in_doubt xarm 457) (Reread false (Some Kept)) done (opening held xarm 457 2)
+    Takes (reopening in_doubt 457) (Reread false (Some Kept)) done (opening held xarm 457 2)
     × (fold (logged.Opened 1 ∷ prepared_1 ∷ []) ≡ Ok held)
-    × Takes (reopen_turn in_doubt xarm 456) (Reread false None) done ended
-    × Takes (reopen_turn in_doubt xarm 456) Failed done ended
-    × Takes (reopen_turn ended xarm 457) (Reread false (Some Lost)) done (record ended { log_bytes = 457; open_record = Some (logged.Opened 2) })
+    × Takes (reopening in_doubt 456) (Reread false None) done ended
+    × Takes (reopening in_doubt 456) Failed done ended
+    × Takes (reopening ended 457) (Reread false (Some Lost)) done (record ended { log_bytes = 457; open_record = Some (logged.Opened 2) })
     × (opening nothing xarm 1073741824 1 ≡ new_manager)

@@ -1,13 +1,12 @@
 -- Worked rows of branches that read and write one key.
-use Rattle.std.specs.Prelude.{Some, [], ◌∷◌, ◌++◌}
+use Rattle.std.specs.Prelude.{[], ◌∷◌, ◌++◌}
 use Rattle.xa_codes.specs.declared.codes.TheConstants.{XAER_NOTA, XA_RETRY, XA_RBTRANSIENT}
 use Rattle.xa_codes.specs.declared.detail.Detail.TheVariants as detail
 use Rattle.xa_frame.specs.declared.body.Body.TheVariants as body
 use Rattle.xa_frame.specs.declared.request.Request.TheVariants.{Put}
-use Rattle.xa_model.specs.State.{Wrote, Prepared}
 use Rattle.xa_model.specs.Answer.{plain, detailed, carrying}
-use Rattle.xa_model.specs.Worked.{byte, xid, done}
-use Rattle.xa_model.specs.WorkedScripts.{Replied, new_manager, xid_a, xid_b, xid_c, time, found, not_there, hangs_up, asks_by, session, begins, joins, ends, commits, rolls_back, gets, puts, deletes}
+use Rattle.xa_model.specs.Worked.{byte, done}
+use Rattle.xa_model.specs.WorkedScripts.{Replied, new_manager, xid_a, xid_b, xid_c, time, found, not_there, kept, hangs_up, asks_by, session, begins, joins, ends, commits, prepares, rolls_back, gets, puts, deletes}
 
 -- a write that a later branch should have read comes too late: its branch is marked, and can only be rolled back
 abbrev pub LateWrite : Type 0
@@ -53,10 +52,10 @@ BlindWrite =
     ∷ begins 2 xid_b (time 2)
     ∷ puts 2 0x32 done
     ∷ ends 2 xid_b done
-    ∷ commits 2 xid_b done
+    ∷ kept (commits 2 xid_b done)
     ∷ puts 1 0x31 done
     ∷ ends 1 xid_a done
-    ∷ commits 1 xid_a done
+    ∷ kept (commits 1 xid_a done)
     ∷ begins 3 xid_c (time 3)
     ∷ gets 3 (found 0x32)
     ∷ [])
@@ -73,19 +72,20 @@ BusyBelow =
     ∷ gets 2 (detailed XA_RETRY detail.Busy)
     ∷ ends 1 xid_a done
     ∷ gets 2 (detailed XA_RETRY detail.Busy)
-    ∷ commits 1 xid_a done
+    ∷ kept (commits 1 xid_a done)
     ∷ gets 2 (found 0x76)
     ∷ [])
 
--- so is what a branch in doubt wrote; no call that is built yet prepares one, so the state is written out
+-- so is what a branch in doubt wrote
 abbrev pub BusyInDoubt : Type 0
 BusyInDoubt =
-    Replied (record new_manager {
-      given = 1;
-      branches = record { timestamp = 4294967297; operations = Wrote (byte 0x6b) (Some (byte 0x76)) ∷ []; phase = Prepared (xid 0xdd []) } ∷ [];
-    }) (
+    Replied new_manager (
     session 1
-    ++ begins 1 xid_a (time 2)
+    ++ begins 1 xid_b (time 1)
+    ∷ puts 1 0x76 done
+    ∷ ends 1 xid_b done
+    ∷ kept (prepares 1 xid_b done)
+    ∷ begins 1 xid_a (time 2)
     ∷ gets 1 (detailed XA_RETRY detail.Busy)
     ∷ [])
 
@@ -135,12 +135,12 @@ DeletedAfterwards =
     ++ begins 1 xid_a (time 1)
     ∷ puts 1 0x76 done
     ∷ ends 1 xid_a done
-    ∷ commits 1 xid_a done
+    ∷ kept (commits 1 xid_a done)
     ∷ begins 1 xid_b (time 2)
     ∷ gets 1 (found 0x76)
     ∷ deletes 1 done
     ∷ ends 1 xid_b done
-    ∷ commits 1 xid_b done
+    ∷ kept (commits 1 xid_b done)
     ∷ begins 1 xid_c (time 3)
     ∷ gets 1 not_there
     ∷ [])

@@ -1,16 +1,20 @@
-ghost use Rattle.xa_model.specs.Laws.{OneHistory, KeepsSound, AlwaysSound, KeepsSoundPrepared, KeepsSoundDecided, KeepsSoundForgotten};
+ghost use Rattle.xa_model.specs.Laws.{OneHistory, KeepsSound, KeepsSoundPrepared, KeepsSoundDecided, KeepsSoundForgotten};
 ghost use Rattle.xa_model.specs.DurableLaws.{FoldReads, OneMore, FirstFault, FoldIsByKey, FoldIsDurable, LastWritesStay, LeavesDurable, OneValue, SnapshotFolds, SnapshotIsShort, SnapshotIsWritten, WritesOf};
-ghost use Rattle.xa_model.specs.LoggingLaws.{KeepsSoundApplied, AppliedLasts, AppliedFits, CallsLogWhatLasts, RestartLasts, ReopenLasts};
-ghost use Rattle.xa_model.specs.EventLaws.{EventsLogNothing};
-ghost use Rattle.xa_model.specs.OrderLaws.{LoggedInOrder};
+ghost use Rattle.xa_model.specs.LoggingLaws.{KeepsSoundApplied, AppliedLasts, AppliedFits, EventsLogWhatLasts, RestartLasts, ReopenLasts};
+ghost use Rattle.xa_model.specs.BackingLaws.{KeepsRecoverable, AlwaysRecoverable, LoggedInOrder, KeepsBacked, RestartsRestored, ReopensRestored, OpensRestored, OpensFresh};
+ghost use Rattle.xa_model.specs.Room.{KeepsRoom, RestartKeepsRoom};
+ghost use Rattle.xa_model.specs.OneCopy.{AlwaysOneCopy, FreshOneCopy, OpenedOneCopy};
+ghost use Rattle.xa_model.specs.ListedLaw.{ListedUntilAsked, ListedSinceBoot};
 ghost use Rattle.xa_model.specs.WorkedLog.{HeldAndCommitted, DecidedAndForgotten, RolledBack, LastWrites, InOrder, BootsInOrder, TimestampsInOrder, NamesInOrder, SnapshotsInOrder};
 ghost use Rattle.xa_model.specs.WorkedLasting.{StatesLeave, CommittedLeaves};
+ghost use Rattle.xa_model.specs.WorkedOneCopy.{ReadsBelow, MissesDelete, MissesOwnDelete, ReadsAbove};
 ghost use Rattle.xa_model.specs.WorkedTurns.{PreparedAndCommitted, RolledBackAgain, MarkedIsGone, ReadOnly, Room, RefusedAppends, LostAppends, LostBoots, DecidedByOperator, OpenedAgain};
+ghost use Rattle.xa_model.specs.WorkedRecovery.{Recovered, PreparedWithoutWrites, NextBoot, LostAndFound, LostAndGone, Heuristics, Scans, JustRoom, NoRoom, Refusals};
 ghost use Rattle.xa_model.specs.Worked.{ReadBack, BusyUntilCommitted, FlagsRefused};
 ghost use Rattle.xa_model.specs.WorkedCalls.{ComesAndGoes, Migration, OwnBeforeLoose, LooseEnds, BrokenConnection, SuspendedAndBroken, NumbersAgain, Opening, Marks, FirstMark};
 ghost use Rattle.xa_model.specs.WorkedVersions.{LateWrite, LateDelete, BlindWrite, BusyBelow, BusyInDoubt, SharedBranch, NotBusyAbove, Deleted, DeletedAfterwards, ReadOver};
-ghost use Rattle.xa_model.specs.WorkedRefusals.{EarlyRefused, DownRefused, UnbuiltRefused, CloseRefused, StartRefused, JoinRefused, ResumeRefused, SuspendRefused, EndRefused};
-ghost use Rattle.xa_model.specs.WorkedBranches.{OnePhaseRefused, TwoPhaseRefused, RollbackRefused, DoomRefused, RecordsRefused};
+ghost use Rattle.xa_model.specs.WorkedRefusals.{EarlyRefused, DownRefused, CloseRefused, StartRefused, JoinRefused, ResumeRefused, SuspendRefused, EndRefused};
+ghost use Rattle.xa_model.specs.WorkedBranches.{OnePhaseRefused, TwoPhaseRefused, RollbackRefused, PrepareRefused, DoomRefused, RecordsRefused};
 ghost use Rattle.xa_model.specs.WorkedLimits.{ManySessions, ManyBranches, ManyTimestamps, ManyLoose, ManyKeys};
 
 /// From a given start, given events and outcomes have at most one legal history.
@@ -18,11 +22,10 @@ pub fn one_history()
     ensures { OneHistory }
 {}
 
-/// Every turn, with every outcome of its device calls, leads from a sound state to a sound one, and so every history of a
-/// new manager goes through sound states.
+/// Every event but a restart leads from a sound state to a sound one, with every outcome of its device calls. Of restarts and
+/// openings `recoverable` says more.
 pub fn sound()
-    ensures step { KeepsSound }
-    ensures history { AlwaysSound }
+    ensures { KeepsSound }
 {}
 
 /// What lasts of branches keeps a state sound too: prepared ones, the operator's decisions, and that these are forgotten.
@@ -76,7 +79,6 @@ pub fn worked_marks()
 pub fn worked_refusals()
     ensures early { EarlyRefused }
     ensures down { DownRefused }
-    ensures unbuilt { UnbuiltRefused }
     ensures close { CloseRefused }
     ensures start { StartRefused }
     ensures join { JoinRefused }
@@ -86,6 +88,7 @@ pub fn worked_refusals()
     ensures one_phase { OnePhaseRefused }
     ensures two_phase { TwoPhaseRefused }
     ensures rollback { RollbackRefused }
+    ensures prepare { PrepareRefused }
     ensures doom { DoomRefused }
     ensures records { RecordsRefused }
 {}
@@ -146,25 +149,94 @@ pub fn worked_turns()
     ensures opened { OpenedAgain }
 {}
 
+/// Worked rows of branches in doubt: what recovery lists, what restarts find of records that were lost, what the operator
+/// decides, and where the log is full or the device refuses.
+pub fn worked_recovery()
+    ensures recovered { Recovered }
+    ensures read_only { PreparedWithoutWrites }
+    ensures boots { NextBoot }
+    ensures found { LostAndFound }
+    ensures gone { LostAndGone }
+    ensures heuristics { Heuristics }
+    ensures scans { Scans }
+    ensures room { JustRoom }
+    ensures full { NoRoom }
+    ensures refused { Refusals }
+{}
+
 /// What is logged is what lasts: what a record does to a state that may log it keeps the state sound, and does to what would
 /// last what it does to what the log's records come to; behind records that come to what would last, it fits if its timestamp
-/// is a new one. So each call that logs, a restart and an opening leave what lasts.
+/// is a new one. So each event, a restart and an opening leave what lasts.
 pub fn logged_lasts()
     ensures sound { KeepsSoundApplied }
     ensures applied { AppliedLasts }
     ensures fits { AppliedFits }
-    ensures calls { CallsLogWhatLasts }
+    ensures events { EventsLogWhatLasts }
     ensures restart { RestartLasts }
     ensures reopen { ReopenLasts }
 {}
 
-/// What stands of the step logs nothing: each event but a commit in one phase leaves what lasts, and where the log ends.
-pub fn logs_nothing()
-    ensures { EventsLogNothing }
+/// Every turn, with every outcome of its device calls, leads from a state that a restart may begin with to one.
+pub fn recoverable()
+    ensures step { KeepsRecoverable }
+    ensures history { AlwaysRecoverable }
 {}
 
-/// What a state may log fits behind the log's records, where these come to what would last of the state, and none of them has
-/// the timestamp of a branch at work.
-pub fn logged_in_order()
-    ensures { LoggedInOrder }
+/// The log's records stand behind every state: what may be logged fits behind them, and with each turn and each answer of the
+/// device they go on with the state.
+pub fn backed()
+    ensures order { LoggedInOrder }
+    ensures turn { KeepsBacked }
+{}
+
+/// Restarts and openings lead to what lasted, with a new boot and nothing else.
+pub fn restored()
+    ensures restart { RestartsRestored }
+    ensures reopen { ReopensRestored }
+    ensures open { OpensRestored }
+    ensures fresh { OpensFresh }
+{}
+
+/// A log keeps the room to complete and forget what is prepared, and to forget what the operator completed, also if the record
+/// whose fate is unknown is found there: every event but a restart keeps it, with every outcome of its device calls, and so
+/// does all that happens where records stand behind the state.
+pub fn roomy()
+    ensures asked { KeepsRoom }
+    ensures restart { RestartKeepsRoom }
+{}
+
+/// One-copy serializability, in the order of timestamps: take the committed branches of any state that a history leads to, and
+/// execute them alone, one after another from the least timestamp to the greatest, on a plain map from keys to values that is
+/// empty at first. Then every get that they were answered finds the value, or the absence, that it was answered. Every prefix of a
+/// history is one, so it is so at each of its places.
+///
+/// Restarts, openings and lost records are among what happens, and so are branches in doubt: a branch that commits long after
+/// later ones have read, or after a restart, still takes the place of its timestamp. Reads of branches that were rolled back
+/// count for nothing. The history begins with any state that a restart may begin with, if no branch in it has read; so with a new
+/// manager, and with one that was opened on a log's records, of whose branches the log has the writes alone.
+pub fn one_copy()
+    ensures always { AlwaysOneCopy }
+    ensures fresh { FreshOneCopy }
+    ensures opened { OpenedOneCopy }
+{}
+
+/// A vote to commit is kept: behind a prepare that was answered XA_OK recovery lists its XID at every place of the history, until
+/// somebody asks for its completion, by a commit, a rollback or a forget that is answered XA_OK, or whose append was lost, so
+/// that it may have been done. A commit that the device refuses (XA_RETRY), a lost append of any other record, crashes, restarts,
+/// openings and what the operator decides leave it listed, and so does all that is done with other XIDs.
+///
+/// The history begins with any state that a restart may begin with, if no branch in it is marked with the code of success; so
+/// with all that restarts and openings lead to.
+pub fn listed_until_asked()
+    ensures always { ListedUntilAsked }
+    ensures boot { ListedSinceBoot }
+{}
+
+/// Worked lists of committed branches: one that is one copy, and three that aren't, since a read missed a write before it, or
+/// found one behind it.
+pub fn worked_copies()
+    ensures below { ReadsBelow }
+    ensures misses { MissesDelete }
+    ensures misses_own { MissesOwnDelete }
+    ensures above { ReadsAbove }
 {}

@@ -9,8 +9,9 @@ mod outcome;
 
 pub use event::Event;
 pub use laws::{
-    lasting, logged_in_order, logged_lasts, logs_nothing, one_history, sound, sound_lasting,
-    worked_associations, worked_limits, worked_logs, worked_marks, worked_refusals, worked_rows,
-    worked_turns, worked_versions,
+    backed, lasting, listed_until_asked, logged_lasts, one_copy, one_history, recoverable,
+    restored, roomy, sound, sound_lasting, worked_associations, worked_copies, worked_limits,
+    worked_logs, worked_marks, worked_recovery, worked_refusals, worked_rows, worked_turns,
+    worked_versions,
 };
 pub use outcome::{Appending, Outcome};

@@ -1,23 +1,23 @@
 -- How a whole run ends.
-use Rattle.std.proofs.Common.{◌≡◌, ℕ, ◌≤◌, ◌<◌, ◌==◌, List, [], length, Option, Some, None, IfSome, Result, Ok, Err, refl, subst, arith, inr, append-nil}
+use Rattle.std.proofs.Common.{◌≡◌, ℕ, ◌≤◌, ◌<◌, ◌==◌, List, [], ◌∷◌, length, Option, Some, None, IfSome, Result, Ok, Err, refl, subst, arith, inl, inr, append-nil}
 use Rattle.std.specs.Prelude.{unwrap_or}
 use Rattle.std.specs.Io.KnownBytes.{Appends, Keeps}
 use Rattle.std.proofs.lemmas.List.{length-map}
 use Rattle.std.proofs.lemmas.List.Splits.{length-slice_split}
 use Rattle.xa_model.specs.History.{fresh}
 use Rattle.xa_model.specs.State.{State}
-use Rattle.xa_manager.specs.Kept.{Kept}
-use Rattle.xa_manager.specs.Stands.{StandsFor}
-use Rattle.xa_manager.specs.declared.fault.ManagerFault.{ManagerFault}
-use Rattle.xa_manager.specs.declared.fault.ManagerFault.TheVariants as manager
+use Rattle.xa_disk.specs.declared.memory.MemDisk.{MemDisk}
+use Rattle.xa_manager.specs.declared.manager.Manager.{Manager as TheManager}
 use Rattle.xa_xid.specs.Triple.{Triple}
 use Rattle.xa_script.specs.Lines as lines
 use Rattle.xa_script.specs.Parts.{parts}
 use Rattle.xa_script.specs.declared.line.Line.{Line}
 use Rattle.xa_play.specs.declared.fault.PlayFault.{PlayFault}
-use Rattle.xa_play.specs.declared.fault.PlayFault.TheVariants.{Memory, Setting, TooLong, Read, Write}
-use Rattle.xa_play.specs.Faults.{end_of, fault_of}
-use Rattle.xa_play.specs.Plays.{Plays, Prints, ScriptEnds, lines_of}
+use Rattle.xa_play.specs.declared.fault.PlayFault.TheVariants.{Memory, Setting, TooLong, Read, Write, Manager}
+use Rattle.xa_play.specs.Faults.{end_of}
+use Rattle.xa_play.specs.Disks.{StandsFor}
+use Rattle.xa_play.specs.Plays.{Plays, PlaysTo, Prints, Stops, lines_of}
+use Rattle.xa_play.specs.Played.{ScriptEnds}
 use Rattle.xa_play.proofs.Pieces.{appends_both, keeps_appends, nothing_appended}
 
 given : (input : Option (List ℕ)) → IfSome input (λ bytes. unwrap_or input [] ≡ bytes)
@@ -29,9 +29,9 @@ some_line xid_of script =
     let count : length (lines_of xid_of script) ≡ length (parts 10 script) = length-map (parts 10 script) (lines.line_of xid_of) in
     omega (arith, count, length-slice_split (λ b. b == 10) script)
 
-pub no_write : (f : ManagerFault) → fault_of f ≡ Write → ⊥
-no_write manager.Memory e = cc
-no_write manager.Setting e = cc
+stops_at : (name : List ℕ) (n : ℕ) (s : State) (lines : List Line) → 0 < length lines → PlaysTo name n (Stops name n) s lines []
+stops_at name n s [] some = absurd (omega (arith, some))
+stops_at name n s (line ∷ lines) some = inl refl
 
 -- nothing was played, so no line was
 pub unplayed : (X : Type 0) (fault : PlayFault) (name : List ℕ) (log_bytes : ℕ) (input output : Option (List ℕ)) → (fault ≡ Write → ⊥) → Plays {X = X} name log_bytes (Err fault) input output output
@@ -42,26 +42,28 @@ unplayed X Memory name log_bytes input output h = record {
   given = given input;
   short = λ no. absurd no;
   written = nothing_appended output;
-  printed = λ xid_of reads. (0, some_line xid_of (unwrap_or input []), refl);
+  printed = λ xid_of reads. stops_at name log_bytes (fresh name log_bytes) (lines_of xid_of (unwrap_or input [])) (some_line xid_of (unwrap_or input []));
 }
+unplayed X (Manager fault) name log_bytes input output h = record { script = unwrap_or input []; text = []; given = given input; short = λ none. absurd none; written = nothing_appended output; printed = λ xid_of reads. inl refl }
 unplayed X Setting name log_bytes input output h = record { script = unwrap_or input []; text = []; given = given input; short = λ none. absurd none; written = nothing_appended output; printed = λ xid_of reads. refl }
 unplayed X TooLong name log_bytes input output h = record { script = unwrap_or input []; text = []; given = given input; short = λ none. absurd none; written = nothing_appended output; printed = λ xid_of reads. refl }
 unplayed X Read name log_bytes input output h = record { script = unwrap_or input []; text = []; given = given input; short = λ none. absurd none; written = nothing_appended output; printed = λ xid_of reads. refl }
 
-prints_end : (X E : Type 0) (played : Result X PlayFault) (flushed : Result X E) (s : State) (lines : List Line) (text : List ℕ) → Prints played s lines text → Prints (end_of played flushed) s lines text
-prints_end X E (Err fault) flushed s lines text h = h
-prints_end X E (Ok x) (Ok y) s lines text h = h
-prints_end X E (Ok x) (Err error) s lines text h = inr h
+prints_end : (X E : Type 0) (name : List ℕ) (n : ℕ) (played : Result X PlayFault) (flushed : Result X E) (s : State) (lines : List Line) (text : List ℕ) → Prints name n played s lines text
+    → Prints name n (end_of played flushed) s lines text
+prints_end X E name n (Err fault) flushed s lines text h = h
+prints_end X E name n (Ok x) (Ok y) s lines text h = h
+prints_end X E name n (Ok x) (Err error) s lines text h = inr h
 
 -- the script was played, whatever the flush was answered
-pub ran : (X E : Type 0) (played : Result X PlayFault) (flushed : Result X E) (m : Kept) (name : List ℕ) (log_bytes : ℕ) (input old mid new : Option (List ℕ)) (script text : List ℕ) →
+pub ran : (X E : Type 0) (played : Result X PlayFault) (flushed : Result X E) (m : TheManager MemDisk) (name : List ℕ) (log_bytes : ℕ) (input old mid new : Option (List ℕ)) (script text : List ℕ) →
     IfSome input (λ bytes. script ≡ bytes) → length script ≤ 16_777_216 → Appends old mid text → Keeps mid new →
-    ScriptEnds played m script text → StandsFor m (fresh name log_bytes) → Plays name log_bytes (end_of played flushed) input old new
+    ScriptEnds name log_bytes played m script text → StandsFor m (fresh name log_bytes) → Plays name log_bytes (end_of played flushed) input old new
 ran X E played flushed m name log_bytes input old mid new script text known short written kept ends stands = record {
   script = script;
   text = text;
   given = known;
   short = λ read. short;
   written = subst (λ (t : List ℕ). Appends old new t) (append-nil text) (appends_both old mid new text [] written (keeps_appends mid new kept));
-  printed = λ xid_of reads. prints_end X E played flushed (fresh name log_bytes) (lines_of xid_of script) text (ends xid_of reads (fresh name log_bytes) stands);
+  printed = λ xid_of reads. prints_end X E name log_bytes played flushed (fresh name log_bytes) (lines_of xid_of script) text (ends xid_of reads (fresh name log_bytes) (stands, refl));
 }

@@ -1,2 +1,4 @@
+pub mod Disks
 pub mod Plays
+pub mod Played
 pub mod Faults

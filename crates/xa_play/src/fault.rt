@@ -15,6 +15,9 @@ pub enum PlayFault {
     Read,
     #[error("cannot write")]
     Write,
+    /// The manager couldn't be opened on its disks.
+    #[error("{0}")]
+    Manager(ManagerFault),
 }
 
 impl From<AllocError> for PlayFault {
@@ -38,6 +41,7 @@ impl From<ManagerFault> for PlayFault {
         match fault {
             ManagerFault::Memory => PlayFault::Memory,
             ManagerFault::Setting => PlayFault::Setting,
+            fault => PlayFault::Manager(fault),
         }
     }
 }

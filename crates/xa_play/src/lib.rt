@@ -1,7 +1,10 @@
 //! A script is played: each line that asks something is answered by a manager, and its reply is written.
 #![tactic(auto)]
 
+mod answer;
 mod fault;
+mod laws;
+mod opening;
 mod output;
 mod play;
 mod script;

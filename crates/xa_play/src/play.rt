@@ -1,28 +1,29 @@
 ghost use Rattle.std.specs.Io.KnownBytes.{Appends};
 ghost use Rattle.std.specs.Prelude.{◌≡◌, ◌↔◌, ◌<◌, ◌⊎◌, IfErr, IfSome, IsErrOf, List, length, true, ℕ};
-ghost use Rattle.xa_manager.specs.Answered.{FullyAnswered};
-ghost use Rattle.xa_manager.specs.Managed.{kept};
-ghost use Rattle.xa_model.specs.Answer.{detailed};
-ghost use Rattle.xa_script.specs.Lines.{IsWithinLimits};
+ghost use Rattle.xa_manager.specs.Opening.{IsBadSetting};
 ghost use Rattle.xa_play.specs.Faults.{end_of};
-ghost use Rattle.xa_play.specs.Plays.{IsBadSetting, LineAnswered, LineEnds, Plays, ScriptEnds, WasRead};
+ghost use Rattle.xa_play.specs.Played.{IsLinesFault, LineEnds, ScriptEnds};
+ghost use Rattle.xa_play.specs.Plays.{Plays, WasRead};
 
+use crate::answer::answer;
 use crate::fault::PlayFault;
+use crate::laws::{files_stand, memory_is_trusted};
+use crate::opening::{copied, open_fresh};
 use crate::output::write_text;
 use crate::script::read_script;
 use std::alloc::Global;
 use std::io::{self, Read, Write};
-use xa_assoc::ConnectFault;
-use xa_codes::{Code, Detail, XA_OK, XAER_INVAL, XAER_RMERR, XAER_RMFAIL};
-use xa_frame::{Body, Reply};
+use xa_disk::MemDisk;
 use xa_manager::{Manager, Settings};
-use xa_model::Event;
-use xa_script::{Line, first_part, read_line, reply_line};
+use xa_script::{first_part, read_line, reply_line};
 
-/// Makes a manager, reads the whole script, and then runs it: each line that asks something is answered by one line.
+/// Opens a manager on two empty disks in memory, reads the whole script, and then runs it: each line that asks something is
+/// answered by one line.
 ///
 /// Settings out of their limits are found before anything is read, a script that can't be read and one that is too long
-/// before anything is written. What was answered before a later fault is written.
+/// before anything is written. What was answered before a later fault is written. What is printed is a legal run of the
+/// sequential resource manager, with some outcomes of the disks. Behind a line `crash` that is said where the files that
+/// the crash left stand for a state: then the lines behind it are a legal run from that state, opened again.
 pub fn play_run<R: Read + Drop, W: Write>(
     alloc: Global,
     reader: &mut R,
@@ -37,9 +38,11 @@ pub fn play_run<R: Read + Drop, W: Write>(
     ensures longer { IfSome (R.remaining reader.old) (λ bytes. 16_777_216 < length bytes → (¬ WasRead result) × (writer.new ≡ writer.old)) }
     ensures unwritten { IsErrOf result PlayFault.Read ⊎ IsErrOf result PlayFault.TooLong → writer.new ≡ writer.old }
 {
-    let mut manager = Manager::new(alloc, settings)?;
+    let kept = copied(alloc, &settings);
+    let manager = open_fresh(alloc, settings)?;
+    let kept = kept?;
     let script = read_script(alloc, reader)?;
-    let played = play_lines(alloc, &mut manager, writer, script.as_slice());
+    let played = play_lines(alloc, manager, &kept, writer, script.as_slice());
     let flushed = writer.flush();
     end_of(played, flushed)
 }
@@ -54,18 +57,21 @@ fn end_of(played: Result<(), PlayFault>, flushed: io::Result<()>) -> Result<(), 
 
 fn play_lines<W: Write>(
     alloc: Global,
-    manager: &mut Manager,
+    manager: Manager<MemDisk>,
+    settings: &Settings,
     writer: &mut W,
     script: &[u8],
 ) -> Result<(), PlayFault>
+    requires { ¬ IsBadSetting settings.now.name settings.now.log_bytes }
     ensures played { (text : List ℕ) × Appends (W.contents writer.old) (W.contents writer.new) text
-        × ScriptEnds result (kept manager.old) script.now text }
-    ensures faults { IfErr result (λ fault. (fault ≡ PlayFault.Memory) ⊎ (fault ≡ PlayFault.Write)) }
+        × ScriptEnds settings.now.name settings.now.log_bytes result manager script.now text }
+    ensures faults { IfErr result IsLinesFault }
 {
+    let mut manager = manager;
     let mut rest = Some(script);
     while let Some(lines) = rest {
         let (line, behind) = first_part(lines, b'\n');
-        play_line(alloc, manager, writer, line)?;
+        manager = play_line(alloc, manager, settings, writer, line)?;
         rest = behind;
     }
     Ok(())
@@ -73,71 +79,26 @@ fn play_lines<W: Write>(
 
 fn play_line<W: Write>(
     alloc: Global,
-    manager: &mut Manager,
+    manager: Manager<MemDisk>,
+    settings: &Settings,
     writer: &mut W,
     line: &[u8],
-) -> Result<(), PlayFault>
+) -> Result<Manager<MemDisk>, PlayFault>
+    requires { ¬ IsBadSetting settings.now.name settings.now.log_bytes }
     ensures { (text : List ℕ) × Appends (W.contents writer.old) (W.contents writer.new) text
-        × LineEnds result (kept manager.old) line.now text (kept manager.new) }
+        × LineEnds settings.now.name settings.now.log_bytes result manager line.now text }
 {
+    memory_is_trusted();
+    files_stand();
     let said = read_line(alloc, line)?;
-    let Some(reply) = answer(manager, said) else {
-        return Ok(());
+    let (manager, reply) = answer(alloc, manager, settings, said)?;
+    let Some(reply) = reply else {
+        return Ok(manager);
     };
     let text = reply_line(alloc, &reply)?;
     if write_text(writer, text.as_slice()) {
-        Ok(())
+        Ok(manager)
     } else {
         Err(PlayFault::Write)
-    }
-}
-
-/// The reply that a line shows, if it shows one.
-fn answer(manager: &mut Manager, said: Line) -> Option<Reply>
-    requires { IsWithinLimits said }
-    ensures { LineAnswered (kept manager.old) said result (kept manager.new) }
-{
-    match said {
-        Line::Silent => None,
-        Line::Unknown => Some(bare(XAER_INVAL, Detail::Frame)),
-        Line::Connect => Some(connect(manager)),
-        Line::Hangup(session) => Some(hang_up(manager, session)),
-        Line::Call(session, request) => Some(manager.call(session, request)),
-    }
-}
-
-/// Connects a session.
-fn connect(manager: &mut Manager) -> Reply
-    ensures { FullyAnswered (kept manager.old) Event.Connect result (kept manager.new) }
-{
-    match manager.connect() {
-        Ok(number) => Reply {
-            code: XA_OK,
-            detail: Detail::Nothing,
-            place: 0,
-            body: Body::Number(number),
-        },
-        Err(ConnectFault::Full) => bare(XAER_RMERR, Detail::Limit),
-        Err(ConnectFault::Memory) => bare(XAER_RMFAIL, Detail::Memory),
-    }
-}
-
-/// Hangs a session up, whether it is connected or not.
-fn hang_up(manager: &mut Manager, session: u64) -> Reply
-    ensures { FullyAnswered (kept manager.old) (Event.Hangup session) result (kept manager.new) }
-{
-    manager.hangup(session);
-    bare(XA_OK, Detail::Nothing)
-}
-
-/// A reply that carries nothing.
-fn bare(code: Code, detail: Detail) -> Reply
-    ensures { result ≡ detailed code detail }
-{
-    Reply {
-        code,
-        detail,
-        place: 0,
-        body: Body::Nothing,
     }
 }

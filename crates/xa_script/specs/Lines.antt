@@ -1,11 +1,15 @@
 -- What a line of a script says.
 use Rattle.std.specs.Prelude.{ℕ, ◌==◌, Bool, true, List, [], ◌∷◌, Option, Some, None, if◌then◌else◌, option_and_then, bytes_eq, codes, unwrap_or}
 use Rattle.std.specs.Option.{option_map}
-use Rattle.xa_script.specs.Parts.{words}
-use Rattle.xa_script.specs.Numbers.{number_of}
+use Rattle.xa_script.specs.Parts.{alone, two_of, words}
+use Rattle.xa_script.specs.Numbers.{call_number_of, number_of}
 use Rattle.xa_script.specs.Requests.{verb_of, request_of}
+use Rattle.xa_script.specs.declared.call_effect.CallEffect.{CallEffect}
+use Rattle.xa_script.specs.declared.call_effect.CallEffect.TheVariants.{Kept, Lost}
+use Rattle.xa_script.specs.declared.log_file.LogFile.{LogFile}
+use Rattle.xa_script.specs.declared.log_file.LogFile.TheVariants.{Current, Other}
 use Rattle.xa_script.specs.declared.line.Line.{Line}
-use Rattle.xa_script.specs.declared.line.Line.TheVariants.{Silent, Unknown, Connect, Hangup, Call}
+use Rattle.xa_script.specs.declared.line.Line.TheVariants.{Silent, Unknown, Connect, Hangup, Call, Fail, Reopen, Crash}
 use Rattle.xa_frame.specs.Limits.{IsRequest}
 use Rattle.xa_xid.specs.Triple.{Triple}
 
@@ -19,10 +23,30 @@ abbrev pub IsWithinLimits : Line → Type 0
 IsWithinLimits (Call n request) = IsRequest request
 IsWithinLimits _ = Unit {0}
 
--- a hang-up of a session, behind which no words stand
-abbrev pub hangup_of : ℕ → List (List ℕ) → Option Line
-hangup_of n [] = Some (Hangup n)
-hangup_of n (word ∷ words) = None
+-- what a line of one word says
+abbrev pub sole_of : List ℕ → Line
+sole_of word =
+    if bytes_eq word (codes "connect") then Connect
+    else if bytes_eq word (codes "reopen") then Reopen
+    else if bytes_eq word (codes "crash") then Crash
+    else Unknown
+
+-- what a device call that is to fail does all the same
+abbrev pub effect_of : List ℕ → Option CallEffect
+effect_of word =
+    if bytes_eq word (codes "kept") then Some Kept
+    else if bytes_eq word (codes "lost") then Some Lost
+    else None
+
+-- a device call of that file's disk, and its effect
+abbrev pub fail_of : LogFile → List (List ℕ) → Option Line
+fail_of file words =
+    option_and_then (λ w. option_and_then (λ call. option_map (λ effect. Fail file call effect) (effect_of w.1)) (call_number_of w.0)) (two_of words)
+
+-- what the words behind `fail` ask: of the current log file, or behind one word more of the other one
+abbrev pub fail_by : List (List ℕ) → Option Line
+fail_by [] = None
+fail_by (word ∷ words) = if bytes_eq word (codes "other") then fail_of Other words else fail_of Current (word ∷ words)
 
 -- over what reads the texts of XIDs
 module _ (xid_of : List ℕ → Option Triple) where
@@ -30,14 +54,16 @@ module _ (xid_of : List ℕ → Option Triple) where
   call_of n name arguments = option_and_then (λ v. option_map (λ request. Call n request) (request_of xid_of v arguments)) (verb_of name)
 
   -- what a session's number says, and the words behind it
-  abbrev pub asked_of : List ℕ → List ℕ → List (List ℕ) → Option Line
-  asked_of session name arguments =
-      option_and_then (λ n. if bytes_eq name (codes "hangup") then hangup_of n arguments else call_of n name arguments) (number_of session)
+  abbrev pub asked_of : List ℕ → List (List ℕ) → Option Line
+  asked_of session [] = None
+  asked_of session (name ∷ arguments) =
+      option_and_then (λ n. if bytes_eq name (codes "hangup") then alone (Hangup n) arguments else call_of n name arguments) (number_of session)
 
   abbrev pub by_words : List (List ℕ) → Line
   by_words [] = Unknown
-  by_words (word ∷ []) = if bytes_eq word (codes "connect") then Connect else Unknown
-  by_words (session ∷ name ∷ arguments) = unwrap_or (asked_of session name arguments) Unknown
+  by_words (word ∷ []) = sole_of word
+  by_words (first ∷ second ∷ others) =
+      unwrap_or (if bytes_eq first (codes "fail") then fail_by (second ∷ others) else asked_of first (second ∷ others)) Unknown
 
   abbrev pub line_of : List ℕ → Line
   line_of line = if is_silent line then Silent else by_words (words line)

@@ -1,5 +1,5 @@
--- Decimal numbers of a script: from 1 to 2^64 - 1, without leading zeros.
-use Rattle.std.specs.Prelude.{ℕ, ◌+◌, ◌-◌, ◌*◌, ◌^◌, ◌==◌, nat_lt, nat_le, Bool, false, not, ◌&&◌, List, [], ◌∷◌, Option, Some, None, if◌then◌else◌}
+-- Decimal numbers of a script, without leading zeros: from 1 to 2^64 - 1, and those of smaller ranges.
+use Rattle.std.specs.Prelude.{ℕ, ◌+◌, ◌-◌, ◌*◌, ◌^◌, ◌==◌, nat_lt, nat_le, Bool, false, not, ◌&&◌, List, [], ◌∷◌, Option, Some, None, if◌then◌else◌, option_and_then, bytes_eq, codes}
 
 abbrev pub is_digit : ℕ → Bool
 is_digit c = nat_le 48 c && nat_le c 57
@@ -20,3 +20,15 @@ below_limit (Some n) = if nat_lt n (2 ^ 64) then Some n else None
 
 abbrev pub number_of : List ℕ → Option ℕ
 number_of word = if begins_well word then below_limit (value_from 0 word) else None
+
+-- a number up to a limit
+abbrev pub up_to : ℕ → List ℕ → Option ℕ
+up_to limit word = option_and_then (λ n. if nat_le n limit then Some n else None) (number_of word)
+
+-- a count of XIDs: from 0 to 2^32 - 1
+abbrev pub count_of : List ℕ → Option ℕ
+count_of word = if bytes_eq word (codes "0") then Some 0 else up_to 4_294_967_295 word
+
+-- which of a disk's calls is to fail, counted from now: the next one is 1, the last one 1,000
+abbrev pub call_number_of : List ℕ → Option ℕ
+call_number_of word = up_to 1_000 word

@@ -18,6 +18,11 @@ words line = parts 32 line
 abbrev pub words_behind : Option (List ℕ) → List (List ℕ)
 words_behind rest = parts_behind 32 rest
 
+-- what is asked where no words stand behind
+abbrev pub alone : {X : Type 0} → X → List (List ℕ) → Option X
+alone asked [] = Some asked
+alone asked (word ∷ words) = None
+
 -- the word of a list of one
 abbrev pub one_of : List (List ℕ) → Option (List ℕ)
 one_of (word ∷ []) = Some word

@@ -4,13 +4,16 @@ use Rattle.std.specs.Option.{option_map}
 use Rattle.std.specs.List.{list_all}
 use Rattle.xa_script.specs.Flags.{flags_of}
 use Rattle.xa_script.specs.Hexadecimal.{bytes_of}
-use Rattle.xa_script.specs.Parts.{one_of, two_of}
+use Rattle.xa_script.specs.Numbers.{count_of}
+use Rattle.xa_script.specs.Parts.{alone, one_of, two_of}
 use Rattle.xa_script.specs.declared.verb.Verb.{Verb}
 use Rattle.xa_script.specs.declared.verb.Verb.TheVariants as verb
+use Rattle.xa_codes.specs.declared.direction.Direction.{Direction}
+use Rattle.xa_codes.specs.declared.direction.Direction.TheVariants as direction
 use Rattle.xa_xid.specs.Triple.{Triple, IsWithinLimits}
 use Rattle.xa_xid.specs.Spelling.{text_of}
 use Rattle.xa_frame.specs.declared.request.Request.{Request}
-use Rattle.xa_frame.specs.declared.request.Request.TheVariants.{Open, Close, Start, End, Commit, Rollback, Doom, Get, Put, Delete}
+use Rattle.xa_frame.specs.declared.request.Request.TheVariants.{Open, Close, Start, End, Prepare, Commit, Rollback, Forget, Recover, Get, Put, Delete, Decide, Doom, Restart}
 
 -- the words that name a request
 abbrev pub named_verbs : List (List ℕ × Verb)
@@ -19,12 +22,17 @@ named_verbs =
     ∷ (codes "close", verb.Close)
     ∷ (codes "start", verb.Start)
     ∷ (codes "end", verb.End)
+    ∷ (codes "prepare", verb.Prepare)
     ∷ (codes "commit", verb.Commit)
     ∷ (codes "rollback", verb.Rollback)
-    ∷ (codes "doom", verb.Doom)
+    ∷ (codes "forget", verb.Forget)
+    ∷ (codes "recover", verb.Recover)
     ∷ (codes "get", verb.Get)
     ∷ (codes "put", verb.Put)
     ∷ (codes "delete", verb.Delete)
+    ∷ (codes "decide", verb.Decide)
+    ∷ (codes "doom", verb.Doom)
+    ∷ (codes "restart", verb.Restart)
     ∷ []
 
 abbrev pub verb_of : List ℕ → Option Verb
@@ -57,6 +65,11 @@ open_by words =
 abbrev pub close_by : List (List ℕ) → Option Request
 close_by words = option_map (λ flags. Close flags) (option_and_then flags_of (one_of words))
 
+-- what the words behind `recover` ask
+abbrev pub recover_by : List (List ℕ) → Option Request
+recover_by words =
+    option_and_then (λ w. option_and_then (λ flags. option_map (λ count. Recover flags count) (count_of w.1)) (flags_of w.0)) (two_of words)
+
 -- what the words behind `get` ask
 abbrev pub get_by : List (List ℕ) → Option Request
 get_by words = option_map (λ key. Get key) (option_and_then key_of (one_of words))
@@ -70,6 +83,12 @@ abbrev pub put_by : List (List ℕ) → Option Request
 put_by words =
     option_and_then (λ w. option_and_then (λ key. option_map (λ value. Put key value) (value_of w.1)) (key_of w.0)) (two_of words)
 
+abbrev pub direction_of : List ℕ → Option Direction
+direction_of word =
+    if bytes_eq word (codes "commit") then Some direction.Commit
+    else if bytes_eq word (codes "rollback") then Some direction.Rollback
+    else None
+
 -- a function that gives the XID of each XID's text, and of no other text
 pub record ReadsTexts (xid_of : List ℕ → Option Triple) : Type 0 where
   pub each : (x : Triple) → IsWithinLimits x → xid_of (text_of x) ≡ Some x
@@ -82,6 +101,11 @@ module _ (xid_of : List ℕ → Option Triple) where
   branch_pair words =
       option_and_then (λ w. option_and_then (λ flags. option_map (λ xid. (flags, xid)) (xid_of w.1)) (flags_of w.0)) (two_of words)
 
+  -- what the words behind `decide` ask
+  abbrev pub decide_by : List (List ℕ) → Option Request
+  decide_by words =
+      option_and_then (λ w. option_and_then (λ d. option_map (λ xid. Decide d xid) (xid_of w.1)) (direction_of w.0)) (two_of words)
+
   -- what the words behind `doom` ask
   abbrev pub doom_by : List (List ℕ) → Option Request
   doom_by words = option_map (λ xid. Doom xid) (option_and_then xid_of (one_of words))
@@ -91,9 +115,14 @@ module _ (xid_of : List ℕ → Option Triple) where
   request_of verb.Close words = close_by words
   request_of verb.Start words = option_map (λ pair. Start pair.0 pair.1) (branch_pair words)
   request_of verb.End words = option_map (λ pair. End pair.0 pair.1) (branch_pair words)
+  request_of verb.Prepare words = option_map (λ pair. Prepare pair.0 pair.1) (branch_pair words)
   request_of verb.Commit words = option_map (λ pair. Commit pair.0 pair.1) (branch_pair words)
   request_of verb.Rollback words = option_map (λ pair. Rollback pair.0 pair.1) (branch_pair words)
-  request_of verb.Doom words = doom_by words
+  request_of verb.Forget words = option_map (λ pair. Forget pair.0 pair.1) (branch_pair words)
+  request_of verb.Recover words = recover_by words
   request_of verb.Get words = get_by words
   request_of verb.Put words = put_by words
   request_of verb.Delete words = delete_by words
+  request_of verb.Decide words = decide_by words
+  request_of verb.Doom words = doom_by words
+  request_of verb.Restart words = alone Restart words

@@ -1,5 +1,5 @@
 ghost use Rattle.std.specs.Prelude.{◌≡◌, ◌∷◌, [], ◌<◌, ◌^◌, IfSome, ◌+◌, ◌-◌, ◌*◌, if◌then◌else◌, None, Some};
-ghost use Rattle.xa_script.specs.Numbers.{below_limit, is_digit, number_of, value_from};
+ghost use Rattle.xa_script.specs.Numbers.{below_limit, call_number_of, count_of, is_digit, number_of, value_from};
 
 /// A decimal number from 1 to 2^64 - 1: digits without a leading zero.
 pub fn read_number(word: &[u8]) -> Option<u64>
@@ -23,4 +23,22 @@ fn with_digit(number: u64, byte: u8) -> Option<u64>
         return None;
     }
     number.checked_mul(10)?.checked_add(u64::from(byte - b'0'))
+}
+
+/// A count of XIDs: 0, or a decimal number to 2^32 - 1.
+pub fn read_count(word: &[u8]) -> Option<u32>
+    ensures { result ≡ count_of word.now }
+{
+    if word == b"0".as_slice() {
+        return Some(0);
+    }
+    u32::try_from(read_number(word)?).ok()
+}
+
+/// Which device call is to fail: a decimal number from 1 to 1,000.
+pub fn read_call_number(word: &[u8]) -> Option<u64>
+    ensures { result ≡ call_number_of word.now }
+{
+    let call = read_number(word)?;
+    if call <= 1_000 { Some(call) } else { None }
 }

@@ -1,16 +1,18 @@
 ghost use Rattle.std.specs.Option.{option_copied, option_map};
 ghost use Rattle.std.specs.Prelude.{◌≡◌, ℕ, IfOk, IfSome, List, Option};
 ghost use Rattle.xa_frame.specs.Limits.{IsKey, IsRequest, IsValue};
+ghost use Rattle.xa_frame.specs.declared.request.Request.TheVariants.{Restart};
 ghost use Rattle.xa_xid.specs.Triple.{Triple};
-ghost use Rattle.xa_script.specs.Parts.{words_behind};
-ghost use Rattle.xa_script.specs.Requests.{ReadsTexts, branch_pair, close_by, delete_by, doom_by, get_by, is_graphic, is_name, key_of, open_by, put_by, request_of, value_of};
+ghost use Rattle.xa_script.specs.Parts.{alone, words_behind};
+ghost use Rattle.xa_script.specs.Requests.{ReadsTexts, branch_pair, close_by, decide_by, delete_by, direction_of, doom_by, get_by, is_graphic, is_name, key_of, open_by, put_by, recover_by, request_of, value_of};
 
 use crate::flags::read_flags;
 use crate::hexadecimal::read_bytes;
+use crate::numbers::read_count;
 use crate::parts::{only_word, two_words};
 use crate::verb::Verb;
 use std::alloc::{AllocError, Global};
-use xa_codes::Bytes;
+use xa_codes::{Bytes, Direction};
 use xa_frame::Request;
 use xa_xid::Xid;
 
@@ -29,14 +31,19 @@ pub fn read_request(
         Verb::Close => Ok(read_close(words)),
         Verb::Start => Ok(read_branch(words).map(|(flags, xid)| Request::Start { flags, xid })),
         Verb::End => Ok(read_branch(words).map(|(flags, xid)| Request::End { flags, xid })),
+        Verb::Prepare => Ok(read_branch(words).map(|(flags, xid)| Request::Prepare { flags, xid })),
         Verb::Commit => Ok(read_branch(words).map(|(flags, xid)| Request::Commit { flags, xid })),
         Verb::Rollback => {
             Ok(read_branch(words).map(|(flags, xid)| Request::Rollback { flags, xid }))
         }
-        Verb::Doom => Ok(read_doom(words)),
+        Verb::Forget => Ok(read_branch(words).map(|(flags, xid)| Request::Forget { flags, xid })),
+        Verb::Recover => Ok(read_recover(words)),
         Verb::Get => read_get(alloc, words),
         Verb::Put => read_put(alloc, words),
         Verb::Delete => read_delete(alloc, words),
+        Verb::Decide => Ok(read_decide(words)),
+        Verb::Doom => Ok(read_doom(words)),
+        Verb::Restart => Ok(read_restart(words)),
     }
 }
 
@@ -53,6 +60,52 @@ fn read_close(words: Option<&[u8]>) -> Option<Request>
 {
     let flags = read_flags(only_word(words)?)?;
     Some(Request::Close { flags })
+}
+
+fn read_recover(words: Option<&[u8]>) -> Option<Request>
+    ensures value { result ≡ recover_by (words_behind (option_copied words.entry)) }
+    ensures limits { IfSome result IsRequest }
+{
+    let (flags, count) = two_words(words)?;
+    Some(Request::Recover {
+        flags: read_flags(flags)?,
+        count: read_count(count)?,
+    })
+}
+
+fn read_decide(words: Option<&[u8]>) -> Option<Request>
+    ensures value { (xid_of : List ℕ → Option Triple) → ReadsTexts xid_of →
+        result ≡ decide_by xid_of (words_behind (option_copied words.entry)) }
+    ensures limits { IfSome result IsRequest }
+{
+    let (direction, xid) = two_words(words)?;
+    Some(Request::Decide {
+        direction: read_direction(direction)?,
+        xid: Xid::take_text(xid)?,
+    })
+}
+
+fn read_direction(word: &[u8]) -> Option<Direction>
+    ensures { result ≡ direction_of word.now }
+{
+    if word == b"commit".as_slice() {
+        Some(Direction::Commit)
+    } else if word == b"rollback".as_slice() {
+        Some(Direction::Rollback)
+    } else {
+        None
+    }
+}
+
+/// A restart, behind which no words stand.
+fn read_restart(words: Option<&[u8]>) -> Option<Request>
+    ensures value { result ≡ alone Restart (words_behind (option_copied words.entry)) }
+    ensures limits { IfSome result IsRequest }
+{
+    match words {
+        None => Some(Request::Restart),
+        Some(_) => None,
+    }
 }
 
 fn read_doom(words: Option<&[u8]>) -> Option<Request>

@@ -8,12 +8,17 @@ pub enum Verb {
     Close,
     Start,
     End,
+    Prepare,
     Commit,
     Rollback,
-    Doom,
+    Forget,
+    Recover,
     Get,
     Put,
     Delete,
+    Decide,
+    Doom,
+    Restart,
 }
 
 /// The verb of a word.
@@ -28,12 +33,17 @@ pub fn read_verb(word: &[u8]) -> Option<Verb>
         "close" => Some(Verb::Close),
         "start" => Some(Verb::Start),
         "end" => Some(Verb::End),
+        "prepare" => Some(Verb::Prepare),
         "commit" => Some(Verb::Commit),
         "rollback" => Some(Verb::Rollback),
-        "doom" => Some(Verb::Doom),
+        "forget" => Some(Verb::Forget),
+        "recover" => Some(Verb::Recover),
         "get" => Some(Verb::Get),
         "put" => Some(Verb::Put),
         "delete" => Some(Verb::Delete),
+        "decide" => Some(Verb::Decide),
+        "doom" => Some(Verb::Doom),
+        "restart" => Some(Verb::Restart),
         _ => None,
     }
 }

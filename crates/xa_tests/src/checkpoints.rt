@@ -107,6 +107,25 @@ fn is_lost_until_read(
     )
 }
 
+// Where the next record begins behind a checkpoint, and behind a rescan.
+fn two_ends(alloc: Global, plans: &[(u64, Effect)]) -> Option<(u64, u64)> {
+    let mut log = with_plans(alloc, plans)?;
+    checkpoint_of(alloc, &mut log, &ONE)?;
+    let end = log.end();
+    log.rescan().ok()?;
+    Some((end, log.end()))
+}
+
+#[test]
+fn ends_behind_a_checkpoint(rt: HostRuntime) {
+    let alloc = rt.alloc();
+    assert!(rt; two_ends(alloc, &[]) == Some((49, 49)));
+    assert!(rt; two_ends(alloc, &[(1, Effect::Lost)]) == Some((110, 110)));
+    // The first length isn't there, or it is and its repair isn't.
+    assert!(rt; two_ends(alloc, &[(5, Effect::Lost), (6, Effect::Lost)]) == Some((110, 110)));
+    assert!(rt; two_ends(alloc, &[(6, Effect::Kept), (7, Effect::Lost)]) == Some((110, 49)));
+}
+
 // An append that was lost stops a checkpoint too.
 fn is_append_lost(alloc: Global) -> Option<bool> {
     let mut log = log_of(alloc, &OLD)?;

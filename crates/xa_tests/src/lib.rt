@@ -27,6 +27,8 @@ mod frames;
 #[cfg(test)]
 mod lines;
 #[cfg(test)]
+mod log_files;
+#[cfg(test)]
 mod log_images;
 #[cfg(test)]
 mod log_pairs;
@@ -37,6 +39,14 @@ mod managers;
 #[cfg(test)]
 mod plays;
 #[cfg(test)]
+mod plays_calls;
+#[cfg(test)]
+mod plays_failing;
+#[cfg(test)]
+mod plays_lost;
+#[cfg(test)]
+mod plays_recovered;
+#[cfg(test)]
 mod record_limits;
 #[cfg(test)]
 mod records;
@@ -44,6 +54,10 @@ mod records;
 mod recoveries;
 #[cfg(test)]
 mod rows;
+#[cfg(test)]
+mod scans;
+#[cfg(test)]
+mod scripted;
 #[cfg(test)]
 mod sessions;
 #[cfg(test)]

@@ -4,7 +4,7 @@ use std::alloc::{AllocError, Global};
 use xa_script::read_line;
 
 /// Lines that are no commands, each a script.
-const OTHERS: [&str; 83] = [
+const OTHERS: [&str; 107] = [
     // Words and blanks.
     "connect x",
     "connect ",
@@ -83,15 +83,41 @@ const OTHERS: [&str; 83] = [
     "1 doom TMNOFLAGS",
     "1 doom 1:aa: 1:aa:",
     "1 doom TMNOFLAGS 1:aa:",
-    // Lines that are not built yet.
-    "1 prepare TMNOFLAGS 1:aa:",
-    "1 forget TMNOFLAGS 1:aa:",
-    "1 recover TMNOFLAGS 1",
-    "1 decide commit 1:aa:",
-    "1 restart",
-    "fail 1 lost",
-    "reopen",
-    "crash",
+    // A restart, a reopening and a crash with a word too many or too few, or without or with a session.
+    "restart",
+    "1 restart x",
+    "1 hangup x",
+    "reopen x",
+    "1 reopen",
+    "crash 5",
+    "1 crash",
+    // Device calls that are to fail.
+    "fail",
+    "fail lost",
+    "fail 1",
+    "fail 0 lost",
+    "fail 1001 lost",
+    "fail 01 lost",
+    "fail +1 lost",
+    "fail 1 maybe",
+    "fail 1 lost x",
+    "fail other",
+    "fail other lost",
+    "fail other 1001 kept",
+    "fail other other 1 kept",
+    "1 fail 1 lost",
+    // A recovery and what the operator decides.
+    "1 recover TMNOFLAGS",
+    "1 recover TMNOFLAGS 4294967296",
+    "1 recover TMNOFLAGS 00",
+    "1 recover TMNOFLAGS +1",
+    "1 recover TMNOFLAGS 1 1",
+    "1 decide Commit 1:aa:",
+    "1 decide 1:aa:",
+    "1 decide commit",
+    "1 decide commit TMNOFLAGS 1:aa:",
+    "1 prepare 1:aa:",
+    "1 forget TMNOFLAGS",
     // No ASCII.
     "1 open TMNOFLAGS \u{e4}",
     "1 get \u{e4}",
@@ -99,10 +125,20 @@ const OTHERS: [&str; 83] = [
 ];
 
 /// Scripts without a reply.
-const SILENT: [&str; 6] = ["", "\n", "\n\n", "#", "# \u{e4} connect", "#\n#"];
+const SILENT: [&str; 9] = [
+    "",
+    "\n",
+    "\n\n",
+    "#",
+    "# \u{e4} connect",
+    "#\n#",
+    "fail 1 lost",
+    "fail other 1000 kept",
+    "fail 1 kept\nfail 1 lost\nfail other 2 lost",
+];
 
-/// Lines that ask something of a session, each with what it says.
-const ASKED: [(&str, &str); 5] = [
+/// Lines that ask something, each with what it says.
+const ASKED: [(&str, &str); 14] = [
     ("9 hangup", "Hangup(9)"),
     (
         "18446744073709551615 hangup",
@@ -120,6 +156,33 @@ const ASKED: [(&str, &str); 5] = [
         "9 doom -2:aa:",
         "Call(9, Doom { xid: Xid { format: -2, gtrid: [170], bqual: [] } })",
     ),
+    (
+        "9 recover TMSTARTRSCAN|TMENDRSCAN 0",
+        "Call(9, Recover { flags: 25165824, count: 0 })",
+    ),
+    (
+        "9 recover TMNOFLAGS 4294967295",
+        "Call(9, Recover { flags: 0, count: 4294967295 })",
+    ),
+    (
+        "9 decide rollback 1:aa:",
+        "Call(9, Decide { direction: Rollback, xid: Xid { format: 1, gtrid: [170], bqual: [] } })",
+    ),
+    (
+        "9 forget TMNOFLAGS 1:aa:",
+        "Call(9, Forget { flags: 0, xid: Xid { format: 1, gtrid: [170], bqual: [] } })",
+    ),
+    ("9 restart", "Call(9, Restart)"),
+    (
+        "fail 1000 kept",
+        "Fail { file: Current, call: 1000, effect: Kept }",
+    ),
+    (
+        "fail other 7 lost",
+        "Fail { file: Other, call: 7, effect: Lost }",
+    ),
+    ("reopen", "Reopen"),
+    ("crash", "Crash"),
 ];
 
 fn line_text(alloc: Global, line: &str) -> Result<String, AllocError> {

@@ -172,6 +172,31 @@ fn device_faults_in_an_append(rt: HostRuntime) {
     assert!(rt; one_append(alloc, &[(3, Effect::Lost)]) == Some((Appended::Kept, true)));
 }
 
+// Where the next record begins once one was appended, and behind a rescan.
+fn two_ends(alloc: Global, plans: &[(u64, Effect)]) -> Option<(u64, u64)> {
+    let mut log = with_plans(alloc, plans).ok()?;
+    append(&mut log);
+    let end = log.end();
+    bodies_again(&mut log)?;
+    Some((end, log.end()))
+}
+
+fn end_of(alloc: Global, bodies: &[&[u8]]) -> Option<u64> {
+    Some(log_of(alloc, bodies)?.end())
+}
+
+#[test]
+fn ends_of_logs(rt: HostRuntime) {
+    let alloc = rt.alloc();
+    assert!(rt; end_of(alloc, &[]) == Some(8));
+    assert!(rt; end_of(alloc, &OLD) == Some(110));
+    assert!(rt; two_ends(alloc, &[]) == Some((49, 49)));
+    assert!(rt; two_ends(alloc, &[(1, Effect::Kept)]) == Some((8, 8)));
+    // The record isn't there, or it is and its repair isn't.
+    assert!(rt; two_ends(alloc, &[(1, Effect::Lost), (2, Effect::Lost)]) == Some((8, 8)));
+    assert!(rt; two_ends(alloc, &[(1, Effect::Kept), (2, Effect::Lost)]) == Some((8, 49)));
+}
+
 // The files are the log's alone until it is dropped.
 fn keeps_both_in(rt: &HostRuntime, path: &str, other: &str) -> Option<bool> {
     let first = FileDisk::at(rt, path).ok()?;

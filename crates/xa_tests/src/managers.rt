@@ -1,28 +1,36 @@
 ghost use Rattle.std.specs.Prelude.{IfOk};
 ghost use Rattle.xa_frame.specs.Limits.{IsRequest};
-ghost use Rattle.xa_manager.specs.Answered.{AreEvents};
+ghost use Rattle.xa_model.specs.Events.{AreEvents, IsAsked};
 
 use crate::rows::none_wrong;
 use std::alloc::{AllocError, Global};
-use xa_codes::{Bytes, Code, Detail, TMNOFLAGS, TMONEPHASE, TMSUCCESS, XA_OK, XAER_PROTO};
-use xa_frame::{Body, Reply, Request};
+use xa_codes::{Bytes, Code, Detail, TMNOFLAGS, TMSUCCESS, XA_OK, XAER_PROTO};
+use xa_disk::MemDisk;
+use xa_frame::{Body, Reply, Request, encode_request};
 use xa_manager::{Manager, Settings};
 use xa_model::Event;
 use xa_xid::Xid;
 
-// Each test passes whichever one allocation fails, since it asks again where memory was wanted:
-// `rt try --test --fail-alloc N` makes the N-th fail.
+// Each test passes whichever one allocation fails, since it asks again where memory was wanted, or where a disk in memory
+// found none and failed: `rt try --test --fail-alloc N` makes the N-th fail.
 
-fn manager(alloc: Global) -> Result<Manager, AllocError> {
-    let name = match Bytes::from_slice(alloc, b"xarm") {
-        Ok(name) => name,
-        Err(_) => Bytes::from_slice(alloc, b"xarm")?,
+fn opened(alloc: Global) -> Option<Manager<MemDisk>> {
+    let name = Bytes::from_slice(alloc, b"xarm").ok()?;
+    let settings = Settings {
+        name,
+        log_bytes: 1 << 30,
     };
-    let log_bytes = 1 << 30;
-    Manager::new(alloc, Settings { name, log_bytes }).map_err(|_| AllocError)
+    Manager::open(alloc, MemDisk::new(alloc), MemDisk::new(alloc), settings).ok()
 }
 
-fn connected(manager: &mut Manager) -> Option<u64> {
+fn manager(alloc: Global) -> Option<Manager<MemDisk>> {
+    match opened(alloc) {
+        Some(manager) => Some(manager),
+        None => opened(alloc),
+    }
+}
+
+fn connected(manager: &mut Manager<MemDisk>) -> Option<u64> {
     match manager.connect() {
         Ok(number) => Some(number),
         Err(_) => manager.connect().ok(),
@@ -50,11 +58,15 @@ fn request(alloc: Global, first: &Xid, second: &Xid, place: usize) -> Result<Req
             flags: TMSUCCESS,
             xid: first.copied(),
         },
-        4 => Request::Commit {
-            flags: TMONEPHASE,
+        4 => Request::Prepare {
+            flags: TMNOFLAGS,
             xid: first.copied(),
         },
-        5 => Request::Start {
+        5 => Request::Commit {
+            flags: TMNOFLAGS,
+            xid: first.copied(),
+        },
+        6 => Request::Start {
             flags: TMNOFLAGS,
             xid: second.copied(),
         },
@@ -64,26 +76,42 @@ fn request(alloc: Global, first: &Xid, second: &Xid, place: usize) -> Result<Req
     })
 }
 
+/// What a request of a session is answered. That its numbers are within their types' limits is known once it is encoded.
+pub fn answer(
+    manager: &mut Manager<MemDisk>,
+    alloc: Global,
+    session: u64,
+    request: Request,
+) -> Option<Reply>
+    requires { IsRequest request }
+{
+    match encode_request(alloc, &request) {
+        Ok(_content) => Some(manager.call(session, request)),
+        Err(_) => None,
+    }
+}
+
 // Nothing is said of what the manager is then: only its answer is compared.
 fn called(
-    manager: &mut Manager,
+    manager: &mut Manager<MemDisk>,
     alloc: Global,
     first: &Xid,
     second: &Xid,
     place: usize,
 ) -> Option<Reply> {
-    Some(manager.call(1, request(alloc, first, second, place).ok()?))
+    let request = request(alloc, first, second, place).ok()?;
+    answer(manager, alloc, 1, request)
 }
 
 fn asked(
-    manager: &mut Manager,
+    manager: &mut Manager<MemDisk>,
     alloc: Global,
     first: &Xid,
     second: &Xid,
     place: usize,
 ) -> Option<Reply> {
     match called(manager, alloc, first, second, place) {
-        Some(reply) if reply.detail != Detail::Memory => Some(reply),
+        Some(reply) if reply.detail == Detail::Nothing => Some(reply),
         _ => called(manager, alloc, first, second, place),
     }
 }
@@ -105,7 +133,7 @@ fn is_reply(reply: Option<Reply>, body: u64) -> bool {
 }
 
 fn wrong_reply(
-    manager: &mut Manager,
+    manager: &mut Manager<MemDisk>,
     alloc: Global,
     first: &Xid,
     second: &Xid,
@@ -123,8 +151,8 @@ fn xid(gtrid: &[u8], bqual: &[u8]) -> Option<Xid> {
     Xid::new(1, gtrid, bqual).ok()
 }
 
-fn session(alloc: Global) -> Option<Manager> {
-    let mut manager = manager(alloc).ok()?;
+fn session(alloc: Global) -> Option<Manager<MemDisk>> {
+    let mut manager = manager(alloc)?;
     if connected(&mut manager) == Some(1) {
         Some(manager)
     } else {
@@ -137,14 +165,14 @@ fn a_write_is_read_back(rt: HostRuntime) {
     let first = xid(&[0xaa], &[0xbb]).expect(&rt, "an XID");
     let second = xid(&[0xab], &[]).expect(&rt, "an XID");
     let mut manager = session(rt.alloc()).expect(&rt, "session 1");
-    let bodies = [0, 4294967297, 0, 0, 0, 4294967298, 0x76];
+    let bodies = [0, 4294967297, 0, 0, 0, 0, 4294967298, 0x76];
     none_wrong(
         &rt,
         wrong_reply(&mut manager, rt.alloc(), &first, &second, &bodies),
     );
 }
 
-fn driven(manager: &mut Manager, alloc: Global) -> Option<Vec<Reply>> {
+fn driven(manager: &mut Manager<MemDisk>, alloc: Global) -> Option<Vec<Reply>> {
     let info = Bytes::from_slice(alloc, b"xarm").ok()?;
     let open = Request::Open {
         flags: TMNOFLAGS,
@@ -171,7 +199,7 @@ fn are_codes(replies: &[Reply], codes: &[Code]) -> bool {
 }
 
 fn answers_in_order(alloc: Global) -> bool {
-    let Ok(mut manager) = manager(alloc) else {
+    let Some(mut manager) = manager(alloc) else {
         return false;
     };
     match driven(&mut manager, alloc) {

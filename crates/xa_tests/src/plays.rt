@@ -2,15 +2,18 @@ use crate::rows::none_wrong;
 use std::alloc::{AllocError, Global};
 use std::io::{self, ErrorKind, Read, Write};
 use xa_codes::Bytes;
-use xa_manager::Settings;
+use xa_log::OpenFault;
+use xa_manager::{ManagerFault, Settings};
 use xa_play::{PlayFault, play_run};
 
-fn settings(alloc: Global, name: &[u8]) -> Result<Settings, AllocError> {
+fn settings(alloc: Global, log_bytes: u64) -> Result<Settings, AllocError> {
     Ok(Settings {
-        name: Bytes::from_slice(alloc, name)?,
-        log_bytes: 1_073_741_824,
+        name: Bytes::from_slice(alloc, b"xarm")?,
+        log_bytes,
     })
 }
+
+const MOST: u64 = 1_073_741_824;
 
 /// How a play between a reader and a writer under these settings ends.
 fn played<R: Read + Drop, W: Write>(
@@ -22,21 +25,47 @@ fn played<R: Read + Drop, W: Write>(
     play_run(alloc, reader, writer, settings)
 }
 
-/// What a script prints under the name `xarm`.
-fn printed(alloc: Global, script: &str) -> Option<Vec<u8>> {
+/// How the play of a script under the name `xarm` ends, with what it prints.
+fn printed(
+    alloc: Global,
+    log_bytes: u64,
+    script: &str,
+) -> Option<(Result<(), PlayFault>, Vec<u8>)> {
     let mut output: Vec<u8> = Vec::new(alloc);
     let mut reader = script.as_bytes();
-    let settings = settings(alloc, b"xarm").ok()?;
-    played(alloc, &mut reader, &mut output, settings).ok()?;
-    Some(output)
+    let settings = settings(alloc, log_bytes).ok()?;
+    let outcome = played(alloc, &mut reader, &mut output, settings);
+    Some((outcome, output))
 }
 
-/// Whether a script prints that.
-pub fn prints(alloc: Global, script: &str, want: &str) -> bool {
-    match printed(alloc, script) {
-        Some(output) => output.as_slice() == want.as_bytes(),
+fn reads_as(alloc: Global, fault: PlayFault, text: &str) -> bool {
+    match format!(in alloc; "xarm: {fault}") {
+        Ok(line) => line.as_str() == text,
+        Err(_) => false,
+    }
+}
+
+/// Of a play to its end there is no text.
+fn is_end(alloc: Global, outcome: Result<(), PlayFault>, text: &str) -> bool {
+    match outcome {
+        Ok(()) => text.is_empty(),
+        Err(fault) => reads_as(alloc, fault, text),
+    }
+}
+
+/// Whether a script prints that, of a log of so many bytes, and its play ends with this text, or without one.
+pub fn ends_as(alloc: Global, log_bytes: u64, script: &str, want: &str, text: &str) -> bool {
+    match printed(alloc, log_bytes, script) {
+        Some((outcome, output)) => {
+            output.as_slice() == want.as_bytes() && is_end(alloc, outcome, text)
+        }
         None => false,
     }
+}
+
+/// Whether a script is played to its end, and prints that.
+pub fn prints(alloc: Global, script: &str, want: &str) -> bool {
+    ends_as(alloc, MOST, script, want, "")
 }
 
 const OPENED: &str = "0 Nothing number 1\n0 Nothing\n";
@@ -164,7 +193,7 @@ fn zeros_played(
 ) -> Option<(Result<(), PlayFault>, usize)> {
     let mut output: Vec<u8> = Vec::new(alloc);
     let mut reader = Zeros { left, error };
-    let settings = settings(alloc, b"xarm").ok()?;
+    let settings = settings(alloc, MOST).ok()?;
     let outcome = played(alloc, &mut reader, &mut output, settings);
     Some((outcome, output.len()))
 }
@@ -245,7 +274,7 @@ impl Write for Narrow {
 fn narrow_played(alloc: Global, left: usize, fails: bool) -> Option<Result<(), PlayFault>> {
     let mut writer = Narrow { left, fails };
     let mut reader = b"connect".as_slice();
-    let settings = settings(alloc, b"xarm").ok()?;
+    let settings = settings(alloc, MOST).ok()?;
     Some(played(alloc, &mut reader, &mut writer, settings))
 }
 
@@ -278,7 +307,7 @@ impl Write for Unflushed {
 
 fn is_unflushed(alloc: Global, script: &str) -> bool {
     let mut reader = script.as_bytes();
-    match settings(alloc, b"xarm") {
+    match settings(alloc, MOST) {
         Ok(settings) => {
             played(alloc, &mut reader, &mut Unflushed, settings) == Err(PlayFault::Write)
         }
@@ -292,20 +321,50 @@ fn output_that_is_not_flushed(rt: HostRuntime) {
     assert!(rt; is_unflushed(rt.alloc(), ""));
 }
 
-const FAULTS: [(PlayFault, &str); 5] = [
+const FAULTS: [(PlayFault, &str); 15] = [
     (PlayFault::Memory, "xarm: no memory"),
     (PlayFault::Setting, "xarm: bad setting"),
     (PlayFault::TooLong, "xarm: script too long"),
     (PlayFault::Read, "xarm: cannot read"),
     (PlayFault::Write, "xarm: cannot write"),
+    (
+        PlayFault::Manager(ManagerFault::Log(OpenFault::NotALog)),
+        "xarm: not a log",
+    ),
+    (
+        PlayFault::Manager(ManagerFault::Log(OpenFault::TooNew)),
+        "xarm: log too new",
+    ),
+    (
+        PlayFault::Manager(ManagerFault::Log(OpenFault::TooLong)),
+        "xarm: log too long",
+    ),
+    (
+        PlayFault::Manager(ManagerFault::Log(OpenFault::Device)),
+        "xarm: device fault",
+    ),
+    (
+        PlayFault::Manager(ManagerFault::Log(OpenFault::Memory)),
+        "xarm: no memory",
+    ),
+    (
+        PlayFault::Manager(ManagerFault::Malformed(3)),
+        "xarm: record 3 malformed",
+    ),
+    (
+        PlayFault::Manager(ManagerFault::Order(0)),
+        "xarm: record 0 out of order",
+    ),
+    (
+        PlayFault::Manager(ManagerFault::Boots),
+        "xarm: boots used up",
+    ),
+    (PlayFault::Manager(ManagerFault::LogFull), "xarm: log full"),
+    (
+        PlayFault::Manager(ManagerFault::Device),
+        "xarm: device fault",
+    ),
 ];
-
-fn reads_as(alloc: Global, fault: PlayFault, text: &str) -> bool {
-    match format!(in alloc; "xarm: {fault}") {
-        Ok(line) => line.as_str() == text,
-        Err(_) => false,
-    }
-}
 
 fn wrong_fault(alloc: Global, rows: &[(PlayFault, &str)]) -> Option<usize> {
     for (place, (fault, text)) in rows.iter().enumerate() {

@@ -1,7 +1,11 @@
+use crate::log_pairs::copies;
+use crate::rows::none_wrong;
 use std::alloc::Global;
 use std::test::Fail;
 use xa_record::{Record, read};
-use xa_recovery::{Durable, RebuildFault, list_after, next_boot, rebuild, snapshot};
+use xa_recovery::{
+    Durable, LogFault, RebuildFault, list_after, next_boot, rebuild, rebuild_log, snapshot,
+};
 use xa_xid::Xid;
 
 const OPENED: [u8; 5] = [1, 0, 0, 0, 1];
@@ -95,6 +99,70 @@ fn out_of_order(rt: HostRuntime) {
     let alloc = rt.alloc();
     assert!(rt; fault_of(alloc, &[&PREPARED]) == Some(RebuildFault::Order(0)));
     assert!(rt; fault_of(alloc, &[&OPENED, &PREPARED, &PREPARED]) == Some(RebuildFault::Order(2)));
+}
+
+// A log's boot, and how many branches are committed and in doubt.
+fn found(durable: &Durable) -> (u32, usize, usize) {
+    (
+        durable.boot(),
+        durable.committed().len(),
+        durable.prepared().len(),
+    )
+}
+
+fn found_in(alloc: Global, bodies: &[&[u8]]) -> Option<(u32, usize, usize)> {
+    let durable = rebuild_log(alloc, &copies(alloc, bodies)?).ok()?;
+    Some(found(&durable))
+}
+
+fn log_fault_of(alloc: Global, bodies: &[&[u8]]) -> Option<LogFault> {
+    rebuild_log(alloc, &copies(alloc, bodies)?).err()
+}
+
+#[test]
+fn bodies_of_logs(rt: HostRuntime) {
+    let alloc = rt.alloc();
+    assert!(rt; found_in(alloc, &[]) == Some((0, 0, 0)));
+    assert!(rt; found_in(alloc, &[&OPENED, &PREPARED]) == Some((1, 0, 1)));
+    assert!(rt; found_in(alloc, &[&OPENED, &PREPARED, &COMMITTED]) == Some((1, 1, 0)));
+    assert!(rt; found_in(alloc, &[&OPENED_AGAIN, &BASE, &KNOWN]) == Some((2, 1, 0)));
+}
+
+// No record has the kind 10, and none is so short.
+const NEW_KIND: [u8; 5] = [10, 0, 0, 0, 1];
+
+const SHORT: [u8; 4] = [1, 0, 0, 0];
+
+// A body that is no record's anywhere goes before a record out of order anywhere, and of either the first is told.
+const LOG_FAULTS: [(&[&[u8]], LogFault); 8] = [
+    (&[&NEW_KIND], LogFault::Malformed(0)),
+    (&[&OPENED, &SHORT, &NEW_KIND], LogFault::Malformed(1)),
+    (&[&PREPARED, &OPENED], LogFault::Order(0)),
+    (&[&OPENED, &PREPARED, &PREPARED], LogFault::Order(2)),
+    (
+        &[&OPENED, &PREPARED, &PREPARED, &OPENED],
+        LogFault::Order(2),
+    ),
+    (&[&PREPARED, &SHORT], LogFault::Malformed(1)),
+    (
+        &[&PREPARED, &COMMITTED, &OPENED, &NEW_KIND, &SHORT],
+        LogFault::Malformed(3),
+    ),
+    (&[&SHORT, &PREPARED], LogFault::Malformed(0)),
+];
+
+fn wrong_log_fault(alloc: Global, rows: &[(&[&[u8]], LogFault)]) -> Option<usize> {
+    for (place, (bodies, fault)) in rows.iter().enumerate() {
+        if log_fault_of(alloc, bodies) != Some(*fault) {
+            return Some(place);
+        }
+    }
+    None
+}
+
+#[test]
+fn faults_of_logs(rt: HostRuntime) {
+    none_wrong(&rt, wrong_log_fault(rt.alloc(), &LOG_FAULTS));
 }
 
 #[test]

@@ -1,3 +1,4 @@
+use std::alloc::Global;
 use std::test::Fail;
 use xa_assoc::Sessions;
 use xa_branch::{BeginFault, Branches, Kind, Known, Lasting, State};
@@ -54,7 +55,8 @@ fn lasting_branches(rt: HostRuntime) -> Result<(), Fail> {
     let mut branches = Branches::new(rt.alloc(), 1, 1);
     assert_eq!(rt; branches.begin(&xid), Ok(4294967297));
     branches.leave(&xid, Kind::Active);
-    branches.prepare(&xid)?;
+    branches.make_room(&xid)?;
+    branches.prepare(&xid);
     assert_eq!(rt; branches.state(&xid), Some(State::Prepared));
     assert_eq!(rt;
         branches.lasting_of(&xid),
@@ -77,8 +79,10 @@ fn lasting_counts(rt: HostRuntime) -> Result<(), Fail> {
     let mut branches = Branches::new(rt.alloc(), 1, 1);
     assert_eq!(rt; branches.begin(&first), Ok(4294967297));
     assert_eq!(rt; branches.begin(&second), Ok(4294967298));
-    branches.prepare(&first)?;
-    branches.prepare(&second)?;
+    branches.make_room(&first)?;
+    branches.prepare(&first);
+    branches.make_room(&second)?;
+    branches.prepare(&second);
     assert_eq!(rt; branches.prepared(), 2);
     branches.decide(&first, Direction::Rollback);
     assert_eq!(rt; branches.state(&first), Some(State::HeurRolledBack));
@@ -86,5 +90,88 @@ fn lasting_counts(rt: HostRuntime) -> Result<(), Fail> {
     assert_eq!(rt; branches.prepared(), 0);
     assert_eq!(rt; branches.completed(), 1);
     assert_eq!(rt; branches.len(), 1);
+    Ok(())
+}
+
+// Room is made to prepare a branch, and given back: it stays at work.
+#[test]
+fn room_given_back(rt: HostRuntime) -> Result<(), Fail> {
+    let xid = Xid::new(1, &[0xaa], &[0xbb]).ok().ok_or("an XID")?;
+    let mut branches = Branches::new(rt.alloc(), 1, 1);
+    assert_eq!(rt; branches.begin(&xid), Ok(4294967297));
+    branches.leave(&xid, Kind::Active);
+    branches.make_room(&xid)?;
+    branches.give_back(&xid);
+    assert_eq!(rt; branches.state(&xid), Some(State::Idle));
+    assert_eq!(rt; branches.lasting_of(&xid), None);
+    assert_eq!(rt; branches.prepared(), 0);
+    assert_eq!(rt; branches.len(), 1);
+    Ok(())
+}
+
+fn are(listed: &[Xid], wanted: &[&Xid]) -> bool {
+    for (xid, want) in listed.iter().zip(wanted) {
+        if *xid != **want {
+            return false;
+        }
+    }
+    listed.len() == wanted.len()
+}
+
+fn lists(
+    alloc: Global,
+    branches: &Branches,
+    after: Option<&Xid>,
+    count: usize,
+    wanted: &[&Xid],
+) -> bool {
+    match branches.list_after(alloc, after, count) {
+        Ok(listed) => are(&listed, wanted),
+        Err(_) => false,
+    }
+}
+
+/// What lasted of the first boot, in the second: the first XID was rolled back by the operator, the second is in doubt.
+fn restored(alloc: Global, first: &Xid, second: &Xid) -> Option<Branches> {
+    let mut branches = Branches::new(alloc, 2, 1);
+    branches.restore_prepared(second.copied(), 4294967297).ok()?;
+    branches
+        .restore_completed(first.copied(), Direction::Rollback)
+        .ok()?;
+    Some(branches)
+}
+
+// What lasted is known, and the next branch has the boot's first timestamp.
+#[test]
+fn restored_branches(rt: HostRuntime) -> Result<(), Fail> {
+    let first = Xid::new(1, &[0xaa], &[0xbb]).ok().ok_or("an XID")?;
+    let second = Xid::new(1, &[0xaa], &[0xbc]).ok().ok_or("an XID")?;
+    let third = Xid::new(1, &[0xaa], &[]).ok().ok_or("an XID")?;
+    let mut branches = restored(rt.alloc(), &first, &second).ok_or("branches")?;
+    assert_eq!(rt; branches.state(&first), Some(State::HeurRolledBack));
+    assert_eq!(rt; branches.state(&second), Some(State::Prepared));
+    assert_eq!(rt; branches.timestamp(&second), 4294967297);
+    assert_eq!(rt; branches.prepared(), 1);
+    assert_eq!(rt; branches.completed(), 1);
+    assert_eq!(rt; branches.begin(&second), Err(BeginFault::Duplicate));
+    assert_eq!(rt; branches.begin(&third), Ok(8589934593));
+    Ok(())
+}
+
+// Recovery lists what lasted, and no branch at work.
+#[test]
+fn listed_branches(rt: HostRuntime) -> Result<(), Fail> {
+    let first = Xid::new(1, &[0xaa], &[0xbb]).ok().ok_or("an XID")?;
+    let second = Xid::new(1, &[0xaa], &[0xbc]).ok().ok_or("an XID")?;
+    let third = Xid::new(1, &[0xaa], &[]).ok().ok_or("an XID")?;
+    let mut branches = restored(rt.alloc(), &first, &second).ok_or("branches")?;
+    assert_eq!(rt; branches.begin(&third), Ok(8589934593));
+    let alloc = rt.alloc();
+    assert!(rt; lists(alloc, &branches, None, 5, &[&first, &second]));
+    assert!(rt; lists(alloc, &branches, None, 1, &[&first]));
+    assert!(rt; lists(alloc, &branches, Some(&third), 5, &[&first, &second]));
+    assert!(rt; lists(alloc, &branches, Some(&first), 5, &[&second]));
+    assert!(rt; lists(alloc, &branches, Some(&second), 5, &[]));
+    assert!(rt; lists(alloc, &branches, None, 0, &[]));
     Ok(())
 }

@@ -2,7 +2,7 @@ use crate::rows::none_wrong;
 use mv_chain::Fate;
 use mv_rules::{Got, Put, Records};
 use std::alloc::{AllocError, Global};
-use xa_codes::Write;
+use xa_codes::{Bytes, Write};
 
 /// What is asked of records, for a branch of a timestamp.
 #[derive(Clone, Copy)]
@@ -10,7 +10,11 @@ enum Ask {
     Get(&'static [u8]),
     Put(&'static [u8], Option<u8>),
     Settle(Fate),
+    /// A branch that lasted, and its fate where that is known.
+    Restore(&'static [KeyWrite], Option<Fate>),
 }
+
+type KeyWrite = (&'static [u8], Option<u8>);
 
 #[derive(Clone, Copy, PartialEq, Eq)]
 enum Told {
@@ -31,8 +35,16 @@ const SECOND: u64 = 4294967298;
 
 const THIRD: u64 = 4294967299;
 
+// The first of the second boot.
+const LATER: u64 = 8589934593;
+
+// What branches of the first boot wrote.
+const WROTE: [KeyWrite; 2] = [(b"k", Some(0x31)), (b"l", None)];
+
+const WROTE_LATER: [KeyWrite; 1] = [(b"k", Some(0x32))];
+
 /// Rows by themselves, each on new records.
-const ROWS: [&[(u64, Ask, Told)]; 5] = [
+const ROWS: [&[(u64, Ask, Told)]; 8] = [
     // The second branch has read the key as absent, so a write by the first is late.
     &[
         (SECOND, Ask::Get(b"k"), Told::Absent),
@@ -66,6 +78,47 @@ const ROWS: [&[(u64, Ask, Told)]; 5] = [
         (FIRST, Ask::Put(b"k", None), Told::Done),
         (FIRST, Ask::Get(b"k"), Told::Absent),
     ],
+    // What lasted and was committed is read in a later boot.
+    &[
+        (
+            FIRST,
+            Ask::Restore(&WROTE, Some(Fate::Committed)),
+            Told::Done,
+        ),
+        (LATER, Ask::Get(b"k"), Told::Value(0x31)),
+        (LATER, Ask::Get(b"l"), Told::Absent),
+        (LATER, Ask::Put(b"l", Some(0x33)), Told::Done),
+    ],
+    // What lasted and is undecided is to be waited for, until it is committed.
+    &[
+        (SECOND, Ask::Restore(&WROTE_LATER, None), Told::Done),
+        (
+            FIRST,
+            Ask::Restore(&WROTE, Some(Fate::Committed)),
+            Told::Done,
+        ),
+        (LATER, Ask::Get(b"k"), Told::Busy(SECOND)),
+        (LATER, Ask::Get(b"l"), Told::Absent),
+        (SECOND, Ask::Settle(Fate::Committed), Told::Done),
+        (LATER, Ask::Get(b"k"), Told::Value(0x32)),
+    ],
+    // Or rolled back.
+    &[
+        (
+            FIRST,
+            Ask::Restore(&WROTE, Some(Fate::Committed)),
+            Told::Done,
+        ),
+        (SECOND, Ask::Restore(&WROTE_LATER, None), Told::Done),
+        (
+            THIRD,
+            Ask::Restore(&WROTE, Some(Fate::RolledBack)),
+            Told::Done,
+        ),
+        (LATER, Ask::Get(b"k"), Told::Busy(SECOND)),
+        (SECOND, Ask::Settle(Fate::RolledBack), Told::Done),
+        (LATER, Ask::Get(b"k"), Told::Value(0x31)),
+    ],
 ];
 
 fn value_of(alloc: Global, byte: Option<u8>) -> Result<Option<Vec<u8>>, AllocError> {
@@ -73,6 +126,28 @@ fn value_of(alloc: Global, byte: Option<u8>) -> Result<Option<Vec<u8>>, AllocErr
         Some(byte) => Ok(Some([byte].to_vec(alloc)?)),
         None => Ok(None),
     }
+}
+
+fn bytes_of(alloc: Global, byte: Option<u8>) -> Result<Option<Bytes>, AllocError> {
+    match byte {
+        Some(byte) => Ok(Some(Bytes::from_slice(alloc, &[byte])?)),
+        None => Ok(None),
+    }
+}
+
+fn write_of(alloc: Global, key: &[u8], byte: Option<u8>) -> Result<Write, AllocError> {
+    Ok(Write {
+        key: Bytes::from_slice(alloc, key)?,
+        value: bytes_of(alloc, byte)?,
+    })
+}
+
+fn writes_of(alloc: Global, rows: &[KeyWrite]) -> Result<Vec<Write>, AllocError> {
+    let mut writes = Vec::new(alloc);
+    for (key, byte) in rows {
+        writes.push(write_of(alloc, key, *byte)?)?;
+    }
+    Ok(writes)
 }
 
 fn put(records: &mut Records, ts: u64, key: &[u8], value: Option<Vec<u8>>) -> Told {
@@ -104,6 +179,11 @@ fn answered(alloc: Global, records: &mut Records, ts: u64, ask: Ask) -> Result<T
             records.settle(ts, fate);
             Ok(Told::Done)
         }
+        Ask::Restore(rows, fate) => {
+            let writes = writes_of(alloc, rows)?;
+            records.restore(ts, &writes, fate)?;
+            Ok(Told::Done)
+        }
     }
 }
 
@@ -132,8 +212,6 @@ fn is_write(write: &Write, key: &[u8], byte: Option<u8>) -> bool {
     };
     same && write.key.as_slice() == key
 }
-
-type KeyWrite = (&'static [u8], Option<u8>);
 
 const PUTS: [KeyWrite; 4] = [
     (b"m", Some(1)),
@@ -174,6 +252,20 @@ fn has_writes(records: &Records, ts: u64, wanted: &[KeyWrite]) -> bool {
         Ok(writes) => are_writes(&writes, wanted),
         Err(_) => false,
     }
+}
+
+// What lasted of a branch, until it is decided.
+fn keeps_restored(alloc: Global) -> Result<bool, AllocError> {
+    let mut records = Records::new(alloc);
+    records.restore(FIRST, &writes_of(alloc, &WROTE)?, None)?;
+    let before = has_writes(&records, FIRST, &WROTE);
+    records.settle(FIRST, Fate::Committed);
+    Ok(before && has_writes(&records, FIRST, &[]))
+}
+
+#[test]
+fn restored_writes(rt: HostRuntime) {
+    assert!(rt; keeps_restored(rt.alloc()) == Ok(true));
 }
 
 // The last write of each key, ascending by key.

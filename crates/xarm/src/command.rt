@@ -1,6 +1,7 @@
 ghost use Rattle.std.specs.IoError.{error_kind};
-ghost use Rattle.std.specs.Prelude.{◌≡◌, ◌≢◌, ◌<◌, ◌⊎◌, IfOk, IsErrOf, OnErr, OnOk, length};
+ghost use Rattle.std.specs.Prelude.{◌≡◌, ◌≢◌, ◌⊎◌, IfOk, IsErrOf, OnErr, OnOk};
 ghost use Rattle.std.specs.Process.{exit_status};
+ghost use Rattle.xa_manager.specs.Opening.{IsBadSetting};
 
 use clap::{Arg, ArgAction, Command, Error};
 use std::alloc::{AllocError, Global};
@@ -12,13 +13,14 @@ use xa_codes::Bytes;
 use xa_manager::Settings;
 use xa_play::{PlayFault, play_run};
 
-/// The bytes that a log may take where the command line says nothing of it.
-const LOG_BYTES: u64 = 1_073_741_824;
-
 /// What a command line asks for.
 #[derive(Debug, Drop)]
 pub enum Asked<'a> {
-    Play { name: &'a str },
+    Play {
+        name: &'a str,
+        /// How many bytes each of the log's two files may have.
+        log_bytes: u64,
+    },
 }
 
 /// What the words of a command line ask for, the program's name first.
@@ -29,21 +31,34 @@ pub fn read_words<'a>(alloc: Global, words: &'a [String]) -> Result<Asked<'a>, E
         .help("The resource manager's name, as an open gives it")
         .action(ArgAction::Set)
         .default_value("xarm");
+    let log_bytes = Arg::new(alloc, "log-bytes")
+        .long("log-bytes")
+        .value_name("N")
+        .help("How many bytes each of the log's two files may have: 64 to 1073741824")
+        .action(ArgAction::Set)
+        .default_value("1073741824");
     let play = Command::new(alloc, "play")
         .about("Runs a script of calls from standard input and prints the replies")
-        .arg(name)?;
+        .arg(name)?
+        .arg(log_bytes)?;
     let command = Command::new(alloc, "xarm")
         .about("An XA resource manager")
         .subcommand_required(true)
         .subcommand(play)?;
     let matches = command.try_get_matches_from(words)?;
-    let name = match matches.subcommand() {
-        Some((_, play)) => play.get_str("name"),
-        None => None,
+    let (name, log_bytes) = match matches.subcommand() {
+        Some((_, play)) => (play.get_str("name"), play.get_str("log-bytes")),
+        None => (None, None),
     };
     Ok(Asked::Play {
         name: name.unwrap_or("xarm"),
+        log_bytes: log_bytes_of(log_bytes.unwrap_or("1073741824")),
     })
+}
+
+/// The number that a word spells. A word that spells none is out of the limits, as 0 is.
+fn log_bytes_of(word: &str) -> u64 {
+    word.parse::<u64>().unwrap_or(0)
 }
 
 /// Does what the command line says. Status 0: done. 1: a fault, its line on standard error. 2: the command line was
@@ -54,7 +69,7 @@ pub fn run<R: AllocGlobal + Env + Input + Print + Eprint>(rt: &R) -> ExitCode {
         Err(error) => return words_fault(rt, &error),
     };
     match read_words(rt.alloc(), words.as_slice()) {
-        Ok(Asked::Play { name }) => ended(rt, &play(rt, name)),
+        Ok(Asked::Play { name, log_bytes }) => ended(rt, &play(rt, name, log_bytes)),
         Err(error) => refused(rt, &error),
     }
 }
@@ -63,12 +78,12 @@ fn words<R: AllocGlobal + Env>(rt: &R) -> io::Result<Vec<String>> {
     Ok(env::args(rt)?.collect(rt.alloc())?)
 }
 
-/// Plays standard input. The name is the one setting that a command line can have wrong.
-fn play<R: AllocGlobal + Input + Print>(rt: &R, name: &str) -> Result<(), PlayFault>
-    ensures setting { IsErrOf result PlayFault.Setting → 255 < length name.now }
-    ensures long_name { 255 < length name.now → IsErrOf result PlayFault.Setting ⊎ IsErrOf result PlayFault.Memory }
+/// Plays standard input.
+fn play<R: AllocGlobal + Input + Print>(rt: &R, name: &str, log_bytes: u64) -> Result<(), PlayFault>
+    ensures setting { IsErrOf result PlayFault.Setting → IsBadSetting name.now log_bytes }
+    ensures bad { IsBadSetting name.now log_bytes → IsErrOf result PlayFault.Setting ⊎ IsErrOf result PlayFault.Memory }
 {
-    let settings = settings_of(rt.alloc(), name, LOG_BYTES)?;
+    let settings = settings_of(rt.alloc(), name, log_bytes)?;
     let Ok(mut writer) = BufWriter::new(rt.alloc(), io::writer(rt)) else {
         return Err(PlayFault::Memory);
     };

@@ -24,7 +24,7 @@ fn command_lines(rt: HostRuntime) -> Result<(), Fail> {
         ("xarm play --name ", ""),
     ] {
         let words = words(rt.alloc(), line)?;
-        let Ok(Asked::Play { name }) = read_words(rt.alloc(), words.as_slice()) else {
+        let Ok(Asked::Play { name, .. }) = read_words(rt.alloc(), words.as_slice()) else {
             return Err(Fail::from("refused"));
         };
         assert_eq!(rt; name, wanted);
@@ -41,8 +41,8 @@ fn command_lines_that_are_refused(rt: HostRuntime) -> Result<(), Fail> {
         ),
         ("xarm paly", "error: unrecognized subcommand 'paly'"),
         (
-            "xarm play --log-bytes 64",
-            "error: unexpected argument '--log-bytes' found",
+            "xarm play --log-size 64",
+            "error: unexpected argument '--log-size' found",
         ),
         (
             "xarm play script",

@@ -40,7 +40,7 @@ returns-in-Own-clause-stands c =
     let o = own (goal.at.returns-in-Own-clause-stands c).Joined-index_mut-value in
     let x = c.index_mut.result.now in
     λ key low writes reads s u late.
-    replaced_stands c.args.versions.now.items c.in-Own.i c.args.ts _ x c.args.value c.requires o.place (o.own x).0 (o.own x).1 (left (goal.at.returns-in-Own-clause-stands c).Joined-index_mut-value) key low writes reads s
+    replaced_stands c.args.versions.now.items c.in-Own.i c.args.ts _ x c.args.value c.requires o.place (o.own x).0 (o.own x).1 (left (goal.at.returns-in-Own-clause-stands c).Joined-index_mut-value) key low writes reads s u.above
 
 new : (c : In_ok-insert-in-New) → IsNew c.args.ts c.in-New.i c.args.versions.now.items
 new c = rw c.deref.ensures.value at c.in-New.ensures
@@ -59,4 +59,4 @@ pub returns-in_ok-insert-in-New-clause-stands : goal.returns-in_ok-insert-in-New
 returns-in_ok-insert-in-New-clause-stands c =
     let n = new c in
     λ key low writes reads s u late.
-    rw c.in_ok-insert-in-New.ensures.items (stands_inserted key low writes reads c.args.versions.now.items c.in-New.i (unread c.args.ts c.args.value) refl refl n.none s)
+    rw c.in_ok-insert-in-New.ensures.items (stands_inserted key low writes reads c.args.versions.now.items c.in-New.i (unread c.args.ts c.args.value) refl refl n.none u.above s)

@@ -12,7 +12,7 @@ returns-in_default-clause-items c = settled_nothing c.args.ts c.args.fate c.args
 
 pub returns-in_default-clause-stands : goal.returns-in_default-clause-stands
 returns-in_default-clause-stands c =
-    λ key low writes reads s u. stands_untouched key low c.args.ts c.args.fate writes reads c.args.versions.now.items (rw c.deref.ensures.value at c.in_default.ensures.found) s u
+    λ key low writes reads s open_. stands_untouched key low c.args.ts c.args.fate writes reads c.args.versions.now.items (rw c.deref.ensures.value at c.in_default.ensures.found) s open_
 
 -- what is written there
 left : (c : After-versions-1) → record c.index_mut.result.now { pending = false } ≡ record (get_or c.args.versions.now.items c.in-Some.i c.index_mut.result.now) { pending = false }
@@ -51,5 +51,5 @@ returns-in-RolledBack-clause-stands c =
     let x = c.remove.result in
     let found = rw c.deref.ensures.value at c.in-Some.ensures.found in
     let within = rw c.deref.ensures.value at c.in-Some.ensures.within in
-    λ key low writes reads s u.
-    rw (c.remove.ensures.items, c.in-RolledBack.is) (stands_rolled_back key low c.args.ts writes reads c.args.versions.now.items c.in-Some.i x within c.requires u.open_ (found.1 x).0 (found.1 x).1 s)
+    λ key low writes reads s open_.
+    rw (c.remove.ensures.items, c.in-RolledBack.is) (stands_rolled_back key low c.args.ts writes reads c.args.versions.now.items c.in-Some.i x within c.requires open_ (found.1 x).0 (found.1 x).1 s)

@@ -1,6 +1,6 @@
 use Rattle.xa_model.proofs.AppliedDecisions.{applied_lasts, applied_sound}
 use Rattle.xa_model.proofs.Behind.{applied_fits}
-use Rattle.xa_model.proofs.LoggedTurns.{calls_log_what_lasts}
+use Rattle.xa_model.proofs.LoggedEvents.{events_log_what_lasts}
 use Rattle.xa_model.proofs.Restarts.{restart_lasts, reopen_lasts}
 use Rattle.xa_model.proofs.laws.logged_lasts.Goals as goal
 
@@ -13,8 +13,8 @@ returns-clause-applied c = applied_lasts
 pub returns-clause-fits : goal.returns-clause-fits
 returns-clause-fits c = applied_fits
 
-pub returns-clause-calls : goal.returns-clause-calls
-returns-clause-calls c = calls_log_what_lasts
+pub returns-clause-events : goal.returns-clause-events
+returns-clause-events c = events_log_what_lasts
 
 pub returns-clause-restart : goal.returns-clause-restart
 returns-clause-restart c = restart_lasts

@@ -1,5 +1,5 @@
-use Rattle.xa_model.proofs.WorkedRefusals.{early_refused, down_refused, unbuilt_refused, close_refused, start_refused, join_refused, resume_refused, suspend_refused, end_refused}
-use Rattle.xa_model.proofs.WorkedBranches.{one_phase_refused, two_phase_refused, rollback_refused, doom_refused, records_refused}
+use Rattle.xa_model.proofs.WorkedRefusals.{early_refused, down_refused, close_refused, start_refused, join_refused, resume_refused, suspend_refused, end_refused}
+use Rattle.xa_model.proofs.WorkedBranches.{one_phase_refused, two_phase_refused, rollback_refused, prepare_refused, doom_refused, records_refused}
 use Rattle.xa_model.proofs.laws.worked_refusals.Goals as goal
 
 pub returns-clause-early : goal.returns-clause-early
@@ -7,9 +7,6 @@ returns-clause-early c = early_refused
 
 pub returns-clause-down : goal.returns-clause-down
 returns-clause-down c = down_refused
-
-pub returns-clause-unbuilt : goal.returns-clause-unbuilt
-returns-clause-unbuilt c = unbuilt_refused
 
 pub returns-clause-close : goal.returns-clause-close
 returns-clause-close c = close_refused
@@ -37,6 +34,9 @@ returns-clause-two_phase c = two_phase_refused
 
 pub returns-clause-rollback : goal.returns-clause-rollback
 returns-clause-rollback c = rollback_refused
+
+pub returns-clause-prepare : goal.returns-clause-prepare
+returns-clause-prepare c = prepare_refused
 
 pub returns-clause-doom : goal.returns-clause-doom
 returns-clause-doom c = doom_refused

@@ -1,6 +1,6 @@
 use Rattle.std.proofs.Common.{◌≡◌, ◌∙◌, rules, List, []}
 use Rattle.xa_codes.specs.declared.write.Write.{Write}
-use Rattle.mv_chain.specs.History.{IsUnsettled}
+use Rattle.mv_chain.specs.History.{IsOpen}
 use Rattle.mv_rules.specs.History.{History, IsWritesOf}
 use Rattle.mv_rules.specs.Records.{StandsFor, own_of}
 use Rattle.mv_rules.proofs.Gathered.{ascending_entries, listed_entries, collected_is, writes_result}
@@ -9,7 +9,7 @@ use Rattle.mv_rules.proofs.records.Records.writes_of.Goals as goal
 pub returns-in_ok-values-in-Some : goal.returns-in_ok-values-in-Some
 returns-in_ok-values-in-Some c =
     let own : c.deref-in-Some.result.now ≡ own_of c.args.ts c.args.self.now = search rules in
-    writes_result c.listed.result c.in_ok-values-in-Some.values.entries (λ (ws : List Write). (h : History) → StandsFor h c.args.self.now → IsUnsettled c.args.ts h.low h.writes → IsWritesOf c.args.ts h.writes ws) c.listed.ensures
+    writes_result c.listed.result c.in_ok-values-in-Some.values.entries (λ (ws : List Write). (h : History) → StandsFor h c.args.self.now → IsOpen c.args.ts h.writes → IsWritesOf c.args.ts h.writes ws) c.listed.ensures
     (λ h s u. record {
       ascending = ascending_entries c.in_ok-values-in-Some.values.entries c.in_ok-values-in-Some.ensures.ordered;
       last = λ q. listed_entries q c.in_ok-values-in-Some.values.entries ∙ (c.in_ok-values-in-Some.ensures.values q ∙ (rw (c.deref.ensures.value, own) (collected_is h c.args.self.now c.args.ts q s u)));

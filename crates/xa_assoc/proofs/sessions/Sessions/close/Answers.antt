@@ -22,4 +22,4 @@ returns-clause-closed c = λ s st.
 pub returns-clause-after : goal.returns-clause-after
 returns-clause-after c =
     let e : close_refusal (holds_any_at c.args.self.now c.args.session) ≡ None = grind (arith, c.in_default.ensures.value, c.holds_any.ensures) in
-    close_follows c.args.self.now c.set_opened.new.self c.args.session e c.set_opened.ensures
+    close_follows c.args.self.now c.set_closed.new.self c.args.session e c.set_closed.ensures

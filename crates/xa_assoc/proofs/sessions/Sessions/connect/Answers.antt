@@ -1,8 +1,8 @@
-use Rattle.std.proofs.Common.{◌≡◌, ◌+◌, length, None, arith, rules}
+use Rattle.std.proofs.Common.{◌≡◌, ◌+◌, length, None, sym, arith}
 use Rattle.xa_model.specs.Associations.{connect_refusal}
 use Rattle.xa_model.proofs.Rows.{nothing}
 use Rattle.xa_assoc.specs.Changes.{Comes}
-use Rattle.xa_assoc.proofs.Connecting.{IsFirst, connect_number, connect_follows, none_is_full, fewer}
+use Rattle.xa_assoc.proofs.Connecting.{IsFirst, done, connect_number, connect_follows, none_is_full, fewer}
 use Rattle.xa_assoc.proofs.sessions.Sessions.connect.Goals as goal
 
 pub returns-in_default-clause-full : goal.returns-in_default-clause-full
@@ -20,5 +20,5 @@ pub returns-clause-ok : goal.returns-clause-ok
 returns-clause-ok c =
     let free : connect_refusal (length c.args.self.now.seats.entries) ≡ None = grind (arith, c.connect_refusal.ensures.value, c.len.ensures.len, nothing c.connect_refusal.result) in
     let at : IsFirst c.args.self.now c.in-Some.place = record { within = c.in-Some.ensures.within; free = c.in-Some.ensures.free; least = c.in-Some.ensures.least } in
-    let comes : Comes c.args.self.now (c.in-Some.place + 1) c.add_seat.new.self = search rules in
+    let comes : Comes c.args.self.now (c.in-Some.place + 1) c.add_seat.new.self = done c.add_seat.result _ (sym c.if-is_err.ensures.value) c.add_seat.ensures.ok in
     connect_follows c.args.self.now c.add_seat.new.self c.in-Some.place at free comes

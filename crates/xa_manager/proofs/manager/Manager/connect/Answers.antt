@@ -1,6 +1,12 @@
-use Rattle.xa_manager.specs.Kept.{kept_of}
-use Rattle.xa_manager.proofs.Calling.{connect_answered}
+use Rattle.std.proofs.Common.{refl}
+use Rattle.std.specs.Prelude.{Ok}
+use Rattle.xa_model.specs.Associations.{connect_by}
+use Rattle.xa_model.specs.declared.event.Event.TheVariants.{Connect}
+use Rattle.xa_manager.specs.Answered.{connect_reply}
+use Rattle.xa_manager.proofs.Calling.{event_answered}
 use Rattle.xa_manager.proofs.manager.Manager.connect.Goals as goal
 
-pub returns : goal.returns
-returns c = connect_answered (kept_of c.args.self.now.tables) (kept_of c.connect.new.self) c.connect.result c.connect.ensures.ok c.connect.ensures.memory
+pub returns-in-Ok : goal.returns-in-Ok
+returns-in-Ok g c =
+    event_answered _ _ _ _ _ _ c.args.self.now (record c.args.self.now { tables = c.connect.new.self }) Connect (λ s. connect_by s) (connect_reply (Ok c.in-Ok.number)) tt refl (λ s. refl) refl refl refl
+    (c.in-Ok.ensures.ok (λ q. cc q)) (c.in-Ok.ensures.down (λ q. cc q))

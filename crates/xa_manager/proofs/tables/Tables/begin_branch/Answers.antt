@@ -7,20 +7,20 @@ use Rattle.xa_manager.proofs.Beginning.{begun_sound, undone_follows}
 use Rattle.xa_manager.proofs.tables.Tables.begin_branch.Goals as goal
 
 pub returns-in-Ok-clause-ok : goal.returns-in-Ok-clause-ok
-returns-in-Ok-clause-ok c = λ s st. record {
+returns-in-Ok-clause-ok c = λ s st recoverable. record {
   name = st.name;
   log_bytes = st.log_bytes;
   up = st.up;
-  sessions = subst (λ (x : Triple). SessionsStandFor c.begin.new.self (begun s c.args.session x).after) c.copied.ensures (c.in_ok-begin.ensures.ok s st.sound st.sessions);
-  branches = c.in-Ok.ensures.ok s c.args.session st.sound st.branches;
+  sessions = subst (λ (x : Triple). SessionsStandFor c.begin.new.self (begun s c.args.session x).after) c.copied.ensures (c.in_ok-begin.ensures.ok s st.recoverable.sound st.sessions);
+  branches = c.in-Ok.ensures.ok s c.args.session st.recoverable.sound st.branches;
   records = st.records;
-  sound = begun_sound (kept_of c.args.self.now) s c.args.session c.args.xid.now st c.requires.connected (c.requires.free s st);
+  recoverable = recoverable;
 }
 
 pub returns-in-Err-clause-err : goal.returns-in-Err-clause-err
 returns-in-Err-clause-err c = λ s st.
     let n = c.args.session in
-    let there = subst (λ (x : Triple). SessionsStandFor c.begin.new.self (begun s n x).after) c.copied.ensures (c.in_ok-begin.ensures.ok s st.sound st.sessions) in
+    let there = subst (λ (x : Triple). SessionsStandFor c.begin.new.self (begun s n x).after) c.copied.ensures (c.in_ok-begin.ensures.ok s st.recoverable.sound st.sessions) in
     let sound = begun_sound (kept_of c.args.self.now) s n c.args.xid.now st c.requires.connected (c.requires.free s st) in record {
       name = st.name;
       log_bytes = st.log_bytes;
@@ -28,5 +28,5 @@ returns-in-Err-clause-err c = λ s st.
       sessions = undone_follows c.begin.new.self c.leave.new.self s n c.args.xid.now sound there c.leave.ensures.ended;
       branches = c.in-Err.ensures.err s st.branches;
       records = st.records;
-      sound = st.sound;
+      recoverable = st.recoverable;
     }

@@ -4,14 +4,14 @@ use Rattle.xa_manager.proofs.Histories.{marked_records}
 use Rattle.xa_manager.proofs.tables.Tables.fail_branch.Goals as goal
 
 pub returns : goal.returns
-returns c = λ s st p sound.
+returns c = λ s st p recoverable.
     let n = c.args.session in
     let xid = c.args.xid.now in record {
       name = st.name;
       log_bytes = st.log_bytes;
       up = st.up;
-      sessions = c.leave.ensures.failed s st.sound st.sessions;
-      branches = c.doom.ensures (ended s n xid) (c.leave-2.ensures.ended s n st.sound st.branches p);
+      sessions = c.leave.ensures.failed s st.recoverable.sound st.sessions;
+      branches = c.doom.ensures (ended s n xid) (c.leave-2.ensures.ended s n st.recoverable.sound st.branches p);
       records = marked_records XA_RBROLLBACK xid s c.args.self.now.records st.records;
-      sound = sound;
+      recoverable = recoverable;
     }

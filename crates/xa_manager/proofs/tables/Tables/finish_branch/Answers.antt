@@ -2,35 +2,36 @@ use Rattle.std.proofs.Common.{refl, subst}
 use Rattle.mv_chain.specs.declared.fate.Fate.{Fate}
 use Rattle.xa_model.specs.Branches.{rolled_back, committed}
 use Rattle.xa_assoc.proofs.Follows.{unmoved}
-use Rattle.xa_manager.proofs.Finishing.{Settles, committed_records, gone_records}
+use Rattle.xa_manager.specs.Stands.{ending}
+use Rattle.xa_manager.proofs.Finishing.{Settles, moved_end, committed_records, gone_records}
 use Rattle.xa_manager.proofs.tables.Tables.finish_branch.Goals as goal
 
 pub returns-clause-rolled_back : goal.returns-clause-rolled_back
-returns-clause-rolled_back c = λ is s st at_work sound.
+returns-clause-rolled_back c = λ is s end st here recoverable.
     let r = c.args.self.now.records in
     let t = c.timestamp-timestamp.result in record {
       name = st.name;
       log_bytes = st.log_bytes;
       up = st.up;
-      sessions = unmoved c.args.self.now.sessions s (rolled_back s c.args.xid.now) refl refl st.sessions;
-      branches = c.finish.ensures.rolled_back s st.sound st.branches;
+      sessions = unmoved c.args.self.now.sessions s (ending (rolled_back s c.args.xid.now) end) refl refl st.sessions;
+      branches = moved_end c.finish.new.self (rolled_back s c.args.xid.now) end (c.finish.ensures.rolled_back s st.recoverable.sound st.branches);
       records =
-          gone_records s c.args.xid.now t r c.settle.new.self st.sound at_work (c.timestamp-timestamp.ensures s st.branches) st.records
+          gone_records s c.args.xid.now t r c.settle.new.self st.recoverable.sound here (c.timestamp-timestamp.ensures s st.branches) st.records
           (subst (λ (fate : Fate). Settles t fate r c.settle.new.self) is c.settle.ensures);
-      sound = sound;
+      recoverable = recoverable;
     }
 
 pub returns-clause-committed : goal.returns-clause-committed
-returns-clause-committed c = λ is s st at_work sound.
+returns-clause-committed c = λ is s end st here recoverable.
     let r = c.args.self.now.records in
     let t = c.timestamp-timestamp.result in record {
       name = st.name;
       log_bytes = st.log_bytes;
       up = st.up;
-      sessions = unmoved c.args.self.now.sessions s (committed s c.args.xid.now) refl refl st.sessions;
-      branches = c.finish.ensures.committed s st.sound st.branches;
+      sessions = unmoved c.args.self.now.sessions s (ending (committed s c.args.xid.now) end) refl refl st.sessions;
+      branches = moved_end c.finish.new.self (committed s c.args.xid.now) end (c.finish.ensures.committed s st.recoverable.sound st.branches);
       records =
-          committed_records s c.args.xid.now t r c.settle.new.self st.sound at_work (c.timestamp-timestamp.ensures s st.branches) st.records
+          committed_records s c.args.xid.now t r c.settle.new.self st.recoverable.sound here (c.timestamp-timestamp.ensures s st.branches) st.records
           (subst (λ (fate : Fate). Settles t fate r c.settle.new.self) is c.settle.ensures);
-      sound = sound;
+      recoverable = recoverable;
     }

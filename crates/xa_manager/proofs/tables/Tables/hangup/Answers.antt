@@ -9,36 +9,62 @@ use Rattle.xa_manager.proofs.tables.Tables.hangup.Goals as goal
 
 pub returns-in-Some : goal.returns-in-Some
 returns-in-Some c = record {
-  answers = λ s st. refl;
-  stands = λ s st sound.
-      let n = c.args.session in
-      let copied : option_copied c.as_ref.result ≡ c.in-Some.seat.active = search rules in record {
-        name = st.name;
-        log_bytes = st.log_bytes;
-        up = st.up;
-        sessions = c.in-Some.ensures.after s st.sound st.sessions;
-        branches =
-            c.hang_up.ensures s n st.sound (λ q. ap (holds q) c.in-Some.ensures.seat ∙ st.sessions.own n q)
-            (copied ∙ ap (λ (o : Option Seat). option_and_then (λ x. x.active) o) c.in-Some.ensures.seat ∙ st.sessions.active n) st.branches;
-        records = left_records n s c.args.self.now.records st.records;
-        sound = sound;
-      };
-  served = refl;
+  up = record {
+    answers = λ s st. refl;
+    stands = λ s st recoverable.
+        let n = c.args.session in
+        let copied : option_copied c.as_ref.result ≡ c.in-Some.seat.active = search rules in record {
+          name = st.name;
+          log_bytes = st.log_bytes;
+          up = st.up;
+          sessions = c.in-Some.ensures.after s st.recoverable.sound st.sessions;
+          branches =
+              c.hang_up.ensures s n st.recoverable.sound (λ q. ap (holds q) c.in-Some.ensures.seat ∙ st.sessions.own n q)
+              (copied ∙ ap (λ (o : Option Seat). option_and_then (λ x. x.active) o) c.in-Some.ensures.seat ∙ st.sessions.active n) st.branches;
+          records = left_records n s c.args.self.now.records st.records;
+          recoverable = recoverable;
+        };
+    served = refl;
+  };
+  down = record {
+    answers = λ s st. refl;
+    stands = λ s st recoverable. record {
+      name = st.name;
+      log_bytes = st.log_bytes;
+      down = st.down;
+      sessions = c.in-Some.ensures.after s st.recoverable.sound st.sessions;
+      recoverable = recoverable;
+    };
+    served = refl;
+  };
 }
 
 pub returns-in_default : goal.returns-in_default
 returns-in_default c = record {
-  answers = λ s st. refl;
-  stands = λ s st sound.
-      let n = c.args.session in
-      let none : seat_at c.args.self.now.sessions n ≡ None = search rules in record {
-        name = st.name;
-        log_bytes = st.log_bytes;
-        up = st.up;
-        sessions = c.hangup.ensures.after s st.sound st.sessions;
-        branches = nobody_stands (kept_of c.args.self.now) s n st none;
-        records = left_records n s c.args.self.now.records st.records;
-        sound = sound;
-      };
-  served = refl;
+  up = record {
+    answers = λ s st. refl;
+    stands = λ s st recoverable.
+        let n = c.args.session in
+        let none : seat_at c.args.self.now.sessions n ≡ None = search rules in record {
+          name = st.name;
+          log_bytes = st.log_bytes;
+          up = st.up;
+          sessions = c.hangup.ensures.after s st.recoverable.sound st.sessions;
+          branches = nobody_stands (kept_of c.args.self.now) s n st none;
+          records = left_records n s c.args.self.now.records st.records;
+          recoverable = recoverable;
+        };
+    served = refl;
+  };
+  down = record {
+    answers = λ s st. refl;
+    stands = λ s st recoverable. record {
+      name = st.name;
+      log_bytes = st.log_bytes;
+      down = st.down;
+      sessions = c.hangup.ensures.after s st.recoverable.sound st.sessions;
+      recoverable = recoverable;
+    };
+    served = refl;
+  };
 }

@@ -23,7 +23,7 @@ returns-in-Some-mark_of-clause-ok c =
     let said : c.plain.result ≡ plain c.in-Some-mark_of.code = search rules in
     rw said
     (follows_marked m m (λ (s : State). join_refusal_of s n xid) (λ (s : State). mark_in (known_as s xid)) (λ (s : State). s) (λ (s : State). joined s n xid) c.in-Some-mark_of.code
-    (λ s st. sym free ∙ c.join_refusal.ensures.value s st) c.in-Some-mark_of.ensures (λ s st passes sound. st))
+    (λ s st. sym free ∙ c.join_refusal.ensures.value s st) c.in-Some-mark_of.ensures (λ s st passes recoverable. st))
 
 pub returns-clause-ok : goal.returns-clause-ok
 returns-clause-ok c =
@@ -35,4 +35,4 @@ returns-clause-ok c =
     rw c.carrying.ensures
     (follows_unmarked (kept_of c.args.self.now) (kept_of c.join_branch.new.self) (λ (s : State). join_refusal_of s n xid) (λ (s : State). mark_in (known_as s xid)) (λ (s : State). s) (λ (s : State). joined s n xid)
     (carrying (body.Number t)) refl (λ s st. sym free ∙ c.join_refusal.ensures.value s st) (λ s st. c.mark_of.ensures s st ∙ unmarked)
-    (λ s st passes. (ap (λ (k : ℕ). carrying (body.Number k)) (sym (c.timestamp-timestamp.ensures s st.branches)), λ sound. c.in_ok-join_branch.ensures.ok s st sound)))
+    (λ s st passes. (ap (λ (k : ℕ). carrying (body.Number k)) (sym (c.timestamp-timestamp.ensures s st.branches)), λ recoverable. c.in_ok-join_branch.ensures.ok s st recoverable)))

@@ -5,12 +5,12 @@ use Rattle.xa_model.specs.Associations.{joined}
 use Rattle.xa_manager.proofs.tables.Tables.join_branch.Goals as goal
 
 pub returns-clause-ok : goal.returns-clause-ok
-returns-clause-ok c = λ s st sound. record {
+returns-clause-ok c = λ s st recoverable. record {
   name = st.name;
   log_bytes = st.log_bytes;
   up = st.up;
-  sessions = subst (λ (x : Triple). SessionsStandFor c.join.new.self (joined s c.args.session x).after) c.copied.ensures (c.in_ok-join.ensures.ok s st.sound st.sessions);
-  branches = c.join-2.ensures s c.args.session st.sound st.branches;
+  sessions = subst (λ (x : Triple). SessionsStandFor c.join.new.self (joined s c.args.session x).after) c.copied.ensures (c.in_ok-join.ensures.ok s st.recoverable.sound st.sessions);
+  branches = c.join-2.ensures s c.args.session st.recoverable.sound st.branches;
   records = st.records;
-  sound = sound;
+  recoverable = recoverable;
 }

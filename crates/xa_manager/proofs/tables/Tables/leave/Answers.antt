@@ -24,7 +24,7 @@ returns-in-Some-mark_of c =
     rw said
     (follows_marked (kept_of c.args.self.now) (kept_of c.leave_branch.new.self) (λ (s : State). leave_refusal_of s n xid) (λ (s : State). mark_in (known_as s xid)) (λ (s : State). ended s n xid)
     (λ (s : State). cond c.args.fails (failed s n xid) (ok (ended s n xid))) c.in-Some-mark_of.code (λ s st. sym free ∙ c.leave_refusal.ensures.value s st) c.in-Some-mark_of.ensures
-    (λ s st passes sound. c.leave_branch.ensures.ended s st (c.ended_kind-kind.ensures s st passes) sound))
+    (λ s st passes recoverable. c.leave_branch.ensures.ended s st (c.ended_kind-kind.ensures s st passes) recoverable))
 
 pub returns-then-fails : goal.returns-then-fails
 returns-then-fails c =
@@ -35,7 +35,7 @@ returns-then-fails c =
     rw c.plain-then-fails.ensures
     (follows_unmarked (kept_of c.args.self.now) (kept_of c.fail_branch.new.self) (λ (s : State). leave_refusal_of s n xid) (λ (s : State). mark_in (known_as s xid)) (λ (s : State). ended s n xid)
     (λ (s : State). cond c.args.fails (failed s n xid) (ok (ended s n xid))) (plain XA_RBROLLBACK) refl (λ s st. sym free ∙ c.leave_refusal.ensures.value s st) (λ s st. c.mark_of.ensures s st ∙ unmarked)
-    (λ s st passes. rw c.if-fails.true (refl, λ sound. c.fail_branch.ensures s st (c.ended_kind-kind.ensures s st passes) sound)))
+    (λ s st passes. rw c.if-fails.true (refl, λ recoverable. c.fail_branch.ensures s st (c.ended_kind-kind.ensures s st passes) recoverable)))
 
 pub returns : goal.returns
 returns c =
@@ -46,4 +46,4 @@ returns c =
     rw c.plain-2.ensures
     (follows_unmarked (kept_of c.args.self.now) (kept_of c.leave_branch-2.new.self) (λ (s : State). leave_refusal_of s n xid) (λ (s : State). mark_in (known_as s xid)) (λ (s : State). ended s n xid)
     (λ (s : State). cond c.args.fails (failed s n xid) (ok (ended s n xid))) (plain (pos 0)) refl (λ s st. sym free ∙ c.leave_refusal.ensures.value s st) (λ s st. c.mark_of.ensures s st ∙ unmarked)
-    (λ s st passes. rw c.if-fails.false (refl, λ sound. c.leave_branch-2.ensures.ended s st (c.ended_kind-kind.ensures s st passes) sound)))
+    (λ s st passes. rw c.if-fails.false (refl, λ recoverable. c.leave_branch-2.ensures.ended s st (c.ended_kind-kind.ensures s st passes) recoverable)))

@@ -24,7 +24,7 @@ returns-in-Some-mark_of-clause-ok c =
     rw said
     (follows_marked (kept_of c.args.self.now) (kept_of c.leave_branch.new.self) (λ (s : State). resume_refusal_of s n xid) (λ (s : State). mark_in (known_as s xid)) (λ (s : State). not_resumed s n xid)
     (λ (s : State). resumed s n xid) c.in-Some-mark_of.code (λ s st. sym free ∙ c.resume_refusal.ensures.value s st) c.in-Some-mark_of.ensures
-    (λ s st passes sound. c.leave_branch.ensures.not_resumed s st (passes, c.resumed_kind-from.ensures s st passes) sound))
+    (λ s st passes recoverable. c.leave_branch.ensures.not_resumed s st (passes, c.resumed_kind-from.ensures s st passes) recoverable))
 
 pub returns-clause-ok : goal.returns-clause-ok
 returns-clause-ok c =
@@ -38,5 +38,5 @@ returns-clause-ok c =
     (λ (s : State). resumed s n xid) (carrying (body.Number t)) refl (λ s st. sym free ∙ c.resume_refusal.ensures.value s st) (λ s st. c.mark_of.ensures s st ∙ unmarked)
     (λ s st passes. (
       ap (λ (k : ℕ). carrying (body.Number k)) (sym (c.timestamp-timestamp.ensures s st.branches)),
-      λ sound. c.in_ok-resume_branch.ensures.ok s st (passes, c.resumed_kind-from.ensures s st passes) sound,
+      λ recoverable. c.in_ok-resume_branch.ensures.ok s st (passes, c.resumed_kind-from.ensures s st passes) recoverable,
     )))

@@ -24,7 +24,7 @@ returns-in-Some-mark_of c =
     rw said
     (follows_marked (kept_of c.args.self.now) (kept_of c.leave_branch.new.self) (λ (s : State). suspend_refusal_of s n xid) (λ (s : State). mark_in (known_as s xid)) (λ (s : State). not_suspended s n xid)
     (λ (s : State). unless (loose_refusal c.args.migrates (loose_of s.associations xid)) s (ok (suspended s n c.args.migrates xid))) c.in-Some-mark_of.code
-    (λ s st. sym free ∙ c.suspend_refusal.ensures.value s st) c.in-Some-mark_of.ensures (λ s st passes sound. c.leave_branch.ensures.not_suspended s st (passes, refl) sound))
+    (λ s st. sym free ∙ c.suspend_refusal.ensures.value s st) c.in-Some-mark_of.ensures (λ s st passes recoverable. c.leave_branch.ensures.not_suspended s st (passes, refl) recoverable))
 
 pub returns-in-Some-loose_refusal : goal.returns-in-Some-loose_refusal
 returns-in-Some-loose_refusal c =
@@ -53,4 +53,4 @@ returns c =
     (λ s st. sym free ∙ c.suspend_refusal.ensures.value s st) (λ s st. c.mark_of.ensures s st ∙ unmarked)
     (λ s st passes.
     let_on m' (loose_refusal c.args.migrates (loose_of s.associations xid)) s (ok (suspended s n c.args.migrates xid)) (plain (pos 0)) (sym room ∙ c.loose_refusal.ensures.value s st) refl
-    (λ sound. c.suspend_branch.ensures s st passes sound)))
+    (λ recoverable. c.suspend_branch.ensures s st passes recoverable)))

@@ -1,0 +1,27 @@
+use Rattle.std.proofs.Common.{◌≡◌, ◌∙◌, ap, sym, ◌+◌, ◌++◌, ◌∷◌, [], take, List, None}
+use Rattle.std.proofs.lemmas.List.{take_more, take_all}
+use Rattle.xa_codes.specs.declared.write.Write.{Write}
+use Rattle.mv_rules.specs.History.{History}
+use Rattle.mv_rules.specs.Restoring.{with_branch}
+use Rattle.mv_rules.proofs.Rebuilt.{branch_grown, restorable_unsettled, restorable_timely, branch_decided}
+use Rattle.mv_rules.proofs.records.Records.restore.Goals as goal
+
+pub loop-write-preserved : goal.loop-write-preserved
+loop-write-preserved c =
+    let ws = c.args.writes.now in
+    let w = c.write-item.result in
+    let done : List Write = take c.loop-write.write-index ws in
+    let step : take (c.loop-write.write-index + 1) ws ≡ done ++ w ∷ [] = take_more ws c.loop-write.write-index w c.loop-write-test.true ∙ ap (λ x. done ++ x ∷ []) (sym c.write-item.is) in
+    λ h s e.
+    let before : History = record h { writes = with_branch c.args.ts None done h.writes } in
+    let after = c.in_ok-put_back.ensures before (c.loop-write.invariant h s e) (restorable_unsettled c.args.ts h done e) (restorable_timely c.args.ts h _ e) in
+    rw step (branch_grown c.args.ts h _ done w _ _ c.as_slice.ensures c.in_ok-value.ensures after)
+
+pub returns-in-Some : goal.returns-in-Some
+returns-in-Some c =
+    let ws = c.args.writes.now in
+    λ h s e.
+    let all : take c.loop-write.write-index ws ≡ ws = take_all c.loop-write.write-index ws c.loop-write-test.false in
+    let before : History = record h { writes = with_branch c.args.ts None ws h.writes } in
+    let after = c.settle.ensures before (rw all at (c.loop-write.invariant h s e)) (restorable_unsettled c.args.ts h ws e).open_ in
+    rw (c.in-Some.is, ← branch_decided c.args.ts h ws c.in-Some.decided e) after

@@ -1,0 +1,17 @@
+ghost use Rattle.std.specs.Prelude.{◌≡◌, ℕ, [], map};
+ghost use Rattle.xa_model.specs.State.{State};
+ghost use Rattle.xa_model.specs.Restarting.{restarted, without_scan};
+ghost use Rattle.xa_assoc.specs.Sessions.{SessionsStandFor};
+
+use crate::sessions::Sessions;
+
+/// How a restart leaves the sessions.
+impl Sessions {
+    /// All associations are gone, and all scans. Sessions stay connected, and opened as they were. Takes no memory.
+    pub fn restart(&mut self)
+        ensures restarted { (s : State) (boot : ℕ) → SessionsStandFor self.old s → SessionsStandFor self.new (restarted s boot) }
+        ensures any { (s t : State) → t.sessions ≡ map without_scan s.sessions → t.associations ≡ [] → SessionsStandFor self.old s → SessionsStandFor self.new t }
+    {
+        self.clear_seats();
+    }
+}

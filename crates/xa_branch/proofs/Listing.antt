@@ -1,0 +1,220 @@
+-- The XIDs that recovery lists, of what is kept and of what lasts: two lists in order with the same members.
+use Rattle.std.proofs.Common.{◌≡◌, ◌⊎◌, inl, inr, ℕ, zero, suc, ◌+◌, ◌<◌, Bool, true, false, ◌&&◌, ◌||◌, cond, Option, Some, None, List, [], ◌∷◌, ◌++◌, refl, ap, sym, ◌∙◌, subst, arith}
+use Rattle.std.specs.Prelude.{filter, find, fold, is_some, map, take}
+use Rattle.std.specs.BTreeMap.{BTreeMap, IsOrdered, keys, is_at}
+use Rattle.std.specs.BTreeSet.{insert_key}
+use Rattle.std.specs.Cmp.{both_ways}
+use Rattle.std.specs.List.{AllByRecursion, list_any}
+use Rattle.std.specs.List.Sorted.{IsStrictlySortedBy}
+use Rattle.std.specs.Map.{keys_of, lookup}
+use Rattle.std.specs.Ordering.{is_eq, is_lt, match_ordering, ordering_reverse}
+use Rattle.std.specs.declared.cmp.Ordering.{Ordering}
+use Rattle.std.specs.declared.cmp.Ordering.TheVariants.{Less, Equal, Greater}
+use Rattle.std.proofs.lemmas.List.{append_assoc}
+use Rattle.std.proofs.lemmas.List.Folds.{list_any-append}
+use Rattle.std.proofs.lemmas.List.Kept.{IsStrictlySortedBy-filter}
+use Rattle.std.proofs.lemmas.Map.Keys.{sorted_head, sorted_tail}
+use Rattle.xa_xid.specs.Triple.{Triple, xid_eq, xid_cmp}
+use Rattle.xa_xid.proofs.Same.{xid_same, xid_eq_same, xid_cmp_same, xid_cmp_itself, xid_cmp_total}
+use Rattle.xa_model.specs.State.{State, Decided}
+use Rattle.xa_model.specs.Sound.{IsSound}
+use Rattle.xa_model.specs.Durable.{Pairwise, PreparedBranch, durable}
+use Rattle.xa_model.specs.Listed.{is_above, in_order, lasting_names}
+use Rattle.xa_model.proofs.Inserts.{IsTransitive, all_imply}
+use Rattle.xa_model.proofs.Members.{Member, IsStrict, same_members}
+use Rattle.xa_model.proofs.Xids.{cmp_is_eq}
+use Rattle.xa_branch.specs.declared.branches.Branches.{Branches}
+use Rattle.xa_branch.specs.declared.lasting.Lasting.{Lasting}
+use Rattle.xa_branch.specs.Branches.{BranchesStandFor, lasting_of}
+use Rattle.xa_branch.specs.Restored.{restored_by}
+use Rattle.xa_branch.proofs.Returning.{found_lasting}
+
+-- the XIDs above one, of those that are kept
+abbrev pub above : {V : Type 0} → Option Triple → BTreeMap Triple V → List Triple
+above after m = filter (is_above after) (keys m)
+
+-- order
+
+abbrev below : Triple → Triple → Bool
+below x y = is_lt (xid_cmp x y)
+
+less_is : (o : Ordering) → is_lt o ≡ true → o ≡ Less
+less_is Less e = refl
+less_is Equal e = absurd (cc e)
+less_is Greater e = absurd (cc e)
+
+below_transitive : IsTransitive below
+below_transitive = record { trans = λ x y z e f. ap is_lt (xid_cmp_total.trans x y z (less_is (xid_cmp x y) e) (less_is (xid_cmp y z) f)) }
+
+below_strict : IsStrict below
+below_strict = record { never = λ x. ap is_lt (xid_cmp_itself x) }
+
+sorted_pairwise : (xs : List Triple) → IsStrictlySortedBy xid_cmp xs → Pairwise below xs
+sorted_pairwise [] h = tt
+sorted_pairwise (x ∷ xs) h =
+    (all_imply (λ y. xid_cmp x y ≡ Less) (λ y. below x y ≡ true) (λ y e. ap is_lt e) xs (sorted_head xid_cmp x xs h), sorted_pairwise xs (sorted_tail xid_cmp x xs h))
+
+key_all_by : (P : Triple → Type 0) (k x : Triple) (xs : List Triple) (o : Ordering) → P k → AllByRecursion P (x ∷ xs) → AllByRecursion P (insert_key xid_cmp xs k)
+    → AllByRecursion P (match_ordering o (k ∷ x ∷ xs) (x ∷ xs) (x ∷ insert_key xid_cmp xs k))
+key_all_by P k x xs Less p h ih = (p, h)
+key_all_by P k x xs Equal p h ih = h
+key_all_by P k x xs Greater p h ih = (h.0, ih)
+
+key_all : (P : Triple → Type 0) (k : Triple) (xs : List Triple) → P k → AllByRecursion P xs → AllByRecursion P (insert_key xid_cmp xs k)
+key_all P k [] p h = (p, tt)
+key_all P k (x ∷ xs) p h = key_all_by P k x xs (xid_cmp k x) p h (key_all P k xs p h.1)
+
+key_pairwise_by : (k x : Triple) (xs : List Triple) (o : Ordering) → xid_cmp k x ≡ o → Pairwise below (x ∷ xs) → Pairwise below (insert_key xid_cmp xs k)
+    → Pairwise below (match_ordering o (k ∷ x ∷ xs) (x ∷ xs) (x ∷ insert_key xid_cmp xs k))
+key_pairwise_by k x xs Less e h ih =
+    ((ap is_lt e, all_imply (λ y. below x y ≡ true) (λ y. below k y ≡ true) (λ y less. below_transitive.trans k x y (ap is_lt e) less) xs h.0), h)
+key_pairwise_by k x xs Equal e h ih = h
+key_pairwise_by k x xs Greater e h ih =
+    let less : xid_cmp x k ≡ Less = xid_cmp_total.antisymm x k ∙ ap ordering_reverse e in
+    (key_all (λ y. below x y ≡ true) k xs (ap is_lt less) h.0, ih)
+
+key_pairwise : (k : Triple) (xs : List Triple) → Pairwise below xs → Pairwise below (insert_key xid_cmp xs k)
+key_pairwise k [] h = (tt, tt)
+key_pairwise k (x ∷ xs) h = key_pairwise_by k x xs (xid_cmp k x) refl h (key_pairwise k xs h.1)
+
+fold_pairwise : (done xs : List Triple) → Pairwise below done → Pairwise below (fold (insert_key xid_cmp) done xs)
+fold_pairwise done [] h = h
+fold_pairwise done (x ∷ xs) h = fold_pairwise (insert_key xid_cmp done x) xs (key_pairwise x done h)
+
+-- members
+
+abbrev has : Triple → List Triple → Bool
+has q xs = list_any (λ x. xid_eq x q) xs
+
+or_false : (a : Bool) → a ≡ (a || false)
+or_false true = refl
+or_false false = refl
+
+or_twice : (a b : Bool) → (a || b) ≡ (a || (a || b))
+or_twice true b = refl
+or_twice false b = refl
+
+or_swapped : (a b c : Bool) → (a || (b || c)) ≡ (b || (a || c))
+or_swapped true true c = refl
+or_swapped true false c = refl
+or_swapped false b c = refl
+
+or_moved : (a b c : Bool) → ((a || b) || c) ≡ (b || (a || c))
+or_moved true true c = refl
+or_moved true false c = refl
+or_moved false b c = refl
+
+has_key_by : (q k x : Triple) (xs : List Triple) (o : Ordering) → xid_cmp k x ≡ o → has q (insert_key xid_cmp xs k) ≡ (xid_eq k q || has q xs)
+    → has q (match_ordering o (k ∷ x ∷ xs) (x ∷ xs) (x ∷ insert_key xid_cmp xs k)) ≡ (xid_eq k q || (xid_eq x q || has q xs))
+has_key_by q k x xs Less e ih = refl
+has_key_by q k x xs Equal e ih = subst (λ (y : Triple). (xid_eq x q || has q xs) ≡ (xid_eq y q || (xid_eq x q || has q xs))) (sym (xid_cmp_same k x e)) (or_twice (xid_eq x q) (has q xs))
+has_key_by q k x xs Greater e ih = ap (λ b. xid_eq x q || b) ih ∙ or_swapped (xid_eq x q) (xid_eq k q) (has q xs)
+
+has_key : (q k : Triple) (xs : List Triple) → has q (insert_key xid_cmp xs k) ≡ (xid_eq k q || has q xs)
+has_key q k [] = refl
+has_key q k (x ∷ xs) = has_key_by q k x xs (xid_cmp k x) refl (has_key q k xs)
+
+has_fold : (q : Triple) (done xs : List Triple) → has q (fold (insert_key xid_cmp) done xs) ≡ (has q done || has q xs)
+has_fold q done [] = or_false (has q done)
+has_fold q done (x ∷ xs) =
+    has_fold q (insert_key xid_cmp done x) xs ∙ (ap (λ b. b || has q xs) (has_key q x done) ∙ or_moved (xid_eq x q) (has q done) (has q xs))
+
+has_filter_by : (p : Triple → Bool) (q x : Triple) (xs : List Triple) (c d : Bool) → xid_eq x q ≡ c → p x ≡ d → has q (filter p xs) ≡ (p q && has q xs)
+    → has q (cond d (x ∷ filter p xs) (filter p xs)) ≡ (p q && (xid_eq x q || has q xs))
+has_filter_by p q x xs true true e f ih = let passes : p q ≡ true = ap p (sym (xid_same x q e)) ∙ f in rw (passes, e) refl
+has_filter_by p q x xs true false e f ih = let passes : p q ≡ false = ap p (sym (xid_same x q e)) ∙ f in rw passes (ih ∙ rw passes refl)
+has_filter_by p q x xs false true e f ih = rw e ih
+has_filter_by p q x xs false false e f ih = rw e ih
+
+has_filter : (p : Triple → Bool) (q : Triple) (xs : List Triple) → has q (filter p xs) ≡ (p q && has q xs)
+has_filter p q [] = none_and (p q)
+  where
+    none_and : (b : Bool) → false ≡ (b && false)
+    none_and true = refl
+    none_and false = refl
+has_filter p q (x ∷ xs) = has_filter_by p q x xs (xid_eq x q) (p x) refl refl (has_filter p q xs)
+
+some_or : {A : Type 0} (c : Bool) (x : A) (o : Option A) → (c || is_some o) ≡ is_some (cond c (Some x) o)
+some_or true x o = refl
+some_or false x o = refl
+
+has_map : {A : Type 0} (name : A → Triple) (q : Triple) (xs : List A) → has q (map name xs) ≡ is_some (find (λ y. xid_eq (name y) q) xs)
+has_map name q [] = refl
+has_map name q (x ∷ xs) = ap (λ b. xid_eq (name x) q || b) (has_map name q xs) ∙ some_or (xid_eq (name x) q) x (find (λ y. xid_eq (name y) q) xs)
+
+flipped : (x y : Triple) → xid_eq x y ≡ xid_eq y x
+flipped x y = both_ways (xid_eq x y) (xid_eq y x) (λ e. xid_eq_same y x (sym (xid_same x y e))) (λ e. xid_eq_same x y (sym (xid_same y x e)))
+
+has_keys : {V : Type 0} (q : Triple) (es : List (Triple × V)) → has q (keys_of es) ≡ is_some (lookup (is_at (xid_cmp q)) es)
+has_keys q [] = refl
+has_keys q (e ∷ es) =
+    let here : xid_eq e.0 q ≡ is_eq (xid_cmp q e.0) = flipped e.0 q ∙ sym (cmp_is_eq q e.0) in
+    rw (here, has_keys q es) (some_or (is_eq (xid_cmp q e.0)) e.1 (lookup (is_at (xid_cmp q)) es))
+
+member_has : (z : Triple) (xs : List Triple) → Member z xs → has z xs ≡ true
+member_has z [] m = absurd m
+member_has z (x ∷ xs) (inl e) = rw (xid_eq_same x z (sym e)) refl
+member_has z (x ∷ xs) (inr m) = rw (member_has z xs m) (or_true (xid_eq x z))
+  where
+    or_true : (b : Bool) → (b || true) ≡ true
+    or_true true = refl
+    or_true false = refl
+
+has_member_by : (z x : Triple) (xs : List Triple) (c : Bool) → xid_eq x z ≡ c → (c || has z xs) ≡ true → (has z xs ≡ true → Member z xs) → (z ≡ x) ⊎ Member z xs
+has_member_by z x xs true f e ih = inl (sym (xid_same x z f))
+has_member_by z x xs false f e ih = inr (ih e)
+
+has_member : (z : Triple) (xs : List Triple) → has z xs ≡ true → Member z xs
+has_member z [] e = absurd (cc e)
+has_member z (x ∷ xs) e = has_member_by z x xs (xid_eq x z) refl e (has_member z xs)
+
+-- what is kept and what lasts has the same XIDs
+
+either_restored : (p : Option PreparedBranch) (d : Option Decided) → is_some (restored_by p d) ≡ (is_some p || is_some d)
+either_restored (Some p) d = refl
+either_restored None (Some d) = refl
+either_restored None None = refl
+
+has_names : (s : State) (q : Triple) → IsSound s → has q (lasting_names (durable s)) ≡ is_some (lasting_of s q)
+has_names s q h =
+    let ps = (durable s).prepared in
+    let ds = (durable s).decided in
+    list_any-append (λ x. xid_eq x q) (map (λ p. p.xid) ps) (map (λ e. e.xid) ds)
+    ∙ (rw (has_map (λ p. p.xid) q ps, has_map (λ e. e.xid) q ds) (sym (either_restored (find (λ p. xid_eq p.xid q) ps) (find (λ e. xid_eq e.xid q) ds))) ∙ ap (λ (o : Option Lasting). is_some o) (found_lasting s q h))
+
+same_has : (m : Branches) (s : State) (after : Option Triple) (q : Triple) → IsSound s → BranchesStandFor m s → has q (above after m.lasting) ≡ has q (in_order (filter (is_above after) (lasting_names (durable s))))
+same_has m s after q h st =
+    let kept : has q (keys m.lasting) ≡ has q (lasting_names (durable s)) = has_keys q m.lasting.entries ∙ (ap (λ (o : Option Lasting). is_some o) (st.lasting q) ∙ sym (has_names s q h)) in
+    has_filter (is_above after) q (keys m.lasting)
+    ∙ (ap (λ b. is_above after q && b) kept ∙ sym (has_fold q [] (filter (is_above after) (lasting_names (durable s))) ∙ has_filter (is_above after) q (lasting_names (durable s))))
+
+pub listed_same : (m : Branches) (s : State) (after : Option Triple) → IsSound s → BranchesStandFor m s → IsOrdered xid_cmp m.lasting → above after m.lasting ≡ in_order (filter (is_above after) (lasting_names (durable s)))
+listed_same m s after h st ordered =
+    let kept = above after m.lasting in
+    let names = filter (is_above after) (lasting_names (durable s)) in
+    same_members below below_transitive below_strict kept (in_order names) (sorted_pairwise kept (IsStrictlySortedBy-filter xid_cmp (is_above after) (keys m.lasting) ordered)) (fold_pairwise [] names tt)
+    (λ z n. has_member z (in_order names) (sym (same_has m s after z h st) ∙ member_has z kept n)) (λ z n. has_member z kept (same_has m s after z h st ∙ member_has z (in_order names) n))
+
+-- the XIDs of a part of what is kept
+
+pub keys_filtered : {V : Type 0} (p q : Triple → Bool) → ((x : Triple) → p x ≡ q x) → (es : List (Triple × V)) → keys_of (filter (λ e. p e.0) es) ≡ filter q (keys_of es)
+keys_filtered p q same [] = refl
+keys_filtered p q same (e ∷ es) = filtered_by p q e es (p e.0) refl (same e.0) (keys_filtered p q same es)
+  where
+    filtered_by : {V : Type 0} (p q : Triple → Bool) (e : Triple × V) (es : List (Triple × V)) (c : Bool) → p e.0 ≡ c → p e.0 ≡ q e.0 → keys_of (filter (λ e. p e.0) es) ≡ filter q (keys_of es)
+        → keys_of (cond c (e ∷ filter (λ e. p e.0) es) (filter (λ e. p e.0) es)) ≡ cond (q e.0) (e.0 ∷ filter q (keys_of es)) (filter q (keys_of es))
+    filtered_by p q e es true f same rest = rw (sym same ∙ f) (ap (λ xs. e.0 ∷ xs) rest)
+    filtered_by p q e es false f same rest = rw (sym same ∙ f) rest
+
+-- one more of those that are left to take
+
+pub taken_more : {V : Type 0} (done more : List Triple) (x y : Triple) (v : V) (n k : ℕ) (s t : List (Triple × V)) → y ≡ x → more ≡ done ++ y ∷ [] → s ≡ (x, v) ∷ t → k + 1 ≡ n
+    → more ++ take k (keys_of t) ≡ done ++ take n (keys_of s)
+taken_more done more x y v n k s t same is first one =
+    let next : k + 1 ≡ suc k = omega arith in
+    let step : take (k + 1) (x ∷ keys_of t) ≡ x ∷ take k (keys_of t) = ap (λ (i : ℕ). take i (x ∷ keys_of t)) next in
+    rw (is, same, first, ← one, step) (append_assoc done (x ∷ []) (take k (keys_of t)))
+
+pub taken_all : {V : Type 0} (n : ℕ) (s : List (Triple × V)) → (0 < n → s ≡ []) → take n (keys_of s) ≡ []
+taken_all zero s none = refl
+taken_all (suc n) s none = let empty : s ≡ [] = none (omega arith) in rw empty refl

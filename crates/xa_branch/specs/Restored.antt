@@ -1,0 +1,34 @@
+-- Branches that are restored from what lasted.
+use Rattle.std.specs.Prelude.{ℕ, ◌≡◌, ◌+◌, Option, Some, None, List, find, length, option_map}
+use Rattle.std.specs.BTreeMap.{IsEmpty, btree_map_len}
+use Rattle.xa_xid.specs.Triple.{Triple, xid_eq}
+use Rattle.xa_model.specs.State.{State, Decided}
+use Rattle.xa_model.specs.Durable.{Durable, PreparedBranch}
+use Rattle.xa_model.specs.Restored.{IsRestored}
+use Rattle.xa_branch.specs.declared.branches.Branches.{Branches}
+use Rattle.xa_branch.specs.declared.lasting.Lasting.{Lasting}
+use Rattle.xa_branch.specs.declared.lasting.Lasting.TheVariants as lasting
+use Rattle.xa_branch.specs.Branches.{BranchesStandFor, lasting_at}
+
+-- what is kept of an XID: that its branch is prepared, or what the operator decided
+abbrev pub restored_by : Option PreparedBranch → Option Decided → Option Lasting
+restored_by (Some p) d = Some (lasting.Prepared p.timestamp)
+restored_by None d = option_map (λ e. lasting.Completed e.direction) d
+
+abbrev pub restored_at : List PreparedBranch → List Decided → Triple → Option Lasting
+restored_at ps ds xid = restored_by (find (λ p. xid_eq p.xid xid) ps) (find (λ d. xid_eq d.xid xid) ds)
+
+-- In the boot of this number, which gave no timestamp yet, these prepared branches and these XIDs that the operator completed
+-- are known, and no branch is at work.
+pub record HasRestored (m : Branches) (n : ℕ) (ps : List PreparedBranch) (ds : List Decided) : Type 0 where
+  pub boot : m.boot ≡ n
+  pub given : m.given ≡ 0
+  pub working : IsEmpty m.working
+  pub lasting : (xid : Triple) → lasting_at m xid ≡ restored_at ps ds xid
+  pub number : btree_map_len m.lasting ≡ length ps + length ds
+  pub prepared : m.prepared ≡ length ps
+  pub completed : m.completed ≡ length ds
+
+-- where all that lasted is restored, the branches stand for each state that it leads to
+abbrev pub RestoredStand : Type 0
+RestoredStand = (m : Branches) (d : Durable) (next : ℕ) (s : State) → HasRestored m next d.prepared d.decided → IsRestored d next s → BranchesStandFor m s

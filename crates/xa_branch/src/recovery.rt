@@ -1,0 +1,48 @@
+ghost use Rattle.std.specs.Prelude.{◌≡◌, IfOk, option_copied};
+ghost use Rattle.std.specs.BTreeMap.Range.{is_from_start};
+ghost use Rattle.std.specs.Range.Bound.{bound_map};
+ghost use Rattle.xa_xid.specs.Triple.{Triple, xid_cmp};
+ghost use Rattle.xa_model.specs.State.{State as ModelState};
+ghost use Rattle.xa_model.specs.Durable.{durable};
+ghost use Rattle.xa_model.specs.Listed.{is_above, list_after};
+ghost use Rattle.xa_model.specs.Sound.{IsSound};
+ghost use Rattle.xa_branch.specs.Branches.{BranchesStandFor};
+
+use crate::branches::Branches;
+use std::alloc::{AllocError, Global};
+use std::ops::Bound;
+use xa_xid::Xid;
+
+/// Where the XIDs above the given one begin, or all of them.
+fn above(after: Option<&Xid>) -> Bound<&Xid>
+    ensures { (q : Triple) → is_from_start xid_cmp (bound_map (λ x. x.now) result) q ≡ is_above (option_copied after.entry) q }
+{
+    match after {
+        Some(after) => Bound::Excluded(after),
+        None => Bound::Unbounded,
+    }
+}
+
+/// What recovery lists.
+impl Branches {
+    /// The first `count` of the XIDs above the given one, or of all, whose branches are prepared or were completed by the
+    /// operator, ascending. Others are not gone over. Memory is taken once, for no more XIDs than `count`.
+    pub fn list_after(
+        &self,
+        alloc: Global,
+        after: Option<&Xid>,
+        count: usize,
+    ) -> Result<Vec<Xid>, AllocError>
+        ensures { (s : ModelState) → IsSound s → BranchesStandFor self.now s → IfOk result (λ v. v.items ≡ list_after (option_copied after.entry) count (durable s)) }
+    {
+        let mut listed = Vec::with_capacity(alloc, count.min(self.lasting.len()))?;
+        for (xid, _) in self
+            .lasting
+            .range((above(after), Bound::Unbounded))
+            .take(count)
+        {
+            listed.push(xid.copied())?;
+        }
+        Ok(listed)
+    }
+}

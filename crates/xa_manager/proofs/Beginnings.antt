@@ -1,0 +1,40 @@
+-- A boot that is planned, for the state that the log came to.
+use Rattle.std.proofs.Common.{◌≡◌, ◌<◌, ◌≤◌, ◌+◌, ℕ, Bool, true, false, List, [], ◌∷◌, map, length, Option, Some, None, refl, ap, sym, ◌∙◌, subst, arith}
+use Rattle.std.specs.Prelude.{nat_lt}
+use Rattle.std.specs.List.{AllByRecursion}
+use Rattle.std.proofs.lemmas.Bool.Decides.{nat_tests}
+use Rattle.xa_log.specs.Chain.{IsBody}
+use Rattle.xa_log.specs.Reading.{bodies_of}
+use Rattle.xa_record.specs.Spelling.{spelled}
+use Rattle.xa_model.specs.Durable.{Durable}
+use Rattle.xa_model.specs.Fold.{snapshot}
+use Rattle.xa_model.specs.Restarting.{most_boots}
+use Rattle.xa_manager.specs.declared.boots.NextBoot.{NextBoot}
+use Rattle.xa_manager.specs.Rereading.{IsNext, IsReady}
+use Rattle.xa_manager.proofs.NextBoots.{are_bodies}
+
+pub next_sizes : (d : Durable) (o : Option NextBoot) (next : NextBoot) → o ≡ Some next → IsNext d o → AllByRecursion IsBody (bodies_of next.bodies.items)
+next_sizes d None next e h = absurd (cc e)
+next_sizes d (Some n) next e h =
+    let same : n ≡ next = cc e in
+    let all : AllByRecursion IsBody (bodies_of n.bodies.items) = subst (λ (b : List (List ℕ)). AllByRecursion IsBody b) (sym h.2.bodies) (are_bodies (snapshot d (d.boot + 1)) h.3) in
+    subst (λ (x : NextBoot). AllByRecursion IsBody (bodies_of x.bodies.items)) same all
+
+pub record IsNextOf (d : Durable) (next : NextBoot) : Type 0 where
+  pub less : nat_lt d.boot most_boots ≡ true
+  pub number : next.boot ≡ d.boot + 1
+  pub ready : IsReady d (d.boot + 1) next
+
+is_less : (a b : ℕ) → a < b → nat_lt a b ≡ true
+is_less a b h = grind (arith, nat_tests)
+
+isnt_less : (a b : ℕ) → b ≤ a → nat_lt a b ≡ false
+isnt_less a b h = grind (arith, nat_tests)
+
+pub next_is : (d : Durable) (o : Option NextBoot) (next : NextBoot) → o ≡ Some next → IsNext d o → IsNextOf d next
+next_is d None next e h = absurd (cc e)
+next_is d (Some n) next e h = let same : n ≡ next = cc e in subst (λ (x : NextBoot). IsNextOf d x) same (record { less = is_less d.boot most_boots h.1; number = h.0; ready = h.2 })
+
+pub none_next : (d : Durable) (o : Option NextBoot) → o ≡ None → IsNext d o → nat_lt d.boot most_boots ≡ false
+none_next d None e h = isnt_less d.boot most_boots h
+none_next d (Some n) e h = absurd (cc e)

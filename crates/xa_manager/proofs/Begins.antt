@@ -1,0 +1,75 @@
+-- What the next boot begins with, of the log that was read.
+use Rattle.std.proofs.Common.{◌≡◌, ◌+◌, ◌<◌, ◌≤◌, ℕ, Bool, true, false, List, [], ◌∷◌, map, length, Option, None, Some, refl, ap, sym, ◌∙◌, subst, arith}
+use Rattle.std.specs.Prelude.{Result, Ok, Err, Vec}
+use Rattle.std.specs.declared.alloc.Global.{Global}
+use Rattle.std.specs.List.{AllByRecursion}
+use Rattle.std.proofs.lemmas.List.{length-map}
+use Rattle.xa_record.specs.Limits.{IsRecord}
+use Rattle.xa_record.specs.Spelling.{spelled}
+use Rattle.xa_record.specs.declared.record.Record.{Record}
+use Rattle.xa_log.specs.Chain.{IsBody, newest, text}
+use Rattle.xa_log.specs.Pair.{generation, number_in}
+use Rattle.xa_log.specs.Reading.{bodies_of}
+use Rattle.xa_model.specs.Durable.{Durable, IsDurable}
+use Rattle.xa_model.specs.Fold.{fold, snapshot, sizes}
+use Rattle.xa_model.specs.Logging.{log_room}
+use Rattle.xa_model.specs.Restarting.{most_boots}
+use Rattle.xa_model.proofs.Readings.{fold_is_durable}
+use Rattle.xa_recovery.specs.Log.{LogRebuilt, AreBodiesOf}
+use Rattle.xa_manager.specs.declared.boots.NextBoot.{NextBoot}
+use Rattle.xa_manager.specs.declared.boots.Planned.{Planned}
+use Rattle.xa_manager.specs.Opening.{ComeTo, has_boot_room}
+use Rattle.xa_manager.specs.Rereading.{IsReady, IsNext}
+use Rattle.xa_manager.proofs.Generations.{newer}
+use Rattle.xa_manager.proofs.LogLengths.{text_size}
+use Rattle.xa_manager.proofs.NextBoots.{are_bodies}
+
+-- a plan, taken apart
+pub record IsPlanned (bodies : List (List ℕ)) (d : Durable) (next : NextBoot) : Type 0 where
+  pub comes : ComeTo bodies d
+  pub form : IsDurable d
+  pub boots : d.boot < most_boots
+  pub ready : IsReady d (d.boot + 1) next
+  pub limits : AllByRecursion IsRecord (snapshot d (d.boot + 1))
+
+comes_to : (bodies : List (List ℕ)) (d : Durable) → LogRebuilt bodies (Ok d) → ComeTo bodies d
+comes_to bodies d (rs, are, folds) = record { records = rs; bodies_are = are; folded = folds }
+
+pub planned : (bodies : List (List ℕ)) (p : Planned) (next : NextBoot) → LogRebuilt bodies (Ok p.durable) → IsNext p.durable p.next → p.next ≡ Some next → IsPlanned bodies p.durable next
+planned bodies p next rebuilt is_next e =
+    let n : IsNext p.durable (Some next) = subst (λ (x : Option NextBoot). IsNext p.durable x) e is_next in
+    let c : ComeTo bodies p.durable = comes_to bodies p.durable rebuilt in
+    record { comes = c; form = fold_is_durable c.records p.durable c.folded; boots = n.1; ready = n.2; limits = n.3 }
+
+-- its bodies
+pub first_bodies : (bodies : List (List ℕ)) (d : Durable) (next : NextBoot) (xs : List (Vec ℕ Global)) → IsPlanned bodies d next → xs ≡ next.bodies.items
+    → bodies_of xs ≡ map spelled (snapshot d (d.boot + 1))
+first_bodies bodies d next xs it e = ap (λ (l : List (Vec ℕ Global)). bodies_of l) e ∙ it.ready.bodies
+
+pub first_sizes : (bodies : List (List ℕ)) (d : Durable) (next : NextBoot) (xs : List (Vec ℕ Global)) → IsPlanned bodies d next → xs ≡ next.bodies.items → AllByRecursion IsBody (bodies_of xs)
+first_sizes bodies d next xs it e =
+    subst (λ (l : List (List ℕ)). AllByRecursion IsBody l) (sym (first_bodies bodies d next xs it e)) (are_bodies (snapshot d (d.boot + 1)) it.limits)
+
+-- the room that they leave
+pub first_room : (bodies : List (List ℕ)) (d : Durable) (next : NextBoot) (xs : List (Vec ℕ Global)) (log_bytes p c : ℕ) (b : Bool) → IsPlanned bodies d next → xs ≡ next.bodies.items
+    → p ≡ length d.prepared → c ≡ length d.decided → b ≡ log_room log_bytes (length (text newest (bodies_of xs))) p c → has_boot_room log_bytes d (d.boot + 1) ≡ b
+first_room bodies d next xs log_bytes p c b it e ep ec room =
+    sym (room
+    ∙ ap (λ (n : ℕ). log_room log_bytes n p c) (ap (λ (l : List (List ℕ)). length (text newest l)) (first_bodies bodies d next xs it e) ∙ text_size newest (snapshot d (d.boot + 1)))
+    ∙ ap (λ (n : ℕ). log_room log_bytes (8 + sizes (snapshot d (d.boot + 1))) n c) ep ∙ ap (λ (n : ℕ). log_room log_bytes (8 + sizes (snapshot d (d.boot + 1))) (length d.prepared) n) ec)
+
+-- how many of a map's entries there are
+pub count_of : {K V B : Type 0} (f : K × V → B) (xs : List (K × V)) (bs cs : List B) (n : ℕ) → n ≡ length xs → map f xs ≡ bs → cs ≡ bs → n ≡ length cs
+count_of f xs bs cs n e m same = e ∙ sym (length-map xs f) ∙ ap length m ∙ ap length (sym same)
+
+-- they come before those that were read
+pub first_newer : (bodies : List (List ℕ)) (d : Durable) (next : NextBoot) (xs : List (Vec ℕ Global)) → IsPlanned bodies d next → xs ≡ next.bodies.items
+    → generation bodies < generation (bodies_of xs)
+first_newer bodies d next xs it e =
+    subst (λ (l : List (List ℕ)). generation l < generation (bodies_of xs)) it.comes.bodies_are.spelling
+    (subst (λ (l : List (List ℕ)). generation (map spelled it.comes.records) < generation l) (sym (first_bodies bodies d next xs it e)) (newer it.comes.records d it.comes.folded it.boots))
+
+-- no bodies are given
+pub none_given : (xs : List (Vec ℕ Global)) → length xs ≡ 0 → bodies_of xs ≡ []
+none_given [] e = refl
+none_given (x ∷ xs) e = absurd (omega (arith, e))

@@ -1,0 +1,160 @@
+-- The rows that complete, decide and forget what lasts, by what the tables said of it.
+use Rattle.std.proofs.Common.{◌≡◌, ◌≢◌, ℕ, ℤ, pos, ◌+◌, ◌≤◌, not, Bool, true, false, cond, List, [], ◌∷◌, length, Option, Some, None, refl, ap, sym, ◌∙◌, subst, arith}
+use Rattle.std.specs.Prelude.{IsSome, find, unwrap_or, option_map}
+use Rattle.std.proofs.lemmas.Bool.Decides.{nat_tests}
+use Rattle.xa_codes.specs.declared.codes.TheConstants.{XAER_NOTA, XAER_PROTO}
+use Rattle.xa_codes.specs.declared.direction.Direction.{Direction}
+use Rattle.xa_codes.specs.declared.direction.Direction.TheVariants as direction
+use Rattle.xa_frame.specs.declared.reply.Reply.{Reply}
+use Rattle.xa_xid.specs.Triple.{Triple, xid_eq}
+use Rattle.xa_record.specs.Spelling.{spelled}
+use Rattle.xa_record.specs.declared.record.Record.{Record}
+use Rattle.xa_record.specs.declared.record.Record.TheVariants as logged
+use Rattle.xa_model.specs.declared.outcome.Appending.{Appending}
+use Rattle.xa_model.specs.declared.outcome.Appending.TheVariants.{Kept as WasKept, Refused, Lost}
+use Rattle.xa_model.specs.State.{State, Branch, Decided, Phase, Working, Prepared, Committed, Up, Ended, Known, Unknown, AtWork, InDoubt, Completed, count, known_of, known_as, known_by, known_among, or_completed, decided_of, is_known_as}
+use Rattle.xa_model.specs.Answer.{Answer, plain, answer, ok}
+use Rattle.xa_model.specs.Associations.{is_unknown, is_settled, mark_in}
+use Rattle.xa_model.specs.Branches.{rolled_back, two_phase_refusal, rollback_refusal, heuristic_refusal, is_associated}
+use Rattle.xa_model.specs.Completions.{is_doubtful, is_completed, decide_refusal, forget_refusal, roll_back_turn}
+use Rattle.xa_model.specs.Logging.{applied, lost, logs, log_room, is_in_doubt, prepared_count, append_became}
+use Rattle.xa_model.specs.Loggable.{IsRecoverable}
+use Rattle.xa_model.specs.Room.{IsRoomy}
+use Rattle.xa_model.specs.Turn.{Turn, Now, unless_now, marked_now}
+use Rattle.xa_manager.specs.Kept.{Kept}
+use Rattle.xa_manager.specs.Stands.{StandsFor, StandsDown, TablesStandFor}
+use Rattle.xa_manager.specs.Turns.{reply_to, up_after}
+use Rattle.xa_manager.proofs.Taking.{AnswersNow, AnswersAppending, by_answer, logs_answers, lost_stands, refused_is, lost_is}
+use Rattle.xa_manager.proofs.OnePhase.{refused_turn, passed_turn, marked_turn, unmarked_turn}
+
+-- what is refused
+
+pub now_first : (m : Kept) (s : State) (o : Option Reply) (t : Turn) (reply : Reply) → StandsFor m s → Some reply ≡ o → AnswersNow s (unless_now o s t) reply m
+now_first m s o t reply st e = record { answer = answer reply s; turn_is = refused_turn o s t reply e; reply_is = refl; tables = λ recoverable. st }
+
+pub now_second : (m : Kept) (s : State) (o p : Option Reply) (t : Turn) (reply : Reply) → StandsFor m s → None ≡ o → Some reply ≡ p → AnswersNow s (unless_now o s (unless_now p s t)) reply m
+now_second m s o p t reply st e f = record { answer = answer reply s; turn_is = passed_turn o s (unless_now p s t) e ∙ refused_turn p s t reply f; reply_is = refl; tables = λ recoverable. st }
+
+pub passes_both : (s : State) (o p : Option Reply) (t : Turn) → None ≡ o → None ≡ p → unless_now o s (unless_now p s t) ≡ t
+passes_both s o p t e f = passed_turn o s (unless_now p s t) e ∙ passed_turn p s t f
+
+-- what isn't
+
+two_by : (k : Known) → None ≡ two_phase_refusal k → None ≡ heuristic_refusal k → k ≡ InDoubt
+two_by Unknown e f = absurd (cc e)
+two_by (AtWork mark) e f = absurd (cc e)
+two_by InDoubt e f = refl
+two_by (Completed direction) e f = absurd (cc f)
+
+pub two_doubtful : (s : State) (xid : Triple) → None ≡ two_phase_refusal (known_as s xid) → None ≡ heuristic_refusal (known_as s xid) → known_as s xid ≡ InDoubt
+two_doubtful s xid e f = two_by (known_as s xid) e f
+
+settled_by : (k : Known) → is_settled k ≡ true → None ≡ heuristic_refusal k → k ≡ InDoubt
+settled_by Unknown e f = absurd (cc e)
+settled_by (AtWork mark) e f = absurd (cc e)
+settled_by InDoubt e f = refl
+settled_by (Completed direction) e f = absurd (cc f)
+
+pub settled_doubtful : (s : State) (xid : Triple) → is_settled (known_as s xid) ≡ true → None ≡ heuristic_refusal (known_as s xid) → known_as s xid ≡ InDoubt
+settled_doubtful s xid e f = settled_by (known_as s xid) e f
+
+decide_by : (k : Known) → None ≡ decide_refusal k → k ≡ InDoubt
+decide_by Unknown e = absurd (cc e)
+decide_by (AtWork mark) e = absurd (cc e)
+decide_by InDoubt e = refl
+decide_by (Completed direction) e = absurd (cc e)
+
+pub decided_doubtful : (s : State) (xid : Triple) → None ≡ decide_refusal (known_as s xid) → known_as s xid ≡ InDoubt
+decided_doubtful s xid e = decide_by (known_as s xid) e
+
+forget_by : (k : Known) → None ≡ forget_refusal k → is_completed k ≡ true
+forget_by Unknown e = absurd (cc e)
+forget_by (AtWork mark) e = absurd (cc e)
+forget_by InDoubt e = absurd (cc e)
+forget_by (Completed direction) e = refl
+
+pub forgets_completed : (s : State) (xid : Triple) → None ≡ forget_refusal (known_as s xid) → is_completed (known_as s xid) ≡ true
+forgets_completed s xid e = forget_by (known_as s xid) e
+
+pub doubt_rolls : (s : State) (xid : Triple) (k : Known) → k ≡ InDoubt → roll_back_turn s xid k ≡ roll_back_turn s xid InDoubt
+doubt_rolls s xid k e = ap (roll_back_turn s xid) e
+
+-- a branch at work is rolled back at once
+
+rolls_by : (s : State) (xid : Triple) (k : Known) (mark : Option ℤ) → is_unknown k ≡ false → is_settled k ≡ false → mark_in k ≡ mark → roll_back_turn s xid k ≡ Now (answer (plain (unwrap_or mark (pos 0))) (rolled_back s xid))
+rolls_by s xid Unknown mark e f g = absurd (cc e)
+rolls_by s xid (AtWork None) mark e f g = rw (← g) refl
+rolls_by s xid (AtWork (Some code)) mark e f g = rw (← g) refl
+rolls_by s xid InDoubt mark e f g = absurd (cc f)
+rolls_by s xid (Completed direction) mark e f g = absurd (cc f)
+
+pub now_rolled : (m' : Kept) (s : State) (xid : Triple) (o : Option Reply) (mark : Option ℤ) → None ≡ o → None ≡ heuristic_refusal (known_as s xid) → is_unknown (known_as s xid) ≡ false → is_settled (known_as s xid) ≡ false
+    → mark_in (known_as s xid) ≡ mark → (IsRecoverable (rolled_back s xid) → StandsFor m' (rolled_back s xid))
+    → AnswersNow s (unless_now o s (unless_now (heuristic_refusal (known_as s xid)) s (roll_back_turn s xid (known_as s xid)))) (plain (unwrap_or mark (pos 0))) m'
+now_rolled m' s xid o mark e f known unsettled is stands = record {
+  answer = answer (plain (unwrap_or mark (pos 0))) (rolled_back s xid);
+  turn_is = passes_both s o (heuristic_refusal (known_as s xid)) (roll_back_turn s xid (known_as s xid)) e f ∙ rolls_by s xid (known_as s xid) mark known unsettled is;
+  reply_is = refl;
+  tables = stands;
+}
+
+-- the log has room for what completes a prepared branch, and for what forgets
+
+counts_by : (q : Branch → Bool) (x b : Branch) (n : ℕ) (rest : Option Branch) (c : Bool) → cond c (Some x) rest ≡ Some b → q b ≡ true → (rest ≡ Some b → 1 ≤ n) → 1 ≤ cond (q x) 1 0 + n
+counts_by q x b n rest true h e more = let same : x ≡ b = cc h in let here : q x ≡ true = subst (λ (y : Branch). q y ≡ true) (sym same) e in rw here (omega arith)
+counts_by q x b n rest false h e more = let some = more h in omega arith
+
+found_counts : (p q : Branch → Bool) (b : Branch) (bs : List Branch) → find p bs ≡ Some b → q b ≡ true → 1 ≤ count q bs
+found_counts p q b [] h e = absurd (cc h)
+found_counts p q b (x ∷ bs) h e = counts_by q x b (count q bs) (find p bs) (p x) h e (λ more. found_counts p q b bs more e)
+
+doubtful_phase : (p : Phase) → known_by p ≡ InDoubt → is_in_doubt p ≡ true
+doubtful_phase (Working xid mark) e = absurd (cc e)
+doubtful_phase (Prepared xid) e = refl
+doubtful_phase Committed e = absurd (cc e)
+
+never_doubtful : (o : Option Direction) → or_completed o ≡ InDoubt → ⊥
+never_doubtful None h = cc h
+never_doubtful (Some direction) h = cc h
+
+counted_by : (s : State) (xid : Triple) (o : Option Branch) → known_of s.branches xid ≡ o → known_among o (decided_of s.decided xid) ≡ InDoubt → 1 ≤ prepared_count s
+counted_by s xid None e h = absurd (never_doubtful (decided_of s.decided xid) h)
+counted_by s xid (Some b) e h = found_counts (is_known_as xid) (λ b. is_in_doubt b.phase) b s.branches e (doubtful_phase b.phase h)
+
+some_prepared : (s : State) (xid : Triple) → known_as s xid ≡ InDoubt → 1 ≤ prepared_count s
+some_prepared s xid h = counted_by s xid (known_of s.branches xid) refl h
+
+room_left : (bytes end prepared decided n : ℕ) → log_room bytes end prepared decided ≡ true → 1 ≤ prepared → n ≤ 136 → end + 40 + n ≤ bytes
+room_left bytes end prepared decided n e some small = grind (arith, nat_tests, e, some, small)
+
+room_forgets : (bytes end prepared decided n : ℕ) → log_room bytes end prepared decided ≡ true → 1 ≤ decided → n ≤ 135 → end + 40 + n ≤ bytes
+room_forgets bytes end prepared decided n e some small = grind (arith, nat_tests, e, some, small)
+
+pub doubtful_fits : (s : State) (xid : Triple) (n : ℕ) → s.standing ≡ Up → IsRoomy s → known_as s xid ≡ InDoubt → n ≤ 136 → s.end + 40 + n ≤ s.log_bytes
+doubtful_fits s xid n up roomy doubt small = room_left s.log_bytes s.end (prepared_count s) (length s.decided) n (roomy (λ ended. absurd (cc (up, ended)))).room (some_prepared s xid doubt) small
+
+completed_phase : (p : Phase) → is_completed (known_by p) ≡ true → ⊥
+completed_phase (Working xid mark) e = cc e
+completed_phase (Prepared xid) e = cc e
+completed_phase Committed e = cc e
+
+some_found : (xid : Triple) (ds : List Decided) → is_completed (or_completed (decided_of ds xid)) ≡ true → 1 ≤ length ds
+some_found xid [] h = absurd (cc h)
+some_found xid (d ∷ ds) h = omega arith
+
+decided_by_known : (s : State) (xid : Triple) (o : Option Branch) → is_completed (known_among o (decided_of s.decided xid)) ≡ true → 1 ≤ length s.decided
+decided_by_known s xid None h = some_found xid s.decided h
+decided_by_known s xid (Some b) h = absurd (completed_phase b.phase h)
+
+pub forgotten_fits : (s : State) (xid : Triple) (n : ℕ) → s.standing ≡ Up → IsRoomy s → is_completed (known_as s xid) ≡ true → n ≤ 135 → s.end + 40 + n ≤ s.log_bytes
+forgotten_fits s xid n up roomy done small =
+    room_forgets s.log_bytes s.end (prepared_count s) (length s.decided) n (roomy (λ ended. absurd (cc (up, ended)))).room (decided_by_known s xid (known_of s.branches xid) done) small
+
+-- A record without writes is appended, and but for one that is kept the tables stay.
+pub small_appends : (m m' : Kept) (s : State) (turn : Turn) (r : Record) (code : ℤ) (body : List ℕ) (a : Appending) → StandsFor m s → turn ≡ logs s r code s → spelled r ≡ body → s.end + 40 + length (spelled r) ≤ s.log_bytes
+    → (a ≡ WasKept → IsRecoverable (applied r s) → StandsFor m' (applied r s)) → (a ≢ WasKept → m' ≡ m) → AnswersAppending s turn body a (reply_to code a) m'
+small_appends m m' s turn r code body a st is body_is fits kept_ left =
+    logs_answers s turn r code s body a m' is body_is
+    (by_answer m' s r code s a kept_ (λ e recoverable. subst (λ (k : Kept). StandsFor k s) (sym (left (refused_is a e))) st)
+    (λ e recoverable. let same = left (lost_is a e) in lost_stands m m' s r st (ap (λ (k : Kept). k.name) same) (ap (λ (k : Kept). k.log_bytes) same) (ap (λ (k : Kept). k.sessions) same) recoverable))
+    (subst (λ (b : List ℕ). s.end + 40 + length b ≤ s.log_bytes) body_is fits)

@@ -1,0 +1,142 @@
+-- The states that an opened manager stands for.
+use Rattle.std.proofs.lemmas.Bool.Decides.{nat_tests}
+use Rattle.std.proofs.Common.{◌≡◌, ◌⊎◌, inl, inr, ⊎_elim, ◌+◌, ◌<◌, ◌≤◌, ℕ, Bool, true, false, List, [], ◌∷◌, map, length, Option, None, Some, IsSomeAnd, refl, ap, sym, ◌∙◌, subst, arith}
+use Rattle.std.specs.Prelude.{Result, Ok, Err, IfOk, IfErr, IfSome, nat_lt, ◌&&◌, option_map, option_and_then}
+use Rattle.std.specs.List.{AllByRecursion}
+use Rattle.xa_record.specs.Limits.{IsRecord}
+use Rattle.xa_record.specs.Spelling.{spelled}
+use Rattle.xa_record.specs.declared.record.Record.{Record}
+use Rattle.xa_log.specs.Pair.{pair_fault, logged_pair}
+use Rattle.xa_log.specs.TwoFiles.{NoStray}
+use Rattle.xa_model.specs.declared.outcome.Outcome.TheVariants.{Reread}
+use Rattle.xa_model.specs.declared.outcome.Appending.TheVariants.{Kept}
+use Rattle.xa_model.specs.State.{State}
+use Rattle.xa_model.specs.Answer.{Answer, ok}
+use Rattle.xa_model.specs.Durable.{Durable, durable}
+use Rattle.xa_model.specs.Fold.{fold, snapshot, sizes, nothing}
+use Rattle.xa_model.specs.Logging.{log_room, prepared_count}
+use Rattle.xa_model.specs.Loggable.{IsRecoverable, MayBeLast}
+use Rattle.xa_model.specs.Backing.{Backs}
+use Rattle.xa_model.specs.Restarting.{missed, survived, most_boots, can_open, reopened, reopening, opening}
+use Rattle.xa_model.specs.Restored.{IsRestored}
+use Rattle.xa_model.specs.Turn.{Reopened, Rereading, Opens, taken, going_on}
+use Rattle.xa_model.specs.Step.{step}
+use Rattle.xa_model.specs.History.{fresh}
+use Rattle.xa_model.proofs.Openings.{opens_restored, opens_fresh}
+use Rattle.xa_model.proofs.Restores.{reopens_restored}
+use Rattle.xa_model.proofs.Restarts.{missed_recoverable, survived_recoverable}
+use Rattle.xa_model.proofs.Rooms.{prepared_lasting, decided_lasting}
+use Rattle.xa_manager.specs.declared.manager.Manager.{Manager}
+use Rattle.xa_manager.specs.declared.fault.ManagerFault.{ManagerFault}
+use Rattle.xa_manager.specs.declared.fault.ManagerFault.TheVariants as fault
+use Rattle.xa_manager.specs.Managed.{ManagerStandsFor}
+use Rattle.xa_manager.specs.Opening.{ComeTo, HasBegun, BootRefused, OpenRefused, has_boot_room}
+use Rattle.xa_manager.specs.Files.{FilesStandFor, Settles}
+use Rattle.xa_manager.proofs.Generations.{same_records}
+
+pub refused_by : {D : Type 0} (r : Result (Manager D) ManagerFault) (bodies : List (List ℕ)) (name : List ℕ) (log_bytes : ℕ) (a b : List ℕ) → IfErr r (λ e. BootRefused e bodies log_bytes)
+    → ((a ≡ []) × (b ≡ [])) ⊎ (pair_fault log_bytes a b ≡ None) → logged_pair a b ≡ bodies → IfErr r (λ e. OpenRefused e name log_bytes a b)
+refused_by (Ok m) bodies name log_bytes a b h whole same = tt
+refused_by (Err (fault.Log e)) bodies name log_bytes a b h whole same = absurd h
+refused_by (Err (fault.Malformed i)) bodies name log_bytes a b h whole same = (whole, rw same h)
+refused_by (Err (fault.Order i)) bodies name log_bytes a b h whole same = (whole, rw same h)
+refused_by (Err fault.Boots) bodies name log_bytes a b h whole same = (whole, rw same h)
+refused_by (Err fault.LogFull) bodies name log_bytes a b h whole same = (whole, rw same h)
+refused_by (Err fault.Device) bodies name log_bytes a b h whole same = (whole, tt)
+refused_by (Err fault.Memory) bodies name log_bytes a b h whole same = (whole, tt)
+refused_by (Err fault.Setting) bodies name log_bytes a b h whole same = absurd h
+
+-- a manager that began
+begun_map : {D : Type 0} (r : Result (Manager D) ManagerFault) (P Q : Manager D → Type 0) → ((m : Manager D) → P m → Q m) → IfOk r P → IfOk r Q
+begun_map (Ok m) P Q f h = f m h
+begun_map (Err e) P Q f h = tt
+
+no_records : (rs : List Record) → map spelled rs ≡ [] → rs ≡ []
+no_records [] e = refl
+no_records (r ∷ rs) e = absurd (cc e)
+
+none_logged : (a b : List ℕ) → a ≡ [] → b ≡ [] → logged_pair a b ≡ []
+none_logged [] [] ea eb = refl
+none_logged (x ∷ a) b ea eb = absurd (cc ea)
+none_logged [] (y ∷ b) ea eb = absurd (cc eb)
+
+none_stray : (a b : List ℕ) → a ≡ [] → b ≡ [] → NoStray a b
+none_stray [] [] ea eb = ((λ e. refl), (λ e. refl))
+none_stray (x ∷ a) b ea eb = absurd (cc ea)
+none_stray [] (y ∷ b) ea eb = absurd (cc eb)
+
+below_limit : (n : ℕ) → n < most_boots → nat_lt n most_boots ≡ true
+below_limit n less = grind (arith, nat_tests)
+
+both_hold : (a b : Bool) → a ≡ true → b ≡ true → a && b ≡ true
+both_hold a b ea eb = rw (ea, eb) refl
+
+-- an opening whose record was kept
+kept_reopens : (t : State) (name : List ℕ) (log_bytes : ℕ) → nat_lt t.logged_boot most_boots && can_open t log_bytes (t.logged_boot + 1) ≡ true
+    → going_on (Some Kept) (reopening name log_bytes t) ≡ Some (ok (reopened t name log_bytes (t.logged_boot + 1)))
+kept_reopens t name log_bytes e = rw e refl
+
+missed_step : (s : State) (name : List ℕ) (log_bytes : ℕ) → step s (Reopened name log_bytes) (Reread false (Some Kept)) ≡ going_on (Some Kept) (reopening name log_bytes (missed s))
+missed_step s name log_bytes = refl
+
+found_step : (s : State) (r : Record) (name : List ℕ) (log_bytes : ℕ) → s.open_record ≡ Some r → step s (Reopened name log_bytes) (Reread true (Some Kept)) ≡ going_on (Some Kept) (reopening name log_bytes (survived s r))
+found_step s r name log_bytes e =
+    ap (λ (o : Option Record). option_and_then (going_on (Some Kept)) (option_map (λ (q : Record). reopening name log_bytes (survived s q)) o)) e
+
+may_be : (s : State) (r : Record) → IsRecoverable s → s.open_record ≡ Some r → MayBeLast s r
+may_be s r rec e = subst (λ (o : Option Record). IfSome o (MayBeLast s)) e rec.open_record
+
+module _ {D : Type 0} (honest : Type 0) (tears : List ℕ → ℕ → List ℕ → List ℕ → Type 0) (seen : D → List ℕ) (may_leave : D → List ℕ → Type 0) where
+  fresh_one : (m : Manager D) (name : List ℕ) (log_bytes : ℕ) → HasBegun honest tears seen may_leave [] name log_bytes m → ManagerStandsFor honest tears seen may_leave m (fresh name log_bytes)
+  fresh_one m name log_bytes begun =
+      let none : begun.comes.records ≡ [] = no_records begun.comes.records begun.comes.bodies_are.spelling in
+      let same : nothing ≡ begun.durable = cc (begun.comes.folded, ap (λ (rs : List Record). fold rs) none) in
+      let it = (opens_restored [] nothing name log_bytes tt refl (omega arith) (omega arith)).0 in
+      subst (λ (s : State). ManagerStandsFor honest tears seen may_leave m s) (opens_fresh name log_bytes)
+      (begun.stands (opening nothing name log_bytes 1) (subst (λ (x : Durable). IsRestored x (x.boot + 1) (opening nothing name log_bytes 1)) same it) refl refl refl)
+
+  pub fresh_opened : (r : Result (Manager D) ManagerFault) (name : List ℕ) (log_bytes : ℕ) (a b : List ℕ)
+      → (NoStray a b → IfOk r (HasBegun honest tears seen may_leave (logged_pair a b) name log_bytes)) → a ≡ [] → b ≡ [] → IfOk r (λ m. ManagerStandsFor honest tears seen may_leave m (fresh name log_bytes))
+  fresh_opened r name log_bytes a b h ea eb =
+      begun_map r (HasBegun honest tears seen may_leave (logged_pair a b) name log_bytes) _
+      (λ m begun. fresh_one m name log_bytes (subst (λ (l : List (List ℕ)). HasBegun honest tears seen may_leave l name log_bytes m) (none_logged a b ea eb) begun)) (h (none_stray a b ea eb))
+
+  -- the state whose last record's fate is known
+  opened_one : (m : Manager D) (name : List ℕ) (log_bytes : ℕ) (bodies : List (List ℕ)) (rs : List Record) (t : State) → HasBegun honest tears seen may_leave bodies name log_bytes m
+      → bodies ≡ map spelled rs → Backs rs t → IsRecoverable t → t.open_record ≡ None
+      → (nat_lt t.logged_boot most_boots && can_open t log_bytes (t.logged_boot + 1) ≡ true) × ManagerStandsFor honest tears seen may_leave m (reopened t name log_bytes (t.logged_boot + 1))
+  opened_one m name log_bytes bodies rs t begun are backs rec none =
+      let same : begun.comes.records ≡ rs = same_records begun.comes.records rs begun.comes.bodies_are.limits backs.records (begun.comes.bodies_are.spelling ∙ are) in
+      let d_is : begun.durable ≡ durable t = cc (begun.comes.folded, ap (λ (qs : List Record). fold qs) same, backs.lasts) in
+      let less : t.logged_boot < most_boots = subst (λ (x : Durable). x.boot < most_boots) d_is begun.boots in
+      let room : has_boot_room log_bytes (durable t) (t.logged_boot + 1) ≡ true = subst (λ (x : Durable). has_boot_room log_bytes x (x.boot + 1) ≡ true) d_is begun.room in
+      let it : IsRestored begun.durable (begun.durable.boot + 1) (reopened t name log_bytes (t.logged_boot + 1)) =
+      subst (λ (x : Durable). IsRestored x (x.boot + 1) (reopened t name log_bytes (t.logged_boot + 1))) (sym d_is) (reopens_restored t name log_bytes rec none less) in
+      let opens : can_open t log_bytes (t.logged_boot + 1) ≡ true = rw (← prepared_lasting t, ← decided_lasting t) room in
+      (both_hold (nat_lt t.logged_boot most_boots) (can_open t log_bytes (t.logged_boot + 1)) (below_limit t.logged_boot less) opens, begun.stands (reopened t name log_bytes (t.logged_boot + 1)) it refl refl refl)
+
+  opened_some : (m : Manager D) (o : Option Answer) (a : Answer) → o ≡ Some a → ManagerStandsFor honest tears seen may_leave m a.after → IsSomeAnd o (λ x. ManagerStandsFor honest tears seen may_leave m x.after)
+  opened_some m o a e st = subst (λ (x : Option Answer). IsSomeAnd x (λ y. ManagerStandsFor honest tears seen may_leave m y.after)) (sym e) st
+
+  reopens_one : (m : Manager D) (s : State) (name : List ℕ) (log_bytes : ℕ) (bodies : List (List ℕ)) (rs : List Record) → IsRecoverable s → bodies ≡ map spelled rs → Settles rs s
+      → HasBegun honest tears seen may_leave bodies name log_bytes m
+      → (found : Bool) × IsSomeAnd (step s (Reopened name log_bytes) (Reread found (Some Kept))) (λ a. ManagerStandsFor honest tears seen may_leave m a.after)
+  reopens_one m s name log_bytes bodies rs rec are (inl backs) begun =
+      let x = opened_one m name log_bytes bodies rs (missed s) begun are backs (missed_recoverable s rec) refl in (
+        false,
+        opened_some m (step s (Reopened name log_bytes) (Reread false (Some Kept))) (ok (reopened (missed s) name log_bytes ((missed s).logged_boot + 1)))
+            (missed_step s name log_bytes ∙ kept_reopens (missed s) name log_bytes x.0) x.1,
+      )
+  reopens_one m s name log_bytes bodies rs rec are (inr (r, e, backs)) begun =
+      let x = opened_one m name log_bytes bodies rs (survived s r) begun are backs (survived_recoverable s r rec e (may_be s r rec e)) refl in (
+        true,
+        opened_some m (step s (Reopened name log_bytes) (Reread true (Some Kept))) (ok (reopened (survived s r) name log_bytes ((survived s r).logged_boot + 1)))
+            (found_step s r name log_bytes e ∙ kept_reopens (survived s r) name log_bytes x.0) x.1,
+      )
+
+  pub reopens_opened : (r : Result (Manager D) ManagerFault) (s : State) (name : List ℕ) (log_bytes : ℕ) (a b : List ℕ) → IsRecoverable s → FilesStandFor log_bytes a b s
+      → (NoStray a b → IfOk r (HasBegun honest tears seen may_leave (logged_pair a b) name log_bytes))
+      → IfOk r (λ m. (found : Bool) × IsSomeAnd (step s (Reopened name log_bytes) (Reread found (Some Kept))) (λ x. ManagerStandsFor honest tears seen may_leave m x.after))
+  reopens_opened r s name log_bytes a b rec files h =
+      begun_map r (HasBegun honest tears seen may_leave (logged_pair a b) name log_bytes) _
+      (λ m begun. reopens_one m s name log_bytes (logged_pair a b) files.records rec files.logged files.settles begun) (h files.stray)

@@ -1,0 +1,261 @@
+-- What a manager stands for, where its log was read again or a new boot was logged.
+use Rattle.std.proofs.Common.{◌≡◌, ◌≢◌, ◌⊎◌, inl, inr, ◌<◌, ◌≤◌, ◌+◌, ◌^◌, ℕ, Bool, true, false, List, [], ◌∷◌, ◌++◌, map, length, Option, Some, None, refl, ap, sym, ◌∙◌, subst, arith, ltb-true}
+use Rattle.std.specs.Prelude.{nat_lt, IfSome}
+use Rattle.xa_codes.specs.declared.direction.Direction.TheVariants as direction
+use Rattle.xa_record.specs.Spelling.{spelled}
+use Rattle.xa_record.specs.declared.record.Record.{Record}
+use Rattle.xa_record.specs.declared.record.Record.TheVariants as logged
+use Rattle.xa_log.specs.declared.log.Log.{Log}
+use Rattle.xa_log.specs.Checkpoint.{IsQuiet}
+use Rattle.xa_log.specs.TwoFiles.{Pair, MaySeal}
+use Rattle.xa_model.specs.State.{State, Standing, Up, Down, Ended}
+use Rattle.xa_model.specs.Durable.{durable}
+use Rattle.xa_model.specs.Fold.{snapshot}
+use Rattle.xa_model.specs.Logging.{applied, down}
+use Rattle.xa_model.specs.Loggable.{IsRecoverable, IsLoggable, MayBeLast, is_boot}
+use Rattle.xa_model.specs.Backing.{Backs}
+use Rattle.xa_model.specs.Restarting.{missed, survived, restarted, most_boots}
+use Rattle.xa_model.specs.Restored.{IsRestored}
+use Rattle.xa_model.specs.Room.{HasRoom, HasRoomAnyway, IsRoomy}
+use Rattle.xa_model.specs.Fold.{sizes}
+use Rattle.xa_model.specs.Logging.{snapshot_end, log_room, prepared_count, closing, prepared_room, decided_room}
+use Rattle.xa_model.specs.Restarting.{without_scan}
+use Rattle.xa_model.proofs.Restores.{restarts_restored}
+use Rattle.xa_model.proofs.Rooms.{room_is, recoverable_snapshot_ends}
+use Rattle.mv_rules.specs.Records.{StandsFor as RecordsStandFor}
+use Rattle.mv_rules.specs.Ties.{history_of}
+use Rattle.xa_branch.specs.Branches.{BranchesStandFor}
+use Rattle.xa_model.proofs.Stopped.{down_sound, down_may}
+use Rattle.xa_assoc.specs.Sessions.{SessionsStandFor}
+use Rattle.xa_assoc.proofs.Follows.{unmoved}
+use Rattle.xa_manager.specs.declared.doubt.Doubt.{Doubt}
+use Rattle.xa_manager.specs.declared.doubt.Doubt.TheVariants.{Boot, Record as LastRecord}
+use Rattle.xa_manager.specs.declared.manager.Manager.{Manager}
+use Rattle.xa_manager.specs.declared.tables.Tables.{Tables}
+use Rattle.xa_manager.specs.Kept.{Kept, kept_of}
+use Rattle.xa_manager.specs.Stands.{StandsFor, StandsDown, TablesStandFor}
+use Rattle.xa_manager.specs.LogStands.{Trusts, HasRecords, HasRecordsOf, LogStandsFor}
+use Rattle.xa_manager.specs.Managed.{kept, Doubts, ManagerStandsFor}
+use Rattle.xa_manager.specs.Rereading.{IsFate, Found}
+use Rattle.xa_manager.proofs.Fates.{fate_same, fate_settled, fate_recoverable, fate_room, down_backed, lost_room, begun_backed, begun_room}
+
+-- what the tables say whether or not the manager is up
+pub record IsOutside (k : Kept) (s : State) : Type 0 where
+  pub name : k.name ≡ s.name
+  pub log_bytes : k.log_bytes ≡ s.log_bytes
+  pub sessions : SessionsStandFor k.sessions s
+  pub recoverable : IsRecoverable s
+  pub standing : s.standing ≢ Ended
+
+pub outside : (up : Bool) (k : Kept) (s : State) → TablesStandFor up k s → IsOutside k s
+outside true k s h = record { name = h.name; log_bytes = h.log_bytes; sessions = h.sessions; recoverable = h.recoverable; standing = λ e. absurd (cc (e, h.up)) }
+outside false k s h = record { name = h.name; log_bytes = h.log_bytes; sessions = h.sessions; recoverable = h.recoverable; standing = λ e. absurd (cc (e, h.down)) }
+
+pub is_up : (up : Bool) (k : Kept) (s : State) → TablesStandFor up k s → up ≡ true → s.standing ≡ Up
+is_up true k s h e = h.up
+is_up false k s h e = absurd (cc e)
+
+-- the log alone changed
+pub still_stands : {D : Type 0} (honest : Type 0) (tears : List ℕ → ℕ → List ℕ → List ℕ → Type 0) (seen : D → List ℕ) (may_leave : D → List ℕ → Type 0) (m m' : Manager D) (s : State)
+    → m'.tables ≡ m.tables → m'.up ≡ m.up → m'.doubt ≡ m.doubt → (m.up ≡ true → m'.log.end ≡ s.end) → (m.up ≡ true → m'.log.lost ≡ false) → m'.log.log_bytes ≡ m.log.log_bytes
+    → (Trusts honest tears → LogStandsFor tears seen may_leave m'.log s) → ManagerStandsFor honest tears seen may_leave m s → ManagerStandsFor honest tears seen may_leave m' s
+still_stands honest tears seen may_leave m m' s tables up doubt end alive bytes log st = record {
+  tables = subst (λ (b : Bool). TablesStandFor b (kept m') s) (sym up) (subst (λ (t : Tables). TablesStandFor m.up (kept_of t) s) (sym tables) st.tables);
+  roomy = st.roomy;
+  end = λ is. end (sym up ∙ is);
+  alive = λ is. alive (sym up ∙ is);
+  log_bytes = bytes ∙ st.log_bytes;
+  doubt = subst (λ (d : Option Doubt). Doubts d s) (sym doubt) st.doubt;
+  log = log;
+}
+
+-- the manager is down
+
+pub down_recoverable : (t : State) (o : Option Record) → IsRecoverable t → IfSome o (MayBeLast (record (down t) { open_record = o })) → IsRecoverable (record (down t) { open_record = o })
+down_recoverable t o h last = record {
+  sound = down_sound t o h.sound;
+  loggable = record { first = h.loggable.first; boots = h.loggable.boots; last = h.loggable.last; past = h.loggable.past; begun = h.loggable.begun; written = h.loggable.written };
+  open_record = last;
+  settled = λ up. absurd (cc up);
+  current = λ up. absurd (cc up);
+}
+
+none_of : (o : Option Record) (P : Record → Type 0) → o ≡ None → IfSome o P
+none_of o P e = subst (λ (q : Option Record). IfSome q P) (sym e) tt
+
+pub tables_down : (k : Kept) (s t : State) (o : Option Record) (b : Bool) → IsOutside k s → IsFate b s t → IfSome o (MayBeLast (record (down t) { open_record = o }))
+    → StandsDown k (record (down t) { open_record = o })
+tables_down k s t o b h fate last =
+    let same = fate_same b s t fate in record {
+      name = h.name ∙ sym same.name;
+      log_bytes = h.log_bytes ∙ sym same.log_bytes;
+      down = refl;
+      sessions = unmoved k.sessions s (record (down t) { open_record = o }) same.sessions same.associations h.sessions;
+      recoverable = down_recoverable t o (fate_recoverable b s t h.recoverable fate) last;
+    }
+
+pub down_stands : {D : Type 0} (honest : Type 0) (tears : List ℕ → ℕ → List ℕ → List ℕ → Type 0) (seen : D → List ℕ) (may_leave : D → List ℕ → Type 0) (m m' : Manager D) (s t : State) (b : Bool) (rs : List Record)
+    → m'.tables ≡ m.tables → m'.up ≡ false → m'.doubt ≡ None → m'.log.log_bytes ≡ m.log.log_bytes → ManagerStandsFor honest tears seen may_leave m s → IsFate b s t → Backs rs t
+    → HasRecords tears seen may_leave rs m'.log → ManagerStandsFor honest tears seen may_leave m' (down t)
+down_stands honest tears seen may_leave m m' s t b rs tables up doubt bytes st fate backs has =
+    let h = outside m.up (kept m) s st.tables in
+    let none = fate_settled b s t fate in
+    let room = fate_room b s t (st.roomy h.standing) fate in record {
+      tables = subst (λ (b : Bool). TablesStandFor b (kept m') (down t)) (sym up) (subst (λ (k : Tables). StandsDown (kept_of k) (down t)) (sym tables) (tables_down (kept m) s t t.open_record b h fate (none_of t.open_record _ none)));
+      roomy = λ standing. record { room = room; found = none_of t.open_record _ none };
+      end = λ is. absurd (cc (is, up));
+      alive = λ is. absurd (cc (is, up));
+      log_bytes = bytes ∙ (st.log_bytes ∙ sym (fate_same b s t fate).log_bytes);
+      doubt = subst (λ (d : Option Doubt). Doubts d (down t)) (sym doubt) none;
+      log = λ trusts. record { records = rs; backs = down_backed rs t t.open_record backs; has = subst (λ (o : Option Record). HasRecordsOf tears seen may_leave rs (down t) o m'.log) (sym none) has };
+    }
+
+-- a checkpoint was lost
+pub lost_stands : {D : Type 0} (honest : Type 0) (tears : List ℕ → ℕ → List ℕ → List ℕ → Type 0) (seen : D → List ℕ) (may_leave : D → List ℕ → Type 0) (m m' : Manager D) (s t : State) (b : Bool) (rs : List Record)
+    → m'.tables ≡ m.tables → m'.up ≡ false → m'.doubt ≡ Some (Boot (t.logged_boot + 1)) → m'.log.log_bytes ≡ m.log.log_bytes → ManagerStandsFor honest tears seen may_leave m s → IsFate b s t → Backs rs t
+    → t.logged_boot < most_boots → MaySeal tears seen may_leave (map spelled rs) (map spelled (snapshot (durable t) (t.logged_boot + 1))) m'.log
+    → ManagerStandsFor honest tears seen may_leave m' (record (down t) { open_record = Some (logged.Opened (t.logged_boot + 1)) })
+lost_stands honest tears seen may_leave m m' s t b rs tables up doubt bytes st fate backs less seal =
+    let h = outside m.up (kept m) s st.tables in
+    let recoverable = fate_recoverable b s t h.recoverable fate in
+    let room = fate_room b s t (st.roomy h.standing) fate in
+    let boot : ℕ = t.logged_boot + 1 in
+    let after : State = record (down t) { open_record = Some (logged.Opened boot) } in
+    let last : MayBeLast after (logged.Opened boot) = record { may = omega arith; limits = (omega arith, omega arith); current = λ is. absurd (cc is) } in record {
+      tables = subst (λ (b : Bool). TablesStandFor b (kept m') after) (sym up) (subst (λ (k : Tables). StandsDown (kept_of k) after) (sym tables) (tables_down (kept m) s t (Some (logged.Opened boot)) b h fate last));
+      roomy = λ standing. lost_room rs t boot recoverable backs room;
+      end = λ is. absurd (cc (is, up));
+      alive = λ is. absurd (cc (is, up));
+      log_bytes = bytes ∙ (st.log_bytes ∙ sym (fate_same b s t fate).log_bytes);
+      doubt = subst (λ (d : Option Doubt). Doubts d after) (sym doubt) refl;
+      log = λ trusts. record { records = rs; backs = down_backed rs t (Some (logged.Opened boot)) backs; has = inl seal };
+    }
+
+-- a manager that is up ends its log where it did
+pub found_end : {D : Type 0} (tears : List ℕ → ℕ → List ℕ → List ℕ → Type 0) (seen : D → List ℕ) (may_leave : D → List ℕ → Type 0) (found : List (List ℕ)) (log' : Log D) (s : State)
+    → IsRecoverable s → s.standing ≡ Up → Found tears seen may_leave found log' s → log'.end ≡ s.end
+found_end tears seen may_leave found log' s h up f = f.end ∙ by_fate f.state f.fate
+  where
+    by_fate : (t : State) → IsFate true s t ⊎ IsFate false s t → t.end ≡ s.end
+    by_fate t (inl (r, open_is, is)) = absurd (cc (open_is, h.settled up))
+    by_fate t (inr is) = ap (λ (x : State). x.end) is
+
+-- a new boot was logged, and begins
+pub begun_stands : {D : Type 0} (honest : Type 0) (tears : List ℕ → ℕ → List ℕ → List ℕ → Type 0) (seen : D → List ℕ) (may_leave : D → List ℕ → Type 0) (m m' : Manager D) (s t : State) (b : Bool) (rs : List Record)
+    → m'.tables.name ≡ m.tables.name → m'.tables.log_bytes ≡ m.tables.log_bytes → m'.up ≡ true → m'.doubt ≡ None → m'.log.log_bytes ≡ m.log.log_bytes
+    → ManagerStandsFor honest tears seen may_leave m s → IsFate b s t → Backs rs t → nat_lt t.logged_boot most_boots ≡ true
+    → ((x y : State) → y.sessions ≡ map without_scan x.sessions → y.associations ≡ [] → SessionsStandFor m.tables.sessions x → SessionsStandFor m'.tables.sessions y)
+    → ((x : State) → IsRestored (durable t) (t.logged_boot + 1) x → BranchesStandFor m'.tables.branches x)
+    → ((x : State) → IsRestored (durable t) (t.logged_boot + 1) x → RecordsStandFor (history_of x) m'.tables.records)
+    → m'.log.end ≡ 8 + sizes (snapshot (durable t) (t.logged_boot + 1)) → m'.log.lost ≡ false → HasRecords tears seen may_leave (snapshot (durable t) (t.logged_boot + 1)) m'.log
+    → ManagerStandsFor honest tears seen may_leave m' (restarted t (t.logged_boot + 1))
+begun_stands honest tears seen may_leave m m' s t b rs name log_bytes up doubt bytes st fate backs less sessions branches records end alive has =
+    let h = outside m.up (kept m) s st.tables in
+    let same = fate_same b s t fate in
+    let none = fate_settled b s t fate in
+    let recoverable = fate_recoverable b s t h.recoverable fate in
+    let room = fate_room b s t (st.roomy h.standing) fate in
+    let boot : ℕ = t.logged_boot + 1 in
+    let after : State = restarted t boot in
+    let restored = restarts_restored t recoverable none (ltb-true t.logged_boot most_boots less) in
+    let stands : StandsFor (kept m') after = record {
+      name = name ∙ (h.name ∙ sym same.name);
+      log_bytes = log_bytes ∙ (h.log_bytes ∙ sym same.log_bytes);
+      up = refl;
+      sessions = sessions s after (ap (λ xs. map without_scan xs) same.sessions) refl h.sessions;
+      branches = branches after restored;
+      records = records after restored;
+      recoverable = restored.recoverable;
+    } in record {
+      tables = subst (λ (b : Bool). TablesStandFor b (kept m') after) (sym up) stands;
+      roomy = λ standing. record { room = begun_room rs t boot recoverable backs room; found = none_of t.open_record _ none };
+      end = λ is. end;
+      alive = λ is. alive;
+      log_bytes = bytes ∙ (st.log_bytes ∙ sym same.log_bytes);
+      doubt = subst (λ (d : Option Doubt). Doubts d after) (sym doubt) none;
+      log = λ trusts. record { records = snapshot (durable t) boot; backs = begun_backed rs t recoverable none backs less; has = subst (λ (o : Option Record). HasRecordsOf tears seen may_leave (snapshot (durable t) boot) after o m'.log) (sym none) has };
+    }
+
+-- a log that has the records has room for the new boot
+pub never_full : {D : Type 0} (honest : Type 0) (tears : List ℕ → ℕ → List ℕ → List ℕ → Type 0) (seen : D → List ℕ) (may_leave : D → List ℕ → Type 0) (m : Manager D) (s t : State) (b : Bool) (rs : List Record)
+    → ManagerStandsFor honest tears seen may_leave m s → IsFate b s t → Backs rs t → m.log.log_bytes < 8 + sizes (snapshot (durable t) (t.logged_boot + 1)) + 4 → ⊥
+never_full honest tears seen may_leave m s t b rs st fate backs full =
+    let h = outside m.up (kept m) s st.tables in
+    let short : snapshot_end t (t.logged_boot + 1) ≤ t.end = recoverable_snapshot_ends rs t (t.logged_boot + 1) (fate_recoverable b s t h.recoverable fate) backs in
+    let room = room_is t.log_bytes t.end (prepared_count t) (length t.decided) (fate_room b s t (st.roomy h.standing) fate) in
+    let bytes : m.log.log_bytes ≡ t.log_bytes = st.log_bytes ∙ sym (fate_same b s t fate).log_bytes in
+    omega (arith, short, room, bytes, full)
+
+pub refused_pair : {D : Type 0} (tears : List ℕ → ℕ → List ℕ → List ℕ → Type 0) (seen : D → List ℕ) (may_leave : D → List ℕ → Type 0) (bodies stood : List (List ℕ)) (log : Log D)
+    → Pair tears seen may_leave bodies stood log ⊎ (Pair tears seen may_leave bodies [] log × IsQuiet seen may_leave [] log.other) → (other : List (List ℕ)) × Pair tears seen may_leave bodies other log
+refused_pair tears seen may_leave bodies stood log (inl pair) = (stood, pair)
+refused_pair tears seen may_leave bodies stood log (inr both) = ([], both.0)
+
+-- the log could not be read
+
+has_down : {D : Type 0} (tears : List ℕ → ℕ → List ℕ → List ℕ → Type 0) (seen : D → List ℕ) (may_leave : D → List ℕ → Type 0) (log : Log D) (rs : List Record) (s : State) (o : Option Record)
+    → HasRecordsOf tears seen may_leave rs s o log → HasRecordsOf tears seen may_leave rs (down s) o log
+has_down tears seen may_leave log rs s None has = has
+has_down tears seen may_leave log rs s (Some r) (inr (inl has)) = inr (inl has)
+has_down tears seen may_leave log rs s (Some (logged.Opened boot)) (inl may) = inl may
+has_down tears seen may_leave log rs s (Some (logged.Prepared xid t ws)) (inl may) = inl may
+has_down tears seen may_leave log rs s (Some (logged.Committed xid t ws)) (inl may) = inl may
+has_down tears seen may_leave log rs s (Some (logged.Completed xid d)) (inl may) = inl may
+has_down tears seen may_leave log rs s (Some (logged.Decided xid d)) (inl may) = inl may
+has_down tears seen may_leave log rs s (Some (logged.Forgotten xid)) (inl may) = inl may
+has_down tears seen may_leave log rs s (Some (logged.Base t ws)) (inl may) = inl may
+has_down tears seen may_leave log rs s (Some (logged.Held xid t ws)) (inl may) = inl may
+has_down tears seen may_leave log rs s (Some (logged.Known xid d)) (inl may) = inl may
+has_down tears seen may_leave log rs s (Some (logged.Opened boot)) (inr (inr has)) = inr (inr has)
+has_down tears seen may_leave log rs s (Some (logged.Prepared xid t ws)) (inr (inr has)) = inr (inr has)
+has_down tears seen may_leave log rs s (Some (logged.Committed xid t ws)) (inr (inr has)) = inr (inr has)
+has_down tears seen may_leave log rs s (Some (logged.Completed xid d)) (inr (inr has)) = inr (inr has)
+has_down tears seen may_leave log rs s (Some (logged.Decided xid d)) (inr (inr has)) = inr (inr has)
+has_down tears seen may_leave log rs s (Some (logged.Forgotten xid)) (inr (inr has)) = inr (inr has)
+has_down tears seen may_leave log rs s (Some (logged.Base t ws)) (inr (inr has)) = inr (inr has)
+has_down tears seen may_leave log rs s (Some (logged.Held xid t ws)) (inr (inr has)) = inr (inr has)
+has_down tears seen may_leave log rs s (Some (logged.Known xid d)) (inr (inr has)) = inr (inr has)
+
+doubts_down : (d : Option Doubt) (s : State) → Doubts d s → Doubts d (down s)
+doubts_down None s h = h
+doubts_down (Some (Boot boot)) s h = h
+doubts_down (Some (LastRecord end)) s h = h
+
+last_down : (s : State) (o : Option Record) → IfSome o (MayBeLast s) → IfSome o (MayBeLast (record (down s) { open_record = s.open_record }))
+last_down s None h = tt
+last_down s (Some r) h = record { may = down_may s r s.open_record h.may; limits = h.limits; current = h.current }
+
+room_down : (s : State) (o : Option Record) → IfSome o (λ r. HasRoom (applied r s)) → IfSome o (λ r. HasRoom (applied r (down s)))
+room_down s None h = tt
+room_down s (Some (logged.Opened boot)) h = h
+room_down s (Some (logged.Prepared xid t ws)) h = h
+room_down s (Some (logged.Committed xid t ws)) h = h
+room_down s (Some (logged.Completed xid direction.Commit)) h = h
+room_down s (Some (logged.Completed xid direction.Rollback)) h = h
+room_down s (Some (logged.Decided xid direction.Commit)) h = h
+room_down s (Some (logged.Decided xid direction.Rollback)) h = h
+room_down s (Some (logged.Forgotten xid)) h = h
+room_down s (Some (logged.Base t ws)) h = h
+room_down s (Some (logged.Held xid t ws)) h = h
+room_down s (Some (logged.Known xid d)) h = h
+
+pub failed_stands : {D : Type 0} (honest : Type 0) (tears : List ℕ → ℕ → List ℕ → List ℕ → Type 0) (seen : D → List ℕ) (may_leave : D → List ℕ → Type 0) (m m' : Manager D) (s : State)
+    → m' ≡ record m { up = false } → ManagerStandsFor honest tears seen may_leave m s → ManagerStandsFor honest tears seen may_leave m' (down s)
+failed_stands {D} honest tears seen may_leave m m' s is st =
+    let h = outside m.up (kept m) s st.tables in
+    let room = st.roomy h.standing in
+    subst (λ (x : Manager D). ManagerStandsFor honest tears seen may_leave x (down s)) (sym is) (record {
+      tables = record {
+        name = h.name;
+        log_bytes = h.log_bytes;
+        down = refl;
+        sessions = unmoved m.tables.sessions s (down s) refl refl h.sessions;
+        recoverable = down_recoverable s s.open_record h.recoverable (last_down s s.open_record h.recoverable.open_record);
+      };
+      roomy = λ standing. record { room = room.room; found = room_down s s.open_record room.found };
+      end = λ up. absurd (cc up);
+      alive = λ up. absurd (cc up);
+      log_bytes = st.log_bytes;
+      doubt = doubts_down m.doubt s st.doubt;
+      log = λ trusts. let l = st.log trusts in record { records = l.records; backs = down_backed l.records s s.open_record l.backs; has = has_down tears seen may_leave m.log l.records s s.open_record l.has };
+    })

@@ -1,0 +1,166 @@
+-- How a manager takes a turn, by what it did.
+use Rattle.std.proofs.Common.{◌≡◌, ◌≢◌, ℕ, ℤ, ◌+◌, ◌≤◌, Bool, true, false, List, length, Option, Some, None, refl, ap, sym, ◌∙◌, subst}
+use Rattle.std.specs.Prelude.{Result, Ok, Err, OnErr}
+use Rattle.xa_codes.specs.declared.codes.TheConstants.{XAER_RMFAIL}
+use Rattle.xa_disk.specs.declared.counts.Counts.{Counts}
+use Rattle.xa_frame.specs.declared.reply.Reply.{Reply}
+use Rattle.xa_record.specs.Spelling.{spelled}
+use Rattle.xa_record.specs.declared.record.Record.{Record}
+use Rattle.xa_log.specs.declared.log.Log.{Log}
+use Rattle.xa_model.specs.declared.outcome.Outcome.{Outcome}
+use Rattle.xa_model.specs.declared.outcome.Outcome.TheVariants.{Quiet, Appended}
+use Rattle.xa_model.specs.declared.outcome.Appending.{Appending}
+use Rattle.xa_model.specs.declared.outcome.Appending.TheVariants.{Kept as WasKept, Refused, Lost}
+use Rattle.xa_model.specs.State.{State}
+use Rattle.xa_model.specs.Answer.{Answer}
+use Rattle.xa_model.specs.Turn.{Turn, Now, Appends}
+use Rattle.xa_model.specs.Logging.{append_became, applied, lost, logs}
+use Rattle.xa_model.specs.Loggable.{IsRecoverable}
+use Rattle.xa_assoc.specs.Refusals.{is_memory}
+use Rattle.xa_assoc.proofs.Follows.{unmoved}
+use Rattle.xa_manager.specs.declared.doubt.Doubt.{Doubt}
+use Rattle.xa_manager.specs.declared.manager.Manager.{Manager}
+use Rattle.xa_manager.specs.Answered.{StaysFor}
+use Rattle.xa_manager.specs.Kept.{Kept}
+use Rattle.xa_manager.specs.Stands.{StandsFor, StandsDown, TablesStandFor, Follows, Stays}
+use Rattle.xa_manager.specs.Managed.{kept, ManagerStandsFor}
+use Rattle.xa_manager.specs.Turns.{HasAppended, HasJournaled, Takes, TakesTurn, up_after, doubt_after, reply_to}
+
+-- what is answered at once of a state, and leaves these tables
+pub record AnswersNow (s : State) (turn : Turn) (reply : Reply) (m' : Kept) : Type 0 where
+  pub answer : Answer
+  pub turn_is : turn ≡ Now answer
+  pub reply_is : answer.reply ≡ reply
+  pub tables : IsRecoverable answer.after → StandsFor m' answer.after
+
+-- a record of this body is appended, and the device's answer leaves these tables
+pub record AnswersAppending (s : State) (turn : Turn) (body : List ℕ) (a : Appending) (reply : Reply) (m' : Kept) : Type 0 where
+  pub appended : Record
+  pub after : Appending → Answer
+  pub turn_is : turn ≡ Appends appended after
+  pub body_is : spelled appended ≡ body
+  pub reply_is : (after a).reply ≡ reply
+  pub tables : IsRecoverable (after a).after → TablesStandFor (up_after a) m' (after a).after
+  pub fits : s.end + 40 + length body ≤ s.log_bytes
+
+-- the reply of an append
+reply_by : (s : State) (r : Record) (code : ℤ) (left : State) (a : Appending) → (append_became s r code left a).reply ≡ reply_to code a
+reply_by s r code left WasKept = refl
+reply_by s r code left Refused = refl
+reply_by s r code left Lost = refl
+
+-- where the record is lost the manager is down
+pub lost_stands : (m m' : Kept) (s : State) (r : Record) → StandsFor m s → m'.name ≡ m.name → m'.log_bytes ≡ m.log_bytes → m'.sessions ≡ m.sessions → IsRecoverable (lost s r).after → StandsDown m' (lost s r).after
+lost_stands m m' s r st name bytes sessions recoverable = record {
+  name = name ∙ st.name;
+  log_bytes = bytes ∙ st.log_bytes;
+  down = refl;
+  sessions = rw sessions (unmoved m.sessions s (lost s r).after refl refl st.sessions);
+  recoverable = recoverable;
+}
+
+pub down_after : (m' : Kept) (s : State) (r : Record) → StandsFor m' s → IsRecoverable (lost s r).after → StandsDown m' (lost s r).after
+down_after m' s r st recoverable = lost_stands m' m' s r st refl refl refl recoverable
+
+-- what an append is answered doesn't say that memory was wanted
+pub served_by : (code : ℤ) (a : Appending) → is_memory (reply_to code a).detail ≡ false
+served_by code WasKept = refl
+served_by code Refused = refl
+served_by code Lost = refl
+
+pub refused_is : (a : Appending) → a ≡ Refused → a ≢ WasKept
+refused_is a e f = cc (e, f)
+
+pub lost_is : (a : Appending) → a ≡ Lost → a ≢ WasKept
+lost_is a e f = cc (e, f)
+
+-- by the three answers
+pub by_answer : (m' : Kept) (s : State) (r : Record) (code : ℤ) (left : State) (a : Appending) → (a ≡ WasKept → IsRecoverable (applied r s) → StandsFor m' (applied r s))
+    → (a ≡ Refused → IsRecoverable left → StandsFor m' left) → (a ≡ Lost → IsRecoverable (lost s r).after → StandsDown m' (lost s r).after)
+    → IsRecoverable (append_became s r code left a).after → TablesStandFor (up_after a) m' (append_became s r code left a).after
+by_answer m' s r code left WasKept kept_ refused lost_ recoverable = kept_ refl recoverable
+by_answer m' s r code left Refused kept_ refused lost_ recoverable = refused refl recoverable
+by_answer m' s r code left Lost kept_ refused lost_ recoverable = lost_ refl recoverable
+
+pub logs_answers : (s : State) (turn : Turn) (r : Record) (code : ℤ) (left : State) (body : List ℕ) (a : Appending) (m' : Kept) → turn ≡ logs s r code left → spelled r ≡ body
+    → (IsRecoverable (append_became s r code left a).after → TablesStandFor (up_after a) m' (append_became s r code left a).after) → s.end + 40 + length body ≤ s.log_bytes
+    → AnswersAppending s turn body a (reply_to code a) m'
+logs_answers s turn r code left body a m' is body_is tables fits = record {
+  appended = r;
+  after = append_became s r code left;
+  turn_is = is;
+  body_is = body_is;
+  reply_is = reply_by s r code left a;
+  tables = tables;
+  fits = fits;
+}
+
+-- what is said of an error
+pub on_err : {T E : Type 0} (r : Result T E) (X : Type 0) → X → OnErr r X
+on_err (Ok x) X h = tt
+on_err (Err e) X h = h
+
+module _ {D : Type 0} (honest : Type 0) (tears : List ℕ → ℕ → List ℕ → List ℕ → Type 0) (seen : D → List ℕ) (may_leave : D → List ℕ → Type 0) where
+  -- the tables of a manager that is up
+  pub tables_up : (m : Manager D) (s : State) → m.up ≡ true → ManagerStandsFor honest tears seen may_leave m s → StandsFor (kept m) s
+  tables_up m s up st = subst (λ (b : Bool). TablesStandFor b (kept m) s) up st.tables
+
+  -- the same manager, but for tables that stand for what they stood for
+  pub stays_up : (m m' : Manager D) → m.up ≡ true → m'.up ≡ m.up → m'.log ≡ m.log → m'.doubt ≡ m.doubt → Stays (kept m) (kept m') → StaysFor honest tears seen may_leave m m'
+  stays_up m m' is_up up log doubt stays s st = record {
+    tables = subst (λ (b : Bool). TablesStandFor b (kept m') s) (sym (up ∙ is_up)) (stays s (tables_up m s is_up st));
+    roomy = st.roomy;
+    end = λ e. ap (λ (l : Log D). l.end) log ∙ st.end is_up;
+    alive = λ e. ap (λ (l : Log D). l.lost) log ∙ st.alive is_up;
+    log_bytes = ap (λ (l : Log D). l.log_bytes) log ∙ st.log_bytes;
+    doubt = rw doubt st.doubt;
+    log = λ trusts. rw log (st.log trusts);
+  }
+
+  module _ (failures : D → ℕ) (counts : D → Counts) where
+    pub takes_now : (m m' : Manager D) (act : State → Turn) (reply : Reply) (outcome : Outcome) → is_memory reply.detail ≡ false → outcome ≡ Quiet → m'.log ≡ m.log → m'.up ≡ m.up → m'.doubt ≡ m.doubt
+        → ((s : State) → ManagerStandsFor honest tears seen may_leave m s → m.up ≡ true → StandsFor (kept m) s → AnswersNow s (act s) reply (kept m')) → TakesTurn honest tears seen may_leave failures counts m act reply outcome m'
+    takes_now m m' act reply outcome served quiet log up doubt h = record {
+      takes = λ s st is_up.
+          let x = h s st is_up (tables_up m s is_up st) in
+          subst (λ (t : Turn). Takes honest tears seen may_leave failures counts m t reply outcome m') (sym x.turn_is)
+          (record {
+            reply_is = x.reply_is;
+            outcome_is = quiet;
+            log = log;
+            up = up;
+            doubt = doubt;
+            tables = λ recoverable. subst (λ (b : Bool). TablesStandFor b (kept m') x.answer.after) (sym (up ∙ is_up)) (x.tables recoverable);
+          });
+      served = served;
+    }
+
+    -- a row of the tables
+    pub takes_row : (m m' : Manager D) (act : State → Answer) (reply : Reply) (outcome : Outcome) → outcome ≡ Quiet → m'.log ≡ m.log → m'.up ≡ m.up → m'.doubt ≡ m.doubt
+        → Follows (kept m) act reply (kept m') → TakesTurn honest tears seen may_leave failures counts m (λ s. Now (act s)) reply outcome m'
+    takes_row m m' act reply outcome quiet log up doubt f =
+        takes_now m m' (λ s. Now (act s)) reply outcome f.served quiet log up doubt (λ s whole is_up st. record { answer = act s; turn_is = refl; reply_is = f.answers s st; tables = λ recoverable. f.stands s st recoverable })
+
+    -- a record was journaled on the same log, and the tables may have changed before and after
+    pub takes_appending : (m mid mid' m' : Manager D) (act : State → Turn) (body : List ℕ) (a : Appending) (reply : Reply) (outcome : Outcome) → is_memory reply.detail ≡ false → outcome ≡ Appended a
+        → mid.log ≡ m.log → mid.up ≡ m.up → HasJournaled honest tears seen may_leave failures counts body a mid mid' → m'.log ≡ mid'.log → m'.up ≡ mid'.up → m'.doubt ≡ mid'.doubt
+        → ((s : State) → ManagerStandsFor honest tears seen may_leave m s → m.up ≡ true → AnswersAppending s (act s) body a reply (kept m')) → TakesTurn honest tears seen may_leave failures counts m act reply outcome m'
+    takes_appending m mid mid' m' act body a reply outcome served is log up j log' up' doubt' h = record {
+      takes = λ s st is_up.
+          let x = h s st is_up in
+          let is_up' : m'.up ≡ up_after a = up' ∙ j.up (up ∙ is_up) in
+          let alive : mid.log.lost ≡ false = ap (λ (l : Log D). l.lost) log ∙ st.alive is_up in
+          let fits : mid.log.end + 40 + length body ≤ mid.log.log_bytes = rw (log, st.end is_up, st.log_bytes) x.fits in
+          let there : HasAppended honest tears seen may_leave failures counts body a m.log m'.log = rw log' (subst (λ (l : Log D). HasAppended honest tears seen may_leave failures counts body a l mid'.log) log (j.appended alive fits)) in
+          subst (λ (t : Turn). Takes honest tears seen may_leave failures counts m t reply outcome m') (sym x.turn_is)
+          (record {
+            answer = a;
+            reply_is = x.reply_is;
+            outcome_is = is;
+            log = subst (λ (b : List ℕ). HasAppended honest tears seen may_leave failures counts b a m.log m'.log) (sym x.body_is) there;
+            up = is_up';
+            doubt = doubt' ∙ j.doubt ∙ ap (λ (l : Log D). doubt_after a l.end) log;
+            tables = λ recoverable. subst (λ (b : Bool). TablesStandFor b (kept m') (x.after a).after) (sym is_up') (x.tables recoverable);
+          });
+      served = served;
+    }

@@ -1,0 +1,16 @@
+use Rattle.std.proofs.Common.{Option, map, subst, sym, ◌∙◌}
+use Rattle.xa_manager.specs.declared.boots.NextBoot.{NextBoot}
+use Rattle.xa_manager.specs.Rereading.{IsNext}
+use Rattle.xa_manager.proofs.NextBoots.{is_next, no_next}
+use Rattle.xa_manager.proofs.boots.plan.Goals as goal
+use Rattle.xa_manager.proofs.boots.plan.Goals.{in-Some+in_ok-ready-in-Some, in-None}
+
+pub returns : goal.returns
+returns c = (
+  c.in_ok-durable.ensures,
+  elim c.match-next_boot.branch [
+    | in-Some+in_ok-ready-in-Some w ↦ subst (λ (o : Option NextBoot). IsNext c.in_ok-durable.durable o) (sym w.next-is)
+        (is_next (map (λ b. b.items) c.args.bodies.now) c.in_ok-durable.durable w.in-Some.boot w.in_ok-ready-in-Some.field-0 c.in_ok-durable.ensures (sym w.in-Some.is ∙ c.next_boot.ensures) w.in_ok-ready-in-Some.ensures.boot w.in_ok-ready-in-Some.ensures.ready)
+    | in-None w ↦ subst (λ (o : Option NextBoot). IsNext c.in_ok-durable.durable o) (sym w.next-is) (no_next c.in_ok-durable.durable (sym w.in-None.is ∙ c.next_boot.ensures))
+  ],
+)

@@ -1,0 +1,49 @@
+use Rattle.std.proofs.Common.{◌≡◌, ◌+◌, ℕ, Bool, None, refl, ap, sym, ◌∙◌, subst, true, false}
+use Rattle.std.specs.Prelude.{nat_lt}
+use Rattle.xa_model.specs.Durable.{Durable, durable}
+use Rattle.xa_model.specs.Restarting.{most_boots, restart_turn}
+use Rattle.xa_model.specs.Answer.{answer, detailed}
+use Rattle.xa_model.specs.Logging.{down}
+use Rattle.xa_model.specs.Turn.{taken}
+use Rattle.xa_model.specs.declared.outcome.Outcome.{Outcome}
+use Rattle.xa_codes.specs.declared.codes.TheConstants.{XAER_RMFAIL}
+use Rattle.xa_codes.specs.declared.detail.Detail.TheVariants as detail
+use Rattle.xa_manager.specs.LogStands.{HasRecords}
+use Rattle.xa_manager.specs.Managed.{kept}
+use Rattle.xa_manager.specs.Rereading.{IsReady}
+use Rattle.xa_manager.proofs.Beginnings.{next_sizes, next_is, none_next}
+use Rattle.xa_manager.proofs.Fates.{is_answer, turn_stops}
+use Rattle.xa_manager.proofs.Generations.{rebuilt_is}
+use Rattle.xa_manager.proofs.Standing.{outside, down_stands}
+use Rattle.xa_manager.proofs.manager.Manager.begin.Goals as goal
+
+pub log_boot-requires-clause-sizes : goal.log_boot-requires-clause-sizes
+log_boot-requires-clause-sizes g c = next_sizes c.args.planned.durable c.args.planned.next c.in-Some.next c.in-Some.is c.requires
+
+pub returns-in-Some-clause-turn : goal.returns-in-Some-clause-turn
+returns-in-Some-clause-turn g c =
+    λ s bodies st trusts f rebuilt.
+    let h = (outside c.args.self.now.up (kept c.args.self.now) s st.tables).recoverable in
+    let is : c.args.planned.durable ≡ durable f.state = rebuilt_is bodies f.records c.args.planned.durable (durable f.state) rebuilt f.spelled_as f.backs.records f.backs.lasts in
+    let boot : c.boot.result ≡ f.state.logged_boot = c.boot.ensures ∙ ap (λ (d : Durable). d.boot) is in
+    let fate = c.has_survived-survived.ensures s bodies f st.doubt h boot in
+    let next = next_is c.args.planned.durable c.args.planned.next c.in-Some.next c.in-Some.is c.requires in
+    let number : c.args.planned.durable.boot ≡ f.state.logged_boot = ap (λ (d : Durable). d.boot) is in
+    c.log_boot.ensures.turn s f.state f.records st trusts fate f.backs f.has f.alive (subst (λ (n : ℕ). nat_lt n most_boots ≡ true) number next.less) (next.number ∙ ap (λ (n : ℕ). n + 1) number)
+    (subst (λ (d : Durable). IsReady d (d.boot + 1) c.in-Some.next) is next.ready)
+
+pub returns-clause-turn : goal.returns-clause-turn
+returns-clause-turn g c =
+    λ s bodies st trusts f rebuilt.
+    let h = (outside c.args.self.now.up (kept c.args.self.now) s st.tables).recoverable in
+    let is : c.args.planned.durable ≡ durable f.state = rebuilt_is bodies f.records c.args.planned.durable (durable f.state) rebuilt f.spelled_as f.backs.records f.backs.lasts in
+    let boot : c.boot.result ≡ f.state.logged_boot = c.boot.ensures ∙ ap (λ (d : Durable). d.boot) is in
+    let fate = c.has_survived-survived.ensures s bodies f st.doubt h boot in
+    let used = none_next c.args.planned.durable c.args.planned.next c.in-None.is c.requires in
+    let number : c.args.planned.durable.boot ≡ f.state.logged_boot = ap (λ (d : Durable). d.boot) is in
+    is_answer _ (answer (detailed XAER_RMFAIL detail.Limit) (down f.state)) _ (ap (λ (o : Outcome). taken (restart_turn s) o) c.stopped.ensures.told ∙ turn_stops c.has_survived-survived.result s f.state fate (subst (λ (n : ℕ). nat_lt n most_boots ≡ false) number used)) (
+      sym c.stopped.ensures.reply,
+      down_stands g.D.Disk.honest g.D.Disk.tears g.D.Disk.seen g.D.Disk.may_leave c.args.self.now _ s f.state c.has_survived-survived.result f.records
+          (ap (λ m. m.tables) c.stopped.ensures.down) (ap (λ m. m.up) c.stopped.ensures.down) (ap (λ m. m.doubt) c.stopped.ensures.down) (ap (λ m. m.log.log_bytes) c.stopped.ensures.down) st fate f.backs
+          (subst (λ m. HasRecords g.D.Disk.tears g.D.Disk.seen g.D.Disk.may_leave f.records m.log) (sym c.stopped.ensures.down) f.has),
+    )

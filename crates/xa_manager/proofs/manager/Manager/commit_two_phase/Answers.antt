@@ -1,0 +1,42 @@
+use Rattle.std.proofs.Common.{◌≡◌, ◌+◌, None, length, refl, ap, sym, ◌∙◌, subst, rules}
+use Rattle.xa_codes.specs.declared.codes.TheConstants.{XA_RETRY}
+use Rattle.xa_codes.specs.declared.direction.Direction.TheVariants.{Commit}
+use Rattle.xa_record.specs.Spelling.{spelled}
+use Rattle.xa_record.specs.declared.record.Record.TheVariants as logged
+use Rattle.xa_record.proofs.Sizes.{completed}
+use Rattle.xa_model.specs.State.{State, InDoubt, known_as}
+use Rattle.xa_model.specs.Branches.{two_phase_refusal, heuristic_refusal}
+use Rattle.xa_model.specs.Completions.{commit_two_phase_turn}
+use Rattle.xa_model.specs.Fold.{size_of}
+use Rattle.xa_model.specs.Logging.{logs}
+use Rattle.xa_manager.specs.Kept.{kept_of}
+use Rattle.xa_manager.specs.Managed.{kept}
+use Rattle.xa_manager.specs.Stands.{StandsFor}
+use Rattle.xa_manager.specs.declared.tables.Tables.{Tables}
+use Rattle.xa_manager.proofs.Finishing.{doubtful_known}
+use Rattle.xa_manager.proofs.Taking.{takes_appending, tables_up, served_by}
+use Rattle.xa_manager.proofs.Completing.{passes_both, two_doubtful, doubtful_fits, small_appends}
+use Rattle.xa_manager.proofs.manager.Manager.commit_two_phase.Goals as goal
+
+pub returns-clause-turn : goal.returns-clause-turn
+returns-clause-turn g c =
+    let m = c.args.self.now in
+    let mid' = c.journal_small-answer.new.self in
+    let m' = record mid' { tables = c.take_completed.new.self } in
+    let xid = c.args.xid.now in
+    let a = c.journal_small-answer.result in
+    let free : c.two_phase_refusal.result ≡ None = search rules in
+    let none : c.heuristic_refusal.result ≡ None = search rules in
+    let body = spelled (logged.Completed c.copied.result Commit) in
+    let same : c.journal_small-answer.new.self.tables ≡ m.tables = c.journal_small-answer.ensures.tables in
+    rw c.appended.ensures
+    (takes_appending _ _ _ _ _ _ m m mid' m' (λ (s : State). commit_two_phase_turn s xid) body a _ _ (served_by XA_RETRY a) refl refl refl c.journal_small-answer.ensures refl refl refl
+    (λ s whole is_up.
+    let st = tables_up _ _ _ _ m s is_up whole in
+    let passes = sym free ∙ c.two_phase_refusal.ensures.value s st in
+    let through = sym none ∙ c.heuristic_refusal.ensures.value s st in
+    let doubt : known_as s xid ≡ InDoubt = two_doubtful s xid passes through in
+    let r = logged.Completed xid Commit in
+    small_appends (kept m) (kept m') s (commit_two_phase_turn s xid) r XA_RETRY body a st (passes_both s (two_phase_refusal (known_as s xid)) (heuristic_refusal (known_as s xid)) (logs s r XA_RETRY s) passes through) (ap (λ x. spelled (logged.Completed x Commit)) (sym c.copied.ensures)) (doubtful_fits s xid (length (spelled r)) st.up whole.roomy doubt (completed xid Commit c.requires.name))
+    (λ e recoverable. c.take_completed.ensures.kept e s (s.end + size_of r) (subst (λ (k : Tables). StandsFor (kept_of k) s) (sym same) st) (doubtful_known s xid doubt) recoverable)
+    (λ e. ap kept_of (c.take_completed.ensures.left e ∙ same))))

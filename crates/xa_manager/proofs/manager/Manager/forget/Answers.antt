@@ -1,0 +1,38 @@
+use Rattle.std.proofs.Common.{◌≡◌, ◌+◌, None, length, refl, ap, sym, ◌∙◌, subst, rules}
+use Rattle.xa_codes.specs.declared.codes.TheConstants.{XAER_RMERR}
+use Rattle.xa_record.specs.Spelling.{spelled}
+use Rattle.xa_record.specs.declared.record.Record.TheVariants as logged
+use Rattle.xa_record.proofs.Sizes.{forgotten}
+use Rattle.xa_model.specs.State.{State, known_as}
+use Rattle.xa_model.specs.Completions.{forget_turn, forget_refusal}
+use Rattle.xa_model.specs.Fold.{size_of}
+use Rattle.xa_model.specs.Logging.{logs}
+use Rattle.xa_manager.specs.Kept.{kept_of}
+use Rattle.xa_manager.specs.Managed.{kept}
+use Rattle.xa_manager.specs.Stands.{StandsFor}
+use Rattle.xa_manager.specs.declared.tables.Tables.{Tables}
+use Rattle.xa_manager.proofs.Taking.{takes_appending, tables_up, served_by}
+use Rattle.xa_manager.proofs.OnePhase.{passed_turn}
+use Rattle.xa_manager.proofs.Completing.{forgets_completed, forgotten_fits, small_appends}
+use Rattle.xa_manager.proofs.manager.Manager.forget.Goals as goal
+
+pub returns-clause-turn : goal.returns-clause-turn
+returns-clause-turn g c =
+    let m = c.args.self.now in
+    let mid' = c.journal_small-answer.new.self in
+    let m' = record mid' { tables = c.take_forgotten.new.self } in
+    let xid = c.args.xid.now in
+    let a = c.journal_small-answer.result in
+    let free : c.forget_refusal.result ≡ None = search rules in
+    let body = spelled (logged.Forgotten c.copied.result) in
+    let same : c.journal_small-answer.new.self.tables ≡ m.tables = c.journal_small-answer.ensures.tables in
+    rw c.appended.ensures
+    (takes_appending _ _ _ _ _ _ m m mid' m' (λ (s : State). forget_turn s xid) body a _ _ (served_by XAER_RMERR a) refl refl refl c.journal_small-answer.ensures refl refl refl
+    (λ s whole is_up.
+    let st = tables_up _ _ _ _ m s is_up whole in
+    let passes = sym free ∙ c.forget_refusal.ensures.value s st in
+    let done = forgets_completed s xid passes in
+    let r = logged.Forgotten xid in
+    small_appends (kept m) (kept m') s (forget_turn s xid) r XAER_RMERR body a st (passed_turn (forget_refusal (known_as s xid)) s (logs s r XAER_RMERR s) passes) (ap (λ x. spelled (logged.Forgotten x)) (sym c.copied.ensures)) (forgotten_fits s xid (length (spelled r)) st.up whole.roomy done (forgotten xid c.requires.name))
+    (λ e recoverable. c.take_forgotten.ensures.kept e s (s.end + size_of r) (subst (λ (k : Tables). StandsFor (kept_of k) s) (sym same) st) done recoverable)
+    (λ e. ap kept_of (c.take_forgotten.ensures.left e ∙ same))))

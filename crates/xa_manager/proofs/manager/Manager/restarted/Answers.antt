@@ -1,0 +1,57 @@
+use Rattle.std.proofs.Common.{◌≡◌, List, Vec, Global, ℕ, Ok, Err, map, refl, ap, sym, ◌∙◌, subst, inl, inr}
+use Rattle.xa_log.specs.Reading.{bodies_of}
+use Rattle.xa_codes.specs.declared.codes.TheConstants.{XAER_RMFAIL}
+use Rattle.xa_codes.specs.declared.detail.Detail.TheVariants as detail
+use Rattle.xa_model.specs.declared.outcome.Outcome.{Outcome}
+use Rattle.xa_model.specs.Answer.{answer, detailed}
+use Rattle.xa_model.specs.Durable.{durable}
+use Rattle.xa_model.specs.Logging.{down}
+use Rattle.xa_model.specs.Restarting.{restart_turn}
+use Rattle.xa_model.specs.Turn.{taken}
+use Rattle.xa_recovery.specs.Log.{LogRebuilt}
+use Rattle.xa_recovery.specs.declared.log_fault.LogFault.TheVariants.{Malformed, Order}
+use Rattle.xa_manager.proofs.Fates.{is_answer}
+use Rattle.xa_manager.proofs.Generations.{never_refused}
+use Rattle.xa_manager.proofs.Standing.{failed_stands}
+use Rattle.xa_manager.proofs.manager.Manager.restarted.Goals as goal
+
+pub returns-in-Ok-plan-clause-turn : goal.returns-in-Ok-plan-clause-turn
+returns-in-Ok-plan-clause-turn g c =
+    λ s st trusts.
+    let same : c.deref.result.now ≡ c.in-Ok.bodies.items = cc (c.deref.ensures.value) in
+    let rebuilt = subst (λ vs. LogRebuilt (bodies_of vs) (Ok c.in-Ok-plan.planned.durable)) same c.in-Ok-plan.ensures.0 in
+    c.begin.ensures.turn s (bodies_of c.in-Ok.bodies.items) (c.in-Ok.ensures.stays (c.in-Ok.ensures.ends trusts s st) s st) trusts (c.in-Ok.ensures.found trusts s st) rebuilt
+
+pub returns-in-Ok-plan-clause-called : goal.returns-in-Ok-plan-clause-called
+returns-in-Ok-plan-clause-called g c = c.begin.ensures.called c.in-Ok.ensures.alive c.args.self.now.log c.in-Ok.ensures.count
+
+pub returns-in-Err-Malformed-clause-turn : goal.returns-in-Err-Malformed-clause-turn
+returns-in-Err-Malformed-clause-turn g c =
+    λ s st trusts.
+    let f = c.in-Ok.ensures.found trusts s st in
+    let same : c.deref.result.now ≡ c.in-Ok.bodies.items = cc (c.deref.ensures.value) in
+    let rebuilt = subst (λ vs. LogRebuilt (bodies_of vs) (Err c.in-Err-Malformed.field-0)) same c.in-Err-Malformed.ensures in
+    absurd (cc (never_refused (bodies_of c.in-Ok.bodies.items) f.records (durable f.state) c.in-Err-Malformed.field-0 rebuilt f.spelled_as f.backs.records f.backs.lasts, c.in-Err-Malformed.field-0-is))
+
+pub returns-in-Ok-clause-turn : goal.returns-in-Ok-clause-turn
+returns-in-Ok-clause-turn g c =
+    λ s st trusts.
+    let f = c.in-Ok.ensures.found trusts s st in
+    let same : c.deref.result.now ≡ c.in-Ok.bodies.items = cc (c.deref.ensures.value) in
+    let rebuilt = subst (λ vs. LogRebuilt (bodies_of vs) (Err c.in-Err-Order.field-0)) same c.in-Err-Order.ensures in
+    absurd (cc (never_refused (bodies_of c.in-Ok.bodies.items) f.records (durable f.state) c.in-Err-Order.field-0 rebuilt f.spelled_as f.backs.records f.backs.lasts, c.in-Err-Order.field-0-is))
+
+pub returns-in-Err-Device-clause-turn : goal.returns-in-Err-Device-clause-turn
+returns-in-Err-Device-clause-turn g c =
+    λ s st trusts.
+    is_answer _ (answer (detailed XAER_RMFAIL detail.Device) (down s)) _ (ap (λ (o : Outcome). taken (restart_turn s) o) c.failed.ensures.told)
+    (sym c.failed.ensures.reply, failed_stands g.D.Disk.honest g.D.Disk.tears g.D.Disk.seen g.D.Disk.may_leave c.look.new.self c.failed.new.self s c.failed.ensures.down (c.in-Err-Device.ensures.err s st))
+
+pub returns-in-Err-NotALog-clause-turn : goal.returns-in-Err-NotALog-clause-turn
+returns-in-Err-NotALog-clause-turn g c = λ s st trusts. elim (c.in-Err-NotALog.ensures.readable trusts s st) [ inl e ↦ absurd (cc e) | inr e ↦ absurd (cc e) ]
+
+pub returns-in-Err-TooNew-clause-turn : goal.returns-in-Err-TooNew-clause-turn
+returns-in-Err-TooNew-clause-turn g c = λ s st trusts. elim (c.in-Err-TooNew.ensures.readable trusts s st) [ inl e ↦ absurd (cc e) | inr e ↦ absurd (cc e) ]
+
+pub returns-clause-turn : goal.returns-clause-turn
+returns-clause-turn g c = λ s st trusts. elim (c.in-Err-TooLong.ensures.readable trusts s st) [ inl e ↦ absurd (cc e) | inr e ↦ absurd (cc e) ]

@@ -1,0 +1,43 @@
+use Rattle.std.proofs.Common.{◌≡◌, ◌+◌, None, true, length, refl, ap, sym, ◌∙◌, subst, rules}
+use Rattle.xa_codes.specs.declared.codes.TheConstants.{XAER_RMERR}
+use Rattle.xa_codes.specs.declared.direction.Direction.TheVariants.{Rollback}
+use Rattle.xa_record.specs.Spelling.{spelled}
+use Rattle.xa_record.specs.declared.record.Record.TheVariants as logged
+use Rattle.xa_record.proofs.Sizes.{completed}
+use Rattle.xa_model.specs.State.{State, InDoubt, known_as}
+use Rattle.xa_model.specs.Branches.{rollback_refusal, heuristic_refusal, is_associated}
+use Rattle.xa_model.specs.Completions.{rollback_turn, roll_back_turn}
+use Rattle.xa_model.specs.Fold.{size_of}
+use Rattle.xa_manager.specs.Kept.{kept_of}
+use Rattle.xa_manager.specs.Managed.{kept}
+use Rattle.xa_manager.specs.Stands.{StandsFor}
+use Rattle.xa_manager.specs.declared.tables.Tables.{Tables}
+use Rattle.xa_manager.proofs.Finishing.{doubtful_known}
+use Rattle.xa_manager.proofs.Taking.{takes_appending, tables_up, served_by}
+use Rattle.xa_manager.proofs.Completing.{passes_both, settled_doubtful, doubt_rolls, doubtful_fits, small_appends}
+use Rattle.xa_manager.proofs.manager.Manager.rollback.Goals as goal
+
+pub returns-clause-turn : goal.returns-clause-turn
+returns-clause-turn g c =
+    let m = c.args.self.now in
+    let mid' = c.journal_small-answer.new.self in
+    let m' = record mid' { tables = c.take_completed.new.self } in
+    let xid = c.args.xid.now in
+    let a = c.journal_small-answer.result in
+    let free : c.rollback_refusal.result ≡ None = search rules in
+    let none : c.heuristic_refusal.result ≡ None = search rules in
+    let settled_ : c.is_settled.result ≡ true = search rules in
+    let body = spelled (logged.Completed c.copied.result Rollback) in
+    let same : c.journal_small-answer.new.self.tables ≡ m.tables = c.journal_small-answer.ensures.tables in
+    rw c.appended.ensures
+    (takes_appending _ _ _ _ _ _ m m mid' m' (λ (s : State). rollback_turn s xid) body a _ _ (served_by XAER_RMERR a) refl refl refl c.journal_small-answer.ensures refl refl refl
+    (λ s whole is_up.
+    let st = tables_up _ _ _ _ m s is_up whole in
+    let passes = sym free ∙ c.rollback_refusal.ensures.value s st in
+    let through = sym none ∙ c.heuristic_refusal.ensures.value s st in
+    let settled = c.is_settled.ensures s st ∙ settled_ in
+    let doubt : known_as s xid ≡ InDoubt = settled_doubtful s xid settled through in
+    let r = logged.Completed xid Rollback in
+    small_appends (kept m) (kept m') s (rollback_turn s xid) r XAER_RMERR body a st (passes_both s (rollback_refusal (known_as s xid) (is_associated s xid)) (heuristic_refusal (known_as s xid)) (roll_back_turn s xid (known_as s xid)) passes through ∙ doubt_rolls s xid (known_as s xid) doubt) (ap (λ x. spelled (logged.Completed x Rollback)) (sym c.copied.ensures)) (doubtful_fits s xid (length (spelled r)) st.up whole.roomy doubt (completed xid Rollback c.requires.name))
+    (λ e recoverable. c.take_completed.ensures.kept e s (s.end + size_of r) (subst (λ (k : Tables). StandsFor (kept_of k) s) (sym same) st) (doubtful_known s xid doubt) recoverable)
+    (λ e. ap kept_of (c.take_completed.ensures.left e ∙ same))))

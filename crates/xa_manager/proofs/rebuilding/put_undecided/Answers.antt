@@ -1,0 +1,20 @@
+use Rattle.std.proofs.Common.{◌≡◌, ℕ, List, [], map, ap, refl, subst, sym, None}
+use Rattle.std.specs.Map.Iter.{deref_pair}
+use Rattle.std.proofs.lemmas.Map.Iter.{rest_more}
+use Rattle.mv_rules.specs.Restoring.{with_prepared}
+use Rattle.xa_recovery.specs.declared.durable.InDoubt.{InDoubt}
+use Rattle.xa_recovery.specs.Durable.{as_prepared}
+use Rattle.xa_manager.proofs.NewTables.{added_more, added_all}
+use Rattle.xa_manager.proofs.rebuilding.put_undecided.Goals as goal
+
+pub loop-timestamp-preserved : goal.loop-timestamp-preserved
+loop-timestamp-preserved c =
+    let e : ℕ × InDoubt = (c.in-Some.timestamp.now, c.in-Some.branch.now) in
+    let more = rest_more deref_pair c.loop-timestamp.timestamp-iterator c.next.new.self c.next.result (c.in-Some.timestamp, c.in-Some.branch) c.in-Some.is c.next.ensures.steps in
+    λ older new start.
+    added_more with_prepared (λ p. p.timestamp) older (map as_prepared c.args.prepared.now.entries) (map as_prepared c.next.new.self) (map as_prepared c.loop-timestamp.timestamp-iterator) (as_prepared e) None c.in-Some.branch.now.writes c.loop-timestamp.records c.restore.new.self
+    (ap (λ es. map as_prepared es) more) (λ w. refl) (rw (← c.as_slice.ensures) c.in_ok-restore.ensures) (c.loop-timestamp.invariant older new start)
+
+pub returns : goal.returns
+returns c = λ older new start.
+    added_all with_prepared (λ p. p.timestamp) older (map as_prepared c.args.prepared.now.entries) (map as_prepared c.loop-timestamp.timestamp-iterator) c.loop-timestamp.records (ap (λ es. map as_prepared es) c.in-None.ensures.steps.0) (c.loop-timestamp.invariant older new start)

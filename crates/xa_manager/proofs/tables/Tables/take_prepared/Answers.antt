@@ -1,0 +1,18 @@
+use Rattle.std.proofs.Common.{refl}
+use Rattle.xa_model.specs.Branches.{prepared}
+use Rattle.xa_assoc.proofs.Follows.{unmoved}
+use Rattle.xa_manager.specs.Stands.{ending}
+use Rattle.xa_manager.proofs.Finishing.{moved_end}
+use Rattle.xa_manager.proofs.Histories.{prepared_records}
+use Rattle.xa_manager.proofs.tables.Tables.take_prepared.Goals as goal
+
+pub returns-in-Kept-clause-kept : goal.returns-in-Kept-clause-kept
+returns-in-Kept-clause-kept c = λ is s end st recoverable. record {
+  name = st.name;
+  log_bytes = st.log_bytes;
+  up = st.up;
+  sessions = unmoved c.args.self.now.sessions s (ending (prepared s c.args.xid.now) end) refl refl st.sessions;
+  branches = moved_end c.prepare.new.self (prepared s c.args.xid.now) end (c.prepare.ensures s st.recoverable.sound st.branches);
+  records = prepared_records c.args.xid.now s c.args.self.now.records st.records;
+  recoverable = recoverable;
+}

@@ -1,0 +1,79 @@
+-- What opening a manager comes to.
+use Rattle.std.specs.Prelude.{◌≡◌, ◌≢◌, ◌⊎◌, ◌≤◌, ◌<◌, ◌+◌, ℕ, Bool, true, false, List, [], map, length, Ok, Err, Some, None, IsSomeAnd}
+use Rattle.std.specs.List.{AllByRecursion}
+use Rattle.xa_record.specs.Spelling.{spelled}
+use Rattle.xa_record.specs.declared.record.Record.{Record}
+use Rattle.xa_log.specs.Pair.{pair_fault, logged_pair}
+use Rattle.xa_log.specs.TwoFiles.{Pair, NoStray}
+use Rattle.xa_log.specs.declared.fault.OpenFault.{OpenFault}
+use Rattle.xa_log.specs.declared.fault.OpenFault.TheVariants as log
+use Rattle.xa_log.specs.declared.log.Log.{Log}
+use Rattle.xa_model.specs.declared.outcome.Outcome.TheVariants.{Reread}
+use Rattle.xa_model.specs.declared.outcome.Appending.TheVariants.{Kept}
+use Rattle.xa_model.specs.State.{State}
+use Rattle.xa_model.specs.Durable.{Durable}
+use Rattle.xa_model.specs.Fold.{fold, snapshot, sizes}
+use Rattle.xa_model.specs.Logging.{log_room}
+use Rattle.xa_model.specs.Restarting.{most_boots}
+use Rattle.xa_model.specs.Restored.{IsRestored}
+use Rattle.xa_model.specs.Turn.{Reopened}
+use Rattle.xa_model.specs.Step.{step}
+use Rattle.xa_recovery.specs.Log.{AreBodiesOf, LogRebuilt}
+use Rattle.xa_recovery.specs.declared.log_fault.LogFault.TheVariants as rebuilt
+use Rattle.xa_manager.specs.declared.fault.ManagerFault.{ManagerFault}
+use Rattle.xa_manager.specs.declared.fault.ManagerFault.TheVariants as fault
+use Rattle.xa_manager.specs.declared.manager.Manager.{Manager}
+use Rattle.xa_manager.specs.LogStands.{Trusts}
+use Rattle.xa_manager.specs.Managed.{ManagerStandsFor}
+
+-- settings out of their limits
+abbrev pub IsBadSetting : List ℕ → ℕ → Type 0
+IsBadSetting name log_bytes = (255 < length name) ⊎ (log_bytes < 64) ⊎ (1073741824 < log_bytes)
+
+-- the current file has these bodies, and the other one comes behind it
+abbrev pub HasBodies : {D : Type 0} → (List ℕ → ℕ → List ℕ → List ℕ → Type 0) → (D → List ℕ) → (D → List ℕ → Type 0) → List (List ℕ) → Log D → Type 0
+HasBodies tears seen may_leave bodies log = (stood : List (List ℕ)) × Pair tears seen may_leave bodies stood log
+
+-- why two files gave no log
+abbrev pub LogRefused : OpenFault → ℕ → List ℕ → List ℕ → Type 0
+LogRefused log.Device most first second = Unit {0}
+LogRefused log.Memory most first second = Unit {0}
+LogRefused e most first second = (most < 12) ⊎ (((first ≢ []) ⊎ (second ≢ [])) × (pair_fault most first second ≡ Some e))
+
+-- the bodies are records that come to this
+pub record ComeTo (bodies : List (List ℕ)) (d : Durable) : Type 0 where
+  pub records : List Record
+  pub bodies_are : AreBodiesOf records bodies
+  pub folded : fold records ≡ Ok d
+
+-- whether a log of so many bytes has room for the boot of this number, with what lasts
+abbrev pub has_boot_room : ℕ → Durable → ℕ → Bool
+has_boot_room log_bytes d boot = log_room log_bytes (8 + sizes (snapshot d boot)) (length d.prepared) (length d.decided)
+
+-- A boot began with what these bodies come to. The manager stands for every state that a restart or an opening leads to from
+-- there, with these settings and without sessions: committed branches of it may have reads, and writes that later ones wrote
+-- over.
+pub record HasBegun {D : Type 0} (honest : Type 0) (tears : List ℕ → ℕ → List ℕ → List ℕ → Type 0) (seen : D → List ℕ) (may_leave : D → List ℕ → Type 0) (bodies : List (List ℕ)) (name : List ℕ) (log_bytes : ℕ) (m : Manager D) : Type 0 where
+  pub durable : Durable
+  pub comes : ComeTo bodies durable
+  pub boots : durable.boot < most_boots
+  pub room : has_boot_room log_bytes durable (durable.boot + 1) ≡ true
+  pub stands : (s : State) → IsRestored durable (durable.boot + 1) s → s.name ≡ name → s.log_bytes ≡ log_bytes → s.sessions ≡ [] → ManagerStandsFor honest tears seen may_leave m s
+
+-- why no boot began with these bodies
+abbrev pub BootRefused : ManagerFault → List (List ℕ) → ℕ → Type 0
+BootRefused (fault.Malformed i) bodies log_bytes = LogRebuilt bodies (Err (rebuilt.Malformed i))
+BootRefused (fault.Order i) bodies log_bytes = LogRebuilt bodies (Err (rebuilt.Order i))
+BootRefused fault.Boots bodies log_bytes = (d : Durable) × ComeTo bodies d × (most_boots ≤ d.boot)
+BootRefused fault.LogFull bodies log_bytes = (d : Durable) × ComeTo bodies d × (d.boot < most_boots) × (has_boot_room log_bytes d (d.boot + 1) ≡ false)
+BootRefused fault.Memory bodies log_bytes = Unit {0}
+BootRefused fault.Device bodies log_bytes = Unit {0}
+BootRefused _ bodies log_bytes = ⊥
+
+-- Why two files gave no manager. The faults are looked for in their order: what is said of the records is said of files that
+-- are a log, or are empty.
+abbrev pub OpenRefused : ManagerFault → List ℕ → ℕ → List ℕ → List ℕ → Type 0
+OpenRefused fault.Setting name log_bytes first second = IsBadSetting name log_bytes
+OpenRefused (fault.Log e) name log_bytes first second = LogRefused e log_bytes first second
+OpenRefused e name log_bytes first second =
+    (((first ≡ []) × (second ≡ [])) ⊎ (pair_fault log_bytes first second ≡ None)) × BootRefused e (logged_pair first second) log_bytes

@@ -1,0 +1,38 @@
+-- What the tables of a new boot are made of, branch by branch.
+use Rattle.std.specs.Prelude.{◌≡◌, ◌<◌, ◌++◌, ℕ, false, List, [], ◌∷◌, map, fold}
+use Rattle.std.specs.List.{AllByRecursion}
+use Rattle.mv_chain.specs.History.{Written}
+use Rattle.mv_rules.specs.declared.records.Records.{Records}
+use Rattle.mv_rules.specs.Records.{StandsFor as RecordsStandFor}
+use Rattle.xa_model.specs.State.{Decided}
+use Rattle.xa_model.specs.Durable.{PreparedBranch, Pairwise, named_apart, named_before, is_prepared}
+use Rattle.xa_branch.specs.declared.branches.Branches.{Branches}
+use Rattle.xa_branch.specs.Restored.{HasRestored}
+
+-- timestamps above 0, each once, and no write has one of them
+abbrev pub AreNew : List ℕ → List Written → Type 0
+AreNew [] writes = Unit {0}
+AreNew (t ∷ ts) writes = (0 < t) × AllByRecursion (λ u. u ≡ t → ⊥) ts × AllByRecursion (λ w. w.timestamp ≡ t → ⊥) writes × AreNew ts writes
+
+-- nobody has read, and these writes stand
+abbrev pub HaveWrites : List Written → Records → Type 0
+HaveWrites writes m = RecordsStandFor (record { low = 0; writes = writes; reads = [] }) m
+
+-- Branches that are added in turn: of those that are left, each is new.
+pub record AddedUpto {B : Type 0} (add : List Written → B → List Written) (time : B → ℕ) (older : List Written) (all left : List B) (m : Records) : Type 0 where
+  pub writes : List Written
+  pub leads : fold add writes left ≡ fold add older all
+  pub new : AreNew (map time left) writes
+  pub stands : HaveWrites writes m
+
+-- the branches in doubt up to one of them are known
+pub record PreparedUpto (boot : ℕ) (all left : List PreparedBranch) (m : Branches) : Type 0 where
+  pub done : List PreparedBranch
+  pub split : done ++ left ≡ all
+  pub stands : HasRestored m boot done []
+
+-- and what the operator completed, up to one of them
+pub record CompletedUpto (boot : ℕ) (ps : List PreparedBranch) (all left : List Decided) (m : Branches) : Type 0 where
+  pub done : List Decided
+  pub split : done ++ left ≡ all
+  pub stands : HasRestored m boot ps done

@@ -1,0 +1,54 @@
+-- What reading the log again finds, and what the new boot begins with.
+use Rattle.std.specs.Prelude.{◌≡◌, ◌⊎◌, ◌+◌, ◌<◌, ◌≤◌, ℕ, Bool, true, false, List, map, Option, Some, None, Result, Ok, Err}
+use Rattle.std.specs.List.{AllByRecursion}
+use Rattle.xa_record.specs.Limits.{IsRecord}
+use Rattle.xa_record.specs.Spelling.{spelled}
+use Rattle.xa_record.specs.declared.record.Record.{Record}
+use Rattle.xa_log.specs.Reading.{bodies_of}
+use Rattle.xa_log.specs.declared.log.Log.{Log}
+use Rattle.xa_model.specs.State.{State}
+use Rattle.xa_model.specs.Durable.{Durable}
+use Rattle.xa_model.specs.Fold.{snapshot}
+use Rattle.xa_model.specs.Backing.{Backs}
+use Rattle.xa_model.specs.Restarting.{missed, survived, most_boots}
+use Rattle.xa_model.specs.Restored.{IsRestored}
+use Rattle.mv_rules.specs.Records.{StandsFor as RecordsStandFor}
+use Rattle.mv_rules.specs.Ties.{history_of}
+use Rattle.xa_branch.specs.Branches.{BranchesStandFor}
+use Rattle.xa_recovery.specs.Log.{LogRebuilt}
+use Rattle.xa_recovery.specs.declared.log_fault.LogFault.{LogFault}
+use Rattle.xa_manager.specs.declared.boots.NextBoot.{NextBoot}
+use Rattle.xa_manager.specs.declared.boots.Planned.{Planned}
+use Rattle.xa_manager.specs.LogStands.{HasRecords}
+
+-- what a state is once its last record's fate is known: it survived, or it didn't
+abbrev pub IsFate : Bool → State → State → Type 0
+IsFate true s t = (r : Record) × (s.open_record ≡ Some r) × (t ≡ survived s r)
+IsFate false s t = t ≡ missed s
+
+-- the log was read again: it has these bodies, and its records stand behind the state whose last record's fate is known
+pub record Found {D : Type 0} (tears : List ℕ → ℕ → List ℕ → List ℕ → Type 0) (seen : D → List ℕ) (may_leave : D → List ℕ → Type 0) (bodies : List (List ℕ)) (log : Log D) (s : State) : Type 0 where
+  pub state : State
+  pub fate : IsFate true s state ⊎ IsFate false s state
+  pub records : List Record
+  pub spelled_as : bodies ≡ map spelled records
+  pub backs : Backs records state
+  pub has : HasRecords tears seen may_leave records log
+  pub end : log.end ≡ state.end
+  pub alive : log.lost ≡ false
+
+-- the boot of this number, for what lasted
+pub record IsReady (d : Durable) (boot : ℕ) (next : NextBoot) : Type 0 where
+  pub branches : (s : State) → IsRestored d boot s → BranchesStandFor next.branches s
+  pub records : (s : State) → IsRestored d boot s → RecordsStandFor (history_of s) next.records
+  pub bodies : bodies_of next.bodies.items ≡ map spelled (snapshot d boot)
+
+-- the boot after those that were logged, unless their numbers are used up
+abbrev pub IsNext : Durable → Option NextBoot → Type 0
+IsNext d None = most_boots ≤ d.boot
+IsNext d (Some next) = (next.boot ≡ d.boot + 1) × (d.boot < most_boots) × IsReady d (d.boot + 1) next × AllByRecursion IsRecord (snapshot d (d.boot + 1))
+
+-- what the bodies of a log come to, and what the next boot begins with
+abbrev pub Plans : List (List ℕ) → Result Planned LogFault → Type 0
+Plans bodies (Ok p) = LogRebuilt bodies (Ok p.durable) × IsNext p.durable p.next
+Plans bodies (Err e) = LogRebuilt bodies (Err e)

@@ -1,0 +1,53 @@
+ghost use Rattle.std.specs.Prelude.{◌≡◌, ◌+◌, ◌<◌, ◌≤◌, map, IfOk};
+ghost use Rattle.xa_manager.specs.Rereading.{IsReady, Plans};
+
+use crate::rebuilding::{branches_of, records_of};
+use mv_rules::Records;
+use std::alloc::{AllocError, Global};
+use xa_branch::Branches;
+use xa_recovery::{Durable, LogFault, next_boot, rebuild_log, snapshot};
+
+/// A boot that is ready to begin: its number, its tables, and the bodies that its log begins with.
+#[derive(Drop)]
+pub struct NextBoot {
+    pub boot: u32,
+    pub branches: Branches,
+    pub records: Records,
+    pub bodies: Vec<Vec<u8>>,
+}
+
+/// What a log came to, and the boot after those that it has, unless their numbers are used up.
+#[derive(Drop)]
+pub struct Planned {
+    pub durable: Durable,
+    pub next: Option<NextBoot>,
+}
+
+/// Makes ready what the boot of this number begins with.
+fn ready(alloc: Global, durable: &Durable, boot: u32) -> Result<NextBoot, AllocError>
+    ensures ready { IfOk result (IsReady durable.now boot) }
+    ensures boot { IfOk result (λ next. next.boot ≡ boot) }
+{
+    let branches = branches_of(alloc, durable, boot)?;
+    let records = records_of(alloc, durable)?;
+    let bodies = snapshot(alloc, durable, boot)?;
+    Ok(NextBoot {
+        boot,
+        branches,
+        records,
+        bodies,
+    })
+}
+
+/// What the bodies of a log come to, with the next boot made ready. All memory of a restart and of an opening is taken here,
+/// once the log was read.
+pub(crate) fn plan(alloc: Global, bodies: &[Vec<u8>]) -> Result<Planned, LogFault>
+    ensures { Plans (map (λ b. b.items) bodies.now) result }
+{
+    let durable = rebuild_log(alloc, bodies)?;
+    let next = match next_boot(&durable) {
+        Some(boot) => Some(ready(alloc, &durable, boot)?),
+        None => None,
+    };
+    Ok(Planned { durable, next })
+}

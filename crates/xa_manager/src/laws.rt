@@ -1,0 +1,31 @@
+//! What can be said of a manager's two files, and of managers on disks in memory.
+ghost use Rattle.xa_manager.specs.CrashLaws.{ReadLeaves, ReadStands, CrashLeaves, FilesLast, FilesLastAsFated};
+ghost use Rattle.xa_manager.specs.LogStands.{Trusts};
+
+use xa_disk::{Disk, MemDisk};
+
+/// What a read gives of a log's two files is a log of the records of the state that it stands behind.
+pub fn read_leaves<D: Disk>()
+    ensures { ReadLeaves D.honest D.tears D.seen D.may_leave }
+{}
+
+/// So it is of a manager's log, for each state that the manager stands for.
+pub fn read_stands<D: Disk>()
+    ensures { ReadStands D.honest D.tears D.seen D.may_leave }
+{}
+
+/// So is what a crash leaves of the two files, where nothing is left to chance.
+pub fn crash_leaves<D: Disk>()
+    ensures { CrashLeaves D.tears D.seen D.may_leave }
+{}
+
+/// The records of such files come to what lasts of the state: where the fate of a record is unknown, with it or without it.
+pub fn files_last()
+    ensures settled { FilesLast }
+    ensures fated { FilesLastAsFated }
+{}
+
+/// Disks in memory meet the premises on a type of disks.
+pub fn memory_is_trusted()
+    ensures { Trusts (⟦<MemDisk as Disk>⟧.honest) (⟦<MemDisk as Disk>⟧.tears) }
+{}

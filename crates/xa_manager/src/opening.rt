@@ -1,0 +1,134 @@
+ghost use Rattle.std.specs.Prelude.{◌≡◌, ◌≤◌, ◌<◌, ◌⊎◌, ◌↔◌, Bool, List, ℕ, [], IfOk, IfErr, OnOk, IsErrOf, IsSomeAnd, Some, None, length};
+ghost use Rattle.xa_log.specs.Pair.{pair_fault, logged_pair};
+ghost use Rattle.xa_log.specs.Reading.{bodies_of};
+ghost use Rattle.xa_log.specs.TwoFiles.{NoStray};
+ghost use Rattle.xa_model.specs.declared.outcome.Outcome.TheVariants.{Reread};
+ghost use Rattle.xa_model.specs.declared.outcome.Appending.TheVariants.{Kept};
+ghost use Rattle.xa_model.specs.State.{State};
+ghost use Rattle.xa_model.specs.Loggable.{IsRecoverable};
+ghost use Rattle.xa_model.specs.Turn.{Reopened};
+ghost use Rattle.xa_model.specs.Step.{step};
+ghost use Rattle.xa_model.specs.History.{fresh};
+ghost use Rattle.xa_manager.specs.Files.{FilesStandFor};
+ghost use Rattle.xa_manager.specs.LogStands.{Trusts};
+ghost use Rattle.xa_manager.specs.Managed.{ManagerStandsFor};
+ghost use Rattle.xa_manager.specs.Opening.{IsBadSetting, HasBodies, HasBegun, LogRefused, BootRefused, OpenRefused};
+
+use crate::boots::{NextBoot, Planned, plan};
+use crate::fault::ManagerFault;
+use crate::first_records::{begins_with_room, log_first};
+use crate::manager::Manager;
+use crate::settings::Settings;
+use crate::tables::Tables;
+use std::alloc::Global;
+use xa_assoc::Sessions;
+use xa_codes::Bytes;
+use xa_disk::Disk;
+use xa_log::{Appended, Log, OpenFault};
+use xa_model::Outcome;
+
+/// The longest name of a manager, in bytes.
+const MOST_NAME: usize = 255;
+/// The least size of a log, in bytes.
+const LEAST_LOG: u64 = 64;
+/// The greatest size of a log, in bytes.
+const MOST_LOG: u64 = 1 << 30;
+
+impl<D: Disk + Drop> Manager<D> {
+    /// Opens a manager on two disks: where both are empty it makes a log, and else it reads the log that they have. A new boot
+    /// begins with what lasts of it. A fault gives no disk back. Faults are looked for in this order: `Setting`, the log's own,
+    /// `Memory`, `Malformed`, `Order`, `Boots`, `LogFull`, `Device`.
+    pub fn open(
+        alloc: Global,
+        first: D,
+        second: D,
+        settings: Settings,
+    ) -> Result<Manager<D>, ManagerFault>
+        ensures setting { IsErrOf result ManagerFault.Setting ↔ IsBadSetting settings.name settings.log_bytes }
+        ensures begun { D.honest → NoStray (D.seen first) (D.seen second) → IfOk result (HasBegun D.honest D.tears D.seen D.may_leave (logged_pair (D.seen first) (D.seen second)) settings.name settings.log_bytes) }
+        // On empty disks it is a new manager; on files that stand for a state it stands for that state's opening.
+        ensures fresh { Trusts D.honest D.tears → D.seen first ≡ [] → D.seen second ≡ [] → IfOk result (λ m. ManagerStandsFor D.honest D.tears D.seen D.may_leave m (fresh settings.name settings.log_bytes)) }
+        ensures reopens { Trusts D.honest D.tears → (s : State) → IsRecoverable s → FilesStandFor settings.log_bytes (D.seen first) (D.seen second) s
+            → IfOk result (λ m. (survived : Bool) × IsSomeAnd (step s (Reopened settings.name settings.log_bytes) (Reread survived (Some Kept))) (λ a. ManagerStandsFor D.honest D.tears D.seen D.may_leave m a.after)) }
+        ensures refused { D.honest → IfErr result (λ e. OpenRefused e settings.name settings.log_bytes (D.seen first) (D.seen second)) }
+    {
+        let Settings { name, log_bytes } = settings;
+        if name.as_slice().len() > MOST_NAME || log_bytes < LEAST_LOG || log_bytes > MOST_LOG {
+            return Err(ManagerFault::Setting);
+        }
+        match open_log(alloc, first, second, log_bytes) {
+            Ok((log, bodies)) => begin(alloc, log, bodies.as_slice(), name, log_bytes),
+            Err(fault) => Err(ManagerFault::Log(fault)),
+        }
+    }
+}
+
+/// Begins a boot with what the bodies of a log come to.
+fn begin<D: Disk + Drop>(
+    alloc: Global,
+    mut log: Log<D>,
+    bodies: &[Vec<u8>],
+    name: Bytes,
+    log_bytes: u64,
+) -> Result<Manager<D>, ManagerFault>
+    ensures begun { D.honest → HasBodies D.tears D.seen D.may_leave (bodies_of bodies.now) log → log.log_bytes ≡ log_bytes
+        → IfOk result (HasBegun D.honest D.tears D.seen D.may_leave (bodies_of bodies.now) name log_bytes) }
+    ensures refused { IfErr result (λ e. BootRefused e (bodies_of bodies.now) log_bytes) }
+{
+    let Planned { durable, next } = plan(alloc, bodies)?;
+    let Some(next) = next else {
+        return Err(ManagerFault::Boots);
+    };
+    let NextBoot {
+        branches,
+        records,
+        bodies: first,
+        ..
+    } = next;
+    let prepared = durable.prepared().len() as u64;
+    let completed = durable.decided().len() as u64;
+    if !begins_with_room(&first, prepared, completed, log_bytes) {
+        return Err(ManagerFault::LogFull);
+    }
+    match log_first(&mut log, bodies.is_empty(), &first) {
+        Appended::Kept => {}
+        Appended::Refused | Appended::Lost | Appended::Full => return Err(ManagerFault::Device),
+    }
+    Ok(Manager {
+        tables: Tables {
+            alloc,
+            name,
+            log_bytes,
+            sessions: Sessions::new(alloc),
+            branches,
+            records,
+        },
+        log,
+        up: true,
+        doubt: None,
+        outcome: Outcome::Quiet,
+    })
+}
+
+/// The log of two disks with its bodies: makes one where both disks are empty, and else opens the one that they have. Both
+/// lengths are asked first.
+pub(crate) fn open_log<D: Disk + Drop>(
+    alloc: Global,
+    mut first: D,
+    mut second: D,
+    log_bytes: u64,
+) -> Result<(Log<D>, Vec<Vec<u8>>), OpenFault>
+    ensures logged { D.honest → IfOk result (λ r. logged_pair (D.seen first) (D.seen second) ≡ bodies_of r.1.items) }
+    ensures log { D.honest → IfOk result (λ r. NoStray (D.seen first) (D.seen second) → HasBodies D.tears D.seen D.may_leave (bodies_of r.1.items) r.0) }
+    ensures whole { D.honest → OnOk result (((D.seen first ≡ []) × (D.seen second ≡ [])) ⊎ (pair_fault log_bytes (D.seen first) (D.seen second) ≡ None)) }
+    ensures settings { IfOk result (λ r. r.0.log_bytes ≡ log_bytes) }
+    ensures refused { D.honest → IfErr result (λ e. LogRefused e log_bytes (D.seen first) (D.seen second)) }
+{
+    let len = first.length()?;
+    let other_len = second.length()?;
+    if len == 0 && other_len == 0 {
+        let log = Log::create(alloc, first, second, log_bytes)?;
+        return Ok((log, Vec::new(alloc)));
+    }
+    Log::open(alloc, first, second, log_bytes)
+}

@@ -1,0 +1,47 @@
+ghost use Rattle.std.specs.Prelude.{◌≡◌, ◌≤◌, IfOk, OnErr, length, false};
+ghost use Rattle.xa_model.specs.Recovering.{listing, recover_by};
+ghost use Rattle.xa_assoc.specs.Refusals.{is_memory};
+ghost use Rattle.xa_manager.specs.Kept.{kept_of};
+ghost use Rattle.xa_manager.specs.Stands.{Follows, Stays};
+
+use crate::early::MOST_LISTED;
+use crate::tables::Tables;
+use std::alloc::AllocError;
+use xa_codes::{Code, Detail};
+use xa_frame::{Body, Reply, Xids};
+use xa_xid::Xid;
+
+/// The row of recoveries.
+impl Tables {
+    /// Lists the next of the branches that are prepared or were completed by the operator, at most so many.
+    pub fn recover(&mut self, session: u64, flags: u32, count: u32) -> Result<Reply, AllocError>
+        requires { count ≤ 256 }
+        ensures ok { IfOk result (λ r. Follows (kept_of self.old) (λ s. recover_by s session flags count) r (kept_of self.new)) }
+        ensures err { OnErr result (Stays (kept_of self.old) (kept_of self.new)) }
+    {
+        let cursor = match self.sessions.recover_from(session, flags) {
+            Ok(cursor) => cursor,
+            Err(reply) => return Ok(reply),
+        };
+        let xids = self
+            .branches
+            .list_after(self.alloc, cursor.as_ref(), count as usize)?;
+        self.sessions
+            .move_scan(session, flags, cursor, xids.as_slice());
+        Ok(listing(xids))
+    }
+}
+
+/// A reply that lists at most 256 XIDs. Its code says how many.
+fn listing(xids: Vec<Xid>) -> Reply
+    ensures value { length xids.items ≤ 256 → result ≡ listing xids.items }
+    ensures served { is_memory result.detail ≡ false }
+{
+    let code = xids.len().min(MOST_LISTED as usize) as Code;
+    Reply {
+        code,
+        detail: Detail::Nothing,
+        place: 0,
+        body: Body::Xids(Xids::new(xids)),
+    }
+}

@@ -1,0 +1,243 @@
+ghost use Rattle.std.specs.Prelude.{◌≡◌, ◌⊎◌, ◌≤◌, ◌+◌, ℕ, List, length, nat_lt, true, false, None, Some, Ok, IfOk, IfErr, OnOk, OnErr, IsSomeAnd, MatchBool};
+ghost use Rattle.std.specs.List.{AllByRecursion};
+ghost use Rattle.xa_assoc.specs.Refusals.{is_memory};
+ghost use Rattle.xa_codes.specs.declared.codes.TheConstants.{XAER_RMFAIL};
+ghost use Rattle.xa_record.specs.declared.record.Record.{Record};
+ghost use Rattle.xa_log.specs.Answers.{CountsDeviceOf};
+ghost use Rattle.xa_log.specs.Chain.{IsBody};
+ghost use Rattle.xa_log.specs.Reading.{bodies_of};
+ghost use Rattle.xa_log.specs.declared.log.Log.{Log};
+ghost use Rattle.xa_log.specs.TwoFiles.{first_of, second_of};
+ghost use Rattle.xa_model.specs.Answer.{detailed};
+ghost use Rattle.xa_model.specs.Backing.{Backs};
+ghost use Rattle.xa_model.specs.Durable.{durable};
+ghost use Rattle.xa_model.specs.Loggable.{IsRecoverable};
+ghost use Rattle.xa_model.specs.Restarting.{restart_turn, most_boots};
+ghost use Rattle.xa_model.specs.State.{State};
+ghost use Rattle.xa_model.specs.Turn.{taken};
+ghost use Rattle.xa_recovery.specs.Log.{LogRebuilt};
+ghost use Rattle.xa_manager.specs.Answered.{StaysFor, HasCalled, NoneRises};
+ghost use Rattle.xa_manager.specs.LogStands.{Trusts, HasRecords};
+ghost use Rattle.xa_manager.specs.Managed.{ManagerStandsFor, Doubts};
+ghost use Rattle.xa_manager.specs.Turns.{HasRestarted};
+ghost use Rattle.xa_manager.specs.Rereading.{IsFate, Found, IsNext, IsReady};
+
+use crate::boots::{NextBoot, Planned, plan};
+use crate::done::Done;
+use crate::doubt::Doubt;
+use crate::manager::Manager;
+use crate::replies::{detailed, plain};
+use std::alloc::AllocError;
+use xa_codes::{Detail, XA_OK, XAER_RMFAIL};
+use xa_disk::Disk;
+use xa_frame::Reply;
+use xa_log::{Appended, OpenFault};
+use xa_model::{Appending, Outcome};
+use xa_recovery::LogFault;
+
+impl<D: Disk> Manager<D> {
+    /// Reads the log again. Whatever the manager stood for it still stands for, unless it was up and the log isn't what it was.
+    fn look(&mut self) -> Result<Vec<Vec<u8>>, OpenFault>
+        ensures err { OnErr result (StaysFor D.honest D.tears D.seen D.may_leave self.old self.new) }
+        ensures stays { OnOk result ((self.old.up ≡ true → self.new.log.end ≡ self.old.log.end) → StaysFor D.honest D.tears D.seen D.may_leave self.old self.new) }
+        ensures ends { Trusts D.honest D.tears → OnOk result ((s : State) → ManagerStandsFor D.honest D.tears D.seen D.may_leave self.old s → self.old.up ≡ true → self.new.log.end ≡ self.old.log.end) }
+        ensures found { Trusts D.honest D.tears → IfOk result (λ v. (s : State) → ManagerStandsFor D.honest D.tears D.seen D.may_leave self.old s → Found D.tears D.seen D.may_leave (bodies_of v.items) self.new.log s) }
+        ensures readable { Trusts D.honest D.tears → IfErr result (λ e. (s : State) → ManagerStandsFor D.honest D.tears D.seen D.may_leave self.old s → (e ≡ OpenFault.Device) ⊎ (e ≡ OpenFault.Memory)) }
+        ensures count { CountsDeviceOf result (D.failures (first_of self.old.log)) (D.failures (first_of self.new.log)) (D.failures (second_of self.old.log)) (D.failures (second_of self.new.log)) }
+        ensures alive { OnOk result (self.new.log.lost ≡ false) }
+        ensures tables { self.new.tables ≡ self.old.tables }
+        ensures up { self.new.up ≡ self.old.up }
+        ensures doubt { self.new.doubt ≡ self.old.doubt }
+        ensures outcome { self.new.outcome ≡ self.old.outcome }
+    {
+        self.log.rescan()
+    }
+
+    /// Whether the record that was lost stands in the log that was read again, which came to this boot.
+    fn has_survived(&self, boot: u32) -> bool
+        ensures { (s : State) (bodies : List (List ℕ)) (f : Found D.tears D.seen D.may_leave bodies self.now.log s) → Doubts self.now.doubt s → IsRecoverable s → boot ≡ f.state.logged_boot → IsFate result s f.state }
+    {
+        match self.doubt {
+            None => false,
+            Some(Doubt::Boot(last)) => boot == last,
+            Some(Doubt::Record(end)) => self.log.end() != end,
+        }
+    }
+
+    /// Nothing is to be appended: the manager is down.
+    fn stopped(&mut self, survived: bool, detail: Detail) -> Done
+        ensures reply { result.reply ≡ detailed XAER_RMFAIL detail }
+        ensures told { result.outcome ≡ Outcome.Reread survived None }
+        ensures down { self.new ≡ record self.old { up = false; doubt = None } }
+    {
+        self.up = false;
+        self.doubt = None;
+        Done {
+            reply: detailed(XAER_RMFAIL, detail),
+            outcome: Outcome::Reread {
+                survived,
+                appended: None,
+            },
+        }
+    }
+
+    /// The boot that was made ready is logged, and begins.
+    fn log_boot(&mut self, survived: bool, next: NextBoot) -> Done
+        requires some { 1 ≤ length next.bodies.items }
+        requires sizes { AllByRecursion IsBody (bodies_of next.bodies.items) }
+        ensures turn { (s t : State) (rs : List Record) → ManagerStandsFor D.honest D.tears D.seen D.may_leave self.old s → Trusts D.honest D.tears → IsFate survived s t → Backs rs t
+            → HasRecords D.tears D.seen D.may_leave rs self.old.log → self.old.log.lost ≡ false → nat_lt t.logged_boot most_boots ≡ true → next.boot ≡ t.logged_boot + 1 → IsReady (durable t) (t.logged_boot + 1) next
+            → IsSomeAnd (taken (restart_turn s) result.outcome) (λ a. (a.reply ≡ result.reply) × ManagerStandsFor D.honest D.tears D.seen D.may_leave self.new a.after) }
+        ensures outcome { self.new.outcome ≡ self.old.outcome }
+        ensures called { self.old.log.lost ≡ false → (log : Log D) → NoneRises D.failures log self.old.log → HasCalled D.honest D.tears D.failures D.counts result.outcome log self.new.log }
+        ensures served { is_memory result.reply.detail ≡ false }
+    {
+        match self.log.checkpoint(&next.bodies) {
+            Appended::Kept => {
+                self.tables.sessions.restart();
+                self.tables.branches = next.branches;
+                self.tables.records = next.records;
+                self.up = true;
+                self.doubt = None;
+                begun(survived, Appending::Kept, plain(XA_OK))
+            }
+            Appended::Refused => {
+                self.up = false;
+                self.doubt = None;
+                begun(
+                    survived,
+                    Appending::Refused,
+                    detailed(XAER_RMFAIL, Detail::Device),
+                )
+            }
+            Appended::Lost => {
+                self.up = false;
+                self.doubt = Some(Doubt::Boot(next.boot));
+                begun(
+                    survived,
+                    Appending::Lost,
+                    detailed(XAER_RMFAIL, Detail::Device),
+                )
+            }
+            Appended::Full => self.stopped(survived, Detail::LogFull),
+        }
+    }
+
+    /// A new boot begins with what the log came to.
+    fn begin(&mut self, planned: Planned) -> Done
+        requires { IsNext planned.durable planned.next }
+        ensures turn { (s : State) (bodies : List (List ℕ)) → ManagerStandsFor D.honest D.tears D.seen D.may_leave self.old s → Trusts D.honest D.tears
+            → Found D.tears D.seen D.may_leave bodies self.old.log s → LogRebuilt bodies (Ok planned.durable)
+            → IsSomeAnd (taken (restart_turn s) result.outcome) (λ a. (a.reply ≡ result.reply) × ManagerStandsFor D.honest D.tears D.seen D.may_leave self.new a.after) }
+        ensures outcome { self.new.outcome ≡ self.old.outcome }
+        ensures called { self.old.log.lost ≡ false → (log : Log D) → NoneRises D.failures log self.old.log → HasCalled D.honest D.tears D.failures D.counts result.outcome log self.new.log }
+        ensures served { is_memory result.reply.detail ≡ false }
+    {
+        let Planned { durable, next } = planned;
+        let survived = self.has_survived(durable.boot());
+        match next {
+            Some(next) => self.log_boot(survived, next),
+            None => self.stopped(survived, Detail::Limit),
+        }
+    }
+
+    /// The log isn't one that a manager wrote, or not the one that it was.
+    fn unread(&mut self) -> Done
+        ensures reply { result.reply ≡ detailed XAER_RMFAIL Detail.Nothing }
+        ensures told { result.outcome ≡ Outcome.Reread false None }
+        ensures down { self.new ≡ record self.old { up = false } }
+    {
+        self.up = false;
+        Done {
+            reply: detailed(XAER_RMFAIL, Detail::Nothing),
+            outcome: Outcome::Reread {
+                survived: false,
+                appended: None,
+            },
+        }
+    }
+
+    /// The device failed as the log was read.
+    fn failed(&mut self) -> Done
+        ensures reply { result.reply ≡ detailed XAER_RMFAIL Detail.Device }
+        ensures told { result.outcome ≡ Outcome.Failed }
+        ensures down { self.new ≡ record self.old { up = false } }
+    {
+        self.up = false;
+        Done {
+            reply: detailed(XAER_RMFAIL, Detail::Device),
+            outcome: Outcome::Failed,
+        }
+    }
+
+    /// The row of the request Restart.
+    pub(crate) fn asked_restart(&mut self) -> Result<Done, AllocError>
+        ensures turn { IfOk result (λ d. HasRestarted D.honest D.tears D.seen D.may_leave D.failures D.counts self.old d.reply d.outcome self.new) }
+        ensures err { OnErr result (StaysFor D.honest D.tears D.seen D.may_leave self.old self.new) }
+        ensures outcome { self.new.outcome ≡ self.old.outcome }
+    {
+        self.restarted()
+    }
+
+    /// As `restart`, where want of memory is an error.
+    pub(crate) fn restarted(&mut self) -> Result<Done, AllocError>
+        ensures turn { IfOk result (λ d. (s : State) → ManagerStandsFor D.honest D.tears D.seen D.may_leave self.old s → Trusts D.honest D.tears
+            → IsSomeAnd (taken (restart_turn s) d.outcome) (λ a. (a.reply ≡ d.reply) × ManagerStandsFor D.honest D.tears D.seen D.may_leave self.new a.after)) }
+        ensures err { OnErr result (StaysFor D.honest D.tears D.seen D.may_leave self.old self.new) }
+        ensures outcome { self.new.outcome ≡ self.old.outcome }
+        ensures called { IfOk result (λ d. HasCalled D.honest D.tears D.failures D.counts d.outcome self.old.log self.new.log) }
+        ensures served { IfOk result (λ d. is_memory d.reply.detail ≡ false) }
+    {
+        let end = self.log.end();
+        match self.look() {
+            Ok(bodies) => match plan(self.tables.alloc, &bodies) {
+                Ok(planned) => Ok(self.begin(planned)),
+                Err(LogFault::Memory) => {
+                    if self.up && self.log.end() != end {
+                        return Ok(self.unread());
+                    }
+                    Err(AllocError)
+                }
+                Err(LogFault::Malformed(_)) => Ok(self.unread()),
+                Err(LogFault::Order(_)) => Ok(self.unread()),
+            },
+            Err(OpenFault::Memory) => Err(AllocError),
+            Err(OpenFault::Device) => Ok(self.failed()),
+            Err(OpenFault::NotALog) => Ok(self.unread()),
+            Err(OpenFault::TooNew) => Ok(self.unread()),
+            Err(OpenFault::TooLong) => Ok(self.unread()),
+        }
+    }
+
+    /// What the request Restart does, for whoever asks it without a session: the log is read again, and a new boot begins with what
+    /// lasts of it. Sessions stay connected, and opened as they were; branches at work, associations, scans and read marks are
+    /// gone. Where it fails the manager is down. Want of memory changes nothing.
+    pub fn restart(&mut self) -> Reply
+        ensures answered { MatchBool (is_memory result.detail) (StaysFor D.honest D.tears D.seen D.may_leave self.old self.new × (self.new.outcome ≡ self.old.outcome))
+            ((s : State) → ManagerStandsFor D.honest D.tears D.seen D.may_leave self.old s → Trusts D.honest D.tears
+            → IsSomeAnd (taken (restart_turn s) self.new.outcome) (λ a. (a.reply ≡ result) × ManagerStandsFor D.honest D.tears D.seen D.may_leave self.new a.after)) }
+        ensures pinned { is_memory result.detail ≡ true → result ≡ detailed XAER_RMFAIL Detail.Memory }
+        ensures called { is_memory result.detail ≡ false → HasCalled D.honest D.tears D.failures D.counts self.new.outcome self.old.log self.new.log }
+    {
+        match self.restarted() {
+            Ok(done) => {
+                self.outcome = done.outcome;
+                done.reply
+            }
+            Err(_) => detailed(XAER_RMFAIL, Detail::Memory),
+        }
+    }
+}
+
+fn begun(survived: bool, appended: Appending, reply: Reply) -> Done
+    ensures told { result.outcome ≡ Outcome.Reread survived (Some appended) }
+    ensures reply { result.reply ≡ reply }
+{
+    Done {
+        reply,
+        outcome: Outcome::Reread {
+            survived,
+            appended: Some(appended),
+        },
+    }
+}

@@ -1,0 +1,192 @@
+-- Restarts and openings: the records that are settled, and the snapshot of a new boot, stand behind the states that they lead to.
+use Rattle.std.proofs.Common.{◌≡◌, ℕ, ◌+◌, ◌<◌, ◌≤◌, Bool, true, false, not, ◌&&◌, cond, Ok, List, [], ◌∷◌, ◌++◌, Option, Some, None, refl, ap, sym, ◌∙◌, arith}
+use Rattle.std.specs.Prelude.{map, filter, option_map, nat_lt, IfSome}
+use Rattle.std.specs.List.{AllByRecursion}
+use Rattle.std.proofs.lemmas.Bool.{and_parts, ltb-true}
+use Rattle.std.proofs.lemmas.Bool.Decides.{nat_tests}
+use Rattle.xa_codes.specs.declared.codes.TheConstants.{XAER_RMFAIL}
+use Rattle.xa_codes.specs.declared.detail.Detail.TheVariants as detail
+use Rattle.xa_record.specs.declared.record.Record.{Record}
+use Rattle.xa_record.specs.declared.record.Record.TheVariants as logged
+use Rattle.xa_model.specs.State.{State, Session, Association, Branch, Decided, Standing, timestamp_of}
+use Rattle.xa_model.specs.Answer.{answer, detailed, ok}
+use Rattle.xa_model.specs.Sound.{is_working}
+use Rattle.xa_model.specs.Durable.{Durable, CommittedBranch, PreparedBranch, IsDurable, durable, is_past}
+use Rattle.xa_model.specs.Fold.{Reading, read, reading, unread, base, held, known, snapshot}
+use Rattle.xa_model.specs.Turn.{Stops, Opens}
+use Rattle.xa_model.specs.Logging.{applied, down}
+use Rattle.xa_model.specs.Loggable.{IsRecoverable, MayBeLast}
+use Rattle.xa_model.specs.Backing.{Backs, BacksReading, BacksTurn, settled}
+use Rattle.xa_model.specs.Restarting.{missed, survived, lasts, restarted, boot_became, restarting, restart_turn, refused_opening, reopened, reopen_became, reopening, reopen_turn, can_open}
+use Rattle.xa_model.proofs.Inserts.{all_imply}
+use Rattle.xa_model.proofs.Written.{snapshot_is_written}
+use Rattle.xa_model.proofs.Snapshots.{snapshot_folds}
+use Rattle.xa_model.proofs.Readings.{fold_is_durable}
+use Rattle.xa_model.proofs.Restarts.{booted_lasts}
+use Rattle.xa_model.proofs.Newer.{AreUnused}
+use Rattle.xa_model.proofs.Appended.{appended_backed}
+
+-- what logs stand behind says nothing of settings, sessions, standing and the open record
+abbrev with_others : State → List ℕ → ℕ → List Session → List Association → Standing → Option Record → State
+with_others s name log_bytes sessions associations standing o =
+    record s { name = name; log_bytes = log_bytes; sessions = sessions; associations = associations; standing = standing; open_record = o }
+
+pub same_backed : (rs : List Record) (s : State) (name : List ℕ) (log_bytes : ℕ) (sessions : List Session) (associations : List Association) (standing : Standing) (o : Option Record)
+    → Backs rs s → Backs rs (with_others s name log_bytes sessions associations standing o)
+same_backed rs s name log_bytes sessions associations standing o k = record {
+  records = k.records;
+  lasts = k.lasts;
+  end = k.end;
+  new = λ current. let new = k.new current in record { given = new.given; unused = new.unused };
+}
+
+down_backed : (rs : List Record) (s : State) (o : Option Record) → Backs rs s → Backs rs (record (down s) { open_record = o })
+down_backed rs s o k = same_backed rs s s.name s.log_bytes s.sessions s.associations _ o k
+
+pub lost_backed : (rs : List Record) (s : State) (r : Record) → Backs rs s → Backs rs (record (down s) { open_record = Some r })
+lost_backed rs s r k = down_backed rs s (Some r) k
+
+ended_backed : (rs : List Record) (s : State) (name : List ℕ) (log_bytes : ℕ) (o : Option Record) → Backs rs s
+    → Backs rs (record (refused_opening s name log_bytes) { open_record = o })
+ended_backed rs s name log_bytes o k = same_backed rs s name log_bytes [] [] _ o k
+
+-- the timestamps of a snapshot are those of its branches
+
+known_times : (P : ℕ → Type 0) (x : Reading) (ds : List Decided) → AllByRecursion P x.timestamps
+    → AllByRecursion P (reading x (map known ds)).timestamps
+known_times P x [] h = h
+known_times P x (d ∷ ds) h = known_times P (read (known d) x) ds h
+
+held_times : (P : ℕ → Type 0) (x : Reading) (ps : List PreparedBranch) (ds : List Decided) → AllByRecursion P x.timestamps
+    → AllByRecursion (λ p. P p.timestamp) ps
+    → AllByRecursion P (reading x (map held ps ++ map known ds)).timestamps
+held_times P x [] ds h k = known_times P x ds h
+held_times P x (p ∷ ps) ds h k = held_times P (read (held p) x) ps ds (k.0, h) k.1
+
+base_times : (P : ℕ → Type 0) (x : Reading) (cs : List CommittedBranch) (ps : List PreparedBranch) (ds : List Decided)
+    → AllByRecursion P x.timestamps → AllByRecursion (λ c. P c.timestamp) cs
+    → AllByRecursion (λ p. P p.timestamp) ps → AllByRecursion P (reading x (map base cs ++ (map held ps ++ map known ds))).timestamps
+base_times P x [] ps ds h k l = held_times P x ps ds h l
+base_times P x (c ∷ cs) ps ds h k l = base_times P (read (base c) x) cs ps ds (k.0, h) k.1 l
+
+pub past_given : (last boot t : ℕ) → last < boot → is_past (last + 1) t ≡ true → t ≤ timestamp_of boot 0
+past_given last boot t less e = grind (arith, nat_tests)
+
+pub snapshot_given : (d : Durable) (boot : ℕ) → IsDurable d → d.boot < boot
+    → AllByRecursion (λ t. t ≤ timestamp_of boot 0) (reading unread (snapshot d boot)).timestamps
+snapshot_given d boot h less =
+    base_times (λ t. t ≤ timestamp_of boot 0) _ d.committed d.prepared d.decided tt
+    (all_imply (λ c. is_past (d.boot + 1) c.timestamp ≡ true) (λ c. c.timestamp ≤ timestamp_of boot 0)
+    (λ c past. past_given d.boot boot c.timestamp less past) d.committed h.committed_past)
+    (all_imply (λ p. is_past (d.boot + 1) p.timestamp ≡ true) (λ p. p.timestamp ≤ timestamp_of boot 0)
+    (λ p past. past_given d.boot boot p.timestamp less past) d.prepared h.prepared_past)
+
+-- a new boot
+
+idle_by : (ts : List ℕ) (b : Branch) (bs : List Branch) (c : Bool) → not (is_working b.phase) ≡ c → AreUnused ts bs
+    → AreUnused ts (cond c (b ∷ bs) bs)
+idle_by ts b bs true e h = ((λ works. absurd (cc (e, works))), h)
+idle_by ts b bs false e h = h
+
+idle_unused : (ts : List ℕ) (bs : List Branch) → AreUnused ts (filter lasts bs)
+idle_unused ts [] = tt
+idle_unused ts (b ∷ bs) = idle_by ts b (filter lasts bs) (lasts b) refl (idle_unused ts bs)
+
+booted_backed : (rs : List Record) (s : State) → Backs rs s → s.logged_boot < 4294967295
+    → Backs (snapshot (durable s) (s.logged_boot + 1)) (restarted s (s.logged_boot + 1))
+booted_backed rs s k less =
+    let form : IsDurable (durable s) = fold_is_durable rs (durable s) k.lasts in
+    record {
+      records = snapshot_is_written rs (durable s) (s.logged_boot + 1) k.records k.lasts (omega arith) (omega (arith, less));
+      lasts = snapshot_folds (durable s) (s.logged_boot + 1) form (omega arith) ∙ ap (λ d. Ok d) (sym (booted_lasts s (s.logged_boot + 1)));
+      end = refl;
+      new = λ current. record {
+        given = snapshot_given (durable s) (s.logged_boot + 1) form (omega arith);
+        unused = idle_unused (reading unread (snapshot (durable s) (s.logged_boot + 1))).timestamps s.branches;
+      };
+    }
+
+restarts_by : (rs : List Record) (s : State) (c : Bool) → nat_lt s.logged_boot 4294967295 ≡ c → Backs rs s
+    → BacksReading rs s (cond c (Opens (logged.Opened (s.logged_boot + 1)) (boot_became s (s.logged_boot + 1))) (Stops (answer (detailed XAER_RMFAIL detail.Limit) (down s))))
+restarts_by rs s true e k = (
+  booted_backed rs s k (ltb-true s.logged_boot 4294967295 e),
+  down_backed rs s s.open_record k,
+  down_backed rs s
+      (Some (logged.Opened (s.logged_boot + 1))) k,
+)
+restarts_by rs s false e k = down_backed rs s s.open_record k
+
+restarts : (rs : List Record) (s : State) → Backs rs s → BacksReading rs s (restarting s)
+restarts rs s k = restarts_by rs s (nat_lt s.logged_boot 4294967295) refl k
+
+reopened_backed : (rs : List Record) (s : State) (name : List ℕ) (log_bytes : ℕ) → Backs rs s → s.logged_boot < 4294967295
+    → Backs (snapshot (durable s) (s.logged_boot + 1)) (reopened s name log_bytes (s.logged_boot + 1))
+reopened_backed rs s name log_bytes k less =
+    let t = restarted s (s.logged_boot + 1) in
+    same_backed (snapshot (durable s) (s.logged_boot + 1)) t name log_bytes [] t.associations t.standing t.open_record (booted_backed rs s k less)
+
+reopens_by : (rs : List Record) (s : State) (name : List ℕ) (log_bytes : ℕ) (c : Bool)
+    → (nat_lt s.logged_boot 4294967295 && can_open s log_bytes (s.logged_boot + 1)) ≡ c → Backs rs s
+    → BacksReading rs s (cond c (Opens (logged.Opened (s.logged_boot + 1)) (reopen_became s name log_bytes (s.logged_boot + 1))) (Stops (ok (refused_opening s name log_bytes))))
+reopens_by rs s name log_bytes true e k =
+    let both = and_parts (nat_lt s.logged_boot 4294967295) (can_open s log_bytes (s.logged_boot + 1)) e in (
+      reopened_backed rs s name log_bytes k (ltb-true s.logged_boot 4294967295 both.0),
+      ended_backed rs s name log_bytes s.open_record k,
+      ended_backed rs s name log_bytes (Some (logged.Opened (s.logged_boot + 1))) k,
+    )
+reopens_by rs s name log_bytes false e k = ended_backed rs s name log_bytes s.open_record k
+
+reopens : (rs : List Record) (s : State) (name : List ℕ) (log_bytes : ℕ) → Backs rs s → BacksReading rs s (reopening name log_bytes s)
+reopens rs s name log_bytes k = reopens_by rs s name log_bytes (nat_lt s.logged_boot 4294967295 && can_open s log_bytes (s.logged_boot + 1)) refl k
+
+-- the open record is settled
+
+missed_backed : (rs : List Record) (s : State) (o : Option Record) → Backs rs s → Backs rs (record s { open_record = o })
+missed_backed rs s o k = same_backed rs s s.name s.log_bytes s.sessions s.associations s.standing o k
+
+opened_backed : (rs : List Record) (s : State) (boot : ℕ) → IsRecoverable s → Backs rs s → MayBeLast s (logged.Opened boot)
+    → Backs (snapshot (durable s) boot) (applied (logged.Opened boot) s)
+opened_backed rs s boot h k last =
+    let may : s.logged_boot < boot = last.may in
+    record {
+      records = snapshot_is_written rs (durable s) boot k.records k.lasts last.limits.0 last.limits.1;
+      lasts = snapshot_folds (durable s) boot (fold_is_durable rs (durable s) k.lasts) may;
+      end = refl;
+      new = λ current. absurd (omega (arith, current, may, h.loggable.boots));
+    }
+
+pub settles : (rs : List Record) (s : State) (r : Record) → IsRecoverable s → Backs rs s → MayBeLast s r → Backs (settled rs s r) (applied r s)
+settles rs s (logged.Opened boot) h k last = opened_backed rs s boot h k last
+settles rs s (logged.Prepared xid t ws) h k last = appended_backed rs s (logged.Prepared xid t ws) h k last refl
+settles rs s (logged.Committed xid t ws) h k last = appended_backed rs s (logged.Committed xid t ws) h k last refl
+settles rs s (logged.Completed xid direction) h k last = appended_backed rs s (logged.Completed xid direction) h k last refl
+settles rs s (logged.Decided xid direction) h k last = appended_backed rs s (logged.Decided xid direction) h k last refl
+settles rs s (logged.Forgotten xid) h k last = appended_backed rs s (logged.Forgotten xid) h k last refl
+settles rs s (logged.Base t ws) h k last = absurd last.may
+settles rs s (logged.Held xid t ws) h k last = absurd last.may
+settles rs s (logged.Known xid direction) h k last = absurd last.may
+
+found_restarts : (rs : List Record) (s : State) (o : Option Record) → IsRecoverable s → Backs rs s → IfSome o (MayBeLast s)
+    → IfSome o (λ r. IfSome (option_map (λ q. restarting (survived s q)) o) (BacksReading (settled rs s r) (survived s r)))
+found_restarts rs s None h k last = tt
+found_restarts rs s (Some r) h k last =
+    restarts (settled rs s r) (survived s r) (missed_backed (settled rs s r) (applied r s) None (settles rs s r h k last))
+
+found_reopens : (rs : List Record) (s : State) (name : List ℕ) (log_bytes : ℕ) (o : Option Record) → IsRecoverable s → Backs rs s
+    → IfSome o (MayBeLast s)
+    → IfSome o (λ r. IfSome (option_map (λ q. reopening name log_bytes (survived s q)) o) (BacksReading (settled rs s r) (survived s r)))
+found_reopens rs s name log_bytes None h k last = tt
+found_reopens rs s name log_bytes (Some r) h k last =
+    reopens (settled rs s r) (survived s r) name log_bytes (missed_backed (settled rs s r) (applied r s) None (settles rs s r h k last))
+
+pub restart_backed : (rs : List Record) (s : State) → IsRecoverable s → Backs rs s → BacksTurn rs s (restart_turn s)
+restart_backed rs s h k =
+    (down_backed rs s s.open_record k, found_restarts rs s s.open_record h k h.open_record, restarts rs (missed s) (missed_backed rs s None k))
+
+pub reopen_backed : (rs : List Record) (s : State) (name : List ℕ) (log_bytes : ℕ) → IsRecoverable s → Backs rs s
+    → BacksTurn rs s (reopen_turn s name log_bytes)
+reopen_backed rs s name log_bytes h k = (
+  ended_backed rs s name log_bytes s.open_record k,
+  found_reopens rs s name log_bytes s.open_record h k h.open_record,
+  reopens rs (missed s) name log_bytes (missed_backed rs s None k),
+)

@@ -1,0 +1,124 @@
+-- Every step is a move, and so every history keeps what moves keep.
+use Rattle.std.proofs.Common.{◌≡◌, ℕ, ◌+◌, ◌≤◌, Bool, true, false, ◌&&◌, cond, List, [], ◌∷◌, Option, Some, None, refl, sym, ap, subst, arith}
+use Rattle.std.specs.Prelude.{IfSome, filter, nat_lt, option_map}
+use Rattle.xa_codes.specs.declared.codes.TheConstants.{XAER_RMFAIL}
+use Rattle.xa_codes.specs.declared.detail.Detail.TheVariants as detail
+use Rattle.xa_frame.specs.declared.request.Request.{Request}
+use Rattle.xa_frame.specs.declared.request.Request.TheVariants.{Restart}
+use Rattle.xa_record.specs.declared.record.Record.{Record}
+use Rattle.xa_record.specs.declared.record.Record.TheVariants as logged
+use Rattle.xa_model.specs.declared.event.Event.{Event}
+use Rattle.xa_model.specs.declared.event.Event.TheVariants as event
+use Rattle.xa_model.specs.declared.outcome.Appending.{Appending}
+use Rattle.xa_model.specs.declared.outcome.Appending.TheVariants.{Kept, Refused, Lost}
+use Rattle.xa_model.specs.State.{State}
+use Rattle.xa_model.specs.Answer.{Answer, answer, detailed, ok}
+use Rattle.xa_model.specs.Early.{early_refusal}
+use Rattle.xa_model.specs.Turn.{Happening, Asked, Reopened, Rereading, Stops, Opens}
+use Rattle.xa_model.specs.Step.{respond, turn, opened_of, is_up}
+use Rattle.xa_model.specs.Events.{HaveHappened, is_restart}
+use Rattle.xa_model.specs.History.{Entry, Leads}
+use Rattle.xa_model.specs.Logging.{down}
+use Rattle.xa_model.specs.Loggable.{IsRecoverable, MayBeLast}
+use Rattle.xa_model.specs.Restarting.{lasts, missed, survived, restarted, boot_became, restarting, restart_turn, refused_opening, reopen_became, reopening, reopen_turn, can_open}
+use Rattle.xa_model.proofs.Restarts.{survived_recoverable}
+use Rattle.xa_model.proofs.Recoveries.{keeps_recoverable}
+use Rattle.xa_model.proofs.Replies.{AllOf, AllOfReading, taken_all, asked_all, unless_all}
+use Rattle.xa_model.proofs.Moves.{Core, core, Remain, Moves, remains, restarts, all_remain, remain_on, lasting_remain}
+use Rattle.xa_model.proofs.MovingRows.{Moved, itself, applied_remain, applied_core, event_moved}
+
+-- the state x has the branches of s that remain, and the same reads
+record Stems (s x : State) : Type 0 where
+  remain : Remain s.branches x.branches
+  same : core x ≡ record (core s) { branches = x.branches }
+  boots : x.boot ≤ x.logged_boot
+
+still : (s x : State) → Stems s x → Moves (core s) (core x)
+still s x h = subst (Moves (core s)) (sym h.same) (remains x.branches h.remain)
+
+boots : (s x : State) → Stems s x → Moves (core s) (core (restarted x (x.logged_boot + 1)))
+boots s x h =
+    let same : x.boot ≡ s.boot = ap (λ (c : Core). c.boot) h.same in
+    restarts (x.logged_boot + 1) (filter lasts x.branches) (omega (arith, same, h.boots)) (remain_on h.remain (lasting_remain x.branches))
+
+restarts_by : (s x : State) (c : Bool) → Stems s x
+    → AllOfReading (Moved s)
+    (cond c (Opens (logged.Opened (x.logged_boot + 1)) (boot_became x (x.logged_boot + 1)))
+    (Stops (answer (detailed XAER_RMFAIL detail.Limit) (down x))))
+restarts_by s x true h = by_fate
+  where
+    by_fate : (a : Appending) → Moved s (boot_became x (x.logged_boot + 1) a)
+    by_fate Kept = boots s x h
+    by_fate Refused = still s x h
+    by_fate Lost = still s x h
+restarts_by s x false h = still s x h
+
+reopens_by : (s x : State) (name : List ℕ) (log_bytes : ℕ) (c : Bool) → Stems s x
+    → AllOfReading (Moved s)
+    (cond c (Opens (logged.Opened (x.logged_boot + 1)) (reopen_became x name log_bytes (x.logged_boot + 1)))
+    (Stops (ok (refused_opening x name log_bytes))))
+reopens_by s x name log_bytes true h = by_fate
+  where
+    by_fate : (a : Appending) → Moved s (reopen_became x name log_bytes (x.logged_boot + 1) a)
+    by_fate Kept = boots s x h
+    by_fate Refused = still s x h
+    by_fate Lost = still s x h
+reopens_by s x name log_bytes false h = still s x h
+
+missed_stems : (s : State) → IsRecoverable s → Stems s (missed s)
+missed_stems s h = record { remain = all_remain s.branches; same = refl; boots = h.loggable.boots }
+
+survived_stems : (s : State) (r : Record) → IsRecoverable s → s.open_record ≡ Some r → MayBeLast s r → Stems s (survived s r)
+survived_stems s r h e last =
+    record { remain = applied_remain s r; same = applied_core s r; boots = (survived_recoverable s r h e last).loggable.boots }
+
+found_moved : (s : State) (boot : State → Rereading) (o : Option Record) → s.open_record ≡ o → IsRecoverable s → IfSome o (MayBeLast s)
+    → ((x : State) → Stems s x → AllOfReading (Moved s) (boot x)) → IfSome (option_map (λ r. boot (survived s r)) o) (AllOfReading (Moved s))
+found_moved s boot None e h last f = tt
+found_moved s boot (Some r) e h last f = f (survived s r) (survived_stems s r h e last)
+
+restart_moved : (s : State) → IsRecoverable s → AllOf (Moved s) (restart_turn s)
+restart_moved s h = (
+  itself s,
+  found_moved s restarting s.open_record refl h h.open_record (λ x k. restarts_by s x (nat_lt x.logged_boot 4294967295) k),
+  restarts_by s (missed s) (nat_lt s.logged_boot 4294967295) (missed_stems s h),
+)
+
+reopen_moved : (s : State) (name : List ℕ) (log_bytes : ℕ) → IsRecoverable s → AllOf (Moved s) (reopen_turn s name log_bytes)
+reopen_moved s name log_bytes h = (
+  itself s,
+  found_moved s (reopening name log_bytes) s.open_record refl h h.open_record
+      (λ x k. reopens_by s x name log_bytes (nat_lt x.logged_boot 4294967295 && can_open x log_bytes (x.logged_boot + 1)) k),
+  reopens_by s (missed s) name log_bytes (nat_lt s.logged_boot 4294967295 && can_open (missed s) log_bytes (s.logged_boot + 1)) (missed_stems s h),
+)
+
+restart_only : (s : State) (n : ℕ) (request : Request) → is_restart (event.Call n request) ≡ true → IsRecoverable s
+    → AllOf (Moved s) (respond s (event.Call n request))
+restart_only s n Restart e h =
+    unless_all (Moved s) (early_refusal (is_up s.standing) s.name (opened_of s n) Restart) s (restart_turn s) (λ reply is. itself s)
+    (restart_moved s h)
+restart_only s n request e h = absurd (cc e)
+
+restart_asked : (s : State) (e : Event) → is_restart e ≡ true → IsRecoverable s → AllOf (Moved s) (respond s e)
+restart_asked s event.Connect e h = absurd (cc e)
+restart_asked s (event.Hangup n) e h = absurd (cc e)
+restart_asked s (event.Call n request) e h = restart_only s n request e h
+
+responds : (s : State) (e : Event) (c : Bool) → is_restart e ≡ c → IsRecoverable s → AllOf (Moved s) (respond s e)
+responds s e true c h = restart_asked s e c h
+responds s e false c h = event_moved s e h c
+
+pub turn_moved : (s : State) (happening : Happening) → IsRecoverable s → AllOf (Moved s) (turn s happening)
+turn_moved s (Asked e) h = asked_all (Moved s) s.standing (respond s e) (responds s e (is_restart e) refl h)
+turn_moved s (Reopened name log_bytes) h = reopen_moved s name log_bytes h
+
+-- what moves keep is kept at each place of a history
+pub always : (P : Core → Type 0) → ((s : State) (d : Core) → IsRecoverable s → Moves (core s) d → P (core s) → P d)
+    → (first last : State) (entries : List Entry)
+    → HaveHappened entries → IsRecoverable first → Leads first entries last → P (core first) → P (core last)
+always P keeps first last [] happened h leads k = subst (λ (s : State). P (core s)) (sym leads) k
+always P keeps first last (e ∷ es) happened h leads k =
+    let a : Answer = record { reply = e.reply; after = leads.0 } in
+    let moves : Moved first a = taken_all (Moved first) (turn first e.happening) e.outcome a (turn_moved first e.happening h) leads.1 in
+    always P keeps leads.0 last es happened.1 (keeps_recoverable first e.happening e.outcome a happened.0 h leads.1) leads.2
+    (keeps first (core leads.0) h moves k)

@@ -1,0 +1,205 @@
+-- Gets and puts leave answered reads right.
+use Rattle.std.proofs.Common.{◌≡◌, ◌⊎◌, inl, inr, ℕ, ◌+◌, ◌<◌, ◌≤◌, ◌==◌, Bool, true, false, not, ◌&&◌, cond, List, [], ◌∷◌, Option, Some, None, refl, sym, ◌∙◌, ap, subst, arith}
+use Rattle.std.specs.Prelude.{bytes_eq, is_some}
+use Rattle.std.specs.List.{AllByRecursion}
+use Rattle.std.proofs.lemmas.Bool.{cases_lt}
+use Rattle.std.proofs.lemmas.Bool.Decides.{nat_tests}
+use Rattle.std.proofs.lemmas.Slice.Eq.{bytes_eq-Decides}
+use Rattle.xa_xid.specs.Triple.{Triple}
+use Rattle.xa_model.specs.State.{Branch, Read, Operation, Got, Wrote, is_known_as, known_of, timestamp_of}
+use Rattle.xa_model.specs.Source.{Version, write_of, absent, source, is_busy, is_late}
+use Rattle.xa_model.specs.Sound.{Descends}
+use Rattle.xa_model.specs.Records.{having_done, did}
+use Rattle.xa_model.proofs.Inserts.{all_imply}
+use Rattle.xa_model.proofs.Lists.{found_all, change_all}
+use Rattle.xa_model.proofs.Moves.{Core, Moves, remains, restarts, begins, gets, puts, known_uncommitted}
+use Rattle.xa_model.proofs.Pins.{Has, IsSource, IsOutside, IsRight, IsPinned, Settled, AreSettled, IsOrdered, settled_weaker, changed_has, changed_all, remains_settled, restarts_settled, begins_settled}
+use Rattle.xa_model.proofs.Sources.{Left, IsAtMost, IsNewest, source_is, found_one}
+
+key_itself : (key : List ℕ) → bytes_eq key key ≡ true
+key_itself key = (bytes_eq-Decides key key).1 refl
+
+later_read : (key : List ℕ) (u : ℕ) (r : Read) (reads : List Read) → is_late key u reads ≡ true → is_late key u (r ∷ reads) ≡ true
+later_read key u r reads e = grind (arith, e)
+
+-- a read of this key passes over what stands between its source and its reader
+between : (key : List ℕ) (u from t : ℕ) (reads : List Read) → from < u → u < t → is_late key u
+    (record { reader = t; key = key; source = from } ∷ reads) ≡ true
+between key u from t reads above under = grind (arith, nat_tests, key_itself key)
+
+has_imply : {A : Type 0} (P Q : A → Type 0) → ((x : A) → P x → Q x) → (xs : List A) → Has P xs → Has Q xs
+has_imply P Q f [] h = absurd h
+has_imply P Q f (x ∷ xs) (inl p) = inl (f x p)
+has_imply P Q f (x ∷ xs) (inr h) = inr (has_imply P Q f xs h)
+
+above_zero : (limit : ℕ) (bs : List Branch) → Descends limit bs → AllByRecursion (λ b. 0 < b.timestamp) bs
+above_zero limit [] d = tt
+above_zero limit (b ∷ bs) d = (d.0, above_zero b.timestamp bs d.2)
+
+is_free : (committed : Bool) (u t : ℕ) → u < t → (not committed && not (u == t)) ≡ false → committed ≡ true
+is_free true u t less e = refl
+is_free false u t less e = grind (arith, nat_tests)
+
+-- an answered get
+
+module _ (c : Core) (key : List ℕ) (xid : Triple) (b : Branch) (found : known_of c.branches xid ≡ Some b)
+    (free : is_busy b.timestamp (source key b.timestamp c.branches) ≡ false) (o : IsOrdered c) where
+  abbrev v : Version
+  v = source key b.timestamp c.branches
+
+  abbrev op : Operation
+  op = Got key v.value v.timestamp
+
+  abbrev after_get : Core
+  after_get = record c {
+    branches = did xid op c.branches;
+    reads = record { reader = b.timestamp; key = key; source = v.timestamp } ∷ c.reads;
+  }
+
+  newest : IsNewest key b.timestamp c.branches absent v
+  newest = source_is key b.timestamp c.branches
+
+  -- the source of another read stays where it is, and so does what stands outside of it
+  right_on : (t : ℕ) (k : List ℕ) (answer : Option (List ℕ)) (from : ℕ) → IsRight c.branches t k answer from
+      → IsRight after_get.branches t k answer from
+  right_on t k answer from h = record {
+    earlier = h.earlier;
+    source = elim h.source [
+      | inl zero ↦ inl zero
+      | inr there ↦ inr (changed_has (IsSource k answer from) (is_known_as xid) (having_done op) (λ x known src. src) c.branches there)
+    ];
+    none_between = change_all (IsOutside t k from) (is_known_as xid) (having_done op) (λ x out. out) c.branches h.none_between;
+  }
+
+  pins_on : (t : ℕ) (k : List ℕ) (answer : Option (List ℕ)) (from : ℕ) → IsPinned c t k answer from → IsPinned after_get t k answer from
+  pins_on t k answer from p = record {
+    right = right_on t k answer from p.right;
+    guarded = λ u above under. elim (p.guarded u above under) [ inl old ↦ inl old | inr late ↦ inr (later_read k u _ c.reads late) ];
+  }
+
+  -- another branch's version
+  other_read : v.timestamp < b.timestamp → ((v.timestamp ≡ 0) × (v.value ≡ None)) ⊎ Has (IsSource key v.value v.timestamp) c.branches
+      → (write_of key b.operations ≡ None) × IsPinned after_get b.timestamp key v.value v.timestamp
+  other_read less src = (
+    unwritten (write_of key b.operations) refl,
+    record {
+      right = right_on b.timestamp key v.value v.timestamp right;
+      guarded = λ u above under. inr (between key u v.timestamp b.timestamp c.reads above under);
+    },
+  )
+    where
+      unwritten : (w : Option (Option (List ℕ))) → write_of key b.operations ≡ w → write_of key b.operations ≡ None
+      unwritten None e = e
+      unwritten (Some x) e =
+          let most : IsAtMost key b.timestamp v.timestamp b
+          = found_all (IsAtMost key b.timestamp v.timestamp) (is_known_as xid) b c.branches newest.greatest found in
+          absurd (omega (arith, less, most (ap (λ w. is_some w) e) (omega arith)))
+
+      right : IsRight c.branches b.timestamp key v.value v.timestamp
+      right = record {
+        earlier = less;
+        source = src;
+        none_between = all_imply (IsAtMost key b.timestamp v.timestamp) (IsOutside b.timestamp key v.timestamp)
+            (λ x most w. outside x.timestamp (most w)) c.branches newest.greatest;
+      }
+        where
+          outside : (u : ℕ) → (u ≤ b.timestamp → u ≤ v.timestamp) → (u ≤ v.timestamp) ⊎ (b.timestamp ≤ u)
+          outside u most = elim (cases_lt u b.timestamp) [ inl less ↦ inl (most (omega arith)) | inr more ↦ inr more ]
+
+  own_read : v.timestamp ≡ b.timestamp → Has (Left key v) c.branches → write_of key b.operations ≡ Some v.value
+  own_read same there =
+      found_one (λ x. write_of key x.operations ≡ Some v.value) (timestamp_of c.boot c.given + 1) (is_known_as xid) b c.branches o.descends found
+      (has_imply (Left key v) (λ x. (x.timestamp ≡ b.timestamp) × (write_of key x.operations ≡ Some v.value))
+      (λ x l. (l.0 ∙ same, l.2)) c.branches there)
+
+  answered : (write_of key b.operations ≡ Some v.value) ⊎
+      ((write_of key b.operations ≡ None) × IsPinned after_get b.timestamp key v.value v.timestamp)
+  answered =
+      elim newest.from [
+        | inl none ↦ inr
+            (other_read (omega (arith, ap (λ (x : Version). x.timestamp) none, positive))
+            (inl (ap (λ (x : Version). x.timestamp) none, ap (λ (x : Version). x.value) none)))
+        | inr there ↦ elim (cases_lt v.timestamp b.timestamp) [
+          | inl less ↦ inr
+              (other_read less
+              (inr (has_imply (Left key v) (IsSource key v.value v.timestamp) (λ x l. (l.0, l.1 ∙ settled less, l.2)) c.branches there.1)))
+          | inr more ↦ inl (own_read (omega (arith, more, there.0)) there.1)
+        ]
+      ]
+    where
+      positive : 0 < b.timestamp
+      positive =
+          found_all (λ (x : Branch). 0 < x.timestamp) (is_known_as xid) b c.branches
+          (above_zero (timestamp_of c.boot c.given + 1) c.branches o.descends) found
+
+      settled : v.timestamp < b.timestamp → v.committed ≡ true
+      settled less = is_free v.committed v.timestamp b.timestamp less free
+
+  gets_settled : AreSettled c → AreSettled after_get
+  gets_settled h =
+      changed_all (λ x. Settled (IsPinned c x.timestamp) x.operations) (λ x. Settled (IsPinned after_get x.timestamp) x.operations)
+      (is_known_as xid) (having_done op)
+      (λ x k. settled_weaker (IsPinned c x.timestamp) (IsPinned after_get x.timestamp) x.operations (pins_on x.timestamp) k) b c.branches found h
+      (λ k. (answered, settled_weaker (IsPinned c b.timestamp) (IsPinned after_get b.timestamp) b.operations (pins_on b.timestamp) k))
+
+-- an accepted put
+
+module _ (c : Core) (key : List ℕ) (value : Option (List ℕ)) (xid : Triple) (b : Branch) (found : known_of c.branches xid ≡ Some b)
+    (new : timestamp_of c.boot 0 < b.timestamp) (on_time : is_late key b.timestamp c.reads ≡ false) where
+  abbrev after_put : Core
+  after_put = record c { branches = did xid (Wrote key value) c.branches }
+
+  -- the writer stands outside of each read of the key
+  writer_outside : (t : ℕ) (k : List ℕ) (answer : Option (List ℕ)) (from : ℕ) → IsPinned c t k answer from → bytes_eq key k ≡ true
+      → (b.timestamp ≤ from) ⊎ (t ≤ b.timestamp)
+  writer_outside t k answer from p e =
+      elim (cases_lt from b.timestamp) [
+        | inr below ↦ inl below
+        | inl above ↦ elim (cases_lt b.timestamp t) [
+          | inr beyond ↦ inr beyond
+          | inl under ↦ elim (p.guarded b.timestamp above under) [
+            | inl old ↦ absurd (omega (arith, old, new))
+            | inr late ↦ absurd
+                (cc (subst (λ (j : List ℕ). is_late j b.timestamp c.reads ≡ true) (sym ((bytes_eq-Decides key k).0 e)) late, on_time))
+          ]
+        ]
+      ]
+
+  pins_after : (t : ℕ) (k : List ℕ) (answer : Option (List ℕ)) (from : ℕ) → IsPinned c t k answer from → IsPinned after_put t k answer from
+  pins_after t k answer from p = record {
+    right = record {
+      earlier = p.right.earlier;
+      source = elim p.right.source [
+        | inl zero ↦ inl zero
+        | inr there ↦ inr
+            (changed_has (IsSource k answer from) (is_known_as xid) (having_done (Wrote key value))
+            (λ x known src. absurd (cc (src.1, known_uncommitted xid x known))) c.branches there)
+      ];
+      none_between =
+          changed_all (IsOutside t k from) (IsOutside t k from) (is_known_as xid) (having_done (Wrote key value))
+          (λ x out. out) b c.branches found p.right.none_between
+          (λ out w. outside (bytes_eq key k) refl out w);
+    };
+    guarded = p.guarded;
+  }
+    where
+      outside : (q : Bool) → bytes_eq key k ≡ q → IsOutside t k from b → is_some (cond q (Some value) (write_of k b.operations)) ≡ true
+          → (b.timestamp ≤ from) ⊎ (t ≤ b.timestamp)
+      outside true e out w = writer_outside t k answer from p e
+      outside false e out w = out w
+
+  puts_settled : AreSettled c → AreSettled after_put
+  puts_settled h =
+      changed_all (λ x. Settled (IsPinned c x.timestamp) x.operations) (λ x. Settled (IsPinned after_put x.timestamp) x.operations)
+      (is_known_as xid) (having_done (Wrote key value))
+      (λ x k. settled_weaker (IsPinned c x.timestamp) (IsPinned after_put x.timestamp) x.operations (pins_after x.timestamp) k) b c.branches found h
+      (λ k. settled_weaker (IsPinned c b.timestamp) (IsPinned after_put b.timestamp) b.operations (pins_after b.timestamp) k)
+
+-- every move
+
+pub moves_settled : {c d : Core} → Moves c d → IsOrdered c → AreSettled c → AreSettled d
+moves_settled (remains bs r) o h = remains_settled _ bs r o h
+moves_settled (restarts boot bs less r) o h = restarts_settled _ boot bs less r o h
+moves_settled (begins xid) o h = begins_settled _ _ refl h
+moves_settled (gets key xid b found free) o h = gets_settled _ key xid b found free o h
+moves_settled (puts key value xid b found new on_time) o h = puts_settled _ key value xid b found new on_time h

@@ -1,0 +1,66 @@
+-- Restarts and openings lead to what lasted.
+use Rattle.std.proofs.Common.{◌≡◌, ℕ, ◌+◌, Bool, true, false, cond, List, [], ◌∷◌, refl, ap, sym}
+use Rattle.std.specs.Prelude.{filter}
+use Rattle.std.specs.List.{AllByRecursion}
+use Rattle.std.proofs.lemmas.Bool.{not-true}
+use Rattle.xa_model.specs.State.{State, Branch}
+use Rattle.xa_model.specs.Sound.{is_working}
+use Rattle.xa_model.specs.Durable.{Durable, is_past}
+use Rattle.xa_model.specs.Fold.{snapshot, sizes}
+use Rattle.xa_model.specs.Logging.{snapshot_end}
+use Rattle.xa_model.specs.Restarting.{lasts, restarted}
+use Rattle.xa_model.specs.BackingLaws.{RestartsRestored, ReopensRestored}
+use Rattle.xa_model.proofs.Inserts.{all_filtered}
+use Rattle.xa_model.proofs.Restarts.{booted_lasts, booted_recoverable, reopened_recoverable}
+
+filter_keeps_by : {A : Type 0} (P : A → Type 0) (x : A) (xs ys : List A) (c : Bool) → P x → AllByRecursion P ys
+    → AllByRecursion P (cond c (x ∷ ys) ys)
+filter_keeps_by P x xs ys true h rest = (h, rest)
+filter_keeps_by P x xs ys false h rest = rest
+
+-- what holds of all holds of those that pass
+filter_keeps : {A : Type 0} (P : A → Type 0) (p : A → Bool) (xs : List A) → AllByRecursion P xs → AllByRecursion P (filter p xs)
+filter_keeps P p [] h = tt
+filter_keeps P p (x ∷ xs) h = filter_keeps_by P x xs (filter p xs) (p x) h.0 (filter_keeps P p xs h.1)
+
+idle : (bs : List Branch) → AllByRecursion (λ (b : Branch). is_working b.phase ≡ false) (filter lasts bs)
+idle bs = all_filtered (λ (b : Branch). is_working b.phase ≡ false) lasts (λ b e. not-true (is_working b.phase) e) bs
+
+same_end : (s : State) (next : ℕ) → snapshot_end s next ≡ snapshot_end (restarted s next) next
+same_end s next = ap (λ (d : Durable). 8 + sizes (snapshot d next)) (sym (booted_lasts s next))
+
+pub restarts_restored : RestartsRestored
+restarts_restored s h settled less =
+    let next = s.logged_boot + 1 in
+    record {
+      recoverable = booted_recoverable s h settled less;
+      lasts = booted_lasts s next;
+      boot = refl;
+      logged_boot = refl;
+      given = refl;
+      associations = refl;
+      reads = refl;
+      idle = idle s.branches;
+      past = filter_keeps (λ (b : Branch). is_past next b.timestamp ≡ true) lasts s.branches h.loggable.past;
+      standing = refl;
+      open_record = settled;
+      end = same_end s next;
+    }
+
+pub reopens_restored : ReopensRestored
+reopens_restored s name log_bytes h settled less =
+    let next = s.logged_boot + 1 in
+    record {
+      recoverable = reopened_recoverable s name log_bytes h settled less;
+      lasts = booted_lasts s next;
+      boot = refl;
+      logged_boot = refl;
+      given = refl;
+      associations = refl;
+      reads = refl;
+      idle = idle s.branches;
+      past = filter_keeps (λ (b : Branch). is_past next b.timestamp ≡ true) lasts s.branches h.loggable.past;
+      standing = refl;
+      open_record = settled;
+      end = same_end s next;
+    }

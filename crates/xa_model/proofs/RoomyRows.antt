@@ -1,0 +1,183 @@
+-- Rows leave a log's size as it is, and log a branch's writes only where there is room.
+use Rattle.std.proofs.Common.{◌≡◌, ℕ, ℤ, Bool, true, false, cond, List, Option, Some, None, refl}
+use Rattle.std.specs.Prelude.{is_some}
+use Rattle.std.specs.List.{list_any}
+use Rattle.xa_codes.specs.Flags.{has}
+use Rattle.xa_codes.specs.declared.codes.TheConstants.{XAER_RMERR, XA_RETRY, XA_RDONLY}
+use Rattle.xa_codes.specs.declared.direction.Direction.TheVariants as direction
+use Rattle.xa_codes.specs.declared.flags.TheConstants.{TMONEPHASE, TMJOIN, TMRESUME, TMSUSPEND, TMMIGRATE, TMFAIL}
+use Rattle.xa_frame.specs.declared.reply.Reply.{Reply}
+use Rattle.xa_frame.specs.declared.request.Request.{Request}
+use Rattle.xa_frame.specs.declared.request.Request.TheVariants.{Open, Close, Start, End, Prepare, Commit, Rollback, Forget, Recover, Get, Put, Delete, Decide, Doom, Restart}
+use Rattle.xa_record.specs.declared.record.Record.TheVariants as logged
+use Rattle.xa_xid.specs.Triple.{Triple}
+use Rattle.xa_model.specs.declared.event.Event.{Event}
+use Rattle.xa_model.specs.declared.event.Event.TheVariants as event
+use Rattle.xa_model.specs.declared.outcome.Appending.TheVariants.{Refused}
+use Rattle.xa_model.specs.State.{State, Branch, Known, Unknown, AtWork, InDoubt, Completed, known_as, known_in, active_of, own_branch, mark_of, suspends, is_loose_with, loose_of, is_with}
+use Rattle.xa_model.specs.Source.{source, is_late}
+use Rattle.xa_model.specs.Answer.{Answer, plain, answer, ok, unless, marked}
+use Rattle.xa_model.specs.Early.{early_refusal}
+use Rattle.xa_model.specs.Associations.{connect_refusal, connected, close_refusal, is_anyones, start_refusal, begun, begin_by, is_taken, join_refusal, joined, join_by, resume_refusal, resumed, not_resumed, resume_by, start_by, end_refusal, loose_refusal, suspended, not_suspended, suspend_by, can_end, ended, failed, leave_by, end_by, mark_in, timestamp_in}
+use Rattle.xa_model.specs.Branches.{rolled_back, committed, one_phase_refusal, two_phase_refusal, rollback_refusal, heuristic_refusal, doom_refusal, doomed, is_associated}
+use Rattle.xa_model.specs.Records.{got, get_from, get_by, busy_refusal, is_full, limit_refusal, came_late, written, in_time, put_from, put_by}
+use Rattle.xa_model.specs.Recovering.{recovered_from, scan_from, scan_of}
+use Rattle.xa_model.specs.Step.{row, respond, opened_of, is_up}
+use Rattle.xa_model.specs.Turn.{Turn, Now, Appends, unless_now, marked_now}
+use Rattle.xa_model.specs.Logging.{logs, has_room, log_full, writes_in}
+use Rattle.xa_model.specs.Completions.{prepare_turn, prepare_written, commit_one_phase_turn, commit_two_phase_turn, commit_written, rollback_turn, roll_back_turn, decide_refusal, forget_refusal}
+use Rattle.xa_model.specs.Fold.{is_empty}
+use Rattle.xa_model.specs.Events.{asks_restart, is_restart}
+use Rattle.xa_model.proofs.Rooms.{HasRoomFor}
+
+-- what is answered at once, and what a refused record leaves, has a log of as many bytes
+abbrev pub AsksRoom : State → Turn → Type 0
+AsksRoom s (Now a) = a.after.log_bytes ≡ s.log_bytes
+AsksRoom s (Appends r after) = HasRoomFor s r × ((after Refused).after.log_bytes ≡ s.log_bytes)
+AsksRoom s _ = ⊥
+
+abbrev Same : State → Answer → Type 0
+Same s a = a.after.log_bytes ≡ s.log_bytes
+
+-- answers
+
+unless_same : (o : Option Reply) (s : State) (a : Answer) → Same s a → Same s (unless o s a)
+unless_same None s a h = h
+unless_same (Some reply) s a h = refl
+
+marked_same : (o : Option ℤ) (s left : State) (a : Answer) → left.log_bytes ≡ s.log_bytes → Same s a → Same s (marked o left a)
+marked_same None s left a h k = k
+marked_same (Some code) s left a h k = h
+
+cond_same : (c : Bool) (s : State) (a b : Answer) → Same s a → Same s b → Same s (cond c a b)
+cond_same true s a b h k = h
+cond_same false s a b h k = k
+
+in_time_same : (late : Bool) (s : State) (a b : Answer) → Same s a → Same s b → Same s (in_time late a b)
+in_time_same true s a b h k = h
+in_time_same false s a b h k = k
+
+-- the association table
+
+start_same : (s : State) (n flags : ℕ) (xid : Triple) → Same s (start_by s n flags xid)
+start_same s n flags xid =
+    cond_same (has flags TMJOIN) s (join_by s n xid) (cond (has flags TMRESUME) (resume_by s n xid) (begin_by s n xid))
+    (unless_same (join_refusal (is_some (active_of s.associations n)) (list_any (suspends n xid) s.associations) (known_as s xid)) s _
+    (marked_same (mark_in (known_as s xid)) s s (joined s n xid) refl refl))
+    (cond_same (has flags TMRESUME) s (resume_by s n xid) (begin_by s n xid)
+    (unless_same
+    (resume_refusal (is_some (active_of s.associations n)) (known_as s xid) (list_any (suspends n xid) s.associations)
+    (list_any (is_loose_with xid) s.associations)) s _
+    (marked_same (mark_in (known_as s xid)) s (not_resumed s n xid) (resumed s n xid) refl refl))
+    (unless_same (start_refusal (is_some (active_of s.associations n)) (is_taken (known_as s xid)) (known_in s) s.given) s (begun s n xid) refl))
+
+suspend_same : (s : State) (n : ℕ) (migrates : Bool) (xid : Triple) → Same s (suspend_by s n migrates xid)
+suspend_same s n migrates xid =
+    unless_same (end_refusal (known_as s xid) (is_with xid (active_of s.associations n))) s _
+    (marked_same (mark_in (known_as s xid)) s (not_suspended s n xid) _ refl
+    (unless_same (loose_refusal migrates (loose_of s.associations xid)) s (ok (suspended s n migrates xid)) refl))
+
+leave_same : (s : State) (n : ℕ) (fails : Bool) (xid : Triple) → Same s (leave_by s n fails xid)
+leave_same s n fails xid =
+    unless_same (end_refusal (known_as s xid) (can_end s.associations n xid)) s _
+    (marked_same (mark_in (known_as s xid)) s (ended s n xid) (cond fails (failed s n xid) (ok (ended s n xid))) refl
+    (cond_same fails s (failed s n xid) (ok (ended s n xid)) refl refl))
+
+end_same : (s : State) (n flags : ℕ) (xid : Triple) → Same s (end_by s n flags xid)
+end_same s n flags xid =
+    cond_same (has flags TMSUSPEND) s (suspend_by s n (has flags TMMIGRATE) xid) (leave_by s n (has flags TMFAIL) xid)
+    (suspend_same s n (has flags TMMIGRATE) xid) (leave_same s n (has flags TMFAIL) xid)
+
+-- recoveries, gets and puts
+
+recovered_same : (s : State) (n flags count : ℕ) (scan : Option (Option Triple)) → Same s (recovered_from s n flags count scan)
+recovered_same s n flags count None = refl
+recovered_same s n flags count (Some cursor) = refl
+
+get_same : (s : State) (key : List ℕ) (o : Option (Triple × Branch)) → Same s (get_by s key o)
+get_same s key None = refl
+get_same s key (Some (xid, b)) =
+    let v = source key b.timestamp s.branches in
+    marked_same (mark_of b.phase) s s (get_from s key xid b v) refl (unless_same (busy_refusal b.timestamp v) s (got s key xid b v) refl)
+
+put_same : (s : State) (key : List ℕ) (value : Option (List ℕ)) (o : Option (Triple × Branch)) → Same s (put_by s key value o)
+put_same s key value None = refl
+put_same s key value (Some (xid, b)) =
+    marked_same (mark_of b.phase) s s (put_from s key value xid b) refl
+    (unless_same (limit_refusal (is_full key b.operations)) s (in_time (is_late key b.timestamp s.reads) (came_late s xid) (written s key value xid))
+    (in_time_same (is_late key b.timestamp s.reads) s (came_late s xid) (written s key value xid) refl refl))
+
+-- the calls that log
+
+unless_asks : (o : Option Reply) (s : State) (t : Turn) → AsksRoom s t → AsksRoom s (unless_now o s t)
+unless_asks None s t h = h
+unless_asks (Some reply) s t h = refl
+
+marked_asks : (o : Option ℤ) (s left : State) (t : Turn) → left.log_bytes ≡ s.log_bytes → AsksRoom s t → AsksRoom s (marked_now o left t)
+marked_asks None s left t h k = k
+marked_asks (Some code) s left t h k = h
+
+cond_asks : (c : Bool) (s : State) (t u : Turn) → (c ≡ true → AsksRoom s t) → AsksRoom s u → AsksRoom s (cond c t u)
+cond_asks true s t u h k = h refl
+cond_asks false s t u h k = k
+
+prepare_asks : (s : State) (xid : Triple) → AsksRoom s (prepare_turn s xid)
+prepare_asks s xid =
+    let r = logged.Prepared xid (timestamp_in s xid) (writes_in s xid) in
+    unless_asks (one_phase_refusal (known_as s xid) (is_associated s xid)) s _
+    (marked_asks (mark_in (known_as s xid)) s (rolled_back s xid) _ refl
+    (cond_asks (is_empty (writes_in s xid)) s (Now (answer (plain XA_RDONLY) (committed s xid))) (prepare_written s xid) (λ empty. refl)
+    (cond_asks (has_room s r 1) s (logs s r XAER_RMERR s) (Now (log_full s xid)) (λ room. (room, refl)) refl)))
+
+one_phase_asks : (s : State) (xid : Triple) → AsksRoom s (commit_one_phase_turn s xid)
+one_phase_asks s xid =
+    let r = logged.Committed xid (timestamp_in s xid) (writes_in s xid) in
+    unless_asks (one_phase_refusal (known_as s xid) (is_associated s xid)) s _
+    (marked_asks (mark_in (known_as s xid)) s (rolled_back s xid) _ refl
+    (cond_asks (is_empty (writes_in s xid)) s (Now (ok (committed s xid))) (commit_written s xid) (λ empty. refl)
+    (cond_asks (has_room s r 0) s (logs s r XAER_RMERR (rolled_back s xid)) (Now (log_full s xid)) (λ room. (room, refl)) refl)))
+
+two_phase_asks : (s : State) (xid : Triple) → AsksRoom s (commit_two_phase_turn s xid)
+two_phase_asks s xid =
+    unless_asks (two_phase_refusal (known_as s xid)) s _
+    (unless_asks (heuristic_refusal (known_as s xid)) s (logs s (logged.Completed xid direction.Commit) XA_RETRY s) (tt, refl))
+
+roll_back_asks : (s : State) (xid : Triple) (k : Known) → AsksRoom s (roll_back_turn s xid k)
+roll_back_asks s xid InDoubt = (tt, refl)
+roll_back_asks s xid Unknown = refl
+roll_back_asks s xid (AtWork mark) = marked_asks mark s (rolled_back s xid) (Now (ok (rolled_back s xid))) refl refl
+roll_back_asks s xid (Completed direction) = refl
+
+rollback_asks : (s : State) (xid : Triple) → AsksRoom s (rollback_turn s xid)
+rollback_asks s xid =
+    unless_asks (rollback_refusal (known_as s xid) (is_associated s xid)) s _
+    (unless_asks (heuristic_refusal (known_as s xid)) s (roll_back_turn s xid (known_as s xid)) (roll_back_asks s xid (known_as s xid)))
+
+-- all rows
+
+row_asks : (s : State) (n : ℕ) (request : Request) → asks_restart request ≡ false → AsksRoom s (row s n request)
+row_asks s n (Open flags info) e = refl
+row_asks s n (Close flags) e = unless_same (close_refusal (list_any (is_anyones n) s.associations)) s _ refl
+row_asks s n (Start flags xid) e = start_same s n flags xid
+row_asks s n (End flags xid) e = end_same s n flags xid
+row_asks s n (Prepare flags xid) e = prepare_asks s xid
+row_asks s n (Commit flags xid) e =
+    cond_asks (has flags TMONEPHASE) s (commit_one_phase_turn s xid) (commit_two_phase_turn s xid) (λ one. one_phase_asks s xid)
+    (two_phase_asks s xid)
+row_asks s n (Rollback flags xid) e = rollback_asks s xid
+row_asks s n (Forget flags xid) e =
+    unless_asks (forget_refusal (known_as s xid)) s (logs s (logged.Forgotten xid) XAER_RMERR s) (tt, refl)
+row_asks s n (Recover flags count) e = recovered_same s n flags count (scan_from flags (scan_of s.sessions n))
+row_asks s n (Get key) e = get_same s key (own_branch s n)
+row_asks s n (Put key value) e = put_same s key (Some value) (own_branch s n)
+row_asks s n (Delete key) e = put_same s key None (own_branch s n)
+row_asks s n (Decide direction xid) e =
+    unless_asks (decide_refusal (known_as s xid)) s (logs s (logged.Decided xid direction) XAER_RMERR s) (tt, refl)
+row_asks s n (Doom xid) e = unless_same (doom_refusal (known_as s xid)) s (ok (doomed s xid)) refl
+row_asks s n Restart e = absurd (cc e)
+
+pub events_ask_room : (s : State) (e : Event) → is_restart e ≡ false → AsksRoom s (respond s e)
+events_ask_room s event.Connect e = unless_same (connect_refusal _) s (connected s) refl
+events_ask_room s (event.Hangup n) e = refl
+events_ask_room s (event.Call n request) e =
+    unless_asks (early_refusal (is_up s.standing) s.name (opened_of s n) request) s (row s n request) (row_asks s n request e)

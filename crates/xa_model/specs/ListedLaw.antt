@@ -1,0 +1,67 @@
+-- What recovery lists stays listed until its completion is asked for.
+use Rattle.std.specs.Prelude.{ℕ, ◌≡◌, ◌⊎◌, Bool, true, false, Some, List, ◌∷◌, ◌++◌}
+use Rattle.std.specs.List.{list_any, AllByRecursion}
+use Rattle.xa_codes.specs.declared.codes.TheConstants.{XA_OK, XAER_RMFAIL}
+use Rattle.xa_codes.specs.declared.detail.Detail.TheVariants as detail
+use Rattle.xa_frame.specs.declared.reply.Reply.{Reply}
+use Rattle.xa_frame.specs.declared.request.Request.{Request}
+use Rattle.xa_frame.specs.declared.request.Request.TheVariants.{Prepare, Commit, Rollback, Forget}
+use Rattle.xa_xid.specs.Triple.{Triple, xid_eq}
+use Rattle.xa_model.specs.declared.event.Event.TheVariants.{Call}
+use Rattle.xa_model.specs.State.{State, mark_of}
+use Rattle.xa_model.specs.Durable.{Durable, durable}
+use Rattle.xa_model.specs.Listed.{listed}
+use Rattle.xa_model.specs.Turn.{Happening, Asked}
+use Rattle.xa_model.specs.Events.{HaveHappened}
+use Rattle.xa_model.specs.History.{Entry, Leads}
+use Rattle.xa_model.specs.Loggable.{IsRecoverable}
+use Rattle.xa_model.specs.Restored.{IsRestored}
+
+-- recovery lists the XID
+abbrev pub IsListed : Triple → State → Type 0
+IsListed xid s = list_any (λ x. xid_eq x xid) (listed (durable s)) ≡ true
+
+-- a prepare of the XID
+abbrev pub is_prepare : Triple → Request → Bool
+is_prepare xid (Prepare flags x) = xid_eq x xid
+is_prepare xid _ = false
+
+-- a call that ends what is known of the XID
+abbrev pub is_completion : Triple → Request → Bool
+is_completion xid (Commit flags x) = xid_eq x xid
+is_completion xid (Rollback flags x) = xid_eq x xid
+is_completion xid (Forget flags x) = xid_eq x xid
+is_completion xid _ = false
+
+abbrev pub is_request : (Request → Bool) → Happening → Bool
+is_request test (Asked (Call n request)) = test request
+is_request test _ = false
+
+-- it was done; or its append was lost, so that it may be done
+abbrev pub MayBeDone : Reply → Type 0
+MayBeDone reply = (reply.code ≡ XA_OK) ⊎ ((reply.code ≡ XAER_RMFAIL) × (reply.detail ≡ detail.Device))
+
+abbrev pub AsksCompletion : Triple → Entry → Type 0
+AsksCompletion xid e = (is_request (is_completion xid) e.happening ≡ true) × MayBeDone e.reply
+
+abbrev pub HasPrepared : Triple → Entry → Type 0
+HasPrepared xid e = (is_request (is_prepare xid) e.happening ≡ true) × (e.reply.code ≡ XA_OK)
+
+-- no mark is the code of success
+abbrev pub AreRefusals : State → Type 0
+AreRefusals s = AllByRecursion (λ b. mark_of b.phase ≡ Some XA_OK → ⊥) s.branches
+
+-- in a history from this state: behind a prepare that was answered XA_OK recovery lists the XID as long as nobody asks for its
+-- completion, whatever else is asked, decided, restarted and opened again
+abbrev pub ListsUntilAsked : State → Type 0
+ListsUntilAsked first =
+    (last : State) (before later : List Entry) (prepare : Entry) (xid : Triple) → HaveHappened (before ++ prepare ∷ later)
+    → Leads first (before ++ prepare ∷ later) last → HasPrepared xid prepare → AllByRecursion (λ e. AsksCompletion xid e → ⊥) later
+    → IsListed xid last
+
+abbrev pub ListedUntilAsked : Type 0
+ListedUntilAsked = (first : State) → IsRecoverable first → AreRefusals first → ListsUntilAsked first
+
+-- so it is from each restart and each opening on
+abbrev pub ListedSinceBoot : Type 0
+ListedSinceBoot = (d : Durable) (next : ℕ) (first : State) → IsRestored d next first → ListsUntilAsked first

@@ -1,0 +1,65 @@
+-- What is asked of the device in one turn, and what each of its answers leads to.
+use Rattle.std.specs.Prelude.{ℕ, ℤ, Bool, true, false, Option, Some, None, List, option_and_then}
+use Rattle.xa_frame.specs.declared.reply.Reply.{Reply}
+use Rattle.xa_record.specs.declared.record.Record.{Record}
+use Rattle.xa_model.specs.declared.event.Event.{Event}
+use Rattle.xa_model.specs.declared.outcome.Outcome.{Outcome}
+use Rattle.xa_model.specs.declared.outcome.Outcome.TheVariants.{Quiet, Appended, Failed, Reread}
+use Rattle.xa_model.specs.declared.outcome.Appending.{Appending}
+use Rattle.xa_model.specs.State.{State}
+use Rattle.xa_model.specs.Answer.{Answer, plain, answer}
+
+-- what happens to a manager: an event is asked of it, or its process ended and it was opened again with these settings
+pub data Happening : Type 0 where
+  Asked : (event : Event) → Happening
+  Reopened : (name : List ℕ) (log_bytes : ℕ) → Happening
+
+-- What a rereading goes on with, once the log was read: with nothing, or with a record of the new boot that is appended.
+pub data Rereading : Type 0 where
+  Stops : (answer : Answer) → Rereading
+  Opens : (appended : Record) (after : Appending → Answer) → Rereading
+
+-- A turn: what is asked of the device, and what each of its answers leads to. Nobody answers, no device call is made, one
+-- record is appended, or the log is read again: that fails, or the record whose fate was unknown is there, or it isn't.
+pub data Turn : Type 0 where
+  Nobody : Turn
+  Now : (answer : Answer) → Turn
+  Appends : (appended : Record) (after : Appending → Answer) → Turn
+  Rereads : (failed : Answer) (survived missing : Option Rereading) → Turn
+
+-- where the outcome doesn't fit, there is no answer
+abbrev pub going_on : Option Appending → Rereading → Option Answer
+going_on None (Stops answer) = Some answer
+going_on (Some appending) (Stops answer) = None
+going_on None (Opens appended after) = None
+going_on (Some appending) (Opens appended after) = Some (after appending)
+
+abbrev pub taken_now : Answer → Outcome → Option Answer
+taken_now answer Quiet = Some answer
+taken_now answer _ = None
+
+abbrev pub taken_appending : (Appending → Answer) → Outcome → Option Answer
+taken_appending after (Appended appending) = Some (after appending)
+taken_appending after _ = None
+
+abbrev pub taken_rereading : Answer → Option Rereading → Option Rereading → Outcome → Option Answer
+taken_rereading failed survived missing Failed = Some failed
+taken_rereading failed survived missing (Reread true appended) = option_and_then (going_on appended) survived
+taken_rereading failed survived missing (Reread false appended) = option_and_then (going_on appended) missing
+taken_rereading failed survived missing _ = None
+
+abbrev pub taken : Turn → Outcome → Option Answer
+taken Nobody outcome = None
+taken (Now answer) outcome = taken_now answer outcome
+taken (Appends appended after) outcome = taken_appending after outcome
+taken (Rereads failed survived missing) outcome = taken_rereading failed survived missing outcome
+
+-- What is answered at once
+
+abbrev pub unless_now : Option Reply → State → Turn → Turn
+unless_now (Some reply) s go_on = Now (answer reply s)
+unless_now None s go_on = go_on
+
+abbrev pub marked_now : Option ℤ → State → Turn → Turn
+marked_now (Some code) s go_on = Now (answer (plain code) s)
+marked_now None s go_on = go_on

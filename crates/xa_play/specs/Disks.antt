@@ -1,0 +1,61 @@
+-- What is known of a manager whose log stands on two disks in memory.
+use Rattle.std.specs.Prelude.{ℕ, ◌≡◌, ⊤, Bool, Some, List, IsSomeAnd}
+use Rattle.xa_disk.specs.Disk.{AllOrNone}
+use Rattle.xa_disk.specs.Memory.{image_of}
+use Rattle.xa_disk.specs.declared.memory.MemDisk.{MemDisk}
+use Rattle.xa_frame.specs.declared.reply.Reply.{Reply}
+use Rattle.xa_log.specs.TwoFiles.{first_of, second_of}
+use Rattle.xa_log.specs.declared.log.Log.{Log}
+use Rattle.xa_model.specs.declared.event.Event.{Event}
+use Rattle.xa_model.specs.declared.outcome.Outcome.TheVariants.{Reread}
+use Rattle.xa_model.specs.declared.outcome.Appending.TheVariants.{Kept}
+use Rattle.xa_model.specs.Loggable.{IsRecoverable}
+use Rattle.xa_model.specs.State.{State}
+use Rattle.xa_model.specs.Step.{step}
+use Rattle.xa_model.specs.Turn.{Reopened}
+use Rattle.xa_manager.specs.Answered.{FullyAnswered, StaysFor}
+use Rattle.xa_manager.specs.Files.{FilesStandFor}
+use Rattle.xa_manager.specs.LogStands.{Trusts, LogStandsFor}
+use Rattle.xa_manager.specs.Managed.{ManagerStandsFor}
+use Rattle.xa_manager.specs.declared.manager.Manager.{Manager}
+
+-- what a read gives of a disk
+abbrev pub seen : MemDisk → List ℕ
+seen disk = disk.bytes.items
+
+-- the premises that a manager's contracts have on its disks
+abbrev pub MemoryIsTrusted : Type 0
+MemoryIsTrusted = Trusts ⊤ AllOrNone
+
+abbrev pub StandsFor : Manager MemDisk → State → Type 0
+StandsFor m s = ManagerStandsFor ⊤ AllOrNone seen image_of m s
+
+abbrev pub Answered : Manager MemDisk → Event → Reply → Manager MemDisk → Type 0
+Answered m event reply m' = FullyAnswered ⊤ AllOrNone seen image_of (λ disk. disk.failures) (λ disk. disk.counts) m event reply m'
+
+abbrev pub Stays : Manager MemDisk → Manager MemDisk → Type 0
+Stays m m' = StaysFor ⊤ AllOrNone seen image_of m m'
+
+-- what a read gives of the two files
+abbrev pub first_seen : Manager MemDisk → List ℕ
+first_seen m = seen (first_of m.log)
+
+abbrev pub second_seen : Manager MemDisk → List ℕ
+second_seen m = seen (second_of m.log)
+
+-- the files of a manager's log stand for whichever state it stands for
+abbrev pub FilesStand : Type 0
+FilesStand = (m : Manager MemDisk) (s : State) → StandsFor m s → FilesStandFor s.log_bytes (first_seen m) (second_seen m) s × IsRecoverable s
+
+-- a manager that was opened on two files stands for what opening leads to, from whichever state they stand for
+abbrev pub OpenedOn : List ℕ → ℕ → List ℕ → List ℕ → Manager MemDisk → Type 0
+OpenedOn name log_bytes first second m =
+    (t : State) → IsRecoverable t → FilesStandFor log_bytes first second t
+    → (survived : Bool) × IsSomeAnd (step t (Reopened name log_bytes) (Reread survived (Some Kept))) (λ a. StandsFor m a.after)
+
+-- these are what a crash may leave of the two files of a log that stands behind the state
+pub record CrashLeaves (s : State) (first second : List ℕ) : Type 0 where
+  pub log : Log MemDisk
+  pub stands : LogStandsFor AllOrNone seen image_of log s
+  pub first_left : image_of (first_of log) first
+  pub second_left : image_of (second_of log) second

@@ -1,0 +1,80 @@
+-- What one line is answered by a manager in memory, and what lines print from whichever state it stands for.
+use Rattle.std.specs.Prelude.{ℕ, ◌≡◌, ◌⊎◌, List, [], pos, Option, Some, None, Result, Ok, Err, IsSomeAnd}
+use Rattle.xa_codes.specs.declared.codes.TheConstants.{XAER_INVAL}
+use Rattle.xa_codes.specs.declared.detail.Detail.TheVariants as detail
+use Rattle.xa_disk.specs.Memory.{image_of}
+use Rattle.xa_disk.specs.declared.memory.MemDisk.{MemDisk}
+use Rattle.xa_frame.specs.declared.reply.Reply.{Reply}
+use Rattle.xa_log.specs.TwoFiles.{first_of, second_of}
+use Rattle.xa_model.specs.declared.event.Event.TheVariants as event
+use Rattle.xa_model.specs.State.{State}
+use Rattle.xa_model.specs.Answer.{plain, detailed}
+use Rattle.xa_manager.specs.declared.fault.ManagerFault.{ManagerFault}
+use Rattle.xa_manager.specs.declared.manager.Manager.{Manager}
+use Rattle.xa_xid.specs.Triple.{Triple}
+use Rattle.xa_script.specs.declared.line.Line.{Line}
+use Rattle.xa_script.specs.declared.line.Line.TheVariants.{Silent, Unknown, Connect, Hangup, Call, Fail, Reopen, Crash}
+use Rattle.xa_script.specs.Lines as lines
+use Rattle.xa_script.specs.Requests.{ReadsTexts}
+use Rattle.xa_play.specs.Disks.{StandsFor, Answered, Stays, OpenedOn, first_seen, second_seen}
+use Rattle.xa_play.specs.Plays.{PlaysLine, CutsLine, IsOpening, Prints, lines_of}
+use Rattle.xa_play.specs.declared.fault.PlayFault.{PlayFault}
+use Rattle.xa_play.specs.declared.fault.PlayFault.TheVariants as faults
+
+-- an opening found no memory, or it was refused
+abbrev pub IsOpeningFault : PlayFault → Type 0
+IsOpeningFault fault = (fault ≡ faults.Memory) ⊎ ((refused : ManagerFault) × (fault ≡ faults.Manager refused))
+
+-- the faults that end a play in its lines
+abbrev pub IsLinesFault : PlayFault → Type 0
+IsLinesFault fault = (fault ≡ faults.Write) ⊎ IsOpeningFault fault
+
+-- a line found no memory, or it opens the manager again, and that was refused
+abbrev pub AnswerFails : Line → PlayFault → Type 0
+AnswerFails said fault = (fault ≡ faults.Memory) ⊎ (IsOpening said × ((refused : ManagerFault) × (fault ≡ faults.Manager refused)))
+
+-- over the settings
+module _ (name : List ℕ) (log_bytes : ℕ) where
+  -- the manager was opened on what a crash left of its disks
+  abbrev pub Crashed : Manager MemDisk → Manager MemDisk → Type 0
+  Crashed m m' =
+      (first : List ℕ) × (second : List ℕ) × image_of (first_of m.log) first × image_of (second_of m.log) second × OpenedOn name log_bytes first second m'
+
+  -- What one line is answered by a manager, and leaves of it.
+  abbrev pub LineAnswered : Manager MemDisk → Line → Option Reply → Manager MemDisk → Type 0
+  LineAnswered m Silent answer m' = (answer ≡ None) × (m' ≡ m)
+  LineAnswered m Unknown answer m' = (answer ≡ Some (detailed XAER_INVAL detail.Frame)) × (m' ≡ m)
+  LineAnswered m Connect answer m' = IsSomeAnd answer (λ reply. Answered m event.Connect reply m')
+  LineAnswered m (Hangup n) answer m' = IsSomeAnd answer (λ reply. Answered m (event.Hangup n) reply m')
+  LineAnswered m (Call n request) answer m' = IsSomeAnd answer (λ reply. Answered m (event.Call n request) reply m')
+  LineAnswered m (Fail file call effect) answer m' = (answer ≡ None) × Stays m m'
+  LineAnswered m Reopen answer m' = (answer ≡ Some (plain (pos 0))) × OpenedOn name log_bytes (first_seen m) (second_seen m) m'
+  LineAnswered m Crash answer m' = (answer ≡ Some (plain (pos 0))) × Crashed m m'
+
+  -- the manager stands for the state, which has the size of log that was set
+  abbrev pub StandsAs : Manager MemDisk → State → Type 0
+  StandsAs m s = StandsFor m s × (s.log_bytes ≡ log_bytes)
+
+  -- from whichever state the manager stood for, the line prints this
+  abbrev pub LinePlayed : Manager MemDisk → List ℕ → List ℕ → Manager MemDisk → Type 0
+  LinePlayed m line text m' = (xid_of : List ℕ → Option Triple) → ReadsTexts xid_of → (s : State) → StandsAs m s
+      → PlaysLine name log_bytes s (lines.line_of xid_of line) text (StandsAs m')
+
+  -- the same of a part of what it prints
+  abbrev pub LineCut : Manager MemDisk → List ℕ → List ℕ → Type 0
+  LineCut m line part = (xid_of : List ℕ → Option Triple) → ReadsTexts xid_of → (s : State) → StandsAs m s
+      → CutsLine name log_bytes s (lines.line_of xid_of line) part
+
+  -- By its end, what a line printed: no memory is found before anything of it is written, and so is a refused opening.
+  abbrev pub LineEnds : Result (Manager MemDisk) PlayFault → Manager MemDisk → List ℕ → List ℕ → Type 0
+  LineEnds (Ok m') m line text = LinePlayed m line text m'
+  LineEnds (Err faults.Memory) m line text = text ≡ []
+  LineEnds (Err faults.Write) m line text = LineCut m line text
+  LineEnds (Err (faults.Manager fault)) m line text =
+      (text ≡ []) × ((xid_of : List ℕ → Option Triple) → ReadsTexts xid_of → IsOpening (lines.line_of xid_of line))
+  LineEnds (Err _) m line text = ⊥
+
+  -- by its end, what a script printed, from whichever state the manager stood for
+  abbrev pub ScriptEnds : {X : Type 0} → Result X PlayFault → Manager MemDisk → List ℕ → List ℕ → Type 0
+  ScriptEnds end m script text = (xid_of : List ℕ → Option Triple) → ReadsTexts xid_of → (s : State) → StandsAs m s
+      → Prints name log_bytes end s (lines_of xid_of script) text

@@ -1,0 +1,81 @@
+//! A manager is opened on disks in memory, at first and again.
+ghost use Rattle.std.specs.Prelude.{◌≡◌, ◌↔◌, ◌⊎◌, IfErr, IfOk, IsErrOf};
+ghost use Rattle.xa_model.specs.History.{fresh};
+ghost use Rattle.xa_manager.specs.Opening.{IsBadSetting};
+ghost use Rattle.xa_play.specs.Disks.{StandsFor, OpenedOn, first_seen, second_seen, seen};
+ghost use Rattle.xa_play.specs.Played.{Crashed, IsOpeningFault};
+
+use crate::fault::PlayFault;
+use crate::laws::memory_is_trusted;
+use std::alloc::{AllocError, Global};
+use xa_disk::MemDisk;
+use xa_manager::{Manager, Settings};
+
+/// A copy of the settings.
+pub fn copied(alloc: Global, settings: &Settings) -> Result<Settings, AllocError>
+    ensures { IfOk result (λ copy. copy ≡ settings.now) }
+{
+    Ok(Settings {
+        name: settings.name.copied(alloc)?,
+        log_bytes: settings.log_bytes,
+    })
+}
+
+/// A manager on two empty disks.
+pub fn open_fresh(alloc: Global, settings: Settings) -> Result<Manager<MemDisk>, PlayFault>
+    ensures stands { IfOk result (λ m. StandsFor m (fresh settings.name settings.log_bytes)) }
+    ensures setting { IsErrOf result PlayFault.Setting ↔ IsBadSetting settings.name settings.log_bytes }
+    ensures faults { IfErr result (λ fault. (fault ≡ PlayFault.Setting) ⊎ IsOpeningFault fault) }
+{
+    memory_is_trusted();
+    let opened = Manager::open(alloc, MemDisk::new(alloc), MemDisk::new(alloc), settings)?;
+    Ok(opened)
+}
+
+/// The manager is opened again, on its disks as a read gives them. The memory of the settings is taken first.
+pub fn reopen(
+    alloc: Global,
+    manager: Manager<MemDisk>,
+    settings: &Settings,
+) -> Result<Manager<MemDisk>, PlayFault>
+    requires { ¬ IsBadSetting settings.now.name settings.now.log_bytes }
+    ensures reopened { IfOk result (OpenedOn settings.now.name settings.now.log_bytes (first_seen manager) (second_seen manager)) }
+    ensures faults { IfErr result IsOpeningFault }
+{
+    let settings = copied(alloc, settings)?;
+    let (first, second) = manager.into_disks();
+    open_on(alloc, first, second, settings)
+}
+
+/// The manager is opened again, on what a crash leaves of its disks.
+pub fn crash(
+    alloc: Global,
+    manager: Manager<MemDisk>,
+    settings: &Settings,
+) -> Result<Manager<MemDisk>, PlayFault>
+    requires { ¬ IsBadSetting settings.now.name settings.now.log_bytes }
+    ensures crashed { IfOk result (Crashed settings.now.name settings.now.log_bytes manager) }
+    ensures faults { IfErr result IsOpeningFault }
+{
+    let settings = copied(alloc, settings)?;
+    let (mut first, mut second) = manager.into_disks();
+    first.crash()?;
+    second.crash()?;
+    open_on(alloc, first, second, settings)
+}
+
+/// A manager on two disks.
+fn open_on(
+    alloc: Global,
+    first: MemDisk,
+    second: MemDisk,
+    settings: Settings,
+) -> Result<Manager<MemDisk>, PlayFault>
+    requires { ¬ IsBadSetting settings.name settings.log_bytes }
+    ensures opened { IfOk result (OpenedOn settings.name settings.log_bytes (seen first) (seen second)) }
+    ensures faults { IfErr result IsOpeningFault }
+{
+    memory_is_trusted();
+    let opened = Manager::open(alloc, first, second, settings)?;
+    Ok(opened)
+}
