@@ -1,0 +1,38 @@
+use Rattle.std.proofs.Common.{◌≤◌, ℕ, List, ap, subst, arith}
+use Rattle.std.specs.Prelude.{Vec}
+use Rattle.std.specs.declared.alloc.Global.{Global}
+use Rattle.std.proofs.lemmas.Result.{err_from_is_err_and}
+use Rattle.xa_log.specs.declared.fault.OpenFault.TheVariants.{TooLong}
+use Rattle.xa_log.specs.Reading.{bodies_of}
+use Rattle.xa_scan.specs.Lines.{behind, first_place}
+use Rattle.xa_scan.specs.Scans.{PrintsLines, most_bytes}
+use Rattle.xa_scan.proofs.Printing.{no_longer, scanned, unread}
+use Rattle.xa_scan.proofs.scan.scan_run.Goals as goal
+
+pub returns-in_err-bodies : goal.returns-in_err-bodies
+returns-in_err-bodies g c =
+    let p = err_from_is_err_and c.from_residual.result c.from_residual.ensures.1 in
+    rw (p.1, p.2)
+    (unread (Unit {0}) g.D.Disk.honest c.in_err-bodies.field-0.0 (g.D.Disk.seen c.args.disk.now) (g.W.Write.contents c.args.writer.now) (λ yes. c.in_err-bodies.ensures.value yes))
+
+pub returns-in_err-end : goal.returns-in_err-end
+returns-in_err-end g c =
+    let p = err_from_is_err_and c.from_residual-in_err-end.result c.from_residual-in_err-end.ensures.1 in
+    let file = g.D.Disk.seen c.args.disk.now in
+    rw (p.1, p.2, c.in_err-end.ensures.fault.0)
+    (unread (Unit {0}) g.D.Disk.honest TooLong file (g.W.Write.contents c.args.writer.now)
+    (λ yes.
+    let read = c.in_ok-bodies.ensures.value yes in
+    let short : behind first_place (bodies_of c.in_ok-bodies.bodies.items) ≤ most_bytes = no_longer file (bodies_of c.in_ok-bodies.bodies.items) read.0 read.1 in
+    absurd (omega (arith, short, c.in_err-end.ensures.fault.1, ap (λ (l : List (Vec ℕ Global)). behind first_place (bodies_of l)) c.as_slice.ensures.value))))
+
+pub returns : goal.returns
+returns g c =
+    let file = g.D.Disk.seen c.args.disk.now in
+    let bodies = bodies_of c.in_ok-bodies.bodies.items in
+    let printed = c.write_lines-written.ensures in
+    rw c.ended.ensures
+    (scanned g.D.Disk.honest c.write_lines-written.result c.flush-flushed.result file bodies printed.0
+    (g.W.Write.contents c.args.writer.now) (g.W.Write.contents c.write_lines-written.new.writer) (g.W.Write.contents c.flush-flushed.new.self)
+    (λ yes. ((c.in_ok-bodies.ensures.value yes).0, c.in_ok-bodies.ensures.logged yes)) printed.1 c.flush-flushed.ensures.bytes
+    (subst (λ (l : List (Vec ℕ Global)). PrintsLines {X = Unit {0}} c.write_lines-written.result (bodies_of l) printed.0) c.as_slice-2.ensures.value printed.2))

@@ -1,0 +1,5 @@
+pub mod Records
+pub mod Lines
+pub mod Faults
+pub mod Scans
+pub mod Worked

@@ -1,0 +1,18 @@
+//! The printed lines of a log: `scan_run`, which reads one file of a log and writes a line for each record.
+//!
+//! - `scan`: a log is read, and its lines are written
+//! - `lines`: the line of a record, and the line behind the last one
+//! - `records`: the text of a record
+//! - `fault`: why a log wasn't printed to its end
+//! - `laws`: worked rows, and that a line's place is where its record begins
+#![tactic(auto)]
+
+mod fault;
+mod laws;
+mod lines;
+mod records;
+mod scan;
+
+pub use fault::ScanFault;
+pub use laws::{places_in_the_file, worked_scans};
+pub use scan::scan_run;
