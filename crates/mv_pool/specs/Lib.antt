@@ -1,0 +1,6 @@
+pub mod History
+pub mod Chain
+pub mod Pool
+pub mod Slots
+pub mod Slot
+pub mod Within

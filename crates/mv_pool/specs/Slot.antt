@@ -1,0 +1,26 @@
+-- Where a write goes among the versions of its key.
+use Rattle.std.specs.Prelude.{◌≡◌, ℕ, suc, ◌<◌, ◌≤◌, true, false, List, length, slice_index_or}
+use Rattle.std.specs.List.{AllByRecursion as Each}
+use Rattle.mv_pool.specs.declared.version.Version.{Version}
+use Rattle.mv_pool.specs.declared.changes.Slot.{Slot}
+use Rattle.mv_pool.specs.declared.changes.Slot.TheVariants.{Refused, Own, New}
+use Rattle.mv_pool.specs.Chain.{IsPlace, is_marked, may_install}
+
+-- the branch's own version is pending and stands there
+pub record IsOwn (t i : ℕ) (versions : List Version) : Type 0 where
+  pub within : i < length versions
+  pub place : IsPlace t (suc i) versions
+  pub own : (d : Version) → ((slice_index_or versions i d).timestamp ≡ t) × ((slice_index_or versions i d).pending ≡ true)
+  pub in_time : is_marked t versions ≡ false
+
+-- the branch has no version, and one would stand there
+pub record IsNew (t i : ℕ) (versions : List Version) : Type 0 where
+  pub within : i ≤ length versions
+  pub place : IsPlace t i versions
+  pub none : Each (λ v. v.timestamp ≡ t → ⊥) versions
+  pub in_time : is_marked t versions ≡ false
+
+abbrev pub IsSlot : ℕ → List Version → Slot → Type 0
+IsSlot t versions Refused = may_install t versions ≡ false
+IsSlot t versions (Own i) = IsOwn t i versions
+IsSlot t versions (New i) = IsNew t i versions

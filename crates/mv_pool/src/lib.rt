@@ -1,0 +1,29 @@
+//! The versions of one key under multiversion timestamp ordering (Bernstein, Hadzilacos and Goodman,
+//! Concurrency Control and Recovery in Database Systems, 5.3).
+//!
+//! A branch reads, of all versions of the key up to its own timestamp, the one with the greatest. Each
+//! version keeps the greatest timestamp that read it, its read mark. A write is late if a branch above it
+//! has already read a version below it: that read should have seen the write.
+//!
+//! The versions of all keys stand in one [`Pool`]. Contracts see a [`Chain`] over it as a list of versions, ascending
+//! by timestamp. `StandsFor` ties that list to what happened: the writes of the key with their fates, and the answered
+//! reads. A call on one chain leaves every other chain of the pool as it was.
+#![tactic(auto)]
+
+mod chain;
+mod changes;
+mod fate;
+mod found;
+mod laws;
+mod places;
+mod pool;
+mod pruning;
+mod slots;
+mod version;
+
+pub use chain::Chain;
+pub use fate::Fate;
+pub use found::Found;
+pub use laws::others_stay;
+pub use pool::Pool;
+pub use version::{Content, Version};

@@ -1,0 +1,48 @@
+ghost use Rattle.std.specs.Prelude.{◌≡◌, option_map};
+
+use std::marker::Model;
+
+/// The bytes of a value, which contracts see as a list.
+#[derive(Debug, Drop)]
+pub struct Content {
+    bytes: Vec<u8>,
+}
+
+impl Model for Content {
+    ghost use Rattle.std.specs.Prelude.{List, ℕ};
+
+    ghost Value = { List ℕ };
+
+    ghost view = { λ c. c.bytes.items };
+}
+
+impl Content {
+    pub(crate) fn as_slice(&self) -> &[u8]
+        ensures { result.now ≡ self.now }
+    {
+        self.bytes.as_slice()
+    }
+}
+
+/// The bytes of a value, or of none where the key is absent.
+pub(crate) fn content_of(value: Option<Vec<u8>>) -> Option<Content>
+    ensures { result ≡ option_map (λ v. v.items) value }
+{
+    match value {
+        Some(bytes) => Some(Content { bytes }),
+        None => None,
+    }
+}
+
+/// What one branch left at a key.
+#[derive(Debug, Drop)]
+pub struct Version {
+    /// The branch's timestamp.
+    pub timestamp: u64,
+    /// What the key has, or `None` where the branch deleted it.
+    pub value: Option<Content>,
+    /// Whether the branch is still undecided.
+    pub pending: bool,
+    /// The greatest timestamp that has read this version, or 0.
+    pub mark: u64,
+}
