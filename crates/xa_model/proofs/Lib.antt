@@ -21,6 +21,7 @@ pub mod Worked
 pub mod WorkedCalls
 pub mod WorkedVersions
 pub mod WorkedRefusals
+pub mod WorkedEarly
 pub mod WorkedBranches
 pub mod WorkedLimits
 pub mod Inserts
@@ -39,6 +40,7 @@ pub mod Keys
 pub mod LastOfKeys
 pub mod WorkedLog
 pub mod WorkedTurns
+pub mod WorkedDevice
 pub mod WorkedRecovery
 pub mod Splits
 pub mod Commits
@@ -82,3 +84,4 @@ pub mod MovingRows
 pub mod MovingTurns
 pub mod Preparing
 pub mod Copies
+pub mod Totals

@@ -1,12 +1,9 @@
 -- The worked refusals compute.
 use Rattle.std.proofs.Common.{refl}
-use Rattle.xa_model.specs.WorkedRefusals.{EarlyRefused, DownRefused, CloseRefused, StartRefused, JoinRefused, ResumeRefused, SuspendRefused, EndRefused}
+use Rattle.xa_model.specs.WorkedRefusals.{EarlyRefused, CloseRefused, StartRefused, JoinRefused, ResumeRefused, SuspendRefused, EndRefused}
 
 pub early_refused : EarlyRefused
 early_refused = refl
-
-pub down_refused : DownRefused
-down_refused = refl
 
 pub close_refused : CloseRefused
 close_refused = refl

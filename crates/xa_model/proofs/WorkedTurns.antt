@@ -1,6 +1,6 @@
 -- The worked rows of the calls that log compute.
 use Rattle.std.proofs.Common.{refl}
-use Rattle.xa_model.specs.WorkedTurns.{PreparedAndCommitted, RolledBackAgain, MarkedIsGone, ReadOnly, Room, RefusedAppends, LostAppends, LostBoots, DecidedByOperator, OpenedAgain}
+use Rattle.xa_model.specs.WorkedTurns.{PreparedAndCommitted, RolledBackAgain, MarkedIsGone, ReadOnly, Room, LostAppends, LostBoots, DecidedByOperator, OpenedAgain}
 
 pub prepared_and_committed : PreparedAndCommitted
 prepared_and_committed = (refl, refl, refl, refl, refl, refl, refl, refl, refl)
@@ -16,9 +16,6 @@ read_only = (refl, refl)
 
 pub room : Room
 room = (refl, refl, refl, refl, refl, refl)
-
-pub refused_appends : RefusedAppends
-refused_appends = (refl, refl, refl, refl, refl)
 
 pub lost_appends : LostAppends
 lost_appends = (refl, refl, refl, refl, refl, refl, refl, refl)

@@ -6,8 +6,8 @@ use Rattle.xa_codes.specs.declared.direction.Direction.TheVariants as direction
 use Rattle.xa_xid.specs.Triple.{Triple, xid_eq}
 use Rattle.xa_frame.specs.declared.reply.Reply.{Reply}
 use Rattle.xa_model.specs.State.{State, Branch, Decided, Phase, Working, Prepared, Committed, Known, Completed, known_as, holders_of, is_known_as, without, change}
-use Rattle.xa_model.specs.Answer.{Answer, plain, ok, first, unless, marked}
-use Rattle.xa_model.specs.Associations.{is_unknown, is_settled, mark_in, with_mark}
+use Rattle.xa_model.specs.Answer.{Answer, plain, ok, first, unless}
+use Rattle.xa_model.specs.Associations.{is_unknown, is_settled, with_mark}
 
 -- the branch is rolled back, and gone; the reads that it was answered stay
 abbrev pub rolled_back : State → Triple → State

@@ -1,5 +1,5 @@
 -- Laws on every history.
-use Rattle.std.specs.Prelude.{ℕ, ◌≡◌, false, Some, List, [], ◌∷◌}
+use Rattle.std.specs.Prelude.{◌≡◌, false, Some, List, [], ◌∷◌}
 use Rattle.xa_codes.specs.declared.direction.Direction.{Direction}
 use Rattle.xa_xid.specs.Triple.{Triple}
 use Rattle.xa_model.specs.declared.event.Event.{Event}

@@ -22,6 +22,7 @@ pub mod Loggable
 pub mod Backing
 pub mod Restored
 pub mod Room
+pub mod Total
 pub mod Laws
 pub mod ListedLaw
 pub mod OneCopy
@@ -33,10 +34,12 @@ pub mod WorkedScripts
 pub mod WorkedCalls
 pub mod WorkedVersions
 pub mod WorkedRefusals
+pub mod WorkedEarly
 pub mod WorkedBranches
 pub mod WorkedLimits
 pub mod WorkedLog
 pub mod WorkedTurns
+pub mod WorkedDevice
 pub mod WorkedRecovery
 pub mod WorkedLasting
 pub mod WorkedOneCopy

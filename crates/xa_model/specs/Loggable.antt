@@ -1,11 +1,11 @@
 -- What a state has that may come into the log: within the records' limits, and in their order.
-use Rattle.std.specs.Prelude.{ℕ, ◌≡◌, ◌+◌, ◌≤◌, Bool, true, false, Option, Some, None, IfSome, List, length}
+use Rattle.std.specs.Prelude.{◌≡◌, ◌+◌, ◌≤◌, Bool, true, false, None, IfSome, List, length}
 use Rattle.std.specs.List.{AllByRecursion}
 use Rattle.xa_codes.specs.declared.write.Write.{Write}
 use Rattle.xa_record.specs.Limits.{IsRecord, IsWrite}
 use Rattle.xa_record.specs.declared.record.Record.{Record}
 use Rattle.xa_record.specs.declared.record.Record.TheVariants as logged
-use Rattle.xa_model.specs.State.{State, Branch, Up}
+use Rattle.xa_model.specs.State.{State, Up}
 use Rattle.xa_model.specs.Sound.{IsSound, is_working}
 use Rattle.xa_model.specs.Durable.{boot_of, is_past, writes_of}
 use Rattle.xa_model.specs.Records.{most_keys}

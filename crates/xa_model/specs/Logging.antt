@@ -4,13 +4,12 @@ use Rattle.xa_codes.specs.declared.codes.TheConstants.{XAER_RMFAIL, XA_RBOTHER}
 use Rattle.xa_codes.specs.declared.detail.Detail.TheVariants as detail
 use Rattle.xa_codes.specs.declared.write.Write.{Write}
 use Rattle.xa_xid.specs.Triple.{Triple}
-use Rattle.xa_frame.specs.declared.reply.Reply.{Reply}
 use Rattle.xa_record.specs.declared.record.Record.{Record}
 use Rattle.xa_record.specs.declared.record.Record.TheVariants as logged
 use Rattle.xa_model.specs.declared.outcome.Appending.{Appending}
 use Rattle.xa_model.specs.declared.outcome.Appending.TheVariants.{Kept, Refused, Lost}
 use Rattle.xa_model.specs.State.{State, Branch, Phase, Working, Prepared, Committed, Down, count, known_of}
-use Rattle.xa_model.specs.Answer.{Answer, plain, detailed, answer, ok}
+use Rattle.xa_model.specs.Answer.{Answer, detailed, answer, ok}
 use Rattle.xa_model.specs.Branches.{prepared, committed, completed, decided_by, forgotten, rolled_back}
 use Rattle.xa_model.specs.Durable.{durable, writes_of}
 use Rattle.xa_model.specs.Fold.{snapshot, size_of, sizes}

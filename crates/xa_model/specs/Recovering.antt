@@ -1,5 +1,5 @@
 -- Recover: a session's scan over what recovery lists.
-use Rattle.std.specs.Prelude.{ℕ, ◌==◌, pos, Bool, true, false, Option, Some, None, List, [], ◌∷◌, length, option_and_then, if◌then◌else◌}
+use Rattle.std.specs.Prelude.{ℕ, ◌==◌, pos, Option, Some, None, List, [], ◌∷◌, length, option_and_then, if◌then◌else◌}
 use Rattle.xa_codes.specs.Flags.{has}
 use Rattle.xa_codes.specs.declared.codes.TheConstants.{XAER_INVAL}
 use Rattle.xa_codes.specs.declared.detail.Detail.TheVariants as detail

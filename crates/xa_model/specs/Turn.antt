@@ -1,5 +1,5 @@
 -- What is asked of the device in one turn, and what each of its answers leads to.
-use Rattle.std.specs.Prelude.{ℕ, ℤ, Bool, true, false, Option, Some, None, List, option_and_then}
+use Rattle.std.specs.Prelude.{ℕ, ℤ, true, false, Option, Some, None, List, option_and_then}
 use Rattle.xa_frame.specs.declared.reply.Reply.{Reply}
 use Rattle.xa_record.specs.declared.record.Record.{Record}
 use Rattle.xa_model.specs.declared.event.Event.{Event}

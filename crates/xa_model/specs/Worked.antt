@@ -7,7 +7,7 @@ use Rattle.xa_xid.specs.Triple.{Triple}
 use Rattle.xa_frame.specs.declared.body.Body.TheVariants as body
 use Rattle.xa_frame.specs.declared.reply.Reply.{Reply}
 use Rattle.xa_frame.specs.declared.request.Request.{Request}
-use Rattle.xa_frame.specs.declared.request.Request.TheVariants.{Open, Start, End, Commit, Get, Put}
+use Rattle.xa_frame.specs.declared.request.Request.TheVariants.{Open, Start, End, Commit, Recover, Get, Put}
 use Rattle.xa_model.specs.declared.event.Event.TheVariants.{Connect, Call}
 use Rattle.xa_model.specs.declared.outcome.Outcome.{Outcome}
 use Rattle.xa_model.specs.declared.outcome.Outcome.TheVariants.{Quiet, Appended}
@@ -112,5 +112,6 @@ FlagsRefused =
     ∷ asks (Start TMASYNC (xid 0xaa []))
     ∷ asks (End TMNOFLAGS (xid 0xaa []))
     ∷ asks (End (TMSUCCESS + TMMIGRATE) (xid 0xaa []))
+    ∷ asks (Recover TMASYNC 1)
     ∷ [])
-    ≡ Some (number 1 ∷ done ∷ plain XAER_INVAL ∷ plain XAER_ASYNC ∷ plain XAER_INVAL ∷ plain XAER_INVAL ∷ [])
+    ≡ Some (number 1 ∷ done ∷ plain XAER_INVAL ∷ plain XAER_ASYNC ∷ plain XAER_INVAL ∷ plain XAER_INVAL ∷ plain XAER_INVAL ∷ [])

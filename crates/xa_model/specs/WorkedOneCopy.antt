@@ -1,7 +1,15 @@
--- Worked lists of committed branches: which are one copy.
-use Rattle.std.specs.Prelude.{ℕ, Option, Some, None, List, [], ◌∷◌}
-use Rattle.xa_model.specs.State.{Branch, Operation, Got, Wrote, Committed}
+-- Worked lists of committed branches: which are one copy. And what becomes of a get that is answered.
+use Rattle.std.specs.Prelude.{ℕ, ◌≡◌, true, Option, Some, None, List, [], ◌∷◌}
+use Rattle.xa_frame.specs.declared.body.Body.TheVariants as body
+use Rattle.xa_frame.specs.declared.request.Request.TheVariants.{Get}
+use Rattle.xa_model.specs.declared.event.Event.TheVariants.{Call}
+use Rattle.xa_model.specs.declared.outcome.Outcome.TheVariants.{Quiet}
+use Rattle.xa_model.specs.State.{State, Branch, Operation, Got, Wrote, Working, Committed, Active, Read}
+use Rattle.xa_model.specs.Answer.{carrying}
+use Rattle.xa_model.specs.Turn.{Asked}
+use Rattle.xa_model.specs.Step.{step}
 use Rattle.xa_model.specs.OneCopy.{IsOneCopy}
+use Rattle.xa_model.specs.WorkedScripts.{new_manager, xid_a}
 
 abbrev branch_at : ℕ → List Operation → Branch
 branch_at t operations = record { timestamp = t; operations = operations; phase = Committed }
@@ -27,3 +35,18 @@ MissesOwnDelete = IsOneCopy (branch_at 2 (Got key written 1 ∷ Wrote key None �
 -- the reader at 1 has read what was written later
 abbrev pub ReadsAbove : Type 0
 ReadsAbove = IsOneCopy (branch_at 2 (Wrote key written ∷ []) ∷ branch_at 1 (Got key written 2 ∷ []) ∷ []) → ⊥
+
+-- session 1 works for a branch at 2, which did this, above a write by 1; so many reads were answered
+abbrev at_work : List Operation → List Read → State
+at_work operations reads = record new_manager {
+  sessions = record { number = 1; opened = true; scan = None } ∷ [];
+  associations = record { xid = xid_a; holder = Active 1 } ∷ [];
+  branches = record { timestamp = 2; operations = operations; phase = Working xid_a None } ∷ branch_at 1 (Wrote key written ∷ []) ∷ [];
+  reads = reads;
+}
+
+-- a get has in its branch's operations just what it was answered, and its source and its reader among the reads
+abbrev pub RecordsRead : Type 0
+RecordsRead =
+    step (at_work [] []) (Asked (Call 1 (Get key))) Quiet
+    ≡ Some (record { reply = carrying (body.Value (1 ∷ [])); after = at_work (Got key written 1 ∷ []) (record { reader = 2; key = key; source = 1 } ∷ []) })

@@ -1,14 +1,14 @@
 -- Worked rows: each refusal before the row of a call, and each of a row of the association table, and what it leaves.
-use Rattle.std.specs.Prelude.{◌+◌, false, [], ◌∷◌, ◌++◌}
-use Rattle.xa_codes.specs.declared.codes.TheConstants.{XAER_ASYNC, XAER_PROTO, XAER_INVAL, XAER_NOTA, XAER_DUPID, XAER_RMFAIL, XA_RBROLLBACK, XA_RBOTHER}
+use Rattle.std.specs.Prelude.{◌+◌, [], ◌∷◌, ◌++◌}
+use Rattle.xa_codes.specs.declared.codes.TheConstants.{XAER_ASYNC, XAER_PROTO, XAER_INVAL, XAER_NOTA, XAER_DUPID, XA_RBROLLBACK, XA_RBOTHER}
 use Rattle.xa_codes.specs.declared.direction.Direction.TheVariants as direction
 use Rattle.xa_codes.specs.declared.flags.TheConstants.{TMASYNC, TMJOIN, TMRESUME, TMSUCCESS, TMFAIL, TMSUSPEND, TMMIGRATE, TMONEPHASE, TMNOWAIT}
 use Rattle.xa_xid.specs.Triple.{Triple}
 use Rattle.xa_frame.specs.declared.request.Request.TheVariants.{Open, Close, Start, End, Prepare, Commit, Rollback, Forget, Recover}
-use Rattle.xa_model.specs.State.{State, Prepared, Down}
+use Rattle.xa_model.specs.State.{State, Prepared}
 use Rattle.xa_model.specs.Answer.{plain}
 use Rattle.xa_model.specs.Worked.{xarm, xid, done, number}
-use Rattle.xa_model.specs.WorkedScripts.{Replied, new_manager, xid_a, xid_b, time, connects, asks_by, opens, closes, session, begins, joins, resumes, suspends, migrates, ends, fails, rolls_back, dooms, gets, restarts}
+use Rattle.xa_model.specs.WorkedScripts.{Replied, new_manager, xid_a, xid_b, time, connects, asks_by, opens, closes, session, begins, joins, resumes, suspends, migrates, ends, fails, rolls_back, dooms, gets}
 
 abbrev pub in_doubt : Triple
 in_doubt = xid 0xdd []
@@ -54,21 +54,6 @@ EarlyRefused =
     ∷ asks_by 1 (Prepare TMONEPHASE xid_a) (plain XAER_INVAL)
     ∷ asks_by 1 (Forget TMFAIL xid_a) (plain XAER_INVAL)
     ∷ asks_by 1 (Recover TMASYNC 1) (plain XAER_INVAL)
-    ∷ [])
-
--- a manager that is down serves no call but Open, Close and Restart; that comes before all other refusals
-abbrev pub DownRefused : Type 0
-DownRefused =
-    Replied (record new_manager { standing = Down }) (
-    begins 1 xid_a (plain XAER_RMFAIL)
-    ∷ closes 1 (plain XAER_PROTO)
-    ∷ session 1
-    ++ begins 1 xid_a (plain XAER_RMFAIL)
-    ∷ gets 1 (plain XAER_RMFAIL)
-    ∷ dooms 1 xid_a (plain XAER_RMFAIL)
-    ∷ closes 1 done
-    ∷ restarts 1 false done
-    ∷ begins 1 xid_a (plain XAER_PROTO)
     ∷ [])
 
 -- The association table

@@ -1,6 +1,6 @@
 -- Worked rows of the calls that log: what each asks of the device, and what its outcomes lead to.
 use Rattle.std.specs.Prelude.{ℕ, ◌≡◌, true, false, Option, Some, None, Ok, [], ◌∷◌}
-use Rattle.xa_codes.specs.declared.codes.TheConstants.{XAER_PROTO, XAER_NOTA, XAER_RMERR, XAER_RMFAIL, XA_RDONLY, XA_RETRY, XA_RBOTHER, XA_HEURCOM}
+use Rattle.xa_codes.specs.declared.codes.TheConstants.{XAER_PROTO, XAER_NOTA, XAER_RMFAIL, XA_RDONLY, XA_RBOTHER, XA_HEURCOM}
 use Rattle.xa_codes.specs.declared.detail.Detail.TheVariants as detail
 use Rattle.xa_codes.specs.declared.direction.Direction.{Direction}
 use Rattle.xa_codes.specs.declared.direction.Direction.TheVariants as direction
@@ -137,15 +137,6 @@ Room =
     × Takes (committing_at_once (record idle { log_bytes = 113 })) Quiet (detailed XA_RBOTHER detail.LogFull) (record without_branch { log_bytes = 113 })
     × (log_room 860 0 1 3 ≡ true)
     × (log_room 859 0 1 3 ≡ false)
-
--- A record that is refused leaves the branch as it was, save for a commit in one phase.
-abbrev pub RefusedAppends : Type 0
-RefusedAppends =
-    Takes (preparing idle) (Appended Refused) (detailed XAER_RMERR detail.Device) idle
-    × Takes (rolling_back in_doubt) (Appended Refused) (detailed XAER_RMERR detail.Device) in_doubt
-    × Takes (committing in_doubt) (Appended Refused) (detailed XA_RETRY detail.Device) in_doubt
-    × Takes (committing_at_once idle) (Appended Refused) (detailed XAER_RMERR detail.Device) without_branch
-    × Takes (deciding in_doubt direction.Commit) (Appended Refused) (detailed XAER_RMERR detail.Device) in_doubt
 
 -- after a restart with this boot
 abbrev pub booted : State → ℕ → ℕ → State

@@ -1,3 +1,4 @@
+ghost use Rattle.xa_model.specs.Total.{StepIsTotal, NothingIsStuck, NobodyAnswers, RestartsLook, OpeningsLook};
 ghost use Rattle.xa_model.specs.Laws.{OneHistory, KeepsSound, KeepsSoundPrepared, KeepsSoundDecided, KeepsSoundForgotten};
 ghost use Rattle.xa_model.specs.DurableLaws.{FoldReads, OneMore, FirstFault, FoldIsByKey, FoldIsDurable, LastWritesStay, LeavesDurable, OneValue, SnapshotFolds, SnapshotIsShort, SnapshotIsWritten, WritesOf};
 ghost use Rattle.xa_model.specs.LoggingLaws.{KeepsSoundApplied, AppliedLasts, AppliedFits, EventsLogWhatLasts, RestartLasts, ReopenLasts};
@@ -7,19 +8,32 @@ ghost use Rattle.xa_model.specs.OneCopy.{AlwaysOneCopy, FreshOneCopy, OpenedOneC
 ghost use Rattle.xa_model.specs.ListedLaw.{ListedUntilAsked, ListedSinceBoot};
 ghost use Rattle.xa_model.specs.WorkedLog.{HeldAndCommitted, DecidedAndForgotten, RolledBack, LastWrites, InOrder, BootsInOrder, TimestampsInOrder, NamesInOrder, SnapshotsInOrder};
 ghost use Rattle.xa_model.specs.WorkedLasting.{StatesLeave, CommittedLeaves};
-ghost use Rattle.xa_model.specs.WorkedOneCopy.{ReadsBelow, MissesDelete, MissesOwnDelete, ReadsAbove};
-ghost use Rattle.xa_model.specs.WorkedTurns.{PreparedAndCommitted, RolledBackAgain, MarkedIsGone, ReadOnly, Room, RefusedAppends, LostAppends, LostBoots, DecidedByOperator, OpenedAgain};
+ghost use Rattle.xa_model.specs.WorkedOneCopy.{ReadsBelow, MissesDelete, MissesOwnDelete, ReadsAbove, RecordsRead};
+ghost use Rattle.xa_model.specs.WorkedTurns.{PreparedAndCommitted, RolledBackAgain, MarkedIsGone, ReadOnly, Room, LostAppends, LostBoots, DecidedByOperator, OpenedAgain};
+ghost use Rattle.xa_model.specs.WorkedDevice.{EachRefused, EachLost, RestartRefused, OpeningRefused};
 ghost use Rattle.xa_model.specs.WorkedRecovery.{Recovered, PreparedWithoutWrites, NextBoot, LostAndFound, LostAndGone, Heuristics, Scans, JustRoom, NoRoom, Refusals};
 ghost use Rattle.xa_model.specs.Worked.{ReadBack, BusyUntilCommitted, FlagsRefused};
 ghost use Rattle.xa_model.specs.WorkedCalls.{ComesAndGoes, Migration, OwnBeforeLoose, LooseEnds, BrokenConnection, SuspendedAndBroken, NumbersAgain, Opening, Marks, FirstMark};
 ghost use Rattle.xa_model.specs.WorkedVersions.{LateWrite, LateDelete, BlindWrite, BusyBelow, BusyInDoubt, SharedBranch, NotBusyAbove, Deleted, DeletedAfterwards, ReadOver};
-ghost use Rattle.xa_model.specs.WorkedRefusals.{EarlyRefused, DownRefused, CloseRefused, StartRefused, JoinRefused, ResumeRefused, SuspendRefused, EndRefused};
+ghost use Rattle.xa_model.specs.WorkedRefusals.{EarlyRefused, CloseRefused, StartRefused, JoinRefused, ResumeRefused, SuspendRefused, EndRefused};
+ghost use Rattle.xa_model.specs.WorkedEarly.{NotConnected, NotOpened, IsDown, FlagsOfEach};
 ghost use Rattle.xa_model.specs.WorkedBranches.{OnePhaseRefused, TwoPhaseRefused, RollbackRefused, PrepareRefused, DoomRefused, RecordsRefused};
 ghost use Rattle.xa_model.specs.WorkedLimits.{ManySessions, ManyBranches, ManyTimestamps, ManyLoose, ManyKeys};
 
 /// From a given start, given events and outcomes have at most one legal history.
 pub fn one_history()
     ensures { OneHistory }
+{}
+
+/// Each event and each opening, in every state, is answered with each outcome that fits its turn, and with no other; and some
+/// outcome fits, unless the manager's process ended, after which only an opening is answered. A restart and an opening fit a look
+/// that misses the record whose fate was unknown always, and one that finds it exactly where there is such a record.
+pub fn total()
+    ensures step { StepIsTotal }
+    ensures some { NothingIsStuck }
+    ensures over { NobodyAnswers }
+    ensures restart { RestartsLook }
+    ensures opening { OpeningsLook }
 {}
 
 /// Every event but a restart leads from a sound state to a sound one, with every outcome of its device calls. Of restarts and
@@ -78,7 +92,10 @@ pub fn worked_marks()
 /// puts and deletes.
 pub fn worked_refusals()
     ensures early { EarlyRefused }
-    ensures down { DownRefused }
+    ensures down { IsDown }
+    ensures not_connected { NotConnected }
+    ensures not_opened { NotOpened }
+    ensures flags { FlagsOfEach }
     ensures close { CloseRefused }
     ensures start { StartRefused }
     ensures join { JoinRefused }
@@ -142,8 +159,11 @@ pub fn worked_turns()
     ensures marked { MarkedIsGone }
     ensures read_only { ReadOnly }
     ensures room { Room }
-    ensures refused { RefusedAppends }
+    ensures refused { EachRefused }
+    ensures each_lost { EachLost }
     ensures lost { LostAppends }
+    ensures restart { RestartRefused }
+    ensures opening { OpeningRefused }
     ensures boots { LostBoots }
     ensures decided { DecidedByOperator }
     ensures opened { OpenedAgain }
@@ -233,10 +253,11 @@ pub fn listed_until_asked()
 {}
 
 /// Worked lists of committed branches: one that is one copy, and three that aren't, since a read missed a write before it, or
-/// found one behind it.
+/// found one behind it. And a get that is answered: what is recorded is what was answered.
 pub fn worked_copies()
     ensures below { ReadsBelow }
     ensures misses { MissesDelete }
     ensures misses_own { MissesOwnDelete }
     ensures above { ReadsAbove }
+    ensures records { RecordsRead }
 {}

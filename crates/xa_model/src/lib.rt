@@ -10,8 +10,8 @@ mod outcome;
 pub use event::Event;
 pub use laws::{
     backed, lasting, listed_until_asked, logged_lasts, one_copy, one_history, recoverable,
-    restored, roomy, sound, sound_lasting, worked_associations, worked_copies, worked_limits,
-    worked_logs, worked_marks, worked_recovery, worked_refusals, worked_rows, worked_turns,
-    worked_versions,
+    restored, roomy, sound, sound_lasting, total, worked_associations, worked_copies,
+    worked_limits, worked_logs, worked_marks, worked_recovery, worked_refusals, worked_rows,
+    worked_turns, worked_versions,
 };
 pub use outcome::{Appending, Outcome};

@@ -12,3 +12,6 @@ returns-clause-misses_own c = λ h. cc h.0.0
 
 pub returns-clause-above : goal.returns-clause-above
 returns-clause-above c = λ h. cc h.1.0.0
+
+pub returns-clause-records : goal.returns-clause-records
+returns-clause-records c = refl

@@ -1,4 +1,5 @@
-use Rattle.xa_model.proofs.WorkedRefusals.{early_refused, down_refused, close_refused, start_refused, join_refused, resume_refused, suspend_refused, end_refused}
+use Rattle.xa_model.proofs.WorkedRefusals.{early_refused, close_refused, start_refused, join_refused, resume_refused, suspend_refused, end_refused}
+use Rattle.xa_model.proofs.WorkedEarly.{not_connected, not_opened, is_down, flags_of_each}
 use Rattle.xa_model.proofs.WorkedBranches.{one_phase_refused, two_phase_refused, rollback_refused, prepare_refused, doom_refused, records_refused}
 use Rattle.xa_model.proofs.laws.worked_refusals.Goals as goal
 
@@ -6,7 +7,7 @@ pub returns-clause-early : goal.returns-clause-early
 returns-clause-early c = early_refused
 
 pub returns-clause-down : goal.returns-clause-down
-returns-clause-down c = down_refused
+returns-clause-down c = is_down
 
 pub returns-clause-close : goal.returns-clause-close
 returns-clause-close c = close_refused
@@ -43,3 +44,12 @@ returns-clause-doom c = doom_refused
 
 pub returns-clause-records : goal.returns-clause-records
 returns-clause-records c = records_refused
+
+pub returns-clause-not_connected : goal.returns-clause-not_connected
+returns-clause-not_connected c = not_connected
+
+pub returns-clause-not_opened : goal.returns-clause-not_opened
+returns-clause-not_opened c = not_opened
+
+pub returns-clause-flags : goal.returns-clause-flags
+returns-clause-flags c = flags_of_each

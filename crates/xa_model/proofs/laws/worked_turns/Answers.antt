@@ -1,4 +1,5 @@
-use Rattle.xa_model.proofs.WorkedTurns.{prepared_and_committed, rolled_back_again, marked_is_gone, read_only, room, refused_appends, lost_appends, lost_boots, decided_by_operator, opened_again}
+use Rattle.xa_model.proofs.WorkedTurns.{prepared_and_committed, rolled_back_again, marked_is_gone, read_only, room, lost_appends, lost_boots, decided_by_operator, opened_again}
+use Rattle.xa_model.proofs.WorkedDevice.{each_refused, each_lost, restart_refused, opening_refused}
 use Rattle.xa_model.proofs.laws.worked_turns.Goals as goal
 
 pub returns-clause-prepared : goal.returns-clause-prepared
@@ -17,7 +18,7 @@ pub returns-clause-room : goal.returns-clause-room
 returns-clause-room c = room
 
 pub returns-clause-refused : goal.returns-clause-refused
-returns-clause-refused c = refused_appends
+returns-clause-refused c = each_refused
 
 pub returns-clause-lost : goal.returns-clause-lost
 returns-clause-lost c = lost_appends
@@ -30,3 +31,12 @@ returns-clause-decided c = decided_by_operator
 
 pub returns-clause-opened : goal.returns-clause-opened
 returns-clause-opened c = opened_again
+
+pub returns-clause-each_lost : goal.returns-clause-each_lost
+returns-clause-each_lost c = each_lost
+
+pub returns-clause-restart : goal.returns-clause-restart
+returns-clause-restart c = restart_refused
+
+pub returns-clause-opening : goal.returns-clause-opening
+returns-clause-opening c = opening_refused
