@@ -4,4 +4,5 @@ pub mod Stands
 pub mod Exact
 pub mod Kept
 mod Rows
+pub mod Within
 pub mod Rules

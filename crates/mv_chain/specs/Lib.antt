@@ -1,3 +1,4 @@
 pub mod History
 pub mod Chain
 pub mod Slot
+pub mod Within

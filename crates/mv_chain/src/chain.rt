@@ -1,6 +1,7 @@
 ghost use Rattle.std.specs.Prelude.{◌≡◌, ℕ, ◌≤◌, List, [], ◌∷◌, None, IfOk, OnOk, OnErr, false, option_map};
 ghost use Rattle.mv_chain.specs.History.{Written, Answered, seen, is_busy, is_late, decided, IsOpen, IsUnsettled};
 ghost use Rattle.mv_chain.specs.Chain.{StandsFor, fresh, shows, is_marked, marked, installed, settled};
+ghost use Rattle.mv_chain.specs.Within.{IsShort, IsWithin, KeepsWithin};
 
 use crate::changes::{install_in, mark_in, settle_in};
 use crate::fate::Fate;
@@ -36,6 +37,7 @@ impl Chain {
     pub fn new(alloc: Global) -> Result<Chain, AllocError>
         ensures base { IfOk result (λ c. c ≡ fresh) }
         ensures stands { IfOk result (λ c. (key : List ℕ) (low : ℕ) → StandsFor key low [] [] c) }
+        ensures within { IfOk result (λ c. (n : ℕ) → IsWithin n c) }
     {
         let mut versions = Vec::new(alloc);
         versions.push(Version {
@@ -73,7 +75,8 @@ impl Chain {
     /// there is one. `None` where the key is absent.
     #[tactic(auto, using(crate::proofs::Rules::chain_rules))]
     pub fn value(&self, from: u64) -> Option<&[u8]>
-        ensures { option_map (λ v. v.now) result ≡ (shows from self.now).value }
+        ensures value { option_map (λ v. v.now) result ≡ (shows from self.now).value }
+        ensures within { (n : ℕ) → IsWithin n self.now → IsShort n (option_map (λ v. v.now) result) }
     {
         match last_upto(&self.versions, from) {
             None => None,
@@ -96,6 +99,7 @@ impl Chain {
     pub fn mark(&mut self, from: u64, reader: u64)
         ensures versions { self.new ≡ marked from reader self.old }
         ensures stands { (key : List ℕ) (low : ℕ) (writes : List Written) (reads : List Answered) → StandsFor key low writes reads self.old → low ≤ reader → from ≡ (seen key reader writes).from → is_busy reader (seen key reader writes) ≡ false → StandsFor key low writes (record { reader = reader; key = key; from = from } ∷ reads) self.new }
+        ensures within { KeepsWithin self.old self.new }
     {
         mark_in(&mut self.versions, from, reader);
     }
@@ -109,6 +113,7 @@ impl Chain {
         ensures versions { OnOk result (self.new ≡ installed ts (option_map (λ v. v.items) value) self.old) }
         ensures stands { OnOk result ((key : List ℕ) (low : ℕ) (writes : List Written) (reads : List Answered) → StandsFor key low writes reads self.old → IsUnsettled ts low writes → is_late key ts reads ≡ false → StandsFor key low (record { timestamp = ts; key = key; value = option_map (λ v. v.items) value; fate = None } ∷ writes) reads self.new) }
         ensures err { OnErr result (self.new ≡ self.old) }
+        ensures within { (n : ℕ) → IsWithin n self.old → IsShort n (option_map (λ v. v.items) value) → IsWithin n self.new }
     {
         install_in(&mut self.versions, ts, content_of(value))
     }
@@ -118,6 +123,7 @@ impl Chain {
     pub fn settle(&mut self, ts: u64, fate: Fate)
         ensures versions { self.new ≡ settled ts fate self.old }
         ensures stands { (key : List ℕ) (low : ℕ) (writes : List Written) (reads : List Answered) → StandsFor key low writes reads self.old → IsOpen ts writes → StandsFor key low (decided ts fate writes) reads self.new }
+        ensures within { KeepsWithin self.old self.new }
     {
         settle_in(&mut self.versions, ts, fate);
     }

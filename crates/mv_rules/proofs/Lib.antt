@@ -13,3 +13,4 @@ pub mod Shown
 pub mod Counted
 pub mod Remade
 pub mod Orderly
+pub mod Within

@@ -11,6 +11,9 @@ use Rattle.mv_chain.specs.Chain.{fresh, committing, settled}
 use Rattle.mv_rules.specs.declared.own.Own.{Own}
 use Rattle.mv_rules.specs.Own.{is_listed}
 use Rattle.mv_rules.specs.Steps.{IsSettled}
+use Rattle.mv_chain.specs.Within.{KeepsWithin}
+use Rattle.mv_rules.specs.Within.{AreWithin}
+use Rattle.mv_rules.proofs.Within.{changed_within}
 
 -- settling twice is settling once
 committing_twice : (ts : ℕ) (v : Version) → committing ts (committing ts v) ≡ committing ts v
@@ -45,6 +48,7 @@ pub record SettledUpto (ts : ℕ) (fate : Fate) (own : List Own) (old new : List
   pub len : length new ≡ length old
   pub listed : (i : ℕ) → i < length old → is_listed i own ≡ true → (get_or new i fresh ≡ settled ts fate (get_or old i fresh)) × IsSettled ts fate (get_or old i fresh) (settled ts fate (get_or old i fresh))
   pub others : (i : ℕ) → is_listed i own ≡ false → get_or new i fresh ≡ get_or old i fresh
+  pub within : (n : ℕ) → AreWithin n old → AreWithin n new
 
 pub listed_append : (i : ℕ) (o : Own) (own : List Own) → is_listed i (own ++ o ∷ []) ≡ (is_listed i own || (i == o.place))
 listed_append i o [] = grind arith
@@ -56,12 +60,13 @@ any_default (x ∷ xs) zero d e lt = refl
 any_default (x ∷ xs) (suc i) d e lt = any_default xs i d e (omega arith)
 
 -- one more chain is settled
-pub settled_more : (ts : ℕ) (fate : Fate) (own : List Own) (o : Own) (old cur : List (List Version)) (a b : List Version) → o.place < length cur → a ≡ get_or cur o.place a → b ≡ settled ts fate a → IsSettled ts fate a b → SettledUpto ts fate own old cur → SettledUpto ts fate (own ++ o ∷ []) old (set cur o.place b)
-settled_more ts fate own o old cur a b lt at exact settles s =
+pub settled_more : (ts : ℕ) (fate : Fate) (own : List Own) (o : Own) (old cur : List (List Version)) (a b : List Version) → o.place < length cur → a ≡ get_or cur o.place a → b ≡ settled ts fate a → IsSettled ts fate a b → KeepsWithin a b → SettledUpto ts fate own old cur → SettledUpto ts fate (own ++ o ∷ []) old (set cur o.place b)
+settled_more ts fate own o old cur a b lt at exact settles keeps s =
     record {
       len = length-set cur o.place b ∙ s.len;
       listed = λ i within e. one i within (eqb_tells i o.place) (sym (listed_append i o own) ∙ e);
       others = λ i e. other i (sym (listed_append i o own) ∙ e);
+      within = λ n h. changed_within n o.place cur a b at (keeps n) (s.within n h);
     }
   where
     here : get_or (set cur o.place b) o.place fresh ≡ b
@@ -96,6 +101,7 @@ settled_beyond ts fate own o old cur le s =
       len = s.len;
       listed = λ i within e. s.listed i within (one i within (sym (listed_append i o own) ∙ e));
       others = λ i e. s.others i (other i (sym (listed_append i o own) ∙ e));
+      within = s.within;
     }
   where
     one : (i : ℕ) → i < length old → (is_listed i own || (i == o.place)) ≡ true → is_listed i own ≡ true

@@ -6,3 +6,4 @@ pub mod Verdict
 pub mod Ties
 pub mod Collected
 pub mod Restoring
+pub mod Within

@@ -1,4 +1,5 @@
 ghost use Rattle.std.specs.Prelude.{◌≡◌, ◌≢◌, ℕ, ◌≤◌, List, [], ◌∷◌, Some, false, IfOk, OnOk, option_map};
+ghost use Rattle.mv_chain.specs.Within.{IsShort};
 ghost use Rattle.mv_chain.specs.History.{seen, is_late, has_open, decided, IsOpen, IsUnsettled};
 
 use crate::answers::{Got, Put};
@@ -28,10 +29,12 @@ impl Records {
     ghost use Rattle.mv_rules.specs.History.{History, answer_of, reads_after, open_keys, put_of, after_put, wrote, IsWritesOf};
     ghost use Rattle.mv_rules.specs.Records.{StandsFor, place_of};
     ghost use Rattle.mv_rules.specs.Restoring.{with_branch, IsRestorable};
+    ghost use Rattle.mv_rules.specs.Within.{IsWithin, KeepsWithin, IsShortAnswer, AreShort};
 
     /// No key was written or read. Takes no memory.
     pub fn new(alloc: Global) -> Records
-        ensures { (low : ℕ) → StandsFor (record { low = low; writes = []; reads = [] }) result }
+        ensures stands { (low : ℕ) → StandsFor (record { low = low; writes = []; reads = [] }) result }
+        ensures within { (n : ℕ) → IsWithin n result }
     {
         Records {
             alloc,
@@ -45,6 +48,7 @@ impl Records {
     fn place(&mut self, key: &[u8]) -> Result<usize, AllocError>
         ensures place { IfOk result (λ i. place_of key.now self.new ≡ Some i) }
         ensures stands { (h : History) → StandsFor h self.old → StandsFor h self.new }
+        ensures within { KeepsWithin self.old self.new }
     {
         if let Some(i) = self.places.get(key) {
             return Ok(*i);
@@ -67,6 +71,8 @@ impl Records {
     pub fn get(&mut self, ts: u64, key: &[u8]) -> Got
         ensures answer { (h : History) → StandsFor h self.old → h.low ≤ ts → result ≢ Got.Memory → result ≡ answer_of ts (seen key.now ts h.writes) }
         ensures stands { (h : History) → StandsFor h self.old → h.low ≤ ts → StandsFor (record h { reads = reads_after result ts key.now (seen key.now ts h.writes).from h.reads }) self.new }
+        ensures short { (n : ℕ) → IsWithin n self.old → IsShortAnswer n result }
+        ensures within { KeepsWithin self.old self.new }
     {
         let Ok(i) = self.place(key) else {
             return Got::Memory;
@@ -82,6 +88,7 @@ impl Records {
     pub fn put(&mut self, ts: u64, key: &[u8], value: Option<Vec<u8>>) -> Put
         ensures answer { (h : History) → StandsFor h self.old → IsUnsettled ts h.low h.writes → result ≢ Put.Memory → result ≡ put_of (has_open key.now ts h.writes) (open_keys ts h.writes) (is_late key.now ts h.reads) }
         ensures stands { (h : History) → StandsFor h self.old → IsUnsettled ts h.low h.writes → StandsFor (after_put result ts key.now (option_map (λ v. v.items) value) h) self.new }
+        ensures within { (n : ℕ) → IsWithin n self.old → IsShort n (option_map (λ v. v.items) value) → IsWithin n self.new }
     {
         let Ok(i) = self.place(key) else {
             return Put::Memory;
@@ -114,7 +121,8 @@ impl Records {
 
     /// Decides the fate of a branch, also of one below the low water: its writes stay, or go. Takes no memory.
     pub fn settle(&mut self, ts: u64, fate: Fate)
-        ensures { (h : History) → StandsFor h self.old → IsOpen ts h.writes → StandsFor (record h { writes = decided ts fate h.writes }) self.new }
+        ensures stands { (h : History) → StandsFor h self.old → IsOpen ts h.writes → StandsFor (record h { writes = decided ts fate h.writes }) self.new }
+        ensures within { KeepsWithin self.old self.new }
     {
         if let Some(own) = take_list(&mut self.written, ts) {
             settle_all(&mut self.chains, &own, ts, fate);
@@ -123,7 +131,8 @@ impl Records {
 
     /// Adds a branch's write, however many keys it has written.
     fn put_back(&mut self, ts: u64, key: &[u8], value: Option<Vec<u8>>) -> Result<(), AllocError>
-        ensures { OnOk result ((h : History) → StandsFor h self.old → IsUnsettled ts h.low h.writes → is_late key.now ts h.reads ≡ false → StandsFor (record h { writes = wrote ts key.now (option_map (λ v. v.items) value) ∷ h.writes }) self.new) }
+        ensures stands { OnOk result ((h : History) → StandsFor h self.old → IsUnsettled ts h.low h.writes → is_late key.now ts h.reads ≡ false → StandsFor (record h { writes = wrote ts key.now (option_map (λ v. v.items) value) ∷ h.writes }) self.new) }
+        ensures within { (n : ℕ) → IsWithin n self.old → IsShort n (option_map (λ v. v.items) value) → IsWithin n self.new }
     {
         let i = self.place(key)?;
         let Some(chain) = self.chains.get_mut(i) else {
@@ -150,7 +159,8 @@ impl Records {
         writes: &[Write],
         fate: Option<Fate>,
     ) -> Result<(), AllocError>
-        ensures { OnOk result ((h : History) → StandsFor h self.old → IsRestorable ts h → StandsFor (record h { writes = with_branch ts fate writes.now h.writes }) self.new) }
+        ensures stands { OnOk result ((h : History) → StandsFor h self.old → IsRestorable ts h → StandsFor (record h { writes = with_branch ts fate writes.now h.writes }) self.new) }
+        ensures within { (n : ℕ) → IsWithin n self.old → AreShort n writes.now → IsWithin n self.new }
     {
         for write in writes {
             let value = copied(self.alloc, &write.value)?;
@@ -168,7 +178,8 @@ impl Records {
     /// # Errors
     /// Want of memory.
     pub fn writes_of(&self, ts: u64) -> Result<Vec<Write>, AllocError>
-        ensures { IfOk result (λ v. (h : History) → StandsFor h self.now → IsOpen ts h.writes → IsWritesOf ts h.writes v.items) }
+        ensures writes { IfOk result (λ v. (h : History) → StandsFor h self.now → IsOpen ts h.writes → IsWritesOf ts h.writes v.items) }
+        ensures short { IfOk result (λ v. (n : ℕ) → IsWithin n self.now → AreShort n v.items) }
     {
         match self.written.get(&ts) {
             Some(own) => {

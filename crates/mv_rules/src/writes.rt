@@ -4,6 +4,7 @@ ghost use Rattle.std.specs.Cmp.Lexicographic.{slice_cmp};
 ghost use Rattle.std.specs.Ordering.{nat_cmp};
 ghost use Rattle.mv_chain.specs.Chain.{fresh, shows};
 ghost use Rattle.mv_rules.specs.Collected.{as_write, collected};
+ghost use Rattle.mv_rules.specs.Within.{AreWithin, AreShort};
 
 use crate::own::Own;
 use mv_chain::Chain;
@@ -48,6 +49,7 @@ pub(crate) fn collect(
 ) -> Result<BTreeMap<Bytes, Option<Bytes>>, AllocError>
     ensures values { IfOk result (λ m. (key : List ℕ) → get (slice_cmp nat_cmp) m key ≡ collected ts chains.now key own.now) }
     ensures ordered { IfOk result (λ m. IsOrdered (slice_cmp nat_cmp) m) }
+    ensures short { IfOk result (λ m. (n : ℕ) → AreWithin n chains.now → AreShort n (map as_write m.entries)) }
 {
     let mut values = BTreeMap::new(alloc);
     for written in own {

@@ -3,6 +3,7 @@ pub mod Arrivals
 pub mod Bits
 pub mod Clearing
 pub mod Closing
+pub mod Companies
 pub mod Connecting
 pub mod Facts
 pub mod Follows

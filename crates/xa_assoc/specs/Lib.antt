@@ -1,4 +1,5 @@
 pub mod Changes
+pub mod Company
 pub mod Free
 pub mod Refusals
 pub mod Seats

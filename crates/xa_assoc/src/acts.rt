@@ -1,6 +1,7 @@
 ghost use Rattle.std.specs.Prelude.{◌≡◌, ◌+◌, ◌<◌, true, false, None, OnOk, OnErr, IsSome};
 ghost use Rattle.xa_assoc.specs.Seats.{seat_at, active_at, owns_at};
 ghost use Rattle.xa_assoc.specs.Changes.{Comes, Goes, Sets, Clears, SitsDown, StandsUp, Leaves, IsSameRoom};
+ghost use Rattle.xa_assoc.specs.Company.{company_of};
 ghost use Rattle.xa_assoc.specs.Sessions.{Stays};
 
 use crate::free::{make_free, make_taken};
@@ -17,6 +18,7 @@ impl Sessions {
         requires { place < 1024 }
         ensures ok { OnOk result (Comes self.old (place + 1) self.new) }
         ensures err { OnErr result (Stays self.old self.new) }
+        ensures same { OnErr result (company_of self.new ≡ company_of self.old) }
     {
         let seat = Seat {
             opened: false,
@@ -79,12 +81,14 @@ impl Sessions {
 
 /// What calls change of the seat of a connected session.
 impl Sessions {
+    #[tactic(auto, using(crate::proofs::Companies::room_company))]
     pub(crate) fn sit_down(&mut self, session: u64, xid: Xid) -> Result<(), AllocError>
         requires { IsSome (seat_at self.old session) }
         ensures room { OnOk result (IsSameRoom self.old self.new) }
         ensures seat { OnOk result (SitsDown (active_at self.old) (owns_at self.old) (active_at self.new) (owns_at self.new) session xid) }
         ensures err { OnErr result (Stays self.old self.new) }
         ensures absent { OnErr result (owns_at self.old session xid ≡ false) }
+        ensures company { company_of self.new ≡ company_of self.old }
     {
         if let Some(seat) = self.seats.get_mut(&session) {
             seat.sit_down(xid)?;

@@ -6,7 +6,8 @@ ghost use Rattle.xa_model.specs.State.{State};
 ghost use Rattle.xa_model.specs.Answer.{answer, plain, carrying, detailed};
 ghost use Rattle.xa_model.specs.Associations.{connect_by, open_by, close_by, hang_up_by};
 ghost use Rattle.xa_model.specs.Sound.{IsSound};
-ghost use Rattle.xa_assoc.specs.Refusals.{is_memory};
+ghost use Rattle.xa_assoc.specs.Company.{company_of, Gains, Loses};
+ghost use Rattle.xa_assoc.specs.Refusals.{is_memory, IsBare};
 ghost use Rattle.xa_assoc.specs.Seats.{seat_at};
 ghost use Rattle.xa_assoc.specs.Sessions.{SessionsStandFor, Follows, Stays};
 
@@ -25,6 +26,8 @@ impl Sessions {
         ensures ok { OnOk result (Follows self.old (λ s. (connect_by s).after) self.new) }
         ensures full { result ≡ Err ConnectFault.Full → (s : State) → SessionsStandFor self.old s → connect_by s ≡ answer (detailed XAER_RMERR detail.Limit) s }
         ensures err { OnErr result (Stays self.old self.new) }
+        ensures came { IfOk result (λ n. Gains (company_of self.old) n (company_of self.new)) }
+        ensures same { OnErr result (company_of self.new ≡ company_of self.old) }
     {
         if connect_refusal(self.seats.len()).is_some() {
             return Err(ConnectFault::Full);
@@ -32,6 +35,10 @@ impl Sessions {
         let Some(place) = first_free(&self.free) else {
             return Err(ConnectFault::Full);
         };
+        // No number is given twice, whatever the bits say.
+        if self.is_connected(place + 1) {
+            return Err(ConnectFault::Full);
+        }
         if self.add_seat(place).is_err() {
             return Err(ConnectFault::Memory);
         }
@@ -42,22 +49,28 @@ impl Sessions {
     pub fn hangup(&mut self, session: u64) -> Option<Seat>
         ensures seat { result ≡ seat_at self.old session }
         ensures after { Follows self.old (λ s. (hang_up_by s session).after) self.new }
+        ensures gone { Loses (company_of self.old) session (company_of self.new) }
     {
         self.take_seat(session)
     }
 
+    #[tactic(auto, using(crate::proofs::Companies::set_company))]
     pub fn open(&mut self, session: u64)
-        ensures { Follows self.old (λ s. (open_by s session).after) self.new }
+        ensures after { Follows self.old (λ s. (open_by s session).after) self.new }
+        ensures company { company_of self.new ≡ company_of self.old }
     {
         self.set_opened(session);
     }
 
     /// A session with an association of its own isn't closed. With a session that is closed its scan ends.
+    #[tactic(auto, using(crate::proofs::Companies::set_company))]
     pub fn close(&mut self, session: u64) -> Result<(), Reply>
         ensures refused { IfErr result (λ reply. (s : State) → SessionsStandFor self.old s → close_by s session ≡ answer reply s) }
         ensures served { IfErr result (λ reply. is_memory reply.detail ≡ false) }
+        ensures bare { IfErr result IsBare }
         ensures closed { OnOk result ((s : State) → SessionsStandFor self.old s → (close_by s session).reply ≡ plain (pos 0)) }
         ensures after { Follows self.old (λ s. (close_by s session).after) self.new }
+        ensures company { company_of self.new ≡ company_of self.old }
     {
         if let Some(reply) = close_refusal(self.holds_any(session)) {
             return Err(reply);

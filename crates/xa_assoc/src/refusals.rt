@@ -1,7 +1,7 @@
 ghost use Rattle.std.specs.Prelude.{◌≡◌, ℕ, IfSome, false};
 ghost use Rattle.xa_model.specs.State.{Known};
 ghost use Rattle.xa_model.specs.Associations.{connect_refusal, close_refusal, start_refusal, join_refusal, resume_refusal, end_refusal, loose_refusal, is_unknown, is_settled};
-ghost use Rattle.xa_assoc.specs.Refusals.{is_memory};
+ghost use Rattle.xa_assoc.specs.Refusals.{is_memory, IsBare};
 
 use crate::replies::{detailed, plain};
 use xa_codes::{Detail, XAER_DUPID, XAER_NOTA, XAER_PROTO, XAER_RMERR};
@@ -20,6 +20,7 @@ pub const MOST_LOOSE: u64 = 64;
 pub fn connect_refusal(connected: usize) -> Option<Reply>
     ensures value { result ≡ connect_refusal connected }
     ensures served { IfSome result (λ r. is_memory r.detail ≡ false) }
+    ensures bare { IfSome result IsBare }
 {
     if connected < MOST_SESSIONS {
         return None;
@@ -31,6 +32,7 @@ pub fn connect_refusal(connected: usize) -> Option<Reply>
 pub fn close_refusal(holds: bool) -> Option<Reply>
     ensures value { result ≡ close_refusal holds }
     ensures served { IfSome result (λ r. is_memory r.detail ≡ false) }
+    ensures bare { IfSome result IsBare }
 {
     if holds {
         return Some(plain(XAER_PROTO));
@@ -42,6 +44,7 @@ pub fn close_refusal(holds: bool) -> Option<Reply>
 pub fn start_refusal(is_at_work: bool, is_taken: bool, known: usize, given: u64) -> Option<Reply>
     ensures value { result ≡ start_refusal is_at_work is_taken known given }
     ensures served { IfSome result (λ r. is_memory r.detail ≡ false) }
+    ensures bare { IfSome result IsBare }
 {
     if is_at_work {
         return Some(plain(XAER_PROTO));
@@ -64,6 +67,7 @@ pub fn join_refusal(
 ) -> Option<Reply>
     ensures value { (known : Known) → is_unknown known ≡ unknown → is_settled known ≡ settled → result ≡ join_refusal is_at_work has_suspended known }
     ensures served { IfSome result (λ r. is_memory r.detail ≡ false) }
+    ensures bare { IfSome result IsBare }
 {
     if is_at_work || has_suspended {
         return Some(plain(XAER_PROTO));
@@ -86,6 +90,7 @@ pub fn resume_refusal(
 ) -> Option<Reply>
     ensures value { (known : Known) → is_unknown known ≡ unknown → result ≡ resume_refusal is_at_work known has_suspended has_loose }
     ensures served { IfSome result (λ r. is_memory r.detail ≡ false) }
+    ensures bare { IfSome result IsBare }
 {
     if is_at_work {
         return Some(plain(XAER_PROTO));
@@ -103,6 +108,7 @@ pub fn resume_refusal(
 pub fn end_refusal(unknown: bool, holds: bool) -> Option<Reply>
     ensures value { (known : Known) → is_unknown known ≡ unknown → result ≡ end_refusal known holds }
     ensures served { IfSome result (λ r. is_memory r.detail ≡ false) }
+    ensures bare { IfSome result IsBare }
 {
     if unknown {
         return Some(plain(XAER_NOTA));
@@ -117,6 +123,7 @@ pub fn end_refusal(unknown: bool, holds: bool) -> Option<Reply>
 pub fn loose_refusal(migrates: bool, loose: u64) -> Option<Reply>
     ensures value { result ≡ loose_refusal migrates loose }
     ensures served { IfSome result (λ r. is_memory r.detail ≡ false) }
+    ensures bare { IfSome result IsBare }
 {
     if migrates && loose >= MOST_LOOSE {
         return Some(detailed(XAER_RMERR, Detail::Limit));

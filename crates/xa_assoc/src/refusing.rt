@@ -4,7 +4,7 @@ ghost use Rattle.xa_xid.specs.Triple.{Triple};
 ghost use Rattle.xa_model.specs.State.{State, known_as, known_in, is_loose_with};
 ghost use Rattle.xa_model.specs.Associations.{is_taken, is_unknown, is_settled};
 ghost use Rattle.xa_model.specs.Sound.{IsSound};
-ghost use Rattle.xa_assoc.specs.Refusals.{is_memory};
+ghost use Rattle.xa_assoc.specs.Refusals.{is_memory, IsBare};
 ghost use Rattle.xa_assoc.specs.Sessions.{SessionsStandFor, begin_refusal_of, join_refusal_of, resume_refusal_of, suspend_refusal_of, leave_refusal_of};
 
 use crate::refusals::{end_refusal, join_refusal, resume_refusal, start_refusal};
@@ -24,6 +24,7 @@ impl Sessions {
     ) -> Option<Reply>
         ensures value { (s : State) (xid : Triple) → SessionsStandFor self.now s → is_taken (known_as s xid) ≡ taken → known_in s ≡ known → s.given ≡ given → result ≡ begin_refusal_of s session xid }
         ensures served { IfSome result (λ r. is_memory r.detail ≡ false) }
+        ensures bare { IfSome result IsBare }
     {
         start_refusal(self.current(session).is_some(), taken, known, given)
     }
@@ -38,6 +39,7 @@ impl Sessions {
     ) -> Option<Reply>
         ensures value { (s : State) → IsSound s → SessionsStandFor self.now s → is_unknown (known_as s xid.now) ≡ unknown → is_settled (known_as s xid.now) ≡ settled → result ≡ join_refusal_of s session xid.now }
         ensures served { IfSome result (λ r. is_memory r.detail ≡ false) }
+        ensures bare { IfSome result IsBare }
     {
         let has_suspended = self.has_suspended(session, xid);
         join_refusal(
@@ -58,6 +60,7 @@ impl Sessions {
     ) -> Option<Reply>
         ensures value { (s : State) → IsSound s → SessionsStandFor self.now s → is_unknown (known_as s xid.now) ≡ unknown → list_any (is_loose_with xid.now) s.associations ≡ has_loose → result ≡ resume_refusal_of s session xid.now }
         ensures served { IfSome result (λ r. is_memory r.detail ≡ false) }
+        ensures bare { IfSome result IsBare }
     {
         let has_suspended = self.has_suspended(session, xid);
         resume_refusal(
@@ -72,6 +75,7 @@ impl Sessions {
     pub fn suspend_refusal(&self, session: u64, xid: &Xid, unknown: bool) -> Option<Reply>
         ensures value { (s : State) → SessionsStandFor self.now s → is_unknown (known_as s xid.now) ≡ unknown → result ≡ suspend_refusal_of s session xid.now }
         ensures served { IfSome result (λ r. is_memory r.detail ≡ false) }
+        ensures bare { IfSome result IsBare }
     {
         end_refusal(unknown, self.works_in(session, xid))
     }
@@ -86,6 +90,7 @@ impl Sessions {
     ) -> Option<Reply>
         ensures value { (s : State) → SessionsStandFor self.now s → is_unknown (known_as s xid.now) ≡ unknown → list_any (is_loose_with xid.now) s.associations ≡ has_loose → result ≡ leave_refusal_of s session xid.now }
         ensures served { IfSome result (λ r. is_memory r.detail ≡ false) }
+        ensures bare { IfSome result IsBare }
     {
         end_refusal(unknown, self.owns(session, xid) || has_loose)
     }

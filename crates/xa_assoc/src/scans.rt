@@ -2,7 +2,8 @@ ghost use Rattle.std.specs.Prelude.{◌≡◌, ℕ, Some, false, IfOk, IfErr};
 ghost use Rattle.xa_model.specs.State.{State};
 ghost use Rattle.xa_model.specs.Answer.{answer};
 ghost use Rattle.xa_model.specs.Recovering.{scan_of, scan_from, scan_after, scanning, moved, recover_by, recovered};
-ghost use Rattle.xa_assoc.specs.Refusals.{is_memory};
+ghost use Rattle.xa_assoc.specs.Company.{company_of};
+ghost use Rattle.xa_assoc.specs.Refusals.{is_memory, IsBare};
 ghost use Rattle.xa_assoc.specs.Seats.{scan_at};
 ghost use Rattle.xa_assoc.specs.Sessions.{SessionsStandFor};
 
@@ -32,6 +33,7 @@ impl Sessions {
         ensures goes_on { IfOk result (λ cursor. (s : State) (count : ℕ) → SessionsStandFor self.now s → recover_by s session flags count ≡ recovered s session flags count cursor) }
         ensures refused { IfErr result (λ reply. (s : State) (count : ℕ) → SessionsStandFor self.now s → recover_by s session flags count ≡ answer reply s) }
         ensures served { IfErr result (λ reply. is_memory reply.detail ≡ false) }
+        ensures bare { IfErr result IsBare }
     {
         if flags & TMSTARTRSCAN == TMSTARTRSCAN {
             return Ok(None);
@@ -43,8 +45,10 @@ impl Sessions {
     }
 
     /// The session's scan, if it is connected, stands at this cursor, or none is open.
+    #[tactic(auto, using(crate::proofs::Companies::set_company))]
     pub fn set_scan(&mut self, session: u64, scan: Option<Option<Xid>>)
-        ensures { (s : State) → SessionsStandFor self.old s → SessionsStandFor self.new (scanning s session scan) }
+        ensures after { (s : State) → SessionsStandFor self.old s → SessionsStandFor self.new (scanning s session scan) }
+        ensures company { company_of self.new ≡ company_of self.old }
     {
         self.put_scan(session, scan);
     }
@@ -52,7 +56,8 @@ impl Sessions {
     /// Once a recovery with these flags went on from the cursor and listed these XIDs: the session's scan stands at the last
     /// of them, and with TMENDRSCAN it is over.
     pub fn move_scan(&mut self, session: u64, flags: u32, cursor: Option<Xid>, xids: &[Xid])
-        ensures { (s : State) → SessionsStandFor self.old s → SessionsStandFor self.new (scanning s session (scan_after flags cursor xids.now)) }
+        ensures after { (s : State) → SessionsStandFor self.old s → SessionsStandFor self.new (scanning s session (scan_after flags cursor xids.now)) }
+        ensures company { company_of self.new ≡ company_of self.old }
     {
         self.set_scan(session, scan_after(flags, cursor, xids));
     }

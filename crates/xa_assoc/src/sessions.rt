@@ -1,5 +1,6 @@
 ghost use Rattle.std.specs.Prelude.{◌≡◌, [], is_some, option_copied};
 ghost use Rattle.xa_model.specs.State.{State, is_with};
+ghost use Rattle.xa_assoc.specs.Company.{company_of};
 ghost use Rattle.xa_assoc.specs.Seats.{connected_in, opened_at, active_at, owns_at, suspends_at, holds_any_at};
 ghost use Rattle.xa_assoc.specs.Sessions.{SessionsStandFor};
 
@@ -30,7 +31,8 @@ impl Sessions {
 
     /// How many sessions are connected.
     pub fn connected(&self) -> usize
-        ensures { result ≡ connected_in self.now }
+        ensures count { result ≡ connected_in self.now }
+        ensures company { result ≡ (company_of self.now).count }
     {
         self.seats.len()
     }
@@ -44,7 +46,8 @@ impl Sessions {
 
     /// Whether the session is connected.
     pub fn is_connected(&self, session: u64) -> bool
-        ensures { result ≡ is_some (opened_at self.now session) }
+        ensures opened { result ≡ is_some (opened_at self.now session) }
+        ensures company { result ≡ (company_of self.now).has session }
     {
         self.opened_of(session).is_some()
     }

@@ -3,6 +3,7 @@ ghost use Rattle.xa_model.specs.State.{State};
 ghost use Rattle.xa_model.specs.Associations.{begun, joined, resumed, not_resumed, suspended, not_suspended, ended, failed};
 ghost use Rattle.xa_assoc.specs.Seats.{opened_at, owns_at};
 ghost use Rattle.xa_assoc.specs.Changes.{IsSameRoom};
+ghost use Rattle.xa_assoc.specs.Company.{company_of};
 ghost use Rattle.xa_assoc.specs.Sessions.{Follows, FollowsIf, Stays, resume_refusal_of, suspend_refusal_of};
 
 use crate::sessions::Sessions;
@@ -18,6 +19,7 @@ impl Sessions {
         ensures room { OnOk result (IsSameRoom self.old self.new) }
         ensures ok { OnOk result (Follows self.old (λ s. (begun s session xid).after) self.new) }
         ensures err { OnErr result (Stays self.old self.new) }
+        ensures company { company_of self.new ≡ company_of self.old }
     {
         self.sit_down(session, xid)
     }
@@ -27,6 +29,7 @@ impl Sessions {
         requires { IsSome (opened_at self.old session) }
         ensures ok { OnOk result (Follows self.old (λ s. (joined s session xid).after) self.new) }
         ensures err { OnErr result (Stays self.old self.new) }
+        ensures company { company_of self.new ≡ company_of self.old }
     {
         self.sit_down(session, xid)
     }
@@ -37,14 +40,17 @@ impl Sessions {
         ensures ok { OnOk result (FollowsIf self.old (λ s. resume_refusal_of s session xid ≡ None) (λ s. (resumed s session xid).after) self.new) }
         ensures err { OnErr result (Stays self.old self.new) }
         ensures absent { OnErr result (owns_at self.old session xid ≡ false) }
+        ensures company { company_of self.new ≡ company_of self.old }
     {
         self.sit_down(session, xid)
     }
 
     /// End with TMSUSPEND, and with TMMIGRATE, by which the association is nobody's.
+    #[tactic(auto, using(crate::proofs::Companies::room_company))]
     pub fn suspend(&mut self, session: u64, xid: &Xid, migrates: bool)
         requires { IsSome (opened_at self.old session) }
-        ensures { FollowsIf self.old (λ s. suspend_refusal_of s session xid.now ≡ None) (λ s. suspended s session migrates xid.now) self.new }
+        ensures after { FollowsIf self.old (λ s. suspend_refusal_of s session xid.now ≡ None) (λ s. suspended s session migrates xid.now) self.new }
+        ensures company { company_of self.new ≡ company_of self.old }
     {
         if migrates {
             self.leave_seat(session, xid);
@@ -55,12 +61,14 @@ impl Sessions {
 
     /// The session's own association with the XID ends, if it has one: in an end with TMSUCCESS or TMFAIL, and where a
     /// marked branch was to be suspended or resumed.
+    #[tactic(auto, using(crate::proofs::Companies::room_company))]
     pub fn leave(&mut self, session: u64, xid: &Xid)
         requires { IsSome (opened_at self.old session) }
         ensures ended { Follows self.old (λ s. ended s session xid.now) self.new }
         ensures failed { Follows self.old (λ s. (failed s session xid.now).after) self.new }
         ensures not_suspended { FollowsIf self.old (λ s. suspend_refusal_of s session xid.now ≡ None) (λ s. not_suspended s session xid.now) self.new }
         ensures not_resumed { FollowsIf self.old (λ s. resume_refusal_of s session xid.now ≡ None) (λ s. not_resumed s session xid.now) self.new }
+        ensures company { company_of self.new ≡ company_of self.old }
     {
         self.leave_seat(session, xid);
     }

@@ -1,5 +1,6 @@
 -- The XIDs that recovery lists, of what is kept and of what lasts: two lists in order with the same members.
-use Rattle.std.proofs.Common.{◌≡◌, ◌⊎◌, inl, inr, ℕ, zero, suc, ◌+◌, ◌<◌, Bool, true, false, ◌&&◌, ◌||◌, cond, Option, Some, None, List, [], ◌∷◌, ◌++◌, refl, ap, sym, ◌∙◌, subst, arith}
+use Rattle.std.proofs.Common.{◌≡◌, ◌⊎◌, inl, inr, ℕ, zero, suc, ◌+◌, ◌<◌, ◌≤◌, length, Bool, true, false, ◌&&◌, ◌||◌, cond, Option, Some, None, List, [], ◌∷◌, ◌++◌, refl, ap, sym, ◌∙◌, subst, arith}
+use Rattle.std.proofs.lemmas.List.{length-take}
 use Rattle.std.specs.Prelude.{filter, find, fold, is_some, map, take}
 use Rattle.std.specs.BTreeMap.{BTreeMap, IsOrdered, keys, is_at}
 use Rattle.std.specs.BTreeSet.{insert_key}
@@ -218,3 +219,6 @@ taken_more done more x y v n k s t same is first one =
 pub taken_all : {V : Type 0} (n : ℕ) (s : List (Triple × V)) → (0 < n → s ≡ []) → take n (keys_of s) ≡ []
 taken_all zero s none = refl
 taken_all (suc n) s none = let empty : s ≡ [] = none (omega arith) in rw empty refl
+
+pub few_taken : (xs ys : List Triple) (n : ℕ) → xs ≡ take n ys → length xs ≤ n
+few_taken xs ys n e = subst (λ (l : List Triple). length l ≤ n) (sym e) (subst (λ (k : ℕ). k ≤ n) (sym (length-take n ys)) (omega arith))

@@ -24,8 +24,6 @@ pub use kind::Kind;
 pub use known::Known;
 pub use lasting::Lasting;
 pub use laws::{restored_stand, worked_states};
-pub use refusals::{
-    doom_refusal, heuristic_refusal, one_phase_refusal, rollback_refusal, two_phase_refusal,
-};
+pub use refusals::{doom_refusal, one_phase_refusal, rollback_refusal, two_phase_refusal};
 pub use state::State;
 pub use working::Working;

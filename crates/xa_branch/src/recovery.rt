@@ -1,4 +1,4 @@
-ghost use Rattle.std.specs.Prelude.{◌≡◌, IfOk, option_copied};
+ghost use Rattle.std.specs.Prelude.{◌≡◌, ◌≤◌, IfOk, length, option_copied};
 ghost use Rattle.std.specs.BTreeMap.Range.{is_from_start};
 ghost use Rattle.std.specs.Range.Bound.{bound_map};
 ghost use Rattle.xa_xid.specs.Triple.{Triple, xid_cmp};
@@ -33,7 +33,8 @@ impl Branches {
         after: Option<&Xid>,
         count: usize,
     ) -> Result<Vec<Xid>, AllocError>
-        ensures { (s : ModelState) → IsSound s → BranchesStandFor self.now s → IfOk result (λ v. v.items ≡ list_after (option_copied after.entry) count (durable s)) }
+        ensures few { IfOk result (λ v. length v.items ≤ count) }
+        ensures listed { (s : ModelState) → IsSound s → BranchesStandFor self.now s → IfOk result (λ v. v.items ≡ list_after (option_copied after.entry) count (durable s)) }
     {
         let mut listed = Vec::with_capacity(alloc, count.min(self.lasting.len()))?;
         for (xid, _) in self

@@ -1,10 +1,10 @@
 ghost use Rattle.std.specs.Prelude.{◌≡◌, ◌≢◌, IfSome};
 ghost use Rattle.xa_model.specs.Answer.{plain};
-ghost use Rattle.xa_model.specs.Branches.{one_phase_refusal, two_phase_refusal, rollback_refusal, heuristic_refusal, doom_refusal};
-ghost use Rattle.xa_branch.specs.Facts.{fact_of};
+ghost use Rattle.xa_model.specs.Branches.{one_phase_refusal, two_phase_refusal, rollback_refusal, doom_refusal};
+ghost use Rattle.xa_branch.specs.Facts.{fact_of, IsBare};
 
 use crate::known::Known;
-use xa_codes::{Code, Detail, Direction, XA_HEURCOM, XA_HEURRB, XAER_NOTA, XAER_PROTO};
+use xa_codes::{Code, Detail, XAER_NOTA, XAER_PROTO};
 use xa_frame::{Body, Reply};
 
 /// A reply that carries nothing.
@@ -23,6 +23,7 @@ fn plain(code: Code) -> Reply
 pub fn one_phase_refusal(known: Known, is_associated: bool) -> Option<Reply>
     ensures value { result ≡ one_phase_refusal (fact_of known) is_associated }
     ensures served { IfSome result (λ r. r.detail ≢ Detail.Memory) }
+    ensures bare { IfSome result IsBare }
 {
     match known {
         Known::Unknown => Some(plain(XAER_NOTA)),
@@ -35,6 +36,7 @@ pub fn one_phase_refusal(known: Known, is_associated: bool) -> Option<Reply>
 pub fn two_phase_refusal(known: Known) -> Option<Reply>
     ensures value { result ≡ two_phase_refusal (fact_of known) }
     ensures served { IfSome result (λ r. r.detail ≢ Detail.Memory) }
+    ensures bare { IfSome result IsBare }
 {
     match known {
         Known::Unknown => Some(plain(XAER_NOTA)),
@@ -47,6 +49,7 @@ pub fn two_phase_refusal(known: Known) -> Option<Reply>
 pub fn rollback_refusal(known: Known, is_associated: bool) -> Option<Reply>
     ensures value { result ≡ rollback_refusal (fact_of known) is_associated }
     ensures served { IfSome result (λ r. r.detail ≢ Detail.Memory) }
+    ensures bare { IfSome result IsBare }
 {
     match known {
         Known::Unknown => Some(plain(XAER_NOTA)),
@@ -55,22 +58,11 @@ pub fn rollback_refusal(known: Known, is_associated: bool) -> Option<Reply>
     }
 }
 
-/// What a commit or rollback of a branch that the operator completed is answered.
-pub fn heuristic_refusal(known: Known) -> Option<Reply>
-    ensures value { result ≡ heuristic_refusal (fact_of known) }
-    ensures served { IfSome result (λ r. r.detail ≢ Detail.Memory) }
-{
-    match known {
-        Known::Completed(Direction::Commit) => Some(plain(XA_HEURCOM)),
-        Known::Completed(Direction::Rollback) => Some(plain(XA_HEURRB)),
-        Known::Unknown | Known::AtWork(_) | Known::InDoubt => None,
-    }
-}
-
 /// Why the operator can't doom a branch: its XID isn't known, or it is prepared or completed.
 pub fn doom_refusal(known: Known) -> Option<Reply>
     ensures value { result ≡ doom_refusal (fact_of known) }
     ensures served { IfSome result (λ r. r.detail ≢ Detail.Memory) }
+    ensures bare { IfSome result IsBare }
 {
     match known {
         Known::Unknown => Some(plain(XAER_NOTA)),

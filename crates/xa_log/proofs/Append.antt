@@ -214,6 +214,6 @@ module _ {D : Type 0} (seen : D → List ℕ) (may_leave : D → List ℕ → Ty
 -- a fault tells itself by the count
 pub kept_if : (o : Appended) (a b : ℕ) → HasCause o a b → a < 2 ^ 64 - 1 → b ≡ a → o ≢ Full → o ≡ Kept
 kept_if Kept a b cause low same other = refl
-kept_if Refused a b cause low same other = absurd (omega (arith, cause low))
-kept_if Lost a b cause low same other = absurd (omega (arith, cause low))
+kept_if Refused a b cause low same other = absurd (omega (arith, cause))
+kept_if Lost a b cause low same other = absurd (omega (arith, cause))
 kept_if Full a b cause low same other = absurd (other refl)

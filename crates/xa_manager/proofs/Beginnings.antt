@@ -1,11 +1,11 @@
 -- A boot that is planned, for the state that the log came to.
-use Rattle.std.proofs.Common.{◌≡◌, ◌<◌, ◌≤◌, ◌+◌, ℕ, Bool, true, false, List, [], ◌∷◌, map, length, Option, Some, None, refl, ap, sym, ◌∙◌, subst, arith}
+use Rattle.std.proofs.Common.{◌≡◌, ◌<◌, ◌≤◌, ◌+◌, ℕ, true, false, List, Option, Some, None, sym, subst, arith}
 use Rattle.std.specs.Prelude.{nat_lt}
 use Rattle.std.specs.List.{AllByRecursion}
 use Rattle.std.proofs.lemmas.Bool.Decides.{nat_tests}
+use Rattle.mv_rules.specs.Within.{IsWithin}
 use Rattle.xa_log.specs.Chain.{IsBody}
 use Rattle.xa_log.specs.Reading.{bodies_of}
-use Rattle.xa_record.specs.Spelling.{spelled}
 use Rattle.xa_model.specs.Durable.{Durable}
 use Rattle.xa_model.specs.Fold.{snapshot}
 use Rattle.xa_model.specs.Restarting.{most_boots}
@@ -19,6 +19,10 @@ next_sizes d (Some n) next e h =
     let same : n ≡ next = cc e in
     let all : AllByRecursion IsBody (bodies_of n.bodies.items) = subst (λ (b : List (List ℕ)). AllByRecursion IsBody b) (sym h.2.bodies) (are_bodies (snapshot d (d.boot + 1)) h.3) in
     subst (λ (x : NextBoot). AllByRecursion IsBody (bodies_of x.bodies.items)) same all
+
+pub next_short : (d : Durable) (o : Option NextBoot) (next : NextBoot) → o ≡ Some next → IsNext d o → IsWithin 1024 next.records
+next_short d None next e h = absurd (cc e)
+next_short d (Some n) next e h = let same : n ≡ next = cc e in subst (λ (x : NextBoot). IsWithin 1024 x.records) same h.4
 
 pub record IsNextOf (d : Durable) (next : NextBoot) : Type 0 where
   pub less : nat_lt d.boot most_boots ≡ true

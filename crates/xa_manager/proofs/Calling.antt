@@ -1,5 +1,5 @@
 -- What a call has done, by its refusals and its row.
-use Rattle.std.proofs.Common.{◌≡◌, ◌≢◌, inl, inr, ◌⊎◌, ⊎_elim, ℕ, ℤ, Bool, true, false, List, Option, Some, None, IsSomeAnd, MatchBool, if◌then◌else◌, refl, ap, sym, ◌∙◌, subst, w32, to_z, of_z}
+use Rattle.std.proofs.Common.{◌≡◌, ⊎_elim, ℕ, Bool, true, false, List, Option, Some, None, IsSomeAnd, MatchBool, if◌then◌else◌, refl, ap, sym, ◌∙◌, subst, w32, to_z, of_z}
 use Rattle.std.specs.Prelude.{Result, Ok, Err, IsOk}
 use Rattle.xa_disk.specs.declared.counts.Counts.{Counts}
 use Rattle.xa_codes.specs.Flags.{has}
@@ -17,21 +17,18 @@ use Rattle.xa_model.specs.declared.outcome.Outcome.{Outcome}
 use Rattle.xa_model.specs.declared.outcome.Outcome.TheVariants.{Quiet}
 use Rattle.xa_model.specs.State.{State, Standing}
 use Rattle.xa_model.specs.Answer.{Answer, answer, detailed}
-use Rattle.xa_model.specs.Associations.{connect_by}
 use Rattle.xa_model.specs.Early.{early_refusal}
 use Rattle.xa_model.specs.Events.{IsEvent, IsAsked, asks_restart, is_restart}
 use Rattle.xa_model.specs.Loggable.{IsRecoverable}
 use Rattle.xa_model.specs.Restarting.{restart_turn}
-use Rattle.xa_model.specs.Turn.{Turn, Now, Asked, taken, unless_now}
-use Rattle.xa_model.specs.Step.{row, respond, opened_of, is_up, asked, step}
+use Rattle.xa_model.specs.Turn.{Turn, Now, Asked, taken}
+use Rattle.xa_model.specs.Step.{row, respond, opened_of, is_up, step}
 use Rattle.xa_assoc.specs.Refusals.{is_memory}
 use Rattle.xa_assoc.specs.Seats.{opened_at}
-use Rattle.xa_assoc.specs.declared.fault.ConnectFault.{ConnectFault}
-use Rattle.xa_assoc.specs.declared.fault.ConnectFault.TheVariants.{Memory, Full}
+use Rattle.xa_assoc.specs.declared.fault.ConnectFault.TheVariants.{Memory}
 use Rattle.xa_manager.specs.declared.manager.Manager.{Manager}
-use Rattle.xa_manager.specs.Answered.{FullyAnswered, StaysFor, HasCalled, connect_reply, may_want, memory_code, wanted_memory}
+use Rattle.xa_manager.specs.Answered.{FullyAnswered, StaysFor, NoneRises, connect_reply, may_want, memory_code}
 use Rattle.xa_manager.specs.Kept.{Kept}
-use Rattle.xa_manager.specs.LogStands.{Trusts}
 use Rattle.xa_manager.specs.Managed.{kept, ManagerStandsFor}
 use Rattle.xa_manager.specs.Stands.{TablesStandFor, Follows, FollowsDown, Stays, StaysDown}
 use Rattle.xa_manager.specs.Turns.{Takes, TakesTurn, HasDone, HasRestarted}
@@ -182,12 +179,13 @@ module _ {D : Type 0} (honest : Type 0) (tears : List ℕ → ℕ → List ℕ �
         (λ s st premises. and_then (step s (Asked e) outcome) _ _ (λ a h. (h.0, told m' outcome a.after h.1)) (x.steps s st premises));
     pinned = λ w. never (is_memory reply.detail) _ x.served w;
     called = λ served s st premises. x.called s st premises;
+    quiet = λ w. never (is_memory reply.detail) _ x.served w;
   }
 
   -- where memory was wanted
-  pub wanted_answered : (m m' : Manager D) (n : ℕ) (request : Request) (reply : Reply) → reply ≡ detailed (memory_code request) detail.Memory → StaysFor honest tears seen may_leave m m' → m'.outcome ≡ m.outcome → may_want request ≡ true
+  pub wanted_answered : (m m' : Manager D) (n : ℕ) (request : Request) (reply : Reply) → reply ≡ detailed (memory_code request) detail.Memory → StaysFor honest tears seen may_leave m m' → m'.outcome ≡ m.outcome → NoneRises failures m.log m'.log → may_want request ≡ true
       → FullyAnswered honest tears seen may_leave failures counts m (Call n request) reply m'
-  wanted_answered m m' n request reply is stays outcome may = rw is (record { answered = (stays, outcome); pinned = λ w. (may, refl); called = λ served. absurd (cc served) })
+  wanted_answered m m' n request reply is stays outcome quiet may = rw is (record { answered = (stays, outcome); pinned = λ w. (may, refl); called = λ served. absurd (cc served); quiet = λ w. quiet })
 
   pub either_stays_for : (m m' : Manager D) → m'.up ≡ m.up → m'.log ≡ m.log → m'.doubt ≡ m.doubt → Stays (kept m) (kept m') → StaysDown (kept m) (kept m') → StaysFor honest tears seen may_leave m m'
   either_stays_for m m' up log doubt stays down s st = record {
@@ -208,5 +206,5 @@ module _ {D : Type 0} (honest : Type 0) (tears : List ℕ → ℕ → List ℕ �
       (has_done tears seen may_leave honest failures counts m m' e reply Quiet event other f.served
       (λ s st. subst (λ (t : Turn). Takes honest tears seen may_leave failures counts m t reply Quiet m') (sym (is s)) (takes_either m m' act reply Quiet refl log up doubt f d s st)))
 
-  pub connect_wanted : (m m' : Manager D) → StaysFor honest tears seen may_leave m m' → m'.outcome ≡ m.outcome → FullyAnswered honest tears seen may_leave failures counts m Connect (connect_reply (Err Memory)) m'
-  connect_wanted m m' stays outcome = record { answered = (stays, outcome); pinned = λ w. (refl, refl); called = λ served. absurd (cc served) }
+  pub connect_wanted : (m m' : Manager D) → StaysFor honest tears seen may_leave m m' → m'.outcome ≡ m.outcome → NoneRises failures m.log m'.log → FullyAnswered honest tears seen may_leave failures counts m Connect (connect_reply (Err Memory)) m'
+  connect_wanted m m' stays outcome quiet = record { answered = (stays, outcome); pinned = λ w. (refl, refl); called = λ served. absurd (cc served); quiet = λ w. quiet }

@@ -20,12 +20,12 @@ use Rattle.xa_manager.specs.Managed.{ManagerStandsFor}
 use Rattle.xa_manager.specs.Answered.{Answered, AnswersAll, ArePinned, IsPinned, StaysFor, StepsAs, recorded, no_restart}
 
 -- a legal history goes on by one entry
-leads_more : (s : State) (es : List Entry) (mid : State) (e : Entry) (s' : State) → Leads s es mid → Steps mid e s' → Leads s (es ++ e ∷ []) s'
+pub leads_more : (s : State) (es : List Entry) (mid : State) (e : Entry) (s' : State) → Leads s es mid → Steps mid e s' → Leads s (es ++ e ∷ []) s'
 leads_more s [] mid e s' h st = (s', subst (λ (x : State). Steps x e s') h st, refl)
 leads_more s (x ∷ es) mid e s' h st = (h.0, h.1, leads_more h.0 es mid e s' h.2 st)
 
 -- what an event adds to the record
-abbrev added : Event → Outcome → Reply → Bool → List Entry
+abbrev pub added : Event → Outcome → Reply → Bool → List Entry
 added event o reply d = cond d [] (record { happening = Asked event; outcome = o; reply = reply } ∷ [])
 
 recorded_step : (e : Event) (x : Outcome) (r : Reply) (es : List Event) (os : List Outcome) (rs : List Reply) (event : Event) (o : Outcome)
@@ -35,7 +35,7 @@ recorded_step : (e : Event) (x : Outcome) (r : Reply) (es : List Event) (os : Li
 recorded_step e x r es os rs event o reply true d ec rest = rw ec rest
 recorded_step e x r es os rs event o reply false d ec rest = rw ec (ap (λ (xs : List Entry). record { happening = Asked e; outcome = x; reply = r } ∷ xs) rest)
 
-recorded_more : (es : List Event) (os : List Outcome) (rs : List Reply) (event : Event) (o : Outcome) (reply : Reply) (d : Bool)
+pub recorded_more : (es : List Event) (os : List Outcome) (rs : List Reply) (event : Event) (o : Outcome) (reply : Reply) (d : Bool)
     → length os ≡ length es → length es ≡ length rs → is_memory reply.detail ≡ d
     → recorded (es ++ event ∷ []) (os ++ o ∷ []) (rs ++ reply ∷ []) ≡ recorded es os rs ++ added event o reply d
 recorded_more [] [] [] event o reply true told same ed = simp ed
@@ -48,7 +48,7 @@ recorded_more (e ∷ es) (x ∷ os) (r ∷ rs) event o reply d told same ed =
     recorded_step e x r es os rs event o reply (is_memory r.detail) d refl (recorded_more es os rs event o reply d (omega arith) (omega arith) ed)
 
 -- as many outcomes as events, and one more of each
-told_more : (es : List Event) (os : List Outcome) (event : Event) (o : Outcome) → length os ≡ length es → length (os ++ o ∷ []) ≡ length (es ++ event ∷ [])
+pub told_more : (es : List Event) (os : List Outcome) (event : Event) (o : Outcome) → length os ≡ length es → length (os ++ o ∷ []) ≡ length (es ++ event ∷ [])
 told_more [] [] event o same = refl
 told_more [] (x ∷ os) event o same = absurd (omega arith)
 told_more (e ∷ es) [] event o same = absurd (omega arith)
@@ -77,16 +77,16 @@ no_restart_last : (es : List Event) (event : Event) → no_restart (es ++ event 
 no_restart_last [] event h = no_restart_head (is_restart event) true h
 no_restart_last (e ∷ es) event h = no_restart_last es event (no_restart_first (is_restart e) (no_restart (es ++ event ∷ [])) h)
 
-trusted_before : (trusts : Type 0) (es : List Event) (event : Event) → trusts ⊎ (no_restart (es ++ event ∷ []) ≡ true) → trusts ⊎ (no_restart es ≡ true)
+pub trusted_before : (trusts : Type 0) (es : List Event) (event : Event) → trusts ⊎ (no_restart (es ++ event ∷ []) ≡ true) → trusts ⊎ (no_restart es ≡ true)
 trusted_before trusts es event (inl t) = inl t
 trusted_before trusts es event (inr h) = inr (no_restart_before es event h)
 
-trusted_last : (trusts : Type 0) (es : List Event) (event : Event) → trusts ⊎ (no_restart (es ++ event ∷ []) ≡ true) → trusts ⊎ (is_restart event ≡ false)
+pub trusted_last : (trusts : Type 0) (es : List Event) (event : Event) → trusts ⊎ (no_restart (es ++ event ∷ []) ≡ true) → trusts ⊎ (is_restart event ≡ false)
 trusted_last trusts es event (inl t) = inl t
 trusted_last trusts es event (inr h) = inr (no_restart_last es event h)
 
 -- what is answered and followed
-stepped : (Stands : State → Type 0) (reply : Reply) (o : Option Answer) → IsSomeAnd o (λ a. (a.reply ≡ reply) × Stands a.after)
+pub stepped : (Stands : State → Type 0) (reply : Reply) (o : Option Answer) → IsSomeAnd o (λ a. (a.reply ≡ reply) × Stands a.after)
     → (after : State) × (o ≡ Some (record { reply = reply; after = after })) × Stands after
 stepped Stands reply None h = absurd h
 stepped Stands reply (Some a) h = (a.after, ap (λ (r : Reply). Some (record { reply = r; after = a.after })) h.0, h.1)

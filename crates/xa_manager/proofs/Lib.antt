@@ -17,6 +17,7 @@ pub mod OnePhase
 pub mod Completing
 pub mod Stepping
 pub mod Calling
+pub mod Counting
 pub mod Beginnings
 pub mod Begins
 pub mod CrashFiles
@@ -32,8 +33,11 @@ pub mod NewTables
 pub mod NextBoots
 pub mod OpenedStates
 pub mod PlannedLogs
+pub mod Replying
+pub mod ShortWrites
 pub mod Rescanned
 pub mod Restarted
 pub mod Results
 pub mod Standing
 pub mod Driving
+pub mod Promised

@@ -1,17 +1,18 @@
 -- The next boot is made ready for what the log came to.
-use Rattle.std.proofs.Common.{◌≡◌, ◌<◌, ◌≤◌, ◌+◌, ◌^◌, ℕ, Bool, true, false, cond, List, [], ◌∷◌, map, length, Option, Some, None, Ok, refl, ap, sym, ◌∙◌, subst, arith, ltb-true, ltb-false}
+use Rattle.std.proofs.Common.{◌≡◌, ◌<◌, ◌≤◌, ◌+◌, ◌^◌, ℕ, Bool, true, false, cond, List, [], ◌∷◌, map, Option, Some, None, Ok, refl, ◌∙◌, subst, arith, ltb-true, ltb-false}
 use Rattle.std.specs.Prelude.{nat_lt}
 use Rattle.std.specs.List.{AllByRecursion}
 use Rattle.xa_record.specs.declared.record.Record.{Record}
 use Rattle.xa_record.specs.Limits.{IsRecord}
 use Rattle.xa_record.specs.Spelling.{spelled}
 use Rattle.xa_record.proofs.Sizes.{any}
+use Rattle.mv_rules.specs.Within.{IsWithin}
 use Rattle.xa_log.specs.Chain.{IsBody}
 use Rattle.xa_model.specs.Durable.{Durable}
-use Rattle.xa_model.specs.Fold.{fold, snapshot}
+use Rattle.xa_model.specs.Fold.{snapshot}
 use Rattle.xa_model.specs.Restarting.{most_boots}
 use Rattle.xa_model.proofs.Written.{snapshot_is_written}
-use Rattle.xa_recovery.specs.Log.{LogRebuilt, AreBodiesOf}
+use Rattle.xa_recovery.specs.Log.{LogRebuilt}
 use Rattle.xa_manager.specs.declared.boots.NextBoot.{NextBoot}
 use Rattle.xa_manager.specs.Rereading.{IsReady, IsNext}
 
@@ -24,11 +25,17 @@ none_by d true e h = absurd (cc)
 none_by d false e h = ltb-false d most_boots e
 
 pub is_next : (bodies : List (List ℕ)) (d : Durable) (n : ℕ) (next : NextBoot) → LogRebuilt bodies (Ok d) → Some n ≡ cond (nat_lt d.boot most_boots) (Some (d.boot + 1)) None
-    → next.boot ≡ n → IsReady d n next → IsNext d (Some next)
-is_next bodies d n next (rs, are, folds) e boot ready =
+    → next.boot ≡ n → IsReady d n next → (AllByRecursion IsRecord (snapshot d n) → IsWithin 1024 next.records) → IsNext d (Some next)
+is_next bodies d n next (rs, are, folds) e boot ready short =
     let number = some_by d.boot n (nat_lt d.boot most_boots) refl e in
     let below : d.boot + 1 < 2 ^ 32 = omega (arith, number.1) in
-    (boot ∙ number.0, number.1, subst (λ (m : ℕ). IsReady d m next) number.0 ready, snapshot_is_written rs d (d.boot + 1) are.limits folds (omega arith) below)
+    let limits = snapshot_is_written rs d (d.boot + 1) are.limits folds (omega arith) below in (
+      boot ∙ number.0,
+      number.1,
+      subst (λ (m : ℕ). IsReady d m next) number.0 ready,
+      limits,
+      subst (λ (m : ℕ). AllByRecursion IsRecord (snapshot d m) → IsWithin 1024 next.records) number.0 short limits,
+    )
 
 pub no_next : (d : Durable) → ◌≡◌ {A = Option ℕ} None (cond (nat_lt d.boot most_boots) (Some (d.boot + 1)) None) → IsNext d None
 no_next d e = none_by d.boot (nat_lt d.boot most_boots) refl e

@@ -1,5 +1,5 @@
 -- A turn that a manager took is a step, and the manager stands for the step's state.
-use Rattle.std.proofs.Common.{◌≡◌, ◌+◌, arith, inl, inr, ◌⊎◌, ℕ, Bool, true, false, List, [], ◌∷◌, ◌++◌, map, length, Option, Some, None, IsSomeAnd, refl, ap, sym, ◌∙◌, subst}
+use Rattle.std.proofs.Common.{◌≡◌, ◌+◌, arith, inl, inr, ℕ, Bool, true, false, List, [], ◌∷◌, ◌++◌, map, length, Option, Some, None, IsSomeAnd, refl, ap, sym, ◌∙◌, subst}
 use Rattle.std.proofs.lemmas.List.{map-append}
 use Rattle.xa_disk.specs.declared.counts.Counts.{Counts}
 use Rattle.xa_frame.specs.declared.reply.Reply.{Reply}
@@ -10,12 +10,11 @@ use Rattle.xa_log.specs.TwoFiles.{Pair, MayStandPair, MaySeal}
 use Rattle.xa_log.specs.declared.log.Log.{Log}
 use Rattle.xa_model.specs.declared.event.Event.{Event}
 use Rattle.xa_model.specs.declared.outcome.Outcome.{Outcome}
-use Rattle.xa_model.specs.declared.outcome.Outcome.TheVariants.{Quiet, Appended}
 use Rattle.xa_model.specs.declared.outcome.Appending.{Appending}
 use Rattle.xa_model.specs.declared.outcome.Appending.TheVariants.{Kept, Refused, Lost}
-use Rattle.xa_model.specs.State.{State, Standing, Up, Down}
+use Rattle.xa_model.specs.State.{State, Standing, Up}
 use Rattle.xa_model.specs.Answer.{Answer, ok}
-use Rattle.xa_model.specs.Turn.{Turn, Nobody, Now, Appends, Rereads, Rereading, Asked, taken}
+use Rattle.xa_model.specs.Turn.{Turn, Nobody, Now, Appends, Rereads, Asked, taken}
 use Rattle.xa_model.specs.Step.{respond, asked, step}
 use Rattle.xa_model.specs.Events.{IsEvent, is_restart}
 use Rattle.xa_model.specs.Durable.{Durable, durable}
@@ -29,7 +28,6 @@ use Rattle.xa_xid.specs.Triple.{Triple}
 use Rattle.xa_model.specs.LoggingLaws.{KeepsLog, LogsWhatLasts}
 use Rattle.xa_model.specs.Backing.{Backs, BacksTurn, settled}
 use Rattle.xa_model.specs.Loggable.{IsRecoverable, is_boot}
-use Rattle.xa_model.specs.Room.{IsRoomy}
 use Rattle.xa_model.proofs.LoggedEvents.{events_log_what_lasts}
 use Rattle.xa_model.proofs.LogBehind.{keeps_backed}
 use Rattle.xa_model.proofs.Recoveries.{keeps_recoverable, LogsLast, turn_logs_last}
@@ -41,9 +39,9 @@ use Rattle.xa_manager.specs.declared.doubt.Doubt.TheVariants as doubt
 use Rattle.xa_manager.specs.declared.manager.Manager.{Manager}
 use Rattle.xa_manager.specs.Answered.{HasCalled}
 use Rattle.xa_manager.specs.Kept.{Kept as Tables}
-use Rattle.xa_manager.specs.LogStands.{Trusts, HasRecords, MayHaveRecord, HasRecordsOf, LogStandsFor}
+use Rattle.xa_manager.specs.LogStands.{HasRecords, MayHaveRecord, HasRecordsOf, LogStandsFor}
 use Rattle.xa_manager.specs.Managed.{kept, Doubts, ManagerStandsFor}
-use Rattle.xa_manager.specs.Stands.{StandsFor, StandsDown, TablesStandFor}
+use Rattle.xa_manager.specs.Stands.{StandsFor, TablesStandFor}
 use Rattle.xa_manager.specs.Turns.{HasDone, HasAppended, TakesNow, TakesAppending, Takes, up_after, doubt_after}
 
 -- what the tables say of a state, up or down
@@ -298,7 +296,7 @@ module _ {D : Type 0} (tears : List ℕ → ℕ → List ℕ → List ℕ → Ty
     takes_called : (m m' : Manager D) (t : Turn) (reply : Reply) (outcome : Outcome) → Takes honest tears seen may_leave failures counts m t reply outcome m' → HasCalled honest tears failures counts outcome m.log m'.log
     takes_called m m' Nobody reply outcome x = absurd x
     takes_called m m' (Now a) reply outcome x = subst (λ (o : Outcome). HasCalled honest tears failures counts o m.log m'.log) (sym x.outcome_is) x.log
-    takes_called m m' (Appends r after) reply outcome x = subst (λ (o : Outcome). HasCalled honest tears failures counts o m.log m'.log) (sym x.outcome_is) (x.log.other, x.log.cause, x.log.calls)
+    takes_called m m' (Appends r after) reply outcome x = subst (λ (o : Outcome). HasCalled honest tears failures counts o m.log m'.log) (sym x.outcome_is) (x.log.other.0, x.log.other.1, x.log.cause, x.log.calls)
     takes_called m m' (Rereads failed found missing) reply outcome x = absurd x
 
     some_and : (m' : Manager D) (s : State) (e : Event) (reply : Reply) (outcome : Outcome) → IsStep m' s e reply outcome

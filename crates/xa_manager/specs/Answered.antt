@@ -4,13 +4,12 @@ use Rattle.xa_codes.specs.declared.codes.TheConstants.{XAER_RMERR, XAER_RMFAIL, 
 use Rattle.xa_codes.specs.declared.detail.Detail.TheVariants as detail
 use Rattle.xa_codes.specs.Flags.{has}
 use Rattle.xa_codes.specs.declared.flags.TheConstants.{TMONEPHASE}
-use Rattle.xa_disk.specs.Disk.{Rises}
 use Rattle.xa_disk.specs.declared.counts.Counts.{Counts}
 use Rattle.xa_frame.specs.declared.request.Request.{Request}
 use Rattle.xa_frame.specs.declared.request.Request.TheVariants.{Start, Prepare, Commit, Recover, Get, Put, Delete, Restart}
 use Rattle.xa_frame.specs.declared.reply.Reply.{Reply}
 use Rattle.xa_frame.specs.declared.body.Body.TheVariants as body
-use Rattle.xa_log.specs.Answers.{HasCause}
+use Rattle.xa_log.specs.Answers.{HasCause, HasRisen}
 use Rattle.xa_log.specs.Calls.{AppendCalls}
 use Rattle.xa_log.specs.TwoFiles.{first_of, second_of}
 use Rattle.xa_log.specs.declared.appending.Appended.{Appended}
@@ -59,9 +58,11 @@ as_appended Kept = appended.Kept
 as_appended Refused = appended.Refused
 as_appended Lost = appended.Lost
 
--- a device call of one of the two files failed, or none
+-- a device call of one of the two files failed, and none of the other; or none of both
 abbrev pub OneRises : {D : Type 0} → (D → ℕ) → Log D → Log D → Type 0
-OneRises failures old new = Rises (failures (first_of old)) (failures (first_of new)) ⊎ Rises (failures (second_of old)) (failures (second_of new))
+OneRises failures old new =
+    (HasRisen (failures (first_of old)) (failures (first_of new)) × (failures (second_of new) ≡ failures (second_of old)))
+    ⊎ ((failures (first_of new) ≡ failures (first_of old)) × HasRisen (failures (second_of old)) (failures (second_of new)))
 
 abbrev pub NoneRises : {D : Type 0} → (D → ℕ) → Log D → Log D → Type 0
 NoneRises failures old new = (failures (first_of new) ≡ failures (first_of old)) × (failures (second_of new) ≡ failures (second_of old))
@@ -75,7 +76,7 @@ RisesBy failures (Some Lost) old new = OneRises failures old new
 abbrev pub HasCalled : {D : Type 0} → Type 0 → (List ℕ → ℕ → List ℕ → List ℕ → Type 0) → (D → ℕ) → (D → Counts) → Outcome → Log D → Log D → Type 0
 HasCalled honest tears failures counts outcome.Quiet old new = new ≡ old
 HasCalled honest tears failures counts (outcome.Appended appending) old new =
-    (new.other ≡ old.other) × HasCause (as_appended appending) (failures old.disk) (failures new.disk) × AppendCalls (as_appended appending) (counts old.disk) (counts new.disk)
+    (new.other ≡ old.other) × (new.on_first ≡ old.on_first) × HasCause (as_appended appending) (failures old.disk) (failures new.disk) × AppendCalls (as_appended appending) (counts old.disk) (counts new.disk)
 HasCalled honest tears failures counts outcome.Failed old new = OneRises failures old new
 HasCalled honest tears failures counts (outcome.Reread survived appended) old new = RisesBy failures appended old new
 
@@ -118,6 +119,8 @@ pub record FullyAnswered {D : Type 0} (honest : Type 0) (tears : List ℕ → �
   -- a restart that found its log unreadable tells that it failed: only with the premises that is the device's doing
   pub called : is_memory reply.detail ≡ false → (s : State) → ManagerStandsFor honest tears seen may_leave m s → Trusts honest tears ⊎ (is_restart event ≡ false)
       → HasCalled honest tears failures counts m'.outcome m.log m'.log
+  -- where memory was wanted, no device call failed
+  pub quiet : is_memory reply.detail ≡ true → NoneRises failures m.log m'.log
 
 -- the reply that a connect's result stands for
 abbrev pub connect_reply : Result ℕ ConnectFault → Reply

@@ -3,11 +3,15 @@ pub mod Stands
 pub mod LogStands
 pub mod Managed
 pub mod Changes
+pub mod Connected
 pub mod Answered
+pub mod Counted
 pub mod Turns
 pub mod Files
 pub mod Rebuilding
+pub mod Replies
 pub mod Rereading
 pub mod Opening
 pub mod Faults
 pub mod CrashLaws
+pub mod Promises

@@ -1,11 +1,12 @@
 -- What the tables of a new boot are made of, branch by branch.
-use Rattle.std.specs.Prelude.{◌≡◌, ◌<◌, ◌++◌, ℕ, false, List, [], ◌∷◌, map, fold}
+use Rattle.std.specs.Prelude.{◌≡◌, ◌<◌, ◌++◌, ℕ, List, [], ◌∷◌, map, fold}
 use Rattle.std.specs.List.{AllByRecursion}
 use Rattle.mv_chain.specs.History.{Written}
 use Rattle.mv_rules.specs.declared.records.Records.{Records}
 use Rattle.mv_rules.specs.Records.{StandsFor as RecordsStandFor}
+use Rattle.mv_rules.specs.Within.{AreShort}
 use Rattle.xa_model.specs.State.{Decided}
-use Rattle.xa_model.specs.Durable.{PreparedBranch, Pairwise, named_apart, named_before, is_prepared}
+use Rattle.xa_model.specs.Durable.{CommittedBranch, PreparedBranch}
 use Rattle.xa_branch.specs.declared.branches.Branches.{Branches}
 use Rattle.xa_branch.specs.Restored.{HasRestored}
 
@@ -36,3 +37,11 @@ pub record CompletedUpto (boot : ℕ) (ps : List PreparedBranch) (all left : Lis
   pub done : List Decided
   pub split : done ++ left ≡ all
   pub stands : HasRestored m boot ps done
+
+-- what these branches wrote has no value over 1,024 bytes
+
+abbrev pub CommittedAreShort : List CommittedBranch → Type 0
+CommittedAreShort bs = AllByRecursion (λ b. AreShort 1024 b.writes) bs
+
+abbrev pub PreparedAreShort : List PreparedBranch → Type 0
+PreparedAreShort ps = AllByRecursion (λ p. AreShort 1024 p.writes) ps

@@ -35,7 +35,7 @@ use Rattle.xa_manager.specs.Stands.{TablesStandFor}
 -- what an append of a body leaves of the log, by the device's answer
 pub record HasAppended {D : Type 0} (honest : Type 0) (tears : List ℕ → ℕ → List ℕ → List ℕ → Type 0) (seen : D → List ℕ) (may_leave : D → List ℕ → Type 0) (failures : D → ℕ) (counts : D → Counts) (body : List ℕ) (a : Appending) (log log' : Log D) : Type 0 where
   pub log_bytes : log'.log_bytes ≡ log.log_bytes
-  pub other : log'.other ≡ log.other
+  pub other : (log'.other ≡ log.other) × (log'.on_first ≡ log.on_first)
   pub moves : Moves (as_appended a) (length body) log log'
   pub pair : honest → (bodies stood : List (List ℕ)) → Pair tears seen may_leave bodies stood log → AppendsTo tears seen may_leave (as_appended a) bodies body stood log'
   pub cause : HasCause (as_appended a) (failures log.disk) (failures log'.disk)

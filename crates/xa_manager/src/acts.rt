@@ -11,6 +11,9 @@ ghost use Rattle.xa_branch.specs.Kinds.{ended_kind, resumed_kind};
 ghost use Rattle.xa_manager.specs.Kept.{kept_of};
 ghost use Rattle.xa_manager.specs.Stands.{StandsFor, Becomes, BecomesAt, Stays};
 ghost use Rattle.xa_manager.specs.Changes.{Gets, Puts, items_of, fate_of};
+ghost use Rattle.xa_assoc.specs.Company.{company_of};
+ghost use Rattle.mv_chain.specs.Within.{IsShort};
+ghost use Rattle.mv_rules.specs.Within.{IsShortAnswer};
 
 use crate::tables::Tables;
 use mv_chain::Fate;
@@ -29,6 +32,7 @@ impl Tables {
         ensures timestamp { IfOk result (λ t. (s : State) → StandsFor (kept_of self.old) s → t ≡ timestamp_of s.boot (s.given + 1)) }
         ensures ok { OnOk result ((s : State) → StandsFor (kept_of self.old) s → IsRecoverable (begun s session xid.now).after → StandsFor (kept_of self.new) (begun s session xid.now).after) }
         ensures err { OnErr result (Stays (kept_of self.old) (kept_of self.new)) }
+        ensures company { company_of self.new.sessions ≡ company_of self.old.sessions }
     {
         self.sessions.begin(session, xid.copied())?;
         match self.branches.begin(xid) {
@@ -44,6 +48,7 @@ impl Tables {
         requires connected { IsSome (opened_at self.old.sessions session) }
         ensures ok { OnOk result ((s : State) → StandsFor (kept_of self.old) s → IsRecoverable (joined s session xid.now).after → StandsFor (kept_of self.new) (joined s session xid.now).after) }
         ensures err { OnErr result (Stays (kept_of self.old) (kept_of self.new)) }
+        ensures company { company_of self.new.sessions ≡ company_of self.old.sessions }
     {
         self.sessions.join(session, xid.copied())?;
         self.branches.join(xid);
@@ -56,6 +61,7 @@ impl Tables {
         ensures ok { OnOk result (Becomes (kept_of self.old) (λ s. (resume_refusal_of s session xid.now ≡ None) × (resumed_kind s.associations session xid.now ≡ Some from))
             (λ s. (resumed s session xid.now).after) (kept_of self.new)) }
         ensures err { OnErr result (Stays (kept_of self.old) (kept_of self.new)) }
+        ensures company { company_of self.new.sessions ≡ company_of self.old.sessions }
     {
         self.sessions.resume(session, xid.copied())?;
         self.branches.resume(xid, from);
@@ -67,7 +73,8 @@ impl Tables {
 impl Tables {
     pub fn suspend_branch(&mut self, session: u64, xid: &Xid, migrates: bool)
         requires connected { IsSome (opened_at self.old.sessions session) }
-        ensures { Becomes (kept_of self.old) (λ s. suspend_refusal_of s session xid.now ≡ None) (λ s. suspended s session migrates xid.now) (kept_of self.new) }
+        ensures becomes { Becomes (kept_of self.old) (λ s. suspend_refusal_of s session xid.now ≡ None) (λ s. suspended s session migrates xid.now) (kept_of self.new) }
+        ensures company { company_of self.new.sessions ≡ company_of self.old.sessions }
     {
         self.sessions.suspend(session, xid, migrates);
         self.branches.suspend(xid, migrates);
@@ -79,6 +86,7 @@ impl Tables {
         ensures ended { Becomes (kept_of self.old) (λ s. ended_kind s.associations session xid.now ≡ Some kind) (λ s. ended s session xid.now) (kept_of self.new) }
         ensures not_resumed { Becomes (kept_of self.old) (λ s. (resume_refusal_of s session xid.now ≡ None) × (resumed_kind s.associations session xid.now ≡ Some kind)) (λ s. not_resumed s session xid.now) (kept_of self.new) }
         ensures not_suspended { Becomes (kept_of self.old) (λ s. (suspend_refusal_of s session xid.now ≡ None) × (kind ≡ Kind.Active)) (λ s. not_suspended s session xid.now) (kept_of self.new) }
+        ensures company { company_of self.new.sessions ≡ company_of self.old.sessions }
     {
         self.sessions.leave(session, xid);
         self.branches.leave(xid, kind);
@@ -87,7 +95,8 @@ impl Tables {
     /// An association of this kind ends, and its branch is marked.
     pub fn fail_branch(&mut self, session: u64, xid: &Xid, kind: Kind)
         requires connected { IsSome (opened_at self.old.sessions session) }
-        ensures { Becomes (kept_of self.old) (λ s. ended_kind s.associations session xid.now ≡ Some kind) (λ s. (failed s session xid.now).after) (kept_of self.new) }
+        ensures becomes { Becomes (kept_of self.old) (λ s. ended_kind s.associations session xid.now ≡ Some kind) (λ s. (failed s session xid.now).after) (kept_of self.new) }
+        ensures company { company_of self.new.sessions ≡ company_of self.old.sessions }
     {
         self.sessions.leave(session, xid);
         self.branches.leave(xid, kind);
@@ -99,7 +108,8 @@ impl Tables {
 impl Tables {
     /// A branch at work is marked, unless it is.
     pub fn mark_branch(&mut self, xid: &Xid, code: Code)
-        ensures { (s : State) → StandsFor (kept_of self.old) s → IsRecoverable (marked_with code s xid.now) → StandsFor (kept_of self.new) (marked_with code s xid.now) }
+        ensures marks { (s : State) → StandsFor (kept_of self.old) s → IsRecoverable (marked_with code s xid.now) → StandsFor (kept_of self.new) (marked_with code s xid.now) }
+        ensures company { company_of self.new.sessions ≡ company_of self.old.sessions }
     {
         self.branches.doom(xid, code);
     }
@@ -108,6 +118,7 @@ impl Tables {
     pub fn finish_branch(&mut self, xid: &Xid, fate: Fate)
         ensures rolled_back { fate ≡ Fate.RolledBack → BecomesAt (kept_of self.old) (λ s. IsSome (known_of s.branches xid.now)) (λ s. rolled_back s xid.now) (kept_of self.new) }
         ensures committed { fate ≡ Fate.Committed → BecomesAt (kept_of self.old) (λ s. IsSome (known_of s.branches xid.now)) (λ s. committed s xid.now) (kept_of self.new) }
+        ensures company { company_of self.new.sessions ≡ company_of self.old.sessions }
     {
         let timestamp = self.branches.timestamp(xid);
         self.branches.finish(xid);
@@ -116,7 +127,8 @@ impl Tables {
 
     /// The operator completes a prepared branch.
     pub fn decide_branch(&mut self, xid: &Xid, direction: Direction)
-        ensures { BecomesAt (kept_of self.old) (λ s. known_as s xid.now ≡ InDoubt) (λ s. decided_by s direction xid.now) (kept_of self.new) }
+        ensures becomes { BecomesAt (kept_of self.old) (λ s. known_as s xid.now ≡ InDoubt) (λ s. decided_by s direction xid.now) (kept_of self.new) }
+        ensures company { company_of self.new.sessions ≡ company_of self.old.sessions }
     {
         let timestamp = self.branches.timestamp(xid);
         self.branches.decide(xid, direction);
@@ -125,7 +137,8 @@ impl Tables {
 
     /// What the operator completed is forgotten.
     pub fn forget_branch(&mut self, xid: &Xid)
-        ensures { BecomesAt (kept_of self.old) (λ s. is_completed (known_as s xid.now) ≡ true) (λ s. forgotten s xid.now) (kept_of self.new) }
+        ensures becomes { BecomesAt (kept_of self.old) (λ s. is_completed (known_as s xid.now) ≡ true) (λ s. forgotten s xid.now) (kept_of self.new) }
+        ensures company { company_of self.new.sessions ≡ company_of self.old.sessions }
     {
         self.branches.forget(xid);
     }
@@ -144,14 +157,18 @@ pub fn fate_of(direction: Direction) -> Fate
 impl Tables {
     /// What a branch of this timestamp reads of a key. An answered read is noted.
     pub fn read(&mut self, timestamp: u64, key: &Bytes) -> Got
-        ensures { Gets (kept_of self.old) timestamp key.now result (kept_of self.new) }
+        ensures gets { Gets (kept_of self.old) timestamp key.now result (kept_of self.new) }
+        ensures company { company_of self.new.sessions ≡ company_of self.old.sessions }
+        ensures short { IsShortAnswer 1024 result }
     {
         self.records.get(timestamp, key.as_slice())
     }
 
     /// A branch of this timestamp writes a value, or deletes a key.
     pub fn write(&mut self, timestamp: u64, key: &Bytes, value: Option<Vec<u8>>) -> Put
-        ensures { Puts (kept_of self.old) timestamp key.now (items_of value) result (kept_of self.new) }
+        requires { IsShort 1024 (items_of value) }
+        ensures puts { Puts (kept_of self.old) timestamp key.now (items_of value) result (kept_of self.new) }
+        ensures company { company_of self.new.sessions ≡ company_of self.old.sessions }
     {
         self.records.put(timestamp, key.as_slice(), value)
     }

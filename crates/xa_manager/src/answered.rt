@@ -6,6 +6,8 @@ ghost use Rattle.xa_model.specs.Completions.{is_completed};
 ghost use Rattle.xa_model.specs.Loggable.{IsRecoverable};
 ghost use Rattle.xa_manager.specs.Kept.{kept_of};
 ghost use Rattle.xa_manager.specs.Stands.{StandsFor, StandsWithRoom, BecomesAt, Stays, ending};
+ghost use Rattle.xa_assoc.specs.Refusals.{IsBare};
+ghost use Rattle.xa_assoc.specs.Company.{company_of};
 
 use crate::acts::fate_of;
 use crate::replies::detailed;
@@ -23,6 +25,7 @@ impl Tables {
     pub fn make_room(&mut self, xid: &Xid) -> Result<(), AllocError>
         ensures ok { OnOk result ((s : State) → StandsFor (kept_of self.old) s → StandsWithRoom xid.now (kept_of self.new) s) }
         ensures err { OnErr result (Stays (kept_of self.old) (kept_of self.new)) }
+        ensures company { company_of self.new.sessions ≡ company_of self.old.sessions }
     {
         self.branches.make_room(xid)
     }
@@ -30,6 +33,7 @@ impl Tables {
     pub fn take_prepared(&mut self, xid: &Xid, answer: Appending)
         ensures kept { answer ≡ Appending.Kept → (s : State) (end : ℕ) → StandsWithRoom xid.now (kept_of self.old) s → IsRecoverable (ending (prepared s xid.now) end) → StandsFor (kept_of self.new) (ending (prepared s xid.now) end) }
         ensures left { answer ≢ Appending.Kept → (s : State) → StandsWithRoom xid.now (kept_of self.old) s → StandsFor (kept_of self.new) s }
+        ensures company { company_of self.new.sessions ≡ company_of self.old.sessions }
     {
         match answer {
             Appending::Kept => self.branches.prepare(xid),
@@ -41,6 +45,8 @@ impl Tables {
     pub fn log_full(&mut self, xid: &Xid) -> Reply
         ensures reply { result ≡ detailed XA_RBOTHER Detail.LogFull }
         ensures tables { BecomesAt (kept_of self.old) (λ s. IsSome (known_of s.branches xid.now)) (λ s. rolled_back s xid.now) (kept_of self.new) }
+        ensures company { company_of self.new.sessions ≡ company_of self.old.sessions }
+        ensures bare { IsBare result }
     {
         self.finish_branch(xid, Fate::RolledBack);
         detailed(XA_RBOTHER, Detail::LogFull)
@@ -53,6 +59,7 @@ impl Tables {
         ensures kept { answer ≡ Appending.Kept → BecomesAt (kept_of self.old) (λ s. IsSome (known_of s.branches xid.now)) (λ s. committed s xid.now) (kept_of self.new) }
         ensures refused { answer ≡ Appending.Refused → BecomesAt (kept_of self.old) (λ s. IsSome (known_of s.branches xid.now)) (λ s. rolled_back s xid.now) (kept_of self.new) }
         ensures lost { answer ≡ Appending.Lost → self.new ≡ self.old }
+        ensures company { company_of self.new.sessions ≡ company_of self.old.sessions }
     {
         match answer {
             Appending::Kept => self.finish_branch(xid, Fate::Committed),
@@ -64,6 +71,7 @@ impl Tables {
     pub fn take_completed(&mut self, xid: &Xid, direction: Direction, answer: Appending)
         ensures kept { answer ≡ Appending.Kept → BecomesAt (kept_of self.old) (λ s. IsSome (known_of s.branches xid.now)) (λ s. completed s direction xid.now) (kept_of self.new) }
         ensures left { answer ≢ Appending.Kept → self.new ≡ self.old }
+        ensures company { company_of self.new.sessions ≡ company_of self.old.sessions }
     {
         if answer == Appending::Kept {
             self.finish_branch(xid, fate_of(direction));
@@ -73,6 +81,7 @@ impl Tables {
     pub fn take_decided(&mut self, xid: &Xid, direction: Direction, answer: Appending)
         ensures kept { answer ≡ Appending.Kept → BecomesAt (kept_of self.old) (λ s. known_as s xid.now ≡ InDoubt) (λ s. decided_by s direction xid.now) (kept_of self.new) }
         ensures left { answer ≢ Appending.Kept → self.new ≡ self.old }
+        ensures company { company_of self.new.sessions ≡ company_of self.old.sessions }
     {
         if answer == Appending::Kept {
             self.decide_branch(xid, direction);
@@ -82,6 +91,7 @@ impl Tables {
     pub fn take_forgotten(&mut self, xid: &Xid, answer: Appending)
         ensures kept { answer ≡ Appending.Kept → BecomesAt (kept_of self.old) (λ s. is_completed (known_as s xid.now) ≡ true) (λ s. forgotten s xid.now) (kept_of self.new) }
         ensures left { answer ≢ Appending.Kept → self.new ≡ self.old }
+        ensures company { company_of self.new.sessions ≡ company_of self.old.sessions }
     {
         if answer == Appending::Kept {
             self.forget_branch(xid);

@@ -1,4 +1,8 @@
 ghost use Rattle.std.specs.Prelude.{◌≡◌, ◌+◌, ◌<◌, ◌≤◌, map, IfOk};
+ghost use Rattle.std.specs.List.{AllByRecursion};
+ghost use Rattle.mv_rules.specs.Within.{IsWithin};
+ghost use Rattle.xa_record.specs.Limits.{IsRecord};
+ghost use Rattle.xa_model.specs.Fold.{snapshot};
 ghost use Rattle.xa_manager.specs.Rereading.{IsReady, Plans};
 
 use crate::rebuilding::{branches_of, records_of};
@@ -27,6 +31,7 @@ pub struct Planned {
 fn ready(alloc: Global, durable: &Durable, boot: u32) -> Result<NextBoot, AllocError>
     ensures ready { IfOk result (IsReady durable.now boot) }
     ensures boot { IfOk result (λ next. next.boot ≡ boot) }
+    ensures short { AllByRecursion IsRecord (snapshot durable.now boot) → IfOk result (λ next. IsWithin 1024 next.records) }
 {
     let branches = branches_of(alloc, durable, boot)?;
     let records = records_of(alloc, durable)?;

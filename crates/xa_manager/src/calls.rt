@@ -3,10 +3,12 @@ ghost use Rattle.xa_model.specs.declared.event.Event.{Event};
 ghost use Rattle.xa_model.specs.Early.{call_of, passes_down, has_wrong_count, early_refusal};
 ghost use Rattle.xa_model.specs.Step.{row};
 ghost use Rattle.xa_model.specs.Events.{IsAsked, asks_restart};
-ghost use Rattle.xa_assoc.specs.Refusals.{is_memory};
+ghost use Rattle.xa_assoc.specs.Refusals.{is_memory, IsBare};
 ghost use Rattle.xa_assoc.specs.Seats.{opened_at};
-ghost use Rattle.xa_manager.specs.Answered.{StaysFor, may_want};
+ghost use Rattle.xa_manager.specs.Answered.{StaysFor, NoneRises, may_want};
 ghost use Rattle.xa_manager.specs.Turns.{HasDone, TakesTurn};
+ghost use Rattle.xa_manager.specs.Connected.{connected_to};
+ghost use Rattle.xa_manager.specs.Replies.{IsFresh};
 
 use crate::done::Done;
 use crate::early::early_refusal;
@@ -24,19 +26,23 @@ impl<D: Disk> Manager<D> {
         ensures connected { result ≡ None → IsSome (opened_at self.now.tables.sessions session) }
         ensures counted { result ≡ None → has_wrong_count request.now ≡ false }
         ensures answered { result ≡ None → self.now.up ≡ false → passes_down (call_of request.now) ≡ true }
+        ensures bare { IfSome result IsBare }
     {
         let opened = self.tables.sessions.opened_of(session);
         early_refusal(self.up, &self.tables.name, opened, request)
     }
 
     /// Answers a request of a session: the refusals that come before its row, then the row.
-    #[tactic(auto, using(crate::proofs::Calling::refused_done, crate::proofs::Calling::row_done, crate::proofs::Calling::restart_done, crate::proofs::Calling::takes_either))]
+    #[tactic(auto, using(crate::proofs::Calling::refused_done, crate::proofs::Calling::row_done, crate::proofs::Calling::restart_done, crate::proofs::Calling::takes_either, crate::proofs::Replying::now_bare, crate::proofs::Replying::now_fresh, crate::proofs::Replying::done_bare))]
     pub(crate) fn answer(&mut self, session: u64, request: Request) -> Result<Done, AllocError>
         requires { IsAsked request }
         ensures ok { IfOk result (λ d. HasDone D.honest D.tears D.seen D.may_leave D.failures D.counts self.old (Event.Call session request) d.reply d.outcome self.new) }
         ensures err { OnErr result (StaysFor D.honest D.tears D.seen D.may_leave self.old self.new) }
         ensures outcome { self.new.outcome ≡ self.old.outcome }
         ensures room { may_want request ≡ false → IsOk result }
+        ensures company { connected_to self.new ≡ connected_to self.old }
+        ensures fresh { IfOk result (λ d. IsFresh d.reply) }
+        ensures quiet { OnErr result (NoneRises D.failures self.old.log self.new.log) }
     {
         if let Some(reply) = self.refusal(session, &request) {
             return Ok(Done::now(reply));
@@ -50,6 +56,7 @@ impl<D: Disk> Manager<D> {
     }
 
     /// The row of a request that only a manager answers which is up, of a connected session.
+    #[tactic(auto, using(crate::proofs::Replying::now_bare, crate::proofs::Replying::now_fresh, crate::proofs::Replying::done_bare, crate::proofs::Replying::bare_fresh))]
     fn answer_up(&mut self, session: u64, request: Request) -> Result<Done, AllocError>
         requires asked { IsAsked request }
         requires other { asks_restart request ≡ false }
@@ -60,6 +67,9 @@ impl<D: Disk> Manager<D> {
         ensures err { OnErr result (StaysFor D.honest D.tears D.seen D.may_leave self.old self.new) }
         ensures outcome { self.new.outcome ≡ self.old.outcome }
         ensures room { may_want request ≡ false → IsOk result }
+        ensures company { connected_to self.new ≡ connected_to self.old }
+        ensures fresh { IfOk result (λ d. IsFresh d.reply) }
+        ensures quiet { OnErr result (NoneRises D.failures self.old.log self.new.log) }
     {
         match request {
             Request::Start { flags, xid } => Ok(Done::now(

@@ -1,9 +1,11 @@
-ghost use Rattle.std.specs.Prelude.{◌≡◌, ◌≢◌, Result, Err, ℕ, pos};
+ghost use Rattle.std.specs.Prelude.{◌≡◌, ◌≢◌, Result, Err, ℕ, pos, IfOk, OnErr};
 ghost use Rattle.xa_model.specs.Answer.{plain};
 ghost use Rattle.xa_model.specs.Associations.{connect_by, open_by, close_by, hang_up_by};
 ghost use Rattle.xa_manager.specs.Answered.{connect_reply};
 ghost use Rattle.xa_manager.specs.Kept.{kept_of};
 ghost use Rattle.xa_manager.specs.Stands.{Follows, FollowsDown, Stays, StaysDown};
+ghost use Rattle.xa_assoc.specs.Company.{company_of, Gains, Loses};
+ghost use Rattle.xa_assoc.specs.Refusals.{IsBare};
 
 use crate::replies::plain;
 use crate::tables::Tables;
@@ -19,6 +21,8 @@ impl Tables {
         ensures memory { result ≡ Err ConnectFault.Memory → Stays (kept_of self.old) (kept_of self.new) }
         ensures down { result ≢ Err ConnectFault.Memory → FollowsDown (kept_of self.old) (λ s. connect_by s) (connect_reply result) (kept_of self.new) }
         ensures memory_down { result ≡ Err ConnectFault.Memory → StaysDown (kept_of self.old) (kept_of self.new) }
+        ensures came { IfOk result (λ n. Gains (company_of self.old.sessions) n (company_of self.new.sessions)) }
+        ensures same { OnErr result (company_of self.new.sessions ≡ company_of self.old.sessions) }
     {
         self.sessions.connect()
     }
@@ -27,6 +31,7 @@ impl Tables {
     pub fn hangup(&mut self, session: u64)
         ensures up { Follows (kept_of self.old) (λ s. hang_up_by s session) (plain (pos 0)) (kept_of self.new) }
         ensures down { FollowsDown (kept_of self.old) (λ s. hang_up_by s session) (plain (pos 0)) (kept_of self.new) }
+        ensures gone { Loses (company_of self.old.sessions) session (company_of self.new.sessions) }
     {
         if let Some(seat) = self.sessions.hangup(session) {
             self.branches.hang_up(&seat.own, seat.active.as_ref());
@@ -36,6 +41,8 @@ impl Tables {
     pub fn open(&mut self, session: u64) -> Reply
         ensures up { Follows (kept_of self.old) (λ s. open_by s session) result (kept_of self.new) }
         ensures down { FollowsDown (kept_of self.old) (λ s. open_by s session) result (kept_of self.new) }
+        ensures company { company_of self.new.sessions ≡ company_of self.old.sessions }
+        ensures bare { IsBare result }
     {
         self.sessions.open(session);
         plain(XA_OK)
@@ -45,6 +52,8 @@ impl Tables {
     pub fn close(&mut self, session: u64) -> Reply
         ensures up { Follows (kept_of self.old) (λ s. close_by s session) result (kept_of self.new) }
         ensures down { FollowsDown (kept_of self.old) (λ s. close_by s session) result (kept_of self.new) }
+        ensures company { company_of self.new.sessions ≡ company_of self.old.sessions }
+        ensures bare { IsBare result }
     {
         match self.sessions.close(session) {
             Err(reply) => reply,

@@ -4,10 +4,13 @@ ghost use Rattle.xa_xid.specs.Triple.{IsWithinLimits};
 ghost use Rattle.xa_model.specs.Completions.{prepare_turn, commit_one_phase_turn, commit_two_phase_turn, rollback_turn};
 ghost use Rattle.xa_model.specs.Branches.{doom_by};
 ghost use Rattle.xa_model.specs.Step.{commit_turn};
-ghost use Rattle.xa_manager.specs.Answered.{StaysFor};
+ghost use Rattle.xa_manager.specs.Answered.{StaysFor, NoneRises};
 ghost use Rattle.xa_manager.specs.Kept.{kept_of};
 ghost use Rattle.xa_manager.specs.Stands.{Follows};
 ghost use Rattle.xa_manager.specs.Turns.{TakesTurn};
+ghost use Rattle.xa_assoc.specs.Refusals.{IsBare};
+ghost use Rattle.xa_assoc.specs.Company.{company_of};
+ghost use Rattle.xa_manager.specs.Connected.{connected_to};
 
 use crate::done::Done;
 use crate::manager::Manager;
@@ -15,7 +18,7 @@ use crate::replies::plain;
 use crate::tables::Tables;
 use mv_chain::Fate;
 use std::alloc::AllocError;
-use xa_codes::{Direction, TMONEPHASE, XA_OK, XA_RBOTHER, XA_RDONLY, XA_RETRY, XAER_RMERR};
+use xa_codes::{Call, Direction, TMONEPHASE, XA_OK, XA_RBOTHER, XA_RDONLY, XA_RETRY, XAER_RMERR};
 use xa_disk::Disk;
 use xa_frame::Reply;
 use xa_record::{Record, Writes, write};
@@ -31,6 +34,9 @@ impl<D: Disk> Manager<D> {
         ensures ok { IfOk result (λ d. TakesTurn D.honest D.tears D.seen D.may_leave D.failures D.counts self.old (λ s. prepare_turn s xid.now) d.reply d.outcome self.new) }
         ensures err { OnErr result (StaysFor D.honest D.tears D.seen D.may_leave self.old self.new) }
         ensures outcome { self.new.outcome ≡ self.old.outcome }
+        ensures company { connected_to self.new ≡ connected_to self.old }
+        ensures bare { IfOk result (λ d. IsBare d.reply) }
+        ensures quiet { OnErr result (NoneRises D.failures self.old.log self.new.log) }
     {
         if let Some(reply) = self.tables.one_phase_refusal(xid) {
             return Ok(Done::now(reply));
@@ -67,6 +73,9 @@ impl<D: Disk> Manager<D> {
         ensures room { has flags TMONEPHASE ≡ false → IsOk result }
         ensures err { OnErr result (StaysFor D.honest D.tears D.seen D.may_leave self.old self.new) }
         ensures outcome { self.new.outcome ≡ self.old.outcome }
+        ensures company { connected_to self.new ≡ connected_to self.old }
+        ensures bare { IfOk result (λ d. IsBare d.reply) }
+        ensures quiet { OnErr result (NoneRises D.failures self.old.log self.new.log) }
     {
         if flags & TMONEPHASE == TMONEPHASE {
             self.commit_one_phase(xid)
@@ -82,6 +91,9 @@ impl<D: Disk> Manager<D> {
         ensures ok { IfOk result (λ d. TakesTurn D.honest D.tears D.seen D.may_leave D.failures D.counts self.old (λ s. commit_one_phase_turn s xid.now) d.reply d.outcome self.new) }
         ensures err { OnErr result (StaysFor D.honest D.tears D.seen D.may_leave self.old self.new) }
         ensures outcome { self.new.outcome ≡ self.old.outcome }
+        ensures company { connected_to self.new ≡ connected_to self.old }
+        ensures bare { IfOk result (λ d. IsBare d.reply) }
+        ensures quiet { OnErr result (NoneRises D.failures self.old.log self.new.log) }
     {
         if let Some(reply) = self.tables.one_phase_refusal(xid) {
             return Ok(Done::now(reply));
@@ -115,11 +127,13 @@ impl<D: Disk> Manager<D> {
         requires name { IsWithinLimits xid.now }
         ensures turn { TakesTurn D.honest D.tears D.seen D.may_leave D.failures D.counts self.old (λ s. commit_two_phase_turn s xid.now) result.reply result.outcome self.new }
         ensures outcome { self.new.outcome ≡ self.old.outcome }
+        ensures company { connected_to self.new ≡ connected_to self.old }
+        ensures bare { IsBare result.reply }
     {
         if let Some(reply) = self.tables.two_phase_refusal(xid) {
             return Done::now(reply);
         }
-        if let Some(reply) = self.tables.heuristic_refusal(xid) {
+        if let Some(reply) = self.tables.heuristic_refusal(Call::Commit, xid) {
             return Done::now(reply);
         }
         let answer = self.journal_small(&Record::Completed {
@@ -135,11 +149,13 @@ impl<D: Disk> Manager<D> {
         requires name { IsWithinLimits xid.now }
         ensures turn { TakesTurn D.honest D.tears D.seen D.may_leave D.failures D.counts self.old (λ s. rollback_turn s xid.now) result.reply result.outcome self.new }
         ensures outcome { self.new.outcome ≡ self.old.outcome }
+        ensures company { connected_to self.new ≡ connected_to self.old }
+        ensures bare { IsBare result.reply }
     {
         if let Some(reply) = self.tables.rollback_refusal(xid) {
             return Done::now(reply);
         }
-        if let Some(reply) = self.tables.heuristic_refusal(xid) {
+        if let Some(reply) = self.tables.heuristic_refusal(Call::Rollback, xid) {
             return Done::now(reply);
         }
         if !self.tables.is_settled(xid) {
@@ -159,7 +175,9 @@ impl<D: Disk> Manager<D> {
 /// The operator's mark.
 impl Tables {
     pub fn doom(&mut self, xid: &Xid) -> Reply
-        ensures { Follows (kept_of self.old) (λ s. doom_by s xid.now) result (kept_of self.new) }
+        ensures follows { Follows (kept_of self.old) (λ s. doom_by s xid.now) result (kept_of self.new) }
+        ensures company { company_of self.new.sessions ≡ company_of self.old.sessions }
+        ensures bare { IsBare result }
     {
         if let Some(reply) = self.doom_refusal(xid) {
             return reply;

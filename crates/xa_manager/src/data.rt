@@ -4,6 +4,10 @@ ghost use Rattle.xa_model.specs.Records.{get_by, put_by};
 ghost use Rattle.xa_manager.specs.Changes.{items_of};
 ghost use Rattle.xa_manager.specs.Kept.{kept_of};
 ghost use Rattle.xa_manager.specs.Stands.{Follows, Stays};
+ghost use Rattle.xa_assoc.specs.Company.{company_of};
+ghost use Rattle.xa_assoc.specs.Refusals.{IsBare};
+ghost use Rattle.mv_chain.specs.Within.{IsShort};
+ghost use Rattle.xa_manager.specs.Replies.{IsFresh};
 
 use crate::replies::{carrying, detailed, plain};
 use crate::tables::Tables;
@@ -14,9 +18,12 @@ use xa_frame::{Body, Reply};
 
 /// The rows of gets and puts, of the branch that the session is at work for.
 impl Tables {
+    #[tactic(auto, using(crate::proofs::Replying::bare_fresh, crate::proofs::Replying::value_fresh, crate::proofs::Replying::absent_fresh))]
     pub fn get(&mut self, session: u64, key: &Bytes) -> Result<Reply, AllocError>
         ensures ok { IfOk result (λ r. Follows (kept_of self.old) (λ s. get_by s key.now (own_branch s session)) r (kept_of self.new)) }
         ensures err { OnErr result (Stays (kept_of self.old) (kept_of self.new)) }
+        ensures company { company_of self.new.sessions ≡ company_of self.old.sessions }
+        ensures fresh { IfOk result IsFresh }
     {
         let Some((_, working)) = self.own_branch(session) else {
             return Ok(plain(XAER_PROTO));
@@ -39,8 +46,11 @@ impl Tables {
         key: &Bytes,
         value: Option<Vec<u8>>,
     ) -> Result<Reply, AllocError>
+        requires { IsShort 1024 (items_of value) }
         ensures ok { IfOk result (λ r. Follows (kept_of self.old) (λ s. put_by s key.now (items_of value) (own_branch s session)) r (kept_of self.new)) }
         ensures err { OnErr result (Stays (kept_of self.old) (kept_of self.new)) }
+        ensures company { company_of self.new.sessions ≡ company_of self.old.sessions }
+        ensures bare { IfOk result IsBare }
     {
         let Some((xid, working)) = self.own_branch(session) else {
             return Ok(plain(XAER_PROTO));

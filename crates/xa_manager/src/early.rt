@@ -1,6 +1,6 @@
 ghost use Rattle.std.specs.Prelude.{◌≡◌, IfSome, IsSome, None, Option, Bool, true, false};
 ghost use Rattle.xa_model.specs.Early.{flags_of, call_of, needs_open, passes_down, is_async, has_wrong_info, has_wrong_count, is_invalid, is_opened, early_refusal};
-ghost use Rattle.xa_assoc.specs.Refusals.{is_memory};
+ghost use Rattle.xa_assoc.specs.Refusals.{is_memory, IsBare};
 
 use crate::replies::plain;
 use xa_codes::{
@@ -139,6 +139,7 @@ pub fn early_refusal(
 ) -> Option<Reply>
     ensures value { result ≡ early_refusal up name.now session request.now }
     ensures served { IfSome result (λ r. is_memory r.detail ≡ false) }
+    ensures bare { IfSome result IsBare }
     ensures connected { result ≡ None → IsSome session }
     ensures counted { result ≡ None → has_wrong_count request.now ≡ false }
     ensures answered { result ≡ None → up ≡ false → passes_down (call_of request.now) ≡ true }

@@ -1,6 +1,7 @@
 //! What can be said of a manager's two files, and of managers on disks in memory.
 ghost use Rattle.xa_manager.specs.CrashLaws.{ReadLeaves, ReadStands, CrashLeaves, FilesLast, FilesLastAsFated};
 ghost use Rattle.xa_manager.specs.LogStands.{Trusts};
+ghost use Rattle.xa_manager.specs.Promises.{ReachedPromises, OnePromises, BegunIsReached};
 
 use xa_disk::{Disk, MemDisk};
 
@@ -28,4 +29,20 @@ pub fn files_last()
 /// Disks in memory meet the premises on a type of disks.
 pub fn memory_is_trusted()
     ensures { Trusts (⟦<MemDisk as Disk>⟧.honest) (⟦<MemDisk as Disk>⟧.tears) }
+{}
+
+/// Whatever state a legal history of an opening state leads to: its committed branches are one copy, and each branch that was
+/// answered as prepared is listed, unless its completion was asked for since then.
+pub fn reached_promises()
+    ensures { ReachedPromises }
+{}
+
+/// So it is behind each connect, call and hang-up of a manager that stood for such a state.
+pub fn one_promises<D: Disk>()
+    ensures { OnePromises D.honest D.tears D.seen D.may_leave D.failures D.counts }
+{}
+
+/// A manager that was opened begins with such a state.
+pub fn begun_is_reached<D: Disk>()
+    ensures { BegunIsReached D.honest D.tears D.seen D.may_leave }
 {}

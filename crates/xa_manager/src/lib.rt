@@ -6,7 +6,8 @@
 //! change. `journal` is how a record comes into the log, and `answered` what its rows do by the device's answer.
 //!
 //! A boot begins by `opening` or `restarting`: `boots` makes ready what it begins with, `rebuilding` its tables, and
-//! `first_records` logs it where a manager is opened. `laws` says what a crash leaves; `planning` has planned faults in memory.
+//! `first_records` logs it where a manager is opened. `laws` says what a crash leaves, and what is promised of
+//! histories; `planning` has planned faults in memory.
 #![tactic(auto)]
 
 mod acts;
@@ -39,6 +40,9 @@ mod work;
 
 pub use doubt::Doubt;
 pub use fault::ManagerFault;
-pub use laws::{crash_leaves, files_last, memory_is_trusted, read_leaves, read_stands};
+pub use laws::{
+    begun_is_reached, crash_leaves, files_last, memory_is_trusted, one_promises, reached_promises,
+    read_leaves, read_stands,
+};
 pub use manager::Manager;
 pub use settings::Settings;

@@ -3,6 +3,11 @@ ghost use Rattle.xa_model.specs.Events.{IsAsked, AreEvents, IsEvent};
 ghost use Rattle.xa_log.specs.TwoFiles.{first_of, second_of};
 ghost use Rattle.xa_model.specs.Answer.{plain};
 ghost use Rattle.xa_manager.specs.Answered.{FullyAnswered, AnswersAll, ArePinned, StaysFor, connect_reply, memory_code};
+ghost use Rattle.xa_assoc.specs.Company.{Gains, Loses};
+ghost use Rattle.xa_manager.specs.Connected.{connected_to};
+ghost use Rattle.xa_manager.specs.Promises.{PromisesAll};
+ghost use Rattle.xa_frame.specs.Limits.{IsReply};
+ghost use Rattle.xa_manager.specs.Counted.{CountsAll};
 
 use crate::done::Done;
 use crate::doubt::Doubt;
@@ -35,7 +40,10 @@ impl<D: Disk> Manager<D> {
     /// Connects a session, whose number is the least from 1 that is free. `Full` comes where 1,024 are connected, `Memory`
     /// where there was no memory; neither changes what the manager stands for.
     pub fn connect(&mut self) -> Result<u64, ConnectFault>
-        ensures { FullyAnswered D.honest D.tears D.seen D.may_leave D.failures D.counts self.old Event.Connect (connect_reply result) self.new }
+        ensures answered { FullyAnswered D.honest D.tears D.seen D.may_leave D.failures D.counts self.old Event.Connect (connect_reply result) self.new }
+        ensures came { IfOk result (λ n. Gains (connected_to self.old) n (connected_to self.new)) }
+        ensures same { OnErr result (connected_to self.new ≡ connected_to self.old) }
+        ensures limits { IsReply (connect_reply result) }
     {
         match self.tables.connect() {
             Ok(number) => {
@@ -53,9 +61,13 @@ impl<D: Disk> Manager<D> {
     /// Answers a request of a session, by its number, with a code of C193. The reply has place 0. Its detail is Memory
     /// where there was no memory: then the code is XAER_RMFAIL, but XA_RETRY for a commit in two phases, and nothing
     /// changed. Open, Close, End, a commit in two phases, Rollback, Forget, Decide and Doom take no memory.
+    #[tactic(auto, using(crate::proofs::Replying::bare_fresh))]
     pub fn call(&mut self, session: u64, request: Request) -> Reply
         requires { IsAsked request }
-        ensures { FullyAnswered D.honest D.tears D.seen D.may_leave D.failures D.counts self.old (Event.Call session request) result self.new }
+        ensures answered { FullyAnswered D.honest D.tears D.seen D.may_leave D.failures D.counts self.old (Event.Call session request) result self.new }
+        ensures connected { connected_to self.new ≡ connected_to self.old }
+        ensures place { result.place ≡ 0 }
+        ensures limits { IsReply result }
     {
         let code = memory_code(&request);
         match self.answer(session, request) {
@@ -70,7 +82,8 @@ impl<D: Disk> Manager<D> {
     /// Hangs a session up: each association of its own ends, and the branch is marked XA_RBCOMMFAIL unless it is marked.
     /// The session's number is free again. Of a session that isn't connected nothing changes. Takes no memory.
     pub fn hangup(&mut self, session: u64)
-        ensures { FullyAnswered D.honest D.tears D.seen D.may_leave D.failures D.counts self.old (Event.Hangup session) (plain (pos 0)) self.new }
+        ensures answered { FullyAnswered D.honest D.tears D.seen D.may_leave D.failures D.counts self.old (Event.Hangup session) (plain (pos 0)) self.new }
+        ensures gone { Loses (connected_to self.old) session (connected_to self.new) }
     {
         self.tables.hangup(session);
         self.outcome = Outcome::Quiet;
@@ -81,6 +94,20 @@ impl<D: Disk> Manager<D> {
         ensures { result ≡ self.now.outcome }
     {
         self.outcome
+    }
+
+    /// Whether a session with this number is connected.
+    pub fn is_connected(&self, session: u64) -> bool
+        ensures { result ≡ (connected_to self.now).has session }
+    {
+        self.tables.sessions.is_connected(session)
+    }
+
+    /// How many sessions are connected.
+    pub fn connected(&self) -> u64
+        ensures { result ≡ (connected_to self.now).count }
+    {
+        self.tables.sessions.connected() as u64
     }
 
     /// Whether the log's current file is the first one.
@@ -116,13 +143,18 @@ impl<D: Disk> Manager<D> {
         }
     }
 
-    /// Answers events in order. Those that found their memory are a legal history with their replies.
+    /// Answers events in order. Those that found their memory are a legal history with their replies. If what went before is a
+    /// legal history too, from an opening on, then the committed branches, by timestamp, read what they would read one at a time
+    /// on one copy of the records; and each branch that was answered as prepared is listed until its completion is asked for.
     ///
     /// A connect answers 0 with its number, XAER_RMERR with detail Limit where no more may connect, or XAER_RMFAIL with
     /// detail Memory. A hang-up answers 0. Room for the replies is made first, and its want changes nothing.
     pub fn drive(&mut self, events: Vec<Event>) -> Result<Vec<Reply>, AllocError>
         requires { AreEvents events.items }
         ensures history { IfOk result (λ replies. AnswersAll D.honest D.tears D.seen D.may_leave self.old events.items replies.items self.new) }
+        ensures promises { IfOk result (λ replies. PromisesAll D.honest D.tears D.seen D.may_leave self.old events.items replies.items self.new) }
+        // The outcomes of that history tell of no more failures than the disks counted.
+        ensures counted { IfOk result (λ replies. CountsAll D.honest D.tears D.seen D.may_leave D.failures self.old events.items replies.items self.new) }
         ensures pinned { IfOk result (λ replies. ArePinned events.items replies.items) }
         ensures err { OnErr result (StaysFor D.honest D.tears D.seen D.may_leave self.old self.new) }
     {

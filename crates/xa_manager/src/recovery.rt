@@ -3,6 +3,8 @@ ghost use Rattle.xa_model.specs.Recovering.{listing, recover_by};
 ghost use Rattle.xa_assoc.specs.Refusals.{is_memory};
 ghost use Rattle.xa_manager.specs.Kept.{kept_of};
 ghost use Rattle.xa_manager.specs.Stands.{Follows, Stays};
+ghost use Rattle.xa_assoc.specs.Company.{company_of};
+ghost use Rattle.xa_manager.specs.Replies.{IsFresh};
 
 use crate::early::MOST_LISTED;
 use crate::tables::Tables;
@@ -14,10 +16,13 @@ use xa_xid::Xid;
 /// The row of recoveries.
 impl Tables {
     /// Lists the next of the branches that are prepared or were completed by the operator, at most so many.
+    #[tactic(auto, using(crate::proofs::Replying::bare_fresh, crate::proofs::Replying::listing_fresh))]
     pub fn recover(&mut self, session: u64, flags: u32, count: u32) -> Result<Reply, AllocError>
         requires { count ≤ 256 }
         ensures ok { IfOk result (λ r. Follows (kept_of self.old) (λ s. recover_by s session flags count) r (kept_of self.new)) }
         ensures err { OnErr result (Stays (kept_of self.old) (kept_of self.new)) }
+        ensures company { company_of self.new.sessions ≡ company_of self.old.sessions }
+        ensures fresh { IfOk result IsFresh }
     {
         let cursor = match self.sessions.recover_from(session, flags) {
             Ok(cursor) => cursor,

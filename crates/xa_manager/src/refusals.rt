@@ -1,21 +1,23 @@
-ghost use Rattle.std.specs.Prelude.{◌≡◌, IfSome, false};
+ghost use Rattle.std.specs.Prelude.{◌≡◌, IfSome, IfOk, false};
+ghost use Rattle.xa_record.specs.declared.record.Record.TheVariants as logged;
 ghost use Rattle.xa_model.specs.State.{State, known_as, loose_of};
 ghost use Rattle.xa_model.specs.Associations.{loose_refusal};
-ghost use Rattle.xa_model.specs.Branches.{one_phase_refusal, two_phase_refusal, rollback_refusal, heuristic_refusal, doom_refusal, is_associated};
+ghost use Rattle.xa_model.specs.Branches.{one_phase_refusal, two_phase_refusal, rollback_refusal, doom_refusal, is_associated};
 ghost use Rattle.xa_model.specs.Completions.{decide_refusal, forget_refusal};
-ghost use Rattle.xa_assoc.specs.Refusals.{is_memory};
+ghost use Rattle.xa_assoc.specs.Refusals.{is_memory, IsBare};
 ghost use Rattle.xa_assoc.specs.Sessions.{begin_refusal_of, join_refusal_of, resume_refusal_of, suspend_refusal_of, leave_refusal_of};
+ghost use Rattle.xa_heur.specs.Answers.{refused, completion_refusal};
 ghost use Rattle.xa_manager.specs.Kept.{kept_of};
 ghost use Rattle.xa_manager.specs.Stands.{StandsFor};
 
 use crate::replies::plain;
 use crate::tables::Tables;
 use xa_assoc::loose_refusal;
-use xa_branch::{
-    Known, doom_refusal, heuristic_refusal, one_phase_refusal, rollback_refusal, two_phase_refusal,
-};
-use xa_codes::{XAER_NOTA, XAER_PROTO};
+use xa_branch::{doom_refusal, one_phase_refusal, rollback_refusal, two_phase_refusal};
+use xa_codes::{Call, Code, Direction, XAER_NOTA};
 use xa_frame::Reply;
+use xa_heur::{answer_completed, decide, forget};
+use xa_record::Record;
 use xa_xid::Xid;
 
 /// How starts and ends are refused.
@@ -24,6 +26,7 @@ impl Tables {
     pub fn begin_refusal(&self, session: u64, xid: &Xid) -> Option<Reply>
         ensures value { (s : State) → StandsFor (kept_of self.now) s → result ≡ begin_refusal_of s session xid.now }
         ensures served { IfSome result (λ r. is_memory r.detail ≡ false) }
+        ensures bare { IfSome result IsBare }
     {
         let taken = self.is_taken(xid);
         self.sessions
@@ -34,6 +37,7 @@ impl Tables {
     pub fn join_refusal(&self, session: u64, xid: &Xid) -> Option<Reply>
         ensures value { (s : State) → StandsFor (kept_of self.now) s → result ≡ join_refusal_of s session xid.now }
         ensures served { IfSome result (λ r. is_memory r.detail ≡ false) }
+        ensures bare { IfSome result IsBare }
     {
         let unknown = self.is_unknown(xid);
         let settled = self.is_settled(xid);
@@ -44,6 +48,7 @@ impl Tables {
     pub fn resume_refusal(&self, session: u64, xid: &Xid) -> Option<Reply>
         ensures value { (s : State) → StandsFor (kept_of self.now) s → result ≡ resume_refusal_of s session xid.now }
         ensures served { IfSome result (λ r. is_memory r.detail ≡ false) }
+        ensures bare { IfSome result IsBare }
     {
         let unknown = self.is_unknown(xid);
         let has_loose = self.has_loose(xid);
@@ -55,6 +60,7 @@ impl Tables {
     pub fn suspend_refusal(&self, session: u64, xid: &Xid) -> Option<Reply>
         ensures value { (s : State) → StandsFor (kept_of self.now) s → result ≡ suspend_refusal_of s session xid.now }
         ensures served { IfSome result (λ r. is_memory r.detail ≡ false) }
+        ensures bare { IfSome result IsBare }
     {
         let unknown = self.is_unknown(xid);
         self.sessions.suspend_refusal(session, xid, unknown)
@@ -64,6 +70,7 @@ impl Tables {
     pub fn loose_refusal(&self, migrates: bool, xid: &Xid) -> Option<Reply>
         ensures value { (s : State) → StandsFor (kept_of self.now) s → result ≡ loose_refusal migrates (loose_of s.associations xid.now) }
         ensures served { IfSome result (λ r. is_memory r.detail ≡ false) }
+        ensures bare { IfSome result IsBare }
     {
         loose_refusal(migrates, self.branches.loose(xid))
     }
@@ -72,6 +79,7 @@ impl Tables {
     pub fn leave_refusal(&self, session: u64, xid: &Xid) -> Option<Reply>
         ensures value { (s : State) → StandsFor (kept_of self.now) s → result ≡ leave_refusal_of s session xid.now }
         ensures served { IfSome result (λ r. is_memory r.detail ≡ false) }
+        ensures bare { IfSome result IsBare }
     {
         let unknown = self.is_unknown(xid);
         let has_loose = self.has_loose(xid);
@@ -85,6 +93,7 @@ impl Tables {
     pub fn one_phase_refusal(&self, xid: &Xid) -> Option<Reply>
         ensures value { (s : State) → StandsFor (kept_of self.now) s → result ≡ one_phase_refusal (known_as s xid.now) (is_associated s xid.now) }
         ensures served { IfSome result (λ r. is_memory r.detail ≡ false) }
+        ensures bare { IfSome result IsBare }
     {
         one_phase_refusal(self.branches.known(xid), self.branches.is_associated(xid))
     }
@@ -92,6 +101,7 @@ impl Tables {
     pub fn two_phase_refusal(&self, xid: &Xid) -> Option<Reply>
         ensures value { (s : State) → StandsFor (kept_of self.now) s → result ≡ two_phase_refusal (known_as s xid.now) }
         ensures served { IfSome result (λ r. is_memory r.detail ≡ false) }
+        ensures bare { IfSome result IsBare }
     {
         two_phase_refusal(self.branches.known(xid))
     }
@@ -99,45 +109,47 @@ impl Tables {
     pub fn rollback_refusal(&self, xid: &Xid) -> Option<Reply>
         ensures value { (s : State) → StandsFor (kept_of self.now) s → result ≡ rollback_refusal (known_as s xid.now) (is_associated s xid.now) }
         ensures served { IfSome result (λ r. is_memory r.detail ≡ false) }
+        ensures bare { IfSome result IsBare }
     {
         rollback_refusal(self.branches.known(xid), self.branches.is_associated(xid))
     }
 
-    /// Of a branch that the operator completed.
-    pub fn heuristic_refusal(&self, xid: &Xid) -> Option<Reply>
-        ensures value { (s : State) → StandsFor (kept_of self.now) s → result ≡ heuristic_refusal (known_as s xid.now) }
+    /// Of a commit in two phases or a rollback of a branch that the operator completed.
+    pub fn heuristic_refusal(&self, call: Call, xid: &Xid) -> Option<Reply>
+        ensures value { (s : State) → StandsFor (kept_of self.now) s → result ≡ completion_refusal call (known_as s xid.now) }
         ensures served { IfSome result (λ r. is_memory r.detail ≡ false) }
+        ensures bare { IfSome result IsBare }
     {
-        heuristic_refusal(self.branches.known(xid))
+        let code = answer_completed(self.branches.state(xid)?, call)?;
+        Some(plain(code))
     }
 
-    /// Of an operator's decision: only a prepared branch is decided.
-    pub fn decide_refusal(&self, xid: &Xid) -> Option<Reply>
-        ensures value { (s : State) → StandsFor (kept_of self.now) s → result ≡ decide_refusal (known_as s xid.now) }
-        ensures served { IfSome result (λ r. is_memory r.detail ≡ false) }
+    /// The record of an operator's decision, or the code that refuses it: only a prepared branch is decided.
+    pub fn decision(&self, direction: Direction, xid: &Xid) -> Result<Record, Code>
+        ensures refusal { (s : State) → StandsFor (kept_of self.now) s → refused result ≡ decide_refusal (known_as s xid.now) }
+        ensures logs { IfOk result (λ r. r ≡ logged.Decided xid.now direction) }
     {
-        match self.branches.known(xid) {
-            Known::Unknown => Some(plain(XAER_NOTA)),
-            Known::InDoubt => None,
-            Known::AtWork(_) | Known::Completed(_) => Some(plain(XAER_PROTO)),
+        match self.branches.state(xid) {
+            Some(state) => decide(state, xid, direction),
+            None => Err(XAER_NOTA),
         }
     }
 
-    /// Of a Forget: only what the operator completed is forgotten.
-    pub fn forget_refusal(&self, xid: &Xid) -> Option<Reply>
-        ensures value { (s : State) → StandsFor (kept_of self.now) s → result ≡ forget_refusal (known_as s xid.now) }
-        ensures served { IfSome result (λ r. is_memory r.detail ≡ false) }
+    /// The record of a Forget, or the code that refuses it: only what the operator completed is forgotten.
+    pub fn forgetting(&self, xid: &Xid) -> Result<Record, Code>
+        ensures refusal { (s : State) → StandsFor (kept_of self.now) s → refused result ≡ forget_refusal (known_as s xid.now) }
+        ensures logs { IfOk result (λ r. r ≡ logged.Forgotten xid.now) }
     {
-        match self.branches.known(xid) {
-            Known::Unknown => Some(plain(XAER_NOTA)),
-            Known::Completed(_) => None,
-            Known::AtWork(_) | Known::InDoubt => Some(plain(XAER_PROTO)),
+        match self.branches.state(xid) {
+            Some(state) => forget(state, xid),
+            None => Err(XAER_NOTA),
         }
     }
 
     pub fn doom_refusal(&self, xid: &Xid) -> Option<Reply>
         ensures value { (s : State) → StandsFor (kept_of self.now) s → result ≡ doom_refusal (known_as s xid.now) }
         ensures served { IfSome result (λ r. is_memory r.detail ≡ false) }
+        ensures bare { IfSome result IsBare }
     {
         doom_refusal(self.branches.known(xid))
     }

@@ -1,6 +1,6 @@
 ghost use Rattle.std.specs.Prelude.{◌≡◌, ◌⊎◌, ◌≤◌, ◌+◌, ℕ, List, length, nat_lt, true, false, None, Some, Ok, IfOk, IfErr, OnOk, OnErr, IsSomeAnd, MatchBool};
 ghost use Rattle.std.specs.List.{AllByRecursion};
-ghost use Rattle.xa_assoc.specs.Refusals.{is_memory};
+ghost use Rattle.xa_assoc.specs.Refusals.{is_memory, IsBare};
 ghost use Rattle.xa_codes.specs.declared.codes.TheConstants.{XAER_RMFAIL};
 ghost use Rattle.xa_record.specs.declared.record.Record.{Record};
 ghost use Rattle.xa_log.specs.Answers.{CountsDeviceOf};
@@ -8,6 +8,7 @@ ghost use Rattle.xa_log.specs.Chain.{IsBody};
 ghost use Rattle.xa_log.specs.Reading.{bodies_of};
 ghost use Rattle.xa_log.specs.declared.log.Log.{Log};
 ghost use Rattle.xa_log.specs.TwoFiles.{first_of, second_of};
+ghost use Rattle.mv_rules.specs.Within.{IsWithin};
 ghost use Rattle.xa_model.specs.Answer.{detailed};
 ghost use Rattle.xa_model.specs.Backing.{Backs};
 ghost use Rattle.xa_model.specs.Durable.{durable};
@@ -21,6 +22,8 @@ ghost use Rattle.xa_manager.specs.LogStands.{Trusts, HasRecords};
 ghost use Rattle.xa_manager.specs.Managed.{ManagerStandsFor, Doubts};
 ghost use Rattle.xa_manager.specs.Turns.{HasRestarted};
 ghost use Rattle.xa_manager.specs.Rereading.{IsFate, Found, IsNext, IsReady};
+ghost use Rattle.xa_manager.specs.Connected.{connected_to};
+ghost use Rattle.xa_frame.specs.Limits.{IsReply};
 
 use crate::boots::{NextBoot, Planned, plan};
 use crate::done::Done;
@@ -85,12 +88,15 @@ impl<D: Disk> Manager<D> {
     fn log_boot(&mut self, survived: bool, next: NextBoot) -> Done
         requires some { 1 ≤ length next.bodies.items }
         requires sizes { AllByRecursion IsBody (bodies_of next.bodies.items) }
+        requires short { IsWithin 1024 next.records }
         ensures turn { (s t : State) (rs : List Record) → ManagerStandsFor D.honest D.tears D.seen D.may_leave self.old s → Trusts D.honest D.tears → IsFate survived s t → Backs rs t
             → HasRecords D.tears D.seen D.may_leave rs self.old.log → self.old.log.lost ≡ false → nat_lt t.logged_boot most_boots ≡ true → next.boot ≡ t.logged_boot + 1 → IsReady (durable t) (t.logged_boot + 1) next
             → IsSomeAnd (taken (restart_turn s) result.outcome) (λ a. (a.reply ≡ result.reply) × ManagerStandsFor D.honest D.tears D.seen D.may_leave self.new a.after) }
         ensures outcome { self.new.outcome ≡ self.old.outcome }
         ensures called { self.old.log.lost ≡ false → (log : Log D) → NoneRises D.failures log self.old.log → HasCalled D.honest D.tears D.failures D.counts result.outcome log self.new.log }
         ensures served { is_memory result.reply.detail ≡ false }
+        ensures company { connected_to self.new ≡ connected_to self.old }
+        ensures bare { IsBare result.reply }
     {
         match self.log.checkpoint(&next.bodies) {
             Appended::Kept => {
@@ -132,6 +138,8 @@ impl<D: Disk> Manager<D> {
         ensures outcome { self.new.outcome ≡ self.old.outcome }
         ensures called { self.old.log.lost ≡ false → (log : Log D) → NoneRises D.failures log self.old.log → HasCalled D.honest D.tears D.failures D.counts result.outcome log self.new.log }
         ensures served { is_memory result.reply.detail ≡ false }
+        ensures company { connected_to self.new ≡ connected_to self.old }
+        ensures bare { IsBare result.reply }
     {
         let Planned { durable, next } = planned;
         let survived = self.has_survived(durable.boot());
@@ -175,6 +183,9 @@ impl<D: Disk> Manager<D> {
         ensures turn { IfOk result (λ d. HasRestarted D.honest D.tears D.seen D.may_leave D.failures D.counts self.old d.reply d.outcome self.new) }
         ensures err { OnErr result (StaysFor D.honest D.tears D.seen D.may_leave self.old self.new) }
         ensures outcome { self.new.outcome ≡ self.old.outcome }
+        ensures company { connected_to self.new ≡ connected_to self.old }
+        ensures bare { IfOk result (λ d. IsBare d.reply) }
+        ensures quiet { OnErr result (NoneRises D.failures self.old.log self.new.log) }
     {
         self.restarted()
     }
@@ -187,6 +198,9 @@ impl<D: Disk> Manager<D> {
         ensures outcome { self.new.outcome ≡ self.old.outcome }
         ensures called { IfOk result (λ d. HasCalled D.honest D.tears D.failures D.counts d.outcome self.old.log self.new.log) }
         ensures served { IfOk result (λ d. is_memory d.reply.detail ≡ false) }
+        ensures company { connected_to self.new ≡ connected_to self.old }
+        ensures bare { IfOk result (λ d. IsBare d.reply) }
+        ensures quiet { OnErr result (NoneRises D.failures self.old.log self.new.log) }
     {
         let end = self.log.end();
         match self.look() {
@@ -218,6 +232,10 @@ impl<D: Disk> Manager<D> {
             → IsSomeAnd (taken (restart_turn s) self.new.outcome) (λ a. (a.reply ≡ result) × ManagerStandsFor D.honest D.tears D.seen D.may_leave self.new a.after)) }
         ensures pinned { is_memory result.detail ≡ true → result ≡ detailed XAER_RMFAIL Detail.Memory }
         ensures called { is_memory result.detail ≡ false → HasCalled D.honest D.tears D.failures D.counts self.new.outcome self.old.log self.new.log }
+        ensures connected { connected_to self.new ≡ connected_to self.old }
+        ensures place { result.place ≡ 0 }
+        ensures limits { IsReply result }
+        ensures quiet { is_memory result.detail ≡ true → NoneRises D.failures self.old.log self.new.log }
     {
         match self.restarted() {
             Ok(done) => {

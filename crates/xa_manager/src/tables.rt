@@ -1,3 +1,6 @@
+ghost use Rattle.std.proofs.Props.{props};
+ghost use Rattle.mv_rules.specs.Within.{IsWithin};
+
 use mv_rules::Records;
 use std::alloc::Global;
 use xa_assoc::Sessions;
@@ -13,4 +16,6 @@ pub struct Tables {
     pub sessions: Sessions,
     pub branches: Branches,
     pub records: Records,
+    /// No value that is kept has more bytes than a reply carries.
+    ghost short: { IsWithin 1024 records } by { Prim.hlevel props },
 }

@@ -3,6 +3,9 @@ ghost use Rattle.xa_model.specs.Associations.{begin_by, join_by, resume_by, star
 ghost use Rattle.xa_assoc.specs.Seats.{opened_at};
 ghost use Rattle.xa_manager.specs.Kept.{kept_of};
 ghost use Rattle.xa_manager.specs.Stands.{Follows, Stays};
+ghost use Rattle.xa_manager.specs.Replies.{IsFresh};
+ghost use Rattle.xa_assoc.specs.Refusals.{IsBare};
+ghost use Rattle.xa_assoc.specs.Company.{company_of};
 
 use crate::replies::{carrying, plain};
 use crate::tables::Tables;
@@ -18,6 +21,8 @@ impl Tables {
         requires connected { IsSome (opened_at self.old.sessions session) }
         ensures ok { IfOk result (λ r. Follows (kept_of self.old) (λ s. start_by s session flags xid.now) r (kept_of self.new)) }
         ensures err { OnErr result (Stays (kept_of self.old) (kept_of self.new)) }
+        ensures company { company_of self.new.sessions ≡ company_of self.old.sessions }
+        ensures fresh { IfOk result IsFresh }
     {
         if flags & TMJOIN == TMJOIN {
             self.join(session, xid)
@@ -28,10 +33,13 @@ impl Tables {
         }
     }
 
+    #[tactic(auto, using(crate::proofs::Replying::bare_fresh, crate::proofs::Replying::number_fresh))]
     fn begin(&mut self, session: u64, xid: &Xid) -> Result<Reply, AllocError>
         requires connected { IsSome (opened_at self.old.sessions session) }
         ensures ok { IfOk result (λ r. Follows (kept_of self.old) (λ s. begin_by s session xid.now) r (kept_of self.new)) }
         ensures err { OnErr result (Stays (kept_of self.old) (kept_of self.new)) }
+        ensures company { company_of self.new.sessions ≡ company_of self.old.sessions }
+        ensures fresh { IfOk result IsFresh }
     {
         if let Some(reply) = self.begin_refusal(session, xid) {
             return Ok(reply);
@@ -40,10 +48,13 @@ impl Tables {
         Ok(carrying(Body::Number(timestamp)))
     }
 
+    #[tactic(auto, using(crate::proofs::Replying::bare_fresh, crate::proofs::Replying::number_fresh))]
     fn join(&mut self, session: u64, xid: &Xid) -> Result<Reply, AllocError>
         requires connected { IsSome (opened_at self.old.sessions session) }
         ensures ok { IfOk result (λ r. Follows (kept_of self.old) (λ s. join_by s session xid.now) r (kept_of self.new)) }
         ensures err { OnErr result (Stays (kept_of self.old) (kept_of self.new)) }
+        ensures company { company_of self.new.sessions ≡ company_of self.old.sessions }
+        ensures fresh { IfOk result IsFresh }
     {
         if let Some(reply) = self.join_refusal(session, xid) {
             return Ok(reply);
@@ -57,10 +68,13 @@ impl Tables {
     }
 
     /// What would be resumed of a marked branch ends.
+    #[tactic(auto, using(crate::proofs::Replying::bare_fresh, crate::proofs::Replying::number_fresh))]
     fn resume(&mut self, session: u64, xid: &Xid) -> Result<Reply, AllocError>
         requires connected { IsSome (opened_at self.old.sessions session) }
         ensures ok { IfOk result (λ r. Follows (kept_of self.old) (λ s. resume_by s session xid.now) r (kept_of self.new)) }
         ensures err { OnErr result (Stays (kept_of self.old) (kept_of self.new)) }
+        ensures company { company_of self.new.sessions ≡ company_of self.old.sessions }
+        ensures fresh { IfOk result IsFresh }
     {
         if let Some(reply) = self.resume_refusal(session, xid) {
             return Ok(reply);
@@ -80,7 +94,9 @@ impl Tables {
 impl Tables {
     pub fn end(&mut self, session: u64, flags: u32, xid: &Xid) -> Reply
         requires connected { IsSome (opened_at self.old.sessions session) }
-        ensures { Follows (kept_of self.old) (λ s. end_by s session flags xid.now) result (kept_of self.new) }
+        ensures follows { Follows (kept_of self.old) (λ s. end_by s session flags xid.now) result (kept_of self.new) }
+        ensures company { company_of self.new.sessions ≡ company_of self.old.sessions }
+        ensures bare { IsBare result }
     {
         if flags & TMSUSPEND == TMSUSPEND {
             self.suspend(session, flags & TMMIGRATE == TMMIGRATE, xid)
@@ -92,7 +108,9 @@ impl Tables {
     /// What would be suspended of a marked branch ends.
     fn suspend(&mut self, session: u64, migrates: bool, xid: &Xid) -> Reply
         requires connected { IsSome (opened_at self.old.sessions session) }
-        ensures { Follows (kept_of self.old) (λ s. suspend_by s session migrates xid.now) result (kept_of self.new) }
+        ensures follows { Follows (kept_of self.old) (λ s. suspend_by s session migrates xid.now) result (kept_of self.new) }
+        ensures company { company_of self.new.sessions ≡ company_of self.old.sessions }
+        ensures bare { IsBare result }
     {
         if let Some(reply) = self.suspend_refusal(session, xid) {
             return reply;
@@ -110,7 +128,9 @@ impl Tables {
 
     fn leave(&mut self, session: u64, fails: bool, xid: &Xid) -> Reply
         requires connected { IsSome (opened_at self.old.sessions session) }
-        ensures { Follows (kept_of self.old) (λ s. leave_by s session fails xid.now) result (kept_of self.new) }
+        ensures follows { Follows (kept_of self.old) (λ s. leave_by s session fails xid.now) result (kept_of self.new) }
+        ensures company { company_of self.new.sessions ≡ company_of self.old.sessions }
+        ensures bare { IsBare result }
     {
         if let Some(reply) = self.leave_refusal(session, xid) {
             return reply;

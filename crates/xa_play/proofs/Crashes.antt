@@ -1,5 +1,5 @@
 -- What a crash left of two disks is opened.
-use Rattle.std.proofs.Common.{◌≡◌, ℕ, List, IfOk, Result, Ok, Err, ap, subst}
+use Rattle.std.proofs.Common.{◌≡◌, ℕ, List, IfOk, Result, Ok, Err, subst}
 use Rattle.xa_disk.specs.Memory.{Crashes, image_of}
 use Rattle.xa_disk.specs.declared.memory.MemDisk.{MemDisk}
 use Rattle.xa_log.specs.TwoFiles.{first_of, second_of}

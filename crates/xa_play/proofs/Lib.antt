@@ -1,6 +1,6 @@
-pub mod Pieces
 pub mod Scripts
 pub mod Settings
 pub mod Crashes
+pub mod Lawful
 pub mod Playing
-pub mod Runs
+pub mod Ends

@@ -1,12 +1,16 @@
 -- Lines are played one after another.
-use Rattle.std.proofs.Common.{◌≡◌, ◌⊎◌, ◌∙◌, ℕ, Err, Ok, inl, inr, Bool, true, false, List, [], ◌∷◌, ◌++◌, Option, Some, None, MatchBool, IsSomeAnd, Result, refl, sym, ap, subst, append_assoc, append-nil, map}
+use Rattle.std.proofs.Common.{◌≡◌, ◌∙◌, ℕ, Err, Ok, inl, inr, Bool, true, false, List, [], ◌∷◌, ◌++◌, Option, Some, None, MatchBool, IsSomeAnd, Result, refl, sym, ap, subst, append_assoc, append-nil, map}
 use Rattle.xa_disk.specs.declared.memory.MemDisk.{MemDisk}
 use Rattle.xa_frame.specs.declared.reply.Reply.{Reply}
 use Rattle.xa_model.specs.declared.event.Event.{Event}
 use Rattle.xa_model.specs.declared.event.Event.TheVariants as event
 use Rattle.xa_model.specs.State.{State}
-use Rattle.xa_model.specs.Answer.{Answer}
-use Rattle.xa_model.specs.Turn.{Asked}
+use Rattle.xa_model.specs.Answer.{Answer, plain}
+use Rattle.xa_model.specs.Turn.{Asked, Reopened}
+use Rattle.xa_model.specs.Events.{IsEvent}
+use Rattle.xa_model.specs.History.{Entry}
+use Rattle.xa_model.specs.declared.outcome.Outcome.TheVariants.{Reread}
+use Rattle.xa_model.specs.declared.outcome.Appending.TheVariants.{Kept}
 use Rattle.xa_model.specs.Step.{step}
 use Rattle.xa_assoc.specs.Refusals.{is_memory}
 use Rattle.xa_manager.specs.Answered.{may_want_memory, wanted_memory}
@@ -14,21 +18,28 @@ use Rattle.xa_manager.specs.declared.manager.Manager.{Manager}
 use Rattle.xa_xid.specs.Triple.{Triple}
 use Rattle.xa_script.specs.declared.line.Line.{Line}
 use Rattle.xa_script.specs.declared.line.Line.TheVariants.{Silent, Unknown, Connect, Hangup, Call, Fail, Reopen, Crash}
+use Rattle.xa_script.specs.declared.call_effect.CallEffect.{CallEffect}
+use Rattle.xa_script.specs.declared.log_file.LogFile.{LogFile}
+use Rattle.xa_script.specs.declared.log_file.LogFile.TheVariants.{Current, Other}
+use Rattle.xa_output.specs.Output.{IsPart}
 use Rattle.xa_script.specs.Lines as lines
 use Rattle.xa_script.specs.Parts.{parts, parts_behind}
 use Rattle.xa_script.specs.Replies as replies
 use Rattle.xa_script.specs.Requests.{ReadsTexts}
-use Rattle.xa_play.specs.Disks.{StandsFor, Answered, Stays, FilesStand, MemoryIsTrusted, first_seen, second_seen, seen}
+use Rattle.xa_play.specs.Disks.{StandsFor, Answered, Stays, Planned, FilesStand, MemoryIsTrusted, first_seen, second_seen, seen}
 use Rattle.xa_manager.specs.Files.{FilesStandFor}
 use Rattle.xa_manager.specs.Answered.{StepsAs}
 use Rattle.xa_disk.specs.Disk.{AllOrNone}
 use Rattle.xa_disk.specs.Memory.{image_of}
-use Rattle.std.specs.Prelude.{⊤}
+use Rattle.std.specs.Prelude.{⊤, pos}
+use Rattle.std.specs.declared.alloc.AllocError.{AllocError}
 use Rattle.xa_model.specs.declared.outcome.Outcome.{Outcome}
-use Rattle.xa_play.specs.Plays.{Shows, IsPart, IsOpening, PlaysLine, PlaysTo, Done, Stops, Cuts, CutsLine, Refuses, lines_of}
+use Rattle.xa_play.specs.Runs.{Run, IsRun, IsLawful, RunsAreLawful}
+use Rattle.xa_play.specs.Plays.{Steps, Shows, Reopens, IsOpening, PlaysLine, PlaysTo, Done, Stops, Cuts, Refuses, lines_of}
 use Rattle.xa_play.specs.Played.{IsLinesFault, AnswerFails, LineAnswered, StandsAs, LinePlayed, LineCut, LineEnds, ScriptEnds}
 use Rattle.xa_play.specs.declared.fault.PlayFault.{PlayFault}
 use Rattle.xa_play.specs.declared.fault.PlayFault.TheVariants as faults
+use Rattle.xa_play.proofs.Lawful.{run_more}
 use Rattle.xa_play.proofs.Settings.{asked_keeps, reopened_as}
 
 -- what an answer prints
@@ -36,80 +47,101 @@ abbrev pub printed : Option Reply → List ℕ
 printed None = []
 printed (Some reply) = replies.line_of reply
 
--- what holds of the state behind a line is weakened
-pub plays_then : (name : List ℕ) (log_bytes : ℕ) (P Q : State → Type 0) (s : State) (said : Line) (text : List ℕ) → ((after : State) → P after → Q after)
-    → PlaysLine name log_bytes s said text P → PlaysLine name log_bytes s said text Q
-plays_then name log_bytes P Q s Silent text f h = (h.0, f s h.1)
-plays_then name log_bytes P Q s Unknown text f h = (h.0, f s h.1)
-plays_then name log_bytes P Q s Connect text f h = (h.0, h.1, h.2, h.3, f h.2 h.4)
-plays_then name log_bytes P Q s (Hangup n) text f h = (h.0, h.1, h.2, h.3, f h.2 h.4)
-plays_then name log_bytes P Q s (Call n request) text f h = (h.0, h.1, h.2, h.3, f h.2 h.4)
-plays_then name log_bytes P Q s (Fail file call effect) text f h = (h.0, f s h.1)
-plays_then name log_bytes P Q s Reopen text f h = (h.0, h.1, h.2, f h.1 h.3)
-plays_then name log_bytes P Q s Crash text f h =
-    (h.0, h.1, h.2, h.3, λ t recoverable stand. let a = h.4 t recoverable stand in (a.0, a.1, f a.0 a.2))
+-- what an answer says, by whether memory was wanted
+abbrev Said : Run → Event → Reply → Bool → (Run → Type 0) → Type 0
+Said run asked reply b Then =
+    MatchBool b ((may_want_memory asked ≡ true) × (reply ≡ wanted_memory asked) × Then run)
+    ((outcome : Outcome) × Steps run (Asked asked) outcome reply Then)
+
+said_then : (P Q : Run → Type 0) (run : Run) (asked : Event) (reply : Reply) (b : Bool) → ((after : Run) → P after → Q after) → Said run asked reply b P
+    → Said run asked reply b Q
+said_then P Q run asked reply true f h = (h.0, h.1, f run h.2)
+said_then P Q run asked reply false f h = (h.0, (h.1.0, h.1.1, f _ h.1.2))
+
+-- what holds of the run with a line is weakened
+pub plays_then : (name : List ℕ) (log_bytes : ℕ) (P Q : Run → Type 0) (run : Run) (said : Line) (text : List ℕ) → ((after : Run) → P after → Q after)
+    → PlaysLine name log_bytes run said text P → PlaysLine name log_bytes run said text Q
+plays_then name log_bytes P Q run Silent text f h = (h.0, f run h.1)
+plays_then name log_bytes P Q run Unknown text f h = (h.0, f run h.1)
+plays_then name log_bytes P Q run Connect text f h = (h.0, h.1, said_then P Q run event.Connect h.0 (is_memory h.0.detail) f h.2)
+plays_then name log_bytes P Q run (Hangup n) text f h = (h.0, h.1, said_then P Q run (event.Hangup n) h.0 (is_memory h.0.detail) f h.2)
+plays_then name log_bytes P Q run (Call n request) text f h = (h.0, h.1, said_then P Q run (event.Call n request) h.0 (is_memory h.0.detail) f h.2)
+plays_then name log_bytes P Q run (Fail file call effect) text f h = (h.0, f run h.1)
+plays_then name log_bytes P Q run Reopen text f h = (h.0, (h.1.0, (h.1.1.0, h.1.1.1, f _ h.1.1.2)))
+plays_then name log_bytes P Q run Crash text f h =
+    (h.0, h.1, h.2, h.3, λ left is stand. let a = h.4 left is stand in (a.0, (a.1.0, a.1.1, f _ a.1.2)))
 
 follows : (m' : Manager MemDisk) (reply : Reply) (o : Option Answer) → IsSomeAnd o (λ a. (a.reply ≡ reply) × StandsFor m' a.after) →
     (after : State) × (o ≡ Some (record { reply = reply; after = after })) × StandsFor m' after
 follows m' reply None h = absurd h
 follows m' reply (Some a) h = (a.after, ap (λ (r : Reply). Some (record { reply = r; after = a.after })) h.0, h.1)
 
-answers_by : (trusted : MemoryIsTrusted) (m m' : Manager MemDisk) (asked : Event) (reply : Reply) (s : State) (b : Bool) →
+answers_by : (trusted : MemoryIsTrusted) (n : ℕ) (m m' : Manager MemDisk) (asked : Event) (reply : Reply) (run : Run) (b : Bool) →
     MatchBool b (Stays m m' × (m'.outcome ≡ m.outcome)) (StepsAs ⊤ AllOrNone seen image_of m asked reply m') →
-    (b ≡ true → (may_want_memory asked ≡ true) × (reply ≡ wanted_memory asked)) → StandsFor m s →
-    (after : State)
-    × MatchBool b ((may_want_memory asked ≡ true) × (reply ≡ wanted_memory asked) × (after ≡ s))
-    ((outcome : Outcome) × (step s (Asked asked) outcome ≡ Some (record { reply = reply; after = after })))
-    × StandsFor m' after × (after.log_bytes ≡ s.log_bytes)
-answers_by trusted m m' asked reply s true h wanted stands = let w = wanted refl in (s, (w.0, w.1, refl), h.0 s stands, refl)
-answers_by trusted m m' asked reply s false h wanted stands =
-    let a = follows m' reply (step s (Asked asked) m'.outcome) (h s stands (inl trusted)) in
-    (a.0, (m'.outcome, a.1), a.2, asked_keeps s asked m'.outcome (record { reply = reply; after = a.0 }) a.1)
+    (b ≡ true → (may_want_memory asked ≡ true) × (reply ≡ wanted_memory asked)) → IsEvent asked → StandsAs [] n m run →
+    Said run asked reply b (StandsAs [] n m')
+answers_by trusted n m m' asked reply run true h wanted event stands =
+    let w = wanted refl in (w.0, w.1, (h.0 run.now stands.0, stands.1, stands.2))
+answers_by trusted n m m' asked reply run false h wanted event stands =
+    let a = follows m' reply (step run.now (Asked asked) m'.outcome) (h run.now stands.0 (inl trusted)) in
+    let entry : Entry = record { happening = Asked asked; outcome = m'.outcome; reply = reply } in
+    let same = asked_keeps run.now asked m'.outcome (record { reply = reply; after = a.0 }) a.1 in
+    (m'.outcome, (a.0, a.1, (a.2, same ∙ stands.1, run_more run entry a.0 stands.2 event a.1)))
 
-shows : (trusted : MemoryIsTrusted) (n : ℕ) (m m' : Manager MemDisk) (asked : Event) (answer : Option Reply) (s : State) →
-    IsSomeAnd answer (λ reply. Answered m asked reply m') → StandsAs [] n m s → Shows s asked (printed answer) (StandsAs [] n m')
-shows trusted n m m' asked None s h stands = absurd h
-shows trusted n m m' asked (Some reply) s h stands =
-    let a = answers_by trusted m m' asked reply s (is_memory reply.detail) h.answered h.pinned stands.0 in
-    (reply, refl, a.0, a.1, (a.2, a.3 ∙ stands.1))
+shows : (trusted : MemoryIsTrusted) (n : ℕ) (m m' : Manager MemDisk) (asked : Event) (answer : Option Reply) (run : Run) →
+    IsSomeAnd answer (λ reply. Answered m asked reply m') → IsEvent asked → StandsAs [] n m run → Shows run asked (printed answer) (StandsAs [] n m')
+shows trusted n m m' asked None run h event stands = absurd h
+shows trusted n m m' asked (Some reply) run h event stands =
+    (reply, refl, answers_by trusted n m m' asked reply run (is_memory reply.detail) h.answered h.pinned event stands)
+
+planned_stays : (result : Result (Unit {0}) AllocError) (file : LogFile) (call : ℕ) (effect : CallEffect) (m m' : Manager MemDisk) →
+    Planned result file call effect m m' → Stays m m'
+planned_stays result Current call effect m m' h = h.2
+planned_stays result Other call effect m m' h = h.2
+
+-- the manager was opened again, on files to which the state of a run comes
+reopens : (name : List ℕ) (n : ℕ) (m' : Manager MemDisk) (run : Run) → IsRun run
+    → (survived : Bool) × IsSomeAnd (step run.now (Reopened name n) (Reread survived (Some Kept))) (λ a. StandsFor m' a.after)
+    → Reopens name n run (StandsAs name n m')
+reopens name n m' run is o =
+    let a = reopened_as run.now name n o.0 (StandsFor m') o.1 in
+    let entry : Entry = record { happening = Reopened name n; outcome = Reread o.0 (Some Kept); reply = plain (pos 0) } in
+    (o.0, (a.0, a.1, (a.2, a.3, run_more run entry a.0 is tt a.1)))
 
 -- an answer of a manager is a line of the model, from whichever state the manager stood for
-pub line_plays : (trusted : MemoryIsTrusted) (files : FilesStand) (name : List ℕ) (n : ℕ) (m m' : Manager MemDisk) (said : Line) (answer : Option Reply) (s : State) →
-    LineAnswered name n m said answer m' → StandsAs name n m s → PlaysLine name n s said (printed answer) (StandsAs name n m')
-line_plays trusted files name n m m' Silent answer s h stands = (ap printed h.0, subst (λ (k : Manager MemDisk). StandsAs name n k s) (sym h.1) stands)
-line_plays trusted files name n m m' Unknown answer s h stands = (ap printed h.0, subst (λ (k : Manager MemDisk). StandsAs name n k s) (sym h.1) stands)
-line_plays trusted files name n m m' Connect answer s h stands = shows trusted n m m' event.Connect answer s h stands
-line_plays trusted files name n m m' (Hangup k) answer s h stands = shows trusted n m m' (event.Hangup k) answer s h stands
-line_plays trusted files name n m m' (Call k request) answer s h stands = shows trusted n m m' (event.Call k request) answer s h stands
-line_plays trusted files name n m m' (Fail file call effect) answer s h stands = (ap printed h.0, (h.1 s stands.0, stands.1))
-line_plays trusted files name n m m' Reopen answer s h stands =
-    let f = files m s stands.0 in
-    let o = h.1 s f.1 (subst (λ (b : ℕ). FilesStandFor b (first_seen m) (second_seen m) s) stands.1 f.0) in
-    let a = reopened_as s name n o.0 (StandsFor m') o.1 in
-    (ap printed h.0, a.0, (o.0, a.1), (a.2, a.3))
-line_plays trusted files name n m m' Crash answer s h stands = (
+pub line_plays : (trusted : MemoryIsTrusted) (files : FilesStand) (laws : RunsAreLawful) (name : List ℕ) (n : ℕ) (m m' : Manager MemDisk) (said : Line) (answer : Option Reply) (run : Run) →
+    LineAnswered name n m said answer m' → StandsAs name n m run → PlaysLine name n run said (printed answer) (StandsAs name n m')
+line_plays trusted files laws name n m m' Silent answer run h stands = (ap printed h.0, subst (λ (k : Manager MemDisk). StandsAs name n k run) (sym h.1) stands)
+line_plays trusted files laws name n m m' Unknown answer run h stands = (ap printed h.0, subst (λ (k : Manager MemDisk). StandsAs name n k run) (sym h.1) stands)
+line_plays trusted files laws name n m m' Connect answer run h stands = shows trusted n m m' event.Connect answer run h tt stands
+line_plays trusted files laws name n m m' (Hangup k) answer run h stands = shows trusted n m m' (event.Hangup k) answer run h tt stands
+line_plays trusted files laws name n m m' (Call k request) answer run h stands = shows trusted n m m' (event.Call k request) answer run h.1 h.0 stands
+line_plays trusted files laws name n m m' (Fail file call effect) answer run h stands =
+    (ap printed h.0, (planned_stays (Ok tt) file call effect m m' h.1 run.now stands.0, stands.1, stands.2))
+line_plays trusted files laws name n m m' Reopen answer run h stands =
+    let f = files m run.now stands.0 in
+    (ap printed h.0, reopens name n m' run stands.2 (h.1 run.now f.1 (subst (λ (b : ℕ). FilesStandFor b (first_seen m) (second_seen m) run.now) stands.1 f.0)))
+line_plays trusted files laws name n m m' Crash answer run h stands = (
   ap printed h.0,
   h.1.0,
   h.1.1,
   record { log = m.log; stands = stands.0.log trusted; first_left = h.1.2; second_left = h.1.3 },
-  λ t recoverable stand.
-      let o = h.1.4 t recoverable stand in
-      let a = reopened_as t name n o.0 (StandsFor m') o.1 in
-      (a.0, (o.0, a.1), (a.2, a.3)),
+  λ left is stand. reopens name n m' left is (h.1.4 left.now (laws left is).recoverable stand),
 )
 
 -- the line is read so, answered so, and its answer printed so
-pub line_played : (trusted : MemoryIsTrusted) (files : FilesStand) (name : List ℕ) (n : ℕ) (m m' : Manager MemDisk) (line : List ℕ) (said : Line) (answer : Option Reply) (text : List ℕ) →
+pub line_played : (trusted : MemoryIsTrusted) (files : FilesStand) (laws : RunsAreLawful) (name : List ℕ) (n : ℕ) (m m' : Manager MemDisk) (line : List ℕ) (said : Line) (answer : Option Reply) (text : List ℕ) →
     ((xid_of : List ℕ → Option Triple) → ReadsTexts xid_of → said ≡ lines.line_of xid_of line) →
     LineAnswered name n m said answer m' → text ≡ printed answer → LinePlayed name n m line text m'
-line_played trusted files name n m m' line said answer text read answered shown = λ xid_of reads s stands.
-    subst (λ (l : Line). PlaysLine name n s l text (StandsAs name n m')) (read xid_of reads)
-    (subst (λ (t : List ℕ). PlaysLine name n s said t (StandsAs name n m')) (sym shown) (line_plays trusted files name n m m' said answer s answered stands))
+line_played trusted files laws name n m m' line said answer text read answered shown = λ xid_of reads run stands.
+    subst (λ (l : Line). PlaysLine name n run l text (StandsAs name n m')) (read xid_of reads)
+    (subst (λ (t : List ℕ). PlaysLine name n run said t (StandsAs name n m')) (sym shown)
+    (line_plays trusted files laws name n m m' said answer run answered stands))
 
 -- a part of what the line prints is written
 pub line_cut : (name : List ℕ) (n : ℕ) (m m' : Manager MemDisk) (line text part : List ℕ) → LinePlayed name n m line text m' → IsPart part text → LineCut name n m line part
-line_cut name n m m' line text part played cut = λ xid_of reads s stands.
-    (text, plays_then name n (StandsAs name n m') (λ after. ⊤) s (lines.line_of xid_of line) text (λ after stood. tt) (played xid_of reads s stands), cut)
+line_cut name n m m' line text part played cut = λ xid_of reads run stands.
+    (text, plays_then name n (StandsAs name n m') (λ after. ⊤) run (lines.line_of xid_of line) text (λ after stood. tt) (played xid_of reads run stands), cut)
 
 -- how lines may end
 pub data End : Type 0 where
@@ -118,7 +150,7 @@ pub data End : Type 0 where
   IsCut : End
   IsRefused : End
 
-abbrev pub Ends : List ℕ → ℕ → End → State → List Line → List ℕ → Type 0
+abbrev pub Ends : List ℕ → ℕ → End → Run → List Line → List ℕ → Type 0
 Ends name n AllDone = Done name n
 Ends name n Stopped = Stops name n
 Ends name n IsCut = Cuts name n
@@ -127,41 +159,42 @@ Ends name n IsRefused = Refuses name n
 -- so far this was printed, and what the rest prints stands behind it
 abbrev pub PlayedSoFar : List ℕ → ℕ → Manager MemDisk → List ℕ → List ℕ → Manager MemDisk → Option (List ℕ) → Type 0
 PlayedSoFar name n m script text m' rest = (xid_of : List ℕ → Option Triple) → ReadsTexts xid_of → (end : End) (more : List ℕ)
-    → ((after : State) → StandsAs name n m' after → PlaysTo name n (Ends name n end) after (map (lines.line_of xid_of) (parts_behind 10 rest)) more)
-    → (s : State) → StandsAs name n m s → PlaysTo name n (Ends name n end) s (lines_of xid_of script) (text ++ more)
+    → ((after : Run) → StandsAs name n m' after → PlaysTo name n IsLawful (Ends name n end) after (map (lines.line_of xid_of) (parts_behind 10 rest)) more)
+    → (run : Run) → StandsAs name n m run → PlaysTo name n IsLawful (Ends name n end) run (lines_of xid_of script) (text ++ more)
 
 pub nothing_played : (name : List ℕ) (n : ℕ) (m : Manager MemDisk) (script : List ℕ) → PlayedSoFar name n m script [] m (Some script)
-nothing_played name n m script = λ xid_of reads end more next s stands. next s stands
+nothing_played name n m script = λ xid_of reads end more next run stands. next run stands
 
-pub line_more : (name : List ℕ) (n : ℕ) (m m' m'' : Manager MemDisk) (script text line left first : List ℕ) (behind : Option (List ℕ)) →
+pub line_more : (laws : RunsAreLawful) (name : List ℕ) (n : ℕ) (m m' m'' : Manager MemDisk) (script text line left first : List ℕ) (behind : Option (List ℕ)) →
     parts 10 left ≡ line ∷ parts_behind 10 behind →
     PlayedSoFar name n m script text m' (Some left) → LinePlayed name n m' line first m'' → PlayedSoFar name n m script (text ++ first) m'' behind
-line_more name n m m' m'' script text line left first behind cut before now = λ xid_of reads end more next s stands.
+line_more laws name n m m' m'' script text line left first behind cut before now = λ xid_of reads end more next run stands.
     let rest = map (lines.line_of xid_of) (parts_behind 10 behind) in
     rw append_assoc (before xid_of reads end (first ++ more)
     (λ after stood. rw cut (inr (
       first,
       more,
       refl,
-      plays_then name n (StandsAs name n m'') (λ then. PlaysTo name n (Ends name n end) then rest more) after (lines.line_of xid_of line) first next (now xid_of reads after stood),
+      plays_then name n (StandsAs name n m'') (λ then. IsLawful then × PlaysTo name n IsLawful (Ends name n end) then rest more) after (lines.line_of xid_of line) first
+          (λ then stood. (laws then stood.2, next then stood)) (now xid_of reads after stood),
     )))
-    s stands)
+    run stands)
 
 pub all_played : (name : List ℕ) (n : ℕ) (m m' : Manager MemDisk) (script text : List ℕ) → PlayedSoFar name n m script text m' None →
-    (xid_of : List ℕ → Option Triple) → ReadsTexts xid_of → (s : State) → StandsAs name n m s → PlaysTo name n (Done name n) s (lines_of xid_of script) text
-all_played name n m m' script text before xid_of reads s stands =
-    subst (λ (t : List ℕ). PlaysTo name n (Done name n) s (lines_of xid_of script) t) (append-nil text) (before xid_of reads AllDone [] (λ after stood. refl) s stands)
+    (xid_of : List ℕ → Option Triple) → ReadsTexts xid_of → (run : Run) → StandsAs name n m run → PlaysTo name n IsLawful (Done name n) run (lines_of xid_of script) text
+all_played name n m m' script text before xid_of reads run stands =
+    subst (λ (t : List ℕ). PlaysTo name n IsLawful (Done name n) run (lines_of xid_of script) t) (append-nil text) (before xid_of reads AllDone [] (λ after stood. refl) run stands)
 
 -- the next line finds no memory or no manager, or a part of what it prints is written
 pub line_failed : (X : Type 0) (fault : PlayFault) (name : List ℕ) (n : ℕ) (m m' : Manager MemDisk) (script text line left part : List ℕ) (behind : Option (List ℕ)) →
     parts 10 left ≡ line ∷ parts_behind 10 behind →
     PlayedSoFar name n m script text m' (Some left) → LineEnds name n (Err fault) m' line part → ScriptEnds name n {X = X} (Err fault) m script (text ++ part)
-line_failed X faults.Memory name n m m' script text line left part behind cut before h = λ xid_of reads s stands.
-    rw h (before xid_of reads Stopped [] (λ after stood. rw cut (inl refl)) s stands)
-line_failed X faults.Write name n m m' script text line left part behind cut before h = λ xid_of reads s stands.
-    inl (before xid_of reads IsCut part (λ after stood. rw cut (inl (h xid_of reads after stood))) s stands)
-line_failed X (faults.Manager fault) name n m m' script text line left part behind cut before h = λ xid_of reads s stands.
-    rw h.0 (inr (before xid_of reads IsRefused [] (λ after stood. rw cut (inl (h.1 xid_of reads, refl))) s stands))
+line_failed X faults.Memory name n m m' script text line left part behind cut before h = λ xid_of reads run stands.
+    rw h (before xid_of reads Stopped [] (λ after stood. rw cut (inl refl)) run stands)
+line_failed X faults.Write name n m m' script text line left part behind cut before h = λ xid_of reads run stands.
+    inl (before xid_of reads IsCut part (λ after stood. rw cut (inl (h xid_of reads after stood))) run stands)
+line_failed X (faults.Manager fault) name n m m' script text line left part behind cut before h = λ xid_of reads run stands.
+    rw h.0 (inr (before xid_of reads IsRefused [] (λ after stood. rw cut (inl (h.1 xid_of reads, refl))) run stands))
 line_failed X faults.Setting name n m m' script text line left part behind cut before h = absurd h
 line_failed X faults.TooLong name n m m' script text line left part behind cut before h = absurd h
 line_failed X faults.Read name n m m' script text line left part behind cut before h = absurd h

@@ -1,13 +1,12 @@
 -- No event changes the size of log that was set, and an opening sets it.
-use Rattle.std.proofs.Common.{◌≡◌, ℕ, ℤ, ◌+◌, nat_lt, ◌&&◌, Bool, true, false, List, Option, Some, None, IfSome, IsSomeAnd, refl, subst, sym, ap}
-use Rattle.std.specs.Prelude.{⊤, ◌==◌, length, is_some, option_and_then, option_map, if◌then◌else◌}
-use Rattle.std.specs.List.{list_any}
+use Rattle.std.proofs.Common.{◌≡◌, ℕ, ℤ, ◌+◌, nat_lt, ◌&&◌, Bool, true, false, List, Option, Some, None, IfSome, IsSomeAnd, refl, subst, ap}
+use Rattle.std.specs.Prelude.{⊤, option_and_then, option_map, if◌then◌else◌}
 use Rattle.xa_codes.specs.declared.codes.TheConstants.{XAER_RMERR, XAER_RMFAIL, XA_RETRY, XA_RDONLY}
 use Rattle.xa_codes.specs.declared.detail.Detail.TheVariants as detail
 use Rattle.xa_codes.specs.declared.direction.Direction.{Direction}
 use Rattle.xa_codes.specs.Flags.{has}
 use Rattle.xa_codes.specs.declared.direction.Direction.TheVariants as direction
-use Rattle.xa_codes.specs.declared.flags.TheConstants.{TMJOIN, TMRESUME, TMSUSPEND, TMMIGRATE, TMFAIL, TMONEPHASE}
+use Rattle.xa_codes.specs.declared.flags.TheConstants.{TMONEPHASE}
 use Rattle.xa_frame.specs.declared.reply.Reply.{Reply}
 use Rattle.xa_frame.specs.declared.request.Request.{Request}
 use Rattle.xa_frame.specs.declared.request.Request.TheVariants.{Open, Close, Start, End, Prepare, Commit, Rollback, Forget, Recover, Get, Put, Delete, Decide, Doom, Restart}
@@ -20,87 +19,55 @@ use Rattle.xa_model.specs.declared.outcome.Outcome.{Outcome}
 use Rattle.xa_model.specs.declared.outcome.Outcome.TheVariants.{Quiet, Appended, Failed, Reread}
 use Rattle.xa_model.specs.declared.outcome.Appending.{Appending}
 use Rattle.xa_model.specs.declared.outcome.Appending.TheVariants.{Kept, Refused, Lost}
-use Rattle.xa_model.specs.State.{State, Branch, Known, Unknown, AtWork, InDoubt, Completed, Standing, Up, Down, Ended, known_as, active_of, suspends, is_loose_with, known_in, loose_of, is_with, own_branch, mark_of, change}
-use Rattle.xa_model.specs.Source.{source, is_late}
+use Rattle.xa_model.specs.State.{State, Known, Unknown, AtWork, InDoubt, Completed, Standing, Up, Down, Ended, known_as}
 use Rattle.xa_model.specs.Fold.{is_empty}
-use Rattle.xa_model.specs.Answer.{Answer, unless, marked, answer, plain, detailed, ok}
+use Rattle.xa_model.specs.Answer.{Answer, answer, plain, detailed, ok}
 use Rattle.xa_model.specs.Turn.{Asked, Reopened, Turn, Nobody, Now, Appends, Rereads, Rereading, Stops, Opens, going_on, taken, unless_now, marked_now}
-use Rattle.xa_model.specs.Step.{step, turn, row, respond, asked, commit_turn, opened_of, is_up}
+use Rattle.xa_model.specs.Step.{step, turn, row, respond, asked, opened_of, is_up}
+use Rattle.xa_model.specs.Events.{asks_restart}
+use Rattle.xa_model.proofs.RoomyRows.{AsksRoom, events_ask_room}
 use Rattle.xa_model.specs.Early.{early_refusal}
 use Rattle.xa_model.specs.Logging.{applied, append_became, logs, has_room, log_full, writes_in, down}
-use Rattle.xa_model.specs.Records.{put_by, get_by, put_from, get_from, in_time, busy_refusal, limit_refusal, is_full, got, came_late, written}
-use Rattle.xa_model.specs.Recovering.{recovered_from, recover_by, scan_from, scan_of}
-use Rattle.xa_model.specs.Associations.{connect_by, connect_refusal, connected, open_by, close_by, close_refusal, is_anyones, as_closed, start_by, end_by, join_by, join_refusal, joined, resume_by, resume_refusal, not_resumed, resumed, begin_by, start_refusal, is_taken, begun, suspend_by, loose_refusal, end_refusal, not_suspended, suspended, leave_by, can_end, ended, failed, mark_in, timestamp_in}
-use Rattle.xa_model.specs.Branches.{doom_by, doom_refusal, doomed, one_phase_refusal, two_phase_refusal, rollback_refusal, heuristic_refusal, is_associated, rolled_back, committed}
-use Rattle.xa_model.specs.Completions.{prepare_turn, prepare_written, commit_one_phase_turn, commit_written, commit_two_phase_turn, rollback_turn, roll_back_turn, decide_turn, decide_refusal, forget_turn, forget_refusal}
-use Rattle.xa_model.specs.Restarting.{restart_turn, restarting, boot_became, survived, missed, reopen_turn, reopening, can_open, reopen_became, refused_opening}
+use Rattle.xa_model.specs.Associations.{failed, mark_in, timestamp_in}
+use Rattle.xa_model.specs.Branches.{one_phase_refusal, two_phase_refusal, rollback_refusal, heuristic_refusal, is_associated, rolled_back, committed}
+use Rattle.xa_model.specs.Completions.{prepare_turn, commit_one_phase_turn, commit_two_phase_turn, rollback_turn, roll_back_turn, decide_turn, decide_refusal, forget_turn, forget_refusal}
+use Rattle.xa_model.specs.Restarting.{restart_turn, restarting, boot_became, survived, missed, reopening, can_open, reopen_became, refused_opening}
 
 record Keeps (n : ℕ) (a : Answer) : Type 0 where
   same : a.after.log_bytes ≡ n
 
-abbrev KeepsReading : ℕ → Rereading → Type 0
-KeepsReading n (Stops a) = Keeps n a
-KeepsReading n (Opens r after) = (x : Appending) → Keeps n (after x)
+-- ---- what is answered without a record, by the model's law, and what each answer of an append leaves
 
-abbrev TurnKeeps : ℕ → Turn → Type 0
-TurnKeeps n Nobody = ⊤
-TurnKeeps n (Now a) = Keeps n a
-TurnKeeps n (Appends r after) = (x : Appending) → Keeps n (after x)
-TurnKeeps n (Rereads failed found missing) = Keeps n failed × IfSome found (KeepsReading n) × IfSome missing (KeepsReading n)
+abbrev AppendsKeep : ℕ → Turn → Type 0
+AppendsKeep n (Appends r after) = (x : Appending) → Keeps n (after x)
+AppendsKeep n _ = ⊤
 
-record KeepsTurn (n : ℕ) (t : Turn) : Type 0 where
-  each : TurnKeeps n t
+record KeepsAppends (n : ℕ) (t : Turn) : Type 0 where
+  each : AppendsKeep n t
 
-now_keeps : (n : ℕ) (a : Answer) → Keeps n a → KeepsTurn n (Now a)
-now_keeps n a h = record { each = h }
+taken_keeps : (s : State) (t : Turn) (o : Outcome) → AsksRoom s t → AppendsKeep s.log_bytes t → IfSome (taken t o) (Keeps s.log_bytes)
+taken_keeps s Nobody o h k = absurd h
+taken_keeps s (Now a) Quiet h k = record { same = h }
+taken_keeps s (Now a) (Appended x) h k = tt
+taken_keeps s (Now a) Failed h k = tt
+taken_keeps s (Now a) (Reread found x) h k = tt
+taken_keeps s (Appends r after) Quiet h k = tt
+taken_keeps s (Appends r after) (Appended x) h k = k x
+taken_keeps s (Appends r after) Failed h k = tt
+taken_keeps s (Appends r after) (Reread found x) h k = tt
+taken_keeps s (Rereads failed found missing) o h k = absurd h
 
-reading_keeps : (n : ℕ) (x : Option Appending) (o : Option Rereading) → IfSome o (KeepsReading n) → IfSome (option_and_then (going_on x) o) (Keeps n)
-reading_keeps n x None h = tt
-reading_keeps n None (Some (Stops a)) h = h
-reading_keeps n (Some x) (Some (Stops a)) h = tt
-reading_keeps n None (Some (Opens r after)) h = tt
-reading_keeps n (Some x) (Some (Opens r after)) h = h x
+unless_appends : (n : ℕ) (o : Option Reply) (s : State) (t : Turn) → KeepsAppends n t → KeepsAppends n (unless_now o s t)
+unless_appends n None s t h = h
+unless_appends n (Some reply) s t h = record { each = tt }
 
-taken_keeps : (n : ℕ) (t : Turn) (o : Outcome) → TurnKeeps n t → IfSome (taken t o) (Keeps n)
-taken_keeps n Nobody o h = tt
-taken_keeps n (Now a) Quiet h = h
-taken_keeps n (Now a) (Appended x) h = tt
-taken_keeps n (Now a) Failed h = tt
-taken_keeps n (Now a) (Reread found x) h = tt
-taken_keeps n (Appends r after) Quiet h = tt
-taken_keeps n (Appends r after) (Appended x) h = h x
-taken_keeps n (Appends r after) Failed h = tt
-taken_keeps n (Appends r after) (Reread found x) h = tt
-taken_keeps n (Rereads failed found missing) Quiet h = tt
-taken_keeps n (Rereads failed found missing) (Appended x) h = tt
-taken_keeps n (Rereads failed found missing) Failed h = h.0
-taken_keeps n (Rereads failed found missing) (Reread true x) h = reading_keeps n x found h.1
-taken_keeps n (Rereads failed found missing) (Reread false x) h = reading_keeps n x missing h.2
+marked_appends : (n : ℕ) (o : Option ℤ) (s : State) (t : Turn) → KeepsAppends n t → KeepsAppends n (marked_now o s t)
+marked_appends n None s t h = h
+marked_appends n (Some code) s t h = record { each = tt }
 
--- what every answer is made of
-now_unless : (o : Option Reply) (s : State) (t : Turn) → KeepsTurn s.log_bytes t → KeepsTurn s.log_bytes (unless_now o s t)
-now_unless None s t h = h
-now_unless (Some reply) s t h = record { each = record { same = refl } }
-
-now_marked : (n : ℕ) (o : Option ℤ) (s : State) (t : Turn) → s.log_bytes ≡ n → KeepsTurn n t → KeepsTurn n (marked_now o s t)
-now_marked n None s t e h = h
-now_marked n (Some code) s t e h = record { each = record { same = e } }
-
-answer_unless : (o : Option Reply) (s : State) (a : Answer) → Keeps s.log_bytes a → Keeps s.log_bytes (unless o s a)
-answer_unless None s a h = h
-answer_unless (Some reply) s a h = record { same = refl }
-
-answer_marked : (n : ℕ) (o : Option ℤ) (s : State) (a : Answer) → s.log_bytes ≡ n → Keeps n a → Keeps n (marked o s a)
-answer_marked n None s a e h = h
-answer_marked n (Some code) s a e h = record { same = e }
-
-turn_if : (n : ℕ) (b : Bool) (t u : Turn) → KeepsTurn n t → KeepsTurn n u → KeepsTurn n (if b then t else u)
-turn_if n true t u h k = h
-turn_if n false t u h k = k
-
-answer_if : (n : ℕ) (b : Bool) (a c : Answer) → Keeps n a → Keeps n c → Keeps n (if b then a else c)
-answer_if n true a c h k = h
-answer_if n false a c h k = k
+appends_if : (n : ℕ) (b : Bool) (t u : Turn) → KeepsAppends n t → KeepsAppends n u → KeepsAppends n (if b then t else u)
+appends_if n true t u h k = h
+appends_if n false t u h k = k
 
 applied_keeps : (r : Record) (s : State) → (applied r s).log_bytes ≡ s.log_bytes
 applied_keeps (logged.Opened boot) s = refl
@@ -120,128 +87,74 @@ became_keeps s r code left Kept e = record { same = applied_keeps r s }
 became_keeps s r code left Refused e = record { same = e }
 became_keeps s r code left Lost e = record { same = refl }
 
-logs_keep : (s : State) (r : Record) (code : ℤ) (left : State) → left.log_bytes ≡ s.log_bytes → KeepsTurn s.log_bytes (logs s r code left)
+logs_keep : (s : State) (r : Record) (code : ℤ) (left : State) → left.log_bytes ≡ s.log_bytes → KeepsAppends s.log_bytes (logs s r code left)
 logs_keep s r code left e = record { each = λ x. became_keeps s r code left x e }
 
--- the rows
-join_keeps : (s : State) (n : ℕ) (xid : Triple) → Keeps s.log_bytes (join_by s n xid)
-join_keeps s n xid =
-    let mark = mark_in (known_as s xid) in
-    answer_unless (join_refusal (is_some (active_of s.associations n)) (list_any (suspends n xid) s.associations) (known_as s xid)) s (marked mark s (joined s n xid))
-    (answer_marked s.log_bytes mark s (joined s n xid) refl (record { same = refl }))
-
-resume_keeps : (s : State) (n : ℕ) (xid : Triple) → Keeps s.log_bytes (resume_by s n xid)
-resume_keeps s n xid =
-    let mark = mark_in (known_as s xid) in
-    answer_unless
-    (resume_refusal (is_some (active_of s.associations n)) (known_as s xid) (list_any (suspends n xid) s.associations) (list_any (is_loose_with xid) s.associations)) s
-    (marked mark (not_resumed s n xid) (resumed s n xid)) (answer_marked s.log_bytes mark (not_resumed s n xid) (resumed s n xid) refl (record { same = refl }))
-
-begin_keeps : (s : State) (n : ℕ) (xid : Triple) → Keeps s.log_bytes (begin_by s n xid)
-begin_keeps s n xid =
-    answer_unless (start_refusal (is_some (active_of s.associations n)) (is_taken (known_as s xid)) (known_in s) s.given) s (begun s n xid) (record { same = refl })
-
-start_keeps : (s : State) (n flags : ℕ) (xid : Triple) → Keeps s.log_bytes (start_by s n flags xid)
-start_keeps s n flags xid =
-    answer_if s.log_bytes (has flags TMJOIN) (join_by s n xid) (if has flags TMRESUME then resume_by s n xid else begin_by s n xid) (join_keeps s n xid)
-    (answer_if s.log_bytes (has flags TMRESUME) (resume_by s n xid) (begin_by s n xid) (resume_keeps s n xid) (begin_keeps s n xid))
-
-suspend_keeps : (s : State) (n : ℕ) (migrates : Bool) (xid : Triple) → Keeps s.log_bytes (suspend_by s n migrates xid)
-suspend_keeps s n migrates xid =
-    let mark = mark_in (known_as s xid) in
-    let refusal = loose_refusal migrates (loose_of s.associations xid) in
-    let done = unless refusal s (ok (suspended s n migrates xid)) in
-    answer_unless (end_refusal (known_as s xid) (is_with xid (active_of s.associations n))) s (marked mark (not_suspended s n xid) done)
-    (answer_marked s.log_bytes mark (not_suspended s n xid) done refl (answer_unless refusal s (ok (suspended s n migrates xid)) (record { same = refl })))
-
-leave_keeps : (s : State) (n : ℕ) (fails : Bool) (xid : Triple) → Keeps s.log_bytes (leave_by s n fails xid)
-leave_keeps s n fails xid =
-    let mark = mark_in (known_as s xid) in
-    let done = if fails then failed s n xid else ok (ended s n xid) in
-    answer_unless (end_refusal (known_as s xid) (can_end s.associations n xid)) s (marked mark (ended s n xid) done)
-    (answer_marked s.log_bytes mark (ended s n xid) done refl (answer_if s.log_bytes fails (failed s n xid) (ok (ended s n xid)) (record { same = refl }) (record { same = refl })))
-
-end_keeps : (s : State) (n flags : ℕ) (xid : Triple) → Keeps s.log_bytes (end_by s n flags xid)
-end_keeps s n flags xid =
-    answer_if s.log_bytes (has flags TMSUSPEND) (suspend_by s n (has flags TMMIGRATE) xid) (leave_by s n (has flags TMFAIL) xid)
-    (suspend_keeps s n (has flags TMMIGRATE) xid) (leave_keeps s n (has flags TMFAIL) xid)
-
--- a call that completes a branch at work: it logs, or there is no room
-writes_keep : (s : State) (b : Bool) (r : Record) (left : State) (full : Answer) → left.log_bytes ≡ s.log_bytes → Keeps s.log_bytes full
-    → KeepsTurn s.log_bytes (if b then logs s r XAER_RMERR left else Now full)
-writes_keep s b r left full e h = turn_if s.log_bytes b (logs s r XAER_RMERR left) (Now full) (logs_keep s r XAER_RMERR left e) (now_keeps s.log_bytes full h)
-
-ends_keep : (s : State) (refusal : Option Reply) (mark : Option ℤ) (gone : State) (empty : Bool) (now : Answer) (written : Turn) → gone.log_bytes ≡ s.log_bytes
-    → Keeps s.log_bytes now → KeepsTurn s.log_bytes written
-    → KeepsTurn s.log_bytes (unless_now refusal s (marked_now mark gone (if empty then Now now else written)))
-ends_keep s refusal mark gone empty now written e h k =
+-- a call that completes a branch at work: it logs, if it wrote and there is room
+ends_keep : (s : State) (refusal : Option Reply) (mark : Option ℤ) (gone : State) (empty room : Bool) (now full : Answer) (r : Record) (left : State)
+    → left.log_bytes ≡ s.log_bytes
+    → KeepsAppends s.log_bytes (unless_now refusal s (marked_now mark gone (if empty then Now now else (if room then logs s r XAER_RMERR left else Now full))))
+ends_keep s refusal mark gone empty room now full r left e =
+    let written = if room then logs s r XAER_RMERR left else Now full in
     let go_on = if empty then Now now else written in
-    now_unless refusal s (marked_now mark gone go_on) (now_marked s.log_bytes mark gone go_on e (turn_if s.log_bytes empty (Now now) written (now_keeps s.log_bytes now h) k))
+    unless_appends s.log_bytes refusal s (marked_now mark gone go_on)
+    (marked_appends s.log_bytes mark gone go_on
+    (appends_if s.log_bytes empty (Now now) written (record { each = tt })
+    (appends_if s.log_bytes room (logs s r XAER_RMERR left) (Now full) (logs_keep s r XAER_RMERR left e) (record { each = tt }))))
 
-prepare_keeps : (s : State) (xid : Triple) → KeepsTurn s.log_bytes (prepare_turn s xid)
+prepare_keeps : (s : State) (xid : Triple) → KeepsAppends s.log_bytes (prepare_turn s xid)
 prepare_keeps s xid =
     let r = logged.Prepared xid (timestamp_in s xid) (writes_in s xid) in
-    ends_keep s (one_phase_refusal (known_as s xid) (is_associated s xid)) (mark_in (known_as s xid)) (rolled_back s xid) (is_empty (writes_in s xid))
-    (answer (plain XA_RDONLY) (committed s xid)) (prepare_written s xid) refl (record { same = refl }) (writes_keep s (has_room s r 1) r s (log_full s xid) refl (record { same = refl }))
+    ends_keep s (one_phase_refusal (known_as s xid) (is_associated s xid)) (mark_in (known_as s xid)) (rolled_back s xid) (is_empty (writes_in s xid)) (has_room s r 1)
+    (answer (plain XA_RDONLY) (committed s xid)) (log_full s xid) r s refl
 
-one_phase_keeps : (s : State) (xid : Triple) → KeepsTurn s.log_bytes (commit_one_phase_turn s xid)
+one_phase_keeps : (s : State) (xid : Triple) → KeepsAppends s.log_bytes (commit_one_phase_turn s xid)
 one_phase_keeps s xid =
     let r = logged.Committed xid (timestamp_in s xid) (writes_in s xid) in
-    ends_keep s (one_phase_refusal (known_as s xid) (is_associated s xid)) (mark_in (known_as s xid)) (rolled_back s xid) (is_empty (writes_in s xid))
-    (ok (committed s xid)) (commit_written s xid) refl (record { same = refl }) (writes_keep s (has_room s r 0) r (rolled_back s xid) (log_full s xid) refl (record { same = refl }))
+    ends_keep s (one_phase_refusal (known_as s xid) (is_associated s xid)) (mark_in (known_as s xid)) (rolled_back s xid) (is_empty (writes_in s xid)) (has_room s r 0)
+    (ok (committed s xid)) (log_full s xid) r (rolled_back s xid) refl
 
-twice_keeps : (s : State) (refusal other : Option Reply) (t : Turn) → KeepsTurn s.log_bytes t → KeepsTurn s.log_bytes (unless_now refusal s (unless_now other s t))
-twice_keeps s refusal other t h = now_unless refusal s (unless_now other s t) (now_unless other s t h)
+twice_keeps : (s : State) (refusal other : Option Reply) (t : Turn) → KeepsAppends s.log_bytes t → KeepsAppends s.log_bytes (unless_now refusal s (unless_now other s t))
+twice_keeps s refusal other t h = unless_appends s.log_bytes refusal s (unless_now other s t) (unless_appends s.log_bytes other s t h)
 
-two_phase_keeps : (s : State) (xid : Triple) → KeepsTurn s.log_bytes (commit_two_phase_turn s xid)
+two_phase_keeps : (s : State) (xid : Triple) → KeepsAppends s.log_bytes (commit_two_phase_turn s xid)
 two_phase_keeps s xid =
     let r = logged.Completed xid direction.Commit in
     twice_keeps s (two_phase_refusal (known_as s xid)) (heuristic_refusal (known_as s xid)) (logs s r XA_RETRY s) (logs_keep s r XA_RETRY s refl)
 
-commit_keeps : (s : State) (flags : ℕ) (xid : Triple) → KeepsTurn s.log_bytes (commit_turn s flags xid)
-commit_keeps s flags xid =
-    turn_if s.log_bytes (has flags TMONEPHASE) (commit_one_phase_turn s xid) (commit_two_phase_turn s xid) (one_phase_keeps s xid) (two_phase_keeps s xid)
-
-back_keeps : (s : State) (xid : Triple) (known : Known) → KeepsTurn s.log_bytes (roll_back_turn s xid known)
+back_keeps : (s : State) (xid : Triple) (known : Known) → KeepsAppends s.log_bytes (roll_back_turn s xid known)
 back_keeps s xid InDoubt = logs_keep s (logged.Completed xid direction.Rollback) XAER_RMERR s refl
-back_keeps s xid Unknown = (record { each = record { same = refl } })
-back_keeps s xid (AtWork mark) = now_marked s.log_bytes mark (rolled_back s xid) (Now (ok (rolled_back s xid))) refl (record { each = record { same = refl } })
-back_keeps s xid (Completed d) = (record { each = record { same = refl } })
+back_keeps s xid Unknown = record { each = tt }
+back_keeps s xid (AtWork mark) = marked_appends s.log_bytes mark (rolled_back s xid) (Now (ok (rolled_back s xid))) (record { each = tt })
+back_keeps s xid (Completed d) = record { each = tt }
 
-rollback_keeps : (s : State) (xid : Triple) → KeepsTurn s.log_bytes (rollback_turn s xid)
+rollback_keeps : (s : State) (xid : Triple) → KeepsAppends s.log_bytes (rollback_turn s xid)
 rollback_keeps s xid =
     twice_keeps s (rollback_refusal (known_as s xid) (is_associated s xid)) (heuristic_refusal (known_as s xid)) (roll_back_turn s xid (known_as s xid))
     (back_keeps s xid (known_as s xid))
 
-decide_keeps : (s : State) (d : Direction) (xid : Triple) → KeepsTurn s.log_bytes (decide_turn s d xid)
+decide_keeps : (s : State) (d : Direction) (xid : Triple) → KeepsAppends s.log_bytes (decide_turn s d xid)
 decide_keeps s d xid =
-    let r = logged.Decided xid d in now_unless (decide_refusal (known_as s xid)) s (logs s r XAER_RMERR s) (logs_keep s r XAER_RMERR s refl)
+    let r = logged.Decided xid d in
+    unless_appends s.log_bytes (decide_refusal (known_as s xid)) s (logs s r XAER_RMERR s) (logs_keep s r XAER_RMERR s refl)
 
-forget_keeps : (s : State) (xid : Triple) → KeepsTurn s.log_bytes (forget_turn s xid)
+forget_keeps : (s : State) (xid : Triple) → KeepsAppends s.log_bytes (forget_turn s xid)
 forget_keeps s xid =
-    let r = logged.Forgotten xid in now_unless (forget_refusal (known_as s xid)) s (logs s r XAER_RMERR s) (logs_keep s r XAER_RMERR s refl)
+    let r = logged.Forgotten xid in
+    unless_appends s.log_bytes (forget_refusal (known_as s xid)) s (logs s r XAER_RMERR s) (logs_keep s r XAER_RMERR s refl)
 
-get_keeps : (s : State) (key : List ℕ) (own : Option (Triple × Branch)) → Keeps s.log_bytes (get_by s key own)
-get_keeps s key None = (record { same = refl })
-get_keeps s key (Some (xid, b)) =
-    let v = source key b.timestamp s.branches in
-    answer_marked s.log_bytes (mark_of b.phase) s (get_from s key xid b v) refl (answer_unless (busy_refusal b.timestamp v) s (got s key xid b v) (record { same = refl }))
+-- ---- a restart
 
-late_keeps : (n : ℕ) (late : Bool) (a c : Answer) → Keeps n a → Keeps n c → Keeps n (in_time late a c)
-late_keeps n true a c h k = h
-late_keeps n false a c h k = k
+abbrev KeepsReading : ℕ → Rereading → Type 0
+KeepsReading n (Stops a) = Keeps n a
+KeepsReading n (Opens r after) = (x : Appending) → Keeps n (after x)
 
-put_keeps : (s : State) (key : List ℕ) (value : Option (List ℕ)) (own : Option (Triple × Branch)) → Keeps s.log_bytes (put_by s key value own)
-put_keeps s key value None = (record { same = refl })
-put_keeps s key value (Some (xid, b)) =
-    let late = is_late key b.timestamp s.reads in
-    let done = in_time late (came_late s xid) (written s key value xid) in
-    answer_marked s.log_bytes (mark_of b.phase) s (put_from s key value xid b) refl
-    (answer_unless (limit_refusal (is_full key b.operations)) s done (late_keeps s.log_bytes late (came_late s xid) (written s key value xid) (record { same = refl }) (record { same = refl })))
-
-recovered_keeps : (s : State) (n flags count : ℕ) (cursor : Option (Option Triple)) → Keeps s.log_bytes (recovered_from s n flags count cursor)
-recovered_keeps s n flags count None = (record { same = refl })
-recovered_keeps s n flags count (Some cursor) = (record { same = refl })
+reading_keeps : (n : ℕ) (x : Option Appending) (o : Option Rereading) → IfSome o (KeepsReading n) → IfSome (option_and_then (going_on x) o) (Keeps n)
+reading_keeps n x None h = tt
+reading_keeps n None (Some (Stops a)) h = h
+reading_keeps n (Some x) (Some (Stops a)) h = tt
+reading_keeps n None (Some (Opens r after)) h = tt
+reading_keeps n (Some x) (Some (Opens r after)) h = h x
 
 boot_keeps : (s : State) (boot : ℕ) (x : Appending) → Keeps s.log_bytes (boot_became s boot x)
 boot_keeps s boot Kept = (record { same = refl })
@@ -261,45 +174,59 @@ found_keeps : (s : State) (o : Option Record) → IfSome (option_map (λ r. rest
 found_keeps s None = tt
 found_keeps s (Some r) = subst (λ (n : ℕ). KeepsReading n (restarting (survived s r))) (applied_keeps r s) (restarting_keeps (survived s r))
 
-restart_keeps : (s : State) → KeepsTurn s.log_bytes (restart_turn s)
-restart_keeps s = record { each = ((record { same = refl }), found_keeps s s.open_record, restarting_keeps (missed s)) }
+restart_keeps : (s : State) (refusal : Option Reply) (o : Outcome) → IfSome (taken (unless_now refusal s (restart_turn s)) o) (Keeps s.log_bytes)
+restart_keeps s (Some reply) Quiet = record { same = refl }
+restart_keeps s (Some reply) (Appended x) = tt
+restart_keeps s (Some reply) Failed = tt
+restart_keeps s (Some reply) (Reread found x) = tt
+restart_keeps s None Quiet = tt
+restart_keeps s None (Appended x) = tt
+restart_keeps s None Failed = record { same = refl }
+restart_keeps s None (Reread true x) = reading_keeps s.log_bytes x (option_map (λ r. restarting (survived s r)) s.open_record) (found_keeps s s.open_record)
+restart_keeps s None (Reread false x) = reading_keeps s.log_bytes x (Some (restarting (missed s))) (restarting_keeps (missed s))
 
-row_keeps : (s : State) (n : ℕ) (request : Request) → KeepsTurn s.log_bytes (row s n request)
-row_keeps s n (Open flags info) = now_keeps s.log_bytes (open_by s n) (record { same = refl })
-row_keeps s n (Close flags) =
-    now_keeps s.log_bytes (close_by s n)
-    (answer_unless (close_refusal (list_any (is_anyones n) s.associations)) s (ok (record s { sessions = change (λ x. x.number == n) as_closed s.sessions })) (record { same = refl }))
-row_keeps s n (Start flags xid) = now_keeps s.log_bytes (start_by s n flags xid) (start_keeps s n flags xid)
-row_keeps s n (End flags xid) = now_keeps s.log_bytes (end_by s n flags xid) (end_keeps s n flags xid)
-row_keeps s n (Prepare flags xid) = prepare_keeps s xid
-row_keeps s n (Commit flags xid) = commit_keeps s flags xid
-row_keeps s n (Rollback flags xid) = rollback_keeps s xid
-row_keeps s n (Forget flags xid) = forget_keeps s xid
-row_keeps s n (Recover flags count) =
-    now_keeps s.log_bytes (recover_by s n flags count) (recovered_keeps s n flags count (scan_from flags (scan_of s.sessions n)))
-row_keeps s n (Get key) = now_keeps s.log_bytes (get_by s key (own_branch s n)) (get_keeps s key (own_branch s n))
-row_keeps s n (Put key value) = now_keeps s.log_bytes (put_by s key (Some value) (own_branch s n)) (put_keeps s key (Some value) (own_branch s n))
-row_keeps s n (Delete key) = now_keeps s.log_bytes (put_by s key None (own_branch s n)) (put_keeps s key None (own_branch s n))
-row_keeps s n (Decide d xid) = decide_keeps s d xid
-row_keeps s n (Doom xid) = now_keeps s.log_bytes (doom_by s xid) (answer_unless (doom_refusal (known_as s xid)) s (ok (doomed s xid)) (record { same = refl }))
-row_keeps s n Restart = restart_keeps s
+-- ---- all events
 
-respond_keeps : (s : State) (e : Event) → KeepsTurn s.log_bytes (respond s e)
-respond_keeps s event.Connect = now_keeps s.log_bytes (connect_by s) (answer_unless (connect_refusal (length s.sessions)) s (connected s) (record { same = refl }))
-respond_keeps s (event.Hangup n) = (record { each = record { same = refl } })
-respond_keeps s (event.Call n request) =
-    now_unless (early_refusal (is_up s.standing) s.name (opened_of s n) request) s (row s n request) (row_keeps s n request)
+asked_call : (s : State) (n : ℕ) (request : Request) (o : Outcome) → asks_restart request ≡ false → KeepsAppends s.log_bytes (row s n request)
+    → IfSome (taken (respond s (event.Call n request)) o) (Keeps s.log_bytes)
+asked_call s n request o e h =
+    taken_keeps s (respond s (event.Call n request)) o (events_ask_room s (event.Call n request) e)
+    (unless_appends s.log_bytes (early_refusal (is_up s.standing) s.name (opened_of s n) request) s (row s n request) h).each
 
-standing_keeps : (n : ℕ) (standing : Standing) (t : Turn) → KeepsTurn n t → KeepsTurn n (asked standing t)
-standing_keeps n Up t h = h
-standing_keeps n Down t h = h
-standing_keeps n Ended t h = record { each = tt }
+call_keeps : (s : State) (n : ℕ) (request : Request) (o : Outcome) → IfSome (taken (respond s (event.Call n request)) o) (Keeps s.log_bytes)
+call_keeps s n (Open flags info) o = asked_call s n (Open flags info) o refl (record { each = tt })
+call_keeps s n (Close flags) o = asked_call s n (Close flags) o refl (record { each = tt })
+call_keeps s n (Start flags xid) o = asked_call s n (Start flags xid) o refl (record { each = tt })
+call_keeps s n (End flags xid) o = asked_call s n (End flags xid) o refl (record { each = tt })
+call_keeps s n (Prepare flags xid) o = asked_call s n (Prepare flags xid) o refl (prepare_keeps s xid)
+call_keeps s n (Commit flags xid) o =
+    asked_call s n (Commit flags xid) o refl
+    (appends_if s.log_bytes (has flags TMONEPHASE) (commit_one_phase_turn s xid) (commit_two_phase_turn s xid) (one_phase_keeps s xid) (two_phase_keeps s xid))
+call_keeps s n (Rollback flags xid) o = asked_call s n (Rollback flags xid) o refl (rollback_keeps s xid)
+call_keeps s n (Forget flags xid) o = asked_call s n (Forget flags xid) o refl (forget_keeps s xid)
+call_keeps s n (Recover flags count) o = asked_call s n (Recover flags count) o refl (record { each = tt })
+call_keeps s n (Get key) o = asked_call s n (Get key) o refl (record { each = tt })
+call_keeps s n (Put key value) o = asked_call s n (Put key value) o refl (record { each = tt })
+call_keeps s n (Delete key) o = asked_call s n (Delete key) o refl (record { each = tt })
+call_keeps s n (Decide d xid) o = asked_call s n (Decide d xid) o refl (decide_keeps s d xid)
+call_keeps s n (Doom xid) o = asked_call s n (Doom xid) o refl (record { each = tt })
+call_keeps s n Restart o = restart_keeps s (early_refusal (is_up s.standing) s.name (opened_of s n) Restart) o
+
+respond_keeps : (s : State) (e : Event) (o : Outcome) → IfSome (taken (respond s e) o) (Keeps s.log_bytes)
+respond_keeps s event.Connect o = taken_keeps s (respond s event.Connect) o (events_ask_room s event.Connect refl) tt
+respond_keeps s (event.Hangup n) o = taken_keeps s (respond s (event.Hangup n)) o (events_ask_room s (event.Hangup n) refl) tt
+respond_keeps s (event.Call n request) o = call_keeps s n request o
+
+standing_keeps : (n : ℕ) (standing : Standing) (t : Turn) (o : Outcome) → IfSome (taken t o) (Keeps n) → IfSome (taken (asked standing t) o) (Keeps n)
+standing_keeps n Up t o h = h
+standing_keeps n Down t o h = h
+standing_keeps n Ended t o h = tt
 
 -- no event changes the size of log that was set
 pub asked_keeps : (s : State) (e : Event) (o : Outcome) (a : Answer) → step s (Asked e) o ≡ Some a → a.after.log_bytes ≡ s.log_bytes
 asked_keeps s e o a is =
-    let kept : KeepsTurn s.log_bytes (turn s (Asked e)) = standing_keeps s.log_bytes s.standing (respond s e) (respond_keeps s e) in
-    let found : IfSome (Some a) (Keeps s.log_bytes) = subst (λ (x : Option Answer). IfSome x (Keeps s.log_bytes)) is (taken_keeps s.log_bytes (turn s (Asked e)) o kept.each) in
+    let kept : IfSome (taken (turn s (Asked e)) o) (Keeps s.log_bytes) = standing_keeps s.log_bytes s.standing (respond s e) o (respond_keeps s e o) in
+    let found : IfSome (Some a) (Keeps s.log_bytes) = subst (λ (x : Option Answer). IfSome x (Keeps s.log_bytes)) is kept in
     found.same
 
 -- what an opening that was kept leads to: the reply is plain, and the size of log is the one handed in

@@ -1,9 +1,13 @@
 -- What is known of a manager whose log stands on two disks in memory.
-use Rattle.std.specs.Prelude.{ℕ, ◌≡◌, ⊤, Bool, Some, List, IsSomeAnd}
+use Rattle.std.specs.Prelude.{ℕ, ◌≡◌, ⊤, Bool, Some, List, IsSomeAnd, Result}
+use Rattle.std.specs.declared.alloc.AllocError.{AllocError}
 use Rattle.xa_disk.specs.Disk.{AllOrNone}
 use Rattle.xa_disk.specs.Memory.{image_of}
 use Rattle.xa_disk.specs.declared.memory.MemDisk.{MemDisk}
 use Rattle.xa_frame.specs.declared.reply.Reply.{Reply}
+use Rattle.xa_disk.specs.declared.plan.Effect.{Effect}
+use Rattle.xa_disk.specs.declared.plan.Effect.TheVariants as planned
+use Rattle.xa_log.specs.Planned.{Plans}
 use Rattle.xa_log.specs.TwoFiles.{first_of, second_of}
 use Rattle.xa_log.specs.declared.log.Log.{Log}
 use Rattle.xa_model.specs.declared.event.Event.{Event}
@@ -18,6 +22,10 @@ use Rattle.xa_manager.specs.Files.{FilesStandFor}
 use Rattle.xa_manager.specs.LogStands.{Trusts, LogStandsFor}
 use Rattle.xa_manager.specs.Managed.{ManagerStandsFor}
 use Rattle.xa_manager.specs.declared.manager.Manager.{Manager}
+use Rattle.xa_script.specs.declared.call_effect.CallEffect.{CallEffect}
+use Rattle.xa_script.specs.declared.call_effect.CallEffect.TheVariants as script
+use Rattle.xa_script.specs.declared.log_file.LogFile.{LogFile}
+use Rattle.xa_script.specs.declared.log_file.LogFile.TheVariants.{Current, Other}
 
 -- what a read gives of a disk
 abbrev pub seen : MemDisk → List ℕ
@@ -35,6 +43,19 @@ Answered m event reply m' = FullyAnswered ⊤ AllOrNone seen image_of (λ disk. 
 
 abbrev pub Stays : Manager MemDisk → Manager MemDisk → Type 0
 Stays m m' = StaysFor ⊤ AllOrNone seen image_of m m'
+
+-- what a script's line calls lost and kept
+abbrev pub as_effect : CallEffect → Effect
+as_effect script.Kept = planned.Kept
+as_effect script.Lost = planned.Lost
+
+-- It is planned, of the file that the line names, that this device call fails with this effect. Nothing else changes: neither
+-- the other file's disk, nor what the manager stands for, nor the outcome that it tells.
+abbrev pub Planned : Result (Unit {0}) AllocError → LogFile → ℕ → CallEffect → Manager MemDisk → Manager MemDisk → Type 0
+Planned result Current call effect m m' =
+    Plans result call (as_effect effect) m.log.disk m'.log.disk × (m'.log.other ≡ m.log.other) × Stays m m' × (m'.outcome ≡ m.outcome)
+Planned result Other call effect m m' =
+    Plans result call (as_effect effect) m.log.other m'.log.other × (m'.log.disk ≡ m.log.disk) × Stays m m' × (m'.outcome ≡ m.outcome)
 
 -- what a read gives of the two files
 abbrev pub first_seen : Manager MemDisk → List ℕ

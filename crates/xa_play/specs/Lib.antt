@@ -1,3 +1,4 @@
+pub mod Runs
 pub mod Disks
 pub mod Plays
 pub mod Played

@@ -7,7 +7,7 @@ use Rattle.xa_disk.specs.declared.memory.MemDisk.{MemDisk}
 use Rattle.xa_frame.specs.declared.reply.Reply.{Reply}
 use Rattle.xa_log.specs.TwoFiles.{first_of, second_of}
 use Rattle.xa_model.specs.declared.event.Event.TheVariants as event
-use Rattle.xa_model.specs.State.{State}
+use Rattle.xa_model.specs.Events.{IsAsked}
 use Rattle.xa_model.specs.Answer.{plain, detailed}
 use Rattle.xa_manager.specs.declared.fault.ManagerFault.{ManagerFault}
 use Rattle.xa_manager.specs.declared.manager.Manager.{Manager}
@@ -16,7 +16,8 @@ use Rattle.xa_script.specs.declared.line.Line.{Line}
 use Rattle.xa_script.specs.declared.line.Line.TheVariants.{Silent, Unknown, Connect, Hangup, Call, Fail, Reopen, Crash}
 use Rattle.xa_script.specs.Lines as lines
 use Rattle.xa_script.specs.Requests.{ReadsTexts}
-use Rattle.xa_play.specs.Disks.{StandsFor, Answered, Stays, OpenedOn, first_seen, second_seen}
+use Rattle.xa_play.specs.Runs.{Run, IsRun, IsLawful}
+use Rattle.xa_play.specs.Disks.{StandsFor, Answered, Planned, OpenedOn, first_seen, second_seen}
 use Rattle.xa_play.specs.Plays.{PlaysLine, CutsLine, IsOpening, Prints, lines_of}
 use Rattle.xa_play.specs.declared.fault.PlayFault.{PlayFault}
 use Rattle.xa_play.specs.declared.fault.PlayFault.TheVariants as faults
@@ -46,28 +47,34 @@ module _ (name : List ℕ) (log_bytes : ℕ) where
   LineAnswered m Unknown answer m' = (answer ≡ Some (detailed XAER_INVAL detail.Frame)) × (m' ≡ m)
   LineAnswered m Connect answer m' = IsSomeAnd answer (λ reply. Answered m event.Connect reply m')
   LineAnswered m (Hangup n) answer m' = IsSomeAnd answer (λ reply. Answered m (event.Hangup n) reply m')
-  LineAnswered m (Call n request) answer m' = IsSomeAnd answer (λ reply. Answered m (event.Call n request) reply m')
-  LineAnswered m (Fail file call effect) answer m' = (answer ≡ None) × Stays m m'
+  LineAnswered m (Call n request) answer m' = IsAsked request × IsSomeAnd answer (λ reply. Answered m (event.Call n request) reply m')
+  LineAnswered m (Fail file call effect) answer m' = (answer ≡ None) × Planned (Ok tt) file call effect m m'
   LineAnswered m Reopen answer m' = (answer ≡ Some (plain (pos 0))) × OpenedOn name log_bytes (first_seen m) (second_seen m) m'
   LineAnswered m Crash answer m' = (answer ≡ Some (plain (pos 0))) × Crashed m m'
 
-  -- the manager stands for the state, which has the size of log that was set
-  abbrev pub StandsAs : Manager MemDisk → State → Type 0
-  StandsAs m s = StandsFor m s × (s.log_bytes ≡ log_bytes)
+  -- the manager stands for the state that a run led to, which has the size of log that was set
+  abbrev pub StandsAs : Manager MemDisk → Run → Type 0
+  StandsAs m run = StandsFor m run.now × (run.now.log_bytes ≡ log_bytes) × IsRun run
 
   -- from whichever state the manager stood for, the line prints this
   abbrev pub LinePlayed : Manager MemDisk → List ℕ → List ℕ → Manager MemDisk → Type 0
-  LinePlayed m line text m' = (xid_of : List ℕ → Option Triple) → ReadsTexts xid_of → (s : State) → StandsAs m s
-      → PlaysLine name log_bytes s (lines.line_of xid_of line) text (StandsAs m')
+  LinePlayed m line text m' = (xid_of : List ℕ → Option Triple) → ReadsTexts xid_of → (run : Run) → StandsAs m run
+      → PlaysLine name log_bytes run (lines.line_of xid_of line) text (StandsAs m')
 
   -- the same of a part of what it prints
   abbrev pub LineCut : Manager MemDisk → List ℕ → List ℕ → Type 0
-  LineCut m line part = (xid_of : List ℕ → Option Triple) → ReadsTexts xid_of → (s : State) → StandsAs m s
-      → CutsLine name log_bytes s (lines.line_of xid_of line) part
+  LineCut m line part = (xid_of : List ℕ → Option Triple) → ReadsTexts xid_of → (run : Run) → StandsAs m run
+      → CutsLine name log_bytes run (lines.line_of xid_of line) part
+
+  -- what the line says is answered by the manager, and leaves this of it
+  abbrev pub LineIsAnswered : Manager MemDisk → List ℕ → Manager MemDisk → Type 0
+  LineIsAnswered m line m' =
+      (said : Line) × (answer : Option Reply) × ((xid_of : List ℕ → Option Triple) → ReadsTexts xid_of → said ≡ lines.line_of xid_of line)
+      × LineAnswered m said answer m'
 
   -- By its end, what a line printed: no memory is found before anything of it is written, and so is a refused opening.
   abbrev pub LineEnds : Result (Manager MemDisk) PlayFault → Manager MemDisk → List ℕ → List ℕ → Type 0
-  LineEnds (Ok m') m line text = LinePlayed m line text m'
+  LineEnds (Ok m') m line text = LinePlayed m line text m' × LineIsAnswered m line m'
   LineEnds (Err faults.Memory) m line text = text ≡ []
   LineEnds (Err faults.Write) m line text = LineCut m line text
   LineEnds (Err (faults.Manager fault)) m line text =
@@ -76,5 +83,5 @@ module _ (name : List ℕ) (log_bytes : ℕ) where
 
   -- by its end, what a script printed, from whichever state the manager stood for
   abbrev pub ScriptEnds : {X : Type 0} → Result X PlayFault → Manager MemDisk → List ℕ → List ℕ → Type 0
-  ScriptEnds end m script text = (xid_of : List ℕ → Option Triple) → ReadsTexts xid_of → (s : State) → StandsAs m s
-      → Prints name log_bytes end s (lines_of xid_of script) text
+  ScriptEnds end m script text = (xid_of : List ℕ → Option Triple) → ReadsTexts xid_of → (run : Run) → StandsAs m run
+      → Prints name log_bytes IsLawful end run (lines_of xid_of script) text

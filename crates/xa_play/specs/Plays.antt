@@ -1,5 +1,5 @@
 -- What a script prints: each line that asks something shows the reply of one step of the sequential resource manager.
-use Rattle.std.specs.Prelude.{ℕ, ◌≡◌, ◌≢◌, ◌≤◌, ◌<◌, ◌⊎◌, ⊤, Bool, true, List, [], ◌∷◌, ◌++◌, length, map, pos, Option, Some, IfSome, Result, Ok, Err, MatchBool}
+use Rattle.std.specs.Prelude.{ℕ, ◌≡◌, ◌≤◌, ◌⊎◌, ⊤, Bool, true, List, [], ◌∷◌, ◌++◌, length, map, pos, Option, Some, IfSome, Result, Ok, Err, MatchBool}
 use Rattle.std.specs.Io.KnownBytes.{Appends}
 use Rattle.xa_codes.specs.declared.codes.TheConstants.{XAER_INVAL}
 use Rattle.xa_codes.specs.declared.detail.Detail.TheVariants as detail
@@ -10,15 +10,15 @@ use Rattle.xa_model.specs.declared.outcome.Outcome.{Outcome}
 use Rattle.xa_model.specs.declared.outcome.Outcome.TheVariants.{Reread}
 use Rattle.xa_model.specs.declared.outcome.Appending.TheVariants.{Kept}
 use Rattle.xa_model.specs.State.{State}
-use Rattle.xa_model.specs.Answer.{plain, detailed, ok}
-use Rattle.xa_model.specs.Loggable.{IsRecoverable}
-use Rattle.xa_model.specs.Turn.{Asked, Reopened}
+use Rattle.xa_model.specs.Answer.{plain, detailed}
+use Rattle.xa_model.specs.Turn.{Happening, Asked, Reopened}
 use Rattle.xa_model.specs.Step.{step}
 use Rattle.xa_model.specs.History.{fresh}
 use Rattle.xa_assoc.specs.Refusals.{is_memory}
 use Rattle.xa_manager.specs.Answered.{may_want_memory, wanted_memory}
 use Rattle.xa_manager.specs.Files.{FilesStandFor}
 use Rattle.xa_xid.specs.Triple.{Triple}
+use Rattle.xa_output.specs.Output.{IsPart}
 use Rattle.xa_script.specs.declared.line.Line.{Line}
 use Rattle.xa_script.specs.declared.line.Line.TheVariants.{Silent, Unknown, Connect, Hangup, Call, Fail, Reopen, Crash}
 use Rattle.xa_script.specs.Lines as lines
@@ -26,26 +26,26 @@ use Rattle.xa_script.specs.Parts.{parts}
 use Rattle.xa_script.specs.Replies as replies
 use Rattle.xa_script.specs.Requests.{ReadsTexts}
 use Rattle.xa_play.specs.Disks.{CrashLeaves}
+use Rattle.xa_play.specs.Runs.{Run, IsRun, at_start, behind}
 use Rattle.xa_play.specs.declared.fault.PlayFault.{PlayFault}
 use Rattle.xa_play.specs.declared.fault.PlayFault.TheVariants.{Memory, Write, Manager}
 
--- The reply is the step's, with some outcome of the device's; or memory was wanted, where it may be, and the state is as it was.
-abbrev pub Answers : State → Event → Reply → State → Type 0
-Answers s asked reply after =
-    MatchBool (is_memory reply.detail) ((may_want_memory asked ≡ true) × (reply ≡ wanted_memory asked) × (after ≡ s))
-    ((outcome : Outcome) × (step s (Asked asked) outcome ≡ Some (record { reply = reply; after = after })))
+-- a happening is one step, with some outcome of the device's, and of the run with it this holds
+abbrev pub Steps : Run → Happening → Outcome → Reply → (Run → Type 0) → Type 0
+Steps run happening outcome reply Then =
+    (after : State) × (step run.now happening outcome ≡ Some (record { reply = reply; after = after }))
+    × Then (behind run (record { happening = happening; outcome = outcome; reply = reply }) after)
 
--- an event is answered, its reply shown, and of the state behind it this holds
-abbrev pub Shows : State → Event → List ℕ → (State → Type 0) → Type 0
-Shows s asked text Then = (reply : Reply) × (text ≡ replies.line_of reply) × (after : State) × Answers s asked reply after × Then after
+-- An event is answered, and its reply shown: it is a step, or memory was wanted, where it may be, and then it is no entry.
+abbrev pub Shows : Run → Event → List ℕ → (Run → Type 0) → Type 0
+Shows run asked text Then =
+    (reply : Reply) × (text ≡ replies.line_of reply)
+    × MatchBool (is_memory reply.detail) ((may_want_memory asked ≡ true) × (reply ≡ wanted_memory asked) × Then run)
+    ((outcome : Outcome) × Steps run (Asked asked) outcome reply Then)
 
 -- the line of an opening
 abbrev pub opened_line : List ℕ
 opened_line = replies.line_of (plain (pos 0))
-
--- the first bytes of a text, and not all
-abbrev pub IsPart : List ℕ → List ℕ → Type 0
-IsPart part text = (rest : List ℕ) × (rest ≢ []) × (text ≡ part ++ rest)
 
 -- lines that open the manager again
 abbrev pub IsOpening : Line → Type 0
@@ -56,63 +56,65 @@ IsOpening _ = ⊥
 -- over the settings
 module _ (name : List ℕ) (log_bytes : ℕ) where
   -- The state is opened again: the record whose fate was unknown is found there, or not, and a new boot is logged.
-  abbrev pub Reopens : State → State → Type 0
-  Reopens s after = (survived : Bool) × (step s (Reopened name log_bytes) (Reread survived (Some Kept)) ≡ Some (ok after))
+  abbrev pub Reopens : Run → (Run → Type 0) → Type 0
+  Reopens run Then = (survived : Bool) × Steps run (Reopened name log_bytes) (Reread survived (Some Kept)) (plain (pos 0)) Then
 
-  -- What a line prints, and that this holds of the state behind it. Of a crash that is said where the two files that it left
-  -- stand for a state: it goes on with that state, opened again.
-  abbrev pub PlaysLine : State → Line → List ℕ → (State → Type 0) → Type 0
-  PlaysLine s Silent text Then = (text ≡ []) × Then s
-  PlaysLine s Unknown text Then = (text ≡ replies.line_of (detailed XAER_INVAL detail.Frame)) × Then s
-  PlaysLine s Connect text Then = Shows s event.Connect text Then
-  PlaysLine s (Hangup n) text Then = Shows s (event.Hangup n) text Then
-  PlaysLine s (Call n request) text Then = Shows s (event.Call n request) text Then
-  PlaysLine s (Fail file call effect) text Then = (text ≡ []) × Then s
-  PlaysLine s Reopen text Then = (text ≡ opened_line) × (after : State) × Reopens s after × Then after
-  PlaysLine s Crash text Then =
-      (text ≡ opened_line) × (first : List ℕ) × (second : List ℕ) × CrashLeaves s first second
-      × ((t : State) → IsRecoverable t → FilesStandFor log_bytes first second t → (after : State) × Reopens t after × Then after)
+  -- What a line prints, and that this holds of the run with it. Of a crash that is said of every run to whose state the two
+  -- files come that it left: it goes on with that run, opened again. Where they come to the state before the crash, as they do
+  -- where nothing is left to chance, that is the run so far.
+  abbrev pub PlaysLine : Run → Line → List ℕ → (Run → Type 0) → Type 0
+  PlaysLine run Silent text Then = (text ≡ []) × Then run
+  PlaysLine run Unknown text Then = (text ≡ replies.line_of (detailed XAER_INVAL detail.Frame)) × Then run
+  PlaysLine run Connect text Then = Shows run event.Connect text Then
+  PlaysLine run (Hangup n) text Then = Shows run (event.Hangup n) text Then
+  PlaysLine run (Call n request) text Then = Shows run (event.Call n request) text Then
+  PlaysLine run (Fail file call effect) text Then = (text ≡ []) × Then run
+  PlaysLine run Reopen text Then = (text ≡ opened_line) × Reopens run Then
+  PlaysLine run Crash text Then =
+      (text ≡ opened_line) × (first : List ℕ) × (second : List ℕ) × CrashLeaves run.now first second
+      × ((left : Run) → IsRun left → FilesStandFor log_bytes first second left.now → Reopens left Then)
 
-  -- Some first lines are played, one after another. Of the state behind them, of the lines that are left and of the text behind
-  -- theirs this holds.
-  abbrev pub PlaysTo : (State → List Line → List ℕ → Type 0) → State → List Line → List ℕ → Type 0
-  PlaysTo Ends s [] text = Ends s [] text
-  PlaysTo Ends s (line ∷ lines) text =
-      Ends s (line ∷ lines) text
-      ⊎ ((first : List ℕ) × (others : List ℕ) × (text ≡ first ++ others) × PlaysLine s line first (λ after. PlaysTo Ends after lines others))
+  -- Some first lines are played, one after another, and of the run behind each of them the first holds. Of the run behind them
+  -- all, of the lines that are left and of the text behind theirs the second holds.
+  abbrev pub PlaysTo : (Run → Type 0) → (Run → List Line → List ℕ → Type 0) → Run → List Line → List ℕ → Type 0
+  PlaysTo Holds Ends run [] text = Ends run [] text
+  PlaysTo Holds Ends run (line ∷ lines) text =
+      Ends run (line ∷ lines) text
+      ⊎ ((first : List ℕ) × (others : List ℕ) × (text ≡ first ++ others)
+      × PlaysLine run line first (λ after. Holds after × PlaysTo Holds Ends after lines others))
 
   -- no line is left
-  abbrev pub Done : State → List Line → List ℕ → Type 0
-  Done s [] text = text ≡ []
-  Done s (line ∷ lines) text = ⊥
+  abbrev pub Done : Run → List Line → List ℕ → Type 0
+  Done run [] text = text ≡ []
+  Done run (line ∷ lines) text = ⊥
 
   -- nothing is printed of the next line
-  abbrev pub Stops : State → List Line → List ℕ → Type 0
-  Stops s [] text = ⊥
-  Stops s (line ∷ lines) text = text ≡ []
+  abbrev pub Stops : Run → List Line → List ℕ → Type 0
+  Stops run [] text = ⊥
+  Stops run (line ∷ lines) text = text ≡ []
 
   -- a part is printed of what the next line prints
-  abbrev pub CutsLine : State → Line → List ℕ → Type 0
-  CutsLine s line part = (text : List ℕ) × PlaysLine s line text (λ after. ⊤) × IsPart part text
+  abbrev pub CutsLine : Run → Line → List ℕ → Type 0
+  CutsLine run line part = (text : List ℕ) × PlaysLine run line text (λ after. ⊤) × IsPart part text
 
-  abbrev pub Cuts : State → List Line → List ℕ → Type 0
-  Cuts s [] text = ⊥
-  Cuts s (line ∷ lines) text = CutsLine s line text
+  abbrev pub Cuts : Run → List Line → List ℕ → Type 0
+  Cuts run [] text = ⊥
+  Cuts run (line ∷ lines) text = CutsLine run line text
 
   -- the next line opens the manager again, and nothing is printed of it
-  abbrev pub Refuses : State → List Line → List ℕ → Type 0
-  Refuses s [] text = ⊥
-  Refuses s (line ∷ lines) text = IsOpening line × (text ≡ [])
+  abbrev pub Refuses : Run → List Line → List ℕ → Type 0
+  Refuses run [] text = ⊥
+  Refuses run (line ∷ lines) text = IsOpening line × (text ≡ [])
 
   -- By the end of a play, what was printed. No memory: all that some first lines print. A write or the flush failed: what
   -- the lines up to one of them print, but for a last part of it, or what all lines print. The manager couldn't be opened:
   -- nothing at the start, or all that the lines before an opening print. Before that nothing was printed.
-  abbrev pub Prints : {X : Type 0} → Result X PlayFault → State → List Line → List ℕ → Type 0
-  Prints (Ok x) s lines text = PlaysTo Done s lines text
-  Prints (Err Memory) s lines text = PlaysTo Stops s lines text
-  Prints (Err Write) s lines text = PlaysTo Cuts s lines text ⊎ PlaysTo Done s lines text
-  Prints (Err (Manager fault)) s lines text = (text ≡ []) ⊎ PlaysTo Refuses s lines text
-  Prints (Err _) s lines text = text ≡ []
+  abbrev pub Prints : {X : Type 0} → (Run → Type 0) → Result X PlayFault → Run → List Line → List ℕ → Type 0
+  Prints Holds (Ok x) run lines text = PlaysTo Holds Done run lines text
+  Prints Holds (Err Memory) run lines text = PlaysTo Holds Stops run lines text
+  Prints Holds (Err Write) run lines text = PlaysTo Holds Cuts run lines text ⊎ PlaysTo Holds Done run lines text
+  Prints Holds (Err (Manager fault)) run lines text = (text ≡ []) ⊎ PlaysTo Holds Refuses run lines text
+  Prints Holds (Err _) run lines text = text ≡ []
 
 -- the lines of a script
 abbrev pub lines_of : (List ℕ → Option Triple) → List ℕ → List Line
@@ -124,12 +126,12 @@ WasRead (Ok x) = Unit {0}
 WasRead (Err Write) = Unit {0}
 WasRead (Err _) = ⊥
 
--- A run, on a manager that was opened on two empty disks: its script, which is what the reader had where that is known, and
--- the text that was written, which is what the end says.
-pub record Plays {X : Type 0} (name : List ℕ) (log_bytes : ℕ) (end : Result X PlayFault) (input output output' : Option (List ℕ)) : Type 0 where
+-- A play, on a manager that was opened on two empty disks: its script, which is what the reader had where that is known, and
+-- the text that was written, which is what the end says. Of the run behind each line this holds.
+pub record Plays {X : Type 0} (Holds : Run → Type 0) (name : List ℕ) (log_bytes : ℕ) (end : Result X PlayFault) (input output output' : Option (List ℕ)) : Type 0 where
   pub script : List ℕ
   pub text : List ℕ
   pub given : IfSome input (λ bytes. script ≡ bytes)
   pub short : WasRead end → length script ≤ 16_777_216
   pub written : Appends output output' text
-  pub printed : (xid_of : List ℕ → Option Triple) → ReadsTexts xid_of → Prints name log_bytes end (fresh name log_bytes) (lines_of xid_of script) text
+  pub printed : (xid_of : List ℕ → Option Triple) → ReadsTexts xid_of → Prints name log_bytes Holds end (at_start (fresh name log_bytes)) (lines_of xid_of script) text

@@ -2,10 +2,11 @@
 ghost use Rattle.std.specs.Prelude.{◌≡◌, ◌<◌, ◌^◌, IfErr, IfOk};
 ghost use Rattle.xa_frame.specs.Limits.{Holds, IsRequest};
 ghost use Rattle.xa_model.specs.Answer.{detailed};
+ghost use Rattle.xa_model.specs.Events.{IsAsked};
 ghost use Rattle.xa_script.specs.Lines as lines;
 ghost use Rattle.xa_xid.specs.Triple.{IsWithinLimits};
 ghost use Rattle.xa_manager.specs.Opening.{IsBadSetting};
-ghost use Rattle.xa_play.specs.Disks.{Answered, Stays};
+ghost use Rattle.xa_play.specs.Disks.{Answered, Planned};
 ghost use Rattle.xa_play.specs.Played.{AnswerFails, LineAnswered};
 
 use crate::fault::PlayFault;
@@ -91,7 +92,8 @@ fn hang_up(manager: &mut Manager<MemDisk>, session: u64) -> Reply
 /// Asks a request of a session.
 fn call(manager: &mut Manager<MemDisk>, session: u64, request: Request) -> Reply
     requires { IsRequest request }
-    ensures { Answered manager.old (Event.Call session request) result manager.new }
+    ensures asked { IsAsked request }
+    ensures answered { Answered manager.old (Event.Call session request) result manager.new }
 {
     hold(&request);
     manager.call(session, request)
@@ -136,14 +138,14 @@ fn hold_name(xid: &Xid)
     xid.put(&mut bytes);
 }
 
-/// Plans that a device call of one of the log's files fails.
+/// Plans that this device call of the log's file that is named fails with this effect.
 fn plan(
     manager: &mut Manager<MemDisk>,
     file: LogFile,
     call: u64,
     effect: CallEffect,
 ) -> Result<(), AllocError>
-    ensures { Stays manager.old manager.new }
+    ensures { Planned result file call effect manager.old manager.new }
 {
     let effect = match effect {
         CallEffect::Kept => Effect::Kept,

@@ -6,10 +6,9 @@ ghost use Rattle.xa_play.specs.Disks.{StandsFor, OpenedOn, first_seen, second_se
 ghost use Rattle.xa_play.specs.Played.{Crashed, IsOpeningFault};
 
 use crate::fault::PlayFault;
-use crate::laws::memory_is_trusted;
 use std::alloc::{AllocError, Global};
 use xa_disk::MemDisk;
-use xa_manager::{Manager, Settings};
+use xa_manager::{Manager, Settings, memory_is_trusted};
 
 /// A copy of the settings.
 pub fn copied(alloc: Global, settings: &Settings) -> Result<Settings, AllocError>

@@ -4,17 +4,18 @@ ghost use Rattle.xa_manager.specs.Opening.{IsBadSetting};
 ghost use Rattle.xa_play.specs.Faults.{end_of};
 ghost use Rattle.xa_play.specs.Played.{IsLinesFault, LineEnds, ScriptEnds};
 ghost use Rattle.xa_play.specs.Plays.{Plays, WasRead};
+ghost use Rattle.xa_play.specs.Runs.{IsLawful};
 
 use crate::answer::answer;
 use crate::fault::PlayFault;
-use crate::laws::{files_stand, memory_is_trusted};
+use crate::laws::{files_stand, runs_are_lawful};
 use crate::opening::{copied, open_fresh};
-use crate::output::write_text;
 use crate::script::read_script;
 use std::alloc::Global;
 use std::io::{self, Read, Write};
 use xa_disk::MemDisk;
-use xa_manager::{Manager, Settings};
+use xa_manager::{Manager, Settings, memory_is_trusted};
+use xa_output::write_text;
 use xa_script::{first_part, read_line, reply_line};
 
 /// Opens a manager on two empty disks in memory, reads the whole script, and then runs it: each line that asks something is
@@ -22,15 +23,18 @@ use xa_script::{first_part, read_line, reply_line};
 ///
 /// Settings out of their limits are found before anything is read, a script that can't be read and one that is too long
 /// before anything is written. What was answered before a later fault is written. What is printed is a legal run of the
-/// sequential resource manager, with some outcomes of the disks. Behind a line `crash` that is said where the files that
-/// the crash left stand for a state: then the lines behind it are a legal run from that state, opened again.
+/// sequential resource manager, with some outcomes of the disks. Behind a line `crash` that is said of every run to whose
+/// state the files come that the crash left: then the lines behind it go on with that run, opened again.
+///
+/// Of the run behind each line: the committed branches read what they would read if they were executed one at a time, in the
+/// order of their timestamps; and each XID whose prepare was answered XA_OK is listed, unless its completion was asked for.
 pub fn play_run<R: Read + Drop, W: Write>(
     alloc: Global,
     reader: &mut R,
     writer: &mut W,
     settings: Settings,
 ) -> Result<(), PlayFault>
-    ensures played { Plays settings.name settings.log_bytes result (R.remaining reader.old) (W.contents writer.old) (W.contents writer.new) }
+    ensures played { Plays IsLawful settings.name settings.log_bytes result (R.remaining reader.old) (W.contents writer.old) (W.contents writer.new) }
     ensures setting { IsErrOf result PlayFault.Setting ↔ IsBadSetting settings.name settings.log_bytes }
     ensures unread { IsErrOf result PlayFault.Setting → (reader.new ≡ reader.old) × (writer.new ≡ writer.old) }
     ensures too_long { IsErrOf result PlayFault.TooLong → IfSome (R.remaining reader.old) (λ bytes. 16_777_216 < length bytes) }
@@ -42,6 +46,7 @@ pub fn play_run<R: Read + Drop, W: Write>(
     let manager = open_fresh(alloc, settings)?;
     let kept = kept?;
     let script = read_script(alloc, reader)?;
+    files_stand();
     let played = play_lines(alloc, manager, &kept, writer, script.as_slice());
     let flushed = writer.flush();
     end_of(played, flushed)
@@ -67,6 +72,7 @@ fn play_lines<W: Write>(
         × ScriptEnds settings.now.name settings.now.log_bytes result manager script.now text }
     ensures faults { IfErr result IsLinesFault }
 {
+    runs_are_lawful();
     let mut manager = manager;
     let mut rest = Some(script);
     while let Some(lines) = rest {
@@ -90,6 +96,7 @@ fn play_line<W: Write>(
 {
     memory_is_trusted();
     files_stand();
+    runs_are_lawful();
     let said = read_line(alloc, line)?;
     let (manager, reply) = answer(alloc, manager, settings, said)?;
     let Some(reply) = reply else {

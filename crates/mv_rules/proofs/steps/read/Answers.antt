@@ -14,3 +14,11 @@ returns-clause-stands c =
       | in-None w ↦ rw (w.got-is, ← c.source-found.ensures.from) (c.mark.ensures.stands key low writes reads s le from free)
       | in-Some+in-Ok w ↦ rw (w.got-is, ← c.source-found.ensures.from) (c.mark.ensures.stands key low writes reads s le from free)
     ]
+
+pub returns-clause-short : goal.returns-clause-short
+returns-clause-short c =
+    λ n h.
+    elim c.match-value.branch [
+      | in-None w ↦ rw w.got-is tt
+      | in-Some+in-Ok w ↦ rw (w.got-is, w.in-Ok.ensures) (w.in-Some.ensures.within n h)
+    ]

@@ -1,12 +1,14 @@
-use Rattle.std.proofs.Common.{◌≡◌, ℕ, List, take}
+use Rattle.std.proofs.Common.{◌≡◌, ℕ, List, take, map}
 use Rattle.std.specs.BTreeMap.{get, IsOrdered}
 use Rattle.std.specs.Cmp.Lexicographic.{slice_cmp}
 use Rattle.std.specs.Ordering.{nat_cmp}
-use Rattle.mv_rules.specs.Collected.{collected}
+use Rattle.mv_rules.specs.Collected.{as_write, collected}
+use Rattle.mv_rules.specs.Within.{AreWithin, AreShort}
 use Rattle.mv_rules.proofs.writes.collect.Given as goal
 
 abbrev pub invariant-loop-written : goal.invariant-loop-written
 invariant-loop-written l = record {
   values : (key : List ℕ) → get (slice_cmp nat_cmp) l.values key ≡ collected l.ts l.chains key (take l.written-index l.own);
   ordered : IsOrdered (slice_cmp nat_cmp) l.values;
+  short : (n : ℕ) → AreWithin n l.chains → AreShort n (map as_write l.values.entries);
 }

@@ -1,10 +1,13 @@
 use Rattle.std.proofs.Common.{[], map}
+use Rattle.mv_rules.specs.Within.{IsWithin}
 use Rattle.mv_rules.specs.Restoring.{with_committed}
 use Rattle.xa_recovery.specs.Durable.{as_committed}
-use Rattle.xa_manager.specs.Rebuilding.{AreNew, HaveWrites, AddedUpto}
+use Rattle.xa_manager.specs.Rebuilding.{AreNew, HaveWrites, AddedUpto, CommittedAreShort}
 use Rattle.xa_manager.proofs.rebuilding.put_committed.Given as goal
 
 abbrev pub invariant-loop-timestamp : goal.invariant-loop-timestamp
-invariant-loop-timestamp l =
-    AreNew (map (λ c. c.timestamp) (map as_committed l.committed.entries)) [] → HaveWrites [] l.fn.records
-    → AddedUpto with_committed (λ c. c.timestamp) [] (map as_committed l.committed.entries) (map as_committed l.timestamp-iterator) l.records
+invariant-loop-timestamp l = record {
+  stands : AreNew (map (λ c. c.timestamp) (map as_committed l.committed.entries)) [] → HaveWrites [] l.fn.records
+      → AddedUpto with_committed (λ c. c.timestamp) [] (map as_committed l.committed.entries) (map as_committed l.timestamp-iterator) l.records;
+  short : CommittedAreShort (map as_committed l.committed.entries) → IsWithin 1024 l.fn.records → CommittedAreShort (map as_committed l.timestamp-iterator) × IsWithin 1024 l.records;
+}

@@ -1,20 +1,29 @@
-use Rattle.std.proofs.Common.{◌≡◌, ℕ, List, [], map, ap, refl, subst, sym, None}
+use Rattle.std.proofs.Common.{ℕ, map, ap, refl, None}
 use Rattle.std.specs.Map.Iter.{deref_pair}
 use Rattle.std.proofs.lemmas.Map.Iter.{rest_more}
 use Rattle.mv_rules.specs.Restoring.{with_prepared}
 use Rattle.xa_recovery.specs.declared.durable.InDoubt.{InDoubt}
 use Rattle.xa_recovery.specs.Durable.{as_prepared}
 use Rattle.xa_manager.proofs.NewTables.{added_more, added_all}
+use Rattle.xa_manager.proofs.ShortWrites.{prepared_next}
 use Rattle.xa_manager.proofs.rebuilding.put_undecided.Goals as goal
 
 pub loop-timestamp-preserved : goal.loop-timestamp-preserved
 loop-timestamp-preserved c =
     let e : ℕ × InDoubt = (c.in-Some.timestamp.now, c.in-Some.branch.now) in
-    let more = rest_more deref_pair c.loop-timestamp.timestamp-iterator c.next.new.self c.next.result (c.in-Some.timestamp, c.in-Some.branch) c.in-Some.is c.next.ensures.steps in
-    λ older new start.
-    added_more with_prepared (λ p. p.timestamp) older (map as_prepared c.args.prepared.now.entries) (map as_prepared c.next.new.self) (map as_prepared c.loop-timestamp.timestamp-iterator) (as_prepared e) None c.in-Some.branch.now.writes c.loop-timestamp.records c.restore.new.self
-    (ap (λ es. map as_prepared es) more) (λ w. refl) (rw (← c.as_slice.ensures) c.in_ok-restore.ensures) (c.loop-timestamp.invariant older new start)
+    let more = rest_more deref_pair c.loop-timestamp.timestamp-iterator c.next.new.self c.next.result (c.in-Some.timestamp, c.in-Some.branch) c.in-Some.is c.next.ensures.steps in record {
+      stands = λ older new start.
+          added_more with_prepared (λ p. p.timestamp) older (map as_prepared c.args.prepared.now.entries) (map as_prepared c.next.new.self) (map as_prepared c.loop-timestamp.timestamp-iterator) (as_prepared e) None c.in-Some.branch.now.writes c.loop-timestamp.records c.restore.new.self
+          (ap (λ es. map as_prepared es) more) (λ w. refl) (rw (← c.as_slice.ensures) c.in_ok-restore.ensures.stands) (c.loop-timestamp.invariant.stands older new start);
+      short = λ all start.
+          let i = c.loop-timestamp.invariant.short all start in
+          let next = prepared_next (map as_prepared c.loop-timestamp.timestamp-iterator) (map as_prepared c.next.new.self) (as_prepared e) (ap (λ es. map as_prepared es) more) i.0 in
+          (next.1, c.in_ok-restore.ensures.within 1024 i.1 (rw c.as_slice.ensures next.0));
+    }
 
-pub returns : goal.returns
-returns c = λ older new start.
-    added_all with_prepared (λ p. p.timestamp) older (map as_prepared c.args.prepared.now.entries) (map as_prepared c.loop-timestamp.timestamp-iterator) c.loop-timestamp.records (ap (λ es. map as_prepared es) c.in-None.ensures.steps.0) (c.loop-timestamp.invariant older new start)
+pub returns-clause-stands : goal.returns-clause-stands
+returns-clause-stands c = λ older new start.
+    added_all with_prepared (λ p. p.timestamp) older (map as_prepared c.args.prepared.now.entries) (map as_prepared c.loop-timestamp.timestamp-iterator) c.loop-timestamp.records (ap (λ es. map as_prepared es) c.in-None.ensures.steps.0) (c.loop-timestamp.invariant.stands older new start)
+
+pub returns-clause-short : goal.returns-clause-short
+returns-clause-short c = λ all start. (c.loop-timestamp.invariant.short all start).1

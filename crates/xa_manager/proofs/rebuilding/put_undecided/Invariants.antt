@@ -1,11 +1,14 @@
 use Rattle.std.proofs.Common.{List, map}
 use Rattle.mv_chain.specs.History.{Written}
+use Rattle.mv_rules.specs.Within.{IsWithin}
 use Rattle.mv_rules.specs.Restoring.{with_prepared}
 use Rattle.xa_recovery.specs.Durable.{as_prepared}
-use Rattle.xa_manager.specs.Rebuilding.{AreNew, HaveWrites, AddedUpto}
+use Rattle.xa_manager.specs.Rebuilding.{AreNew, HaveWrites, AddedUpto, PreparedAreShort}
 use Rattle.xa_manager.proofs.rebuilding.put_undecided.Given as goal
 
 abbrev pub invariant-loop-timestamp : goal.invariant-loop-timestamp
-invariant-loop-timestamp l =
-    (older : List Written) → AreNew (map (λ p. p.timestamp) (map as_prepared l.prepared.entries)) older → HaveWrites older l.fn.records
-    → AddedUpto with_prepared (λ p. p.timestamp) older (map as_prepared l.prepared.entries) (map as_prepared l.timestamp-iterator) l.records
+invariant-loop-timestamp l = record {
+  stands : (older : List Written) → AreNew (map (λ p. p.timestamp) (map as_prepared l.prepared.entries)) older → HaveWrites older l.fn.records
+      → AddedUpto with_prepared (λ p. p.timestamp) older (map as_prepared l.prepared.entries) (map as_prepared l.timestamp-iterator) l.records;
+  short : PreparedAreShort (map as_prepared l.prepared.entries) → IsWithin 1024 l.fn.records → PreparedAreShort (map as_prepared l.timestamp-iterator) × IsWithin 1024 l.records;
+}

@@ -1,9 +1,19 @@
-use Rattle.std.proofs.Common.{map}
+use Rattle.std.proofs.Common.{List, map, subst, sym}
 use Rattle.xa_recovery.specs.Durable.{as_committed, as_prepared}
+use Rattle.xa_model.specs.Durable.{CommittedBranch, PreparedBranch}
+use Rattle.xa_manager.specs.Rebuilding.{CommittedAreShort, PreparedAreShort}
 use Rattle.xa_manager.proofs.NewTables.{records_stand}
+use Rattle.xa_manager.proofs.ShortWrites.{snapshot_short}
 use Rattle.xa_manager.proofs.rebuilding.records_of.Goals as goal
 
-pub returns : goal.returns
-returns c = λ s next h.
+pub returns-clause-stands : goal.returns-clause-stands
+returns-clause-stands c = λ s next h.
     records_stand c.args.durable.now next s (map as_committed c.committed.result.now.entries) (map as_prepared c.prepared.result.now.entries) c.new-records.result c.put_committed.new.records c.put_undecided.new.records
-    c.committed.ensures c.prepared.ensures (c.new-records.ensures 0) c.in_ok-put_committed.ensures c.in_ok-put_undecided.ensures h
+    c.committed.ensures c.prepared.ensures (c.new-records.ensures.stands 0) c.in_ok-put_committed.ensures.stands c.in_ok-put_undecided.ensures.stands h
+
+pub returns-clause-short : goal.returns-clause-short
+returns-clause-short c = λ boot limits.
+    let short = snapshot_short c.args.durable.now boot limits in
+    let committed = subst (λ (bs : List CommittedBranch). CommittedAreShort bs) (sym c.committed.ensures) short.0 in
+    let prepared = subst (λ (ps : List PreparedBranch). PreparedAreShort ps) (sym c.prepared.ensures) short.1 in
+    c.in_ok-put_undecided.ensures.short prepared (c.in_ok-put_committed.ensures.short committed (c.new-records.ensures.within 1024))

@@ -1,7 +1,7 @@
 use Rattle.std.proofs.Common.{◌≡◌, [], ◌++◌, subst, ap, Option, List, ℕ, None, Some}
 use Rattle.std.specs.Option.{option_copied}
 use Rattle.std.proofs.lemmas.Result.{err_from_is_err_and}
-use Rattle.xa_play.proofs.Pieces.{appends_both, nothing_appended}
+use Rattle.xa_output.proofs.Pieces.{appends_both, nothing_appended}
 use Rattle.xa_play.proofs.Playing.{PlayedSoFar, all_played, line_failed, line_faults, line_more, nothing_played}
 use Rattle.xa_play.proofs.play.play_lines.Goals as goal
 
@@ -22,8 +22,8 @@ loop-rest-preserved g c =
     let so_far = subst (λ (o : Option (List ℕ)). PlayedSoFar name n c.args.manager c.args.script.now before.0 c.loop-rest.manager o) rest before.2 in (
       before.0 ++ now.0,
       appends_both _ _ _ before.0 now.0 before.1 now.1,
-      line_more name n c.args.manager c.loop-rest.manager c.in_ok-manager.manager c.args.script.now before.0 c.first_part.result.0.now c.in-Some.lines.now now.0
-          (option_copied c.first_part.result.1) c.first_part.ensures so_far now.2,
+      line_more c.runs_are_lawful.ensures name n c.args.manager c.loop-rest.manager c.in_ok-manager.manager c.args.script.now before.0 c.first_part.result.0.now c.in-Some.lines.now now.0
+          (option_copied c.first_part.result.1) c.first_part.ensures so_far now.2.0,
     )
 
 pub returns-clause-played : goal.returns-clause-played

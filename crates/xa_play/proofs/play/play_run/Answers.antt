@@ -1,9 +1,9 @@
-use Rattle.std.proofs.Common.{List, ℕ, subst, sym, inl, inr, rules}
+use Rattle.std.proofs.Common.{List, ℕ, subst, inl, inr}
 use Rattle.std.proofs.lemmas.Result.{err_from_is_err_and}
 use Rattle.xa_manager.specs.declared.settings.Settings.{Settings}
 use Rattle.xa_play.specs.Played.{ScriptEnds}
 use Rattle.xa_play.specs.declared.fault.PlayFault.TheVariants.{Memory}
-use Rattle.xa_play.proofs.Runs.{ran, unplayed}
+use Rattle.xa_play.proofs.Ends.{ran, unplayed}
 use Rattle.xa_play.proofs.play.play_run.Goals as goal
 
 pub returns-in_err-manager-clause-played : goal.returns-in_err-manager-clause-played
@@ -37,5 +37,5 @@ returns-clause-played g c =
     let at_script = subst (λ (script : List ℕ). ScriptEnds c.in_ok-kept.kept.name c.in_ok-kept.kept.log_bytes c.play_lines-played.result c.in_ok-manager.manager script played.0) c.as_slice.ensures.value played.2 in
     let ends = subst (λ (kept : Settings). ScriptEnds kept.name kept.log_bytes c.play_lines-played.result c.in_ok-manager.manager c.in_ok-script.script.items played.0) c.in_ok-kept.ensures at_script in
     rw c.end_of.ensures
-    (ran (Unit {0}) _ c.play_lines-played.result c.flush-flushed.result c.in_ok-manager.manager c.args.settings.name c.args.settings.log_bytes (g.R.Read.remaining c.args.reader.now) old mid new
+    (ran c.files_stand.ensures (Unit {0}) _ c.play_lines-played.result c.flush-flushed.result c.in_ok-manager.manager c.args.settings.name c.args.settings.log_bytes (g.R.Read.remaining c.args.reader.now) old mid new
     c.in_ok-script.script.items played.0 c.in_ok-script.ensures.all c.in_ok-script.ensures.limit played.1 c.flush-flushed.ensures.bytes ends c.in_ok-manager.ensures.stands)

@@ -3,6 +3,7 @@ use Rattle.std.specs.Prelude.{if◌then◌else◌, bytes_eq}
 use Rattle.mv_rules.specs.declared.records.Records.{Records}
 use Rattle.mv_rules.specs.Records.{place_of}
 use Rattle.mv_rules.proofs.Places.{found_at, found_inserted, stands_added, lists_added, stands_alike, take_back}
+use Rattle.mv_rules.proofs.Within.{added_within}
 use Rattle.mv_rules.proofs.records.Records.place.Goals as goal
 
 pub returns-in-Ok-clause-stands : goal.returns-in-Ok-clause-stands
@@ -25,3 +26,13 @@ returns-in-Err-clause-stands c =
     let chains : c.pop.new.self.items ≡ c.args.self.now.chains.items =
     c.pop.ensures.rest ∙ rw c.in_ok-push.ensures.items (take_back c.args.self.now.chains.items c.in_ok-chain.chain _ (omega (arith, c.in_ok-push.ensures.len, c.args.self.now.chains.ok.0))) in
     stands_alike h c.args.self.now _ (λ q. ap (λ es. found_at q es) c.in-Err.ensures.err) chains (λ t. refl) s
+
+pub returns-in-Ok-clause-within : goal.returns-in-Ok-clause-within
+returns-in-Ok-clause-within c = λ n h. rw c.in_ok-push.ensures.items (added_within n c.args.self.now.chains.items c.in_ok-chain.chain (c.in_ok-chain.ensures.within n) h)
+
+pub returns-in-Err-clause-within : goal.returns-in-Err-clause-within
+returns-in-Err-clause-within c =
+    λ n h.
+    let chains : c.pop.new.self.items ≡ c.args.self.now.chains.items =
+    c.pop.ensures.rest ∙ rw c.in_ok-push.ensures.items (take_back c.args.self.now.chains.items c.in_ok-chain.chain _ (omega (arith, c.in_ok-push.ensures.len, c.args.self.now.chains.ok.0))) in
+    rw chains h

@@ -3,6 +3,7 @@ use Rattle.std.specs.Prelude.{option_map}
 use Rattle.std.specs.Vec.{with_item}
 use Rattle.mv_rules.specs.declared.records.Records.{Records}
 use Rattle.mv_rules.proofs.Places.{stands_alike, set_itself}
+use Rattle.mv_rules.proofs.Within.{changed_within}
 use Rattle.mv_rules.proofs.Written.{put_refused, put_again, put_first}
 use Rattle.mv_rules.proofs.records.Records.put.Goals as goal
 
@@ -45,3 +46,41 @@ returns-in-Err-add-clause-stands c =
     λ h s0 u.
     let same = set_itself c.place.new.self.chains.items c.in-Ok.i c.in-Some.chain.now c.in-Some.ensures.value in
     stands_alike h c.place.new.self _ (λ q. refl) (rw c.in-Err-add.ensures.err same) c.in-Err-add.ensures.unnoted (c.in-Ok.ensures.stands h s0)
+
+pub returns-in_default-clause-within : goal.returns-in_default-clause-within
+returns-in_default-clause-within c =
+    λ n h short. c.place.ensures.within n h
+
+pub returns-in_default-get_mut-clause-within : goal.returns-in_default-get_mut-clause-within
+returns-in_default-get_mut-clause-within c =
+    λ n h short. c.place.ensures.within n h
+
+pub returns-in_default-from_slice-clause-within : goal.returns-in_default-from_slice-clause-within
+returns-in_default-from_slice-clause-within c =
+    λ n h short.
+    changed_within n c.in-Ok.i c.place.new.self.chains.items c.in-Some.chain.now _ c.in-Some.ensures.value (λ w. w) (c.place.ensures.within n h)
+
+pub returns-in-Refused-clause-within : goal.returns-in-Refused-clause-within
+returns-in-Refused-clause-within c =
+    λ n h short.
+    changed_within n c.in-Ok.i c.place.new.self.chains.items c.in-Some.chain.now _ c.in-Some.ensures.value (λ w. w) (c.place.ensures.within n h)
+
+pub returns-in-Ok-install-clause-within : goal.returns-in-Ok-install-clause-within
+returns-in-Ok-install-clause-within c =
+    λ n h short.
+    changed_within n c.in-Ok.i c.place.new.self.chains.items c.in-Some.chain.now _ c.in-Some.ensures.value (λ w. c.install.ensures.within n w short) (c.place.ensures.within n h)
+
+pub returns-in-Err-clause-within : goal.returns-in-Err-clause-within
+returns-in-Err-clause-within c =
+    λ n h short.
+    changed_within n c.in-Ok.i c.place.new.self.chains.items c.in-Some.chain.now _ c.in-Some.ensures.value (λ w. c.install.ensures.within n w short) (c.place.ensures.within n h)
+
+pub returns-in-Ok-add-clause-within : goal.returns-in-Ok-add-clause-within
+returns-in-Ok-add-clause-within c =
+    λ n h short.
+    changed_within n c.in-Ok.i c.place.new.self.chains.items c.in-Some.chain.now _ c.in-Some.ensures.value (λ w. c.add.ensures.within n w short) (c.place.ensures.within n h)
+
+pub returns-in-Err-add-clause-within : goal.returns-in-Err-add-clause-within
+returns-in-Err-add-clause-within c =
+    λ n h short.
+    changed_within n c.in-Ok.i c.place.new.self.chains.items c.in-Some.chain.now _ c.in-Some.ensures.value (λ w. c.add.ensures.within n w short) (c.place.ensures.within n h)

@@ -1,13 +1,14 @@
-use Rattle.std.proofs.Common.{◌≡◌, ◌∙◌, rules, List, []}
+use Rattle.std.proofs.Common.{◌≡◌, ◌∙◌, rules, ℕ, List, []}
 use Rattle.xa_codes.specs.declared.write.Write.{Write}
 use Rattle.mv_chain.specs.History.{IsOpen}
 use Rattle.mv_rules.specs.History.{History, IsWritesOf}
 use Rattle.mv_rules.specs.Records.{StandsFor, own_of}
+use Rattle.mv_rules.specs.Within.{IsWithin, AreShort}
 use Rattle.mv_rules.proofs.Gathered.{ascending_entries, listed_entries, collected_is, writes_result}
 use Rattle.mv_rules.proofs.records.Records.writes_of.Goals as goal
 
-pub returns-in_ok-values-in-Some : goal.returns-in_ok-values-in-Some
-returns-in_ok-values-in-Some c =
+pub returns-in_ok-values-in-Some-clause-writes : goal.returns-in_ok-values-in-Some-clause-writes
+returns-in_ok-values-in-Some-clause-writes c =
     let own : c.deref-in-Some.result.now ≡ own_of c.args.ts c.args.self.now = search rules in
     writes_result c.listed.result c.in_ok-values-in-Some.values.entries (λ (ws : List Write). (h : History) → StandsFor h c.args.self.now → IsOpen c.args.ts h.writes → IsWritesOf c.args.ts h.writes ws) c.listed.ensures
     (λ h s u. record {
@@ -15,11 +16,16 @@ returns-in_ok-values-in-Some c =
       last = λ q. listed_entries q c.in_ok-values-in-Some.values.entries ∙ (c.in_ok-values-in-Some.ensures.values q ∙ (rw (c.deref.ensures.value, own) (collected_is h c.args.self.now c.args.ts q s u)));
     })
 
-pub returns-in-None : goal.returns-in-None
-returns-in-None c =
+pub returns-in-None-clause-writes : goal.returns-in-None-clause-writes
+returns-in-None-clause-writes c =
     λ h s u.
     let none : own_of c.args.ts c.args.self.now ≡ [] = search rules in
     record {
       ascending = rw c.new.ensures.items tt;
       last = λ q. rw c.new.ensures.items (rw none at (collected_is h c.args.self.now c.args.ts q s u));
     }
+
+pub returns-in_ok-values-in-Some-clause-short : goal.returns-in_ok-values-in-Some-clause-short
+returns-in_ok-values-in-Some-clause-short c =
+    writes_result c.listed.result c.in_ok-values-in-Some.values.entries (λ (ws : List Write). (n : ℕ) → IsWithin n c.args.self.now → AreShort n ws) c.listed.ensures
+    (λ n h. c.in_ok-values-in-Some.ensures.short n (rw c.deref.ensures.value h))

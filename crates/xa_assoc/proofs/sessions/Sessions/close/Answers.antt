@@ -1,6 +1,7 @@
 use Rattle.std.proofs.Common.{◌≡◌, Some, None, arith}
 use Rattle.xa_model.specs.Associations.{close_refusal}
 use Rattle.xa_assoc.specs.Seats.{holds_any_at}
+use Rattle.xa_assoc.proofs.Companies.{set_company}
 use Rattle.xa_assoc.proofs.Closing.{close_refuses, close_stays, close_succeeds, close_follows}
 use Rattle.xa_assoc.proofs.sessions.Sessions.close.Goals as goal
 
@@ -23,3 +24,6 @@ pub returns-clause-after : goal.returns-clause-after
 returns-clause-after c =
     let e : close_refusal (holds_any_at c.args.self.now c.args.session) ≡ None = grind (arith, c.in_default.ensures.value, c.holds_any.ensures) in
     close_follows c.args.self.now c.set_closed.new.self c.args.session e c.set_closed.ensures
+
+pub returns-clause-company : goal.returns-clause-company
+returns-clause-company c = set_company _ _ c.args.session _ _ c.set_closed.ensures

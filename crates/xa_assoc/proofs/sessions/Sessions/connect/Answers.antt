@@ -1,7 +1,10 @@
-use Rattle.std.proofs.Common.{◌≡◌, ◌+◌, length, None, sym, arith}
+use Rattle.std.proofs.Common.{◌≡◌, ◌+◌, length, None, false, sym, arith, rules}
 use Rattle.xa_model.specs.Associations.{connect_refusal}
 use Rattle.xa_model.proofs.Rows.{nothing}
+use Rattle.std.specs.Prelude.{is_some}
 use Rattle.xa_assoc.specs.Changes.{Comes}
+use Rattle.xa_assoc.specs.Seats.{opened_at}
+use Rattle.xa_assoc.proofs.Companies.{come_company}
 use Rattle.xa_assoc.proofs.Connecting.{IsFirst, done, connect_number, connect_follows, none_is_full, fewer}
 use Rattle.xa_assoc.proofs.sessions.Sessions.connect.Goals as goal
 
@@ -22,3 +25,9 @@ returns-clause-ok c =
     let at : IsFirst c.args.self.now c.in-Some.place = record { within = c.in-Some.ensures.within; free = c.in-Some.ensures.free; least = c.in-Some.ensures.least } in
     let comes : Comes c.args.self.now (c.in-Some.place + 1) c.add_seat.new.self = done c.add_seat.result _ (sym c.if-is_err.ensures.value) c.add_seat.ensures.ok in
     connect_follows c.args.self.now c.add_seat.new.self c.in-Some.place at free comes
+
+pub returns-clause-came : goal.returns-clause-came
+returns-clause-came c =
+    let none : is_some (opened_at c.args.self.now (c.in-Some.place + 1)) ≡ false = search rules in
+    let comes : Comes c.args.self.now (c.in-Some.place + 1) c.add_seat.new.self = done c.add_seat.result _ (sym c.if-is_err.ensures.value) c.add_seat.ensures.ok in
+    come_company c.args.self.now c.add_seat.new.self _ none comes

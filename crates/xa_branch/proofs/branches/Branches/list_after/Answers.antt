@@ -6,7 +6,7 @@ use Rattle.std.specs.Range.Bound.{bound_map}
 use Rattle.std.proofs.lemmas.List.{append-nil}
 use Rattle.xa_xid.specs.Triple.{Triple, xid_cmp}
 use Rattle.xa_model.specs.Listed.{is_above}
-use Rattle.xa_branch.proofs.Listing.{above, keys_filtered, taken_more, taken_all, listed_same}
+use Rattle.xa_branch.proofs.Listing.{above, keys_filtered, taken_more, taken_all, listed_same, few_taken}
 use Rattle.xa_branch.proofs.branches.Branches.list_after.Goals as goal
 
 and_true : (b : Bool) → (b && true) ≡ b
@@ -30,8 +30,14 @@ loop-xid-preserved c =
     c.in_ok-push.ensures.items c.in-Some.ensures.steps.0 c.in-Some.ensures.steps.1
     ∙ l.invariant
 
-pub returns : goal.returns
-returns c = λ s h st.
+pub returns-clause-few : goal.returns-clause-few
+returns-clause-few c =
+    let l = c.loop-xid in
+    let all : take l.xid-iterator.n (keys_of l.xid-iterator.iter) ≡ [] = taken_all l.xid-iterator.n l.xid-iterator.iter (λ some. (c.in-None.ensures.steps some).0) in
+    few_taken l.listed.items _ c.args.count (sym (append-nil l.listed.items) ∙ (sym (ap (λ (xs : List Triple). l.listed.items ++ xs) all) ∙ l.invariant))
+
+pub returns-clause-listed : goal.returns-clause-listed
+returns-clause-listed c = λ s h st.
     let l = c.loop-xid in
     let all : take l.xid-iterator.n (keys_of l.xid-iterator.iter) ≡ [] = taken_all l.xid-iterator.n l.xid-iterator.iter (λ some. (c.in-None.ensures.steps some).0) in
     sym (append-nil l.listed.items)

@@ -1,4 +1,4 @@
-use Rattle.std.proofs.Common.{◌≡◌, ◌+◌, ℕ, Bool, None, refl, ap, sym, ◌∙◌, subst, true, false}
+use Rattle.std.proofs.Common.{◌≡◌, ◌+◌, ℕ, ap, sym, ◌∙◌, subst, true, false}
 use Rattle.std.specs.Prelude.{nat_lt}
 use Rattle.xa_model.specs.Durable.{Durable, durable}
 use Rattle.xa_model.specs.Restarting.{most_boots, restart_turn}
@@ -11,7 +11,7 @@ use Rattle.xa_codes.specs.declared.detail.Detail.TheVariants as detail
 use Rattle.xa_manager.specs.LogStands.{HasRecords}
 use Rattle.xa_manager.specs.Managed.{kept}
 use Rattle.xa_manager.specs.Rereading.{IsReady}
-use Rattle.xa_manager.proofs.Beginnings.{next_sizes, next_is, none_next}
+use Rattle.xa_manager.proofs.Beginnings.{next_sizes, next_short, next_is, none_next}
 use Rattle.xa_manager.proofs.Fates.{is_answer, turn_stops}
 use Rattle.xa_manager.proofs.Generations.{rebuilt_is}
 use Rattle.xa_manager.proofs.Standing.{outside, down_stands}
@@ -19,6 +19,9 @@ use Rattle.xa_manager.proofs.manager.Manager.begin.Goals as goal
 
 pub log_boot-requires-clause-sizes : goal.log_boot-requires-clause-sizes
 log_boot-requires-clause-sizes g c = next_sizes c.args.planned.durable c.args.planned.next c.in-Some.next c.in-Some.is c.requires
+
+pub log_boot-requires-clause-short : goal.log_boot-requires-clause-short
+log_boot-requires-clause-short g c = next_short c.args.planned.durable c.args.planned.next c.in-Some.next c.in-Some.is c.requires
 
 pub returns-in-Some-clause-turn : goal.returns-in-Some-clause-turn
 returns-in-Some-clause-turn g c =

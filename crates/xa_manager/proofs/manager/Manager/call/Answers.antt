@@ -1,15 +1,26 @@
-use Rattle.std.proofs.Common.{ℤ, ap, ◌∙◌, w32, to_z, of_z}
+use Rattle.std.proofs.Common.{ℤ, ap, ◌∙◌, w32, to_z, of_z, rules}
 use Rattle.xa_codes.specs.declared.detail.Detail.TheVariants as detail
 use Rattle.xa_model.specs.Answer.{detailed}
 use Rattle.xa_model.specs.declared.event.Event.TheVariants.{Call}
 use Rattle.xa_manager.specs.Answered.{may_want}
+use Rattle.xa_assoc.specs.Refusals.{IsBare}
+use Rattle.xa_manager.proofs.Replying.{bare_fresh}
 use Rattle.xa_manager.proofs.Calling.{done_answered, wanted_answered, wants, code_kept}
 use Rattle.xa_manager.proofs.manager.Manager.call.Goals as goal
 
-pub returns-in-Ok : goal.returns-in-Ok
-returns-in-Ok g c = done_answered _ _ _ _ _ _ c.args.self.now c.answer.new.self (Call c.args.session c.args.request) c.in-Ok.done.reply c.in-Ok.done.outcome c.in-Ok.ensures.ok
+pub returns-in-Ok-clause-answered : goal.returns-in-Ok-clause-answered
+returns-in-Ok-clause-answered g c = done_answered _ _ _ _ _ _ c.args.self.now c.answer.new.self (Call c.args.session c.args.request) c.in-Ok.done.reply c.in-Ok.done.outcome c.in-Ok.ensures.ok
 
-pub returns-in-Err : goal.returns-in-Err
-returns-in-Err g c =
-    wanted_answered _ _ _ _ _ _ c.args.self.now c.answer.new.self c.args.session c.args.request c.detailed.result (c.detailed.ensures ∙ ap (λ (k : ℤ). detailed k detail.Memory) (ap (λ (k : ℤ). to_z w32 (of_z w32 k)) c.memory_code-code.ensures ∙ code_kept c.args.request)) c.in-Err.ensures.err c.answer.ensures.outcome
+pub returns-in-Err-clause-answered : goal.returns-in-Err-clause-answered
+returns-in-Err-clause-answered g c =
+    wanted_answered _ _ _ _ _ _ c.args.self.now c.answer.new.self c.args.session c.args.request c.detailed.result (c.detailed.ensures ∙ ap (λ (k : ℤ). detailed k detail.Memory) (ap (λ (k : ℤ). to_z w32 (of_z w32 k)) c.memory_code-code.ensures ∙ code_kept c.args.request)) c.in-Err.ensures.err c.answer.ensures.outcome c.in-Err.ensures.quiet
     (wants c.answer.result _ (may_want c.args.request) c.in-Err.is c.answer.ensures.room)
+
+pub returns-in-Ok-clause-place : goal.returns-in-Ok-clause-place
+returns-in-Ok-clause-place g c = c.in-Ok.ensures.fresh.place
+
+pub returns-in-Ok-clause-limits : goal.returns-in-Ok-clause-limits
+returns-in-Ok-clause-limits g c = c.in-Ok.ensures.fresh.limits
+
+pub returns-in-Err-clause-limits : goal.returns-in-Err-clause-limits
+returns-in-Err-clause-limits g c = let bare : IsBare c.detailed.result = search rules in (bare_fresh c.detailed.result bare).limits

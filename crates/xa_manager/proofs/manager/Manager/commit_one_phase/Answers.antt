@@ -31,7 +31,7 @@ returns-then-is_empty-clause-ok g c =
     (λ s whole is_up st.
     let passes = sym free ∙ c.one_phase_refusal.ensures.value s st in
     let known = worked_known s xid passes in
-    let writes = told_writes (kept m) s xid c.timestamp-timestamp.result c.in_ok-writes.writes.items st known (c.timestamp-timestamp.ensures s st.branches) c.in_ok-writes.ensures in
+    let writes = told_writes (kept m) s xid c.timestamp-timestamp.result c.in_ok-writes.writes.items st known (c.timestamp-timestamp.ensures s st.branches) c.in_ok-writes.ensures.writes in
     now_empty (kept m') s xid (ok (committed s xid)) (commit_written s xid) passes (c.mark_of.ensures s st ∙ unmarked) (ap is_empty (sym writes) ∙ no_writes c.in_ok-writes.writes.items none)
     (λ recoverable. c.finish_branch-then-is_empty.ensures.committed refl s s.end st known recoverable)))
 
@@ -51,7 +51,7 @@ returns-then-not-has_room-clause-ok g c =
       free = λ s st. sym free ∙ c.one_phase_refusal.ensures.value s st;
       unmarked = λ s st. c.mark_of.ensures s st ∙ unmarked;
       time = λ s st. c.timestamp-timestamp.ensures s st.branches;
-      writes = c.in_ok-writes.ensures;
+      writes = c.in_ok-writes.ensures.writes;
     } in
     let spells : c.in_ok-body.body.items ≡ spelled (logged.Committed xid t ws) =
     c.in_ok-body.ensures ∙ ap (λ x. spelled (logged.Committed x t c.new.result)) c.copied.ensures ∙ ap (λ us. spelled (logged.Committed xid t us)) c.new.ensures in
@@ -84,7 +84,7 @@ returns-clause-ok g c =
       free = λ s st. sym free ∙ c.one_phase_refusal.ensures.value s st;
       unmarked = λ s st. c.mark_of.ensures s st ∙ unmarked;
       time = λ s st. c.timestamp-timestamp.ensures s st.branches;
-      writes = c.in_ok-writes.ensures;
+      writes = c.in_ok-writes.ensures.writes;
     } in
     let spells : c.in_ok-body.body.items ≡ spelled (logged.Committed xid t ws) =
     c.in_ok-body.ensures ∙ ap (λ x. spelled (logged.Committed x t c.new.result)) c.copied.ensures ∙ ap (λ us. spelled (logged.Committed xid t us)) c.new.ensures in

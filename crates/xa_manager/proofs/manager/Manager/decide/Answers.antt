@@ -1,4 +1,4 @@
-use Rattle.std.proofs.Common.{◌≡◌, ◌+◌, None, length, refl, ap, sym, ◌∙◌, subst, rules}
+use Rattle.std.proofs.Common.{◌≡◌, ◌+◌, None, length, refl, ap, sym, ◌∙◌, subst}
 use Rattle.xa_codes.specs.declared.codes.TheConstants.{XAER_RMERR}
 use Rattle.xa_record.specs.Spelling.{spelled}
 use Rattle.xa_record.specs.declared.record.Record.TheVariants as logged
@@ -24,16 +24,15 @@ returns-clause-turn g c =
     let m' = record mid' { tables = c.take_decided.new.self } in
     let xid = c.args.xid.now in
     let a = c.journal_small-answer.result in
-    let free : c.decide_refusal.result ≡ None = search rules in
-    let body = spelled (logged.Decided c.copied.result c.args.direction) in
+    let body = spelled c.in-Ok.record in
     let same : c.journal_small-answer.new.self.tables ≡ m.tables = c.journal_small-answer.ensures.tables in
     rw c.appended.ensures
     (takes_appending _ _ _ _ _ _ m m mid' m' (λ (s : State). decide_turn s c.args.direction xid) body a _ _ (served_by XAER_RMERR a) refl refl refl c.journal_small-answer.ensures refl refl refl
     (λ s whole is_up.
     let st = tables_up _ _ _ _ m s is_up whole in
-    let passes = sym free ∙ c.decide_refusal.ensures.value s st in
+    let passes : None ≡ decide_refusal (known_as s xid) = c.in-Ok.ensures.refusal s st in
     let doubt : known_as s xid ≡ InDoubt = decided_doubtful s xid passes in
     let r = logged.Decided xid c.args.direction in
-    small_appends (kept m) (kept m') s (decide_turn s c.args.direction xid) r XAER_RMERR body a st (passed_turn (decide_refusal (known_as s xid)) s (logs s r XAER_RMERR s) passes) (ap (λ x. spelled (logged.Decided x c.args.direction)) (sym c.copied.ensures)) (doubtful_fits s xid (length (spelled r)) st.up whole.roomy doubt (decided xid c.args.direction c.requires.name))
+    small_appends (kept m) (kept m') s (decide_turn s c.args.direction xid) r XAER_RMERR body a st (passed_turn (decide_refusal (known_as s xid)) s (logs s r XAER_RMERR s) passes) (ap spelled (sym c.in-Ok.ensures.logs)) (doubtful_fits s xid (length (spelled r)) st.up whole.roomy doubt (decided xid c.args.direction c.requires.name))
     (λ e recoverable. c.take_decided.ensures.kept e s ((decided_by s c.args.direction xid).end + size_of r) (subst (λ (k : Tables). StandsFor (kept_of k) s) (sym same) st) doubt recoverable)
     (λ e. ap kept_of (c.take_decided.ensures.left e ∙ same))))

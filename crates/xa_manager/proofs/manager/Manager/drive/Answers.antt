@@ -1,6 +1,13 @@
-use Rattle.std.proofs.Common.{subst, arith}
+use Rattle.std.proofs.Common.{◌≡◌, ◌∙◌, List, sym, subst, arith}
+use Rattle.std.proofs.lemmas.Iterator.Adapters.{YieldsList-from_vec}
+use Rattle.std.proofs.lemmas.Iterator.Consumers.{YieldsList-end}
+use Rattle.std.proofs.lemmas.List.{map-id}
+use Rattle.xa_model.specs.declared.event.Event.{Event}
 use Rattle.xa_model.specs.Events.{AreEvents}
+use Rattle.xa_manager.specs.Answered.{AnswersAll}
+use Rattle.xa_manager.proofs.Counting.{counts_more}
 use Rattle.xa_manager.proofs.Driving.{answers_more, pinned_each, pinned_more}
+use Rattle.xa_manager.proofs.Promised.{promises_all}
 use Rattle.xa_manager.proofs.manager.Manager.drive.Goals as goal
 
 pub push_reserved-requires : goal.push_reserved-requires
@@ -16,9 +23,24 @@ loop-event-preserved g c = record {
       c.loop-event.yielded c.loop-event.replies.items c.in-Some.event c.happen-reply.result
       (pinned_each c.loop-event.yielded c.loop-event.replies.items c.loop-event.invariant.pinned) c.loop-event.invariant.answered c.happen-reply.ensures.answered in
       rw c.push_reserved.ensures.items more;
+  counted =
+      let more = counts_more g.D.Disk.honest g.D.Disk.tears g.D.Disk.seen g.D.Disk.may_leave g.D.Disk.failures g.D.Disk.counts c.args.self.now c.loop-event.self c.happen-reply.new.self
+      c.loop-event.yielded c.loop-event.replies.items c.in-Some.event c.happen-reply.result
+      (pinned_each c.loop-event.yielded c.loop-event.replies.items c.loop-event.invariant.pinned) c.loop-event.invariant.counted c.happen-reply.ensures in
+      rw c.push_reserved.ensures.items more;
   pinned =
       let more = pinned_more c.loop-event.yielded c.loop-event.replies.items c.in-Some.event c.happen-reply.result c.loop-event.invariant.pinned c.happen-reply.ensures.pinned in
       rw c.push_reserved.ensures.items more;
   room = grind (arith, c.loop-event.invariant.room, c.in-Some.ensures.steps.1, c.push_reserved.ensures.len, c.push_reserved.ensures.capacity);
   spelled = (subst AreEvents c.in-Some.ensures.steps.0 c.loop-event.invariant.spelled).1;
 }
+
+pub returns-clause-promises : goal.returns-clause-promises
+returns-clause-promises g c =
+    let ended = YieldsList-end (YieldsList-from_vec c.args.events.items (cc) (cc)) c.loop-event.yielded c.loop-event.event-iterator c.loop-event.yielded_by
+    c.next.result c.next.new.self c.in-None.is c.next.ensures.steps in
+    let all : c.loop-event.yielded ≡ c.args.events.items = sym (map-id c.loop-event.yielded) ∙ ended.0 in
+    let history = subst (λ (events : List Event). AnswersAll g.D.Disk.honest g.D.Disk.tears g.D.Disk.seen g.D.Disk.may_leave c.args.self.now events c.loop-event.replies.items c.loop-event.self)
+    all c.loop-event.invariant.answered in
+    promises_all g.D.Disk.honest g.D.Disk.tears g.D.Disk.seen g.D.Disk.may_leave c.args.self.now c.loop-event.self c.args.events.items
+    c.loop-event.replies.items c.requires history

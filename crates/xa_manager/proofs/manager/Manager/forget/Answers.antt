@@ -1,4 +1,4 @@
-use Rattle.std.proofs.Common.{◌≡◌, ◌+◌, None, length, refl, ap, sym, ◌∙◌, subst, rules}
+use Rattle.std.proofs.Common.{◌≡◌, ◌+◌, None, length, refl, ap, sym, ◌∙◌, subst}
 use Rattle.xa_codes.specs.declared.codes.TheConstants.{XAER_RMERR}
 use Rattle.xa_record.specs.Spelling.{spelled}
 use Rattle.xa_record.specs.declared.record.Record.TheVariants as logged
@@ -23,16 +23,15 @@ returns-clause-turn g c =
     let m' = record mid' { tables = c.take_forgotten.new.self } in
     let xid = c.args.xid.now in
     let a = c.journal_small-answer.result in
-    let free : c.forget_refusal.result ≡ None = search rules in
-    let body = spelled (logged.Forgotten c.copied.result) in
+    let body = spelled c.in-Ok.record in
     let same : c.journal_small-answer.new.self.tables ≡ m.tables = c.journal_small-answer.ensures.tables in
     rw c.appended.ensures
     (takes_appending _ _ _ _ _ _ m m mid' m' (λ (s : State). forget_turn s xid) body a _ _ (served_by XAER_RMERR a) refl refl refl c.journal_small-answer.ensures refl refl refl
     (λ s whole is_up.
     let st = tables_up _ _ _ _ m s is_up whole in
-    let passes = sym free ∙ c.forget_refusal.ensures.value s st in
+    let passes : None ≡ forget_refusal (known_as s xid) = c.in-Ok.ensures.refusal s st in
     let done = forgets_completed s xid passes in
     let r = logged.Forgotten xid in
-    small_appends (kept m) (kept m') s (forget_turn s xid) r XAER_RMERR body a st (passed_turn (forget_refusal (known_as s xid)) s (logs s r XAER_RMERR s) passes) (ap (λ x. spelled (logged.Forgotten x)) (sym c.copied.ensures)) (forgotten_fits s xid (length (spelled r)) st.up whole.roomy done (forgotten xid c.requires.name))
+    small_appends (kept m) (kept m') s (forget_turn s xid) r XAER_RMERR body a st (passed_turn (forget_refusal (known_as s xid)) s (logs s r XAER_RMERR s) passes) (ap spelled (sym c.in-Ok.ensures.logs)) (forgotten_fits s xid (length (spelled r)) st.up whole.roomy done (forgotten xid c.requires.name))
     (λ e recoverable. c.take_forgotten.ensures.kept e s (s.end + size_of r) (subst (λ (k : Tables). StandsFor (kept_of k) s) (sym same) st) done recoverable)
     (λ e. ap kept_of (c.take_forgotten.ensures.left e ∙ same))))

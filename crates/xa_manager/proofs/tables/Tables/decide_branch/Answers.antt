@@ -4,9 +4,12 @@ use Rattle.xa_manager.specs.Kept.{kept_of}
 use Rattle.xa_manager.proofs.Finishing.{Settles, decided_stands}
 use Rattle.xa_manager.proofs.tables.Tables.decide_branch.Goals as goal
 
-pub returns : goal.returns
-returns c = λ s end st doubt recoverable.
+pub returns-clause-becomes : goal.returns-clause-becomes
+returns-clause-becomes c = λ s end st doubt recoverable.
     let t = c.timestamp-timestamp.result in
-    decided_stands (kept_of c.args.self.now) (kept_of (record c.args.self.now { branches = c.decide.new.self; records = c.settle.new.self })) s c.args.xid.now c.args.direction end t st doubt
+    decided_stands (kept_of c.args.self.now) (record (kept_of c.args.self.now) { branches = c.decide.new.self; records = c.settle.new.self }) s c.args.xid.now c.args.direction end t st doubt
     (c.timestamp-timestamp.ensures s st.branches) refl refl refl (c.decide.ensures.decided s st.recoverable.sound st.branches doubt)
-    (subst (λ (fate : Fate). Settles t fate c.args.self.now.records c.settle.new.self) c.fate_of.ensures c.settle.ensures) recoverable
+    (subst (λ (fate : Fate). Settles t fate c.args.self.now.records c.settle.new.self) c.fate_of.ensures c.settle.ensures.stands) recoverable
+
+pub invariant_of-self : goal.invariant_of-self
+invariant_of-self c = record { short = c.settle.ensures.within 1024 c.args.self.now.short }

@@ -3,8 +3,8 @@ use Rattle.xa_model.specs.Associations.{ended}
 use Rattle.xa_manager.proofs.Histories.{marked_records}
 use Rattle.xa_manager.proofs.tables.Tables.fail_branch.Goals as goal
 
-pub returns : goal.returns
-returns c = λ s st p recoverable.
+pub returns-clause-becomes : goal.returns-clause-becomes
+returns-clause-becomes c = λ s st p recoverable.
     let n = c.args.session in
     let xid = c.args.xid.now in record {
       name = st.name;

@@ -17,7 +17,7 @@ returns-clause-rolled_back c = λ is s end st here recoverable.
       branches = moved_end c.finish.new.self (rolled_back s c.args.xid.now) end (c.finish.ensures.rolled_back s st.recoverable.sound st.branches);
       records =
           gone_records s c.args.xid.now t r c.settle.new.self st.recoverable.sound here (c.timestamp-timestamp.ensures s st.branches) st.records
-          (subst (λ (fate : Fate). Settles t fate r c.settle.new.self) is c.settle.ensures);
+          (subst (λ (fate : Fate). Settles t fate r c.settle.new.self) is c.settle.ensures.stands);
       recoverable = recoverable;
     }
 
@@ -32,6 +32,9 @@ returns-clause-committed c = λ is s end st here recoverable.
       branches = moved_end c.finish.new.self (committed s c.args.xid.now) end (c.finish.ensures.committed s st.recoverable.sound st.branches);
       records =
           committed_records s c.args.xid.now t r c.settle.new.self st.recoverable.sound here (c.timestamp-timestamp.ensures s st.branches) st.records
-          (subst (λ (fate : Fate). Settles t fate r c.settle.new.self) is c.settle.ensures);
+          (subst (λ (fate : Fate). Settles t fate r c.settle.new.self) is c.settle.ensures.stands);
       recoverable = recoverable;
     }
+
+pub invariant_of-self : goal.invariant_of-self
+invariant_of-self c = record { short = c.settle.ensures.within 1024 c.args.self.now.short }

@@ -37,6 +37,7 @@ returns-in-Some c = record {
     };
     served = refl;
   };
+  gone = c.in-Some.ensures.gone;
 }
 
 pub returns-in_default : goal.returns-in_default
@@ -67,4 +68,5 @@ returns-in_default c = record {
     };
     served = refl;
   };
+  gone = c.hangup.ensures.gone;
 }

@@ -8,15 +8,15 @@ use Rattle.xa_manager.specs.Kept.{kept_of}
 use Rattle.xa_manager.proofs.Rows.{follows_refused, follows_marked, follows_unmarked}
 use Rattle.xa_manager.proofs.tables.Tables.leave.Goals as goal
 
-pub returns-in-Some : goal.returns-in-Some
-returns-in-Some c =
+pub returns-in-Some-clause-follows : goal.returns-in-Some-clause-follows
+returns-in-Some-clause-follows c =
     let n = c.args.session in
     let xid = c.args.xid.now in
     follows_refused (kept_of c.args.self.now) (λ (s : State). leave_refusal_of s n xid)
     (λ (s : State). marked (mark_in (known_as s xid)) (ended s n xid) (cond c.args.fails (failed s n xid) (ok (ended s n xid)))) c.in-Some.reply c.in-Some.ensures.served c.in-Some.ensures.value
 
-pub returns-in-Some-mark_of : goal.returns-in-Some-mark_of
-returns-in-Some-mark_of c =
+pub returns-in-Some-mark_of-clause-follows : goal.returns-in-Some-mark_of-clause-follows
+returns-in-Some-mark_of-clause-follows c =
     let n = c.args.session in
     let xid = c.args.xid.now in
     let free : c.leave_refusal.result ≡ None = search rules in
@@ -26,8 +26,8 @@ returns-in-Some-mark_of c =
     (λ (s : State). cond c.args.fails (failed s n xid) (ok (ended s n xid))) c.in-Some-mark_of.code (λ s st. sym free ∙ c.leave_refusal.ensures.value s st) c.in-Some-mark_of.ensures
     (λ s st passes recoverable. c.leave_branch.ensures.ended s st (c.ended_kind-kind.ensures s st passes) recoverable))
 
-pub returns-then-fails : goal.returns-then-fails
-returns-then-fails c =
+pub returns-then-fails-clause-follows : goal.returns-then-fails-clause-follows
+returns-then-fails-clause-follows c =
     let n = c.args.session in
     let xid = c.args.xid.now in
     let free : c.leave_refusal.result ≡ None = search rules in
@@ -35,10 +35,10 @@ returns-then-fails c =
     rw c.plain-then-fails.ensures
     (follows_unmarked (kept_of c.args.self.now) (kept_of c.fail_branch.new.self) (λ (s : State). leave_refusal_of s n xid) (λ (s : State). mark_in (known_as s xid)) (λ (s : State). ended s n xid)
     (λ (s : State). cond c.args.fails (failed s n xid) (ok (ended s n xid))) (plain XA_RBROLLBACK) refl (λ s st. sym free ∙ c.leave_refusal.ensures.value s st) (λ s st. c.mark_of.ensures s st ∙ unmarked)
-    (λ s st passes. rw c.if-fails.true (refl, λ recoverable. c.fail_branch.ensures s st (c.ended_kind-kind.ensures s st passes) recoverable)))
+    (λ s st passes. rw c.if-fails.true (refl, λ recoverable. c.fail_branch.ensures.becomes s st (c.ended_kind-kind.ensures s st passes) recoverable)))
 
-pub returns : goal.returns
-returns c =
+pub returns-clause-follows : goal.returns-clause-follows
+returns-clause-follows c =
     let n = c.args.session in
     let xid = c.args.xid.now in
     let free : c.leave_refusal.result ≡ None = search rules in

@@ -6,8 +6,8 @@ use Rattle.xa_assoc.proofs.Follows.{unmoved}
 use Rattle.xa_manager.proofs.Histories.{marked_records}
 use Rattle.xa_manager.proofs.tables.Tables.mark_branch.Goals as goal
 
-pub returns : goal.returns
-returns c = λ s st recoverable. record {
+pub returns-clause-marks : goal.returns-clause-marks
+returns-clause-marks c = λ s st recoverable. record {
   name = st.name;
   log_bytes = st.log_bytes;
   up = st.up;

@@ -18,27 +18,27 @@ returns-in-Done-clause-ok c =
     let m = kept_of c.args.self.now in
     let own : own_at m c.args.session ≡ Some (c.in-Some.xid, c.in-Some.working) = grind (arith, c.in-Some.ensures) in
     let free : c.in-Some.working.mark ≡ None = search rules in
-    rw c.plain-in-Done.ensures (put_follows m (kept_of c.write.new.self) c.args.session c.args.key.now (items_of c.args.value) c.in-Some.xid c.in-Some.working own free c.in-Done.ensures)
+    rw c.plain-in-Done.ensures (put_follows m (kept_of c.write.new.self) c.args.session c.args.key.now (items_of c.args.value) c.in-Some.xid c.in-Some.working own free c.in-Done.ensures.puts)
 
 pub returns-in-Late-clause-ok : goal.returns-in-Late-clause-ok
 returns-in-Late-clause-ok c =
     let m = kept_of c.args.self.now in
     let own : own_at m c.args.session ≡ Some (c.in-Some.xid, c.in-Some.working) = grind (arith, c.in-Some.ensures) in
     let free : c.in-Some.working.mark ≡ None = search rules in
-    rw c.detailed.ensures (put_late m (kept_of c.write.new.self) (kept_of c.mark_branch.new.self) c.args.session c.args.key.now (items_of c.args.value) c.in-Some.xid c.in-Some.working own free c.in-Late.ensures c.mark_branch.ensures)
+    rw c.detailed.ensures (put_late m (kept_of c.write.new.self) (kept_of c.mark_branch.new.self) c.args.session c.args.key.now (items_of c.args.value) c.in-Some.xid c.in-Some.working own free c.in-Late.ensures.puts c.mark_branch.ensures.marks)
 
 pub returns-in-Limit-clause-ok : goal.returns-in-Limit-clause-ok
 returns-in-Limit-clause-ok c =
     let m = kept_of c.args.self.now in
     let own : own_at m c.args.session ≡ Some (c.in-Some.xid, c.in-Some.working) = grind (arith, c.in-Some.ensures) in
     let free : c.in-Some.working.mark ≡ None = search rules in
-    rw c.detailed-in-Limit.ensures (put_full m (kept_of c.write.new.self) c.args.session c.args.key.now (items_of c.args.value) c.in-Some.xid c.in-Some.working own free c.in-Limit.ensures)
+    rw c.detailed-in-Limit.ensures (put_full m (kept_of c.write.new.self) c.args.session c.args.key.now (items_of c.args.value) c.in-Some.xid c.in-Some.working own free c.in-Limit.ensures.puts)
 
 pub returns-in-Memory-clause-err : goal.returns-in-Memory-clause-err
 returns-in-Memory-clause-err c =
     let m = kept_of c.args.self.now in
     let own : own_at m c.args.session ≡ Some (c.in-Some.xid, c.in-Some.working) = grind (arith, c.in-Some.ensures) in
-    put_stays m (kept_of c.write.new.self) c.args.session c.args.key.now (items_of c.args.value) c.in-Some.xid c.in-Some.working own c.in-Memory.ensures
+    put_stays m (kept_of c.write.new.self) c.args.session c.args.key.now (items_of c.args.value) c.in-Some.xid c.in-Some.working own c.in-Memory.ensures.puts
 
 pub returns-in_default-clause-ok : goal.returns-in_default-clause-ok
 returns-in_default-clause-ok c =

@@ -13,5 +13,5 @@ returns-clause-ok c =
     let m' = kept_of (record c.args.self.now { sessions = c.move_scan.new.self }) in
     let copied : option_copied c.as_ref.result ≡ c.in-Ok.cursor = search rules in
     recover_follows m m' c.args.session c.args.flags c.args.count c.in-Ok.cursor c.in_ok-xids.xids.items c.listing.result c.requires (λ s st. c.in-Ok.ensures.goes_on s c.args.count st)
-    (λ s st. subst (λ (o : Option Triple). c.in_ok-xids.xids.items ≡ list_after o c.args.count (durable s)) copied (c.in_ok-xids.ensures s st.recoverable.sound st.branches)) c.listing.ensures.value
-    (record { name = refl; log_bytes = refl; branches = refl; records = refl; sessions = rw c.as_slice.ensures.value at c.move_scan.ensures }) c.listing.ensures.served
+    (λ s st. subst (λ (o : Option Triple). c.in_ok-xids.xids.items ≡ list_after o c.args.count (durable s)) copied (c.in_ok-xids.ensures.listed s st.recoverable.sound st.branches)) c.listing.ensures.value
+    (record { name = refl; log_bytes = refl; branches = refl; records = refl; sessions = rw c.as_slice.ensures.value at c.move_scan.ensures.after }) c.listing.ensures.served

@@ -7,16 +7,16 @@ use Rattle.xa_manager.specs.Kept.{kept_of}
 use Rattle.xa_manager.proofs.Rows.{follows_refused, follows_marked, follows_unmarked, turned_away, let_on}
 use Rattle.xa_manager.proofs.tables.Tables.suspend.Goals as goal
 
-pub returns-in-Some : goal.returns-in-Some
-returns-in-Some c =
+pub returns-in-Some-clause-follows : goal.returns-in-Some-clause-follows
+returns-in-Some-clause-follows c =
     let n = c.args.session in
     let xid = c.args.xid.now in
     follows_refused (kept_of c.args.self.now) (λ (s : State). suspend_refusal_of s n xid)
     (λ (s : State). marked (mark_in (known_as s xid)) (not_suspended s n xid) (unless (loose_refusal c.args.migrates (loose_of s.associations xid)) s (ok (suspended s n c.args.migrates xid))))
     c.in-Some.reply c.in-Some.ensures.served c.in-Some.ensures.value
 
-pub returns-in-Some-mark_of : goal.returns-in-Some-mark_of
-returns-in-Some-mark_of c =
+pub returns-in-Some-mark_of-clause-follows : goal.returns-in-Some-mark_of-clause-follows
+returns-in-Some-mark_of-clause-follows c =
     let n = c.args.session in
     let xid = c.args.xid.now in
     let free : c.suspend_refusal.result ≡ None = search rules in
@@ -26,8 +26,8 @@ returns-in-Some-mark_of c =
     (λ (s : State). unless (loose_refusal c.args.migrates (loose_of s.associations xid)) s (ok (suspended s n c.args.migrates xid))) c.in-Some-mark_of.code
     (λ s st. sym free ∙ c.suspend_refusal.ensures.value s st) c.in-Some-mark_of.ensures (λ s st passes recoverable. c.leave_branch.ensures.not_suspended s st (passes, refl) recoverable))
 
-pub returns-in-Some-loose_refusal : goal.returns-in-Some-loose_refusal
-returns-in-Some-loose_refusal c =
+pub returns-in-Some-loose_refusal-clause-follows : goal.returns-in-Some-loose_refusal-clause-follows
+returns-in-Some-loose_refusal-clause-follows c =
     let m = kept_of c.args.self.now in
     let n = c.args.session in
     let xid = c.args.xid.now in
@@ -39,8 +39,8 @@ returns-in-Some-loose_refusal c =
     (λ s st passes.
     turned_away m (loose_refusal c.args.migrates (loose_of s.associations xid)) s (ok (suspended s n c.args.migrates xid)) c.in-Some-loose_refusal.reply (c.in-Some-loose_refusal.ensures.value s st) st)
 
-pub returns : goal.returns
-returns c =
+pub returns-clause-follows : goal.returns-clause-follows
+returns-clause-follows c =
     let m' = kept_of c.suspend_branch.new.self in
     let n = c.args.session in
     let xid = c.args.xid.now in
@@ -53,4 +53,4 @@ returns c =
     (λ s st. sym free ∙ c.suspend_refusal.ensures.value s st) (λ s st. c.mark_of.ensures s st ∙ unmarked)
     (λ s st passes.
     let_on m' (loose_refusal c.args.migrates (loose_of s.associations xid)) s (ok (suspended s n c.args.migrates xid)) (plain (pos 0)) (sym room ∙ c.loose_refusal.ensures.value s st) refl
-    (λ recoverable. c.suspend_branch.ensures s st passes recoverable)))
+    (λ recoverable. c.suspend_branch.ensures.becomes s st passes recoverable)))

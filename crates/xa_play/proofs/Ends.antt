@@ -5,7 +5,6 @@ use Rattle.std.specs.Io.KnownBytes.{Appends, Keeps}
 use Rattle.std.proofs.lemmas.List.{length-map}
 use Rattle.std.proofs.lemmas.List.Splits.{length-slice_split}
 use Rattle.xa_model.specs.History.{fresh}
-use Rattle.xa_model.specs.State.{State}
 use Rattle.xa_disk.specs.declared.memory.MemDisk.{MemDisk}
 use Rattle.xa_manager.specs.declared.manager.Manager.{Manager as TheManager}
 use Rattle.xa_xid.specs.Triple.{Triple}
@@ -15,10 +14,12 @@ use Rattle.xa_script.specs.declared.line.Line.{Line}
 use Rattle.xa_play.specs.declared.fault.PlayFault.{PlayFault}
 use Rattle.xa_play.specs.declared.fault.PlayFault.TheVariants.{Memory, Setting, TooLong, Read, Write, Manager}
 use Rattle.xa_play.specs.Faults.{end_of}
-use Rattle.xa_play.specs.Disks.{StandsFor}
+use Rattle.xa_play.specs.Disks.{StandsFor, FilesStand}
+use Rattle.xa_play.specs.Runs.{Run, IsLawful, at_start}
 use Rattle.xa_play.specs.Plays.{Plays, PlaysTo, Prints, Stops, lines_of}
 use Rattle.xa_play.specs.Played.{ScriptEnds}
-use Rattle.xa_play.proofs.Pieces.{appends_both, keeps_appends, nothing_appended}
+use Rattle.xa_play.proofs.Lawful.{run_at_start}
+use Rattle.xa_output.proofs.Pieces.{appends_both, keeps_appends, nothing_appended}
 
 given : (input : Option (List ℕ)) → IfSome input (λ bytes. unwrap_or input [] ≡ bytes)
 given None = tt
@@ -29,12 +30,12 @@ some_line xid_of script =
     let count : length (lines_of xid_of script) ≡ length (parts 10 script) = length-map (parts 10 script) (lines.line_of xid_of) in
     omega (arith, count, length-slice_split (λ b. b == 10) script)
 
-stops_at : (name : List ℕ) (n : ℕ) (s : State) (lines : List Line) → 0 < length lines → PlaysTo name n (Stops name n) s lines []
-stops_at name n s [] some = absurd (omega (arith, some))
-stops_at name n s (line ∷ lines) some = inl refl
+stops_at : (name : List ℕ) (n : ℕ) (run : Run) (lines : List Line) → 0 < length lines → PlaysTo name n IsLawful (Stops name n) run lines []
+stops_at name n run [] some = absurd (omega (arith, some))
+stops_at name n run (line ∷ lines) some = inl refl
 
 -- nothing was played, so no line was
-pub unplayed : (X : Type 0) (fault : PlayFault) (name : List ℕ) (log_bytes : ℕ) (input output : Option (List ℕ)) → (fault ≡ Write → ⊥) → Plays {X = X} name log_bytes (Err fault) input output output
+pub unplayed : (X : Type 0) (fault : PlayFault) (name : List ℕ) (log_bytes : ℕ) (input output : Option (List ℕ)) → (fault ≡ Write → ⊥) → Plays {X = X} IsLawful name log_bytes (Err fault) input output output
 unplayed X Write name log_bytes input output h = absurd (h refl)
 unplayed X Memory name log_bytes input output h = record {
   script = unwrap_or input [];
@@ -42,28 +43,29 @@ unplayed X Memory name log_bytes input output h = record {
   given = given input;
   short = λ no. absurd no;
   written = nothing_appended output;
-  printed = λ xid_of reads. stops_at name log_bytes (fresh name log_bytes) (lines_of xid_of (unwrap_or input [])) (some_line xid_of (unwrap_or input []));
+  printed = λ xid_of reads. stops_at name log_bytes (at_start (fresh name log_bytes)) (lines_of xid_of (unwrap_or input [])) (some_line xid_of (unwrap_or input []));
 }
 unplayed X (Manager fault) name log_bytes input output h = record { script = unwrap_or input []; text = []; given = given input; short = λ none. absurd none; written = nothing_appended output; printed = λ xid_of reads. inl refl }
 unplayed X Setting name log_bytes input output h = record { script = unwrap_or input []; text = []; given = given input; short = λ none. absurd none; written = nothing_appended output; printed = λ xid_of reads. refl }
 unplayed X TooLong name log_bytes input output h = record { script = unwrap_or input []; text = []; given = given input; short = λ none. absurd none; written = nothing_appended output; printed = λ xid_of reads. refl }
 unplayed X Read name log_bytes input output h = record { script = unwrap_or input []; text = []; given = given input; short = λ none. absurd none; written = nothing_appended output; printed = λ xid_of reads. refl }
 
-prints_end : (X E : Type 0) (name : List ℕ) (n : ℕ) (played : Result X PlayFault) (flushed : Result X E) (s : State) (lines : List Line) (text : List ℕ) → Prints name n played s lines text
-    → Prints name n (end_of played flushed) s lines text
-prints_end X E name n (Err fault) flushed s lines text h = h
-prints_end X E name n (Ok x) (Ok y) s lines text h = h
-prints_end X E name n (Ok x) (Err error) s lines text h = inr h
+prints_end : (X E : Type 0) (name : List ℕ) (n : ℕ) (played : Result X PlayFault) (flushed : Result X E) (run : Run) (lines : List Line) (text : List ℕ) → Prints name n IsLawful played run lines text
+    → Prints name n IsLawful (end_of played flushed) run lines text
+prints_end X E name n (Err fault) flushed run lines text h = h
+prints_end X E name n (Ok x) (Ok y) run lines text h = h
+prints_end X E name n (Ok x) (Err error) run lines text h = inr h
 
 -- the script was played, whatever the flush was answered
-pub ran : (X E : Type 0) (played : Result X PlayFault) (flushed : Result X E) (m : TheManager MemDisk) (name : List ℕ) (log_bytes : ℕ) (input old mid new : Option (List ℕ)) (script text : List ℕ) →
+pub ran : (files : FilesStand) (X E : Type 0) (played : Result X PlayFault) (flushed : Result X E) (m : TheManager MemDisk) (name : List ℕ) (log_bytes : ℕ) (input old mid new : Option (List ℕ)) (script text : List ℕ) →
     IfSome input (λ bytes. script ≡ bytes) → length script ≤ 16_777_216 → Appends old mid text → Keeps mid new →
-    ScriptEnds name log_bytes played m script text → StandsFor m (fresh name log_bytes) → Plays name log_bytes (end_of played flushed) input old new
-ran X E played flushed m name log_bytes input old mid new script text known short written kept ends stands = record {
+    ScriptEnds name log_bytes played m script text → StandsFor m (fresh name log_bytes) → Plays IsLawful name log_bytes (end_of played flushed) input old new
+ran files X E played flushed m name log_bytes input old mid new script text known short written kept ends stands = record {
   script = script;
   text = text;
   given = known;
   short = λ read. short;
   written = subst (λ (t : List ℕ). Appends old new t) (append-nil text) (appends_both old mid new text [] written (keeps_appends mid new kept));
-  printed = λ xid_of reads. prints_end X E name log_bytes played flushed (fresh name log_bytes) (lines_of xid_of script) text (ends xid_of reads (fresh name log_bytes) (stands, refl));
+  printed = λ xid_of reads. prints_end X E name log_bytes played flushed (at_start (fresh name log_bytes)) (lines_of xid_of script) text
+      (ends xid_of reads (at_start (fresh name log_bytes)) (stands, refl, run_at_start (fresh name log_bytes) (files m (fresh name log_bytes) stands).1));
 }

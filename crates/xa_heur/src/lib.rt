@@ -1,0 +1,10 @@
+//! What the operator may do with a branch, by its state alone: decide it where it is in doubt, and have it forgotten where he
+//! completed it; and what a commit or a rollback is answered behind his decision (X/Open C193: heuristic completion).
+//!
+//! `heuristics` has the three functions. They keep nothing and take no memory: which state a branch is in is told by
+//! `xa_branch`, and what becomes of the record that they give is the manager's.
+#![tactic(auto)]
+
+mod heuristics;
+
+pub use heuristics::{answer_completed, decide, forget};

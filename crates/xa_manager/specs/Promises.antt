@@ -1,0 +1,82 @@
+-- What is promised of a manager's runs: one copy, and that what was answered as prepared stays listed.
+use Rattle.std.specs.Prelude.{ℕ, ◌≡◌, ◌⊎◌, ◌+◌, ◌<◌, ◌≤◌, true, Ok, List, [], ◌∷◌, ◌++◌, length}
+use Rattle.std.specs.List.{AllByRecursion}
+use Rattle.xa_frame.specs.declared.reply.Reply.{Reply}
+use Rattle.xa_record.specs.Limits.{IsRecord}
+use Rattle.xa_record.specs.declared.record.Record.{Record}
+use Rattle.xa_xid.specs.Triple.{Triple}
+use Rattle.xa_disk.specs.declared.counts.Counts.{Counts}
+use Rattle.xa_model.specs.declared.event.Event.{Event}
+use Rattle.xa_model.specs.declared.outcome.Outcome.{Outcome}
+use Rattle.xa_model.specs.State.{State}
+use Rattle.xa_model.specs.Associations.{most_branches}
+use Rattle.xa_model.specs.Durable.{Durable}
+use Rattle.xa_model.specs.Fold.{fold}
+use Rattle.xa_model.specs.Restarting.{opening, most_boots}
+use Rattle.xa_model.specs.Events.{IsEvent, HaveHappened}
+use Rattle.xa_model.specs.History.{Entry, Leads}
+use Rattle.xa_model.specs.OneCopy.{HasOneCopy}
+use Rattle.xa_model.specs.ListedLaw.{HasPrepared, AsksCompletion, IsListed}
+use Rattle.xa_manager.specs.declared.manager.Manager.{Manager}
+use Rattle.xa_manager.specs.LogStands.{Trusts}
+use Rattle.xa_manager.specs.Managed.{ManagerStandsFor}
+use Rattle.xa_manager.specs.Answered.{FullyAnswered, recorded, no_restart}
+use Rattle.xa_manager.specs.Opening.{HasBegun}
+
+-- an opening state: what the records of a log come to, of which a new log has none, and a new boot
+pub record IsOpening (first : State) : Type 0 where
+  pub records : List Record
+  pub durable : Durable
+  pub limits : AllByRecursion IsRecord records
+  pub folded : fold records ≡ Ok durable
+  pub boots : durable.boot < most_boots
+  pub few : length durable.prepared + length durable.decided ≤ most_branches
+  pub opened : first ≡ opening durable first.name first.log_bytes (durable.boot + 1)
+
+-- a legal history of an opening state leads to the state
+pub record IsReached (first : State) (entries : List Entry) (s : State) : Type 0 where
+  pub opens : IsOpening first
+  pub happened : HaveHappened entries
+  pub leads : Leads first entries s
+
+-- recovery lists each branch that was answered as prepared, and whose completion wasn't asked for since then
+abbrev pub ListsPrepared : List Entry → State → Type 0
+ListsPrepared entries s =
+    (before later : List Entry) (prepare : Entry) (xid : Triple) → entries ≡ before ++ prepare ∷ later → HasPrepared xid prepare
+    → AllByRecursion (λ e. AsksCompletion xid e → ⊥) later → IsListed xid s
+
+-- The history goes on with the events and their replies, with these outcomes, and the manager stands for the state that it then
+-- leads to. That state's committed branches are one copy, and it lists what was prepared, in these replies or before.
+pub record KeepsPromises {D : Type 0} (honest : Type 0) (tears : List ℕ → ℕ → List ℕ → List ℕ → Type 0) (seen : D → List ℕ) (may_leave : D → List ℕ → Type 0) (before : List Entry) (s : State) (events : List Event) (replies : List Reply) (m' : Manager D) : Type 0 where
+  pub outcomes : List Outcome
+  pub after : State
+  pub told : length outcomes ≡ length events
+  pub leads : Leads s (recorded events outcomes replies) after
+  pub stands : ManagerStandsFor honest tears seen may_leave m' after
+  pub one_copy : HasOneCopy after
+  pub listed : ListsPrepared (before ++ recorded events outcomes replies) after
+
+-- so it is behind every legal history whose last state the manager stood for
+abbrev pub PromisesAll : {D : Type 0} → Type 0 → (List ℕ → ℕ → List ℕ → List ℕ → Type 0) → (D → List ℕ) → (D → List ℕ → Type 0) → Manager D → List Event → List Reply → Manager D → Type 0
+PromisesAll honest tears seen may_leave m events replies m' =
+    (first s : State) (before : List Entry) → IsReached first before s → ManagerStandsFor honest tears seen may_leave m s
+    → Trusts honest tears ⊎ (no_restart events ≡ true) → KeepsPromises honest tears seen may_leave before s events replies m'
+
+-- ---- laws
+
+-- at the end of every history of an opening state
+abbrev pub ReachedPromises : Type 0
+ReachedPromises = (first s : State) (entries : List Entry) → IsReached first entries s → HasOneCopy s × ListsPrepared entries s
+
+-- of one event, answered as every call is
+abbrev pub OnePromises : {D : Type 0} → Type 0 → (List ℕ → ℕ → List ℕ → List ℕ → Type 0) → (D → List ℕ) → (D → List ℕ → Type 0) → (D → ℕ) → (D → Counts) → Type 0
+OnePromises {D} honest tears seen may_leave failures counts =
+    (m m' : Manager D) (event : Event) (reply : Reply) → IsEvent event → FullyAnswered honest tears seen may_leave failures counts m event reply m'
+    → PromisesAll honest tears seen may_leave m (event ∷ []) (reply ∷ []) m'
+
+-- a manager that was opened stands for an opening state, if no more branches are known by the log than may be
+abbrev pub BegunIsReached : {D : Type 0} → Type 0 → (List ℕ → ℕ → List ℕ → List ℕ → Type 0) → (D → List ℕ) → (D → List ℕ → Type 0) → Type 0
+BegunIsReached {D} honest tears seen may_leave =
+    (m : Manager D) (bodies : List (List ℕ)) (name : List ℕ) (log_bytes : ℕ) (begun : HasBegun honest tears seen may_leave bodies name log_bytes m)
+    → length begun.durable.prepared + length begun.durable.decided ≤ most_branches
+    → (first : State) × IsReached first [] first × ManagerStandsFor honest tears seen may_leave m first
