@@ -1,0 +1,28 @@
+use Rattle.std.proofs.Common.{◌≡◌, ◌∙◌, false, refl, sym, ap, subst, length, arith}
+use Rattle.xa_frame.specs.declared.reply.Reply.{Reply}
+use Rattle.xa_assoc.specs.Refusals.{is_memory}
+use Rattle.xa_model.specs.declared.event.Event.TheVariants.{Connect}
+use Rattle.xa_room.specs.Manages.{Acts}
+use Rattle.xa_room.proofs.Longer.{kept_noted, connect_place, one_more}
+use Rattle.xa_room.proofs.room.Room.connect.Goals as goal
+
+pub invariant_of-self-2 : goal.invariant_of-self-2
+invariant_of-self-2 g c =
+    let m = g.M.Manages in
+    let room = c.self.inside in
+    let connect = c.connect-session.ensures in
+    let served : is_memory c.reply_to.result.detail ≡ false = ap (λ (r : Reply). is_memory r.detail) c.reply_to.ensures ∙ sym c.if-found_none.ensures.value in
+    kept_noted m.stands m.trusts m.told m.has_called m.failures m.sessions g.S.Start.start g.S.Start.base room.manager c.connect-session.new.self
+    room.history.items _ _ _ _ Connect _ _
+    c.self.invariant
+    (subst (λ (r : Reply). Acts m.stands m.trusts m.told m.has_called m.failures room.manager Connect r c.connect-session.new.self) (sym c.reply_to.ensures) connect.acts)
+    served (ap (λ (r : Reply). r.place) c.reply_to.ensures ∙ connect_place _) tt c.outcome.ensures
+    c.make_room.ensures.items c.note-receipt.ensures.entries
+    (omega (
+      arith,
+      c.if-not-make_room.ensures.found refl,
+      ap length c.make_room.ensures.items,
+      c.connected.ensures,
+      one_more c.connect-session.result (m.sessions room.manager) (m.sessions c.connect-session.new.self) connect.sessions,
+      c.note-receipt.ensures.capacity,
+    ))

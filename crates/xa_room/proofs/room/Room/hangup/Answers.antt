@@ -1,0 +1,34 @@
+use Rattle.std.proofs.Common.{◌≡◌, true, refl, sym, ap, subst, arith}
+use Rattle.xa_frame.specs.declared.reply.Reply.{Reply}
+use Rattle.xa_assoc.specs.Refusals.{is_memory}
+use Rattle.xa_model.specs.declared.event.Event.TheVariants.{Hangup}
+use Rattle.xa_room.specs.Kept.{Adds}
+use Rattle.xa_room.specs.Manages.{Acts}
+use Rattle.xa_room.specs.Told.{Told}
+use Rattle.xa_room.proofs.Longer.{kept_noted, adds_noted}
+use Rattle.xa_room.proofs.room.Room.hangup.Goals as goal
+
+pub invariant_of-self : goal.invariant_of-self
+invariant_of-self g c =
+    let m = g.M.Manages in
+    let room = c.self.inside in
+    let acts = subst (λ (r : Reply). Acts m.stands m.trusts m.told m.has_called m.failures room.manager (Hangup c.args.session) r c.hangup.new.self) (sym c.done.ensures) c.hangup.ensures.acts in
+    kept_noted m.stands m.trusts m.told m.has_called m.failures m.sessions g.S.Start.start g.S.Start.base room.manager c.hangup.new.self
+    room.history.items _ _ _ _ (Hangup c.args.session) _ _
+    c.self.invariant acts (ap (λ (r : Reply). is_memory r.detail) c.done.ensures) (ap (λ (r : Reply). r.place) c.done.ensures) tt c.outcome.ensures refl c.note.ensures.entries
+    (omega (arith, c.self.invariant.reserved, c.hangup.ensures.sessions (sym c.if-not-is_connected.ensures), c.note.ensures.capacity))
+
+pub returns : goal.returns
+returns g c =
+    let m = g.M.Manages in
+    let room = c.self.inside in
+    let acts = subst (λ (r : Reply). Acts m.stands m.trusts m.told m.has_called m.failures room.manager (Hangup c.args.session) r c.hangup.new.self) (sym c.done.ensures) c.hangup.ensures.acts in
+    let old : Told g.row.M.Denot = record { now = room.manager; entries = room.history.items } in
+    let new : Told g.row.M.Denot = record { now = c.hangup.new.self; entries = c.note.new.history.items } in
+    subst (λ (o : Told g.row.M.Denot). (m.has_session o.now c.args.session ≡ true) × Adds m.stands m.trusts m.told m.has_called m.failures o new (Hangup c.args.session) c.note.result.reply c.note.result) c.self.view_is (
+      sym c.if-not-is_connected.ensures,
+      adds_noted m.stands m.trusts m.told m.has_called m.failures old new
+          _ (Hangup c.args.session) _ _ c.note.result
+          refl c.note.ensures.entries c.note.ensures.receipt c.outcome.ensures
+          acts (ap (λ (r : Reply). is_memory r.detail) c.done.ensures) (ap (λ (r : Reply). r.place) c.done.ensures),
+    )

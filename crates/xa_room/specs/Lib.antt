@@ -1,0 +1,10 @@
+pub mod Manages
+pub mod Book
+pub mod Told
+pub mod Kept
+pub mod Promises
+pub mod Share
+pub mod Audit
+pub mod Marks
+pub mod Spare
+pub mod Door

@@ -1,0 +1,113 @@
+ghost use Rattle.std.specs.Prelude.{◌≡◌, ℕ, ◌-◌, ◌<◌, ◌≤◌, ◌==◌, ◌⊎◌, [], ◌∷◌, length, IfOk, IfSome, Err, Some, None, List, sum_by, slice_get, true, false};
+ghost use Rattle.xa_room.specs.Audit.{Audits, IsMisplaced, IsEntry, Judges};
+ghost use Rattle.xa_room.specs.Marks.{Marks};
+
+use crate::book::{Entry, Receipt};
+use crate::comparing::is_receipt_of;
+use crate::manages::Manages;
+use crate::room::Room;
+use crate::share::Share;
+use crate::start::Start;
+use std::alloc::{AllocError, Global};
+use std::sync::ledger::Ledger;
+
+/// What an audit finds at fault first.
+#[derive(Clone, Copy, Debug, PartialEq, Eq)]
+pub enum AuditFault {
+    /// The shares' counts don't add up to the number of entries.
+    Count,
+    /// The place of the receipt of this index is 0 or above the last, or a receipt before it has it.
+    Place(usize),
+    /// The receipt of this index isn't the entry at its place.
+    Differs(usize),
+    /// There was no memory for the audit.
+    Memory,
+}
+
+/// Whether the receipts are entries of the room, each of another one, and the shares count them all.
+pub fn audit<M: Manages, S: Start, L: Ledger>(
+    alloc: Global,
+    room: &Room<M, S>,
+    receipts: &[Receipt],
+    shares: &[Share<L>],
+) -> Result<(), AuditFault>
+    ensures { (result ≡ Err AuditFault.Memory) ⊎ Audits room.now.entries receipts.now (sum_by (λ s. s.count) shares.now) result }
+{
+    let entries = room.entries();
+    if !adds_up(shares, entries.len()) {
+        return Err(AuditFault::Count);
+    }
+    judge(alloc, entries, receipts)
+}
+
+// Whether the counts add up to this.
+fn adds_up<L: Ledger>(shares: &[Share<L>], wanted: usize) -> bool
+    ensures { result ≡ (sum_by (λ s. s.count) shares.now == wanted) }
+{
+    let mut total: u64 = 0;
+    for share in shares {
+        let Some(more) = total.checked_add(share.count()) else {
+            return false;
+        };
+        total = more;
+    }
+    total == wanted as u64
+}
+
+fn judge(alloc: Global, entries: &[Entry], receipts: &[Receipt]) -> Result<(), AuditFault>
+    ensures { (result ≡ Err AuditFault.Memory) ⊎ Judges entries.now [] 0 receipts.now result }
+{
+    let Ok(mut met) = marks(alloc, entries.len()) else {
+        return Err(AuditFault::Memory);
+    };
+    for i in 0..receipts.len() {
+        match judge_one(entries, &mut met, &receipts[i], i) {
+            Some(fault) => return Err(fault),
+            None => {}
+        }
+    }
+    Ok(())
+}
+
+// The fault of one receipt, and the mark of its place.
+fn judge_one(
+    entries: &[Entry],
+    met: &mut Vec<bool>,
+    receipt: &Receipt,
+    i: usize,
+) -> Option<AuditFault>
+    requires { length met.old.items ≡ length entries.now }
+    ensures len { length met.new.items ≡ length entries.now }
+    ensures none { result ≡ None → (places : List ℕ) → Marks met.old.items places
+        → Marks met.new.items (receipt.now.place ∷ places) × ((IsMisplaced entries.now places receipt.now → ⊥) × IsEntry entries.now receipt.now) }
+    ensures some { IfSome result (λ f. (places : List ℕ) → Marks met.old.items places
+        → (IsMisplaced entries.now places receipt.now × (f ≡ AuditFault.Place i))
+        ⊎ (((IsMisplaced entries.now places receipt.now → ⊥) × (IsEntry entries.now receipt.now → ⊥)) × (f ≡ AuditFault.Differs i))) }
+{
+    if is_misplaced(entries, met.as_slice(), receipt.place) {
+        return Some(AuditFault::Place(i));
+    }
+    let at = (receipt.place - 1) as usize;
+    if !is_receipt_of(receipt, &entries[at]) {
+        return Some(AuditFault::Differs(i));
+    }
+    met[at] = true;
+    None
+}
+
+fn marks(alloc: Global, count: usize) -> Result<Vec<bool>, AllocError>
+    ensures { IfOk result (λ v. (length v.items ≡ count) × Marks v.items []) }
+{
+    vec![in alloc; false; count]
+}
+
+fn is_misplaced(entries: &[Entry], met: &[bool], place: u64) -> bool
+    requires { length met.now ≡ length entries.now }
+    ensures yes { result ≡ true → (place ≡ 0) ⊎ ((length entries.now < place) ⊎ (slice_get met.now (place - 1) ≡ Some true)) }
+    ensures no { result ≡ false → (0 < place) × (place ≤ length entries.now) × (slice_get met.now (place - 1) ≡ Some false) }
+{
+    if place == 0 || place > entries.len() as u64 {
+        return true;
+    }
+    met[(place - 1) as usize]
+}

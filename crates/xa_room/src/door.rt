@@ -1,0 +1,25 @@
+ghost use Rattle.std.specs.Prelude.{◌≡◌};
+
+use crate::manages::Manages;
+use crate::room::Room;
+use crate::start::Start;
+use xa_desk::Door;
+use xa_frame::{Reply, Request};
+
+/// A connection's requests go to the room, and its hang-up. The receipts are let go: the entries stay.
+impl<M: Manages, S: Start> Door for Room<M, S> {
+    ghost use Rattle.xa_room.specs.Door.{Called, Left};
+
+    ghost called = { Called M.stands M.trusts M.told M.has_called M.failures };
+
+    ghost left = { Left M.has_session M.stands M.trusts M.told M.has_called M.failures };
+
+    fn call(&mut self, session: u64, request: Request) -> Reply {
+        let (reply, _receipt) = self.call(session, request);
+        reply
+    }
+
+    fn hangup(&mut self, session: u64) {
+        let _receipt = self.hangup(session);
+    }
+}

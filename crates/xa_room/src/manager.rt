@@ -1,0 +1,55 @@
+use crate::manages::Manages;
+use xa_assoc::ConnectFault;
+use xa_disk::Disk;
+use xa_frame::{Reply, Request};
+use xa_manager::Manager;
+use xa_model::Outcome;
+
+/// The manager over a log on two disks. Its counts of failures are those of the two.
+impl<D: Disk> Manages for Manager<D> {
+    ghost use Rattle.xa_manager.specs.Answered.{HasCalled};
+    ghost use Rattle.xa_manager.specs.Connected.{connected_to};
+    ghost use Rattle.xa_manager.specs.Counted.{counted_by};
+    ghost use Rattle.xa_manager.specs.LogStands.{Trusts};
+    ghost use Rattle.xa_manager.specs.Managed.{ManagerStandsFor};
+
+    ghost stands = { ManagerStandsFor D.honest D.tears D.seen D.may_leave };
+
+    ghost trusts = { Trusts D.honest D.tears };
+
+    ghost told = { λ m. m.outcome };
+
+    ghost has_called = { λ outcome old new. HasCalled D.honest D.tears D.failures D.counts outcome old.log new.log };
+
+    ghost failures = { λ m. counted_by D.failures m.log };
+
+    ghost has_session = { λ m n. (connected_to m).has n };
+
+    ghost sessions = { λ m. (connected_to m).count };
+
+    #[tactic(auto, using(crate::proofs::Managing::acted))]
+    fn connect(&mut self) -> Result<u64, ConnectFault> {
+        self.connect()
+    }
+
+    fn call(&mut self, session: u64, request: Request) -> Reply {
+        self.call(session, request)
+    }
+
+    #[tactic(auto, using(crate::proofs::Managing::acted))]
+    fn hangup(&mut self, session: u64) {
+        self.hangup(session);
+    }
+
+    fn outcome(&self) -> Outcome {
+        self.outcome()
+    }
+
+    fn is_connected(&self, session: u64) -> bool {
+        self.is_connected(session)
+    }
+
+    fn connected(&self) -> u64 {
+        self.connected()
+    }
+}

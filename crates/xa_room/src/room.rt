@@ -1,0 +1,180 @@
+ghost use Rattle.std.specs.Prelude.{◌≡◌, ℕ, ◌+◌, [], IfOk, Err, MatchOption, true, false};
+ghost use Rattle.xa_assoc.specs.Refusals.{is_memory};
+ghost use Rattle.xa_frame.specs.Limits.{IsRequest, IsReply};
+ghost use Rattle.xa_manager.specs.Answered.{connect_reply, wanted_memory};
+ghost use Rattle.xa_model.specs.State.{State};
+ghost use Rattle.xa_model.specs.Events.{HaveHappened};
+ghost use Rattle.xa_room.specs.Book.{AreNumbered, placed, plain_entries};
+ghost use Rattle.xa_room.specs.Kept.{IsLegal, IsCounted, Adds, Leaves};
+ghost use Rattle.xa_room.specs.Promises.{Promises};
+
+use crate::book::{Entry, Receipt};
+use crate::copies::{hold, two_copies};
+use crate::manages::Manages;
+use crate::notes::{make_room, note};
+use crate::replies::{done, is_memory, no_memory, placed, reply_to};
+use crate::spare::Spare;
+use crate::start::Start;
+use std::alloc::{AllocError, Global};
+use std::marker::{Model, PhantomData};
+use xa_assoc::ConnectFault;
+use xa_frame::{Reply, Request};
+use xa_manager::reached_promises;
+use xa_model::Event;
+
+/// A manager with the history of all that was asked of it. To a contract it is the manager as it is now, and the entries.
+///
+/// Whichever state the manager stood for, of those that `S` picks, the entries are a legal history from there to a state that
+/// the manager stands for now.
+#[derive(Drop)]
+pub struct Room<M: Manages, S: Start> {
+    manager: M,
+    history: Vec<Entry>,
+    alloc: Global,
+    /// For the copies of a reply that the history and the receipt take.
+    kept: Spare,
+    given: Spare,
+    of: PhantomData<S>,
+}
+
+impl<M: Manages, S: Start> Model for Room<M, S> {
+    ghost use Rattle.std.specs.Prelude.{vec_capacity};
+    ghost use Rattle.xa_room.specs.Kept.{Kept};
+    ghost use Rattle.xa_room.specs.Told.{Told};
+
+    ghost Value = { Told M };
+
+    ghost view = { λ r. record { now = r.manager; entries = r.history.items } };
+
+    ghost invariant = { λ r. Kept M.stands M.trusts M.failures M.sessions S.start S.base r.manager r.history.items (vec_capacity r.history) };
+}
+
+impl<M: Manages, S: Start> Room<M, S> {
+    /// A room with an empty history. Without memory for the hang-ups of the sessions that are connected the manager is gone.
+    pub fn new(alloc: Global, manager: M) -> Result<Room<M, S>, AllocError>
+    where
+        M: Drop,
+        requires start { (s : State) → S.start s → M.stands manager s }
+        requires base { M.failures manager ≡ S.base }
+        ensures { IfOk result (λ r. r ≡ record { now = manager; entries = [] }) }
+    {
+        let mut history = Vec::new(alloc);
+        history.reserve(manager.connected() as usize)?;
+        Ok(Room {
+            manager,
+            history,
+            alloc,
+            kept: Spare::new(alloc),
+            given: Spare::new(alloc),
+            of: PhantomData,
+        })
+    }
+
+    /// Answers a request of a session. The reply has its place, and is the receipt's, which is the new entry's; or memory was
+    /// wanted, and there is neither.
+    pub fn call(&mut self, session: u64, request: Request) -> (Reply, Option<Receipt>)
+        requires { IsRequest request }
+        ensures recorded { MatchOption result.1
+            ((result.0 ≡ wanted_memory (Event.Call session request)) × Leaves M.stands self.old self.new)
+            (λ r. (r.reply ≡ result.0) × Adds M.stands M.trusts M.told M.has_called M.failures self.old self.new (Event.Call session request) r.reply r) }
+        ensures limits { IsReply result.0 }
+    {
+        hold(&request);
+        let count = self.manager.connected() as usize + 1;
+        if !make_room(&mut self.history, count) || !self.kept.fill() || !self.given.fill() {
+            return (no_memory(&request), None);
+        }
+        let Some((first, second)) = two_copies(self.alloc, &request) else {
+            return (no_memory(&request), None);
+        };
+        let reply = self.manager.call(session, request);
+        if is_memory(&reply) {
+            return (reply, None);
+        }
+        let kept = self.kept.copied(self.alloc, &reply);
+        let given = self.given.copied(self.alloc, &reply);
+        let receipt = note(
+            &mut self.history,
+            Event::Call(session, first),
+            self.manager.outcome(),
+            kept,
+            Event::Call(session, second),
+            given,
+        );
+        (placed(reply, receipt.place), Some(receipt))
+    }
+
+    /// Connects a session, and makes room for its hang-up.
+    pub fn connect(&mut self) -> (Result<u64, ConnectFault>, Option<Receipt>)
+        ensures { MatchOption result.1
+            ((result.0 ≡ Err ConnectFault.Memory) × Leaves M.stands self.old self.new)
+            (λ r. (r.reply ≡ placed r.place (connect_reply result.0)) × Adds M.stands M.trusts M.told M.has_called M.failures self.old self.new Event.Connect r.reply r) }
+    {
+        if !make_room(&mut self.history, self.manager.connected() as usize + 2) {
+            return (Err(ConnectFault::Memory), None);
+        }
+        let session = self.manager.connect();
+        if found_none(&session) {
+            return (session, None);
+        }
+        let receipt = note(
+            &mut self.history,
+            Event::Connect,
+            self.manager.outcome(),
+            reply_to(session),
+            Event::Connect,
+            reply_to(session),
+        );
+        (session, Some(receipt))
+    }
+
+    /// Hangs a session up, if it is connected. Takes no memory.
+    pub fn hangup(&mut self, session: u64) -> Option<Receipt>
+        ensures { MatchOption result
+            ((M.has_session self.old.now session ≡ false) × Leaves M.stands self.old self.new)
+            (λ r. (M.has_session self.old.now session ≡ true) × Adds M.stands M.trusts M.told M.has_called M.failures self.old self.new (Event.Hangup session) r.reply r) }
+    {
+        if !self.manager.is_connected(session) {
+            return None;
+        }
+        self.manager.hangup(session);
+        Some(note(
+            &mut self.history,
+            Event::Hangup(session),
+            self.manager.outcome(),
+            done(),
+            Event::Hangup(session),
+            done(),
+        ))
+    }
+
+    /// The entries so far, numbered from 1: a legal history, which tells of no more failures of the device than were counted.
+    pub fn entries(&self) -> &[Entry]
+        ensures entries { result.now ≡ self.now.entries }
+        ensures legal { IsLegal M.stands M.trusts S.start self.now.now self.now.entries }
+        ensures counted { IsCounted M.trusts S.start S.base (M.failures self.now.now) self.now.entries }
+        ensures numbered { AreNumbered 0 self.now.entries }
+        ensures happened { HaveHappened (plain_entries self.now.entries) }
+    {
+        &self.history
+    }
+
+    /// The committed branches read what they read as if each had been executed alone, in the order of timestamps; and what was
+    /// answered as prepared is listed by recovery until its completion is asked for. It does nothing.
+    pub fn promises(&self)
+        ensures { Promises M.stands M.trusts S.start self.now.now self.now.entries }
+    {
+        reached_promises();
+        let _entries = self.entries();
+    }
+}
+
+fn found_none(connected: &Result<u64, ConnectFault>) -> bool
+    ensures value { result ≡ is_memory (connect_reply connected.now).detail }
+    ensures memory { result ≡ true → connected.now ≡ Err ConnectFault.Memory }
+{
+    match connected {
+        Ok(_) | Err(ConnectFault::Full) => false,
+        Err(ConnectFault::Memory) => true,
+    }
+}

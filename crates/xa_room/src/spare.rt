@@ -1,0 +1,100 @@
+ghost use Rattle.std.specs.Prelude.{◌≡◌, ℕ, ◌≤◌, [], length, true, vec_capacity};
+ghost use Rattle.xa_frame.specs.Limits.{IsReply};
+ghost use Rattle.xa_room.specs.Spare.{HasRoom};
+
+use std::alloc::{AllocError, Global};
+use std::mem;
+use xa_codes::Bytes;
+use xa_frame::{Body, Reply, Xids};
+use xa_xid::Xid;
+
+/// The longest value that a reply carries.
+const LONGEST: usize = 1024;
+
+/// The most XIDs that a reply carries.
+const MOST: usize = 256;
+
+/// Room for a copy of a reply. It is made before a call acts and stays, since the copy is made of memory of its own length
+/// where there is some: so what keeps the copies holds no more than they are long, and no call makes this room twice.
+#[derive(Drop)]
+pub(crate) struct Spare {
+    pub(crate) value: Vec<u8>,
+    pub(crate) list: Vec<Xid>,
+}
+
+impl Spare {
+    /// Without room. Takes no memory.
+    pub(crate) fn new(alloc: Global) -> Spare {
+        Spare {
+            value: Vec::new(alloc),
+            list: Vec::new(alloc),
+        }
+    }
+
+    /// Makes the room that was used, if any was. Whether there was memory for it.
+    pub(crate) fn fill(&mut self) -> bool
+        ensures { result ≡ true → HasRoom self.new }
+    {
+        self.value.clear();
+        self.list.clear();
+        self.value.reserve(LONGEST).is_ok() && self.list.reserve(MOST).is_ok()
+    }
+
+    /// A copy of a reply.
+    pub(crate) fn copied(&mut self, alloc: Global, reply: &Reply) -> Reply
+        requires room { HasRoom self.old }
+        requires limits { IsReply reply.now }
+        ensures { result ≡ reply.now }
+    {
+        let body = match &reply.body {
+            Body::Nothing => Body::Nothing,
+            Body::Number(number) => Body::Number(*number),
+            Body::Value(value) => Body::Value(self.copied_value(alloc, value)),
+            Body::Absent => Body::Absent,
+            Body::Xids(xids) => Body::Xids(self.copied_xids(alloc, xids)),
+        };
+        Reply {
+            code: reply.code,
+            detail: reply.detail,
+            place: reply.place,
+            body,
+        }
+    }
+
+    fn copied_value(&mut self, alloc: Global, value: &Bytes) -> Bytes
+        requires room { HasRoom self.old }
+        requires short { length value.now ≤ 1024 }
+        ensures { result ≡ value.now }
+    {
+        if let Ok(copy) = value.copied(alloc) {
+            return copy;
+        }
+        let mut bytes = mem::replace(&mut self.value, Vec::new(alloc));
+        let _ = bytes.extend_from_slice(value.as_slice());
+        Bytes::new(bytes)
+    }
+
+    fn copied_xids(&mut self, alloc: Global, xids: &Xids) -> Xids
+        requires room { HasRoom self.old }
+        requires few { length xids.now ≤ 256 }
+        ensures { result ≡ xids.now }
+    {
+        let mut list = match Vec::with_capacity(alloc, xids.as_slice().len()) {
+            Ok(list) => list,
+            Err(_) => mem::replace(&mut self.list, Vec::new(alloc)),
+        };
+        copy_into(&mut list, xids.as_slice());
+        Xids::new(list)
+    }
+}
+
+// Copies XIDs into a list that has room for them.
+fn copy_into(list: &mut Vec<Xid>, xids: &[Xid])
+    requires empty { list.old.items ≡ [] }
+    requires room { length xids.now ≤ vec_capacity list.old }
+    ensures { list.new.items ≡ xids.now }
+{
+    for xid in xids {
+        list.push_reserved(xid.copied());
+    }
+}
