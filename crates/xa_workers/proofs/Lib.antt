@@ -1,0 +1,3 @@
+pub mod Conversing
+pub mod Balancing
+pub mod Sums

@@ -1,0 +1,22 @@
+use Rattle.xa_workers.specs.Reports.{Balances}
+use Rattle.xa_workers.proofs.Balancing.{balances_same, balances_twice, calls_balance, connects_balance, hangs_up_balances}
+use Rattle.xa_workers.proofs.Conversing.{answers_keep}
+use Rattle.xa_workers.proofs.work.serve_next.Goals as goal
+
+pub returns : goal.returns
+returns g c =
+    let first = c.args.seat.now in
+    let second = c.connect.new.self in
+    let served = c.serve-served.ensures in
+    let third = served.0 in
+    let last = c.serve-served.new.door in
+    let talks = served.1 in
+    let connected = connects_balance first.report c.connect.result second.report c.connect.ensures.report in
+    let answered =
+    answers_keep _ (λ a b. Balances a.report b.report) (λ a. balances_same a.report)
+    (λ a b c. balances_twice a.report b.report c.report) (λ a q r b h. calls_balance _ a.report q r b.report h.0)
+    second talks.contents talks.replies third talks.answered
+    in
+    let left = hangs_up_balances _ third.report last.report served.2 in
+    let before = balances_twice first.report second.report third.report connected answered in
+    balances_twice first.report third.report last.report before left

@@ -1,0 +1,26 @@
+ghost use Rattle.std.specs.Prelude.{◌≡◌, ◌+◌, ◌<◌, ◌^◌, vec_len};
+ghost use Rattle.xa_workers.specs.Reports.{Keeps, KeepsAll};
+
+use xa_room::Receipt;
+
+/// Keeps a receipt behind the others, or counts it where there is no memory.
+pub(crate) fn keep(receipts: &mut Vec<Receipt>, dropped: &mut u64, receipt: Receipt)
+    requires { vec_len receipts.old + dropped.old + 1 < 2 ^ 64 }
+    ensures { Keeps receipts.old.items receipts.new.items dropped.old dropped.new receipt }
+{
+    if receipts.push(receipt).is_err() {
+        *dropped += 1;
+    }
+}
+
+/// Appends the others, or says how many there are where there is no memory.
+pub(crate) fn keep_all(receipts: &mut Vec<Receipt>, others: Vec<Receipt>) -> u64
+    ensures kept { KeepsAll receipts.old.items receipts.new.items others.items result }
+    ensures count { vec_len receipts.new + result ≡ vec_len receipts.old + vec_len others }
+{
+    let mut others = others;
+    match receipts.append(&mut others) {
+        Ok(()) => 0,
+        Err(_) => others.len() as u64,
+    }
+}

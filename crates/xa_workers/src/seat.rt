@@ -1,0 +1,88 @@
+use crate::gate::Gate;
+use crate::report::Report;
+use std::alloc::Global;
+use std::sync::Wait;
+use std::sync::ledger::Ledger;
+use xa_assoc::ConnectFault;
+use xa_desk::Door;
+use xa_frame::{Reply, Request};
+use xa_room::{Desk, Manages, Share, Start};
+
+/// A worker's place at a desk: a door whose calls pass a gate and are the desk's, with a report of what was recorded.
+pub struct Seat<'a, M: Manages, S: Start, L: Ledger, G, R> {
+    rt: &'a R,
+    desk: &'a Desk<M, S, L>,
+    gate: &'a G,
+    pub report: Report<L>,
+    /// How many calls of the session there were.
+    pub calls: u64,
+}
+
+impl<'a, M: Manages, S: Start, L: Ledger, G: Gate, R: Wait> Seat<'a, M, S, L, G, R> {
+    ghost use Rattle.std.specs.Prelude.{◌≡◌, []};
+    ghost use Rattle.xa_workers.specs.Reports.{Connects};
+
+    /// A place where nothing was recorded.
+    pub fn new(
+        alloc: Global,
+        rt: &'a R,
+        desk: &'a Desk<M, S, L>,
+        gate: &'a G,
+        share: Share<L>,
+    ) -> Seat<'a, M, S, L, G, R>
+        ensures report { (result.report.share ≡ share) × (result.report.receipts.items ≡ []) × (result.report.dropped ≡ 0) }
+        ensures calls { result.calls ≡ 0 }
+    {
+        Seat {
+            rt,
+            desk,
+            gate,
+            report: Report::new(alloc, share),
+            calls: 0,
+        }
+    }
+
+    /// Connects the next session, whose calls are counted from 1.
+    pub fn connect(&mut self) -> Result<u64, ConnectFault>
+        ensures report { Connects self.old.report result self.new.report }
+        ensures calls { self.new.calls ≡ 0 }
+    {
+        self.calls = 0;
+        self.report.connect(self.rt, self.desk)
+    }
+
+    /// What was recorded from here.
+    pub fn into_report(self) -> Report<L>
+        ensures { result ≡ self.entry.report }
+    {
+        let Seat {
+            rt: _,
+            desk: _,
+            gate: _,
+            report,
+            calls: _,
+        } = self;
+        report
+    }
+}
+
+impl<M: Manages, S: Start, L: Ledger, G: Gate, R: Wait> Door for Seat<'_, M, S, L, G, R> {
+    ghost use Rattle.xa_workers.specs.Reports.{Calls, HangsUp, CountsOn};
+
+    ghost called = { λ session a request reply b. Calls session a.report request reply b.report × CountsOn a.calls b.calls };
+
+    ghost left = { λ session a b. HangsUp session a.report b.report };
+
+    fn call(&mut self, session: u64, request: Request) -> Reply {
+        self.calls = self.calls.saturating_add(1);
+        let number = self.calls;
+        self.gate.enter(session, number);
+        let reply = self.report.call(self.rt, self.desk, session, request);
+        self.gate.leave(session, number);
+        reply
+    }
+
+    fn hangup(&mut self, session: u64) {
+        self.report.hangup(self.rt, self.desk, session);
+    }
+}

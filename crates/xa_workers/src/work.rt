@@ -1,0 +1,61 @@
+ghost use Rattle.std.specs.Prelude.{◌≡◌, ◌+◌};
+ghost use Rattle.xa_workers.specs.Reports.{told, Balances};
+
+use crate::gate::Gate;
+use crate::numbers::{Numbers, take_next};
+use crate::report::Report;
+use crate::seat::Seat;
+use std::alloc::Global;
+use std::io::BufReader;
+use std::net::TcpListener;
+use std::sync::ledger::Ledger;
+use std::sync::{Mutex, Wait};
+use xa_desk::serve;
+use xa_room::{Desk, Manages, Share, Start};
+
+/// Serves a connection for each number that it takes, until none is left.
+pub(crate) fn work<M: Manages, S: Start, L: Ledger, G: Gate, R: Wait>(
+    rt: &R,
+    alloc: Global,
+    listener: &TcpListener,
+    desk: &Desk<M, S, L>,
+    gate: &G,
+    numbers: &Mutex<Numbers>,
+    connections: u64,
+    share: Share<L>,
+) -> Report<L>
+    ensures parts { result.share.parts ≡ share.parts }
+    ensures count { result.share.count ≡ share.count + told result }
+{
+    let mut seat = Seat::new(alloc, rt, desk, gate, share);
+    for _ in 0..connections {
+        if !take_next(rt, numbers) {
+            break;
+        }
+        serve_next(alloc, listener, &mut seat);
+    }
+    seat.into_report()
+}
+
+// Accepts a connection, and serves a session on it. Where the accept fails, or there is no memory to read by, or no session
+// is connected, that was all.
+fn serve_next<M: Manages, S: Start, L: Ledger, G: Gate, R: Wait>(
+    alloc: Global,
+    listener: &TcpListener,
+    seat: &mut Seat<'_, M, S, L, G, R>,
+)
+    ensures { Balances seat.old.report seat.new.report }
+{
+    let Ok((stream, _)) = listener.accept() else {
+        return;
+    };
+    // a reply is written whole, so it need not wait for more
+    let _ = stream.set_nodelay(true);
+    let Ok(mut reader) = BufReader::new(alloc, &stream) else {
+        return;
+    };
+    let Ok(session) = seat.connect() else {
+        return;
+    };
+    let _served = serve(alloc, seat, &mut reader, &mut &stream, session);
+}
