@@ -1,80 +1,55 @@
 ghost use Rattle.std.specs.IoError.{error_kind};
-ghost use Rattle.std.specs.Prelude.{◌≡◌, ◌≢◌, ◌⊎◌, IfOk, IsErrOf, OnErr, OnOk};
+ghost use Rattle.std.specs.Prelude.{◌≡◌, ◌≢◌, ◌⊎◌, IfOk, IsErrOf, OnErr, OnOk, false, true};
 ghost use Rattle.std.specs.Process.{exit_status};
 ghost use Rattle.xa_manager.specs.Opening.{IsBadSetting};
 
-use clap::{Arg, ArgAction, Command, Error};
+use crate::disks::Opens;
+use crate::serving::{ServeFault, Service};
+use crate::talking::Server;
+use crate::words::{Asked, read_words};
+use clap::Error;
 use std::alloc::{AllocError, Global};
 use std::env;
+use std::fmt::Display;
 use std::io::{self, BufWriter, ErrorKind};
+use std::net::{Net, TcpStream};
 use std::process::ExitCode;
 use std::rt::Env;
 use xa_codes::Bytes;
+use xa_log::OpenFault;
 use xa_manager::Settings;
 use xa_play::{PlayFault, play_run};
+use xa_scan::{ScanFault, scan_run};
+use xa_talk::{TalkFault, talk_run};
 
-/// What a command line asks for.
+/// What a command line came to: a status, or a server that is to run.
 #[derive(Debug, Drop)]
-pub enum Asked<'a> {
-    Play {
-        name: &'a str,
-        /// How many bytes each of the log's two files may have.
-        log_bytes: u64,
-    },
+pub enum Ran<'a> {
+    Ended(ExitCode),
+    Serves(Service<'a>),
 }
 
-/// What the words of a command line ask for, the program's name first.
-pub fn read_words<'a>(alloc: Global, words: &'a [String]) -> Result<Asked<'a>, Error> {
-    let name = Arg::new(alloc, "name")
-        .long("name")
-        .value_name("NAME")
-        .help("The resource manager's name, as an open gives it")
-        .action(ArgAction::Set)
-        .default_value("xarm");
-    let log_bytes = Arg::new(alloc, "log-bytes")
-        .long("log-bytes")
-        .value_name("N")
-        .help("How many bytes each of the log's two files may have: 64 to 1073741824")
-        .action(ArgAction::Set)
-        .default_value("1073741824");
-    let play = Command::new(alloc, "play")
-        .about("Runs a script of calls from standard input and prints the replies")
-        .arg(name)?
-        .arg(log_bytes)?;
-    let command = Command::new(alloc, "xarm")
-        .about("An XA resource manager")
-        .subcommand_required(true)
-        .subcommand(play)?;
-    let matches = command.try_get_matches_from(words)?;
-    let (name, log_bytes) = match matches.subcommand() {
-        Some((_, play)) => (play.get_str("name"), play.get_str("log-bytes")),
-        None => (None, None),
+/// Does what the command line says, but that it serves. Status 0: done. 1: a fault, its line on standard error. 2: the command line was
+/// refused.
+pub fn run<'a, R: AllocGlobal + Input + Print + Eprint + Opens + Net<Stream = TcpStream>>(
+    rt: &R,
+    words: &'a io::Result<Vec<String>>,
+) -> Ran<'a> {
+    let words = match words {
+        Ok(words) => words,
+        Err(error) => return Ran::Ended(words_fault(rt, error)),
     };
-    Ok(Asked::Play {
-        name: name.unwrap_or("xarm"),
-        log_bytes: log_bytes_of(log_bytes.unwrap_or("1073741824")),
+    Ran::Ended(match read_words(rt.alloc(), words.as_slice()) {
+        Ok(Asked::Play { name, log_bytes }) => ended(rt, &play(rt, name, log_bytes)),
+        Ok(Asked::Scan { path }) => ended(rt, &scan(rt, path)),
+        Ok(Asked::Serve(service)) => return Ran::Serves(service),
+        Ok(Asked::Talk { port }) => ended(rt, &talk(rt, port)),
+        Err(error) => refused(rt, &error),
     })
 }
 
-/// The number that a word spells. A word that spells none is out of the limits, as 0 is.
-fn log_bytes_of(word: &str) -> u64 {
-    word.parse::<u64>().unwrap_or(0)
-}
-
-/// Does what the command line says. Status 0: done. 1: a fault, its line on standard error. 2: the command line was
-/// refused.
-pub fn run<R: AllocGlobal + Env + Input + Print + Eprint>(rt: &R) -> ExitCode {
-    let words = match words(rt) {
-        Ok(words) => words,
-        Err(error) => return words_fault(rt, &error),
-    };
-    match read_words(rt.alloc(), words.as_slice()) {
-        Ok(Asked::Play { name, log_bytes }) => ended(rt, &play(rt, name, log_bytes)),
-        Err(error) => refused(rt, &error),
-    }
-}
-
-fn words<R: AllocGlobal + Env>(rt: &R) -> io::Result<Vec<String>> {
+/// The words of the command line.
+pub fn words<R: AllocGlobal + Env>(rt: &R) -> io::Result<Vec<String>> {
     Ok(env::args(rt)?.collect(rt.alloc())?)
 }
 
@@ -89,6 +64,32 @@ fn play<R: AllocGlobal + Input + Print>(rt: &R, name: &str, log_bytes: u64) -> R
     };
     let mut reader = rt.reader();
     play_run(rt.alloc(), &mut reader, &mut writer, settings)
+}
+
+/// Prints the records of a log. A file that can't be opened is a device's fault.
+fn scan<R: AllocGlobal + Print + Opens>(rt: &R, path: &str) -> Result<(), ScanFault> {
+    let Ok(mut disk) = rt.open_disk(path) else {
+        return Err(ScanFault::Log(OpenFault::Device));
+    };
+    let Ok(mut writer) = BufWriter::new(rt.alloc(), io::writer(rt)) else {
+        return Err(ScanFault::Memory);
+    };
+    scan_run(rt.alloc(), &mut disk, &mut writer)
+}
+
+/// Sends the calls of standard input to a server. Its replies are printed one by one, so that nothing waits in a buffer.
+fn talk<R: AllocGlobal + Input + Print + Net<Stream = TcpStream>>(
+    rt: &R,
+    port: u16,
+) -> Result<(), TalkFault> {
+    let mut reader = rt.reader();
+    let mut writer = io::writer(rt);
+    talk_run(
+        rt.alloc(),
+        &mut reader,
+        &mut writer,
+        &mut Server { rt, port },
+    )
 }
 
 /// The settings that a command line asks for.
@@ -126,7 +127,7 @@ fn refused<R: Print + Eprint>(rt: &R, error: &Error) -> ExitCode {
 }
 
 /// The status of an end, and its line on standard error where it is a fault.
-fn ended<R: Eprint>(rt: &R, end: &Result<(), PlayFault>) -> ExitCode
+fn ended<R: Eprint, F: Display>(rt: &R, end: &Result<(), F>) -> ExitCode
     ensures done { OnOk end.now (exit_status result ≡ 0) }
     ensures fault { OnErr end.now (exit_status result ≡ 1) }
 {
@@ -136,8 +137,21 @@ fn ended<R: Eprint>(rt: &R, end: &Result<(), PlayFault>) -> ExitCode
     status_of(end)
 }
 
+/// The same of a server. A history whose audit failed is a fault that was told on standard output.
+pub fn served<R: Eprint>(rt: &R, end: &Result<bool, ServeFault>) -> ExitCode
+    ensures whole { IfOk end.now (λ is_whole. is_whole ≡ true → exit_status result ≡ 0) }
+    ensures failed { IfOk end.now (λ is_whole. is_whole ≡ false → exit_status result ≡ 1) }
+    ensures fault { OnErr end.now (exit_status result ≡ 1) }
+{
+    match end {
+        Ok(true) => ExitCode::SUCCESS,
+        Ok(false) => ExitCode::from(1),
+        Err(fault) => ended(rt, &Err(*fault)),
+    }
+}
+
 /// The status of an end.
-fn status_of(end: &Result<(), PlayFault>) -> ExitCode
+fn status_of<F>(end: &Result<(), F>) -> ExitCode
     ensures done { OnOk end.now (exit_status result ≡ 0) }
     ensures fault { OnErr end.now (exit_status result ≡ 1) }
 {

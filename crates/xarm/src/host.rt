@@ -1,9 +1,12 @@
+use crate::disks::Opens;
 use std::alloc::{Allocator, Global};
 use std::cell::RefCell;
 use std::env::FillError;
 use std::fmt::Display;
 use std::io::{self, BufRead, ErrorKind, Lines, Read};
+use std::net::{Net, SocketAddr, TcpListener, TcpStream};
 use std::rt::Env;
+use xa_disk::{DiskFault, MemDisk};
 
 /// A runtime of the tests: the words of a command line, what its reader gives, and whether its output is taken.
 #[derive(Drop)]
@@ -41,10 +44,24 @@ impl Read for Given {
 
 impl BufRead for Given {
     fn fill_buf(&mut self) -> io::Result<&[u8]> {
+        if self.times == 0 {
+            return match self.error {
+                Some(kind) => Err(io::Error::from(kind)),
+                None => Ok(b"".as_slice()),
+            };
+        }
         Ok(self.text)
     }
 
-    fn consume(&mut self, _amount: usize) {}
+    fn consume(&mut self, amount: usize) {
+        if self.times == 0 {
+            return;
+        }
+        self.text = &self.text[amount.min(self.text.len())..];
+        if self.text.is_empty() {
+            self.times = 0;
+        }
+    }
 }
 
 impl Alloc for Host<'_> {
@@ -129,5 +146,33 @@ impl io::Eprint for Host<'_> {
     fn eprintln<D: Display + Drop>(&self, value: D) -> io::Result<()> {
         let text = format!(in self.alloc; "{value}\n")?;
         self.put(&self.errors, text.as_bytes())
+    }
+}
+
+/// Its files are empty, but one that can't be opened.
+impl Opens for Host<'_> {
+    type Disk = MemDisk;
+
+    fn open_disk(&self, path: &str) -> Result<MemDisk, DiskFault> {
+        if path == "closed" {
+            Err(DiskFault)
+        } else {
+            Ok(MemDisk::new(self.alloc))
+        }
+    }
+}
+
+/// Nobody can be reached.
+impl Net for Host<'_> {
+    type Stream = TcpStream;
+
+    type Listener = TcpListener;
+
+    fn bind(&self, _addr: SocketAddr) -> io::Result<TcpListener> {
+        Err(io::Error::from(ErrorKind::AddrInUse))
+    }
+
+    fn connect(&self, _addr: SocketAddr) -> io::Result<TcpStream> {
+        Err(io::Error::from(ErrorKind::ConnectionRefused))
     }
 }

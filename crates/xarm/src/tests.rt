@@ -1,5 +1,6 @@
-use crate::command::{Asked, read_words, run};
+use crate::command::{Ran, run, words as words_of};
 use crate::host::{Given, Host};
+use crate::words::{Asked, read_words};
 use std::alloc::Global;
 use std::cell::RefCell;
 use std::io::ErrorKind;
@@ -53,6 +54,26 @@ fn command_lines_that_are_refused(rt: HostRuntime) -> Result<(), Fail> {
             "error: a value is required for '--name <NAME>' but none was supplied",
         ),
         (
+            "xarm scan",
+            "error: the following required arguments were not provided:\n  <PATH>",
+        ),
+        (
+            "xarm talk --port 0",
+            "error: invalid value '0' for '--port <P>': 0 is not in 1..=65535",
+        ),
+        (
+            "xarm serve --log l --name n --port 65536 --workers 1",
+            "error: invalid value '65536' for '--port <P>': 65536 is not in 1..=65535",
+        ),
+        (
+            "xarm serve --log l --name n --port 1 --workers 65",
+            "error: invalid value '65' for '--workers <N>': 65 is not in 1..=64",
+        ),
+        (
+            "xarm serve --log l --name n --port 1 --workers 1 --connections 1000001",
+            "error: invalid value '1000001' for '--connections <C>': 1000001 is not in 1..=1000000",
+        ),
+        (
             "xarm play --name a --name b",
             "error: the argument '--name <NAME>' cannot be used multiple times",
         ),
@@ -85,12 +106,39 @@ const NAMED: &[&[u8]] = &[b"xarm", b"play", b"--name", &[b'a'; 256]];
 
 const HELP: &[&[u8]] = &[b"xarm", b"play", b"--help"];
 
+const SCAN: &[&[u8]] = &[b"xarm", b"scan", b"log"];
+
+const SCAN_CLOSED: &[&[u8]] = &[b"xarm", b"scan", b"closed"];
+
+const TALK: &[&[u8]] = &[b"xarm", b"talk", b"--port", b"4100"];
+
+const SERVE: &[&[u8]] = &[
+    b"xarm",
+    b"serve",
+    b"--log",
+    b"log",
+    b"--name",
+    b"n",
+    b"--port",
+    b"4100",
+    b"--workers",
+    b"1",
+];
+
+const VERSION: &[&[u8]] = &[b"xarm", b"--version"];
+
 const MISSPELLED: &[&[u8]] = &[b"xarm", b"paly"];
 
 const NO_TEXT: &[&[u8]] = &[b"xarm", b"play", b"\xff"];
 
 const CONNECT: Given = Given {
     text: b"connect\n",
+    times: 1,
+    error: None,
+};
+
+const CALLS: Given = Given {
+    text: b"1 get 6b\nreopen\n",
     times: 1,
     error: None,
 };
@@ -113,7 +161,57 @@ const LONG: Given = Given {
     error: None,
 };
 
-const RUNS: [Run; 9] = [
+const RUNS: [Run; 15] = [
+    // An empty file is no log.
+    Run {
+        words: SCAN,
+        input: CONNECT,
+        takes: true,
+        status: 1,
+        printed: "",
+        errors: "xarm: not a log\n",
+    },
+    Run {
+        words: SCAN_CLOSED,
+        input: CONNECT,
+        takes: true,
+        status: 1,
+        printed: "",
+        errors: "xarm: device fault\n",
+    },
+    // Nobody can be reached.
+    Run {
+        words: TALK,
+        input: CONNECT,
+        takes: true,
+        status: 1,
+        printed: "",
+        errors: "xarm: cannot connect\n",
+    },
+    Run {
+        words: TALK,
+        input: CALLS,
+        takes: true,
+        status: 0,
+        printed: "-6 Nothing\n-5 Frame\n",
+        errors: "",
+    },
+    Run {
+        words: SERVE,
+        input: CONNECT,
+        takes: true,
+        status: 9,
+        printed: "",
+        errors: "",
+    },
+    Run {
+        words: VERSION,
+        input: CONNECT,
+        takes: true,
+        status: 0,
+        printed: "xarm 0.1.0\n",
+        errors: "",
+    },
     Run {
         words: PLAY,
         input: CONNECT,
@@ -200,7 +298,11 @@ fn is_run(alloc: Global, row: &Run) -> bool {
         printed: RefCell::new(Vec::new(alloc)),
         errors: RefCell::new(Vec::new(alloc)),
     };
-    let status = run(&host);
+    let words = words_of(&host);
+    let status = match run(&host, &words) {
+        Ran::Ended(status) => status,
+        Ran::Serves(_) => ExitCode::from(9),
+    };
     let Host {
         alloc: _,
         words: _,

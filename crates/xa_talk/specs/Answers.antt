@@ -1,0 +1,61 @@
+-- What one line is answered, and what it leaves of the script's connections.
+use Rattle.std.specs.Prelude.{ℕ, ℤ, ◌≡◌, ◌+◌, pos, List, nat_lt, Option, Some, None, Result, Ok, Err, MatchBool, MatchOption, MatchResult}
+use Rattle.xa_codes.specs.declared.codes.TheConstants.{XAER_INVAL, XAER_PROTO, XAER_RMERR}
+use Rattle.xa_codes.specs.declared.detail.Detail.{Detail}
+use Rattle.xa_codes.specs.declared.detail.Detail.TheVariants as detail
+use Rattle.xa_frame.specs.declared.body.Body.TheVariants as body
+use Rattle.xa_frame.specs.declared.reply.Reply.{Reply}
+use Rattle.xa_frame.specs.declared.request.Request.{Request}
+use Rattle.xa_script.specs.declared.line.Line.{Line}
+use Rattle.xa_script.specs.declared.line.Line.TheVariants.{Silent, Unknown, Connect, Hangup, Call, Fail, Reopen, Crash}
+use Rattle.xa_talk.specs.declared.fault.TalkFault.{TalkFault}
+use Rattle.xa_talk.specs.Exchanges.{Exchanged}
+use Rattle.xa_talk.specs.Numbers.{connection_at, free_place, place_of, with_at, with_new}
+
+-- a reply that carries nothing
+abbrev pub bare : ℤ → Detail → Reply
+bare code detail = record { code = code; detail = detail; place = 0; body = body.Nothing }
+
+-- the reply to a connect
+abbrev pub numbered : ℕ → Reply
+numbered n = record { code = pos 0; detail = detail.Nothing; place = 0; body = body.Number n }
+
+-- the line isn't in the grammar, or speaks of what only disks in memory have
+abbrev pub refused : Reply
+refused = bare XAER_INVAL detail.Frame
+
+-- the most connections, as a manager has sessions
+abbrev pub most_connections : ℕ
+most_connections = 1024
+
+-- a reply is shown, a fault isn't
+abbrev pub shown : Result Reply TalkFault → Result (Option Reply) TalkFault
+shown (Ok reply) = Ok (Some reply)
+shown (Err fault) = Err fault
+
+-- over connections, with what was sent over one, and what can still be read from it
+module _ {C : Type 0} (sent left : C → Option (List ℕ)) where
+  -- A call of a number that has no connection is answered at once, as a session that isn't connected is. Else its request
+  -- goes over that connection, and what comes back is the reply.
+  abbrev pub CallAnswered : ℕ → Request → Result Reply TalkFault → List (Option C) → List (Option C) → Type 0
+  CallAnswered n request answer places places' =
+      MatchOption (connection_at n places)
+      ((answer ≡ Ok (bare XAER_PROTO detail.Nothing)) × (places' ≡ places))
+      (λ c. (c' : C) × (places' ≡ with_at (place_of n) (Some c') places) × Exchanged request answer (sent c) (sent c') (left c) (left c'))
+
+  -- a connection more, which has the least free number
+  abbrev pub ConnectAnswered : Result Reply TalkFault → List (Option C) → List (Option C) → Type 0
+  ConnectAnswered answer places places' =
+      MatchBool (nat_lt (free_place places) most_connections)
+      (MatchResult answer
+      (λ reply. (c : C) × (reply ≡ numbered (free_place places + 1)) × (places' ≡ with_new c places))
+      (λ fault. Unit {0}))
+      ((answer ≡ Ok (bare XAER_RMERR detail.Limit)) × (places' ≡ places))
+
+  -- What a line is answered, if it is answered anything. Where it fails that is a fault of the connection or of memory.
+  abbrev pub LineAnswered : Line → Result (Option Reply) TalkFault → List (Option C) → List (Option C) → Type 0
+  LineAnswered Silent answer places places' = (answer ≡ Ok None) × (places' ≡ places)
+  LineAnswered Connect answer places places' = (reply : Result Reply TalkFault) × (answer ≡ shown reply) × ConnectAnswered reply places places'
+  LineAnswered (Hangup n) answer places places' = (answer ≡ Ok (Some (bare (pos 0) detail.Nothing))) × (places' ≡ with_at (place_of n) None places)
+  LineAnswered (Call n request) answer places places' = (reply : Result Reply TalkFault) × (answer ≡ shown reply) × CallAnswered n request reply places places'
+  LineAnswered said answer places places' = (answer ≡ Ok (Some refused)) × (places' ≡ places)

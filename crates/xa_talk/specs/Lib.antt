@@ -1,0 +1,4 @@
+pub mod Exchanges
+pub mod Numbers
+pub mod Answers
+pub mod Talks

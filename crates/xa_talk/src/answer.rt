@@ -1,0 +1,118 @@
+//! What one line is answered.
+ghost use Rattle.std.specs.Prelude.{◌≡◌, ◌+◌, pos};
+ghost use Rattle.xa_frame.specs.Limits.{IsRequest};
+ghost use Rattle.xa_script.specs.Lines as lines;
+ghost use Rattle.xa_talk.specs.Answers.{CallAnswered, ConnectAnswered, LineAnswered, bare, numbered, shown};
+
+use crate::connections::{Connections, place_of};
+use crate::dial::Dial;
+use crate::exchanging::exchange;
+use crate::fault::TalkFault;
+use std::alloc::Global;
+use std::io::{Read, Write};
+use xa_codes::{Code, Detail, XA_OK, XAER_INVAL, XAER_PROTO, XAER_RMERR};
+use xa_frame::{Body, Reply, Request};
+use xa_script::Line;
+
+/// The most connections: as many as a manager has sessions.
+const MOST_CONNECTIONS: usize = 1_024;
+
+/// What a line is answered, if it is answered anything.
+pub fn answer<R: Read + Drop, W: Write + Drop, D: Dial<R, W>>(
+    alloc: Global,
+    dial: &mut D,
+    connections: &mut Connections<R, W>,
+    said: Line,
+) -> Result<Option<Reply>, TalkFault>
+    requires { lines.IsWithinLimits said }
+    ensures { LineAnswered (λ c. W.contents c.writer) (λ c. R.remaining c.reader) said result connections.old.places.items connections.new.places.items }
+{
+    match said {
+        Line::Silent => Ok(None),
+        Line::Connect => shown(connect(dial, connections)),
+        Line::Hangup(number) => {
+            connections.close(number);
+            Ok(Some(bare(XA_OK, Detail::Nothing)))
+        }
+        Line::Call(number, request) => shown(call(alloc, connections, number, &request)),
+        Line::Unknown | Line::Fail { .. } | Line::Reopen | Line::Crash => {
+            Ok(Some(bare(XAER_INVAL, Detail::Frame)))
+        }
+    }
+}
+
+/// A reply is shown, a fault isn't.
+fn shown(answer: Result<Reply, TalkFault>) -> Result<Option<Reply>, TalkFault>
+    ensures { result ≡ shown answer }
+{
+    match answer {
+        Ok(reply) => Ok(Some(reply)),
+        Err(fault) => Err(fault),
+    }
+}
+
+/// Opens a connection, unless there are as many as may be.
+fn connect<R: Read + Drop, W: Write + Drop, D: Dial<R, W>>(
+    dial: &mut D,
+    connections: &mut Connections<R, W>,
+) -> Result<Reply, TalkFault>
+    ensures { ConnectAnswered (λ c. W.contents c.writer) (λ c. R.remaining c.reader) result connections.old.places.items connections.new.places.items }
+{
+    let place = connections.free_place();
+    if place >= MOST_CONNECTIONS {
+        return Ok(bare(XAER_RMERR, Detail::Limit));
+    }
+    match dial.dial() {
+        Ok(connection) => {
+            connections.add(connection)?;
+            Ok(numbered(place as u64 + 1))
+        }
+        Err(_) => Err(TalkFault::Connect),
+    }
+}
+
+/// Asks a request over the connection of a number.
+fn call<R: Read + Drop, W: Write + Drop>(
+    alloc: Global,
+    connections: &mut Connections<R, W>,
+    number: u64,
+    request: &Request,
+) -> Result<Reply, TalkFault>
+    requires { IsRequest request.now }
+    ensures { CallAnswered (λ c. W.contents c.writer) (λ c. R.remaining c.reader) number request.now result connections.old.places.items connections.new.places.items }
+{
+    let Some(place) = place_of(number) else {
+        return Ok(bare(XAER_PROTO, Detail::Nothing));
+    };
+    if place >= connections.places.len() {
+        return Ok(bare(XAER_PROTO, Detail::Nothing));
+    }
+    match &mut connections.places[place] {
+        Some(connection) => exchange(alloc, connection, request),
+        None => Ok(bare(XAER_PROTO, Detail::Nothing)),
+    }
+}
+
+/// A reply that carries nothing.
+fn bare(code: Code, detail: Detail) -> Reply
+    ensures { result ≡ bare code detail }
+{
+    Reply {
+        code,
+        detail,
+        place: 0,
+        body: Body::Nothing,
+    }
+}
+
+/// The reply to a connect.
+fn numbered(number: u64) -> Reply
+    ensures { result ≡ numbered number }
+{
+    Reply {
+        code: XA_OK,
+        detail: Detail::Nothing,
+        place: 0,
+        body: Body::Number(number),
+    }
+}

@@ -1,0 +1,13 @@
+use std::io;
+
+/// A connection to a server: what comes from it, and what goes to it. It is closed when it is dropped.
+#[derive(Drop)]
+pub struct Connection<R, W> {
+    pub reader: R,
+    pub writer: W,
+}
+
+/// What opens connections to one server.
+pub trait Dial<R, W> {
+    fn dial(&mut self) -> io::Result<Connection<R, W>>;
+}

@@ -1,0 +1,93 @@
+//! A request goes over a connection, and its reply comes back.
+ghost use Rattle.std.specs.Int.{to_be_bytes, w32};
+ghost use Rattle.std.specs.Io.KnownBytes.{Consumes};
+ghost use Rattle.std.specs.Prelude.{◌≡◌, ◌∷◌, [], IfOk};
+ghost use Rattle.xa_desk.specs.Frames.{frame};
+ghost use Rattle.xa_frame.specs.Limits.{IsRequest};
+ghost use Rattle.xa_talk.specs.Exchanges.{Exchanged, Receives, Sends, request_frame};
+
+use crate::dial::Connection;
+use crate::fault::TalkFault;
+use std::alloc::{AllocError, Global};
+use std::io::{Read, Write};
+use xa_frame::{FrameFault, Reply, Request, decode_reply, encode_request};
+use xa_output::write_text;
+
+/// The longest content of a frame.
+const LONGEST: u32 = 65_535;
+
+/// Sends the frame of a request, by one write where the writer takes it whole, and gives the reply that comes back.
+pub fn exchange<R: Read, W: Write>(
+    alloc: Global,
+    connection: &mut Connection<R, W>,
+    request: &Request,
+) -> Result<Reply, TalkFault>
+    requires { IsRequest request.now }
+    ensures { Exchanged request.now result (W.contents connection.old.writer) (W.contents connection.new.writer) (R.remaining connection.old.reader) (R.remaining connection.new.reader) }
+{
+    send(alloc, &mut connection.writer, request)?;
+    receive(alloc, &mut connection.reader)
+}
+
+/// Writes the frame of a request.
+fn send<W: Write>(alloc: Global, writer: &mut W, request: &Request) -> Result<(), TalkFault>
+    requires { IsRequest request.now }
+    ensures { Sends request.now result (W.contents writer.old) (W.contents writer.new) }
+{
+    let frame = frame_of(alloc, request)?;
+    if write_text(writer, frame.as_slice()) {
+        Ok(())
+    } else {
+        Err(TalkFault::Lost)
+    }
+}
+
+/// A request's content behind its length.
+fn frame_of(alloc: Global, request: &Request) -> Result<Vec<u8>, AllocError>
+    requires { IsRequest request.now }
+    ensures { IfOk result (λ bytes. bytes.items ≡ request_frame request.now) }
+{
+    let content = encode_request(alloc, request)?;
+    let mut bytes = Vec::with_capacity(alloc, 4 + content.len())?;
+    bytes.extend_from_slice(&(content.len() as u32).to_be_bytes())?;
+    bytes.extend_from_slice(content.as_slice())?;
+    Ok(bytes)
+}
+
+/// Reads the frame of a reply.
+fn receive<R: Read>(alloc: Global, reader: &mut R) -> Result<Reply, TalkFault>
+    ensures { Receives result (R.remaining reader.old) (R.remaining reader.new) }
+{
+    let content = read_content(alloc, reader)?;
+    match decode_reply(alloc, content.as_slice()) {
+        Ok(reply) => Ok(reply),
+        Err(FrameFault::Memory) => Err(TalkFault::Memory),
+        Err(_) => Err(TalkFault::NoReply),
+    }
+}
+
+/// Reads the content of a frame.
+fn read_content<R: Read>(alloc: Global, reader: &mut R) -> Result<Vec<u8>, TalkFault>
+    ensures { IfOk result (λ content. Consumes (R.remaining reader.old) (R.remaining reader.new) (frame content.items)) }
+{
+    let mut front = [0u8; 4];
+    if reader.read_exact(&mut front).is_err() {
+        return Err(TalkFault::Lost);
+    }
+    let length = number_of(front[0], front[1], front[2], front[3]);
+    if length > LONGEST {
+        return Err(TalkFault::NoReply);
+    }
+    let mut content = vec![in alloc; 0u8; length as usize]?;
+    match reader.read_exact(content.as_mut_slice()) {
+        Ok(()) => Ok(content),
+        Err(_) => Err(TalkFault::Lost),
+    }
+}
+
+/// The number that four bytes spell.
+fn number_of(a: u8, b: u8, c: u8, d: u8) -> u32
+    ensures { to_be_bytes w32 result ≡ a ∷ b ∷ c ∷ d ∷ [] }
+{
+    u32::from_be_bytes([a, b, c, d])
+}

@@ -1,0 +1,90 @@
+//! A script is read line by line, and each reply is written as soon as it is there.
+ghost use Rattle.std.specs.Io.KnownBytes.{Appends};
+ghost use Rattle.std.specs.IoError.{error_kind};
+ghost use Rattle.std.specs.Prelude.{◌≡◌, ◌≢◌, List, ℕ};
+ghost use Rattle.xa_talk.specs.Talks.{LineTalked, Shows};
+
+use crate::answer::answer;
+use crate::connections::Connections;
+use crate::dial::Dial;
+use crate::fault::TalkFault;
+use std::alloc::Global;
+use std::io::{BufRead, Error, ErrorKind, Read, Write};
+use xa_frame::Reply;
+use xa_output::write_text;
+use xa_script::{read_line, reply_line};
+
+/// Reads a script line by line. Each line is answered, and its reply written and flushed, before the next one is read.
+pub fn talk_run<I: BufRead + Drop, O: Write, R: Read + Drop, W: Write + Drop, D: Dial<R, W>>(
+    alloc: Global,
+    input: &mut I,
+    output: &mut O,
+    dial: &mut D,
+) -> Result<(), TalkFault> {
+    let mut connections = Connections::new(alloc);
+    let mut line = Vec::new(alloc);
+    for _ in 0..u64::MAX {
+        line.clear();
+        match input.read_until(b'\n', &mut line) {
+            Ok(0) => return Ok(()),
+            Ok(_) => {}
+            Err(error) => return Err(read_fault(&error)),
+        }
+        talk_line(
+            alloc,
+            dial,
+            &mut connections,
+            output,
+            without_end(line.as_slice()),
+        )?;
+    }
+    Ok(())
+}
+
+/// Answers one line: its reply is written and flushed.
+fn talk_line<O: Write, R: Read + Drop, W: Write + Drop, D: Dial<R, W>>(
+    alloc: Global,
+    dial: &mut D,
+    connections: &mut Connections<R, W>,
+    output: &mut O,
+    line: &[u8],
+) -> Result<(), TalkFault>
+    ensures { (text : List ℕ) × Appends (O.contents output.old) (O.contents output.new) text
+        × LineTalked (λ c. W.contents c.writer) (λ c. R.remaining c.reader) line.now result text connections.old.places.items connections.new.places.items }
+{
+    let said = read_line(alloc, line)?;
+    let Some(reply) = answer(alloc, dial, connections, said)? else {
+        return Ok(());
+    };
+    write_reply(alloc, output, &reply)
+}
+
+/// Writes the line of a reply, and flushes it.
+fn write_reply<O: Write>(alloc: Global, output: &mut O, reply: &Reply) -> Result<(), TalkFault>
+    ensures { (text : List ℕ) × Appends (O.contents output.old) (O.contents output.new) text × Shows reply.now result text }
+{
+    let text = reply_line(alloc, reply)?;
+    if !write_text(output, text.as_slice()) {
+        return Err(TalkFault::Write);
+    }
+    match output.flush() {
+        Ok(()) => Ok(()),
+        Err(_) => Err(TalkFault::Write),
+    }
+}
+
+/// A line without the line feed that ends it.
+fn without_end(line: &[u8]) -> &[u8] {
+    line.strip_suffix(b"\n".as_slice()).unwrap_or(line)
+}
+
+/// What a reading that failed comes to, by the kind of its error.
+fn read_fault(error: &Error) -> TalkFault
+    ensures memory { error_kind error.now ≡ ErrorKind.OutOfMemory → result ≡ TalkFault.Memory }
+    ensures failed { error_kind error.now ≢ ErrorKind.OutOfMemory → result ≡ TalkFault.Read }
+{
+    match error.kind() {
+        ErrorKind::OutOfMemory => TalkFault::Memory,
+        _ => TalkFault::Read,
+    }
+}
