@@ -15,9 +15,13 @@ mod codes;
 #[cfg(test)]
 mod connections;
 #[cfg(test)]
+mod crews;
+#[cfg(test)]
 mod current_files;
 #[cfg(test)]
 mod disks;
+#[cfg(test)]
+mod examples;
 #[cfg(test)]
 mod folders;
 #[cfg(test)]
@@ -25,17 +29,27 @@ mod frame_limits;
 #[cfg(test)]
 mod frames;
 #[cfg(test)]
+mod heuristics;
+#[cfg(test)]
 mod lines;
 #[cfg(test)]
 mod log_files;
 #[cfg(test)]
 mod log_images;
 #[cfg(test)]
+mod log_lines;
+#[cfg(test)]
 mod log_pairs;
 #[cfg(test)]
 mod logs;
 #[cfg(test)]
 mod managers;
+#[cfg(test)]
+mod one_copy;
+#[cfg(test)]
+mod one_copy_branches;
+#[cfg(test)]
+mod one_copy_scripts;
 #[cfg(test)]
 mod plays;
 #[cfg(test)]
@@ -53,6 +67,8 @@ mod records;
 #[cfg(test)]
 mod recoveries;
 #[cfg(test)]
+mod rooms;
+#[cfg(test)]
 mod rows;
 #[cfg(test)]
 mod scans;
@@ -62,6 +78,8 @@ mod scripted;
 mod sessions;
 #[cfg(test)]
 mod tables;
+#[cfg(test)]
+mod talks;
 #[cfg(test)]
 mod versions;
 #[cfg(test)]

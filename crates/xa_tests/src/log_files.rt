@@ -61,8 +61,8 @@ const BEGUN: [&str; 6] = [
     "1 prepare TMNOFLAGS 1:aa:bb",
 ];
 
-// The two disks once these lines were done behind those, and a crash.
-fn disks_behind(alloc: Global, lines: &[&str]) -> Option<(MemDisk, MemDisk)> {
+/// The two disks once these lines were done behind those that prepare a branch, and a crash.
+pub fn disks_behind(alloc: Global, lines: &[&str]) -> Option<(MemDisk, MemDisk)> {
     let mut manager = open(alloc, MemDisk::new(alloc), MemDisk::new(alloc), MOST).ok()?;
     if !are_done(alloc, &mut manager, &BEGUN) || !are_done(alloc, &mut manager, lines) {
         return None;

@@ -23,14 +23,14 @@ fn opened(alloc: Global) -> Option<Manager<MemDisk>> {
     Manager::open(alloc, MemDisk::new(alloc), MemDisk::new(alloc), settings).ok()
 }
 
-fn manager(alloc: Global) -> Option<Manager<MemDisk>> {
+pub fn manager(alloc: Global) -> Option<Manager<MemDisk>> {
     match opened(alloc) {
         Some(manager) => Some(manager),
         None => opened(alloc),
     }
 }
 
-fn connected(manager: &mut Manager<MemDisk>) -> Option<u64> {
+pub fn connected(manager: &mut Manager<MemDisk>) -> Option<u64> {
     match manager.connect() {
         Ok(number) => Some(number),
         Err(_) => manager.connect().ok(),

@@ -89,8 +89,8 @@ const WORKED: [(&str, &str); 5] = [
     // Flags.
     (
         "1 start TMJOIN|TMRESUME 1:aa:\n1 start TMASYNC 1:aa:\n1 end TMNOFLAGS 1:aa:\n\
-         1 end TMSUCCESS|TMMIGRATE 1:aa:",
-        "-5 Nothing\n-2 Nothing\n-5 Nothing\n-5 Nothing\n",
+         1 end TMSUCCESS|TMMIGRATE 1:aa:\n1 recover TMASYNC 1",
+        "-5 Nothing\n-2 Nothing\n-5 Nothing\n-5 Nothing\n-5 Nothing\n",
     ),
     // An absent key, and the empty value.
     (
