@@ -23,7 +23,8 @@ pub struct FileDisk {
     failures: u64,
     counts: Counts,
     // A sync has failed. The system may have dropped what that one was to write, so a later one that succeeds would
-    // say nothing of it.
+    // say nothing of it. Reads may still give these bytes, and a crash loses them: it stays so until the file is
+    // opened anew.
     unsynced: bool,
     error: Option<io::Error>,
 }

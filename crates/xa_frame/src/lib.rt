@@ -1,5 +1,22 @@
 //! What a session asks for and what it is answered, and the content of a frame that spells it: one spelling for each
 //! value within the limits, and for all other bytes a fault.
+//!
+//! The values:
+//!
+//! - `request`: `Request`, with what each call is given
+//! - `reply`: `Reply`; `body`: `Body`, what a reply carries; `xids`: `Xids`, that contracts see as a list
+//!
+//! Their bytes:
+//!
+//! - `numbers`: the numbers that stand for calls and details; `Request::call`
+//! - `encode`: `encode_request` and `encode_reply`, of values within the limits
+//! - `fields`: what a content is made of, read from the front: numbers, byte strings, XIDs
+//! - `request_decoder`: `decode_request`; `reply_decoder`: `decode_reply`
+//! - `fault`: `FrameFault`, the first fault of a content, read from left to right
+//! - `laws`: `one_request` and `one_reply`, one value and one content; `worked_contents`, worked rows
+//!
+//! A content is what stands in a frame behind its length; that one is `xa_desk`'s. docs/PROTOCOL.md has the format, from
+//! "Frames" on.
 #![tactic(auto)]
 
 mod body;

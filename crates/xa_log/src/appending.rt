@@ -35,7 +35,10 @@ pub(crate) fn put_synced<D: Disk>(disk: &mut D, at: u64, bytes: &[u8]) -> Result
     disk.sync()
 }
 
-// Writes the bytes and syncs. If that fails, writes zeros over the whole range and syncs.
+// Writes the bytes and syncs. If that fails, writes zeros over the whole range and syncs. Clearing the length alone isn't
+// enough: a refused body and its digest would still lie there, and chain again once a later record of the same length is
+// torn behind its length. A disk that syncs no more behind a failed sync, as `FileDisk`, so comes to `Lost` there, and then
+// a rescan fails too: only the files opened anew tell what stands.
 pub(crate) fn put_or_clear<D: Disk>(disk: &mut D, at: u64, bytes: &mut [u8]) -> Appended
     ensures went { D.honest → Went D.tears result at bytes.old (D.seen disk.old) (D.seen disk.new) (D.may_leave disk.new) }
     ensures time { D.honest → Passes (Torn at (length bytes.old)) (D.moment disk.old) (D.moment disk.new) (D.left_since disk.old) (D.left_since disk.new) (D.may_leave disk.old) (D.may_leave disk.new) }
@@ -54,7 +57,8 @@ pub(crate) fn put_or_clear<D: Disk>(disk: &mut D, at: u64, bytes: &mut [u8]) -> 
     }
 }
 
-// Writes a body's record, as `put_or_clear` does, and gives its digest.
+// Writes a body's record, as `put_or_clear` does, and gives its digest. The closing length goes in the same write:
+// an append is one write and one sync, and what stands behind it isn't read as a record.
 pub(crate) fn append_at<D: Disk>(
     disk: &mut D,
     at: u64,

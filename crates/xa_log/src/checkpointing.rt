@@ -17,7 +17,8 @@ use crate::format::Format;
 use crate::record::encode;
 use xa_disk::{Disk, DiskFault};
 
-// The first part: writes the 8 bytes and a length 0, and syncs. A fault is not repaired.
+// The first part: writes the 8 bytes and a length 0, and syncs, so that the older log is gone for good before a byte of the
+// new one is written. A fault is not repaired: the older log may be there still, which comes behind the current one as before.
 pub(crate) fn put_front<D: Disk>(disk: &mut D, format: Format) -> Result<(), DiskFault>
     ensures made { D.honest → OnOk result (D.seen disk.new ≡ opening format ++ drop 12 (D.seen disk.old)) }
     ensures durable { D.honest → OnOk result (Only (D.seen disk.new) (D.may_leave disk.new)) }
@@ -64,7 +65,8 @@ fn put_record<D: Disk>(
 }
 
 // The second part: writes the records from byte 12 on, each in one write, a closing length behind the last, and syncs.
-// Gives the last record's digest. A fault is not repaired: the first length is still 0.
+// Gives the last record's digest. A fault is not repaired: the first length is still 0, and stable, so whatever was written
+// here, the file has no record. The sync makes the records stable before the seal makes them count.
 pub(crate) fn put_records<D: Disk>(
     disk: &mut D,
     format: Format,
@@ -101,7 +103,9 @@ pub(crate) fn put_records<D: Disk>(
     Ok(digest)
 }
 
-// The third part, the seal: writes the first length and syncs; if that fails, writes a length 0 and syncs.
+// The third part, the seal: writes the first length and syncs; if that fails, writes a length 0 and syncs. A torn seal is
+// the right length or, without chance, one whose record doesn't chain. Here a fault is repaired: a seal that may be there can
+// make this file the current one.
 pub(crate) fn put_seal<D: Disk>(disk: &mut D, size: u32) -> Appended
     ensures went { D.honest → Went D.tears result 8 (to_be_bytes w32 size) (D.seen disk.old) (D.seen disk.new) (D.may_leave disk.new) }
     ensures any_moment { D.honest → (most : ℕ) (format : Format) (bodies : List (List ℕ)) → IsReady format bodies (D.seen disk.old)

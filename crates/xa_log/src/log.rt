@@ -31,7 +31,8 @@ pub struct Log<D> {
     pub(crate) digest: [u8; 32],
     // The window when the log is read, and a record's bytes when one is appended.
     pub(crate) buffer: Vec<u8>,
-    // An append or a checkpoint was lost, and no rescan has succeeded since.
+    // An append or a checkpoint was lost, and no rescan has succeeded since: whether the last record stands, or which file the
+    // next opening takes, isn't known, and a record that went to the wrong one would be passed over.
     pub(crate) lost: bool,
     ghost within: { end ≤ log_bytes },
     ghost room: { length buffer.items ≡ 1048576 },
@@ -104,8 +105,9 @@ impl<D: Disk> Log<D> {
 
     /// Writes a log of these bodies, each of 1 to 524,288 bytes, to the other file, in the newest format. `Kept`: that
     /// file is the current one from then on. An opening takes it if its generation, the number in bytes 1 to 4 of the
-    /// first body, is above the old one's. `Refused`: the current file stays in use. `Full`: they don't fit, with a closing
-    /// length. Where nothing fails: a write and a sync, a write a record and a sync, a write and a sync. Takes no memory.
+    /// first body, is above the old one's: nothing else is written to say which is current, and the old log stays where it
+    /// is. `Refused`: the current file stays in use. `Full`: they don't fit, with a closing length. Where nothing fails: a
+    /// write and a sync, a write a record and a sync, a write and a sync. Takes no memory.
     /// After `Lost`, its own or an append's, every checkpoint answers so, and asks nothing of the disks, until a rescan
     /// succeeds.
     pub fn checkpoint(&mut self, bodies: &[Vec<u8>]) -> Appended

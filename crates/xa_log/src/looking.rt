@@ -33,7 +33,7 @@ pub struct Head {
     pub number: Option<usize>,
 }
 
-// Syncs and measures one file and then the other.
+// Syncs and measures one file and then the other, before a byte of either is read: so what is found outlasts a crash.
 fn measure<D: Disk>(first: &mut D, second: &mut D, log_bytes: u64) -> Result<(u64, u64), OpenFault>
     ensures value { D.honest → MatchResult result (λ r. AreShort log_bytes (D.seen first.old) (D.seen second.old) r.0 r.1) (λ e. Explains e (pair_fault log_bytes (D.seen first.old) (D.seen second.old))) }
     ensures fits { IfOk result (λ r. (r.0 ≤ log_bytes) × (r.1 ≤ log_bytes)) }
@@ -123,7 +123,8 @@ fn first_number(window: &[u8], span: Span, len: u64, prev: &[u8; 32]) -> Option<
     }
 }
 
-// What of a file tells whether it is the current one of two, if it is a log.
+// What of a file tells whether it is the current one of two, if it is a log: its first record alone, which has the generation,
+// and without which the file has no bodies. So of the one that isn't current no more is read.
 fn head_of(window: &[u8], front: Front, len: u64) -> Option<Head>
     requires room { length window.now ≡ 1048576 }
     requires holds { HasFront len front }

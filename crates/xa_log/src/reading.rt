@@ -154,7 +154,7 @@ pub(crate) fn read_front<D: Disk>(
     fill(disk, window, Span { from: 0, have: 0 }, 0, 8, len)
 }
 
-// Syncs, and asks the length.
+// Syncs, and asks the length. The sync comes first, so that what is read then is what a crash leaves.
 pub(crate) fn synced_length<D: Disk>(disk: &mut D) -> Result<u64, DiskFault>
     ensures value { D.honest → IfOk result (λ len. len ≡ length (D.seen disk.old)) }
     ensures durable { D.honest → OnOk result (Only (D.seen disk.new) (D.may_leave disk.new)) }

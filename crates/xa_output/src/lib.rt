@@ -1,4 +1,6 @@
-//! Texts are written whole: `write_text`, which says what a writer that failed had taken.
+//! Texts are written whole, or it is known that they weren't: what `xa_play`, `xa_scan` and `xa_talk` print goes this way.
+//!
+//! - `output`: `write_text`, which says of a writer that failed that what it had taken is a part of the text
 #![tactic(auto)]
 
 mod output;
