@@ -1,5 +1,5 @@
 -- No branch is known, and a branch begins.
-use Rattle.std.proofs.Common.{◌≡◌, ℕ, ◌<◌, ◌≤◌, Bool, true, false, ◌&&◌, ◌||◌, ◌⊎◌, inl, inr, Option, Some, None, List, [], ◌∷◌, length, refl, ap, ◌∙◌, arith}
+use Rattle.std.proofs.Common.{◌≡◌, ℕ, ◌<◌, ◌≤◌, Bool, true, false, ◌&&◌, ◌||◌, ◌⊎◌, inl, inr, Option, Some, None, List, [], ◌∷◌, length, refl, ap, sym, ◌∙◌, arith}
 use Rattle.std.specs.Prelude.{is_some, nat_lt}
 use Rattle.xa_xid.specs.Triple.{Triple}
 use Rattle.std.proofs.lemmas.Bool.Decides.{nat_tests}
@@ -14,6 +14,7 @@ use Rattle.xa_branch.specs.declared.working.Working.{Working as Kept}
 use Rattle.xa_branch.specs.Branches.{BranchesStandFor, working_at, lasting_at, is_prepared, prepared_among, number_of}
 use Rattle.xa_branch.specs.Calls.{begin_fault}
 use Rattle.xa_branch.proofs.Looks.{fact_at, known_is}
+use Rattle.xa_branch.proofs.Timed.{times_none}
 
 named_by : (xid : Triple) (o : Option Triple) → is_with xid o ≡ true → is_some o ≡ true
 named_by xid None is = absurd (cc is)
@@ -41,13 +42,14 @@ empty : (ds : List Decided) → length ds ≡ 0 → ds ≡ []
 empty [] e = refl
 empty (d ∷ ds) e = absurd (omega arith)
 
-pub new_stands : (m : Branches) (s : State) → m.boot ≡ s.boot → m.given ≡ s.given → m.working.entries ≡ [] → m.lasting.entries ≡ [] → m.prepared ≡ 0 → m.completed ≡ 0 → known_in s ≡ 0
+pub new_stands : (m : Branches) (s : State) → m.boot ≡ s.boot → m.given ≡ s.given → m.working.entries ≡ [] → m.lasting.entries ≡ [] → m.times.keys ≡ [] → m.prepared ≡ 0 → m.completed ≡ 0 → known_in s ≡ 0
     → BranchesStandFor m s
-new_stands m s boot given none nor prepared completed unknown_ = record {
+new_stands m s boot given none nor never prepared completed unknown_ = record {
   boot = boot;
   given = given;
   working = λ xid. rw (none, unknown s xid unknown_) refl;
   lasting = λ xid. let nothing : s.decided ≡ [] = empty s.decided (omega arith) in rw (nor, unknown s xid unknown_, nothing) refl;
+  times = λ t. rw never (sym (times_none t s.branches (omega (arith, unknown_))));
   known = rw (none, nor) (omega arith);
   prepared = omega (arith, prepared_known s.branches);
   completed = omega arith;

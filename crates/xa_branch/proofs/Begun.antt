@@ -1,11 +1,13 @@
 -- Known branches that stand for a state, after a branch begins.
-use Rattle.std.proofs.Common.{◌≡◌, ℕ, ℤ, ◌+◌, Bool, true, false, cond, Option, Some, None, List, [], ◌∷◌, refl, ap, sym, ◌∙◌, subst, arith}
-use Rattle.std.specs.Prelude.{option_and_then}
-use Rattle.std.specs.BTreeMap.{BTreeMap, btree_map_len}
-use Rattle.xa_xid.specs.Triple.{Triple, xid_eq}
-use Rattle.xa_xid.proofs.Same.{xid_same}
+use Rattle.std.proofs.Common.{◌≡◌, ℕ, ℤ, ◌+◌, ◌==◌, Bool, true, false, cond, Option, Some, None, List, [], ◌∷◌, refl, ap, sym, ◌∙◌, subst, arith}
+use Rattle.std.specs.Prelude.{option_and_then, is_some}
+use Rattle.std.specs.BTreeMap.{BTreeMap, get, btree_map_len}
+use Rattle.std.specs.BTreeSet.{BTreeSet}
+use Rattle.xa_xid.specs.Triple.{Triple, xid_eq, xid_cmp}
+use Rattle.xa_xid.proofs.Same.{xid_same, xid_eq_itself}
 use Rattle.xa_model.specs.State.{State, Branch, Phase, Working, Prepared, Committed, Association, Active, known_of, decided_of, holders_of, timestamp_of}
 use Rattle.xa_model.specs.Associations.{begun}
+use Rattle.xa_model.specs.LowWater.{is_known_at}
 use Rattle.xa_model.specs.Sound.{IsSound}
 use Rattle.xa_model.proofs.Xids.{cmp_is_eq}
 use Rattle.xa_branch.specs.declared.branches.Branches.{Branches}
@@ -14,9 +16,11 @@ use Rattle.xa_branch.specs.declared.kind.Kind.TheVariants as kind
 use Rattle.xa_branch.specs.declared.working.Working.{Working as Kept}
 use Rattle.xa_branch.specs.Kinds.{held_as}
 use Rattle.xa_branch.specs.Branches.{BranchesStandFor, kept_of, working_at, working_by, working_in, lasting_at, lasting_among}
-use Rattle.xa_branch.specs.Changes.{Sets, new_kept}
+use Rattle.xa_branch.specs.Changes.{Sets, SetsTime, new_kept}
 use Rattle.xa_branch.proofs.Counting.{gained_here, gained_other, joined_gains, holders_by_kind}
 use Rattle.xa_branch.proofs.Looks.{idle_at}
+use Rattle.xa_branch.proofs.Setting.{none_at}
+use Rattle.xa_branch.proofs.Timed.{begun_time}
 
 -- where the counts are the same, so is what is kept
 
@@ -68,9 +72,10 @@ begun_lasting : (m : Branches) (s : State) (xid q : Triple) (b : Branch) (c : Bo
 begun_lasting m s xid q b true e st none is = rw is (subst (λ (x : Triple). lasting_at m x ≡ None) (xid_same xid q e) none)
 begun_lasting m s xid q b false e st none is = st.lasting q
 
-pub begun_stands : (m : Branches) (after : BTreeMap Triple Kept) (s : State) (n : ℕ) (xid : Triple) → IsSound s → BranchesStandFor m s → working_at m xid ≡ None → lasting_at m xid ≡ None
-    → Sets m.working xid (Some (new_kept (timestamp_of s.boot (s.given + 1)))) after → BranchesStandFor (record m { given = m.given + 1; working = after }) (begun s n xid).after
-begun_stands m after s n xid h st free nor sets = record {
+pub begun_stands : (m : Branches) (after : BTreeMap Triple Kept) (ts : BTreeSet ℕ) (s : State) (n : ℕ) (xid : Triple) → IsSound s → BranchesStandFor m s → working_at m xid ≡ None → lasting_at m xid ≡ None
+    → Sets m.working xid (Some (new_kept (timestamp_of s.boot (s.given + 1)))) after
+    → SetsTime m.times (timestamp_of s.boot (s.given + 1)) true ts → BranchesStandFor (record m { given = m.given + 1; working = after; times = ts }) (begun s n xid).after
+begun_stands m after ts s n xid h st free nor sets timed = record {
   boot = st.boot;
   given = ap (λ (k : ℕ). k + 1) st.given;
   working = λ q.
@@ -79,9 +84,34 @@ begun_stands m after s n xid h st free nor sets = record {
       sets.at q ∙ rw (cmp_is_eq xid q) (begun_look m s n xid q b (xid_eq xid q) refl st zero refl);
   lasting = λ q.
       let b : Branch = record { timestamp = timestamp_of s.boot (s.given + 1); operations = []; phase = Working xid None } in begun_lasting m s xid q b (xid_eq xid q) refl st nor refl;
+  times = λ t.
+      let new : ℕ = timestamp_of s.boot (s.given + 1) in timed t ∙ ap (cond (new == t) true) (st.times t) ∙ sym (begun_time new t (is_known_at t s.branches));
   known =
       let one : btree_map_len after ≡ btree_map_len m.working + 1 = let more = rw free at sets.number in omega (arith, more) in
       omega (arith, one, st.known);
   prepared = omega (arith, st.prepared);
+  completed = st.completed;
+}
+
+-- A branch is kept and taken away again, where there is no memory for its timestamp
+
+taken_by : (m : Branches) (xid q : Triple) (w : Kept) (c : Bool) → xid_eq xid q ≡ c → working_at m xid ≡ None → cond c None (cond c (Some w) (working_at m q)) ≡ working_at m q
+taken_by m xid q w true e none = sym (none_at (working_at m) xid q true e none)
+taken_by m xid q w false e none = refl
+
+pub taken_stands : (m : Branches) (kept after : BTreeMap Triple Kept) (ts : BTreeSet ℕ) (s : State) (xid : Triple) (w : Kept) → BranchesStandFor m s → working_at m xid ≡ None
+    → Sets m.working xid (Some w) kept → Sets kept xid None after → ts.keys ≡ m.times.keys → BranchesStandFor (record m { working = after; times = ts }) s
+taken_stands m kept after ts s xid w st free sets takes same = record {
+  boot = st.boot;
+  given = st.given;
+  working = λ q. takes.at q ∙ rw (sets.at q, cmp_is_eq xid q) (taken_by m xid q w (xid_eq xid q) refl free) ∙ st.working q;
+  lasting = st.lasting;
+  times = λ t. rw same (st.times t);
+  known =
+      let there : is_some (get xid_cmp kept xid) ≡ true = rw (sets.at xid, cmp_is_eq xid xid, xid_eq_itself xid) refl in
+      let more = rw free at sets.number in
+      let less = rw there at takes.number in
+      omega (arith, more, less, st.known);
+  prepared = st.prepared;
   completed = st.completed;
 }

@@ -2,6 +2,7 @@
 use Rattle.std.proofs.Common.{◌≡◌, ℕ, ◌+◌, ◌-◌, ◌^◌, Bool, true, false, cond, min, Option, Some, None, List, ◌∷◌, length, refl, ap, sym, ◌∙◌, subst, arith}
 use Rattle.std.specs.Prelude.{find, option_map}
 use Rattle.std.specs.BTreeMap.{BTreeMap}
+use Rattle.std.specs.BTreeSet.{BTreeSet}
 use Rattle.xa_codes.specs.declared.direction.Direction.{Direction}
 use Rattle.xa_codes.specs.declared.direction.Direction.TheVariants as direction
 use Rattle.xa_xid.specs.Triple.{Triple, xid_eq}
@@ -19,9 +20,9 @@ use Rattle.xa_branch.specs.declared.lasting.Lasting.{Lasting}
 use Rattle.xa_branch.specs.declared.lasting.Lasting.TheVariants as lasts
 use Rattle.xa_branch.specs.declared.working.Working.{Working as Kept}
 use Rattle.xa_branch.specs.Branches.{BranchesStandFor, working_at, lasting_at, lasting_among}
-use Rattle.xa_branch.specs.Changes.{Sets}
+use Rattle.xa_branch.specs.Changes.{Sets, SetsTime}
 use Rattle.xa_branch.proofs.Finding.{found_left, all_counted}
-use Rattle.xa_branch.proofs.Finishing.{Leaves, left_look, rolled_leaves, committed_leaves, undecided, is_doubtful}
+use Rattle.xa_branch.proofs.Finishing.{Leaves, left_look, left_times, rolled_leaves, committed_leaves, undecided, is_doubtful}
 use Rattle.xa_branch.proofs.Looks.{IsPrepared, Seen, Nowhere, There, Doubtful, Done, seen_at, fact_at, known_is}
 use Rattle.xa_branch.proofs.Setting.{none_at}
 
@@ -42,29 +43,30 @@ decided_look m s xid q bs b d true e st leaves =
     let gone : known_of bs q ≡ None = subst (λ (x : Triple). known_of bs x ≡ None) (xid_same xid q e) leaves.here in rw gone refl
 decided_look m s xid q bs b d false e st leaves = st.lasting q ∙ sym (ap (λ (o : Option Branch). lasting_among o (decided_of s.decided q)) (leaves.others q e))
 
-completed_stands : (m : Branches) (after : BTreeMap Triple Lasting) (n k : ℕ) (s : State) (d : Direction) (xid : Triple) (t : ℕ) (bs : List Branch) → IsSound s → BranchesStandFor m s
+completed_stands : (m : Branches) (after : BTreeMap Triple Lasting) (ts : BTreeSet ℕ) (n k : ℕ) (s : State) (d : Direction) (xid : Triple) (t : ℕ) (bs : List Branch) → IsSound s → BranchesStandFor m s
     → lasting_at m xid ≡ Some (lasts.Prepared t) → Sets m.lasting xid (Some (lasts.Completed d)) after → n ≡ m.prepared - 1 → k ≡ min (m.completed + 1) (2 ^ 64 - 1)
-    → working_at m xid ≡ None → (is : IsPrepared s xid t) → Leaves xid s.branches bs is.branch
-    → BranchesStandFor (record m { lasting = after; prepared = n; completed = k }) (record s { branches = bs; decided = record { xid = xid; direction = d } ∷ s.decided })
-completed_stands m after n k s d xid t bs h st e sets fewer more idle is leaves = record {
+    → working_at m xid ≡ None → (is : IsPrepared s xid t) → Leaves xid s.branches bs is.branch → SetsTime m.times t false ts
+    → BranchesStandFor (record m { lasting = after; times = ts; prepared = n; completed = k }) (record s { branches = bs; decided = record { xid = xid; direction = d } ∷ s.decided })
+completed_stands m after ts n k s d xid t bs h st e sets fewer more idle is leaves timed = record {
   boot = st.boot;
   given = st.given;
   working = λ q. none_at (working_at m) xid q (xid_eq xid q) refl idle ∙ left_look m s xid q bs is.branch (xid_eq xid q) refl st leaves;
   lasting = λ q. sets.at q ∙ rw (cmp_is_eq xid q) (decided_look m s xid q bs is.branch d (xid_eq xid q) refl st leaves);
+  times = left_times m ts s xid bs is.branch t st leaves timed (sym is.time);
   known = let same = rw e at sets.number in omega (arith, same, leaves.known, st.known);
   prepared = let less = rw is.phase at leaves.prepared in omega (arith, less, fewer, st.prepared);
   completed = omega (arith, more, st.completed, h.known);
 }
 
-pub decided_stands : (m : Branches) (after : BTreeMap Triple Lasting) (n k : ℕ) (s : State) (d : Direction) (xid : Triple) (t : ℕ) → IsSound s → BranchesStandFor m s → lasting_at m xid ≡ Some (lasts.Prepared t)
-    → Sets m.lasting xid (Some (lasts.Completed d)) after → n ≡ m.prepared - 1 → k ≡ min (m.completed + 1) (2 ^ 64 - 1)
-    → BranchesStandFor (record m { lasting = after; prepared = n; completed = k }) (decided_by s d xid)
-decided_stands m after n k s direction.Commit xid t h st e sets fewer more =
+pub decided_stands : (m : Branches) (after : BTreeMap Triple Lasting) (ts : BTreeSet ℕ) (n k : ℕ) (s : State) (d : Direction) (xid : Triple) (t : ℕ) → IsSound s → BranchesStandFor m s → lasting_at m xid ≡ Some (lasts.Prepared t)
+    → Sets m.lasting xid (Some (lasts.Completed d)) after → n ≡ m.prepared - 1 → k ≡ min (m.completed + 1) (2 ^ 64 - 1) → SetsTime m.times t false ts
+    → BranchesStandFor (record m { lasting = after; times = ts; prepared = n; completed = k }) (decided_by s d xid)
+decided_stands m after ts n k s direction.Commit xid t h st e sets fewer more timed =
     let both = doubtful_is s xid t (working_at m xid) (lasting_at m xid) e (seen_at m s xid (working_at m xid) (lasting_at m xid) st refl refl) in
-    completed_stands m after n k s direction.Commit xid t (committed s xid).branches h st e sets fewer more both.0 both.1 (committed_leaves s xid both.1.branch h both.1.found)
-decided_stands m after n k s direction.Rollback xid t h st e sets fewer more =
+    completed_stands m after ts n k s direction.Commit xid t (committed s xid).branches h st e sets fewer more both.0 both.1 (committed_leaves s xid both.1.branch h both.1.found) timed
+decided_stands m after ts n k s direction.Rollback xid t h st e sets fewer more timed =
     let both = doubtful_is s xid t (working_at m xid) (lasting_at m xid) e (seen_at m s xid (working_at m xid) (lasting_at m xid) st refl refl) in
-    completed_stands m after n k s direction.Rollback xid t (rolled_back s xid).branches h st e sets fewer more both.0 both.1 (rolled_leaves s xid both.1.branch h both.1.found)
+    completed_stands m after ts n k s direction.Rollback xid t (rolled_back s xid).branches h st e sets fewer more both.0 both.1 (rolled_leaves s xid both.1.branch h both.1.found) timed
 
 -- only what is in doubt is kept as prepared
 
@@ -135,6 +137,7 @@ forget_by m after n s xid d None (Some l) h st f e sets fewer (Done direction no
       boot = st.boot;
       given = st.given;
       working = st.working;
+      times = st.times;
       lasting = λ q. sets.at q ∙ rw (cmp_is_eq xid q) (forgotten_look m s xid q (xid_eq xid q) refl st none is);
       known = let less = rw f at sets.number in omega (arith, less, is.fewer, st.known);
       prepared = st.prepared;

@@ -10,7 +10,7 @@ use Rattle.xa_model.proofs.Lists.{find_change_same, find_change_other}
 use Rattle.xa_model.proofs.Names.{called_apart}
 use Rattle.xa_branch.specs.declared.branches.Branches.{Branches}
 use Rattle.xa_branch.specs.Branches.{BranchesStandFor, working_in}
-use Rattle.xa_branch.proofs.Lastings.{KeepsLasting, lasting_change, prepared_change}
+use Rattle.xa_branch.proofs.Lastings.{KeepsLasting, lasting_change, prepared_change, timed_change}
 
 -- a state with the same parts: sessions, reads and the rest may be others
 pub stands_elsewhere : (m : Branches) (s t : State) → t.boot ≡ s.boot → t.given ≡ s.given → t.associations ≡ s.associations → t.branches ≡ s.branches → t.decided ≡ s.decided → BranchesStandFor m s
@@ -20,6 +20,7 @@ stands_elsewhere m s t boot given associations branches decided st = record {
   given = st.given ∙ sym given;
   working = λ xid. rw (associations, branches) (st.working xid);
   lasting = λ xid. rw (branches, decided) (st.lasting xid);
+  times = λ u. rw branches (st.times u);
   known = rw (branches, decided) st.known;
   prepared = rw branches st.prepared;
   completed = rw decided st.completed;
@@ -43,7 +44,7 @@ done_look op s xid q false e =
     (find_change_other (is_known_as xid) (is_known_as q) (having_done op) (λ b is. (called_apart xid q b e is, called_apart xid q b e is)) s.branches)
 
 done_keeps : (op : Operation) → KeepsLasting (having_done op)
-done_keeps op = record { name = λ b. refl; lasts = λ b. refl; plain = λ b. refl }
+done_keeps op = record { name = λ b. refl; lasts = λ b. refl; plain = λ b. refl; time = λ b. refl }
 
 pub done_stands : (m : Branches) (s : State) (xid : Triple) (op : Operation) → BranchesStandFor m s → BranchesStandFor m (record s { branches = did xid op s.branches })
 done_stands m s xid op st = record {
@@ -54,6 +55,7 @@ done_stands m s xid op st = record {
       let names : known_count (did xid op s.branches) ≡ known_count s.branches = count_same (is_known_as xid) (having_done op) (λ b. is_some (name_of b.phase)) (λ b. refl) s.branches in
       st.known ∙ ap (λ (n : ℕ). n + length s.decided) (sym names);
   lasting = λ q. st.lasting q ∙ sym (lasting_change (is_known_as xid) (having_done op) (done_keeps op) q (decided_of s.decided q) s.branches);
+  times = λ t. st.times t ∙ sym (timed_change (is_known_as xid) (having_done op) (done_keeps op) t s.branches);
   prepared = st.prepared ∙ sym (prepared_change (is_known_as xid) (having_done op) (done_keeps op) s.branches);
   completed = st.completed;
 }

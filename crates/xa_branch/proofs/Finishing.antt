@@ -1,12 +1,14 @@
 -- Known branches that stand for a state, after a branch is committed or rolled back.
-use Rattle.std.proofs.Common.{◌≡◌, ℕ, ◌+◌, ◌-◌, ◌≤◌, Bool, true, false, cond, Option, Some, None, List, refl, ap, sym, ◌∙◌, subst, arith}
+use Rattle.std.proofs.Common.{◌≡◌, ℕ, ◌+◌, ◌-◌, ◌≤◌, ◌==◌, Bool, true, false, cond, Option, Some, None, List, refl, ap, sym, ◌∙◌, subst, arith}
 use Rattle.std.specs.Prelude.{is_some, option_map, option_and_then}
 use Rattle.std.specs.BTreeMap.{BTreeMap}
+use Rattle.std.specs.BTreeSet.{BTreeSet}
 use Rattle.std.specs.List.{list_any}
 use Rattle.xa_xid.specs.Triple.{Triple, xid_eq}
 use Rattle.xa_xid.proofs.Same.{xid_same}
-use Rattle.xa_model.specs.State.{State, Branch, count, name_of, is_known_as, known_of, known_count, decided_of, without, change}
+use Rattle.xa_model.specs.State.{State, Branch, count, name_of, is_known_as, known_of, known_count, decided_of, timestamp_of, without, change}
 use Rattle.xa_model.specs.Branches.{rolled_back, committed, as_committed}
+use Rattle.xa_model.specs.LowWater.{is_known_at}
 use Rattle.xa_model.specs.Sound.{IsSound}
 use Rattle.xa_model.proofs.Counts.{found_none}
 use Rattle.xa_model.proofs.Finds.{find_without}
@@ -18,12 +20,13 @@ use Rattle.xa_branch.specs.declared.branches.Branches.{Branches}
 use Rattle.xa_branch.specs.declared.lasting.Lasting.{Lasting}
 use Rattle.xa_branch.specs.declared.lasting.Lasting.TheVariants as lasts
 use Rattle.xa_branch.specs.declared.working.Working.{Working as Kept}
-use Rattle.xa_branch.specs.Branches.{BranchesStandFor, working_at, working_in, lasting_at, lasting_among, is_prepared, prepared_among}
-use Rattle.xa_branch.specs.Changes.{Sets}
+use Rattle.xa_branch.specs.Branches.{BranchesStandFor, working_at, working_in, lasting_at, lasting_among, timed_at, is_prepared, prepared_among}
+use Rattle.xa_branch.specs.Changes.{Sets, SetsTime}
 use Rattle.xa_branch.proofs.Beginning.{named as is_named}
 use Rattle.xa_branch.proofs.Finding.{found_left, found_turned}
-use Rattle.xa_branch.proofs.Looks.{Seen, Nowhere, There, Doubtful, Done, seen_at}
+use Rattle.xa_branch.proofs.Looks.{Seen, Nowhere, There, Doubtful, Done, seen_at, works_at}
 use Rattle.xa_branch.proofs.Setting.{none_at}
+use Rattle.xa_branch.proofs.Timed.{times_left, times_committed}
 
 -- what the other branches are, where one of them leaves its name
 pub record Leaves (xid : Triple) (bs after : List Branch) (b : Branch) : Type 0 where
@@ -31,6 +34,7 @@ pub record Leaves (xid : Triple) (bs after : List Branch) (b : Branch) : Type 0 
   pub others : (q : Triple) → xid_eq xid q ≡ false → known_of after q ≡ known_of bs q
   pub known : known_count after + 1 ≡ known_count bs
   pub prepared : prepared_among after + cond (is_prepared b.phase) 1 0 ≡ prepared_among bs
+  pub times : (t : ℕ) → is_known_at t after ≡ cond (b.timestamp == t) false (is_known_at t bs)
 
 alone : (s : State) (xid : Triple) → IsSound s → count (is_known_as xid) s.branches ≤ 1
 alone s xid h = omega (arith, h.distinct xid)
@@ -46,6 +50,7 @@ rolled_leaves s xid b h found = record {
       let any : list_any (is_known_as xid) s.branches ≡ true = found_any (is_known_as xid) b s.branches found in
       count_left (is_known_as xid) (λ x. is_some (name_of x.phase)) true (is_named xid) s.branches any;
   prepared = found_left (is_known_as xid) (λ x. is_prepared x.phase) b s.branches found;
+  times = λ t. times_left xid b (timestamp_of s.boot s.given + 1) t s.branches h.descends found;
 }
 
 pub committed_leaves : (s : State) (xid : Triple) (b : Branch) → IsSound s → known_of s.branches xid ≡ Some b → Leaves xid s.branches (change (is_known_as xid) as_committed s.branches) b
@@ -61,6 +66,7 @@ committed_leaves s xid b h found = record {
       let fewer = count_left (is_known_as xid) (λ x. is_some (name_of x.phase)) true (is_named xid) s.branches any in
       let same = count_turned (is_known_as xid) (λ x. is_some (name_of x.phase)) as_committed false (λ x passes. refl) s.branches any in omega (arith, fewer, same);
   prepared = let turned = found_turned (is_known_as xid) (λ x. is_prepared x.phase) as_committed b s.branches found in omega (arith, turned);
+  times = λ t. times_committed xid t s.branches ∙ times_left xid b (timestamp_of s.boot s.given + 1) t s.branches h.descends found;
 }
 
 -- nothing was decided of a branch that is known
@@ -86,40 +92,35 @@ left_lasting m s xid q bs b true e st leaves none =
     let nothing : decided_of s.decided q ≡ None = subst (λ (x : Triple). decided_of s.decided x ≡ None) (xid_same xid q e) none in rw (gone, nothing) refl
 left_lasting m s xid q bs b false e st leaves none = st.lasting q ∙ sym (ap (λ (o : Option Branch). lasting_among o (decided_of s.decided q)) (leaves.others q e))
 
+pub left_times : (m : Branches) (ts : BTreeSet ℕ) (s : State) (xid : Triple) (bs : List Branch) (b : Branch) (t : ℕ) → BranchesStandFor m s → Leaves xid s.branches bs b → SetsTime m.times t false ts → t ≡ b.timestamp
+    → (u : ℕ) → timed_at (record m { times = ts }) u ≡ is_known_at u bs
+left_times m ts s xid bs b t st leaves timed same u = timed u ∙ rw (same, st.times u) (sym (leaves.times u))
+
 -- A branch at work leaves
 
-working_left : (m : Branches) (after : BTreeMap Triple Kept) (s : State) (xid : Triple) (bs : List Branch) (b : Branch) (w : Kept) → BranchesStandFor m s → Leaves xid s.branches bs b → working_at m xid ≡ Some w
-    → lasting_at m xid ≡ None → decided_of s.decided xid ≡ None → is_prepared b.phase ≡ false → Sets m.working xid None after → BranchesStandFor (record m { working = after }) (record s { branches = bs })
-working_left m after s xid bs b w st leaves there nor none plain sets = record {
+working_left : (m : Branches) (after : BTreeMap Triple Kept) (ts : BTreeSet ℕ) (s : State) (xid : Triple) (bs : List Branch) (b : Branch) (w : Kept) → BranchesStandFor m s → Leaves xid s.branches bs b → working_at m xid ≡ Some w
+    → lasting_at m xid ≡ None → decided_of s.decided xid ≡ None → is_prepared b.phase ≡ false → Sets m.working xid None after → SetsTime m.times w.timestamp false ts → w.timestamp ≡ b.timestamp
+    → BranchesStandFor (record m { working = after; times = ts }) (record s { branches = bs })
+working_left m after ts s xid bs b w st leaves there nor none plain sets timed same = record {
   boot = st.boot;
   given = st.given;
   working = λ q. sets.at q ∙ rw (cmp_is_eq xid q) (left_look m s xid q bs b (xid_eq xid q) refl st leaves);
+  times = left_times m ts s xid bs b w.timestamp st leaves timed same;
   lasting = λ q. none_at (lasting_at m) xid q (xid_eq xid q) refl nor ∙ left_lasting m s xid q bs b (xid_eq xid q) refl st leaves none;
   known = let fewer = rw there at sets.number in omega (arith, fewer, leaves.known, st.known);
   prepared = let same = rw plain at leaves.prepared in omega (arith, same, st.prepared);
   completed = st.completed;
 }
 
--- nothing leaves
-nothing_left : (m : Branches) (after : BTreeMap Triple Kept) (s : State) (xid : Triple) → BranchesStandFor m s → working_at m xid ≡ None → Sets m.working xid None after → BranchesStandFor (record m { working = after }) s
-nothing_left m after s xid st none sets = record {
-  boot = st.boot;
-  given = st.given;
-  working = λ q. sets.at q ∙ rw (cmp_is_eq xid q) (sym (none_at (working_at m) xid q (xid_eq xid q) refl none)) ∙ st.working q;
-  lasting = st.lasting;
-  known = let same = rw none at sets.number in omega (arith, same, st.known);
-  prepared = st.prepared;
-  completed = st.completed;
-}
-
 -- A prepared branch leaves
-prepared_left : (m : Branches) (after : BTreeMap Triple Lasting) (n : ℕ) (s : State) (xid : Triple) (bs : List Branch) (b : Branch) (l : Lasting) → BranchesStandFor m s → Leaves xid s.branches bs b
-    → working_at m xid ≡ None → lasting_at m xid ≡ Some l → decided_of s.decided xid ≡ None → is_prepared b.phase ≡ true → n ≡ m.prepared - 1 → Sets m.lasting xid None after
-    → BranchesStandFor (record m { lasting = after; prepared = n }) (record s { branches = bs })
-prepared_left m after n s xid bs b l st leaves nor there none prepared fewer sets = record {
+prepared_left : (m : Branches) (after : BTreeMap Triple Lasting) (ts : BTreeSet ℕ) (n t : ℕ) (s : State) (xid : Triple) (bs : List Branch) (b : Branch) (l : Lasting) → BranchesStandFor m s → Leaves xid s.branches bs b
+    → working_at m xid ≡ None → lasting_at m xid ≡ Some l → decided_of s.decided xid ≡ None → is_prepared b.phase ≡ true → n ≡ m.prepared - 1 → Sets m.lasting xid None after → SetsTime m.times t false ts → t ≡ b.timestamp
+    → BranchesStandFor (record m { lasting = after; times = ts; prepared = n }) (record s { branches = bs })
+prepared_left m after ts n t s xid bs b l st leaves nor there none prepared fewer sets timed same = record {
   boot = st.boot;
   given = st.given;
   working = λ q. none_at (working_at m) xid q (xid_eq xid q) refl nor ∙ left_look m s xid q bs b (xid_eq xid q) refl st leaves;
+  times = left_times m ts s xid bs b t st leaves timed same;
   lasting = λ q. sets.at q ∙ rw (cmp_is_eq xid q) (left_lasting m s xid q bs b (xid_eq xid q) refl st leaves none);
   known = let less = rw there at sets.number in omega (arith, less, leaves.known, st.known);
   prepared = let less = rw prepared at leaves.prepared in omega (arith, less, st.prepared);
@@ -136,10 +137,6 @@ rolled_finishes s xid h = record { leaves = λ b found. rolled_leaves s xid b h 
 
 pub committed_finishes : (s : State) (xid : Triple) → IsSound s → Finishes s xid (committed s xid).branches
 committed_finishes s xid h = record { leaves = λ b found. committed_leaves s xid b h found; stays = λ none. change_none (is_known_as xid) as_committed s.branches none }
-
-stays_by : (m : Branches) (after : BTreeMap Triple Kept) (s : State) (xid : Triple) (bs : List Branch) → BranchesStandFor m s → working_at m xid ≡ None → Sets m.working xid None after → bs ≡ s.branches
-    → BranchesStandFor (record m { working = after }) (record s { branches = bs })
-stays_by m after s xid bs st none sets same = rw same (nothing_left m after s xid st none sets)
 
 -- what is kept is prepared
 abbrev pub is_doubtful : Option Lasting → Bool
@@ -158,31 +155,42 @@ pub stayed_stands : (m : Branches) (s : State) (xid : Triple) (bs : List Branch)
     → BranchesStandFor m (record s { branches = bs })
 stayed_stands m s xid bs l st finishes plain e = stayed_by m s xid bs l (working_at m xid) st finishes plain (seen_at m s xid (working_at m xid) (Some l) st refl e)
 
-finished_by : (m : Branches) (after : BTreeMap Triple Kept) (s : State) (xid : Triple) (bs : List Branch) (o : Option Kept) (l : Option Lasting) → IsSound s → BranchesStandFor m s → Finishes s xid bs
-    → is_doubtful l ≡ false → Sets m.working xid None after → working_at m xid ≡ o → lasting_at m xid ≡ l → Seen s xid o l → BranchesStandFor (record m { working = after }) (record s { branches = bs })
-finished_by m after s xid bs None None h st finishes plain sets e f (Nowhere none nor) = stays_by m after s xid bs st e sets (finishes.stays none)
-finished_by m after s xid bs (Some w) None h st finishes plain sets e f (There v is) =
-    working_left m after s xid bs is.branch w st (finishes.leaves is.branch is.found) e f (undecided s xid is.branch h is.found) (rw is.phase refl) sets
-finished_by m after s xid bs (Some w) (Some l) h st finishes plain sets e f x = elim x [ ]
-finished_by m after s xid bs None (Some l) h st finishes plain sets e f (Doubtful t is) = absurd (cc plain)
-finished_by m after s xid bs None (Some l) h st finishes plain sets e f (Done direction none was) = stays_by m after s xid bs st e sets (finishes.stays none)
+-- one that is at work leaves, or none is known
 
-pub finished_stands : (m : Branches) (after : BTreeMap Triple Kept) (s : State) (xid : Triple) (bs : List Branch) → IsSound s → BranchesStandFor m s → Finishes s xid bs → is_doubtful (lasting_at m xid) ≡ false
-    → Sets m.working xid None after → BranchesStandFor (record m { working = after }) (record s { branches = bs })
-finished_stands m after s xid bs h st finishes plain sets =
-    finished_by m after s xid bs (working_at m xid) (lasting_at m xid) h st finishes plain sets refl refl (seen_at m s xid (working_at m xid) (lasting_at m xid) st refl refl)
+pub finished_stands : (m : Branches) (after : BTreeMap Triple Kept) (ts : BTreeSet ℕ) (s : State) (xid : Triple) (bs : List Branch) (w : Kept) → IsSound s → BranchesStandFor m s → Finishes s xid bs
+    → working_at m xid ≡ Some w → lasting_at m xid ≡ None → Sets m.working xid None after → SetsTime m.times w.timestamp false ts
+    → BranchesStandFor (record m { working = after; times = ts }) (record s { branches = bs })
+finished_stands m after ts s xid bs w h st finishes e nor sets timed =
+    let is = works_at m s xid w st e in
+    let same : w.timestamp ≡ is.branch.timestamp = ap (λ (k : Kept). k.timestamp) is.kept in
+    working_left m after ts s xid bs is.branch w st (finishes.leaves is.branch is.found) e nor (undecided s xid is.branch h is.found) (rw is.phase refl) sets timed same
 
-settled_by : (m : Branches) (after : BTreeMap Triple Lasting) (n : ℕ) (s : State) (xid : Triple) (bs : List Branch) (t : ℕ) (o : Option Kept) (l : Option Lasting) → IsSound s → BranchesStandFor m s → Finishes s xid bs
-    → l ≡ Some (lasts.Prepared t) → n ≡ m.prepared - 1 → Sets m.lasting xid None after → working_at m xid ≡ o → lasting_at m xid ≡ l → Seen s xid o l
-    → BranchesStandFor (record m { lasting = after; prepared = n }) (record s { branches = bs })
-settled_by m after n s xid bs t None None h st finishes is_ fewer sets e f (Nowhere none nor) = absurd (cc is_)
-settled_by m after n s xid bs t (Some w) None h st finishes is_ fewer sets e f (There v is) = absurd (cc is_)
-settled_by m after n s xid bs t (Some w) (Some l) h st finishes is_ fewer sets e f x = elim x [ ]
-settled_by m after n s xid bs t None (Some l) h st finishes is_ fewer sets e f (Doubtful u is) =
-    prepared_left m after n s xid bs is.branch l st (finishes.leaves is.branch is.found) e f (undecided s xid is.branch h is.found) (rw is.phase refl) fewer sets
-settled_by m after n s xid bs t None (Some l) h st finishes is_ fewer sets e f (Done direction none was) = absurd (cc is_)
+unknown_by : (s : State) (xid : Triple) (o : Option Kept) (l : Option Lasting) → o ≡ None → l ≡ None → Seen s xid o l → known_of s.branches xid ≡ None
+unknown_by s xid None None e f (Nowhere none nor) = none
+unknown_by s xid (Some w) None e f (There v is) = absurd (cc e)
+unknown_by s xid (Some w) (Some l) e f x = elim x [ ]
+unknown_by s xid None (Some l) e f (Doubtful t is) = absurd (cc f)
+unknown_by s xid None (Some l) e f (Done direction none was) = absurd (cc f)
 
-pub settled_stands : (m : Branches) (after : BTreeMap Triple Lasting) (n : ℕ) (s : State) (xid : Triple) (bs : List Branch) (t : ℕ) → IsSound s → BranchesStandFor m s → Finishes s xid bs
-    → lasting_at m xid ≡ Some (lasts.Prepared t) → n ≡ m.prepared - 1 → Sets m.lasting xid None after → BranchesStandFor (record m { lasting = after; prepared = n }) (record s { branches = bs })
-settled_stands m after n s xid bs t h st finishes is fewer sets =
-    settled_by m after n s xid bs t (working_at m xid) (lasting_at m xid) h st finishes is fewer sets refl refl (seen_at m s xid (working_at m xid) (lasting_at m xid) st refl refl)
+pub unknown_stands : (m : Branches) (s : State) (xid : Triple) (bs : List Branch) → BranchesStandFor m s → Finishes s xid bs → working_at m xid ≡ None → lasting_at m xid ≡ None
+    → BranchesStandFor m (record s { branches = bs })
+unknown_stands m s xid bs st finishes none nor =
+    let unknown : known_of s.branches xid ≡ None = unknown_by s xid (working_at m xid) (lasting_at m xid) none nor (seen_at m s xid (working_at m xid) (lasting_at m xid) st refl refl) in
+    rw (finishes.stays unknown) st
+
+settled_by : (m : Branches) (after : BTreeMap Triple Lasting) (ts : BTreeSet ℕ) (n : ℕ) (s : State) (xid : Triple) (bs : List Branch) (t : ℕ) (o : Option Kept) (l : Option Lasting) → IsSound s → BranchesStandFor m s → Finishes s xid bs
+    → l ≡ Some (lasts.Prepared t) → n ≡ m.prepared - 1 → Sets m.lasting xid None after → SetsTime m.times t false ts → working_at m xid ≡ o → lasting_at m xid ≡ l → Seen s xid o l
+    → BranchesStandFor (record m { lasting = after; times = ts; prepared = n }) (record s { branches = bs })
+settled_by m after ts n s xid bs t None None h st finishes is_ fewer sets timed e f (Nowhere none nor) = absurd (cc is_)
+settled_by m after ts n s xid bs t (Some w) None h st finishes is_ fewer sets timed e f (There v is) = absurd (cc is_)
+settled_by m after ts n s xid bs t (Some w) (Some l) h st finishes is_ fewer sets timed e f x = elim x [ ]
+settled_by m after ts n s xid bs t None (Some l) h st finishes is_ fewer sets timed e f (Doubtful u is) =
+    let time : u ≡ t = cc is_ in
+    prepared_left m after ts n t s xid bs is.branch l st (finishes.leaves is.branch is.found) e f (undecided s xid is.branch h is.found) (rw is.phase refl) fewer sets timed (sym (is.time ∙ time))
+settled_by m after ts n s xid bs t None (Some l) h st finishes is_ fewer sets timed e f (Done direction none was) = absurd (cc is_)
+
+pub settled_stands : (m : Branches) (after : BTreeMap Triple Lasting) (ts : BTreeSet ℕ) (n : ℕ) (s : State) (xid : Triple) (bs : List Branch) (t : ℕ) → IsSound s → BranchesStandFor m s → Finishes s xid bs
+    → lasting_at m xid ≡ Some (lasts.Prepared t) → n ≡ m.prepared - 1 → Sets m.lasting xid None after → SetsTime m.times t false ts
+    → BranchesStandFor (record m { lasting = after; times = ts; prepared = n }) (record s { branches = bs })
+settled_stands m after ts n s xid bs t h st finishes is fewer sets timed =
+    settled_by m after ts n s xid bs t (working_at m xid) (lasting_at m xid) h st finishes is fewer sets timed refl refl (seen_at m s xid (working_at m xid) (lasting_at m xid) st refl refl)

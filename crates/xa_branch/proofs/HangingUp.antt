@@ -22,7 +22,7 @@ use Rattle.xa_branch.specs.Branches.{BranchesStandFor, kept_of, working_by, work
 use Rattle.xa_branch.specs.Changes.{LeavesAll, marked, less_one, left_behind}
 use Rattle.xa_model.proofs.Leaving.{any_counts, none_counted}
 use Rattle.xa_branch.proofs.Begun.{kept_same}
-use Rattle.xa_branch.proofs.Lastings.{KeepsLasting, lasting_map, prepared_map}
+use Rattle.xa_branch.proofs.Lastings.{KeepsLasting, lasting_map, prepared_map, timed_map}
 use Rattle.xa_branch.proofs.Marking.{marked_keeps}
 use Rattle.xa_branch.proofs.Owners.{never}
 use Rattle.xa_branch.proofs.Turning.{less}
@@ -205,8 +205,12 @@ plain_by : (b : Branch) (c : Bool) → is_prepared (cond c (with_mark XA_RBCOMMF
 plain_by b true = (marked_keeps XA_RBCOMMFAIL).plain b
 plain_by b false = refl
 
+time_by : (b : Branch) (c : Bool) → (cond c (with_mark XA_RBCOMMFAIL b) b).timestamp ≡ b.timestamp
+time_by b true = refl
+time_by b false = refl
+
 behind_keeps : (held : List Association) (n : ℕ) → KeepsLasting (left_by_session held n)
-behind_keeps held n = record { name = (left_keeps held n).name; lasts = λ b. lasts_by b (is_worked_by held n b.phase); plain = λ b. plain_by b (is_worked_by held n b.phase) }
+behind_keeps held n = record { name = (left_keeps held n).name; lasts = λ b. lasts_by b (is_worked_by held n b.phase); plain = λ b. plain_by b (is_worked_by held n b.phase); time = λ b. time_by b (is_worked_by held n b.phase) }
 
 pub hung_up_stands : (m : Branches) (kept : BTreeMap Triple Kept) (s : State) (n : ℕ) (own : BTreeSet Triple) (active : Option Triple) → IsSound s
     → ((q : Triple) → contains xid_cmp own q ≡ list_any (owns n q) s.associations) → active ≡ active_of s.associations n → BranchesStandFor m s → LeavesAll m.working own active kept
@@ -224,6 +228,7 @@ hung_up_stands m kept s n own active h owned_ active_ st all = record {
       count_map (left_by_session s.associations n) (λ b. is_some (name_of b.phase)) (λ b. ap (λ (o : Option Triple). is_some o) ((left_keeps s.associations n).name b)) s.branches in
       ap (λ (k : ℕ). k + btree_map_len m.lasting) all.number ∙ st.known ∙ ap (λ (k : ℕ). k + length s.decided) (sym names);
   lasting = λ q. st.lasting q ∙ sym (lasting_map (left_by_session s.associations n) (behind_keeps s.associations n) q (decided_of s.decided q) s.branches);
+  times = λ t. st.times t ∙ sym (timed_map (left_by_session s.associations n) (behind_keeps s.associations n) t s.branches);
   prepared = st.prepared ∙ sym (prepared_map (left_by_session s.associations n) (behind_keeps s.associations n) s.branches);
   completed = st.completed;
 }

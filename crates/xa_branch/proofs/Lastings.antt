@@ -1,16 +1,19 @@
 -- What lasts of branches, where a change leaves each its name and what lasts of it.
-use Rattle.std.proofs.Common.{◌≡◌, Bool, true, false, cond, Option, Some, List, [], ◌∷◌, refl, ap, ◌∙◌}
+use Rattle.std.proofs.Common.{◌≡◌, ℕ, Bool, true, false, cond, Option, Some, List, [], ◌∷◌, refl, ap, ◌∙◌}
 use Rattle.std.specs.Prelude.{map}
 use Rattle.xa_codes.specs.declared.direction.Direction.{Direction}
 use Rattle.xa_xid.specs.Triple.{Triple}
 use Rattle.xa_model.specs.State.{Branch, name_of, is_with, is_known_as, known_of, change}
+use Rattle.xa_model.specs.LowWater.{is_known_at}
 use Rattle.xa_model.proofs.Counts.{count_same, count_map}
 use Rattle.xa_branch.specs.Branches.{lasting_in, lasting_among, is_prepared, prepared_among}
+use Rattle.xa_branch.proofs.Timed.{times_change, times_map}
 
 pub record KeepsLasting (f : Branch → Branch) : Type 0 where
   pub name : (b : Branch) → name_of (f b).phase ≡ name_of b.phase
   pub lasts : (b : Branch) → lasting_in (f b) ≡ lasting_in b
   pub plain : (b : Branch) → is_prepared (f b).phase ≡ is_prepared b.phase
+  pub time : (b : Branch) → (f b).timestamp ≡ b.timestamp
 
 called_same : (f : Branch → Branch) → KeepsLasting f → (q : Triple) (b : Branch) → is_known_as q (f b) ≡ is_known_as q b
 called_same f k q b = ap (λ (o : Option Triple). is_with q o) (k.name b)
@@ -48,3 +51,11 @@ prepared_change p f k bs = count_same p f (λ b. is_prepared b.phase) k.plain bs
 
 pub prepared_map : (f : Branch → Branch) → KeepsLasting f → (bs : List Branch) → prepared_among (map f bs) ≡ prepared_among bs
 prepared_map f k bs = count_map f (λ b. is_prepared b.phase) k.plain bs
+
+-- they are known at the same timestamps
+
+pub timed_change : (p : Branch → Bool) (f : Branch → Branch) → KeepsLasting f → (t : ℕ) (bs : List Branch) → is_known_at t (change p f bs) ≡ is_known_at t bs
+timed_change p f k t bs = times_change p f k.name k.time t bs
+
+pub timed_map : (f : Branch → Branch) → KeepsLasting f → (t : ℕ) (bs : List Branch) → is_known_at t (map f bs) ≡ is_known_at t bs
+timed_map f k t bs = times_map f k.name k.time t bs

@@ -4,6 +4,7 @@ pub mod Setting
 pub mod Listing
 pub mod Knowing
 pub mod Beginning
+pub mod Timed
 pub mod Lastings
 pub mod Marking
 pub mod Finding
@@ -17,4 +18,6 @@ pub mod Shifting
 pub mod Elsewhere
 pub mod Behind
 pub mod HangingUp
+pub mod Retimed
+pub mod Oldest
 pub mod Returning

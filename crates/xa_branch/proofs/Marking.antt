@@ -15,7 +15,7 @@ use Rattle.xa_branch.specs.declared.working.Working.{Working as Kept}
 use Rattle.xa_branch.specs.Branches.{BranchesStandFor, working_at, working_by, working_in, lasting_by, is_prepared}
 use Rattle.xa_branch.specs.Calls.{marked_with}
 use Rattle.xa_branch.specs.Changes.{Sets, marked}
-use Rattle.xa_branch.proofs.Lastings.{KeepsLasting, lasting_change, prepared_change}
+use Rattle.xa_branch.proofs.Lastings.{KeepsLasting, lasting_change, prepared_change, timed_change}
 
 -- a change that finds something leaves as many as it found
 pub same_number : (f : Kept → Kept) (o : Option Kept) (n k : ℕ) → n + cond (is_some o) 1 0 ≡ k + cond (is_some (option_map f o)) 1 0 → n ≡ k
@@ -43,7 +43,7 @@ marked_lasts code t (Prepared x) = refl
 marked_lasts code t Committed = refl
 
 pub marked_keeps : (code : ℤ) → KeepsLasting (with_mark code)
-marked_keeps code = record { name = λ b. marked_name code b.phase; lasts = λ b. marked_lasts code b.timestamp b.phase; plain = λ b. marked_plain code b.phase }
+marked_keeps code = record { name = λ b. marked_name code b.phase; lasts = λ b. marked_lasts code b.timestamp b.phase; plain = λ b. marked_plain code b.phase; time = λ b. refl }
 
 marked_by : (code : ℤ) (held : List Association) (q : Triple) (t : ℕ) (p : Phase) → option_map (marked code) (working_by held q t p) ≡ working_by held q t (marked_phase code p)
 marked_by code held q t (Working x mark) = refl
@@ -85,6 +85,7 @@ marked_stands m after s xid code st sets = record {
       count_same (is_known_as xid) (with_mark code) (λ b. is_some (name_of b.phase)) (λ b. ap (λ (o : Option Triple). is_some o) (marked_name code b.phase)) s.branches in
       ap (λ (n : ℕ). n + btree_map_len m.lasting) same ∙ st.known ∙ ap (λ (n : ℕ). n + length s.decided) (sym names);
   lasting = λ q. st.lasting q ∙ sym (lasting_change (is_known_as xid) (with_mark code) (marked_keeps code) q (decided_of s.decided q) s.branches);
+  times = λ t. st.times t ∙ sym (timed_change (is_known_as xid) (with_mark code) (marked_keeps code) t s.branches);
   prepared = st.prepared ∙ sym (prepared_change (is_known_as xid) (with_mark code) (marked_keeps code) s.branches);
   completed = st.completed;
 }

@@ -6,6 +6,7 @@ use Rattle.xa_xid.specs.Triple.{Triple, xid_eq}
 use Rattle.xa_xid.proofs.Same.{xid_same}
 use Rattle.xa_model.specs.State.{State, Branch, Phase, Prepared, name_of, is_known_as, known_of, known_count, decided_of, change}
 use Rattle.xa_model.specs.Branches.{prepared_phase, as_prepared, prepared}
+use Rattle.xa_model.specs.LowWater.{is_known_at}
 use Rattle.xa_model.specs.Sound.{IsSound}
 use Rattle.xa_model.proofs.Counts.{count_same}
 use Rattle.xa_model.proofs.Doubts.{prepared_name, prepared_known}
@@ -23,6 +24,7 @@ use Rattle.xa_branch.specs.Room.{HasRoom, kept_twice}
 use Rattle.xa_branch.proofs.Beginning.{prepared_known as prepared_are_known}
 use Rattle.xa_branch.proofs.Finding.{found_turned, found_fixed}
 use Rattle.xa_branch.proofs.Looks.{IsWorking, Seen, Nowhere, There, Doubtful, Done, seen, works, idle}
+use Rattle.xa_branch.proofs.Timed.{times_change}
 
 -- the branches after it
 
@@ -92,6 +94,10 @@ one_more s xid w is =
 as_many : (s : State) (xid : Triple) → known_count (after_of s xid) ≡ known_count s.branches
 as_many s xid = count_same (is_known_as xid) as_prepared (λ b. is_some (name_of b.phase)) (λ b. ap (λ (o : Option Triple). is_some o) (prepared_name b.phase)) s.branches
 
+-- it keeps its timestamp
+same_times : (s : State) (xid : Triple) (t : ℕ) → is_known_at t (after_of s xid) ≡ is_known_at t s.branches
+same_times s xid t = times_change (is_known_as xid) as_prepared (λ b. prepared_name b.phase) (λ b. refl) t s.branches
+
 -- one that is at work has room
 twice : (s : State) (xid : Triple) (w : Kept) → IsWorking s xid w → kept_twice s xid ≡ 1
 twice s xid w is = rw (is.found, is.phase) refl
@@ -113,6 +119,7 @@ room_made m lasting s xid w st e adds =
       boot = st.boot;
       given = st.given;
       working = st.working;
+      times = st.times;
       lasting = λ q. adds.at q ∙ rw (cmp_is_eq xid q) (prepared_lasting s xid q w (lasting_at m q) (xid_eq xid q) refl (st.lasting q) is);
       known =
           let nor : lasting_at m xid ≡ None = st.lasting xid ∙ nor_lasting s xid w works in
@@ -129,6 +136,7 @@ no_room_made m s xid st e =
       boot = st.boot;
       given = st.given;
       working = st.working;
+      times = st.times;
       lasting = λ q. st.lasting q ∙ sym (ap (λ (bs : List Branch). lasting_among (known_of bs q) (decided_of s.decided q)) (there_none s xid none));
       known = omega (arith, st.known, once_of s xid none);
       prepared = st.prepared;
@@ -146,6 +154,7 @@ prepared_stands m working n s xid w h st e takes more =
       given = st.given;
       working = λ q. takes.at q ∙ rw (cmp_is_eq xid q) (prepared_look m s xid q w (xid_eq xid q) refl st is);
       lasting = st.lasting;
+      times = λ t. st.times t ∙ sym (same_times s xid t);
       known = let less = rw e at takes.number in omega (arith, less, twice s xid w is, as_many s xid, st.known);
       prepared = omega (arith, more, st.prepared, one_more s xid w is, h.known, prepared_are_known s.branches);
       completed = st.completed;
@@ -160,6 +169,7 @@ unprepared_stands m s xid st e =
       given = st.given;
       working = λ q. st.working q ∙ sym (ap (λ (bs : List Branch). option_and_then (working_in s.associations q) (known_of bs q)) same);
       lasting = st.lasting;
+      times = λ t. st.times t ∙ sym (same_times s xid t);
       known = omega (arith, st.known, once_of s xid none, as_many s xid);
       prepared = st.prepared ∙ sym (ap prepared_among same);
       completed = st.completed;
@@ -176,6 +186,7 @@ given_back m lasting s xid w st e takes =
       boot = st.boot;
       given = st.given;
       working = st.working;
+      times = st.times;
       lasting = λ q. takes.at q ∙ rw (cmp_is_eq xid q, st.lasting q) (unprepared_lasting s xid q (xid_eq xid q) refl (nor_lasting s xid w works));
       known =
           let there : lasting_at m xid ≡ Some (lasts.Prepared is.branch.timestamp) = st.lasting xid ∙ rw (here s xid w is, is.phase) refl in
@@ -192,6 +203,7 @@ nothing_back m s xid st e =
       boot = st.boot;
       given = st.given;
       working = st.working;
+      times = st.times;
       lasting = λ q. st.lasting q ∙ ap (λ (bs : List Branch). lasting_among (known_of bs q) (decided_of s.decided q)) (there_none s xid none);
       known = omega (arith, st.known, once_of s xid none);
       prepared = st.prepared;

@@ -1,7 +1,8 @@
 -- Branches that are restored one by one, and the states that they stand for then.
-use Rattle.std.proofs.Common.{◌≡◌, ℕ, ◌+◌, ◌<◌, ◌≤◌, ◌^◌, ◌-◌, Bool, true, false, cond, min, Option, Some, None, List, [], ◌∷◌, ◌++◌, length, refl, ap, sym, ◌∙◌, subst, arith}
+use Rattle.std.proofs.Common.{◌≡◌, ℕ, ◌+◌, ◌<◌, ◌≤◌, ◌^◌, ◌-◌, ◌==◌, Bool, true, false, cond, min, Option, Some, None, List, [], ◌∷◌, ◌++◌, length, refl, ap, sym, ◌∙◌, subst, arith}
 use Rattle.std.specs.Prelude.{find, option_map, option_and_then, is_some}
 use Rattle.std.specs.BTreeMap.{BTreeMap, btree_map_len}
+use Rattle.std.specs.BTreeSet.{BTreeSet}
 use Rattle.std.specs.List.{AllByRecursion, list_any}
 use Rattle.std.specs.Option.{option_or}
 use Rattle.std.proofs.lemmas.List.{length-append}
@@ -22,8 +23,10 @@ use Rattle.xa_branch.specs.declared.branches.Branches.{Branches}
 use Rattle.xa_branch.specs.declared.lasting.Lasting.{Lasting}
 use Rattle.xa_branch.specs.declared.lasting.Lasting.TheVariants as lasts
 use Rattle.xa_branch.specs.Branches.{working_in, lasting_at, lasting_in, lasting_by, lasting_among, lasting_of, prepared_among, is_prepared as is_held}
-use Rattle.xa_branch.specs.Changes.{Sets}
+use Rattle.xa_branch.specs.Changes.{Sets, SetsTime}
 use Rattle.xa_branch.specs.Restored.{HasRestored, RestoredStand, restored_by, restored_at}
+use Rattle.xa_branch.proofs.Retimed.{is_held_at, held_last, held_times}
+use Rattle.xa_branch.proofs.Timed.{begun_time}
 
 -- one more, at the end
 
@@ -55,14 +58,16 @@ prepared_look : (m : Branches) (n : ℕ) (ps : List PreparedBranch) (ds : List D
 prepared_look m n ps ds p q true e h = refl
 prepared_look m n ps ds p q false e h = h.lasting q
 
-pub prepared_more : (m : Branches) (lasting : BTreeMap Triple Lasting) (k n : ℕ) (ps : List PreparedBranch) (ds : List Decided) (p : PreparedBranch) → is_prepared p.xid ps ≡ false → is_decided p.xid ds ≡ false
-    → HasRestored m n ps ds → Sets m.lasting p.xid (Some (lasts.Prepared p.timestamp)) lasting → btree_map_len m.lasting < 2 ^ 63 → k ≡ min (m.prepared + 1) (2 ^ 64 - 1)
-    → HasRestored (record m { lasting = lasting; prepared = k }) n (ps ++ p ∷ []) ds
-prepared_more m lasting k n ps ds p a b h adds few more = record {
+pub prepared_more : (m : Branches) (lasting : BTreeMap Triple Lasting) (ts : BTreeSet ℕ) (k n : ℕ) (ps : List PreparedBranch) (ds : List Decided) (p : PreparedBranch) → is_prepared p.xid ps ≡ false → is_decided p.xid ds ≡ false
+    → HasRestored m n ps ds → Sets m.lasting p.xid (Some (lasts.Prepared p.timestamp)) lasting → btree_map_len m.lasting < 2 ^ 63 → k ≡ min (m.prepared + 1) (2 ^ 64 - 1) → SetsTime m.times p.timestamp true ts
+    → HasRestored (record m { lasting = lasting; times = ts; prepared = k }) n (ps ++ p ∷ []) ds
+prepared_more m lasting ts k n ps ds p a b h adds few more timed = record {
   boot = h.boot;
   given = h.given;
   working = h.working;
   lasting = λ q. adds.at q ∙ rw (cmp_is_eq p.xid q, found_last (λ x. x.xid) ps p q (xid_eq p.xid q) refl a) (prepared_look m n ps ds p q (xid_eq p.xid q) refl h);
+  times = λ t.
+      timed t ∙ ap (λ (q : Bool). cond (p.timestamp == t) true q) (h.times t) ∙ sym (held_last t ps p ∙ begun_time p.timestamp t (is_held_at t ps));
   number =
       let none : lasting_at m p.xid ≡ None = not_there m n ps ds p.xid (xid_eq_itself p.xid) a b h in
       let counted = rw none at adds.number in
@@ -84,6 +89,7 @@ completed_more m lasting k n ps ds d a b h adds few more = record {
   given = h.given;
   working = h.working;
   lasting = λ q. adds.at q ∙ rw (cmp_is_eq d.xid q, found_last (λ x. x.xid) ds d q (xid_eq d.xid q) refl b) (completed_look m n ps ds d q (xid_eq d.xid q) refl a h);
+  times = h.times;
   number =
       let none : lasting_at m d.xid ≡ None = not_there m n ps ds d.xid (xid_eq_itself d.xid) a b h in
       let counted = rw none at adds.number in
@@ -224,6 +230,7 @@ restored_stand m d next s h r =
       given = h.given ∙ sym r.given;
       working = λ xid. rw h.working (sym (idle_look s xid (known_of s.branches xid) r.idle refl));
       lasting = λ xid. h.lasting xid ∙ rw (← ps, ← ds) (found_lasting s xid sound);
+      times = λ t. h.times t ∙ sym (ap (is_held_at t) ps) ∙ held_times t s.branches r.idle;
       known =
           let empty : btree_map_len m.working ≡ 0 = ap length h.working in
           omega (arith, empty, h.number, h.prepared, h.completed, prepared, completed, idle_count s.branches r.idle);

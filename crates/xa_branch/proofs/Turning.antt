@@ -85,6 +85,7 @@ turned_stands m kept s xid after f st turns sets = record {
   given = st.given;
   working = λ q. sets.at q ∙ rw (cmp_is_eq xid q) (turned_look m s xid q after f (xid_eq xid q) refl st turns);
   lasting = st.lasting;
+  times = st.times;
   known = ap (λ (k : ℕ). k + btree_map_len m.lasting) (same_number f (working_at m xid) (btree_map_len kept) (btree_map_len m.working) sets.number) ∙ st.known;
   prepared = st.prepared;
   completed = st.completed;

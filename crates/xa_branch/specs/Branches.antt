@@ -1,9 +1,12 @@
 -- Which states of the sequential resource manager the known branches stand for.
 use Rattle.std.specs.Prelude.{ℕ, ◌≡◌, ◌+◌, ℤ, Bool, true, false, Option, Some, None, List, length, option_map, option_and_then}
 use Rattle.std.specs.BTreeMap.{get, btree_map_len}
+use Rattle.std.specs.BTreeSet.{contains}
+use Rattle.std.specs.Ordering.{nat_cmp}
 use Rattle.xa_codes.specs.declared.direction.Direction.{Direction}
 use Rattle.xa_xid.specs.Triple.{Triple, xid_cmp}
 use Rattle.xa_model.specs.State.{State, Branch, Phase, Working, Prepared, Committed, Association, count, known_of, known_in, decided_of}
+use Rattle.xa_model.specs.LowWater.{is_known_at}
 use Rattle.xa_branch.specs.declared.branches.Branches.{Branches}
 use Rattle.xa_branch.specs.declared.kind.Kind.TheVariants as kind
 use Rattle.xa_branch.specs.declared.lasting.Lasting.{Lasting}
@@ -18,6 +21,10 @@ working_at m xid = get xid_cmp m.working xid
 -- what is kept of the prepared or completed branch with this XID
 abbrev pub lasting_at : Branches → Triple → Option Lasting
 lasting_at m xid = get xid_cmp m.lasting xid
+
+-- whether a branch at work or a prepared one is kept under this timestamp
+abbrev pub timed_at : Branches → ℕ → Bool
+timed_at m t = contains nat_cmp m.times t
 
 -- how many branches are kept
 abbrev pub number_of : Branches → ℕ
@@ -80,6 +87,7 @@ pub record BranchesStandFor (m : Branches) (s : State) : Type 0 where
   pub given : m.given ≡ s.given
   pub working : (xid : Triple) → working_at m xid ≡ working_of s xid
   pub lasting : (xid : Triple) → lasting_at m xid ≡ lasting_of s xid
+  pub times : (t : ℕ) → timed_at m t ≡ is_known_at t s.branches
   pub known : number_of m ≡ known_in s
   pub prepared : m.prepared ≡ prepared_in s
   pub completed : m.completed ≡ length s.decided

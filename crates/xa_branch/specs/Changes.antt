@@ -1,8 +1,8 @@
 -- What calls change of what is kept.
-use Rattle.std.specs.Prelude.{ℕ, ◌≡◌, ◌+◌, ◌-◌, ◌^◌, ℤ, min, Option, None, cond, is_some, option_map}
+use Rattle.std.specs.Prelude.{ℕ, ◌≡◌, ◌+◌, ◌-◌, ◌^◌, ◌==◌, ℤ, min, Bool, Option, None, cond, is_some, option_map}
 use Rattle.std.specs.BTreeMap.{BTreeMap, get, btree_map_len}
 use Rattle.std.specs.BTreeSet.{BTreeSet, contains}
-use Rattle.std.specs.Ordering.{is_eq}
+use Rattle.std.specs.Ordering.{nat_cmp, is_eq}
 use Rattle.xa_codes.specs.declared.codes.TheConstants.{XA_RBCOMMFAIL}
 use Rattle.xa_xid.specs.Triple.{Triple, xid_cmp}
 use Rattle.xa_model.specs.Associations.{or_mark}
@@ -15,6 +15,10 @@ use Rattle.xa_branch.specs.Kinds.{own_kind}
 pub record Sets {V : Type 0} (m : BTreeMap Triple V) (xid : Triple) (o : Option V) (m' : BTreeMap Triple V) : Type 0 where
   pub at : (q : Triple) → get xid_cmp m' q ≡ cond (is_eq (xid_cmp xid q)) o (get xid_cmp m q)
   pub number : btree_map_len m' + cond (is_some (get xid_cmp m xid)) 1 0 ≡ btree_map_len m + cond (is_some o) 1 0
+
+-- a timestamp is among these from now on, or no more, and no other changes
+abbrev pub SetsTime : BTreeSet ℕ → ℕ → Bool → BTreeSet ℕ → Type 0
+SetsTime ts t b ts' = (u : ℕ) → contains nat_cmp ts' u ≡ cond (t == u) b (contains nat_cmp ts u)
 
 -- a branch that has just begun
 abbrev pub new_kept : ℕ → Kept

@@ -1,6 +1,7 @@
 -- Branches that are restored from what lasted.
-use Rattle.std.specs.Prelude.{ℕ, ◌≡◌, ◌+◌, Option, Some, None, List, find, length, option_map}
+use Rattle.std.specs.Prelude.{ℕ, ◌≡◌, ◌+◌, ◌==◌, Option, Some, None, List, find, length, option_map}
 use Rattle.std.specs.BTreeMap.{IsEmpty, btree_map_len}
+use Rattle.std.specs.List.{list_any}
 use Rattle.xa_xid.specs.Triple.{Triple, xid_eq}
 use Rattle.xa_model.specs.State.{State, Decided}
 use Rattle.xa_model.specs.Durable.{Durable, PreparedBranch}
@@ -8,7 +9,7 @@ use Rattle.xa_model.specs.Restored.{IsRestored}
 use Rattle.xa_branch.specs.declared.branches.Branches.{Branches}
 use Rattle.xa_branch.specs.declared.lasting.Lasting.{Lasting}
 use Rattle.xa_branch.specs.declared.lasting.Lasting.TheVariants as lasting
-use Rattle.xa_branch.specs.Branches.{BranchesStandFor, lasting_at}
+use Rattle.xa_branch.specs.Branches.{BranchesStandFor, lasting_at, timed_at}
 
 -- what is kept of an XID: that its branch is prepared, or what the operator decided
 abbrev pub restored_by : Option PreparedBranch → Option Decided → Option Lasting
@@ -25,6 +26,7 @@ pub record HasRestored (m : Branches) (n : ℕ) (ps : List PreparedBranch) (ds :
   pub given : m.given ≡ 0
   pub working : IsEmpty m.working
   pub lasting : (xid : Triple) → lasting_at m xid ≡ restored_at ps ds xid
+  pub times : (t : ℕ) → timed_at m t ≡ list_any (λ p. p.timestamp == t) ps
   pub number : btree_map_len m.lasting ≡ length ps + length ds
   pub prepared : m.prepared ≡ length ps
   pub completed : m.completed ≡ length ds

@@ -6,7 +6,7 @@ ghost use Rattle.xa_branch.specs.Branches.{BranchesStandFor};
 ghost use Rattle.xa_branch.specs.Calls.{begin_fault, fault_of, marked_with};
 
 use crate::branches::Branches;
-use crate::changes::{add, set};
+use crate::changes::{add, add_time, set, take};
 use crate::fault::BeginFault;
 use crate::working::Working;
 use xa_codes::Code;
@@ -17,7 +17,7 @@ const MOST_BRANCHES: usize = 4096;
 /// The most timestamps that one boot gives.
 const MOST_GIVEN: u64 = 4294967295;
 /// How many timestamps a boot's number makes room for.
-const BOOT: u64 = 4294967296;
+pub(crate) const BOOT: u64 = 4294967296;
 
 /// How branches begin, and are marked.
 impl Branches {
@@ -38,10 +38,16 @@ impl Branches {
         let timestamp = u64::from(self.boot) * BOOT + self.given + 1;
         match add(&mut self.working, xid.copied(), Working::new(timestamp)) {
             Err(_) => Err(BeginFault::Memory),
-            Ok(()) => {
-                self.given += 1;
-                Ok(timestamp)
-            }
+            Ok(()) => match add_time(&mut self.times, timestamp) {
+                Err(_) => {
+                    take(&mut self.working, xid);
+                    Err(BeginFault::Memory)
+                }
+                Ok(()) => {
+                    self.given += 1;
+                    Ok(timestamp)
+                }
+            },
         }
     }
 

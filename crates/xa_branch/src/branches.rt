@@ -9,12 +9,13 @@ use crate::lasting::Lasting;
 use crate::state::State;
 use crate::working::Working;
 use std::alloc::Global;
-use std::collections::BTreeMap;
+use std::collections::{BTreeMap, BTreeSet};
 use xa_codes::{Code, Direction, XAER_NOTA, XAER_PROTO};
 use xa_xid::Xid;
 
 /// The known branches, by their XIDs, and how many timestamps this boot gave. What lasts over a restart stands by itself:
-/// the prepared branches, and the XIDs whose branches the operator completed, with how many there are of each.
+/// the prepared branches, and the XIDs whose branches the operator completed, with how many there are of each. The timestamps
+/// of the branches at work and of the prepared ones stand in order, for the least of them.
 ///
 /// What a call promises holds for every state of the sequential resource manager that the branches stood for. Each call
 /// takes time that grows with the logarithm of the number of branches, `hang_up` that for each branch that the session
@@ -25,6 +26,7 @@ pub struct Branches {
     pub(crate) given: u64,
     pub(crate) working: BTreeMap<Xid, Working>,
     pub(crate) lasting: BTreeMap<Xid, Lasting>,
+    pub(crate) times: BTreeSet<u64>,
     pub(crate) prepared: usize,
     pub(crate) completed: usize,
 }
@@ -47,6 +49,7 @@ impl Branches {
             given: next.saturating_sub(1),
             working: BTreeMap::new(alloc),
             lasting: BTreeMap::new(alloc),
+            times: BTreeSet::new(alloc),
             prepared: 0,
             completed: 0,
         }

@@ -1,7 +1,7 @@
-ghost use Rattle.std.specs.Prelude.{◌≡◌, None, Some, OnOk, OnErr, option_map, option_copied};
+ghost use Rattle.std.specs.Prelude.{◌≡◌, true, false, None, Some, OnOk, OnErr, option_map, option_copied};
 ghost use Rattle.std.specs.BTreeMap.{get};
 ghost use Rattle.xa_xid.specs.Triple.{xid_cmp};
-ghost use Rattle.xa_branch.specs.Changes.{Sets, LeavesAll, left_behind};
+ghost use Rattle.xa_branch.specs.Changes.{Sets, SetsTime, LeavesAll, left_behind};
 
 use crate::kind::Kind;
 use crate::working::Working;
@@ -33,6 +33,22 @@ pub fn take<V: Drop>(kept: &mut BTreeMap<Xid, V>, xid: &Xid)
     ensures { Sets kept.old xid.now None kept.new }
 {
     kept.remove(xid);
+}
+
+/// Adds the timestamp of a branch.
+pub fn add_time(times: &mut BTreeSet<u64>, timestamp: u64) -> Result<(), AllocError>
+    ensures ok { OnOk result (SetsTime times.old timestamp true times.new) }
+    ensures err { OnErr result (times.new.keys ≡ times.old.keys) }
+{
+    times.insert(timestamp)?;
+    Ok(())
+}
+
+/// Takes the timestamp of a branch away.
+pub fn take_time(times: &mut BTreeSet<u64>, timestamp: u64)
+    ensures { SetsTime times.old timestamp false times.new }
+{
+    times.remove(&timestamp);
 }
 
 /// A session leaves a branch behind: its association of this kind ends, and the branch is marked.

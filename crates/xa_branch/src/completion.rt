@@ -6,7 +6,7 @@ ghost use Rattle.xa_branch.specs.Branches.{BranchesStandFor};
 ghost use Rattle.xa_branch.specs.Room.{HasRoom};
 
 use crate::branches::Branches;
-use crate::changes::{add, set, take};
+use crate::changes::{add, set, take, take_time};
 use crate::lasting::Lasting;
 use std::alloc::AllocError;
 use xa_codes::Direction;
@@ -60,8 +60,9 @@ impl Branches {
         ensures other { (s : ModelState) → BranchesStandFor self.old s → known_as s xid.now ≢ InDoubt → BranchesStandFor self.new s }
     {
         match self.lasting_of(xid) {
-            Some(Lasting::Prepared(_)) => {
+            Some(Lasting::Prepared(timestamp)) => {
                 set(&mut self.lasting, xid, Lasting::Completed(direction));
+                take_time(&mut self.times, timestamp);
                 self.prepared = self.prepared.saturating_sub(1);
                 self.completed = self.completed.saturating_add(1);
             }
@@ -76,12 +77,18 @@ impl Branches {
         ensures committed { (s : ModelState) → IsSound s → BranchesStandFor self.old s → BranchesStandFor self.new (committed s xid.now) }
     {
         match self.lasting_of(xid) {
-            Some(Lasting::Prepared(_)) => {
+            Some(Lasting::Prepared(timestamp)) => {
                 take(&mut self.lasting, xid);
+                take_time(&mut self.times, timestamp);
                 self.prepared = self.prepared.saturating_sub(1);
             }
             Some(Lasting::Completed(_)) => {}
-            None => take(&mut self.working, xid),
+            None => {
+                if let Some(working) = self.working_of(xid) {
+                    take(&mut self.working, xid);
+                    take_time(&mut self.times, working.timestamp);
+                }
+            }
         }
     }
 

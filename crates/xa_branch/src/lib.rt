@@ -1,5 +1,23 @@
 //! The known branches: their timestamps, their marks, and how many associations each has, which of them are prepared or were
-//! completed by the operator, and the states that follow from these (X/Open C193's branch table).
+//! completed by the operator, and the states that follow from these (X/Open C193's branch table). Whose the associations are
+//! is `xa_assoc`'s.
+//!
+//! What is kept, and what is asked of it:
+//!
+//! - `branches`: `Branches`, the table by XID, with how many timestamps this boot gave; and what is asked of it
+//! - `working`: `Working`, a branch at work; `kind`: `Kind`, of one association
+//! - `lasting`: `Lasting`, what of a branch outlives the boot: it is in doubt, or was completed by the operator
+//! - `known`: `Known`, what is known of an XID; `state`: `State`, the state that follows
+//! - `refusals`: `one_phase_refusal`, `two_phase_refusal`, `rollback_refusal` and `doom_refusal`, by what is known alone
+//!
+//! What changes:
+//!
+//! - `acts`: a branch begins, or is marked; `fault`: `BeginFault`, why it doesn't begin
+//! - `associations`: joins, suspensions, resumes, ends, and what a broken session leaves behind
+//! - `completion`: a branch is prepared, completed, forgotten. Room is made first, so that what follows the log can't fail
+//! - `restoring`: what lasted is put into new branches; `recovery`: `Branches::list_after`, what recovery lists
+//! - `changes`: how the maps change, below all of these
+//! - `laws`: `restored_stand`, what is restored stands for what lasted; `worked_states`, worked rows
 #![tactic(auto)]
 
 mod acts;
@@ -12,6 +30,7 @@ mod kind;
 mod known;
 mod lasting;
 mod laws;
+mod low_water;
 mod recovery;
 mod refusals;
 mod restoring;

@@ -4,7 +4,7 @@ ghost use Rattle.xa_model.specs.Durable.{PreparedBranch, is_prepared, is_decided
 ghost use Rattle.xa_branch.specs.Restored.{HasRestored};
 
 use crate::branches::Branches;
-use crate::changes::add;
+use crate::changes::{add, add_time};
 use crate::lasting::Lasting;
 use std::alloc::AllocError;
 use xa_codes::Direction;
@@ -21,6 +21,7 @@ impl Branches {
     {
         prove!(self.lasting.len() < usize::MAX);
         add(&mut self.lasting, xid, Lasting::Prepared(timestamp))?;
+        add_time(&mut self.times, timestamp)?;
         self.prepared = self.prepared.saturating_add(1);
         Ok(())
     }

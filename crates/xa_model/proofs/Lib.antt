@@ -85,3 +85,6 @@ pub mod MovingTurns
 pub mod Preparing
 pub mod Copies
 pub mod Totals
+pub mod LowWaters
+pub mod ChangedWaters
+pub mod WorkedLowWaters

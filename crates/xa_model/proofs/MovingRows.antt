@@ -90,10 +90,10 @@ prepared_ok Committed e = e
 prepared_goes : (b : Branch) → GoesOn b (as_prepared b)
 prepared_goes b = record { timestamp = refl; operations = refl; committed = prepared_committed b.phase; mark = prepared_ok b.phase }
 
-gone : (s : State) (xid : Triple) → Moves (core s) (core (rolled_back s xid))
+pub gone : (s : State) (xid : Triple) → Moves (core s) (core (rolled_back s xid))
 gone s xid = remains (without (is_known_as xid) s.branches) (left_remain xid s.branches)
 
-commits : (s : State) (xid : Triple) → Moves (core s) (core (committed s xid))
+pub commits : (s : State) (xid : Triple) → Moves (core s) (core (committed s xid))
 commits s xid = remains (change (is_known_as xid) as_committed s.branches) (changed_remain (is_known_as xid) as_committed committed_goes s.branches)
 
 marks : (s : State) (code : ℤ) (xid : Triple) → (code ≡ XA_OK → ⊥) → Moves (core s)

@@ -25,6 +25,8 @@ pub mod Room
 pub mod Total
 pub mod Laws
 pub mod ListedLaw
+pub mod LowWater
+pub mod LowWaterLaws
 pub mod OneCopy
 pub mod DurableLaws
 pub mod LoggingLaws
@@ -43,3 +45,4 @@ pub mod WorkedDevice
 pub mod WorkedRecovery
 pub mod WorkedLasting
 pub mod WorkedOneCopy
+pub mod WorkedLowWater

@@ -6,6 +6,8 @@ ghost use Rattle.xa_model.specs.BackingLaws.{KeepsRecoverable, AlwaysRecoverable
 ghost use Rattle.xa_model.specs.Room.{KeepsRoom, RestartKeepsRoom};
 ghost use Rattle.xa_model.specs.OneCopy.{AlwaysOneCopy, FreshOneCopy, OpenedOneCopy};
 ghost use Rattle.xa_model.specs.ListedLaw.{ListedUntilAsked, ListedSinceBoot};
+ghost use Rattle.xa_model.specs.LowWaterLaws.{BelowKnown, IsReached, BelowNext, NeverFalls};
+ghost use Rattle.xa_model.specs.WorkedLowWater.{WaterRises};
 ghost use Rattle.xa_model.specs.WorkedLog.{HeldAndCommitted, DecidedAndForgotten, RolledBack, LastWrites, InOrder, BootsInOrder, TimestampsInOrder, NamesInOrder, SnapshotsInOrder};
 ghost use Rattle.xa_model.specs.WorkedLasting.{StatesLeave, CommittedLeaves};
 ghost use Rattle.xa_model.specs.WorkedOneCopy.{ReadsBelow, MissesDelete, MissesOwnDelete, ReadsAbove, RecordsRead};
@@ -260,4 +262,18 @@ pub fn worked_copies()
     ensures misses_own { MissesOwnDelete }
     ensures above { ReadsAbove }
     ensures records { RecordsRead }
+{}
+
+/// The low water, the least timestamp of a known branch, or, if there is none, the last that this boot gave: no known branch
+/// stands below it, and none will, since whatever happens it never falls.
+pub fn low_water()
+    ensures known { BelowKnown }
+    ensures reached { IsReached }
+    ensures next { BelowNext }
+    ensures never_falls { NeverFalls }
+{}
+
+/// Worked rows of the low water: a branch that is prepared holds it, and one that is completed doesn't.
+pub fn worked_low_water()
+    ensures { WaterRises }
 {}

@@ -1,6 +1,22 @@
 //! The sequential resource manager: its states, its one step, and histories. It answers by the tables of C193, and
 //! orders reads and writes by multiversion timestamp ordering (Bernstein, Hadzilacos and Goodman, 5.3). What the
 //! contracts of the layers above speak of stands in `specs/`; the program's part is the types of events and outcomes.
+//!
+//! The definitions, in an order to read; docs/MODEL.md retells them:
+//!
+//! - `State`, the state; `Source`, which version of a key a timestamp reads
+//! - `Early`, the refusals before a call's row. The rows: `Associations`, `Branches`, `Records`, `Recovering`
+//! - `Turn`, what is asked of the device, and what comes of its answers; `Completions` and `Logging`, of the calls that log
+//! - `Fold` and `Durable`, what lasts; `Restarting`, restarts and openings; `Room`, the room that the log keeps
+//! - `Step`, the one step; `History`; and what is proved of histories, of which `OneCopy` and `ListedLaw` come first
+//!
+//! The modules:
+//!
+//! - `event`: `Event`, what is asked; `outcome`: `Outcome` and `Appending`, what the device did
+//! - `laws`: functions that do nothing, and whose contracts are theorems on the definitions. Of histories `one_history`,
+//!   `total`, `sound`, `recoverable`, `one_copy` and `listed_until_asked`; of what lasts `lasting`, `sound_lasting`,
+//!   `logged_lasts`, `backed`, `restored` and `roomy`. Those that begin with `worked_` are worked rows: replies that the
+//!   definitions compute
 #![tactic(auto)]
 
 mod event;
@@ -9,9 +25,9 @@ mod outcome;
 
 pub use event::Event;
 pub use laws::{
-    backed, lasting, listed_until_asked, logged_lasts, one_copy, one_history, recoverable,
-    restored, roomy, sound, sound_lasting, total, worked_associations, worked_copies,
-    worked_limits, worked_logs, worked_marks, worked_recovery, worked_refusals, worked_rows,
-    worked_turns, worked_versions,
+    backed, lasting, listed_until_asked, logged_lasts, low_water, one_copy, one_history,
+    recoverable, restored, roomy, sound, sound_lasting, total, worked_associations, worked_copies,
+    worked_limits, worked_logs, worked_low_water, worked_marks, worked_recovery, worked_refusals,
+    worked_rows, worked_turns, worked_versions,
 };
 pub use outcome::{Appending, Outcome};

@@ -9,15 +9,15 @@ use Rattle.xa_branch.proofs.branches.Branches.decide.Goals as goal
 pub returns-in-Some-Prepared-clause-decided : goal.returns-in-Some-Prepared-clause-decided
 returns-in-Some-Prepared-clause-decided c = λ s h st e.
     let m = c.args.self.now in
-    let there : lasting_at m c.args.xid.now ≡ Some (lasts.Prepared c.in-Some-Prepared.field-0-0) = search rules in
-    decided_stands m _ _ _ s c.args.direction c.args.xid.now c.in-Some-Prepared.field-0-0 h st there
-    (set_to m.lasting _ c.args.xid.now (lasts.Prepared c.in-Some-Prepared.field-0-0) (lasts.Completed c.args.direction) there c.set.ensures) c.saturating_sub-self.ensures c.saturating_add-self.ensures
+    let there : lasting_at m c.args.xid.now ≡ Some (lasts.Prepared c.in-Some-Prepared.timestamp) = search rules in
+    decided_stands m _ _ _ _ s c.args.direction c.args.xid.now c.in-Some-Prepared.timestamp h st there
+    (set_to m.lasting _ c.args.xid.now (lasts.Prepared c.in-Some-Prepared.timestamp) (lasts.Completed c.args.direction) there c.set.ensures) c.saturating_sub-self.ensures c.saturating_add-self.ensures c.take_time.ensures
 
 pub returns-in-Some-Prepared-clause-other : goal.returns-in-Some-Prepared-clause-other
 returns-in-Some-Prepared-clause-other c = λ s st other.
     let m = c.args.self.now in
-    let there : lasting_at m c.args.xid.now ≡ Some (lasts.Prepared c.in-Some-Prepared.field-0-0) = search rules in
-    absurd (other (in_doubt m s c.args.xid.now c.in-Some-Prepared.field-0-0 st there))
+    let there : lasting_at m c.args.xid.now ≡ Some (lasts.Prepared c.in-Some-Prepared.timestamp) = search rules in
+    absurd (other (in_doubt m s c.args.xid.now c.in-Some-Prepared.timestamp st there))
 
 pub returns-in-Some-Completed-clause-decided : goal.returns-in-Some-Completed-clause-decided
 returns-in-Some-Completed-clause-decided c = λ s h st e.

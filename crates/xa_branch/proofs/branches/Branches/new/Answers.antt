@@ -5,5 +5,5 @@ use Rattle.xa_branch.proofs.branches.Branches.new.Goals as goal
 pub returns-clause-fresh : goal.returns-clause-fresh
 returns-clause-fresh c = λ s boot given none.
     let before : c.saturating_sub.result ≡ s.given = omega (arith, c.saturating_sub.ensures) in
-    new_stands (record { boot = c.args.boot; given = c.saturating_sub.result; working = c.new.result; lasting = c.new-2.result; prepared = 0; completed = 0 }) s (sym boot) before c.new.ensures.empty c.new-2.ensures.empty
+    new_stands (record { boot = c.args.boot; given = c.saturating_sub.result; working = c.new.result; lasting = c.new-2.result; times = c.new-3.result; prepared = 0; completed = 0 }) s (sym boot) before c.new.ensures.empty c.new-2.ensures.empty c.new-3.ensures.empty
     refl refl none
