@@ -9,6 +9,7 @@ use Rattle.mv_chain.specs.declared.fate.Fate.TheVariants.{Committed, RolledBack}
 use Rattle.mv_chain.specs.declared.version.Version.{Version}
 use Rattle.mv_chain.specs.History.{Written, shown, newest, seen_of, stands, deciding, decided}
 use Rattle.mv_chain.specs.Chain.{as_written, shows_without, shows, is_marked, IsChain, IsPlace}
+use Rattle.mv_chain.specs.Look.{IsBelow}
 use Rattle.mv_chain.proofs.Seen.{seen_behind, seen_swapped, and_gone, but_not, cleared, seen_rolled_back, seen_committed}
 
 -- the place by indices
@@ -47,17 +48,47 @@ shows_last t (suc i) (v ∷ vs) d c h =
     grind (arith, nat_tests, shows_last t i vs d c.2 h.1, above.0)
 
 -- the mark of the last version below t decides
-pub marked_none : (t : ℕ) (vs : List Version) → 0 < t → IsPlace (t - 1) zero vs → is_marked t vs ≡ false
-marked_none t [] pos h = refl
-marked_none t (v ∷ vs) pos h = grind (arith, nat_tests, marked_none t vs pos h.1)
+pub marked_none : (t : ℕ) (vs : List Version) → IsBelow t zero vs → is_marked t vs ≡ false
+marked_none t [] h = refl
+marked_none t (v ∷ vs) h = grind (arith, nat_tests, h.0, marked_none t vs h.1)
 
-pub marked_last : (t i : ℕ) (vs : List Version) (d : Version) → 0 < t → IsChain vs → IsPlace (t - 1) (suc i) vs → is_marked t vs ≡ nat_lt t (get_or vs i d).mark
-marked_last t i [] d pos c h = absurd h
-marked_last t zero (v ∷ vs) d pos c h = grind (arith, nat_tests, marked_none t vs pos h.1)
-marked_last t (suc i) (v ∷ vs) d pos c h =
-    let above = each_at (λ w. (v.timestamp < w.timestamp) × (v.mark ≤ w.timestamp)) vs i d (place_within (t - 1) i vs h.1) c.0 in
-    let under = place_at (t - 1) i vs d h.1 in
-    grind (arith, nat_tests, marked_last t i vs d pos c.2 h.1, above.1)
+below_within : (t i : ℕ) (vs : List Version) → IsBelow t (suc i) vs → i < length vs
+below_within t i [] h = absurd h
+below_within t zero (v ∷ vs) h = omega arith
+below_within t (suc i) (v ∷ vs) h = let rest = below_within t i vs h.1 in omega arith
+
+below_at : (t i : ℕ) (vs : List Version) (d : Version) → IsBelow t (suc i) vs → (get_or vs i d).timestamp < t
+below_at t i [] d h = absurd h
+below_at t zero (v ∷ vs) d h = h.0
+below_at t (suc i) (v ∷ vs) d h = below_at t i vs d h.1
+
+pub marked_last : (t i : ℕ) (vs : List Version) (d : Version) → IsChain vs → IsBelow t (suc i) vs → is_marked t vs ≡ nat_lt t (get_or vs i d).mark
+marked_last t i [] d c h = absurd h
+marked_last t zero (v ∷ vs) d c h = grind (arith, nat_tests, h.0, marked_none t vs h.1)
+marked_last t (suc i) (v ∷ vs) d c h =
+    let above = each_at (λ w. (v.timestamp < w.timestamp) × (v.mark ≤ w.timestamp)) vs i d (below_within t i vs h.1) c.0 in
+    let under = below_at t i vs d h.1 in
+    grind (arith, nat_tests, marked_last t i vs d c.2 h.1, above.1)
+
+-- below t are all that are at most t, but for the one at t
+none_below : (t : ℕ) (vs : List Version) → IsPlace t zero vs → IsBelow t zero vs
+none_below t [] h = tt
+none_below t (v ∷ vs) h = (omega (arith, h.0), none_below t vs h.1)
+
+pub below_own : (t i : ℕ) (vs : List Version) (d : Version) → IsChain vs → IsPlace t (suc i) vs → (get_or vs i d).timestamp ≡ t → IsBelow t i vs
+below_own t i [] d c h own = absurd h
+below_own t zero (v ∷ vs) d c h own = (omega (arith, own), none_below t vs h.1)
+below_own t (suc i) (v ∷ vs) d c h own =
+    let above = each_at (λ w. (v.timestamp < w.timestamp) × (v.mark ≤ w.timestamp)) vs i d (place_within t i vs h.1) c.0 in
+    (omega (arith, above.0, own), below_own t i vs d c.2 h.1 own)
+
+pub below_new : (t i : ℕ) (vs : List Version) → IsPlace t i vs → Each (λ v. v.timestamp ≡ t → ⊥) vs → IsBelow t i vs
+below_new t zero vs h new = none_below t vs h
+below_new t (suc i) [] h new = absurd h
+below_new t (suc i) (v ∷ vs) h new = (strictly new.0, below_new t i vs h.1 new.1)
+  where
+    strictly : (v.timestamp ≡ t → ⊥) → v.timestamp < t
+    strictly ne = grind (arith, h.0, ne)
 
 -- a version put in among others of other timestamps
 pub shows_inserted : (p : Written → Bool) (i : ℕ) (vs : List Version) (w : Version) → Each (λ v. v.timestamp ≡ w.timestamp → ⊥) vs → newest p (map as_written (insert vs i w)) ≡ newest p (as_written w ∷ map as_written vs)
@@ -235,8 +266,3 @@ pub new_after : (vs : List Version) (t n : ℕ) (x : Version) → 0 < n → n �
 new_after vs t n x pos le ne j d e same =
     let k : n - 1 ≡ j = omega arith in
     ne (ap (λ v. v.timestamp) (ap (λ m. get_or vs m x) k ∙ read_any vs j x d (omega arith)) ∙ same)
-
--- nothing stands below 0
-pub marked_zero : (vs : List Version) → is_marked 0 vs ≡ false
-marked_zero [] = refl
-marked_zero (v ∷ vs) = grind (arith, nat_tests, marked_zero vs)

@@ -1,63 +1,37 @@
--- What a change leaves of a bound on the values.
-use Rattle.std.proofs.Common.{◌≡◌, ℕ, Bool, true, false, ◌&&◌, not, List, [], ◌∷◌, map, Option, refl}
-use Rattle.std.specs.Prelude.{nat_lt, nat_le, ◌==◌, if◌then◌else◌}
-use Rattle.std.specs.Prelude.{Result, Ok, Err, OnOk, OnErr}
-use Rattle.std.specs.List.{filter}
-use Rattle.mv_chain.specs.declared.fate.Fate.{Fate}
-use Rattle.mv_chain.specs.declared.fate.Fate.TheVariants.{Committed, RolledBack}
+-- What a step at one slot leaves of a bound on the values.
+use Rattle.std.proofs.Common.{◌≡◌, ◌≢◌, ℕ, Bool, true, false, List, Option, None, Some, refl, sym, subst, arith}
+use Rattle.std.specs.Prelude.{option_map, ◌==◌}
+use Rattle.std.proofs.lemmas.Bool.Decides.{nat_tests}
+use Rattle.slab.specs.Slab.{Updates, SameValues}
 use Rattle.mv_chain.specs.declared.version.Version.{Version}
-use Rattle.mv_chain.specs.History.{shown, stands, nobody}
-use Rattle.mv_chain.specs.Chain.{as_written, shows, raised, marked, may_install, unread, placed, installed, committing, settled}
+use Rattle.mv_chain.specs.declared.pool.Pool.{Pool}
+use Rattle.mv_chain.specs.Pool.{at, stored, version_at, ChangesAt}
+use Rattle.mv_chain.specs.Slots.{IsPutIn}
 use Rattle.mv_chain.specs.Within.{IsShort, IsWithin}
 
-pub shown_within : (n t : ℕ) (vs : List Version) → IsWithin n vs → IsShort n (shows t vs).value
-shown_within n t [] h = tt
-shown_within n t (v ∷ vs) h = at ((stands nobody v.timestamp (as_written v).fate && nat_le v.timestamp t) && nat_le (shows t vs).from v.timestamp) (shown_within n t vs h.1)
+-- one slot is changed, the others stay
+by_slot : (n slot : ℕ) (old new : Pool) → IsShort n (version_at new slot).value → ((s : ℕ) → s ≢ slot → at new s ≡ at old s) → IsWithin n old → IsWithin n new
+by_slot n slot old new short others h s = here (s == slot) refl
   where
-    at : (x : Bool) → IsShort n (shows t vs).value → IsShort n (if x then shown (as_written v) else shows t vs).value
-    at true rest = h.0
-    at false rest = rest
+    here : (x : Bool) → (s == slot) ≡ x → IsShort n (version_at new s).value
+    here true e = let same : s ≡ slot = grind (arith, nat_tests, e) in subst (λ (t : ℕ). IsShort n (version_at new t).value) (sym same) short
+    here false e = subst (λ (o : Option Version). IsShort n (stored o).value) (sym (others s (λ same. grind (arith, nat_tests, e, same)))) (h s)
 
-mapped_within : (n : ℕ) (f : Version → Version) → ((v : Version) → (f v).value ≡ v.value) → (vs : List Version) → IsWithin n vs → IsWithin n (map f vs)
-mapped_within n f same [] h = tt
-mapped_within n f same (v ∷ vs) h = (rw (same v) h.0, mapped_within n f same vs h.1)
+value_kept : (n : ℕ) (f : Version → Version) (o : Option Version) → ((v : Version) → IsShort n v.value → IsShort n (f v).value) → IsShort n (stored o).value → IsShort n (stored (option_map f o)).value
+value_kept n f None keeps h = tt
+value_kept n f (Some v) keeps h = keeps v h
 
-pub marked_within : (n from reader : ℕ) (vs : List Version) → IsWithin n vs → IsWithin n (marked from reader vs)
-marked_within n from reader vs h = at ((shows reader vs).from == from)
-  where
-    at : (x : Bool) → IsWithin n (if x then map (raised from reader) vs else vs)
-    at true = mapped_within n (raised from reader) (λ v. refl) vs h
-    at false = h
+pub changed_within : (n : ℕ) (f : Version → Version) (slot : ℕ) (old new : Pool) → ((v : Version) → IsShort n v.value → IsShort n (f v).value) → ChangesAt f slot old new → IsWithin n old → IsWithin n new
+changed_within n f slot old new keeps c h =
+    by_slot n slot old new (subst (λ (o : Option Version). IsShort n (stored o).value) (sym c.changed) (value_kept n f (at old slot) keeps (h slot))) c.others h
 
-placed_within : (n t : ℕ) (value : Option (List ℕ)) (vs : List Version) → IsShort n value → IsWithin n vs → IsWithin n (placed t value vs)
-placed_within n t value [] short h = (short, tt)
-placed_within n t value (v ∷ vs) short h = at (nat_lt t v.timestamp) (v.timestamp == t) (placed_within n t value vs short h.1)
-  where
-    at : (x y : Bool) → IsWithin n (placed t value vs)
-        → IsWithin n (if x then unread t value ∷ v ∷ vs else if y then record v { value = value } ∷ vs else v ∷ placed t value vs)
-    at true y rest = (short, h)
-    at false true rest = (short, h.1)
-    at false false rest = (h.0, rest)
+pub put_in_within : (n i : ℕ) (v : Version) (old new : Pool) (slots left : List ℕ) → IsShort n v.value → IsPutIn i v old slots new left → IsWithin n old → IsWithin n new
+put_in_within n i v old new slots left short (slot, is, vacant, u) h =
+    by_slot n slot old new (subst (λ (o : Option Version). IsShort n (stored o).value) (sym u.changed) short) u.others h
 
-pub installed_within : (n t : ℕ) (value : Option (List ℕ)) (vs : List Version) → IsShort n value → IsWithin n vs → IsWithin n (installed t value vs)
-installed_within n t value vs short h = at (may_install t vs)
-  where
-    at : (x : Bool) → IsWithin n (if x then placed t value vs else vs)
-    at true = placed_within n t value vs short h
-    at false = h
+pub taken_out_within : (n slot : ℕ) (old new : Pool) → Updates old.slab new.slab slot None → IsWithin n old → IsWithin n new
+taken_out_within n slot old new u h =
+    by_slot n slot old new (subst (λ (o : Option Version). IsShort n (stored o).value) (sym u.changed) tt) u.others h
 
-filtered_within : (n : ℕ) (p : Version → Bool) (vs : List Version) → IsWithin n vs → IsWithin n (filter p vs)
-filtered_within n p [] h = tt
-filtered_within n p (v ∷ vs) h = at (p v) (filtered_within n p vs h.1)
-  where
-    at : (x : Bool) → IsWithin n (filter p vs) → IsWithin n (if x then v ∷ filter p vs else filter p vs)
-    at true rest = (h.0, rest)
-    at false rest = rest
-
-pub settled_within : (n t : ℕ) (fate : Fate) (vs : List Version) → IsWithin n vs → IsWithin n (settled t fate vs)
-settled_within n t Committed vs h = mapped_within n (committing t) (λ v. refl) vs h
-settled_within n t RolledBack vs h = filtered_within n (λ v. not (v.pending && (v.timestamp == t))) vs h
-
-pub either_way : {X E : Type 0} {P Q G : Type 0} (r : Result X E) → OnOk r P → OnErr r Q → (P → G) → (Q → G) → G
-either_way (Ok x) done refused f g = f done
-either_way (Err e) done refused f g = g refused
+pub grown_within : (n : ℕ) (old new : Pool) → SameValues old.slab new.slab → IsWithin n old → IsWithin n new
+grown_within n old new same h s = subst (λ (o : Option Version). IsShort n (stored o).value) (sym (same s)) (h s)

@@ -67,6 +67,11 @@ settled t RolledBack versions = filter (λ v. not (v.pending && (v.timestamp == 
 abbrev pub has_base : ℕ → List Version → Bool
 has_base low versions = list_any (λ v. nat_le v.timestamp low && not v.pending) versions
 
+-- a committed version that no read from low on sees: another committed one above it is at most low
+abbrev pub pruned : ℕ → List Version → List Version
+pruned low [] = []
+pruned low (v ∷ later) = if not v.pending && has_base low later then pruned low later else v ∷ pruned low later
+
 -- From the timestamp low on, the versions of a key show what its writes and its answered reads say, whichever
 -- undecided branches are rolled back later. An undecided branch is shown its own write also below low.
 pub record StandsFor (key : List ℕ) (low : ℕ) (writes : List Written) (reads : List Answered) (versions : List Version) : Type 0 where

@@ -83,6 +83,10 @@ decided t fate writes = map (deciding t fate) writes
 abbrev pub IsOpen : ℕ → List Written → Type 0
 IsOpen t writes = Each (λ w. w.timestamp ≡ t → w.fate ≡ None) writes
 
+-- a branch with an undecided write has no write that is decided
+abbrev pub AreWhole : List Written → Type 0
+AreWhole writes = (t : ℕ) (key : List ℕ) → has_open key t writes ≡ true → IsOpen t writes
+
 -- a timestamp that a branch may write and be settled at: above 0, not below the low water, and not settled yet
 pub record IsUnsettled (t low : ℕ) (writes : List Written) : Type 0 where
   pub positive : 0 < t

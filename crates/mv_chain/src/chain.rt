@@ -1,130 +1,236 @@
-ghost use Rattle.std.specs.Prelude.{◌≡◌, ℕ, ◌≤◌, List, [], ◌∷◌, None, IfOk, OnOk, OnErr, false, option_map};
-ghost use Rattle.mv_chain.specs.History.{Written, Answered, seen, is_busy, is_late, decided, IsOpen, IsUnsettled};
-ghost use Rattle.mv_chain.specs.Chain.{StandsFor, fresh, shows, is_marked, marked, installed, settled};
-ghost use Rattle.mv_chain.specs.Within.{IsShort, IsWithin, KeepsWithin};
+ghost use Rattle.std.specs.Prelude.{◌≡◌, ℕ, ◌≤◌, List, [], ◌∷◌, None, IfOk, OnOk, OnErr, false, max, option_map};
+ghost use Rattle.mv_chain.specs.History.{Written, Answered, seen, is_busy, is_late, decided, AreWhole, IsOpen, IsUnsettled};
+ghost use Rattle.mv_chain.specs.Chain.{StandsFor, fresh, shows, is_marked, marked, installed, settled, pruned};
+ghost use Rattle.mv_chain.specs.Look.{looked};
 
 use crate::changes::{install_in, mark_in, settle_in};
 use crate::fate::Fate;
 use crate::found::Found;
-use crate::places::{last_upto, late_in};
+use crate::look::Look;
+use crate::places::look_in;
+use crate::pool::Pool;
+use crate::pruning::{clear_in, prune_in};
+use crate::slots::{is_idle_at, put_in, value_at};
 use crate::version::{Version, content_of};
-use std::alloc::{AllocError, Global};
-use std::marker::Model;
+use std::alloc::AllocError;
 
-/// The versions of one key, ascending by timestamp, each with one read mark.
+/// The versions of one key, ascending by timestamp, each with one read mark. They stand in the pool that the chain was
+/// made over; give it that pool again at each call.
 ///
 /// Every call is total. A look-up by timestamp is a binary search. Timestamps of branches are above 0.
 #[derive(Drop)]
 pub struct Chain {
-    versions: Vec<Version>,
-}
-
-impl Model for Chain {
-    ghost use Rattle.std.specs.Prelude.{List};
-    ghost use Rattle.mv_chain.specs.declared.version.Version.{Version};
-
-    ghost Value = { List Version };
-
-    ghost use Rattle.mv_chain.specs.Chain.{IsChain};
-
-    ghost view = { λ c. c.versions.items };
-
-    ghost invariant = { λ c. IsChain c.versions.items };
+    slots: Vec<usize>,
 }
 
 impl Chain {
+    ghost use Rattle.mv_chain.specs.Idle.{is_idle};
+    ghost use Rattle.mv_chain.specs.Pool.{versions_of, IsKept, Counts, LeavesOthers, shown_at, CountsAt, LeavesOthersAt};
+    ghost use Rattle.mv_chain.specs.Within.{IsShort, IsWithin, KeepsWithin};
+
     /// A key that nobody wrote: one committed version at timestamp 0, absent.
-    pub fn new(alloc: Global) -> Result<Chain, AllocError>
-        ensures base { IfOk result (λ c. c ≡ fresh) }
-        ensures stands { IfOk result (λ c. (key : List ℕ) (low : ℕ) → StandsFor key low [] [] c) }
-        ensures within { IfOk result (λ c. (n : ℕ) → IsWithin n c) }
+    ///
+    /// # Errors
+    /// Want of memory, and every chain of the pool is as it was.
+    pub fn new(pool: &mut Pool) -> Result<Chain, AllocError>
+        ensures base { IfOk result (λ c. versions_of pool.new c ≡ fresh) }
+        ensures kept { IfOk result (λ c. IsKept pool.new c) }
+        ensures stands { IfOk result (λ c. (key : List ℕ) (low : ℕ) → StandsFor key low [] [] (versions_of pool.new c)) }
+        ensures others { IfOk result (λ c. LeavesOthersAt pool.old [] pool.new c.slots.items) }
+        ensures count { IfOk result (λ c. CountsAt pool.old [] pool.new c.slots.items) }
+        ensures err { OnErr result (LeavesOthersAt pool.old [] pool.new []) }
+        ensures err_count { OnErr result (CountsAt pool.old [] pool.new []) }
+        ensures within { KeepsWithin pool.old pool.new }
     {
-        let mut versions = Vec::new(alloc);
-        versions.push(Version {
+        let mut slots = Vec::new(pool.alloc);
+        let base = Version {
             timestamp: 0,
             value: None,
             pending: false,
             mark: 0,
-        })?;
-        Ok(Chain { versions })
+        };
+        put_in(pool, &mut slots, 0, base)?;
+        Ok(Chain { slots })
+    }
+
+    /// What a read at `ts` sees, and whether a write at `ts` is late, by one search. It holds until the chain changes.
+    pub fn look(&self, pool: &Pool, ts: u64) -> Look
+        ensures { IsKept pool.now self.now → result ≡ looked ts (versions_of pool.now self.now) }
+    {
+        look_in(pool, &self.slots, ts)
     }
 
     /// The source of a read at `ts`: the version with the greatest timestamp of at most `ts`. A read is to
     /// wait or give up where that is pending and not at `ts` itself.
-    #[tactic(auto, using(crate::proofs::Rules::chain_rules))]
-    pub fn source(&self, ts: u64) -> Found
-        ensures from { result.from ≡ (shows ts self.now).from }
-        ensures pending { result.pending ≡ (shows ts self.now).pending }
+    pub fn source(&self, pool: &Pool, ts: u64) -> Found
+        ensures from { IsKept pool.now self.now → result.from ≡ (shows ts (versions_of pool.now self.now)).from }
+        ensures pending { IsKept pool.now self.now → result.pending ≡ (shows ts (versions_of pool.now self.now)).pending }
     {
-        match last_upto(&self.versions, ts) {
-            None => Found {
-                from: 0,
-                pending: false,
-            },
-            Some(i) => {
-                let version = &self.versions[i];
-                Found {
-                    from: version.timestamp,
-                    pending: version.pending,
-                }
-            }
+        let look = self.look(pool, ts);
+        Found {
+            from: look.from,
+            pending: look.pending,
+        }
+    }
+
+    /// The value that a read sees at the timestamp that was looked at. `None` where the key is absent.
+    pub fn value_at<'a>(&self, pool: &'a Pool, look: &Look) -> Option<&'a [u8]>
+        ensures value { (ts : ℕ) → IsKept pool.now self.now → look.now ≡ looked ts (versions_of pool.now self.now)
+            → option_map (λ v. v.now) result ≡ (shows ts (versions_of pool.now self.now)).value }
+        ensures within { (n : ℕ) → IsWithin n pool.now → IsShort n (option_map (λ v. v.now) result) }
+    {
+        match look.last(self.slots.len()) {
+            None => None,
+            Some(i) => value_at(pool, self.slots[i]),
         }
     }
 
     /// The value of the version that a read at `from` sees, so of the version of timestamp `from` where
     /// there is one. `None` where the key is absent.
-    #[tactic(auto, using(crate::proofs::Rules::chain_rules))]
-    pub fn value(&self, from: u64) -> Option<&[u8]>
-        ensures value { option_map (λ v. v.now) result ≡ (shows from self.now).value }
-        ensures within { (n : ℕ) → IsWithin n self.now → IsShort n (option_map (λ v. v.now) result) }
+    pub fn value<'a>(&self, pool: &'a Pool, from: u64) -> Option<&'a [u8]>
+        ensures value { IsKept pool.now self.now → option_map (λ v. v.now) result ≡ (shows from (versions_of pool.now self.now)).value }
+        ensures within { (n : ℕ) → IsWithin n pool.now → IsShort n (option_map (λ v. v.now) result) }
     {
-        match last_upto(&self.versions, from) {
-            None => None,
-            Some(i) => match &self.versions[i].value {
-                Some(content) => Some(content.as_slice()),
-                None => None,
-            },
-        }
+        self.value_at(pool, &self.look(pool, from))
     }
 
     /// Whether a write at `ts` is late: a version below `ts` was read above `ts`.
-    pub fn late(&self, ts: u64) -> bool
-        ensures { result ≡ is_marked ts self.now }
+    pub fn late(&self, pool: &Pool, ts: u64) -> bool
+        ensures { IsKept pool.now self.now → result ≡ is_marked ts (versions_of pool.now self.now) }
     {
-        late_in(&self.versions, ts)
+        self.look(pool, ts).late
+    }
+
+    /// Notes an answered read at the timestamp that was looked at. Where that read may not be answered, nothing
+    /// changes.
+    pub fn mark_at(&mut self, pool: &mut Pool, look: &Look)
+        ensures versions { (ts : ℕ) → IsKept pool.old self.old → look.now ≡ looked ts (versions_of pool.old self.old)
+            → versions_of pool.new self.new ≡ marked (shows ts (versions_of pool.old self.old)).from ts (versions_of pool.old self.old) }
+        ensures kept { (ts : ℕ) → IsKept pool.old self.old → look.now ≡ looked ts (versions_of pool.old self.old)
+            → IsKept pool.new self.new }
+        ensures stands { (ts : ℕ) (key : List ℕ) (low : ℕ) (writes : List Written) (reads : List Answered) → IsKept pool.old self.old
+            → look.now ≡ looked ts (versions_of pool.old self.old)
+            → StandsFor key low writes reads (versions_of pool.old self.old)
+            → low ≤ ts → is_busy ts (seen key ts writes) ≡ false
+            → StandsFor key low writes (record { reader = ts; key = key; from = (seen key ts writes).from } ∷ reads) (versions_of pool.new self.new) }
+        ensures others { LeavesOthers pool.old self.old pool.new self.new }
+        ensures count { IsKept pool.old self.old → Counts pool.old self.old pool.new self.new }
+        ensures within { KeepsWithin pool.old pool.new }
+    {
+        mark_in(pool, &self.slots, look);
     }
 
     /// Notes an answered read: the version of timestamp `from` was read at `reader`. Where `from` isn't the
     /// source of a read at `reader`, or that read may not be answered, nothing changes.
-    pub fn mark(&mut self, from: u64, reader: u64)
-        ensures versions { self.new ≡ marked from reader self.old }
-        ensures stands { (key : List ℕ) (low : ℕ) (writes : List Written) (reads : List Answered) → StandsFor key low writes reads self.old → low ≤ reader → from ≡ (seen key reader writes).from → is_busy reader (seen key reader writes) ≡ false → StandsFor key low writes (record { reader = reader; key = key; from = from } ∷ reads) self.new }
-        ensures within { KeepsWithin self.old self.new }
+    pub fn mark(&mut self, pool: &mut Pool, from: u64, reader: u64)
+        ensures versions { IsKept pool.old self.old → versions_of pool.new self.new ≡ marked from reader (versions_of pool.old self.old) }
+        ensures kept { IsKept pool.old self.old → IsKept pool.new self.new }
+        ensures stands { (key : List ℕ) (low : ℕ) (writes : List Written) (reads : List Answered) → IsKept pool.old self.old → StandsFor key low writes reads (versions_of pool.old self.old) → low ≤ reader → from ≡ (seen key reader writes).from → is_busy reader (seen key reader writes) ≡ false → StandsFor key low writes (record { reader = reader; key = key; from = from } ∷ reads) (versions_of pool.new self.new) }
+        ensures others { LeavesOthers pool.old self.old pool.new self.new }
+        ensures count { IsKept pool.old self.old → Counts pool.old self.old pool.new self.new }
+        ensures within { KeepsWithin pool.old pool.new }
     {
-        mark_in(&mut self.versions, from, reader);
+        let look = self.look(pool, reader);
+        if look.from == from {
+            self.mark_at(pool, &look);
+        }
     }
 
-    /// Adds a branch's write, or replaces its own: `None` deletes the key. Where the write is late, or its
-    /// branch has committed, nothing changes. A write below other versions moves those.
+    /// Adds a branch's write at the timestamp that was looked at, or replaces its own: `None` deletes the key.
+    /// Where the write is late, or its branch has committed, nothing changes. A write below other versions moves
+    /// their places.
     ///
     /// # Errors
     /// Want of memory, and nothing changes.
-    pub fn install(&mut self, ts: u64, value: Option<Vec<u8>>) -> Result<(), AllocError>
-        ensures versions { OnOk result (self.new ≡ installed ts (option_map (λ v. v.items) value) self.old) }
-        ensures stands { OnOk result ((key : List ℕ) (low : ℕ) (writes : List Written) (reads : List Answered) → StandsFor key low writes reads self.old → IsUnsettled ts low writes → is_late key ts reads ≡ false → StandsFor key low (record { timestamp = ts; key = key; value = option_map (λ v. v.items) value; fate = None } ∷ writes) reads self.new) }
-        ensures err { OnErr result (self.new ≡ self.old) }
-        ensures within { (n : ℕ) → IsWithin n self.old → IsShort n (option_map (λ v. v.items) value) → IsWithin n self.new }
+    pub fn install_at(
+        &mut self,
+        pool: &mut Pool,
+        look: &Look,
+        value: Option<Vec<u8>>,
+    ) -> Result<(), AllocError>
+        ensures versions { OnOk result ((ts : ℕ) → IsKept pool.old self.old → look.now ≡ looked ts (versions_of pool.old self.old)
+            → versions_of pool.new self.new ≡ installed ts (option_map (λ v. v.items) value) (versions_of pool.old self.old)) }
+        ensures kept { (ts : ℕ) → IsKept pool.old self.old → look.now ≡ looked ts (versions_of pool.old self.old)
+            → IsKept pool.new self.new }
+        ensures stands { OnOk result ((ts : ℕ) (key : List ℕ) (low : ℕ) (writes : List Written) (reads : List Answered)
+            → IsKept pool.old self.old → look.now ≡ looked ts (versions_of pool.old self.old)
+            → StandsFor key low writes reads (versions_of pool.old self.old)
+            → IsUnsettled ts low writes → is_late key ts reads ≡ false
+            → StandsFor key low (record { timestamp = ts; key = key; value = option_map (λ v. v.items) value; fate = None } ∷ writes) reads (versions_of pool.new self.new)) }
+        ensures err { OnErr result (IsKept pool.old self.old → versions_of pool.new self.new ≡ versions_of pool.old self.old) }
+        ensures others { LeavesOthers pool.old self.old pool.new self.new }
+        ensures count { IsKept pool.old self.old → Counts pool.old self.old pool.new self.new }
+        ensures within { (n : ℕ) → IsWithin n pool.old → IsShort n (option_map (λ v. v.items) value) → IsWithin n pool.new }
     {
-        install_in(&mut self.versions, ts, content_of(value))
+        install_in(pool, &mut self.slots, look, content_of(value))
+    }
+
+    /// Adds a branch's write, or replaces its own: `None` deletes the key. Where the write is late, or its
+    /// branch has committed, nothing changes. A write below other versions moves their places.
+    ///
+    /// # Errors
+    /// Want of memory, and nothing changes.
+    pub fn install(
+        &mut self,
+        pool: &mut Pool,
+        ts: u64,
+        value: Option<Vec<u8>>,
+    ) -> Result<(), AllocError>
+        ensures versions { OnOk result (IsKept pool.old self.old → versions_of pool.new self.new ≡ installed ts (option_map (λ v. v.items) value) (versions_of pool.old self.old)) }
+        ensures kept { IsKept pool.old self.old → IsKept pool.new self.new }
+        ensures stands { OnOk result ((key : List ℕ) (low : ℕ) (writes : List Written) (reads : List Answered) → IsKept pool.old self.old → StandsFor key low writes reads (versions_of pool.old self.old) → IsUnsettled ts low writes → is_late key ts reads ≡ false → StandsFor key low (record { timestamp = ts; key = key; value = option_map (λ v. v.items) value; fate = None } ∷ writes) reads (versions_of pool.new self.new)) }
+        ensures err { OnErr result (IsKept pool.old self.old → versions_of pool.new self.new ≡ versions_of pool.old self.old) }
+        ensures others { LeavesOthers pool.old self.old pool.new self.new }
+        ensures count { IsKept pool.old self.old → Counts pool.old self.old pool.new self.new }
+        ensures within { (n : ℕ) → IsWithin n pool.old → IsShort n (option_map (λ v. v.items) value) → IsWithin n pool.new }
+    {
+        let look = self.look(pool, ts);
+        self.install_at(pool, &look, value)
     }
 
     /// Decides the fate of a branch's write, also of one below the low water: it stays, or it goes with its
     /// mark. Where the branch has no pending version, nothing changes.
-    pub fn settle(&mut self, ts: u64, fate: Fate)
-        ensures versions { self.new ≡ settled ts fate self.old }
-        ensures stands { (key : List ℕ) (low : ℕ) (writes : List Written) (reads : List Answered) → StandsFor key low writes reads self.old → IsOpen ts writes → StandsFor key low (decided ts fate writes) reads self.new }
-        ensures within { KeepsWithin self.old self.new }
+    pub fn settle(&mut self, pool: &mut Pool, ts: u64, fate: Fate)
+        ensures versions { IsKept pool.old self.old → versions_of pool.new self.new ≡ settled ts fate (versions_of pool.old self.old) }
+        ensures kept { IsKept pool.old self.old → IsKept pool.new self.new }
+        ensures stands { (key : List ℕ) (low : ℕ) (writes : List Written) (reads : List Answered) → IsKept pool.old self.old → StandsFor key low writes reads (versions_of pool.old self.old) → IsOpen ts writes → StandsFor key low (decided ts fate writes) reads (versions_of pool.new self.new) }
+        ensures others { LeavesOthers pool.old self.old pool.new self.new }
+        ensures count { IsKept pool.old self.old → Counts pool.old self.old pool.new self.new }
+        ensures within { KeepsWithin pool.old pool.new }
     {
-        settle_in(&mut self.versions, ts, fate);
+        settle_in(pool, &mut self.slots, ts, fate);
+    }
+
+    /// Drops each committed version below another committed one that is at most `low`: no read from `low` on sees it.
+    pub fn prune(&mut self, pool: &mut Pool, low: u64)
+        ensures versions { IsKept pool.old self.old → versions_of pool.new self.new ≡ pruned low (versions_of pool.old self.old) }
+        ensures kept { IsKept pool.old self.old → IsKept pool.new self.new }
+        ensures stands { (key : List ℕ) (before : ℕ) (writes : List Written) (reads : List Answered) → IsKept pool.old self.old
+            → StandsFor key before writes reads (versions_of pool.old self.old) → AreWhole writes
+            → StandsFor key (max before low) writes reads (versions_of pool.new self.new) }
+        ensures others { LeavesOthers pool.old self.old pool.new self.new }
+        ensures count { IsKept pool.old self.old → Counts pool.old self.old pool.new self.new }
+        ensures within { KeepsWithin pool.old pool.new }
+    {
+        prune_in(pool, &mut self.slots, low);
+    }
+
+    /// Whether nothing of the chain has to be kept from `low` on: nobody has written the key, and no read of it was
+    /// above `low`. By the law `idle_stands` a chain that is made anew then stands for the same.
+    pub fn is_idle(&self, pool: &Pool, low: u64) -> bool
+        ensures { result ≡ is_idle low (versions_of pool.now self.now) }
+    {
+        self.slots.len() == 1 && is_idle_at(pool, self.slots[0], low)
+    }
+
+    /// Takes all versions out, and gives their places back to the pool. Takes no memory.
+    pub fn clear(&mut self, pool: &mut Pool)
+        ensures versions { versions_of pool.new self.new ≡ [] }
+        ensures kept { IsKept pool.new self.new }
+        ensures others { LeavesOthers pool.old self.old pool.new self.new }
+        ensures count { IsKept pool.old self.old → Counts pool.old self.old pool.new self.new }
+        ensures within { KeepsWithin pool.old pool.new }
+    {
+        clear_in(pool, &mut self.slots);
     }
 }

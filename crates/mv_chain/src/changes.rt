@@ -1,34 +1,33 @@
-ghost use Rattle.std.specs.Prelude.{◌≡◌, ℕ, ◌<◌, ◌≤◌, List, ◌∷◌, Some, None, true, false, suc, length, slice_index_or, IfSome, MatchOption, OnOk, OnErr};
+ghost use Rattle.std.specs.Prelude.{◌≡◌, ℕ, ◌<◌, ◌≤◌, Some, None, true, false, suc, List, length, slice_index_or, IfSome, MatchOption, OnOk, OnErr};
 ghost use Rattle.std.specs.List.{AllByRecursion as Each};
 ghost use Rattle.mv_chain.specs.declared.version.Version.{Version};
 ghost use Rattle.mv_chain.specs.declared.changes.Slot.{Slot};
-ghost use Rattle.mv_chain.specs.History.{Written, Answered, seen, is_busy, is_late, decided, IsOpen, IsUnsettled};
-ghost use Rattle.mv_chain.specs.Chain.{IsChain, IsPlace, StandsFor, shows, raised, marked, may_install, installed, settled};
+ghost use Rattle.mv_chain.specs.Chain.{IsChain, IsPlace, shows, marked, installed, settled};
+ghost use Rattle.mv_chain.specs.Look.{looked};
+ghost use Rattle.mv_chain.specs.Pool.{shown_at, IsKeptAt, CountsAt, LeavesOthersAt};
 ghost use Rattle.mv_chain.specs.Slot.{IsSlot};
+ghost use Rattle.mv_chain.specs.Within.{IsShort, IsWithin, KeepsWithin};
 
 use crate::fate::Fate;
-use crate::places::{last_upto, late_in, search};
+use crate::look::Look;
+use crate::places::look_in;
+use crate::pool::Pool;
+use crate::slots::{commit, put_in, raise, replace, take_out};
 use crate::version::{Content, Version};
 use std::alloc::AllocError;
 
-/// Raises the mark of a version, if it has the timestamp `from` and a read at `reader` may see it.
-fn raise(version: &mut Version, from: u64, reader: u64)
-    ensures { version.new ≡ raised from reader version.old }
+/// Notes an answered read, where its source was looked for.
+pub(crate) fn mark_in(pool: &mut Pool, slots: &[usize], look: &Look)
+    ensures versions { (ts : ℕ) → IsKeptAt pool.old slots.now → look.now ≡ looked ts (shown_at pool.old slots.now)
+        → shown_at pool.new slots.now ≡ marked (shows ts (shown_at pool.old slots.now)).from ts (shown_at pool.old slots.now) }
+    ensures kept { (ts : ℕ) → IsKeptAt pool.old slots.now → look.now ≡ looked ts (shown_at pool.old slots.now)
+        → IsKeptAt pool.new slots.now }
+    ensures others { LeavesOthersAt pool.old slots.now pool.new slots.now }
+    ensures count { CountsAt pool.old slots.now pool.new slots.now }
+    ensures within { KeepsWithin pool.old pool.new }
 {
-    if version.timestamp == from && (!version.pending || from == reader) {
-        version.mark = version.mark.max(reader);
-    }
-}
-
-/// Notes an answered read.
-pub(crate) fn mark_in(versions: &mut Vec<Version>, from: u64, reader: u64)
-    requires { IsChain versions.old.items }
-    ensures items { versions.new.items ≡ marked from reader versions.old.items }
-    ensures chain { IsChain versions.new.items }
-    ensures stands { (key : List ℕ) (low : ℕ) (writes : List Written) (reads : List Answered) → StandsFor key low writes reads versions.old.items → low ≤ reader → from ≡ (seen key reader writes).from → is_busy reader (seen key reader writes) ≡ false → StandsFor key low writes (record { reader = reader; key = key; from = from } ∷ reads) versions.new.items }
-{
-    if let Some(i) = last_upto(versions, reader) {
-        raise(&mut versions[i], from, reader);
+    if let Some(i) = look.last(slots.len()) {
+        raise(pool, slots[i], look.from, look.at);
     }
 }
 
@@ -43,83 +42,93 @@ enum Slot {
     New(usize),
 }
 
-/// Where a write at `ts` goes.
-fn slot_of(versions: &[Version], ts: u64) -> Slot
-    requires { IsChain versions.now }
-    ensures { IsSlot ts versions.now result }
+/// Where a write goes, among so many versions.
+fn slot_of(look: &Look, versions: usize) -> Slot
+    ensures slot { (ts : ℕ) (shown : List Version) → IsChain shown → versions ≡ length shown → look.now ≡ looked ts shown
+        → IsSlot ts shown result }
+    ensures own { (i : ℕ) → result ≡ Slot.Own i → i < versions }
+    ensures new { (i : ℕ) → result ≡ Slot.New i → i ≤ versions }
 {
-    if late_in(versions, ts) {
+    let Look {
+        at,
+        from,
+        pending,
+        late,
+        count,
+    } = *look;
+    if late || count > versions {
         return Slot::Refused;
     }
-    match search(versions, ts) {
-        Ok(i) => {
-            if versions[i].pending {
-                Slot::Own(i)
-            } else {
-                Slot::Refused
-            }
-        }
-        Err(i) => Slot::New(i),
+    if count == 0 || from != at {
+        return Slot::New(count);
+    }
+    if pending {
+        Slot::Own(count - 1)
+    } else {
+        Slot::Refused
     }
 }
 
-/// Adds a write, or replaces the branch's own.
+/// Adds a write, or replaces the branch's own, where its place was looked for.
 pub(crate) fn install_in(
-    versions: &mut Vec<Version>,
-    ts: u64,
+    pool: &mut Pool,
+    slots: &mut Vec<usize>,
+    look: &Look,
     value: Option<Content>,
 ) -> Result<(), AllocError>
-    requires { IsChain versions.old.items }
-    ensures items { OnOk result (versions.new.items ≡ installed ts value versions.old.items) }
-    ensures chain { IsChain versions.new.items }
-    ensures stands { OnOk result ((key : List ℕ) (low : ℕ) (writes : List Written) (reads : List Answered) → StandsFor key low writes reads versions.old.items → IsUnsettled ts low writes → is_late key ts reads ≡ false → StandsFor key low (record { timestamp = ts; key = key; value = value; fate = None } ∷ writes) reads versions.new.items) }
-    ensures err { OnErr result (versions.new.items ≡ versions.old.items) }
+    ensures versions { OnOk result ((ts : ℕ) → IsKeptAt pool.old slots.old.items → look.now ≡ looked ts (shown_at pool.old slots.old.items)
+        → shown_at pool.new slots.new.items ≡ installed ts value (shown_at pool.old slots.old.items)) }
+    ensures err { OnErr result (IsKeptAt pool.old slots.old.items
+        → shown_at pool.new slots.new.items ≡ shown_at pool.old slots.old.items) }
+    ensures kept { (ts : ℕ) → IsKeptAt pool.old slots.old.items → look.now ≡ looked ts (shown_at pool.old slots.old.items)
+        → IsKeptAt pool.new slots.new.items }
+    ensures others { LeavesOthersAt pool.old slots.old.items pool.new slots.new.items }
+    ensures count { CountsAt pool.old slots.old.items pool.new slots.new.items }
+    ensures within { (n : ℕ) → IsWithin n pool.old → IsShort n value → IsWithin n pool.new }
 {
-    match slot_of(versions, ts) {
+    match slot_of(look, slots.len()) {
         Slot::Refused => Ok(()),
         Slot::Own(i) => {
-            versions[i].value = value;
+            replace(pool, slots[i], value);
             Ok(())
         }
         Slot::New(i) => {
             let version = Version {
-                timestamp: ts,
+                timestamp: look.at,
                 value,
                 pending: true,
                 mark: 0,
             };
-            versions.insert(i, version)?;
-            Ok(())
+            put_in(pool, slots, i, version)
         }
     }
 }
 
 /// The pending version of this timestamp.
-fn pending_at(versions: &[Version], ts: u64) -> Option<usize>
-    requires { IsChain versions.now }
-    ensures found { MatchOption result (Each (λ v. v.timestamp ≡ ts → v.pending ≡ false) versions.now) (λ i. IsPlace ts (suc i) versions.now × ((d : Version) → ((slice_index_or versions.now i d).timestamp ≡ ts) × ((slice_index_or versions.now i d).pending ≡ true))) }
-    ensures within { IfSome result (λ i. i < length versions.now) }
+fn own_place(pool: &Pool, slots: &[usize], ts: u64) -> Option<usize>
+    ensures found { IsChain (shown_at pool.now slots.now) → MatchOption result (Each (λ v. v.timestamp ≡ ts → v.pending ≡ false) (shown_at pool.now slots.now)) (λ i. IsPlace ts (suc i) (shown_at pool.now slots.now) × ((d : Version) → ((slice_index_or (shown_at pool.now slots.now) i d).timestamp ≡ ts) × ((slice_index_or (shown_at pool.now slots.now) i d).pending ≡ true))) }
+    ensures within { IfSome result (λ i. i < length slots.now) }
 {
-    match search(versions, ts) {
-        Ok(i) => { if versions[i].pending { Some(i) } else { None } }
-        Err(_) => None,
+    let look = look_in(pool, slots, ts);
+    if !look.pending || look.from != ts {
+        return None;
     }
+    look.last(slots.len())
 }
 
 /// Decides the fate of the branch's write.
-pub(crate) fn settle_in(versions: &mut Vec<Version>, ts: u64, fate: Fate)
-    requires { IsChain versions.old.items }
-    ensures items { versions.new.items ≡ settled ts fate versions.old.items }
-    ensures chain { IsChain versions.new.items }
-    ensures stands { (key : List ℕ) (low : ℕ) (writes : List Written) (reads : List Answered) → StandsFor key low writes reads versions.old.items → IsOpen ts writes → StandsFor key low (decided ts fate writes) reads versions.new.items }
+pub(crate) fn settle_in(pool: &mut Pool, slots: &mut Vec<usize>, ts: u64, fate: Fate)
+    ensures versions { IsKeptAt pool.old slots.old.items → shown_at pool.new slots.new.items ≡ settled ts fate (shown_at pool.old slots.old.items) }
+    ensures kept { IsKeptAt pool.old slots.old.items → IsKeptAt pool.new slots.new.items }
+    ensures others { LeavesOthersAt pool.old slots.old.items pool.new slots.new.items }
+    ensures count { IsKeptAt pool.old slots.old.items → CountsAt pool.old slots.old.items pool.new slots.new.items }
+    ensures within { KeepsWithin pool.old pool.new }
 {
-    let Some(i) = pending_at(versions, ts) else {
+    let Some(i) = own_place(pool, slots, ts) else {
         return;
     };
     match fate {
-        Fate::Committed => versions[i].pending = false,
-        Fate::RolledBack => {
-            versions.remove(i);
-        }
+        Fate::Committed => commit(pool, slots[i]),
+        Fate::RolledBack => take_out(pool, slots, i),
     }
 }

@@ -5,18 +5,31 @@
 //! version keeps the greatest timestamp that read it, its read mark. A write is late if a branch above it
 //! has already read a version below it: that read should have seen the write.
 //!
-//! Contracts see a [`Chain`] as a list of versions, ascending by timestamp. `StandsFor` ties that list to
-//! what happened: the writes of the key with their fates, and the answered reads.
+//! The versions of all keys stand in one [`Pool`], a slab: what is pruned, rolled back or cleared is room for the next
+//! version of any key. Contracts see a [`Chain`] over it as a list of versions, ascending by timestamp. `StandsFor` ties
+//! that list to what happened: the writes of the key with their fates, and the answered reads. A call on one chain leaves
+//! every other chain of the pool as it was, and the pool's number of versions changes as that chain's does.
+//!
+//! One binary search finds what a read at a timestamp sees and whether a write there is late: [`Chain::look`]. Its
+//! [`Look`] serves the calls that read, mark or write there. The others look by themselves.
 #![tactic(auto)]
 
 mod chain;
 mod changes;
 mod fate;
 mod found;
+mod laws;
+mod look;
 mod places;
+mod pool;
+mod pruning;
+mod slots;
 mod version;
 
 pub use chain::Chain;
 pub use fate::Fate;
 pub use found::Found;
+pub use laws::{idle_stands, others_stay};
+pub use look::Look;
+pub use pool::Pool;
 pub use version::{Content, Version};

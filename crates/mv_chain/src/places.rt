@@ -1,56 +1,65 @@
-ghost use Rattle.std.specs.Prelude.{◌≡◌, ◌<◌, ◌≤◌, true, false, suc, length, slice_index_or, IfSome, MatchOption, MatchResult};
-ghost use Rattle.std.specs.List.{AllByRecursion as Each};
-ghost use Rattle.mv_chain.specs.declared.version.Version.{Version};
+ghost use Rattle.std.specs.Prelude.{◌≡◌, ◌≤◌, length};
 ghost use Rattle.mv_chain.specs.Chain.{IsChain, IsPlace, is_marked};
+ghost use Rattle.mv_chain.specs.Look.{looked, IsBelow};
+ghost use Rattle.mv_chain.specs.Pool.{shown_at};
 
-use crate::version::Version;
+use crate::look::Look;
+use crate::pool::Pool;
+use crate::slots::{mark_at, pending_at, timestamp_at};
 
 /// How many versions have a timestamp of at most `ts`.
-fn place(versions: &[Version], ts: u64) -> usize
-    requires { IsChain versions.now }
-    ensures within { result ≤ length versions.now }
-    ensures place { IsPlace ts result versions.now }
+pub(crate) fn place(pool: &Pool, slots: &[usize], ts: u64) -> usize
+    ensures within { result ≤ length slots.now }
+    ensures place { IsChain (shown_at pool.now slots.now) → IsPlace ts result (shown_at pool.now slots.now) }
 {
-    versions.partition_point(|v| v.timestamp <= ts)
+    slots.partition_point(|slot| timestamp_at(pool, *slot) <= ts)
 }
 
-/// The last version with a timestamp of at most `ts`.
-pub(crate) fn last_upto(versions: &[Version], ts: u64) -> Option<usize>
-    requires { IsChain versions.now }
-    ensures place { MatchOption result (IsPlace ts 0 versions.now) (λ i. IsPlace ts (suc i) versions.now) }
-    ensures within { IfSome result (λ i. i < length versions.now) }
+/// Whether one of the first `below` versions, those below `ts`, was read above `ts`. The last of them decides.
+fn read_above(pool: &Pool, slots: &[usize], below: usize, ts: u64) -> bool
+    requires { below ≤ length slots.now }
+    ensures { IsChain (shown_at pool.now slots.now) → IsBelow ts below (shown_at pool.now slots.now)
+        → result ≡ is_marked ts (shown_at pool.now slots.now) }
 {
-    let count = place(versions, ts);
-    if count == 0 {
-        return None;
-    }
-    Some(count - 1)
-}
-
-/// Whether a version below `ts` was read above `ts`. The last one below decides.
-#[tactic(auto, using(crate::proofs::Rules::chain_rules))]
-pub(crate) fn late_in(versions: &[Version], ts: u64) -> bool
-    requires { IsChain versions.now }
-    ensures { result ≡ is_marked ts versions.now }
-{
-    if ts == 0 {
+    if below == 0 {
         return false;
     }
-    match last_upto(versions, ts - 1) {
-        None => false,
-        Some(i) => ts < versions[i].mark,
-    }
+    ts < mark_at(pool, slots[below - 1])
 }
 
-/// The version of this timestamp, or the place where it would stand.
-pub(crate) fn search(versions: &[Version], ts: u64) -> Result<usize, usize>
-    requires { IsChain versions.now }
-    ensures found { MatchResult result (λ i. IsPlace ts (suc i) versions.now × ((d : Version) → (slice_index_or versions.now i d).timestamp ≡ ts)) (λ i. IsPlace ts i versions.now × Each (λ v. v.timestamp ≡ ts → ⊥) versions.now) }
-    ensures within { MatchResult result (λ i. i < length versions.now) (λ i. i ≤ length versions.now) }
+/// Whether a version below `ts` was read above `ts`, where `count` versions are at most `ts`.
+fn late_at(pool: &Pool, slots: &[usize], count: usize, ts: u64) -> bool
+    requires { count ≤ length slots.now }
+    ensures { IsChain (shown_at pool.now slots.now) → IsPlace ts count (shown_at pool.now slots.now)
+        → result ≡ is_marked ts (shown_at pool.now slots.now) }
 {
-    let count = place(versions, ts);
-    if count > 0 && versions[count - 1].timestamp == ts {
-        return Ok(count - 1);
+    if count > 0 && timestamp_at(pool, slots[count - 1]) == ts {
+        return read_above(pool, slots, count - 1, ts);
     }
-    Err(count)
+    read_above(pool, slots, count, ts)
+}
+
+/// What stands at `ts`, by one binary search.
+pub(crate) fn look_in(pool: &Pool, slots: &[usize], ts: u64) -> Look
+    ensures { IsChain (shown_at pool.now slots.now) → result ≡ looked ts (shown_at pool.now slots.now) }
+{
+    let count = place(pool, slots, ts);
+    let late = late_at(pool, slots, count, ts);
+    if count == 0 {
+        return Look {
+            at: ts,
+            from: 0,
+            pending: false,
+            late,
+            count,
+        };
+    }
+    let slot = slots[count - 1];
+    Look {
+        at: ts,
+        from: timestamp_at(pool, slot),
+        pending: pending_at(pool, slot),
+        late,
+        count,
+    }
 }

@@ -1,5 +1,5 @@
 -- The branch's last write of each key is what it sees there.
-use Rattle.std.proofs.Common.{◌≡◌, ℕ, ◌≤◌, Bool, true, false, ◌&&◌, List, [], ◌∷◌, ◌++◌, map, get_or, Option, None, Some, refl, sym, ap, ◌∙◌, subst, arith}
+use Rattle.std.proofs.Common.{◌≡◌, ℕ, ◌≤◌, Bool, true, false, ◌&&◌, List, [], ◌∷◌, ◌++◌, map, Option, None, Some, refl, sym, ap, ◌∙◌, subst, arith}
 use Rattle.std.specs.Prelude.{if◌then◌else◌, ◌==◌, bytes_eq, nat_le, fold, Vec, Result, Ok, Err, IfOk}
 use Rattle.std.specs.List.{AllByRecursion as Each}
 use Rattle.std.specs.List.Sorted.{IsStrictlySortedBy}
@@ -15,12 +15,15 @@ use Rattle.std.proofs.lemmas.List.Sums.{fold-append}
 use Rattle.std.proofs.lemmas.Map.Text.{is_eq-slice_cmp}
 use Rattle.std.proofs.lemmas.Slice.Eq.{bytes_eq-Decides}
 use Rattle.xa_codes.specs.declared.write.Write.{Write}
-use Rattle.mv_chain.specs.declared.version.Version.{Version}
+use Rattle.slab.specs.Slab.{Slab, get as chain_in}
+use Rattle.mv_chain.specs.declared.pool.Pool.{Pool}
+use Rattle.mv_chain.specs.declared.chain.Chain.{Chain}
 use Rattle.mv_chain.specs.History.{Written, nobody, seen, stands, shown, has_open, IsOpen}
-use Rattle.mv_chain.specs.Chain.{fresh, shows, StandsFor as ChainStandsFor}
+use Rattle.mv_chain.specs.Chain.{shows, StandsFor as ChainStandsFor}
 use Rattle.mv_rules.specs.declared.own.Own.{Own}
 use Rattle.mv_rules.specs.declared.records.Records.{Records}
 use Rattle.mv_rules.specs.History.{History, last_write, listed_value, IsAscending}
+use Rattle.mv_rules.specs.Held.{shown_in}
 use Rattle.mv_rules.specs.Own.{is_listed}
 use Rattle.mv_rules.specs.Records.{StandsFor, place_of, chain_at, own_of}
 use Rattle.mv_rules.specs.Collected.{as_write, collecting, collected}
@@ -82,7 +85,7 @@ same_key : (a b : List ℕ) → bytes_eq a b ≡ true → a ≡ b
 same_key a b e = (bytes_eq-Decides a b).0 e
 
 -- where no key of the list is asked for, and where one is
-collected_none : (r : Records) (ts : ℕ) (q : List ℕ) (own : List Own) (best : Option (Option (List ℕ))) → place_of q r ≡ None → Each (λ o. place_of o.key r ≡ Some o.place) own → fold (collecting ts r.chains.items q) best own ≡ best
+collected_none : (r : Records) (ts : ℕ) (q : List ℕ) (own : List Own) (best : Option (Option (List ℕ))) → place_of q r ≡ None → Each (λ o. place_of o.key r ≡ Some o.place) own → fold (collecting ts r.pool r.chains q) best own ≡ best
 collected_none r ts q [] best none named = refl
 collected_none r ts q (o ∷ own) best none named = rw (apart (bytes_eq o.key q) refl) (collected_none r ts q own best none named.1)
   where
@@ -91,11 +94,11 @@ collected_none r ts q (o ∷ own) best none named = rw (apart (bytes_eq o.key q)
     apart true e = let bad : None ≡ Some o.place = sym none ∙ (ap (λ k. place_of k r) (sym (same_key o.key q e)) ∙ named.0) in absurd (cc)
 
 collected_some : (r : Records) (ts : ℕ) (q : List ℕ) (i : ℕ) (own : List Own) (best : Option (Option (List ℕ))) → ((a b : List ℕ) (j : ℕ) → place_of a r ≡ Some j → place_of b r ≡ Some j → a ≡ b) → place_of q r ≡ Some i → Each (λ o. place_of o.key r ≡ Some o.place) own
-    → fold (collecting ts r.chains.items q) best own ≡ (if is_listed i own then Some (shows ts (chain_at i r)).value else best)
+    → fold (collecting ts r.pool r.chains q) best own ≡ (if is_listed i own then Some (shows ts (chain_at i r)).value else best)
 collected_some r ts q i [] best apart here named = refl
 collected_some r ts q i (o ∷ own) best apart here named = at (bytes_eq o.key q) refl (λ b. collected_some r ts q i own b apart here named.1)
   where
-    at : (x : Bool) → bytes_eq o.key q ≡ x → ((b : Option (Option (List ℕ))) → fold (collecting ts r.chains.items q) b own ≡ (if is_listed i own then Some (shows ts (chain_at i r)).value else b)) → fold (collecting ts r.chains.items q) best (o ∷ own) ≡ (if is_listed i (o ∷ own) then Some (shows ts (chain_at i r)).value else best)
+    at : (x : Bool) → bytes_eq o.key q ≡ x → ((b : Option (Option (List ℕ))) → fold (collecting ts r.pool r.chains q) b own ≡ (if is_listed i own then Some (shows ts (chain_at i r)).value else b)) → fold (collecting ts r.pool r.chains q) best (o ∷ own) ≡ (if is_listed i (o ∷ own) then Some (shows ts (chain_at i r)).value else best)
     at true e rest =
         let one : Some o.place ≡ Some i = sym named.0 ∙ (ap (λ k. place_of k r) (same_key o.key q e) ∙ here) in
         let place : o.place ≡ i = cc in
@@ -119,10 +122,10 @@ collected_some r ts q i (o ∷ own) best apart here named = at (bytes_eq o.key q
             absurd (grind (arith, t, e))
 
 -- what is collected from the branch's list is its last write of each key
-pub collected_is : (h : History) (r : Records) (ts : ℕ) (q : List ℕ) → StandsFor h r → IsOpen ts h.writes → collected ts r.chains.items q (own_of ts r) ≡ last_write q ts h.writes
+pub collected_is : (h : History) (r : Records) (ts : ℕ) (q : List ℕ) → StandsFor h r → IsOpen ts h.writes → collected ts r.pool r.chains q (own_of ts r) ≡ last_write q ts h.writes
 collected_is h r ts q s u = at (place_of q r) refl
   where
-    at : (p : Option ℕ) → place_of q r ≡ p → collected ts r.chains.items q (own_of ts r) ≡ last_write q ts h.writes
+    at : (p : Option ℕ) → place_of q r ≡ p → collected ts r.pool r.chains q (own_of ts r) ≡ last_write q ts h.writes
     at None e = collected_none r ts q (own_of ts r) None e (s.lists.named ts) ∙ sym (last_unwritten q ts h.writes u (s.lists.unplaced ts q e))
     at (Some i) e = collected_some r ts q i (own_of ts r) None s.chains.apart e (s.lists.named ts) ∙ listed (is_listed i (own_of ts r)) refl
       where
@@ -134,9 +137,9 @@ collected_is h r ts q s u = at (place_of q r) refl
             rw (l, same) (sym (last_written q ts h.writes u (sym (s.lists.listed ts q i e) ∙ l)))
 
 -- one more key is collected
-pub collected_more : (ts : ℕ) (chains : List (List Version)) (key : List ℕ) (own : List Own) (o : Own) (old new : Option (Option (List ℕ))) (k : List ℕ) (v : Option (List ℕ)) → new ≡ (if is_eq (slice_cmp nat_cmp k key) then Some v else old) → k ≡ o.key → v ≡ (shows ts (get_or chains o.place fresh)).value → old ≡ collected ts chains key own → new ≡ collected ts chains key (own ++ o ∷ [])
-collected_more ts chains key own o old new k v e ek ev before =
-    e ∙ (rw (is_eq-slice_cmp k key, ek, ev, before) refl ∙ sym (fold-append (collecting ts chains key) None own (o ∷ [])))
+pub collected_more : (ts : ℕ) (pool : Pool) (chains : Slab Chain) (key : List ℕ) (own : List Own) (o : Own) (old new : Option (Option (List ℕ))) (k : List ℕ) (v : Option (List ℕ)) → new ≡ (if is_eq (slice_cmp nat_cmp k key) then Some v else old) → k ≡ o.key → v ≡ (shows ts (shown_in pool (chain_in chains o.place))).value → old ≡ collected ts pool chains key own → new ≡ collected ts pool chains key (own ++ o ∷ [])
+collected_more ts pool chains key own o old new k v e ek ev before =
+    e ∙ (rw (is_eq-slice_cmp k key, ek, ev, before) refl ∙ sym (fold-append (collecting ts pool chains key) None own (o ∷ [])))
 
 -- what the list of writes is, for what is asked of it
 pub writes_result : (r : Result (Vec Write Global) AllocError) (es : List (List ℕ × Option (List ℕ))) (Claim : List Write → Type 0) → IfOk r (λ v. v.items ≡ map as_write es) → Claim (map as_write es) → IfOk r (λ v. Claim v.items)

@@ -1,4 +1,7 @@
+pub mod Frames
 pub mod Places
+pub mod Forgotten
+pub mod Changed
 pub mod Listed
 pub mod Settled
 pub mod Written

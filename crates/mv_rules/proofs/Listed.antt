@@ -1,9 +1,12 @@
 -- What settling one chain after another leaves.
-use Rattle.std.proofs.Common.{◌≡◌, ◌≢◌, ℕ, zero, suc, ◌<◌, ◌≤◌, Bool, true, false, not, ◌||◌, ◌&&◌, eqb, List, [], ◌∷◌, ◌++◌, map, length, get_or, set, refl, sym, ap, ◌∙◌, subst, inl, inr, ◌⊎◌, arith}
-use Rattle.std.specs.Prelude.{◌==◌, filter}
+use Rattle.std.proofs.Common.{◌≡◌, ◌≢◌, ℕ, Bool, true, false, not, ◌||◌, ◌&&◌, eqb, List, [], ◌∷◌, ◌++◌, map, Option, Some, None, refl, sym, ap, ◌∙◌, subst, inl, inr, ◌⊎◌, arith}
+use Rattle.std.specs.Prelude.{◌==◌, filter, is_some}
 use Rattle.std.proofs.lemmas.Bool.Decides.{nat_tests, eqb_tells}
-use Rattle.std.proofs.lemmas.List.{get_or-set_same, get_or-set_other}
-use Rattle.std.proofs.Math.ListN.{length-set}
+use Rattle.slab.specs.Slab.{Slab, get as chain_in, with_value}
+use Rattle.mv_chain.specs.Pool.{versions_of, IsKept, LeavesOthers}
+use Rattle.mv_chain.specs.declared.pool.Pool.{Pool}
+use Rattle.mv_chain.specs.declared.chain.Chain.{Chain}
+use Rattle.mv_chain.proofs.Stands.{stands_untouched}
 use Rattle.mv_chain.specs.declared.version.Version.{Version}
 use Rattle.mv_chain.specs.declared.fate.Fate.{Fate}
 use Rattle.mv_chain.specs.declared.fate.Fate.TheVariants.{Committed, RolledBack}
@@ -11,9 +14,8 @@ use Rattle.mv_chain.specs.Chain.{fresh, committing, settled}
 use Rattle.mv_rules.specs.declared.own.Own.{Own}
 use Rattle.mv_rules.specs.Own.{is_listed}
 use Rattle.mv_rules.specs.Steps.{IsSettled}
-use Rattle.mv_chain.specs.Within.{KeepsWithin}
-use Rattle.mv_rules.specs.Within.{AreWithin}
-use Rattle.mv_rules.proofs.Within.{changed_within}
+use Rattle.mv_rules.specs.Held.{shown_in, IsHeld, Changes}
+use Rattle.mv_rules.proofs.Frames.{shown_elsewhere, held_changed, written_there, written_back}
 
 -- settling twice is settling once
 committing_twice : (ts : ℕ) (v : Version) → committing ts (committing ts v) ≡ committing ts v
@@ -44,68 +46,89 @@ settled_twice ts RolledBack vs = kept vs
         at false q ih = rw q ih
 
 -- the chains that are listed are settled, the others as they were
-pub record SettledUpto (ts : ℕ) (fate : Fate) (own : List Own) (old new : List (List Version)) : Type 0 where
-  pub len : length new ≡ length old
-  pub listed : (i : ℕ) → i < length old → is_listed i own ≡ true → (get_or new i fresh ≡ settled ts fate (get_or old i fresh)) × IsSettled ts fate (get_or old i fresh) (settled ts fate (get_or old i fresh))
-  pub others : (i : ℕ) → is_listed i own ≡ false → get_or new i fresh ≡ get_or old i fresh
-  pub within : (n : ℕ) → AreWithin n old → AreWithin n new
+pub record SettledUpto (ts : ℕ) (fate : Fate) (own : List Own) (p : Pool) (cs : Slab Chain) (p2 : Pool) (cs2 : Slab Chain) : Type 0 where
+  pub held : IsHeld p2 cs2
+  pub stands : (i : ℕ) → is_some (chain_in cs2 i) ≡ is_some (chain_in cs i)
+  pub listed : (i : ℕ) → is_listed i own ≡ true → (shown_in p2 (chain_in cs2 i) ≡ settled ts fate (shown_in p (chain_in cs i))) × IsSettled ts fate (shown_in p (chain_in cs i)) (settled ts fate (shown_in p (chain_in cs i)))
+  pub others : (i : ℕ) → is_listed i own ≡ false → shown_in p2 (chain_in cs2 i) ≡ shown_in p (chain_in cs i)
+
+pub settled_begins : (ts : ℕ) (fate : Fate) (p : Pool) (cs : Slab Chain) → IsHeld p cs → SettledUpto ts fate [] p cs p cs
+settled_begins ts fate p cs h = record { held = h; stands = λ i. refl; listed = λ i e. absurd (cc e); others = λ i e. refl }
 
 pub listed_append : (i : ℕ) (o : Own) (own : List Own) → is_listed i (own ++ o ∷ []) ≡ (is_listed i own || (i == o.place))
 listed_append i o [] = grind arith
 listed_append i o (x ∷ xs) = grind (arith, listed_append i o xs)
 
-pub any_default : {X : Type 0} (xs : List X) (i : ℕ) (d e : X) → i < length xs → get_or xs i d ≡ get_or xs i e
-any_default [] i d e lt = absurd (omega arith)
-any_default (x ∷ xs) zero d e lt = refl
-any_default (x ∷ xs) (suc i) d e lt = any_default xs i d e (omega arith)
-
 -- one more chain is settled
-pub settled_more : (ts : ℕ) (fate : Fate) (own : List Own) (o : Own) (old cur : List (List Version)) (a b : List Version) → o.place < length cur → a ≡ get_or cur o.place a → b ≡ settled ts fate a → IsSettled ts fate a b → KeepsWithin a b → SettledUpto ts fate own old cur → SettledUpto ts fate (own ++ o ∷ []) old (set cur o.place b)
-settled_more ts fate own o old cur a b lt at exact settles keeps s =
+pub settled_more : (ts : ℕ) (fate : Fate) (own : List Own) (o : Own) (p p2 p3 : Pool) (cs cs2 cs3 : Slab Chain) → Changes o.place p2 cs2 p3 cs3 → is_some (chain_in cs3 o.place) ≡ is_some (chain_in cs2 o.place)
+    → shown_in p3 (chain_in cs3 o.place) ≡ settled ts fate (shown_in p2 (chain_in cs2 o.place)) → IsSettled ts fate (shown_in p2 (chain_in cs2 o.place)) (shown_in p3 (chain_in cs3 o.place))
+    → SettledUpto ts fate own p cs p2 cs2 → SettledUpto ts fate (own ++ o ∷ []) p cs p3 cs3
+settled_more ts fate own o p p2 p3 cs cs2 cs3 change there exact settles s =
     record {
-      len = length-set cur o.place b ∙ s.len;
-      listed = λ i within e. one i within (eqb_tells i o.place) (sym (listed_append i o own) ∙ e);
+      held = held_changed o.place p2 p3 cs2 cs3 change s.held;
+      stands = λ i. stands i (eqb_tells i o.place);
+      listed = λ i e. one i (eqb_tells i o.place) (sym (listed_append i o own) ∙ e);
       others = λ i e. other i (sym (listed_append i o own) ∙ e);
-      within = λ n h. changed_within n o.place cur a b at (keeps n) (s.within n h);
     }
   where
-    here : get_or (set cur o.place b) o.place fresh ≡ b
-    here = get_or-set_same cur o.place b fresh lt
+    away : (i : ℕ) → i ≢ o.place → shown_in p3 (chain_in cs3 i) ≡ shown_in p2 (chain_in cs2 i)
+    away i ne = shown_elsewhere o.place i p2 p3 cs2 cs3 change s.held ne
 
-    is : a ≡ get_or cur o.place fresh
-    is = at ∙ any_default cur o.place a fresh lt
+    stands : (i : ℕ) → ((eqb i o.place ≡ true) × (i ≡ o.place)) ⊎ ((eqb i o.place ≡ false) × (i ≢ o.place)) → is_some (chain_in cs3 i) ≡ is_some (chain_in cs i)
+    stands i (inl same) = rw same.1 (there ∙ s.stands o.place)
+    stands i (inr apart) = ap is_some (change.others i apart.1) ∙ s.stands i
 
-    away : (i : ℕ) → (i ≡ o.place → ⊥) → get_or (set cur o.place b) i fresh ≡ get_or cur i fresh
-    away i ne = get_or-set_other cur o.place i b fresh ne
-
-    own_place : (x : Bool) → is_listed o.place own ≡ x → (get_or (set cur o.place b) o.place fresh ≡ settled ts fate (get_or old o.place fresh)) × IsSettled ts fate (get_or old o.place fresh) (settled ts fate (get_or old o.place fresh))
+    own_place : (x : Bool) → is_listed o.place own ≡ x → (shown_in p3 (chain_in cs3 o.place) ≡ settled ts fate (shown_in p (chain_in cs o.place))) × IsSettled ts fate (shown_in p (chain_in cs o.place)) (settled ts fate (shown_in p (chain_in cs o.place)))
     own_place true l =
-        let before = s.listed o.place (omega (arith, s.len)) l in
-        (here ∙ (exact ∙ (ap (settled ts fate) (is ∙ before.0) ∙ settled_twice ts fate (get_or old o.place fresh))), before.1)
+        let before = s.listed o.place l in
+        (exact ∙ (ap (settled ts fate) before.0 ∙ settled_twice ts fate (shown_in p (chain_in cs o.place))), before.1)
     own_place false l =
-        let same : a ≡ get_or old o.place fresh = is ∙ s.others o.place l in
-        let left : b ≡ settled ts fate (get_or old o.place fresh) = exact ∙ ap (settled ts fate) same in
-        (here ∙ left, subst (λ (y : List Version). IsSettled ts fate (get_or old o.place fresh) y) left (subst (λ (x : List Version). IsSettled ts fate x b) same settles))
+        let same : shown_in p2 (chain_in cs2 o.place) ≡ shown_in p (chain_in cs o.place) = s.others o.place l in
+        let left : shown_in p3 (chain_in cs3 o.place) ≡ settled ts fate (shown_in p (chain_in cs o.place)) = exact ∙ ap (settled ts fate) same in
+        (left, subst (λ (y : List Version). IsSettled ts fate (shown_in p (chain_in cs o.place)) y) left (subst (λ (x : List Version). IsSettled ts fate x (shown_in p3 (chain_in cs3 o.place))) same settles))
 
-    one : (i : ℕ) → i < length old → ((eqb i o.place ≡ true) × (i ≡ o.place)) ⊎ ((eqb i o.place ≡ false) × (i ≢ o.place)) → (is_listed i own || (i == o.place)) ≡ true → (get_or (set cur o.place b) i fresh ≡ settled ts fate (get_or old i fresh)) × IsSettled ts fate (get_or old i fresh) (settled ts fate (get_or old i fresh))
-    one i within (inl same) e = rw same.1 (own_place (is_listed o.place own) refl)
-    one i within (inr apart) e = rw (away i apart.1) (s.listed i within (grind (arith, apart.0, e)))
+    one : (i : ℕ) → ((eqb i o.place ≡ true) × (i ≡ o.place)) ⊎ ((eqb i o.place ≡ false) × (i ≢ o.place)) → (is_listed i own || (i == o.place)) ≡ true → (shown_in p3 (chain_in cs3 i) ≡ settled ts fate (shown_in p (chain_in cs i))) × IsSettled ts fate (shown_in p (chain_in cs i)) (settled ts fate (shown_in p (chain_in cs i)))
+    one i (inl same) e = rw same.1 (own_place (is_listed o.place own) refl)
+    one i (inr apart) e = rw (away i apart.1) (s.listed i (grind (arith, apart.0, e)))
 
-    other : (i : ℕ) → (is_listed i own || (i == o.place)) ≡ false → get_or (set cur o.place b) i fresh ≡ get_or old i fresh
+    other : (i : ℕ) → (is_listed i own || (i == o.place)) ≡ false → shown_in p3 (chain_in cs3 i) ≡ shown_in p (chain_in cs i)
     other i e = away i (λ same. grind (arith, nat_tests, e, same)) ∙ s.others i (grind (arith, e))
 
--- a place beyond the chains
-pub settled_beyond : (ts : ℕ) (fate : Fate) (own : List Own) (o : Own) (old cur : List (List Version)) → length cur ≤ o.place → SettledUpto ts fate own old cur → SettledUpto ts fate (own ++ o ∷ []) old cur
-settled_beyond ts fate own o old cur le s =
+pub settled_one : (ts : ℕ) (fate : Fate) (own : List Own) (o : Own) (p p2 p3 : Pool) (cs cs2 : Slab Chain) (a b : Chain) → chain_in cs2 o.place ≡ Some a → LeavesOthers p2 a p3 b → (IsKept p2 a → IsKept p3 b)
+    → (IsKept p2 a → versions_of p3 b ≡ settled ts fate (versions_of p2 a)) → (IsKept p2 a → IsSettled ts fate (versions_of p2 a) (versions_of p3 b))
+    → SettledUpto ts fate own p cs p2 cs2 → SettledUpto ts fate (own ++ o ∷ []) p cs p3 (with_value cs2 o.place b)
+settled_one ts fate own o p p2 p3 cs cs2 a b here leaves keeps exact settles s =
+    let k : IsKept p2 a = s.held.kept o.place a here in
+    let after : chain_in (with_value cs2 o.place b) o.place ≡ Some b = written_there cs2 o.place a b here in
+    let was : shown_in p2 (chain_in cs2 o.place) ≡ versions_of p2 a = ap (shown_in p2) here in
+    let is : shown_in p3 (chain_in (with_value cs2 o.place b) o.place) ≡ versions_of p3 b = ap (shown_in p3) after in
+    settled_more ts fate own o p p2 p3 cs cs2 (with_value cs2 o.place b) (written_back p2 p3 cs2 o.place a b here leaves (keeps k)) (ap is_some after ∙ sym (ap is_some here)) (is ∙ (exact k ∙ ap (settled ts fate) (sym was)))
+    (subst (λ (y : List Version). IsSettled ts fate (shown_in p2 (chain_in cs2 o.place)) y) (sym is) (subst (λ (x : List Version). IsSettled ts fate x (versions_of p3 b)) (sym was) (settles k))) s
+
+settled_fresh : (ts : ℕ) (fate : Fate) → fresh ≡ settled ts fate fresh
+settled_fresh ts Committed = refl
+settled_fresh ts RolledBack = refl
+
+fresh_settles : (ts : ℕ) (fate : Fate) → IsSettled ts fate fresh fresh
+fresh_settles ts fate key low ws rs s u = stands_untouched key low ts fate ws rs fresh (λ e. refl, tt) s u
+
+-- a place without a chain
+pub settled_beyond : (ts : ℕ) (fate : Fate) (own : List Own) (o : Own) (p p2 : Pool) (cs cs2 : Slab Chain) → chain_in cs2 o.place ≡ None → SettledUpto ts fate own p cs p2 cs2 → SettledUpto ts fate (own ++ o ∷ []) p cs p2 cs2
+settled_beyond ts fate own o p p2 cs cs2 none s =
     record {
-      len = s.len;
-      listed = λ i within e. s.listed i within (one i within (sym (listed_append i o own) ∙ e));
-      others = λ i e. s.others i (other i (sym (listed_append i o own) ∙ e));
-      within = s.within;
+      held = s.held;
+      stands = s.stands;
+      listed = λ i e. one i (eqb_tells i o.place) (sym (listed_append i o own) ∙ e);
+      others = λ i e. s.others i (grind (arith, sym (listed_append i o own) ∙ e));
     }
   where
-    one : (i : ℕ) → i < length old → (is_listed i own || (i == o.place)) ≡ true → is_listed i own ≡ true
-    one i within e = let apart : (i == o.place) ≡ false = grind (arith, nat_tests, s.len, within, le) in grind (arith, e, apart)
+    no_chain : (x : Option Chain) → is_some x ≡ false → x ≡ None
+    no_chain None e = refl
+    no_chain (Some c) e = absurd (cc e)
 
-    other : (i : ℕ) → (is_listed i own || (i == o.place)) ≡ false → is_listed i own ≡ false
-    other i e = grind (arith, e)
+    was : chain_in cs o.place ≡ None
+    was = no_chain (chain_in cs o.place) (sym (s.stands o.place) ∙ ap is_some none)
+
+    one : (i : ℕ) → ((eqb i o.place ≡ true) × (i ≡ o.place)) ⊎ ((eqb i o.place ≡ false) × (i ≢ o.place)) → (is_listed i own || (i == o.place)) ≡ true → (shown_in p2 (chain_in cs2 i) ≡ settled ts fate (shown_in p (chain_in cs i))) × IsSettled ts fate (shown_in p (chain_in cs i)) (settled ts fate (shown_in p (chain_in cs i)))
+    one i (inl same) e = rw (same.1, none, was) (settled_fresh ts fate, subst (IsSettled ts fate fresh) (settled_fresh ts fate) (fresh_settles ts fate))
+    one i (inr apart) e = s.listed i (grind (arith, apart.0, e))

@@ -115,6 +115,7 @@ stands_same low ws vs reads r same st = record {
     };
     within = st.chains.within;
     apart = st.chains.apart;
+    held = st.chains.held;
   };
   lists = record {
     listed = λ t key i at. st.lists.listed t key i at ∙ same.held key t;

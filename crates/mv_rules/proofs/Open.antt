@@ -5,7 +5,7 @@ use Rattle.std.specs.List.{AllByRecursion as Each}
 use Rattle.std.proofs.lemmas.Bool.Decides.{nat_tests}
 use Rattle.std.proofs.lemmas.List.Folds.{list_any-append}
 use Rattle.mv_chain.specs.declared.fate.Fate.{Fate}
-use Rattle.mv_chain.specs.History.{Written, has_open, is_undecided, IsOpen, IsUnsettled}
+use Rattle.mv_chain.specs.History.{Written, has_open, is_undecided, IsOpen, IsUnsettled, AreWhole}
 use Rattle.xa_xid.specs.Triple.{Triple}
 use Rattle.xa_model.specs.State.{Branch, Operation, Got, Wrote, is_known_as, known_of}
 use Rattle.xa_model.specs.Source.{write_of, written_keys}
@@ -161,3 +161,45 @@ unsettled xid b limit low bs h found working above = record {
 -- a branch in doubt may be settled whichever boot it is of
 pub undecided : (xid : Triple) (b : Branch) (limit : ℕ) (bs : List Branch) → Descends limit bs → known_of bs xid ≡ Some b → fate_of b.phase ≡ None → IsOpen b.timestamp (writes_in bs)
 undecided xid b limit bs h found working = (at_work xid b limit bs h found working).open_
+
+-- what one branch wrote is undecided as a whole, or decided
+
+held_decided : (key : List ℕ) (t u : ℕ) (f : Fate) (ops : List Operation) → has_open key t (writes_by u (Some f) ops) ≡ false
+held_decided key t u f [] = refl
+held_decided key t u f (Got k answer from ∷ older) = held_decided key t u f older
+held_decided key t u f (Wrote k value ∷ older) = rw (held_decided key t u f older) (none (bytes_eq key k) (u == t))
+  where
+    none : (a b : Bool) → ((a && (b && false)) || false) ≡ false
+    none true true = refl
+    none true false = refl
+    none false b = refl
+
+open_group : (key : List ℕ) (t u : ℕ) (fate : Option Fate) (ops : List Operation) → u ≡ t → has_open key t (writes_by u fate ops) ≡ true → IsOpen t (writes_by u fate ops)
+open_group key t u None ops same h = subst (λ (n : ℕ). IsOpen n (writes_by u None ops)) same (open_own u ops)
+open_group key t u (Some f) ops same h = absurd (cc (held_decided key t u f ops, h))
+
+or_right : (a b : Bool) → a ≡ false → (a || b) ≡ true → b ≡ true
+or_right true b e h = absurd (cc e)
+or_right false b e h = h
+
+or_left : (a b : Bool) → b ≡ false → (a || b) ≡ true → a ≡ true
+or_left true b e h = refl
+or_left false b e h = absurd (cc (e, h))
+
+pub are_whole : (limit : ℕ) (bs : List Branch) → Descends limit bs → AreWhole (writes_in bs)
+are_whole limit [] h t key open_ = tt
+are_whole limit (b ∷ bs) h t key open_ = at (b.timestamp == t) refl (are_whole b.timestamp bs h.2 t key)
+  where
+    either : (has_open key t (writes_one b) || has_open key t (writes_in bs)) ≡ true
+    either = sym (list_any-append (λ (w : Written). bytes_eq key w.key && ((w.timestamp == t) && is_undecided w.fate)) (writes_one b) (writes_in bs)) ∙ open_
+
+    at : (c : Bool) → (b.timestamp == t) ≡ c → (has_open key t (writes_in bs) ≡ true → IsOpen t (writes_in bs)) → IsOpen t (writes_in (b ∷ bs))
+    at true e rest =
+        let same : b.timestamp ≡ t = grind (arith, nat_tests, e) in
+        let none = held_below key t b.timestamp bs h.2 (omega (arith, same)) in
+        each_append (λ (w : Written). w.timestamp ≡ t → w.fate ≡ None) (writes_one b) (writes_in bs)
+        (open_group key t b.timestamp (fate_of b.phase) b.operations same (or_left (has_open key t (writes_one b)) (has_open key t (writes_in bs)) none either))
+        (open_below t b.timestamp bs h.2 (omega (arith, same)))
+    at false ne rest =
+        each_append (λ (w : Written). w.timestamp ≡ t → w.fate ≡ None) (writes_one b) (writes_in bs) (open_other t b.timestamp (fate_of b.phase) b.operations ne)
+        (rest (or_right (has_open key t (writes_one b)) (has_open key t (writes_in bs)) (held_other key t b.timestamp (fate_of b.phase) b.operations ne) either))

@@ -1,6 +1,6 @@
 -- Where each key's chain stands after a key is added, and after one chain is changed.
-use Rattle.std.proofs.Common.{◌≡◌, ℕ, zero, suc, ◌+◌, ◌-◌, ◌<◌, ◌≤◌, Bool, true, false, List, [], ◌∷◌, ◌++◌, length, get_or, set, take, Option, None, Some, refl, sym, ap, ◌∙◌, inl, inr, ◌⊎◌, arith}
-use Rattle.std.specs.Prelude.{if◌then◌else◌, bytes_eq, ◌==◌, Vec}
+use Rattle.std.proofs.Common.{◌≡◌, ℕ, ◌≤◌, Bool, true, false, List, [], ◌∷◌, length, Option, None, Some, refl, sym, ap, ◌∙◌, subst, inl, inr, ◌⊎◌, arith}
+use Rattle.std.specs.Prelude.{if◌then◌else◌, bytes_eq, ◌==◌, IsSome, is_some, ◌≢◌, Vec}
 use Rattle.std.specs.List.{AllByRecursion as Each}
 use Rattle.std.specs.BTreeMap.{insert_entry, is_at}
 use Rattle.std.specs.Map.{lookup}
@@ -11,9 +11,8 @@ use Rattle.std.specs.declared.cmp.Ordering.TheVariants.{Less, Equal, Greater}
 use Rattle.std.proofs.lemmas.Map.Text.{is_eq-slice_cmp}
 use Rattle.std.proofs.lemmas.Bool.Decides.{nat_tests}
 use Rattle.std.proofs.lemmas.Slice.Eq.{bytes_eq-Decides}
-use Rattle.std.proofs.Math.ListN.{get_or-append, length-append, length-set}
-use Rattle.std.proofs.Math.Seq.{get_or-append_seam}
-use Rattle.std.proofs.lemmas.List.{get_or-set_same, get_or-set_other}
+use Rattle.slab.specs.Slab.{get as chain_in, SameValues}
+use Rattle.mv_chain.specs.Pool.{LeavesOthersAt}
 use Rattle.mv_chain.specs.declared.version.Version.{Version}
 use Rattle.mv_chain.specs.History.{Written, Answered, Seen, nobody, seen, is_busy, has_open}
 use Rattle.mv_chain.specs.Chain.{fresh, shows, StandsFor as ChainStandsFor}
@@ -22,8 +21,10 @@ use Rattle.mv_rules.specs.declared.own.Own.{Own}
 use Rattle.mv_rules.specs.declared.answers.Got.{Got}
 use Rattle.mv_rules.specs.declared.answers.Got.TheVariants.{Value, Absent, Busy, Memory}
 use Rattle.mv_rules.specs.History.{History, reads_after}
+use Rattle.mv_rules.specs.Held.{Changes}
 use Rattle.mv_rules.specs.Own.{is_listed}
 use Rattle.mv_rules.specs.Records.{StandsFor, ChainsStandFor, place_of, chain_at, chain_of_place, ListsStandFor, own_of}
+use Rattle.mv_rules.proofs.Frames.{shown_elsewhere, held_changed, shown_grown, held_grown}
 
 abbrev pub found_at : {Y : Type 0} → List ℕ → List (Vec ℕ Y × ℕ) → Option ℕ
 found_at key es = lookup (is_at (λ k. slice_cmp nat_cmp key k.items)) es
@@ -68,72 +69,64 @@ differ_back a b e = at (bytes_eq b a) refl
     at true h = let t : bytes_eq a b ≡ true = (bytes_eq-Decides a b).1 (sym (same_key b a h)) in absurd (grind (arith, t, e))
 
 -- a key that is added has a fresh chain
-pub stands_added : (h : History) (r r2 : Records) (key : List ℕ) → place_of key r ≡ None → r2.chains.items ≡ r.chains.items ++ fresh ∷ [] → ((q : List ℕ) → place_of q r2 ≡ (if bytes_eq q key then Some (length r.chains.items) else place_of q r)) → ChainsStandFor h r → ChainsStandFor h r2
-stands_added h r r2 key none added found s =
+pub stands_added : (h : History) (r r2 : Records) (key : List ℕ) (new : ℕ) → place_of key r ≡ None → chain_in r.chains new ≡ None → Changes new r.pool r.chains r2.pool r2.chains → IsSome (chain_in r2.chains new) → chain_at new r2 ≡ fresh → ((q : List ℕ) → place_of q r2 ≡ (if bytes_eq q key then Some new else place_of q r)) → ChainsStandFor h r → ChainsStandFor h r2
+stands_added h r r2 key new none vacant change stands at_new found s =
     record {
       chains = λ q. chain q (bytes_eq q key) refl;
       within = λ q i e. inside q i e (bytes_eq q key) refl;
       apart = λ a b i e f. alone a b i e f (bytes_eq a key) refl (bytes_eq b key) refl;
+      held = held_changed new r.pool r2.pool r.chains r2.chains change s.held;
     }
   where
-    longer : length r2.chains.items ≡ suc (length r.chains.items)
-    longer = ap length added ∙ simp length-append (omega arith)
+    other : (q : List ℕ) (i : ℕ) → place_of q r ≡ Some i → i ≢ new
+    other q i e same = absurd (cc (s.within q i e, ap (λ k. is_some (chain_in r.chains k)) same, ap is_some vacant))
 
-    at_old : (i : ℕ) → i < length r.chains.items → chain_at i r2 ≡ chain_at i r
-    at_old i lt = ap (λ xs. get_or xs i fresh) added ∙ get_or-append r.chains.items (fresh ∷ []) fresh i lt
-
-    at_new : chain_at (length r.chains.items) r2 ≡ fresh
-    at_new = ap (λ xs. get_or xs (length r.chains.items) fresh) added ∙ get_or-append_seam r.chains.items fresh [] fresh
-
-    old_of : (o : Option ℕ) → ((i : ℕ) → o ≡ Some i → i < length r.chains.items) → chain_of_place o r2 ≡ chain_of_place o r
-    old_of None w = refl
-    old_of (Some i) w = at_old i (w i refl)
+    old_of : (q : List ℕ) (o : Option ℕ) → place_of q r ≡ o → chain_of_place o r2 ≡ chain_of_place o r
+    old_of q None e = refl
+    old_of q (Some i) e = shown_elsewhere new i r.pool r2.pool r.chains r2.chains change s.held (other q i e)
 
     chain : (q : List ℕ) (x : Bool) → bytes_eq q key ≡ x → ChainStandsFor q h.low h.writes h.reads (chain_of_place (place_of q r2) r2)
     chain q true e =
-        let here : place_of q r2 ≡ Some (length r.chains.items) = found q ∙ rw e refl in
+        let here : place_of q r2 ≡ Some new = found q ∙ rw e refl in
         let was : place_of q r ≡ None = ap (λ k. place_of k r) (same_key q key e) ∙ none in
         rw (here, at_new) (rw was at (s.chains q))
     chain q false e =
         let here : place_of q r2 ≡ place_of q r = found q ∙ rw e refl in
-        rw (here, old_of (place_of q r) (s.within q)) (s.chains q)
+        rw (here, old_of q (place_of q r) refl) (s.chains q)
 
-    inside : (q : List ℕ) (i : ℕ) → place_of q r2 ≡ Some i → (x : Bool) → bytes_eq q key ≡ x → i < length r2.chains.items
-    inside q i e true f = let here : Some (length r.chains.items) ≡ Some i = sym (found q ∙ rw f refl) ∙ e in let n : length r.chains.items ≡ i = cc in omega (arith, longer)
-    inside q i e false f = let w = s.within q i (sym (found q ∙ rw f refl) ∙ e) in omega (arith, longer)
+    inside : (q : List ℕ) (i : ℕ) → place_of q r2 ≡ Some i → (x : Bool) → bytes_eq q key ≡ x → IsSome (chain_in r2.chains i)
+    inside q i e true f = let here : Some new ≡ Some i = sym (found q ∙ rw f refl) ∙ e in let n : new ≡ i = cc in subst (λ (k : ℕ). IsSome (chain_in r2.chains k)) n stands
+    inside q i e false f = let was : place_of q r ≡ Some i = sym (found q ∙ rw f refl) ∙ e in ap is_some (change.others i (other q i was)) ∙ s.within q i was
 
     alone : (a b : List ℕ) (i : ℕ) → place_of a r2 ≡ Some i → place_of b r2 ≡ Some i → (x : Bool) → bytes_eq a key ≡ x → (y : Bool) → bytes_eq b key ≡ y → a ≡ b
     alone a b i e f true p true q = same_key a key p ∙ sym (same_key b key q)
     alone a b i e f false p false q = s.apart a b i (sym (found a ∙ rw p refl) ∙ e) (sym (found b ∙ rw q refl) ∙ f)
     alone a b i e f true p false q =
-        let w = s.within b i (sym (found b ∙ rw q refl) ∙ f) in
-        let here : Some (length r.chains.items) ≡ Some i = sym (found a ∙ rw p refl) ∙ e in
-        let n : length r.chains.items ≡ i = cc in
-        absurd (omega arith)
+        let here : Some new ≡ Some i = sym (found a ∙ rw p refl) ∙ e in
+        let n : new ≡ i = cc in
+        absurd (other b i (sym (found b ∙ rw q refl) ∙ f) (sym n))
     alone a b i e f false p true q =
-        let w = s.within a i (sym (found a ∙ rw p refl) ∙ e) in
-        let here : Some (length r.chains.items) ≡ Some i = sym (found b ∙ rw q refl) ∙ f in
-        let n : length r.chains.items ≡ i = cc in
-        absurd (omega arith)
+        let here : Some new ≡ Some i = sym (found b ∙ rw q refl) ∙ f in
+        let n : new ≡ i = cc in
+        absurd (other a i (sym (found a ∙ rw p refl) ∙ e) (sym n))
 
 -- one chain changes, and the history changes for its key alone
-pub stands_at : (h h2 : History) (r r2 : Records) (key : List ℕ) (i : ℕ) (vs : List Version) → place_of key r ≡ Some i → ((q : List ℕ) → place_of q r2 ≡ place_of q r) → r2.chains.items ≡ set r.chains.items i vs → ChainStandsFor key h2.low h2.writes h2.reads vs → ((q : List ℕ) (xs : List Version) → bytes_eq q key ≡ false → ChainStandsFor q h.low h.writes h.reads xs → ChainStandsFor q h2.low h2.writes h2.reads xs) → ChainsStandFor h r → ChainsStandFor h2 r2
-stands_at h h2 r r2 key i vs here same changed own others s =
+pub stands_at : (h h2 : History) (r r2 : Records) (key : List ℕ) (i : ℕ) → place_of key r ≡ Some i → ((q : List ℕ) → place_of q r2 ≡ place_of q r) → Changes i r.pool r.chains r2.pool r2.chains → IsSome (chain_in r2.chains i) → ChainStandsFor key h2.low h2.writes h2.reads (chain_at i r2) → ((q : List ℕ) (xs : List Version) → bytes_eq q key ≡ false → ChainStandsFor q h.low h.writes h.reads xs → ChainStandsFor q h2.low h2.writes h2.reads xs) → ChainsStandFor h r → ChainsStandFor h2 r2
+stands_at h h2 r r2 key i here same change stands own others s =
     record {
       chains = λ q. chain q (bytes_eq q key) refl;
-      within = λ q j e. let w = s.within q j (sym (same q) ∙ e) in omega (arith, kept, w);
+      within = λ q j e. inside q j (sym (same q) ∙ e) (j == i) refl;
       apart = λ a b j e f. s.apart a b j (sym (same a) ∙ e) (sym (same b) ∙ f);
+      held = held_changed i r.pool r2.pool r.chains r2.chains change s.held;
     }
   where
-    kept : length r2.chains.items ≡ length r.chains.items
-    kept = ap length changed ∙ length-set r.chains.items i vs
-
-    at_own : chain_at i r2 ≡ vs
-    at_own = ap (λ xs. get_or xs i fresh) changed ∙ get_or-set_same r.chains.items i vs fresh (s.within key i here)
+    inside : (q : List ℕ) (j : ℕ) → place_of q r ≡ Some j → (x : Bool) → (j == i) ≡ x → IsSome (chain_in r2.chains j)
+    inside q j e true f = let n : i ≡ j = grind (arith, nat_tests, f) in subst (λ (k : ℕ). IsSome (chain_in r2.chains k)) n stands
+    inside q j e false f = ap is_some (change.others j (λ n. grind (arith, nat_tests, f, n))) ∙ s.within q j e
 
     other_of : (q : List ℕ) (o : Option ℕ) → place_of q r ≡ o → bytes_eq q key ≡ false → chain_of_place o r2 ≡ chain_of_place o r
     other_of q None e d = refl
-    other_of q (Some j) e d = ap (λ xs. get_or xs j fresh) changed ∙ get_or-set_other r.chains.items i j vs fresh (λ n. not_same n)
+    other_of q (Some j) e d = shown_elsewhere i j r.pool r2.pool r.chains r2.chains change s.held not_same
       where
         not_same : j ≡ i → ⊥
         not_same n = let k : q ≡ key = s.apart q key i (e ∙ ap Some n) here in let t : bytes_eq q key ≡ true = (bytes_eq-Decides q key).1 k in grind (arith, t, d)
@@ -141,7 +134,7 @@ stands_at h h2 r r2 key i vs here same changed own others s =
     chain : (q : List ℕ) (x : Bool) → bytes_eq q key ≡ x → ChainStandsFor q h2.low h2.writes h2.reads (chain_of_place (place_of q r2) r2)
     chain q true e =
         let k : q ≡ key = same_key q key e in
-        rw (k, same key, here, at_own) own
+        rw (k, same key, here) own
     chain q false e = rw (same q, other_of q (place_of q r) refl e) (others q _ e (s.chains q))
 
 -- a read of another key is nothing to this one
@@ -156,21 +149,15 @@ reads_elsewhere Absent key q low t from ws rs vs d s = read_elsewhere key q low 
 reads_elsewhere (Busy by) key q low t from ws rs vs d s = s
 reads_elsewhere Memory key q low t from ws rs vs d s = s
 
-pub any_default : {X : Type 0} (xs : List X) (i : ℕ) (d e : X) → i < length xs → get_or xs i d ≡ get_or xs i e
-any_default [] i d e lt = absurd (omega arith)
-any_default (x ∷ xs) zero d e lt = refl
-any_default (x ∷ xs) (suc i) d e lt = any_default xs i d e (omega arith)
-
 -- a get at the chain of its key
-pub stands_get : (h : History) (r r2 : Records) (key : List ℕ) (i ts : ℕ) (vs new : List Version) (res : Got) → h.low ≤ ts → ChainsStandFor h r → place_of key r ≡ Some i → vs ≡ get_or r.chains.items i vs → ((q : List ℕ) → place_of q r2 ≡ place_of q r) → r2.chains.items ≡ set r.chains.items i new
-    → ((k : List ℕ) (low : ℕ) (ws : List Written) (rs : List Answered) → ChainStandsFor k low ws rs vs → low ≤ ts → ChainStandsFor k low ws (reads_after res ts k (shows ts vs).from rs) new)
+pub stands_get : (h : History) (r r2 : Records) (key : List ℕ) (i ts : ℕ) (res : Got) → h.low ≤ ts → ChainsStandFor h r → place_of key r ≡ Some i → ((q : List ℕ) → place_of q r2 ≡ place_of q r) → Changes i r.pool r.chains r2.pool r2.chains → IsSome (chain_in r2.chains i)
+    → ((k : List ℕ) (low : ℕ) (ws : List Written) (rs : List Answered) → ChainStandsFor k low ws rs (chain_at i r) → low ≤ ts → ChainStandsFor k low ws (reads_after res ts k (shows ts (chain_at i r)).from rs) (chain_at i r2))
     → ChainsStandFor (record h { reads = reads_after res ts key (seen key ts h.writes).from h.reads }) r2
-stands_get h r r2 key i ts vs new res le s here at same changed reads =
-    let there : vs ≡ chain_at i r = at ∙ any_default r.chains.items i vs fresh (s.within key i here) in
-    let own : ChainStandsFor key h.low h.writes h.reads vs = rw there (rw here at (s.chains key)) in
+stands_get h r r2 key i ts res le s here same change stands reads =
+    let own : ChainStandsFor key h.low h.writes h.reads (chain_at i r) = rw here at (s.chains key) in
     let after = reads key h.low h.writes h.reads own le in
-    let from : shows ts vs ≡ seen key ts h.writes = own.seen nobody ts le in
-    stands_at h _ r r2 key i new here same changed (rw from at after) (λ q xs d t. reads_elsewhere res key q h.low ts _ h.writes h.reads xs d t) s
+    let from : shows ts (chain_at i r) ≡ seen key ts h.writes = own.seen nobody ts le in
+    stands_at h _ r r2 key i here same change stands (rw from at after) (λ q xs d t. reads_elsewhere res key q h.low ts _ h.writes h.reads xs d t) s
 
 -- a place that no key has is listed nowhere
 unlisted : (r : Records) (i : ℕ) (own : List Own) → ((key : List ℕ) → place_of key r ≡ Some i → ⊥) → Each (λ o. place_of o.key r ≡ Some o.place) own → is_listed i own ≡ false
@@ -184,8 +171,8 @@ unlisted r i (o ∷ own) none named =
     differ true e = let same : o.place ≡ i = grind (arith, nat_tests, e) in absurd (none o.key (named.0 ∙ ap Some same))
 
 -- the lists, where a key is added
-pub lists_added : (h : History) (r r2 : Records) (key : List ℕ) → place_of key r ≡ None → ((q : List ℕ) → place_of q r2 ≡ (if bytes_eq q key then Some (length r.chains.items) else place_of q r)) → ((t : ℕ) → own_of t r2 ≡ own_of t r) → ChainsStandFor h r → ListsStandFor h r → ListsStandFor h r2
-lists_added h r r2 key none found same s l =
+pub lists_added : (h : History) (r r2 : Records) (key : List ℕ) (new : ℕ) → place_of key r ≡ None → chain_in r.chains new ≡ None → ((q : List ℕ) → place_of q r2 ≡ (if bytes_eq q key then Some new else place_of q r)) → ((t : ℕ) → own_of t r2 ≡ own_of t r) → ChainsStandFor h r → ListsStandFor h r → ListsStandFor h r2
+lists_added h r r2 key new none vacant found same s l =
     record {
       listed = λ t q i e. listed t q i e (bytes_eq q key) refl;
       unplaced = λ t q e. unplaced t q e (bytes_eq q key) refl;
@@ -193,19 +180,19 @@ lists_added h r r2 key none found same s l =
       count = λ t. ap length (same t) ∙ l.count t;
     }
   where
-    beyond : (t : ℕ) → is_listed (length r.chains.items) (own_of t r) ≡ false
-    beyond t = unlisted r (length r.chains.items) (own_of t r) (λ q e. omega (arith, s.within q (length r.chains.items) e)) (l.named t)
+    beyond : (t : ℕ) → is_listed new (own_of t r) ≡ false
+    beyond t = unlisted r new (own_of t r) (λ q e. absurd (cc (s.within q new e, ap is_some vacant))) (l.named t)
 
     listed : (t : ℕ) (q : List ℕ) (i : ℕ) → place_of q r2 ≡ Some i → (x : Bool) → bytes_eq q key ≡ x → is_listed i (own_of t r2) ≡ has_open q t h.writes
     listed t q i e true f =
-        let here : Some (length r.chains.items) ≡ Some i = sym (found q ∙ rw f refl) ∙ e in
-        let n : length r.chains.items ≡ i = cc in
+        let here : Some new ≡ Some i = sym (found q ∙ rw f refl) ∙ e in
+        let n : new ≡ i = cc in
         let none_open : has_open q t h.writes ≡ false = l.unplaced t q (ap (λ k. place_of k r) (same_key q key f) ∙ none) in
         rw (same t, ← n) (beyond t ∙ sym none_open)
     listed t q i e false f = ap (is_listed i) (same t) ∙ l.listed t q i (sym (found q ∙ rw f refl) ∙ e)
 
     unplaced : (t : ℕ) (q : List ℕ) → place_of q r2 ≡ None → (x : Bool) → bytes_eq q key ≡ x → has_open q t h.writes ≡ false
-    unplaced t q e true f = let here : Some (length r.chains.items) ≡ None = sym (found q ∙ rw f refl) ∙ e in absurd (cc)
+    unplaced t q e true f = let here : Some new ≡ None = sym (found q ∙ rw f refl) ∙ e in absurd (cc)
     unplaced t q e false f = l.unplaced t q (sym (found q ∙ rw f refl) ∙ e)
 
     named : (own : List Own) → Each (λ o. place_of o.key r ≡ Some o.place) own → Each (λ o. place_of o.key r2 ≡ Some o.place) own
@@ -231,32 +218,21 @@ lists_same h h2 r r2 writes places lists l =
     }
 
 -- where the code leaves everything as it was
-pub stands_alike : (h : History) (r r2 : Records) → ((q : List ℕ) → place_of q r2 ≡ place_of q r) → r2.chains.items ≡ r.chains.items → ((t : ℕ) → own_of t r2 ≡ own_of t r) → StandsFor h r → StandsFor h r2
-stands_alike h r r2 places same lists s =
+pub stands_alike : (h : History) (r r2 : Records) → ((q : List ℕ) → place_of q r2 ≡ place_of q r) → SameValues r.chains r2.chains → LeavesOthersAt r.pool [] r2.pool [] → ((t : ℕ) → own_of t r2 ≡ own_of t r) → StandsFor h r → StandsFor h r2
+stands_alike h r r2 places same leaves lists s =
     record {
       chains = record {
         chains = λ q. rw (places q, there (place_of q r)) (s.chains.chains q);
-        within = λ q i e. let w = s.chains.within q i (sym (places q) ∙ e) in omega (arith, ap length same, w);
+        within = λ q i e. ap is_some (same i) ∙ s.chains.within q i (sym (places q) ∙ e);
         apart = λ a b i e f. s.chains.apart a b i (sym (places a) ∙ e) (sym (places b) ∙ f);
+        held = held_grown r.pool r2.pool r.chains r2.chains same leaves s.chains.held;
       };
       lists = lists_same h h r r2 refl places lists s.lists;
     }
   where
     there : (o : Option ℕ) → chain_of_place o r2 ≡ chain_of_place o r
     there None = refl
-    there (Some i) = ap (λ xs. get_or xs i fresh) same
-
-pub set_itself : {X : Type 0} (xs : List X) (i : ℕ) (x : X) → x ≡ get_or xs i x → set xs i x ≡ xs
-set_itself [] i x e = refl
-set_itself (y ∷ xs) zero x e = ap (λ z. z ∷ xs) e
-set_itself (y ∷ xs) (suc i) x e = ap (λ zs. y ∷ zs) (set_itself xs i x e)
-
-pub take_back : {X : Type 0} (xs : List X) (x : X) (n : ℕ) → n ≡ length xs + 1 → take (n - 1) (xs ++ x ∷ []) ≡ xs
-take_back {X = X} xs x n e = let k : n - 1 ≡ length xs = omega arith in rw k (front xs)
-  where
-    front : (ys : List X) → take (length ys) (ys ++ x ∷ []) ≡ ys
-    front [] = refl
-    front (y ∷ ys) = ap (λ zs. y ∷ zs) (front ys)
+    there (Some i) = shown_grown r.pool r2.pool r.chains r2.chains i same leaves s.chains.held
 
 -- a read that may be answered
 pub answered_free : (t from : ℕ) (pending : Bool) (s : Seen) → from ≡ s.from → pending ≡ s.pending → ((pending ≡ true) × (from ≡ t)) ⊎ (pending ≡ false) → is_busy t s ≡ false

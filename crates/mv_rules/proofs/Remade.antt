@@ -1,5 +1,5 @@
 -- What stands for the branches that lasted stands for the state's branches.
-use Rattle.std.proofs.Common.{◌≡◌, ℕ, ◌+◌, ◌<◌, ◌≤◌, Bool, true, false, not, ◌==◌, List, [], ◌∷◌, ◌++◌, length, Option, Some, None, refl, ap, sym, ◌∙◌, subst, arith, ◌&&◌, ◌||◌}
+use Rattle.std.proofs.Common.{◌≡◌, ℕ, ◌+◌, ◌<◌, ◌≤◌, Bool, true, false, not, ◌==◌, List, [], ◌∷◌, ◌++◌, map, length, Option, Some, None, refl, ap, sym, ◌∙◌, subst, arith, ◌&&◌, ◌||◌}
 use Rattle.std.specs.Prelude.{if◌then◌else◌, fold, filter, nat_le, option_map, is_some}
 use Rattle.std.specs.Option.{option_or}
 use Rattle.std.specs.List.{AllByRecursion as Each}
@@ -24,7 +24,7 @@ use Rattle.xa_model.proofs.Remains.{left, left_timed, held_of, held_timed, time,
 use Rattle.mv_rules.specs.declared.records.Records.{Records}
 use Rattle.mv_rules.specs.History.{open_keys}
 use Rattle.mv_rules.specs.Records.{StandsFor}
-use Rattle.mv_rules.specs.Ties.{fate_of, writes_by, writes_in}
+use Rattle.mv_rules.specs.Ties.{low_of, read_as, fate_of, writes_by, writes_in}
 use Rattle.mv_rules.specs.Restoring.{with_branch, with_committed, with_prepared, restored_by, restored, LowRises, StandsRestored}
 use Rattle.mv_rules.proofs.Open.{held_below, count_below, count_own, count_other}
 use Rattle.mv_rules.proofs.Ties.{seen_one, seen_group}
@@ -51,6 +51,7 @@ low_rises h r low s le = record {
     chains = λ key. chain_rises key h.low low h.writes h.reads _ le (s.chains.chains key);
     within = s.chains.within;
     apart = s.chains.apart;
+    held = s.chains.held;
   };
   lists = record { listed = s.lists.listed; unplaced = s.lists.unplaced; named = s.lists.named; count = s.lists.count };
 }
@@ -316,6 +317,7 @@ module _ (limit : ℕ) (bs : List Branch) (h : Descends (limit + 1) bs) (idle : 
       };
       within = s.chains.within;
       apart = s.chains.apart;
+      held = s.chains.held;
     };
     lists = record {
       listed = λ t key i at. s.lists.listed t key i at ∙ remade_held key t;
@@ -335,4 +337,5 @@ stands_restored d next s r low i le st =
     ap (λ cs. restored_by cs d.prepared) committed ∙ ap (restored_by (last_writes (parts left s.branches))) prepared in
     let risen : StandsFor (record { low = timestamp_of next 0; writes = restored d; reads = [] }) r = low_rises (record { low = low; writes = restored d; reads = [] }) r (timestamp_of next 0) st le in
     let there = remade_stands (timestamp_of next 0) s.branches descends i.idle r (subst (λ (ws : List Written). StandsFor (record { low = timestamp_of next 0; writes = ws; reads = [] }) r) same risen) in
-    rw (i.boot, i.reads) there
+    let first : StandsFor (record { low = timestamp_of s.boot 0; writes = writes_in s.branches; reads = map read_as s.reads }) r = rw (i.boot, i.reads) there in
+    low_rises (record { low = timestamp_of s.boot 0; writes = writes_in s.branches; reads = map read_as s.reads }) r (low_of s) first (omega arith)

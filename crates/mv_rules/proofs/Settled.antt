@@ -1,5 +1,5 @@
 -- What the records stand for once a branch's fate is decided.
-use Rattle.std.proofs.Common.{◌≡◌, ℕ, ◌<◌, ◌≤◌, Bool, true, false, List, [], ◌∷◌, length, get_or, Option, None, Some, refl, sym, ◌∙◌, arith}
+use Rattle.std.proofs.Common.{◌≡◌, ℕ, ◌≤◌, Bool, true, false, List, [], ◌∷◌, length, Option, None, Some, refl, sym, ◌∙◌, arith}
 use Rattle.std.specs.Prelude.{if◌then◌else◌, ◌==◌, bytes_eq}
 use Rattle.std.specs.List.{AllByRecursion as Each}
 use Rattle.std.proofs.lemmas.Bool.Decides.{nat_tests}
@@ -8,12 +8,11 @@ use Rattle.mv_chain.specs.declared.fate.Fate.{Fate}
 use Rattle.mv_chain.specs.History.{Written, seen, decided, has_open, IsOpen}
 use Rattle.mv_chain.specs.Chain.{fresh, StandsFor as ChainStandsFor}
 use Rattle.mv_chain.proofs.Seen.{seen_untouched, open_decided, still_open}
-use Rattle.mv_rules.specs.declared.own.Own.{Own}
 use Rattle.mv_rules.specs.declared.records.Records.{Records}
 use Rattle.mv_rules.specs.History.{History, open_keys}
 use Rattle.mv_rules.specs.Own.{is_listed}
 use Rattle.mv_rules.specs.Records.{StandsFor, place_of, chain_at, chain_of_place, own_of}
-use Rattle.mv_rules.specs.Steps.{IsSettled}
+use Rattle.mv_rules.specs.Steps.{SettlesListed}
 use Rattle.mv_rules.proofs.Places.{named_moved}
 
 bound : (q : List ℕ) (ts : ℕ) (ws : List Written) → (seen q ts ws).from ≤ ts
@@ -40,19 +39,14 @@ keys_decided : (t ts : ℕ) (f : Fate) (ws : List Written) → open_keys t (deci
 keys_decided t ts f [] = grind arith
 keys_decided t ts f (w ∷ ws) = grind (arith, nat_tests, keys_decided t ts f ws, open_decided w.key t ts f ws)
 
--- the chains that are listed are settled, the others as they were
-pub record SettlesListed (ts : ℕ) (fate : Fate) (own : List Own) (old new : List (List Version)) : Type 0 where
-  pub len : length new ≡ length old
-  pub listed : (i : ℕ) → i < length old → is_listed i own ≡ true → IsSettled ts fate (get_or old i fresh) (get_or new i fresh)
-  pub others : (i : ℕ) → is_listed i own ≡ false → get_or new i fresh ≡ get_or old i fresh
-
-pub stands_settled : (h : History) (r r2 : Records) (ts : ℕ) (fate : Fate) → IsOpen ts h.writes → ((q : List ℕ) → place_of q r2 ≡ place_of q r) → SettlesListed ts fate (own_of ts r) r.chains.items r2.chains.items → ((t : ℕ) → own_of t r2 ≡ (if t == ts then [] else own_of t r)) → StandsFor h r → StandsFor (record h { writes = decided ts fate h.writes }) r2
+pub stands_settled : (h : History) (r r2 : Records) (ts : ℕ) (fate : Fate) → IsOpen ts h.writes → ((q : List ℕ) → place_of q r2 ≡ place_of q r) → SettlesListed ts fate (own_of ts r) r.pool r.chains r2.pool r2.chains → ((t : ℕ) → own_of t r2 ≡ (if t == ts then [] else own_of t r)) → StandsFor h r → StandsFor (record h { writes = decided ts fate h.writes }) r2
 stands_settled h r r2 ts fate u places settled lists s =
     record {
       chains = record {
         chains = λ q. chain q (place_of q r) refl;
-        within = λ q i e. let w = s.chains.within q i (sym (places q) ∙ e) in omega (arith, settled.len, w);
+        within = λ q i e. settled.stands i ∙ s.chains.within q i (sym (places q) ∙ e);
         apart = λ a b i e f. s.chains.apart a b i (sym (places a) ∙ e) (sym (places b) ∙ f);
+        held = settled.held;
       };
       lists = record {
         listed = λ t q i e. rw (lists t, open_decided q t ts fate h.writes) (listed t q i (sym (places q) ∙ e) (t == ts));
@@ -75,7 +69,7 @@ stands_settled h r r2 ts fate u places settled lists s =
     chain q (Some i) e = rw (places q, e) (at (is_listed i (own_of ts r)) refl)
       where
         at : (x : Bool) → is_listed i (own_of ts r) ≡ x → ChainStandsFor q h.low (decided ts fate h.writes) h.reads (chain_at i r2)
-        at true l = settled.listed i (s.chains.within q i e) l q h.low h.writes h.reads (rw e at (s.chains.chains q)) u
+        at true l = settled.listed i l q h.low h.writes h.reads (rw e at (s.chains.chains q)) u
         at false l = rw (settled.others i l) (untouched q (chain_at i r) (sym (s.lists.listed ts q i e) ∙ l) (rw e at (s.chains.chains q)))
 
     listed : (t : ℕ) (q : List ℕ) (i : ℕ) → place_of q r ≡ Some i → (x : Bool) → is_listed i (if x then [] else own_of t r) ≡ (if x then false else has_open q t h.writes)
@@ -89,6 +83,3 @@ stands_settled h r r2 ts fate u places settled lists s =
     count : (t : ℕ) (x : Bool) → length (if x then [] else own_of t r) ≡ (if x then 0 else open_keys t h.writes)
     count t true = refl
     count t false = s.lists.count t
-
-pub settles_none : (ts : ℕ) (fate : Fate) (xs : List (List Version)) → SettlesListed ts fate [] xs xs
-settles_none ts fate xs = record { len = refl; listed = λ i lt e. absurd (grind (arith, e)); others = λ i e. refl }

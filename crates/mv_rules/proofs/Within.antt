@@ -1,40 +1,12 @@
--- What a change of one chain, or of the list of them, leaves of a bound on the values.
-use Rattle.std.proofs.Common.{◌≡◌, ℕ, zero, suc, ◌<◌, List, [], ◌∷◌, ◌++◌, map, length, get_or, set, Option, refl, arith}
+-- What a step leaves of a bound on the values of writes.
+use Rattle.std.proofs.Common.{◌≡◌, ℕ, zero, suc, ◌<◌, List, [], ◌∷◌, map, length, get_or, Option, refl, arith}
 use Rattle.std.specs.BTreeMap.{insert_entry}
 use Rattle.std.specs.declared.cmp.Ordering.{Ordering}
 use Rattle.std.specs.declared.cmp.Ordering.TheVariants.{Less, Equal, Greater}
-use Rattle.mv_chain.specs.declared.version.Version.{Version}
 use Rattle.xa_codes.specs.declared.write.Write.{Write}
-use Rattle.mv_chain.specs.Within.{IsShort, IsWithin as ChainIsWithin}
-use Rattle.mv_chain.specs.Chain.{fresh, shows}
-use Rattle.mv_chain.proofs.Within.{shown_within}
+use Rattle.mv_chain.specs.Within.{IsShort}
 use Rattle.mv_rules.specs.Collected.{as_write}
-use Rattle.mv_rules.specs.Within.{AreWithin, AreShort}
-
-pub added_within : (n : ℕ) (cs : List (List Version)) (c : List Version) → ChainIsWithin n c → AreWithin n cs → AreWithin n (cs ++ c ∷ [])
-added_within n [] c short h = (short, tt)
-added_within n (x ∷ xs) c short h = (h.0, added_within n xs c short h.1)
-
--- one chain has changed
-pub changed_within : (n i : ℕ) (cs : List (List Version)) (a b : List Version) → a ≡ get_or cs i a → (ChainIsWithin n a → ChainIsWithin n b) → AreWithin n cs → AreWithin n (set cs i b)
-changed_within n i [] a b at keeps h = tt
-changed_within n zero (x ∷ xs) a b at keeps h = (keeps (rw at h.0), h.1)
-changed_within n (suc i) (x ∷ xs) a b at keeps h = (h.0, changed_within n i xs a b at keeps h.1)
-
--- one chain of them
-pub chain_within : (n i : ℕ) (cs : List (List Version)) (a : List Version) → i < length cs → a ≡ get_or cs i a → AreWithin n cs → ChainIsWithin n a
-chain_within n i [] a lt at h = absurd (omega arith)
-chain_within n zero (x ∷ xs) a lt at h = rw at h.0
-chain_within n (suc i) (x ∷ xs) a lt at h = chain_within n i xs a (omega arith) at h.1
-
--- what a read sees at a place; a place beyond the chains has a fresh one
-pub value_short : (n t i : ℕ) (cs : List (List Version)) (v : Option (List ℕ)) → v ≡ (shows t (get_or cs i fresh)).value → AreWithin n cs → IsShort n v
-value_short n t i cs v is h = rw is (shown_within n t (get_or cs i fresh) (there i cs h))
-  where
-    there : (i : ℕ) (cs : List (List Version)) → AreWithin n cs → ChainIsWithin n (get_or cs i fresh)
-    there i [] h = (tt, tt)
-    there zero (x ∷ xs) h = h.0
-    there (suc i) (x ∷ xs) h = there i xs h.1
+use Rattle.mv_rules.specs.Within.{AreShort}
 
 pub write_short : (n i : ℕ) (ws : List Write) (w : Write) → i < length ws → w ≡ get_or ws i w → AreShort n ws → IsShort n w.value
 write_short n i [] w lt at h = absurd (omega arith)

@@ -1,26 +1,30 @@
 -- What the records stand for once a write is added.
-use Rattle.std.proofs.Common.{◌≡◌, ℕ, ◌<◌, Bool, true, false, not, ◌||◌, ◌&&◌, List, [], ◌∷◌, ◌++◌, length, get_or, set, Option, None, Some, refl, sym, ap, ◌∙◌, subst, inl, inr, ◌⊎◌, arith}
-use Rattle.std.specs.Prelude.{if◌then◌else◌, ◌==◌, bytes_eq, nat_le}
+use Rattle.std.proofs.Common.{◌≡◌, ℕ, ◌<◌, Bool, true, false, not, ◌||◌, ◌&&◌, List, [], ◌∷◌, ◌++◌, length, Option, None, Some, refl, sym, ap, ◌∙◌, subst, inl, inr, ◌⊎◌, arith}
+use Rattle.std.specs.Prelude.{if◌then◌else◌, ◌==◌, bytes_eq, nat_le, IsSome}
 use Rattle.std.specs.List.{AllByRecursion as Each}
 use Rattle.std.proofs.lemmas.Bool.Decides.{nat_tests}
 use Rattle.std.proofs.lemmas.Slice.Eq.{bytes_eq-Decides}
 use Rattle.std.proofs.Math.ListN.{length-append}
+use Rattle.slab.specs.Slab.{get as chain_in}
 use Rattle.mv_chain.specs.declared.version.Version.{Version}
 use Rattle.mv_chain.specs.History.{Written, Answered, nobody, seen, is_late, has_open, IsOpen, IsUnsettled}
-use Rattle.mv_chain.specs.Chain.{fresh, shows, is_marked, StandsFor as ChainStandsFor}
+use Rattle.mv_chain.specs.Chain.{shows, is_marked, StandsFor as ChainStandsFor}
+use Rattle.mv_chain.specs.declared.look.Look.{Look}
+use Rattle.mv_chain.specs.Look.{looked}
 use Rattle.mv_rules.specs.declared.own.Own.{Own}
 use Rattle.mv_rules.specs.declared.records.Records.{Records}
 use Rattle.mv_rules.specs.declared.answers.Put.{Put}
-use Rattle.mv_rules.specs.declared.answers.Put.TheVariants.{Done, Late, Limit}
+use Rattle.mv_rules.specs.declared.answers.Put.TheVariants.{Done, Late, Limit, Memory}
 use Rattle.mv_rules.specs.declared.verdict.Verdict.{Verdict}
 use Rattle.mv_rules.specs.declared.verdict.Verdict.TheVariants.{Refused, Again, First}
 use Rattle.mv_rules.specs.History.{History, open_keys, wrote, put_by, put_of, after_put}
+use Rattle.mv_rules.specs.Held.{Changes}
 use Rattle.mv_rules.specs.Own.{is_listed}
 use Rattle.mv_rules.specs.Records.{StandsFor, place_of, chain_at, own_of}
 use Rattle.mv_rules.specs.Steps.{IsWritten}
 use Rattle.mv_rules.specs.Verdict.{verdict_by, verdict_of}
 use Rattle.mv_rules.proofs.Places.{stands_at, named_moved}
-use Rattle.mv_rules.proofs.Listed.{any_default, listed_append}
+use Rattle.mv_rules.proofs.Listed.{listed_append}
 use Rattle.mv_rules.proofs.Settled.{open_seen}
 
 -- what a branch sees at its own timestamp is its own write
@@ -39,13 +43,13 @@ itself a = (bytes_eq-Decides a a).1 refl
 write_elsewhere : (key q : List ℕ) (ts : ℕ) (value : Option (List ℕ)) (low : ℕ) (ws : List Written) (rs : List Answered) (vs : List Version) → bytes_eq q key ≡ false → ChainStandsFor q low ws rs vs → ChainStandsFor q low (wrote ts key value ∷ ws) rs vs
 write_elsewhere key q ts value low ws rs vs d s = record { seen = λ gone t le. rw (d, s.seen gone t le) refl; own = λ gone t g o. rw (d, s.own gone t g (grind (arith, o, d))) refl; late = s.late; based = s.based }
 
-pub stands_written : (h : History) (r r2 : Records) (key : List ℕ) (i ts : ℕ) (value : Option (List ℕ)) (new : List Version) → IsUnsettled ts h.low h.writes → is_late key ts h.reads ≡ false → place_of key r ≡ Some i → ((q : List ℕ) → place_of q r2 ≡ place_of q r) → r2.chains.items ≡ set r.chains.items i new
-    → IsWritten ts value (chain_at i r) new
+pub stands_written : (h : History) (r r2 : Records) (key : List ℕ) (i ts : ℕ) (value : Option (List ℕ)) → IsUnsettled ts h.low h.writes → is_late key ts h.reads ≡ false → place_of key r ≡ Some i → ((q : List ℕ) → place_of q r2 ≡ place_of q r) → Changes i r.pool r.chains r2.pool r2.chains → IsSome (chain_in r2.chains i)
+    → IsWritten ts value (chain_at i r) (chain_at i r2)
     → ((t : ℕ) → own_of t r2 ≡ (if (t == ts) && not (has_open key ts h.writes) then own_of ts r ++ (record { key = key; place = i }) ∷ [] else own_of t r))
     → StandsFor h r → StandsFor (record h { writes = wrote ts key value ∷ h.writes }) r2
-stands_written h r r2 key i ts value new u late here places changed written lists s =
+stands_written h r r2 key i ts value u late here places changed there written lists s =
     record {
-      chains = stands_at h _ r r2 key i new here places changed (written key h.low h.writes h.reads (rw here at (s.chains.chains key)) u late) (λ q xs d c. write_elsewhere key q ts value h.low h.writes h.reads xs d c) s.chains;
+      chains = stands_at h _ r r2 key i here places changed there (written key h.low h.writes h.reads (rw here at (s.chains.chains key)) u late) (λ q xs d c. write_elsewhere key q ts value h.low h.writes h.reads xs d c) s.chains;
       lists = record {
         listed = λ t q j e. rw lists (listed t q j (sym (places q) ∙ e) (t == ts) refl (has_open key ts h.writes) refl (bytes_eq q key) refl);
         unplaced = λ t q e. unplaced t q (sym (places q) ∙ e) (bytes_eq q key) refl;
@@ -125,12 +129,11 @@ finds h r key i ts u s here =
         differ false k = k
         differ true k = let f : (seen key ts h.writes).from ≡ ts = grind (arith, nat_tests, k) in let b = seen_open key ts h.writes u.positive u.open_ f in absurd (grind (arith, b, g))
 
-pub judged : (h : History) (r : Records) (key : List ℕ) (i ts n : ℕ) (vs : List Version) (v : Verdict) → IsUnsettled ts h.low h.writes → StandsFor h r → place_of key r ≡ Some i → vs ≡ get_or r.chains.items i vs → n ≡ length (own_of ts r) → v ≡ verdict_of ((shows ts vs).from == ts) n (is_marked ts vs) → v ≡ verdict_of (has_open key ts h.writes) (open_keys ts h.writes) (is_late key ts h.reads)
+pub judged : (h : History) (r : Records) (key : List ℕ) (i ts n : ℕ) (vs : List Version) (v : Verdict) → IsUnsettled ts h.low h.writes → StandsFor h r → place_of key r ≡ Some i → vs ≡ chain_at i r → n ≡ length (own_of ts r) → v ≡ verdict_of ((shows ts vs).from == ts) n (is_marked ts vs) → v ≡ verdict_of (has_open key ts h.writes) (open_keys ts h.writes) (is_late key ts h.reads)
 judged h r key i ts n vs v u s here at count e =
-    let there : vs ≡ chain_at i r = at ∙ any_default r.chains.items i vs fresh (s.chains.within key i here) in
     let f = finds h r key i ts u s here in
     let m : n ≡ open_keys ts h.writes = count ∙ s.lists.count ts in
-    e ∙ rw (there, f.own, f.late, m) refl
+    e ∙ rw (at, f.own, f.late, m) refl
 
 verdict_cases : (a : Put) (o l : Bool) (full : Bool) → Refused a ≡ verdict_by o full l → (a ≡ put_by full l) × ((a ≡ Limit) ⊎ (a ≡ Late))
 verdict_cases a o l true e = (cc, inl (cc))
@@ -162,32 +165,40 @@ first_cases false false false e = (refl, refl, refl)
 pub first_is : (o : Bool) (n : ℕ) (l : Bool) → First ≡ verdict_of o n l → (Done ≡ put_of o n l) × (o ≡ false) × (l ≡ false)
 first_is o n l e = first_cases o l (not o && nat_le 256 n) e
 
+-- a put that was refused adds nothing
+pub refused_same : (a : Put) (ts : ℕ) (key : List ℕ) (value : Option (List ℕ)) (h : History) → (a ≡ Done → ⊥) → after_put a ts key value h ≡ h
+refused_same Done ts key value h n = absurd (n refl)
+refused_same Late ts key value h n = refl
+refused_same Limit ts key value h n = refl
+refused_same Memory ts key value h n = refl
+
+-- the verdict by one look
+pub looked_at : (v : Verdict) (l : Look) (ts n : ℕ) (vs : List Version) → l ≡ looked ts vs → v ≡ verdict_of (l.from == l.at) n l.late → v ≡ verdict_of ((shows ts vs).from == ts) n (is_marked ts vs)
+looked_at v l ts n vs is e = subst (λ (x : Look). v ≡ verdict_of (x.from == x.at) n x.late) is e
+
 -- the arms of a put
-module _ (h : History) (r : Records) (key : List ℕ) (i ts n : ℕ) (vs : List Version) (u : IsUnsettled ts h.low h.writes) (s : StandsFor h r) (here : place_of key r ≡ Some i) (at : vs ≡ get_or r.chains.items i vs) (many : n ≡ length (own_of ts r)) where
+module _ (h : History) (r : Records) (key : List ℕ) (i ts n : ℕ) (vs : List Version) (u : IsUnsettled ts h.low h.writes) (s : StandsFor h r) (here : place_of key r ≡ Some i) (at : vs ≡ chain_at i r) (many : n ≡ length (own_of ts r)) where
   pub put_refused : (a : Put) (value : Option (List ℕ)) → Refused a ≡ verdict_of ((shows ts vs).from == ts) n (is_marked ts vs) → (a ≡ put_of (has_open key ts h.writes) (open_keys ts h.writes) (is_late key ts h.reads)) × StandsFor (after_put a ts key value h) r
   put_refused a value e =
       let v = judged h r key i ts n vs (Refused a) u s here at many e in
       let keeps = refused_keeps a (has_open key ts h.writes) (open_keys ts h.writes) (is_late key ts h.reads) ts key value h v in
       (refused_is a (has_open key ts h.writes) (open_keys ts h.writes) (is_late key ts h.reads) v, subst (λ (x : History). StandsFor x r) keeps s)
 
-  there : vs ≡ chain_at i r
-  there = at ∙ any_default r.chains.items i vs fresh (s.chains.within key i here)
-
-  pub put_again : (value : Option (List ℕ)) (r2 : Records) (new : List Version) → Again ≡ verdict_of ((shows ts vs).from == ts) n (is_marked ts vs) → ((q : List ℕ) → place_of q r2 ≡ place_of q r) → r2.chains.items ≡ set r.chains.items i new → IsWritten ts value vs new → ((t : ℕ) → own_of t r2 ≡ own_of t r) → (Done ≡ put_of (has_open key ts h.writes) (open_keys ts h.writes) (is_late key ts h.reads)) × StandsFor (record h { writes = wrote ts key value ∷ h.writes }) r2
-  put_again value r2 new e places changed written lists =
+  pub put_again : (value : Option (List ℕ)) (r2 : Records) → Again ≡ verdict_of ((shows ts vs).from == ts) n (is_marked ts vs) → ((q : List ℕ) → place_of q r2 ≡ place_of q r) → Changes i r.pool r.chains r2.pool r2.chains → IsSome (chain_in r2.chains i) → IsWritten ts value vs (chain_at i r2) → ((t : ℕ) → own_of t r2 ≡ own_of t r) → (Done ≡ put_of (has_open key ts h.writes) (open_keys ts h.writes) (is_late key ts h.reads)) × StandsFor (record h { writes = wrote ts key value ∷ h.writes }) r2
+  put_again value r2 e places changed there written lists =
       let v = judged h r key i ts n vs Again u s here at many e in
       let own = again_is (has_open key ts h.writes) (open_keys ts h.writes) (is_late key ts h.reads) v in
-      (own.0, stands_written h r r2 key i ts value new u own.2 here places changed (subst (λ (y : List Version). IsWritten ts value y new) there written) (λ t. lists t ∙ rw own.1 (kept t (t == ts))) s)
+      (own.0, stands_written h r r2 key i ts value u own.2 here places changed there (subst (λ (y : List Version). IsWritten ts value y (chain_at i r2)) at written) (λ t. lists t ∙ rw own.1 (kept t (t == ts))) s)
     where
       kept : (t : ℕ) (y : Bool) → own_of t r ≡ (if y && false then own_of ts r ++ (record { key = key; place = i }) ∷ [] else own_of t r)
       kept t true = refl
       kept t false = refl
 
-  pub put_first : (value : Option (List ℕ)) (r2 : Records) (new : List Version) → First ≡ verdict_of ((shows ts vs).from == ts) n (is_marked ts vs) → ((q : List ℕ) → place_of q r2 ≡ place_of q r) → r2.chains.items ≡ set r.chains.items i new → IsWritten ts value vs new → ((t : ℕ) → own_of t r2 ≡ (if t == ts then own_of ts r ++ (record { key = key; place = i }) ∷ [] else own_of t r)) → (Done ≡ put_of (has_open key ts h.writes) (open_keys ts h.writes) (is_late key ts h.reads)) × StandsFor (record h { writes = wrote ts key value ∷ h.writes }) r2
-  put_first value r2 new e places changed written lists =
+  pub put_first : (value : Option (List ℕ)) (r2 : Records) → First ≡ verdict_of ((shows ts vs).from == ts) n (is_marked ts vs) → ((q : List ℕ) → place_of q r2 ≡ place_of q r) → Changes i r.pool r.chains r2.pool r2.chains → IsSome (chain_in r2.chains i) → IsWritten ts value vs (chain_at i r2) → ((t : ℕ) → own_of t r2 ≡ (if t == ts then own_of ts r ++ (record { key = key; place = i }) ∷ [] else own_of t r)) → (Done ≡ put_of (has_open key ts h.writes) (open_keys ts h.writes) (is_late key ts h.reads)) × StandsFor (record h { writes = wrote ts key value ∷ h.writes }) r2
+  put_first value r2 e places changed there written lists =
       let v = judged h r key i ts n vs First u s here at many e in
       let own = first_is (has_open key ts h.writes) (open_keys ts h.writes) (is_late key ts h.reads) v in
-      (own.0, stands_written h r r2 key i ts value new u own.2 here places changed (subst (λ (y : List Version). IsWritten ts value y new) there written) (λ t. lists t ∙ rw own.1 (kept t (t == ts))) s)
+      (own.0, stands_written h r r2 key i ts value u own.2 here places changed there (subst (λ (y : List Version). IsWritten ts value y (chain_at i r2)) at written) (λ t. lists t ∙ rw own.1 (kept t (t == ts))) s)
     where
       kept : (t : ℕ) (y : Bool) → (if y then own_of ts r ++ (record { key = key; place = i }) ∷ [] else own_of t r) ≡ (if y && true then own_of ts r ++ (record { key = key; place = i }) ∷ [] else own_of t r)
       kept t true = refl

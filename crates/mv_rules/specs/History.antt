@@ -5,7 +5,7 @@ use Rattle.std.specs.Cmp.Lexicographic.{slice_cmp}
 use Rattle.std.specs.Ordering.{nat_cmp}
 use Rattle.std.specs.declared.cmp.Ordering.TheVariants.{Less}
 use Rattle.xa_codes.specs.declared.write.Write.{Write}
-use Rattle.mv_chain.specs.History.{Written, Answered, Seen, is_busy, is_undecided, has_open}
+use Rattle.mv_chain.specs.History.{Written, Answered, Seen, is_busy, is_undecided, has_open, IsOpen}
 use Rattle.mv_rules.specs.declared.answers.Got.{Got}
 use Rattle.mv_rules.specs.declared.answers.Got.TheVariants.{Value, Absent, Busy, Memory}
 use Rattle.mv_rules.specs.declared.answers.Put.{Put}
@@ -77,3 +77,7 @@ IsAscending (w ∷ rest) = Each (λ x. slice_cmp nat_cmp w.key x.key ≡ Less) r
 pub record IsWritesOf (t : ℕ) (writes : List Written) (listed : List Write) : Type 0 where
   pub ascending : IsAscending listed
   pub last : (key : List ℕ) → listed_value key listed ≡ last_write key t writes
+
+-- a branch with an undecided write of the key has no write that is decided
+abbrev pub IsWholeAt : List ℕ → List Written → Type 0
+IsWholeAt key writes = (t : ℕ) → has_open key t writes ≡ true → IsOpen t writes

@@ -1,5 +1,6 @@
 pub mod History
 pub mod Own
+pub mod Held
 pub mod Records
 pub mod Steps
 pub mod Verdict

@@ -1,15 +1,15 @@
 -- The keys that each undecided branch has written.
-use Rattle.std.specs.Prelude.{ℕ, Bool, ◌==◌, List, [], Vec}
+use Rattle.std.specs.Prelude.{ℕ, Bool, ◌==◌, List, []}
 use Rattle.std.specs.List.{list_any}
 use Rattle.std.specs.Option.{option_map_or}
 use Rattle.std.specs.BTreeMap.{BTreeMap, get_by}
 use Rattle.std.specs.Ordering.{nat_cmp}
-use Rattle.std.specs.declared.alloc.Global.{Global}
 use Rattle.mv_rules.specs.declared.own.Own.{Own}
+use Rattle.mv_rules.specs.declared.own.Notes.{Notes}
 
 -- the keys that the undecided branch has written, each with its place
-abbrev pub own_in : ℕ → BTreeMap ℕ (Vec Own Global) → List Own
-own_in t written = option_map_or (λ v. v.items) (get_by (nat_cmp t) written) []
+abbrev pub own_in : ℕ → BTreeMap ℕ Notes → List Own
+own_in t notes = option_map_or (λ n. n.written.items) (get_by (nat_cmp t) notes) []
 
 abbrev pub is_listed : ℕ → List Own → Bool
 is_listed i own = list_any (λ o. i == o.place) own

@@ -1,11 +1,12 @@
 -- The writes and the answered reads of the sequential resource manager's state as one history, and that both ways to
 -- say it agree: what a timestamp reads of a key among branches is what it sees in the flat list of their writes, and a
 -- write is late for the one just where it is for the other.
-use Rattle.std.specs.Prelude.{◌≡◌, ℕ, not, List, [], ◌∷◌, ◌++◌, Option, Some, None, map}
+use Rattle.std.specs.Prelude.{◌≡◌, ℕ, max, not, List, [], ◌∷◌, ◌++◌, Option, Some, None, map}
 use Rattle.mv_chain.specs.declared.fate.Fate.{Fate}
 use Rattle.mv_chain.specs.declared.fate.Fate.TheVariants.{Committed as kept}
 use Rattle.mv_chain.specs.History.{Written, Answered, Seen, seen, is_late}
 use Rattle.xa_model.specs.State.{State, Branch, Operation, Got, Wrote, Phase, Working, Prepared, Committed, Read, timestamp_of}
+use Rattle.xa_model.specs.LowWater.{low_water}
 use Rattle.xa_model.specs.Source.{Version, source, is_late as is_late_among}
 use Rattle.xa_model.specs.Sound.{Descends}
 use Rattle.mv_rules.specs.History.{History}
@@ -31,9 +32,13 @@ writes_in (b ∷ bs) = writes_one b ++ writes_in bs
 abbrev pub read_as : Read → Answered
 read_as r = record { reader = r.reader; key = r.key; from = r.source }
 
--- this boot's timestamps begin at the low water
+-- From here on the history counts: who reads or writes from now on has its timestamp from this boot, and not below the low
+-- water. What was written over before this boot isn't in the log, so records of a new boot don't show it, whatever is in doubt.
+abbrev pub low_of : State → ℕ
+low_of s = max (timestamp_of s.boot 0) (low_water s)
+
 abbrev pub history_of : State → History
-history_of s = record { low = timestamp_of s.boot 0; writes = writes_in s.branches; reads = map read_as s.reads }
+history_of s = record { low = low_of s; writes = writes_in s.branches; reads = map read_as s.reads }
 
 abbrev pub seen_as : Version → Seen
 seen_as v = record { from = v.timestamp; value = v.value; pending = not v.committed }

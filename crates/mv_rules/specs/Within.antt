@@ -2,19 +2,14 @@
 use Rattle.std.specs.Prelude.{ℕ, ◌≤◌, List, length}
 use Rattle.std.specs.List.{AllByRecursion as Each}
 use Rattle.xa_codes.specs.declared.write.Write.{Write}
-use Rattle.mv_chain.specs.declared.version.Version.{Version}
-use Rattle.mv_chain.specs.Within.{IsShort, IsWithin as ChainIsWithin}
+use Rattle.mv_chain.specs.Within.{IsShort, IsWithin as PoolIsWithin}
 use Rattle.mv_rules.specs.declared.answers.Got.{Got}
 use Rattle.mv_rules.specs.declared.answers.Got.TheVariants.{Value}
 use Rattle.mv_rules.specs.declared.records.Records.{Records}
 
--- every value of every chain has at most n bytes
-abbrev pub AreWithin : ℕ → List (List Version) → Type 0
-AreWithin n chains = Each (ChainIsWithin n) chains
-
 -- every value that is kept has at most n bytes
 abbrev pub IsWithin : ℕ → Records → Type 0
-IsWithin n r = AreWithin n r.chains.items
+IsWithin n r = PoolIsWithin n r.pool
 
 -- whatever bound the values were within, they still are
 abbrev pub KeepsWithin : Records → Records → Type 0

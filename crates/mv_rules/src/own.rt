@@ -1,61 +1,131 @@
-ghost use Rattle.std.specs.Prelude.{◌≡◌, ℕ, [], ◌∷◌, ◌++◌, ◌==◌, ◌-◌, if◌then◌else◌, take, length, OnOk, OnErr};
-ghost use Rattle.std.specs.Option.{option_map_or};
+ghost use Rattle.std.specs.Prelude.{◌≡◌, ℕ, [], ◌∷◌, ◌++◌, ◌==◌, ◌-◌, ◌<◌, if◌then◌else◌, take, length, IfSome, OnOk, OnErr};
 ghost use Rattle.mv_rules.specs.Own.{own_in};
 
 use std::alloc::{AllocError, Global};
 use std::collections::BTreeMap;
+use std::mem;
 use xa_codes::Bytes;
 
-/// A key that an undecided branch has written, and the place of its chain.
+/// A key that a branch has written, and the place of its chain.
 #[derive(Debug, Drop)]
 pub struct Own {
     pub key: Bytes,
     pub place: usize,
 }
 
+/// What is kept of a branch until the low water has passed it.
+#[derive(Debug, Drop)]
+pub(crate) struct Notes {
+    /// The keys that it has written, while it is undecided.
+    pub(crate) written: Vec<Own>,
+    /// The keys that it had written when it was decided.
+    pub(crate) decided: Vec<Own>,
+    /// The keys that nobody had written when it read them.
+    pub(crate) read: Vec<Own>,
+}
+
 /// Notes a key that the branch has written.
 pub(crate) fn note(
     alloc: Global,
-    written: &mut BTreeMap<u64, Vec<Own>>,
+    notes: &mut BTreeMap<u64, Notes>,
     ts: u64,
     own: Own,
 ) -> Result<(), AllocError>
-    ensures ok { OnOk result ((t : ℕ) → own_in t written.new ≡ (if t == ts then own_in ts written.old ++ own ∷ [] else own_in t written.old)) }
-    ensures err { OnErr result ((t : ℕ) → own_in t written.new ≡ own_in t written.old) }
+    ensures ok { OnOk result ((t : ℕ) → own_in t notes.new ≡ (if t == ts then own_in ts notes.old ++ own ∷ [] else own_in t notes.old)) }
+    ensures err { OnErr result ((t : ℕ) → own_in t notes.new ≡ own_in t notes.old) }
 {
-    if let Some(list) = written.get_mut(&ts) {
-        list.push(own)?;
+    if let Some(noted) = notes.get_mut(&ts) {
+        noted.written.push(own)?;
         return Ok(());
     }
-    let mut list = Vec::new(alloc);
-    list.push(own)?;
-    written.insert(ts, list)?;
+    let mut written = Vec::new(alloc);
+    written.push(own)?;
+    let noted = Notes {
+        written,
+        decided: Vec::new(alloc),
+        read: Vec::new(alloc),
+    };
+    notes.insert(ts, noted)?;
+    Ok(())
+}
+
+/// Notes a key that nobody had written when the branch read it.
+pub(crate) fn note_read(
+    alloc: Global,
+    notes: &mut BTreeMap<u64, Notes>,
+    ts: u64,
+    own: Own,
+) -> Result<(), AllocError>
+    ensures { (t : ℕ) → own_in t notes.new ≡ own_in t notes.old }
+{
+    if let Some(noted) = notes.get_mut(&ts) {
+        noted.read.push(own)?;
+        return Ok(());
+    }
+    let mut read = Vec::new(alloc);
+    read.push(own)?;
+    let noted = Notes {
+        written: Vec::new(alloc),
+        decided: Vec::new(alloc),
+        read,
+    };
+    notes.insert(ts, noted)?;
     Ok(())
 }
 
 /// Takes the branch's last note back.
-pub(crate) fn unnote(written: &mut BTreeMap<u64, Vec<Own>>, ts: u64)
-    ensures { (t : ℕ) → own_in t written.new ≡ (if t == ts then take (length (own_in ts written.old) - 1) (own_in ts written.old) else own_in t written.old) }
+pub(crate) fn unnote(notes: &mut BTreeMap<u64, Notes>, ts: u64)
+    ensures { (t : ℕ) → own_in t notes.new ≡ (if t == ts then take (length (own_in ts notes.old) - 1) (own_in ts notes.old) else own_in t notes.old) }
 {
-    if let Some(list) = written.get_mut(&ts) {
-        list.pop();
+    if let Some(noted) = notes.get_mut(&ts) {
+        noted.written.pop();
     }
 }
 
 /// How many keys the branch has written.
-pub(crate) fn count(written: &BTreeMap<u64, Vec<Own>>, ts: u64) -> usize
-    ensures { result ≡ length (own_in ts written.now) }
+pub(crate) fn count(notes: &BTreeMap<u64, Notes>, ts: u64) -> usize
+    ensures { result ≡ length (own_in ts notes.now) }
 {
-    match written.get(&ts) {
-        Some(list) => list.len(),
+    match notes.get(&ts) {
+        Some(noted) => noted.written.len(),
         None => 0,
     }
 }
 
 /// Takes the list of a branch out.
-pub(crate) fn take_list(written: &mut BTreeMap<u64, Vec<Own>>, ts: u64) -> Option<Vec<Own>>
-    ensures list { option_map_or (λ v. v.items) result [] ≡ own_in ts written.old }
-    ensures others { (t : ℕ) → own_in t written.new ≡ (if t == ts then [] else own_in t written.old) }
+pub(crate) fn take_list(alloc: Global, notes: &mut BTreeMap<u64, Notes>, ts: u64) -> Vec<Own>
+    ensures list { result.items ≡ own_in ts notes.old }
+    ensures others { (t : ℕ) → own_in t notes.new ≡ (if t == ts then [] else own_in t notes.old) }
 {
-    written.remove(&ts)
+    match notes.get_mut(&ts) {
+        Some(noted) => mem::replace(&mut noted.written, Vec::new(alloc)),
+        None => Vec::new(alloc),
+    }
+}
+
+/// Keeps the keys of a branch that is decided until the low water has passed it.
+pub(crate) fn keep_decided(notes: &mut BTreeMap<u64, Notes>, ts: u64, own: Vec<Own>)
+    ensures { (t : ℕ) → own_in t notes.new ≡ own_in t notes.old }
+{
+    if let Some(noted) = notes.get_mut(&ts) {
+        noted.decided = own;
+    }
+}
+
+/// Takes out what is kept of the branch with the least timestamp, if the low water has passed it and it is decided.
+pub(crate) fn next_due(notes: &mut BTreeMap<u64, Notes>, low: u64) -> Option<Notes>
+    ensures same { (t : ℕ) → own_in t notes.new ≡ own_in t notes.old }
+    ensures fewer { IfSome result (λ _. length notes.new.entries < length notes.old.entries) }
+{
+    let is_due = match notes.first_key_value() {
+        Some((ts, noted)) => *ts <= low && noted.written.is_empty(),
+        None => false,
+    };
+    if !is_due {
+        return None;
+    }
+    match notes.pop_first() {
+        Some((_, noted)) => Some(noted),
+        None => None,
+    }
 }

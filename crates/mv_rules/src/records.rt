@@ -1,13 +1,14 @@
-ghost use Rattle.std.specs.Prelude.{◌≡◌, ◌≢◌, ℕ, ◌≤◌, List, [], ◌∷◌, Some, false, IfOk, OnOk, option_map};
+ghost use Rattle.std.specs.Prelude.{◌≡◌, ◌≢◌, ℕ, ◌≤◌, max, List, [], ◌∷◌, Some, None, false, IfOk, OnOk, option_map};
 ghost use Rattle.mv_chain.specs.Within.{IsShort};
-ghost use Rattle.mv_chain.specs.History.{seen, is_late, has_open, decided, IsOpen, IsUnsettled};
+ghost use Rattle.mv_chain.specs.History.{seen, is_late, has_open, decided, AreWhole, IsOpen, IsUnsettled};
 
 use crate::answers::{Got, Put};
-use crate::own::{Own, count, take_list};
+use crate::own::{Notes, Own, count, keep_decided, next_due, take_list};
 use crate::steps::{add, read, settle_all};
 use crate::verdict::{Verdict, judge};
 use crate::writes::{collect, copied, listed};
-use mv_chain::{Chain, Fate};
+use mv_chain::{Chain, Fate, Pool};
+use slab::Slab;
 use std::alloc::{AllocError, Global};
 use std::collections::BTreeMap;
 use xa_codes::{Bytes, Write};
@@ -21,13 +22,16 @@ pub struct Records {
     alloc: Global,
     /// Where each key's chain stands.
     places: BTreeMap<Vec<u8>, usize>,
-    chains: Vec<Chain>,
-    written: BTreeMap<u64, Vec<Own>>,
+    chains: Slab<Chain>,
+    /// The versions of all chains.
+    pool: Pool,
+    /// What is kept of each branch, by its timestamp.
+    notes: BTreeMap<u64, Notes>,
 }
 
 impl Records {
-    ghost use Rattle.mv_rules.specs.History.{History, answer_of, reads_after, open_keys, put_of, after_put, wrote, IsWritesOf};
-    ghost use Rattle.mv_rules.specs.Records.{StandsFor, place_of};
+    ghost use Rattle.mv_rules.specs.History.{History, answer_of, reads_after, open_keys, put_of, after_put, wrote, IsWritesOf, IsWholeAt};
+    ghost use Rattle.mv_rules.specs.Records.{StandsFor, place_of, versions_in};
     ghost use Rattle.mv_rules.specs.Restoring.{with_branch, IsRestorable};
     ghost use Rattle.mv_rules.specs.Within.{IsWithin, KeepsWithin, IsShortAnswer, AreShort};
 
@@ -39,30 +43,63 @@ impl Records {
         Records {
             alloc,
             places: BTreeMap::new(alloc),
-            chains: Vec::new(alloc),
-            written: BTreeMap::new(alloc),
+            chains: Slab::new(alloc),
+            pool: Pool::new(alloc),
+            notes: BTreeMap::new(alloc),
         }
     }
 
-    /// The place of the key's chain, which is made if there is none.
-    fn place(&mut self, key: &[u8]) -> Result<usize, AllocError>
+    /// Makes the chain of a key that has none.
+    fn make(&mut self, key: &[u8]) -> Result<usize, AllocError>
         ensures place { IfOk result (λ i. place_of key.now self.new ≡ Some i) }
-        ensures stands { (h : History) → StandsFor h self.old → StandsFor h self.new }
+        ensures stands { (h : History) → StandsFor h self.old → place_of key.now self.old ≡ None → StandsFor h self.new }
         ensures within { KeepsWithin self.old self.new }
     {
-        if let Some(i) = self.places.get(key) {
-            return Ok(*i);
-        }
         let copy = key.to_vec(self.alloc)?;
-        let chain = Chain::new(self.alloc)?;
-        let i = self.chains.len();
-        self.chains.push(chain)?;
-        match self.places.insert(copy, i) {
-            Ok(_) => Ok(i),
+        self.chains.reserve(1)?;
+        let i = self.chains.vacant_key();
+        self.places.insert(copy, i)?;
+        match Chain::new(&mut self.pool) {
+            Ok(chain) => Ok(self.chains.insert_reserved(chain)),
             Err(refused) => {
-                self.chains.pop();
-                Err(refused.into())
+                self.places.remove(key);
+                Err(refused)
             }
+        }
+    }
+
+    /// Forgets a key that nobody has written, and whose reads lie below `low`. Takes no memory.
+    fn forget(&mut self, key: &[u8], low: u64)
+        ensures stands { (h : History) → StandsFor h self.old → IsWholeAt key.now h.writes → low ≤ h.low → StandsFor h self.new }
+        ensures notes { self.new.notes ≡ self.old.notes }
+        ensures within { KeepsWithin self.old self.new }
+    {
+        let Some(i) = self.places.get(key) else {
+            return;
+        };
+        let i = *i;
+        let Some(chain) = self.chains.get(i) else {
+            return;
+        };
+        if !chain.is_idle(&self.pool, low) {
+            return;
+        }
+        self.places.remove(key);
+        if let Some(mut chain) = self.chains.try_remove(i) {
+            chain.clear(&mut self.pool);
+        }
+    }
+
+    /// What a branch of timestamp `ts` reads at the key, whose chain stands at `i`.
+    fn get_at(&mut self, i: usize, ts: u64, key: &[u8]) -> Got
+        ensures answer { (h : History) → StandsFor h self.old → place_of key.now self.old ≡ Some i → h.low ≤ ts → result ≢ Got.Memory → result ≡ answer_of ts (seen key.now ts h.writes) }
+        ensures stands { (h : History) → StandsFor h self.old → place_of key.now self.old ≡ Some i → h.low ≤ ts → StandsFor (record h { reads = reads_after result ts key.now (seen key.now ts h.writes).from h.reads }) self.new }
+        ensures short { (n : ℕ) → IsWithin n self.old → IsShortAnswer n result }
+        ensures within { KeepsWithin self.old self.new }
+    {
+        match self.chains.get_mut(i) {
+            Some(chain) => read(self.alloc, &mut self.pool, chain, &mut self.notes, ts, key),
+            None => Got::Memory,
         }
     }
 
@@ -74,32 +111,35 @@ impl Records {
         ensures short { (n : ℕ) → IsWithin n self.old → IsShortAnswer n result }
         ensures within { KeepsWithin self.old self.new }
     {
-        let Ok(i) = self.place(key) else {
+        if let Some(i) = self.places.get(key) {
+            let i = *i;
+            return self.get_at(i, ts, key);
+        }
+        let Ok(i) = self.make(key) else {
             return Got::Memory;
         };
-        match self.chains.get_mut(i) {
-            Some(chain) => read(self.alloc, chain, ts),
-            None => Got::Memory,
+        let got = self.get_at(i, ts, key);
+        if let Got::Memory = got {
+            self.forget(key, 0);
+            return Got::Memory;
         }
+        got
     }
 
-    /// Adds a branch's write, or replaces its own: `None` deletes the key. A branch writes at most 256 keys.
-    /// Limit, Late and want of memory change nothing.
-    pub fn put(&mut self, ts: u64, key: &[u8], value: Option<Vec<u8>>) -> Put
-        ensures answer { (h : History) → StandsFor h self.old → IsUnsettled ts h.low h.writes → result ≢ Put.Memory → result ≡ put_of (has_open key.now ts h.writes) (open_keys ts h.writes) (is_late key.now ts h.reads) }
-        ensures stands { (h : History) → StandsFor h self.old → IsUnsettled ts h.low h.writes → StandsFor (after_put result ts key.now (option_map (λ v. v.items) value) h) self.new }
+    /// Adds a branch's write of the key, whose chain stands at `i`.
+    fn put_at(&mut self, i: usize, ts: u64, key: &[u8], value: Option<Vec<u8>>) -> Put
+        ensures answer { (h : History) → StandsFor h self.old → place_of key.now self.old ≡ Some i → IsUnsettled ts h.low h.writes → result ≢ Put.Memory → result ≡ put_of (has_open key.now ts h.writes) (open_keys ts h.writes) (is_late key.now ts h.reads) }
+        ensures stands { (h : History) → StandsFor h self.old → place_of key.now self.old ≡ Some i → IsUnsettled ts h.low h.writes → StandsFor (after_put result ts key.now (option_map (λ v. v.items) value) h) self.new }
         ensures within { (n : ℕ) → IsWithin n self.old → IsShort n (option_map (λ v. v.items) value) → IsWithin n self.new }
     {
-        let Ok(i) = self.place(key) else {
-            return Put::Memory;
-        };
-        let count = count(&self.written, ts);
+        let count = count(&self.notes, ts);
         let Some(chain) = self.chains.get_mut(i) else {
             return Put::Memory;
         };
-        match judge(chain, count, ts) {
+        let look = chain.look(&self.pool, ts);
+        match judge(&look, count) {
             Verdict::Refused(answer) => answer,
-            Verdict::Again => match chain.install(ts, value) {
+            Verdict::Again => match chain.install_at(&mut self.pool, &look, value) {
                 Ok(()) => Put::Done,
                 Err(_) => Put::Memory,
             },
@@ -111,7 +151,15 @@ impl Records {
                     key: copy,
                     place: i,
                 };
-                match add(self.alloc, chain, &mut self.written, ts, own, value) {
+                match add(
+                    self.alloc,
+                    &mut self.pool,
+                    chain,
+                    &mut self.notes,
+                    &look,
+                    own,
+                    value,
+                ) {
                     Ok(()) => Put::Done,
                     Err(_) => Put::Memory,
                 }
@@ -119,14 +167,93 @@ impl Records {
         }
     }
 
+    /// Adds a branch's write, or replaces its own: `None` deletes the key. A branch writes at most 256 keys.
+    /// Limit, Late and want of memory change nothing.
+    pub fn put(&mut self, ts: u64, key: &[u8], value: Option<Vec<u8>>) -> Put
+        ensures answer { (h : History) → StandsFor h self.old → IsUnsettled ts h.low h.writes → result ≢ Put.Memory → result ≡ put_of (has_open key.now ts h.writes) (open_keys ts h.writes) (is_late key.now ts h.reads) }
+        ensures stands { (h : History) → StandsFor h self.old → IsUnsettled ts h.low h.writes → StandsFor (after_put result ts key.now (option_map (λ v. v.items) value) h) self.new }
+        ensures within { (n : ℕ) → IsWithin n self.old → IsShort n (option_map (λ v. v.items) value) → IsWithin n self.new }
+    {
+        if let Some(i) = self.places.get(key) {
+            let i = *i;
+            return self.put_at(i, ts, key, value);
+        }
+        let Ok(i) = self.make(key) else {
+            return Put::Memory;
+        };
+        let answer = self.put_at(i, ts, key, value);
+        if let Put::Done = answer {
+            return Put::Done;
+        }
+        self.forget(key, 0);
+        answer
+    }
+
     /// Decides the fate of a branch, also of one below the low water: its writes stay, or go. Takes no memory.
     pub fn settle(&mut self, ts: u64, fate: Fate)
         ensures stands { (h : History) → StandsFor h self.old → IsOpen ts h.writes → StandsFor (record h { writes = decided ts fate h.writes }) self.new }
         ensures within { KeepsWithin self.old self.new }
     {
-        if let Some(own) = take_list(&mut self.written, ts) {
-            settle_all(&mut self.chains, &own, ts, fate);
+        let own = take_list(self.alloc, &mut self.notes, ts);
+        settle_all(&mut self.pool, &mut self.chains, &own, ts, fate);
+        keep_decided(&mut self.notes, ts, own);
+    }
+
+    /// Prunes the chain of a key. Takes no memory.
+    fn prune(&mut self, key: &[u8], low: u64)
+        ensures stands { (h : History) → StandsFor h self.old → AreWhole h.writes → low ≤ h.low → StandsFor h self.new }
+        ensures notes { self.new.notes ≡ self.old.notes }
+        ensures within { KeepsWithin self.old self.new }
+    {
+        let Some(i) = self.places.get(key) else {
+            return;
+        };
+        if let Some(chain) = self.chains.get_mut(*i) {
+            chain.prune(&mut self.pool, low);
         }
+    }
+
+    /// Drops what is no longer read from `low` on of these keys. Takes no memory.
+    fn drain(&mut self, due: &[Own], low: u64)
+        ensures stands { (h : History) → StandsFor h self.old → AreWhole h.writes → low ≤ h.low → StandsFor h self.new }
+        ensures notes { self.new.notes ≡ self.old.notes }
+        ensures within { KeepsWithin self.old self.new }
+    {
+        for own in due {
+            self.prune(own.key.as_slice(), low);
+            self.forget(own.key.as_slice(), low);
+        }
+    }
+
+    /// No branch below `low` reads or writes any more, except one that is undecided, which sees its own writes: drops
+    /// what is no longer read. It costs what it drops, and takes no memory.
+    pub fn low_water(&mut self, low: u64)
+        ensures stands { (h : History) → StandsFor h self.old → AreWhole h.writes → StandsFor (record h { low = max h.low low }) self.new }
+        ensures within { KeepsWithin self.old self.new }
+    {
+        while let Some(noted) = next_due(&mut self.notes, low) {
+            self.drain(&noted.decided, low);
+            self.drain(&noted.read, low);
+        }
+    }
+
+    /// How many versions the chains of all keys have, the base of each included. Takes no memory.
+    pub fn versions(&self) -> u64
+        ensures { result ≡ versions_in self.now }
+    {
+        self.pool.versions() as u64
+    }
+
+    /// The place of the key's chain, which is made if there is none.
+    fn place(&mut self, key: &[u8]) -> Result<usize, AllocError>
+        ensures place { IfOk result (λ i. place_of key.now self.new ≡ Some i) }
+        ensures stands { (h : History) → StandsFor h self.old → StandsFor h self.new }
+        ensures within { KeepsWithin self.old self.new }
+    {
+        if let Some(i) = self.places.get(key) {
+            return Ok(*i);
+        }
+        self.make(key)
     }
 
     /// Adds a branch's write, however many keys it has written.
@@ -138,14 +265,23 @@ impl Records {
         let Some(chain) = self.chains.get_mut(i) else {
             return Err(AllocError);
         };
-        if chain.source(ts).from == ts {
-            return chain.install(ts, value);
+        let look = chain.look(&self.pool, ts);
+        if look.from == ts {
+            return chain.install_at(&mut self.pool, &look, value);
         }
         let own = Own {
             key: Bytes::from_slice(self.alloc, key)?,
             place: i,
         };
-        add(self.alloc, chain, &mut self.written, ts, own, value)
+        add(
+            self.alloc,
+            &mut self.pool,
+            chain,
+            &mut self.notes,
+            &look,
+            own,
+            value,
+        )
     }
 
     /// Adds the writes of a branch that lasted, as the log was read, and decides its fate where that is known:
@@ -181,9 +317,10 @@ impl Records {
         ensures writes { IfOk result (λ v. (h : History) → StandsFor h self.now → IsOpen ts h.writes → IsWritesOf ts h.writes v.items) }
         ensures short { IfOk result (λ v. (n : ℕ) → IsWithin n self.now → AreShort n v.items) }
     {
-        match self.written.get(&ts) {
-            Some(own) => {
-                let values = collect(self.alloc, &self.chains, own, ts)?;
+        match self.notes.get(&ts) {
+            Some(noted) => {
+                let own = &noted.written;
+                let values = collect(self.alloc, &self.pool, &self.chains, own, ts)?;
                 listed(self.alloc, values)
             }
             None => Ok(Vec::new(self.alloc)),

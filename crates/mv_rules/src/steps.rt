@@ -1,77 +1,122 @@
-ghost use Rattle.std.specs.Prelude.{◌≡◌, ◌≢◌, ℕ, ◌<◌, ◌≤◌, List, [], ◌∷◌, ◌++◌, ◌==◌, if◌then◌else◌, true, false, Ok, Err, OnOk, OnErr, slice_index_or, length, option_map};
-ghost use Rattle.mv_chain.specs.declared.version.Version.{Version};
+ghost use Rattle.std.specs.Prelude.{◌≡◌, ◌≢◌, ℕ, ◌≤◌, List, [], ◌∷◌, ◌++◌, ◌==◌, if◌then◌else◌, OnOk, OnErr, option_map};
 ghost use Rattle.mv_chain.specs.History.{Written, Answered};
-ghost use Rattle.mv_chain.specs.Chain.{fresh, shows, settled, StandsFor};
+ghost use Rattle.mv_chain.specs.Chain.{shows, StandsFor};
+ghost use Rattle.mv_chain.specs.Look.{looked};
+ghost use Rattle.mv_chain.specs.Pool.{versions_of, IsKept, LeavesOthers};
 ghost use Rattle.mv_chain.specs.Within.{IsShort, IsWithin, KeepsWithin};
-ghost use Rattle.mv_rules.specs.History.{answer_of, reads_after};
-ghost use Rattle.mv_rules.specs.Own.{own_in, is_listed};
-ghost use Rattle.mv_rules.specs.Steps.{IsSettled, IsWritten};
-ghost use Rattle.mv_rules.specs.Within.{AreWithin, IsShortAnswer};
+ghost use Rattle.mv_rules.specs.History.{reads_after, answer_of};
+ghost use Rattle.mv_rules.specs.Held.{IsHeld};
+ghost use Rattle.mv_rules.specs.Own.{own_in};
+ghost use Rattle.mv_rules.specs.Steps.{SettlesListed, IsWritten};
+ghost use Rattle.mv_rules.specs.Within.{IsShortAnswer};
 
 use crate::answers::Got;
-use crate::own::{Own, note, unnote};
-use mv_chain::{Chain, Fate};
+use crate::own::{Notes, Own, note, note_read, unnote};
+use mv_chain::{Chain, Fate, Look, Pool};
+use slab::Slab;
 use std::alloc::{AllocError, Global};
 use std::collections::BTreeMap;
 use xa_codes::Bytes;
 
-/// Reads a chain, and notes the read there.
-pub(crate) fn read(alloc: Global, chain: &mut Chain, ts: u64) -> Got
-    ensures answer { result ≢ Got.Memory → result ≡ answer_of ts (shows ts chain.old) }
-    ensures stands { (key : List ℕ) (low : ℕ) (writes : List Written) (reads : List Answered) → StandsFor key low writes reads chain.old → low ≤ ts → StandsFor key low writes (reads_after result ts key (shows ts chain.old).from reads) chain.new }
-    ensures short { (n : ℕ) → IsWithin n chain.old → IsShortAnswer n result }
-    ensures within { KeepsWithin chain.old chain.new }
+/// Notes a read of a key that nobody has written, so that its chain is forgotten once the low water has passed the
+/// read. One that no later read follows is enough.
+fn note_unwritten(
+    alloc: Global,
+    pool: &Pool,
+    chain: &Chain,
+    notes: &mut BTreeMap<u64, Notes>,
+    ts: u64,
+    key: &[u8],
+) -> Result<(), AllocError>
+    ensures { (t : ℕ) → own_in t notes.new ≡ own_in t notes.old }
 {
-    let found = chain.source(ts);
-    if found.pending && found.from != ts {
-        return Got::Busy(found.from);
+    if !chain.is_idle(pool, ts.saturating_sub(1)) {
+        return Ok(());
     }
-    let got = match chain.value(ts) {
+    let own = Own {
+        key: Bytes::from_slice(alloc, key)?,
+        place: 0,
+    };
+    note_read(alloc, notes, ts, own)
+}
+
+/// Reads a chain, and notes the read there.
+pub(crate) fn read(
+    alloc: Global,
+    pool: &mut Pool,
+    chain: &mut Chain,
+    notes: &mut BTreeMap<u64, Notes>,
+    ts: u64,
+    key: &[u8],
+) -> Got
+    ensures answer { IsKept pool.old chain.old → result ≢ Got.Memory → result ≡ answer_of ts (shows ts (versions_of pool.old chain.old)) }
+    ensures stands { (k : List ℕ) (low : ℕ) (writes : List Written) (reads : List Answered) → IsKept pool.old chain.old → StandsFor k low writes reads (versions_of pool.old chain.old) → low ≤ ts → StandsFor k low writes (reads_after result ts k (shows ts (versions_of pool.old chain.old)).from reads) (versions_of pool.new chain.new) }
+    ensures kept { IsKept pool.old chain.old → IsKept pool.new chain.new }
+    ensures others { LeavesOthers pool.old chain.old pool.new chain.new }
+    ensures notes { (t : ℕ) → own_in t notes.new ≡ own_in t notes.old }
+    ensures short { (n : ℕ) → IsWithin n pool.old → IsShortAnswer n result }
+    ensures within { KeepsWithin pool.old pool.new }
+{
+    let look = chain.look(pool, ts);
+    if look.pending && look.from != ts {
+        return Got::Busy(look.from);
+    }
+    let got = match chain.value_at(pool, &look) {
         None => Got::Absent,
         Some(value) => match Bytes::from_slice(alloc, value) {
             Ok(bytes) => Got::Value(bytes),
             Err(_) => return Got::Memory,
         },
     };
-    chain.mark(found.from, ts);
+    if note_unwritten(alloc, pool, chain, notes, ts, key).is_err() {
+        return Got::Memory;
+    }
+    chain.mark_at(pool, &look);
     got
 }
 
 /// Installs the branch's first write of a key, and notes the key.
 pub(crate) fn add(
     alloc: Global,
+    pool: &mut Pool,
     chain: &mut Chain,
-    written: &mut BTreeMap<u64, Vec<Own>>,
-    ts: u64,
+    notes: &mut BTreeMap<u64, Notes>,
+    look: &Look,
     own: Own,
     value: Option<Vec<u8>>,
 ) -> Result<(), AllocError>
-    ensures ok { OnOk result (IsWritten ts (option_map (λ v. v.items) value) chain.old chain.new) }
-    ensures noted { OnOk result ((t : ℕ) → own_in t written.new ≡ (if t == ts then own_in ts written.old ++ own ∷ [] else own_in t written.old)) }
-    ensures err { OnErr result (chain.new ≡ chain.old) }
-    ensures unnoted { OnErr result ((t : ℕ) → own_in t written.new ≡ own_in t written.old) }
-    ensures within { (n : ℕ) → IsWithin n chain.old → IsShort n (option_map (λ v. v.items) value) → IsWithin n chain.new }
+    ensures ok { OnOk result ((ts : ℕ) → IsKept pool.old chain.old → look.now ≡ looked ts (versions_of pool.old chain.old) → IsWritten ts (option_map (λ v. v.items) value) (versions_of pool.old chain.old) (versions_of pool.new chain.new)) }
+    ensures noted { OnOk result ((t : ℕ) → own_in t notes.new ≡ (if t == look.now.at then own_in look.now.at notes.old ++ own ∷ [] else own_in t notes.old)) }
+    ensures err { OnErr result (IsKept pool.old chain.old → versions_of pool.new chain.new ≡ versions_of pool.old chain.old) }
+    ensures unnoted { OnErr result ((t : ℕ) → own_in t notes.new ≡ own_in t notes.old) }
+    ensures kept { (ts : ℕ) → IsKept pool.old chain.old → look.now ≡ looked ts (versions_of pool.old chain.old) → IsKept pool.new chain.new }
+    ensures others { LeavesOthers pool.old chain.old pool.new chain.new }
+    ensures within { (n : ℕ) → IsWithin n pool.old → IsShort n (option_map (λ v. v.items) value) → IsWithin n pool.new }
 {
-    note(alloc, written, ts, own)?;
-    match chain.install(ts, value) {
+    note(alloc, notes, look.at, own)?;
+    match chain.install_at(pool, look, value) {
         Ok(()) => Ok(()),
         Err(refused) => {
-            unnote(written, ts);
+            unnote(notes, look.at);
             Err(refused)
         }
     }
 }
 
 /// Settles the branch's version in each of the chains that it has written.
-pub(crate) fn settle_all(chains: &mut Vec<Chain>, own: &[Own], ts: u64, fate: Fate)
-    ensures len { length chains.new.items ≡ length chains.old.items }
-    ensures listed { (i : ℕ) → i < length chains.old.items → is_listed i own.now ≡ true → IsSettled ts fate (slice_index_or chains.old.items i fresh) (slice_index_or chains.new.items i fresh) }
-    ensures others { (i : ℕ) → is_listed i own.now ≡ false → slice_index_or chains.new.items i fresh ≡ slice_index_or chains.old.items i fresh }
-    ensures within { (n : ℕ) → AreWithin n chains.old.items → AreWithin n chains.new.items }
+pub(crate) fn settle_all(
+    pool: &mut Pool,
+    chains: &mut Slab<Chain>,
+    own: &[Own],
+    ts: u64,
+    fate: Fate,
+)
+    ensures settled { IsHeld pool.old chains.old → SettlesListed ts fate own.now pool.old chains.old pool.new chains.new }
+    ensures within { KeepsWithin pool.old pool.new }
 {
     for written in own {
         if let Some(chain) = chains.get_mut(written.place) {
-            chain.settle(ts, fate);
+            chain.settle(pool, ts, fate);
         }
     }
 }

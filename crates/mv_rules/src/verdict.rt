@@ -1,9 +1,8 @@
 ghost use Rattle.std.specs.Prelude.{◌≡◌, ◌==◌};
-ghost use Rattle.mv_chain.specs.Chain.{shows, is_marked};
 ghost use Rattle.mv_rules.specs.Verdict.{verdict_of};
 
 use crate::answers::Put;
-use mv_chain::Chain;
+use mv_chain::Look;
 
 /// How many keys a branch may write.
 const MOST_KEYS: usize = 256;
@@ -19,15 +18,15 @@ pub(crate) enum Verdict {
     First,
 }
 
-/// What a put of a branch that has written so many keys is to do.
-pub(crate) fn judge(chain: &Chain, count: usize, ts: u64) -> Verdict
-    ensures { result ≡ verdict_of ((shows ts chain.now).from == ts) count (is_marked ts chain.now) }
+/// What a put of a branch that has written so many keys is to do, where the look at its timestamp found this.
+pub(crate) fn judge(look: &Look, count: usize) -> Verdict
+    ensures { result ≡ verdict_of (look.now.from == look.now.at) count look.now.late }
 {
-    let own = chain.source(ts).from == ts;
+    let own = look.from == look.at;
     if !own && count >= MOST_KEYS {
         return Verdict::Refused(Put::Limit);
     }
-    if chain.late(ts) {
+    if look.late {
         return Verdict::Refused(Put::Late);
     }
     if own { Verdict::Again } else { Verdict::First }

@@ -1,13 +1,17 @@
-ghost use Rattle.std.specs.Prelude.{◌≡◌, ℕ, List, map, slice_index_or, IfOk, option_map};
+ghost use Rattle.std.specs.Prelude.{◌≡◌, ℕ, List, map, IfOk, option_map};
 ghost use Rattle.std.specs.BTreeMap.{get, IsOrdered};
 ghost use Rattle.std.specs.Cmp.Lexicographic.{slice_cmp};
 ghost use Rattle.std.specs.Ordering.{nat_cmp};
-ghost use Rattle.mv_chain.specs.Chain.{fresh, shows};
+ghost use Rattle.slab.specs.Slab.{get as chain_in};
+ghost use Rattle.mv_chain.specs.Chain.{shows};
+ghost use Rattle.mv_chain.specs.Within.{IsShort, IsWithin};
 ghost use Rattle.mv_rules.specs.Collected.{as_write, collected};
-ghost use Rattle.mv_rules.specs.Within.{AreWithin, AreShort};
+ghost use Rattle.mv_rules.specs.Held.{shown_in, IsHeld};
+ghost use Rattle.mv_rules.specs.Within.{AreShort};
 
 use crate::own::Own;
-use mv_chain::Chain;
+use mv_chain::{Chain, Pool};
+use slab::Slab;
 use std::alloc::{AllocError, Global};
 use std::collections::BTreeMap;
 use xa_codes::{Bytes, Write};
@@ -25,16 +29,18 @@ pub(crate) fn copied(alloc: Global, value: &Option<Bytes>) -> Result<Option<Vec<
 /// What a read at `ts` sees in the chain at this place.
 fn value_at(
     alloc: Global,
-    chains: &[Chain],
+    pool: &Pool,
+    chains: &Slab<Chain>,
     place: usize,
     ts: u64,
 ) -> Result<Option<Bytes>, AllocError>
-    ensures { IfOk result (λ v. v ≡ (shows ts (slice_index_or chains.now place fresh)).value) }
+    ensures value { IfOk result (λ v. IsHeld pool.now chains.now → v ≡ (shows ts (shown_in pool.now (chain_in chains.now place))).value) }
+    ensures short { IfOk result (λ v. (n : ℕ) → IsWithin n pool.now → IsShort n v) }
 {
     let Some(chain) = chains.get(place) else {
         return Ok(None);
     };
-    match chain.value(ts) {
+    match chain.value(pool, ts) {
         Some(value) => Ok(Some(Bytes::from_slice(alloc, value)?)),
         None => Ok(None),
     }
@@ -43,18 +49,19 @@ fn value_at(
 /// The branch's keys, each with the value that the branch sees there.
 pub(crate) fn collect(
     alloc: Global,
-    chains: &[Chain],
+    pool: &Pool,
+    chains: &Slab<Chain>,
     own: &[Own],
     ts: u64,
 ) -> Result<BTreeMap<Bytes, Option<Bytes>>, AllocError>
-    ensures values { IfOk result (λ m. (key : List ℕ) → get (slice_cmp nat_cmp) m key ≡ collected ts chains.now key own.now) }
+    ensures values { IfOk result (λ m. IsHeld pool.now chains.now → (key : List ℕ) → get (slice_cmp nat_cmp) m key ≡ collected ts pool.now chains.now key own.now) }
     ensures ordered { IfOk result (λ m. IsOrdered (slice_cmp nat_cmp) m) }
-    ensures short { IfOk result (λ m. (n : ℕ) → AreWithin n chains.now → AreShort n (map as_write m.entries)) }
+    ensures short { IfOk result (λ m. (n : ℕ) → IsWithin n pool.now → AreShort n (map as_write m.entries)) }
 {
     let mut values = BTreeMap::new(alloc);
     for written in own {
         let key = written.key.copied(alloc)?;
-        let value = value_at(alloc, chains, written.place, ts)?;
+        let value = value_at(alloc, pool, chains, written.place, ts)?;
         values.insert(key, value)?;
     }
     Ok(values)

@@ -208,3 +208,16 @@ module _ {D : Type 0} (honest : Type 0) (tears : List ℕ → ℕ → List ℕ �
 
   pub connect_wanted : (m m' : Manager D) → StaysFor honest tears seen may_leave m m' → m'.outcome ≡ m.outcome → NoneRises failures m.log m'.log → FullyAnswered honest tears seen may_leave failures counts m Connect (connect_reply (Err Memory)) m'
   connect_wanted m m' stays outcome quiet = record { answered = (stays, outcome); pinned = λ w. (refl, refl); called = λ served. absurd (cc served); quiet = λ w. quiet }
+
+  -- the low water is given once a request is answered
+
+  pub given_done : (m mid m' : Manager D) (e : Event) (reply : Reply) (outcome : Outcome) → HasDone honest tears seen may_leave failures counts m e reply outcome mid
+      → StaysFor honest tears seen may_leave mid m' → m'.log ≡ mid.log → HasDone honest tears seen may_leave failures counts m e reply outcome m'
+  given_done m mid m' e reply outcome x stays log = record {
+    steps = λ s st premises. and_then (step s (Asked e) outcome) _ _ (λ a h. (h.0, stays a.after h.1)) (x.steps s st premises);
+    called = λ s st premises. rw log (x.called s st premises);
+    served = x.served;
+  }
+
+  pub given_stays : (m mid m' : Manager D) → StaysFor honest tears seen may_leave m mid → StaysFor honest tears seen may_leave mid m' → StaysFor honest tears seen may_leave m m'
+  given_stays m mid m' x y s st = y s (x s st)

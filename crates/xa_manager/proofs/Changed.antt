@@ -1,16 +1,19 @@
 -- A manager stands for a state, after a get or a put was answered.
 use Rattle.std.proofs.Common.{List, map, refl, ◌∙◌}
 use Rattle.mv_rules.specs.Records.{StandsFor as RecordsStandFor}
-use Rattle.mv_rules.specs.Ties.{history_of, writes_in, read_as}
+use Rattle.mv_rules.specs.Ties.{history_of, low_of, writes_in, read_as}
+use Rattle.mv_rules.proofs.Remade.{low_rises}
 use Rattle.xa_xid.specs.Triple.{Triple}
-use Rattle.xa_model.specs.State.{State, Operation, Read, timestamp_of}
+use Rattle.xa_model.specs.State.{State, Operation, Read}
 use Rattle.xa_model.specs.Records.{did}
 use Rattle.xa_model.specs.Loggable.{IsRecoverable}
+use Rattle.xa_model.proofs.ChangedWaters.{done_water}
 use Rattle.xa_assoc.proofs.Follows.{unmoved}
 use Rattle.xa_branch.proofs.Elsewhere.{stands_elsewhere, done_stands as branch_done}
 use Rattle.xa_manager.specs.Kept.{Kept}
 use Rattle.xa_manager.specs.Changes.{IsSameBeside}
 use Rattle.xa_manager.specs.Stands.{StandsFor}
+use Rattle.xa_manager.proofs.Lows.{stays_with}
 
 -- the same but for records that stand for the same history
 pub stays_by : (m m' : Kept) (s : State) → StandsFor m s → IsSameBeside m m' → RecordsStandFor (history_of s) m'.records → StandsFor m' s
@@ -26,7 +29,7 @@ stays_by m m' s st same records = record {
 
 -- a branch did something
 pub done_stands : (m m' : Kept) (s : State) (xid : Triple) (op : Operation) (reads : List Read) → StandsFor m s → IsSameBeside m m'
-    → RecordsStandFor (record { low = timestamp_of s.boot 0; writes = writes_in (did xid op s.branches); reads = map read_as reads }) m'.records
+    → RecordsStandFor (record { low = low_of s; writes = writes_in (did xid op s.branches); reads = map read_as reads }) m'.records
     → IsRecoverable (record s { branches = did xid op s.branches; reads = reads }) → StandsFor m' (record s { branches = did xid op s.branches; reads = reads })
 done_stands m m' s xid op reads st same records recoverable = record {
   name = same.name ∙ st.name;
@@ -36,6 +39,8 @@ done_stands m m' s xid op reads st same records recoverable = record {
   branches =
       rw same.branches (stands_elsewhere m.branches (record s { branches = did xid op s.branches }) (record s { branches = did xid op s.branches; reads = reads }) refl refl refl refl refl
       (branch_done m.branches s xid op st.branches));
-  records = records;
+  records =
+      low_rises (record { low = low_of s; writes = writes_in (did xid op s.branches); reads = map read_as reads }) m'.records (low_of (record s { branches = did xid op s.branches; reads = reads })) records
+      (stays_with s (record s { branches = did xid op s.branches; reads = reads }) refl (done_water s xid op));
   recoverable = recoverable;
 }

@@ -7,10 +7,11 @@ use Rattle.mv_chain.specs.History.{Written, decided, IsOpen}
 use Rattle.mv_rules.specs.declared.records.Records.{Records}
 use Rattle.mv_rules.specs.History.{History}
 use Rattle.mv_rules.specs.Records.{StandsFor as RecordsStandFor}
-use Rattle.mv_rules.specs.Ties.{history_of, writes_in, fate_of, read_as}
+use Rattle.mv_rules.specs.Ties.{history_of, low_of, writes_in, fate_of, read_as}
 use Rattle.mv_rules.proofs.Moved.{stands_same}
 use Rattle.mv_rules.proofs.Branches.{committed_writes, gone_writes}
 use Rattle.mv_rules.proofs.Open.{at_work}
+use Rattle.mv_rules.proofs.Remade.{low_rises}
 use Rattle.xa_xid.specs.Triple.{Triple}
 use Rattle.xa_branch.specs.declared.branches.Branches.{Branches}
 use Rattle.xa_branch.specs.Branches.{BranchesStandFor}
@@ -24,10 +25,12 @@ use Rattle.xa_assoc.proofs.Follows.{unmoved}
 use Rattle.xa_manager.specs.Kept.{Kept}
 use Rattle.xa_manager.specs.Changes.{fate_of as direction_fate}
 use Rattle.xa_manager.specs.Stands.{StandsFor, ending}
+use Rattle.xa_manager.proofs.Lows.{rises_with}
 use Rattle.xa_model.specs.State.{State, Branch, Phase, Working, Prepared, Committed, InDoubt, name_of, is_with, known_as, known_among, decided_of, or_completed, known_of, is_known_as, without, timestamp_of}
 use Rattle.xa_model.specs.Associations.{timestamp_in, timestamp_by}
 use Rattle.xa_model.specs.Branches.{rolled_back, committed, decided_by}
 use Rattle.xa_model.specs.Sound.{IsSound}
+use Rattle.xa_model.proofs.ChangedWaters.{committed_water, rolled_back_water}
 
 passes_by : (q : Branch → Bool) (x b : Branch) (rest : Option Branch) (c : Bool) → q x ≡ c → cond c (Some x) rest ≡ Some b → (rest ≡ Some b → q b ≡ true) → q b ≡ true
 passes_by q x b rest true e h more = let same : x ≡ b = cc h in subst (λ (y : Branch). q y ≡ true) same e
@@ -58,27 +61,31 @@ abbrev pub Settles : ℕ → Fate → Records → Records → Type 0
 Settles t fate r r' = (h : History) → RecordsStandFor h r → IsOpen t h.writes → RecordsStandFor (record h { writes = decided t fate h.writes }) r'
 
 decided_at : (s : State) (xid : Triple) (t : ℕ) (fate : Fate) (r r' : Records) → IsSound s → (x : IsHere s xid) → t ≡ timestamp_in s xid → RecordsStandFor (history_of s) r → Settles t fate r r'
-    → RecordsStandFor (record { low = timestamp_of s.boot 0; writes = decided x.branch.timestamp fate (writes_in s.branches); reads = map read_as s.reads }) r'
+    → RecordsStandFor (record { low = low_of s; writes = decided x.branch.timestamp fate (writes_in s.branches); reads = map read_as s.reads }) r'
 decided_at s xid t fate r r' sound x time st settles =
     let b = x.branch in
     let is : t ≡ b.timestamp = time ∙ ap timestamp_by x.at in
     let open_ : IsOpen b.timestamp (writes_in s.branches) = (at_work xid b (timestamp_of s.boot s.given + 1) s.branches sound.descends x.at x.open_).open_ in
     let here : IsOpen t (writes_in s.branches) = subst (λ (u : ℕ). IsOpen u (writes_in s.branches)) (sym is) open_ in
-    subst (λ (u : ℕ). RecordsStandFor (record { low = timestamp_of s.boot 0; writes = decided u fate (writes_in s.branches); reads = map read_as s.reads }) r') is (settles (history_of s) st here)
+    subst (λ (u : ℕ). RecordsStandFor (record { low = low_of s; writes = decided u fate (writes_in s.branches); reads = map read_as s.reads }) r') is (settles (history_of s) st here)
 
 pub committed_records : (s : State) (xid : Triple) (t : ℕ) (r r' : Records) → IsSound s → IsSome (known_of s.branches xid) → t ≡ timestamp_in s xid → RecordsStandFor (history_of s) r → Settles t kept r r'
     → RecordsStandFor (history_of (committed s xid)) r'
 committed_records s xid t r r' sound here time st settles =
     let x = here_by s xid (known_of s.branches xid) refl here in
     let e = committed_writes xid x.branch (timestamp_of s.boot s.given + 1) s.branches sound.descends x.at in
-    subst (λ (ws : List Written). RecordsStandFor (record { low = timestamp_of s.boot 0; writes = ws; reads = map read_as s.reads }) r') e (decided_at s xid t kept r r' sound x time st settles)
+    low_rises (record { low = low_of s; writes = writes_in (committed s xid).branches; reads = map read_as s.reads }) r' (low_of (committed s xid))
+    (subst (λ (ws : List Written). RecordsStandFor (record { low = low_of s; writes = ws; reads = map read_as s.reads }) r') e (decided_at s xid t kept r r' sound x time st settles))
+    (rises_with s (committed s xid) refl (committed_water s xid sound))
 
 pub gone_records : (s : State) (xid : Triple) (t : ℕ) (r r' : Records) → IsSound s → IsSome (known_of s.branches xid) → t ≡ timestamp_in s xid → RecordsStandFor (history_of s) r → Settles t gone r r'
     → RecordsStandFor (history_of (rolled_back s xid)) r'
 gone_records s xid t r r' sound here time st settles =
     let x = here_by s xid (known_of s.branches xid) refl here in
-    stands_same (timestamp_of s.boot 0) (decided x.branch.timestamp gone (writes_in s.branches)) (writes_in (without (is_known_as xid) s.branches)) (map read_as s.reads) r'
-    (gone_writes xid x.branch (timestamp_of s.boot s.given + 1) s.branches sound.descends x.at) (decided_at s xid t gone r r' sound x time st settles)
+    low_rises (record { low = low_of s; writes = writes_in (rolled_back s xid).branches; reads = map read_as s.reads }) r' (low_of (rolled_back s xid))
+    (stands_same (low_of s) (decided x.branch.timestamp gone (writes_in s.branches)) (writes_in (without (is_known_as xid) s.branches)) (map read_as s.reads) r'
+    (gone_writes xid x.branch (timestamp_of s.boot s.given + 1) s.branches sound.descends x.at) (decided_at s xid t gone r r' sound x time st settles))
+    (rises_with s (rolled_back s xid) refl (rolled_back_water s xid sound))
 
 -- where the log ends says nothing of branches
 pub moved_end : (m : Branches) (s : State) (end : ℕ) → BranchesStandFor m s → BranchesStandFor m (ending s end)

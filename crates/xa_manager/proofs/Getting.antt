@@ -10,7 +10,7 @@ use Rattle.mv_rules.specs.declared.answers.Got.{Got}
 use Rattle.mv_rules.specs.declared.answers.Got.TheVariants as got_as
 use Rattle.mv_rules.specs.History.{answer_by, answer_of, reads_after}
 use Rattle.mv_rules.specs.Records.{StandsFor as RecordsStandFor}
-use Rattle.mv_rules.specs.Ties.{history_of, writes_in, read_as, seen_as}
+use Rattle.mv_rules.specs.Ties.{history_of, low_of, writes_in, read_as, seen_as}
 use Rattle.mv_rules.proofs.Ties.{one_source}
 use Rattle.mv_rules.proofs.Branches.{unwritten}
 use Rattle.xa_model.specs.State.{State, Operation, Got as Read_op, Read, is_known_as, own_branch, change, timestamp_of}
@@ -118,17 +118,17 @@ got_stands m m' s xid w key g st h x c is recoverable =
     let op : Operation = Read_op key v.value v.timestamp in
     let reads : List Read = record { reader = b.timestamp; key = key; source = v.timestamp } ∷ s.reads in
     let time = time_of s xid w x in
-    let noted : RecordsStandFor (record { low = timestamp_of s.boot 0; writes = writes_in s.branches; reads = reads_after g w.timestamp key (seen key w.timestamp (writes_in s.branches)).from (map read_as s.reads) }) m'.records =
+    let noted : RecordsStandFor (record { low = low_of s; writes = writes_in s.branches; reads = reads_after g w.timestamp key (seen key w.timestamp (writes_in s.branches)).from (map read_as s.reads) }) m'.records =
     c.records (history_of s) st.records (above_low m s xid w st x) in
     let added : reads_after g w.timestamp key (seen key w.timestamp (writes_in s.branches)).from (map read_as s.reads) ≡ map read_as reads =
     is w.timestamp (seen key w.timestamp (writes_in s.branches)).from key (map read_as s.reads)
     ∙ ap (λ (t : ℕ). record { reader = t; key = key; from = (seen key t (writes_in s.branches)).from } ∷ map read_as s.reads) time
     ∙ ap (λ (y : ℕ). record { reader = b.timestamp; key = key; from = y } ∷ map read_as s.reads) (ap (λ y. y.from) (sees m s key b.timestamp st)) in
-    let moved : RecordsStandFor (record { low = timestamp_of s.boot 0; writes = writes_in s.branches; reads = map read_as reads }) m'.records =
-    subst (λ (rs : List Answered). RecordsStandFor (record { low = timestamp_of s.boot 0; writes = writes_in s.branches; reads = rs }) m'.records) added noted in
+    let moved : RecordsStandFor (record { low = low_of s; writes = writes_in s.branches; reads = map read_as reads }) m'.records =
+    subst (λ (rs : List Answered). RecordsStandFor (record { low = low_of s; writes = writes_in s.branches; reads = rs }) m'.records) added noted in
     let same : writes_in (change (is_known_as xid) (having_done op) s.branches) ≡ writes_in s.branches = unwritten (is_known_as xid) (having_done op) (λ y. refl) s.branches in
-    let records : RecordsStandFor (record { low = timestamp_of s.boot 0; writes = writes_in (change (is_known_as xid) (having_done op) s.branches); reads = map read_as reads }) m'.records =
-    subst (λ (ws : List Written). RecordsStandFor (record { low = timestamp_of s.boot 0; writes = ws; reads = map read_as reads }) m'.records) (sym same) moved in
+    let records : RecordsStandFor (record { low = low_of s; writes = writes_in (change (is_known_as xid) (having_done op) s.branches); reads = map read_as reads }) m'.records =
+    subst (λ (ws : List Written). RecordsStandFor (record { low = low_of s; writes = ws; reads = map read_as reads }) m'.records) (sym same) moved in
     done_stands m m' s xid op reads st c.same records recoverable
 
 get_follows : (m m' : Kept) (n : ℕ) (key : List ℕ) (xid : Triple) (w : Kept_branch) (g : Got) (o : Option (List ℕ)) → own_at m n ≡ Some (xid, w) → w.mark ≡ None → Gets m w.timestamp key g m' → IsAnswered g → g ≢ got_as.Memory

@@ -1,16 +1,27 @@
 -- The history of writes and reads, after changes that leave what branches wrote.
-use Rattle.std.proofs.Common.{◌≡◌, ℕ, ℤ, Bool, true, false, cond, List, [], ◌∷◌, ◌++◌, map, Option, refl, ap, sym, ◌∙◌, subst}
+use Rattle.std.proofs.Common.{◌≡◌, ◌≤◌, ℕ, ℤ, Bool, true, false, cond, List, [], ◌∷◌, ◌++◌, map, Option, refl, ap, sym, ◌∙◌, subst}
 use Rattle.xa_xid.specs.Triple.{Triple}
 use Rattle.mv_chain.specs.declared.fate.Fate.{Fate}
 use Rattle.mv_chain.specs.History.{Written}
 use Rattle.mv_rules.specs.declared.records.Records.{Records}
 use Rattle.mv_rules.specs.Records.{StandsFor as RecordsStandFor}
-use Rattle.mv_rules.specs.Ties.{history_of, writes_in, writes_by, writes_one, fate_of, read_as}
+use Rattle.mv_rules.specs.Ties.{history_of, low_of, writes_in, writes_by, writes_one, fate_of, read_as}
 use Rattle.mv_rules.proofs.Branches.{unwritten}
+use Rattle.mv_rules.proofs.Remade.{low_rises}
 use Rattle.xa_codes.specs.declared.codes.TheConstants.{XA_RBCOMMFAIL}
-use Rattle.xa_model.specs.State.{State, Branch, Phase, Working, Prepared, Committed, Association, is_known_as, change, timestamp_of}
+use Rattle.xa_model.specs.State.{State, Branch, Read, Phase, Working, Prepared, Committed, Association, is_known_as, change}
 use Rattle.xa_model.specs.Branches.{prepared, prepared_phase, as_prepared}
 use Rattle.xa_model.specs.Associations.{with_mark, marked_phase, left_behind, is_worked_by}
+use Rattle.xa_model.proofs.ChangedWaters.{marked_water, left_water, prepared_water}
+use Rattle.xa_manager.proofs.Lows.{stays_with}
+
+-- the low water may have risen
+same_writes : (s t : State) (r : Records) → t.reads ≡ s.reads → writes_in t.branches ≡ writes_in s.branches → low_of s ≤ low_of t → RecordsStandFor (history_of s) r → RecordsStandFor (history_of t) r
+same_writes s t r reads writes low st =
+    let risen : RecordsStandFor (record { low = low_of t; writes = writes_in s.branches; reads = map read_as s.reads }) r = low_rises (history_of s) r (low_of t) st low in
+    let moved : RecordsStandFor (record { low = low_of t; writes = writes_in t.branches; reads = map read_as s.reads }) r =
+    subst (λ (ws : List Written). RecordsStandFor (record { low = low_of t; writes = ws; reads = map read_as s.reads }) r) (sym writes) risen in
+    subst (λ (rs : List Read). RecordsStandFor (record { low = low_of t; writes = writes_in t.branches; reads = map read_as rs }) r) (sym reads) moved
 
 marked_fate : (code : ℤ) (p : Phase) → fate_of (marked_phase code p) ≡ fate_of p
 marked_fate code (Working xid mark) = refl
@@ -22,9 +33,10 @@ marked_one code b = ap (λ (fate : Option Fate). writes_by b.timestamp fate b.op
 
 -- a branch is marked
 pub marked_records : (code : ℤ) (xid : Triple) (s : State) (r : Records) → RecordsStandFor (history_of s) r
-    → RecordsStandFor (record { low = timestamp_of s.boot 0; writes = writes_in (change (is_known_as xid) (with_mark code) s.branches); reads = map read_as s.reads }) r
+    → RecordsStandFor (history_of (record s { branches = change (is_known_as xid) (with_mark code) s.branches })) r
 marked_records code xid s r st =
-    subst (λ (ws : List Written). RecordsStandFor (record { low = timestamp_of s.boot 0; writes = ws; reads = map read_as s.reads }) r) (sym (unwritten (is_known_as xid) (with_mark code) (marked_one code) s.branches)) st
+    let t : State = record s { branches = change (is_known_as xid) (with_mark code) s.branches } in
+    same_writes s t r refl (unwritten (is_known_as xid) (with_mark code) (marked_one code) s.branches) (stays_with s t refl (marked_water s code xid)) st
 
 left_one : (c : Bool) (b : Branch) → writes_one (cond c (with_mark XA_RBCOMMFAIL b) b) ≡ writes_one b
 left_one true b = marked_one XA_RBCOMMFAIL b
@@ -37,9 +49,10 @@ left_writes held n (b ∷ bs) =
 
 -- a session hangs up
 pub left_records : (n : ℕ) (s : State) (r : Records) → RecordsStandFor (history_of s) r
-    → RecordsStandFor (record { low = timestamp_of s.boot 0; writes = writes_in (map (left_behind s.associations n) s.branches); reads = map read_as s.reads }) r
+    → RecordsStandFor (history_of (record s { branches = map (left_behind s.associations n) s.branches })) r
 left_records n s r st =
-    subst (λ (ws : List Written). RecordsStandFor (record { low = timestamp_of s.boot 0; writes = ws; reads = map read_as s.reads }) r) (sym (left_writes s.associations n s.branches)) st
+    let t : State = record s { branches = map (left_behind s.associations n) s.branches } in
+    same_writes s t r refl (left_writes s.associations n s.branches) (stays_with s t refl (left_water s s.associations n)) st
 
 -- a branch is prepared
 
@@ -53,4 +66,4 @@ prepared_one b = ap (λ (fate : Option Fate). writes_by b.timestamp fate b.opera
 
 pub prepared_records : (xid : Triple) (s : State) (r : Records) → RecordsStandFor (history_of s) r → RecordsStandFor (history_of (prepared s xid)) r
 prepared_records xid s r st =
-    subst (λ (ws : List Written). RecordsStandFor (record { low = timestamp_of s.boot 0; writes = ws; reads = map read_as s.reads }) r) (sym (unwritten (is_known_as xid) as_prepared prepared_one s.branches)) st
+    same_writes s (prepared s xid) r refl (unwritten (is_known_as xid) as_prepared prepared_one s.branches) (stays_with s (prepared s xid) refl (prepared_water s xid)) st

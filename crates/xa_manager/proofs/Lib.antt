@@ -4,6 +4,8 @@ pub mod Changed
 pub mod Finishing
 pub mod Beginning
 pub mod Rows
+pub mod Lows
+pub mod Given
 pub mod Looks
 pub mod Getting
 pub mod Putting

@@ -2,7 +2,7 @@
 use Rattle.std.proofs.Common.{◌≡◌, ℕ, ℤ, ◌≤◌, true, false, Option, Some, None, refl, ap, sym, ◌∙◌, subst, arith, rules}
 use Rattle.std.specs.Prelude.{option_map, option_and_then}
 use Rattle.std.specs.List.{list_any}
-use Rattle.mv_rules.specs.Ties.{fate_of}
+use Rattle.mv_rules.specs.Ties.{fate_of, low_of}
 use Rattle.xa_xid.specs.Triple.{Triple, xid_eq}
 use Rattle.xa_model.specs.State.{State, Branch, Known, Unknown, AtWork, InDoubt, Completed, count, is_with, is_active, works_in, mark_of, known_of, known_as, active_of, holders_of, branch_with, own_branch, is_known_as, timestamp_of}
 use Rattle.xa_model.specs.Associations.{is_unknown, is_settled, mark_in}
@@ -20,6 +20,7 @@ use Rattle.xa_branch.specs.Branches.{working_at}
 use Rattle.xa_branch.proofs.Looks.{IsWorking, works_at, idle_at}
 use Rattle.xa_manager.specs.Kept.{Kept, with_working, own_at}
 use Rattle.xa_manager.specs.Stands.{StandsFor}
+use Rattle.xa_manager.proofs.Lows.{low_under}
 
 -- what a mapped option says
 mapped_none : {A B : Type 0} (f : A → B) (o : Option A) → option_map f o ≡ None → o ≡ None
@@ -98,10 +99,14 @@ open_fate s xid w x = ap fate_of x.phase
 boot_at : (t boot : ℕ) → boot_of t ≡ boot → timestamp_of boot 0 ≤ t
 boot_at t boot e = omega arith
 
-pub from_boot : (s : State) (xid : Triple) (w : Kept_branch) → (x : IsWorking s xid w) → IsLoggable s → timestamp_of s.boot 0 ≤ x.branch.timestamp
+from_boot : (s : State) (xid : Triple) (w : Kept_branch) → (x : IsWorking s xid w) → IsLoggable s → timestamp_of s.boot 0 ≤ x.branch.timestamp
 from_boot s xid w x h =
     let works : is_working x.branch.phase ≡ true = ap is_working x.phase in
     boot_at x.branch.timestamp s.boot (found_all (λ (b : Branch). is_working b.phase ≡ true → boot_of b.timestamp ≡ s.boot) (is_known_as xid) x.branch s.branches h.begun x.found works)
 
-pub above_low : (m : Kept) (s : State) (xid : Triple) (w : Kept_branch) → StandsFor m s → (x : IsWorking s xid w) → timestamp_of s.boot 0 ≤ w.timestamp
-above_low m s xid w st x = subst (λ (t : ℕ). timestamp_of s.boot 0 ≤ t) (sym (time_of s xid w x)) (from_boot s xid w x st.recoverable.loggable)
+-- nor is it below the low water
+pub from_low : (s : State) (xid : Triple) (w : Kept_branch) → (x : IsWorking s xid w) → IsLoggable s → low_of s ≤ x.branch.timestamp
+from_low s xid w x h = low_under s xid x.branch x.found (from_boot s xid w x h)
+
+pub above_low : (m : Kept) (s : State) (xid : Triple) (w : Kept_branch) → StandsFor m s → (x : IsWorking s xid w) → low_of s ≤ w.timestamp
+above_low m s xid w st x = subst (λ (t : ℕ). low_of s ≤ t) (sym (time_of s xid w x)) (from_low s xid w x st.recoverable.loggable)

@@ -10,7 +10,7 @@ use Rattle.mv_rules.specs.declared.answers.Put.{Put}
 use Rattle.mv_rules.specs.declared.answers.Put.TheVariants as put_as
 use Rattle.mv_rules.specs.History.{open_keys, put_by, put_of, wrote}
 use Rattle.mv_rules.specs.Records.{StandsFor as RecordsStandFor}
-use Rattle.mv_rules.specs.Ties.{history_of, writes_in, read_as}
+use Rattle.mv_rules.specs.Ties.{history_of, low_of, writes_in, read_as}
 use Rattle.mv_rules.proofs.Ties.{one_lateness}
 use Rattle.mv_rules.proofs.Moved.{stands_same}
 use Rattle.mv_rules.proofs.Branches.{wrote_first}
@@ -27,7 +27,7 @@ use Rattle.xa_branch.proofs.Looks.{IsWorking}
 use Rattle.xa_manager.specs.Kept.{Kept, own_at}
 use Rattle.xa_manager.specs.Changes.{Puts}
 use Rattle.xa_manager.specs.Stands.{StandsFor, Follows, Stays}
-use Rattle.xa_manager.proofs.Looks.{finds, own_works, own_is, no_own, own_mark, time_of, open_fate, from_boot}
+use Rattle.xa_manager.proofs.Looks.{finds, own_works, own_is, no_own, own_mark, time_of, open_fate, from_low}
 use Rattle.xa_manager.proofs.Changed.{done_stands, stays_by}
 use Rattle.xa_manager.proofs.Rows.{follows_by}
 
@@ -65,10 +65,10 @@ abbrev pub Marks : Kept → Triple → Kept → Type 0
 Marks m xid m' = (s : State) → StandsFor m s → IsRecoverable (marked_with XA_RBTRANSIENT s xid) → StandsFor m' (marked_with XA_RBTRANSIENT s xid)
 
 -- the branch's writes are open
-open_at : (m : Kept) (s : State) (xid : Triple) (w : Kept_branch) → StandsFor m s → (x : IsWorking s xid w) → IsUnsettled w.timestamp (timestamp_of s.boot 0) (writes_in s.branches)
+open_at : (m : Kept) (s : State) (xid : Triple) (w : Kept_branch) → StandsFor m s → (x : IsWorking s xid w) → IsUnsettled w.timestamp (low_of s) (writes_in s.branches)
 open_at m s xid w st x =
-    subst (λ (t : ℕ). IsUnsettled t (timestamp_of s.boot 0) (writes_in s.branches)) (sym (time_of s xid w x))
-    (unsettled xid x.branch (timestamp_of s.boot s.given + 1) (timestamp_of s.boot 0) s.branches st.recoverable.sound.descends x.found (open_fate s xid w x) (from_boot s xid w x st.recoverable.loggable))
+    subst (λ (t : ℕ). IsUnsettled t (low_of s) (writes_in s.branches)) (sym (time_of s xid w x))
+    (unsettled xid x.branch (timestamp_of s.boot s.given + 1) (low_of s) s.branches st.recoverable.sound.descends x.found (open_fate s xid w x) (from_low s xid w x st.recoverable.loggable))
 
 -- what a put answers, by whether the keys are used up and whether it is late
 judged : (m m' : Kept) (s : State) (xid : Triple) (w : Kept_branch) (key : List ℕ) (value : Option (List ℕ)) (put : Put) → StandsFor m s → (x : IsWorking s xid w) → Puts m w.timestamp key value put m' → put ≢ put_as.Memory
@@ -140,11 +140,11 @@ written_stands m m' s xid w key value st h x c recoverable =
     let b = x.branch in
     let limit = timestamp_of s.boot s.given + 1 in
     let op : Operation = Wrote key value in
-    let added : RecordsStandFor (record { low = timestamp_of s.boot 0; writes = wrote w.timestamp key value ∷ writes_in s.branches; reads = map read_as s.reads }) m'.records = c.records (history_of s) st.records (open_at m s xid w st x) in
-    let there : RecordsStandFor (record { low = timestamp_of s.boot 0; writes = wrote b.timestamp key value ∷ writes_in s.branches; reads = map read_as s.reads }) m'.records =
-    subst (λ (t : ℕ). RecordsStandFor (record { low = timestamp_of s.boot 0; writes = wrote t key value ∷ writes_in s.branches; reads = map read_as s.reads }) m'.records) (time_of s xid w x) added in
-    let records : RecordsStandFor (record { low = timestamp_of s.boot 0; writes = writes_in (change (is_known_as xid) (having_done op) s.branches); reads = map read_as s.reads }) m'.records =
-    stands_same (timestamp_of s.boot 0) (wrote b.timestamp key value ∷ writes_in s.branches) (writes_in (change (is_known_as xid) (having_done op) s.branches)) (map read_as s.reads) m'.records
+    let added : RecordsStandFor (record { low = low_of s; writes = wrote w.timestamp key value ∷ writes_in s.branches; reads = map read_as s.reads }) m'.records = c.records (history_of s) st.records (open_at m s xid w st x) in
+    let there : RecordsStandFor (record { low = low_of s; writes = wrote b.timestamp key value ∷ writes_in s.branches; reads = map read_as s.reads }) m'.records =
+    subst (λ (t : ℕ). RecordsStandFor (record { low = low_of s; writes = wrote t key value ∷ writes_in s.branches; reads = map read_as s.reads }) m'.records) (time_of s xid w x) added in
+    let records : RecordsStandFor (record { low = low_of s; writes = writes_in (change (is_known_as xid) (having_done op) s.branches); reads = map read_as s.reads }) m'.records =
+    stands_same (low_of s) (wrote b.timestamp key value ∷ writes_in s.branches) (writes_in (change (is_known_as xid) (having_done op) s.branches)) (map read_as s.reads) m'.records
     (wrote_first xid b key value limit s.branches st.recoverable.sound.descends x.found (open_fate s xid w x)) there in
     done_stands m m' s xid op s.reads st c.same records recoverable
 

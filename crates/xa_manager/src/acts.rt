@@ -4,12 +4,13 @@ ghost use Rattle.xa_model.specs.Associations.{begun, joined, resumed, not_resume
 ghost use Rattle.xa_model.specs.Branches.{rolled_back, committed, decided_by, forgotten};
 ghost use Rattle.xa_model.specs.Completions.{is_completed};
 ghost use Rattle.xa_model.specs.Loggable.{IsRecoverable};
+ghost use Rattle.xa_model.specs.LowWater.{low_water};
 ghost use Rattle.xa_assoc.specs.Seats.{opened_at};
 ghost use Rattle.xa_assoc.specs.Sessions.{begin_refusal_of, resume_refusal_of, suspend_refusal_of};
 ghost use Rattle.xa_branch.specs.Calls.{marked_with};
 ghost use Rattle.xa_branch.specs.Kinds.{ended_kind, resumed_kind};
 ghost use Rattle.xa_manager.specs.Kept.{kept_of};
-ghost use Rattle.xa_manager.specs.Stands.{StandsFor, Becomes, BecomesAt, Stays};
+ghost use Rattle.xa_manager.specs.Stands.{StandsFor, Becomes, BecomesAt, Stays, StaysDown};
 ghost use Rattle.xa_manager.specs.Changes.{Gets, Puts, items_of, fate_of};
 ghost use Rattle.xa_assoc.specs.Company.{company_of};
 ghost use Rattle.mv_chain.specs.Within.{IsShort};
@@ -171,5 +172,25 @@ impl Tables {
         ensures company { company_of self.new.sessions ≡ company_of self.old.sessions }
     {
         self.records.put(timestamp, key.as_slice(), value)
+    }
+}
+
+/// What is no longer needed of the versions.
+impl Tables {
+    /// The least timestamp of a branch at work or prepared, or where there is none the last that this boot gave.
+    fn low_water(&self) -> u64
+        ensures { (s : State) → StandsFor (kept_of self.now) s → result ≡ low_water s }
+    {
+        self.branches.low_water()
+    }
+
+    /// Gives the records the low water. Takes no memory.
+    pub fn give_low_water(&mut self)
+        ensures stays { Stays (kept_of self.old) (kept_of self.new) }
+        ensures down { StaysDown (kept_of self.old) (kept_of self.new) }
+        ensures company { company_of self.new.sessions ≡ company_of self.old.sessions }
+    {
+        let low = self.low_water();
+        self.records.low_water(low);
     }
 }

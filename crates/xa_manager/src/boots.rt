@@ -34,7 +34,8 @@ fn ready(alloc: Global, durable: &Durable, boot: u32) -> Result<NextBoot, AllocE
     ensures short { AllByRecursion IsRecord (snapshot durable.now boot) → IfOk result (λ next. IsWithin 1024 next.records) }
 {
     let branches = branches_of(alloc, durable, boot)?;
-    let records = records_of(alloc, durable)?;
+    let mut records = records_of(alloc, durable)?;
+    records.low_water(branches.low_water());
     let bodies = snapshot(alloc, durable, boot)?;
     Ok(NextBoot {
         boot,

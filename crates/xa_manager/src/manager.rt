@@ -8,6 +8,7 @@ ghost use Rattle.xa_manager.specs.Connected.{connected_to};
 ghost use Rattle.xa_manager.specs.Promises.{PromisesAll};
 ghost use Rattle.xa_frame.specs.Limits.{IsReply};
 ghost use Rattle.xa_manager.specs.Counted.{CountsAll};
+ghost use Rattle.mv_rules.specs.Records.{versions_in};
 
 use crate::done::Done;
 use crate::doubt::Doubt;
@@ -70,7 +71,9 @@ impl<D: Disk> Manager<D> {
         ensures limits { IsReply result }
     {
         let code = memory_code(&request);
-        match self.answer(session, request) {
+        let answered = self.answer(session, request);
+        self.give_low_water();
+        match answered {
             Ok(done) => {
                 self.outcome = done.outcome;
                 done.reply
@@ -110,6 +113,14 @@ impl<D: Disk> Manager<D> {
         self.tables.sessions.connected() as u64
     }
 
+    /// How many versions of all keys are kept, with one for the absence of each key that a branch found absent or was the first
+    /// to write. Those that nobody can read any more are dropped as the calls go on.
+    pub fn versions(&self) -> u64
+        ensures { result ≡ versions_in self.now.tables.records }
+    {
+        self.tables.records.versions()
+    }
+
     /// Whether the log's current file is the first one.
     pub fn on_first(&self) -> bool
         ensures { result ≡ self.now.log.on_first }
@@ -122,6 +133,16 @@ impl<D: Disk> Manager<D> {
         ensures { result ≡ (first_of self.log, second_of self.log) }
     {
         self.log.into_disks()
+    }
+
+    /// Gives the records the low water, once a request is answered. Connects and hang-ups leave the low water as it is.
+    fn give_low_water(&mut self)
+        ensures stays { StaysFor D.honest D.tears D.seen D.may_leave self.old self.new }
+        ensures log { self.new.log ≡ self.old.log }
+        ensures outcome { self.new.outcome ≡ self.old.outcome }
+        ensures company { connected_to self.new ≡ connected_to self.old }
+    {
+        self.tables.give_low_water();
     }
 
     /// One event, with the reply that stands for it.

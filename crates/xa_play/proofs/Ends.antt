@@ -1,5 +1,5 @@
 -- How a whole run ends.
-use Rattle.std.proofs.Common.{◌≡◌, ℕ, ◌≤◌, ◌<◌, ◌==◌, List, [], ◌∷◌, length, Option, Some, None, IfSome, Result, Ok, Err, refl, subst, arith, inl, inr, append-nil}
+use Rattle.std.proofs.Common.{◌≡◌, ◌⊎◌, ℕ, ◌≤◌, ◌<◌, ◌==◌, List, [], ◌∷◌, length, Option, Some, None, IfSome, Result, Ok, Err, refl, subst, arith, inl, inr, append-nil}
 use Rattle.std.specs.Prelude.{unwrap_or}
 use Rattle.std.specs.Io.KnownBytes.{Appends, Keeps}
 use Rattle.std.proofs.lemmas.List.{length-map}
@@ -16,7 +16,7 @@ use Rattle.xa_play.specs.declared.fault.PlayFault.TheVariants.{Memory, Setting, 
 use Rattle.xa_play.specs.Faults.{end_of}
 use Rattle.xa_play.specs.Disks.{StandsFor, FilesStand}
 use Rattle.xa_play.specs.Runs.{Run, IsLawful, at_start}
-use Rattle.xa_play.specs.Plays.{Plays, PlaysTo, Prints, Stops, lines_of}
+use Rattle.xa_play.specs.Plays.{Plays, WasRead, PlaysTo, Prints, Stops, lines_of}
 use Rattle.xa_play.specs.Played.{ScriptEnds}
 use Rattle.xa_play.proofs.Lawful.{run_at_start}
 use Rattle.xa_output.proofs.Pieces.{appends_both, keeps_appends, nothing_appended}
@@ -49,6 +49,21 @@ unplayed X (Manager fault) name log_bytes input output h = record { script = unw
 unplayed X Setting name log_bytes input output h = record { script = unwrap_or input []; text = []; given = given input; short = λ none. absurd none; written = nothing_appended output; printed = λ xid_of reads. refl }
 unplayed X TooLong name log_bytes input output h = record { script = unwrap_or input []; text = []; given = given input; short = λ none. absurd none; written = nothing_appended output; printed = λ xid_of reads. refl }
 unplayed X Read name log_bytes input output h = record { script = unwrap_or input []; text = []; given = given input; short = λ none. absurd none; written = nothing_appended output; printed = λ xid_of reads. refl }
+
+-- what a script's reading fails with comes before it was read
+pub unread : (X : Type 0) (fault : PlayFault) → (fault ≡ Memory) ⊎ (fault ≡ Read) ⊎ (fault ≡ TooLong) → WasRead {X = X} (Err fault) → ⊥
+unread X Write (inl e) read = cc e
+unread X Write (inr (inl e)) read = cc e
+unread X Write (inr (inr e)) read = cc e
+unread X Memory e read = read
+unread X (Manager fault) e read = read
+unread X Setting e read = read
+unread X TooLong e read = read
+unread X Read e read = read
+
+pub whichever : {A : Type 0} (o : Option A) (P : A → Type 0) → ((x : A) → P x) → IfSome o P
+whichever None P h = tt
+whichever (Some x) P h = h x
 
 prints_end : (X E : Type 0) (name : List ℕ) (n : ℕ) (played : Result X PlayFault) (flushed : Result X E) (run : Run) (lines : List Line) (text : List ℕ) → Prints name n IsLawful played run lines text
     → Prints name n IsLawful (end_of played flushed) run lines text

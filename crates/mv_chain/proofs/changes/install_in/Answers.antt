@@ -1,62 +1,62 @@
-use Rattle.std.proofs.Common.{◌≡◌, ◌∙◌, ap, refl, true, false, get_or}
+use Rattle.std.proofs.Common.{◌<◌, ◌∙◌, length, ap, subst, sym, refl, arith}
 use Rattle.mv_chain.specs.declared.version.Version.{Version}
-use Rattle.mv_chain.specs.Chain.{may_install, unread}
-use Rattle.mv_chain.specs.Slot.{IsOwn, IsNew}
-use Rattle.mv_chain.proofs.Chains.{chain_inserted}
+use Rattle.mv_chain.specs.Chain.{base, unread, IsChain}
+use Rattle.mv_chain.specs.Pool.{shown_at}
 use Rattle.mv_chain.proofs.Exact.{installed_own, installed_new}
-use Rattle.mv_chain.proofs.Kept.{replaced_chain, replaced_stands}
-use Rattle.mv_chain.proofs.Stands.{stands_free, stands_inserted}
+use Rattle.mv_chain.proofs.Anywhere.{chain_installed}
+use Rattle.mv_chain.proofs.Counted.{changed_counts, put_in_counts, grown_counts}
+use Rattle.mv_chain.proofs.Frames.{shown_length, changed_shown, changed_held, put_in_shown, put_in_held, grown_shown, grown_held, then_ok, by_result}
 use Rattle.mv_chain.proofs.changes.install_in.Goals as goal
-use Rattle.mv_chain.proofs.changes.install_in.Goals.{Joined-index_mut-value, In_ok-insert-in-New}
 
-pub returns-in-Refused-clause-stands : goal.returns-in-Refused-clause-stands
-returns-in-Refused-clause-stands c =
-    λ key low writes reads s u late.
-    let refused : may_install c.args.ts c.args.versions.now.items ≡ false = rw c.deref.ensures.value at c.in-Refused.ensures in
-    let free : may_install c.args.ts c.args.versions.now.items ≡ true = stands_free key low c.args.ts writes reads c.args.versions.now.items c.requires s u late in
-    absurd (cc (refused, free))
+pub returns-in-Own-clause-versions : goal.returns-in-Own-clause-versions
+returns-in-Own-clause-versions c = λ ts k e.
+    let vs = shown_at c.args.pool.now c.args.slots.now.items in
+    let o = c.in-Own.ensures.slot ts vs k.chain (omega (arith, c.len.ensures, c.args.slots.now.ok.0, shown_length c.args.pool.now c.args.slots.now.items)) e in
+    let within : c.in-Own.i < length c.args.slots.now.items = omega (arith, c.in-Own.ensures.own c.in-Own.i refl, c.len.ensures, c.args.slots.now.ok.0) in
+    changed_shown (λ (v : Version). record v { value = c.args.value }) c.args.pool.now c.replace.new.pool c.args.slots.now.items c.in-Own.i c.index.result.now base within k.held (rw c.index.ensures at c.replace.ensures)
+    ∙ installed_own ts c.in-Own.i c.args.value vs _ base o.within k.chain o.in_time (o.own base).0 (o.own base).1 refl
 
--- the branch's own version, as slot_of found it
-own : (c : Joined-index_mut-value) → IsOwn c.args.ts c.in-Own.i c.args.versions.now.items
-own c = rw c.deref.ensures.value at c.in-Own.ensures
+pub returns-in-Own-clause-kept : goal.returns-in-Own-clause-kept
+returns-in-Own-clause-kept c = λ ts k e.
+    let vs = shown_at c.args.pool.now c.args.slots.now.items in
+    let o = c.in-Own.ensures.slot ts vs k.chain (omega (arith, c.len.ensures, c.args.slots.now.ok.0, shown_length c.args.pool.now c.args.slots.now.items)) e in
+    let within : c.in-Own.i < length c.args.slots.now.items = omega (arith, c.in-Own.ensures.own c.in-Own.i refl, c.len.ensures, c.args.slots.now.ok.0) in
+    let same = changed_shown (λ (v : Version). record v { value = c.args.value }) c.args.pool.now c.replace.new.pool c.args.slots.now.items c.in-Own.i c.index.result.now base within k.held (rw c.index.ensures at c.replace.ensures)
+    ∙ installed_own ts c.in-Own.i c.args.value vs _ base o.within k.chain o.in_time (o.own base).0 (o.own base).1 refl in
+    record {
+      held = changed_held (λ (v : Version). record v { value = c.args.value }) c.args.pool.now c.replace.new.pool c.args.slots.now.items _ c.replace.ensures k.held;
+      chain = subst IsChain (sym same) (chain_installed ts c.args.value vs k.chain);
+    }
 
--- what is written there
-left : (c : Joined-index_mut-value) → record c.index_mut.result.now { value = c.args.value } ≡ record (get_or c.args.versions.now.items c.in-Own.i c.index_mut.result.now) { value = c.args.value }
-left c = ap (λ (v : Version). record v { value = c.args.value }) c.index_mut.ensures.value
+pub returns-in-Own-clause-count : goal.returns-in-Own-clause-count
+returns-in-Own-clause-count c =
+    changed_counts (λ (v : Version). record v { value = c.args.value }) _ c.args.pool.now c.replace.new.pool c.args.slots.now.items c.replace.ensures
 
-pub returns-in-Own-clause-items : goal.returns-in-Own-clause-items
-returns-in-Own-clause-items c =
-    let o = own (goal.at.returns-in-Own-clause-items c).Joined-index_mut-value in
-    let x = c.index_mut.result.now in
-    installed_own c.args.ts c.in-Own.i c.args.value c.args.versions.now.items _ x o.within c.requires o.in_time (o.own x).0 (o.own x).1 (left (goal.at.returns-in-Own-clause-items c).Joined-index_mut-value)
+pub returns-in-New-clause-versions : goal.returns-in-New-clause-versions
+returns-in-New-clause-versions c =
+    then_ok c.put_in.result c.put_in.ensures.ok (λ p ts k e.
+    let vs = shown_at c.args.pool.now c.args.slots.now.items in
+    let n = c.in-New.ensures.slot ts vs k.chain (omega (arith, c.len.ensures, c.args.slots.now.ok.0, shown_length c.args.pool.now c.args.slots.now.items)) e in
+    put_in_shown c.in-New.i (unread c.args.look.now.at c.args.value) c.args.pool.now c.put_in.new.pool c.args.slots.now.items c.put_in.new.slots.items k.held p
+    ∙ rw (ap (λ l. l.at) e) (installed_new ts c.in-New.i c.args.value vs n.in_time n.place n.none))
 
-pub returns-in-Own-clause-chain : goal.returns-in-Own-clause-chain
-returns-in-Own-clause-chain c =
-    let o = own (goal.at.returns-in-Own-clause-chain c).Joined-index_mut-value in
-    replaced_chain c.args.versions.now.items c.in-Own.i c.args.ts _ c.index_mut.result.now c.args.value c.requires o.place (left (goal.at.returns-in-Own-clause-chain c).Joined-index_mut-value)
+pub returns-in-New-clause-kept : goal.returns-in-New-clause-kept
+returns-in-New-clause-kept c = λ ts k e.
+    let vs = shown_at c.args.pool.now c.args.slots.now.items in
+    let n = c.in-New.ensures.slot ts vs k.chain (omega (arith, c.len.ensures, c.args.slots.now.ok.0, shown_length c.args.pool.now c.args.slots.now.items)) e in
+    by_result c.put_in.result c.put_in.ensures.ok c.put_in.ensures.same c.put_in.ensures.err
+    (λ p. record {
+      held = put_in_held c.in-New.i (unread c.args.look.now.at c.args.value) c.args.pool.now c.put_in.new.pool c.args.slots.now.items c.put_in.new.slots.items k.held p;
+      chain = subst IsChain (sym (put_in_shown c.in-New.i (unread c.args.look.now.at c.args.value) c.args.pool.now c.put_in.new.pool c.args.slots.now.items c.put_in.new.slots.items k.held p
+          ∙ rw (ap (λ l. l.at) e) (installed_new ts c.in-New.i c.args.value vs n.in_time n.place n.none))) (chain_installed ts c.args.value vs k.chain);
+    })
+    (λ same err. rw err (record {
+      held = grown_held c.args.pool.now c.put_in.new.pool c.args.slots.now.items same k.held;
+      chain = subst IsChain (sym (grown_shown c.args.pool.now c.put_in.new.pool c.args.slots.now.items same)) k.chain;
+    }))
 
-pub returns-in-Own-clause-stands : goal.returns-in-Own-clause-stands
-returns-in-Own-clause-stands c =
-    let o = own (goal.at.returns-in-Own-clause-stands c).Joined-index_mut-value in
-    let x = c.index_mut.result.now in
-    λ key low writes reads s u late.
-    replaced_stands c.args.versions.now.items c.in-Own.i c.args.ts _ x c.args.value c.requires o.place (o.own x).0 (o.own x).1 (left (goal.at.returns-in-Own-clause-stands c).Joined-index_mut-value) key low writes reads s u.above
-
-new : (c : In_ok-insert-in-New) → IsNew c.args.ts c.in-New.i c.args.versions.now.items
-new c = rw c.deref.ensures.value at c.in-New.ensures
-
-pub returns-in_ok-insert-in-New-clause-items : goal.returns-in_ok-insert-in-New-clause-items
-returns-in_ok-insert-in-New-clause-items c =
-    let n = new c in
-    c.in_ok-insert-in-New.ensures.items ∙ installed_new c.args.ts c.in-New.i c.args.value c.args.versions.now.items n.in_time n.place n.none
-
-pub returns-in_ok-insert-in-New-clause-chain : goal.returns-in_ok-insert-in-New-clause-chain
-returns-in_ok-insert-in-New-clause-chain c =
-    let n = new c in
-    rw c.in_ok-insert-in-New.ensures.items (chain_inserted c.args.ts c.in-New.i c.args.versions.now.items (unread c.args.ts c.args.value) refl refl c.requires n.place n.none n.in_time)
-
-pub returns-in_ok-insert-in-New-clause-stands : goal.returns-in_ok-insert-in-New-clause-stands
-returns-in_ok-insert-in-New-clause-stands c =
-    let n = new c in
-    λ key low writes reads s u late.
-    rw c.in_ok-insert-in-New.ensures.items (stands_inserted key low writes reads c.args.versions.now.items c.in-New.i (unread c.args.ts c.args.value) refl refl n.none u.above s)
+pub returns-in-New-clause-count : goal.returns-in-New-clause-count
+returns-in-New-clause-count c =
+    by_result c.put_in.result c.put_in.ensures.ok c.put_in.ensures.same c.put_in.ensures.err
+    (λ p. put_in_counts c.in-New.i (unread c.args.look.now.at c.args.value) c.args.pool.now c.put_in.new.pool c.args.slots.now.items c.put_in.new.slots.items p)
+    (λ same err. rw err (grown_counts c.args.pool.now c.put_in.new.pool c.args.slots.now.items same))

@@ -1,33 +1,34 @@
-use Rattle.std.proofs.Common.{◌≡◌, ◌∙◌, ap, get_or}
-use Rattle.mv_chain.specs.Chain.{raised}
-use Rattle.mv_chain.proofs.Chains.{shows_none}
-use Rattle.mv_chain.proofs.Exact.{marked_some, marked_nothing}
-use Rattle.mv_chain.proofs.Kept.{raised_chain, raised_stands}
-use Rattle.mv_chain.proofs.Stands.{base_place}
+use Rattle.std.proofs.Common.{◌∙◌, subst, sym}
+use Rattle.mv_chain.specs.Chain.{base, raised, shows, IsChain}
+use Rattle.mv_chain.specs.Pool.{shown_at}
+use Rattle.mv_chain.proofs.Anywhere.{chain_marked}
+use Rattle.mv_chain.proofs.Looked.{look_marks, look_marks_none}
+use Rattle.mv_chain.proofs.Frames.{shown_length, changed_shown, changed_held}
+use Rattle.mv_chain.proofs.Counted.{changed_counts}
 use Rattle.mv_chain.proofs.changes.mark_in.Goals as goal
-use Rattle.mv_chain.proofs.changes.mark_in.Goals.{After-raise}
 
--- what raising the mark leaves there
-left : (c : After-raise) → c.raise.new.version ≡ raised c.args.from c.args.reader (get_or c.args.versions.now.items c.in-Some.i c.index_mut.result.now)
-left c = c.raise.ensures ∙ ap (raised c.args.from c.args.reader) c.index_mut.ensures.value
+pub returns-in-Some-clause-versions : goal.returns-in-Some-clause-versions
+returns-in-Some-clause-versions c = λ ts k e.
+    let look = c.args.look.now in
+    changed_shown (raised look.from look.at) c.args.pool.now c.raise.new.pool c.args.slots.now c.in-Some.i _ base c.in-Some.ensures.1 k.held c.raise.ensures
+    ∙ look_marks ts (shown_at c.args.pool.now c.args.slots.now) k.chain look e c.in-Some.i c.in-Some.ensures.0
 
-pub returns-in-Some-clause-items : goal.returns-in-Some-clause-items
-returns-in-Some-clause-items c =
-    rw (left (goal.at.returns-in-Some-clause-items c).After-raise) (marked_some c.args.from c.args.reader c.in-Some.i c.args.versions.now.items c.index_mut.result.now c.requires (rw c.deref.ensures.value at c.in-Some.ensures.place))
+pub returns-in-Some-clause-kept : goal.returns-in-Some-clause-kept
+returns-in-Some-clause-kept c = λ ts k e.
+    let look = c.args.look.now in
+    let vs = shown_at c.args.pool.now c.args.slots.now in
+    let same = changed_shown (raised look.from look.at) c.args.pool.now c.raise.new.pool c.args.slots.now c.in-Some.i _ base c.in-Some.ensures.1 k.held c.raise.ensures
+    ∙ look_marks ts vs k.chain look e c.in-Some.i c.in-Some.ensures.0 in
+    record {
+      held = changed_held (raised look.from look.at) c.args.pool.now c.raise.new.pool c.args.slots.now _ c.raise.ensures k.held;
+      chain = subst IsChain (sym same) (chain_marked (shows ts vs).from ts vs k.chain);
+    }
 
-pub returns-in-Some-clause-chain : goal.returns-in-Some-clause-chain
-returns-in-Some-clause-chain c =
-    raised_chain c.args.versions.now.items c.in-Some.i c.args.from c.args.reader c.raise.new.version c.index_mut.result.now c.requires (rw c.deref.ensures.value at c.in-Some.ensures.place) (left (goal.at.returns-in-Some-clause-chain c).After-raise)
+pub returns-in-Some-clause-count : goal.returns-in-Some-clause-count
+returns-in-Some-clause-count c =
+    let look = c.args.look.now in
+    changed_counts (raised look.from look.at) _ c.args.pool.now c.raise.new.pool c.args.slots.now c.raise.ensures
 
-pub returns-in-Some-clause-stands : goal.returns-in-Some-clause-stands
-returns-in-Some-clause-stands c =
-    raised_stands c.args.versions.now.items c.in-Some.i c.args.from c.args.reader c.raise.new.version c.index_mut.result.now c.requires (rw c.deref.ensures.value at c.in-Some.ensures.place) (left (goal.at.returns-in-Some-clause-stands c).After-raise)
-
-pub returns-in_default-clause-items : goal.returns-in_default-clause-items
-returns-in_default-clause-items c =
-    let h = rw c.deref.ensures.value at c.in_default.ensures.place in
-    marked_nothing c.args.from c.args.reader c.args.versions.now.items h (ap (λ s. s.from) (shows_none c.args.reader c.args.versions.now.items h))
-
-pub returns-in_default-clause-stands : goal.returns-in_default-clause-stands
-returns-in_default-clause-stands c =
-    λ key low writes reads s le from free. absurd (base_place low c.args.reader c.args.versions.now.items le (rw c.deref.ensures.value at c.in_default.ensures.place) s.based)
+pub returns-in_default-clause-versions : goal.returns-in_default-clause-versions
+returns-in_default-clause-versions c = λ ts k e.
+    look_marks_none ts (shown_at c.args.pool.now c.args.slots.now) k.chain c.args.look.now e _ (sym (shown_length c.args.pool.now c.args.slots.now)) c.in_default.ensures

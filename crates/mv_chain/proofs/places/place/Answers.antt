@@ -1,11 +1,12 @@
-use Rattle.std.proofs.Common.{rules, leb}
+use Rattle.std.proofs.Common.{rules, leb, ℕ}
 use Rattle.std.proofs.lemmas.List.Sorted.{IsPartitionPoint-from_clause, IsPartitionedBy-leb}
-use Rattle.mv_chain.specs.declared.version.Version.{Version}
-use Rattle.mv_chain.proofs.Chains.{is_place_at, chain_ascends}
+use Rattle.mv_chain.specs.Pool.{version_at}
+use Rattle.mv_chain.proofs.Sought.{ascends, is_place_in}
 use Rattle.mv_chain.proofs.places.place.Goals as goal
 
 pub returns-clause-place : goal.returns-clause-place
-returns-clause-place c =
-    let parted = IsPartitionedBy-leb (λ (v : Version). v.timestamp) c.args.versions.now c.args.ts (chain_ascends c.args.versions.now c.requires) in
-    is_place_at c.args.ts c.partition_point.result c.args.versions.now c.partition_point.ensures.bound
-    (IsPartitionPoint-from_clause (λ v. leb v.timestamp c.args.ts) _ _ c.partition_point.ensures.partitioned parted (λ a r q k. search rules))
+returns-clause-place c = λ h.
+    let stamp = λ (s : ℕ). (version_at c.args.pool.now s).timestamp in
+    let parted = IsPartitionedBy-leb stamp c.args.slots.now c.args.ts (ascends c.args.pool.now c.args.slots.now h) in
+    is_place_in c.args.pool.now c.args.ts c.partition_point.result c.args.slots.now c.partition_point.ensures.bound
+    (IsPartitionPoint-from_clause (λ s. leb (stamp s) c.args.ts) _ _ c.partition_point.ensures.partitioned parted (λ a r q k. search rules))

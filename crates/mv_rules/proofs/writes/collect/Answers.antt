@@ -1,7 +1,7 @@
 use Rattle.std.proofs.Common.{◌≡◌, ◌∙◌, ap, sym, ◌+◌, ◌++◌, ◌∷◌, [], take}
 use Rattle.std.proofs.lemmas.List.{take_more}
 use Rattle.mv_rules.proofs.Gathered.{collected_more}
-use Rattle.mv_rules.proofs.Within.{inserted_short, value_short}
+use Rattle.mv_rules.proofs.Within.{inserted_short}
 use Rattle.mv_rules.proofs.writes.collect.Goals as goal
 
 pub loop-written-preserved : goal.loop-written-preserved
@@ -10,7 +10,7 @@ loop-written-preserved c =
     let o = c.written-item.result in
     let step : take (c.loop-written.written-index + 1) own ≡ take c.loop-written.written-index own ++ o ∷ [] = take_more own c.loop-written.written-index o c.loop-written-test.true ∙ ap (λ x. take c.loop-written.written-index own ++ x ∷ []) (sym c.written-item.is) in
     record {
-      values = λ key. rw step (collected_more c.args.ts c.args.chains.now key (take c.loop-written.written-index own) o _ _ c.in_ok-key.key c.in_ok-value.value (c.in_ok-insert.ensures.updates.0 key) c.in_ok-key.ensures c.in_ok-value.ensures (c.loop-written.invariant.values key));
+      values = λ held key. rw step (collected_more c.args.ts c.args.pool.now c.args.chains.now key (take c.loop-written.written-index own) o _ _ c.in_ok-key.key c.in_ok-value.value (c.in_ok-insert.ensures.updates.0 key) c.in_ok-key.ensures (c.in_ok-value.ensures.value held) (c.loop-written.invariant.values held key));
       ordered = c.insert.ensures.ordered;
-      short = λ n h. rw c.in_ok-insert.ensures.entries (inserted_short n _ c.loop-written.values.entries _ _ (value_short n c.args.ts o.place c.args.chains.now _ c.in_ok-value.ensures h) (c.loop-written.invariant.short n h));
+      short = λ n h. rw c.in_ok-insert.ensures.entries (inserted_short n _ c.loop-written.values.entries _ _ (c.in_ok-value.ensures.short n h) (c.loop-written.invariant.short n h));
     }

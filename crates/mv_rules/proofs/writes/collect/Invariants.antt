@@ -2,13 +2,15 @@ use Rattle.std.proofs.Common.{◌≡◌, ℕ, List, take, map}
 use Rattle.std.specs.BTreeMap.{get, IsOrdered}
 use Rattle.std.specs.Cmp.Lexicographic.{slice_cmp}
 use Rattle.std.specs.Ordering.{nat_cmp}
+use Rattle.mv_chain.specs.Within.{IsWithin}
 use Rattle.mv_rules.specs.Collected.{as_write, collected}
-use Rattle.mv_rules.specs.Within.{AreWithin, AreShort}
+use Rattle.mv_rules.specs.Held.{IsHeld}
+use Rattle.mv_rules.specs.Within.{AreShort}
 use Rattle.mv_rules.proofs.writes.collect.Given as goal
 
 abbrev pub invariant-loop-written : goal.invariant-loop-written
 invariant-loop-written l = record {
-  values : (key : List ℕ) → get (slice_cmp nat_cmp) l.values key ≡ collected l.ts l.chains key (take l.written-index l.own);
+  values : IsHeld l.pool l.chains → (key : List ℕ) → get (slice_cmp nat_cmp) l.values key ≡ collected l.ts l.pool l.chains key (take l.written-index l.own);
   ordered : IsOrdered (slice_cmp nat_cmp) l.values;
-  short : (n : ℕ) → AreWithin n l.chains → AreShort n (map as_write l.values.entries);
+  short : (n : ℕ) → IsWithin n l.pool → AreShort n (map as_write l.values.entries);
 }

@@ -1,8 +1,14 @@
+use Rattle.xa_manager.proofs.Given.{given_stands}
 use Rattle.xa_manager.proofs.boots.ready.Goals as goal
 
 pub returns-clause-ready : goal.returns-clause-ready
 returns-clause-ready c = record {
   branches = c.in_ok-branches.ensures;
-  records = λ s h. c.in_ok-records.ensures.stands s c.args.boot h;
+  records = λ s h.
+      given_stands s c.in_ok-records.records c.low_water-2.new.self c.low_water.result (c.low_water.ensures s h.recoverable.sound (c.in_ok-branches.ensures s h)) h.recoverable.sound c.low_water-2.ensures.stands
+      (c.in_ok-records.ensures.stands s c.args.boot h);
   bodies = c.in_ok-bodies.ensures;
 }
+
+pub returns-clause-short : goal.returns-clause-short
+returns-clause-short c = λ limits. c.low_water-2.ensures.within 1024 (c.in_ok-records.ensures.short c.args.boot limits)

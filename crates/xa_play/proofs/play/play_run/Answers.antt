@@ -1,9 +1,9 @@
-use Rattle.std.proofs.Common.{List, ℕ, subst, inl, inr}
+use Rattle.std.proofs.Common.{List, ℕ, refl, subst, inl, inr}
 use Rattle.std.proofs.lemmas.Result.{err_from_is_err_and}
 use Rattle.xa_manager.specs.declared.settings.Settings.{Settings}
 use Rattle.xa_play.specs.Played.{ScriptEnds}
 use Rattle.xa_play.specs.declared.fault.PlayFault.TheVariants.{Memory}
-use Rattle.xa_play.proofs.Ends.{ran, unplayed}
+use Rattle.xa_play.proofs.Ends.{ran, unplayed, unread, whichever}
 use Rattle.xa_play.proofs.play.play_run.Goals as goal
 
 pub returns-in_err-manager-clause-played : goal.returns-in_err-manager-clause-played
@@ -27,6 +27,11 @@ returns-in_err-script-clause-played g c =
     rw (p.1, p.2)
     (unplayed (Unit {0}) c.in_err-script.field-0.0 c.args.settings.name c.args.settings.log_bytes (g.R.Read.remaining c.args.reader.now) (g.W.Write.contents c.args.writer.now)
     (λ e. elim faults [ inl memory ↦ cc | inr (inl read) ↦ cc | inr (inr long) ↦ cc ]))
+
+pub returns-in_err-script-clause-longer : goal.returns-in_err-script-clause-longer
+returns-in_err-script-clause-longer g c =
+    let p = err_from_is_err_and c.from_residual-in_err-script.result c.from_residual-in_err-script.ensures.1 in
+    rw (p.1, p.2) (whichever (g.R.Read.remaining c.args.reader.now) _ (λ bytes long. (unread (Unit {0}) c.in_err-script.field-0.0 c.in_err-script.ensures.faults, refl)))
 
 pub returns-clause-played : goal.returns-clause-played
 returns-clause-played g c =

@@ -1,10 +1,9 @@
-use Rattle.mv_chain.proofs.Within.{marked_within}
+use Rattle.std.proofs.Common.{ℕ, ◌∷◌, sym, subst}
+use Rattle.mv_chain.specs.Chain.{StandsFor}
+use Rattle.mv_chain.specs.Pool.{versions_of}
 use Rattle.mv_chain.proofs.chain.Chain.mark.Goals as goal
 
-pub returns-clause-stands : goal.returns-clause-stands
-returns-clause-stands c = rw (← c.self.view_is) c.mark_in.ensures.stands
-
-pub returns-clause-within : goal.returns-clause-within
-returns-clause-within c =
-    λ n h.
-    rw c.mark_in.ensures.items (marked_within n c.args.from c.args.reader _ (rw (← c.self.view_is) at h))
+pub returns-then-look-from-clause-stands : goal.returns-then-look-from-clause-stands
+returns-then-look-from-clause-stands c = λ key low writes reads k s le source free.
+    subst (λ (f : ℕ). StandsFor key low writes (record { reader = c.args.reader; key = key; from = f } ∷ reads) (versions_of c.mark_at.new.pool c.mark_at.new.self)) (sym source)
+    (c.mark_at.ensures.stands c.args.reader key low writes reads k (c.look-look.ensures k) s le free)

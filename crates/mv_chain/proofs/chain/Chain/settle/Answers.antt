@@ -1,10 +1,6 @@
-use Rattle.mv_chain.proofs.Within.{settled_within}
+use Rattle.mv_chain.proofs.Anywhere.{settled_stands}
 use Rattle.mv_chain.proofs.chain.Chain.settle.Goals as goal
 
 pub returns-clause-stands : goal.returns-clause-stands
-returns-clause-stands c = rw (← c.self.view_is) c.settle_in.ensures.stands
-
-pub returns-clause-within : goal.returns-clause-within
-returns-clause-within c =
-    λ n h.
-    rw c.settle_in.ensures.items (settled_within n c.args.ts c.args.fate _ (rw (← c.self.view_is) at h))
+returns-clause-stands c = λ key low writes reads k.
+    rw (c.settle_in.ensures.versions k) (settled_stands c.args.ts c.args.fate _ k.chain key low writes reads)

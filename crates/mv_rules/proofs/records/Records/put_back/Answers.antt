@@ -1,48 +1,36 @@
-use Rattle.std.proofs.Common.{◌≡◌, refl, true, false, List, ℕ, Option, arith}
+use Rattle.std.proofs.Common.{◌≡◌, refl, sym, ap, true, false, List, ℕ, Option, arith}
 use Rattle.std.specs.Prelude.{option_map, ◌==◌}
-use Rattle.std.specs.Vec.{with_item}
 use Rattle.std.proofs.lemmas.Bool.Decides.{nat_tests}
+use Rattle.mv_chain.specs.declared.look.Look.{Look}
 use Rattle.mv_chain.specs.Chain.{shows}
-use Rattle.mv_rules.specs.declared.records.Records.{Records}
-use Rattle.mv_rules.proofs.Within.{changed_within}
-use Rattle.mv_rules.proofs.PutBack.{then_ok, both_ok, put_back_again, put_back_first}
+use Rattle.mv_chain.specs.Pool.{versions_of}
+use Rattle.mv_rules.proofs.Changed.{back_again_at, back_first_at}
+use Rattle.mv_rules.proofs.PutBack.{then_ok, both_ok}
 use Rattle.mv_rules.proofs.records.Records.put_back.Goals as goal
 
-pub returns-then-source-ts-clause-stands : goal.returns-then-source-ts-clause-stands
-returns-then-source-ts-clause-stands c =
+pub returns-then-look-ts-clause-stands : goal.returns-then-look-ts-clause-stands
+returns-then-look-ts-clause-stands c =
     let value : Option (List ℕ) = option_map (λ v. v.items) c.args.value in
-    let left : Records = record { alloc = c.place.new.self.alloc; places = c.place.new.self.places; chains = with_item c.place.new.self.chains c.in_ok-i.i c.install.new.self; written = c.place.new.self.written } in
-    let own : ((shows c.args.ts c.in-Some.chain.now).from == c.args.ts) ≡ true = grind (arith, nat_tests, c.source.ensures.from, c.if-source-ts.true) in
-    then_ok c.install.result c.install.ensures.stands
-    (λ written. λ h s0 u timely. put_back_again h c.place.new.self c.args.key.now c.in_ok-i.i c.args.ts c.in-Some.chain.now u (c.in_ok-i.ensures.stands h s0) c.in_ok-i.ensures.place c.in-Some.ensures.value timely value left c.install.new.self own (λ q. refl) refl written (λ t. refl))
+    then_ok c.install_at.result c.install_at.ensures.stands
+    (λ written. λ h s u timely.
+    let stood = c.in_ok-i.ensures.stands h s in
+    let k = stood.chains.held.kept c.in_ok-i.i c.in-Some.chain.now (sym c.in-Some.ensures.value) in
+    let is = c.look-look.ensures k in
+    let from : c.look-look.result.from ≡ (shows c.args.ts (versions_of c.place.new.self.pool c.in-Some.chain.now)).from = ap (λ (l : Look). l.from) is in
+    let own : ((shows c.args.ts (versions_of c.place.new.self.pool c.in-Some.chain.now)).from == c.args.ts) ≡ true = grind (arith, nat_tests, from, c.if-look-ts.true) in
+    back_again_at h c.place.new.self c.args.key.now c.in_ok-i.i c.in-Some.chain.now c.install_at.new.self c.install_at.new.pool c.place.new.self.notes stood c.in_ok-i.ensures.place (sym c.in-Some.ensures.value) c.install_at.ensures.others (λ kk. c.install_at.ensures.kept c.args.ts kk (c.look-look.ensures kk)) c.args.ts value u timely own
+    (λ key low ws rs st un late. written c.args.ts key low ws rs k is st un late) (λ t. refl))
 
 pub returns-clause-stands : goal.returns-clause-stands
 returns-clause-stands c =
     let value : Option (List ℕ) = option_map (λ v. v.items) c.args.value in
-    let left : Records = record { alloc = c.place.new.self.alloc; places = c.place.new.self.places; chains = with_item c.place.new.self.chains c.in_ok-i.i c.add.new.chain; written = c.add.new.written } in
-    let other : ((shows c.args.ts c.in-Some.chain.now).from == c.args.ts) ≡ false = grind (arith, nat_tests, c.source.ensures.from, c.if-source-ts.false) in
     both_ok c.add.result c.add.ensures.ok c.add.ensures.noted
-    (λ written noted. λ h s0 u timely. put_back_first h c.place.new.self c.args.key.now c.in_ok-i.i c.args.ts c.in-Some.chain.now u (c.in_ok-i.ensures.stands h s0) c.in_ok-i.ensures.place c.in-Some.ensures.value timely value left c.add.new.chain other (λ q. refl) refl written (rw c.in_ok-from_slice.ensures at noted))
-
-pub returns-in_err-i-clause-within : goal.returns-in_err-i-clause-within
-returns-in_err-i-clause-within c =
-    λ n h short. c.place.ensures.within n h
-
-pub returns-in_default-clause-within : goal.returns-in_default-clause-within
-returns-in_default-clause-within c =
-    λ n h short. c.place.ensures.within n h
-
-pub returns-in_err-from_slice-clause-within : goal.returns-in_err-from_slice-clause-within
-returns-in_err-from_slice-clause-within c =
-    λ n h short.
-    changed_within n c.in_ok-i.i c.place.new.self.chains.items c.in-Some.chain.now _ c.in-Some.ensures.value (λ w. w) (c.place.ensures.within n h)
-
-pub returns-then-source-ts-clause-within : goal.returns-then-source-ts-clause-within
-returns-then-source-ts-clause-within c =
-    λ n h short.
-    changed_within n c.in_ok-i.i c.place.new.self.chains.items c.in-Some.chain.now _ c.in-Some.ensures.value (λ w. c.install.ensures.within n w short) (c.place.ensures.within n h)
-
-pub returns-clause-within : goal.returns-clause-within
-returns-clause-within c =
-    λ n h short.
-    changed_within n c.in_ok-i.i c.place.new.self.chains.items c.in-Some.chain.now _ c.in-Some.ensures.value (λ w. c.add.ensures.within n w short) (c.place.ensures.within n h)
+    (λ written noted. λ h s u timely.
+    let stood = c.in_ok-i.ensures.stands h s in
+    let k = stood.chains.held.kept c.in_ok-i.i c.in-Some.chain.now (sym c.in-Some.ensures.value) in
+    let is = c.look-look.ensures k in
+    let from : c.look-look.result.from ≡ (shows c.args.ts (versions_of c.place.new.self.pool c.in-Some.chain.now)).from = ap (λ (l : Look). l.from) is in
+    let at_ts : c.look-look.result.at ≡ c.args.ts = ap (λ (l : Look). l.at) is in
+    let other : ((shows c.args.ts (versions_of c.place.new.self.pool c.in-Some.chain.now)).from == c.args.ts) ≡ false = grind (arith, nat_tests, from, c.if-look-ts.false) in
+    back_first_at h c.place.new.self c.args.key.now c.in_ok-i.i c.in-Some.chain.now c.add.new.chain c.add.new.pool c.add.new.notes stood c.in_ok-i.ensures.place (sym c.in-Some.ensures.value) c.add.ensures.others (λ kk. c.add.ensures.kept c.args.ts kk (c.look-look.ensures kk)) c.args.ts value u timely other
+    (written c.args.ts k is) (rw (c.in_ok-from_slice.ensures, at_ts) at noted))

@@ -1,4 +1,6 @@
-use Rattle.std.proofs.Common.{◌≡◌, ◌∙◌, rules, ℕ, List, []}
+use Rattle.std.proofs.Common.{◌≡◌, ◌∙◌, ap, rules, ℕ, List, [], Option}
+use Rattle.std.specs.Option.{option_map_or}
+use Rattle.mv_rules.specs.declared.own.Notes.{Notes}
 use Rattle.xa_codes.specs.declared.write.Write.{Write}
 use Rattle.mv_chain.specs.History.{IsOpen}
 use Rattle.mv_rules.specs.History.{History, IsWritesOf}
@@ -9,11 +11,11 @@ use Rattle.mv_rules.proofs.records.Records.writes_of.Goals as goal
 
 pub returns-in_ok-values-in-Some-clause-writes : goal.returns-in_ok-values-in-Some-clause-writes
 returns-in_ok-values-in-Some-clause-writes c =
-    let own : c.deref-in-Some.result.now ≡ own_of c.args.ts c.args.self.now = search rules in
+    let own : c.deref.result.now ≡ own_of c.args.ts c.args.self.now = c.deref.ensures.value ∙ ap (λ (o : Option Notes). option_map_or (λ (n : Notes). n.written.items) o []) c.in-Some.ensures.value in
     writes_result c.listed.result c.in_ok-values-in-Some.values.entries (λ (ws : List Write). (h : History) → StandsFor h c.args.self.now → IsOpen c.args.ts h.writes → IsWritesOf c.args.ts h.writes ws) c.listed.ensures
     (λ h s u. record {
       ascending = ascending_entries c.in_ok-values-in-Some.values.entries c.in_ok-values-in-Some.ensures.ordered;
-      last = λ q. listed_entries q c.in_ok-values-in-Some.values.entries ∙ (c.in_ok-values-in-Some.ensures.values q ∙ (rw (c.deref.ensures.value, own) (collected_is h c.args.self.now c.args.ts q s u)));
+      last = λ q. listed_entries q c.in_ok-values-in-Some.values.entries ∙ (c.in_ok-values-in-Some.ensures.values s.chains.held q ∙ (rw own (collected_is h c.args.self.now c.args.ts q s u)));
     })
 
 pub returns-in-None-clause-writes : goal.returns-in-None-clause-writes
@@ -28,4 +30,4 @@ returns-in-None-clause-writes c =
 pub returns-in_ok-values-in-Some-clause-short : goal.returns-in_ok-values-in-Some-clause-short
 returns-in_ok-values-in-Some-clause-short c =
     writes_result c.listed.result c.in_ok-values-in-Some.values.entries (λ (ws : List Write). (n : ℕ) → IsWithin n c.args.self.now → AreShort n ws) c.listed.ensures
-    (λ n h. c.in_ok-values-in-Some.ensures.short n (rw c.deref.ensures.value h))
+    (λ n h. c.in_ok-values-in-Some.ensures.short n h)

@@ -1,9 +1,13 @@
-use Rattle.std.proofs.Common.{subst}
+use Rattle.std.proofs.Common.{refl, subst}
 use Rattle.xa_xid.specs.Triple.{Triple}
 use Rattle.xa_assoc.specs.Sessions.{SessionsStandFor}
 use Rattle.xa_model.specs.Associations.{begun}
+use Rattle.xa_model.proofs.ChangedWaters.{begun_water}
 use Rattle.xa_manager.specs.Kept.{kept_of}
+use Rattle.mv_rules.specs.Ties.{history_of, low_of}
+use Rattle.mv_rules.proofs.Remade.{low_rises}
 use Rattle.xa_manager.proofs.Beginning.{begun_sound, undone_follows}
+use Rattle.xa_manager.proofs.Lows.{rises_with}
 use Rattle.xa_manager.proofs.tables.Tables.begin_branch.Goals as goal
 
 pub returns-in-Ok-clause-ok : goal.returns-in-Ok-clause-ok
@@ -13,7 +17,9 @@ returns-in-Ok-clause-ok c = λ s st recoverable. record {
   up = st.up;
   sessions = subst (λ (x : Triple). SessionsStandFor c.begin.new.self (begun s c.args.session x).after) c.copied.ensures (c.in_ok-begin.ensures.ok s st.recoverable.sound st.sessions);
   branches = c.in-Ok.ensures.ok s c.args.session st.recoverable.sound st.branches;
-  records = st.records;
+  records =
+      low_rises (history_of s) c.args.self.now.records (low_of (begun s c.args.session c.args.xid.now).after) st.records
+      (rises_with s (begun s c.args.session c.args.xid.now).after refl (begun_water s c.args.session c.args.xid.now st.recoverable.sound));
   recoverable = recoverable;
 }
 

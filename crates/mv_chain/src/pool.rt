@@ -1,0 +1,36 @@
+ghost use Rattle.std.specs.Prelude.{◌≡◌, ℕ, None};
+ghost use Rattle.slab.specs.Slab.{slab_len};
+ghost use Rattle.mv_chain.specs.Pool.{at};
+ghost use Rattle.mv_chain.specs.Within.{IsWithin};
+
+use crate::version::Version;
+use slab::Slab;
+use std::alloc::Global;
+
+/// The versions of all chains.
+#[derive(Drop)]
+pub struct Pool {
+    pub(crate) alloc: Global,
+    pub(crate) slab: Slab<Version>,
+}
+
+impl Pool {
+    /// No versions. Takes no memory.
+    pub fn new(alloc: Global) -> Pool
+        ensures empty { (slot : ℕ) → at result slot ≡ None }
+        ensures none { slab_len result.slab ≡ 0 }
+        ensures within { (n : ℕ) → IsWithin n result }
+    {
+        Pool {
+            alloc,
+            slab: Slab::new(alloc),
+        }
+    }
+
+    /// How many versions all chains have.
+    pub fn versions(&self) -> usize
+        ensures { result ≡ slab_len self.now.slab }
+    {
+        self.slab.len()
+    }
+}

@@ -1,0 +1,61 @@
+ghost use Rattle.std.specs.Prelude.{◌≡◌, [], ◌<◌, ◌≤◌, not, ◌&&◌, ◌||◌, if◌then◌else◌, length, slice_index_or};
+ghost use Rattle.std.specs.List.{remove};
+ghost use Rattle.mv_chain.specs.Chain.{base, pruned};
+ghost use Rattle.mv_chain.specs.Pool.{shown_at, IsHeld, IsKeptAt, CountsAt, LeavesOthersAt};
+ghost use Rattle.mv_chain.specs.Within.{KeepsWithin};
+
+use crate::places::place;
+use crate::pool::Pool;
+use crate::slots::{pending_at, take_out};
+
+/// Takes version k out if it is committed and another committed one stands above it, and says whether there is one from
+/// k on.
+fn prune_at(pool: &mut Pool, slots: &mut Vec<usize>, k: usize, based: bool) -> bool
+    requires { k < length slots.old.items }
+    ensures versions { IsHeld pool.old slots.old.items → shown_at pool.new slots.new.items ≡ (if not (slice_index_or (shown_at pool.old slots.old.items) k base).pending && based then remove (shown_at pool.old slots.old.items) k else shown_at pool.old slots.old.items) }
+    ensures based { result ≡ (not (slice_index_or (shown_at pool.old slots.old.items) k base).pending || based) }
+    ensures held { IsHeld pool.old slots.old.items → IsHeld pool.new slots.new.items }
+    ensures within { k ≤ length slots.new.items }
+    ensures others { LeavesOthersAt pool.old slots.old.items pool.new slots.new.items }
+    ensures count { IsHeld pool.old slots.old.items → CountsAt pool.old slots.old.items pool.new slots.new.items }
+    ensures values { KeepsWithin pool.old pool.new }
+{
+    if pending_at(pool, slots[k]) {
+        return based;
+    }
+    if based {
+        take_out(pool, slots, k);
+    }
+    true
+}
+
+/// Takes out each committed version below another committed one that is at most `low`. It goes down from the last
+/// version that is at most `low`: what is above that costs nothing.
+pub(crate) fn prune_in(pool: &mut Pool, slots: &mut Vec<usize>, low: u64)
+    ensures versions { IsKeptAt pool.old slots.old.items → shown_at pool.new slots.new.items ≡ pruned low (shown_at pool.old slots.old.items) }
+    ensures kept { IsKeptAt pool.old slots.old.items → IsKeptAt pool.new slots.new.items }
+    ensures others { LeavesOthersAt pool.old slots.old.items pool.new slots.new.items }
+    ensures count { IsHeld pool.old slots.old.items → CountsAt pool.old slots.old.items pool.new slots.new.items }
+    ensures within { KeepsWithin pool.old pool.new }
+{
+    let mut left = place(pool, slots, low);
+    let mut based = false;
+    while left > 0 {
+        left -= 1;
+        based = prune_at(pool, slots, left, based);
+    }
+}
+
+/// Takes all versions out, the last one first.
+pub(crate) fn clear_in(pool: &mut Pool, slots: &mut Vec<usize>)
+    ensures none { slots.new.items ≡ [] }
+    ensures others { LeavesOthersAt pool.old slots.old.items pool.new slots.new.items }
+    ensures count { IsHeld pool.old slots.old.items → CountsAt pool.old slots.old.items pool.new slots.new.items }
+    ensures within { KeepsWithin pool.old pool.new }
+{
+    let mut left = slots.len();
+    while left > 0 {
+        left -= 1;
+        take_out(pool, slots, left);
+    }
+}

@@ -1,5 +1,0 @@
-use Rattle.mv_pool.proofs.Frames.{other_stays}
-use Rattle.mv_pool.proofs.laws.others_stay.Goals as goal
-
-pub returns : goal.returns
-returns c = other_stays

@@ -1,6 +1,0 @@
-pub mod History
-pub mod Chain
-pub mod Pool
-pub mod Slots
-pub mod Slot
-pub mod Within

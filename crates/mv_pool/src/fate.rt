@@ -1,6 +1,0 @@
-/// What became of a branch.
-#[derive(Clone, Copy, Debug, PartialEq, Eq)]
-pub enum Fate {
-    Committed,
-    RolledBack,
-}

@@ -1,7 +1,0 @@
-/// The source of a read: the timestamp of the version that it sees, 0 where there is none, and whether
-/// that version's branch is still undecided.
-#[derive(Clone, Copy, Debug, PartialEq, Eq)]
-pub struct Found {
-    pub from: u64,
-    pub pending: bool,
-}

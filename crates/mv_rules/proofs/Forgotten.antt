@@ -1,0 +1,167 @@
+-- What the records stand for once an idle key is forgotten.
+use Rattle.std.proofs.Common.{◌≡◌, ◌≢◌, ℕ, ◌≤◌, Bool, true, false, List, [], ◌∷◌, length, Option, Some, None, refl, sym, ap, ◌∙◌, arith}
+use Rattle.std.specs.Prelude.{◌==◌, bytes_eq, is_some, Vec}
+use Rattle.std.specs.List.{AllByRecursion as Each}
+use Rattle.std.specs.BTreeMap.{is_at, insert_entry}
+use Rattle.std.specs.Map.{remove_entry}
+use Rattle.std.specs.Cmp.Lexicographic.{slice_cmp}
+use Rattle.std.specs.Ordering.{nat_cmp, is_eq}
+use Rattle.std.proofs.lemmas.Map.Text.{is_eq-slice_cmp}
+use Rattle.std.proofs.lemmas.Bool.Decides.{nat_tests}
+use Rattle.std.proofs.lemmas.Slice.Eq.{bytes_eq-Decides}
+use Rattle.mv_chain.specs.declared.version.Version.{Version}
+use Rattle.mv_chain.specs.History.{Written, Answered, nobody, seen_of, has_open}
+use Rattle.mv_chain.specs.Chain.{base, fresh, as_written, shows, shows_without, is_marked, StandsFor as ChainStandsFor}
+use Rattle.mv_chain.specs.Idle.{is_unused, is_idle}
+use Rattle.mv_chain.proofs.Seen.{open_seen}
+use Rattle.mv_rules.specs.declared.records.Records.{Records}
+use Rattle.mv_rules.specs.declared.own.Own.{Own}
+use Rattle.mv_rules.specs.History.{History, IsWholeAt}
+use Rattle.mv_rules.specs.Held.{Changes}
+use Rattle.mv_rules.specs.Own.{is_listed}
+use Rattle.mv_rules.specs.Records.{StandsFor, place_of, chain_at, chain_of_place, own_of}
+use Rattle.mv_rules.proofs.Frames.{shown_elsewhere, held_changed}
+use Rattle.mv_rules.proofs.Places.{found_at, found_inserted}
+
+-- what an idle chain shows
+
+no_value : {A : Type 0} (o : Option A) → is_some o ≡ false → o ≡ None
+no_value None e = refl
+no_value (Some x) e = absurd (cc e)
+
+pub record IsUnused (low : ℕ) (v : Version) : Type 0 where
+  pub timestamp : v.timestamp ≡ 0
+  pub value : v.value ≡ None
+  pub pending : v.pending ≡ false
+  pub mark : v.mark ≤ low
+
+unused : (low : ℕ) (v : Version) → is_unused low v ≡ true → IsUnused low v
+unused low v e = record {
+  timestamp = grind (arith, nat_tests, e);
+  value = no_value v.value (grind (arith, e));
+  pending = grind (arith, e);
+  mark = grind (arith, nat_tests, e);
+}
+
+as_base : (low : ℕ) (v : Version) → IsUnused low v → as_written v ≡ as_written base
+as_base low v u = rw (u.timestamp, u.value, u.pending) refl
+
+shows_as_fresh : (low : ℕ) (vs : List Version) → is_idle low vs ≡ true → (gone : ℕ → Bool) (t : ℕ) → shows_without gone t vs ≡ shows_without gone t fresh
+shows_as_fresh low [] e gone t = absurd (cc e)
+shows_as_fresh low (v ∷ []) e gone t = ap (λ (w : Written). seen_of (λ k. true) gone t (w ∷ [])) (as_base low v (unused low v e))
+shows_as_fresh low (v ∷ w ∷ vs) e gone t = absurd (cc e)
+
+marked_as_fresh : (low : ℕ) (vs : List Version) → is_idle low vs ≡ true → (t : ℕ) → low ≤ t → is_marked t vs ≡ is_marked t fresh
+marked_as_fresh low [] e t le = absurd (cc e)
+marked_as_fresh low (v ∷ []) e t le = let u = unused low v e in grind (arith, nat_tests, u.mark, le)
+marked_as_fresh low (v ∷ w ∷ vs) e t le = absurd (cc e)
+
+pub idle_fresh : (key : List ℕ) (low before : ℕ) (ws : List Written) (rs : List Answered) (vs : List Version) → is_idle low vs ≡ true → low ≤ before → ChainStandsFor key before ws rs vs → ChainStandsFor key before ws rs fresh
+idle_fresh key low before ws rs vs e le s = record {
+  seen = λ gone t up. sym (shows_as_fresh low vs e gone t) ∙ s.seen gone t up;
+  own = λ gone t g o. sym (shows_as_fresh low vs e gone t) ∙ s.own gone t g o;
+  late = λ t up. sym (marked_as_fresh low vs e t (omega (arith, le, up))) ∙ s.late t up;
+  based = grind (arith, nat_tests);
+}
+
+fresh_decided : (t : ℕ) → (shows t fresh).pending ≡ false
+fresh_decided t = grind (arith, nat_tests)
+
+-- no branch has an undecided write of an idle key
+none_open : (key : List ℕ) (low before : ℕ) (ws : List Written) (rs : List Answered) (vs : List Version) → is_idle low vs ≡ true → IsWholeAt key ws → ChainStandsFor key before ws rs vs → (t : ℕ) → has_open key t ws ≡ false
+none_open key low before ws rs vs e whole s t = at (has_open key t ws) refl
+  where
+    at : (x : Bool) → has_open key t ws ≡ x → has_open key t ws ≡ false
+    at false o = o
+    at true o =
+        let pending = (open_seen key t ws (whole t o) o).1 in
+        let same = s.own nobody t refl o in
+        let not_pending : (shows t fresh).pending ≡ true = ap (λ r. r.pending) (sym (shows_as_fresh low vs e nobody t) ∙ same) ∙ pending in
+        absurd (cc (fresh_decided t, not_pending))
+
+-- a key's place once a key is taken out
+same_key : (a b : List ℕ) → bytes_eq a b ≡ true → a ≡ b
+same_key a b e = (bytes_eq-Decides a b).0 e
+
+pub found_removed : {Y : Type 0} (q k : List ℕ) (es : List (Vec ℕ Y × ℕ)) → bytes_eq q k ≡ false → found_at q (remove_entry (is_at (λ x. slice_cmp nat_cmp k x.items)) es) ≡ found_at q es
+found_removed q k [] d = refl
+found_removed q k (e ∷ es) d = at (is_eq (slice_cmp nat_cmp k e.0.items)) refl (found_removed q k es d)
+  where
+    at : (x : Bool) → is_eq (slice_cmp nat_cmp k e.0.items) ≡ x → found_at q (remove_entry (is_at (λ x. slice_cmp nat_cmp k x.items)) es) ≡ found_at q es → found_at q (remove_entry (is_at (λ x. slice_cmp nat_cmp k x.items)) (e ∷ es)) ≡ found_at q (e ∷ es)
+    at true f rest =
+        let same : k ≡ e.0.items = same_key k e.0.items (sym (is_eq-slice_cmp k e.0.items) ∙ f) in
+        let apart : is_eq (slice_cmp nat_cmp q e.0.items) ≡ false = is_eq-slice_cmp q e.0.items ∙ (ap (bytes_eq q) (sym same) ∙ d) in
+        rw (f, apart) refl
+    at false f rest = rw (f, rest) refl
+
+-- a key that was put in and taken out again
+pub found_back : {Y : Type 0} (q key : List ℕ) (k : Vec ℕ Y) (v : ℕ) (es es2 es3 : List (Vec ℕ Y × ℕ)) → es2 ≡ insert_entry (λ x y. slice_cmp nat_cmp x.items y.items) es k v → es3 ≡ remove_entry (is_at (λ x. slice_cmp nat_cmp key x.items)) es2
+    → k.items ≡ key → found_at key es ≡ None → found_at key es3 ≡ None → found_at q es3 ≡ found_at q es
+found_back q key k v es es2 es3 put taken same none gone_ = at (bytes_eq q key) refl
+  where
+    at : (x : Bool) → bytes_eq q key ≡ x → found_at q es3 ≡ found_at q es
+    at true e = let is : q ≡ key = same_key q key e in ap (λ x. found_at x es3) is ∙ (gone_ ∙ (sym none ∙ ap (λ x. found_at x es) (sym is)))
+    at false e =
+        let other : bytes_eq q k.items ≡ false = ap (bytes_eq q) same ∙ e in
+        ap (found_at q) taken ∙ (found_removed q key es2 e ∙ (ap (found_at q) put ∙ (found_inserted q k v es ∙ rw other refl)))
+
+pub stands_forgotten : (h : History) (r r2 : Records) (key : List ℕ) (i low : ℕ) → place_of key r ≡ Some i → is_idle low (chain_at i r) ≡ true → low ≤ h.low → IsWholeAt key h.writes
+    → place_of key r2 ≡ None → ((q : List ℕ) → bytes_eq q key ≡ false → place_of q r2 ≡ place_of q r) → Changes i r.pool r.chains r2.pool r2.chains → ((t : ℕ) → own_of t r2 ≡ own_of t r) → StandsFor h r → StandsFor h r2
+stands_forgotten h r r2 key i low here idle le whole gone_ same change lists s =
+    record {
+      chains = record {
+        chains = λ q. chain q (bytes_eq q key) refl;
+        within = λ q j e. let d = other q j e (bytes_eq q key) refl in ap is_some (change.others j d.1) ∙ s.chains.within q j d.0;
+        apart = λ a b j e f. s.chains.apart a b j (other a j e (bytes_eq a key) refl).0 (other b j f (bytes_eq b key) refl).0;
+        held = held_changed i r.pool r2.pool r.chains r2.chains change s.chains.held;
+      };
+      lists = record {
+        listed = λ t q j e. ap (is_listed j) (lists t) ∙ s.lists.listed t q j (other q j e (bytes_eq q key) refl).0;
+        unplaced = λ t q e. unplaced t q e (bytes_eq q key) refl;
+        named = λ t. rw lists (named (own_of t r) (s.lists.listed t key i here ∙ closed t) (s.lists.named t));
+        count = λ t. ap length (lists t) ∙ s.lists.count t;
+      };
+    }
+  where
+    own_chain : ChainStandsFor key h.low h.writes h.reads (chain_at i r)
+    own_chain = rw here at (s.chains.chains key)
+
+    closed : (t : ℕ) → has_open key t h.writes ≡ false
+    closed t = none_open key low h.low h.writes h.reads (chain_at i r) idle whole own_chain t
+
+    itself : (q : List ℕ) → bytes_eq q key ≡ true → q ≡ key
+    itself q e = same_key q key e
+
+    differ : (q : List ℕ) → bytes_eq q key ≡ false → q ≡ key → ⊥
+    differ q d e = let t : bytes_eq q key ≡ true = (bytes_eq-Decides q key).1 e in absurd (cc (t, d))
+
+    -- what is still placed is another key, at another place
+    other : (q : List ℕ) (j : ℕ) → place_of q r2 ≡ Some j → (x : Bool) → bytes_eq q key ≡ x → (place_of q r ≡ Some j) × (j ≢ i)
+    other q j e true f = let none : place_of q r2 ≡ None = ap (λ k. place_of k r2) (itself q f) ∙ gone_ in let bad : None ≡ Some j = sym none ∙ e in absurd (cc bad)
+    other q j e false f =
+        let was : place_of q r ≡ Some j = sym (same q f) ∙ e in
+        (was, λ n. differ q f (s.chains.apart q key i (was ∙ ap Some n) here))
+
+    place : (q : List ℕ) (o : Option ℕ) → place_of q r ≡ o → bytes_eq q key ≡ false → chain_of_place o r2 ≡ chain_of_place o r
+    place q None e d = refl
+    place q (Some j) e d = shown_elsewhere i j r.pool r2.pool r.chains r2.chains change s.chains.held (λ n. differ q d (s.chains.apart q key i (e ∙ ap Some n) here))
+
+    chain : (q : List ℕ) (x : Bool) → bytes_eq q key ≡ x → ChainStandsFor q h.low h.writes h.reads (chain_of_place (place_of q r2) r2)
+    chain q true e = rw (itself q e, gone_) (idle_fresh key low h.low h.writes h.reads (chain_at i r) idle le own_chain)
+    chain q false e = rw (same q e, place q (place_of q r) refl e) (s.chains.chains q)
+
+    unplaced : (t : ℕ) (q : List ℕ) → place_of q r2 ≡ None → (x : Bool) → bytes_eq q key ≡ x → has_open q t h.writes ≡ false
+    unplaced t q e true f = ap (λ k. has_open k t h.writes) (itself q f) ∙ closed t
+    unplaced t q e false f = s.lists.unplaced t q (sym (same q f) ∙ e)
+
+    named : (own : List Own) → is_listed i own ≡ false → Each (λ o. place_of o.key r ≡ Some o.place) own → Each (λ o. place_of o.key r2 ≡ Some o.place) own
+    named [] l n = tt
+    named (o ∷ own) l n = (one (bytes_eq o.key key) refl, named own (grind (arith, l)) n.1)
+      where
+        one : (x : Bool) → bytes_eq o.key key ≡ x → place_of o.key r2 ≡ Some o.place
+        one false e = same o.key e ∙ n.0
+        one true e =
+            let here_too : Some i ≡ Some o.place = sym here ∙ (ap (λ k. place_of k r) (sym (itself o.key e)) ∙ n.0) in
+            let place_is : i ≡ o.place = cc here_too in
+            let hit : (i == o.place) ≡ true = grind (arith, nat_tests, place_is) in
+            absurd (grind (arith, l, hit))

@@ -1,0 +1,9 @@
+use Rattle.std.proofs.Common.{sym}
+use Rattle.mv_rules.proofs.Changed.{read_at}
+use Rattle.mv_rules.proofs.records.Records.get_at.Goals as goal
+
+pub returns-in-Some-clause-stands : goal.returns-in-Some-clause-stands
+returns-in-Some-clause-stands c =
+    λ h s here le.
+    let k = s.chains.held.kept c.args.i c.in-Some.chain.now (sym c.in-Some.ensures.value) in
+    read_at h c.args.self.now c.args.key.now c.args.i c.in-Some.chain.now c.read.new.chain c.read.new.pool c.read.new.notes s here (sym c.in-Some.ensures.value) c.read.ensures.others c.read.ensures.kept c.args.ts c.read.result le (λ q low ws rs st up. c.read.ensures.stands q low ws rs k st up) c.read.ensures.notes

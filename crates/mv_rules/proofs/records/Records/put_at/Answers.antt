@@ -1,0 +1,74 @@
+use Rattle.std.proofs.Common.{◌≡◌, refl, sym, ap, ℕ, List, Option}
+use Rattle.std.specs.Prelude.{option_map}
+use Rattle.mv_chain.specs.declared.look.Look.{Look}
+use Rattle.mv_chain.specs.Pool.{versions_of}
+use Rattle.mv_chain.proofs.Frames.{nothing_leaves}
+use Rattle.mv_rules.specs.Held.{shown_in}
+use Rattle.mv_rules.proofs.Changed.{alike_at, again_at, first_at}
+use Rattle.mv_rules.proofs.Written.{looked_at, put_refused}
+use Rattle.mv_rules.proofs.records.Records.put_at.Goals as goal
+
+pub returns-in_default-from_slice-clause-stands : goal.returns-in_default-from_slice-clause-stands
+returns-in_default-from_slice-clause-stands c =
+    λ h s here u.
+    let chain = c.in-Some.chain.now in
+    alike_at h c.args.self.now c.args.key.now c.args.i chain chain c.args.self.now.pool c.args.self.now.notes s here (sym c.in-Some.ensures.value) (nothing_leaves c.args.self.now.pool chain.slots.items) (λ k. k) refl (λ t. refl)
+
+pub returns-in-Refused-clause-answer : goal.returns-in-Refused-clause-answer
+returns-in-Refused-clause-answer c =
+    λ h s here u m.
+    let value : Option (List ℕ) = option_map (λ v. v.items) c.args.value in
+    let k = s.chains.held.kept c.args.i c.in-Some.chain.now (sym c.in-Some.ensures.value) in
+    let verdict = looked_at _ c.look-look.result c.args.ts c.count-count.result _ (c.look-look.ensures k) c.in-Refused.ensures in
+    (put_refused h c.args.self.now c.args.key.now c.args.i c.args.ts c.count-count.result (versions_of c.args.self.now.pool c.in-Some.chain.now) u s here (ap (shown_in c.args.self.now.pool) c.in-Some.ensures.value) c.count-count.ensures c.in-Refused.answer value verdict).0
+
+pub returns-in-Refused-clause-stands : goal.returns-in-Refused-clause-stands
+returns-in-Refused-clause-stands c =
+    λ h s here u.
+    let chain = c.in-Some.chain.now in
+    let value : Option (List ℕ) = option_map (λ v. v.items) c.args.value in
+    let k = s.chains.held.kept c.args.i c.in-Some.chain.now (sym c.in-Some.ensures.value) in
+    let verdict = looked_at _ c.look-look.result c.args.ts c.count-count.result _ (c.look-look.ensures k) c.in-Refused.ensures in
+    let left = (put_refused h c.args.self.now c.args.key.now c.args.i c.args.ts c.count-count.result (versions_of c.args.self.now.pool c.in-Some.chain.now) u s here (ap (shown_in c.args.self.now.pool) c.in-Some.ensures.value) c.count-count.ensures c.in-Refused.answer value verdict).1 in
+    alike_at _ c.args.self.now c.args.key.now c.args.i chain chain c.args.self.now.pool c.args.self.now.notes left here (sym c.in-Some.ensures.value) (nothing_leaves c.args.self.now.pool chain.slots.items) (λ k. k) refl (λ t. refl)
+
+pub returns-in-Ok-clause-answer : goal.returns-in-Ok-clause-answer
+returns-in-Ok-clause-answer c =
+    λ h s here u m.
+    let value : Option (List ℕ) = option_map (λ v. v.items) c.args.value in
+    let k = s.chains.held.kept c.args.i c.in-Some.chain.now (sym c.in-Some.ensures.value) in
+    let verdict = looked_at _ c.look-look.result c.args.ts c.count-count.result _ (c.look-look.ensures k) c.in-Again.ensures in
+    (again_at h c.args.self.now c.args.key.now c.args.i c.in-Some.chain.now c.install_at.new.self c.install_at.new.pool c.args.self.now.notes s here (sym c.in-Some.ensures.value) c.install_at.ensures.others (λ kk. c.install_at.ensures.kept c.args.ts kk (c.look-look.ensures kk)) c.args.ts c.count-count.result value u c.count-count.ensures verdict
+    (λ key low ws rs st un late. c.in-Ok.ensures.stands c.args.ts key low ws rs k (c.look-look.ensures k) st un late) (λ t. refl)).0
+
+pub returns-in-Ok-clause-stands : goal.returns-in-Ok-clause-stands
+returns-in-Ok-clause-stands c =
+    λ h s here u.
+    let value : Option (List ℕ) = option_map (λ v. v.items) c.args.value in
+    let k = s.chains.held.kept c.args.i c.in-Some.chain.now (sym c.in-Some.ensures.value) in
+    let verdict = looked_at _ c.look-look.result c.args.ts c.count-count.result _ (c.look-look.ensures k) c.in-Again.ensures in
+    (again_at h c.args.self.now c.args.key.now c.args.i c.in-Some.chain.now c.install_at.new.self c.install_at.new.pool c.args.self.now.notes s here (sym c.in-Some.ensures.value) c.install_at.ensures.others (λ kk. c.install_at.ensures.kept c.args.ts kk (c.look-look.ensures kk)) c.args.ts c.count-count.result value u c.count-count.ensures verdict
+    (λ key low ws rs st un late. c.in-Ok.ensures.stands c.args.ts key low ws rs k (c.look-look.ensures k) st un late) (λ t. refl)).1
+
+pub returns-in-Err-clause-stands : goal.returns-in-Err-clause-stands
+returns-in-Err-clause-stands c =
+    λ h s here u.
+    let k = s.chains.held.kept c.args.i c.in-Some.chain.now (sym c.in-Some.ensures.value) in
+    alike_at h c.args.self.now c.args.key.now c.args.i c.in-Some.chain.now c.install_at.new.self c.install_at.new.pool c.args.self.now.notes s here (sym c.in-Some.ensures.value) c.install_at.ensures.others (λ kk. c.install_at.ensures.kept c.args.ts kk (c.look-look.ensures kk)) (c.in-Err.ensures.err k) (λ t. refl)
+
+pub returns-in-Ok-add-clause-stands : goal.returns-in-Ok-add-clause-stands
+returns-in-Ok-add-clause-stands c =
+    λ h s here u.
+    let value : Option (List ℕ) = option_map (λ v. v.items) c.args.value in
+    let k = s.chains.held.kept c.args.i c.in-Some.chain.now (sym c.in-Some.ensures.value) in
+    let verdict = looked_at _ c.look-look.result c.args.ts c.count-count.result _ (c.look-look.ensures k) c.in-First.ensures in
+    let at_ts : c.look-look.result.at ≡ c.args.ts = ap (λ (l : Look). l.at) (c.look-look.ensures k) in
+    let noted = rw (c.in-Ok-from_slice.ensures, at_ts) at c.in-Ok-add.ensures.noted in
+    (first_at h c.args.self.now c.args.key.now c.args.i c.in-Some.chain.now c.add.new.chain c.add.new.pool c.add.new.notes s here (sym c.in-Some.ensures.value) c.add.ensures.others (λ kk. c.add.ensures.kept c.args.ts kk (c.look-look.ensures kk)) c.args.ts c.count-count.result value u c.count-count.ensures verdict
+    (c.in-Ok-add.ensures.ok c.args.ts k (c.look-look.ensures k)) noted).1
+
+pub returns-in-Err-add-clause-stands : goal.returns-in-Err-add-clause-stands
+returns-in-Err-add-clause-stands c =
+    λ h s here u.
+    let k = s.chains.held.kept c.args.i c.in-Some.chain.now (sym c.in-Some.ensures.value) in
+    alike_at h c.args.self.now c.args.key.now c.args.i c.in-Some.chain.now c.add.new.chain c.add.new.pool c.add.new.notes s here (sym c.in-Some.ensures.value) c.add.ensures.others (λ kk. c.add.ensures.kept c.args.ts kk (c.look-look.ensures kk)) (c.in-Err-add.ensures.err k) c.in-Err-add.ensures.unnoted

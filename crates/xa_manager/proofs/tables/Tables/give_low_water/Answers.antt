@@ -1,0 +1,17 @@
+use Rattle.xa_manager.specs.Kept.{kept_of}
+use Rattle.xa_manager.proofs.Given.{given_stands}
+use Rattle.xa_manager.proofs.tables.Tables.give_low_water.Goals as goal
+
+pub returns-clause-stays : goal.returns-clause-stays
+returns-clause-stays c = λ s st. record {
+  name = st.name;
+  log_bytes = st.log_bytes;
+  up = st.up;
+  sessions = st.sessions;
+  branches = st.branches;
+  records = given_stands s c.args.self.now.records c.low_water.new.self c.low_water-low.result (c.low_water-low.ensures s st) st.recoverable.sound c.low_water.ensures.stands st.records;
+  recoverable = st.recoverable;
+}
+
+pub invariant_of-self : goal.invariant_of-self
+invariant_of-self c = record { short = c.low_water.ensures.within 1024 c.args.self.now.short }
