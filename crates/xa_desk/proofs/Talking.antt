@@ -1,5 +1,5 @@
 -- One turn, and a turn behind others.
-use Rattle.std.proofs.Common.{◌≡◌, ℕ, ◌+◌, ◌<◌, ◌≤◌, ◌^◌, List, [], ◌∷◌, ◌++◌, length, Option, Some, None, refl, sym, ap, ◌∙◌, inl, inr, append_assoc, append-nil, arith, subst, unwrap_or}
+use Rattle.std.proofs.Common.{◌≡◌, ◌⊎◌, ℕ, ◌+◌, ◌<◌, ◌≤◌, ◌^◌, List, [], ◌∷◌, ◌++◌, length, Option, Some, None, refl, sym, ap, ◌∙◌, inl, inr, append_assoc, append-nil, arith, subst, unwrap_or}
 use Rattle.std.specs.List.{flat_map}
 use Rattle.std.specs.Int.{to_be_bytes, w32}
 use Rattle.std.specs.Io.KnownBytes.{Consumes, Appends, IsAtEnd}
@@ -55,6 +55,10 @@ ends-behind (Some Memory) rs qs read written h = (
   elim h.2 [ inl k ↦ inl (k.0, ap (λ (xs : List Reply). rs ++ xs) k.1) | inr k ↦ inr (k.0, owes-last rs qs h.0 k.0 read k.1) ],
 )
 
+-- fewer frames behind others
+fewer : (cs ds : List (List ℕ)) (most more all : ℕ) → length cs ≤ most → most + more ≤ all → length ds < more → length (cs ++ ds) < all
+fewer cs ds most more all few within less = omega (arith, length-append cs ds, few, within, less)
+
 -- a turn behind others
 pub talks-behind : {D : Type 0} (called : D → Request → Reply → D → Type 0) (most more all : ℕ) (end : Option Served) (i j k o p q : Option (List ℕ)) (d m e : D)
     → most + more ≤ all → Talks called most None i j o p d m → Talks called more end j k p q m e → Talks called all end i k o q d e
@@ -76,7 +80,8 @@ talks-behind called most more all end i j k o p q d m e within s t =
       answered = answers-append called d m e s.contents t.contents s.replies t.replies s.answered t.answered;
       appended = appends-twice o p q (frames_of s.replies) t.written sent t.appended;
       ends = ends-behind end s.replies t.replies t.read t.written t.ends;
-      at_end = t.at_end;
+      beyond = elim t.beyond [ inl h ↦ inl h | inr h ↦ inr (fewer s.contents t.contents most more all s.few within h) ];
+      at_end = λ is. let h = t.at_end is in (h.0, fewer s.contents t.contents most more all s.few within h.1);
     }
 
 -- nothing yet
@@ -92,13 +97,14 @@ talks-none called i o d = record {
   answered = refl;
   appended = appends-none o;
   ends = (refl, refl);
+  beyond = inl refl;
   at_end = λ is. cc;
 }
 
 -- no door was reached, and this was read and written
 alone : {D : Type 0} (called : D → Request → Reply → D → Type 0) (most : ℕ) (end : Served) (i j o p : Option (List ℕ)) (d : D) (read written : List ℕ)
-    → Consumes i j read → Appends o p written → Ends (Some end) [] read written → (Some end ≡ Some Ended → IsAtEnd j) → Talks called most (Some end) i j o p d d
-alone called most end i j o p d read written h k ends at_end = record {
+    → Consumes i j read → Appends o p written → Ends (Some end) [] read written → (read ≡ []) ⊎ (0 < most) → (Some end ≡ Some Ended → IsAtEnd j × (0 < most)) → Talks called most (Some end) i j o p d d
+alone called most end i j o p d read written h k ends beyond at_end = record {
   contents = [];
   replies = [];
   read = read;
@@ -109,31 +115,33 @@ alone called most end i j o p d read written h k ends at_end = record {
   answered = refl;
   appended = k;
   ends = ends;
+  beyond = beyond;
   at_end = at_end;
 }
 
 -- the input ended
 pub talks-ended : {D : Type 0} (called : D → Request → Reply → D → Type 0) (i j o : Option (List ℕ)) (d : D) → Consumes i j [] → IsAtEnd j → Talks called 1 (Some Ended) i j o o d d
-talks-ended called i j o d h at = alone called 1 Ended i j o o d [] [] h (appends-none o) (refl, refl) (λ is. at)
+talks-ended called i j o d h at = alone called 1 Ended i j o o d [] [] h (appends-none o) (refl, refl) (inl refl) (λ is. (at, omega arith))
 
 -- a length is cut
-pub talks-cut : {D : Type 0} (called : D → Request → Reply → D → Type 0) (most : ℕ) (i j o : Option (List ℕ)) (d : D) (part : List ℕ) → length part < 4 → Consumes i j part → Talks called most (Some ReadFault) i j o o d d
-talks-cut called most i j o d part less h = alone called most ReadFault i j o o d part [] h (appends-none o) (inl less, refl) (λ is. cc)
+pub talks-cut : {D : Type 0} (called : D → Request → Reply → D → Type 0) (most : ℕ) (i j o : Option (List ℕ)) (d : D) (part : List ℕ)
+    → length part < 4 → (part ≡ []) ⊎ (0 < most) → Consumes i j part → Talks called most (Some ReadFault) i j o o d d
+talks-cut called most i j o d part less beyond h = alone called most ReadFault i j o o d part [] h (appends-none o) (inl less, refl) beyond (λ is. cc)
 
 -- the bound of frames is met
 pub talks-bound : {D : Type 0} (called : D → Request → Reply → D → Type 0) (most all : ℕ) (i j o p : Option (List ℕ)) (d e : D)
     → most ≤ all → Talks called most None i j o p d e → Talks called all (Some ReadFault) i j o p d e
-talks-bound called most all i j o p d e within s = talks-behind called most 0 all (Some ReadFault) i j j o p p d e e (omega arith) s (talks-cut called 0 j j p e [] (omega arith) (consumes-none j))
+talks-bound called most all i j o p d e within s = talks-behind called most 0 all (Some ReadFault) i j j o p p d e e (omega arith) s (talks-cut called 0 j j p e [] (omega arith) (inl refl) (consumes-none j))
 
 -- a length is too great
 talks-long : {D : Type 0} (called : D → Request → Reply → D → Type 0) (sent : Option Served) (i j o p : Option (List ℕ)) (d : D) (n : ℕ)
     → 65535 < n → n < 2 ^ 32 → Consumes i j (to_be_bytes w32 n) → Sends sent (reply_frame refused) o p → Talks called 1 (Some (unwrap_or sent TooLong)) i j o p d d
 talks-long called None i j o p d n more bound h k =
-    alone called 1 TooLong i j o p d (to_be_bytes w32 n) (reply_frame refused) h k ((n, more, bound, refl), sym (append-nil (reply_frame refused))) (λ is. cc)
+    alone called 1 TooLong i j o p d (to_be_bytes w32 n) (reply_frame refused) h k ((n, more, bound, refl), sym (append-nil (reply_frame refused))) (inr (omega arith)) (λ is. cc)
 talks-long called (Some WriteFault) i j o p d n more bound h k =
-    alone called 1 WriteFault i j o p d (to_be_bytes w32 n) k.0 h k.2 ([], refused, k.0, inr ((n, more, bound, refl), refl), k.1, refl) (λ is. cc)
+    alone called 1 WriteFault i j o p d (to_be_bytes w32 n) k.0 h k.2 ([], refused, k.0, inr ((n, more, bound, refl), refl), k.1, refl) (inr (omega arith)) (λ is. cc)
 talks-long called (Some Memory) i j o p d n more bound h k =
-    alone called 1 Memory i j o p d (to_be_bytes w32 n) [] h k ([], refl, inr (refused, inr ((n, more, bound, refl), refl))) (λ is. cc)
+    alone called 1 Memory i j o p d (to_be_bytes w32 n) [] h k ([], refl, inr (refused, inr ((n, more, bound, refl), refl))) (inr (omega arith)) (λ is. cc)
 talks-long called (Some Ended) i j o p d n more bound h k = absurd k
 talks-long called (Some ReadFault) i j o p d n more bound h k = absurd k
 talks-long called (Some TooLong) i j o p d n more bound h k = absurd k
@@ -152,16 +160,16 @@ pub talks-lacking : {D : Type 0} (called : D → Request → Reply → D → Typ
 talks-lacking called Memory i j k o d n few h l =
     let P : List ℕ → Type 0 = λ bs. Consumes i k bs in
     let whole : Consumes i k (to_be_bytes w32 n) = subst P (append-nil (to_be_bytes w32 n)) (consumes-twice i j k (to_be_bytes w32 n) [] h l) in
-    alone called 1 Memory i k o o d (to_be_bytes w32 n) [] whole (appends-none o) ([], refl, inl ((n, few, refl), refl)) (λ is. cc)
+    alone called 1 Memory i k o o d (to_be_bytes w32 n) [] whole (appends-none o) ([], refl, inl ((n, few, refl), refl)) (inr (omega arith)) (λ is. cc)
 talks-lacking called ReadFault i j k o d n few h l =
-    alone called 1 ReadFault i k o o d (to_be_bytes w32 n ++ l.0) [] (consumes-twice i j k (to_be_bytes w32 n) l.0 h l.2) (appends-none o) (inr (n, l.0, few, l.1, refl), refl) (λ is. cc)
+    alone called 1 ReadFault i k o o d (to_be_bytes w32 n ++ l.0) [] (consumes-twice i j k (to_be_bytes w32 n) l.0 h l.2) (appends-none o) (inr (n, l.0, few, l.1, refl), refl) (inr (omega arith)) (λ is. cc)
 talks-lacking called Ended i j k o d n few h l = absurd l
 talks-lacking called WriteFault i j k o d n few h l = absurd l
 talks-lacking called TooLong i j k o d n few h l = absurd l
 
 -- a content was answered, and this was written
 answered-so : {D : Type 0} (called : D → Request → Reply → D → Type 0) (end : Option Served) (i j o p : Option (List ℕ)) (d e : D) (c : List ℕ) (r : Reply) (written : List ℕ)
-    → length c ≤ 65535 → Consumes i j (frame c) → Answers called d c r e → Appends o p written → Ends end (r ∷ []) [] written → (end ≡ Some Ended → IsAtEnd j) → Talks called 1 end i j o p d e
+    → length c ≤ 65535 → Consumes i j (frame c) → Answers called d c r e → Appends o p written → Ends end (r ∷ []) [] written → (end ≡ Some Ended → IsAtEnd j × (1 < 1)) → Talks called 1 end i j o p d e
 answered-so called end i j o p d e c r written few h said k ends at_end =
     let P : List ℕ → Type 0 = λ bs. Consumes i j bs in
     record {
@@ -175,6 +183,7 @@ answered-so called end i j o p d e c r written few h said k ends at_end =
       answered = (e, said, refl);
       appended = k;
       ends = ends;
+      beyond = inl refl;
       at_end = at_end;
     }
 

@@ -86,4 +86,6 @@ pub record Talks {D : Type 0} (called : D → Request → Reply → D → Type 0
   pub answered : AnswersAll called d contents replies e
   pub appended : Appends output output' written
   pub ends : Ends end replies read written
-  pub at_end : end ≡ Some Ended → IsAtEnd input'
+  -- behind as many frames as it may have, nothing more is read, nor is the input's end seen
+  pub beyond : (read ≡ []) ⊎ (length contents < most)
+  pub at_end : end ≡ Some Ended → IsAtEnd input' × (length contents < most)

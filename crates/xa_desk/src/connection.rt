@@ -197,17 +197,18 @@ fn answer<D: Door>(alloc: Global, door: &mut D, session: u64, content: &[u8]) ->
     }
 }
 
-// Answers frames until it ends.
+// Answers frames until it ends, so many at most.
 fn converse<D: Door, R: Read, W: Write>(
     alloc: Global,
     door: &mut D,
     reader: &mut R,
     writer: &mut W,
     session: u64,
+    most: u32,
 ) -> Served
-    ensures { Talks (D.called session) 4294967295 (Some result) (R.remaining reader.old) (R.remaining reader.new) (W.contents writer.old) (W.contents writer.new) door.old door.new }
+    ensures { Talks (D.called session) most (Some result) (R.remaining reader.old) (R.remaining reader.new) (W.contents writer.old) (W.contents writer.new) door.old door.new }
 {
-    for _ in 0..u32::MAX {
+    for _ in 0..most {
         match turn(alloc, door, reader, writer, session) {
             Some(end) => return end,
             None => {}
@@ -216,12 +217,29 @@ fn converse<D: Door, R: Read, W: Write>(
     Served::ReadFault
 }
 
-/// Serves a session on a connection until it ends, and hangs the session up, always and once.
+/// Serves a session on a connection until it ends, and hangs the session up, always and once. Behind so many frames it ends
+/// with `ReadFault`, and reads no further.
 ///
 /// Of each frame it reads the length and then the content, each by one read where the reader gives all that is asked,
 /// and nothing beyond: what stands behind the last frame or behind a length above 65,535 is left in the reader. So the
 /// caller may hand in a reader with a buffer. The frame of each reply is handed to the writer whole, and again only
 /// where the writer took a part. A read or a write that fails ends the connection, whatever its error.
+pub fn serve_upto<D: Door, R: Read, W: Write>(
+    alloc: Global,
+    door: &mut D,
+    reader: &mut R,
+    writer: &mut W,
+    session: u64,
+    most: u32,
+) -> Served
+    ensures { (d : D) × Talks (D.called session) most (Some result) (R.remaining reader.old) (R.remaining reader.new) (W.contents writer.old) (W.contents writer.new) door.old d × D.left session d door.new }
+{
+    let end = converse(alloc, door, reader, writer, session, most);
+    door.hangup(session);
+    end
+}
+
+/// Serves a session on a connection as [`serve_upto`] does, for 4,294,967,295 frames at most.
 pub fn serve<D: Door, R: Read, W: Write>(
     alloc: Global,
     door: &mut D,
@@ -231,7 +249,5 @@ pub fn serve<D: Door, R: Read, W: Write>(
 ) -> Served
     ensures { (d : D) × Talks (D.called session) 4294967295 (Some result) (R.remaining reader.old) (R.remaining reader.new) (W.contents writer.old) (W.contents writer.new) door.old d × D.left session d door.new }
 {
-    let end = converse(alloc, door, reader, writer, session);
-    door.hangup(session);
-    end
+    serve_upto(alloc, door, reader, writer, session, u32::MAX)
 }

@@ -3,7 +3,7 @@
 pub enum Served {
     /// The input ended before the first byte of a frame.
     Ended,
-    /// A read failed, the input ended inside a frame, or 4,294,967,295 frames were read.
+    /// A read failed, the input ended inside a frame, or as many frames were read as the connection may have.
     ReadFault,
     /// A write failed or took nothing.
     WriteFault,

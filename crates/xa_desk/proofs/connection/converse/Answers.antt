@@ -9,7 +9,7 @@ pub loop-preserved : goal.loop-preserved
 loop-preserved g c = talks-behind _ c.loop.counter 1 (c.loop.counter + 1) _ _ _ _ _ _ _ _ _ _ (omega arith) c.loop.invariant c.in-None.ensures
 
 pub returns-in-Some : goal.returns-in-Some
-returns-in-Some g c = talks-behind _ c.loop.counter 1 4294967295 _ _ _ _ _ _ _ _ _ _ (omega arith) c.loop.invariant c.in-Some.ensures
+returns-in-Some g c = talks-behind _ c.loop.counter 1 c.args.most _ _ _ _ _ _ _ _ _ _ (omega arith) c.loop.invariant c.in-Some.ensures
 
 pub returns : goal.returns
-returns g c = talks-bound _ c.loop.counter 4294967295 _ _ _ _ _ _ (omega arith) c.loop.invariant
+returns g c = talks-bound _ c.loop.counter c.args.most _ _ _ _ _ _ (omega arith) c.loop.invariant

@@ -1,4 +1,4 @@
-use Rattle.std.proofs.Common.{arith, refl}
+use Rattle.std.proofs.Common.{arith, refl, inr}
 use Rattle.xa_desk.proofs.Talking.{talks-ended, talks-cut, talks-refused, talks-lacking, talks-answered}
 use Rattle.xa_desk.proofs.connection.turn.Goals as goal
 
@@ -6,7 +6,7 @@ pub returns-in-End : goal.returns-in-End
 returns-in-End g c = let e = c.in-End.ensures.end refl in talks-ended _ _ _ _ _ e.0 e.1
 
 pub returns-in-Fault : goal.returns-in-Fault
-returns-in-Fault g c = let e = c.in-Fault.ensures.fault refl in talks-cut _ 1 _ _ _ _ e.0 e.1 e.2
+returns-in-Fault g c = let e = c.in-Fault.ensures.fault refl in talks-cut _ 1 _ _ _ _ e.0 e.1 (inr (omega arith)) e.2
 
 pub returns-then-is_too_long : goal.returns-then-is_too_long
 returns-then-is_too_long g c =
