@@ -1,5 +1,5 @@
 ghost use Rattle.std.specs.Prelude.{◌≡◌, ℕ, ◌+◌, ◌<◌, ◌≤◌, ◌^◌, length, Err, MatchOption, true, false};
-ghost use Rattle.xa_frame.specs.Limits.{IsRequest, IsReply};
+ghost use Rattle.xa_frame.specs.Limits.{Holds, IsRequest, IsReply};
 ghost use Rattle.xa_manager.specs.Answered.{connect_reply, wanted_memory};
 ghost use Rattle.xa_model.specs.declared.event.Event.{Event};
 ghost use Rattle.xa_room.specs.Book.{placed};
@@ -57,20 +57,26 @@ impl<M: Manages, S: Start, L: Ledger> Counted<M, S, L> {
         (room, book)
     }
 
+    /// By two copies of the request.
     pub(crate) fn call(
         &mut self,
         share: &mut Share<L>,
         session: u64,
         request: Request,
+        first: Request,
+        second: Request,
     ) -> (Reply, Option<Receipt>)
-        requires { IsRequest request }
+        requires limits { IsRequest request }
+        requires held { Holds request }
+        requires first { first ≡ request }
+        requires second { second ≡ request }
         ensures recorded { MatchOption result.1
             ((result.0 ≡ wanted_memory (Event.Call session request)) × (share.new ≡ share.old) × Leaves M.stands self.old self.new)
             (λ r. (r.reply ≡ result.0) × Records share.old share.new (Event.Call session request) r × Adds M.stands M.trusts M.told M.has_called M.failures self.old self.new (Event.Call session request) r.reply r) }
         ensures limits { IsReply result.0 }
     {
         let Counted { room, book } = self;
-        let (reply, receipt) = room.call(session, request);
+        let (reply, receipt) = room.call_copied(session, request, first, second);
         if let Some(receipt) = &receipt {
             raise(book, share, receipt.place);
         }

@@ -6,11 +6,15 @@ ghost use Rattle.xa_room.specs.Book.{placed};
 ghost use Rattle.xa_room.specs.Share.{Records};
 
 use crate::book::Receipt;
+use crate::copies::{hold, two_copies};
 use crate::counted::Counted;
 use crate::manages::Manages;
+use crate::replies::no_memory;
 use crate::room::Room;
 use crate::share::Share;
 use crate::start::Start;
+use crate::taking::take;
+use std::alloc::Global;
 use std::sync::ledger::{Blank, Book, Ledger};
 use std::sync::{Mutex, Wait};
 use xa_assoc::ConnectFault;
@@ -21,6 +25,7 @@ use xa_frame::{Reply, Request};
 #[derive(Drop)]
 pub struct Desk<M: Manages, S: Start, L: Ledger> {
     lock: Mutex<Counted<M, S, L>>,
+    alloc: Global,
 }
 
 impl<M: Manages, S: Start, L: Ledger> Desk<M, S, L> {
@@ -31,9 +36,10 @@ impl<M: Manages, S: Start, L: Ledger> Desk<M, S, L> {
         requires some { 0 < blank.parts }
         ensures { (result.1.parts ≡ L.parts) × (result.1.count ≡ length room.entries) }
     {
+        let alloc = room.allocator();
         let (counted, share) = Counted::open(room, blank);
         let lock = Mutex::new(counted);
-        (Desk { lock }, share)
+        (Desk { lock, alloc }, share)
     }
 
     /// Answers a request of a session, by a share that is lent. Without a receipt memory was wanted.
@@ -50,7 +56,12 @@ impl<M: Manages, S: Start, L: Ledger> Desk<M, S, L> {
             (λ r. (r.reply ≡ result.0) × Records share.old share.new (Event.Call session request) r) }
         ensures limits { IsReply result.0 }
     {
-        self.lock.lock(rt).call(share, session, request)
+        hold(&request);
+        // made before the lock is taken, so that it is held no longer than the call takes
+        let Some((first, second)) = two_copies(self.alloc, &request) else {
+            return (no_memory(&request), None);
+        };
+        take(rt, &self.lock).call(share, session, request, first, second)
     }
 
     /// Connects a session, by a share that is lent. Without a receipt memory was wanted.
@@ -63,7 +74,7 @@ impl<M: Manages, S: Start, L: Ledger> Desk<M, S, L> {
             ((result.0 ≡ Err ConnectFault.Memory) × (share.new ≡ share.old))
             (λ r. (r.reply ≡ placed r.place (connect_reply result.0)) × Records share.old share.new Event.Connect r) }
     {
-        self.lock.lock(rt).connect(share)
+        take(rt, &self.lock).connect(share)
     }
 
     /// Hangs a session up, by a share that is lent. Without a receipt it wasn't connected.
@@ -72,7 +83,7 @@ impl<M: Manages, S: Start, L: Ledger> Desk<M, S, L> {
             (share.new ≡ share.old)
             (λ r. Records share.old share.new (Event.Hangup session) r) }
     {
-        self.lock.lock(rt).hangup(share, session)
+        take(rt, &self.lock).hangup(share, session)
     }
 
     /// As `call_by`, by a share that is handed over and given back.
@@ -129,7 +140,7 @@ impl<M: Manages, S: Start, L: Ledger> Desk<M, S, L> {
     pub fn merge<R: Wait>(&self, rt: &R, one: Share<L>, other: Share<L>) -> Share<L>
         ensures { (result.parts ≡ one.parts + other.parts) × (result.count ≡ one.count + other.count) }
     {
-        self.lock.lock(rt).merge(one, other)
+        take(rt, &self.lock).merge(one, other)
     }
 
     /// The room, and the ledger's book, whose total is the number of the room's entries.

@@ -17,6 +17,7 @@ mod room;
 mod share;
 mod spare;
 mod start;
+mod taking;
 
 pub use auditing::{AuditFault, audit};
 pub use book::{Entry, Receipt};

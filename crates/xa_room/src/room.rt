@@ -1,6 +1,6 @@
 ghost use Rattle.std.specs.Prelude.{◌≡◌, ℕ, ◌+◌, [], IfOk, Err, MatchOption, true, false};
 ghost use Rattle.xa_assoc.specs.Refusals.{is_memory};
-ghost use Rattle.xa_frame.specs.Limits.{IsRequest, IsReply};
+ghost use Rattle.xa_frame.specs.Limits.{Holds, IsRequest, IsReply};
 ghost use Rattle.xa_manager.specs.Answered.{connect_reply, wanted_memory};
 ghost use Rattle.xa_model.specs.State.{State};
 ghost use Rattle.xa_model.specs.Events.{HaveHappened};
@@ -80,13 +80,33 @@ impl<M: Manages, S: Start> Room<M, S> {
         ensures limits { IsReply result.0 }
     {
         hold(&request);
+        let Some((first, second)) = two_copies(self.alloc, &request) else {
+            return (no_memory(&request), None);
+        };
+        self.call_copied(session, request, first, second)
+    }
+
+    /// As `call`, by two copies of the request that were made before: the entry takes one, and the receipt the other.
+    pub(crate) fn call_copied(
+        &mut self,
+        session: u64,
+        request: Request,
+        first: Request,
+        second: Request,
+    ) -> (Reply, Option<Receipt>)
+        requires limits { IsRequest request }
+        requires held { Holds request }
+        requires first { first ≡ request }
+        requires second { second ≡ request }
+        ensures recorded { MatchOption result.1
+            ((result.0 ≡ wanted_memory (Event.Call session request)) × Leaves M.stands self.old self.new)
+            (λ r. (r.reply ≡ result.0) × Adds M.stands M.trusts M.told M.has_called M.failures self.old self.new (Event.Call session request) r.reply r) }
+        ensures limits { IsReply result.0 }
+    {
         let count = self.manager.connected() as usize + 1;
         if !make_room(&mut self.history, count) || !self.kept.fill() || !self.given.fill() {
             return (no_memory(&request), None);
         }
-        let Some((first, second)) = two_copies(self.alloc, &request) else {
-            return (no_memory(&request), None);
-        };
         let reply = self.manager.call(session, request);
         if is_memory(&reply) {
             return (reply, None);
@@ -102,6 +122,11 @@ impl<M: Manages, S: Start> Room<M, S> {
             given,
         );
         (placed(reply, receipt.place), Some(receipt))
+    }
+
+    /// The allocator that it takes its memory of.
+    pub(crate) fn allocator(&self) -> Global {
+        self.alloc
     }
 
     /// Connects a session, and makes room for its hang-up.

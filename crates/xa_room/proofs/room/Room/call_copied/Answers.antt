@@ -10,18 +10,18 @@ use Rattle.xa_room.specs.Kept.{Adds}
 use Rattle.xa_room.specs.Manages.{Acts}
 use Rattle.xa_room.specs.Told.{Told}
 use Rattle.xa_room.proofs.Longer.{kept_noted, adds_noted}
-use Rattle.xa_room.proofs.room.Room.call.Goals as goal
+use Rattle.xa_room.proofs.room.Room.call_copied.Goals as goal
 
 pub invariant_of-self-2 : goal.invariant_of-self-2
 invariant_of-self-2 g c =
     let m = g.M.Manages in
     let room = c.self.inside in
     let call = c.call-reply.ensures in
-    let first : c.in-Some.first ≡ c.args.request = c.in-Some.ensures.0 in
+    let first : c.args.first ≡ c.args.request = c.requires.first in
     let kept : c.copied-kept.result ≡ c.call-reply.result = c.copied-kept.ensures in
-    let asked : IsAsked c.args.request = record { limits = c.requires; held = c.hold.ensures } in
+    let asked : IsAsked c.args.request = record { limits = c.requires.limits; held = c.requires.held } in
     kept_noted m.stands m.trusts m.told m.has_called m.failures m.sessions g.S.Start.start g.S.Start.base room.manager c.call-reply.new.self
-    room.history.items _ _ _ _ (Call c.args.session c.in-Some.first) _ c.copied-kept.result
+    room.history.items _ _ _ _ (Call c.args.session c.args.first) _ c.copied-kept.result
     c.self.invariant
     (subst (λ (q : Request). Acts m.stands m.trusts m.told m.has_called m.failures room.manager (Call c.args.session q) c.copied-kept.result c.call-reply.new.self) (sym first)
     (subst (λ (r : Reply). Acts m.stands m.trusts m.told m.has_called m.failures room.manager (Call c.args.session c.args.request) r c.call-reply.new.self) (sym kept) call.acts))
@@ -35,7 +35,7 @@ returns-clause-recorded g c =
     let m = g.M.Manages in
     let room = c.self.inside in
     let call = c.call-reply.ensures in
-    let first : c.in-Some.first ≡ c.args.request = c.in-Some.ensures.0 in
+    let first : c.args.first ≡ c.args.request = c.requires.first in
     let kept : c.copied-kept.result ≡ c.call-reply.result = c.copied-kept.ensures in
     let is = c.note-receipt.ensures.receipt in
     let old : Told g.row.M.Denot = record { now = room.manager; entries = room.history.items } in
@@ -44,7 +44,7 @@ returns-clause-recorded g c =
       subst (λ (o : Told g.row.M.Denot). Adds m.stands m.trusts m.told m.has_called m.failures o new (Call c.args.session c.args.request) c.note-receipt.result.reply c.note-receipt.result) c.self.view_is
           (subst (λ (q : Request). Adds m.stands m.trusts m.told m.has_called m.failures old new (Call c.args.session q) c.note-receipt.result.reply c.note-receipt.result) first
           (adds_noted m.stands m.trusts m.told m.has_called m.failures old new
-          _ (Call c.args.session c.in-Some.first) _ c.copied-kept.result c.note-receipt.result
+          _ (Call c.args.session c.args.first) _ c.copied-kept.result c.note-receipt.result
           c.make_room.ensures.items c.note-receipt.ensures.entries is c.outcome.ensures
           (subst (λ (q : Request). Acts m.stands m.trusts m.told m.has_called m.failures room.manager (Call c.args.session q) c.copied-kept.result c.call-reply.new.self) (sym first)
           (subst (λ (r : Reply). Acts m.stands m.trusts m.told m.has_called m.failures room.manager (Call c.args.session c.args.request) r c.call-reply.new.self) (sym kept) call.acts))
