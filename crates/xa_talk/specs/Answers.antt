@@ -1,5 +1,5 @@
 -- What one line is answered, and what it leaves of the script's connections.
-use Rattle.std.specs.Prelude.{ℕ, ℤ, ◌≡◌, ◌+◌, pos, List, nat_lt, Option, Some, None, Result, Ok, Err, MatchBool, MatchOption, MatchResult}
+use Rattle.std.specs.Prelude.{ℕ, ℤ, ◌≡◌, ◌⊎◌, ◌+◌, pos, List, nat_lt, Option, Some, None, Result, Ok, Err, MatchBool, MatchOption, MatchResult}
 use Rattle.xa_codes.specs.declared.codes.TheConstants.{XAER_INVAL, XAER_PROTO, XAER_RMERR}
 use Rattle.xa_codes.specs.declared.detail.Detail.{Detail}
 use Rattle.xa_codes.specs.declared.detail.Detail.TheVariants as detail
@@ -9,6 +9,7 @@ use Rattle.xa_frame.specs.declared.request.Request.{Request}
 use Rattle.xa_script.specs.declared.line.Line.{Line}
 use Rattle.xa_script.specs.declared.line.Line.TheVariants.{Silent, Unknown, Connect, Hangup, Call, Fail, Reopen, Crash}
 use Rattle.xa_talk.specs.declared.fault.TalkFault.{TalkFault}
+use Rattle.xa_talk.specs.declared.fault.TalkFault.TheVariants as faults
 use Rattle.xa_talk.specs.Exchanges.{Exchanged}
 use Rattle.xa_talk.specs.Numbers.{connection_at, free_place, place_of, with_at, with_new}
 
@@ -43,13 +44,13 @@ module _ {C : Type 0} (sent left : C → Option (List ℕ)) where
       ((answer ≡ Ok (bare XAER_PROTO detail.Nothing)) × (places' ≡ places))
       (λ c. (c' : C) × (places' ≡ with_at (place_of n) (Some c') places) × Exchanged request answer (sent c) (sent c') (left c) (left c'))
 
-  -- a connection more, which has the least free number
+  -- a connection more, which has the least free number; or none could be opened
   abbrev pub ConnectAnswered : Result Reply TalkFault → List (Option C) → List (Option C) → Type 0
   ConnectAnswered answer places places' =
       MatchBool (nat_lt (free_place places) most_connections)
       (MatchResult answer
       (λ reply. (c : C) × (reply ≡ numbered (free_place places + 1)) × (places' ≡ with_new c places))
-      (λ fault. Unit {0}))
+      (λ fault. (fault ≡ faults.Connect) ⊎ (fault ≡ faults.Memory)))
       ((answer ≡ Ok (bare XAER_RMERR detail.Limit)) × (places' ≡ places))
 
   -- What a line is answered, if it is answered anything. Where it fails that is a fault of the connection or of memory.

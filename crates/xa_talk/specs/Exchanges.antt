@@ -1,11 +1,13 @@
 -- A request over a connection, and its reply.
-use Rattle.std.specs.Prelude.{ℕ, ◌≡◌, ◌++◌, List, Option, Result, Ok, Err}
+use Rattle.std.specs.Int.{to_be_bytes, w32}
+use Rattle.std.specs.Prelude.{ℕ, ◌≡◌, ◌<◌, ◌⊎◌, ◌++◌, List, Option, Result, Ok, Err}
 use Rattle.std.specs.Io.KnownBytes.{Appends, Consumes}
 use Rattle.xa_desk.specs.Frames.{frame}
 use Rattle.xa_frame.specs.declared.reply.Reply.{Reply}
 use Rattle.xa_frame.specs.declared.request.Request.{Request}
 use Rattle.xa_frame.specs.Spelling.{SpellsReply, bytes_of_request}
 use Rattle.xa_talk.specs.declared.fault.TalkFault.{TalkFault}
+use Rattle.xa_talk.specs.declared.fault.TalkFault.TheVariants.{Lost, Memory, NoReply}
 
 abbrev pub request_frame : Request → List ℕ
 request_frame request = frame (bytes_of_request request)
@@ -14,19 +16,38 @@ request_frame request = frame (bytes_of_request request)
 abbrev pub IsFront : List ℕ → List ℕ → Type 0
 IsFront front text = (rest : List ℕ) × (text ≡ front ++ rest)
 
+-- some first bytes of a request's frame are sent, or all
+abbrev pub SendsPart : Request → Option (List ℕ) → Option (List ℕ) → Type 0
+SendsPart request output output' = (sent : List ℕ) × IsFront sent (request_frame request) × Appends output output' sent
+
+-- the connection ended or failed, or memory ran out
+abbrev pub IsBroken : TalkFault → Type 0
+IsBroken Lost = Unit {0}
+IsBroken Memory = Unit {0}
+IsBroken _ = ⊥
+
 -- all of a request's frame is sent, or some first bytes
 abbrev pub Sends : {X : Type 0} → Request → Result X TalkFault → Option (List ℕ) → Option (List ℕ) → Type 0
 Sends request (Ok x) output output' = Appends output output' (request_frame request)
-Sends request (Err fault) output output' = (sent : List ℕ) × IsFront sent (request_frame request) × Appends output output' sent
+Sends request (Err fault) output output' = IsBroken fault × SendsPart request output output'
 
--- the frame of this reply is read
-abbrev pub Receives : {E : Type 0} → Result Reply E → Option (List ℕ) → Option (List ℕ) → Type 0
+-- a length that no frame has, or a frame that spells no reply
+abbrev pub IsNoReply : List ℕ → Type 0
+IsNoReply read =
+    ((n : ℕ) × (65_535 < n) × (read ≡ to_be_bytes w32 n))
+    ⊎ ((content : List ℕ) × (read ≡ frame content) × ((reply : Reply) → SpellsReply content reply → ⊥))
+
+-- the frame of this reply is read, or what is no reply
+abbrev pub Receives : Result Reply TalkFault → Option (List ℕ) → Option (List ℕ) → Type 0
 Receives (Ok reply) input input' = (content : List ℕ) × SpellsReply content reply × Consumes input input' (frame content)
-Receives (Err fault) input input' = Unit {0}
+Receives (Err NoReply) input input' = (read : List ℕ) × IsNoReply read × Consumes input input' read
+Receives (Err fault) input input' = IsBroken fault
 
--- The request's frame is sent, and then the frame of this reply is read. Where it failed, some first bytes were sent, or all.
+-- The request's frame is sent, and then the frame of this reply is read, or what is no reply. Where the connection broke or
+-- memory ran out, some first bytes were sent, or all.
 abbrev pub Exchanged : Request → Result Reply TalkFault → Option (List ℕ) → Option (List ℕ) → Option (List ℕ) → Option (List ℕ) → Type 0
 Exchanged request (Ok reply) output output' input input' =
-    Appends output output' (request_frame request) × Receives {E = TalkFault} (Ok reply) input input'
-Exchanged request (Err fault) output output' input input' =
-    (sent : List ℕ) × IsFront sent (request_frame request) × Appends output output' sent
+    Appends output output' (request_frame request) × Receives (Ok reply) input input'
+Exchanged request (Err NoReply) output output' input input' =
+    Appends output output' (request_frame request) × Receives (Err NoReply) input input'
+Exchanged request (Err fault) output output' input input' = IsBroken fault × SendsPart request output output'

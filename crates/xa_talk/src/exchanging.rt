@@ -1,7 +1,7 @@
 //! A request goes over a connection, and its reply comes back.
 ghost use Rattle.std.specs.Int.{to_be_bytes, w32};
 ghost use Rattle.std.specs.Io.KnownBytes.{Consumes};
-ghost use Rattle.std.specs.Prelude.{◌≡◌, ◌∷◌, [], IfOk};
+ghost use Rattle.std.specs.Prelude.{◌≡◌, ◌∷◌, [], Err, IfOk, MatchResult};
 ghost use Rattle.xa_desk.specs.Frames.{frame};
 ghost use Rattle.xa_frame.specs.Limits.{IsRequest};
 ghost use Rattle.xa_talk.specs.Exchanges.{Exchanged, Receives, Sends, request_frame};
@@ -68,7 +68,9 @@ fn receive<R: Read>(alloc: Global, reader: &mut R) -> Result<Reply, TalkFault>
 
 /// Reads the content of a frame.
 fn read_content<R: Read>(alloc: Global, reader: &mut R) -> Result<Vec<u8>, TalkFault>
-    ensures { IfOk result (λ content. Consumes (R.remaining reader.old) (R.remaining reader.new) (frame content.items)) }
+    ensures { MatchResult result
+        (λ content. Consumes (R.remaining reader.old) (R.remaining reader.new) (frame content.items))
+        (λ fault. Receives (Err fault) (R.remaining reader.old) (R.remaining reader.new)) }
 {
     let mut front = [0u8; 4];
     if reader.read_exact(&mut front).is_err() {

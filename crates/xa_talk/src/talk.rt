@@ -1,8 +1,10 @@
 //! A script is read line by line, and each reply is written as soon as it is there.
+ghost use Rattle.std.specs.Io.BufRead.{strip_last};
 ghost use Rattle.std.specs.Io.KnownBytes.{Appends};
 ghost use Rattle.std.specs.IoError.{error_kind};
 ghost use Rattle.std.specs.Prelude.{◌≡◌, ◌≢◌, List, ℕ};
-ghost use Rattle.xa_talk.specs.Talks.{LineTalked, Shows};
+ghost use Rattle.xa_talk.specs.declared.dial.Connection.{Connection};
+ghost use Rattle.xa_talk.specs.Talks.{LineTalked, NextRead, Shows, Talks};
 
 use crate::answer::answer;
 use crate::connections::Connections;
@@ -15,20 +17,23 @@ use xa_output::write_text;
 use xa_script::{read_line, reply_line};
 
 /// Reads a script line by line. Each line is answered, and its reply written and flushed, before the next one is read.
+///
+/// It ends with the input, or with the first fault: a line that couldn't be read, or beyond which none can be counted (`Read`); no
+/// memory; no connection where the line asks for one (`Connect`); one that broke (`Lost`), or brought what is no reply (`NoReply`),
+/// where the line's request goes over it; a reply that couldn't be written (`Write`).
 pub fn talk_run<I: BufRead + Drop, O: Write, R: Read + Drop, W: Write + Drop, D: Dial<R, W>>(
     alloc: Global,
     input: &mut I,
     output: &mut O,
     dial: &mut D,
-) -> Result<(), TalkFault> {
+) -> Result<(), TalkFault>
+    ensures { Talks {C = Connection R W} (λ c. W.contents c.writer) (λ c. R.remaining c.reader) result (I.remaining input.old) (I.remaining input.new) (O.contents output.old) (O.contents output.new) }
+{
     let mut connections = Connections::new(alloc);
     let mut line = Vec::new(alloc);
     for _ in 0..u64::MAX {
-        line.clear();
-        match input.read_until(b'\n', &mut line) {
-            Ok(0) => return Ok(()),
-            Ok(_) => {}
-            Err(error) => return Err(read_fault(&error)),
+        if !read_next(input, &mut line)? {
+            return Ok(());
         }
         talk_line(
             alloc,
@@ -38,7 +43,19 @@ pub fn talk_run<I: BufRead + Drop, O: Write, R: Read + Drop, W: Write + Drop, D:
             without_end(line.as_slice()),
         )?;
     }
-    Ok(())
+    Err(TalkFault::Read)
+}
+
+/// Reads the next line with the line feed that ends it, and says whether there is one.
+fn read_next<I: BufRead>(input: &mut I, line: &mut Vec<u8>) -> Result<bool, TalkFault>
+    ensures { NextRead result (I.remaining input.old) line.new.items (I.remaining input.new) }
+{
+    line.clear();
+    match input.read_until(b'\n', line) {
+        Ok(0) => Ok(false),
+        Ok(_) => Ok(true),
+        Err(error) => Err(read_fault(&error)),
+    }
 }
 
 /// Answers one line: its reply is written and flushed.
@@ -74,8 +91,15 @@ fn write_reply<O: Write>(alloc: Global, output: &mut O, reply: &Reply) -> Result
 }
 
 /// A line without the line feed that ends it.
-fn without_end(line: &[u8]) -> &[u8] {
-    line.strip_suffix(b"\n".as_slice()).unwrap_or(line)
+fn without_end(line: &[u8]) -> &[u8]
+    ensures { result.now ≡ strip_last 10 line.now }
+{
+    let length = line.len();
+    if length > 0 && line[length - 1] == b'\n' {
+        &line[..length - 1]
+    } else {
+        line
+    }
 }
 
 /// What a reading that failed comes to, by the kind of its error.
