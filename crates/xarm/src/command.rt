@@ -2,6 +2,8 @@ ghost use Rattle.std.specs.IoError.{error_kind};
 ghost use Rattle.std.specs.Prelude.{◌≡◌, ◌≢◌, ◌⊎◌, IfOk, IsErrOf, OnErr, OnOk, false, true};
 ghost use Rattle.std.specs.Process.{exit_status};
 ghost use Rattle.xa_manager.specs.Opening.{IsBadSetting};
+ghost use Rattle.xa_talk.specs.declared.dial.Connection.{Connection};
+ghost use Rattle.xarm.specs.Done.{HasPlayed, HasScanned, HasTalked};
 
 use crate::disks::Opens;
 use crate::serving::{ServeFault, Service};
@@ -11,7 +13,7 @@ use clap::Error;
 use std::alloc::{AllocError, Global};
 use std::env;
 use std::fmt::Display;
-use std::io::{self, BufWriter, ErrorKind};
+use std::io::{self, BufWriter, ErrorKind, Read, Write};
 use std::net::{Net, TcpStream};
 use std::process::ExitCode;
 use std::rt::Env;
@@ -57,6 +59,7 @@ pub fn words<R: AllocGlobal + Env>(rt: &R) -> io::Result<Vec<String>> {
 fn play<R: AllocGlobal + Input + Print>(rt: &R, name: &str, log_bytes: u64) -> Result<(), PlayFault>
     ensures setting { IsErrOf result PlayFault.Setting → IsBadSetting name.now log_bytes }
     ensures bad { IsBadSetting name.now log_bytes → IsErrOf result PlayFault.Setting ⊎ IsErrOf result PlayFault.Memory }
+    ensures played { IsErrOf result PlayFault.Memory ⊎ HasPlayed R.Reader.remaining name.now log_bytes result }
 {
     let settings = settings_of(rt.alloc(), name, log_bytes)?;
     let Ok(mut writer) = BufWriter::new(rt.alloc(), io::writer(rt)) else {
@@ -67,7 +70,10 @@ fn play<R: AllocGlobal + Input + Print>(rt: &R, name: &str, log_bytes: u64) -> R
 }
 
 /// Prints the records of a log. A file that can't be opened is a device's fault.
-fn scan<R: AllocGlobal + Print + Opens>(rt: &R, path: &str) -> Result<(), ScanFault> {
+fn scan<R: AllocGlobal + Print + Opens>(rt: &R, path: &str) -> Result<(), ScanFault>
+    ensures { IsErrOf result (ScanFault.Log OpenFault.Device) ⊎ IsErrOf result ScanFault.Memory
+        ⊎ HasScanned R.Disk.honest R.Disk.seen result }
+{
     let Ok(mut disk) = rt.open_disk(path) else {
         return Err(ScanFault::Log(OpenFault::Device));
     };
@@ -81,7 +87,9 @@ fn scan<R: AllocGlobal + Print + Opens>(rt: &R, path: &str) -> Result<(), ScanFa
 fn talk<R: AllocGlobal + Input + Print + Net<Stream = TcpStream>>(
     rt: &R,
     port: u16,
-) -> Result<(), TalkFault> {
+) -> Result<(), TalkFault>
+    ensures { HasTalked {C = Connection TcpStream TcpStream} R.Reader.remaining (λ c. ⟦<TcpStream as Write>⟧.contents c.writer) (λ c. ⟦<TcpStream as Read>⟧.remaining c.reader) result }
+{
     let mut reader = rt.reader();
     let mut writer = io::writer(rt);
     talk_run(

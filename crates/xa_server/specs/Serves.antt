@@ -1,0 +1,28 @@
+-- What a server tells, and what holds of the history that it tells of.
+use Rattle.std.specs.Prelude.{ℕ, ◌≡◌, Bool, List, length, Result, is_ok}
+use Rattle.xa_model.specs.State.{State}
+use Rattle.xa_room.specs.declared.auditing.AuditFault.{AuditFault}
+use Rattle.xa_room.specs.declared.book.Entry.{Entry}
+use Rattle.xa_room.specs.declared.book.Receipt.{Receipt}
+use Rattle.xa_room.specs.Audit.{Audits}
+use Rattle.xa_room.specs.Kept.{IsLegal, IsCounted}
+use Rattle.xa_room.specs.Promises.{Promises}
+
+-- how many entries there are, and whether the audit of these receipts and this count found no fault
+pub record Tells (entries : List Entry) (receipts : List Receipt) (counted calls : ℕ) (is_whole : Bool) : Type 0 where
+  pub calls_are : calls ≡ length entries
+  pub answer : Result (Unit {0}) AuditFault
+  pub audits : Audits entries receipts counted answer
+  pub found : is_whole ≡ is_ok answer
+
+-- From each starting state the history is a legal one, with what that promises, and tells of no more failures than were counted.
+-- It has so many entries, and the audit of the receipts that were given out found that.
+pub record Serves {M : Type 0} (stands : M → State → Type 0) (trusts : Type 0) (failures : M → ℕ × ℕ) (start : State → Type 0) (base : ℕ × ℕ) (calls : ℕ) (is_whole : Bool) : Type 0 where
+  pub now : M
+  pub entries : List Entry
+  pub receipts : List Receipt
+  pub counted_by : ℕ
+  pub legal : IsLegal stands trusts start now entries
+  pub promises : Promises stands trusts start now entries
+  pub counted : IsCounted trusts start base (failures now) entries
+  pub tells : Tells entries receipts counted_by calls is_whole

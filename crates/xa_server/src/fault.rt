@@ -1,0 +1,35 @@
+use std::alloc::AllocError;
+use xa_workers::WorkFault;
+
+/// Why nothing is told of what was served.
+#[derive(Clone, Copy, Debug, PartialEq, Eq)]
+pub enum ServerFault {
+    /// There was no memory for the room, the workers or the audit.
+    Memory,
+    /// The number of workers isn't one from 1 to 64. Nobody was served.
+    Workers,
+}
+
+impl From<AllocError> for ServerFault {
+    ghost use Rattle.std.specs.Prelude.{◌≡◌};
+    ghost use Rattle.xa_server.specs.declared.fault.ServerFault.TheVariants.{Memory};
+
+    ghost from_gives = { λ _ fault. fault ≡ Memory };
+
+    fn from(_: AllocError) -> ServerFault {
+        ServerFault::Memory
+    }
+}
+
+impl From<WorkFault> for ServerFault {
+    ghost use Rattle.std.specs.Prelude.{◌≡◌};
+    ghost use Rattle.xa_server.specs.declared.fault.ServerFault.TheVariants.{Memory};
+
+    ghost from_gives = { λ _ fault. fault ≡ Memory };
+
+    fn from(fault: WorkFault) -> ServerFault {
+        match fault {
+            WorkFault::Memory => ServerFault::Memory,
+        }
+    }
+}

@@ -1,0 +1,116 @@
+ghost use Rattle.std.specs.Prelude.{◌≡◌, ◌↔◌, ◌<◌, ◌⊎◌, IfErr, IfOk, IsErrOf, false};
+ghost use Rattle.xa_model.specs.State.{State};
+ghost use Rattle.xa_server.specs.Serves.{Serves, Tells};
+
+use crate::audited::Audited;
+use crate::fault::ServerFault;
+use std::alloc::Global;
+use std::marker::Brand;
+use std::net::TcpListener;
+use std::sync::Wait;
+use std::sync::ledger::{Blank, Ledger};
+use std::thread::Threads;
+use xa_room::{AuditFault, Desk, Manages, Room, Start, audit};
+use xa_workers::{OpenGate, Report, run_workers};
+
+/// The most workers, and the parts of the ledger of which each takes some.
+const MOST_WORKERS: u64 = 64;
+
+/// Serves the sessions of a manager: by so many workers, 1 to 64, until so many connections were taken. A worker serves one
+/// connection at a time. Then it tells how many entries the history has, and what its audit found.
+///
+/// From whichever state the manager stood for, the history is a legal one of so many entries; its committed branches are one
+/// copy; and what was answered as prepared is listed until its completion is asked for.
+pub fn serve_manager<M: Manages + Send + Drop, R: AllocGlobal + Threads + Wait + Sync>(
+    rt: &R,
+    listener: &TcpListener,
+    manager: M,
+    workers: u64,
+    connections: u64,
+) -> Result<Audited, ServerFault>
+    ensures served { IfOk result (λ told. Serves M.stands M.trusts M.failures (M.stands manager) (M.failures manager) told.calls told.is_whole) }
+    ensures workers { IsErrOf result ServerFault.Workers ↔ ((workers ≡ 0) ⊎ (64 < workers)) }
+{
+    let blank = Blank::new(MOST_WORKERS);
+    serve_by::<M, Brand, Brand, R>(rt, listener, manager, blank, workers, connections)
+}
+
+// The same from the states that `S` picks, with the ledger that `L` picks.
+fn serve_by<
+    M: Manages + Send + Drop,
+    S: Start + Send + Sync,
+    L: Ledger + Send + Sync,
+    R: AllocGlobal + Threads + Wait + Sync,
+>(
+    rt: &R,
+    listener: &TcpListener,
+    manager: M,
+    blank: Blank,
+    workers: u64,
+    connections: u64,
+) -> Result<Audited, ServerFault>
+    requires start { (s : State) → S.start s → M.stands manager s }
+    requires base { M.failures manager ≡ S.base }
+    requires name { blank.name ≡ L.name }
+    requires parts { (blank.parts ≡ L.parts) × (blank.parts ≡ 64) }
+    ensures served { IfOk result (λ told. Serves M.stands M.trusts M.failures S.start S.base told.calls told.is_whole) }
+    ensures workers { IsErrOf result ServerFault.Workers ↔ ((workers ≡ 0) ⊎ (64 < workers)) }
+{
+    if workers == 0 || workers > MOST_WORKERS {
+        return Err(ServerFault::Workers);
+    }
+    let room: Room<M, S> = Room::new(rt.alloc(), manager)?;
+    let (desk, share) = Desk::<M, S, L>::new(room, blank);
+    let report = run_workers(
+        rt,
+        rt.alloc(),
+        listener,
+        &desk,
+        &OpenGate,
+        share,
+        workers,
+        connections,
+    )?;
+    let (room, _book) = desk.into_room();
+    audited(rt.alloc(), &room, report)
+}
+
+// What is told of the room's history, by the workers' receipts.
+fn audited<M: Manages, S: Start, L: Ledger>(
+    alloc: Global,
+    room: &Room<M, S>,
+    report: Report<L>,
+) -> Result<Audited, ServerFault>
+    ensures served { IfOk result (λ told. Serves M.stands M.trusts M.failures S.start S.base told.calls told.is_whole) }
+    ensures told { IfOk result (λ told. Tells room.now.entries report.receipts.items report.share.count told.calls told.is_whole) }
+    ensures fault { IfErr result (λ fault. fault ≡ ServerFault.Memory) }
+{
+    room.promises();
+    let entries = room.entries();
+    let Report {
+        share,
+        receipts,
+        dropped: _,
+    } = report;
+    let mut shares = Vec::new(alloc);
+    if shares.push(share).is_err() {
+        return Err(ServerFault::Memory);
+    }
+    let answer = audit(alloc, room, receipts.as_slice(), shares.as_slice());
+    if is_memory(&answer) {
+        return Err(ServerFault::Memory);
+    }
+    Ok(Audited {
+        calls: entries.len() as u64,
+        is_whole: answer.is_ok(),
+    })
+}
+
+fn is_memory(answer: &Result<(), AuditFault>) -> bool
+    ensures { result ≡ false → IsErrOf answer.now AuditFault.Memory → ⊥ }
+{
+    match answer {
+        Err(AuditFault::Memory) => true,
+        _ => false,
+    }
+}
