@@ -3,6 +3,10 @@
 #![tactic(auto)]
 
 #[cfg(test)]
+mod broken;
+#[cfg(test)]
+mod broken_clients;
+#[cfg(test)]
 mod calls;
 #[cfg(test)]
 mod chains;
@@ -20,6 +24,8 @@ mod crews;
 mod current_files;
 #[cfg(test)]
 mod disks;
+#[cfg(test)]
+mod doors;
 #[cfg(test)]
 mod examples;
 #[cfg(test)]
@@ -45,6 +51,8 @@ mod logs;
 #[cfg(test)]
 mod managers;
 #[cfg(test)]
+mod meetings;
+#[cfg(test)]
 mod one_copy;
 #[cfg(test)]
 mod one_copy_branches;
@@ -67,6 +75,14 @@ mod records;
 #[cfg(test)]
 mod recoveries;
 #[cfg(test)]
+mod refused;
+#[cfg(test)]
+mod refused_frames;
+#[cfg(test)]
+mod refused_limits;
+#[cfg(test)]
+mod refused_rows;
+#[cfg(test)]
 mod rooms;
 #[cfg(test)]
 mod rows;
@@ -75,6 +91,8 @@ mod scans;
 #[cfg(test)]
 mod scripted;
 #[cfg(test)]
+mod servers;
+#[cfg(test)]
 mod sessions;
 #[cfg(test)]
 mod tables;
@@ -82,5 +100,7 @@ mod tables;
 mod talks;
 #[cfg(test)]
 mod versions;
+#[cfg(test)]
+mod versions_kept;
 #[cfg(test)]
 mod xids;

@@ -93,6 +93,24 @@ fn lasting_counts(rt: HostRuntime) -> Result<(), Fail> {
     Ok(())
 }
 
+// The low water is the least timestamp of a branch at work or in doubt, or else the last that was given.
+#[test]
+fn low_water(rt: HostRuntime) -> Result<(), Fail> {
+    let first = Xid::new(1, &[0xaa], &[0xbb]).ok().ok_or("an XID")?;
+    let second = Xid::new(1, &[0xaa], &[0xbc]).ok().ok_or("an XID")?;
+    let mut branches = Branches::new(rt.alloc(), 1, 1);
+    assert_eq!(rt; branches.low_water(), 4294967296);
+    assert_eq!(rt; branches.begin(&first), Ok(4294967297));
+    assert_eq!(rt; branches.begin(&second), Ok(4294967298));
+    branches.make_room(&first)?;
+    branches.prepare(&first);
+    branches.finish(&second);
+    assert_eq!(rt; branches.low_water(), 4294967297);
+    branches.decide(&first, Direction::Commit);
+    assert_eq!(rt; branches.low_water(), 4294967298);
+    Ok(())
+}
+
 // Room is made to prepare a branch, and given back: it stays at work.
 #[test]
 fn room_given_back(rt: HostRuntime) -> Result<(), Fail> {
@@ -155,6 +173,20 @@ fn restored_branches(rt: HostRuntime) -> Result<(), Fail> {
     assert_eq!(rt; branches.completed(), 1);
     assert_eq!(rt; branches.begin(&second), Err(BeginFault::Duplicate));
     assert_eq!(rt; branches.begin(&third), Ok(8589934593));
+    Ok(())
+}
+
+// A branch in doubt of an earlier boot holds the low water until it is completed.
+#[test]
+fn low_water_in_doubt(rt: HostRuntime) -> Result<(), Fail> {
+    let first = Xid::new(1, &[0xaa], &[0xbb]).ok().ok_or("an XID")?;
+    let second = Xid::new(1, &[0xaa], &[0xbc]).ok().ok_or("an XID")?;
+    let third = Xid::new(1, &[0xaa], &[]).ok().ok_or("an XID")?;
+    let mut branches = restored(rt.alloc(), &first, &second).ok_or("branches")?;
+    assert_eq!(rt; branches.begin(&third), Ok(8589934593));
+    assert_eq!(rt; branches.low_water(), 4294967297);
+    branches.finish(&second);
+    assert_eq!(rt; branches.low_water(), 8589934593);
     Ok(())
 }
 

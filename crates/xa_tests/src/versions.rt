@@ -295,3 +295,67 @@ fn limit(rt: HostRuntime) {
     assert!(rt; put(&mut records, FIRST, b"k", None) == Told::Done);
     assert!(rt; put(&mut records, SECOND, b"kk", None) == Told::Done);
 }
+
+fn leaves_no_version(records: &mut Records) -> bool {
+    let before = records.versions();
+    put(records, FIRST, b"kk", None) == Told::Limit && records.versions() == before
+}
+
+// A key of which a put was refused isn't kept.
+#[test]
+fn refused_keys(rt: HostRuntime) {
+    let mut records = Records::new(rt.alloc());
+    none_wrong(&rt, refused_key(&mut records));
+    assert!(rt; leaves_no_version(&mut records));
+}
+
+fn write_and_commit(records: &mut Records, alloc: Global, ts: u64) -> Told {
+    match value_of(alloc, Some(0x76)) {
+        Ok(value) => {
+            let told = put(records, ts, b"k", value);
+            records.settle(ts, Fate::Committed);
+            told
+        }
+        Err(_) => Told::Memory,
+    }
+}
+
+// How many versions are left where one branch after another writes the key and commits.
+fn written_in_turn(alloc: Global, drains: bool) -> Option<u64> {
+    let mut records = Records::new(alloc);
+    for count in 0..300u32 {
+        let ts = FIRST + u64::from(count);
+        if write_and_commit(&mut records, alloc, ts) != Told::Done {
+            return None;
+        }
+        if drains {
+            records.low_water(ts);
+        }
+    }
+    Some(records.versions())
+}
+
+#[test]
+fn written_over(rt: HostRuntime) {
+    assert!(rt; written_in_turn(rt.alloc(), true) == Some(1));
+    assert!(rt; written_in_turn(rt.alloc(), false) == Some(301));
+}
+
+// How many versions are left where one branch after another reads a key of its own that nobody wrote.
+fn read_in_turn(alloc: Global) -> Option<u64> {
+    let mut records = Records::new(alloc);
+    for count in 0..10_000u32 {
+        let ts = FIRST + u64::from(count);
+        if got(&mut records, ts, &count.to_be_bytes()) != Told::Absent {
+            return None;
+        }
+        records.settle(ts, Fate::RolledBack);
+        records.low_water(ts + 1);
+    }
+    Some(records.versions())
+}
+
+#[test]
+fn read_only(rt: HostRuntime) {
+    assert!(rt; read_in_turn(rt.alloc()) == Some(0));
+}

@@ -1,9 +1,0 @@
-use Rattle.xa_manager.specs.Counted.{counted_by}
-use Rattle.xa_tests.proofs.crews.a_first_connection_is_answered.Given as goal
-
--- nothing is asked of the room's history here
-abbrev pub ghosts-first_replies-S-Start : goal.ghosts-first_replies-S-Start
-ghosts-first_replies-S-Start g a = record { start = λ s. ⊥; base = counted_by (λ d. d.failures) a.manager.log }
-
-abbrev pub ghosts-first_replies-L-Ledger : goal.ghosts-first_replies-L-Ledger
-ghosts-first_replies-L-Ledger g a = record { name = a.blank.name; parts = a.blank.parts }

@@ -1,9 +1,0 @@
-use Rattle.xa_manager.specs.Counted.{counted_by}
-use Rattle.xa_tests.proofs.crews.two_sessions_meet.Given as goal
-
--- nothing is asked of the room's history here
-abbrev pub ghosts-met-S-Start : goal.ghosts-met-S-Start
-ghosts-met-S-Start g a = record { start = λ s. ⊥; base = counted_by (λ d. d.failures) a.manager.log }
-
-abbrev pub ghosts-met-L-Ledger : goal.ghosts-met-L-Ledger
-ghosts-met-L-Ledger g a = record { name = a.blank.name; parts = a.blank.parts }
