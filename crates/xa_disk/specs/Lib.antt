@@ -1,4 +1,5 @@
 pub mod Disk
+pub mod Time
 pub mod Plans
 pub mod Counts
 pub mod Replay

@@ -1,12 +1,12 @@
 -- What a disk in memory shows, and how its planned faults come.
-use Rattle.std.specs.Prelude.{◌≡◌, ◌⊎◌, ◌+◌, ◌≤◌, ℕ, List, [], ◌∷◌, ◌++◌, Vec, Option, Some, None, Result, MatchResult}
+use Rattle.std.specs.Prelude.{◌≡◌, ◌⊎◌, ◌+◌, ◌≤◌, ℕ, List, [], ◌∷◌, ◌++◌, length, Vec, Option, Some, None, Result, MatchResult}
 use Rattle.std.specs.declared.alloc.Global.{Global}
 use Rattle.xa_disk.specs.declared.call.Call.TheVariants.{Write, Sync}
 use Rattle.xa_disk.specs.declared.disk.DiskFault.{DiskFault}
 use Rattle.xa_disk.specs.declared.memory.MemDisk.{MemDisk}
 use Rattle.xa_disk.specs.declared.plan.Effect.{Effect}
 use Rattle.xa_disk.specs.declared.plan.Effect.TheVariants.{Kept, Lost}
-use Rattle.xa_disk.specs.Disk.{put, Only}
+use Rattle.xa_disk.specs.Disk.{put, Only, Passes}
 use Rattle.xa_disk.specs.Plans.{due}
 use Rattle.xa_disk.specs.Counts.{no_calls}
 use Rattle.xa_disk.specs.Replay.{first_of, replay, IsImage, LeftSince}
@@ -46,6 +46,11 @@ pub record Synced (old new : MemDisk) : Type 0 where
   pub first : start_of new ≡ start_of old
   pub noted : new.calls.items ≡ old.calls.items ++ Sync ∷ []
   pub bytes : new.bytes.items ≡ old.bytes.items
+
+-- time goes on by a step
+abbrev pub PassesTime : (List ℕ → List ℕ → Type 0) → MemDisk → MemDisk → Type 0
+PassesTime step old new =
+    Passes step (length old.calls.items) (length new.calls.items) (since old) (since new) (image_of old) (image_of new)
 
 -- no fault is counted and no call
 pub record SameCounts (old new : MemDisk) : Type 0 where

@@ -45,7 +45,8 @@ pub trait Disk {
     fn length(&mut self) -> Result<u64, DiskFault>
         ensures value { honest → IfOk result (λ n. n ≡ length (seen self.old)) }
         ensures same { honest → seen self.new ≡ seen self.old }
-        ensures time { honest → Passes Same (moment self.old) (moment self.new) (left_since self.old) (left_since self.new) (may_leave self.old) (may_leave self.new) }
+        ensures time { honest → Passes Same (moment self.old) (moment self.new)
+            (left_since self.old) (left_since self.new) (may_leave self.old) (may_leave self.new) }
         ensures calls { counts self.new ≡ with_length (counts self.old) }
         ensures count { CountsFault result (failures self.old) (failures self.new) };
 
@@ -53,7 +54,8 @@ pub trait Disk {
     fn read_at(&mut self, at: u64, into: &mut [u8]) -> Result<(), DiskFault>
         ensures value { honest → OnOk result (Reads (seen self.old) at into.new) }
         ensures same { honest → seen self.new ≡ seen self.old }
-        ensures time { honest → Passes Same (moment self.old) (moment self.new) (left_since self.old) (left_since self.new) (may_leave self.old) (may_leave self.new) }
+        ensures time { honest → Passes Same (moment self.old) (moment self.new)
+            (left_since self.old) (left_since self.new) (may_leave self.old) (may_leave self.new) }
         ensures calls { counts self.new ≡ with_read (length into.old) (counts self.old) }
         ensures count { CountsFault result (failures self.old) (failures self.new) };
 
@@ -62,7 +64,8 @@ pub trait Disk {
     fn write_at(&mut self, at: u64, from: &[u8]) -> Result<(), DiskFault>
         ensures written { honest → OnOk result (seen self.new ≡ put (seen self.old) at from.now) }
         ensures failed { honest → OnErr result (tears (seen self.old) at from.now (seen self.new)) }
-        ensures time { honest → Passes (Torn at (length from.now)) (moment self.old) (moment self.new) (left_since self.old) (left_since self.new) (may_leave self.old) (may_leave self.new) }
+        ensures time { honest → Passes (Torn at (length from.now)) (moment self.old) (moment self.new)
+            (left_since self.old) (left_since self.new) (may_leave self.old) (may_leave self.new) }
         ensures calls { counts self.new ≡ with_write (counts self.old) }
         ensures count { CountsFault result (failures self.old) (failures self.new) };
 
@@ -70,7 +73,8 @@ pub trait Disk {
     fn sync(&mut self) -> Result<(), DiskFault>
         ensures durable { honest → OnOk result (Only (seen self.old) (may_leave self.new)) }
         ensures same { honest → seen self.new ≡ seen self.old }
-        ensures time { honest → Passes Same (moment self.old) (moment self.new) (left_since self.old) (left_since self.new) (may_leave self.old) (may_leave self.new) }
+        ensures time { honest → Passes Same (moment self.old) (moment self.new)
+            (left_since self.old) (left_since self.new) (may_leave self.old) (may_leave self.new) }
         ensures calls { counts self.new ≡ with_sync (counts self.old) }
         ensures count { CountsFault result (failures self.old) (failures self.new) };
 
@@ -81,7 +85,8 @@ pub trait Disk {
     ghost only_now: { (disk : Self) (c : List ℕ) → left_since disk (moment disk) c → may_leave disk c };
 
     /// Law: a write that fails changes no byte outside its range and the gap before it.
-    ghost tears_torn: { (old : List ℕ) (at : ℕ) (bytes new : List ℕ) → tears old at bytes new → Torn at (length bytes) old new };
+    ghost tears_torn: { (old : List ℕ) (at : ℕ) (bytes new : List ℕ) → tears old at bytes new
+        → Torn at (length bytes) old new };
 
     /// Law: a crash may leave what a read gives.
     ghost seen_may_stay: { (disk : Self) → may_leave disk (seen disk) };

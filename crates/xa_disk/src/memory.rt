@@ -1,6 +1,6 @@
 //! A disk in memory that keeps a record of its writes and syncs.
 ghost use Rattle.std.specs.Prelude.{◌≡◌, ◌⊎◌, ◌+◌, ◌≤◌, ◌<◌, ◌==◌, ◌≢◌, ◌↔◌, ℕ, [], ⊤, false, length, if◌then◌else◌, Some, None, OnOk, OnErr, IfOk, MatchBool, MatchResult, IsTrue, is_ok};
-ghost use Rattle.xa_disk.specs.Disk.{put, Torn, Same, Only, Passes, AllOrNone, CountsFault, Reads};
+ghost use Rattle.xa_disk.specs.Disk.{put, Torn, Same, Only, AllOrNone, CountsFault, Reads};
 ghost use Rattle.xa_disk.specs.Plans.{due};
 ghost use Rattle.xa_disk.specs.Replay.{first_of, replay, IsImage, LeftSince};
 ghost use Rattle.xa_disk.specs.Images.{counts_now, only_now, stays_of, all_or_none_torn};
@@ -62,7 +62,8 @@ impl MemDisk {
     /// Plans that the k-th device call from now fails, where 1 is the next one. Of two plans for one call the
     /// later one holds. Nothing else changes.
     pub fn fail(&mut self, k: u64, effect: Effect) -> Result<(), AllocError>
-        ensures planned { OnOk result ((j : ℕ) → due self.new.plans.items j ≡ (if k == j then Some effect else due self.old.plans.items j)) }
+        ensures planned { OnOk result ((j : ℕ)
+            → due self.new.plans.items j ≡ (if k == j then Some effect else due self.old.plans.items j)) }
         ensures err { OnErr result ((j : ℕ) → due self.new.plans.items j ≡ due self.old.plans.items j) }
         ensures same { Stays self.old self.new }
     {
@@ -212,7 +213,7 @@ impl MemDisk {
 
 impl Disk for MemDisk {
     ghost use Rattle.xa_disk.specs.Counts.{with_length, with_read, with_write, with_sync};
-    ghost use Rattle.xa_disk.specs.Memory.{Keeps, Wrote, Synced, CountsDown, Heeds, image_of, since};
+    ghost use Rattle.xa_disk.specs.Memory.{Keeps, Wrote, Synced, PassesTime, CountsDown, Heeds, image_of};
 
     ghost honest = { ⊤ };
 
@@ -241,11 +242,12 @@ impl Disk for MemDisk {
     fn length(&mut self) -> Result<u64, DiskFault>
         ensures value { IfOk result (λ n. n ≡ length self.old.bytes.items) }
         ensures same { self.new.bytes.items ≡ self.old.bytes.items }
-        ensures time { Passes Same (length self.old.calls.items) (length self.new.calls.items) (since self.old) (since self.new) (image_of self.old) (image_of self.new) }
+        ensures time { PassesTime Same self.old self.new }
         ensures calls { self.new.counts ≡ with_length self.old.counts }
         ensures count { CountsFault result self.old.failures self.new.failures }
         ensures later { CountsDown self.old self.new }
-        ensures heeds { Heeds (due self.old.plans.items 1) result (Keeps self.old self.new) ⊥ (Keeps self.old self.new) }
+        ensures heeds { Heeds (due self.old.plans.items 1) result
+            (Keeps self.old self.new) ⊥ (Keeps self.old self.new) }
     {
         let plan = self.begin(self.counts.with_length());
         self.end(plan, true)?;
@@ -255,11 +257,14 @@ impl Disk for MemDisk {
     fn read_at(&mut self, at: u64, into: &mut [u8]) -> Result<(), DiskFault>
         ensures value { OnOk result (Reads self.old.bytes.items at into.new) }
         ensures same { self.new.bytes.items ≡ self.old.bytes.items }
-        ensures time { Passes Same (length self.old.calls.items) (length self.new.calls.items) (since self.old) (since self.new) (image_of self.old) (image_of self.new) }
+        ensures time { PassesTime Same self.old self.new }
         ensures calls { self.new.counts ≡ with_read (length into.old) self.old.counts }
         ensures count { CountsFault result self.old.failures self.new.failures }
         ensures later { CountsDown self.old self.new }
-        ensures heeds { Heeds (due self.old.plans.items 1) result (Keeps self.old self.new) ((length self.old.bytes.items < at + length into.old) × Keeps self.old self.new) (Keeps self.old self.new) }
+        ensures heeds { Heeds (due self.old.plans.items 1) result
+            (Keeps self.old self.new)
+            ((length self.old.bytes.items < at + length into.old) × Keeps self.old self.new)
+            (Keeps self.old self.new) }
     {
         let plan = self.begin(self.counts.with_read(into.len()));
         let done = read_bytes(&self.bytes, at, into);
@@ -269,11 +274,12 @@ impl Disk for MemDisk {
     fn write_at(&mut self, at: u64, from: &[u8]) -> Result<(), DiskFault>
         ensures written { OnOk result (self.new.bytes.items ≡ put self.old.bytes.items at from.now) }
         ensures failed { OnErr result (AllOrNone self.old.bytes.items at from.now self.new.bytes.items) }
-        ensures time { Passes (Torn at (length from.now)) (length self.old.calls.items) (length self.new.calls.items) (since self.old) (since self.new) (image_of self.old) (image_of self.new) }
+        ensures time { PassesTime (Torn at (length from.now)) self.old self.new }
         ensures calls { self.new.counts ≡ with_write self.old.counts }
         ensures count { CountsFault result self.old.failures self.new.failures }
         ensures later { CountsDown self.old self.new }
-        ensures heeds { Heeds (due self.old.plans.items 1) result (Wrote self.old self.new at from.now) (Keeps self.old self.new) (Keeps self.old self.new) }
+        ensures heeds { Heeds (due self.old.plans.items 1) result
+            (Wrote self.old self.new at from.now) (Keeps self.old self.new) (Keeps self.old self.new) }
     {
         let plan = self.begin(self.counts.with_write());
         let done = self.try_put(plan, at, from);
@@ -283,11 +289,12 @@ impl Disk for MemDisk {
     fn sync(&mut self) -> Result<(), DiskFault>
         ensures durable { OnOk result (Only self.old.bytes.items (image_of self.new)) }
         ensures same { self.new.bytes.items ≡ self.old.bytes.items }
-        ensures time { Passes Same (length self.old.calls.items) (length self.new.calls.items) (since self.old) (since self.new) (image_of self.old) (image_of self.new) }
+        ensures time { PassesTime Same self.old self.new }
         ensures calls { self.new.counts ≡ with_sync self.old.counts }
         ensures count { CountsFault result self.old.failures self.new.failures }
         ensures later { CountsDown self.old self.new }
-        ensures heeds { Heeds (due self.old.plans.items 1) result (Synced self.old self.new) (Keeps self.old self.new) (Keeps self.old self.new) }
+        ensures heeds { Heeds (due self.old.plans.items 1) result
+            (Synced self.old self.new) (Keeps self.old self.new) (Keeps self.old self.new) }
     {
         let plan = self.begin(self.counts.with_sync());
         let done = self.try_sync(plan);

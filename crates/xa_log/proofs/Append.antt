@@ -1,7 +1,9 @@
 -- What each step of an append leaves.
 use Rattle.std.proofs.Common.{◌≡◌, ◌≢◌, ◌⊎◌, inl, inr, ⊎_elim, ℕ, ◌+◌, ◌-◌, ◌^◌, ◌<◌, ◌≤◌, true, List, [], ◌∷◌, ◌++◌, length, take, drop, replicate, refl, sym, ◌∙◌, ap, subst, arith, append_assoc, length-append, suc}
 use Rattle.std.proofs.lemmas.List.{take_at, drop_at, length-replicate}
-use Rattle.xa_disk.specs.Disk.{put, Torn, Only, Passes, LeavesOnly}
+use Rattle.xa_disk.specs.Disk.{put, Torn, Only}
+use Rattle.xa_disk.specs.Time.{TimePasses, LeavesOnly}
+use Rattle.xa_disk.specs.declared.disk.Disk.{Ghosts}
 use Rattle.xa_log.specs.Chain.{start, last, text, IsBody, digest, record_of, closed_record, Rests, IsBeforeOrAfter}
 use Rattle.xa_log.specs.declared.format.Format.{Format}
 use Rattle.xa_log.specs.Answers.{Went, Fell, HasCause}
@@ -72,12 +74,12 @@ module _ (format : Format) (bodies : List (List ℕ)) (body file : List ℕ) (re
       )
 
   -- from a log at rest, whatever a write behind it left
-  pub moments : {D : Type 0} (moment : D → ℕ) (left_since : D → ℕ → List ℕ → Type 0) (may_leave : D → List ℕ → Type 0) (old new : D) (most n : ℕ)
-      → IsBody body → length file ≤ most → end + n ≤ most → ((c : List ℕ) → left_since old (moment old) c → may_leave old c) → Only file (may_leave old)
-      → Passes (Torn end n) (moment old) (moment new) (left_since old) (left_since new) (may_leave old) (may_leave new) → LeavesOnly moment left_since old new (Leaves most format bodies body)
-  moments moment left_since may_leave old new most n ok whole room only_now durable time = record {
+  pub moments : {D : Type 0} (disks : Ghosts D) (old new : D) (most n : ℕ)
+      → IsBody body → length file ≤ most → end + n ≤ most → ((c : List ℕ) → disks.left_since old (disks.moment old) c → disks.may_leave old c) → Only file (disks.may_leave old)
+      → TimePasses disks (Torn end n) old new → LeavesOnly disks old new (Leaves most format bodies body)
+  moments disks old new most n ok whole room only_now durable time = record {
     later = time.later;
-    each = λ c left. ⊎_elim (λ past. good c (torn_to c (durable c (only_now c past)))) (λ x. good c (subst (λ f. Torn end n f c) (durable x.0 x.1) x.2)) (time.nothing_else (moment old) c (omega arith) left);
+    each = λ c left. ⊎_elim (λ past. good c (torn_to c (durable c (only_now c past)))) (λ x. good c (subst (λ f. Torn end n f c) (durable x.0 x.1) x.2)) (time.nothing_else (disks.moment old) c (omega arith) left);
     before = λ t c le left. ⊎_elim (λ past. inl past) (λ x. inr (good c (subst (λ f. Torn end n f c) (durable x.0 x.1) x.2))) (time.nothing_else t c le left);
   }
     where
@@ -89,37 +91,37 @@ module _ (format : Format) (bodies : List (List ℕ)) (body file : List ℕ) (re
 
 -- ---- what a log stands for after each answer
 
-module _ {D : Type 0} (tears : List ℕ → ℕ → List ℕ → List ℕ → Type 0) (seen : D → List ℕ) (may_leave : D → List ℕ → Type 0) (bodies : List (List ℕ)) (body : List ℕ) (old new : Log D) (stands : Stands seen may_leave bodies old) where
+module _ {D : Type 0} (disks : Ghosts D) (bodies : List (List ℕ)) (body : List ℕ) (old new : Log D) (stands : Stands disks bodies old) where
   abbrev format : Format
   format = old.format
 
   abbrev Went_by : Appended → Type 0
-  Went_by outcome = Went tears outcome old.end (record_of old.digest body ++ 0 ∷ 0 ∷ 0 ∷ 0 ∷ []) (seen old.disk) (seen new.disk) (may_leave new.disk)
+  Went_by outcome = Went disks.tears outcome old.end (record_of old.digest body ++ 0 ∷ 0 ∷ 0 ∷ 0 ∷ []) (disks.seen old.disk) (disks.seen new.disk) (disks.may_leave new.disk)
 
   length-range : length (record_of old.digest body ++ 0 ∷ 0 ∷ 0 ∷ 0 ∷ []) ≡ 4 + (36 + length body)
   length-range = length-closed_by old.digest body
 
   -- the range ends within the log's bytes
-  fits_after : old.end + (40 + length body) ≤ old.log_bytes → new.log_bytes ≡ old.log_bytes → Torn old.end (length (record_of old.digest body ++ 0 ∷ 0 ∷ 0 ∷ 0 ∷ [])) (seen old.disk) (seen new.disk) → length (seen new.disk) ≤ new.log_bytes
+  fits_after : old.end + (40 + length body) ≤ old.log_bytes → new.log_bytes ≡ old.log_bytes → Torn old.end (length (record_of old.digest body ++ 0 ∷ 0 ∷ 0 ∷ 0 ∷ [])) (disks.seen old.disk) (disks.seen new.disk) → length (disks.seen new.disk) ≤ new.log_bytes
   fits_after room same torn = omega (arith, torn.no_longer, stands.fits, length-range, room, same)
 
-  torn_kept : Went_by Kept → Torn old.end (length (record_of old.digest body ++ 0 ∷ 0 ∷ 0 ∷ 0 ∷ [])) (seen old.disk) (seen new.disk)
-  torn_kept went = subst (λ f. Torn old.end (length (record_of old.digest body ++ 0 ∷ 0 ∷ 0 ∷ 0 ∷ [])) (seen old.disk) f) (sym went.0) (put_torn (seen old.disk) old.end (record_of old.digest body ++ 0 ∷ 0 ∷ 0 ∷ 0 ∷ []))
+  torn_kept : Went_by Kept → Torn old.end (length (record_of old.digest body ++ 0 ∷ 0 ∷ 0 ∷ 0 ∷ [])) (disks.seen old.disk) (disks.seen new.disk)
+  torn_kept went = subst (λ f. Torn old.end (length (record_of old.digest body ++ 0 ∷ 0 ∷ 0 ∷ 0 ∷ [])) (disks.seen old.disk) f) (sym went.0) (put_torn (disks.seen old.disk) old.end (record_of old.digest body ++ 0 ∷ 0 ∷ 0 ∷ 0 ∷ []))
 
-  torn_refused : Went_by Refused → Torn old.end (length (record_of old.digest body ++ 0 ∷ 0 ∷ 0 ∷ 0 ∷ [])) (seen old.disk) (seen new.disk)
+  torn_refused : Went_by Refused → Torn old.end (length (record_of old.digest body ++ 0 ∷ 0 ∷ 0 ∷ 0 ∷ [])) (disks.seen old.disk) (disks.seen new.disk)
   torn_refused went =
       let range = length (record_of old.digest body ++ 0 ∷ 0 ∷ 0 ∷ 0 ∷ []) in
       let zeros : List ℕ = replicate range 0 in
-      let cleared : Torn old.end (length zeros) went.0 (seen new.disk) = subst (λ f. Torn old.end (length zeros) went.0 f) (sym went.2) (put_torn went.0 old.end zeros) in
-      torn_then old.end range (seen old.disk) went.0 (seen new.disk) went.1 (subst (λ n. Torn old.end n went.0 (seen new.disk)) (length-replicate range 0) cleared)
+      let cleared : Torn old.end (length zeros) went.0 (disks.seen new.disk) = subst (λ f. Torn old.end (length zeros) went.0 f) (sym went.2) (put_torn went.0 old.end zeros) in
+      torn_then old.end range (disks.seen old.disk) went.0 (disks.seen new.disk) went.1 (subst (λ n. Torn old.end n went.0 (disks.seen new.disk)) (length-replicate range 0) cleared)
 
   abbrev Room : Type 0
   Room = (old.end + (40 + length body) ≤ old.log_bytes) × (new.log_bytes ≡ old.log_bytes) × (new.format ≡ old.format)
 
-  pub answer_kept : Room → IsBody body → Went_by Kept → new.end ≡ old.end + (36 + length body) → new.digest ≡ digest old.digest body → new.lost ≡ old.lost → Stands seen may_leave (bodies ++ body ∷ []) new
+  pub answer_kept : Room → IsBody body → Went_by Kept → new.end ≡ old.end + (36 + length body) → new.digest ≡ digest old.digest body → new.lost ≡ old.lost → Stands disks (bodies ++ body ∷ []) new
   answer_kept room ok went end_is digest_is lost_is = record {
     fits = fits_after room.0 room.1 (torn_kept went);
-    file = subst (λ k. Rests k (bodies ++ body ∷ []) (seen new.disk)) (sym room.2) (kept format bodies body (seen old.disk) stands.file (seen new.disk) ok (went.0 ∙ (λ i. put (seen old.disk) (stands.end i) (record_of (stands.digest i) body ++ 0 ∷ 0 ∷ 0 ∷ 0 ∷ []))));
+    file = subst (λ k. Rests k (bodies ++ body ∷ []) (disks.seen new.disk)) (sym room.2) (kept format bodies body (disks.seen old.disk) stands.file (disks.seen new.disk) ok (went.0 ∙ (λ i. put (disks.seen old.disk) (stands.end i) (record_of (stands.digest i) body ++ 0 ∷ 0 ∷ 0 ∷ 0 ∷ []))));
     end = subst (λ k. new.end ≡ length (text k (bodies ++ body ∷ []))) (sym room.2)
         (omega (arith, end_is, stands.end, ap length (text_more format bodies body), length-append (text format bodies) (record_of (last (start format) bodies) body), length-record_of (last (start format) bodies) body));
     digest = subst (λ k. new.digest ≡ last (start k) (bodies ++ body ∷ [])) (sym room.2) (digest_is ∙ ap (λ (d : List ℕ). digest d body) stands.digest ∙ sym (last_more (start format) bodies body));
@@ -127,86 +129,86 @@ module _ {D : Type 0} (tears : List ℕ → ℕ → List ℕ → List ℕ → Ty
     alive = lost_is ∙ stands.alive;
   }
 
-  pub answer_refused : Room → Went_by Refused → new.end ≡ old.end → new.digest ≡ old.digest → new.lost ≡ old.lost → Stands seen may_leave bodies new × (take (40 + length body) (drop (length (text new.format bodies)) (seen new.disk)) ≡ replicate (40 + length body) 0)
+  pub answer_refused : Room → Went_by Refused → new.end ≡ old.end → new.digest ≡ old.digest → new.lost ≡ old.lost → Stands disks bodies new × (take (40 + length body) (drop (length (text new.format bodies)) (disks.seen new.disk)) ≡ replicate (40 + length body) 0)
   answer_refused room went end_is digest_is lost_is =
-      let torn : Torn (length (text format bodies)) (4 + (36 + length body)) (seen old.disk) went.0 = subst (λ n. Torn (length (text format bodies)) n (seen old.disk) went.0) length-range (subst (λ e. Torn e (length (record_of old.digest body ++ 0 ∷ 0 ∷ 0 ∷ 0 ∷ [])) (seen old.disk) went.0) stands.end went.1) in
-      let is : seen new.disk ≡ put went.0 (length (text format bodies)) (replicate (4 + (36 + length body)) 0) = went.2 ∙ (λ i. put went.0 (stands.end i) (replicate (length-range i) 0)) in
-      let it = refused format bodies body (seen old.disk) stands.file (36 + length body) went.0 (seen new.disk) torn is in
+      let torn : Torn (length (text format bodies)) (4 + (36 + length body)) (disks.seen old.disk) went.0 = subst (λ n. Torn (length (text format bodies)) n (disks.seen old.disk) went.0) length-range (subst (λ e. Torn e (length (record_of old.digest body ++ 0 ∷ 0 ∷ 0 ∷ 0 ∷ [])) (disks.seen old.disk) went.0) stands.end went.1) in
+      let is : disks.seen new.disk ≡ put went.0 (length (text format bodies)) (replicate (4 + (36 + length body)) 0) = went.2 ∙ (λ i. put went.0 (stands.end i) (replicate (length-range i) 0)) in
+      let it = refused format bodies body (disks.seen old.disk) stands.file (36 + length body) went.0 (disks.seen new.disk) torn is in
       let n : 40 + length body ≡ 4 + (36 + length body) = omega arith in (
         record {
-          file = subst (λ k. Rests k bodies (seen new.disk)) (sym room.2) it.0;
+          file = subst (λ k. Rests k bodies (disks.seen new.disk)) (sym room.2) it.0;
           fits = fits_after room.0 room.1 (torn_refused went);
           end = subst (λ k. new.end ≡ length (text k bodies)) (sym room.2) (end_is ∙ stands.end);
           digest = subst (λ k. new.digest ≡ last (start k) bodies) (sym room.2) (digest_is ∙ stands.digest);
           durable = went.3;
           alive = lost_is ∙ stands.alive;
         },
-        subst (λ k. take (40 + length body) (drop (length (text k bodies)) (seen new.disk)) ≡ replicate (40 + length body) 0) (sym room.2)
-            (subst (λ k. take k (drop (length (text format bodies)) (seen new.disk)) ≡ replicate k 0) (sym n) it.1),
+        subst (λ k. take (40 + length body) (drop (length (text k bodies)) (disks.seen new.disk)) ≡ replicate (40 + length body) 0) (sym room.2)
+            (subst (λ k. take k (drop (length (text format bodies)) (disks.seen new.disk)) ≡ replicate k 0) (sym n) it.1),
       )
 
-  pub answer_lost : Room → IsBody body → Went_by Lost → new.lost ≡ true → ((c : List ℕ) → may_leave new.disk c → (d : List ℕ) × may_leave old.disk d × Torn old.end (length (record_of old.digest body ++ 0 ∷ 0 ∷ 0 ∷ 0 ∷ [])) d c) → MayStand tears seen may_leave bodies body new
+  pub answer_lost : Room → IsBody body → Went_by Lost → new.lost ≡ true → ((c : List ℕ) → disks.may_leave new.disk c → (d : List ℕ) × disks.may_leave old.disk d × Torn old.end (length (record_of old.digest body ++ 0 ∷ 0 ∷ 0 ∷ 0 ∷ [])) d c) → MayStand disks bodies body new
   answer_lost room ok went lost_is follows = record {
-    seen_is = its (seen new.disk) (good (seen new.disk) went.0);
-    seen_on = λ lucky. subst (λ k. IsBeforeOrAfter k bodies body (seen new.disk)) (sym room.2) ((good (seen new.disk) went.0).reads (lucky format bodies body (seen old.disk) went.1 (seen new.disk) stands.file ok first second));
+    seen_is = its (disks.seen new.disk) (good (disks.seen new.disk) went.0);
+    seen_on = λ lucky. subst (λ k. IsBeforeOrAfter k bodies body (disks.seen new.disk)) (sym room.2) ((good (disks.seen new.disk) went.0).reads (lucky format bodies body (disks.seen old.disk) went.1 (disks.seen new.disk) stands.file ok first second));
     left_is = λ c left. let x = follows c left in its c (good c (subst (λ f. Torn old.end range f c) (stands.durable x.0 x.1) x.2));
     lost = lost_is;
   }
     where
-      first : Fell tears (seen old.disk) (length (text format bodies)) (closed_record format bodies body) went.1
+      first : Fell disks.tears (disks.seen old.disk) (length (text format bodies)) (closed_record format bodies body) went.1
       first =
-          subst (λ d. Fell tears (seen old.disk) (length (text format bodies)) (record_of d body ++ 0 ∷ 0 ∷ 0 ∷ 0 ∷ []) went.1) stands.digest
-          (subst (λ e. Fell tears (seen old.disk) e (record_of old.digest body ++ 0 ∷ 0 ∷ 0 ∷ 0 ∷ []) went.1) stands.end went.2)
+          subst (λ d. Fell disks.tears (disks.seen old.disk) (length (text format bodies)) (record_of d body ++ 0 ∷ 0 ∷ 0 ∷ 0 ∷ []) went.1) stands.digest
+          (subst (λ e. Fell disks.tears (disks.seen old.disk) e (record_of old.digest body ++ 0 ∷ 0 ∷ 0 ∷ 0 ∷ []) went.1) stands.end went.2)
 
       forty : length (record_of old.digest body ++ 0 ∷ 0 ∷ 0 ∷ 0 ∷ []) ≡ 40 + length body
       forty = omega (arith, length-range)
 
-      second : Fell tears went.1 (length (text format bodies)) (replicate (40 + length body) 0) (seen new.disk)
+      second : Fell disks.tears went.1 (length (text format bodies)) (replicate (40 + length body) 0) (disks.seen new.disk)
       second =
-          subst (λ e. Fell tears went.1 e (replicate (40 + length body) 0) (seen new.disk)) stands.end
-          (subst (λ n. Fell tears went.1 old.end (replicate n 0) (seen new.disk)) forty went.3)
+          subst (λ e. Fell disks.tears went.1 e (replicate (40 + length body) 0) (disks.seen new.disk)) stands.end
+          (subst (λ n. Fell disks.tears went.1 old.end (replicate n 0) (disks.seen new.disk)) forty went.3)
 
       range : ℕ
       range = length (record_of old.digest body ++ 0 ∷ 0 ∷ 0 ∷ 0 ∷ [])
 
-      good : (c : List ℕ) → Torn old.end range (seen old.disk) c → Leaves new.log_bytes format bodies body c
+      good : (c : List ℕ) → Torn old.end range (disks.seen old.disk) c → Leaves new.log_bytes format bodies body c
       good c torn =
-          torn_leaves format bodies body (seen old.disk) stands.file new.log_bytes range c ok (omega (arith, stands.fits, room.1)) (omega (arith, room.0, room.1, forty, stands.end))
-          (subst (λ e. Torn e range (seen old.disk) c) stands.end torn)
+          torn_leaves format bodies body (disks.seen old.disk) stands.file new.log_bytes range c ok (omega (arith, stands.fits, room.1)) (omega (arith, room.0, room.1, forty, stands.end))
+          (subst (λ e. Torn e range (disks.seen old.disk) c) stands.end torn)
 
       its : (c : List ℕ) → Leaves new.log_bytes format bodies body c → Leaves new.log_bytes new.format bodies body c
       its c it = subst (λ k. Leaves new.log_bytes k bodies body c) (sym room.2) it
 
   abbrev Went_as : Appended → Type 0
-  Went_as outcome = Went tears outcome old.end (record_of old.digest body ++ 0 ∷ 0 ∷ 0 ∷ 0 ∷ []) (seen old.disk) (seen new.disk) (may_leave new.disk)
+  Went_as outcome = Went disks.tears outcome old.end (record_of old.digest body ++ 0 ∷ 0 ∷ 0 ∷ 0 ∷ []) (disks.seen old.disk) (disks.seen new.disk) (disks.may_leave new.disk)
 
-  pub answers_kept : Room → (o : Appended) → o ≡ Kept → IsBody body → Went_as o → new.end ≡ old.end + (36 + length body) → new.digest ≡ digest old.digest body → new.lost ≡ old.lost → Answers tears seen may_leave o bodies body new
-  answers_kept room o is ok went e d l = subst (λ x. Answers tears seen may_leave x bodies body new) (sym is) (answer_kept room ok (subst Went_as is went) e d l)
+  pub answers_kept : Room → (o : Appended) → o ≡ Kept → IsBody body → Went_as o → new.end ≡ old.end + (36 + length body) → new.digest ≡ digest old.digest body → new.lost ≡ old.lost → Answers disks o bodies body new
+  answers_kept room o is ok went e d l = subst (λ x. Answers disks x bodies body new) (sym is) (answer_kept room ok (subst Went_as is went) e d l)
 
-  pub answers_refused : Room → (o : Appended) → (o ≡ Refused) ⊎ (o ≡ Full) → o ≢ Full → Went_as o → new.end ≡ old.end → new.digest ≡ old.digest → new.lost ≡ old.lost → Answers tears seen may_leave o bodies body new
-  answers_refused room o (inl is) other went e d l = subst (λ x. Answers tears seen may_leave x bodies body new) (sym is) (answer_refused room (subst Went_as is went) e d l)
+  pub answers_refused : Room → (o : Appended) → (o ≡ Refused) ⊎ (o ≡ Full) → o ≢ Full → Went_as o → new.end ≡ old.end → new.digest ≡ old.digest → new.lost ≡ old.lost → Answers disks o bodies body new
+  answers_refused room o (inl is) other went e d l = subst (λ x. Answers disks x bodies body new) (sym is) (answer_refused room (subst Went_as is went) e d l)
   answers_refused room o (inr is) other went e d l = absurd (other is)
 
-  pub answers_lost : Room → (o : Appended) → o ≡ Lost → IsBody body → Went_as o → new.lost ≡ true → ((c : List ℕ) → may_leave new.disk c → (d : List ℕ) × may_leave old.disk d × Torn old.end (length (record_of old.digest body ++ 0 ∷ 0 ∷ 0 ∷ 0 ∷ [])) d c) → Answers tears seen may_leave o bodies body new
-  answers_lost room o is ok went l follows = subst (λ x. Answers tears seen may_leave x bodies body new) (sym is) (answer_lost room ok (subst Went_as is went) l follows)
+  pub answers_lost : Room → (o : Appended) → o ≡ Lost → IsBody body → Went_as o → new.lost ≡ true → ((c : List ℕ) → disks.may_leave new.disk c → (d : List ℕ) × disks.may_leave old.disk d × Torn old.end (length (record_of old.digest body ++ 0 ∷ 0 ∷ 0 ∷ 0 ∷ [])) d c) → Answers disks o bodies body new
+  answers_lost room o is ok went l follows = subst (λ x. Answers disks x bodies body new) (sym is) (answer_lost room ok (subst Went_as is went) l follows)
 
-module _ {D : Type 0} (seen : D → List ℕ) (may_leave : D → List ℕ → Type 0) (bodies : List (List ℕ)) (body : List ℕ) (old : Log D) (stands : Stands seen may_leave bodies old)
-    (moment : D → ℕ) (left_since : D → ℕ → List ℕ → Type 0) (only_now : (c : List ℕ) → left_since old.disk (moment old.disk) c → may_leave old.disk c) where
+module _ {D : Type 0} (disks : Ghosts D) (bodies : List (List ℕ)) (body : List ℕ) (old : Log D) (stands : Stands disks bodies old)
+    (only_now : (c : List ℕ) → disks.left_since old.disk (disks.moment old.disk) c → disks.may_leave old.disk c) where
   pub answer_moments : (new : D) (n : ℕ) → IsBody body → old.end + n ≤ old.log_bytes
-      → Passes (Torn old.end n) (moment old.disk) (moment new) (left_since old.disk) (left_since new) (may_leave old.disk) (may_leave new)
-      → LeavesOnly moment left_since old.disk new (Leaves old.log_bytes old.format bodies body)
+      → TimePasses disks (Torn old.end n) old.disk new
+      → LeavesOnly disks old.disk new (Leaves old.log_bytes old.format bodies body)
   answer_moments new n ok room time =
-      moments old.format bodies body (seen old.disk) stands.file moment left_since may_leave old.disk new old.log_bytes n ok stands.fits (omega (arith, room, stands.end)) only_now stands.durable
-      (subst (λ e. Passes (Torn e n) (moment old.disk) (moment new) (left_since old.disk) (left_since new) (may_leave old.disk) (may_leave new)) stands.end time)
+      moments old.format bodies body (disks.seen old.disk) stands.file disks old.disk new old.log_bytes n ok stands.fits (omega (arith, room, stands.end)) only_now stands.durable
+      (subst (λ e. TimePasses disks (Torn e n) old.disk new) stands.end time)
 
   -- the same, where the range is a record with its closing length
   pub record_moments : (new : D) (range : List ℕ) → length range ≡ 4 + (36 + length body) → IsBody body → old.end + (40 + length body) ≤ old.log_bytes
-      → Passes (Torn old.end (length range)) (moment old.disk) (moment new) (left_since old.disk) (left_since new) (may_leave old.disk) (may_leave new)
-      → LeavesOnly moment left_since old.disk new (Leaves old.log_bytes old.format bodies body)
+      → TimePasses disks (Torn old.end (length range)) old.disk new
+      → LeavesOnly disks old.disk new (Leaves old.log_bytes old.format bodies body)
   record_moments new range long ok room time = answer_moments new (length range) ok (omega (arith, long, room)) time
 
   -- nothing was asked of the disk
-  pub no_moments : IsBody body → old.end ≤ old.log_bytes → LeavesOnly moment left_since old.disk old.disk (Leaves old.log_bytes old.format bodies body)
+  pub no_moments : IsBody body → old.end ≤ old.log_bytes → LeavesOnly disks old.disk old.disk (Leaves old.log_bytes old.format bodies body)
   no_moments ok room =
       answer_moments old.disk 0 ok (omega (arith, room))
       (record { later = omega arith; follows = λ c now. (c, now, torn_same old.end 0 c); nothing_else = λ t c le left. inl left; keeps = λ t c le left. left })

@@ -56,10 +56,10 @@ reads_window len upto most first first' now le is f = record {
 
 -- where one of two was read on and the other wasn't
 pub little_by : {D T : Type 0} (counts : D → Counts) (r : Result (Bool × T) OpenFault) (x y a b c d : D) → IfOk r (λ v. MatchBool v.0 (b ≡ d) (a ≡ c)) → OnlyReads 1048576 (asked (counts x)) (counts c) → OnlyReads 1048576 (asked (counts y)) (counts d)
-    → IfOk r (λ v. ReadsLittle v.0 (counts x) (counts a) (counts y) (counts b))
+    → IfOk r (λ v. ReadsLittle counts v.0 x a y b)
 little_by counts (Err e) x y a b c d other one two = tt
 little_by {D} {T} counts (Ok v) x y a b c d other one two = by v.0 other
   where
-    by : (t : Bool) → MatchBool t (b ≡ d) (a ≡ c) → ReadsLittle t (counts x) (counts a) (counts y) (counts b)
+    by : (t : Bool) → MatchBool t (b ≡ d) (a ≡ c) → ReadsLittle counts t x a y b
     by true is = subst (λ z. OnlyReads 1048576 (asked (counts y)) (counts z)) (sym is) two
     by false is = subst (λ z. OnlyReads 1048576 (asked (counts x)) (counts z)) (sym is) one

@@ -3,6 +3,7 @@ use Rattle.std.proofs.Common.{◌≡◌, ◌⊎◌, inl, inr, ⊎_elim, ℕ, zer
 use Rattle.std.proofs.lemmas.Bool.{cases_Bool, and_parts, and_from, or_left, or_right, or_cases, or_parts, cases_order, ltb-false, eq-eqb, and_cases}
 use Rattle.std.proofs.lemmas.Bool.Decides.{nat_tests}
 use Rattle.xa_disk.specs.Disk.{Only}
+use Rattle.xa_disk.specs.declared.disk.Disk.{Ghosts}
 use Rattle.xa_log.specs.declared.fault.OpenFault.TheVariants.{NotALog, TooNew, TooLong}
 use Rattle.xa_log.specs.declared.log.Log.{Log}
 use Rattle.xa_log.specs.declared.reading.Scan.{Scan}
@@ -64,23 +65,23 @@ own_calm file known = record {
   only = λ there. first_body (length file) (start (format_in file)) (drop 8 file) (omega (arith, (record_to (start (format_in file)) (drop 8 file) there).whole, length-drop 8 file)) there;
 }
 
-module _ {D : Type 0} (seen : D → List ℕ) (may_leave : D → List ℕ → Type 0) (most : ℕ) (disk : D) (only : Only (seen disk) (may_leave disk)) (fits : length (seen disk) ≤ most) (known : is_newer (take 8 (seen disk)) ≡ false) where
-  behind : Behind (logged (seen disk)) (seen disk)
-  behind = inr (seen disk, refl, torn_same 0 12 (seen disk))
+module _ {D : Type 0} (disks : Ghosts D) (most : ℕ) (disk : D) (only : Only (disks.seen disk) (disks.may_leave disk)) (fits : length (disks.seen disk) ≤ most) (known : is_newer (take 8 (disks.seen disk)) ≡ false) where
+  behind : Behind (logged (disks.seen disk)) (disks.seen disk)
+  behind = inr (disks.seen disk, refl, torn_same 0 12 (disks.seen disk))
 
-  calm : IsCalm (logged (seen disk)) (seen disk)
-  calm = own_calm (seen disk) known
+  calm : IsCalm (logged (disks.seen disk)) (disks.seen disk)
+  calm = own_calm (disks.seen disk) known
 
-  pub read_other : IsOther seen may_leave most (logged (seen disk)) disk
+  pub read_other : IsOther disks most (logged (disks.seen disk)) disk
   read_other = record {
     fits = fits;
     behind = behind;
     left_fits = λ c left. subst (λ f. length f ≤ most) (sym (only c left)) fits;
-    left_behind = λ c left. subst (λ f. Behind (logged (seen disk)) f) (sym (only c left)) behind;
+    left_behind = λ c left. subst (λ f. Behind (logged (disks.seen disk)) f) (sym (only c left)) behind;
   }
 
-  pub read_quiet : IsQuiet seen may_leave (logged (seen disk)) disk
-  read_quiet = record { calm = calm; left_calm = λ c left. subst (λ f. IsCalm (logged (seen disk)) f) (sym (only c left)) calm }
+  pub read_quiet : IsQuiet disks (logged (disks.seen disk)) disk
+  read_quiet = record { calm = calm; left_calm = λ c left. subst (λ f. IsCalm (logged (disks.seen disk)) f) (sym (only c left)) calm }
 
 -- ---- both
 
@@ -95,12 +96,12 @@ current_logged a b first scan it = by first it
     by true it = ap (λ (t : Bool). cond t (logged a) (logged b)) (sym it.choice) ∙ scan_logged a scan it.scan_is
     by false it = ap (λ (t : Bool). cond t (logged a) (logged b)) (sym it.choice) ∙ scan_logged b scan it.scan_is
 
-module _ {D : Type 0} (seen : D → List ℕ) (may_leave : D → List ℕ → Type 0) (a b : List ℕ) (log : Log D) (scan : Scan) (s : Sound log.log_bytes a b) (one : Only (seen log.disk) (may_leave log.disk)) (two : Only (seen log.other) (may_leave log.other))
+module _ {D : Type 0} (disks : Ghosts D) (a b : List ℕ) (log : Log D) (scan : Scan) (s : Sound log.log_bytes a b) (one : Only (disks.seen log.disk) (disks.may_leave log.disk)) (two : Only (disks.seen log.other) (disks.may_leave log.other))
     (format : log.format ≡ scan.format) (end : log.end ≡ scan.end) (digest : log.digest ≡ scan.digest) (alive : log.lost ≡ false) where
   abbrev bodies : List (List ℕ)
   bodies = bodies_of scan.bodies.items
 
-  stood : (file : List ℕ) → seen log.disk ≡ file → length file ≤ log.log_bytes → IsScan file scan → Stands seen may_leave bodies log
+  stood : (file : List ℕ) → disks.seen log.disk ≡ file → length file ≤ log.log_bytes → IsScan file scan → Stands disks bodies log
   stood file is fits it = record {
     file = subst (λ f. Rests log.format bodies f) (sym is) (subst (λ k. Rests k bodies file) (sym format) it.rests);
     fits = subst (λ f. length f ≤ log.log_bytes) (sym is) fits;
@@ -110,31 +111,31 @@ module _ {D : Type 0} (seen : D → List ℕ) (may_leave : D → List ℕ → Ty
     alive = alive;
   }
 
-  opens_first : seen log.disk ≡ a → seen log.other ≡ b → log.on_first ≡ true → IsCurrent a b true scan → IsOpenPair seen may_leave bodies (logged (seen log.other)) log
+  opens_first : disks.seen log.disk ≡ a → disks.seen log.other ≡ b → log.on_first ≡ true → IsCurrent a b true scan → IsOpenPair disks bodies (logged (disks.seen log.other)) log
   opens_first da db first it = record {
     current = stood a da s.first_fits it.scan_is;
-    other = read_other seen may_leave log.log_bytes log.other two (subst (λ f. length f ≤ log.log_bytes) (sym db) s.second_fits) (subst (λ f. is_newer (take 8 f) ≡ false) (sym db) s.second_known);
-    quiet = read_quiet seen may_leave log.log_bytes log.other two (subst (λ f. length f ≤ log.log_bytes) (sym db) s.second_fits) (subst (λ f. is_newer (take 8 f) ≡ false) (sym db) s.second_known);
+    other = read_other disks log.log_bytes log.other two (subst (λ f. length f ≤ log.log_bytes) (sym db) s.second_fits) (subst (λ f. is_newer (take 8 f) ≡ false) (sym db) s.second_known);
+    quiet = read_quiet disks log.log_bytes log.other two (subst (λ f. length f ≤ log.log_bytes) (sym db) s.second_fits) (subst (λ f. is_newer (take 8 f) ≡ false) (sym db) s.second_known);
     older = λ has.
         let hb : has_log b ≡ true = subst (λ f. has_log f ≡ true) db has in
         let more = (and_parts (has_log a) _ (sym it.choice)).1 in
         let wins : beats true (logged a) (logged b) ≡ true = ⊎_elim (λ absent. absurd (cc (absent, ap not hb))) (λ x. x) (or_cases (not (has_log b)) _ more) in
-        ap (λ (t : Bool). beats t bodies (logged (seen log.other))) first ∙ ap (λ (l : List (List ℕ)). beats true l (logged (seen log.other))) (sym (scan_logged a scan it.scan_is)) ∙ ap (λ (f : List ℕ). beats true (logged a) (logged f)) db ∙ wins;
+        ap (λ (t : Bool). beats t bodies (logged (disks.seen log.other))) first ∙ ap (λ (l : List (List ℕ)). beats true l (logged (disks.seen log.other))) (sym (scan_logged a scan it.scan_is)) ∙ ap (λ (f : List ℕ). beats true (logged a) (logged f)) db ∙ wins;
   }
 
-  opens_second : seen log.disk ≡ b → seen log.other ≡ a → log.on_first ≡ false → IsCurrent a b false scan → IsOpenPair seen may_leave bodies (logged (seen log.other)) log
+  opens_second : disks.seen log.disk ≡ b → disks.seen log.other ≡ a → log.on_first ≡ false → IsCurrent a b false scan → IsOpenPair disks bodies (logged (disks.seen log.other)) log
   opens_second db da first it = record {
     current = stood b db s.second_fits it.scan_is;
-    other = read_other seen may_leave log.log_bytes log.other two (subst (λ f. length f ≤ log.log_bytes) (sym da) s.first_fits) (subst (λ f. is_newer (take 8 f) ≡ false) (sym da) s.first_known);
-    quiet = read_quiet seen may_leave log.log_bytes log.other two (subst (λ f. length f ≤ log.log_bytes) (sym da) s.first_fits) (subst (λ f. is_newer (take 8 f) ≡ false) (sym da) s.first_known);
+    other = read_other disks log.log_bytes log.other two (subst (λ f. length f ≤ log.log_bytes) (sym da) s.first_fits) (subst (λ f. is_newer (take 8 f) ≡ false) (sym da) s.first_known);
+    quiet = read_quiet disks log.log_bytes log.other two (subst (λ f. length f ≤ log.log_bytes) (sym da) s.first_fits) (subst (λ f. is_newer (take 8 f) ≡ false) (sym da) s.first_known);
     older = λ has.
         let ha : has_log a ≡ true = subst (λ f. has_log f ≡ true) da has in
         let less : beats true (logged a) (logged b) ≡ false = ⊎_elim (λ absent. absurd (cc (absent, ha))) (λ x. (or_parts (not (has_log b)) _ x).1) (and_cases (has_log a) _ (sym it.choice)) in
-        ap (λ (t : Bool). beats t bodies (logged (seen log.other))) first ∙ ap (λ (l : List (List ℕ)). beats false l (logged (seen log.other))) (sym (scan_logged b scan it.scan_is)) ∙ ap (λ (f : List ℕ). beats false (logged b) (logged f)) da ∙ beats_other (logged a) (logged b) less;
+        ap (λ (t : Bool). beats t bodies (logged (disks.seen log.other))) first ∙ ap (λ (l : List (List ℕ)). beats false l (logged (disks.seen log.other))) (sym (scan_logged b scan it.scan_is)) ∙ ap (λ (f : List ℕ). beats false (logged b) (logged f)) da ∙ beats_other (logged a) (logged b) less;
   }
 
   -- what was read stands on the two disks
-  pub opens : (t : Bool) → log.on_first ≡ t → seen (cond t log.disk log.other) ≡ a → seen (cond t log.other log.disk) ≡ b → IsCurrent a b t scan → IsOpenPair seen may_leave bodies (logged (seen log.other)) log
+  pub opens : (t : Bool) → log.on_first ≡ t → disks.seen (cond t log.disk log.other) ≡ a → disks.seen (cond t log.other log.disk) ≡ b → IsCurrent a b t scan → IsOpenPair disks bodies (logged (disks.seen log.other)) log
   opens true first x y it = opens_first x y first it
   opens false first x y it = opens_second y x first it
 
@@ -143,22 +144,22 @@ pub opened_leaves : (most : ℕ) (a b : List ℕ) (found : List (List ℕ)) (c d
 opened_leaves most a b found c d p q none is = ((λ i. pair_fault most (p i) (q i)) ∙ none, (λ i. logged_pair (p i) (q i)) ∙ is)
 
 -- where the other file has no record it comes behind
-pub made_pair : {D : Type 0} (tears : List ℕ → ℕ → List ℕ → List ℕ → Type 0) (seen : D → List ℕ) (may_leave : D → List ℕ → Type 0) (found stood : List (List ℕ)) (log : Log D) → found ≡ [] → stood ≡ [] → IsOpenPair seen may_leave found stood log
-    → Pair tears seen may_leave [] [] log × IsQuiet seen may_leave [] log.other
-made_pair tears seen may_leave found stood log none nothing it =
-    let now : IsOpenPair seen may_leave [] [] log = subst (λ s. IsOpenPair seen may_leave [] s log) nothing (subst (λ b. IsOpenPair seen may_leave b stood log) none it) in
+pub made_pair : {D : Type 0} (disks : Ghosts D) (found stood : List (List ℕ)) (log : Log D) → found ≡ [] → stood ≡ [] → IsOpenPair disks found stood log
+    → Pair disks [] [] log × IsQuiet disks [] log.other
+made_pair disks found stood log none nothing it =
+    let now : IsOpenPair disks [] [] log = subst (λ s. IsOpenPair disks [] s log) nothing (subst (λ b. IsOpenPair disks b stood log) none it) in
     (record { current = now.current; other = now.other; calm_on = λ lucky. now.quiet.calm; older = beats_nil log.on_first [] }, now.quiet)
 
 -- what was read is a pair, where no stray records come before it
-pub opened_law : {D : Type 0} (tears : List ℕ → ℕ → List ℕ → List ℕ → Type 0) (seen : D → List ℕ) (may_leave : D → List ℕ → Type 0) → OpenedLaw tears seen may_leave
-opened_law {D} tears seen may_leave bodies log it stray =
-    record { current = it.current; other = it.other; calm_on = λ lucky. it.quiet.calm; older = by log.on_first refl stray (cases_Bool (has_log (seen log.other))) }
+pub opened_law : {D : Type 0} (disks : Ghosts D) → OpenedLaw disks
+opened_law {D} disks bodies log it stray =
+    record { current = it.current; other = it.other; calm_on = λ lucky. it.quiet.calm; older = by log.on_first refl stray (cases_Bool (has_log (disks.seen log.other))) }
   where
-    has : logged (seen log.disk) ≡ bodies
-    has = rests_logged log.format bodies (seen log.disk) it.current.file
+    has : logged (disks.seen log.disk) ≡ bodies
+    has = rests_logged log.format bodies (disks.seen log.disk) it.current.file
 
-    by : (t : Bool) → log.on_first ≡ t → NoStray (seen (cond t log.disk log.other)) (seen (cond t log.other log.disk))
-        → (has_log (seen log.other) ≡ true) ⊎ (has_log (seen log.other) ≡ false) → beats log.on_first bodies (logged (seen log.other)) ≡ true
+    by : (t : Bool) → log.on_first ≡ t → NoStray (disks.seen (cond t log.disk log.other)) (disks.seen (cond t log.other log.disk))
+        → (has_log (disks.seen log.other) ≡ true) ⊎ (has_log (disks.seen log.other) ≡ false) → beats log.on_first bodies (logged (disks.seen log.other)) ≡ true
     by t on none (inl begins) = it.older begins
-    by true on none (inr other) = (λ i. beats (on i) (sym has i) (logged (seen log.other))) ∙ none.1 other
-    by false on none (inr other) = (λ i. beats (on i) (sym has i) (logged (seen log.other))) ∙ none.0 other
+    by true on none (inr other) = (λ i. beats (on i) (sym has i) (logged (disks.seen log.other))) ∙ none.1 other
+    by false on none (inr other) = (λ i. beats (on i) (sym has i) (logged (disks.seen log.other))) ∙ none.0 other

@@ -2,7 +2,9 @@
 use Rattle.std.proofs.Common.{◌≡◌, ◌≢◌, inl, inr, ⊎_elim, ℕ, zero, suc, ◌+◌, ◌≤◌, Bool, true, false, List, [], ◌∷◌, ◌++◌, length, take, drop, refl, sym, ◌∙◌, ap, subst, arith, append_assoc, length-append, length-drop, cond, Option, is_some, Result, Err, OnErr}
 use Rattle.std.specs.List.{AllByRecursion}
 use Rattle.std.specs.Int.{w32, to_be_bytes}
-use Rattle.xa_disk.specs.Disk.{put, Torn, Only, Passes, LeavesOnly, AllOrNone}
+use Rattle.xa_disk.specs.Disk.{put, Torn, Only, AllOrNone}
+use Rattle.xa_disk.specs.Time.{TimePasses, LeavesOnly}
+use Rattle.xa_disk.specs.declared.disk.Disk.{Ghosts}
 use Rattle.xa_log.specs.declared.format.Format.{Format}
 use Rattle.xa_log.specs.Chain.{magic, start, opening, format_of, format_in, records, IsBody, Rests, logged, is_record, body_at, rest_at, digest_at, bodies_from}
 use Rattle.xa_log.specs.Reading.{is_newer}
@@ -20,19 +22,19 @@ use Rattle.xa_log.proofs.Pair.{calm_front}
 use Rattle.xa_log.proofs.Ready.{leaves_by, sealed_rests, seal_leaves, seal_cleared}
 
 -- one call behind another
-pub leaves_then : {D : Type 0} (moment : D → ℕ) (left_since : D → ℕ → List ℕ → Type 0) (a b c : D) (P Q R : List ℕ → Type 0)
+pub leaves_then : {D : Type 0} (disks : Ghosts D) (a b c : D) (P Q R : List ℕ → Type 0)
     → ((x : List ℕ) → P x → R x) → ((x : List ℕ) → Q x → R x)
-    → LeavesOnly moment left_since a b P → LeavesOnly moment left_since b c Q → LeavesOnly moment left_since a c R
-leaves_then moment left_since a b c P Q R f g p q = record {
+    → LeavesOnly disks a b P → LeavesOnly disks b c Q → LeavesOnly disks a c R
+leaves_then disks a b c P Q R f g p q = record {
   later = omega (arith, p.later, q.later);
-  each = λ x left. ⊎_elim (λ past. f x (p.each x past)) (λ now. g x now) (q.before (moment a) x p.later left);
+  each = λ x left. ⊎_elim (λ past. f x (p.each x past)) (λ now. g x now) (q.before (disks.moment a) x p.later left);
   before = λ t x le left. ⊎_elim (λ past. ⊎_elim (λ was. inl was) (λ then. inr (f x then)) (p.before t x le past)) (λ now. inr (g x now))
       (q.before t x (omega (arith, le, p.later)) left);
 }
 
-pub leaves_more : {D : Type 0} (moment : D → ℕ) (left_since : D → ℕ → List ℕ → Type 0) (a b : D) (P R : List ℕ → Type 0) → ((x : List ℕ) → P x → R x)
-    → LeavesOnly moment left_since a b P → LeavesOnly moment left_since a b R
-leaves_more moment left_since a b P R f p = record {
+pub leaves_more : {D : Type 0} (disks : Ghosts D) (a b : D) (P R : List ℕ → Type 0) → ((x : List ℕ) → P x → R x)
+    → LeavesOnly disks a b P → LeavesOnly disks a b R
+leaves_more disks a b P R f p = record {
   later = p.later;
   each = λ x left. f x (p.each x left);
   before = λ t x le left. ⊎_elim (λ was. inl was) (λ then. inr (f x then)) (p.before t x le left);
@@ -65,39 +67,38 @@ none_torn format most n d c room none torn = record {
 }
 
 -- at each moment while the records are written
-pub during : {D : Type 0} (format : Format) (moment : D → ℕ) (left_since : D → ℕ → List ℕ → Type 0) (may_leave : D → List ℕ → Type 0)
-    (seen : D → List ℕ) (old new : D) (n : ℕ) → ((c : List ℕ) → left_since old (moment old) c → may_leave old c)
-    → Passes (Torn 12 n) (moment old) (moment new) (left_since old) (left_since new) (may_leave old) (may_leave new)
-    → (most : ℕ) → 12 + n ≤ most → LeavesNone most format (seen old) → Only (seen old) (may_leave old)
-    → LeavesOnly moment left_since old new (LeavesNone most format)
-during format moment left_since may_leave seen old new n only_now time most room none only =
-    leaves_by moment left_since may_leave old new (Torn 12 n) (LeavesNone most format) only_now (torn_same 12 n)
+pub during : {D : Type 0} (format : Format) (disks : Ghosts D) (old new : D) (n : ℕ) → ((c : List ℕ) → disks.left_since old (disks.moment old) c → disks.may_leave old c)
+    → TimePasses disks (Torn 12 n) old new
+    → (most : ℕ) → 12 + n ≤ most → LeavesNone most format (disks.seen old) → Only (disks.seen old) (disks.may_leave old)
+    → LeavesOnly disks old new (LeavesNone most format)
+during format disks old new n only_now time most room none only =
+    leaves_by disks old new (Torn 12 n) (LeavesNone most format) only_now (torn_same 12 n)
     (λ d c left torn. none_torn format most n d c room (subst (λ f. LeavesNone most format f) (sym (only d left)) none) torn) time
 
 -- at each moment of all three parts, one behind the other
-module _ {D : Type 0} (moment : D → ℕ) (left_since : D → ℕ → List ℕ → Type 0) (most : ℕ) (format : Format) (stood bodies : List (List ℕ))
+module _ {D : Type 0} (disks : Ghosts D) (most : ℕ) (format : Format) (stood bodies : List (List ℕ))
     (a b c : D) where
   abbrev Any : List ℕ → Type 0
   Any x = LeavesAny most format stood bodies x
 
-  pub first_part : LeavesOnly moment left_since a b (LeavesOf most stood) → LeavesOnly moment left_since a b (LeavesAny most format stood bodies)
-  first_part p = leaves_more moment left_since a b (LeavesOf most stood) Any (λ x leaves. inl leaves) p
+  pub first_part : LeavesOnly disks a b (LeavesOf most stood) → LeavesOnly disks a b (LeavesAny most format stood bodies)
+  first_part p = leaves_more disks a b (LeavesOf most stood) Any (λ x leaves. inl leaves) p
 
-  pub second_part : LeavesOnly moment left_since a b (LeavesOf most stood) → LeavesOnly moment left_since b c (LeavesNone most format)
-      → LeavesOnly moment left_since a c (LeavesAny most format stood bodies)
-  second_part p q = leaves_then moment left_since a b c (LeavesOf most stood) (LeavesNone most format) Any (λ x leaves. inl leaves) (λ x none. inr (inl none)) p q
+  pub second_part : LeavesOnly disks a b (LeavesOf most stood) → LeavesOnly disks b c (LeavesNone most format)
+      → LeavesOnly disks a c (LeavesAny most format stood bodies)
+  second_part p q = leaves_then disks a b c (LeavesOf most stood) (LeavesNone most format) Any (λ x leaves. inl leaves) (λ x none. inr (inl none)) p q
 
-  pub third_part : LeavesOnly moment left_since a b (LeavesAny most format stood bodies) → LeavesOnly moment left_since b c (LeavesOf most bodies)
-      → LeavesOnly moment left_since a c (LeavesAny most format stood bodies)
-  third_part p q = leaves_then moment left_since a b c Any (LeavesOf most bodies) Any (λ x leaves. leaves) (λ x leaves. inr (inr leaves)) p q
+  pub third_part : LeavesOnly disks a b (LeavesAny most format stood bodies) → LeavesOnly disks b c (LeavesOf most bodies)
+      → LeavesOnly disks a c (LeavesAny most format stood bodies)
+  third_part p q = leaves_then disks a b c Any (LeavesOf most bodies) Any (λ x leaves. leaves) (λ x leaves. inr (inr leaves)) p q
 
 -- a file of which only such images are left
-pub others_none : {D : Type 0} (format : Format) (seen : D → List ℕ) (may_leave : D → List ℕ → Type 0) (most : ℕ) (disk : D)
-    → LeavesNone most format (seen disk) → ((c : List ℕ) → may_leave disk c → LeavesNone most format c)
-    → IsOther seen may_leave most [] disk × IsQuiet seen may_leave [] disk
-others_none format seen may_leave most disk none each = (
+pub others_none : {D : Type 0} (format : Format) (disks : Ghosts D) (most : ℕ) (disk : D)
+    → LeavesNone most format (disks.seen disk) → ((c : List ℕ) → disks.may_leave disk c → LeavesNone most format c)
+    → IsOther disks most [] disk × IsQuiet disks [] disk
+others_none format disks most disk none each = (
   record { fits = none.fits; behind = inl refl; left_fits = λ c left. (each c left).fits; left_behind = λ c left. inl refl },
-  record { calm = none_calm format [] (seen disk) none.front; left_calm = λ c left. none_calm format [] c (each c left).front },
+  record { calm = none_calm format [] (disks.seen disk) none.front; left_calm = λ c left. none_calm format [] c (each c left).front },
 )
 
 -- the first part's result
@@ -150,59 +151,59 @@ calm_rests format bodies file r =
     calm_log bodies file (ap (λ (l : List ℕ). is_newer l) (rests_magic format bodies file r) ∙ magic_known format) (rests_logged format bodies file r)
 
 -- what was the current file
-pub others_log : {D : Type 0} (format : Format) (seen : D → List ℕ) (may_leave : D → List ℕ → Type 0) (most : ℕ) (bodies : List (List ℕ)) (disk : D)
-    → Rests format bodies (seen disk) → length (seen disk) ≤ most → Only (seen disk) (may_leave disk)
-    → IsOther seen may_leave most bodies disk × IsQuiet seen may_leave bodies disk
-others_log format seen may_leave most bodies disk r fits only = (
+pub others_log : {D : Type 0} (format : Format) (disks : Ghosts D) (most : ℕ) (bodies : List (List ℕ)) (disk : D)
+    → Rests format bodies (disks.seen disk) → length (disks.seen disk) ≤ most → Only (disks.seen disk) (disks.may_leave disk)
+    → IsOther disks most bodies disk × IsQuiet disks bodies disk
+others_log format disks most bodies disk r fits only = (
   record {
     fits = fits;
     behind = behind;
     left_fits = λ c left. omega (arith, ap (λ (l : List ℕ). length l) (only c left), fits);
     left_behind = λ c left. subst (λ f. Behind bodies f) (sym (only c left)) behind;
   },
-  record { calm = calm_rests format bodies (seen disk) r; left_calm = λ c left. subst (λ f. IsCalm bodies f) (sym (only c left)) (calm_rests format bodies (seen disk) r) },
+  record { calm = calm_rests format bodies (disks.seen disk) r; left_calm = λ c left. subst (λ f. IsCalm bodies f) (sym (only c left)) (calm_rests format bodies (disks.seen disk) r) },
 )
   where
-    behind : Behind bodies (seen disk)
-    behind = inr (seen disk, rests_logged format bodies (seen disk) r, torn_same 0 12 (seen disk))
+    behind : Behind bodies (disks.seen disk)
+    behind = inr (disks.seen disk, rests_logged format bodies (disks.seen disk) r, torn_same 0 12 (disks.seen disk))
 
 -- ---- the seal's answers
 
-module _ {D : Type 0} (format : Format) (tears : List ℕ → ℕ → List ℕ → List ℕ → Type 0) (seen : D → List ℕ) (may_leave : D → List ℕ → Type 0)
-    (most : ℕ) (stood bodies : List (List ℕ)) (old mid new : D) (ready : IsReady format bodies (seen mid)) (fits : length (seen mid) ≤ most)
-    (durable : Only (seen mid) (may_leave mid)) where
+module _ {D : Type 0} (format : Format) (disks : Ghosts D)
+    (most : ℕ) (stood bodies : List (List ℕ)) (old mid new : D) (ready : IsReady format bodies (disks.seen mid)) (fits : length (disks.seen mid) ≤ most)
+    (durable : Only (disks.seen mid) (disks.may_leave mid)) where
   abbrev seal : List ℕ
   seal = to_be_bytes w32 (first_length bodies)
 
-  long : 12 ≤ length (seen mid)
+  long : 12 ≤ length (disks.seen mid)
   long = omega (arith, ap (λ (l : List ℕ). length l) ready.split, length-append (opening format) (behind_front format bodies ++ ready.rest), length-opening format)
 
   -- a torn seal leaves the header
-  torn_log : (c : List ℕ) → Torn 8 4 (seen mid) c → has_log c ≡ true
+  torn_log : (c : List ℕ) → Torn 8 4 (disks.seen mid) c → has_log c ≡ true
   torn_log c torn =
       let front : take 8 c ≡ magic format =
-      torn_front 8 4 (seen mid) c (omega (arith, long)) torn ∙ ap (λ (l : List ℕ). take 8 l) ready.split ∙ header_magic format (behind_front format bodies ++ ready.rest) in
+      torn_front 8 4 (disks.seen mid) c (omega (arith, long)) torn ∙ ap (λ (l : List ℕ). take 8 l) ready.split ∙ header_magic format (behind_front format bodies ++ ready.rest) in
       ap (λ (o : Option Format). is_some o) (ap (λ (l : List ℕ). format_of l) front ∙ format_magic format)
 
-  pub sealed : (o : Appended) → o ≢ Full → Went tears o 8 (to_be_bytes w32 (first_length bodies)) (seen mid) (seen new) (may_leave new)
-      → ((c : List ℕ) → may_leave new c → (d : List ℕ) × may_leave mid d × Torn 8 4 d c)
-      → Checkpointed tears seen may_leave o most format stood bodies old new
+  pub sealed : (o : Appended) → o ≢ Full → Went disks.tears o 8 (to_be_bytes w32 (first_length bodies)) (disks.seen mid) (disks.seen new) (disks.may_leave new)
+      → ((c : List ℕ) → disks.may_leave new c → (d : List ℕ) × disks.may_leave mid d × Torn 8 4 d c)
+      → Checkpointed disks o most format stood bodies old new
   sealed Kept other went follows =
-      let whole : Torn 8 4 (seen mid) (put (seen mid) 8 seal) = put_torn (seen mid) 8 seal in (
-        subst (λ f. Rests format bodies f) (sym went.0) (sealed_rests format bodies (seen mid) ready),
+      let whole : Torn 8 4 (disks.seen mid) (put (disks.seen mid) 8 seal) = put_torn (disks.seen mid) 8 seal in (
+        subst (λ f. Rests format bodies f) (sym went.0) (sealed_rests format bodies (disks.seen mid) ready),
         omega (arith, ap (λ (l : List ℕ). length l) went.0, whole.no_longer, long, fits),
         went.1,
       )
   sealed Refused other went follows =
-      let same : seen new ≡ seen mid = seal_cleared format bodies (seen mid) ready went.0 (seen new) went.1 went.2 in
-      let none : LeavesNone most format (seen mid) = record { fits = fits; front = ready_front format bodies (seen mid) ready } in
-      let now : LeavesNone most format (seen new) = subst (λ f. LeavesNone most format f) (sym same) none in
-      inr (others_none format seen may_leave most new now (λ c left. subst (λ f. LeavesNone most format f) (sym (went.3 c left)) now))
+      let same : disks.seen new ≡ disks.seen mid = seal_cleared format bodies (disks.seen mid) ready went.0 (disks.seen new) went.1 went.2 in
+      let none : LeavesNone most format (disks.seen mid) = record { fits = fits; front = ready_front format bodies (disks.seen mid) ready } in
+      let now : LeavesNone most format (disks.seen new) = subst (λ f. LeavesNone most format f) (sym same) none in
+      inr (others_none format disks most new now (λ c left. subst (λ f. LeavesNone most format f) (sym (went.3 c left)) now))
   sealed Lost other went follows = (
-    seal_leaves format bodies (seen mid) ready most (seen new) fits went.0,
-    (λ lucky. lucky format bodies (seen mid) went.1 (seen new) ready went.2 went.3),
-    (λ c left. let x = follows c left in seal_leaves format bodies (seen mid) ready most c fits (subst (λ f. Torn 8 4 f c) (durable x.0 x.1) x.2)),
-    torn_log (seen new) went.0,
+    seal_leaves format bodies (disks.seen mid) ready most (disks.seen new) fits went.0,
+    (λ lucky. lucky format bodies (disks.seen mid) went.1 (disks.seen new) ready went.2 went.3),
+    (λ c left. let x = follows c left in seal_leaves format bodies (disks.seen mid) ready most c fits (subst (λ f. Torn 8 4 f c) (durable x.0 x.1) x.2)),
+    torn_log (disks.seen new) went.0,
     (λ c left. let x = follows c left in torn_log c (subst (λ f. Torn 8 4 f c) (durable x.0 x.1) x.2)),
   )
   sealed Full other went follows = absurd (other refl)

@@ -2,7 +2,9 @@
 use Rattle.std.proofs.Common.{◌≡◌, inl, inr, ⊎_elim, ℕ, ◌+◌, ◌≤◌, ◌<◌, List, [], ◌∷◌, ◌++◌, length, take, drop, refl, sym, ◌∙◌, ap, arith, append_assoc, length-append, length-drop, take-append-drop, Result, Ok, Err, OnOk, OnErr}
 use Rattle.std.specs.Int.{w32, to_be_bytes}
 use Rattle.std.proofs.lemmas.List.{ext_get_or, get_or-drop}
-use Rattle.xa_disk.specs.Disk.{put, Torn, Passes, LeavesOnly}
+use Rattle.xa_disk.specs.Disk.{put, Torn}
+use Rattle.xa_disk.specs.Time.{TimePasses, LeavesOnly}
+use Rattle.xa_disk.specs.declared.disk.Disk.{Ghosts}
 use Rattle.xa_log.specs.declared.format.Format.{Format}
 use Rattle.xa_log.specs.Chain.{magic, start, opening, last, text, records, headed, Rests}
 use Rattle.xa_log.specs.Answers.{Fell}
@@ -22,14 +24,14 @@ map_err P Q (Ok x) f p = tt
 map_err P Q (Err e) f p = f p
 
 -- a step from what was there, at whichever moment
-pub leaves_by : {D : Type 0} (moment : D → ℕ) (left_since : D → ℕ → List ℕ → Type 0) (may_leave : D → List ℕ → Type 0) (old new : D)
+pub leaves_by : {D : Type 0} (disks : Ghosts D) (old new : D)
     (step : List ℕ → List ℕ → Type 0) (P : List ℕ → Type 0)
-    → ((c : List ℕ) → left_since old (moment old) c → may_leave old c) → ((c : List ℕ) → step c c)
-    → ((d c : List ℕ) → may_leave old d → step d c → P c)
-    → Passes step (moment old) (moment new) (left_since old) (left_since new) (may_leave old) (may_leave new) → LeavesOnly moment left_since old new P
-leaves_by moment left_since may_leave old new step P only_now same good time = record {
+    → ((c : List ℕ) → disks.left_since old (disks.moment old) c → disks.may_leave old c) → ((c : List ℕ) → step c c)
+    → ((d c : List ℕ) → disks.may_leave old d → step d c → P c)
+    → TimePasses disks step old new → LeavesOnly disks old new P
+leaves_by disks old new step P only_now same good time = record {
   later = time.later;
-  each = λ c left. ⊎_elim (λ past. good c c (only_now c past) (same c)) (λ x. good x.0 c x.1 x.2) (time.nothing_else (moment old) c (omega arith) left);
+  each = λ c left. ⊎_elim (λ past. good c c (only_now c past) (same c)) (λ x. good x.0 c x.1 x.2) (time.nothing_else (disks.moment old) c (omega arith) left);
   before = λ t c le left. ⊎_elim (λ past. inl past) (λ x. inr (good x.0 c x.1 x.2)) (time.nothing_else t c le left);
 }
 
@@ -41,21 +43,21 @@ fell_calm tears format stood old new lucky calm (inl is) = calm_front format sto
 fell_calm tears format stood old new lucky calm (inr torn) = lucky format stood old new calm torn
 
 -- a torn front leaves what stood behind it
-pub other_torn : {D : Type 0} (seen : D → List ℕ) (may_leave : D → List ℕ → Type 0) (most : ℕ) (stood : List (List ℕ)) (old new : D) → 12 ≤ most
-    → IsOther seen may_leave most stood old
-    → Torn 0 12 (seen old) (seen new) → ((c : List ℕ) → may_leave new c → (d : List ℕ) × may_leave old d × Torn 0 12 d c)
-    → IsOther seen may_leave most stood new
-other_torn seen may_leave most stood old new room other torn follows = record {
+pub other_torn : {D : Type 0} (disks : Ghosts D) (most : ℕ) (stood : List (List ℕ)) (old new : D) → 12 ≤ most
+    → IsOther disks most stood old
+    → Torn 0 12 (disks.seen old) (disks.seen new) → ((c : List ℕ) → disks.may_leave new c → (d : List ℕ) × disks.may_leave old d × Torn 0 12 d c)
+    → IsOther disks most stood new
+other_torn disks most stood old new room other torn follows = record {
   fits = omega (arith, torn.no_longer, other.fits);
-  behind = behind_torn stood (seen old) (seen new) other.behind torn;
+  behind = behind_torn stood (disks.seen old) (disks.seen new) other.behind torn;
   left_fits = λ c left. let x = follows c left in let t : Torn 0 12 x.0 c = x.2 in omega (arith, t.no_longer, other.left_fits x.0 x.1);
   left_behind = λ c left. let x = follows c left in behind_torn stood x.0 c (other.left_behind x.0 x.1) x.2;
 }
 
-pub front_leaves : {D : Type 0} (seen : D → List ℕ) (may_leave : D → List ℕ → Type 0) (most : ℕ) (stood : List (List ℕ)) (old : D) → 12 ≤ most
-    → IsOther seen may_leave most stood old
-    → (d c : List ℕ) → may_leave old d → Torn 0 12 d c → LeavesOf most stood c
-front_leaves seen may_leave most stood old room other d c left torn = record {
+pub front_leaves : {D : Type 0} (disks : Ghosts D) (most : ℕ) (stood : List (List ℕ)) (old : D) → 12 ≤ most
+    → IsOther disks most stood old
+    → (d c : List ℕ) → disks.may_leave old d → Torn 0 12 d c → LeavesOf most stood c
+front_leaves disks most stood old room other d c left torn = record {
   fits = omega (arith, torn.no_longer, other.left_fits d left);
   reads = calm_logged stood c (behind_torn stood d c (other.left_behind d left) torn);
 }

@@ -1,7 +1,9 @@
 -- A log whose files and disks stay as they were.
 use Rattle.std.proofs.Common.{◌≡◌, ◌⊎◌, ⊎_elim, inl, inr, ℕ, ◌≤◌, Bool, true, false, List, ◌∷◌, [], ◌++◌, length, take, refl, sym, ◌∙◌, ap, subst, arith, cond, None, Result, Ok, Err, IfErr}
 use Rattle.std.specs.Result.{IsErrAnd}
-use Rattle.xa_disk.specs.Disk.{Same, Passes, LeavesOnly}
+use Rattle.xa_disk.specs.Disk.{Same, Passes}
+use Rattle.xa_disk.specs.Time.{TimePasses, LeavesOnly}
+use Rattle.xa_disk.specs.declared.disk.Disk.{Ghosts}
 use Rattle.xa_log.specs.declared.log.Log.{Log}
 use Rattle.xa_log.specs.declared.fault.OpenFault.{OpenFault}
 use Rattle.xa_log.specs.declared.fault.OpenFault.TheVariants.{Device, Memory}
@@ -10,16 +12,16 @@ use Rattle.xa_log.specs.Reading.{is_newer, fault_of}
 use Rattle.xa_log.specs.Pair.{beats, has_log, Behind, IsCalm, CalmTears, pair_fault, fault_pair, logged_pair, logged_of}
 use Rattle.xa_log.specs.Checkpoint.{IsOther, IsQuiet, LeavesOf, SealTears}
 use Rattle.xa_log.specs.Stands.{Stands, MayStand, Leaves, LeavesLog, Untouched}
-use Rattle.xa_log.specs.TwoFiles.{Pair, MayStandPair, MaySeal}
+use Rattle.xa_log.specs.TwoFiles.{Pair, MayStandPair, MaySeal, KeepsAll}
 use Rattle.xa_log.proofs.Again.{no_fault, rests_front, fits_of, nothing_new}
 use Rattle.xa_log.proofs.Pair.{no_pair_fault, calm_logged}
 use Rattle.xa_log.proofs.Choosing.{no_fault_log, no_fault_newer}
 
-module _ {D : Type 0} (tears : List ℕ → ℕ → List ℕ → List ℕ → Type 0) (seen : D → List ℕ) (may_leave : D → List ℕ → Type 0) (old new : Log D) (u : Untouched old new)
-    (same : seen new.disk ≡ seen old.disk) (left : (c : List ℕ) → may_leave new.disk c → may_leave old.disk c) (same_other : seen new.other ≡ seen old.other) (left_other : (c : List ℕ) → may_leave new.other c → may_leave old.other c) where
-  pub stands_kept : (bodies : List (List ℕ)) → Stands seen may_leave bodies old → Stands seen may_leave bodies new
+module _ {D : Type 0} (disks : Ghosts D) (old new : Log D) (u : Untouched old new)
+    (same : disks.seen new.disk ≡ disks.seen old.disk) (left : (c : List ℕ) → disks.may_leave new.disk c → disks.may_leave old.disk c) (same_other : disks.seen new.other ≡ disks.seen old.other) (left_other : (c : List ℕ) → disks.may_leave new.other c → disks.may_leave old.other c) where
+  stands_kept : (bodies : List (List ℕ)) → Stands disks bodies old → Stands disks bodies new
   stands_kept bodies s = record {
-    file = subst (λ f. Rests new.format bodies f) (sym same) (subst (λ k. Rests k bodies (seen old.disk)) (sym u.format) s.file);
+    file = subst (λ f. Rests new.format bodies f) (sym same) (subst (λ k. Rests k bodies (disks.seen old.disk)) (sym u.format) s.file);
     fits = omega (arith, ap (λ (l : List ℕ). length l) same, u.log_bytes, s.fits);
     end = subst (λ k. new.end ≡ length (text k bodies)) (sym u.format) (u.end ∙ s.end);
     digest = subst (λ k. new.digest ≡ last (start k) bodies) (sym u.format) (u.digest ∙ s.digest);
@@ -27,30 +29,30 @@ module _ {D : Type 0} (tears : List ℕ → ℕ → List ℕ → List ℕ → Ty
     alive = u.lost ∙ s.alive;
   }
 
-  other_kept : (stood : List (List ℕ)) → IsOther seen may_leave old.log_bytes stood old.other → IsOther seen may_leave new.log_bytes stood new.other
-  other_kept stood o = subst (λ m. IsOther seen may_leave m stood new.other) (sym u.log_bytes) (record {
+  other_kept : (stood : List (List ℕ)) → IsOther disks old.log_bytes stood old.other → IsOther disks new.log_bytes stood new.other
+  other_kept stood o = subst (λ m. IsOther disks m stood new.other) (sym u.log_bytes) (record {
     fits = subst (λ f. length f ≤ old.log_bytes) (sym same_other) o.fits;
     behind = subst (λ f. Behind stood f) (sym same_other) o.behind;
     left_fits = λ c now. o.left_fits c (left_other c now);
     left_behind = λ c now. o.left_behind c (left_other c now);
   })
 
-  calm_kept : (stood : List (List ℕ)) → IsCalm stood (seen old.other) → IsCalm stood (seen new.other)
+  calm_kept : (stood : List (List ℕ)) → IsCalm stood (disks.seen old.other) → IsCalm stood (disks.seen new.other)
   calm_kept stood calm = subst (λ f. IsCalm stood f) (sym same_other) calm
 
-  pub quiet_kept : (stood : List (List ℕ)) → IsQuiet seen may_leave stood old.other → IsQuiet seen may_leave stood new.other
+  quiet_kept : (stood : List (List ℕ)) → IsQuiet disks stood old.other → IsQuiet disks stood new.other
   quiet_kept stood q = record { calm = calm_kept stood q.calm; left_calm = λ c now. q.left_calm c (left_other c now) }
 
   beats_kept : (bodies stood : List (List ℕ)) → beats old.on_first bodies stood ≡ true → beats new.on_first bodies stood ≡ true
   beats_kept bodies stood wins = ap (λ (t : Bool). beats t bodies stood) u.on_first ∙ wins
 
-  pub pair_kept : (bodies stood : List (List ℕ)) → Pair tears seen may_leave bodies stood old → Pair tears seen may_leave bodies stood new
+  pair_kept : (bodies stood : List (List ℕ)) → Pair disks bodies stood old → Pair disks bodies stood new
   pair_kept bodies stood p = record { current = stands_kept bodies p.current; other = other_kept stood p.other; calm_on = λ lucky. calm_kept stood (p.calm_on lucky); older = beats_kept bodies stood p.older }
 
-  pub may_stand_kept : (bodies : List (List ℕ)) (body : List ℕ) → MayStand tears seen may_leave bodies body old → MayStand tears seen may_leave bodies body new
+  may_stand_kept : (bodies : List (List ℕ)) (body : List ℕ) → MayStand disks bodies body old → MayStand disks bodies body new
   may_stand_kept bodies body s = record {
-    seen_is = leaves (seen new.disk) (subst (λ f. Leaves old.log_bytes old.format bodies body f) (sym same) s.seen_is);
-    seen_on = λ lucky. subst (λ f. IsBeforeOrAfter new.format bodies body f) (sym same) (subst (λ k. IsBeforeOrAfter k bodies body (seen old.disk)) (sym u.format) (s.seen_on lucky));
+    seen_is = leaves (disks.seen new.disk) (subst (λ f. Leaves old.log_bytes old.format bodies body f) (sym same) s.seen_is);
+    seen_on = λ lucky. subst (λ f. IsBeforeOrAfter new.format bodies body f) (sym same) (subst (λ k. IsBeforeOrAfter k bodies body (disks.seen old.disk)) (sym u.format) (s.seen_on lucky));
     left_is = λ c now. leaves c (s.left_is c (left c now));
     lost = u.lost ∙ s.lost;
   }
@@ -58,7 +60,7 @@ module _ {D : Type 0} (tears : List ℕ → ℕ → List ℕ → List ℕ → Ty
       leaves : (c : List ℕ) → Leaves old.log_bytes old.format bodies body c → Leaves new.log_bytes new.format bodies body c
       leaves c it = subst (λ k. Leaves new.log_bytes k bodies body c) (sym u.format) (subst (λ m. Leaves m old.format bodies body c) (sym u.log_bytes) it)
 
-  pub may_stand_pair_kept : (bodies : List (List ℕ)) (body : List ℕ) (stood : List (List ℕ)) → MayStandPair tears seen may_leave bodies body stood old → MayStandPair tears seen may_leave bodies body stood new
+  may_stand_pair_kept : (bodies : List (List ℕ)) (body : List ℕ) (stood : List (List ℕ)) → MayStandPair disks bodies body stood old → MayStandPair disks bodies body stood new
   may_stand_pair_kept bodies body stood p = record {
     current = may_stand_kept bodies body p.current;
     other = other_kept stood p.other;
@@ -67,12 +69,12 @@ module _ {D : Type 0} (tears : List ℕ → ℕ → List ℕ → List ℕ → Ty
     older_after = beats_kept (bodies ++ body ∷ []) stood p.older_after;
   }
 
-  pub may_seal_kept : (bodies fresh : List (List ℕ)) → MaySeal tears seen may_leave bodies fresh old → MaySeal tears seen may_leave bodies fresh new
+  may_seal_kept : (bodies fresh : List (List ℕ)) → MaySeal disks bodies fresh old → MaySeal disks bodies fresh new
   may_seal_kept bodies fresh p = record {
-    file = subst (λ f. Rests new.format bodies f) (sym same) (subst (λ k. Rests k bodies (seen old.disk)) (sym u.format) p.file);
+    file = subst (λ f. Rests new.format bodies f) (sym same) (subst (λ k. Rests k bodies (disks.seen old.disk)) (sym u.format) p.file);
     fits = omega (arith, ap (λ (l : List ℕ). length l) same, u.log_bytes, p.fits);
     durable = λ c now. p.durable c (left c now) ∙ sym same;
-    other = subst (λ m. LeavesOf m fresh (seen new.other)) (sym u.log_bytes) (subst (λ f. LeavesOf old.log_bytes fresh f) (sym same_other) p.other);
+    other = subst (λ m. LeavesOf m fresh (disks.seen new.other)) (sym u.log_bytes) (subst (λ f. LeavesOf old.log_bytes fresh f) (sym same_other) p.other);
     front = ap (λ (f : List ℕ). has_log f) same_other ∙ p.front;
     calm_on = λ lucky. calm_kept fresh (p.calm_on lucky);
     left = λ c now. subst (λ m. LeavesOf m fresh c) (sym u.log_bytes) (p.left c (left_other c now));
@@ -81,16 +83,26 @@ module _ {D : Type 0} (tears : List ℕ → ℕ → List ℕ → List ℕ → Ty
     lost = u.lost ∙ p.lost;
   }
 
+  pub keeps_all : KeepsAll disks old new
+  keeps_all = record {
+    stands = stands_kept;
+    pair = pair_kept;
+    quiet = quiet_kept;
+    may_stand = may_stand_kept;
+    may_stand_pair = may_stand_pair_kept;
+    may_seal = may_seal_kept;
+  }
+
 -- ---- what a crash may leave of each file
 
-module _ {D : Type 0} (tears : List ℕ → ℕ → List ℕ → List ℕ → Type 0) (seen : D → List ℕ) (may_leave : D → List ℕ → Type 0) (log : Log D) where
-  pub left_other : (stood : List (List ℕ)) → IsOther seen may_leave log.log_bytes stood log.other → (c : List ℕ) → may_leave log.other c → LeavesOf log.log_bytes stood c
+module _ {D : Type 0} (disks : Ghosts D) (log : Log D) where
+  pub left_other : (stood : List (List ℕ)) → IsOther disks log.log_bytes stood log.other → (c : List ℕ) → disks.may_leave log.other c → LeavesOf log.log_bytes stood c
   left_other stood o c now = record { fits = o.left_fits c now; reads = calm_logged stood c (o.left_behind c now) }
 
-  pub left_sealed : (bodies fresh : List (List ℕ)) → MaySeal tears seen may_leave bodies fresh log → (c : List ℕ) → may_leave log.disk c → LeavesLog log.log_bytes log.format bodies c
+  pub left_sealed : (bodies fresh : List (List ℕ)) → MaySeal disks bodies fresh log → (c : List ℕ) → disks.may_leave log.disk c → LeavesLog log.log_bytes log.format bodies c
   left_sealed bodies fresh p c now =
       subst (λ f. LeavesLog log.log_bytes log.format bodies f) (sym (p.durable c now))
-      (record { fits = p.fits; opens = no_fault log.log_bytes log.format (seen log.disk) bodies p.fits (rests_front log.format bodies (seen log.disk) p.file); rests = p.file })
+      (record { fits = p.fits; opens = no_fault log.log_bytes log.format (disks.seen log.disk) bodies p.fits (rests_front log.format bodies (disks.seen log.disk) p.file); rests = p.file })
 
 -- ---- two files that are read again
 
@@ -98,20 +110,20 @@ module _ (most : ℕ) (first : Bool) (current other : List ℕ) (opens : fault_o
   pub reads_well : is_newer (take 8 other) ≡ false → fault_pair most first current other ≡ None
   reads_well known = no_pair_fault most (logged current) current other (no_fault_log most current opens) (no_fault_newer most current opens) (fits_of most current opens) refl short known first
 
-module _ {D : Type 0} (tears : List ℕ → ℕ → List ℕ → List ℕ → Type 0) (seen : D → List ℕ) (may_leave : D → List ℕ → Type 0) (log : Log D) where
-  pub pair_reads : (bodies stood : List (List ℕ)) → Pair tears seen may_leave bodies stood log → CalmTears tears ⊎ IsQuiet seen may_leave stood log.other → fault_pair log.log_bytes log.on_first (seen log.disk) (seen log.other) ≡ None
+module _ {D : Type 0} (disks : Ghosts D) (log : Log D) where
+  pub pair_reads : (bodies stood : List (List ℕ)) → Pair disks bodies stood log → CalmTears disks.tears ⊎ IsQuiet disks stood log.other → fault_pair log.log_bytes log.on_first (disks.seen log.disk) (disks.seen log.other) ≡ None
   pair_reads bodies stood p calm =
       let s = p.current in
-      reads_well log.log_bytes log.on_first (seen log.disk) (seen log.other) (no_fault log.log_bytes log.format (seen log.disk) bodies s.fits (rests_front log.format bodies (seen log.disk) s.file)) p.other.fits
+      reads_well log.log_bytes log.on_first (disks.seen log.disk) (disks.seen log.other) (no_fault log.log_bytes log.format (disks.seen log.disk) bodies s.fits (rests_front log.format bodies (disks.seen log.disk) s.file)) p.other.fits
       (⊎_elim (λ lucky. (p.calm_on lucky).known) (λ q. q.calm.known) calm)
 
-  pub may_stand_reads : (bodies : List (List ℕ)) (body : List ℕ) (stood : List (List ℕ)) → MayStandPair tears seen may_leave bodies body stood log → CalmTears tears ⊎ IsQuiet seen may_leave stood log.other → fault_pair log.log_bytes log.on_first (seen log.disk) (seen log.other) ≡ None
+  pub may_stand_reads : (bodies : List (List ℕ)) (body : List ℕ) (stood : List (List ℕ)) → MayStandPair disks bodies body stood log → CalmTears disks.tears ⊎ IsQuiet disks stood log.other → fault_pair log.log_bytes log.on_first (disks.seen log.disk) (disks.seen log.other) ≡ None
   may_stand_reads bodies body stood p calm =
-      reads_well log.log_bytes log.on_first (seen log.disk) (seen log.other) p.current.seen_is.opens p.other.fits (⊎_elim (λ lucky. (p.calm_on lucky).known) (λ q. q.calm.known) calm)
+      reads_well log.log_bytes log.on_first (disks.seen log.disk) (disks.seen log.other) p.current.seen_is.opens p.other.fits (⊎_elim (λ lucky. (p.calm_on lucky).known) (λ q. q.calm.known) calm)
 
-  pub may_seal_reads : (bodies fresh : List (List ℕ)) → MaySeal tears seen may_leave bodies fresh log → SealTears tears ⊎ IsQuiet seen may_leave fresh log.other → fault_pair log.log_bytes log.on_first (seen log.disk) (seen log.other) ≡ None
+  pub may_seal_reads : (bodies fresh : List (List ℕ)) → MaySeal disks bodies fresh log → SealTears disks.tears ⊎ IsQuiet disks fresh log.other → fault_pair log.log_bytes log.on_first (disks.seen log.disk) (disks.seen log.other) ≡ None
   may_seal_reads bodies fresh p calm =
-      reads_well log.log_bytes log.on_first (seen log.disk) (seen log.other) (no_fault log.log_bytes log.format (seen log.disk) bodies p.fits (rests_front log.format bodies (seen log.disk) p.file)) p.other.fits
+      reads_well log.log_bytes log.on_first (disks.seen log.disk) (disks.seen log.other) (no_fault log.log_bytes log.format (disks.seen log.disk) bodies p.fits (rests_front log.format bodies (disks.seen log.disk) p.file)) p.other.fits
       (⊎_elim (λ lucky. (p.calm_on lucky).known) (λ q. q.calm.known) calm)
 
 -- ---- what a look leaves
@@ -161,7 +173,7 @@ logged_order seen false d o = refl
 
 -- ---- the moments of a look
 
-module _ {D : Type 0} (moment : D → ℕ) (left_since : D → ℕ → List ℕ → Type 0) (may_leave : D → List ℕ → Type 0) (only_now : (d : D) (c : List ℕ) → left_since d (moment d) c → may_leave d c) where
+module _ {D : Type 0} (disks : Ghosts D) (only_now : (d : D) (c : List ℕ) → disks.left_since d (disks.moment d) c → disks.may_leave d c) where
   -- of a file that was looked at, wherever its disk stands then
-  pub look : (d e z : D) → Passes Same (moment d) (moment e) (left_since d) (left_since e) (may_leave d) (may_leave e) → e ≡ z → (P : List ℕ → Type 0) → ((c : List ℕ) → may_leave d c → P c) → LeavesOnly moment left_since d z P
-  look d e z time is P all = subst (λ x. LeavesOnly moment left_since d x P) is (nothing_new moment left_since may_leave d e (only_now d) time P all)
+  pub look : (d e z : D) → TimePasses disks Same d e → e ≡ z → (P : List ℕ → Type 0) → ((c : List ℕ) → disks.may_leave d c → P c) → LeavesOnly disks d z P
+  look d e z time is P all = subst (λ x. LeavesOnly disks d x P) is (nothing_new disks d e (only_now d) time P all)

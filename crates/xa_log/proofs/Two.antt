@@ -1,7 +1,9 @@
 -- A log over two files, after each answer.
 use Rattle.std.proofs.Common.{◌≡◌, ◌≢◌, ◌⊎◌, inl, inr, ⊎_elim, ℕ, ◌-◌, ◌^◌, ◌≤◌, ◌<◌, Bool, true, false, ◌&&◌, ◌||◌, List, [], ◌∷◌, ◌++◌, length, refl, sym, ◌∙◌, ap, subst, arith, nat_lt, nat_eq}
 use Rattle.std.proofs.lemmas.Bool.{or_cases, and_parts, ltb-true}
-use Rattle.xa_disk.specs.Disk.{Only, Same, LeavesOnly}
+use Rattle.xa_disk.specs.Disk.{Only, Same}
+use Rattle.xa_disk.specs.Time.{LeavesOnly}
+use Rattle.xa_disk.specs.declared.disk.Disk.{Ghosts}
 use Rattle.xa_log.specs.declared.format.Format.{Format}
 use Rattle.xa_log.specs.Chain.{newest, start, last, text, Rests}
 use Rattle.xa_log.specs.Pair.{generation, beats, IsCalm}
@@ -30,52 +32,52 @@ beats_more first [] body (d ∷ stood) wins = absurd
     later true is = cc is
     later false is = cc is
 
-module _ {D : Type 0} (tears : List ℕ → ℕ → List ℕ → List ℕ → Type 0) (seen : D → List ℕ) (may_leave : D → List ℕ → Type 0)
-    (bodies stood : List (List ℕ)) (old new : Log D) (p : Pair tears seen may_leave bodies stood old) where
+module _ {D : Type 0} (disks : Ghosts D)
+    (bodies stood : List (List ℕ)) (old new : Log D) (p : Pair disks bodies stood old) where
   -- the other file stays
-  pub pair_on : (now : List (List ℕ)) → Stands seen may_leave now new → new.other ≡ old.other → new.on_first ≡ old.on_first
-      → new.log_bytes ≡ old.log_bytes → beats old.on_first now stood ≡ true → Pair tears seen may_leave now stood new
+  pub pair_on : (now : List (List ℕ)) → Stands disks now new → new.other ≡ old.other → new.on_first ≡ old.on_first
+      → new.log_bytes ≡ old.log_bytes → beats old.on_first now stood ≡ true → Pair disks now stood new
   pair_on now s other first most wins = record {
     current = s;
-    other = subst (λ m. IsOther seen may_leave m stood new.other) (sym most) (subst (λ d. IsOther seen may_leave old.log_bytes stood d) (sym other) p.other);
-    calm_on = λ lucky. subst (λ d. IsCalm stood (seen d)) (sym other) (p.calm_on lucky);
+    other = subst (λ m. IsOther disks m stood new.other) (sym most) (subst (λ d. IsOther disks old.log_bytes stood d) (sym other) p.other);
+    calm_on = λ lucky. subst (λ d. IsCalm stood (disks.seen d)) (sym other) (p.calm_on lucky);
     older = ap (λ (b : Bool). beats b now stood) first ∙ wins;
   }
 
-  pub appends : (body : List ℕ) (o : Appended) → Answers tears seen may_leave o bodies body new → new.other ≡ old.other → new.on_first ≡ old.on_first
-      → new.log_bytes ≡ old.log_bytes → AppendsTo tears seen may_leave o bodies body stood new
+  pub appends : (body : List ℕ) (o : Appended) → Answers disks o bodies body new → new.other ≡ old.other → new.on_first ≡ old.on_first
+      → new.log_bytes ≡ old.log_bytes → AppendsTo disks o bodies body stood new
   appends body Kept a other first most = pair_on (bodies ++ body ∷ []) a other first most (beats_more old.on_first bodies body stood p.older)
   appends body Refused a other first most = pair_on bodies a.0 other first most p.older
   appends body Lost a other first most = record {
     current = a;
-    other = subst (λ m. IsOther seen may_leave m stood new.other) (sym most) (subst (λ d. IsOther seen may_leave old.log_bytes stood d) (sym other) p.other);
-    calm_on = λ lucky. subst (λ d. IsCalm stood (seen d)) (sym other) (p.calm_on lucky);
+    other = subst (λ m. IsOther disks m stood new.other) (sym most) (subst (λ d. IsOther disks old.log_bytes stood d) (sym other) p.other);
+    calm_on = λ lucky. subst (λ d. IsCalm stood (disks.seen d)) (sym other) (p.calm_on lucky);
     older = ap (λ (b : Bool). beats b bodies stood) first ∙ p.older;
     older_after = ap (λ (b : Bool). beats b (bodies ++ body ∷ []) stood) first ∙ beats_more old.on_first bodies body stood p.older;
   }
   appends body Full a other first most = pair_on bodies a other first most p.older
 
   abbrev Left : Format → Appended → List (List ℕ) → D → Type 0
-  Left format o fresh d = Checkpointed tears seen may_leave o old.log_bytes format stood fresh old.other d
+  Left format o fresh d = Checkpointed disks o old.log_bytes format stood fresh old.other d
 
   pub kept_pair : (format : Format) (fresh : List (List ℕ)) → generation bodies < generation fresh → (o : Appended) (d : D) → o ≡ Kept
       → Left format o fresh d → new.disk ≡ d → new.other ≡ old.disk → new.log_bytes ≡ old.log_bytes → new.format ≡ format
       → new.end ≡ length (text format fresh) → new.digest ≡ last (start format) fresh → new.lost ≡ old.lost
-      → Checkpoints tears seen may_leave o bodies stood fresh new
+      → Checkpoints disks o bodies stood fresh new
   kept_pair format fresh above o d is left disk other most form end digest lost =
       let now : Left format Kept fresh d = subst (λ x. Left format x fresh d) is left in
-      let was = others_log old.format seen may_leave old.log_bytes bodies old.disk p.current.file p.current.fits p.current.durable in
-      let same : IsOther seen may_leave new.log_bytes bodies new.other =
-      subst (λ m. IsOther seen may_leave m bodies new.other) (sym most) (subst (λ x. IsOther seen may_leave old.log_bytes bodies x) (sym other) was.0) in
-      let quiet : IsQuiet seen may_leave bodies new.other = subst (λ x. IsQuiet seen may_leave bodies x) (sym other) was.1 in
-      subst (λ x. Checkpoints tears seen may_leave x bodies stood fresh new) (sym is) (
+      let was = others_log old.format disks old.log_bytes bodies old.disk p.current.file p.current.fits p.current.durable in
+      let same : IsOther disks new.log_bytes bodies new.other =
+      subst (λ m. IsOther disks m bodies new.other) (sym most) (subst (λ x. IsOther disks old.log_bytes bodies x) (sym other) was.0) in
+      let quiet : IsQuiet disks bodies new.other = subst (λ x. IsQuiet disks bodies x) (sym other) was.1 in
+      subst (λ x. Checkpoints disks x bodies stood fresh new) (sym is) (
         record {
           current = record {
-            file = subst (λ k. Rests k fresh (seen new.disk)) (sym form) (subst (λ x. Rests format fresh (seen x)) (sym disk) now.0);
-            fits = subst (λ m. length (seen new.disk) ≤ m) (sym most) (subst (λ x. length (seen x) ≤ old.log_bytes) (sym disk) now.1);
+            file = subst (λ k. Rests k fresh (disks.seen new.disk)) (sym form) (subst (λ x. Rests format fresh (disks.seen x)) (sym disk) now.0);
+            fits = subst (λ m. length (disks.seen new.disk) ≤ m) (sym most) (subst (λ x. length (disks.seen x) ≤ old.log_bytes) (sym disk) now.1);
             end = subst (λ k. new.end ≡ length (text k fresh)) (sym form) end;
             digest = subst (λ k. new.digest ≡ last (start k) fresh) (sym form) digest;
-            durable = subst (λ x. Only (seen x) (may_leave x)) (sym disk) now.2;
+            durable = subst (λ x. Only (disks.seen x) (disks.may_leave x)) (sym disk) now.2;
             alive = lost ∙ p.current.alive;
           };
           other = same;
@@ -86,46 +88,46 @@ module _ {D : Type 0} (tears : List ℕ → ℕ → List ℕ → List ℕ → Ty
       )
 
   -- the current file stays
-  rests_still : new.disk ≡ old.disk → new.format ≡ old.format → Rests new.format bodies (seen new.disk)
-  rests_still disk form = subst (λ k. Rests k bodies (seen new.disk)) (sym form) (subst (λ x. Rests old.format bodies (seen x)) (sym disk) p.current.file)
+  rests_still : new.disk ≡ old.disk → new.format ≡ old.format → Rests new.format bodies (disks.seen new.disk)
+  rests_still disk form = subst (λ k. Rests k bodies (disks.seen new.disk)) (sym form) (subst (λ x. Rests old.format bodies (disks.seen x)) (sym disk) p.current.file)
 
   stays : new.disk ≡ old.disk → new.log_bytes ≡ old.log_bytes → new.format ≡ old.format → new.end ≡ old.end → new.digest ≡ old.digest
-      → new.lost ≡ old.lost → Stands seen may_leave bodies new
+      → new.lost ≡ old.lost → Stands disks bodies new
   stays disk most form end digest lost = record {
     file = rests_still disk form;
-    fits = subst (λ m. length (seen new.disk) ≤ m) (sym most) (subst (λ x. length (seen x) ≤ old.log_bytes) (sym disk) p.current.fits);
+    fits = subst (λ m. length (disks.seen new.disk) ≤ m) (sym most) (subst (λ x. length (disks.seen x) ≤ old.log_bytes) (sym disk) p.current.fits);
     end = subst (λ k. new.end ≡ length (text k bodies)) (sym form) (end ∙ p.current.end);
     digest = subst (λ k. new.digest ≡ last (start k) bodies) (sym form) (digest ∙ p.current.digest);
-    durable = subst (λ x. Only (seen x) (may_leave x)) (sym disk) p.current.durable;
+    durable = subst (λ x. Only (disks.seen x) (disks.may_leave x)) (sym disk) p.current.durable;
     alive = lost ∙ p.current.alive;
   }
 
   pub refused_pair : (format : Format) (fresh : List (List ℕ)) (o : Appended) → (o ≡ Refused) ⊎ (o ≡ Full) → o ≢ Full → Left format o fresh new.other
       → new.disk ≡ old.disk → new.on_first ≡ old.on_first → new.log_bytes ≡ old.log_bytes → new.format ≡ old.format → new.end ≡ old.end
       → new.digest ≡ old.digest → new.lost ≡ old.lost
-      → Checkpoints tears seen may_leave o bodies stood fresh new
+      → Checkpoints disks o bodies stood fresh new
   refused_pair format fresh o (inr is) other left disk first most form end digest lost = absurd (other is)
   refused_pair format fresh o (inl is) other left disk first most form end digest lost =
       let now : Left format Refused fresh new.other = subst (λ x. Left format x fresh new.other) is left in
       let s = stays disk most form end digest lost in
-      subst (λ x. Checkpoints tears seen may_leave x bodies stood fresh new) (sym is) (⊎_elim
-      (λ x. inl (record { current = s; other = subst (λ m. IsOther seen may_leave m stood new.other) (sym most) x.0; calm_on = λ lucky. x.1 lucky (p.calm_on lucky); older = ap (λ (b : Bool). beats b bodies stood) first ∙ p.older }))
-      (λ x. inr (record { current = s; other = subst (λ m. IsOther seen may_leave m [] new.other) (sym most) x.0; calm_on = λ lucky. (quiet x.1).calm; older = beats_nil new.on_first bodies }, x.1))
+      subst (λ x. Checkpoints disks x bodies stood fresh new) (sym is) (⊎_elim
+      (λ x. inl (record { current = s; other = subst (λ m. IsOther disks m stood new.other) (sym most) x.0; calm_on = λ lucky. x.1 lucky (p.calm_on lucky); older = ap (λ (b : Bool). beats b bodies stood) first ∙ p.older }))
+      (λ x. inr (record { current = s; other = subst (λ m. IsOther disks m [] new.other) (sym most) x.0; calm_on = λ lucky. (quiet x.1).calm; older = beats_nil new.on_first bodies }, x.1))
       now)
     where
-      quiet : IsQuiet seen may_leave [] new.other → IsQuiet seen may_leave [] new.other
+      quiet : IsQuiet disks [] new.other → IsQuiet disks [] new.other
       quiet q = q
 
   pub lost_pair : (format : Format) (fresh : List (List ℕ)) → generation bodies < generation fresh → (o : Appended) → o ≡ Lost
       → Left format o fresh new.other → new.disk ≡ old.disk → new.log_bytes ≡ old.log_bytes → new.format ≡ old.format → new.lost ≡ true
-      → Checkpoints tears seen may_leave o bodies stood fresh new
+      → Checkpoints disks o bodies stood fresh new
   lost_pair format fresh above o is left disk most form lost =
       let now : Left format Lost fresh new.other = subst (λ x. Left format x fresh new.other) is left in
-      subst (λ x. Checkpoints tears seen may_leave x bodies stood fresh new) (sym is) (record {
+      subst (λ x. Checkpoints disks x bodies stood fresh new) (sym is) (record {
         file = rests_still disk form;
-        fits = subst (λ m. length (seen new.disk) ≤ m) (sym most) (subst (λ x. length (seen x) ≤ old.log_bytes) (sym disk) p.current.fits);
-        durable = subst (λ x. Only (seen x) (may_leave x)) (sym disk) p.current.durable;
-        other = subst (λ m. LeavesOf m fresh (seen new.other)) (sym most) now.0;
+        fits = subst (λ m. length (disks.seen new.disk) ≤ m) (sym most) (subst (λ x. length (disks.seen x) ≤ old.log_bytes) (sym disk) p.current.fits);
+        durable = subst (λ x. Only (disks.seen x) (disks.may_leave x)) (sym disk) p.current.durable;
+        other = subst (λ m. LeavesOf m fresh (disks.seen new.other)) (sym most) now.0;
         calm_on = now.1;
         front = now.3;
         left = λ c l. subst (λ m. LeavesOf m fresh c) (sym most) (now.2 c l);
@@ -135,11 +137,10 @@ module _ {D : Type 0} (tears : List ℕ → ℕ → List ℕ → List ℕ → Ty
       })
 
   -- nothing was asked of the disks
-  pub other_still : (moment : D → ℕ) (left_since : D → ℕ → List ℕ → Type 0)
-      → ((c : List ℕ) → left_since old.other (moment old.other) c → may_leave old.other c) → (format : Format) (fresh : List (List ℕ))
-      → LeavesOnly moment left_since old.other old.other (LeavesAny old.log_bytes format stood fresh)
-  other_still moment left_since only_now format fresh =
-      leaves_by moment left_since may_leave old.other old.other Same (LeavesAny old.log_bytes format stood fresh) only_now (λ c. refl)
+  pub other_still : ((c : List ℕ) → disks.left_since old.other (disks.moment old.other) c → disks.may_leave old.other c) → (format : Format) (fresh : List (List ℕ))
+      → LeavesOnly disks old.other old.other (LeavesAny old.log_bytes format stood fresh)
+  other_still only_now format fresh =
+      leaves_by disks old.other old.other Same (LeavesAny old.log_bytes format stood fresh) only_now (λ c. refl)
       (λ d c left same. inl (subst (λ x. LeavesOf old.log_bytes stood x) (sym same)
       (record { fits = p.other.left_fits d left; reads = calm_logged stood d (p.other.left_behind d left) })))
       (record { later = omega arith; follows = λ c now. (c, now, refl); nothing_else = λ t c le left. inl left; keeps = λ t c le left. left })
@@ -155,11 +156,11 @@ pub wrote_refused : {D : Type 0} (o : Appended) (new : Log D) (d : D) → (o ≡
 wrote_refused o new d (inl is) other = subst (λ x. written x new ≡ d) (sym is) other
 wrote_refused o new d (inr is) other = subst (λ x. written x new ≡ d) (sym is) other
 
-pub moments_of : {D : Type 0} (moment : D → ℕ) (left_since : D → ℕ → List ℕ → Type 0) (most : ℕ) (format : Format) (stood fresh : List (List ℕ)) (old d new : D)
-    → new ≡ d → format ≡ newest → LeavesOnly moment left_since old d (LeavesAny most format stood fresh) → LeavesOnly moment left_since old new (LeavesAny most newest stood fresh)
-moments_of moment left_since most format stood fresh old d new is newest_is leaves =
-    subst (λ x. LeavesOnly moment left_since old x (LeavesAny most newest stood fresh)) (sym is)
-    (subst (λ f. LeavesOnly moment left_since old d (LeavesAny most f stood fresh)) newest_is leaves)
+pub moments_of : {D : Type 0} (disks : Ghosts D) (most : ℕ) (format : Format) (stood fresh : List (List ℕ)) (old d new : D)
+    → new ≡ d → format ≡ newest → LeavesOnly disks old d (LeavesAny most format stood fresh) → LeavesOnly disks old new (LeavesAny most newest stood fresh)
+moments_of disks most format stood fresh old d new is newest_is leaves =
+    subst (λ x. LeavesOnly disks old x (LeavesAny most newest stood fresh)) (sym is)
+    (subst (λ f. LeavesOnly disks old d (LeavesAny most f stood fresh)) newest_is leaves)
 
 -- a fault tells itself by the count of the disk that was written
 pub kept_by : {D : Type 0} (failures : D → ℕ) (o : Appended) (d new : D) (before : ℕ) → new ≡ d → HasCause o before (failures d) → before < 2 ^ 64 - 1

@@ -64,9 +64,9 @@ abbrev pub LooksSecond : {T : Type 0} → Result T OpenFault → ℕ → Counts 
 LooksSecond result most old new = MatchResult result (λ _. OnlyReads most (asked old) new) (λ e. LooksSecondAt e most old new)
 
 -- of the file that isn't the current one at most 1 MiB is read, where the current one is the first or isn't
-abbrev pub ReadsLittle : Bool → Counts → Counts → Counts → Counts → Type 0
-ReadsLittle true first first_new second second_new = OnlyReads 1048576 (asked second) second_new
-ReadsLittle false first first_new second second_new = OnlyReads 1048576 (asked first) first_new
+abbrev pub ReadsLittle : {D : Type 0} → (D → Counts) → Bool → D → D → D → D → Type 0
+ReadsLittle counts true first first_new second second_new = OnlyReads 1048576 (asked (counts second)) (counts second_new)
+ReadsLittle counts false first first_new second second_new = OnlyReads 1048576 (asked (counts first)) (counts first_new)
 
 -- a write and a sync, of which the first that failed is the last
 abbrev pub PutCalls : {T E : Type 0} → Result T E → Counts → Counts → Type 0

@@ -3,6 +3,7 @@ use Rattle.std.specs.Prelude.{◌≡◌, ◌⊎◌, ℕ, ◌≤◌, true, List, 
 use Rattle.std.specs.List.{AllByRecursion}
 use Rattle.std.specs.Int.{w32, to_be_bytes}
 use Rattle.xa_disk.specs.Disk.{Only}
+use Rattle.xa_disk.specs.declared.disk.Disk.{Ghosts}
 use Rattle.xa_log.specs.declared.appending.Appended.{Appended}
 use Rattle.xa_log.specs.declared.appending.Appended.TheVariants.{Kept, Refused, Lost, Full}
 use Rattle.xa_log.specs.Answers.{Fell}
@@ -31,16 +32,16 @@ first_length (body ∷ bodies) = length body
 
 -- Of the other file: no longer than a log may be, and behind byte 12 as the log that stood there, if one did. So is each
 -- image that a crash may leave of it.
-pub record IsOther {D : Type 0} (seen : D → List ℕ) (may_leave : D → List ℕ → Type 0) (most : ℕ) (stood : List (List ℕ)) (disk : D) : Type 0 where
-  pub fits : length (seen disk) ≤ most
-  pub behind : Behind stood (seen disk)
-  pub left_fits : (c : List ℕ) → may_leave disk c → length c ≤ most
-  pub left_behind : (c : List ℕ) → may_leave disk c → Behind stood c
+pub record IsOther {D : Type 0} (disks : Ghosts D) (most : ℕ) (stood : List (List ℕ)) (disk : D) : Type 0 where
+  pub fits : length (disks.seen disk) ≤ most
+  pub behind : Behind stood (disks.seen disk)
+  pub left_fits : (c : List ℕ) → disks.may_leave disk c → length c ≤ most
+  pub left_behind : (c : List ℕ) → disks.may_leave disk c → Behind stood c
 
 -- Nothing of it is left to chance.
-pub record IsQuiet {D : Type 0} (seen : D → List ℕ) (may_leave : D → List ℕ → Type 0) (stood : List (List ℕ)) (disk : D) : Type 0 where
-  pub calm : IsCalm stood (seen disk)
-  pub left_calm : (c : List ℕ) → may_leave disk c → IsCalm stood c
+pub record IsQuiet {D : Type 0} (disks : Ghosts D) (stood : List (List ℕ)) (disk : D) : Type 0 where
+  pub calm : IsCalm stood (disks.seen disk)
+  pub left_calm : (c : List ℕ) → disks.may_leave disk c → IsCalm stood c
 
 -- an image of a file that a checkpoint writes: no longer than a log may be, and without chance a log of these bodies or of none
 pub record LeavesOf (most : ℕ) (bodies : List (List ℕ)) (c : List ℕ) : Type 0 where
@@ -63,14 +64,16 @@ SealTears tears = (format : Format) (bodies : List (List ℕ)) (old mid new : Li
     → Fell tears old 8 (to_be_bytes w32 (first_length bodies)) mid → Fell tears mid 8 (0 ∷ 0 ∷ 0 ∷ 0 ∷ []) new → IsCalm bodies new
 
 -- what a checkpoint left of the file that it wrote
-abbrev pub Checkpointed : {D : Type 0} → (List ℕ → ℕ → List ℕ → List ℕ → Type 0) → (D → List ℕ) → (D → List ℕ → Type 0) → Appended → ℕ → Format → List (List ℕ) → List (List ℕ) → D → D → Type 0
-Checkpointed tears seen may_leave Kept most format stood bodies old new = Rests format bodies (seen new) × (length (seen new) ≤ most) × Only (seen new) (may_leave new)
+abbrev pub Checkpointed : {D : Type 0} → Ghosts D → Appended → ℕ → Format → List (List ℕ) → List (List ℕ) → D → D → Type 0
+Checkpointed disks Kept most format stood bodies old new =
+    Rests format bodies (disks.seen new) × (length (disks.seen new) ≤ most) × Only (disks.seen new) (disks.may_leave new)
 -- by a fault in the first part, or behind it
-Checkpointed tears seen may_leave Refused most format stood bodies old new =
-    (IsOther seen may_leave most stood new × (CalmTears tears → IsCalm stood (seen old) → IsCalm stood (seen new)))
-    ⊎ (IsOther seen may_leave most [] new × IsQuiet seen may_leave [] new)
-Checkpointed tears seen may_leave Lost most format stood bodies old new =
-    LeavesOf most bodies (seen new) × (SealTears tears → IsCalm bodies (seen new)) × ((c : List ℕ) → may_leave new c → LeavesOf most bodies c)
+Checkpointed disks Refused most format stood bodies old new =
+    (IsOther disks most stood new × (CalmTears disks.tears → IsCalm stood (disks.seen old) → IsCalm stood (disks.seen new)))
+    ⊎ (IsOther disks most [] new × IsQuiet disks [] new)
+Checkpointed disks Lost most format stood bodies old new =
+    LeavesOf most bodies (disks.seen new) × (SealTears disks.tears → IsCalm bodies (disks.seen new))
+    × ((c : List ℕ) → disks.may_leave new c → LeavesOf most bodies c)
     -- the seal is behind the first 8 bytes, which were synced
-    × (has_log (seen new) ≡ true) × ((c : List ℕ) → may_leave new c → has_log c ≡ true)
-Checkpointed tears seen may_leave Full most format stood bodies old new = ⊥
+    × (has_log (disks.seen new) ≡ true) × ((c : List ℕ) → disks.may_leave new c → has_log c ≡ true)
+Checkpointed disks Full most format stood bodies old new = ⊥

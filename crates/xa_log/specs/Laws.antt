@@ -2,6 +2,7 @@
 use Rattle.std.specs.Prelude.{◌≡◌, ◌⊎◌, ℕ, ◌≤◌, ◌<◌, Bool, true, false, List, [], ◌∷◌, ◌++◌, length, None}
 use Rattle.xa_log.specs.declared.format.Format.{Format}
 use Rattle.xa_disk.specs.Disk.{Torn}
+use Rattle.xa_disk.specs.declared.disk.Disk.{Ghosts}
 use Rattle.xa_log.specs.Chain.{Rests, IsPlain, logged}
 use Rattle.xa_log.specs.Pair.{generation, has_log, beats, logged_of, fault_pair, IsCalm, Behind}
 use Rattle.xa_log.specs.Checkpoint.{LeavesOf, LeavesNone}
@@ -44,9 +45,9 @@ SealLaw = (most : ℕ) (first : Bool) (bodies fresh : List (List ℕ)) (current 
     → (fault_pair most first current other ≡ None) × ((logged_of first current other ≡ bodies) ⊎ (logged_of first current other ≡ fresh))
 
 -- What was read of two files is a pair, of which the other file comes behind, where no stray records would come before it.
-abbrev pub OpenedLaw : {D : Type 0} → (List ℕ → ℕ → List ℕ → List ℕ → Type 0) → (D → List ℕ) → (D → List ℕ → Type 0) → Type 0
-OpenedLaw {D} tears seen may_leave = (bodies : List (List ℕ)) (log : Log D) → IsOpenPair seen may_leave bodies (logged (seen log.other)) log
-    → NoStray (seen (first_of log)) (seen (second_of log)) → Pair tears seen may_leave bodies (logged (seen log.other)) log
+abbrev pub OpenedLaw : {D : Type 0} → Ghosts D → Type 0
+OpenedLaw {D} disks = (bodies : List (List ℕ)) (log : Log D) → IsOpenPair disks bodies (logged (disks.seen log.other)) log
+    → NoStray (disks.seen (first_of log)) (disks.seen (second_of log)) → Pair disks bodies (logged (disks.seen log.other)) log
 
 -- Chance is possible, and not only by a digest: what stands behind 8 bytes that are no log's may be a log's records. So
 -- where a file isn't a log, that none chain there which would come before the other file's log is a premise of its own.

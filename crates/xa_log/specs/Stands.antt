@@ -1,6 +1,7 @@
 -- What a log stands for.
 use Rattle.std.specs.Prelude.{◌≡◌, ◌≤◌, ℕ, ◌+◌, true, false, List, [], ◌∷◌, ◌++◌, length, take, drop, replicate, None}
 use Rattle.xa_disk.specs.Disk.{Only}
+use Rattle.xa_disk.specs.declared.disk.Disk.{Ghosts}
 use Rattle.xa_log.specs.Chain.{start, last, text, Rests, IsPlain, IsBeforeOrAfter, NoChance}
 use Rattle.xa_log.specs.Reading.{fault_of}
 use Rattle.xa_log.specs.declared.format.Format.{Format}
@@ -9,12 +10,12 @@ use Rattle.xa_log.specs.declared.appending.Appended.TheVariants.{Kept, Refused, 
 use Rattle.xa_log.specs.declared.log.Log.{Log}
 
 -- a log of these bodies, which a read gives and each crash leaves
-pub record Stands {D : Type 0} (seen : D → List ℕ) (may_leave : D → List ℕ → Type 0) (bodies : List (List ℕ)) (log : Log D) : Type 0 where
-  pub file : Rests log.format bodies (seen log.disk)
-  pub fits : length (seen log.disk) ≤ log.log_bytes
+pub record Stands {D : Type 0} (disks : Ghosts D) (bodies : List (List ℕ)) (log : Log D) : Type 0 where
+  pub file : Rests log.format bodies (disks.seen log.disk)
+  pub fits : length (disks.seen log.disk) ≤ log.log_bytes
   pub end : log.end ≡ length (text log.format bodies)
   pub digest : log.digest ≡ last (start log.format) bodies
-  pub durable : Only (seen log.disk) (may_leave log.disk)
+  pub durable : Only (disks.seen log.disk) (disks.may_leave log.disk)
   pub alive : log.lost ≡ false
 
 -- What a crash leaves of a log of at most so many bytes while this body is appended to these: a log that `open`
@@ -32,21 +33,22 @@ pub record LeavesLog (most : ℕ) (format : Format) (bodies : List (List ℕ)) (
   pub rests : Rests format bodies file
 
 -- The append of a body to these was lost: without chance, a read and a crash give the bodies, with it or without.
-pub record MayStand {D : Type 0} (tears : List ℕ → ℕ → List ℕ → List ℕ → Type 0) (seen : D → List ℕ) (may_leave : D → List ℕ → Type 0) (bodies : List (List ℕ)) (body : List ℕ) (log : Log D) : Type 0 where
-  pub seen_is : Leaves log.log_bytes log.format bodies body (seen log.disk)
+pub record MayStand {D : Type 0} (disks : Ghosts D) (bodies : List (List ℕ)) (body : List ℕ) (log : Log D) : Type 0 where
+  pub seen_is : Leaves log.log_bytes log.format bodies body (disks.seen log.disk)
   -- the same, where the disk's failed writes leave nothing by chance to a read
-  pub seen_on : NoChance tears → IsBeforeOrAfter log.format bodies body (seen log.disk)
-  pub left_is : (c : List ℕ) → may_leave log.disk c → Leaves log.log_bytes log.format bodies body c
+  pub seen_on : NoChance disks.tears → IsBeforeOrAfter log.format bodies body (disks.seen log.disk)
+  pub left_is : (c : List ℕ) → disks.may_leave log.disk c → Leaves log.log_bytes log.format bodies body c
   pub lost : log.lost ≡ true
 
 -- what each answer says
-abbrev pub Answers : {D : Type 0} → (List ℕ → ℕ → List ℕ → List ℕ → Type 0) → (D → List ℕ) → (D → List ℕ → Type 0) → Appended → List (List ℕ) → List ℕ → Log D → Type 0
-Answers tears seen may_leave Kept bodies body log = Stands seen may_leave (bodies ++ body ∷ []) log
+abbrev pub Answers : {D : Type 0} → Ghosts D → Appended → List (List ℕ) → List ℕ → Log D → Type 0
+Answers disks Kept bodies body log = Stands disks (bodies ++ body ∷ []) log
 -- a read gives zeros over the whole range that the record and its closing length took
-Answers tears seen may_leave Refused bodies body log =
-    Stands seen may_leave bodies log × (take (40 + length body) (drop (length (text log.format bodies)) (seen log.disk)) ≡ replicate (40 + length body) 0)
-Answers tears seen may_leave Lost bodies body log = MayStand tears seen may_leave bodies body log
-Answers tears seen may_leave Full bodies body log = Stands seen may_leave bodies log
+Answers disks Refused bodies body log =
+    Stands disks bodies log
+    × (take (40 + length body) (drop (length (text log.format bodies)) (disks.seen log.disk)) ≡ replicate (40 + length body) 0)
+Answers disks Lost bodies body log = MayStand disks bodies body log
+Answers disks Full bodies body log = Stands disks bodies log
 
 -- a log's own fields stay
 pub record Untouched {D : Type 0} (old new : Log D) : Type 0 where

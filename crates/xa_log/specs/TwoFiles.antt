@@ -1,6 +1,7 @@
 -- What a log of two files stands for.
 use Rattle.std.specs.Prelude.{◌≡◌, ◌⊎◌, ◌≤◌, ◌<◌, ℕ, true, false, not, if◌then◌else◌, List, [], ◌∷◌, ◌++◌, length}
 use Rattle.xa_disk.specs.Disk.{Only}
+use Rattle.xa_disk.specs.declared.disk.Disk.{Ghosts}
 use Rattle.xa_log.specs.Chain.{newest, start, last, text, Rests, logged}
 use Rattle.xa_log.specs.Pair.{generation, beats, has_log, IsCalm, CalmTears}
 use Rattle.xa_log.specs.Checkpoint.{IsOther, IsQuiet, LeavesOf, SealTears}
@@ -11,40 +12,41 @@ use Rattle.xa_log.specs.declared.log.Log.{Log}
 
 -- The current file is a log of these bodies; of the other one, each image is without chance a log that comes behind
 -- it, of those bodies that stood there, or none.
-pub record Pair {D : Type 0} (tears : List ℕ → ℕ → List ℕ → List ℕ → Type 0) (seen : D → List ℕ) (may_leave : D → List ℕ → Type 0) (bodies stood : List (List ℕ)) (log : Log D) : Type 0 where
-  pub current : Stands seen may_leave bodies log
-  pub other : IsOther seen may_leave log.log_bytes stood log.other
-  pub calm_on : CalmTears tears → IsCalm stood (seen log.other)
+pub record Pair {D : Type 0} (disks : Ghosts D) (bodies stood : List (List ℕ)) (log : Log D) : Type 0 where
+  pub current : Stands disks bodies log
+  pub other : IsOther disks log.log_bytes stood log.other
+  pub calm_on : CalmTears disks.tears → IsCalm stood (disks.seen log.other)
   pub older : beats log.on_first bodies stood ≡ true
 
 -- The append of a body to these was lost; of the other file the same is said as before, and it comes behind either way.
-pub record MayStandPair {D : Type 0} (tears : List ℕ → ℕ → List ℕ → List ℕ → Type 0) (seen : D → List ℕ) (may_leave : D → List ℕ → Type 0) (bodies : List (List ℕ)) (body : List ℕ) (stood : List (List ℕ)) (log : Log D) : Type 0 where
-  pub current : MayStand tears seen may_leave bodies body log
-  pub other : IsOther seen may_leave log.log_bytes stood log.other
-  pub calm_on : CalmTears tears → IsCalm stood (seen log.other)
+pub record MayStandPair {D : Type 0} (disks : Ghosts D) (bodies : List (List ℕ)) (body : List ℕ)
+    (stood : List (List ℕ)) (log : Log D) : Type 0 where
+  pub current : MayStand disks bodies body log
+  pub other : IsOther disks log.log_bytes stood log.other
+  pub calm_on : CalmTears disks.tears → IsCalm stood (disks.seen log.other)
   pub older : beats log.on_first bodies stood ≡ true
   pub older_after : beats log.on_first (bodies ++ body ∷ []) stood ≡ true
 
 -- The checkpoint of new bodies was lost: the other file begins as a log, and without chance it is one of them or of none.
-pub record MaySeal {D : Type 0} (tears : List ℕ → ℕ → List ℕ → List ℕ → Type 0) (seen : D → List ℕ) (may_leave : D → List ℕ → Type 0) (bodies fresh : List (List ℕ)) (log : Log D) : Type 0 where
-  pub file : Rests log.format bodies (seen log.disk)
-  pub fits : length (seen log.disk) ≤ log.log_bytes
-  pub durable : Only (seen log.disk) (may_leave log.disk)
-  pub other : LeavesOf log.log_bytes fresh (seen log.other)
-  pub front : has_log (seen log.other) ≡ true
-  pub calm_on : SealTears tears → IsCalm fresh (seen log.other)
-  pub left : (c : List ℕ) → may_leave log.other c → LeavesOf log.log_bytes fresh c
-  pub left_front : (c : List ℕ) → may_leave log.other c → has_log c ≡ true
+pub record MaySeal {D : Type 0} (disks : Ghosts D) (bodies fresh : List (List ℕ)) (log : Log D) : Type 0 where
+  pub file : Rests log.format bodies (disks.seen log.disk)
+  pub fits : length (disks.seen log.disk) ≤ log.log_bytes
+  pub durable : Only (disks.seen log.disk) (disks.may_leave log.disk)
+  pub other : LeavesOf log.log_bytes fresh (disks.seen log.other)
+  pub front : has_log (disks.seen log.other) ≡ true
+  pub calm_on : SealTears disks.tears → IsCalm fresh (disks.seen log.other)
+  pub left : (c : List ℕ) → disks.may_leave log.other c → LeavesOf log.log_bytes fresh c
+  pub left_front : (c : List ℕ) → disks.may_leave log.other c → has_log c ≡ true
   pub above : generation bodies < generation fresh
   pub lost : log.lost ≡ true
 
 -- what each answer of a checkpoint says
-abbrev pub Checkpoints : {D : Type 0} → (List ℕ → ℕ → List ℕ → List ℕ → Type 0) → (D → List ℕ) → (D → List ℕ → Type 0) → Appended → List (List ℕ) → List (List ℕ) → List (List ℕ) → Log D → Type 0
-Checkpoints tears seen may_leave Kept bodies stood fresh log = Pair tears seen may_leave fresh bodies log × IsQuiet seen may_leave bodies log.other
+abbrev pub Checkpoints : {D : Type 0} → Ghosts D → Appended → List (List ℕ) → List (List ℕ) → List (List ℕ) → Log D → Type 0
+Checkpoints disks Kept bodies stood fresh log = Pair disks fresh bodies log × IsQuiet disks bodies log.other
 -- by a fault in the first part, or behind it
-Checkpoints tears seen may_leave Refused bodies stood fresh log = Pair tears seen may_leave bodies stood log ⊎ (Pair tears seen may_leave bodies [] log × IsQuiet seen may_leave [] log.other)
-Checkpoints tears seen may_leave Lost bodies stood fresh log = MaySeal tears seen may_leave bodies fresh log
-Checkpoints tears seen may_leave Full bodies stood fresh log = Pair tears seen may_leave bodies stood log
+Checkpoints disks Refused bodies stood fresh log = Pair disks bodies stood log ⊎ (Pair disks bodies [] log × IsQuiet disks [] log.other)
+Checkpoints disks Lost bodies stood fresh log = MaySeal disks bodies fresh log
+Checkpoints disks Full bodies stood fresh log = Pair disks bodies stood log
 
 -- the file that a checkpoint wrote, by its answer: the current one is not touched
 abbrev pub written : {D : Type 0} → Appended → Log D → D
@@ -62,19 +64,34 @@ Swaps Lost fresh old new = (new.disk ≡ old.disk) × (new.on_first ≡ old.on_f
 Swaps Full fresh old new = new ≡ old
 
 -- what each answer of an append says of two files
-abbrev pub AppendsTo : {D : Type 0} → (List ℕ → ℕ → List ℕ → List ℕ → Type 0) → (D → List ℕ) → (D → List ℕ → Type 0) → Appended → List (List ℕ) → List ℕ → List (List ℕ) → Log D → Type 0
-AppendsTo tears seen may_leave Kept bodies body stood log = Pair tears seen may_leave (bodies ++ body ∷ []) stood log
-AppendsTo tears seen may_leave Refused bodies body stood log = Pair tears seen may_leave bodies stood log
-AppendsTo tears seen may_leave Lost bodies body stood log = MayStandPair tears seen may_leave bodies body stood log
-AppendsTo tears seen may_leave Full bodies body stood log = Pair tears seen may_leave bodies stood log
+abbrev pub AppendsTo : {D : Type 0} → Ghosts D → Appended → List (List ℕ) → List ℕ → List (List ℕ) → Log D → Type 0
+AppendsTo disks Kept bodies body stood log = Pair disks (bodies ++ body ∷ []) stood log
+AppendsTo disks Refused bodies body stood log = Pair disks bodies stood log
+AppendsTo disks Lost bodies body stood log = MayStandPair disks bodies body stood log
+AppendsTo disks Full bodies body stood log = Pair disks bodies stood log
 
 -- Two files that were read: the current one stands, and the other one is what it was, on its disk too. It comes behind
 -- where both are logs; where it isn't one, that is a premise on what stands behind its first 8 bytes, NoStray.
-pub record IsOpenPair {D : Type 0} (seen : D → List ℕ) (may_leave : D → List ℕ → Type 0) (bodies stood : List (List ℕ)) (log : Log D) : Type 0 where
-  pub current : Stands seen may_leave bodies log
-  pub other : IsOther seen may_leave log.log_bytes stood log.other
-  pub quiet : IsQuiet seen may_leave stood log.other
-  pub older : (has_log (seen log.other) ≡ true) → beats log.on_first bodies stood ≡ true
+pub record IsOpenPair {D : Type 0} (disks : Ghosts D) (bodies stood : List (List ℕ)) (log : Log D) : Type 0 where
+  pub current : Stands disks bodies log
+  pub other : IsOther disks log.log_bytes stood log.other
+  pub quiet : IsQuiet disks stood log.other
+  pub older : (has_log (disks.seen log.other) ≡ true) → beats log.on_first bodies stood ≡ true
+
+-- What was read is a pair, and nothing of the other file is left to chance.
+abbrev pub IsReadPair : {D : Type 0} → Ghosts D → List (List ℕ) → Log D → Type 0
+IsReadPair disks bodies log =
+    Pair disks bodies (logged (disks.seen log.other)) log × IsQuiet disks (logged (disks.seen log.other)) log.other
+
+-- what a log stood for it stands for
+pub record KeepsAll {D : Type 0} (disks : Ghosts D) (old new : Log D) : Type 0 where
+  pub stands : (bodies : List (List ℕ)) → Stands disks bodies old → Stands disks bodies new
+  pub pair : (bodies stood : List (List ℕ)) → Pair disks bodies stood old → Pair disks bodies stood new
+  pub quiet : (stood : List (List ℕ)) → IsQuiet disks stood old.other → IsQuiet disks stood new.other
+  pub may_stand : (bodies : List (List ℕ)) (body : List ℕ) → MayStand disks bodies body old → MayStand disks bodies body new
+  pub may_stand_pair : (bodies : List (List ℕ)) (body : List ℕ) (stood : List (List ℕ)) → MayStandPair disks bodies body stood old
+      → MayStandPair disks bodies body stood new
+  pub may_seal : (bodies fresh : List (List ℕ)) → MaySeal disks bodies fresh old → MaySeal disks bodies fresh new
 
 -- The premise of an opening on the first and the second file: where one begins as no log, the records that chain behind
 -- its first 8 bytes, if any do, come behind those of the other one.

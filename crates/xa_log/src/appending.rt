@@ -1,6 +1,7 @@
 //! How a record goes to the disk.
 ghost use Rattle.std.specs.Prelude.{◌≡◌, ◌≢◌, ◌+◌, ◌≤◌, ◌++◌, ◌∷◌, [], length, OnOk, OnErr};
-ghost use Rattle.xa_disk.specs.Disk.{put, Torn, Only, Passes, CountsFault};
+ghost use Rattle.xa_disk.specs.Disk.{put, Torn, Only, CountsFault};
+ghost use Rattle.xa_disk.specs.Time.{TimePasses};
 ghost use Rattle.xa_log.specs.Chain.{digest, record_of, IsBody};
 ghost use Rattle.xa_log.specs.Answers.{Went, Fell, HasCause};
 ghost use Rattle.xa_log.specs.Calls.{PutCalls, AppendCalls};
@@ -27,7 +28,7 @@ pub(crate) fn put_synced<D: Disk>(disk: &mut D, at: u64, bytes: &[u8]) -> Result
     ensures durable { D.honest → OnOk result (Only (D.seen disk.new) (D.may_leave disk.new)) }
     ensures failed { D.honest → OnErr result (Torn at (length bytes.now) (D.seen disk.old) (D.seen disk.new)) }
     ensures fell { D.honest → OnErr result (Fell D.tears (D.seen disk.old) at bytes.now (D.seen disk.new)) }
-    ensures time { D.honest → Passes (Torn at (length bytes.now)) (D.moment disk.old) (D.moment disk.new) (D.left_since disk.old) (D.left_since disk.new) (D.may_leave disk.old) (D.may_leave disk.new) }
+    ensures time { D.honest → TimePasses D.Disk (Torn at (length bytes.now)) disk.old disk.new }
     ensures count { CountsFault result (D.failures disk.old) (D.failures disk.new) }
     ensures calls { PutCalls result (D.counts disk.old) (D.counts disk.new) }
 {
@@ -40,8 +41,9 @@ pub(crate) fn put_synced<D: Disk>(disk: &mut D, at: u64, bytes: &[u8]) -> Result
 // torn behind its length. A disk that syncs no more behind a failed sync, as `FileDisk`, so comes to `Lost` there, and then
 // a rescan fails too: only the files opened anew tell what stands.
 pub(crate) fn put_or_clear<D: Disk>(disk: &mut D, at: u64, bytes: &mut [u8]) -> Appended
-    ensures went { D.honest → Went D.tears result at bytes.old (D.seen disk.old) (D.seen disk.new) (D.may_leave disk.new) }
-    ensures time { D.honest → Passes (Torn at (length bytes.old)) (D.moment disk.old) (D.moment disk.new) (D.left_since disk.old) (D.left_since disk.new) (D.may_leave disk.old) (D.may_leave disk.new) }
+    ensures went { D.honest
+        → Went D.tears result at bytes.old (D.seen disk.old) (D.seen disk.new) (D.may_leave disk.new) }
+    ensures time { D.honest → TimePasses D.Disk (Torn at (length bytes.old)) disk.old disk.new }
     ensures cause { HasCause result (D.failures disk.old) (D.failures disk.new) }
     ensures calls { AppendCalls result (D.counts disk.old) (D.counts disk.new) }
     ensures not_full { result ≢ Appended.Full }
@@ -69,8 +71,11 @@ pub(crate) fn append_at<D: Disk>(
     requires room { 40 + length body.now ≤ length buffer.old }
     requires body { IsBody body.now }
     ensures digest { result.1 ≡ digest prev.now body.now }
-    ensures went { D.honest → Went D.tears result.0 at (record_of prev.now body.now ++ 0 ∷ 0 ∷ 0 ∷ 0 ∷ []) (D.seen disk.old) (D.seen disk.new) (D.may_leave disk.new) }
-    ensures time { D.honest → Passes (Torn at (length (record_of prev.now body.now ++ 0 ∷ 0 ∷ 0 ∷ 0 ∷ []))) (D.moment disk.old) (D.moment disk.new) (D.left_since disk.old) (D.left_since disk.new) (D.may_leave disk.old) (D.may_leave disk.new) }
+    ensures went { D.honest
+        → Went D.tears result.0 at (record_of prev.now body.now ++ 0 ∷ 0 ∷ 0 ∷ 0 ∷ [])
+        (D.seen disk.old) (D.seen disk.new) (D.may_leave disk.new) }
+    ensures time { D.honest
+        → TimePasses D.Disk (Torn at (length (record_of prev.now body.now ++ 0 ∷ 0 ∷ 0 ∷ 0 ∷ []))) disk.old disk.new }
     ensures cause { HasCause result.0 (D.failures disk.old) (D.failures disk.new) }
     ensures calls { AppendCalls result.0 (D.counts disk.old) (D.counts disk.new) }
     ensures not_full { result.0 ≢ Appended.Full }

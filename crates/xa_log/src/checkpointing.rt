@@ -2,7 +2,8 @@
 ghost use Rattle.std.specs.Prelude.{◌≡◌, ◌≢◌, ◌⊎◌, ◌+◌, ◌-◌, ◌≤◌, ◌<◌, ◌^◌, ◌++◌, ◌∷◌, [], List, ℕ, length, take, drop, OnOk, OnErr, IfOk, IfSome, IfNone};
 ghost use Rattle.std.specs.Int.{w32, to_be_bytes};
 ghost use Rattle.std.specs.List.{AllByRecursion};
-ghost use Rattle.xa_disk.specs.Disk.{put, Torn, Only, Passes, CountsFault, LeavesOnly};
+ghost use Rattle.xa_disk.specs.Disk.{put, Torn, Only, CountsFault};
+ghost use Rattle.xa_disk.specs.Time.{TimePasses, LeavesOnly};
 ghost use Rattle.xa_disk.specs.Counts.{with_write};
 ghost use Rattle.xa_log.specs.declared.format.Format.{Format};
 ghost use Rattle.xa_log.specs.Chain.{start, opening, last, digest, records, text, IsBody};
@@ -22,13 +23,13 @@ use xa_disk::{Disk, DiskFault};
 pub(crate) fn put_front<D: Disk>(disk: &mut D, format: Format) -> Result<(), DiskFault>
     ensures made { D.honest → OnOk result (D.seen disk.new ≡ opening format ++ drop 12 (D.seen disk.old)) }
     ensures durable { D.honest → OnOk result (Only (D.seen disk.new) (D.may_leave disk.new)) }
-    ensures stays { D.honest → (most : ℕ) (stood : List (List ℕ)) → 12 ≤ most → IsOther D.seen D.may_leave most stood disk.old
-        → OnErr result (IsOther D.seen D.may_leave most stood disk.new) }
+    ensures stays { D.honest → (most : ℕ) (stood : List (List ℕ)) → 12 ≤ most → IsOther D.Disk most stood disk.old
+        → OnErr result (IsOther D.Disk most stood disk.new) }
     ensures calm { D.honest → CalmTears D.tears → (stood : List (List ℕ)) → IsCalm stood (D.seen disk.old)
         → OnErr result (IsCalm stood (D.seen disk.new)) }
     // Whichever image is left: without chance what stood there, or nothing.
-    ensures any_moment { D.honest → (most : ℕ) (stood : List (List ℕ)) → 12 ≤ most → IsOther D.seen D.may_leave most stood disk.old
-        → LeavesOnly D.moment D.left_since disk.old disk.new (LeavesOf most stood) }
+    ensures any_moment { D.honest → (most : ℕ) (stood : List (List ℕ)) → 12 ≤ most → IsOther D.Disk most stood disk.old
+        → LeavesOnly D.Disk disk.old disk.new (LeavesOf most stood) }
     ensures count { CountsFault result (D.failures disk.old) (D.failures disk.new) }
     ensures calls { PutCalls result (D.counts disk.old) (D.counts disk.new) }
 {
@@ -50,10 +51,12 @@ fn put_record<D: Disk>(
     requires zeros { zeros ≤ 4 }
     ensures digest { IfOk result (λ d. d ≡ digest prev.now body.now) }
     ensures written { D.honest
-        → OnOk result (D.seen disk.new ≡ put (D.seen disk.old) (at + (12 - at)) (drop (12 - at) (tailed prev.now body.now zeros))) }
-    ensures torn { D.honest → Torn (at + (12 - at)) (36 + length body.now + zeros - (12 - at)) (D.seen disk.old) (D.seen disk.new) }
+        → OnOk result (D.seen disk.new ≡ put (D.seen disk.old) (at + (12 - at))
+        (drop (12 - at) (tailed prev.now body.now zeros))) }
+    ensures torn { D.honest
+        → Torn (at + (12 - at)) (36 + length body.now + zeros - (12 - at)) (D.seen disk.old) (D.seen disk.new) }
     ensures time { D.honest
-        → Passes (Torn (at + (12 - at)) (36 + length body.now + zeros - (12 - at))) (D.moment disk.old) (D.moment disk.new) (D.left_since disk.old) (D.left_since disk.new) (D.may_leave disk.old) (D.may_leave disk.new) }
+        → TimePasses D.Disk (Torn (at + (12 - at)) (36 + length body.now + zeros - (12 - at))) disk.old disk.new }
     ensures count { CountsFault result (D.failures disk.old) (D.failures disk.new) }
     ensures calls { D.counts disk.new ≡ with_write (D.counts disk.old) }
 {
@@ -81,13 +84,14 @@ pub(crate) fn put_records<D: Disk>(
     ensures written { D.honest → 12 ≤ length (D.seen disk.old)
         → OnOk result (D.seen disk.new ≡ put (D.seen disk.old) 12 (behind_front format (bodies_of bodies.now))) }
     ensures durable { D.honest → OnOk result (Only (D.seen disk.new) (D.may_leave disk.new)) }
-    ensures torn { D.honest → Torn 12 (length (records (start format) (bodies_of bodies.now))) (D.seen disk.old) (D.seen disk.new) }
+    ensures torn { D.honest
+        → Torn 12 (length (records (start format) (bodies_of bodies.now))) (D.seen disk.old) (D.seen disk.new) }
     // Whichever image is left: nothing.
     ensures any_moment { D.honest → (most : ℕ) → 12 + length (records (start format) (bodies_of bodies.now)) ≤ most
         → LeavesNone most format (D.seen disk.old) → Only (D.seen disk.old) (D.may_leave disk.old)
-        → LeavesOnly D.moment D.left_since disk.old disk.new (LeavesNone most format) }
+        → LeavesOnly D.Disk disk.old disk.new (LeavesNone most format) }
     ensures time { D.honest
-        → Passes (Torn 12 (length (records (start format) (bodies_of bodies.now)))) (D.moment disk.old) (D.moment disk.new) (D.left_since disk.old) (D.left_since disk.new) (D.may_leave disk.old) (D.may_leave disk.new) }
+        → TimePasses D.Disk (Torn 12 (length (records (start format) (bodies_of bodies.now)))) disk.old disk.new }
     ensures count { CountsFault result (D.failures disk.old) (D.failures disk.new) }
     ensures calls { RecordsCalls result (length bodies.now) (D.counts disk.old) (D.counts disk.new) }
 {
@@ -107,12 +111,14 @@ pub(crate) fn put_records<D: Disk>(
 // the right length or, without chance, one whose record doesn't chain. Here a fault is repaired: a seal that may be there can
 // make this file the current one.
 pub(crate) fn put_seal<D: Disk>(disk: &mut D, size: u32) -> Appended
-    ensures went { D.honest → Went D.tears result 8 (to_be_bytes w32 size) (D.seen disk.old) (D.seen disk.new) (D.may_leave disk.new) }
-    ensures any_moment { D.honest → (most : ℕ) (format : Format) (bodies : List (List ℕ)) → IsReady format bodies (D.seen disk.old)
+    ensures went { D.honest
+        → Went D.tears result 8 (to_be_bytes w32 size) (D.seen disk.old) (D.seen disk.new) (D.may_leave disk.new) }
+    ensures any_moment { D.honest → (most : ℕ) (format : Format) (bodies : List (List ℕ))
+        → IsReady format bodies (D.seen disk.old)
         → size ≡ first_length bodies → length (D.seen disk.old) ≤ most → Only (D.seen disk.old) (D.may_leave disk.old)
-        → LeavesOnly D.moment D.left_since disk.old disk.new (LeavesOf most bodies) }
+        → LeavesOnly D.Disk disk.old disk.new (LeavesOf most bodies) }
     ensures time { D.honest
-        → Passes (Torn 8 4) (D.moment disk.old) (D.moment disk.new) (D.left_since disk.old) (D.left_since disk.new) (D.may_leave disk.old) (D.may_leave disk.new) }
+        → TimePasses D.Disk (Torn 8 4) disk.old disk.new }
     ensures cause { HasCause result (D.failures disk.old) (D.failures disk.new) }
     ensures calls { AppendCalls result (D.counts disk.old) (D.counts disk.new) }
     ensures not_full { result ≢ Appended.Full }
@@ -133,12 +139,14 @@ pub(crate) fn checkpoint_on<D: Disk>(
     requires sizes { AllByRecursion IsBody (bodies_of bodies.now) }
     requires fits { 12 + length (records (start format) (bodies_of bodies.now)) < 2 ^ 64 }
     ensures digest { result.0 ≡ Appended.Kept → result.1 ≡ last (start format) (bodies_of bodies.now) }
-    ensures answer { D.honest → (most : ℕ) (stood : List (List ℕ)) → 12 + length (records (start format) (bodies_of bodies.now)) ≤ most
-        → IsOther D.seen D.may_leave most stood disk.old
-        → Checkpointed D.tears D.seen D.may_leave result.0 most format stood (bodies_of bodies.now) disk.old disk.new }
-    ensures any_moment { D.honest → (most : ℕ) (stood : List (List ℕ)) → 12 + length (records (start format) (bodies_of bodies.now)) ≤ most
-        → IsOther D.seen D.may_leave most stood disk.old
-        → LeavesOnly D.moment D.left_since disk.old disk.new (LeavesAny most format stood (bodies_of bodies.now)) }
+    ensures answer { D.honest → (most : ℕ) (stood : List (List ℕ))
+        → 12 + length (records (start format) (bodies_of bodies.now)) ≤ most
+        → IsOther D.Disk most stood disk.old
+        → Checkpointed D.Disk result.0 most format stood (bodies_of bodies.now) disk.old disk.new }
+    ensures any_moment { D.honest → (most : ℕ) (stood : List (List ℕ))
+        → 12 + length (records (start format) (bodies_of bodies.now)) ≤ most
+        → IsOther D.Disk most stood disk.old
+        → LeavesOnly D.Disk disk.old disk.new (LeavesAny most format stood (bodies_of bodies.now)) }
     ensures cause { HasCause result.0 (D.failures disk.old) (D.failures disk.new) }
     ensures calls { CheckpointCalls result.0 (length bodies.now) (D.counts disk.old) (D.counts disk.new) }
     ensures not_full { result.0 ≢ Appended.Full }

@@ -34,7 +34,7 @@ pub fn pair_is_current_or_new()
 /// Two files that were read are a pair, with the other one behind, where no file that is no log has records that would
 /// come before the other one's.
 pub fn opened_is_pair<D: Disk>()
-    ensures { OpenedLaw D.tears D.seen D.may_leave }
+    ensures { OpenedLaw D.Disk }
 {}
 
 /// A file that is no log can become one by a torn write of its first 12 bytes.

@@ -1,6 +1,6 @@
 //! The log on its disk.
 ghost use Rattle.std.specs.Prelude.{◌≡◌, ◌+◌, ◌-◌, ◌≤◌, ◌<◌, ◌^◌, ◌↔◌, List, ℕ, true, false, length};
-ghost use Rattle.xa_disk.specs.Disk.{LeavesOnly};
+ghost use Rattle.xa_disk.specs.Time.{LeavesOnly};
 ghost use Rattle.std.specs.List.{AllByRecursion};
 ghost use Rattle.xa_log.specs.Calls.{AppendCalls, CheckpointCalls};
 ghost use Rattle.xa_log.specs.Chain.{newest, text, IsBody};
@@ -47,22 +47,27 @@ impl<D: Disk> Log<D> {
     /// succeeds.
     pub fn append(&mut self, body: &[u8]) -> Appended
         requires { IsBody body.now }
-        ensures answer { D.honest → (bodies : List (List ℕ)) → Stands D.seen D.may_leave bodies self.old → Answers D.tears D.seen D.may_leave result bodies body.now self.new }
+        ensures answer { D.honest → (bodies : List (List ℕ)) → Stands D.Disk bodies self.old
+            → Answers D.Disk result bodies body.now self.new }
         // A crash at any moment of the call leaves a log; without chance, of the bodies with the new one or without.
-        ensures any_moment { D.honest → (bodies : List (List ℕ)) → Stands D.seen D.may_leave bodies self.old
-            → LeavesOnly D.moment D.left_since self.old.disk self.new.disk (Leaves self.old.log_bytes self.old.format bodies body.now) }
+        ensures any_moment { D.honest → (bodies : List (List ℕ)) → Stands D.Disk bodies self.old
+            → LeavesOnly D.Disk self.old.disk self.new.disk
+            (Leaves self.old.log_bytes self.old.format bodies body.now) }
         ensures lost { self.old.lost ≡ true → (result ≡ Appended.Lost) × (self.new ≡ self.old) }
-        ensures full { self.old.lost ≡ false → (result ≡ Appended.Full) ↔ (self.old.log_bytes < self.old.end + 40 + length body.now) }
+        ensures full { self.old.lost ≡ false
+            → (result ≡ Appended.Full) ↔ (self.old.log_bytes < self.old.end + 40 + length body.now) }
         ensures unchanged { result ≡ Appended.Full → self.new ≡ self.old }
         ensures moves { Moves result (length body.now) self.old self.new }
         ensures cause { self.old.lost ≡ false → HasCause result (D.failures self.old.disk) (D.failures self.new.disk) }
         ensures calls { self.old.lost ≡ false → AppendCalls result (D.counts self.old.disk) (D.counts self.new.disk) }
         ensures kept { self.old.lost ≡ false → self.old.end + 40 + length body.now ≤ self.old.log_bytes
-            → D.failures self.old.disk < 2 ^ 64 - 1 → D.failures self.new.disk ≡ D.failures self.old.disk → result ≡ Appended.Kept }
+            → D.failures self.old.disk < 2 ^ 64 - 1 → D.failures self.new.disk ≡ D.failures self.old.disk
+            → result ≡ Appended.Kept }
         ensures settings { self.new.log_bytes ≡ self.old.log_bytes }
         ensures other { (self.new.other ≡ self.old.other) × (self.new.on_first ≡ self.old.on_first) }
         // The other file needs no look: what was said of the two stays.
-        ensures pair { D.honest → (bodies stood : List (List ℕ)) → Pair D.tears D.seen D.may_leave bodies stood self.old → AppendsTo D.tears D.seen D.may_leave result bodies body.now stood self.new }
+        ensures pair { D.honest → (bodies stood : List (List ℕ)) → Pair D.Disk bodies stood self.old
+            → AppendsTo D.Disk result bodies body.now stood self.new }
     {
         if self.lost {
             return Appended::Lost; // Until a rescan, whether the last record stands is open.
@@ -113,18 +118,25 @@ impl<D: Disk> Log<D> {
     pub fn checkpoint(&mut self, bodies: &[Vec<u8>]) -> Appended
         requires some { 1 ≤ length bodies.now }
         requires sizes { AllByRecursion IsBody (bodies_of bodies.now) }
-        ensures answer { D.honest → (old stood : List (List ℕ)) → Pair D.tears D.seen D.may_leave old stood self.old → generation old < generation (bodies_of bodies.now)
-            → Checkpoints D.tears D.seen D.may_leave result old stood (bodies_of bodies.now) self.new }
+        ensures answer { D.honest → (old stood : List (List ℕ)) → Pair D.Disk old stood self.old
+            → generation old < generation (bodies_of bodies.now)
+            → Checkpoints D.Disk result old stood (bodies_of bodies.now) self.new }
         // What a crash at any moment of the call leaves of the file that is written.
-        ensures any_moment { D.honest → (old stood : List (List ℕ)) → Pair D.tears D.seen D.may_leave old stood self.old
-            → LeavesOnly D.moment D.left_since self.old.other (written result self.new) (LeavesAny self.old.log_bytes newest stood (bodies_of bodies.now)) }
+        ensures any_moment { D.honest → (old stood : List (List ℕ)) → Pair D.Disk old stood self.old
+            → LeavesOnly D.Disk self.old.other (written result self.new)
+            (LeavesAny self.old.log_bytes newest stood (bodies_of bodies.now)) }
         ensures swaps { self.old.lost ≡ false → Swaps result (bodies_of bodies.now) self.old self.new }
         ensures lost { self.old.lost ≡ true → (result ≡ Appended.Lost) × (self.new ≡ self.old) }
-        ensures full { self.old.lost ≡ false → (result ≡ Appended.Full) ↔ (self.old.log_bytes < length (text newest (bodies_of bodies.now)) + 4) }
-        ensures cause { self.old.lost ≡ false → HasCause result (D.failures self.old.other) (D.failures (written result self.new)) }
-        ensures calls { self.old.lost ≡ false → CheckpointCalls result (length bodies.now) (D.counts self.old.other) (D.counts (written result self.new)) }
+        ensures full { self.old.lost ≡ false
+            → (result ≡ Appended.Full) ↔ (self.old.log_bytes < length (text newest (bodies_of bodies.now)) + 4) }
+        ensures cause { self.old.lost ≡ false
+            → HasCause result (D.failures self.old.other) (D.failures (written result self.new)) }
+        ensures calls { self.old.lost ≡ false
+            → CheckpointCalls result (length bodies.now)
+            (D.counts self.old.other) (D.counts (written result self.new)) }
         ensures kept { self.old.lost ≡ false → length (text newest (bodies_of bodies.now)) + 4 ≤ self.old.log_bytes
-            → D.failures self.old.other < 2 ^ 64 - 1 → D.failures (written result self.new) ≡ D.failures self.old.other → result ≡ Appended.Kept }
+            → D.failures self.old.other < 2 ^ 64 - 1 → D.failures (written result self.new) ≡ D.failures self.old.other
+            → result ≡ Appended.Kept }
         ensures settings { self.new.log_bytes ≡ self.old.log_bytes }
     {
         if self.lost {

@@ -1,6 +1,7 @@
 //! Which of two files is the current one, and reading its log.
 ghost use Rattle.std.specs.Prelude.{◌≡◌, ◌≢◌, ◌⊎◌, ◌+◌, ◌≤◌, ◌<◌, min, true, false, List, ℕ, length, drop, OnOk, IfOk, IfErr, IfSome, MatchResult, MatchBool, Some, None, if◌then◌else◌};
-ghost use Rattle.xa_disk.specs.Disk.{Same, Only, Passes, CountsFault};
+ghost use Rattle.xa_disk.specs.Disk.{Same, Only, CountsFault};
+ghost use Rattle.xa_disk.specs.Time.{TimePasses};
 ghost use Rattle.xa_disk.specs.declared.counts.Counts.{Counts};
 ghost use Rattle.xa_log.specs.Answers.{CountsDeviceOf};
 ghost use Rattle.xa_log.specs.Calls.{Fetched, FetchedSome, Looks, LooksSecond, LooksAt, LooksSecondAt, ReadsLittle, asked};
@@ -35,17 +36,23 @@ pub struct Head {
 
 // Syncs and measures one file and then the other, before a byte of either is read: so what is found outlasts a crash.
 fn measure<D: Disk>(first: &mut D, second: &mut D, log_bytes: u64) -> Result<(u64, u64), OpenFault>
-    ensures value { D.honest → MatchResult result (λ r. AreShort log_bytes (D.seen first.old) (D.seen second.old) r.0 r.1) (λ e. Explains e (pair_fault log_bytes (D.seen first.old) (D.seen second.old))) }
+    ensures value { D.honest
+        → MatchResult result (λ r. AreShort log_bytes (D.seen first.old) (D.seen second.old) r.0 r.1)
+        (λ e. Explains e (pair_fault log_bytes (D.seen first.old) (D.seen second.old))) }
     ensures fits { IfOk result (λ r. (r.0 ≤ log_bytes) × (r.1 ≤ log_bytes)) }
     ensures durable { D.honest → OnOk result (Only (D.seen first.new) (D.may_leave first.new)) }
     ensures durable_second { D.honest → OnOk result (Only (D.seen second.new) (D.may_leave second.new)) }
     ensures same { D.honest → D.seen first.new ≡ D.seen first.old }
     ensures same_second { D.honest → D.seen second.new ≡ D.seen second.old }
-    ensures time { D.honest → Passes Same (D.moment first.old) (D.moment first.new) (D.left_since first.old) (D.left_since first.new) (D.may_leave first.old) (D.may_leave first.new) }
-    ensures time_second { D.honest → Passes Same (D.moment second.old) (D.moment second.new) (D.left_since second.old) (D.left_since second.new) (D.may_leave second.old) (D.may_leave second.new) }
-    ensures count { CountsDeviceOf result (D.failures first.old) (D.failures first.new) (D.failures second.old) (D.failures second.new) }
-    ensures calls { (most : ℕ) → MatchResult result (λ _. D.counts first.new ≡ asked (D.counts first.old)) (λ e. LooksAt e most (D.counts first.old) (D.counts first.new)) }
-    ensures calls_second { (most : ℕ) → MatchResult result (λ _. D.counts second.new ≡ asked (D.counts second.old)) (λ e. LooksSecondAt e most (D.counts second.old) (D.counts second.new)) }
+    ensures time { D.honest → TimePasses D.Disk Same first.old first.new }
+    ensures time_second { D.honest → TimePasses D.Disk Same second.old second.new }
+    ensures count { CountsDeviceOf D.failures result first.old first.new second.old second.new }
+    ensures calls { (most : ℕ)
+        → MatchResult result (λ _. D.counts first.new ≡ asked (D.counts first.old))
+        (λ e. LooksAt e most (D.counts first.old) (D.counts first.new)) }
+    ensures calls_second { (most : ℕ)
+        → MatchResult result (λ _. D.counts second.new ≡ asked (D.counts second.old))
+        (λ e. LooksSecondAt e most (D.counts second.old) (D.counts second.new)) }
 {
     let len = synced_length(first)?;
     let other_len = synced_length(second)?;
@@ -61,9 +68,11 @@ fn front_of<D: Disk>(disk: &mut D, window: &mut [u8], len: u64) -> Result<Front,
     ensures front { D.honest → len ≡ length (D.seen disk.old) → IfOk result (IsFront (D.seen disk.old) window.new) }
     ensures holds { IfOk result (HasFront len) }
     ensures same { D.honest → D.seen disk.new ≡ D.seen disk.old }
-    ensures time { D.honest → Passes Same (D.moment disk.old) (D.moment disk.new) (D.left_since disk.old) (D.left_since disk.new) (D.may_leave disk.old) (D.may_leave disk.new) }
+    ensures time { D.honest → TimePasses D.Disk Same disk.old disk.new }
     ensures count { CountsFault result (D.failures disk.old) (D.failures disk.new) }
-    ensures fetched { MatchResult result (λ f. Fetched len (f.span.from + f.span.have) (D.counts disk.old) (D.counts disk.new)) (λ _. FetchedSome len (D.counts disk.old) (D.counts disk.new)) }
+    ensures fetched { MatchResult result
+        (λ f. Fetched len (f.span.from + f.span.have) (D.counts disk.old) (D.counts disk.new))
+        (λ _. FetchedSome len (D.counts disk.old) (D.counts disk.new)) }
 {
     if len < 8 {
         return Ok(Front {
@@ -108,7 +117,8 @@ fn first_number(window: &[u8], span: Span, len: u64, prev: &[u8; 32]) -> Option<
     requires room { length window.now ≡ 1048576 }
     requires from { span.from ≡ 0 }
     requires have { span.have ≡ min len 1048576 }
-    ensures { (file : List ℕ) → len ≡ length file → Caches file window.now span → Numbers prev.now (drop 8 file) result }
+    ensures { (file : List ℕ) → len ≡ length file → Caches file window.now span
+        → Numbers prev.now (drop 8 file) result }
 {
     if len < 44 {
         return None;
@@ -142,7 +152,8 @@ fn head_of(window: &[u8], front: Front, len: u64) -> Option<Head>
 
 // Whether a log is taken before that of the second file.
 fn is_before(mine: Option<usize>, other: Option<usize>) -> bool
-    ensures { (bodies stood : List (List ℕ)) → Tells bodies mine → Tells stood other → result ≡ beats true bodies stood }
+    ensures { (bodies stood : List (List ℕ)) → Tells bodies mine → Tells stood other
+        → result ≡ beats true bodies stood }
 {
     let generation = mine.unwrap_or(0);
     let behind = other.unwrap_or(0);
@@ -178,20 +189,25 @@ fn read_fronts<D: Disk>(
 ) -> Result<(Front, Front), OpenFault>
     requires room { length window.old ≡ 1048576 }
     requires other_room { length other_window.old ≡ 1048576 }
-    ensures front { D.honest → lens.0 ≡ length (D.seen first.old) → IfOk result (λ r. IsFront (D.seen first.old) window.new r.0) }
-    ensures other_front { D.honest → lens.1 ≡ length (D.seen second.old) → IfOk result (λ r. IsFront (D.seen second.old) other_window.new r.1) }
+    ensures front { D.honest → lens.0 ≡ length (D.seen first.old)
+        → IfOk result (λ r. IsFront (D.seen first.old) window.new r.0) }
+    ensures other_front { D.honest → lens.1 ≡ length (D.seen second.old)
+        → IfOk result (λ r. IsFront (D.seen second.old) other_window.new r.1) }
     ensures newer { D.honest → lens.0 ≡ length (D.seen first.old) → lens.1 ≡ length (D.seen second.old)
-        → MatchResult result (λ _. either_newer (D.seen first.old) (D.seen second.old) ≡ false) (λ e. e ≡ OpenFault.TooNew → either_newer (D.seen first.old) (D.seen second.old) ≡ true) }
+        → MatchResult result (λ _. either_newer (D.seen first.old) (D.seen second.old) ≡ false)
+        (λ e. e ≡ OpenFault.TooNew → either_newer (D.seen first.old) (D.seen second.old) ≡ true) }
     ensures holds { IfOk result (λ r. HasFront lens.0 r.0 × HasFront lens.1 r.1) }
     ensures kinds { IfErr result (λ e. (e ≡ OpenFault.Device) ⊎ (e ≡ OpenFault.TooNew)) }
     ensures same { D.honest → D.seen first.new ≡ D.seen first.old }
     ensures same_second { D.honest → D.seen second.new ≡ D.seen second.old }
-    ensures time { D.honest → Passes Same (D.moment first.old) (D.moment first.new) (D.left_since first.old) (D.left_since first.new) (D.may_leave first.old) (D.may_leave first.new) }
-    ensures time_second { D.honest → Passes Same (D.moment second.old) (D.moment second.new) (D.left_since second.old) (D.left_since second.new) (D.may_leave second.old) (D.may_leave second.new) }
-    ensures count { CountsDeviceOf result (D.failures first.old) (D.failures first.new) (D.failures second.old) (D.failures second.new) }
-    ensures fetched { MatchResult result (λ r. Fetched lens.0 (r.0.span.from + r.0.span.have) (D.counts first.old) (D.counts first.new))
+    ensures time { D.honest → TimePasses D.Disk Same first.old first.new }
+    ensures time_second { D.honest → TimePasses D.Disk Same second.old second.new }
+    ensures count { CountsDeviceOf D.failures result first.old first.new second.old second.new }
+    ensures fetched { MatchResult result
+        (λ r. Fetched lens.0 (r.0.span.from + r.0.span.have) (D.counts first.old) (D.counts first.new))
         (λ _. FetchedSome lens.0 (D.counts first.old) (D.counts first.new)) }
-    ensures fetched_second { MatchResult result (λ r. Fetched lens.1 (r.1.span.from + r.1.span.have) (D.counts second.old) (D.counts second.new))
+    ensures fetched_second { MatchResult result
+        (λ r. Fetched lens.1 (r.1.span.from + r.1.span.have) (D.counts second.old) (D.counts second.new))
         (λ _. FetchedSome lens.1 (D.counts second.old) (D.counts second.new)) }
 {
     let front = front_of(first, window, lens.0)?;
@@ -218,18 +234,23 @@ fn read_current<D: Disk>(
     requires other_holds { HasFront lens.1 fronts.1 }
     ensures value { D.honest → lens.0 ≡ length (D.seen first.old) → lens.1 ≡ length (D.seen second.old)
         → IsFront (D.seen first.old) window.old fronts.0 → IsFront (D.seen second.old) other_window.old fronts.1
-        → MatchResult result (λ r. (either_log (D.seen first.old) (D.seen second.old) ≡ true) × IsCurrent (D.seen first.old) (D.seen second.old) r.0 r.1)
+        → MatchResult result (λ r. (either_log (D.seen first.old) (D.seen second.old) ≡ true)
+        × IsCurrent (D.seen first.old) (D.seen second.old) r.0 r.1)
         (λ e. e ≡ OpenFault.NotALog → either_log (D.seen first.old) (D.seen second.old) ≡ false) }
     ensures kinds { IfErr result (λ e. (e ≡ OpenFault.Device) ⊎ (e ≡ OpenFault.Memory) ⊎ (e ≡ OpenFault.NotALog)) }
     ensures fits { (most : ℕ) → lens.0 ≤ most → lens.1 ≤ most → IfOk result (λ r. r.1.end ≤ most) }
     ensures other { IfOk result (λ r. MatchBool r.0 (second.new ≡ second.old) (first.new ≡ first.old)) }
     ensures same { D.honest → D.seen first.new ≡ D.seen first.old }
     ensures same_second { D.honest → D.seen second.new ≡ D.seen second.old }
-    ensures time { D.honest → Passes Same (D.moment first.old) (D.moment first.new) (D.left_since first.old) (D.left_since first.new) (D.may_leave first.old) (D.may_leave first.new) }
-    ensures time_second { D.honest → Passes Same (D.moment second.old) (D.moment second.new) (D.left_since second.old) (D.left_since second.new) (D.may_leave second.old) (D.may_leave second.new) }
-    ensures count { CountsDeviceOf result (D.failures first.old) (D.failures first.new) (D.failures second.old) (D.failures second.new) }
-    ensures fetched { (start : Counts) → Fetched lens.0 (fronts.0.span.from + fronts.0.span.have) start (D.counts first.old) → FetchedSome lens.0 start (D.counts first.new) }
-    ensures fetched_second { (start : Counts) → Fetched lens.1 (fronts.1.span.from + fronts.1.span.have) start (D.counts second.old) → FetchedSome lens.1 start (D.counts second.new) }
+    ensures time { D.honest → TimePasses D.Disk Same first.old first.new }
+    ensures time_second { D.honest → TimePasses D.Disk Same second.old second.new }
+    ensures count { CountsDeviceOf D.failures result first.old first.new second.old second.new }
+    ensures fetched { (start : Counts)
+        → Fetched lens.0 (fronts.0.span.from + fronts.0.span.have) start (D.counts first.old)
+        → FetchedSome lens.0 start (D.counts first.new) }
+    ensures fetched_second { (start : Counts)
+        → Fetched lens.1 (fronts.1.span.from + fronts.1.span.have) start (D.counts second.old)
+        → FetchedSome lens.1 start (D.counts second.new) }
 {
     let head = head_of(window, fronts.0, lens.0);
     let other_head = head_of(other_window, fronts.1, lens.1);
@@ -259,21 +280,23 @@ pub(crate) fn read_pair<D: Disk>(
     requires room { length window.old ≡ 1048576 }
     requires other_room { length other_window.old ≡ 1048576 }
     ensures value { D.honest
-        → MatchResult result (λ r. (pair_fault log_bytes (D.seen first.old) (D.seen second.old) ≡ None) × IsCurrent (D.seen first.old) (D.seen second.old) r.0 r.1)
+        → MatchResult result (λ r. (pair_fault log_bytes (D.seen first.old) (D.seen second.old) ≡ None)
+        × IsCurrent (D.seen first.old) (D.seen second.old) r.0 r.1)
         (λ e. Explains e (pair_fault log_bytes (D.seen first.old) (D.seen second.old))) }
     ensures durable { D.honest → OnOk result (Only (D.seen first.new) (D.may_leave first.new)) }
     ensures durable_second { D.honest → OnOk result (Only (D.seen second.new) (D.may_leave second.new)) }
     ensures fits { IfOk result (λ r. r.1.end ≤ log_bytes) }
     ensures same { D.honest → D.seen first.new ≡ D.seen first.old }
     ensures same_second { D.honest → D.seen second.new ≡ D.seen second.old }
-    ensures time { D.honest → Passes Same (D.moment first.old) (D.moment first.new) (D.left_since first.old) (D.left_since first.new) (D.may_leave first.old) (D.may_leave first.new) }
-    ensures time_second { D.honest → Passes Same (D.moment second.old) (D.moment second.new) (D.left_since second.old) (D.left_since second.new) (D.may_leave second.old) (D.may_leave second.new) }
-    ensures count { CountsDeviceOf result (D.failures first.old) (D.failures first.new) (D.failures second.old) (D.failures second.new) }
+    ensures time { D.honest → TimePasses D.Disk Same first.old first.new }
+    ensures time_second { D.honest → TimePasses D.Disk Same second.old second.new }
+    ensures count { CountsDeviceOf D.failures result first.old first.new second.old second.new }
     ensures calls { Looks result log_bytes (D.counts first.old) (D.counts first.new) }
     ensures calls_second { LooksSecond result log_bytes (D.counts second.old) (D.counts second.new) }
     ensures calls_once { D.honest → Looks result (length (D.seen first.old)) (D.counts first.old) (D.counts first.new) }
-    ensures calls_once_second { D.honest → LooksSecond result (length (D.seen second.old)) (D.counts second.old) (D.counts second.new) }
-    ensures little { IfOk result (λ r. ReadsLittle r.0 (D.counts first.old) (D.counts first.new) (D.counts second.old) (D.counts second.new)) }
+    ensures calls_once_second { D.honest
+        → LooksSecond result (length (D.seen second.old)) (D.counts second.old) (D.counts second.new) }
+    ensures little { IfOk result (λ r. ReadsLittle D.counts r.0 first.old first.new second.old second.new) }
 {
     let lens = measure(first, second, log_bytes)?;
     let fronts = read_fronts(first, second, window, other_window, lens)?;
@@ -294,25 +317,31 @@ pub(crate) fn read_again<D: Disk>(
     requires other_room { length other_window.old ≡ 1048576 }
     ensures value { D.honest → MatchResult result
         (λ r. (fault_pair log_bytes on_first (D.seen disk.old) (D.seen other.old) ≡ None)
-        × IsCurrent (D.seen (if on_first then disk.old else other.old)) (D.seen (if on_first then other.old else disk.old)) r.0 r.1)
+        × IsCurrent (D.seen (if on_first then disk.old else other.old))
+        (D.seen (if on_first then other.old else disk.old)) r.0 r.1)
         (λ e. Explains e (fault_pair log_bytes on_first (D.seen disk.old) (D.seen other.old))) }
     ensures durable { D.honest → OnOk result (Only (D.seen disk.new) (D.may_leave disk.new)) }
     ensures durable_other { D.honest → OnOk result (Only (D.seen other.new) (D.may_leave other.new)) }
     ensures fits { IfOk result (λ r. r.1.end ≤ log_bytes) }
     ensures same { D.honest → D.seen disk.new ≡ D.seen disk.old }
     ensures same_other { D.honest → D.seen other.new ≡ D.seen other.old }
-    ensures time { D.honest → Passes Same (D.moment disk.old) (D.moment disk.new) (D.left_since disk.old) (D.left_since disk.new) (D.may_leave disk.old) (D.may_leave disk.new) }
-    ensures time_other { D.honest → Passes Same (D.moment other.old) (D.moment other.new) (D.left_since other.old) (D.left_since other.new) (D.may_leave other.old) (D.may_leave other.new) }
-    ensures count { CountsDeviceOf result (D.failures (if on_first then disk.old else other.old)) (D.failures (if on_first then disk.new else other.new))
-        (D.failures (if on_first then other.old else disk.old)) (D.failures (if on_first then other.new else disk.new)) }
-    ensures calls { Looks result log_bytes (D.counts (if on_first then disk.old else other.old)) (D.counts (if on_first then disk.new else other.new)) }
-    ensures calls_second { LooksSecond result log_bytes (D.counts (if on_first then other.old else disk.old)) (D.counts (if on_first then other.new else disk.new)) }
+    ensures time { D.honest → TimePasses D.Disk Same disk.old disk.new }
+    ensures time_other { D.honest → TimePasses D.Disk Same other.old other.new }
+    ensures count { CountsDeviceOf D.failures result
+        (if on_first then disk.old else other.old) (if on_first then disk.new else other.new)
+        (if on_first then other.old else disk.old) (if on_first then other.new else disk.new) }
+    ensures calls { Looks result log_bytes
+        (D.counts (if on_first then disk.old else other.old)) (D.counts (if on_first then disk.new else other.new)) }
+    ensures calls_second { LooksSecond result log_bytes
+        (D.counts (if on_first then other.old else disk.old)) (D.counts (if on_first then other.new else disk.new)) }
     ensures calls_once { D.honest → Looks result (length (D.seen (if on_first then disk.old else other.old)))
         (D.counts (if on_first then disk.old else other.old)) (D.counts (if on_first then disk.new else other.new)) }
-    ensures calls_once_second { D.honest → LooksSecond result (length (D.seen (if on_first then other.old else disk.old)))
+    ensures calls_once_second { D.honest
+        → LooksSecond result (length (D.seen (if on_first then other.old else disk.old)))
         (D.counts (if on_first then other.old else disk.old)) (D.counts (if on_first then other.new else disk.new)) }
-    ensures little { IfOk result (λ r. ReadsLittle r.0 (D.counts (if on_first then disk.old else other.old)) (D.counts (if on_first then disk.new else other.new))
-        (D.counts (if on_first then other.old else disk.old)) (D.counts (if on_first then other.new else disk.new))) }
+    ensures little { IfOk result (λ r. ReadsLittle D.counts r.0
+        (if on_first then disk.old else other.old) (if on_first then disk.new else other.new)
+        (if on_first then other.old else disk.old) (if on_first then other.new else disk.new)) }
 {
     if on_first {
         return read_pair(alloc, disk, other, window, other_window, log_bytes);

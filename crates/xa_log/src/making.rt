@@ -1,13 +1,14 @@
 //! How a log comes to stand on its disks.
 ghost use Rattle.std.specs.Prelude.{◌≡◌, ◌≤◌, ◌<◌, ◌↔◌, [], List, ℕ, true, false, if◌then◌else◌, length, OnOk, IfOk, IfErr, IsErrOf, MatchResult, None};
-ghost use Rattle.xa_disk.specs.Disk.{Same, Passes};
+ghost use Rattle.xa_disk.specs.Disk.{Same};
+ghost use Rattle.xa_disk.specs.Time.{TimePasses};
 ghost use Rattle.xa_disk.specs.Counts.{with_length, with_write, with_sync};
 ghost use Rattle.xa_log.specs.Calls.{OnlyReads, ReadsLittle, asked};
 ghost use Rattle.xa_log.specs.Chain.{logged};
 ghost use Rattle.xa_log.specs.Checkpoint.{IsQuiet};
 ghost use Rattle.xa_log.specs.Opened.{IsOpened};
 ghost use Rattle.xa_log.specs.Pair.{pair_fault, logged_pair};
-ghost use Rattle.xa_log.specs.Reading.{bodies_of, Explains, ExplainsNew};
+ghost use Rattle.xa_log.specs.Reading.{bodies_of, TellsFault, ExplainsNew};
 ghost use Rattle.xa_log.specs.TwoFiles.{Pair, IsOpenPair, first_of, second_of};
 
 use crate::looking::in_order;
@@ -25,13 +26,16 @@ impl<D: Disk + Drop> Log<D> {
         mut second: D,
         log_bytes: u64,
     ) -> Result<Log<D>, OpenFault>
-        ensures log { D.honest → IfOk result (λ log. Pair D.tears D.seen D.may_leave [] [] log × IsQuiet D.seen D.may_leave [] log.other) }
+        ensures log { D.honest → IfOk result (λ log. Pair D.Disk [] [] log × IsQuiet D.Disk [] log.other) }
         ensures empty { D.honest → OnOk result ((D.seen first ≡ []) × (D.seen second ≡ [])) }
         ensures room { OnOk result (12 ≤ log_bytes) }
         ensures settings { IfOk result (λ log. (log.log_bytes ≡ log_bytes) × (log.on_first ≡ true)) }
-        ensures count { IfOk result (λ log. (D.failures (first_of log) ≡ D.failures first) × (D.failures (second_of log) ≡ D.failures second)) }
-        ensures calls { IfOk result (λ log. D.counts (first_of log) ≡ with_sync (with_write (with_length (D.counts first)))) }
-        ensures calls_second { IfOk result (λ log. D.counts (second_of log) ≡ with_sync (with_length (D.counts second))) }
+        ensures count { IfOk result (λ log. (D.failures (first_of log) ≡ D.failures first)
+            × (D.failures (second_of log) ≡ D.failures second)) }
+        ensures calls { IfOk result
+            (λ log. D.counts (first_of log) ≡ with_sync (with_write (with_length (D.counts first)))) }
+        ensures calls_second { IfOk result
+            (λ log. D.counts (second_of log) ≡ with_sync (with_length (D.counts second))) }
         ensures too_long { IsErrOf result OpenFault.TooLong ↔ (log_bytes < 12) }
         ensures fault { D.honest → IfErr result (λ e. ExplainsNew e log_bytes (D.seen first) (D.seen second)) }
     {
@@ -47,22 +51,32 @@ impl<D: Disk + Drop> Log<D> {
         mut second: D,
         log_bytes: u64,
     ) -> Result<(Log<D>, Vec<Vec<u8>>), OpenFault>
-        ensures log { D.honest → IfOk result (λ r. IsOpenPair D.seen D.may_leave (bodies_of r.1.items) (logged (D.seen r.0.other)) r.0) }
-        ensures fault { D.honest → MatchResult result (λ _. pair_fault log_bytes (D.seen first) (D.seen second) ≡ None) (λ e. Explains e (pair_fault log_bytes (D.seen first) (D.seen second))) }
-        ensures logged { D.honest → IfOk result (λ r. logged_pair (D.seen first) (D.seen second) ≡ bodies_of r.1.items) }
+        ensures log { D.honest
+            → IfOk result (λ r. IsOpenPair D.Disk (bodies_of r.1.items) (logged (D.seen r.0.other)) r.0) }
+        ensures fault { D.honest → TellsFault result (pair_fault log_bytes (D.seen first) (D.seen second)) }
+        ensures logged { D.honest
+            → IfOk result (λ r. logged_pair (D.seen first) (D.seen second) ≡ bodies_of r.1.items) }
         // What it leaves is a pair that an opening accepts, with the same bodies.
-        ensures leaves { D.honest → IfOk result (λ r. (c d : List ℕ) → D.may_leave (first_of r.0) c → D.may_leave (second_of r.0) d
+        ensures leaves { D.honest
+            → IfOk result (λ r. (c d : List ℕ) → D.may_leave (first_of r.0) c → D.may_leave (second_of r.0) d
             → (pair_fault log_bytes c d ≡ None) × (logged_pair c d ≡ bodies_of r.1.items)) }
-        ensures same { D.honest → IfOk result (λ r. (D.seen (first_of r.0) ≡ D.seen first) × (D.seen (second_of r.0) ≡ D.seen second)) }
-        ensures time { D.honest → IfOk result (λ r. Passes Same (D.moment first) (D.moment (first_of r.0)) (D.left_since first) (D.left_since (first_of r.0)) (D.may_leave first) (D.may_leave (first_of r.0))) }
-        ensures time_second { D.honest → IfOk result (λ r. Passes Same (D.moment second) (D.moment (second_of r.0)) (D.left_since second) (D.left_since (second_of r.0)) (D.may_leave second) (D.may_leave (second_of r.0))) }
+        ensures same { D.honest
+            → IfOk result (λ r. (D.seen (first_of r.0) ≡ D.seen first) × (D.seen (second_of r.0) ≡ D.seen second)) }
+        ensures time { D.honest → IfOk result (λ r. TimePasses D.Disk Same first (first_of r.0)) }
+        ensures time_second { D.honest → IfOk result (λ r. TimePasses D.Disk Same second (second_of r.0)) }
         ensures settings { IfOk result (λ r. r.0.log_bytes ≡ log_bytes) }
-        ensures count { IfOk result (λ r. (D.failures (first_of r.0) ≡ D.failures first) × (D.failures (second_of r.0) ≡ D.failures second)) }
+        ensures count { IfOk result (λ r. (D.failures (first_of r.0) ≡ D.failures first)
+            × (D.failures (second_of r.0) ≡ D.failures second)) }
         ensures calls { IfOk result (λ r. OnlyReads log_bytes (asked (D.counts first)) (D.counts (first_of r.0))) }
-        ensures calls_second { IfOk result (λ r. OnlyReads log_bytes (asked (D.counts second)) (D.counts (second_of r.0))) }
-        ensures calls_once { D.honest → IfOk result (λ r. OnlyReads (length (D.seen first)) (asked (D.counts first)) (D.counts (first_of r.0))) }
-        ensures calls_once_second { D.honest → IfOk result (λ r. OnlyReads (length (D.seen second)) (asked (D.counts second)) (D.counts (second_of r.0))) }
-        ensures little { IfOk result (λ r. ReadsLittle r.0.on_first (D.counts first) (D.counts (first_of r.0)) (D.counts second) (D.counts (second_of r.0))) }
+        ensures calls_second { IfOk result
+            (λ r. OnlyReads log_bytes (asked (D.counts second)) (D.counts (second_of r.0))) }
+        ensures calls_once { D.honest
+            → IfOk result (λ r. OnlyReads (length (D.seen first)) (asked (D.counts first)) (D.counts (first_of r.0))) }
+        ensures calls_once_second { D.honest
+            → IfOk result (λ r. OnlyReads (length (D.seen second))
+            (asked (D.counts second)) (D.counts (second_of r.0))) }
+        ensures little { IfOk result
+            (λ r. ReadsLittle D.counts r.0.on_first first (first_of r.0) second (second_of r.0)) }
     {
         let opened = open_on(alloc, &mut first, &mut second, log_bytes)?;
         Ok(Log::on(first, second, opened))
@@ -70,8 +84,8 @@ impl<D: Disk + Drop> Log<D> {
 
     /// The log that was made or read on these two disks, with its bodies.
     pub fn on(first: D, second: D, opened: Opened) -> (Log<D>, Vec<Vec<u8>>)
-        ensures log { D.honest → IsOpened (D.seen first) (D.seen second) (D.may_leave first) (D.may_leave second) opened
-            → IsOpenPair D.seen D.may_leave (bodies_of result.1.items) (logged (D.seen result.0.other)) result.0 }
+        ensures log { D.honest → IsOpened D.Disk first second opened
+            → IsOpenPair D.Disk (bodies_of result.1.items) (logged (D.seen result.0.other)) result.0 }
         ensures disks { (first_of result.0 ≡ first) × (second_of result.0 ≡ second) }
         ensures on_first { result.0.on_first ≡ opened.on_first }
         ensures bodies { result.1 ≡ opened.scan.bodies }

@@ -6,8 +6,9 @@ use std::alloc::AllocError;
 use xa_disk::{Disk, Effect, MemDisk};
 
 impl Log<MemDisk> {
-    ghost use Rattle.xa_log.specs.Planned.{Plans, KeepsAll};
+    ghost use Rattle.xa_log.specs.Planned.{Plans};
     ghost use Rattle.xa_log.specs.Stands.{Untouched};
+    ghost use Rattle.xa_log.specs.TwoFiles.{KeepsAll};
 
     /// Plans that the k-th device call of the current file's disk from now fails, as `MemDisk::fail` does. Nothing else
     /// changes.
@@ -15,7 +16,7 @@ impl Log<MemDisk> {
         ensures planned { Plans result k effect self.old.disk self.new.disk }
         ensures other { self.new.other ≡ self.old.other }
         ensures untouched { Untouched self.old self.new }
-        ensures state { KeepsAll self.old self.new }
+        ensures state { KeepsAll ⟦<MemDisk as Disk>⟧ self.old self.new }
     {
         self.disk.fail(k, effect)
     }
@@ -25,7 +26,7 @@ impl Log<MemDisk> {
         ensures planned { Plans result k effect self.old.other self.new.other }
         ensures current { self.new.disk ≡ self.old.disk }
         ensures untouched { Untouched self.old self.new }
-        ensures state { KeepsAll self.old self.new }
+        ensures state { KeepsAll ⟦<MemDisk as Disk>⟧ self.old self.new }
     {
         self.other.fail(k, effect)
     }

@@ -1,6 +1,7 @@
 //! Reading a log's records from a disk, through a window.
 ghost use Rattle.std.specs.Prelude.{◌≡◌, ◌⊎◌, ◌+◌, ◌-◌, ◌≤◌, ◌<◌, ◌^◌, ◌++◌, ◌∷◌, [], ℕ, min, length, take, slice_index, OnOk, IfOk, IfErr, IfSome, None, Some, MatchResult};
-ghost use Rattle.xa_disk.specs.Disk.{Same, Only, Passes, CountsFault};
+ghost use Rattle.xa_disk.specs.Disk.{Same, Only, CountsFault};
+ghost use Rattle.xa_disk.specs.Time.{TimePasses};
 ghost use Rattle.xa_disk.specs.declared.counts.Counts.{Counts};
 ghost use Rattle.xa_log.specs.Calls.{Fetched, FetchedSome, FetchedNext, Looks, asked};
 ghost use Rattle.xa_disk.specs.Counts.{with_sync};
@@ -50,13 +51,16 @@ fn next_record<D: Disk>(
     requires begins { span.from ≤ at }
     requires reaches { at ≤ span.from + span.have }
     requires inside { span.from + span.have ≤ len }
-    ensures finds { D.honest → len ≡ length (D.seen disk.old) → Caches (D.seen disk.old) window.old span → IfOk result (Finds prev.now (D.seen disk.old) at window.new) }
+    ensures finds { D.honest → len ≡ length (D.seen disk.old) → Caches (D.seen disk.old) window.old span
+        → IfOk result (Finds prev.now (D.seen disk.old) at window.new) }
     ensures bytes { (i : ℕ) → slice_index window.new i < 2 ^ 8 }
     ensures fits { IfOk result (λ o. IfSome o (Fits at len (length window.old))) }
     ensures same { D.honest → D.seen disk.new ≡ D.seen disk.old }
-    ensures time { D.honest → Passes Same (D.moment disk.old) (D.moment disk.new) (D.left_since disk.old) (D.left_since disk.new) (D.may_leave disk.old) (D.may_leave disk.new) }
+    ensures time { D.honest → TimePasses D.Disk Same disk.old disk.new }
     ensures count { CountsFault result (D.failures disk.old) (D.failures disk.new) }
-    ensures fetched { (start : Counts) → Fetched len (span.from + span.have) start (D.counts disk.old) → MatchResult result (FetchedNext len start (D.counts disk.new)) (λ _. FetchedSome len start (D.counts disk.new)) }
+    ensures fetched { (start : Counts) → Fetched len (span.from + span.have) start (D.counts disk.old)
+        → MatchResult result (FetchedNext len start (D.counts disk.new))
+        (λ _. FetchedSome len start (D.counts disk.new)) }
 {
     if len - at < 36 {
         return Ok(None);
@@ -97,15 +101,19 @@ pub(crate) fn read_records<D: Disk>(
     requires begins { first.from ≤ 8 }
     requires reaches { 8 ≤ first.from + first.have }
     requires inside { first.from + first.have ≤ len }
-    ensures value { D.honest → Caches (D.seen disk.old) window.old first → len ≡ length (D.seen disk.old) → take 8 (D.seen disk.old) ≡ magic format → IfOk result (IsScan (D.seen disk.old)) }
-    ensures logged { D.honest → Caches (D.seen disk.old) window.old first → len ≡ length (D.seen disk.old) → take 8 (D.seen disk.old) ≡ magic format → IfOk result (λ s. logged (D.seen disk.old) ≡ bodies_of s.bodies.items) }
+    ensures value { D.honest → Caches (D.seen disk.old) window.old first → len ≡ length (D.seen disk.old)
+        → take 8 (D.seen disk.old) ≡ magic format → IfOk result (IsScan (D.seen disk.old)) }
+    ensures logged { D.honest → Caches (D.seen disk.old) window.old first → len ≡ length (D.seen disk.old)
+        → take 8 (D.seen disk.old) ≡ magic format
+        → IfOk result (λ s. logged (D.seen disk.old) ≡ bodies_of s.bodies.items) }
     ensures format { IfOk result (λ s. s.format ≡ format) }
     ensures fits { IfOk result (λ s. s.end ≤ len) }
     ensures same { D.honest → D.seen disk.new ≡ D.seen disk.old }
-    ensures time { D.honest → Passes Same (D.moment disk.old) (D.moment disk.new) (D.left_since disk.old) (D.left_since disk.new) (D.may_leave disk.old) (D.may_leave disk.new) }
+    ensures time { D.honest → TimePasses D.Disk Same disk.old disk.new }
     ensures count { CountsDevice result (D.failures disk.old) (D.failures disk.new) }
     ensures kinds { IfErr result (λ e. (e ≡ OpenFault.Device) ⊎ (e ≡ OpenFault.Memory)) }
-    ensures fetched { (start : Counts) → Fetched len (first.from + first.have) start (D.counts disk.old) → FetchedSome len start (D.counts disk.new) }
+    ensures fetched { (start : Counts) → Fetched len (first.from + first.have) start (D.counts disk.old)
+        → FetchedSome len start (D.counts disk.new) }
 {
     let mut bodies = Vec::new(alloc);
     let mut end: u64 = 8;
@@ -147,9 +155,10 @@ pub(crate) fn read_front<D: Disk>(
     ensures whole { IfOk result (λ s. (s.from ≡ 0) × (s.have ≡ min len 1048576)) }
     ensures inside { IfOk result (λ s. s.from + s.have ≤ len) }
     ensures same { D.honest → D.seen disk.new ≡ D.seen disk.old }
-    ensures time { D.honest → Passes Same (D.moment disk.old) (D.moment disk.new) (D.left_since disk.old) (D.left_since disk.new) (D.may_leave disk.old) (D.may_leave disk.new) }
+    ensures time { D.honest → TimePasses D.Disk Same disk.old disk.new }
     ensures count { CountsFault result (D.failures disk.old) (D.failures disk.new) }
-    ensures fetched { MatchResult result (λ s. Fetched len (s.from + s.have) (D.counts disk.old) (D.counts disk.new)) (λ _. FetchedSome len (D.counts disk.old) (D.counts disk.new)) }
+    ensures fetched { MatchResult result (λ s. Fetched len (s.from + s.have) (D.counts disk.old) (D.counts disk.new))
+        (λ _. FetchedSome len (D.counts disk.old) (D.counts disk.new)) }
 {
     fill(disk, window, Span { from: 0, have: 0 }, 0, 8, len)
 }
@@ -159,9 +168,10 @@ pub(crate) fn synced_length<D: Disk>(disk: &mut D) -> Result<u64, DiskFault>
     ensures value { D.honest → IfOk result (λ len. len ≡ length (D.seen disk.old)) }
     ensures durable { D.honest → OnOk result (Only (D.seen disk.new) (D.may_leave disk.new)) }
     ensures same { D.honest → D.seen disk.new ≡ D.seen disk.old }
-    ensures time { D.honest → Passes Same (D.moment disk.old) (D.moment disk.new) (D.left_since disk.old) (D.left_since disk.new) (D.may_leave disk.old) (D.may_leave disk.new) }
+    ensures time { D.honest → TimePasses D.Disk Same disk.old disk.new }
     ensures count { CountsFault result (D.failures disk.old) (D.failures disk.new) }
-    ensures calls { MatchResult result (λ _. D.counts disk.new ≡ asked (D.counts disk.old)) (λ _. (D.counts disk.new ≡ with_sync (D.counts disk.old)) ⊎ (D.counts disk.new ≡ asked (D.counts disk.old))) }
+    ensures calls { MatchResult result (λ _. D.counts disk.new ≡ asked (D.counts disk.old))
+        (λ _. (D.counts disk.new ≡ with_sync (D.counts disk.old)) ⊎ (D.counts disk.new ≡ asked (D.counts disk.old))) }
 {
     disk.sync()?;
     disk.length()
@@ -175,12 +185,14 @@ pub(crate) fn read_whole<D: Disk>(
     log_bytes: u64,
 ) -> Result<Scan, OpenFault>
     requires { length window.old ≡ 1048576 }
-    ensures value { D.honest → MatchResult result (λ s. (fault_of log_bytes (D.seen disk.old) ≡ None) × IsScan (D.seen disk.old) s) (λ e. Explains e (fault_of log_bytes (D.seen disk.old))) }
+    ensures value { D.honest
+        → MatchResult result (λ s. (fault_of log_bytes (D.seen disk.old) ≡ None) × IsScan (D.seen disk.old) s)
+        (λ e. Explains e (fault_of log_bytes (D.seen disk.old))) }
     ensures logged { D.honest → IfOk result (λ s. logged (D.seen disk.old) ≡ bodies_of s.bodies.items) }
     ensures durable { D.honest → OnOk result (Only (D.seen disk.new) (D.may_leave disk.new)) }
     ensures fits { IfOk result (λ s. s.end ≤ log_bytes) }
     ensures same { D.honest → D.seen disk.new ≡ D.seen disk.old }
-    ensures time { D.honest → Passes Same (D.moment disk.old) (D.moment disk.new) (D.left_since disk.old) (D.left_since disk.new) (D.may_leave disk.old) (D.may_leave disk.new) }
+    ensures time { D.honest → TimePasses D.Disk Same disk.old disk.new }
     ensures count { CountsDevice result (D.failures disk.old) (D.failures disk.new) }
     ensures calls { Looks result log_bytes (D.counts disk.old) (D.counts disk.new) }
     ensures calls_once { D.honest → Looks result (length (D.seen disk.old)) (D.counts disk.old) (D.counts disk.new) }

@@ -1,14 +1,15 @@
 //! Reading a log again, and giving its disks back.
 ghost use Rattle.std.specs.Prelude.{◌≡◌, ◌⊎◌, ◌++◌, ◌∷◌, [], List, ℕ, true, false, if◌then◌else◌, length, OnOk, OnErr, IfOk, IfErr, MatchResult, None};
-ghost use Rattle.xa_disk.specs.Disk.{Same, Passes, LeavesOnly};
+ghost use Rattle.xa_disk.specs.Disk.{Same};
+ghost use Rattle.xa_disk.specs.Time.{TimePasses, LeavesOnly};
 ghost use Rattle.xa_log.specs.Answers.{CountsDeviceOf};
 ghost use Rattle.xa_log.specs.Calls.{Looks, LooksSecond, ReadsLittle};
 ghost use Rattle.xa_log.specs.Chain.{NoChance, logged};
 ghost use Rattle.xa_log.specs.Checkpoint.{IsOther, IsQuiet, LeavesOf, SealTears};
 ghost use Rattle.xa_log.specs.Pair.{IsCalm, CalmTears, fault_pair, logged_of};
-ghost use Rattle.xa_log.specs.Reading.{bodies_of, Explains};
+ghost use Rattle.xa_log.specs.Reading.{bodies_of, TellsFault};
 ghost use Rattle.xa_log.specs.Stands.{Stands, MayStand, Leaves, LeavesLog, Untouched};
-ghost use Rattle.xa_log.specs.TwoFiles.{Pair, MayStandPair, MaySeal, IsOpenPair, first_of, second_of, disk_after, other_after};
+ghost use Rattle.xa_log.specs.TwoFiles.{Pair, MayStandPair, MaySeal, IsOpenPair, IsReadPair, KeepsAll, first_of, second_of, disk_after, other_after};
 
 use crate::looking::{in_order, place, read_again};
 use crate::opening::new_buffer;
@@ -32,63 +33,79 @@ impl<D: Disk> Log<D> {
 
     /// Reads both files again, as `open` does. After a fault the log stands as before.
     pub fn rescan(&mut self) -> Result<Vec<Vec<u8>>, OpenFault>
-        ensures log { D.honest → IfOk result (λ r. IsOpenPair D.seen D.may_leave (bodies_of r.items) (logged (D.seen self.new.other)) self.new) }
-        ensures fault { D.honest → MatchResult result (λ _. fault_pair self.old.log_bytes self.old.on_first (D.seen self.old.disk) (D.seen self.old.other) ≡ None)
-            (λ e. Explains e (fault_pair self.old.log_bytes self.old.on_first (D.seen self.old.disk) (D.seen self.old.other))) }
-        ensures logged { D.honest → IfOk result (λ r. logged_of self.old.on_first (D.seen self.old.disk) (D.seen self.old.other) ≡ bodies_of r.items) }
-        ensures same { D.honest → (D.seen (first_of self.new) ≡ D.seen (first_of self.old)) × (D.seen (second_of self.new) ≡ D.seen (second_of self.old)) }
-        ensures time { D.honest → Passes Same (D.moment (first_of self.old)) (D.moment (first_of self.new)) (D.left_since (first_of self.old)) (D.left_since (first_of self.new)) (D.may_leave (first_of self.old)) (D.may_leave (first_of self.new)) }
-        ensures time_second { D.honest → Passes Same (D.moment (second_of self.old)) (D.moment (second_of self.new)) (D.left_since (second_of self.old)) (D.left_since (second_of self.new)) (D.may_leave (second_of self.old)) (D.may_leave (second_of self.new)) }
-        ensures count { CountsDeviceOf result (D.failures (first_of self.old)) (D.failures (first_of self.new)) (D.failures (second_of self.old)) (D.failures (second_of self.new)) }
+        ensures log { D.honest
+            → IfOk result (λ r. IsOpenPair D.Disk (bodies_of r.items) (logged (D.seen self.new.other)) self.new) }
+        ensures fault { D.honest
+            → TellsFault result
+            (fault_pair self.old.log_bytes self.old.on_first (D.seen self.old.disk) (D.seen self.old.other)) }
+        ensures logged { D.honest
+            → IfOk result
+            (λ r. logged_of self.old.on_first (D.seen self.old.disk) (D.seen self.old.other) ≡ bodies_of r.items) }
+        ensures same { D.honest
+            → (D.seen (first_of self.new) ≡ D.seen (first_of self.old))
+            × (D.seen (second_of self.new) ≡ D.seen (second_of self.old)) }
+        ensures time { D.honest → TimePasses D.Disk Same (first_of self.old) (first_of self.new) }
+        ensures time_second { D.honest → TimePasses D.Disk Same (second_of self.old) (second_of self.new) }
+        ensures count { CountsDeviceOf D.failures result (first_of self.old) (first_of self.new)
+            (second_of self.old) (second_of self.new) }
         ensures calls { Looks result self.old.log_bytes (D.counts (first_of self.old)) (D.counts (first_of self.new)) }
-        ensures calls_second { LooksSecond result self.old.log_bytes (D.counts (second_of self.old)) (D.counts (second_of self.new)) }
-        ensures calls_once { D.honest → Looks result (length (D.seen (first_of self.old))) (D.counts (first_of self.old)) (D.counts (first_of self.new)) }
-        ensures calls_once_second { D.honest → LooksSecond result (length (D.seen (second_of self.old))) (D.counts (second_of self.old)) (D.counts (second_of self.new)) }
-        ensures little { OnOk result (ReadsLittle self.new.on_first (D.counts (first_of self.old)) (D.counts (first_of self.new)) (D.counts (second_of self.old)) (D.counts (second_of self.new))) }
+        ensures calls_second { LooksSecond result self.old.log_bytes
+            (D.counts (second_of self.old)) (D.counts (second_of self.new)) }
+        ensures calls_once { D.honest
+            → Looks result (length (D.seen (first_of self.old)))
+            (D.counts (first_of self.old)) (D.counts (first_of self.new)) }
+        ensures calls_once_second { D.honest
+            → LooksSecond result (length (D.seen (second_of self.old)))
+            (D.counts (second_of self.old)) (D.counts (second_of self.new)) }
+        ensures little { OnOk result (ReadsLittle D.counts self.new.on_first (first_of self.old) (first_of self.new)
+            (second_of self.old) (second_of self.new)) }
         ensures settings { self.new.log_bytes ≡ self.old.log_bytes }
         ensures alive { OnOk result (self.new.lost ≡ false) }
         ensures as_before { OnErr result (Untouched self.old self.new) }
-        ensures stands { D.honest → OnErr result ((bodies : List (List ℕ)) → Stands D.seen D.may_leave bodies self.old → Stands D.seen D.may_leave bodies self.new) }
-        ensures pair { D.honest → OnErr result ((bodies stood : List (List ℕ)) → Pair D.tears D.seen D.may_leave bodies stood self.old
-            → Pair D.tears D.seen D.may_leave bodies stood self.new) }
-        ensures quiet { D.honest → OnErr result ((stood : List (List ℕ)) → IsQuiet D.seen D.may_leave stood self.old.other → IsQuiet D.seen D.may_leave stood self.new.other) }
-        ensures may_stand { D.honest → OnErr result ((bodies : List (List ℕ)) (body : List ℕ) → MayStand D.tears D.seen D.may_leave bodies body self.old
-            → MayStand D.tears D.seen D.may_leave bodies body self.new) }
-        ensures may_stand_pair { D.honest → OnErr result ((bodies : List (List ℕ)) (body : List ℕ) (stood : List (List ℕ)) → MayStandPair D.tears D.seen D.may_leave bodies body stood self.old
-            → MayStandPair D.tears D.seen D.may_leave bodies body stood self.new) }
-        ensures may_seal { D.honest → OnErr result ((bodies fresh : List (List ℕ)) → MaySeal D.tears D.seen D.may_leave bodies fresh self.old
-            → MaySeal D.tears D.seen D.may_leave bodies fresh self.new) }
-        // What was left to chance comes out well: then a rescan that succeeds finds what the log stood for, and the other file behind it.
-        ensures anew { D.honest → (bodies stood : List (List ℕ)) → Pair D.tears D.seen D.may_leave bodies stood self.old → CalmTears D.tears ⊎ IsQuiet D.seen D.may_leave stood self.old.other
-            → IfOk result (λ r. (bodies_of r.items ≡ bodies) × Pair D.tears D.seen D.may_leave (bodies_of r.items) (logged (D.seen self.new.other)) self.new
-            × IsQuiet D.seen D.may_leave (logged (D.seen self.new.other)) self.new.other) }
-        ensures anew_lost { D.honest → (bodies : List (List ℕ)) (body : List ℕ) (stood : List (List ℕ)) → MayStandPair D.tears D.seen D.may_leave bodies body stood self.old
-            → NoChance D.tears → CalmTears D.tears ⊎ IsQuiet D.seen D.may_leave stood self.old.other
-            → IfOk result (λ r. ((bodies_of r.items ≡ bodies) ⊎ (bodies_of r.items ≡ bodies ++ body ∷ [])) × Pair D.tears D.seen D.may_leave (bodies_of r.items) (logged (D.seen self.new.other)) self.new
-            × IsQuiet D.seen D.may_leave (logged (D.seen self.new.other)) self.new.other) }
-        ensures anew_sealed { D.honest → (bodies fresh : List (List ℕ)) → MaySeal D.tears D.seen D.may_leave bodies fresh self.old
-            → SealTears D.tears ⊎ IsQuiet D.seen D.may_leave fresh self.old.other
+        ensures keeps { D.honest → OnErr result (KeepsAll D.Disk self.old self.new) }
+        // What was left to chance comes out well: then a rescan that succeeds finds what the log stood for, and the other
+        // file behind it.
+        ensures anew { D.honest → (bodies stood : List (List ℕ)) → Pair D.Disk bodies stood self.old
+            → CalmTears D.tears ⊎ IsQuiet D.Disk stood self.old.other
+            → IfOk result (λ r. (bodies_of r.items ≡ bodies)
+            × IsReadPair D.Disk (bodies_of r.items) self.new) }
+        ensures anew_lost { D.honest → (bodies : List (List ℕ)) (body : List ℕ) (stood : List (List ℕ))
+            → MayStandPair D.Disk bodies body stood self.old
+            → NoChance D.tears → CalmTears D.tears ⊎ IsQuiet D.Disk stood self.old.other
+            → IfOk result (λ r. ((bodies_of r.items ≡ bodies) ⊎ (bodies_of r.items ≡ bodies ++ body ∷ []))
+            × IsReadPair D.Disk (bodies_of r.items) self.new) }
+        ensures anew_sealed { D.honest → (bodies fresh : List (List ℕ)) → MaySeal D.Disk bodies fresh self.old
+            → SealTears D.tears ⊎ IsQuiet D.Disk fresh self.old.other
             → IfOk result (λ r. ((bodies_of r.items ≡ bodies) ⊎ (bodies_of r.items ≡ fresh))
-            × Pair D.tears D.seen D.may_leave (bodies_of r.items) (logged (D.seen self.new.other)) self.new
-            × IsQuiet D.seen D.may_leave (logged (D.seen self.new.other)) self.new.other) }
+            × IsReadPair D.Disk (bodies_of r.items) self.new) }
         // A crash at any moment of the call leaves of each file what one before the call could have left.
-        ensures any_moment { D.honest → (bodies : List (List ℕ)) → Stands D.seen D.may_leave bodies self.old
-            → LeavesOnly D.moment D.left_since self.old.disk (disk_after self.old self.new) (LeavesLog self.old.log_bytes self.old.format bodies) }
-        ensures any_moment_other { D.honest → (stood : List (List ℕ)) → IsOther D.seen D.may_leave self.old.log_bytes stood self.old.other
-            → LeavesOnly D.moment D.left_since self.old.other (other_after self.old self.new) (LeavesOf self.old.log_bytes stood) }
-        ensures any_moment_lost { D.honest → (bodies : List (List ℕ)) (body : List ℕ) → MayStand D.tears D.seen D.may_leave bodies body self.old
-            → LeavesOnly D.moment D.left_since self.old.disk (disk_after self.old self.new) (Leaves self.old.log_bytes self.old.format bodies body) }
-        ensures any_moment_sealed { D.honest → (bodies fresh : List (List ℕ)) → MaySeal D.tears D.seen D.may_leave bodies fresh self.old
-            → LeavesOnly D.moment D.left_since self.old.disk (disk_after self.old self.new) (LeavesLog self.old.log_bytes self.old.format bodies) }
-        ensures any_moment_sealed_other { D.honest → (bodies fresh : List (List ℕ)) → MaySeal D.tears D.seen D.may_leave bodies fresh self.old
-            → LeavesOnly D.moment D.left_since self.old.other (other_after self.old self.new) (LeavesOf self.old.log_bytes fresh) }
+        ensures any_moment { D.honest → (bodies : List (List ℕ)) → Stands D.Disk bodies self.old
+            → LeavesOnly D.Disk self.old.disk (disk_after self.old self.new)
+            (LeavesLog self.old.log_bytes self.old.format bodies) }
+        ensures any_moment_other { D.honest → (stood : List (List ℕ))
+            → IsOther D.Disk self.old.log_bytes stood self.old.other
+            → LeavesOnly D.Disk self.old.other (other_after self.old self.new) (LeavesOf self.old.log_bytes stood) }
+        ensures any_moment_lost { D.honest → (bodies : List (List ℕ)) (body : List ℕ)
+            → MayStand D.Disk bodies body self.old
+            → LeavesOnly D.Disk self.old.disk (disk_after self.old self.new)
+            (Leaves self.old.log_bytes self.old.format bodies body) }
+        ensures any_moment_sealed { D.honest → (bodies fresh : List (List ℕ)) → MaySeal D.Disk bodies fresh self.old
+            → LeavesOnly D.Disk self.old.disk (disk_after self.old self.new)
+            (LeavesLog self.old.log_bytes self.old.format bodies) }
+        ensures any_moment_sealed_other { D.honest → (bodies fresh : List (List ℕ))
+            → MaySeal D.Disk bodies fresh self.old
+            → LeavesOnly D.Disk self.old.other (other_after self.old self.new) (LeavesOf self.old.log_bytes fresh) }
         // The same: then it finds a log, if device and memory serve.
-        ensures readable { D.honest → (bodies stood : List (List ℕ)) → Pair D.tears D.seen D.may_leave bodies stood self.old
-            → CalmTears D.tears ⊎ IsQuiet D.seen D.may_leave stood self.old.other → IfErr result (λ e. (e ≡ OpenFault.Device) ⊎ (e ≡ OpenFault.Memory)) }
-        ensures readable_lost { D.honest → (bodies : List (List ℕ)) (body : List ℕ) (stood : List (List ℕ)) → MayStandPair D.tears D.seen D.may_leave bodies body stood self.old
-            → CalmTears D.tears ⊎ IsQuiet D.seen D.may_leave stood self.old.other → IfErr result (λ e. (e ≡ OpenFault.Device) ⊎ (e ≡ OpenFault.Memory)) }
-        ensures readable_sealed { D.honest → (bodies fresh : List (List ℕ)) → MaySeal D.tears D.seen D.may_leave bodies fresh self.old
-            → SealTears D.tears ⊎ IsQuiet D.seen D.may_leave fresh self.old.other → IfErr result (λ e. (e ≡ OpenFault.Device) ⊎ (e ≡ OpenFault.Memory)) }
+        ensures readable { D.honest → (bodies stood : List (List ℕ)) → Pair D.Disk bodies stood self.old
+            → CalmTears D.tears ⊎ IsQuiet D.Disk stood self.old.other
+            → IfErr result (λ e. (e ≡ OpenFault.Device) ⊎ (e ≡ OpenFault.Memory)) }
+        ensures readable_lost { D.honest → (bodies : List (List ℕ)) (body : List ℕ) (stood : List (List ℕ))
+            → MayStandPair D.Disk bodies body stood self.old
+            → CalmTears D.tears ⊎ IsQuiet D.Disk stood self.old.other
+            → IfErr result (λ e. (e ≡ OpenFault.Device) ⊎ (e ≡ OpenFault.Memory)) }
+        ensures readable_sealed { D.honest → (bodies fresh : List (List ℕ)) → MaySeal D.Disk bodies fresh self.old
+            → SealTears D.tears ⊎ IsQuiet D.Disk fresh self.old.other
+            → IfErr result (λ e. (e ≡ OpenFault.Device) ⊎ (e ≡ OpenFault.Memory)) }
     {
         let alloc = *self.buffer.allocator();
         let mut other_window = new_buffer(alloc)?;

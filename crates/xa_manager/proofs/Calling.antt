@@ -1,7 +1,7 @@
 -- What a call has done, by its refusals and its row.
 use Rattle.std.proofs.Common.{◌≡◌, ⊎_elim, ℕ, Bool, true, false, List, Option, Some, None, IsSomeAnd, MatchBool, if◌then◌else◌, refl, ap, sym, ◌∙◌, subst, w32, to_z, of_z}
 use Rattle.std.specs.Prelude.{Result, Ok, Err, IsOk}
-use Rattle.xa_disk.specs.declared.counts.Counts.{Counts}
+use Rattle.xa_disk.specs.declared.disk.Disk.{Ghosts}
 use Rattle.xa_codes.specs.Flags.{has}
 use Rattle.xa_codes.specs.declared.codes.TheConstants.{XAER_RMFAIL, XA_RETRY}
 use Rattle.xa_codes.specs.declared.flags.TheConstants.{TMONEPHASE}
@@ -88,40 +88,40 @@ code_kept (request.Decide direction xid) = refl
 code_kept (request.Doom xid) = refl
 code_kept request.Restart = refl
 
-module _ {D : Type 0} (honest : Type 0) (tears : List ℕ → ℕ → List ℕ → List ℕ → Type 0) (seen : D → List ℕ) (may_leave : D → List ℕ → Type 0) (failures : D → ℕ) (counts : D → Counts) where
-  answers_by : (m : Manager D) (s : State) (n : ℕ) (request : Request) → ManagerStandsFor honest tears seen may_leave m s → step s (Asked (Call n request)) ≡ taken (respond s (Call n request))
+module _ {D : Type 0} (disks : Ghosts D) where
+  answers_by : (m : Manager D) (s : State) (n : ℕ) (request : Request) → ManagerStandsFor disks m s → step s (Asked (Call n request)) ≡ taken (respond s (Call n request))
   answers_by m s n request st = ap taken (asked_by m.up (kept m) s (respond s (Call n request)) st.tables)
 
-  early_same : (m : Manager D) (s : State) (n : ℕ) (request : Request) → ManagerStandsFor honest tears seen may_leave m s
+  early_same : (m : Manager D) (s : State) (n : ℕ) (request : Request) → ManagerStandsFor disks m s
       → early_refusal (is_up s.standing) s.name (opened_of s n) request ≡ early_refusal m.up (kept m).name (opened_at (kept m).sessions n) request
   early_same m s n request st = early_by m.up (kept m) s n request st.tables
 
   pub refused_done : (m : Manager D) (n : ℕ) (request : Request) (reply : Reply) → Some reply ≡ early_refusal m.up (kept m).name (opened_at (kept m).sessions n) request → is_memory reply.detail ≡ false
-      → HasDone honest tears seen may_leave failures counts m (Call n request) reply Quiet m
+      → HasDone disks m (Call n request) reply Quiet m
   refused_done m n request reply h served = record {
     steps = λ s st premises.
         let is : respond s (Call n request) ≡ Now (answer reply s) = refused_turn (early_refusal (is_up s.standing) s.name (opened_of s n) request) s (row s n request) reply (h ∙ sym (early_same m s n request st)) in
         let steps : step s (Asked (Call n request)) Quiet ≡ Some (answer reply s) = ap (λ (t : Turn). taken t Quiet) (asked_by m.up (kept m) s (respond s (Call n request)) st.tables ∙ is) in
-        subst (λ (o : Option Answer). IsSomeAnd o (λ a. (a.reply ≡ reply) × ManagerStandsFor honest tears seen may_leave m a.after)) (sym steps) (refl, st);
+        subst (λ (o : Option Answer). IsSomeAnd o (λ a. (a.reply ≡ reply) × ManagerStandsFor disks m a.after)) (sym steps) (refl, st);
     called = λ s st premises. refl;
     served = served;
   }
 
-  passed_row : (m : Manager D) (s : State) (n : ℕ) (request : Request) → None ≡ early_refusal m.up (kept m).name (opened_at (kept m).sessions n) request → ManagerStandsFor honest tears seen may_leave m s
+  passed_row : (m : Manager D) (s : State) (n : ℕ) (request : Request) → None ≡ early_refusal m.up (kept m).name (opened_at (kept m).sessions n) request → ManagerStandsFor disks m s
       → respond s (Call n request) ≡ row s n request
   passed_row m s n request h st = passed_turn (early_refusal (is_up s.standing) s.name (opened_of s n) request) s (row s n request) (h ∙ sym (early_same m s n request st))
 
   pub row_done : (m m' : Manager D) (n : ℕ) (request : Request) (reply : Reply) (outcome : Outcome) → IsAsked request → asks_restart request ≡ false → None ≡ early_refusal m.up (kept m).name (opened_at (kept m).sessions n) request
-      → is_memory reply.detail ≡ false → ((s : State) → ManagerStandsFor honest tears seen may_leave m s → Takes honest tears seen may_leave failures counts m (row s n request) reply outcome m')
-      → HasDone honest tears seen may_leave failures counts m (Call n request) reply outcome m'
+      → is_memory reply.detail ≡ false → ((s : State) → ManagerStandsFor disks m s → Takes disks m (row s n request) reply outcome m')
+      → HasDone disks m (Call n request) reply outcome m'
   row_done m m' n request reply outcome event other h served takes =
-      has_done tears seen may_leave honest failures counts m m' (Call n request) reply outcome event other served
-      (λ s st. subst (λ (t : Turn). Takes honest tears seen may_leave failures counts m t reply outcome m') (sym (passed_row m s n request h st)) (takes s st))
+      has_done disks m m' (Call n request) reply outcome event other served
+      (λ s st. subst (λ (t : Turn). Takes disks m t reply outcome m') (sym (passed_row m s n request h st)) (takes s st))
 
   -- a row that is answered also while the manager is down
   pub takes_either : (m m' : Manager D) (act : State → Answer) (reply : Reply) (outcome : Outcome) → outcome ≡ Quiet → m'.log ≡ m.log → m'.up ≡ m.up → m'.doubt ≡ m.doubt
-      → Follows (kept m) act reply (kept m') → FollowsDown (kept m) act reply (kept m') → (s : State) → ManagerStandsFor honest tears seen may_leave m s
-      → Takes honest tears seen may_leave failures counts m (Now (act s)) reply outcome m'
+      → Follows (kept m) act reply (kept m') → FollowsDown (kept m) act reply (kept m') → (s : State) → ManagerStandsFor disks m s
+      → Takes disks m (Now (act s)) reply outcome m'
   takes_either m m' act reply outcome quiet log up doubt f d s st =
       let x = either_tables m.up (kept m) (kept m') s act reply f d st.tables in
       record {
@@ -135,33 +135,33 @@ module _ {D : Type 0} (honest : Type 0) (tears : List ℕ → ℕ → List ℕ �
 
   pub both_done : (m m' : Manager D) (n : ℕ) (request : Request) (act : State → Answer) (reply : Reply) → IsAsked request → asks_restart request ≡ false
       → None ≡ early_refusal m.up (kept m).name (opened_at (kept m).sessions n) request → ((s : State) → row s n request ≡ Now (act s)) → m'.log ≡ m.log → m'.up ≡ m.up → m'.doubt ≡ m.doubt
-      → Follows (kept m) act reply (kept m') → FollowsDown (kept m) act reply (kept m') → HasDone honest tears seen may_leave failures counts m (Call n request) reply Quiet m'
+      → Follows (kept m) act reply (kept m') → FollowsDown (kept m) act reply (kept m') → HasDone disks m (Call n request) reply Quiet m'
   both_done m m' n request act reply event other h is log up doubt f d =
       row_done m m' n request reply Quiet event other h f.served
-      (λ s st. subst (λ (t : Turn). Takes honest tears seen may_leave failures counts m t reply Quiet m') (sym (is s)) (takes_either m m' act reply Quiet refl log up doubt f d s st))
+      (λ s st. subst (λ (t : Turn). Takes disks m t reply Quiet m') (sym (is s)) (takes_either m m' act reply Quiet refl log up doubt f d s st))
 
   -- the row of a manager that is up
   pub up_done : (m m' : Manager D) (n : ℕ) (request handed : Request) (reply : Reply) (outcome : Outcome) → handed ≡ request → IsAsked request → asks_restart request ≡ false
-      → None ≡ early_refusal m.up (kept m).name (opened_at (kept m).sessions n) request → m.up ≡ true → TakesTurn honest tears seen may_leave failures counts m (λ s. row s n handed) reply outcome m'
-      → HasDone honest tears seen may_leave failures counts m (Call n request) reply outcome m'
+      → None ≡ early_refusal m.up (kept m).name (opened_at (kept m).sessions n) request → m.up ≡ true → TakesTurn disks m (λ s. row s n handed) reply outcome m'
+      → HasDone disks m (Call n request) reply outcome m'
   up_done m m' n request handed reply outcome same event other h is_up x =
       row_done m m' n request reply outcome event other h x.served
-      (λ s st. subst (λ (r : Request). Takes honest tears seen may_leave failures counts m (row s n r) reply outcome m') same (x.takes s st is_up))
+      (λ s st. subst (λ (r : Request). Takes disks m (row s n r) reply outcome m') same (x.takes s st is_up))
 
   pub restart_done : (m m' : Manager D) (n : ℕ) (reply : Reply) (outcome : Outcome) → None ≡ early_refusal m.up (kept m).name (opened_at (kept m).sessions n) Restart
-      → HasRestarted honest tears seen may_leave failures counts m reply outcome m' → HasDone honest tears seen may_leave failures counts m (Call n Restart) reply outcome m'
+      → HasRestarted disks m reply outcome m' → HasDone disks m (Call n Restart) reply outcome m'
   restart_done m m' n reply outcome h x = record {
     steps = λ s st premises.
         let steps : step s (Asked (Call n Restart)) outcome ≡ taken (restart_turn s) outcome =
         ap (λ (t : Turn). taken t outcome) (asked_by m.up (kept m) s (respond s (Call n Restart)) st.tables ∙ passed_row m s n Restart h st) in
-        subst (λ (o : Option Answer). IsSomeAnd o (λ a. (a.reply ≡ reply) × ManagerStandsFor honest tears seen may_leave m' a.after)) (sym steps)
+        subst (λ (o : Option Answer). IsSomeAnd o (λ a. (a.reply ≡ reply) × ManagerStandsFor disks m' a.after)) (sym steps)
         (⊎_elim (λ trusts. x.turn trusts s st) (λ no. absurd (cc no)) premises);
     called = λ s st premises. ⊎_elim (λ trusts. x.called trusts s st) (λ no. absurd (cc no)) premises;
     served = x.served;
   }
 
   -- the outcome is no part of what a manager stands for
-  told : (m : Manager D) (o : Outcome) (s : State) → ManagerStandsFor honest tears seen may_leave m s → ManagerStandsFor honest tears seen may_leave (record m { outcome = o }) s
+  told : (m : Manager D) (o : Outcome) (s : State) → ManagerStandsFor disks m s → ManagerStandsFor disks (record m { outcome = o }) s
   told m o s st = record { tables = st.tables; roomy = st.roomy; end = st.end; alive = st.alive; log_bytes = st.log_bytes; doubt = st.doubt; log = st.log }
 
   and_then : (o : Option Answer) (P Q : Answer → Type 0) → ((a : Answer) → P a → Q a) → IsSomeAnd o P → IsSomeAnd o Q
@@ -172,8 +172,8 @@ module _ {D : Type 0} (honest : Type 0) (tears : List ℕ → ℕ → List ℕ �
   served_not true A B e h = absurd (cc e)
   served_not false A B e h = h
 
-  pub done_answered : (m m' : Manager D) (e : Event) (reply : Reply) (outcome : Outcome) → HasDone honest tears seen may_leave failures counts m e reply outcome m'
-      → FullyAnswered honest tears seen may_leave failures counts m e reply (record m' { outcome = outcome })
+  pub done_answered : (m m' : Manager D) (e : Event) (reply : Reply) (outcome : Outcome) → HasDone disks m e reply outcome m'
+      → FullyAnswered disks m e reply (record m' { outcome = outcome })
   done_answered m m' e reply outcome x = record {
     answered = served_not (is_memory reply.detail) _ _ x.served
         (λ s st premises. and_then (step s (Asked e) outcome) _ _ (λ a h. (h.0, told m' outcome a.after h.1)) (x.steps s st premises));
@@ -183,11 +183,11 @@ module _ {D : Type 0} (honest : Type 0) (tears : List ℕ → ℕ → List ℕ �
   }
 
   -- where memory was wanted
-  pub wanted_answered : (m m' : Manager D) (n : ℕ) (request : Request) (reply : Reply) → reply ≡ detailed (memory_code request) detail.Memory → StaysFor honest tears seen may_leave m m' → m'.outcome ≡ m.outcome → NoneRises failures m.log m'.log → may_want request ≡ true
-      → FullyAnswered honest tears seen may_leave failures counts m (Call n request) reply m'
+  pub wanted_answered : (m m' : Manager D) (n : ℕ) (request : Request) (reply : Reply) → reply ≡ detailed (memory_code request) detail.Memory → StaysFor disks m m' → m'.outcome ≡ m.outcome → NoneRises disks.failures m.log m'.log → may_want request ≡ true
+      → FullyAnswered disks m (Call n request) reply m'
   wanted_answered m m' n request reply is stays outcome quiet may = rw is (record { answered = (stays, outcome); pinned = λ w. (may, refl); called = λ served. absurd (cc served); quiet = λ w. quiet })
 
-  pub either_stays_for : (m m' : Manager D) → m'.up ≡ m.up → m'.log ≡ m.log → m'.doubt ≡ m.doubt → Stays (kept m) (kept m') → StaysDown (kept m) (kept m') → StaysFor honest tears seen may_leave m m'
+  pub either_stays_for : (m m' : Manager D) → m'.up ≡ m.up → m'.log ≡ m.log → m'.doubt ≡ m.doubt → Stays (kept m) (kept m') → StaysDown (kept m) (kept m') → StaysFor disks m m'
   either_stays_for m m' up log doubt stays down s st = record {
     tables = subst (λ (b : Bool). TablesStandFor b (kept m') s) (sym up) (either_stays m.up (kept m) (kept m') s stays down st.tables);
     roomy = st.roomy;
@@ -200,24 +200,24 @@ module _ {D : Type 0} (honest : Type 0) (tears : List ℕ → ℕ → List ℕ �
 
   -- an event without a request
   pub event_answered : (m m' : Manager D) (e : Event) (act : State → Answer) (reply : Reply) → IsEvent e → is_restart e ≡ false → ((s : State) → respond s e ≡ Now (act s)) → m'.log ≡ m.log → m'.up ≡ m.up → m'.doubt ≡ m.doubt
-      → Follows (kept m) act reply (kept m') → FollowsDown (kept m) act reply (kept m') → FullyAnswered honest tears seen may_leave failures counts m e reply (record m' { outcome = Quiet })
+      → Follows (kept m) act reply (kept m') → FollowsDown (kept m) act reply (kept m') → FullyAnswered disks m e reply (record m' { outcome = Quiet })
   event_answered m m' e act reply event other is log up doubt f d =
       done_answered m m' e reply Quiet
-      (has_done tears seen may_leave honest failures counts m m' e reply Quiet event other f.served
-      (λ s st. subst (λ (t : Turn). Takes honest tears seen may_leave failures counts m t reply Quiet m') (sym (is s)) (takes_either m m' act reply Quiet refl log up doubt f d s st)))
+      (has_done disks m m' e reply Quiet event other f.served
+      (λ s st. subst (λ (t : Turn). Takes disks m t reply Quiet m') (sym (is s)) (takes_either m m' act reply Quiet refl log up doubt f d s st)))
 
-  pub connect_wanted : (m m' : Manager D) → StaysFor honest tears seen may_leave m m' → m'.outcome ≡ m.outcome → NoneRises failures m.log m'.log → FullyAnswered honest tears seen may_leave failures counts m Connect (connect_reply (Err Memory)) m'
+  pub connect_wanted : (m m' : Manager D) → StaysFor disks m m' → m'.outcome ≡ m.outcome → NoneRises disks.failures m.log m'.log → FullyAnswered disks m Connect (connect_reply (Err Memory)) m'
   connect_wanted m m' stays outcome quiet = record { answered = (stays, outcome); pinned = λ w. (refl, refl); called = λ served. absurd (cc served); quiet = λ w. quiet }
 
   -- the low water is given once a request is answered
 
-  pub given_done : (m mid m' : Manager D) (e : Event) (reply : Reply) (outcome : Outcome) → HasDone honest tears seen may_leave failures counts m e reply outcome mid
-      → StaysFor honest tears seen may_leave mid m' → m'.log ≡ mid.log → HasDone honest tears seen may_leave failures counts m e reply outcome m'
+  pub given_done : (m mid m' : Manager D) (e : Event) (reply : Reply) (outcome : Outcome) → HasDone disks m e reply outcome mid
+      → StaysFor disks mid m' → m'.log ≡ mid.log → HasDone disks m e reply outcome m'
   given_done m mid m' e reply outcome x stays log = record {
     steps = λ s st premises. and_then (step s (Asked e) outcome) _ _ (λ a h. (h.0, stays a.after h.1)) (x.steps s st premises);
     called = λ s st premises. rw log (x.called s st premises);
     served = x.served;
   }
 
-  pub given_stays : (m mid m' : Manager D) → StaysFor honest tears seen may_leave m mid → StaysFor honest tears seen may_leave mid m' → StaysFor honest tears seen may_leave m m'
+  pub given_stays : (m mid m' : Manager D) → StaysFor disks m mid → StaysFor disks mid m' → StaysFor disks m m'
   given_stays m mid m' x y s st = y s (x s st)

@@ -3,7 +3,7 @@ use Rattle.std.proofs.Common.{◌≡◌, inl, inr, ℕ, ◌+◌, ◌<◌, Bool, 
 use Rattle.std.proofs.Common.{refl, ap, sym, ◌∙◌, subst, arith}
 use Rattle.std.specs.Prelude.{MatchBool}
 use Rattle.std.proofs.lemmas.List.{append-nil}
-use Rattle.xa_disk.specs.declared.counts.Counts.{Counts}
+use Rattle.xa_disk.specs.declared.disk.Disk.{Ghosts}
 use Rattle.xa_frame.specs.declared.reply.Reply.{Reply}
 use Rattle.xa_log.specs.Answers.{HasCause, HasRisen}
 use Rattle.xa_log.specs.TwoFiles.{first_of, second_of}
@@ -41,40 +41,40 @@ rise_both k n (a, b) (c, d) (e, f) h i = λ p q. let r = i p q in let t = h r.0 
 
 -- of a log's two disks
 
-module _ {D : Type 0} (failures : D → ℕ) where
-  pub none_by : (old new : Log D) → NoneRises failures old new → RiseBy 0 (counted_by failures old) (counted_by failures new)
-  none_by old new h = stay_by (failures (first_of old)) (failures (second_of old)) (failures (first_of new)) (failures (second_of new)) h.0 h.1
+module _ {D : Type 0} (disks : Ghosts D) where
+  pub none_by : (old new : Log D) → NoneRises disks.failures old new → RiseBy 0 (counted_by disks.failures old) (counted_by disks.failures new)
+  none_by old new h = stay_by (disks.failures (first_of old)) (disks.failures (second_of old)) (disks.failures (first_of new)) (disks.failures (second_of new)) h.0 h.1
 
-  one_by : (old new : Log D) → OneRises failures old new → RiseBy 1 (counted_by failures old) (counted_by failures new)
-  one_by old new (inl h) = first_by (failures (first_of old)) (failures (second_of old)) (failures (first_of new)) (failures (second_of new)) h.0 h.1
-  one_by old new (inr h) = second_by (failures (first_of old)) (failures (second_of old)) (failures (first_of new)) (failures (second_of new)) h.0 h.1
+  one_by : (old new : Log D) → OneRises disks.failures old new → RiseBy 1 (counted_by disks.failures old) (counted_by disks.failures new)
+  one_by old new (inl h) = first_by (disks.failures (first_of old)) (disks.failures (second_of old)) (disks.failures (first_of new)) (disks.failures (second_of new)) h.0 h.1
+  one_by old new (inr h) = second_by (disks.failures (first_of old)) (disks.failures (second_of old)) (disks.failures (first_of new)) (disks.failures (second_of new)) h.0 h.1
 
-  sides_by : (n : ℕ) (b : Bool) (x y v w : D) → RiseBy n (failures x, failures y) (failures v, failures w)
-      → RiseBy n (failures (cond b x y), failures (cond b y x)) (failures (cond b v w), failures (cond b w v))
+  sides_by : (n : ℕ) (b : Bool) (x y v w : D) → RiseBy n (disks.failures x, disks.failures y) (disks.failures v, disks.failures w)
+      → RiseBy n (disks.failures (cond b x y), disks.failures (cond b y x)) (disks.failures (cond b v w), disks.failures (cond b w v))
   sides_by n true x y v w h = h
   sides_by n false x y v w h = λ p q. let r = h q p in (r.1, r.0, omega (arith, r.2))
 
-  in_order : (n : ℕ) (old new : Log D) → new.on_first ≡ old.on_first → RiseBy n (failures old.disk, failures old.other) (failures new.disk, failures new.other)
-      → RiseBy n (counted_by failures old) (counted_by failures new)
+  in_order : (n : ℕ) (old new : Log D) → new.on_first ≡ old.on_first → RiseBy n (disks.failures old.disk, disks.failures old.other) (disks.failures new.disk, disks.failures new.other)
+      → RiseBy n (counted_by disks.failures old) (counted_by disks.failures new)
   in_order n old new same h =
-      subst (λ (b : Bool). RiseBy n (counted_by failures old) (failures (cond b new.disk new.other), failures (cond b new.other new.disk))) (sym same)
+      subst (λ (b : Bool). RiseBy n (counted_by disks.failures old) (disks.failures (cond b new.disk new.other), disks.failures (cond b new.other new.disk))) (sym same)
       (sides_by n old.on_first old.disk old.other new.disk new.other h)
 
-  append_by : (a : Appending) (old new : Log D) → new.other ≡ old.other → new.on_first ≡ old.on_first → HasCause (as_appended a) (failures old.disk) (failures new.disk)
-      → RiseBy (failures_of_append a) (counted_by failures old) (counted_by failures new)
-  append_by Kept old new other same cause = in_order 0 old new same (stay_by (failures old.disk) (failures old.other) (failures new.disk) (failures new.other) cause (ap failures other))
-  append_by Refused old new other same cause = in_order 1 old new same (first_by (failures old.disk) (failures old.other) (failures new.disk) (failures new.other) cause (ap failures other))
-  append_by Lost old new other same cause = in_order 1 old new same (first_by (failures old.disk) (failures old.other) (failures new.disk) (failures new.other) cause (ap failures other))
+  append_by : (a : Appending) (old new : Log D) → new.other ≡ old.other → new.on_first ≡ old.on_first → HasCause (as_appended a) (disks.failures old.disk) (disks.failures new.disk)
+      → RiseBy (failures_of_append a) (counted_by disks.failures old) (counted_by disks.failures new)
+  append_by Kept old new other same cause = in_order 0 old new same (stay_by (disks.failures old.disk) (disks.failures old.other) (disks.failures new.disk) (disks.failures new.other) cause (ap disks.failures other))
+  append_by Refused old new other same cause = in_order 1 old new same (first_by (disks.failures old.disk) (disks.failures old.other) (disks.failures new.disk) (disks.failures new.other) cause (ap disks.failures other))
+  append_by Lost old new other same cause = in_order 1 old new same (first_by (disks.failures old.disk) (disks.failures old.other) (disks.failures new.disk) (disks.failures new.other) cause (ap disks.failures other))
 
-  pub called_by : (honest : Type 0) (tears : List ℕ → ℕ → List ℕ → List ℕ → Type 0) (counts : D → Counts) (o : Outcome) (old new : Log D)
-      → HasCalled honest tears failures counts o old new → RiseBy (failures_in o) (counted_by failures old) (counted_by failures new)
-  called_by honest tears counts outcome.Quiet old new h = none_by old new (ap (λ (l : Log D). failures (first_of l)) h, ap (λ (l : Log D). failures (second_of l)) h)
-  called_by honest tears counts (outcome.Appended a) old new h = append_by a old new h.0 h.1 h.2
-  called_by honest tears counts outcome.Failed old new h = one_by old new h
-  called_by honest tears counts (outcome.Reread survived None) old new h = none_by old new h
-  called_by honest tears counts (outcome.Reread survived (Some Kept)) old new h = none_by old new h
-  called_by honest tears counts (outcome.Reread survived (Some Refused)) old new h = one_by old new h
-  called_by honest tears counts (outcome.Reread survived (Some Lost)) old new h = one_by old new h
+  pub called_by : (o : Outcome) (old new : Log D)
+      → HasCalled disks o old new → RiseBy (failures_in o) (counted_by disks.failures old) (counted_by disks.failures new)
+  called_by outcome.Quiet old new h = none_by old new (ap (λ (l : Log D). disks.failures (first_of l)) h, ap (λ (l : Log D). disks.failures (second_of l)) h)
+  called_by (outcome.Appended a) old new h = append_by a old new h.0 h.1 h.2
+  called_by outcome.Failed old new h = one_by old new h
+  called_by (outcome.Reread survived None) old new h = none_by old new h
+  called_by (outcome.Reread survived (Some Kept)) old new h = none_by old new h
+  called_by (outcome.Reread survived (Some Refused)) old new h = one_by old new h
+  called_by (outcome.Reread survived (Some Lost)) old new h = one_by old new h
 
 -- of a run
 
@@ -92,34 +92,34 @@ rise_more before now more n x y z e same h i =
 alone : (o : Outcome) → failures_in o + 0 ≡ failures_in o
 alone o = omega arith
 
-counts_on : {D : Type 0} (honest : Type 0) (tears : List ℕ → ℕ → List ℕ → List ℕ → Type 0) (seen : D → List ℕ) (may_leave : D → List ℕ → Type 0) (failures : D → ℕ) (counts : D → Counts)
+counts_on : {D : Type 0} (disks : Ghosts D)
     (m mid m' : Manager D) (es : List Event) (rs : List Reply) (event : Event) (reply : Reply) (d : Bool) → length es ≡ length rs → is_memory reply.detail ≡ d
-    → CountsAll honest tears seen may_leave failures m es rs mid
-    → MatchBool d (StaysFor honest tears seen may_leave mid m' × (m'.outcome ≡ mid.outcome)) (StepsAs honest tears seen may_leave mid event reply m')
-    → FullyAnswered honest tears seen may_leave failures counts mid event reply m'
-    → CountsAll honest tears seen may_leave failures m (es ++ event ∷ []) (rs ++ reply ∷ []) m'
-counts_on honest tears seen may_leave failures counts m mid m' es rs event reply true same ed all one full s st trusted =
-    let h = all s st (trusted_before (Trusts honest tears) es event trusted) in
+    → CountsAll disks m es rs mid
+    → MatchBool d (StaysFor disks mid m' × (m'.outcome ≡ mid.outcome)) (StepsAs disks mid event reply m')
+    → FullyAnswered disks mid event reply m'
+    → CountsAll disks m (es ++ event ∷ []) (rs ++ reply ∷ []) m'
+counts_on disks m mid m' es rs event reply true same ed all one full s st trusted =
+    let h = all s st (trusted_before (Trusts disks) es event trusted) in
     let e = recorded_more es h.0 rs event outcome.Quiet reply true h.2 same ed in
     let leads = subst (λ (xs : List Entry). Leads s xs h.1) (sym (e ∙ append-nil (recorded es h.0 rs))) h.3 in
     let rise = rise_more (recorded es h.0 rs) (recorded (es ++ event ∷ []) (h.0 ++ outcome.Quiet ∷ []) (rs ++ reply ∷ [])) (added event outcome.Quiet reply true) 0
-    (counted_by failures m.log) (counted_by failures mid.log) (counted_by failures m'.log) e refl h.5 (none_by failures mid.log m'.log (full.quiet ed)) in
+    (counted_by disks.failures m.log) (counted_by disks.failures mid.log) (counted_by disks.failures m'.log) e refl h.5 (none_by disks mid.log m'.log (full.quiet ed)) in
     (h.0 ++ outcome.Quiet ∷ [], h.1, told_more es h.0 event outcome.Quiet h.2, leads, one.0 h.1 h.4, rise)
-counts_on honest tears seen may_leave failures counts m mid m' es rs event reply false same ed all one full s st trusted =
-    let h = all s st (trusted_before (Trusts honest tears) es event trusted) in
+counts_on disks m mid m' es rs event reply false same ed all one full s st trusted =
+    let h = all s st (trusted_before (Trusts disks) es event trusted) in
     let e = recorded_more es h.0 rs event m'.outcome reply false h.2 same ed in
-    let last = trusted_last (Trusts honest tears) es event trusted in
-    let a = stepped (λ (x : State). ManagerStandsFor honest tears seen may_leave m' x) reply (step h.1 (Asked event) m'.outcome) (one h.1 h.4 last) in
+    let last = trusted_last (Trusts disks) es event trusted in
+    let a = stepped (λ (x : State). ManagerStandsFor disks m' x) reply (step h.1 (Asked event) m'.outcome) (one h.1 h.4 last) in
     let entry : Entry = record { happening = Asked event; outcome = m'.outcome; reply = reply } in
     let leads = subst (λ (xs : List Entry). Leads s xs a.0) (sym e) (leads_more s (recorded es h.0 rs) h.1 entry a.0 h.3 a.1) in
     let rise = rise_more (recorded es h.0 rs) (recorded (es ++ event ∷ []) (h.0 ++ m'.outcome ∷ []) (rs ++ reply ∷ [])) (added event m'.outcome reply false) (failures_in m'.outcome)
-    (counted_by failures m.log) (counted_by failures mid.log) (counted_by failures m'.log) e (alone m'.outcome) h.5
-    (called_by failures honest tears counts m'.outcome mid.log m'.log (full.called ed h.1 h.4 last)) in
+    (counted_by disks.failures m.log) (counted_by disks.failures mid.log) (counted_by disks.failures m'.log) e (alone m'.outcome) h.5
+    (called_by disks m'.outcome mid.log m'.log (full.called ed h.1 h.4 last)) in
     (h.0 ++ m'.outcome ∷ [], a.0, told_more es h.0 event m'.outcome h.2, leads, a.2, rise)
 
-pub counts_more : {D : Type 0} (honest : Type 0) (tears : List ℕ → ℕ → List ℕ → List ℕ → Type 0) (seen : D → List ℕ) (may_leave : D → List ℕ → Type 0) (failures : D → ℕ) (counts : D → Counts)
+pub counts_more : {D : Type 0} (disks : Ghosts D)
     (m mid m' : Manager D) (es : List Event) (rs : List Reply) (event : Event) (reply : Reply) → length es ≡ length rs
-    → CountsAll honest tears seen may_leave failures m es rs mid → FullyAnswered honest tears seen may_leave failures counts mid event reply m'
-    → CountsAll honest tears seen may_leave failures m (es ++ event ∷ []) (rs ++ reply ∷ []) m'
-counts_more honest tears seen may_leave failures counts m mid m' es rs event reply same all full =
-    counts_on honest tears seen may_leave failures counts m mid m' es rs event reply (is_memory reply.detail) same refl all full.answered full
+    → CountsAll disks m es rs mid → FullyAnswered disks mid event reply m'
+    → CountsAll disks m (es ++ event ∷ []) (rs ++ reply ∷ []) m'
+counts_more disks m mid m' es rs event reply same all full =
+    counts_on disks m mid m' es rs event reply (is_memory reply.detail) same refl all full.answered full

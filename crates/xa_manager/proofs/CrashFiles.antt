@@ -2,6 +2,7 @@
 use Rattle.std.proofs.Common.{◌≡◌, ◌⊎◌, inl, inr, ⊎_elim, ℕ, ◌+◌, ◌≤◌, Bool, true, false, List, [], ◌∷◌, ◌++◌, length, refl, sym, ◌∙◌, ap, subst, cond, Option, Some, None, nat_lt}
 use Rattle.std.specs.Prelude.{map, option_map, IfSome}
 use Rattle.std.proofs.lemmas.List.{map_push}
+use Rattle.xa_disk.specs.declared.disk.Disk.{Ghosts}
 use Rattle.xa_codes.specs.declared.codes.TheConstants.{XAER_RMFAIL}
 use Rattle.xa_codes.specs.declared.detail.Detail.TheVariants as detail
 use Rattle.xa_record.specs.Spelling.{spelled}
@@ -70,13 +71,13 @@ either_for most first rs s current other h k (inr (r, is, f)) =
 
 -- ---- what the log stands for
 
-module _ {D : Type 0} (tears : List ℕ → ℕ → List ℕ → List ℕ → Type 0) (seen : D → List ℕ) (may_leave : D → List ℕ → Type 0) (log : Log D) where
+module _ {D : Type 0} (disks : Ghosts D) (log : Log D) where
   -- a record that was lost but an opened one
   record IsAppended (rs : List Record) (s : State) (r : Record) : Type 0 where
     settles : settled rs s r ≡ rs ++ r ∷ []
-    may : MayHaveRecord tears seen may_leave rs s r log → (stood : List (List ℕ)) × MayStandPair tears seen may_leave (map spelled rs) (spelled r) stood log
-    calm : (current other : List ℕ) → MayHaveCalmRecord tears seen may_leave rs s r log current other
-        → (stood : List (List ℕ)) × MayStandPair tears seen may_leave (map spelled rs) (spelled r) stood log × IsPlain log.format (map spelled rs) (spelled r) current × IsCalm stood other
+    may : MayHaveRecord disks rs s r log → (stood : List (List ℕ)) × MayStandPair disks (map spelled rs) (spelled r) stood log
+    calm : (current other : List ℕ) → MayHaveCalmRecord disks rs s r log current other
+        → (stood : List (List ℕ)) × MayStandPair disks (map spelled rs) (spelled r) stood log × IsPlain log.format (map spelled rs) (spelled r) current × IsCalm stood other
 
   appended_or : (rs : List Record) (s : State) (r : Record) → ((boot : ℕ) × (r ≡ logged.Opened boot)) ⊎ IsAppended rs s r
   appended_or rs s (logged.Opened boot) = inl (boot, refl)
@@ -96,15 +97,15 @@ module _ {D : Type 0} (tears : List ℕ → ℕ → List ℕ → List ℕ → Ty
   Ends rs s r current other = Found rs current other ⊎ Found (settled rs s r) current other
 
   -- images of both files, of which nothing is left to chance
-  of_pair : (rs : List Record) (stood : List (List ℕ)) (current other : List ℕ) → Pair tears seen may_leave (map spelled rs) stood log
-      → current ≡ seen log.disk → length other ≤ log.log_bytes → Behind stood other → IsCalm stood other → Found rs current other
+  of_pair : (rs : List Record) (stood : List (List ℕ)) (current other : List ℕ) → Pair disks (map spelled rs) stood log
+      → current ≡ disks.seen log.disk → length other ≤ log.log_bytes → Behind stood other → IsCalm stood other → Found rs current other
   of_pair rs stood current other p is fits behind calm =
       subst (λ (x : List ℕ). Found rs x other) (sym is)
-      (files_of_pair log.log_bytes log.on_first (map spelled rs) stood (seen log.disk) other
+      (files_of_pair log.log_bytes log.on_first (map spelled rs) stood (disks.seen log.disk) other
       (record { format = log.format; fits = p.current.fits; rests = p.current.file }) fits behind calm p.older)
 
   of_append : (rs : List Record) (s : State) (r : Record) (stood : List (List ℕ)) (current other : List ℕ) → settled rs s r ≡ rs ++ r ∷ []
-      → MayStandPair tears seen may_leave (map spelled rs) (spelled r) stood log → length current ≤ log.log_bytes
+      → MayStandPair disks (map spelled rs) (spelled r) stood log → length current ≤ log.log_bytes
       → IsBeforeOrAfter log.format (map spelled rs) (spelled r) current → length other ≤ log.log_bytes → Behind stood other → IsCalm stood other
       → Ends rs s r current other
   of_append rs s r stood current other settles p short is fits behind calm =
@@ -114,40 +115,40 @@ module _ {D : Type 0} (tears : List ℕ → ℕ → List ℕ → List ℕ → Ty
       (files_of_append log.log_bytes log.on_first log.format (map spelled rs) (spelled r) stood current other short is fits behind calm p.older p.older_after)
 
   of_seal : (rs : List Record) (s : State) (boot : ℕ) (current other : List ℕ)
-      → MaySeal tears seen may_leave (map spelled rs) (map spelled (snapshot (durable s) boot)) log → current ≡ seen log.disk
+      → MaySeal disks (map spelled rs) (map spelled (snapshot (durable s) boot)) log → current ≡ disks.seen log.disk
       → LeavesOf log.log_bytes (map spelled (snapshot (durable s) boot)) other → has_log other ≡ true
       → IsCalm (map spelled (snapshot (durable s) boot)) other → Ends rs s (logged.Opened boot) current other
   of_seal rs s boot current other p is leaves front calm =
       subst (λ (x : List ℕ). Ends rs s (logged.Opened boot) x other) (sym is)
-      (files_of_seal log.log_bytes log.on_first (map spelled rs) (map spelled (snapshot (durable s) boot)) (seen log.disk) other
+      (files_of_seal log.log_bytes log.on_first (map spelled rs) (map spelled (snapshot (durable s) boot)) (disks.seen log.disk) other
       (record { format = log.format; fits = p.fits; rests = p.file }) leaves front calm p.above)
 
   -- ---- what a read gives
 
-  read_pair : (rs : List Record) → CalmTears tears → HasRecords tears seen may_leave rs log → Found rs (seen log.disk) (seen log.other)
-  read_pair rs lucky (stood, p) = of_pair rs stood (seen log.disk) (seen log.other) p refl p.other.fits p.other.behind (p.calm_on lucky)
+  read_pair : (rs : List Record) → CalmTears disks.tears → HasRecords disks rs log → Found rs (disks.seen log.disk) (disks.seen log.other)
+  read_pair rs lucky (stood, p) = of_pair rs stood (disks.seen log.disk) (disks.seen log.other) p refl p.other.fits p.other.behind (p.calm_on lucky)
 
-  read_append : (rs : List Record) (s : State) (r : Record) → NoChance tears → CalmTears tears → IsAppended rs s r
-      → MayHaveRecord tears seen may_leave rs s r log → Ends rs s r (seen log.disk) (seen log.other)
+  read_append : (rs : List Record) (s : State) (r : Record) → NoChance disks.tears → CalmTears disks.tears → IsAppended rs s r
+      → MayHaveRecord disks rs s r log → Ends rs s r (disks.seen log.disk) (disks.seen log.other)
   read_append rs s r plain lucky a may =
       let (stood, p) = a.may may in
-      of_append rs s r stood (seen log.disk) (seen log.other) a.settles p p.current.seen_is.fits (p.current.seen_on plain)
+      of_append rs s r stood (disks.seen log.disk) (disks.seen log.other) a.settles p p.current.seen_is.fits (p.current.seen_on plain)
       p.other.fits p.other.behind (p.calm_on lucky)
 
-  read_seal : (rs : List Record) (s : State) (boot : ℕ) → SealTears tears → MayHaveRecord tears seen may_leave rs s (logged.Opened boot) log
-      → Ends rs s (logged.Opened boot) (seen log.disk) (seen log.other)
-  read_seal rs s boot lucky p = of_seal rs s boot (seen log.disk) (seen log.other) p refl p.other p.front (p.calm_on lucky)
+  read_seal : (rs : List Record) (s : State) (boot : ℕ) → SealTears disks.tears → MayHaveRecord disks rs s (logged.Opened boot) log
+      → Ends rs s (logged.Opened boot) (disks.seen log.disk) (disks.seen log.other)
+  read_seal rs s boot lucky p = of_seal rs s boot (disks.seen log.disk) (disks.seen log.other) p refl p.other p.front (p.calm_on lucky)
 
-  module _ (honest : Type 0) (t : Trusts honest tears) where
+  module _ (t : Trusts disks) where
     read_lost : (rs : List Record) (s : State) (r : Record) → ((boot : ℕ) × (r ≡ logged.Opened boot)) ⊎ IsAppended rs s r
-        → MayHaveRecord tears seen may_leave rs s r log → Ends rs s r (seen log.disk) (seen log.other)
+        → MayHaveRecord disks rs s r log → Ends rs s r (disks.seen log.disk) (disks.seen log.other)
     read_lost rs s r (inl (boot, is)) may =
-        subst (λ (x : Record). Ends rs s x (seen log.disk) (seen log.other)) (sym is)
-        (read_seal rs s boot t.seals (subst (λ (x : Record). MayHaveRecord tears seen may_leave rs s x log) is may))
+        subst (λ (x : Record). Ends rs s x (disks.seen log.disk) (disks.seen log.other)) (sym is)
+        (read_seal rs s boot t.seals (subst (λ (x : Record). MayHaveRecord disks rs s x log) is may))
     read_lost rs s r (inr a) may = read_append rs s r t.appends t.headers a may
 
-    read_of : (rs : List Record) (s : State) (o : Option Record) → HasRecordsOf tears seen may_leave rs s o log
-        → Either log.log_bytes log.on_first rs s o (seen log.disk) (seen log.other)
+    read_of : (rs : List Record) (s : State) (o : Option Record) → HasRecordsOf disks rs s o log
+        → Either log.log_bytes log.on_first rs s o (disks.seen log.disk) (disks.seen log.other)
     read_of rs s None has = inl (read_pair rs t.headers has)
     read_of rs s (Some r) (inl may) = ⊎_elim (λ f. inl f) (λ f. inr (r, refl, f)) (read_lost rs s r (appended_or rs s r) may)
     read_of rs s (Some r) (inr (inl has)) = inl (read_pair rs t.headers has)
@@ -155,30 +156,30 @@ module _ {D : Type 0} (tears : List ℕ → ℕ → List ℕ → List ℕ → Ty
 
   -- ---- what a crash leaves
 
-  module _ (current other : List ℕ) (one : may_leave log.disk current) (two : may_leave log.other other) where
-    crash_pair : (rs : List Record) → HasCalmRecords tears seen may_leave rs log other → Found rs current other
+  module _ (current other : List ℕ) (one : disks.may_leave log.disk current) (two : disks.may_leave log.other other) where
+    crash_pair : (rs : List Record) → HasCalmRecords disks rs log other → Found rs current other
     crash_pair rs (stood, p, calm) =
         of_pair rs stood current other p (p.current.durable current one) (p.other.left_fits other two) (p.other.left_behind other two) calm
 
-    crash_append : (rs : List Record) (s : State) (r : Record) → IsAppended rs s r → MayHaveCalmRecord tears seen may_leave rs s r log current other
+    crash_append : (rs : List Record) (s : State) (r : Record) → IsAppended rs s r → MayHaveCalmRecord disks rs s r log current other
         → Ends rs s r current other
     crash_append rs s r a may =
         let (stood, p, plain, calm) = a.calm current other may in
         let left = p.current.left_is current one in
         of_append rs s r stood current other a.settles p left.fits (left.reads plain) (p.other.left_fits other two) (p.other.left_behind other two) calm
 
-    crash_seal : (rs : List Record) (s : State) (boot : ℕ) → MayHaveCalmRecord tears seen may_leave rs s (logged.Opened boot) log current other
+    crash_seal : (rs : List Record) (s : State) (boot : ℕ) → MayHaveCalmRecord disks rs s (logged.Opened boot) log current other
         → Ends rs s (logged.Opened boot) current other
     crash_seal rs s boot (p, calm) = of_seal rs s boot current other p (p.durable current one) (p.left other two) (p.left_front other two) calm
 
     crash_lost : (rs : List Record) (s : State) (r : Record) → ((boot : ℕ) × (r ≡ logged.Opened boot)) ⊎ IsAppended rs s r
-        → MayHaveCalmRecord tears seen may_leave rs s r log current other → Ends rs s r current other
+        → MayHaveCalmRecord disks rs s r log current other → Ends rs s r current other
     crash_lost rs s r (inl (boot, is)) may =
         subst (λ (x : Record). Ends rs s x current other) (sym is)
-        (crash_seal rs s boot (subst (λ (x : Record). MayHaveCalmRecord tears seen may_leave rs s x log current other) is may))
+        (crash_seal rs s boot (subst (λ (x : Record). MayHaveCalmRecord disks rs s x log current other) is may))
     crash_lost rs s r (inr a) may = crash_append rs s r a may
 
-    crash_of : (rs : List Record) (s : State) (o : Option Record) → HasCalmRecordsOf tears seen may_leave rs s o log current other
+    crash_of : (rs : List Record) (s : State) (o : Option Record) → HasCalmRecordsOf disks rs s o log current other
         → Either log.log_bytes log.on_first rs s o current other
     crash_of rs s None has = inl (crash_pair rs has)
     crash_of rs s (Some r) (inl may) = ⊎_elim (λ f. inl f) (λ f. inr (r, refl, f)) (crash_lost rs s r (appended_or rs s r) may)
@@ -202,19 +203,19 @@ left_in_order : {D : Type 0} (may_leave : D → List ℕ → Type 0) (f : Bool) 
 left_in_order may_leave true d o a b one two = (one, two)
 left_in_order may_leave false d o a b one two = (two, one)
 
-pub read_leaves : {D : Type 0} (honest : Type 0) (tears : List ℕ → ℕ → List ℕ → List ℕ → Type 0) (seen : D → List ℕ) (may_leave : D → List ℕ → Type 0)
-    → ReadLeaves honest tears seen may_leave
-read_leaves honest tears seen may_leave log s t h stands =
-    seen_in_order seen log.log_bytes s log.on_first log.disk log.other
-    (either_for log.log_bytes log.on_first stands.records s (seen log.disk) (seen log.other) h stands.backs
-    (read_of tears seen may_leave log honest t stands.records s s.open_record stands.has))
+pub read_leaves : {D : Type 0} (disks : Ghosts D)
+    → ReadLeaves disks
+read_leaves disks log s t h stands =
+    seen_in_order disks.seen log.log_bytes s log.on_first log.disk log.other
+    (either_for log.log_bytes log.on_first stands.records s (disks.seen log.disk) (disks.seen log.other) h stands.backs
+    (read_of disks log t stands.records s s.open_record stands.has))
 
-pub crash_leaves : {D : Type 0} (tears : List ℕ → ℕ → List ℕ → List ℕ → Type 0) (seen : D → List ℕ) (may_leave : D → List ℕ → Type 0)
-    → CrashLeaves tears seen may_leave
-crash_leaves tears seen may_leave log s first second h one two stands =
+pub crash_leaves : {D : Type 0} (disks : Ghosts D)
+    → CrashLeaves disks
+crash_leaves disks log s first second h one two stands =
     let current = cond log.on_first first second in
     let other = cond log.on_first second first in
-    let left = left_in_order may_leave log.on_first log.disk log.other first second one two in
+    let left = left_in_order disks.may_leave log.on_first log.disk log.other first second one two in
     images_in_order log.log_bytes s log.on_first first second
     (either_for log.log_bytes log.on_first stands.records s current other h stands.backs
-    (crash_of tears seen may_leave log current other left.0 left.1 stands.records s s.open_record stands.has))
+    (crash_of disks log current other left.0 left.1 stands.records s s.open_record stands.has))

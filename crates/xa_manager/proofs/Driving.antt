@@ -3,6 +3,7 @@ use Rattle.std.proofs.Common.{◌≡◌, ◌⊎◌, inl, inr, ℕ, suc, Bool, tr
 use Rattle.std.proofs.Common.{refl, ap, sym, ◌∙◌, subst, arith}
 use Rattle.std.specs.Prelude.{MatchBool}
 use Rattle.std.proofs.lemmas.List.{append-nil}
+use Rattle.xa_disk.specs.declared.disk.Disk.{Ghosts}
 use Rattle.xa_frame.specs.declared.reply.Reply.{Reply}
 use Rattle.xa_model.specs.declared.event.Event.{Event}
 use Rattle.xa_model.specs.declared.outcome.Outcome.{Outcome}
@@ -92,31 +93,31 @@ stepped Stands reply None h = absurd h
 stepped Stands reply (Some a) h = (a.after, ap (λ (r : Reply). Some (record { reply = r; after = a.after })) h.0, h.1)
 
 -- The run with one more event: the outcome that is added is the manager's. Where memory was wanted no entry tells it, and it is Quiet.
-goes_on : {D : Type 0} (honest : Type 0) (tears : List ℕ → ℕ → List ℕ → List ℕ → Type 0) (seen : D → List ℕ) (may_leave : D → List ℕ → Type 0)
+goes_on : {D : Type 0} (disks : Ghosts D)
     (m mid m' : Manager D) (es : List Event) (rs : List Reply) (event : Event) (reply : Reply) (d : Bool) → length es ≡ length rs → is_memory reply.detail ≡ d
-    → AnswersAll honest tears seen may_leave m es rs mid
-    → MatchBool d (StaysFor honest tears seen may_leave mid m' × (m'.outcome ≡ mid.outcome)) (StepsAs honest tears seen may_leave mid event reply m')
-    → AnswersAll honest tears seen may_leave m (es ++ event ∷ []) (rs ++ reply ∷ []) m'
-goes_on honest tears seen may_leave m mid m' es rs event reply true same ed all one s st trusted =
-    let h = all s st (trusted_before (Trusts honest tears) es event trusted) in
+    → AnswersAll disks m es rs mid
+    → MatchBool d (StaysFor disks mid m' × (m'.outcome ≡ mid.outcome)) (StepsAs disks mid event reply m')
+    → AnswersAll disks m (es ++ event ∷ []) (rs ++ reply ∷ []) m'
+goes_on disks m mid m' es rs event reply true same ed all one s st trusted =
+    let h = all s st (trusted_before (Trusts disks) es event trusted) in
     let e = recorded_more es h.0 rs event Quiet reply true h.2 same ed in
     let leads = subst (λ (xs : List Entry). Leads s xs h.1) (sym (e ∙ append-nil (recorded es h.0 rs))) h.3 in
     (h.0 ++ Quiet ∷ [], h.1, told_more es h.0 event Quiet h.2, leads, one.0 h.1 h.4)
-goes_on honest tears seen may_leave m mid m' es rs event reply false same ed all one s st trusted =
-    let h = all s st (trusted_before (Trusts honest tears) es event trusted) in
+goes_on disks m mid m' es rs event reply false same ed all one s st trusted =
+    let h = all s st (trusted_before (Trusts disks) es event trusted) in
     let e = recorded_more es h.0 rs event m'.outcome reply false h.2 same ed in
-    let a = stepped (λ (x : State). ManagerStandsFor honest tears seen may_leave m' x) reply (step h.1 (Asked event) m'.outcome)
-    (one h.1 h.4 (trusted_last (Trusts honest tears) es event trusted)) in
+    let a = stepped (λ (x : State). ManagerStandsFor disks m' x) reply (step h.1 (Asked event) m'.outcome)
+    (one h.1 h.4 (trusted_last (Trusts disks) es event trusted)) in
     let entry : Entry = record { happening = Asked event; outcome = m'.outcome; reply = reply } in
     let leads = subst (λ (xs : List Entry). Leads s xs a.0) (sym e) (leads_more s (recorded es h.0 rs) h.1 entry a.0 h.3 a.1) in
     (h.0 ++ m'.outcome ∷ [], a.0, told_more es h.0 event m'.outcome h.2, leads, a.2)
 
-pub answers_more : {D : Type 0} (honest : Type 0) (tears : List ℕ → ℕ → List ℕ → List ℕ → Type 0) (seen : D → List ℕ) (may_leave : D → List ℕ → Type 0)
+pub answers_more : {D : Type 0} (disks : Ghosts D)
     (m mid m' : Manager D) (es : List Event) (rs : List Reply) (event : Event) (reply : Reply) → length es ≡ length rs
-    → AnswersAll honest tears seen may_leave m es rs mid → Answered honest tears seen may_leave mid event reply m'
-    → AnswersAll honest tears seen may_leave m (es ++ event ∷ []) (rs ++ reply ∷ []) m'
-answers_more honest tears seen may_leave m mid m' es rs event reply same all one =
-    goes_on honest tears seen may_leave m mid m' es rs event reply (is_memory reply.detail) same refl all one
+    → AnswersAll disks m es rs mid → Answered disks mid event reply m'
+    → AnswersAll disks m (es ++ event ∷ []) (rs ++ reply ∷ []) m'
+answers_more disks m mid m' es rs event reply same all one =
+    goes_on disks m mid m' es rs event reply (is_memory reply.detail) same refl all one
 
 -- as many replies as events, each pinned
 pub pinned_each : (es : List Event) (rs : List Reply) → ArePinned es rs → length es ≡ length rs

@@ -2,6 +2,7 @@
 use Rattle.std.proofs.Common.{◌≡◌, ◌+◌, ◌<◌, ℕ, List, [], ◌∷◌, length, false, refl, ap, sym, ◌∙◌, subst, arith}
 use Rattle.std.specs.Prelude.{Vec, slice_index_or}
 use Rattle.std.specs.declared.alloc.Global.{Global}
+use Rattle.xa_disk.specs.declared.disk.Disk.{Ghosts}
 use Rattle.xa_log.specs.Chain.{newest, text}
 use Rattle.xa_log.specs.Reading.{bodies_of}
 use Rattle.xa_log.specs.declared.log.Log.{Log}
@@ -9,10 +10,10 @@ use Rattle.xa_log.specs.TwoFiles.{Pair}
 use Rattle.xa_manager.specs.Opening.{HasBodies}
 use Rattle.xa_manager.proofs.LogLengths.{one_size, none_size}
 
-pub first_full : {D : Type 0} (tears : List ℕ → ℕ → List ℕ → List ℕ → Type 0) (seen : D → List ℕ) (may_leave : D → List ℕ → Type 0) (log : Log D) (bodies : List (List ℕ)) (body : List ℕ)
-    → bodies ≡ body ∷ [] → HasBodies tears seen may_leave [] log → (log.lost ≡ false → log.log_bytes < log.end + 40 + length body)
+pub first_full : {D : Type 0} (disks : Ghosts D) (log : Log D) (bodies : List (List ℕ)) (body : List ℕ)
+    → bodies ≡ body ∷ [] → HasBodies disks [] log → (log.lost ≡ false → log.log_bytes < log.end + 40 + length body)
     → log.log_bytes < length (text newest bodies) + 4
-first_full tears seen may_leave log bodies body e has full =
+first_full disks log bodies body e has full =
     let less = full has.1.current.alive in
     subst (λ (l : List (List ℕ)). log.log_bytes < length (text newest l) + 4) (sym e)
     (omega (arith, less, has.1.current.end, none_size log.format, one_size newest body))

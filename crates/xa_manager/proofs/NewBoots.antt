@@ -1,6 +1,7 @@
 -- A manager whose boot began stands for the states that a restart or an opening leads to.
 use Rattle.std.proofs.Common.{◌≡◌, ◌+◌, ◌<◌, ◌≤◌, ℕ, Bool, true, false, List, [], ◌∷◌, map, length, None, Some, Ok, refl, ap, sym, ◌∙◌, subst, arith}
 use Rattle.std.specs.List.{AllByRecursion}
+use Rattle.xa_disk.specs.declared.disk.Disk.{Ghosts}
 use Rattle.xa_record.specs.Limits.{IsRecord}
 use Rattle.xa_record.specs.Spelling.{spelled}
 use Rattle.xa_record.specs.declared.record.Record.{Record}
@@ -59,15 +60,15 @@ restored_room d next log_bytes s it bytes room =
     let c : length s.decided ≡ length d.decided = sym (decided_lasting s) ∙ ap (λ (x : Durable). length x.decided) it.lasts in
     rw (bytes, restored_end d next s it, p, c) room
 
-pub new_stands : {D : Type 0} (honest : Type 0) (tears : List ℕ → ℕ → List ℕ → List ℕ → Type 0) (seen : D → List ℕ) (may_leave : D → List ℕ → Type 0) (m : Manager D) (d : Durable) (next : ℕ) (name : List ℕ) (log_bytes : ℕ)
+pub new_stands : {D : Type 0} (disks : Ghosts D) (m : Manager D) (d : Durable) (next : ℕ) (name : List ℕ) (log_bytes : ℕ)
     → m.up ≡ true → m.doubt ≡ None → (kept m).name ≡ name → (kept m).log_bytes ≡ log_bytes → m.log.log_bytes ≡ log_bytes
     → ((s : State) → s.sessions ≡ [] → s.associations ≡ [] → SessionsStandFor (kept m).sessions s)
     → ((s : State) → IsRestored d next s → BranchesStandFor (kept m).branches s)
     → ((s : State) → IsRestored d next s → RecordsStandFor (history_of s) (kept m).records)
-    → HasBodies tears seen may_leave (map spelled (snapshot d next)) m.log
+    → HasBodies disks (map spelled (snapshot d next)) m.log
     → AllByRecursion IsRecord (snapshot d next) → IsDurable d → d.boot < next → has_boot_room log_bytes d next ≡ true
-    → (s : State) → IsRestored d next s → s.name ≡ name → s.log_bytes ≡ log_bytes → s.sessions ≡ [] → ManagerStandsFor honest tears seen may_leave m s
-new_stands honest tears seen may_leave m d next name log_bytes up doubt named sized bytes sessions branches records has limits form less room s it name_is bytes_is none = record {
+    → (s : State) → IsRestored d next s → s.name ≡ name → s.log_bytes ≡ log_bytes → s.sessions ≡ [] → ManagerStandsFor disks m s
+new_stands disks m d next name log_bytes up doubt named sized bytes sessions branches records has limits form less room s it name_is bytes_is none = record {
   tables = subst (λ (b : Bool). TablesStandFor b (kept m) s) (sym up) (record {
     name = named ∙ sym name_is;
     log_bytes = sized ∙ sym bytes_is;

@@ -3,6 +3,7 @@ use Rattle.std.proofs.lemmas.Bool.Decides.{nat_tests}
 use Rattle.std.proofs.Common.{◌≡◌, ◌⊎◌, inl, inr, ⊎_elim, ◌+◌, ◌<◌, ◌≤◌, ℕ, Bool, true, false, List, [], ◌∷◌, map, length, Option, None, Some, IsSomeAnd, refl, ap, sym, ◌∙◌, subst, arith}
 use Rattle.std.specs.Prelude.{Result, Ok, Err, IfOk, IfErr, IfSome, nat_lt, ◌&&◌, option_map, option_and_then}
 use Rattle.std.specs.List.{AllByRecursion}
+use Rattle.xa_disk.specs.declared.disk.Disk.{Ghosts}
 use Rattle.xa_record.specs.Limits.{IsRecord}
 use Rattle.xa_record.specs.Spelling.{spelled}
 use Rattle.xa_record.specs.declared.record.Record.{Record}
@@ -86,25 +87,25 @@ found_step s r name log_bytes e =
 may_be : (s : State) (r : Record) → IsRecoverable s → s.open_record ≡ Some r → MayBeLast s r
 may_be s r rec e = subst (λ (o : Option Record). IfSome o (MayBeLast s)) e rec.open_record
 
-module _ {D : Type 0} (honest : Type 0) (tears : List ℕ → ℕ → List ℕ → List ℕ → Type 0) (seen : D → List ℕ) (may_leave : D → List ℕ → Type 0) where
-  fresh_one : (m : Manager D) (name : List ℕ) (log_bytes : ℕ) → HasBegun honest tears seen may_leave [] name log_bytes m → ManagerStandsFor honest tears seen may_leave m (fresh name log_bytes)
+module _ {D : Type 0} (disks : Ghosts D) where
+  fresh_one : (m : Manager D) (name : List ℕ) (log_bytes : ℕ) → HasBegun disks [] name log_bytes m → ManagerStandsFor disks m (fresh name log_bytes)
   fresh_one m name log_bytes begun =
       let none : begun.comes.records ≡ [] = no_records begun.comes.records begun.comes.bodies_are.spelling in
       let same : nothing ≡ begun.durable = cc (begun.comes.folded, ap (λ (rs : List Record). fold rs) none) in
       let it = (opens_restored [] nothing name log_bytes tt refl (omega arith) (omega arith)).0 in
-      subst (λ (s : State). ManagerStandsFor honest tears seen may_leave m s) (opens_fresh name log_bytes)
+      subst (λ (s : State). ManagerStandsFor disks m s) (opens_fresh name log_bytes)
       (begun.stands (opening nothing name log_bytes 1) (subst (λ (x : Durable). IsRestored x (x.boot + 1) (opening nothing name log_bytes 1)) same it) refl refl refl)
 
   pub fresh_opened : (r : Result (Manager D) ManagerFault) (name : List ℕ) (log_bytes : ℕ) (a b : List ℕ)
-      → (NoStray a b → IfOk r (HasBegun honest tears seen may_leave (logged_pair a b) name log_bytes)) → a ≡ [] → b ≡ [] → IfOk r (λ m. ManagerStandsFor honest tears seen may_leave m (fresh name log_bytes))
+      → (NoStray a b → IfOk r (HasBegun disks (logged_pair a b) name log_bytes)) → a ≡ [] → b ≡ [] → IfOk r (λ m. ManagerStandsFor disks m (fresh name log_bytes))
   fresh_opened r name log_bytes a b h ea eb =
-      begun_map r (HasBegun honest tears seen may_leave (logged_pair a b) name log_bytes) _
-      (λ m begun. fresh_one m name log_bytes (subst (λ (l : List (List ℕ)). HasBegun honest tears seen may_leave l name log_bytes m) (none_logged a b ea eb) begun)) (h (none_stray a b ea eb))
+      begun_map r (HasBegun disks (logged_pair a b) name log_bytes) _
+      (λ m begun. fresh_one m name log_bytes (subst (λ (l : List (List ℕ)). HasBegun disks l name log_bytes m) (none_logged a b ea eb) begun)) (h (none_stray a b ea eb))
 
   -- the state whose last record's fate is known
-  opened_one : (m : Manager D) (name : List ℕ) (log_bytes : ℕ) (bodies : List (List ℕ)) (rs : List Record) (t : State) → HasBegun honest tears seen may_leave bodies name log_bytes m
+  opened_one : (m : Manager D) (name : List ℕ) (log_bytes : ℕ) (bodies : List (List ℕ)) (rs : List Record) (t : State) → HasBegun disks bodies name log_bytes m
       → bodies ≡ map spelled rs → Backs rs t → IsRecoverable t → t.open_record ≡ None
-      → (nat_lt t.logged_boot most_boots && can_open t log_bytes (t.logged_boot + 1) ≡ true) × ManagerStandsFor honest tears seen may_leave m (reopened t name log_bytes (t.logged_boot + 1))
+      → (nat_lt t.logged_boot most_boots && can_open t log_bytes (t.logged_boot + 1) ≡ true) × ManagerStandsFor disks m (reopened t name log_bytes (t.logged_boot + 1))
   opened_one m name log_bytes bodies rs t begun are backs rec none =
       let same : begun.comes.records ≡ rs = same_records begun.comes.records rs begun.comes.bodies_are.limits backs.records (begun.comes.bodies_are.spelling ∙ are) in
       let d_is : begun.durable ≡ durable t = cc (begun.comes.folded, ap (λ (qs : List Record). fold qs) same, backs.lasts) in
@@ -115,12 +116,12 @@ module _ {D : Type 0} (honest : Type 0) (tears : List ℕ → ℕ → List ℕ �
       let opens : can_open t log_bytes (t.logged_boot + 1) ≡ true = rw (← prepared_lasting t, ← decided_lasting t) room in
       (both_hold (nat_lt t.logged_boot most_boots) (can_open t log_bytes (t.logged_boot + 1)) (below_limit t.logged_boot less) opens, begun.stands (reopened t name log_bytes (t.logged_boot + 1)) it refl refl refl)
 
-  opened_some : (m : Manager D) (o : Option Answer) (a : Answer) → o ≡ Some a → ManagerStandsFor honest tears seen may_leave m a.after → IsSomeAnd o (λ x. ManagerStandsFor honest tears seen may_leave m x.after)
-  opened_some m o a e st = subst (λ (x : Option Answer). IsSomeAnd x (λ y. ManagerStandsFor honest tears seen may_leave m y.after)) (sym e) st
+  opened_some : (m : Manager D) (o : Option Answer) (a : Answer) → o ≡ Some a → ManagerStandsFor disks m a.after → IsSomeAnd o (λ x. ManagerStandsFor disks m x.after)
+  opened_some m o a e st = subst (λ (x : Option Answer). IsSomeAnd x (λ y. ManagerStandsFor disks m y.after)) (sym e) st
 
   reopens_one : (m : Manager D) (s : State) (name : List ℕ) (log_bytes : ℕ) (bodies : List (List ℕ)) (rs : List Record) → IsRecoverable s → bodies ≡ map spelled rs → Settles rs s
-      → HasBegun honest tears seen may_leave bodies name log_bytes m
-      → (found : Bool) × IsSomeAnd (step s (Reopened name log_bytes) (Reread found (Some Kept))) (λ a. ManagerStandsFor honest tears seen may_leave m a.after)
+      → HasBegun disks bodies name log_bytes m
+      → (found : Bool) × IsSomeAnd (step s (Reopened name log_bytes) (Reread found (Some Kept))) (λ a. ManagerStandsFor disks m a.after)
   reopens_one m s name log_bytes bodies rs rec are (inl backs) begun =
       let x = opened_one m name log_bytes bodies rs (missed s) begun are backs (missed_recoverable s rec) refl in (
         false,
@@ -135,8 +136,8 @@ module _ {D : Type 0} (honest : Type 0) (tears : List ℕ → ℕ → List ℕ �
       )
 
   pub reopens_opened : (r : Result (Manager D) ManagerFault) (s : State) (name : List ℕ) (log_bytes : ℕ) (a b : List ℕ) → IsRecoverable s → FilesStandFor log_bytes a b s
-      → (NoStray a b → IfOk r (HasBegun honest tears seen may_leave (logged_pair a b) name log_bytes))
-      → IfOk r (λ m. (found : Bool) × IsSomeAnd (step s (Reopened name log_bytes) (Reread found (Some Kept))) (λ x. ManagerStandsFor honest tears seen may_leave m x.after))
+      → (NoStray a b → IfOk r (HasBegun disks (logged_pair a b) name log_bytes))
+      → IfOk r (λ m. (found : Bool) × IsSomeAnd (step s (Reopened name log_bytes) (Reread found (Some Kept))) (λ x. ManagerStandsFor disks m x.after))
   reopens_opened r s name log_bytes a b rec files h =
-      begun_map r (HasBegun honest tears seen may_leave (logged_pair a b) name log_bytes) _
+      begun_map r (HasBegun disks (logged_pair a b) name log_bytes) _
       (λ m begun. reopens_one m s name log_bytes (logged_pair a b) files.records rec files.logged files.settles begun) (h files.stray)

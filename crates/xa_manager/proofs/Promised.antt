@@ -1,7 +1,7 @@
 -- Histories of opening states are one copy, and list what was prepared; so do the runs of a manager.
-use Rattle.std.proofs.Common.{◌+◌, ℕ, Bool, true, false, cond, List, [], ◌∷◌, ◌++◌, refl, sym, subst}
+use Rattle.std.proofs.Common.{◌+◌, Bool, true, false, cond, List, [], ◌∷◌, ◌++◌, refl, sym, subst}
+use Rattle.xa_disk.specs.declared.disk.Disk.{Ghosts}
 use Rattle.xa_frame.specs.declared.reply.Reply.{Reply}
-use Rattle.xa_disk.specs.declared.counts.Counts.{Counts}
 use Rattle.xa_model.specs.declared.event.Event.{Event}
 use Rattle.xa_model.specs.declared.outcome.Outcome.{Outcome}
 use Rattle.xa_model.specs.State.{State}
@@ -67,10 +67,10 @@ happened_recorded (event ∷ events) (o ∷ outcomes) (reply ∷ replies) h =
     happened_one (record { happening = Asked event; outcome = o; reply = reply }) (recorded events outcomes replies) (is_memory reply.detail) h.0
     (happened_recorded events outcomes replies h.1)
 
-module _ {D : Type 0} (honest : Type 0) (tears : List ℕ → ℕ → List ℕ → List ℕ → Type 0) (seen : D → List ℕ) (may_leave : D → List ℕ → Type 0) where
+module _ {D : Type 0} (disks : Ghosts D) where
   -- a run whose replies are a legal history
-  pub promises_all : (m m' : Manager D) (events : List Event) (replies : List Reply) → AreEvents events → AnswersAll honest tears seen may_leave m events replies m'
-      → PromisesAll honest tears seen may_leave m events replies m'
+  pub promises_all : (m m' : Manager D) (events : List Event) (replies : List Reply) → AreEvents events → AnswersAll disks m events replies m'
+      → PromisesAll disks m events replies m'
   promises_all m m' events replies happened all first s before reached stands trusted =
       let a = all s stands trusted in
       let es = recorded events a.0 replies in
@@ -85,15 +85,15 @@ module _ {D : Type 0} (honest : Type 0) (tears : List ℕ → ℕ → List ℕ �
         listed = reached_lists first a.1 (before ++ es) on;
       }
 
-  answers_none : (m : Manager D) → AnswersAll honest tears seen may_leave m [] [] m
+  answers_none : (m : Manager D) → AnswersAll disks m [] [] m
   answers_none m s stands trusted = ([], s, refl, refl, stands)
 
-  pub one_promises : (failures : D → ℕ) (counts : D → Counts) → OnePromises honest tears seen may_leave failures counts
-  one_promises failures counts m m' event reply happened one =
+  pub one_promises : OnePromises disks
+  one_promises m m' event reply happened one =
       promises_all m m' (event ∷ []) (reply ∷ []) (happened, tt)
-      (answers_more honest tears seen may_leave m m m' [] [] event reply refl (answers_none m) one.answered)
+      (answers_more disks m m m' [] [] event reply refl (answers_none m) one.answered)
 
-  pub begun_is_reached : BegunIsReached honest tears seen may_leave
+  pub begun_is_reached : BegunIsReached disks
   begun_is_reached m bodies name log_bytes begun few =
       let d = begun.durable in
       let first = opening d name log_bytes (d.boot + 1) in

@@ -1,6 +1,7 @@
 -- What a manager stands for, where its log was read again or a new boot was logged.
 use Rattle.std.proofs.Common.{◌≡◌, ◌≢◌, ◌⊎◌, inl, inr, ◌<◌, ◌≤◌, ◌+◌, ◌^◌, ℕ, Bool, true, false, List, [], ◌∷◌, ◌++◌, map, length, Option, Some, None, refl, ap, sym, ◌∙◌, subst, arith, ltb-true}
 use Rattle.std.specs.Prelude.{nat_lt, IfSome}
+use Rattle.xa_disk.specs.declared.disk.Disk.{Ghosts}
 use Rattle.xa_codes.specs.declared.direction.Direction.TheVariants as direction
 use Rattle.xa_record.specs.Spelling.{spelled}
 use Rattle.xa_record.specs.declared.record.Record.{Record}
@@ -56,10 +57,10 @@ is_up true k s h e = h.up
 is_up false k s h e = absurd (cc e)
 
 -- the log alone changed
-pub still_stands : {D : Type 0} (honest : Type 0) (tears : List ℕ → ℕ → List ℕ → List ℕ → Type 0) (seen : D → List ℕ) (may_leave : D → List ℕ → Type 0) (m m' : Manager D) (s : State)
+pub still_stands : {D : Type 0} (disks : Ghosts D) (m m' : Manager D) (s : State)
     → m'.tables ≡ m.tables → m'.up ≡ m.up → m'.doubt ≡ m.doubt → (m.up ≡ true → m'.log.end ≡ s.end) → (m.up ≡ true → m'.log.lost ≡ false) → m'.log.log_bytes ≡ m.log.log_bytes
-    → (Trusts honest tears → LogStandsFor tears seen may_leave m'.log s) → ManagerStandsFor honest tears seen may_leave m s → ManagerStandsFor honest tears seen may_leave m' s
-still_stands honest tears seen may_leave m m' s tables up doubt end alive bytes log st = record {
+    → (Trusts disks → LogStandsFor disks m'.log s) → ManagerStandsFor disks m s → ManagerStandsFor disks m' s
+still_stands disks m m' s tables up doubt end alive bytes log st = record {
   tables = subst (λ (b : Bool). TablesStandFor b (kept m') s) (sym up) (subst (λ (t : Tables). TablesStandFor m.up (kept_of t) s) (sym tables) st.tables);
   roomy = st.roomy;
   end = λ is. end (sym up ∙ is);
@@ -94,10 +95,10 @@ tables_down k s t o b h fate last =
       recoverable = down_recoverable t o (fate_recoverable b s t h.recoverable fate) last;
     }
 
-pub down_stands : {D : Type 0} (honest : Type 0) (tears : List ℕ → ℕ → List ℕ → List ℕ → Type 0) (seen : D → List ℕ) (may_leave : D → List ℕ → Type 0) (m m' : Manager D) (s t : State) (b : Bool) (rs : List Record)
-    → m'.tables ≡ m.tables → m'.up ≡ false → m'.doubt ≡ None → m'.log.log_bytes ≡ m.log.log_bytes → ManagerStandsFor honest tears seen may_leave m s → IsFate b s t → Backs rs t
-    → HasRecords tears seen may_leave rs m'.log → ManagerStandsFor honest tears seen may_leave m' (down t)
-down_stands honest tears seen may_leave m m' s t b rs tables up doubt bytes st fate backs has =
+pub down_stands : {D : Type 0} (disks : Ghosts D) (m m' : Manager D) (s t : State) (b : Bool) (rs : List Record)
+    → m'.tables ≡ m.tables → m'.up ≡ false → m'.doubt ≡ None → m'.log.log_bytes ≡ m.log.log_bytes → ManagerStandsFor disks m s → IsFate b s t → Backs rs t
+    → HasRecords disks rs m'.log → ManagerStandsFor disks m' (down t)
+down_stands disks m m' s t b rs tables up doubt bytes st fate backs has =
     let h = outside m.up (kept m) s st.tables in
     let none = fate_settled b s t fate in
     let room = fate_room b s t (st.roomy h.standing) fate in record {
@@ -107,15 +108,15 @@ down_stands honest tears seen may_leave m m' s t b rs tables up doubt bytes st f
       alive = λ is. absurd (cc (is, up));
       log_bytes = bytes ∙ (st.log_bytes ∙ sym (fate_same b s t fate).log_bytes);
       doubt = subst (λ (d : Option Doubt). Doubts d (down t)) (sym doubt) none;
-      log = λ trusts. record { records = rs; backs = down_backed rs t t.open_record backs; has = subst (λ (o : Option Record). HasRecordsOf tears seen may_leave rs (down t) o m'.log) (sym none) has };
+      log = λ trusts. record { records = rs; backs = down_backed rs t t.open_record backs; has = subst (λ (o : Option Record). HasRecordsOf disks rs (down t) o m'.log) (sym none) has };
     }
 
 -- a checkpoint was lost
-pub lost_stands : {D : Type 0} (honest : Type 0) (tears : List ℕ → ℕ → List ℕ → List ℕ → Type 0) (seen : D → List ℕ) (may_leave : D → List ℕ → Type 0) (m m' : Manager D) (s t : State) (b : Bool) (rs : List Record)
-    → m'.tables ≡ m.tables → m'.up ≡ false → m'.doubt ≡ Some (Boot (t.logged_boot + 1)) → m'.log.log_bytes ≡ m.log.log_bytes → ManagerStandsFor honest tears seen may_leave m s → IsFate b s t → Backs rs t
-    → t.logged_boot < most_boots → MaySeal tears seen may_leave (map spelled rs) (map spelled (snapshot (durable t) (t.logged_boot + 1))) m'.log
-    → ManagerStandsFor honest tears seen may_leave m' (record (down t) { open_record = Some (logged.Opened (t.logged_boot + 1)) })
-lost_stands honest tears seen may_leave m m' s t b rs tables up doubt bytes st fate backs less seal =
+pub lost_stands : {D : Type 0} (disks : Ghosts D) (m m' : Manager D) (s t : State) (b : Bool) (rs : List Record)
+    → m'.tables ≡ m.tables → m'.up ≡ false → m'.doubt ≡ Some (Boot (t.logged_boot + 1)) → m'.log.log_bytes ≡ m.log.log_bytes → ManagerStandsFor disks m s → IsFate b s t → Backs rs t
+    → t.logged_boot < most_boots → MaySeal disks (map spelled rs) (map spelled (snapshot (durable t) (t.logged_boot + 1))) m'.log
+    → ManagerStandsFor disks m' (record (down t) { open_record = Some (logged.Opened (t.logged_boot + 1)) })
+lost_stands disks m m' s t b rs tables up doubt bytes st fate backs less seal =
     let h = outside m.up (kept m) s st.tables in
     let recoverable = fate_recoverable b s t h.recoverable fate in
     let room = fate_room b s t (st.roomy h.standing) fate in
@@ -132,24 +133,24 @@ lost_stands honest tears seen may_leave m m' s t b rs tables up doubt bytes st f
     }
 
 -- a manager that is up ends its log where it did
-pub found_end : {D : Type 0} (tears : List ℕ → ℕ → List ℕ → List ℕ → Type 0) (seen : D → List ℕ) (may_leave : D → List ℕ → Type 0) (found : List (List ℕ)) (log' : Log D) (s : State)
-    → IsRecoverable s → s.standing ≡ Up → Found tears seen may_leave found log' s → log'.end ≡ s.end
-found_end tears seen may_leave found log' s h up f = f.end ∙ by_fate f.state f.fate
+pub found_end : {D : Type 0} (disks : Ghosts D) (found : List (List ℕ)) (log' : Log D) (s : State)
+    → IsRecoverable s → s.standing ≡ Up → Found disks found log' s → log'.end ≡ s.end
+found_end disks found log' s h up f = f.end ∙ by_fate f.state f.fate
   where
     by_fate : (t : State) → IsFate true s t ⊎ IsFate false s t → t.end ≡ s.end
     by_fate t (inl (r, open_is, is)) = absurd (cc (open_is, h.settled up))
     by_fate t (inr is) = ap (λ (x : State). x.end) is
 
 -- a new boot was logged, and begins
-pub begun_stands : {D : Type 0} (honest : Type 0) (tears : List ℕ → ℕ → List ℕ → List ℕ → Type 0) (seen : D → List ℕ) (may_leave : D → List ℕ → Type 0) (m m' : Manager D) (s t : State) (b : Bool) (rs : List Record)
+pub begun_stands : {D : Type 0} (disks : Ghosts D) (m m' : Manager D) (s t : State) (b : Bool) (rs : List Record)
     → m'.tables.name ≡ m.tables.name → m'.tables.log_bytes ≡ m.tables.log_bytes → m'.up ≡ true → m'.doubt ≡ None → m'.log.log_bytes ≡ m.log.log_bytes
-    → ManagerStandsFor honest tears seen may_leave m s → IsFate b s t → Backs rs t → nat_lt t.logged_boot most_boots ≡ true
+    → ManagerStandsFor disks m s → IsFate b s t → Backs rs t → nat_lt t.logged_boot most_boots ≡ true
     → ((x y : State) → y.sessions ≡ map without_scan x.sessions → y.associations ≡ [] → SessionsStandFor m.tables.sessions x → SessionsStandFor m'.tables.sessions y)
     → ((x : State) → IsRestored (durable t) (t.logged_boot + 1) x → BranchesStandFor m'.tables.branches x)
     → ((x : State) → IsRestored (durable t) (t.logged_boot + 1) x → RecordsStandFor (history_of x) m'.tables.records)
-    → m'.log.end ≡ 8 + sizes (snapshot (durable t) (t.logged_boot + 1)) → m'.log.lost ≡ false → HasRecords tears seen may_leave (snapshot (durable t) (t.logged_boot + 1)) m'.log
-    → ManagerStandsFor honest tears seen may_leave m' (restarted t (t.logged_boot + 1))
-begun_stands honest tears seen may_leave m m' s t b rs name log_bytes up doubt bytes st fate backs less sessions branches records end alive has =
+    → m'.log.end ≡ 8 + sizes (snapshot (durable t) (t.logged_boot + 1)) → m'.log.lost ≡ false → HasRecords disks (snapshot (durable t) (t.logged_boot + 1)) m'.log
+    → ManagerStandsFor disks m' (restarted t (t.logged_boot + 1))
+begun_stands disks m m' s t b rs name log_bytes up doubt bytes st fate backs less sessions branches records end alive has =
     let h = outside m.up (kept m) s st.tables in
     let same = fate_same b s t fate in
     let none = fate_settled b s t fate in
@@ -173,48 +174,48 @@ begun_stands honest tears seen may_leave m m' s t b rs name log_bytes up doubt b
       alive = λ is. alive;
       log_bytes = bytes ∙ (st.log_bytes ∙ sym same.log_bytes);
       doubt = subst (λ (d : Option Doubt). Doubts d after) (sym doubt) none;
-      log = λ trusts. record { records = snapshot (durable t) boot; backs = begun_backed rs t recoverable none backs less; has = subst (λ (o : Option Record). HasRecordsOf tears seen may_leave (snapshot (durable t) boot) after o m'.log) (sym none) has };
+      log = λ trusts. record { records = snapshot (durable t) boot; backs = begun_backed rs t recoverable none backs less; has = subst (λ (o : Option Record). HasRecordsOf disks (snapshot (durable t) boot) after o m'.log) (sym none) has };
     }
 
 -- a log that has the records has room for the new boot
-pub never_full : {D : Type 0} (honest : Type 0) (tears : List ℕ → ℕ → List ℕ → List ℕ → Type 0) (seen : D → List ℕ) (may_leave : D → List ℕ → Type 0) (m : Manager D) (s t : State) (b : Bool) (rs : List Record)
-    → ManagerStandsFor honest tears seen may_leave m s → IsFate b s t → Backs rs t → m.log.log_bytes < 8 + sizes (snapshot (durable t) (t.logged_boot + 1)) + 4 → ⊥
-never_full honest tears seen may_leave m s t b rs st fate backs full =
+pub never_full : {D : Type 0} (disks : Ghosts D) (m : Manager D) (s t : State) (b : Bool) (rs : List Record)
+    → ManagerStandsFor disks m s → IsFate b s t → Backs rs t → m.log.log_bytes < 8 + sizes (snapshot (durable t) (t.logged_boot + 1)) + 4 → ⊥
+never_full disks m s t b rs st fate backs full =
     let h = outside m.up (kept m) s st.tables in
     let short : snapshot_end t (t.logged_boot + 1) ≤ t.end = recoverable_snapshot_ends rs t (t.logged_boot + 1) (fate_recoverable b s t h.recoverable fate) backs in
     let room = room_is t.log_bytes t.end (prepared_count t) (length t.decided) (fate_room b s t (st.roomy h.standing) fate) in
     let bytes : m.log.log_bytes ≡ t.log_bytes = st.log_bytes ∙ sym (fate_same b s t fate).log_bytes in
     omega (arith, short, room, bytes, full)
 
-pub refused_pair : {D : Type 0} (tears : List ℕ → ℕ → List ℕ → List ℕ → Type 0) (seen : D → List ℕ) (may_leave : D → List ℕ → Type 0) (bodies stood : List (List ℕ)) (log : Log D)
-    → Pair tears seen may_leave bodies stood log ⊎ (Pair tears seen may_leave bodies [] log × IsQuiet seen may_leave [] log.other) → (other : List (List ℕ)) × Pair tears seen may_leave bodies other log
-refused_pair tears seen may_leave bodies stood log (inl pair) = (stood, pair)
-refused_pair tears seen may_leave bodies stood log (inr both) = ([], both.0)
+pub refused_pair : {D : Type 0} (disks : Ghosts D) (bodies stood : List (List ℕ)) (log : Log D)
+    → Pair disks bodies stood log ⊎ (Pair disks bodies [] log × IsQuiet disks [] log.other) → (other : List (List ℕ)) × Pair disks bodies other log
+refused_pair disks bodies stood log (inl pair) = (stood, pair)
+refused_pair disks bodies stood log (inr both) = ([], both.0)
 
 -- the log could not be read
 
-has_down : {D : Type 0} (tears : List ℕ → ℕ → List ℕ → List ℕ → Type 0) (seen : D → List ℕ) (may_leave : D → List ℕ → Type 0) (log : Log D) (rs : List Record) (s : State) (o : Option Record)
-    → HasRecordsOf tears seen may_leave rs s o log → HasRecordsOf tears seen may_leave rs (down s) o log
-has_down tears seen may_leave log rs s None has = has
-has_down tears seen may_leave log rs s (Some r) (inr (inl has)) = inr (inl has)
-has_down tears seen may_leave log rs s (Some (logged.Opened boot)) (inl may) = inl may
-has_down tears seen may_leave log rs s (Some (logged.Prepared xid t ws)) (inl may) = inl may
-has_down tears seen may_leave log rs s (Some (logged.Committed xid t ws)) (inl may) = inl may
-has_down tears seen may_leave log rs s (Some (logged.Completed xid d)) (inl may) = inl may
-has_down tears seen may_leave log rs s (Some (logged.Decided xid d)) (inl may) = inl may
-has_down tears seen may_leave log rs s (Some (logged.Forgotten xid)) (inl may) = inl may
-has_down tears seen may_leave log rs s (Some (logged.Base t ws)) (inl may) = inl may
-has_down tears seen may_leave log rs s (Some (logged.Held xid t ws)) (inl may) = inl may
-has_down tears seen may_leave log rs s (Some (logged.Known xid d)) (inl may) = inl may
-has_down tears seen may_leave log rs s (Some (logged.Opened boot)) (inr (inr has)) = inr (inr has)
-has_down tears seen may_leave log rs s (Some (logged.Prepared xid t ws)) (inr (inr has)) = inr (inr has)
-has_down tears seen may_leave log rs s (Some (logged.Committed xid t ws)) (inr (inr has)) = inr (inr has)
-has_down tears seen may_leave log rs s (Some (logged.Completed xid d)) (inr (inr has)) = inr (inr has)
-has_down tears seen may_leave log rs s (Some (logged.Decided xid d)) (inr (inr has)) = inr (inr has)
-has_down tears seen may_leave log rs s (Some (logged.Forgotten xid)) (inr (inr has)) = inr (inr has)
-has_down tears seen may_leave log rs s (Some (logged.Base t ws)) (inr (inr has)) = inr (inr has)
-has_down tears seen may_leave log rs s (Some (logged.Held xid t ws)) (inr (inr has)) = inr (inr has)
-has_down tears seen may_leave log rs s (Some (logged.Known xid d)) (inr (inr has)) = inr (inr has)
+has_down : {D : Type 0} (disks : Ghosts D) (log : Log D) (rs : List Record) (s : State) (o : Option Record)
+    → HasRecordsOf disks rs s o log → HasRecordsOf disks rs (down s) o log
+has_down disks log rs s None has = has
+has_down disks log rs s (Some r) (inr (inl has)) = inr (inl has)
+has_down disks log rs s (Some (logged.Opened boot)) (inl may) = inl may
+has_down disks log rs s (Some (logged.Prepared xid t ws)) (inl may) = inl may
+has_down disks log rs s (Some (logged.Committed xid t ws)) (inl may) = inl may
+has_down disks log rs s (Some (logged.Completed xid d)) (inl may) = inl may
+has_down disks log rs s (Some (logged.Decided xid d)) (inl may) = inl may
+has_down disks log rs s (Some (logged.Forgotten xid)) (inl may) = inl may
+has_down disks log rs s (Some (logged.Base t ws)) (inl may) = inl may
+has_down disks log rs s (Some (logged.Held xid t ws)) (inl may) = inl may
+has_down disks log rs s (Some (logged.Known xid d)) (inl may) = inl may
+has_down disks log rs s (Some (logged.Opened boot)) (inr (inr has)) = inr (inr has)
+has_down disks log rs s (Some (logged.Prepared xid t ws)) (inr (inr has)) = inr (inr has)
+has_down disks log rs s (Some (logged.Committed xid t ws)) (inr (inr has)) = inr (inr has)
+has_down disks log rs s (Some (logged.Completed xid d)) (inr (inr has)) = inr (inr has)
+has_down disks log rs s (Some (logged.Decided xid d)) (inr (inr has)) = inr (inr has)
+has_down disks log rs s (Some (logged.Forgotten xid)) (inr (inr has)) = inr (inr has)
+has_down disks log rs s (Some (logged.Base t ws)) (inr (inr has)) = inr (inr has)
+has_down disks log rs s (Some (logged.Held xid t ws)) (inr (inr has)) = inr (inr has)
+has_down disks log rs s (Some (logged.Known xid d)) (inr (inr has)) = inr (inr has)
 
 doubts_down : (d : Option Doubt) (s : State) → Doubts d s → Doubts d (down s)
 doubts_down None s h = h
@@ -239,12 +240,12 @@ room_down s (Some (logged.Base t ws)) h = h
 room_down s (Some (logged.Held xid t ws)) h = h
 room_down s (Some (logged.Known xid d)) h = h
 
-pub failed_stands : {D : Type 0} (honest : Type 0) (tears : List ℕ → ℕ → List ℕ → List ℕ → Type 0) (seen : D → List ℕ) (may_leave : D → List ℕ → Type 0) (m m' : Manager D) (s : State)
-    → m' ≡ record m { up = false } → ManagerStandsFor honest tears seen may_leave m s → ManagerStandsFor honest tears seen may_leave m' (down s)
-failed_stands {D} honest tears seen may_leave m m' s is st =
+pub failed_stands : {D : Type 0} (disks : Ghosts D) (m m' : Manager D) (s : State)
+    → m' ≡ record m { up = false } → ManagerStandsFor disks m s → ManagerStandsFor disks m' (down s)
+failed_stands {D} disks m m' s is st =
     let h = outside m.up (kept m) s st.tables in
     let room = st.roomy h.standing in
-    subst (λ (x : Manager D). ManagerStandsFor honest tears seen may_leave x (down s)) (sym is) (record {
+    subst (λ (x : Manager D). ManagerStandsFor disks x (down s)) (sym is) (record {
       tables = record {
         name = h.name;
         log_bytes = h.log_bytes;
@@ -257,5 +258,5 @@ failed_stands {D} honest tears seen may_leave m m' s is st =
       alive = λ up. absurd (cc up);
       log_bytes = st.log_bytes;
       doubt = doubts_down m.doubt s st.doubt;
-      log = λ trusts. let l = st.log trusts in record { records = l.records; backs = down_backed l.records s s.open_record l.backs; has = has_down tears seen may_leave m.log l.records s s.open_record l.has };
+      log = λ trusts. let l = st.log trusts in record { records = l.records; backs = down_backed l.records s s.open_record l.backs; has = has_down disks m.log l.records s s.open_record l.has };
     })

@@ -1,7 +1,7 @@
 -- A turn that a manager took is a step, and the manager stands for the step's state.
 use Rattle.std.proofs.Common.{◌≡◌, ◌+◌, arith, inl, inr, ℕ, Bool, true, false, List, [], ◌∷◌, ◌++◌, map, length, Option, Some, None, IsSomeAnd, refl, ap, sym, ◌∙◌, subst}
 use Rattle.std.proofs.lemmas.List.{map-append}
-use Rattle.xa_disk.specs.declared.counts.Counts.{Counts}
+use Rattle.xa_disk.specs.declared.disk.Disk.{Ghosts}
 use Rattle.xa_frame.specs.declared.reply.Reply.{Reply}
 use Rattle.xa_record.specs.Spelling.{spelled}
 use Rattle.xa_record.specs.declared.record.Record.{Record}
@@ -65,9 +65,9 @@ doubts_same None s t e f h = e ∙ h
 doubts_same (Some (doubt.Boot boot)) s t e f h = e ∙ h
 doubts_same (Some (doubt.Record end)) s t e f h = (h.0, e ∙ h.1, h.2, h.3 ∙ sym f)
 
-module _ {D : Type 0} (tears : List ℕ → ℕ → List ℕ → List ℕ → Type 0) (seen : D → List ℕ) (may_leave : D → List ℕ → Type 0) where
-  may_same : (rs : List Record) (s t : State) (r : Record) (log : Log D) → durable t ≡ durable s → MayHaveRecord tears seen may_leave rs s r log → MayHaveRecord tears seen may_leave rs t r log
-  may_same rs s t (logged.Opened boot) log e h = subst (λ (d : Durable). MaySeal tears seen may_leave (map spelled rs) (map spelled (snapshot d boot)) log) (sym e) h
+module _ {D : Type 0} (disks : Ghosts D) where
+  may_same : (rs : List Record) (s t : State) (r : Record) (log : Log D) → durable t ≡ durable s → MayHaveRecord disks rs s r log → MayHaveRecord disks rs t r log
+  may_same rs s t (logged.Opened boot) log e h = subst (λ (d : Durable). MaySeal disks (map spelled rs) (map spelled (snapshot d boot)) log) (sym e) h
   may_same rs s t (logged.Prepared xid ts ws) log e h = h
   may_same rs s t (logged.Committed xid ts ws) log e h = h
   may_same rs s t (logged.Completed xid direction) log e h = h
@@ -88,14 +88,14 @@ module _ {D : Type 0} (tears : List ℕ → ℕ → List ℕ → List ℕ → Ty
   settled_same rs s t (logged.Held xid ts ws) e = refl
   settled_same rs s t (logged.Known xid direction) e = refl
 
-  records_same : (rs : List Record) (s t : State) (o : Option Record) (log : Log D) → durable t ≡ durable s → HasRecordsOf tears seen may_leave rs s o log → HasRecordsOf tears seen may_leave rs t o log
+  records_same : (rs : List Record) (s t : State) (o : Option Record) (log : Log D) → durable t ≡ durable s → HasRecordsOf disks rs s o log → HasRecordsOf disks rs t o log
   records_same rs s t None log e h = h
   records_same rs s t (Some r) log e (inl h) = inl (may_same rs s t r log e h)
   records_same rs s t (Some r) log e (inr (inl h)) = inr (inl h)
-  records_same rs s t (Some r) log e (inr (inr h)) = inr (inr (subst (λ (us : List Record). HasRecords tears seen may_leave us log) (sym (settled_same rs s t r e)) h))
+  records_same rs s t (Some r) log e (inr (inr h)) = inr (inr (subst (λ (us : List Record). HasRecords disks us log) (sym (settled_same rs s t r e)) h))
 
   -- the record that was lost is no boot's
-  may_have : (rs : List Record) (s : State) (r : Record) (stood : List (List ℕ)) (log : Log D) → is_boot r ≡ false → MayStandPair tears seen may_leave (map spelled rs) (spelled r) stood log → MayHaveRecord tears seen may_leave rs s r log
+  may_have : (rs : List Record) (s : State) (r : Record) (stood : List (List ℕ)) (log : Log D) → is_boot r ≡ false → MayStandPair disks (map spelled rs) (spelled r) stood log → MayHaveRecord disks rs s r log
   may_have rs s (logged.Opened boot) stood log e h = absurd (cc e)
   may_have rs s (logged.Prepared xid ts ws) stood log e h = (stood, h)
   may_have rs s (logged.Committed xid ts ws) stood log e h = (stood, h)
@@ -106,210 +106,209 @@ module _ {D : Type 0} (tears : List ℕ → ℕ → List ℕ → List ℕ → Ty
   may_have rs s (logged.Held xid ts ws) stood log e h = (stood, h)
   may_have rs s (logged.Known xid direction) stood log e h = (stood, h)
 
-  pub log_same : (log : Log D) (s t : State) → KeepsLog s t → ((rs : List Record) → Backs rs s → Backs rs t) → LogStandsFor tears seen may_leave log s → LogStandsFor tears seen may_leave log t
+  pub log_same : (log : Log D) (s t : State) → KeepsLog s t → ((rs : List Record) → Backs rs s → Backs rs t) → LogStandsFor disks log s → LogStandsFor disks log t
   log_same log s t k backs l = record {
     records = l.records;
     backs = backs l.records l.backs;
-    has = subst (λ (o : Option Record). HasRecordsOf tears seen may_leave l.records t o log) (sym k.open_record) (records_same l.records s t s.open_record log k.lasts l.has);
+    has = subst (λ (o : Option Record). HasRecordsOf disks l.records t o log) (sym k.open_record) (records_same l.records s t s.open_record log k.lasts l.has);
   }
 
-  module _ (honest : Type 0) (failures : D → ℕ) (counts : D → Counts) where
-    -- the log behind the state, after an append
-    log_after : (log log' : Log D) (s t : State) (r : Record) (a : Appending) → s.open_record ≡ None → is_boot r ≡ false → HasAppended honest tears seen may_leave failures counts (spelled r) a log log' → honest
-        → (a ≡ Kept → t.open_record ≡ None) → (a ≡ Refused → t.open_record ≡ None) → (a ≡ Lost → t.open_record ≡ Some r)
-        → (a ≡ Kept → (rs : List Record) → Backs rs s → Backs (rs ++ r ∷ []) t) → (a ≡ Refused → (rs : List Record) → Backs rs s → Backs rs t) → (a ≡ Lost → (rs : List Record) → Backs rs s → Backs rs t)
-        → LogStandsFor tears seen may_leave log s → LogStandsFor tears seen may_leave log' t
-    log_after log log' s t r Kept none boot h disk ok_ refused_ lost_ backs bref blost l =
-        let here : HasRecords tears seen may_leave l.records log = subst (λ (o : Option Record). HasRecordsOf tears seen may_leave l.records s o log) none l.has in
-        let there : Pair tears seen may_leave (map spelled l.records ++ spelled r ∷ []) here.0 log' = h.pair disk (map spelled l.records) here.0 here.1 in
-        record {
-          records = l.records ++ r ∷ [];
-          backs = backs refl l.records l.backs;
-          has = subst (λ (o : Option Record). HasRecordsOf tears seen may_leave (l.records ++ r ∷ []) t o log') (sym (ok_ refl))
-              (here.0, subst (λ (bs : List (List ℕ)). Pair tears seen may_leave bs here.0 log') (sym (map-append spelled l.records (r ∷ []))) there);
-        }
-    log_after log log' s t r Refused none boot h disk ok_ refused_ lost_ backs bref blost l =
-        let here : HasRecords tears seen may_leave l.records log = subst (λ (o : Option Record). HasRecordsOf tears seen may_leave l.records s o log) none l.has in
-        record {
-          records = l.records;
-          backs = bref refl l.records l.backs;
-          has = subst (λ (o : Option Record). HasRecordsOf tears seen may_leave l.records t o log') (sym (refused_ refl)) (here.0, h.pair disk (map spelled l.records) here.0 here.1);
-        }
-    log_after log log' s t r Lost none boot h disk ok_ refused_ lost_ backs bref blost l =
-        let here : HasRecords tears seen may_leave l.records log = subst (λ (o : Option Record). HasRecordsOf tears seen may_leave l.records s o log) none l.has in
-        record {
-          records = l.records;
-          backs = blost refl l.records l.backs;
-          has = subst (λ (o : Option Record). HasRecordsOf tears seen may_leave l.records t o log') (sym (lost_ refl)) (inl (may_have l.records t r here.0 log' boot (h.pair disk (map spelled l.records) here.0 here.1)));
-        }
+  -- the log behind the state, after an append
+  log_after : (log log' : Log D) (s t : State) (r : Record) (a : Appending) → s.open_record ≡ None → is_boot r ≡ false → HasAppended disks (spelled r) a log log' → disks.honest
+      → (a ≡ Kept → t.open_record ≡ None) → (a ≡ Refused → t.open_record ≡ None) → (a ≡ Lost → t.open_record ≡ Some r)
+      → (a ≡ Kept → (rs : List Record) → Backs rs s → Backs (rs ++ r ∷ []) t) → (a ≡ Refused → (rs : List Record) → Backs rs s → Backs rs t) → (a ≡ Lost → (rs : List Record) → Backs rs s → Backs rs t)
+      → LogStandsFor disks log s → LogStandsFor disks log' t
+  log_after log log' s t r Kept none boot h disk ok_ refused_ lost_ backs bref blost l =
+      let here : HasRecords disks l.records log = subst (λ (o : Option Record). HasRecordsOf disks l.records s o log) none l.has in
+      let there : Pair disks (map spelled l.records ++ spelled r ∷ []) here.0 log' = h.pair disk (map spelled l.records) here.0 here.1 in
+      record {
+        records = l.records ++ r ∷ [];
+        backs = backs refl l.records l.backs;
+        has = subst (λ (o : Option Record). HasRecordsOf disks (l.records ++ r ∷ []) t o log') (sym (ok_ refl))
+            (here.0, subst (λ (bs : List (List ℕ)). Pair disks bs here.0 log') (sym (map-append spelled l.records (r ∷ []))) there);
+      }
+  log_after log log' s t r Refused none boot h disk ok_ refused_ lost_ backs bref blost l =
+      let here : HasRecords disks l.records log = subst (λ (o : Option Record). HasRecordsOf disks l.records s o log) none l.has in
+      record {
+        records = l.records;
+        backs = bref refl l.records l.backs;
+        has = subst (λ (o : Option Record). HasRecordsOf disks l.records t o log') (sym (refused_ refl)) (here.0, h.pair disk (map spelled l.records) here.0 here.1);
+      }
+  log_after log log' s t r Lost none boot h disk ok_ refused_ lost_ backs bref blost l =
+      let here : HasRecords disks l.records log = subst (λ (o : Option Record). HasRecordsOf disks l.records s o log) none l.has in
+      record {
+        records = l.records;
+        backs = blost refl l.records l.backs;
+        has = subst (λ (o : Option Record). HasRecordsOf disks l.records t o log') (sym (lost_ refl)) (inl (may_have l.records t r here.0 log' boot (h.pair disk (map spelled l.records) here.0 here.1)));
+      }
 
-    bytes_by : (s : State) (direction : Direction) (xid : Triple) → (completed s direction xid).log_bytes ≡ s.log_bytes
-    bytes_by s Commit xid = refl
-    bytes_by s Rollback xid = refl
+  bytes_by : (s : State) (direction : Direction) (xid : Triple) → (completed s direction xid).log_bytes ≡ s.log_bytes
+  bytes_by s Commit xid = refl
+  bytes_by s Rollback xid = refl
 
-    applied_bytes : (s : State) (r : Record) → (applied r s).log_bytes ≡ s.log_bytes
-    applied_bytes s (logged.Opened boot) = refl
-    applied_bytes s (logged.Prepared xid ts ws) = refl
-    applied_bytes s (logged.Committed xid ts ws) = refl
-    applied_bytes s (logged.Completed xid direction) = bytes_by s direction xid
-    applied_bytes s (logged.Decided xid direction) = bytes_by s direction xid
-    applied_bytes s (logged.Forgotten xid) = refl
-    applied_bytes s (logged.Base ts ws) = refl
-    applied_bytes s (logged.Held xid ts ws) = refl
-    applied_bytes s (logged.Known xid direction) = refl
+  applied_bytes : (s : State) (r : Record) → (applied r s).log_bytes ≡ s.log_bytes
+  applied_bytes s (logged.Opened boot) = refl
+  applied_bytes s (logged.Prepared xid ts ws) = refl
+  applied_bytes s (logged.Committed xid ts ws) = refl
+  applied_bytes s (logged.Completed xid direction) = bytes_by s direction xid
+  applied_bytes s (logged.Decided xid direction) = bytes_by s direction xid
+  applied_bytes s (logged.Forgotten xid) = refl
+  applied_bytes s (logged.Base ts ws) = refl
+  applied_bytes s (logged.Held xid ts ws) = refl
+  applied_bytes s (logged.Known xid direction) = refl
 
-    completed_end : (s : State) (direction : Direction) (xid : Triple) → (completed s direction xid).end ≡ s.end
-    completed_end s Commit xid = refl
-    completed_end s Rollback xid = refl
+  completed_end : (s : State) (direction : Direction) (xid : Triple) → (completed s direction xid).end ≡ s.end
+  completed_end s Commit xid = refl
+  completed_end s Rollback xid = refl
 
-    applied_end : (s : State) (r : Record) → MayLog s r → is_boot r ≡ false → (applied r s).end ≡ s.end + (36 + length (spelled r))
-    applied_end s (logged.Opened boot) may e = absurd (cc e)
-    applied_end s (logged.Prepared xid ts ws) may e = omega arith
-    applied_end s (logged.Committed xid ts ws) may e = omega arith
-    applied_end s (logged.Completed xid direction) may e = let same = completed_end s direction xid in omega arith
-    applied_end s (logged.Decided xid direction) may e = let same = completed_end s direction xid in omega arith
-    applied_end s (logged.Forgotten xid) may e = omega arith
-    applied_end s (logged.Base ts ws) may e = absurd may
-    applied_end s (logged.Held xid ts ws) may e = absurd may
-    applied_end s (logged.Known xid direction) may e = absurd may
+  applied_end : (s : State) (r : Record) → MayLog s r → is_boot r ≡ false → (applied r s).end ≡ s.end + (36 + length (spelled r))
+  applied_end s (logged.Opened boot) may e = absurd (cc e)
+  applied_end s (logged.Prepared xid ts ws) may e = omega arith
+  applied_end s (logged.Committed xid ts ws) may e = omega arith
+  applied_end s (logged.Completed xid direction) may e = let same = completed_end s direction xid in omega arith
+  applied_end s (logged.Decided xid direction) may e = let same = completed_end s direction xid in omega arith
+  applied_end s (logged.Forgotten xid) may e = omega arith
+  applied_end s (logged.Base ts ws) may e = absurd may
+  applied_end s (logged.Held xid ts ws) may e = absurd may
+  applied_end s (logged.Known xid direction) may e = absurd may
 
-    -- what is said of the step
-    pub record IsStep (m' : Manager D) (s : State) (e : Event) (reply : Reply) (outcome : Outcome) : Type 0 where
-      pub answer : Answer
-      pub step_is : step s (Asked e) outcome ≡ Some answer
-      pub reply_is : answer.reply ≡ reply
-      pub stands : ManagerStandsFor honest tears seen may_leave m' answer.after
+  -- what is said of the step
+  pub record IsStep (m' : Manager D) (s : State) (e : Event) (reply : Reply) (outcome : Outcome) : Type 0 where
+    pub answer : Answer
+    pub step_is : step s (Asked e) outcome ≡ Some answer
+    pub reply_is : answer.reply ≡ reply
+    pub stands : ManagerStandsFor disks m' answer.after
 
-    turn_is : (m : Manager D) (s : State) (e : Event) (t : Turn) → ManagerStandsFor honest tears seen may_leave m s → respond s e ≡ t → asked s.standing (respond s e) ≡ t
-    turn_is m s e t st is = asked_by m.up (kept m) s (respond s e) st.tables ∙ is
+  turn_is : (m : Manager D) (s : State) (e : Event) (t : Turn) → ManagerStandsFor disks m s → respond s e ≡ t → asked s.standing (respond s e) ≡ t
+  turn_is m s e t st is = asked_by m.up (kept m) s (respond s e) st.tables ∙ is
 
-    now_steps : (m m' : Manager D) (s : State) (e : Event) (a : Answer) (reply : Reply) (outcome : Outcome) → IsEvent e → is_restart e ≡ false → ManagerStandsFor honest tears seen may_leave m s → respond s e ≡ Now a
-        → TakesNow m a reply outcome m' → IsStep m' s e reply outcome
-    now_steps m m' s e a reply outcome event other st is x =
-        let t = turn_is m s e (Now a) st is in
-        let steps : step s (Asked e) outcome ≡ Some a = ap (λ (u : Turn). taken u outcome) t ∙ ap (taken (Now a)) x.outcome_is in
-        let before = recoverable_by m.up (kept m) s st.tables in
-        let recoverable = keeps_recoverable s (Asked e) outcome a event before steps in
-        let k : KeepsLog s a.after = subst (LogsWhatLasts s) is (events_log_what_lasts s e before.sound other) in
-        let bytes : a.after.log_bytes ≡ s.log_bytes = subst (AsksRoom s) is (events_ask_room s e other) in
-        record {
-          answer = a;
-          step_is = steps;
-          reply_is = x.reply_is;
-          stands = record {
-            tables = x.tables recoverable;
-            roomy = keeps_room s e outcome a event before st.roomy other steps;
-            end = λ up. ap (λ (l : Log D). l.end) x.log ∙ st.end (sym x.up ∙ up) ∙ sym k.end;
-            alive = λ up. ap (λ (l : Log D). l.lost) x.log ∙ st.alive (sym x.up ∙ up);
-            log_bytes = ap (λ (l : Log D). l.log_bytes) x.log ∙ st.log_bytes ∙ sym bytes;
-            doubt = rw x.doubt (doubts_same m.doubt s a.after k.open_record k.end st.doubt);
-            log = λ trusts.
-                rw x.log (log_same m.log s a.after k (λ rs b. subst (BacksTurn rs s) t (keeps_backed rs s (Asked e) event before b)) (st.log trusts));
-          };
-        }
+  now_steps : (m m' : Manager D) (s : State) (e : Event) (a : Answer) (reply : Reply) (outcome : Outcome) → IsEvent e → is_restart e ≡ false → ManagerStandsFor disks m s → respond s e ≡ Now a
+      → TakesNow m a reply outcome m' → IsStep m' s e reply outcome
+  now_steps m m' s e a reply outcome event other st is x =
+      let t = turn_is m s e (Now a) st is in
+      let steps : step s (Asked e) outcome ≡ Some a = ap (λ (u : Turn). taken u outcome) t ∙ ap (taken (Now a)) x.outcome_is in
+      let before = recoverable_by m.up (kept m) s st.tables in
+      let recoverable = keeps_recoverable s (Asked e) outcome a event before steps in
+      let k : KeepsLog s a.after = subst (LogsWhatLasts s) is (events_log_what_lasts s e before.sound other) in
+      let bytes : a.after.log_bytes ≡ s.log_bytes = subst (AsksRoom s) is (events_ask_room s e other) in
+      record {
+        answer = a;
+        step_is = steps;
+        reply_is = x.reply_is;
+        stands = record {
+          tables = x.tables recoverable;
+          roomy = keeps_room s e outcome a event before st.roomy other steps;
+          end = λ up. ap (λ (l : Log D). l.end) x.log ∙ st.end (sym x.up ∙ up) ∙ sym k.end;
+          alive = λ up. ap (λ (l : Log D). l.lost) x.log ∙ st.alive (sym x.up ∙ up);
+          log_bytes = ap (λ (l : Log D). l.log_bytes) x.log ∙ st.log_bytes ∙ sym bytes;
+          doubt = rw x.doubt (doubts_same m.doubt s a.after k.open_record k.end st.doubt);
+          log = λ trusts.
+              rw x.log (log_same m.log s a.after k (λ rs b. subst (BacksTurn rs s) t (keeps_backed rs s (Asked e) event before b)) (st.log trusts));
+        };
+      }
 
-    -- the manager after an append
+  -- the manager after an append
 
-    end_after : (log log' : Log D) (s t : State) (r : Record) (a : Appending) → log.end ≡ s.end → HasAppended honest tears seen may_leave failures counts (spelled r) a log log'
-        → (a ≡ Kept → t.end ≡ s.end + (36 + length (spelled r))) → (a ≡ Refused → t.end ≡ s.end) → up_after a ≡ true → log'.end ≡ t.end
-    end_after log log' s t r Kept same h ok_ refused_ up = h.moves.0 ∙ ap (λ (n : ℕ). n + (36 + length (spelled r))) same ∙ sym (ok_ refl)
-    end_after log log' s t r Refused same h ok_ refused_ up = h.moves.0 ∙ same ∙ sym (refused_ refl)
-    end_after log log' s t r Lost same h ok_ refused_ up = absurd (cc up)
+  end_after : (log log' : Log D) (s t : State) (r : Record) (a : Appending) → log.end ≡ s.end → HasAppended disks (spelled r) a log log'
+      → (a ≡ Kept → t.end ≡ s.end + (36 + length (spelled r))) → (a ≡ Refused → t.end ≡ s.end) → up_after a ≡ true → log'.end ≡ t.end
+  end_after log log' s t r Kept same h ok_ refused_ up = h.moves.0 ∙ ap (λ (n : ℕ). n + (36 + length (spelled r))) same ∙ sym (ok_ refl)
+  end_after log log' s t r Refused same h ok_ refused_ up = h.moves.0 ∙ same ∙ sym (refused_ refl)
+  end_after log log' s t r Lost same h ok_ refused_ up = absurd (cc up)
 
-    alive_after : (log log' : Log D) (r : Record) (a : Appending) → log.lost ≡ false → HasAppended honest tears seen may_leave failures counts (spelled r) a log log' → up_after a ≡ true → log'.lost ≡ false
-    alive_after log log' r Kept same h up = h.moves.2 ∙ same
-    alive_after log log' r Refused same h up = h.moves.3 ∙ same
-    alive_after log log' r Lost same h up = absurd (cc up)
+  alive_after : (log log' : Log D) (r : Record) (a : Appending) → log.lost ≡ false → HasAppended disks (spelled r) a log log' → up_after a ≡ true → log'.lost ≡ false
+  alive_after log log' r Kept same h up = h.moves.2 ∙ same
+  alive_after log log' r Refused same h up = h.moves.3 ∙ same
+  alive_after log log' r Lost same h up = absurd (cc up)
 
-    doubt_stands : (s t : State) (r : Record) (a : Appending) (end : ℕ) → is_boot r ≡ false → end ≡ s.end → (a ≡ Kept → t.open_record ≡ None) → (a ≡ Refused → t.open_record ≡ None) → (a ≡ Lost → t.open_record ≡ Some r)
-        → (a ≡ Lost → t.end ≡ s.end) → Doubts (doubt_after a end) t
-    doubt_stands s t r Kept end boot same ok_ refused_ lost_ ends = ok_ refl
-    doubt_stands s t r Refused end boot same ok_ refused_ lost_ ends = refused_ refl
-    doubt_stands s t r Lost end boot same ok_ refused_ lost_ ends = (r, lost_ refl, boot, same ∙ sym (ends refl))
+  doubt_stands : (s t : State) (r : Record) (a : Appending) (end : ℕ) → is_boot r ≡ false → end ≡ s.end → (a ≡ Kept → t.open_record ≡ None) → (a ≡ Refused → t.open_record ≡ None) → (a ≡ Lost → t.open_record ≡ Some r)
+      → (a ≡ Lost → t.end ≡ s.end) → Doubts (doubt_after a end) t
+  doubt_stands s t r Kept end boot same ok_ refused_ lost_ ends = ok_ refl
+  doubt_stands s t r Refused end boot same ok_ refused_ lost_ ends = refused_ refl
+  doubt_stands s t r Lost end boot same ok_ refused_ lost_ ends = (r, lost_ refl, boot, same ∙ sym (ends refl))
 
-    bytes_after : (s : State) (r : Record) (after : Appending → Answer) (a : Appending) → (after Kept ≡ ok (applied r s)) → ((after Refused).after.log_bytes ≡ s.log_bytes) → (after Lost ≡ lost s r) → (after a).after.log_bytes ≡ s.log_bytes
-    bytes_after s r after Kept k f l = ap (λ (x : Answer). x.after.log_bytes) k ∙ applied_bytes s r
-    bytes_after s r after Refused k f l = f
-    bytes_after s r after Lost k f l = ap (λ (x : Answer). x.after.log_bytes) l
+  bytes_after : (s : State) (r : Record) (after : Appending → Answer) (a : Appending) → (after Kept ≡ ok (applied r s)) → ((after Refused).after.log_bytes ≡ s.log_bytes) → (after Lost ≡ lost s r) → (after a).after.log_bytes ≡ s.log_bytes
+  bytes_after s r after Kept k f l = ap (λ (x : Answer). x.after.log_bytes) k ∙ applied_bytes s r
+  bytes_after s r after Refused k f l = f
+  bytes_after s r after Lost k f l = ap (λ (x : Answer). x.after.log_bytes) l
 
-    settled_up : (m' : Tables) (s : State) → StandsFor m' s → s.open_record ≡ None
-    settled_up m' s st = st.recoverable.settled st.up
+  settled_up : (m' : Tables) (s : State) → StandsFor m' s → s.open_record ≡ None
+  settled_up m' s st = st.recoverable.settled st.up
 
-    tables_at : (m' : Tables) (s : State) (a : Appending) → TablesStandFor (up_after a) m' s → (a ≡ Kept → s.open_record ≡ None) × (a ≡ Refused → s.open_record ≡ None)
-    tables_at m' s Kept st = (λ e. settled_up m' s st, λ e. settled_up m' s st)
-    tables_at m' s Refused st = (λ e. settled_up m' s st, λ e. settled_up m' s st)
-    tables_at m' s Lost st = (λ e. absurd (cc e), λ e. absurd (cc e))
+  tables_at : (m' : Tables) (s : State) (a : Appending) → TablesStandFor (up_after a) m' s → (a ≡ Kept → s.open_record ≡ None) × (a ≡ Refused → s.open_record ≡ None)
+  tables_at m' s Kept st = (λ e. settled_up m' s st, λ e. settled_up m' s st)
+  tables_at m' s Refused st = (λ e. settled_up m' s st, λ e. settled_up m' s st)
+  tables_at m' s Lost st = (λ e. absurd (cc e), λ e. absurd (cc e))
 
-    of_answer : (after : Appending → Answer) (P : Answer → Type 0) (a b : Appending) → a ≡ b → P (after b) → P (after a)
-    of_answer after P a b e h = subst (λ (x : Appending). P (after x)) (sym e) h
+  of_answer : (after : Appending → Answer) (P : Answer → Type 0) (a b : Appending) → a ≡ b → P (after b) → P (after a)
+  of_answer after P a b e h = subst (λ (x : Appending). P (after x)) (sym e) h
 
-    appending_steps : (m m' : Manager D) (s : State) (e : Event) (r : Record) (after : Appending → Answer) (reply : Reply) (outcome : Outcome) → IsEvent e → is_restart e ≡ false → ManagerStandsFor honest tears seen may_leave m s
-        → respond s e ≡ Appends r after → m.up ≡ true → TakesAppending honest tears seen may_leave failures counts m r after reply outcome m' → IsStep m' s e reply outcome
-    appending_steps m m' s e r after reply outcome event other st is is_up x =
-        let t = turn_is m s e (Appends r after) st is in
-        let a = x.answer in
-        let next = (after a).after in
-        let steps : step s (Asked e) outcome ≡ Some (after a) = ap (λ (u : Turn). taken u outcome) t ∙ ap (taken (Appends r after)) x.outcome_is in
-        let before = recoverable_by m.up (kept m) s st.tables in
-        let recoverable = keeps_recoverable s (Asked e) outcome (after a) event before steps in
-        let logs : LogsWhatLasts s (Appends r after) = subst (LogsWhatLasts s) is (events_log_what_lasts s e before.sound other) in
-        let asks : AsksRoom s (Appends r after) = subst (AsksRoom s) is (events_ask_room s e other) in
-        let last : LogsLast s (Appends r after) = subst (LogsLast s) t (turn_logs_last s (Asked e) event before) in
-        let tables = x.tables recoverable in
-        let standing = subst (λ (b : Bool). TablesStandFor b (kept m') next) x.up tables in
-        let opens = tables_at (kept m') next a standing in
-        let lost_ : a ≡ Lost → next ≡ (lost s r).after = λ q. ap (λ (b : Appending). (after b).after) q ∙ ap (λ (y : Answer). y.after) logs.3 in
-        let kept_ : a ≡ Kept → next ≡ applied r s = λ q. ap (λ (b : Appending). (after b).after) q ∙ ap (λ (y : Answer). y.after) logs.1 in
-        let none : s.open_record ≡ None = before.settled last.2 in
-        record {
-          answer = after a;
-          step_is = steps;
-          reply_is = x.reply_is;
-          stands = record {
-            tables = tables;
-            roomy = keeps_room s e outcome (after a) event before st.roomy other steps;
-            end = λ up. end_after m.log m'.log s next r a (st.end is_up) x.log (λ q. ap (λ (u : State). u.end) (kept_ q) ∙ applied_end s r logs.0 last.1)
-                (λ q. of_answer after (λ y. y.after.end ≡ s.end) a Refused q logs.2.end) (sym x.up ∙ up);
-            alive = λ up. alive_after m.log m'.log r a (st.alive is_up) x.log (sym x.up ∙ up);
-            log_bytes = x.log.log_bytes ∙ st.log_bytes ∙ sym (bytes_after s r after a logs.1 asks.1 logs.3);
-            doubt = rw x.doubt
-                (doubt_stands s next r a m.log.end last.1 (st.end is_up) opens.0 opens.1 (λ q. ap (λ (u : State). u.open_record) (lost_ q)) (λ q. ap (λ (u : State). u.end) (lost_ q)));
-            log = λ trusts.
-                let backed = λ (rs : List Record) (b : Backs rs s). subst (BacksTurn rs s) t (keeps_backed rs s (Asked e) event before b) in
-                log_after m.log m'.log s next r a none last.1 x.log trusts.disk opens.0 opens.1 (λ q. ap (λ (u : State). u.open_record) (lost_ q))
-                (λ q rs b. of_answer after (λ y. Backs (rs ++ r ∷ []) y.after) a Kept q (backed rs b).0) (λ q rs b. of_answer after (λ y. Backs rs y.after) a Refused q (backed rs b).1)
-                (λ q rs b. of_answer after (λ y. Backs rs y.after) a Lost q (backed rs b).2) (st.log trusts);
-          };
-        }
+  appending_steps : (m m' : Manager D) (s : State) (e : Event) (r : Record) (after : Appending → Answer) (reply : Reply) (outcome : Outcome) → IsEvent e → is_restart e ≡ false → ManagerStandsFor disks m s
+      → respond s e ≡ Appends r after → m.up ≡ true → TakesAppending disks m r after reply outcome m' → IsStep m' s e reply outcome
+  appending_steps m m' s e r after reply outcome event other st is is_up x =
+      let t = turn_is m s e (Appends r after) st is in
+      let a = x.answer in
+      let next = (after a).after in
+      let steps : step s (Asked e) outcome ≡ Some (after a) = ap (λ (u : Turn). taken u outcome) t ∙ ap (taken (Appends r after)) x.outcome_is in
+      let before = recoverable_by m.up (kept m) s st.tables in
+      let recoverable = keeps_recoverable s (Asked e) outcome (after a) event before steps in
+      let logs : LogsWhatLasts s (Appends r after) = subst (LogsWhatLasts s) is (events_log_what_lasts s e before.sound other) in
+      let asks : AsksRoom s (Appends r after) = subst (AsksRoom s) is (events_ask_room s e other) in
+      let last : LogsLast s (Appends r after) = subst (LogsLast s) t (turn_logs_last s (Asked e) event before) in
+      let tables = x.tables recoverable in
+      let standing = subst (λ (b : Bool). TablesStandFor b (kept m') next) x.up tables in
+      let opens = tables_at (kept m') next a standing in
+      let lost_ : a ≡ Lost → next ≡ (lost s r).after = λ q. ap (λ (b : Appending). (after b).after) q ∙ ap (λ (y : Answer). y.after) logs.3 in
+      let kept_ : a ≡ Kept → next ≡ applied r s = λ q. ap (λ (b : Appending). (after b).after) q ∙ ap (λ (y : Answer). y.after) logs.1 in
+      let none : s.open_record ≡ None = before.settled last.2 in
+      record {
+        answer = after a;
+        step_is = steps;
+        reply_is = x.reply_is;
+        stands = record {
+          tables = tables;
+          roomy = keeps_room s e outcome (after a) event before st.roomy other steps;
+          end = λ up. end_after m.log m'.log s next r a (st.end is_up) x.log (λ q. ap (λ (u : State). u.end) (kept_ q) ∙ applied_end s r logs.0 last.1)
+              (λ q. of_answer after (λ y. y.after.end ≡ s.end) a Refused q logs.2.end) (sym x.up ∙ up);
+          alive = λ up. alive_after m.log m'.log r a (st.alive is_up) x.log (sym x.up ∙ up);
+          log_bytes = x.log.log_bytes ∙ st.log_bytes ∙ sym (bytes_after s r after a logs.1 asks.1 logs.3);
+          doubt = rw x.doubt
+              (doubt_stands s next r a m.log.end last.1 (st.end is_up) opens.0 opens.1 (λ q. ap (λ (u : State). u.open_record) (lost_ q)) (λ q. ap (λ (u : State). u.end) (lost_ q)));
+          log = λ trusts.
+              let backed = λ (rs : List Record) (b : Backs rs s). subst (BacksTurn rs s) t (keeps_backed rs s (Asked e) event before b) in
+              log_after m.log m'.log s next r a none last.1 x.log trusts.disk opens.0 opens.1 (λ q. ap (λ (u : State). u.open_record) (lost_ q))
+              (λ q rs b. of_answer after (λ y. Backs (rs ++ r ∷ []) y.after) a Kept q (backed rs b).0) (λ q rs b. of_answer after (λ y. Backs rs y.after) a Refused q (backed rs b).1)
+              (λ q rs b. of_answer after (λ y. Backs rs y.after) a Lost q (backed rs b).2) (st.log trusts);
+        };
+      }
 
-    takes_steps : (m m' : Manager D) (s : State) (e : Event) (t : Turn) (reply : Reply) (outcome : Outcome) → IsEvent e → is_restart e ≡ false → ManagerStandsFor honest tears seen may_leave m s → respond s e ≡ t
-        → Takes honest tears seen may_leave failures counts m t reply outcome m' → IsStep m' s e reply outcome
-    takes_steps m m' s e Nobody reply outcome event other st is x = absurd x
-    takes_steps m m' s e (Now a) reply outcome event other st is x = now_steps m m' s e a reply outcome event other st is x
-    takes_steps m m' s e (Appends r after) reply outcome event other st is x =
-        let t = turn_is m s e (Appends r after) st is in
-        let before = recoverable_by m.up (kept m) s st.tables in
-        let last : LogsLast s (Appends r after) = subst (LogsLast s) t (turn_logs_last s (Asked e) event before) in
-        appending_steps m m' s e r after reply outcome event other st is (is_up_by m.up (kept m) s st.tables last.2) x
-    takes_steps m m' s e (Rereads failed found missing) reply outcome event other st is x = absurd x
+  takes_steps : (m m' : Manager D) (s : State) (e : Event) (t : Turn) (reply : Reply) (outcome : Outcome) → IsEvent e → is_restart e ≡ false → ManagerStandsFor disks m s → respond s e ≡ t
+      → Takes disks m t reply outcome m' → IsStep m' s e reply outcome
+  takes_steps m m' s e Nobody reply outcome event other st is x = absurd x
+  takes_steps m m' s e (Now a) reply outcome event other st is x = now_steps m m' s e a reply outcome event other st is x
+  takes_steps m m' s e (Appends r after) reply outcome event other st is x =
+      let t = turn_is m s e (Appends r after) st is in
+      let before = recoverable_by m.up (kept m) s st.tables in
+      let last : LogsLast s (Appends r after) = subst (LogsLast s) t (turn_logs_last s (Asked e) event before) in
+      appending_steps m m' s e r after reply outcome event other st is (is_up_by m.up (kept m) s st.tables last.2) x
+  takes_steps m m' s e (Rereads failed found missing) reply outcome event other st is x = absurd x
 
-    takes_called : (m m' : Manager D) (t : Turn) (reply : Reply) (outcome : Outcome) → Takes honest tears seen may_leave failures counts m t reply outcome m' → HasCalled honest tears failures counts outcome m.log m'.log
-    takes_called m m' Nobody reply outcome x = absurd x
-    takes_called m m' (Now a) reply outcome x = subst (λ (o : Outcome). HasCalled honest tears failures counts o m.log m'.log) (sym x.outcome_is) x.log
-    takes_called m m' (Appends r after) reply outcome x = subst (λ (o : Outcome). HasCalled honest tears failures counts o m.log m'.log) (sym x.outcome_is) (x.log.other.0, x.log.other.1, x.log.cause, x.log.calls)
-    takes_called m m' (Rereads failed found missing) reply outcome x = absurd x
+  takes_called : (m m' : Manager D) (t : Turn) (reply : Reply) (outcome : Outcome) → Takes disks m t reply outcome m' → HasCalled disks outcome m.log m'.log
+  takes_called m m' Nobody reply outcome x = absurd x
+  takes_called m m' (Now a) reply outcome x = subst (λ (o : Outcome). HasCalled disks o m.log m'.log) (sym x.outcome_is) x.log
+  takes_called m m' (Appends r after) reply outcome x = subst (λ (o : Outcome). HasCalled disks o m.log m'.log) (sym x.outcome_is) (x.log.other.0, x.log.other.1, x.log.cause, x.log.calls)
+  takes_called m m' (Rereads failed found missing) reply outcome x = absurd x
 
-    some_and : (m' : Manager D) (s : State) (e : Event) (reply : Reply) (outcome : Outcome) → IsStep m' s e reply outcome
-        → IsSomeAnd (step s (Asked e) outcome) (λ a. (a.reply ≡ reply) × ManagerStandsFor honest tears seen may_leave m' a.after)
-    some_and m' s e reply outcome x =
-        subst (λ (o : Option Answer). IsSomeAnd o (λ a. (a.reply ≡ reply) × ManagerStandsFor honest tears seen may_leave m' a.after)) (sym x.step_is) (x.reply_is, x.stands)
+  some_and : (m' : Manager D) (s : State) (e : Event) (reply : Reply) (outcome : Outcome) → IsStep m' s e reply outcome
+      → IsSomeAnd (step s (Asked e) outcome) (λ a. (a.reply ≡ reply) × ManagerStandsFor disks m' a.after)
+  some_and m' s e reply outcome x =
+      subst (λ (o : Option Answer). IsSomeAnd o (λ a. (a.reply ≡ reply) × ManagerStandsFor disks m' a.after)) (sym x.step_is) (x.reply_is, x.stands)
 
-    -- a turn of an event was taken
-    pub has_done : (m m' : Manager D) (e : Event) (reply : Reply) (outcome : Outcome) → IsEvent e → is_restart e ≡ false → is_memory reply.detail ≡ false
-        → ((s : State) → ManagerStandsFor honest tears seen may_leave m s → Takes honest tears seen may_leave failures counts m (respond s e) reply outcome m')
-        → HasDone honest tears seen may_leave failures counts m e reply outcome m'
-    has_done m m' e reply outcome event other served takes = record {
-      steps = λ s st premises. some_and m' s e reply outcome (takes_steps m m' s e (respond s e) reply outcome event other st refl (takes s st));
-      called = λ s st premises. takes_called m m' (respond s e) reply outcome (takes s st);
-      served = served;
-    }
+  -- a turn of an event was taken
+  pub has_done : (m m' : Manager D) (e : Event) (reply : Reply) (outcome : Outcome) → IsEvent e → is_restart e ≡ false → is_memory reply.detail ≡ false
+      → ((s : State) → ManagerStandsFor disks m s → Takes disks m (respond s e) reply outcome m')
+      → HasDone disks m e reply outcome m'
+  has_done m m' e reply outcome event other served takes = record {
+    steps = λ s st premises. some_and m' s e reply outcome (takes_steps m m' s e (respond s e) reply outcome event other st refl (takes s st));
+    called = λ s st premises. takes_called m m' (respond s e) reply outcome (takes s st);
+    served = served;
+  }

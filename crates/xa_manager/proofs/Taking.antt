@@ -1,8 +1,8 @@
 -- How a manager takes a turn, by what it did.
 use Rattle.std.proofs.Common.{◌≡◌, ◌≢◌, ℕ, ℤ, ◌+◌, ◌≤◌, Bool, true, false, List, length, Option, Some, None, refl, ap, sym, ◌∙◌, subst}
 use Rattle.std.specs.Prelude.{Result, Ok, Err, OnErr}
+use Rattle.xa_disk.specs.declared.disk.Disk.{Ghosts}
 use Rattle.xa_codes.specs.declared.codes.TheConstants.{XAER_RMFAIL}
-use Rattle.xa_disk.specs.declared.counts.Counts.{Counts}
 use Rattle.xa_frame.specs.declared.reply.Reply.{Reply}
 use Rattle.xa_record.specs.Spelling.{spelled}
 use Rattle.xa_record.specs.declared.record.Record.{Record}
@@ -100,13 +100,13 @@ pub on_err : {T E : Type 0} (r : Result T E) (X : Type 0) → X → OnErr r X
 on_err (Ok x) X h = tt
 on_err (Err e) X h = h
 
-module _ {D : Type 0} (honest : Type 0) (tears : List ℕ → ℕ → List ℕ → List ℕ → Type 0) (seen : D → List ℕ) (may_leave : D → List ℕ → Type 0) where
+module _ {D : Type 0} (disks : Ghosts D) where
   -- the tables of a manager that is up
-  pub tables_up : (m : Manager D) (s : State) → m.up ≡ true → ManagerStandsFor honest tears seen may_leave m s → StandsFor (kept m) s
+  pub tables_up : (m : Manager D) (s : State) → m.up ≡ true → ManagerStandsFor disks m s → StandsFor (kept m) s
   tables_up m s up st = subst (λ (b : Bool). TablesStandFor b (kept m) s) up st.tables
 
   -- the same manager, but for tables that stand for what they stood for
-  pub stays_up : (m m' : Manager D) → m.up ≡ true → m'.up ≡ m.up → m'.log ≡ m.log → m'.doubt ≡ m.doubt → Stays (kept m) (kept m') → StaysFor honest tears seen may_leave m m'
+  pub stays_up : (m m' : Manager D) → m.up ≡ true → m'.up ≡ m.up → m'.log ≡ m.log → m'.doubt ≡ m.doubt → Stays (kept m) (kept m') → StaysFor disks m m'
   stays_up m m' is_up up log doubt stays s st = record {
     tables = subst (λ (b : Bool). TablesStandFor b (kept m') s) (sym (up ∙ is_up)) (stays s (tables_up m s is_up st));
     roomy = st.roomy;
@@ -117,50 +117,49 @@ module _ {D : Type 0} (honest : Type 0) (tears : List ℕ → ℕ → List ℕ �
     log = λ trusts. rw log (st.log trusts);
   }
 
-  module _ (failures : D → ℕ) (counts : D → Counts) where
-    pub takes_now : (m m' : Manager D) (act : State → Turn) (reply : Reply) (outcome : Outcome) → is_memory reply.detail ≡ false → outcome ≡ Quiet → m'.log ≡ m.log → m'.up ≡ m.up → m'.doubt ≡ m.doubt
-        → ((s : State) → ManagerStandsFor honest tears seen may_leave m s → m.up ≡ true → StandsFor (kept m) s → AnswersNow s (act s) reply (kept m')) → TakesTurn honest tears seen may_leave failures counts m act reply outcome m'
-    takes_now m m' act reply outcome served quiet log up doubt h = record {
-      takes = λ s st is_up.
-          let x = h s st is_up (tables_up m s is_up st) in
-          subst (λ (t : Turn). Takes honest tears seen may_leave failures counts m t reply outcome m') (sym x.turn_is)
-          (record {
-            reply_is = x.reply_is;
-            outcome_is = quiet;
-            log = log;
-            up = up;
-            doubt = doubt;
-            tables = λ recoverable. subst (λ (b : Bool). TablesStandFor b (kept m') x.answer.after) (sym (up ∙ is_up)) (x.tables recoverable);
-          });
-      served = served;
-    }
+  pub takes_now : (m m' : Manager D) (act : State → Turn) (reply : Reply) (outcome : Outcome) → is_memory reply.detail ≡ false → outcome ≡ Quiet → m'.log ≡ m.log → m'.up ≡ m.up → m'.doubt ≡ m.doubt
+      → ((s : State) → ManagerStandsFor disks m s → m.up ≡ true → StandsFor (kept m) s → AnswersNow s (act s) reply (kept m')) → TakesTurn disks m act reply outcome m'
+  takes_now m m' act reply outcome served quiet log up doubt h = record {
+    takes = λ s st is_up.
+        let x = h s st is_up (tables_up m s is_up st) in
+        subst (λ (t : Turn). Takes disks m t reply outcome m') (sym x.turn_is)
+        (record {
+          reply_is = x.reply_is;
+          outcome_is = quiet;
+          log = log;
+          up = up;
+          doubt = doubt;
+          tables = λ recoverable. subst (λ (b : Bool). TablesStandFor b (kept m') x.answer.after) (sym (up ∙ is_up)) (x.tables recoverable);
+        });
+    served = served;
+  }
 
-    -- a row of the tables
-    pub takes_row : (m m' : Manager D) (act : State → Answer) (reply : Reply) (outcome : Outcome) → outcome ≡ Quiet → m'.log ≡ m.log → m'.up ≡ m.up → m'.doubt ≡ m.doubt
-        → Follows (kept m) act reply (kept m') → TakesTurn honest tears seen may_leave failures counts m (λ s. Now (act s)) reply outcome m'
-    takes_row m m' act reply outcome quiet log up doubt f =
-        takes_now m m' (λ s. Now (act s)) reply outcome f.served quiet log up doubt (λ s whole is_up st. record { answer = act s; turn_is = refl; reply_is = f.answers s st; tables = λ recoverable. f.stands s st recoverable })
+  -- a row of the tables
+  pub takes_row : (m m' : Manager D) (act : State → Answer) (reply : Reply) (outcome : Outcome) → outcome ≡ Quiet → m'.log ≡ m.log → m'.up ≡ m.up → m'.doubt ≡ m.doubt
+      → Follows (kept m) act reply (kept m') → TakesTurn disks m (λ s. Now (act s)) reply outcome m'
+  takes_row m m' act reply outcome quiet log up doubt f =
+      takes_now m m' (λ s. Now (act s)) reply outcome f.served quiet log up doubt (λ s whole is_up st. record { answer = act s; turn_is = refl; reply_is = f.answers s st; tables = λ recoverable. f.stands s st recoverable })
 
-    -- a record was journaled on the same log, and the tables may have changed before and after
-    pub takes_appending : (m mid mid' m' : Manager D) (act : State → Turn) (body : List ℕ) (a : Appending) (reply : Reply) (outcome : Outcome) → is_memory reply.detail ≡ false → outcome ≡ Appended a
-        → mid.log ≡ m.log → mid.up ≡ m.up → HasJournaled honest tears seen may_leave failures counts body a mid mid' → m'.log ≡ mid'.log → m'.up ≡ mid'.up → m'.doubt ≡ mid'.doubt
-        → ((s : State) → ManagerStandsFor honest tears seen may_leave m s → m.up ≡ true → AnswersAppending s (act s) body a reply (kept m')) → TakesTurn honest tears seen may_leave failures counts m act reply outcome m'
-    takes_appending m mid mid' m' act body a reply outcome served is log up j log' up' doubt' h = record {
-      takes = λ s st is_up.
-          let x = h s st is_up in
-          let is_up' : m'.up ≡ up_after a = up' ∙ j.up (up ∙ is_up) in
-          let alive : mid.log.lost ≡ false = ap (λ (l : Log D). l.lost) log ∙ st.alive is_up in
-          let fits : mid.log.end + 40 + length body ≤ mid.log.log_bytes = rw (log, st.end is_up, st.log_bytes) x.fits in
-          let there : HasAppended honest tears seen may_leave failures counts body a m.log m'.log = rw log' (subst (λ (l : Log D). HasAppended honest tears seen may_leave failures counts body a l mid'.log) log (j.appended alive fits)) in
-          subst (λ (t : Turn). Takes honest tears seen may_leave failures counts m t reply outcome m') (sym x.turn_is)
-          (record {
-            answer = a;
-            reply_is = x.reply_is;
-            outcome_is = is;
-            log = subst (λ (b : List ℕ). HasAppended honest tears seen may_leave failures counts b a m.log m'.log) (sym x.body_is) there;
-            up = is_up';
-            doubt = doubt' ∙ j.doubt ∙ ap (λ (l : Log D). doubt_after a l.end) log;
-            tables = λ recoverable. subst (λ (b : Bool). TablesStandFor b (kept m') (x.after a).after) (sym is_up') (x.tables recoverable);
-          });
-      served = served;
-    }
+  -- a record was journaled on the same log, and the tables may have changed before and after
+  pub takes_appending : (m mid mid' m' : Manager D) (act : State → Turn) (body : List ℕ) (a : Appending) (reply : Reply) (outcome : Outcome) → is_memory reply.detail ≡ false → outcome ≡ Appended a
+      → mid.log ≡ m.log → mid.up ≡ m.up → HasJournaled disks body a mid mid' → m'.log ≡ mid'.log → m'.up ≡ mid'.up → m'.doubt ≡ mid'.doubt
+      → ((s : State) → ManagerStandsFor disks m s → m.up ≡ true → AnswersAppending s (act s) body a reply (kept m')) → TakesTurn disks m act reply outcome m'
+  takes_appending m mid mid' m' act body a reply outcome served is log up j log' up' doubt' h = record {
+    takes = λ s st is_up.
+        let x = h s st is_up in
+        let is_up' : m'.up ≡ up_after a = up' ∙ j.up (up ∙ is_up) in
+        let alive : mid.log.lost ≡ false = ap (λ (l : Log D). l.lost) log ∙ st.alive is_up in
+        let fits : mid.log.end + 40 + length body ≤ mid.log.log_bytes = rw (log, st.end is_up, st.log_bytes) x.fits in
+        let there : HasAppended disks body a m.log m'.log = rw log' (subst (λ (l : Log D). HasAppended disks body a l mid'.log) log (j.appended alive fits)) in
+        subst (λ (t : Turn). Takes disks m t reply outcome m') (sym x.turn_is)
+        (record {
+          answer = a;
+          reply_is = x.reply_is;
+          outcome_is = is;
+          log = subst (λ (b : List ℕ). HasAppended disks b a m.log m'.log) (sym x.body_is) there;
+          up = is_up';
+          doubt = doubt' ∙ j.doubt ∙ ap (λ (l : Log D). doubt_after a l.end) log;
+          tables = λ recoverable. subst (λ (b : Bool). TablesStandFor b (kept m') (x.after a).after) (sym is_up') (x.tables recoverable);
+        });
+    served = served;
+  }

@@ -1,10 +1,10 @@
 -- What a manager's answers are.
-use Rattle.std.specs.Prelude.{ℕ, ℤ, ◌≡◌, ◌⊎◌, Bool, true, false, List, [], ◌∷◌, length, Option, None, Some, Result, Ok, Err, MatchBool, IsSomeAnd, if◌then◌else◌}
+use Rattle.std.specs.Prelude.{ℕ, ℤ, ◌≡◌, ◌⊎◌, Bool, true, false, List, [], ◌∷◌, length, Option, None, Some, Result, Ok, Err, MatchBool, if◌then◌else◌}
+use Rattle.xa_disk.specs.declared.disk.Disk.{Ghosts}
 use Rattle.xa_codes.specs.declared.codes.TheConstants.{XAER_RMERR, XAER_RMFAIL, XA_RETRY}
 use Rattle.xa_codes.specs.declared.detail.Detail.TheVariants as detail
 use Rattle.xa_codes.specs.Flags.{has}
 use Rattle.xa_codes.specs.declared.flags.TheConstants.{TMONEPHASE}
-use Rattle.xa_disk.specs.declared.counts.Counts.{Counts}
 use Rattle.xa_frame.specs.declared.request.Request.{Request}
 use Rattle.xa_frame.specs.declared.request.Request.TheVariants.{Start, Prepare, Commit, Recover, Get, Put, Delete, Restart}
 use Rattle.xa_frame.specs.declared.reply.Reply.{Reply}
@@ -32,24 +32,24 @@ use Rattle.xa_assoc.specs.declared.fault.ConnectFault.{ConnectFault}
 use Rattle.xa_assoc.specs.declared.fault.ConnectFault.TheVariants.{Memory, Full}
 use Rattle.xa_manager.specs.declared.manager.Manager.{Manager}
 use Rattle.xa_manager.specs.LogStands.{Trusts}
-use Rattle.xa_manager.specs.Managed.{ManagerStandsFor}
+use Rattle.xa_manager.specs.Managed.{ManagerStandsFor, AnswersAs}
 
 -- the manager stands for whichever state it stood for
-abbrev pub StaysFor : {D : Type 0} → Type 0 → (List ℕ → ℕ → List ℕ → List ℕ → Type 0) → (D → List ℕ) → (D → List ℕ → Type 0) → Manager D → Manager D → Type 0
-StaysFor honest tears seen may_leave m m' = (s : State) → ManagerStandsFor honest tears seen may_leave m s → ManagerStandsFor honest tears seen may_leave m' s
+abbrev pub StaysFor : {D : Type 0} → Ghosts D → Manager D → Manager D → Type 0
+StaysFor disks m m' = (s : State) → ManagerStandsFor disks m s → ManagerStandsFor disks m' s
 
 -- The answer is the step's, with the outcome that the manager tells, and it stands for the step's new state. What a restart
 -- finds in its files is said under the premises on the type of disks.
-abbrev pub StepsAs : {D : Type 0} → Type 0 → (List ℕ → ℕ → List ℕ → List ℕ → Type 0) → (D → List ℕ) → (D → List ℕ → Type 0) → Manager D → Event → Reply → Manager D → Type 0
-StepsAs honest tears seen may_leave m event reply m' =
-    (s : State) → ManagerStandsFor honest tears seen may_leave m s → Trusts honest tears ⊎ (is_restart event ≡ false)
-    → IsSomeAnd (step s (Asked event) m'.outcome) (λ a. (a.reply ≡ reply) × ManagerStandsFor honest tears seen may_leave m' a.after)
+abbrev pub StepsAs : {D : Type 0} → Ghosts D → Manager D → Event → Reply → Manager D → Type 0
+StepsAs disks m event reply m' =
+    (s : State) → ManagerStandsFor disks m s → Trusts disks ⊎ (is_restart event ≡ false)
+    → AnswersAs disks (step s (Asked event) m'.outcome) reply m'
 
 -- where memory was wanted, it stands for whichever state it stood for, and tells the outcome of the event before
-abbrev pub Answered : {D : Type 0} → Type 0 → (List ℕ → ℕ → List ℕ → List ℕ → Type 0) → (D → List ℕ) → (D → List ℕ → Type 0) → Manager D → Event → Reply → Manager D → Type 0
-Answered honest tears seen may_leave m event reply m' =
-    MatchBool (is_memory reply.detail) (StaysFor honest tears seen may_leave m m' × (m'.outcome ≡ m.outcome))
-    (StepsAs honest tears seen may_leave m event reply m')
+abbrev pub Answered : {D : Type 0} → Ghosts D → Manager D → Event → Reply → Manager D → Type 0
+Answered disks m event reply m' =
+    MatchBool (is_memory reply.detail) (StaysFor disks m m' × (m'.outcome ≡ m.outcome))
+    (StepsAs disks m event reply m')
 
 -- What the device did of each outcome. Where it is Quiet no device call was made.
 
@@ -73,12 +73,14 @@ RisesBy failures (Some Kept) old new = NoneRises failures old new
 RisesBy failures (Some Refused) old new = OneRises failures old new
 RisesBy failures (Some Lost) old new = OneRises failures old new
 
-abbrev pub HasCalled : {D : Type 0} → Type 0 → (List ℕ → ℕ → List ℕ → List ℕ → Type 0) → (D → ℕ) → (D → Counts) → Outcome → Log D → Log D → Type 0
-HasCalled honest tears failures counts outcome.Quiet old new = new ≡ old
-HasCalled honest tears failures counts (outcome.Appended appending) old new =
-    (new.other ≡ old.other) × (new.on_first ≡ old.on_first) × HasCause (as_appended appending) (failures old.disk) (failures new.disk) × AppendCalls (as_appended appending) (counts old.disk) (counts new.disk)
-HasCalled honest tears failures counts outcome.Failed old new = OneRises failures old new
-HasCalled honest tears failures counts (outcome.Reread survived appended) old new = RisesBy failures appended old new
+abbrev pub HasCalled : {D : Type 0} → Ghosts D → Outcome → Log D → Log D → Type 0
+HasCalled disks outcome.Quiet old new = new ≡ old
+HasCalled disks (outcome.Appended appending) old new =
+    (new.other ≡ old.other) × (new.on_first ≡ old.on_first)
+    × HasCause (as_appended appending) (disks.failures old.disk) (disks.failures new.disk)
+    × AppendCalls (as_appended appending) (disks.counts old.disk) (disks.counts new.disk)
+HasCalled disks outcome.Failed old new = OneRises disks.failures old new
+HasCalled disks (outcome.Reread survived appended) old new = RisesBy disks.failures appended old new
 
 -- Which events may want memory: a request to end what stands never does, but that a commit in one phase has to write what
 -- it commits.
@@ -113,14 +115,14 @@ abbrev pub IsPinned : Event → Reply → Type 0
 IsPinned event reply = is_memory reply.detail ≡ true → (may_want_memory event ≡ true) × (reply ≡ wanted_memory event)
 
 -- what is said of every call
-pub record FullyAnswered {D : Type 0} (honest : Type 0) (tears : List ℕ → ℕ → List ℕ → List ℕ → Type 0) (seen : D → List ℕ) (may_leave : D → List ℕ → Type 0) (failures : D → ℕ) (counts : D → Counts) (m : Manager D) (event : Event) (reply : Reply) (m' : Manager D) : Type 0 where
-  pub answered : Answered honest tears seen may_leave m event reply m'
+pub record FullyAnswered {D : Type 0} (disks : Ghosts D) (m : Manager D) (event : Event) (reply : Reply) (m' : Manager D) : Type 0 where
+  pub answered : Answered disks m event reply m'
   pub pinned : IsPinned event reply
   -- a restart that found its log unreadable tells that it failed: only with the premises that is the device's doing
-  pub called : is_memory reply.detail ≡ false → (s : State) → ManagerStandsFor honest tears seen may_leave m s → Trusts honest tears ⊎ (is_restart event ≡ false)
-      → HasCalled honest tears failures counts m'.outcome m.log m'.log
+  pub called : is_memory reply.detail ≡ false → (s : State) → ManagerStandsFor disks m s → Trusts disks ⊎ (is_restart event ≡ false)
+      → HasCalled disks m'.outcome m.log m'.log
   -- where memory was wanted, no device call failed
-  pub quiet : is_memory reply.detail ≡ true → NoneRises failures m.log m'.log
+  pub quiet : is_memory reply.detail ≡ true → NoneRises disks.failures m.log m'.log
 
 -- the reply that a connect's result stands for
 abbrev pub connect_reply : Result ℕ ConnectFault → Reply
@@ -143,10 +145,11 @@ no_restart (event ∷ events) = if is_restart event then false else no_restart e
 
 -- With some outcomes, one for each event, the events and their replies are a legal history. Without a restart among them
 -- nothing is asked of the type of disks.
-abbrev pub AnswersAll : {D : Type 0} → Type 0 → (List ℕ → ℕ → List ℕ → List ℕ → Type 0) → (D → List ℕ) → (D → List ℕ → Type 0) → Manager D → List Event → List Reply → Manager D → Type 0
-AnswersAll honest tears seen may_leave m events replies m' =
-    (s : State) → ManagerStandsFor honest tears seen may_leave m s → Trusts honest tears ⊎ (no_restart events ≡ true)
-    → (outcomes : List Outcome) × (s' : State) × (length outcomes ≡ length events) × Leads s (recorded events outcomes replies) s' × ManagerStandsFor honest tears seen may_leave m' s'
+abbrev pub AnswersAll : {D : Type 0} → Ghosts D → Manager D → List Event → List Reply → Manager D → Type 0
+AnswersAll disks m events replies m' =
+    (s : State) → ManagerStandsFor disks m s → Trusts disks ⊎ (no_restart events ≡ true)
+    → (outcomes : List Outcome) × (s' : State) × (length outcomes ≡ length events)
+    × Leads s (recorded events outcomes replies) s' × ManagerStandsFor disks m' s'
 
 -- each of the replies is pinned, and there are as many as events
 abbrev pub ArePinned : List Event → List Reply → Type 0

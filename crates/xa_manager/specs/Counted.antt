@@ -1,5 +1,6 @@
 -- How many failures of devices a history tells of, and how many were counted.
 use Rattle.std.specs.Prelude.{ℕ, ◌≡◌, ◌⊎◌, ◌+◌, ◌-◌, ◌^◌, ◌<◌, ◌≤◌, true, List, [], ◌∷◌, length, Option, None, Some}
+use Rattle.xa_disk.specs.declared.disk.Disk.{Ghosts}
 use Rattle.xa_frame.specs.declared.reply.Reply.{Reply}
 use Rattle.xa_log.specs.TwoFiles.{first_of, second_of}
 use Rattle.xa_log.specs.declared.log.Log.{Log}
@@ -45,8 +46,9 @@ abbrev pub counted_by : {D : Type 0} → (D → ℕ) → Log D → ℕ × ℕ
 counted_by failures log = (failures (first_of log), failures (second_of log))
 
 -- As AnswersAll; and of the same outcomes, that they tell of no more failures than were counted.
-abbrev pub CountsAll : {D : Type 0} → Type 0 → (List ℕ → ℕ → List ℕ → List ℕ → Type 0) → (D → List ℕ) → (D → List ℕ → Type 0) → (D → ℕ) → Manager D → List Event → List Reply → Manager D → Type 0
-CountsAll honest tears seen may_leave failures m events replies m' =
-    (s : State) → ManagerStandsFor honest tears seen may_leave m s → Trusts honest tears ⊎ (no_restart events ≡ true)
-    → (outcomes : List Outcome) × (s' : State) × (length outcomes ≡ length events) × Leads s (recorded events outcomes replies) s' × ManagerStandsFor honest tears seen may_leave m' s'
-    × RiseBy (failures_of (recorded events outcomes replies)) (counted_by failures m.log) (counted_by failures m'.log)
+abbrev pub CountsAll : {D : Type 0} → Ghosts D → Manager D → List Event → List Reply → Manager D → Type 0
+CountsAll disks m events replies m' =
+    (s : State) → ManagerStandsFor disks m s → Trusts disks ⊎ (no_restart events ≡ true)
+    → (outcomes : List Outcome) × (s' : State) × (length outcomes ≡ length events)
+    × Leads s (recorded events outcomes replies) s' × ManagerStandsFor disks m' s'
+    × RiseBy (failures_of (recorded events outcomes replies)) (counted_by disks.failures m.log) (counted_by disks.failures m'.log)

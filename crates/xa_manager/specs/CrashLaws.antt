@@ -1,5 +1,6 @@
 -- Laws on what a read gives of a log's two files, and on what a crash leaves of them.
 use Rattle.std.specs.Prelude.{◌≡◌, ◌⊎◌, ℕ, Option, Some, None, Ok, List, Contains, map, if◌then◌else◌}
+use Rattle.xa_disk.specs.declared.disk.Disk.{Ghosts}
 use Rattle.xa_record.specs.Spelling.{spelled}
 use Rattle.xa_record.specs.declared.record.Record.{Record}
 use Rattle.xa_record.specs.declared.record.Record.TheVariants as logged
@@ -21,41 +22,44 @@ use Rattle.xa_manager.specs.Files.{FilesStandFor}
 -- ---- What a log stands for, as in LogStands, and that nothing is left to chance of images of its two files.
 
 -- In front of the other file stands a record of the log that stood there, or none that chains.
-abbrev pub HasCalmRecords : {D : Type 0} → (List ℕ → ℕ → List ℕ → List ℕ → Type 0) → (D → List ℕ) → (D → List ℕ → Type 0) → List Record → Log D → List ℕ → Type 0
-HasCalmRecords tears seen may_leave rs log other = (stood : List (List ℕ)) × Pair tears seen may_leave (map spelled rs) stood log × IsCalm stood other
+abbrev pub HasCalmRecords : {D : Type 0} → Ghosts D → List Record → Log D → List ℕ → Type 0
+HasCalmRecords disks rs log other = (stood : List (List ℕ)) × Pair disks (map spelled rs) stood log × IsCalm stood other
 
 -- Behind the current file's records chains the one that was lost, or none. In front of the other file stands, where a checkpoint
 -- was lost, the first record of its snapshot, or none that chains.
-abbrev pub MayHaveCalmRecord : {D : Type 0} → (List ℕ → ℕ → List ℕ → List ℕ → Type 0) → (D → List ℕ) → (D → List ℕ → Type 0) → List Record → State → Record → Log D → List ℕ → List ℕ → Type 0
-MayHaveCalmRecord tears seen may_leave rs s (logged.Opened boot) log current other =
-    MaySeal tears seen may_leave (map spelled rs) (map spelled (snapshot (durable s) boot)) log × IsCalm (map spelled (snapshot (durable s) boot)) other
-MayHaveCalmRecord tears seen may_leave rs s r log current other =
-    (stood : List (List ℕ)) × MayStandPair tears seen may_leave (map spelled rs) (spelled r) stood log × IsPlain log.format (map spelled rs) (spelled r) current × IsCalm stood other
+abbrev pub MayHaveCalmRecord : {D : Type 0} → Ghosts D → List Record → State → Record → Log D → List ℕ → List ℕ → Type 0
+MayHaveCalmRecord disks rs s (logged.Opened boot) log current other =
+    MaySeal disks (map spelled rs) (map spelled (snapshot (durable s) boot)) log × IsCalm (map spelled (snapshot (durable s) boot)) other
+MayHaveCalmRecord disks rs s r log current other =
+    (stood : List (List ℕ)) × MayStandPair disks (map spelled rs) (spelled r) stood log
+    × IsPlain log.format (map spelled rs) (spelled r) current × IsCalm stood other
 
-abbrev pub HasCalmRecordsOf : {D : Type 0} → (List ℕ → ℕ → List ℕ → List ℕ → Type 0) → (D → List ℕ) → (D → List ℕ → Type 0) → List Record → State → Option Record → Log D → List ℕ → List ℕ → Type 0
-HasCalmRecordsOf tears seen may_leave rs s None log current other = HasCalmRecords tears seen may_leave rs log other
-HasCalmRecordsOf tears seen may_leave rs s (Some r) log current other =
-    MayHaveCalmRecord tears seen may_leave rs s r log current other ⊎ HasCalmRecords tears seen may_leave rs log other ⊎ HasCalmRecords tears seen may_leave (settled rs s r) log other
+abbrev pub HasCalmRecordsOf : {D : Type 0} → Ghosts D → List Record → State → Option Record → Log D → List ℕ → List ℕ → Type 0
+HasCalmRecordsOf disks rs s None log current other = HasCalmRecords disks rs log other
+HasCalmRecordsOf disks rs s (Some r) log current other =
+    MayHaveCalmRecord disks rs s r log current other ⊎ HasCalmRecords disks rs log other ⊎ HasCalmRecords disks (settled rs s r) log other
 
 -- the same of images of the first and of the second file, and the records stand behind the state
-pub record StandsWithoutChance {D : Type 0} (tears : List ℕ → ℕ → List ℕ → List ℕ → Type 0) (seen : D → List ℕ) (may_leave : D → List ℕ → Type 0) (log : Log D) (s : State) (first second : List ℕ) : Type 0 where
+pub record StandsWithoutChance {D : Type 0} (disks : Ghosts D) (log : Log D) (s : State) (first second : List ℕ) : Type 0 where
   pub records : List Record
   pub backs : Backs records s
-  pub has : HasCalmRecordsOf tears seen may_leave records s s.open_record log (if log.on_first then first else second) (if log.on_first then second else first)
+  pub has : HasCalmRecordsOf disks records s s.open_record log
+      (if log.on_first then first else second) (if log.on_first then second else first)
 
 -- ---- laws
 
 -- what a read gives of the two files is a log of the state's records
-abbrev pub ReadLeaves : {D : Type 0} → Type 0 → (List ℕ → ℕ → List ℕ → List ℕ → Type 0) → (D → List ℕ) → (D → List ℕ → Type 0) → Type 0
-ReadLeaves {D} honest tears seen may_leave =
-    (log : Log D) (s : State) → Trusts honest tears → IsRecoverable s → LogStandsFor tears seen may_leave log s
-    → FilesStandFor log.log_bytes (seen (first_of log)) (seen (second_of log)) s
+abbrev pub ReadLeaves : {D : Type 0} → Ghosts D → Type 0
+ReadLeaves {D} disks =
+    (log : Log D) (s : State) → Trusts disks → IsRecoverable s → LogStandsFor disks log s
+    → FilesStandFor log.log_bytes (disks.seen (first_of log)) (disks.seen (second_of log)) s
 
 -- and so is what a crash leaves of them, where nothing is left to chance
-abbrev pub CrashLeaves : {D : Type 0} → (List ℕ → ℕ → List ℕ → List ℕ → Type 0) → (D → List ℕ) → (D → List ℕ → Type 0) → Type 0
-CrashLeaves {D} tears seen may_leave =
-    (log : Log D) (s : State) (first second : List ℕ) → IsRecoverable s → may_leave (first_of log) first → may_leave (second_of log) second
-    → StandsWithoutChance tears seen may_leave log s first second → FilesStandFor log.log_bytes first second s
+abbrev pub CrashLeaves : {D : Type 0} → Ghosts D → Type 0
+CrashLeaves {D} disks =
+    (log : Log D) (s : State) (first second : List ℕ) → IsRecoverable s
+    → disks.may_leave (first_of log) first → disks.may_leave (second_of log) second
+    → StandsWithoutChance disks log s first second → FilesStandFor log.log_bytes first second s
 
 -- the records of such files come to what lasts of the state
 abbrev pub FilesLast : Type 0
@@ -70,7 +74,7 @@ FilesLastAsFated =
     → (rs : List Record) × (d : Durable) × (logged_pair first second ≡ map spelled rs) × (fold rs ≡ Ok d) × Contains (fates s) d
 
 -- of a manager: what a read gives is a log of the records of each state that it stands for, from which a restart may begin
-abbrev pub ReadStands : {D : Type 0} → Type 0 → (List ℕ → ℕ → List ℕ → List ℕ → Type 0) → (D → List ℕ) → (D → List ℕ → Type 0) → Type 0
-ReadStands {D} honest tears seen may_leave =
-    (m : Manager D) (s : State) → Trusts honest tears → ManagerStandsFor honest tears seen may_leave m s
-    → FilesStandFor m.log.log_bytes (seen (first_of m.log)) (seen (second_of m.log)) s × IsRecoverable s
+abbrev pub ReadStands : {D : Type 0} → Ghosts D → Type 0
+ReadStands {D} disks =
+    (m : Manager D) (s : State) → Trusts disks → ManagerStandsFor disks m s
+    → FilesStandFor m.log.log_bytes (disks.seen (first_of m.log)) (disks.seen (second_of m.log)) s × IsRecoverable s

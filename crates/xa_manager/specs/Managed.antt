@@ -1,7 +1,10 @@
 -- What states of the sequential resource manager a manager stands for.
-use Rattle.std.specs.Prelude.{◌≡◌, ◌≢◌, ℕ, Bool, true, false, Option, Some, None, List, length}
+use Rattle.std.specs.Prelude.{◌≡◌, ◌≢◌, Bool, true, false, Option, Some, None, IsSomeAnd, length}
+use Rattle.xa_disk.specs.declared.disk.Disk.{Ghosts}
 use Rattle.xa_record.specs.declared.record.Record.{Record}
 use Rattle.xa_record.specs.declared.record.Record.TheVariants as logged
+use Rattle.xa_frame.specs.declared.reply.Reply.{Reply}
+use Rattle.xa_model.specs.Answer.{Answer}
 use Rattle.xa_model.specs.State.{State}
 use Rattle.xa_model.specs.Loggable.{IsRecoverable, is_boot}
 use Rattle.xa_model.specs.Room.{IsRoomy}
@@ -22,11 +25,15 @@ Doubts (Some (Boot boot)) s = s.open_record ≡ Some (logged.Opened boot)
 Doubts (Some (LastRecord end)) s = (r : Record) × (s.open_record ≡ Some r) × (is_boot r ≡ false) × (end ≡ s.end)
 
 -- The log is said to stand behind the state under the premises on the type of disks; all else is without them.
-pub record ManagerStandsFor {D : Type 0} (honest : Type 0) (tears : List ℕ → ℕ → List ℕ → List ℕ → Type 0) (seen : D → List ℕ) (may_leave : D → List ℕ → Type 0) (m : Manager D) (s : State) : Type 0 where
+pub record ManagerStandsFor {D : Type 0} (disks : Ghosts D) (m : Manager D) (s : State) : Type 0 where
   pub tables : TablesStandFor m.up (kept m) s
   pub roomy : IsRoomy s
   pub end : m.up ≡ true → m.log.end ≡ s.end
   pub alive : m.up ≡ true → m.log.lost ≡ false
   pub log_bytes : m.log.log_bytes ≡ s.log_bytes
   pub doubt : Doubts m.doubt s
-  pub log : Trusts honest tears → LogStandsFor tears seen may_leave m.log s
+  pub log : Trusts disks → LogStandsFor disks m.log s
+
+-- The answer of a turn is this reply, and the manager stands for the state that it leaves.
+abbrev pub AnswersAs : {D : Type 0} → Ghosts D → Option Answer → Reply → Manager D → Type 0
+AnswersAs disks answer reply m = IsSomeAnd answer (λ a. (a.reply ≡ reply) × ManagerStandsFor disks m a.after)

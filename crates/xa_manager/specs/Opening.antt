@@ -1,6 +1,7 @@
 -- What opening a manager comes to.
 use Rattle.std.specs.Prelude.{◌≡◌, ◌≢◌, ◌⊎◌, ◌≤◌, ◌<◌, ◌+◌, ℕ, Bool, true, false, List, [], map, length, Ok, Err, Some, None, IsSomeAnd}
 use Rattle.std.specs.List.{AllByRecursion}
+use Rattle.xa_disk.specs.declared.disk.Disk.{Ghosts}
 use Rattle.xa_record.specs.Spelling.{spelled}
 use Rattle.xa_record.specs.declared.record.Record.{Record}
 use Rattle.xa_log.specs.Pair.{pair_fault, logged_pair}
@@ -31,8 +32,8 @@ abbrev pub IsBadSetting : List ℕ → ℕ → Type 0
 IsBadSetting name log_bytes = (255 < length name) ⊎ (log_bytes < 64) ⊎ (1073741824 < log_bytes)
 
 -- the current file has these bodies, and the other one comes behind it
-abbrev pub HasBodies : {D : Type 0} → (List ℕ → ℕ → List ℕ → List ℕ → Type 0) → (D → List ℕ) → (D → List ℕ → Type 0) → List (List ℕ) → Log D → Type 0
-HasBodies tears seen may_leave bodies log = (stood : List (List ℕ)) × Pair tears seen may_leave bodies stood log
+abbrev pub HasBodies : {D : Type 0} → Ghosts D → List (List ℕ) → Log D → Type 0
+HasBodies disks bodies log = (stood : List (List ℕ)) × Pair disks bodies stood log
 
 -- why two files gave no log
 abbrev pub LogRefused : OpenFault → ℕ → List ℕ → List ℕ → Type 0
@@ -53,12 +54,13 @@ has_boot_room log_bytes d boot = log_room log_bytes (8 + sizes (snapshot d boot)
 -- A boot began with what these bodies come to. The manager stands for every state that a restart or an opening leads to from
 -- there, with these settings and without sessions: committed branches of it may have reads, and writes that later ones wrote
 -- over.
-pub record HasBegun {D : Type 0} (honest : Type 0) (tears : List ℕ → ℕ → List ℕ → List ℕ → Type 0) (seen : D → List ℕ) (may_leave : D → List ℕ → Type 0) (bodies : List (List ℕ)) (name : List ℕ) (log_bytes : ℕ) (m : Manager D) : Type 0 where
+pub record HasBegun {D : Type 0} (disks : Ghosts D) (bodies : List (List ℕ)) (name : List ℕ) (log_bytes : ℕ) (m : Manager D) : Type 0 where
   pub durable : Durable
   pub comes : ComeTo bodies durable
   pub boots : durable.boot < most_boots
   pub room : has_boot_room log_bytes durable (durable.boot + 1) ≡ true
-  pub stands : (s : State) → IsRestored durable (durable.boot + 1) s → s.name ≡ name → s.log_bytes ≡ log_bytes → s.sessions ≡ [] → ManagerStandsFor honest tears seen may_leave m s
+  pub stands : (s : State) → IsRestored durable (durable.boot + 1) s → s.name ≡ name → s.log_bytes ≡ log_bytes → s.sessions ≡ []
+      → ManagerStandsFor disks m s
 
 -- why no boot began with these bodies
 abbrev pub BootRefused : ManagerFault → List (List ℕ) → ℕ → Type 0

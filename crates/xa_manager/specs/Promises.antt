@@ -1,11 +1,11 @@
 -- What is promised of a manager's runs: one copy, and that what was answered as prepared stays listed.
 use Rattle.std.specs.Prelude.{ℕ, ◌≡◌, ◌⊎◌, ◌+◌, ◌<◌, ◌≤◌, true, Ok, List, [], ◌∷◌, ◌++◌, length}
 use Rattle.std.specs.List.{AllByRecursion}
+use Rattle.xa_disk.specs.declared.disk.Disk.{Ghosts}
 use Rattle.xa_frame.specs.declared.reply.Reply.{Reply}
 use Rattle.xa_record.specs.Limits.{IsRecord}
 use Rattle.xa_record.specs.declared.record.Record.{Record}
 use Rattle.xa_xid.specs.Triple.{Triple}
-use Rattle.xa_disk.specs.declared.counts.Counts.{Counts}
 use Rattle.xa_model.specs.declared.event.Event.{Event}
 use Rattle.xa_model.specs.declared.outcome.Outcome.{Outcome}
 use Rattle.xa_model.specs.State.{State}
@@ -47,20 +47,21 @@ ListsPrepared entries s =
 
 -- The history goes on with the events and their replies, with these outcomes, and the manager stands for the state that it then
 -- leads to. That state's committed branches are one copy, and it lists what was prepared, in these replies or before.
-pub record KeepsPromises {D : Type 0} (honest : Type 0) (tears : List ℕ → ℕ → List ℕ → List ℕ → Type 0) (seen : D → List ℕ) (may_leave : D → List ℕ → Type 0) (before : List Entry) (s : State) (events : List Event) (replies : List Reply) (m' : Manager D) : Type 0 where
+pub record KeepsPromises {D : Type 0} (disks : Ghosts D) (before : List Entry) (s : State) (events : List Event)
+    (replies : List Reply) (m' : Manager D) : Type 0 where
   pub outcomes : List Outcome
   pub after : State
   pub told : length outcomes ≡ length events
   pub leads : Leads s (recorded events outcomes replies) after
-  pub stands : ManagerStandsFor honest tears seen may_leave m' after
+  pub stands : ManagerStandsFor disks m' after
   pub one_copy : HasOneCopy after
   pub listed : ListsPrepared (before ++ recorded events outcomes replies) after
 
 -- so it is behind every legal history whose last state the manager stood for
-abbrev pub PromisesAll : {D : Type 0} → Type 0 → (List ℕ → ℕ → List ℕ → List ℕ → Type 0) → (D → List ℕ) → (D → List ℕ → Type 0) → Manager D → List Event → List Reply → Manager D → Type 0
-PromisesAll honest tears seen may_leave m events replies m' =
-    (first s : State) (before : List Entry) → IsReached first before s → ManagerStandsFor honest tears seen may_leave m s
-    → Trusts honest tears ⊎ (no_restart events ≡ true) → KeepsPromises honest tears seen may_leave before s events replies m'
+abbrev pub PromisesAll : {D : Type 0} → Ghosts D → Manager D → List Event → List Reply → Manager D → Type 0
+PromisesAll disks m events replies m' =
+    (first s : State) (before : List Entry) → IsReached first before s → ManagerStandsFor disks m s
+    → Trusts disks ⊎ (no_restart events ≡ true) → KeepsPromises disks before s events replies m'
 
 -- ---- laws
 
@@ -69,14 +70,14 @@ abbrev pub ReachedPromises : Type 0
 ReachedPromises = (first s : State) (entries : List Entry) → IsReached first entries s → HasOneCopy s × ListsPrepared entries s
 
 -- of one event, answered as every call is
-abbrev pub OnePromises : {D : Type 0} → Type 0 → (List ℕ → ℕ → List ℕ → List ℕ → Type 0) → (D → List ℕ) → (D → List ℕ → Type 0) → (D → ℕ) → (D → Counts) → Type 0
-OnePromises {D} honest tears seen may_leave failures counts =
-    (m m' : Manager D) (event : Event) (reply : Reply) → IsEvent event → FullyAnswered honest tears seen may_leave failures counts m event reply m'
-    → PromisesAll honest tears seen may_leave m (event ∷ []) (reply ∷ []) m'
+abbrev pub OnePromises : {D : Type 0} → Ghosts D → Type 0
+OnePromises {D} disks =
+    (m m' : Manager D) (event : Event) (reply : Reply) → IsEvent event → FullyAnswered disks m event reply m'
+    → PromisesAll disks m (event ∷ []) (reply ∷ []) m'
 
 -- a manager that was opened stands for an opening state, if no more branches are known by the log than may be
-abbrev pub BegunIsReached : {D : Type 0} → Type 0 → (List ℕ → ℕ → List ℕ → List ℕ → Type 0) → (D → List ℕ) → (D → List ℕ → Type 0) → Type 0
-BegunIsReached {D} honest tears seen may_leave =
-    (m : Manager D) (bodies : List (List ℕ)) (name : List ℕ) (log_bytes : ℕ) (begun : HasBegun honest tears seen may_leave bodies name log_bytes m)
+abbrev pub BegunIsReached : {D : Type 0} → Ghosts D → Type 0
+BegunIsReached {D} disks =
+    (m : Manager D) (bodies : List (List ℕ)) (name : List ℕ) (log_bytes : ℕ) (begun : HasBegun disks bodies name log_bytes m)
     → length begun.durable.prepared + length begun.durable.decided ≤ most_branches
-    → (first : State) × IsReached first [] first × ManagerStandsFor honest tears seen may_leave m first
+    → (first : State) × IsReached first [] first × ManagerStandsFor disks m first

@@ -1,6 +1,7 @@
 -- What reading the log again finds, and what the new boot begins with.
 use Rattle.std.specs.Prelude.{◌≡◌, ◌⊎◌, ◌+◌, ◌<◌, ◌≤◌, ℕ, Bool, true, false, List, map, Option, Some, None, Result, Ok, Err}
 use Rattle.std.specs.List.{AllByRecursion}
+use Rattle.xa_disk.specs.declared.disk.Disk.{Ghosts}
 use Rattle.xa_record.specs.Limits.{IsRecord}
 use Rattle.xa_record.specs.Spelling.{spelled}
 use Rattle.xa_record.specs.declared.record.Record.{Record}
@@ -28,13 +29,13 @@ IsFate true s t = (r : Record) × (s.open_record ≡ Some r) × (t ≡ survived 
 IsFate false s t = t ≡ missed s
 
 -- the log was read again: it has these bodies, and its records stand behind the state whose last record's fate is known
-pub record Found {D : Type 0} (tears : List ℕ → ℕ → List ℕ → List ℕ → Type 0) (seen : D → List ℕ) (may_leave : D → List ℕ → Type 0) (bodies : List (List ℕ)) (log : Log D) (s : State) : Type 0 where
+pub record Found {D : Type 0} (disks : Ghosts D) (bodies : List (List ℕ)) (log : Log D) (s : State) : Type 0 where
   pub state : State
   pub fate : IsFate true s state ⊎ IsFate false s state
   pub records : List Record
   pub spelled_as : bodies ≡ map spelled records
   pub backs : Backs records state
-  pub has : HasRecords tears seen may_leave records log
+  pub has : HasRecords disks records log
   pub end : log.end ≡ state.end
   pub alive : log.lost ≡ false
 

@@ -1,9 +1,9 @@
 -- How a manager takes one turn of the sequential resource manager.
-use Rattle.std.specs.Prelude.{◌⊎◌, IsSomeAnd, ℕ, ◌+◌, ◌≤◌, ℤ, pos, ◌≡◌, Bool, true, false, Option, Some, None, List, length}
+use Rattle.std.specs.Prelude.{◌⊎◌, ℕ, ◌+◌, ◌≤◌, ℤ, pos, ◌≡◌, Bool, true, false, Option, Some, None, List, length}
+use Rattle.xa_disk.specs.declared.disk.Disk.{Ghosts}
 use Rattle.xa_codes.specs.declared.codes.TheConstants.{XAER_RMFAIL}
 use Rattle.xa_codes.specs.declared.detail.Detail.TheVariants as detail
 use Rattle.xa_frame.specs.declared.reply.Reply.{Reply}
-use Rattle.xa_disk.specs.declared.counts.Counts.{Counts}
 use Rattle.xa_record.specs.Spelling.{spelled}
 use Rattle.xa_record.specs.declared.record.Record.{Record}
 use Rattle.xa_log.specs.Answers.{HasCause}
@@ -29,17 +29,18 @@ use Rattle.xa_manager.specs.declared.doubt.Doubt.TheVariants as doubt
 use Rattle.xa_manager.specs.declared.manager.Manager.{Manager}
 use Rattle.xa_manager.specs.Answered.{as_appended, HasCalled}
 use Rattle.xa_manager.specs.LogStands.{Trusts}
-use Rattle.xa_manager.specs.Managed.{kept, ManagerStandsFor}
+use Rattle.xa_manager.specs.Managed.{kept, ManagerStandsFor, AnswersAs}
 use Rattle.xa_manager.specs.Stands.{TablesStandFor}
 
 -- what an append of a body leaves of the log, by the device's answer
-pub record HasAppended {D : Type 0} (honest : Type 0) (tears : List ℕ → ℕ → List ℕ → List ℕ → Type 0) (seen : D → List ℕ) (may_leave : D → List ℕ → Type 0) (failures : D → ℕ) (counts : D → Counts) (body : List ℕ) (a : Appending) (log log' : Log D) : Type 0 where
+pub record HasAppended {D : Type 0} (disks : Ghosts D) (body : List ℕ) (a : Appending) (log log' : Log D) : Type 0 where
   pub log_bytes : log'.log_bytes ≡ log.log_bytes
   pub other : (log'.other ≡ log.other) × (log'.on_first ≡ log.on_first)
   pub moves : Moves (as_appended a) (length body) log log'
-  pub pair : honest → (bodies stood : List (List ℕ)) → Pair tears seen may_leave bodies stood log → AppendsTo tears seen may_leave (as_appended a) bodies body stood log'
-  pub cause : HasCause (as_appended a) (failures log.disk) (failures log'.disk)
-  pub calls : AppendCalls (as_appended a) (counts log.disk) (counts log'.disk)
+  pub pair : disks.honest → (bodies stood : List (List ℕ)) → Pair disks bodies stood log
+      → AppendsTo disks (as_appended a) bodies body stood log'
+  pub cause : HasCause (as_appended a) (disks.failures log.disk) (disks.failures log'.disk)
+  pub calls : AppendCalls (as_appended a) (disks.counts log.disk) (disks.counts log'.disk)
 
 -- whether the manager is up afterwards, and what it keeps of a record that was lost behind the log's end
 abbrev pub up_after : Appending → Bool
@@ -53,8 +54,8 @@ doubt_after Refused end = None
 doubt_after Lost end = Some (doubt.Record end)
 
 -- A body was journaled: where the log is alive and has the room, so much was appended.
-pub record HasJournaled {D : Type 0} (honest : Type 0) (tears : List ℕ → ℕ → List ℕ → List ℕ → Type 0) (seen : D → List ℕ) (may_leave : D → List ℕ → Type 0) (failures : D → ℕ) (counts : D → Counts) (body : List ℕ) (a : Appending) (m m' : Manager D) : Type 0 where
-  pub appended : m.log.lost ≡ false → m.log.end + 40 + length body ≤ m.log.log_bytes → HasAppended honest tears seen may_leave failures counts body a m.log m'.log
+pub record HasJournaled {D : Type 0} (disks : Ghosts D) (body : List ℕ) (a : Appending) (m m' : Manager D) : Type 0 where
+  pub appended : m.log.lost ≡ false → m.log.end + 40 + length body ≤ m.log.log_bytes → HasAppended disks body a m.log m'.log
   pub up : m.up ≡ true → m'.up ≡ up_after a
   pub doubt : m'.doubt ≡ doubt_after a m.log.end
   pub tables : m'.tables ≡ m.tables
@@ -76,37 +77,40 @@ pub record TakesNow {D : Type 0} (m : Manager D) (a : Answer) (reply : Reply) (o
   pub tables : IsRecoverable a.after → TablesStandFor m'.up (kept m') a.after
 
 -- a record was appended
-pub record TakesAppending {D : Type 0} (honest : Type 0) (tears : List ℕ → ℕ → List ℕ → List ℕ → Type 0) (seen : D → List ℕ) (may_leave : D → List ℕ → Type 0) (failures : D → ℕ) (counts : D → Counts) (m : Manager D) (r : Record) (after : Appending → Answer) (reply : Reply) (outcome : Outcome) (m' : Manager D) : Type 0 where
+pub record TakesAppending {D : Type 0} (disks : Ghosts D) (m : Manager D) (r : Record) (after : Appending → Answer)
+    (reply : Reply) (outcome : Outcome) (m' : Manager D) : Type 0 where
   pub answer : Appending
   pub reply_is : (after answer).reply ≡ reply
   pub outcome_is : outcome ≡ Appended answer
-  pub log : HasAppended honest tears seen may_leave failures counts (spelled r) answer m.log m'.log
+  pub log : HasAppended disks (spelled r) answer m.log m'.log
   pub up : m'.up ≡ up_after answer
   pub doubt : m'.doubt ≡ doubt_after answer m.log.end
   pub tables : IsRecoverable (after answer).after → TablesStandFor m'.up (kept m') (after answer).after
 
-abbrev pub Takes : {D : Type 0} → Type 0 → (List ℕ → ℕ → List ℕ → List ℕ → Type 0) → (D → List ℕ) → (D → List ℕ → Type 0) → (D → ℕ) → (D → Counts) → Manager D → Turn → Reply → Outcome → Manager D → Type 0
-Takes honest tears seen may_leave failures counts m Nobody reply outcome m' = ⊥
-Takes honest tears seen may_leave failures counts m (Now a) reply outcome m' = TakesNow m a reply outcome m'
-Takes honest tears seen may_leave failures counts m (Appends r after) reply outcome m' = TakesAppending honest tears seen may_leave failures counts m r after reply outcome m'
-Takes honest tears seen may_leave failures counts m (Rereads failed found missing) reply outcome m' = ⊥
+abbrev pub Takes : {D : Type 0} → Ghosts D → Manager D → Turn → Reply → Outcome → Manager D → Type 0
+Takes disks m Nobody reply outcome m' = ⊥
+Takes disks m (Now a) reply outcome m' = TakesNow m a reply outcome m'
+Takes disks m (Appends r after) reply outcome m' = TakesAppending disks m r after reply outcome m'
+Takes disks m (Rereads failed found missing) reply outcome m' = ⊥
 
 -- Whichever state the manager stood for, it takes this turn of it, of a request whose limits hold. Its own outcome is set when the call ends.
-pub record TakesTurn {D : Type 0} (honest : Type 0) (tears : List ℕ → ℕ → List ℕ → List ℕ → Type 0) (seen : D → List ℕ) (may_leave : D → List ℕ → Type 0) (failures : D → ℕ) (counts : D → Counts) (m : Manager D) (act : State → Turn) (reply : Reply) (outcome : Outcome) (m' : Manager D) : Type 0 where
-  pub takes : (s : State) → ManagerStandsFor honest tears seen may_leave m s → m.up ≡ true → Takes honest tears seen may_leave failures counts m (act s) reply outcome m'
+pub record TakesTurn {D : Type 0} (disks : Ghosts D) (m : Manager D) (act : State → Turn) (reply : Reply)
+    (outcome : Outcome) (m' : Manager D) : Type 0 where
+  pub takes : (s : State) → ManagerStandsFor disks m s → m.up ≡ true → Takes disks m (act s) reply outcome m'
   pub served : is_memory reply.detail ≡ false
 
 -- What a call has done of an event, also while the manager is down: the answer is the step's with this outcome, and the manager
 -- stands for the step's new state. What a restart finds in its files is said under the premises on the type of disks.
-pub record HasDone {D : Type 0} (honest : Type 0) (tears : List ℕ → ℕ → List ℕ → List ℕ → Type 0) (seen : D → List ℕ) (may_leave : D → List ℕ → Type 0) (failures : D → ℕ) (counts : D → Counts) (m : Manager D) (event : Event) (reply : Reply) (outcome : Outcome) (m' : Manager D) : Type 0 where
-  pub steps : (s : State) → ManagerStandsFor honest tears seen may_leave m s → Trusts honest tears ⊎ (is_restart event ≡ false)
-      → IsSomeAnd (step s (Asked event) outcome) (λ a. (a.reply ≡ reply) × ManagerStandsFor honest tears seen may_leave m' a.after)
-  pub called : (s : State) → ManagerStandsFor honest tears seen may_leave m s → Trusts honest tears ⊎ (is_restart event ≡ false) → HasCalled honest tears failures counts outcome m.log m'.log
+pub record HasDone {D : Type 0} (disks : Ghosts D) (m : Manager D) (event : Event) (reply : Reply)
+    (outcome : Outcome) (m' : Manager D) : Type 0 where
+  pub steps : (s : State) → ManagerStandsFor disks m s → Trusts disks ⊎ (is_restart event ≡ false)
+      → AnswersAs disks (step s (Asked event) outcome) reply m'
+  pub called : (s : State) → ManagerStandsFor disks m s → Trusts disks ⊎ (is_restart event ≡ false) → HasCalled disks outcome m.log m'.log
   pub served : is_memory reply.detail ≡ false
 
 -- a restart, of whichever state the manager stood for, up or down
-pub record HasRestarted {D : Type 0} (honest : Type 0) (tears : List ℕ → ℕ → List ℕ → List ℕ → Type 0) (seen : D → List ℕ) (may_leave : D → List ℕ → Type 0) (failures : D → ℕ) (counts : D → Counts) (m : Manager D) (reply : Reply) (outcome : Outcome) (m' : Manager D) : Type 0 where
-  pub turn : Trusts honest tears → (s : State) → ManagerStandsFor honest tears seen may_leave m s
-      → IsSomeAnd (taken (restart_turn s) outcome) (λ a. (a.reply ≡ reply) × ManagerStandsFor honest tears seen may_leave m' a.after)
-  pub called : Trusts honest tears → (s : State) → ManagerStandsFor honest tears seen may_leave m s → HasCalled honest tears failures counts outcome m.log m'.log
+pub record HasRestarted {D : Type 0} (disks : Ghosts D) (m : Manager D) (reply : Reply) (outcome : Outcome) (m' : Manager D) : Type 0 where
+  pub turn : Trusts disks → (s : State) → ManagerStandsFor disks m s
+      → AnswersAs disks (taken (restart_turn s) outcome) reply m'
+  pub called : Trusts disks → (s : State) → ManagerStandsFor disks m s → HasCalled disks outcome m.log m'.log
   pub served : is_memory reply.detail ≡ false

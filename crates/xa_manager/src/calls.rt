@@ -21,7 +21,8 @@ use xa_frame::{Reply, Request};
 impl<D: Disk> Manager<D> {
     /// How a request of a session is refused before its row is looked at.
     fn refusal(&self, session: u64, request: &Request) -> Option<Reply>
-        ensures value { result ≡ early_refusal self.now.up self.now.tables.name (opened_at self.now.tables.sessions session) request.now }
+        ensures value { result ≡ early_refusal self.now.up self.now.tables.name
+            (opened_at self.now.tables.sessions session) request.now }
         ensures served { IfSome result (λ r. is_memory r.detail ≡ false) }
         ensures connected { result ≡ None → IsSome (opened_at self.now.tables.sessions session) }
         ensures counted { result ≡ None → has_wrong_count request.now ≡ false }
@@ -36,8 +37,9 @@ impl<D: Disk> Manager<D> {
     #[tactic(auto, using(crate::proofs::Calling::refused_done, crate::proofs::Calling::row_done, crate::proofs::Calling::restart_done, crate::proofs::Calling::takes_either, crate::proofs::Replying::now_bare, crate::proofs::Replying::now_fresh, crate::proofs::Replying::done_bare))]
     pub(crate) fn answer(&mut self, session: u64, request: Request) -> Result<Done, AllocError>
         requires { IsAsked request }
-        ensures ok { IfOk result (λ d. HasDone D.honest D.tears D.seen D.may_leave D.failures D.counts self.old (Event.Call session request) d.reply d.outcome self.new) }
-        ensures err { OnErr result (StaysFor D.honest D.tears D.seen D.may_leave self.old self.new) }
+        ensures ok { IfOk result
+            (λ d. HasDone D.Disk self.old (Event.Call session request) d.reply d.outcome self.new) }
+        ensures err { OnErr result (StaysFor D.Disk self.old self.new) }
         ensures outcome { self.new.outcome ≡ self.old.outcome }
         ensures room { may_want request ≡ false → IsOk result }
         ensures company { connected_to self.new ≡ connected_to self.old }
@@ -63,8 +65,9 @@ impl<D: Disk> Manager<D> {
         requires counted { has_wrong_count request ≡ false }
         requires up { self.old.up ≡ true }
         requires connected { IsSome (opened_at self.old.tables.sessions session) }
-        ensures ok { IfOk result (λ d. TakesTurn D.honest D.tears D.seen D.may_leave D.failures D.counts self.old (λ s. row s session request) d.reply d.outcome self.new) }
-        ensures err { OnErr result (StaysFor D.honest D.tears D.seen D.may_leave self.old self.new) }
+        ensures ok { IfOk result
+            (λ d. TakesTurn D.Disk self.old (λ s. row s session request) d.reply d.outcome self.new) }
+        ensures err { OnErr result (StaysFor D.Disk self.old self.new) }
         ensures outcome { self.new.outcome ≡ self.old.outcome }
         ensures room { may_want request ≡ false → IsOk result }
         ensures company { connected_to self.new ≡ connected_to self.old }

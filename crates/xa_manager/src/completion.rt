@@ -31,8 +31,9 @@ impl<D: Disk> Manager<D> {
     pub(crate) fn prepare(&mut self, xid: &Xid) -> Result<Done, AllocError>
         requires up { self.old.up ≡ true }
         requires name { IsWithinLimits xid.now }
-        ensures ok { IfOk result (λ d. TakesTurn D.honest D.tears D.seen D.may_leave D.failures D.counts self.old (λ s. prepare_turn s xid.now) d.reply d.outcome self.new) }
-        ensures err { OnErr result (StaysFor D.honest D.tears D.seen D.may_leave self.old self.new) }
+        ensures ok { IfOk result
+            (λ d. TakesTurn D.Disk self.old (λ s. prepare_turn s xid.now) d.reply d.outcome self.new) }
+        ensures err { OnErr result (StaysFor D.Disk self.old self.new) }
         ensures outcome { self.new.outcome ≡ self.old.outcome }
         ensures company { connected_to self.new ≡ connected_to self.old }
         ensures bare { IfOk result (λ d. IsBare d.reply) }
@@ -69,9 +70,10 @@ impl<D: Disk> Manager<D> {
     pub(crate) fn commit(&mut self, flags: u32, xid: &Xid) -> Result<Done, AllocError>
         requires up { self.old.up ≡ true }
         requires name { IsWithinLimits xid.now }
-        ensures ok { IfOk result (λ d. TakesTurn D.honest D.tears D.seen D.may_leave D.failures D.counts self.old (λ s. commit_turn s flags xid.now) d.reply d.outcome self.new) }
+        ensures ok { IfOk result
+            (λ d. TakesTurn D.Disk self.old (λ s. commit_turn s flags xid.now) d.reply d.outcome self.new) }
         ensures room { has flags TMONEPHASE ≡ false → IsOk result }
-        ensures err { OnErr result (StaysFor D.honest D.tears D.seen D.may_leave self.old self.new) }
+        ensures err { OnErr result (StaysFor D.Disk self.old self.new) }
         ensures outcome { self.new.outcome ≡ self.old.outcome }
         ensures company { connected_to self.new ≡ connected_to self.old }
         ensures bare { IfOk result (λ d. IsBare d.reply) }
@@ -88,8 +90,9 @@ impl<D: Disk> Manager<D> {
     fn commit_one_phase(&mut self, xid: &Xid) -> Result<Done, AllocError>
         requires up { self.old.up ≡ true }
         requires name { IsWithinLimits xid.now }
-        ensures ok { IfOk result (λ d. TakesTurn D.honest D.tears D.seen D.may_leave D.failures D.counts self.old (λ s. commit_one_phase_turn s xid.now) d.reply d.outcome self.new) }
-        ensures err { OnErr result (StaysFor D.honest D.tears D.seen D.may_leave self.old self.new) }
+        ensures ok { IfOk result
+            (λ d. TakesTurn D.Disk self.old (λ s. commit_one_phase_turn s xid.now) d.reply d.outcome self.new) }
+        ensures err { OnErr result (StaysFor D.Disk self.old self.new) }
         ensures outcome { self.new.outcome ≡ self.old.outcome }
         ensures company { connected_to self.new ≡ connected_to self.old }
         ensures bare { IfOk result (λ d. IsBare d.reply) }
@@ -125,7 +128,8 @@ impl<D: Disk> Manager<D> {
     /// Takes no memory.
     fn commit_two_phase(&mut self, xid: &Xid) -> Done
         requires name { IsWithinLimits xid.now }
-        ensures turn { TakesTurn D.honest D.tears D.seen D.may_leave D.failures D.counts self.old (λ s. commit_two_phase_turn s xid.now) result.reply result.outcome self.new }
+        ensures turn { TakesTurn D.Disk self.old
+            (λ s. commit_two_phase_turn s xid.now) result.reply result.outcome self.new }
         ensures outcome { self.new.outcome ≡ self.old.outcome }
         ensures company { connected_to self.new ≡ connected_to self.old }
         ensures bare { IsBare result.reply }
@@ -147,7 +151,7 @@ impl<D: Disk> Manager<D> {
     /// Of a branch at work nothing is logged. Takes no memory.
     pub(crate) fn rollback(&mut self, xid: &Xid) -> Done
         requires name { IsWithinLimits xid.now }
-        ensures turn { TakesTurn D.honest D.tears D.seen D.may_leave D.failures D.counts self.old (λ s. rollback_turn s xid.now) result.reply result.outcome self.new }
+        ensures turn { TakesTurn D.Disk self.old (λ s. rollback_turn s xid.now) result.reply result.outcome self.new }
         ensures outcome { self.new.outcome ≡ self.old.outcome }
         ensures company { connected_to self.new ≡ connected_to self.old }
         ensures bare { IsBare result.reply }

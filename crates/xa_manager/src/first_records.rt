@@ -18,7 +18,8 @@ const COMPLETED_ROOM: u64 = 171;
 
 /// The room that a log keeps for so many prepared branches and completed XIDs. None where it is over 2^64 - 1 bytes.
 fn kept_room(prepared: u64, completed: u64) -> Option<u64>
-    ensures { result ≡ (if nat_lt (343 * prepared + 171 * completed) (2 ^ 64) then Some (343 * prepared + 171 * completed) else None) }
+    ensures { result ≡ (if nat_lt (343 * prepared + 171 * completed) (2 ^ 64)
+        then Some (343 * prepared + 171 * completed) else None) }
 {
     let kept = prepared.checked_mul(PREPARED_ROOM)?;
     kept.checked_add(completed.checked_mul(COMPLETED_ROOM)?)
@@ -57,9 +58,11 @@ pub(crate) fn begins_with_room(
 pub(crate) fn log_first<D: Disk>(log: &mut Log<D>, is_empty: bool, bodies: &[Vec<u8>]) -> Appended
     requires some { 1 ≤ length bodies.now }
     requires sizes { AllByRecursion IsBody (bodies_of bodies.now) }
-    ensures kept { D.honest → result ≡ Appended.Kept → (old : List (List ℕ)) → (is_empty ≡ true → old ≡ []) → generation old < generation (bodies_of bodies.now)
-        → HasBodies D.tears D.seen D.may_leave old log.old → HasBodies D.tears D.seen D.may_leave (bodies_of bodies.now) log.new }
-    ensures full { D.honest → result ≡ Appended.Full → (old : List (List ℕ)) → (is_empty ≡ true → old ≡ []) → HasBodies D.tears D.seen D.may_leave old log.old
+    ensures kept { D.honest → result ≡ Appended.Kept → (old : List (List ℕ)) → (is_empty ≡ true → old ≡ [])
+        → generation old < generation (bodies_of bodies.now)
+        → HasBodies D.Disk old log.old → HasBodies D.Disk (bodies_of bodies.now) log.new }
+    ensures full { D.honest → result ≡ Appended.Full → (old : List (List ℕ)) → (is_empty ≡ true → old ≡ [])
+        → HasBodies D.Disk old log.old
         → log.old.log_bytes < length (text newest (bodies_of bodies.now)) + 4 }
     ensures settings { log.new.log_bytes ≡ log.old.log_bytes }
 {

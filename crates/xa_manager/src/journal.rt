@@ -31,7 +31,8 @@ impl Tables {
     /// How many bytes of the log are kept free, with so many more prepared branches: for what completes and forgets each
     /// prepared branch, and for what forgets each that the operator completed.
     pub fn kept_room(&self, more: u64) -> u64
-        ensures { (s : State) → StandsFor (kept_of self.now) s → more ≤ 1 → result ≡ 343 * (prepared_count s + more) + 171 * length s.decided }
+        ensures { (s : State) → StandsFor (kept_of self.now) s → more ≤ 1
+            → result ≡ 343 * (prepared_count s + more) + 171 * length s.decided }
     {
         let prepared = (self.branches.prepared() as u64).saturating_add(more);
         let completed = self.branches.completed() as u64;
@@ -45,7 +46,7 @@ impl<D: Disk> Manager<D> {
     /// Whether the log has room for a record with a body of so many bytes, with so many more prepared branches, beside what it
     /// keeps free. No log takes a body over 524,288 bytes.
     pub(crate) fn has_room(&self, len: usize, more: u64) -> bool
-        ensures room { (s : State) → ManagerStandsFor D.honest D.tears D.seen D.may_leave self.now s → self.now.up ≡ true → len ≤ 524288 → more ≤ 1
+        ensures room { (s : State) → ManagerStandsFor D.Disk self.now s → self.now.up ≡ true → len ≤ 524288 → more ≤ 1
             → result ≡ log_room s.log_bytes (s.end + (len + 36)) (prepared_count s + more) (length s.decided) }
         ensures fits { result ≡ true → len ≤ 524288 }
     {
@@ -59,7 +60,7 @@ impl<D: Disk> Manager<D> {
     /// Appends a record's body. Where it is lost the manager is down until it is restarted. Takes no memory.
     pub(crate) fn journal(&mut self, body: &[u8]) -> Appending
         requires { IsBody body.now }
-        ensures { HasJournaled D.honest D.tears D.seen D.may_leave D.failures D.counts body.now result self.old self.new }
+        ensures { HasJournaled D.Disk body.now result self.old self.new }
     {
         let end = self.log.end();
         match self.log.append(body) {
@@ -82,7 +83,7 @@ impl<D: Disk> Manager<D> {
     /// Appends a record without writes.
     pub(crate) fn journal_small(&mut self, record: &Record) -> Appending
         requires { IsSmall «record».now }
-        ensures { HasJournaled D.honest D.tears D.seen D.may_leave D.failures D.counts (spelled «record».now) result self.old self.new }
+        ensures { HasJournaled D.Disk (spelled «record».now) result self.old self.new }
     {
         let mut body: ArrayVec<u8, 136> = ArrayVec::new();
         write_small(record, &mut body);

@@ -7,17 +7,17 @@ use xa_disk::{Disk, MemDisk};
 
 /// What a read gives of a log's two files is a log of the records of the state that it stands behind.
 pub fn read_leaves<D: Disk>()
-    ensures { ReadLeaves D.honest D.tears D.seen D.may_leave }
+    ensures { ReadLeaves D.Disk }
 {}
 
 /// So it is of a manager's log, for each state that the manager stands for.
 pub fn read_stands<D: Disk>()
-    ensures { ReadStands D.honest D.tears D.seen D.may_leave }
+    ensures { ReadStands D.Disk }
 {}
 
 /// So is what a crash leaves of the two files, where nothing is left to chance.
 pub fn crash_leaves<D: Disk>()
-    ensures { CrashLeaves D.tears D.seen D.may_leave }
+    ensures { CrashLeaves D.Disk }
 {}
 
 /// The records of such files come to what lasts of the state: where the fate of a record is unknown, with it or without it.
@@ -28,7 +28,7 @@ pub fn files_last()
 
 /// Disks in memory meet the premises on a type of disks.
 pub fn memory_is_trusted()
-    ensures { Trusts (⟦<MemDisk as Disk>⟧.honest) (⟦<MemDisk as Disk>⟧.tears) }
+    ensures { Trusts ⟦<MemDisk as Disk>⟧ }
 {}
 
 /// Whatever state a legal history of an opening state leads to: its committed branches are one copy, and each branch that was
@@ -39,10 +39,10 @@ pub fn reached_promises()
 
 /// So it is behind each connect, call and hang-up of a manager that stood for such a state.
 pub fn one_promises<D: Disk>()
-    ensures { OnePromises D.honest D.tears D.seen D.may_leave D.failures D.counts }
+    ensures { OnePromises D.Disk }
 {}
 
 /// A manager that was opened begins with such a state.
 pub fn begun_is_reached<D: Disk>()
-    ensures { BegunIsReached D.honest D.tears D.seen D.may_leave }
+    ensures { BegunIsReached D.Disk }
 {}

@@ -41,7 +41,7 @@ impl<D: Disk> Manager<D> {
     /// Connects a session, whose number is the least from 1 that is free. `Full` comes where 1,024 are connected, `Memory`
     /// where there was no memory; neither changes what the manager stands for.
     pub fn connect(&mut self) -> Result<u64, ConnectFault>
-        ensures answered { FullyAnswered D.honest D.tears D.seen D.may_leave D.failures D.counts self.old Event.Connect (connect_reply result) self.new }
+        ensures answered { FullyAnswered D.Disk self.old Event.Connect (connect_reply result) self.new }
         ensures came { IfOk result (λ n. Gains (connected_to self.old) n (connected_to self.new)) }
         ensures same { OnErr result (connected_to self.new ≡ connected_to self.old) }
         ensures limits { IsReply (connect_reply result) }
@@ -65,7 +65,7 @@ impl<D: Disk> Manager<D> {
     #[tactic(auto, using(crate::proofs::Replying::bare_fresh))]
     pub fn call(&mut self, session: u64, request: Request) -> Reply
         requires { IsAsked request }
-        ensures answered { FullyAnswered D.honest D.tears D.seen D.may_leave D.failures D.counts self.old (Event.Call session request) result self.new }
+        ensures answered { FullyAnswered D.Disk self.old (Event.Call session request) result self.new }
         ensures connected { connected_to self.new ≡ connected_to self.old }
         ensures place { result.place ≡ 0 }
         ensures limits { IsReply result }
@@ -85,7 +85,7 @@ impl<D: Disk> Manager<D> {
     /// Hangs a session up: each association of its own ends, and the branch is marked XA_RBCOMMFAIL unless it is marked.
     /// The session's number is free again. Of a session that isn't connected nothing changes. Takes no memory.
     pub fn hangup(&mut self, session: u64)
-        ensures answered { FullyAnswered D.honest D.tears D.seen D.may_leave D.failures D.counts self.old (Event.Hangup session) (plain (pos 0)) self.new }
+        ensures answered { FullyAnswered D.Disk self.old (Event.Hangup session) (plain (pos 0)) self.new }
         ensures gone { Loses (connected_to self.old) session (connected_to self.new) }
     {
         self.tables.hangup(session);
@@ -137,7 +137,7 @@ impl<D: Disk> Manager<D> {
 
     /// Gives the records the low water, once a request is answered. Connects and hang-ups leave the low water as it is.
     fn give_low_water(&mut self)
-        ensures stays { StaysFor D.honest D.tears D.seen D.may_leave self.old self.new }
+        ensures stays { StaysFor D.Disk self.old self.new }
         ensures log { self.new.log ≡ self.old.log }
         ensures outcome { self.new.outcome ≡ self.old.outcome }
         ensures company { connected_to self.new ≡ connected_to self.old }
@@ -148,7 +148,7 @@ impl<D: Disk> Manager<D> {
     /// One event, with the reply that stands for it.
     fn happen(&mut self, event: Event) -> Reply
         requires { IsEvent event }
-        ensures { FullyAnswered D.honest D.tears D.seen D.may_leave D.failures D.counts self.old event result self.new }
+        ensures { FullyAnswered D.Disk self.old event result self.new }
     {
         match event {
             Event::Connect => match self.connect() {
@@ -172,12 +172,12 @@ impl<D: Disk> Manager<D> {
     /// detail Memory. A hang-up answers 0. Room for the replies is made first, and its want changes nothing.
     pub fn drive(&mut self, events: Vec<Event>) -> Result<Vec<Reply>, AllocError>
         requires { AreEvents events.items }
-        ensures history { IfOk result (λ replies. AnswersAll D.honest D.tears D.seen D.may_leave self.old events.items replies.items self.new) }
-        ensures promises { IfOk result (λ replies. PromisesAll D.honest D.tears D.seen D.may_leave self.old events.items replies.items self.new) }
+        ensures history { IfOk result (λ replies. AnswersAll D.Disk self.old events.items replies.items self.new) }
+        ensures promises { IfOk result (λ replies. PromisesAll D.Disk self.old events.items replies.items self.new) }
         // The outcomes of that history tell of no more failures than the disks counted.
-        ensures counted { IfOk result (λ replies. CountsAll D.honest D.tears D.seen D.may_leave D.failures self.old events.items replies.items self.new) }
+        ensures counted { IfOk result (λ replies. CountsAll D.Disk self.old events.items replies.items self.new) }
         ensures pinned { IfOk result (λ replies. ArePinned events.items replies.items) }
-        ensures err { OnErr result (StaysFor D.honest D.tears D.seen D.may_leave self.old self.new) }
+        ensures err { OnErr result (StaysFor D.Disk self.old self.new) }
     {
         let mut replies = Vec::with_capacity(self.tables.alloc, events.len())?;
         for event in events {

@@ -45,12 +45,19 @@ impl<D: Disk + Drop> Manager<D> {
         settings: Settings,
     ) -> Result<Manager<D>, ManagerFault>
         ensures setting { IsErrOf result ManagerFault.Setting ↔ IsBadSetting settings.name settings.log_bytes }
-        ensures begun { D.honest → NoStray (D.seen first) (D.seen second) → IfOk result (HasBegun D.honest D.tears D.seen D.may_leave (logged_pair (D.seen first) (D.seen second)) settings.name settings.log_bytes) }
+        ensures begun { D.honest → NoStray (D.seen first) (D.seen second)
+            → IfOk result (HasBegun D.Disk (logged_pair (D.seen first) (D.seen second))
+            settings.name settings.log_bytes) }
         // On empty disks it is a new manager; on files that stand for a state it stands for that state's opening.
-        ensures fresh { Trusts D.honest D.tears → D.seen first ≡ [] → D.seen second ≡ [] → IfOk result (λ m. ManagerStandsFor D.honest D.tears D.seen D.may_leave m (fresh settings.name settings.log_bytes)) }
-        ensures reopens { Trusts D.honest D.tears → (s : State) → IsRecoverable s → FilesStandFor settings.log_bytes (D.seen first) (D.seen second) s
-            → IfOk result (λ m. (survived : Bool) × IsSomeAnd (step s (Reopened settings.name settings.log_bytes) (Reread survived (Some Kept))) (λ a. ManagerStandsFor D.honest D.tears D.seen D.may_leave m a.after)) }
-        ensures refused { D.honest → IfErr result (λ e. OpenRefused e settings.name settings.log_bytes (D.seen first) (D.seen second)) }
+        ensures fresh { Trusts D.Disk → D.seen first ≡ [] → D.seen second ≡ []
+            → IfOk result (λ m. ManagerStandsFor D.Disk m (fresh settings.name settings.log_bytes)) }
+        ensures reopens { Trusts D.Disk → (s : State) → IsRecoverable s
+            → FilesStandFor settings.log_bytes (D.seen first) (D.seen second) s
+            → IfOk result (λ m. (survived : Bool)
+            × IsSomeAnd (step s (Reopened settings.name settings.log_bytes) (Reread survived (Some Kept)))
+            (λ a. ManagerStandsFor D.Disk m a.after)) }
+        ensures refused { D.honest
+            → IfErr result (λ e. OpenRefused e settings.name settings.log_bytes (D.seen first) (D.seen second)) }
     {
         let Settings { name, log_bytes } = settings;
         if name.as_slice().len() > MOST_NAME || log_bytes < LEAST_LOG || log_bytes > MOST_LOG {
@@ -71,8 +78,8 @@ fn begin<D: Disk + Drop>(
     name: Bytes,
     log_bytes: u64,
 ) -> Result<Manager<D>, ManagerFault>
-    ensures begun { D.honest → HasBodies D.tears D.seen D.may_leave (bodies_of bodies.now) log → log.log_bytes ≡ log_bytes
-        → IfOk result (HasBegun D.honest D.tears D.seen D.may_leave (bodies_of bodies.now) name log_bytes) }
+    ensures begun { D.honest → HasBodies D.Disk (bodies_of bodies.now) log → log.log_bytes ≡ log_bytes
+        → IfOk result (HasBegun D.Disk (bodies_of bodies.now) name log_bytes) }
     ensures refused { IfErr result (λ e. BootRefused e (bodies_of bodies.now) log_bytes) }
 {
     let Planned { durable, next } = plan(alloc, bodies)?;
@@ -119,8 +126,11 @@ pub(crate) fn open_log<D: Disk + Drop>(
     log_bytes: u64,
 ) -> Result<(Log<D>, Vec<Vec<u8>>), OpenFault>
     ensures logged { D.honest → IfOk result (λ r. logged_pair (D.seen first) (D.seen second) ≡ bodies_of r.1.items) }
-    ensures log { D.honest → IfOk result (λ r. NoStray (D.seen first) (D.seen second) → HasBodies D.tears D.seen D.may_leave (bodies_of r.1.items) r.0) }
-    ensures whole { D.honest → OnOk result (((D.seen first ≡ []) × (D.seen second ≡ [])) ⊎ (pair_fault log_bytes (D.seen first) (D.seen second) ≡ None)) }
+    ensures log { D.honest
+        → IfOk result (λ r. NoStray (D.seen first) (D.seen second) → HasBodies D.Disk (bodies_of r.1.items) r.0) }
+    ensures whole { D.honest
+        → OnOk result (((D.seen first ≡ []) × (D.seen second ≡ []))
+        ⊎ (pair_fault log_bytes (D.seen first) (D.seen second) ≡ None)) }
     ensures settings { IfOk result (λ r. r.0.log_bytes ≡ log_bytes) }
     ensures refused { D.honest → IfErr result (λ e. LogRefused e log_bytes (D.seen first) (D.seen second)) }
 {

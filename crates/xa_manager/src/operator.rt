@@ -16,7 +16,8 @@ use xa_xid::Xid;
 impl<D: Disk> Manager<D> {
     pub(crate) fn decide(&mut self, direction: Direction, xid: &Xid) -> Done
         requires name { IsWithinLimits xid.now }
-        ensures turn { TakesTurn D.honest D.tears D.seen D.may_leave D.failures D.counts self.old (λ s. decide_turn s direction xid.now) result.reply result.outcome self.new }
+        ensures turn { TakesTurn D.Disk self.old
+            (λ s. decide_turn s direction xid.now) result.reply result.outcome self.new }
         ensures outcome { self.new.outcome ≡ self.old.outcome }
         ensures company { connected_to self.new ≡ connected_to self.old }
         ensures bare { IsBare result.reply }
@@ -32,7 +33,7 @@ impl<D: Disk> Manager<D> {
 
     pub(crate) fn forget(&mut self, xid: &Xid) -> Done
         requires name { IsWithinLimits xid.now }
-        ensures turn { TakesTurn D.honest D.tears D.seen D.may_leave D.failures D.counts self.old (λ s. forget_turn s xid.now) result.reply result.outcome self.new }
+        ensures turn { TakesTurn D.Disk self.old (λ s. forget_turn s xid.now) result.reply result.outcome self.new }
         ensures outcome { self.new.outcome ≡ self.old.outcome }
         ensures company { connected_to self.new ≡ connected_to self.old }
         ensures bare { IsBare result.reply }

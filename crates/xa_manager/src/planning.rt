@@ -14,7 +14,7 @@ impl Manager<MemDisk> {
     pub fn fail(&mut self, k: u64, effect: Effect) -> Result<(), AllocError>
         ensures planned { Plans result k effect self.old.log.disk self.new.log.disk }
         ensures other { self.new.log.other ≡ self.old.log.other }
-        ensures stays { StaysFor (⟦<MemDisk as Disk>⟧.honest) (⟦<MemDisk as Disk>⟧.tears) (⟦<MemDisk as Disk>⟧.seen) (⟦<MemDisk as Disk>⟧.may_leave) self.old self.new }
+        ensures stays { StaysFor ⟦<MemDisk as Disk>⟧ self.old self.new }
         ensures outcome { self.new.outcome ≡ self.old.outcome }
     {
         self.log.fail(k, effect)
@@ -24,7 +24,7 @@ impl Manager<MemDisk> {
     pub fn fail_other(&mut self, k: u64, effect: Effect) -> Result<(), AllocError>
         ensures planned { Plans result k effect self.old.log.other self.new.log.other }
         ensures current { self.new.log.disk ≡ self.old.log.disk }
-        ensures stays { StaysFor (⟦<MemDisk as Disk>⟧.honest) (⟦<MemDisk as Disk>⟧.tears) (⟦<MemDisk as Disk>⟧.seen) (⟦<MemDisk as Disk>⟧.may_leave) self.old self.new }
+        ensures stays { StaysFor ⟦<MemDisk as Disk>⟧ self.old self.new }
         ensures outcome { self.new.outcome ≡ self.old.outcome }
     {
         self.log.fail_other(k, effect)

@@ -1,4 +1,4 @@
-ghost use Rattle.std.specs.Prelude.{◌≡◌, ◌⊎◌, ◌≤◌, ◌+◌, ℕ, List, length, nat_lt, true, false, None, Some, Ok, IfOk, IfErr, OnOk, OnErr, IsSomeAnd, MatchBool};
+ghost use Rattle.std.specs.Prelude.{◌≡◌, ◌⊎◌, ◌≤◌, ◌+◌, ℕ, List, length, nat_lt, true, false, None, Some, Ok, IfOk, IfErr, OnOk, OnErr, MatchBool};
 ghost use Rattle.std.specs.List.{AllByRecursion};
 ghost use Rattle.xa_assoc.specs.Refusals.{is_memory, IsBare};
 ghost use Rattle.xa_codes.specs.declared.codes.TheConstants.{XAER_RMFAIL};
@@ -19,7 +19,7 @@ ghost use Rattle.xa_model.specs.Turn.{taken};
 ghost use Rattle.xa_recovery.specs.Log.{LogRebuilt};
 ghost use Rattle.xa_manager.specs.Answered.{StaysFor, HasCalled, NoneRises};
 ghost use Rattle.xa_manager.specs.LogStands.{Trusts, HasRecords};
-ghost use Rattle.xa_manager.specs.Managed.{ManagerStandsFor, Doubts};
+ghost use Rattle.xa_manager.specs.Managed.{ManagerStandsFor, AnswersAs, Doubts};
 ghost use Rattle.xa_manager.specs.Turns.{HasRestarted};
 ghost use Rattle.xa_manager.specs.Rereading.{IsFate, Found, IsNext, IsReady};
 ghost use Rattle.xa_manager.specs.Connected.{connected_to};
@@ -41,12 +41,20 @@ use xa_recovery::LogFault;
 impl<D: Disk> Manager<D> {
     /// Reads the log again. Whatever the manager stood for it still stands for, unless it was up and the log isn't what it was.
     fn look(&mut self) -> Result<Vec<Vec<u8>>, OpenFault>
-        ensures err { OnErr result (StaysFor D.honest D.tears D.seen D.may_leave self.old self.new) }
-        ensures stays { OnOk result ((self.old.up ≡ true → self.new.log.end ≡ self.old.log.end) → StaysFor D.honest D.tears D.seen D.may_leave self.old self.new) }
-        ensures ends { Trusts D.honest D.tears → OnOk result ((s : State) → ManagerStandsFor D.honest D.tears D.seen D.may_leave self.old s → self.old.up ≡ true → self.new.log.end ≡ self.old.log.end) }
-        ensures found { Trusts D.honest D.tears → IfOk result (λ v. (s : State) → ManagerStandsFor D.honest D.tears D.seen D.may_leave self.old s → Found D.tears D.seen D.may_leave (bodies_of v.items) self.new.log s) }
-        ensures readable { Trusts D.honest D.tears → IfErr result (λ e. (s : State) → ManagerStandsFor D.honest D.tears D.seen D.may_leave self.old s → (e ≡ OpenFault.Device) ⊎ (e ≡ OpenFault.Memory)) }
-        ensures count { CountsDeviceOf result (D.failures (first_of self.old.log)) (D.failures (first_of self.new.log)) (D.failures (second_of self.old.log)) (D.failures (second_of self.new.log)) }
+        ensures err { OnErr result (StaysFor D.Disk self.old self.new) }
+        ensures stays { OnOk result ((self.old.up ≡ true → self.new.log.end ≡ self.old.log.end)
+            → StaysFor D.Disk self.old self.new) }
+        ensures ends { Trusts D.Disk
+            → OnOk result ((s : State) → ManagerStandsFor D.Disk self.old s → self.old.up ≡ true
+            → self.new.log.end ≡ self.old.log.end) }
+        ensures found { Trusts D.Disk
+            → IfOk result (λ v. (s : State) → ManagerStandsFor D.Disk self.old s
+            → Found D.Disk (bodies_of v.items) self.new.log s) }
+        ensures readable { Trusts D.Disk
+            → IfErr result (λ e. (s : State) → ManagerStandsFor D.Disk self.old s
+            → (e ≡ OpenFault.Device) ⊎ (e ≡ OpenFault.Memory)) }
+        ensures count { CountsDeviceOf D.failures result (first_of self.old.log) (first_of self.new.log)
+            (second_of self.old.log) (second_of self.new.log) }
         ensures alive { OnOk result (self.new.log.lost ≡ false) }
         ensures tables { self.new.tables ≡ self.old.tables }
         ensures up { self.new.up ≡ self.old.up }
@@ -58,7 +66,8 @@ impl<D: Disk> Manager<D> {
 
     /// Whether the record that was lost stands in the log that was read again, which came to this boot.
     fn has_survived(&self, boot: u32) -> bool
-        ensures { (s : State) (bodies : List (List ℕ)) (f : Found D.tears D.seen D.may_leave bodies self.now.log s) → Doubts self.now.doubt s → IsRecoverable s → boot ≡ f.state.logged_boot → IsFate result s f.state }
+        ensures { (s : State) (bodies : List (List ℕ)) (f : Found D.Disk bodies self.now.log s)
+            → Doubts self.now.doubt s → IsRecoverable s → boot ≡ f.state.logged_boot → IsFate result s f.state }
     {
         match self.doubt {
             None => false,
@@ -89,11 +98,14 @@ impl<D: Disk> Manager<D> {
         requires some { 1 ≤ length next.bodies.items }
         requires sizes { AllByRecursion IsBody (bodies_of next.bodies.items) }
         requires short { IsWithin 1024 next.records }
-        ensures turn { (s t : State) (rs : List Record) → ManagerStandsFor D.honest D.tears D.seen D.may_leave self.old s → Trusts D.honest D.tears → IsFate survived s t → Backs rs t
-            → HasRecords D.tears D.seen D.may_leave rs self.old.log → self.old.log.lost ≡ false → nat_lt t.logged_boot most_boots ≡ true → next.boot ≡ t.logged_boot + 1 → IsReady (durable t) (t.logged_boot + 1) next
-            → IsSomeAnd (taken (restart_turn s) result.outcome) (λ a. (a.reply ≡ result.reply) × ManagerStandsFor D.honest D.tears D.seen D.may_leave self.new a.after) }
+        ensures turn { (s t : State) (rs : List Record) → ManagerStandsFor D.Disk self.old s → Trusts D.Disk
+            → IsFate survived s t → Backs rs t → HasRecords D.Disk rs self.old.log
+            → self.old.log.lost ≡ false → nat_lt t.logged_boot most_boots ≡ true
+            → next.boot ≡ t.logged_boot + 1 → IsReady (durable t) (t.logged_boot + 1) next
+            → AnswersAs D.Disk (taken (restart_turn s) result.outcome) result.reply self.new }
         ensures outcome { self.new.outcome ≡ self.old.outcome }
-        ensures called { self.old.log.lost ≡ false → (log : Log D) → NoneRises D.failures log self.old.log → HasCalled D.honest D.tears D.failures D.counts result.outcome log self.new.log }
+        ensures called { self.old.log.lost ≡ false → (log : Log D) → NoneRises D.failures log self.old.log
+            → HasCalled D.Disk result.outcome log self.new.log }
         ensures served { is_memory result.reply.detail ≡ false }
         ensures company { connected_to self.new ≡ connected_to self.old }
         ensures bare { IsBare result.reply }
@@ -132,11 +144,12 @@ impl<D: Disk> Manager<D> {
     /// A new boot begins with what the log came to.
     fn begin(&mut self, planned: Planned) -> Done
         requires { IsNext planned.durable planned.next }
-        ensures turn { (s : State) (bodies : List (List ℕ)) → ManagerStandsFor D.honest D.tears D.seen D.may_leave self.old s → Trusts D.honest D.tears
-            → Found D.tears D.seen D.may_leave bodies self.old.log s → LogRebuilt bodies (Ok planned.durable)
-            → IsSomeAnd (taken (restart_turn s) result.outcome) (λ a. (a.reply ≡ result.reply) × ManagerStandsFor D.honest D.tears D.seen D.may_leave self.new a.after) }
+        ensures turn { (s : State) (bodies : List (List ℕ)) → ManagerStandsFor D.Disk self.old s → Trusts D.Disk
+            → Found D.Disk bodies self.old.log s → LogRebuilt bodies (Ok planned.durable)
+            → AnswersAs D.Disk (taken (restart_turn s) result.outcome) result.reply self.new }
         ensures outcome { self.new.outcome ≡ self.old.outcome }
-        ensures called { self.old.log.lost ≡ false → (log : Log D) → NoneRises D.failures log self.old.log → HasCalled D.honest D.tears D.failures D.counts result.outcome log self.new.log }
+        ensures called { self.old.log.lost ≡ false → (log : Log D) → NoneRises D.failures log self.old.log
+            → HasCalled D.Disk result.outcome log self.new.log }
         ensures served { is_memory result.reply.detail ≡ false }
         ensures company { connected_to self.new ≡ connected_to self.old }
         ensures bare { IsBare result.reply }
@@ -180,8 +193,8 @@ impl<D: Disk> Manager<D> {
 
     /// The row of the request Restart.
     pub(crate) fn asked_restart(&mut self) -> Result<Done, AllocError>
-        ensures turn { IfOk result (λ d. HasRestarted D.honest D.tears D.seen D.may_leave D.failures D.counts self.old d.reply d.outcome self.new) }
-        ensures err { OnErr result (StaysFor D.honest D.tears D.seen D.may_leave self.old self.new) }
+        ensures turn { IfOk result (λ d. HasRestarted D.Disk self.old d.reply d.outcome self.new) }
+        ensures err { OnErr result (StaysFor D.Disk self.old self.new) }
         ensures outcome { self.new.outcome ≡ self.old.outcome }
         ensures company { connected_to self.new ≡ connected_to self.old }
         ensures bare { IfOk result (λ d. IsBare d.reply) }
@@ -192,11 +205,11 @@ impl<D: Disk> Manager<D> {
 
     /// As `restart`, where want of memory is an error.
     pub(crate) fn restarted(&mut self) -> Result<Done, AllocError>
-        ensures turn { IfOk result (λ d. (s : State) → ManagerStandsFor D.honest D.tears D.seen D.may_leave self.old s → Trusts D.honest D.tears
-            → IsSomeAnd (taken (restart_turn s) d.outcome) (λ a. (a.reply ≡ d.reply) × ManagerStandsFor D.honest D.tears D.seen D.may_leave self.new a.after)) }
-        ensures err { OnErr result (StaysFor D.honest D.tears D.seen D.may_leave self.old self.new) }
+        ensures turn { IfOk result (λ d. (s : State) → ManagerStandsFor D.Disk self.old s → Trusts D.Disk
+            → AnswersAs D.Disk (taken (restart_turn s) d.outcome) d.reply self.new) }
+        ensures err { OnErr result (StaysFor D.Disk self.old self.new) }
         ensures outcome { self.new.outcome ≡ self.old.outcome }
-        ensures called { IfOk result (λ d. HasCalled D.honest D.tears D.failures D.counts d.outcome self.old.log self.new.log) }
+        ensures called { IfOk result (λ d. HasCalled D.Disk d.outcome self.old.log self.new.log) }
         ensures served { IfOk result (λ d. is_memory d.reply.detail ≡ false) }
         ensures company { connected_to self.new ≡ connected_to self.old }
         ensures bare { IfOk result (λ d. IsBare d.reply) }
@@ -227,11 +240,12 @@ impl<D: Disk> Manager<D> {
     /// lasts of it. Sessions stay connected, and opened as they were; branches at work, associations, scans and read marks are
     /// gone. Where it fails the manager is down. Want of memory changes nothing.
     pub fn restart(&mut self) -> Reply
-        ensures answered { MatchBool (is_memory result.detail) (StaysFor D.honest D.tears D.seen D.may_leave self.old self.new × (self.new.outcome ≡ self.old.outcome))
-            ((s : State) → ManagerStandsFor D.honest D.tears D.seen D.may_leave self.old s → Trusts D.honest D.tears
-            → IsSomeAnd (taken (restart_turn s) self.new.outcome) (λ a. (a.reply ≡ result) × ManagerStandsFor D.honest D.tears D.seen D.may_leave self.new a.after)) }
+        ensures answered { MatchBool (is_memory result.detail)
+            (StaysFor D.Disk self.old self.new × (self.new.outcome ≡ self.old.outcome))
+            ((s : State) → ManagerStandsFor D.Disk self.old s → Trusts D.Disk
+            → AnswersAs D.Disk (taken (restart_turn s) self.new.outcome) result self.new) }
         ensures pinned { is_memory result.detail ≡ true → result ≡ detailed XAER_RMFAIL Detail.Memory }
-        ensures called { is_memory result.detail ≡ false → HasCalled D.honest D.tears D.failures D.counts self.new.outcome self.old.log self.new.log }
+        ensures called { is_memory result.detail ≡ false → HasCalled D.Disk self.new.outcome self.old.log self.new.log }
         ensures connected { connected_to self.new ≡ connected_to self.old }
         ensures place { result.place ≡ 0 }
         ensures limits { IsReply result }

@@ -26,11 +26,10 @@ use Rattle.xa_script.specs.Lines as lines
 use Rattle.xa_script.specs.Parts.{parts, parts_behind}
 use Rattle.xa_script.specs.Replies as replies
 use Rattle.xa_script.specs.Requests.{ReadsTexts}
-use Rattle.xa_play.specs.Disks.{StandsFor, Answered, Stays, Planned, FilesStand, MemoryIsTrusted, first_seen, second_seen, seen}
+use Rattle.xa_play.specs.Disks.{StandsFor, Answered, Stays, Planned, FilesStand, MemoryIsTrusted, first_seen, second_seen}
 use Rattle.xa_manager.specs.Files.{FilesStandFor}
 use Rattle.xa_manager.specs.Answered.{StepsAs}
-use Rattle.xa_disk.specs.Disk.{AllOrNone}
-use Rattle.xa_disk.specs.Memory.{image_of}
+use Rattle.xa_disk.specs.contracts.memory.MemDiskDisk.TheImpl.{ghosts as mem_disks}
 use Rattle.std.specs.Prelude.{⊤, pos}
 use Rattle.std.specs.declared.alloc.AllocError.{AllocError}
 use Rattle.xa_model.specs.declared.outcome.Outcome.{Outcome}
@@ -77,7 +76,7 @@ follows m' reply None h = absurd h
 follows m' reply (Some a) h = (a.after, ap (λ (r : Reply). Some (record { reply = r; after = a.after })) h.0, h.1)
 
 answers_by : (trusted : MemoryIsTrusted) (n : ℕ) (m m' : Manager MemDisk) (asked : Event) (reply : Reply) (run : Run) (b : Bool) →
-    MatchBool b (Stays m m' × (m'.outcome ≡ m.outcome)) (StepsAs ⊤ AllOrNone seen image_of m asked reply m') →
+    MatchBool b (Stays m m' × (m'.outcome ≡ m.outcome)) (StepsAs mem_disks m asked reply m') →
     (b ≡ true → (may_want_memory asked ≡ true) × (reply ≡ wanted_memory asked)) → IsEvent asked → StandsAs [] n m run →
     Said run asked reply b (StandsAs [] n m')
 answers_by trusted n m m' asked reply run true h wanted event stands =

@@ -1,8 +1,8 @@
 -- What is known of a manager whose log stands on two disks in memory.
-use Rattle.std.specs.Prelude.{ℕ, ◌≡◌, ⊤, Bool, Some, List, IsSomeAnd, Result}
+use Rattle.std.specs.Prelude.{ℕ, ◌≡◌, Bool, Some, List, IsSomeAnd, Result}
 use Rattle.std.specs.declared.alloc.AllocError.{AllocError}
-use Rattle.xa_disk.specs.Disk.{AllOrNone}
 use Rattle.xa_disk.specs.Memory.{image_of}
+use Rattle.xa_disk.specs.contracts.memory.MemDiskDisk.TheImpl.{ghosts as mem_disks}
 use Rattle.xa_disk.specs.declared.memory.MemDisk.{MemDisk}
 use Rattle.xa_frame.specs.declared.reply.Reply.{Reply}
 use Rattle.xa_disk.specs.declared.plan.Effect.{Effect}
@@ -33,16 +33,16 @@ seen disk = disk.bytes.items
 
 -- the premises that a manager's contracts have on its disks
 abbrev pub MemoryIsTrusted : Type 0
-MemoryIsTrusted = Trusts ⊤ AllOrNone
+MemoryIsTrusted = Trusts mem_disks
 
 abbrev pub StandsFor : Manager MemDisk → State → Type 0
-StandsFor m s = ManagerStandsFor ⊤ AllOrNone seen image_of m s
+StandsFor m s = ManagerStandsFor mem_disks m s
 
 abbrev pub Answered : Manager MemDisk → Event → Reply → Manager MemDisk → Type 0
-Answered m event reply m' = FullyAnswered ⊤ AllOrNone seen image_of (λ disk. disk.failures) (λ disk. disk.counts) m event reply m'
+Answered m event reply m' = FullyAnswered mem_disks m event reply m'
 
 abbrev pub Stays : Manager MemDisk → Manager MemDisk → Type 0
-Stays m m' = StaysFor ⊤ AllOrNone seen image_of m m'
+Stays m m' = StaysFor mem_disks m m'
 
 -- what a script's line calls lost and kept
 abbrev pub as_effect : CallEffect → Effect
@@ -77,6 +77,6 @@ OpenedOn name log_bytes first second m =
 -- these are what a crash may leave of the two files of a log that stands behind the state
 pub record CrashLeaves (s : State) (first second : List ℕ) : Type 0 where
   pub log : Log MemDisk
-  pub stands : LogStandsFor AllOrNone seen image_of log s
+  pub stands : LogStandsFor mem_disks log s
   pub first_left : image_of (first_of log) first
   pub second_left : image_of (second_of log) second

@@ -13,13 +13,13 @@ impl<D: Disk> Manages for Manager<D> {
     ghost use Rattle.xa_manager.specs.LogStands.{Trusts};
     ghost use Rattle.xa_manager.specs.Managed.{ManagerStandsFor};
 
-    ghost stands = { ManagerStandsFor D.honest D.tears D.seen D.may_leave };
+    ghost stands = { ManagerStandsFor D.Disk };
 
-    ghost trusts = { Trusts D.honest D.tears };
+    ghost trusts = { Trusts D.Disk };
 
     ghost told = { λ m. m.outcome };
 
-    ghost has_called = { λ outcome old new. HasCalled D.honest D.tears D.failures D.counts outcome old.log new.log };
+    ghost has_called = { λ outcome old new. HasCalled D.Disk outcome old.log new.log };
 
     ghost failures = { λ m. counted_by D.failures m.log };
 

@@ -20,7 +20,7 @@ returns-in-Err-clause-answer g c h most stood room other =
 
 pub returns-in-Err-clause-any_moment : goal.returns-in-Err-clause-any_moment
 returns-in-Err-clause-any_moment g c h most stood room other =
-    first_part g.D.Disk.moment g.D.Disk.left_since most c.args.format stood (bodies_of c.args.bodies.now) c.args.disk.now c.put_front.new.disk c.put_front.new.disk
+    first_part g.D.Disk most c.args.format stood (bodies_of c.args.bodies.now) c.args.disk.now c.put_front.new.disk c.put_front.new.disk
     (c.put_front.ensures.any_moment h most stood (omega arith) other)
 
 pub returns-in-Err-clause-calls : goal.returns-in-Err-clause-calls
@@ -32,7 +32,7 @@ returns-in-Err-put_records-clause-any_moment g c h most stood room other =
     let twelve : 12 ≤ most = omega arith in
     let first : LeavesNone most c.args.format (g.D.Disk.seen c.put_front.new.disk) =
     opened_none c.args.format most (g.D.Disk.seen c.args.disk.now) (g.D.Disk.seen c.put_front.new.disk) twelve other.fits (c.in-Ok.ensures.made h) in
-    second_part g.D.Disk.moment g.D.Disk.left_since most c.args.format stood (bodies_of c.args.bodies.now) c.args.disk.now c.put_front.new.disk c.put_records.new.disk
+    second_part g.D.Disk most c.args.format stood (bodies_of c.args.bodies.now) c.args.disk.now c.put_front.new.disk c.put_records.new.disk
     (c.put_front.ensures.any_moment h most stood (omega arith) other) (c.put_records.ensures.any_moment h most room first (c.in-Ok.ensures.durable h))
 
 pub returns-in-Err-put_records-clause-answer : goal.returns-in-Err-put_records-clause-answer
@@ -41,7 +41,7 @@ returns-in-Err-put_records-clause-answer g c h most stood room other =
     let first : LeavesNone most c.args.format (g.D.Disk.seen c.put_front.new.disk) =
     opened_none c.args.format most (g.D.Disk.seen c.args.disk.now) (g.D.Disk.seen c.put_front.new.disk) twelve other.fits (c.in-Ok.ensures.made h) in
     let n = length (records (start c.args.format) (bodies_of c.args.bodies.now)) in
-    inr (others_none c.args.format g.D.Disk.seen g.D.Disk.may_leave most c.put_records.new.disk
+    inr (others_none c.args.format g.D.Disk most c.put_records.new.disk
     (none_torn c.args.format most n (g.D.Disk.seen c.put_front.new.disk) (g.D.Disk.seen c.put_records.new.disk) room first (c.put_records.ensures.torn h))
     (λ x left. let y = (c.put_records.ensures.time h).follows x left in
     none_torn c.args.format most n y.0 x room (subst (λ f. LeavesNone most c.args.format f) (sym (c.in-Ok.ensures.durable h y.0 y.1)) first) y.2))
@@ -69,8 +69,8 @@ returns-in-Ok-put_records-clause-any_moment g c h most stood room other =
     let same : c.len.result ≡ first_length (bodies_of c.args.bodies.now) =
     size ∙ sym (first_len c.args.bodies.now c.index-bodies-0.result c.requires.some c.index-bodies-0.is) in
     let durable : Only done (g.D.Disk.may_leave c.put_records.new.disk) = c.in-Ok-put_records.ensures.durable h in
-    third_part g.D.Disk.moment g.D.Disk.left_since most c.args.format stood (bodies_of c.args.bodies.now) c.args.disk.now c.put_records.new.disk c.put_seal-outcome.new.disk
-    (second_part g.D.Disk.moment g.D.Disk.left_since most c.args.format stood (bodies_of c.args.bodies.now) c.args.disk.now c.put_front.new.disk c.put_records.new.disk
+    third_part g.D.Disk most c.args.format stood (bodies_of c.args.bodies.now) c.args.disk.now c.put_records.new.disk c.put_seal-outcome.new.disk
+    (second_part g.D.Disk most c.args.format stood (bodies_of c.args.bodies.now) c.args.disk.now c.put_front.new.disk c.put_records.new.disk
     (c.put_front.ensures.any_moment h most stood (omega arith) other) (c.put_records.ensures.any_moment h most room first (c.in-Ok.ensures.durable h)))
     (c.put_seal-outcome.ensures.any_moment h most c.args.format (bodies_of c.args.bodies.now) ready same second.fits durable)
 
@@ -94,7 +94,7 @@ returns-in-Ok-put_records-clause-answer g c h most stood room other =
     size ∙ sym (first_len c.args.bodies.now c.index-bodies-0.result c.requires.some c.index-bodies-0.is) in
     let durable : Only done (g.D.Disk.may_leave c.put_records.new.disk) = c.in-Ok-put_records.ensures.durable h in
     let new = c.put_seal-outcome.new.disk in
-    sealed c.args.format g.D.Disk.tears g.D.Disk.seen g.D.Disk.may_leave most stood bodies c.args.disk.now c.put_records.new.disk new ready second.fits durable
+    sealed c.args.format g.D.Disk most stood bodies c.args.disk.now c.put_records.new.disk new ready second.fits durable
     c.put_seal-outcome.result c.put_seal-outcome.ensures.not_full
     (subst (λ n. Went g.D.Disk.tears c.put_seal-outcome.result 8 (to_be_bytes w32 n) done (g.D.Disk.seen new) (g.D.Disk.may_leave new)) same (c.put_seal-outcome.ensures.went h))
     (c.put_seal-outcome.ensures.time h).follows

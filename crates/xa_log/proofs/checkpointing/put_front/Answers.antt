@@ -1,5 +1,6 @@
 use Rattle.std.proofs.Common.{◌≡◌, List, ℕ, length, subst, ap, ◌∙◌}
-use Rattle.xa_disk.specs.Disk.{put, Torn, Passes}
+use Rattle.xa_disk.specs.Disk.{put, Torn}
+use Rattle.xa_disk.specs.Time.{TimePasses}
 use Rattle.xa_log.specs.Chain.{opening}
 use Rattle.xa_log.specs.Answers.{Fell}
 use Rattle.xa_log.proofs.Torn.{torn_same}
@@ -19,7 +20,7 @@ returns-clause-stays g c h most stood room other =
     let n : length c.as_slice.result.now ≡ 12 =
     ap (λ (l : List ℕ). length l) (c.as_slice.ensures ∙ c.opening.ensures) ∙ length-opening c.args.format in
     map_err _ _ c.put_synced.result
-    (λ torn. other_torn g.D.Disk.seen g.D.Disk.may_leave most stood c.args.disk.now c.put_synced.new.disk room other
+    (λ torn. other_torn g.D.Disk most stood c.args.disk.now c.put_synced.new.disk room other
     (subst (λ k. Torn 0 k (g.D.Disk.seen c.args.disk.now) (g.D.Disk.seen c.put_synced.new.disk)) n torn)
     (λ x left. let y = (c.put_synced.ensures.time h).follows x left in (y.0, y.1, subst (λ k. Torn 0 k y.0 x) n y.2)))
     (c.put_synced.ensures.failed h)
@@ -37,7 +38,7 @@ returns-clause-any_moment g c h most stood room other =
     let new = c.put_synced.new.disk in
     let n : length c.as_slice.result.now ≡ 12 =
     ap (λ (l : List ℕ). length l) (c.as_slice.ensures ∙ c.opening.ensures) ∙ length-opening c.args.format in
-    leaves_by g.D.Disk.moment g.D.Disk.left_since g.D.Disk.may_leave old new (Torn 0 12) _ (g.met.D.Disk.only_now old) (torn_same 0 12)
-    (front_leaves g.D.Disk.seen g.D.Disk.may_leave most stood old room other)
-    (subst (λ k. Passes (Torn 0 k) (g.D.Disk.moment old) (g.D.Disk.moment new) (g.D.Disk.left_since old) (g.D.Disk.left_since new) (g.D.Disk.may_leave old) (g.D.Disk.may_leave new)) n
+    leaves_by g.D.Disk old new (Torn 0 12) _ (g.met.D.Disk.only_now old) (torn_same 0 12)
+    (front_leaves g.D.Disk most stood old room other)
+    (subst (λ k. TimePasses g.D.Disk (Torn 0 k) old new) n
     (c.put_synced.ensures.time h))

@@ -233,22 +233,22 @@ returns-clause-time g c h =
 pub returns-in_err-digest-clause-any_moment : goal.returns-in_err-digest-clause-any_moment
 returns-in_err-digest-clause-any_moment g c h =
     let old = c.args.disk.now in
-    during c.args.format g.D.Disk.moment g.D.Disk.left_since g.D.Disk.may_leave g.D.Disk.seen old _ _ (g.met.D.Disk.only_now old) (returns-in_err-digest-clause-time g c h)
+    during c.args.format g.D.Disk old _ _ (g.met.D.Disk.only_now old) (returns-in_err-digest-clause-time g c h)
 
 pub returns-in_err-digest-2-clause-any_moment : goal.returns-in_err-digest-2-clause-any_moment
 returns-in_err-digest-2-clause-any_moment g c h =
     let old = c.args.disk.now in
-    during c.args.format g.D.Disk.moment g.D.Disk.left_since g.D.Disk.may_leave g.D.Disk.seen old _ _ (g.met.D.Disk.only_now old) (returns-in_err-digest-2-clause-time g c h)
+    during c.args.format g.D.Disk old _ _ (g.met.D.Disk.only_now old) (returns-in_err-digest-2-clause-time g c h)
 
 pub returns-in_err-sync-clause-any_moment : goal.returns-in_err-sync-clause-any_moment
 returns-in_err-sync-clause-any_moment g c h =
     let old = c.args.disk.now in
-    during c.args.format g.D.Disk.moment g.D.Disk.left_since g.D.Disk.may_leave g.D.Disk.seen old _ _ (g.met.D.Disk.only_now old) (returns-in_err-sync-clause-time g c h)
+    during c.args.format g.D.Disk old _ _ (g.met.D.Disk.only_now old) (returns-in_err-sync-clause-time g c h)
 
 pub returns-clause-any_moment : goal.returns-clause-any_moment
 returns-clause-any_moment g c h =
     let old = c.args.disk.now in
-    during c.args.format g.D.Disk.moment g.D.Disk.left_since g.D.Disk.may_leave g.D.Disk.seen old _ _ (g.met.D.Disk.only_now old) (returns-clause-time g c h)
+    during c.args.format g.D.Disk old _ _ (g.met.D.Disk.only_now old) (returns-clause-time g c h)
 
 pub returns-in_err-digest-clause-calls : goal.returns-in_err-digest-clause-calls
 returns-in_err-digest-clause-calls g c =

@@ -2,4 +2,4 @@ use Rattle.xa_log.proofs.Opens.{opened_law}
 use Rattle.xa_log.proofs.laws.opened_is_pair.Goals as goal
 
 pub returns : goal.returns
-returns g c = opened_law g.D.Disk.tears g.D.Disk.seen g.D.Disk.may_leave
+returns g c = opened_law g.D.Disk

@@ -2,4 +2,4 @@ use Rattle.xa_manager.proofs.Promised as promised
 use Rattle.xa_manager.proofs.laws.begun_is_reached.Goals as goal
 
 pub returns : goal.returns
-returns g c = promised.begun_is_reached g.D.Disk.honest g.D.Disk.tears g.D.Disk.seen g.D.Disk.may_leave
+returns g c = promised.begun_is_reached g.D.Disk

@@ -2,4 +2,4 @@ use Rattle.xa_manager.proofs.CrashFiles as files
 use Rattle.xa_manager.proofs.laws.crash_leaves.Goals as goal
 
 pub returns : goal.returns
-returns g c = files.crash_leaves g.D.Disk.tears g.D.Disk.seen g.D.Disk.may_leave
+returns g c = files.crash_leaves g.D.Disk

@@ -2,4 +2,4 @@ use Rattle.xa_manager.proofs.PlannedLogs as managed
 use Rattle.xa_manager.proofs.laws.read_stands.Goals as goal
 
 pub returns : goal.returns
-returns g c = managed.read_stands g.D.Disk.honest g.D.Disk.tears g.D.Disk.seen g.D.Disk.may_leave
+returns g c = managed.read_stands g.D.Disk

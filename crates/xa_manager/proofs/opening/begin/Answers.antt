@@ -44,8 +44,8 @@ returns-clause-begun g c = λ h has sized.
       comes = plan.comes;
       boots = plan.boots;
       room = room;
-      stands = new_stands g.D.Disk.honest g.D.Disk.tears g.D.Disk.seen g.D.Disk.may_leave _ d (d.boot + 1) c.args.name c.args.log_bytes
+      stands = new_stands g.D.Disk _ d (d.boot + 1) c.args.name c.args.log_bytes
           refl refl refl refl (c.log_first.ensures.settings ∙ sized) c.new.ensures plan.ready.branches plan.ready.records
-          (subst (λ (l : List (List ℕ)). HasBodies g.D.Disk.tears g.D.Disk.seen g.D.Disk.may_leave l c.log_first.new.log) (first_bodies _ d c.in-Some.next xs plan c.deref-2.ensures.value) kept)
+          (subst (λ (l : List (List ℕ)). HasBodies g.D.Disk l c.log_first.new.log) (first_bodies _ d c.in-Some.next xs plan c.deref-2.ensures.value) kept)
           plan.limits plan.form (omega arith) room;
     }

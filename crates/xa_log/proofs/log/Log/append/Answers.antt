@@ -5,31 +5,31 @@ use Rattle.xa_log.proofs.log.Log.append.Goals as goal
 
 pub returns-then-self-len-clause-any_moment : goal.returns-then-self-len-clause-any_moment
 returns-then-self-len-clause-any_moment g c h bodies s =
-    no_moments _ _ bodies _ c.args.self.now s _ _ (g.met.D.Disk.only_now c.args.self.now.disk) c.requires c.args.self.now.within
+    no_moments _ bodies _ c.args.self.now s (g.met.D.Disk.only_now c.args.self.now.disk) c.requires c.args.self.now.within
 
 pub returns-in-Kept-clause-any_moment : goal.returns-in-Kept-clause-any_moment
 returns-in-Kept-clause-any_moment g c h bodies s =
-    record_moments _ _ bodies _ c.args.self.now s _ _ (g.met.D.Disk.only_now c.args.self.now.disk) c.append_at-outcome.new.disk _ (length-closed_by _ _) c.requires (omega arith) (c.append_at-outcome.ensures.time h)
+    record_moments _ bodies _ c.args.self.now s (g.met.D.Disk.only_now c.args.self.now.disk) c.append_at-outcome.new.disk _ (length-closed_by _ _) c.requires (omega arith) (c.append_at-outcome.ensures.time h)
 
 pub returns-in-Refused-clause-any_moment : goal.returns-in-Refused-clause-any_moment
 returns-in-Refused-clause-any_moment g c h bodies s =
-    record_moments _ _ bodies _ c.args.self.now s _ _ (g.met.D.Disk.only_now c.args.self.now.disk) c.append_at-outcome.new.disk _ (length-closed_by _ _) c.requires (omega arith) (c.append_at-outcome.ensures.time h)
+    record_moments _ bodies _ c.args.self.now s (g.met.D.Disk.only_now c.args.self.now.disk) c.append_at-outcome.new.disk _ (length-closed_by _ _) c.requires (omega arith) (c.append_at-outcome.ensures.time h)
 
 pub returns-in-Lost-clause-any_moment : goal.returns-in-Lost-clause-any_moment
 returns-in-Lost-clause-any_moment g c h bodies s =
-    record_moments _ _ bodies _ c.args.self.now s _ _ (g.met.D.Disk.only_now c.args.self.now.disk) c.append_at-outcome.new.disk _ (length-closed_by _ _) c.requires (omega arith) (c.append_at-outcome.ensures.time h)
+    record_moments _ bodies _ c.args.self.now s (g.met.D.Disk.only_now c.args.self.now.disk) c.append_at-outcome.new.disk _ (length-closed_by _ _) c.requires (omega arith) (c.append_at-outcome.ensures.time h)
 
 pub returns-in-Kept-clause-answer : goal.returns-in-Kept-clause-answer
 returns-in-Kept-clause-answer g c h bodies s =
-    answers_kept _ _ _ bodies _ c.args.self.now _ s (omega arith, refl, refl) _ c.in-Kept.is c.requires (c.append_at-outcome.ensures.went h) refl c.append_at-outcome.ensures.digest refl
+    answers_kept _ bodies _ c.args.self.now _ s (omega arith, refl, refl) _ c.in-Kept.is c.requires (c.append_at-outcome.ensures.went h) refl c.append_at-outcome.ensures.digest refl
 
 pub returns-in-Refused-clause-answer : goal.returns-in-Refused-clause-answer
 returns-in-Refused-clause-answer g c h bodies s =
-    answers_refused _ _ _ bodies _ c.args.self.now _ s (omega arith, refl, refl) _ c.in-Refused.is c.append_at-outcome.ensures.not_full (c.append_at-outcome.ensures.went h) refl refl refl
+    answers_refused _ bodies _ c.args.self.now _ s (omega arith, refl, refl) _ c.in-Refused.is c.append_at-outcome.ensures.not_full (c.append_at-outcome.ensures.went h) refl refl refl
 
 pub returns-in-Lost-clause-answer : goal.returns-in-Lost-clause-answer
 returns-in-Lost-clause-answer g c h bodies s =
-    answers_lost _ _ _ bodies _ c.args.self.now _ s (omega arith, refl, refl) _ c.in-Lost.is c.requires (c.append_at-outcome.ensures.went h) refl (c.append_at-outcome.ensures.time h).follows
+    answers_lost _ bodies _ c.args.self.now _ s (omega arith, refl, refl) _ c.in-Lost.is c.requires (c.append_at-outcome.ensures.went h) refl (c.append_at-outcome.ensures.time h).follows
 
 pub returns-in-Kept-clause-kept : goal.returns-in-Kept-clause-kept
 returns-in-Kept-clause-kept g c alive fits low same = kept_if _ _ _ c.append_at-outcome.ensures.cause low same c.append_at-outcome.ensures.not_full
@@ -53,13 +53,13 @@ pub returns-then-self-len-clause-kept : goal.returns-then-self-len-clause-kept
 returns-then-self-len-clause-kept g c = search rules
 
 pub returns-in-Kept-clause-pair : goal.returns-in-Kept-clause-pair
-returns-in-Kept-clause-pair g c h bodies stood p = appends _ _ _ bodies stood c.args.self.now _ p _ _ (returns-in-Kept-clause-answer g c h bodies p.current) refl refl refl
+returns-in-Kept-clause-pair g c h bodies stood p = appends _ bodies stood c.args.self.now _ p _ _ (returns-in-Kept-clause-answer g c h bodies p.current) refl refl refl
 
 pub returns-in-Refused-clause-pair : goal.returns-in-Refused-clause-pair
-returns-in-Refused-clause-pair g c h bodies stood p = appends _ _ _ bodies stood c.args.self.now _ p _ _ (returns-in-Refused-clause-answer g c h bodies p.current) refl refl refl
+returns-in-Refused-clause-pair g c h bodies stood p = appends _ bodies stood c.args.self.now _ p _ _ (returns-in-Refused-clause-answer g c h bodies p.current) refl refl refl
 
 pub returns-in-Lost-clause-pair : goal.returns-in-Lost-clause-pair
-returns-in-Lost-clause-pair g c h bodies stood p = appends _ _ _ bodies stood c.args.self.now _ p _ _ (returns-in-Lost-clause-answer g c h bodies p.current) refl refl refl
+returns-in-Lost-clause-pair g c h bodies stood p = appends _ bodies stood c.args.self.now _ p _ _ (returns-in-Lost-clause-answer g c h bodies p.current) refl refl refl
 
 pub returns-in-Kept-clause-other : goal.returns-in-Kept-clause-other
 returns-in-Kept-clause-other g c = search rules

@@ -8,7 +8,7 @@ use Rattle.xa_log.proofs.log.Log.checkpoint.Goals as goal
 pub returns-in-None-clause-any_moment : goal.returns-in-None-clause-any_moment
 returns-in-None-clause-any_moment g c h old stood p =
     let log = c.args.self.now in
-    other_still _ _ g.D.Disk.may_leave old stood log log p g.D.Disk.moment g.D.Disk.left_since (g.met.D.Disk.only_now log.other) newest (bodies_of c.args.bodies.now)
+    other_still g.D.Disk old stood log log p (g.met.D.Disk.only_now log.other) newest (bodies_of c.args.bodies.now)
 
 pub returns-in-Kept-clause-any_moment : goal.returns-in-Kept-clause-any_moment
 returns-in-Kept-clause-any_moment g c h old stood p =
@@ -20,7 +20,7 @@ returns-in-Kept-clause-any_moment g c h old stood p =
     let end : c.in-Some.end ≡ length (text format (bodies_of c.args.bodies.now)) = c.in-Some.ensures.some.0 in
     let room : 12 + length (records (start format) (bodies_of c.args.bodies.now)) ≤ c.args.self.now.log_bytes =
     omega (arith, c.in-Some.ensures.some.0, c.in-Some.ensures.some.1, length-text format (bodies_of c.args.bodies.now)) in
-    moments_of g.D.Disk.moment g.D.Disk.left_since most format stood fresh old_log.other wrote.new.disk _ (wrote_kept _ _ wrote.new.disk c.in-Kept.is c.swap.ensures.x_after)
+    moments_of g.D.Disk most format stood fresh old_log.other wrote.new.disk _ (wrote_kept _ _ wrote.new.disk c.in-Kept.is c.swap.ensures.x_after)
     c.newest-format.ensures (wrote.ensures.any_moment h most stood room p.other)
 
 pub returns-in-Lost-clause-any_moment : goal.returns-in-Lost-clause-any_moment
@@ -33,7 +33,7 @@ returns-in-Lost-clause-any_moment g c h old stood p =
     let end : c.in-Some.end ≡ length (text format (bodies_of c.args.bodies.now)) = c.in-Some.ensures.some.0 in
     let room : 12 + length (records (start format) (bodies_of c.args.bodies.now)) ≤ c.args.self.now.log_bytes =
     omega (arith, c.in-Some.ensures.some.0, c.in-Some.ensures.some.1, length-text format (bodies_of c.args.bodies.now)) in
-    moments_of g.D.Disk.moment g.D.Disk.left_since most format stood fresh old_log.other wrote.new.disk _ (wrote_lost _ _ wrote.new.disk c.in-Lost.is refl)
+    moments_of g.D.Disk most format stood fresh old_log.other wrote.new.disk _ (wrote_lost _ _ wrote.new.disk c.in-Lost.is refl)
     c.newest-format.ensures (wrote.ensures.any_moment h most stood room p.other)
 
 pub returns-in-Refused-clause-any_moment : goal.returns-in-Refused-clause-any_moment
@@ -46,7 +46,7 @@ returns-in-Refused-clause-any_moment g c h old stood p =
     let end : c.in-Some.end ≡ length (text format (bodies_of c.args.bodies.now)) = c.in-Some.ensures.some.0 in
     let room : 12 + length (records (start format) (bodies_of c.args.bodies.now)) ≤ c.args.self.now.log_bytes =
     omega (arith, c.in-Some.ensures.some.0, c.in-Some.ensures.some.1, length-text format (bodies_of c.args.bodies.now)) in
-    moments_of g.D.Disk.moment g.D.Disk.left_since most format stood fresh old_log.other wrote.new.disk _ (wrote_refused _ _ wrote.new.disk c.in-Refused.is refl)
+    moments_of g.D.Disk most format stood fresh old_log.other wrote.new.disk _ (wrote_refused _ _ wrote.new.disk c.in-Refused.is refl)
     c.newest-format.ensures (wrote.ensures.any_moment h most stood room p.other)
 
 pub returns-in-Kept-clause-answer : goal.returns-in-Kept-clause-answer
@@ -59,7 +59,7 @@ returns-in-Kept-clause-answer g c h old stood p above =
     let end : c.in-Some.end ≡ length (text format (bodies_of c.args.bodies.now)) = c.in-Some.ensures.some.0 in
     let room : 12 + length (records (start format) (bodies_of c.args.bodies.now)) ≤ c.args.self.now.log_bytes =
     omega (arith, c.in-Some.ensures.some.0, c.in-Some.ensures.some.1, length-text format (bodies_of c.args.bodies.now)) in
-    kept_pair g.D.Disk.tears _ _ old stood old_log _ p format fresh above _ wrote.new.disk c.in-Kept.is
+    kept_pair g.D.Disk old stood old_log _ p format fresh above _ wrote.new.disk c.in-Kept.is
     (wrote.ensures.answer h most stood room p.other)
     c.swap.ensures.x_after c.swap.ensures.y_after refl refl end (wrote.ensures.digest c.in-Kept.is) refl
 
@@ -73,7 +73,7 @@ returns-in-Lost-clause-answer g c h old stood p above =
     let end : c.in-Some.end ≡ length (text format (bodies_of c.args.bodies.now)) = c.in-Some.ensures.some.0 in
     let room : 12 + length (records (start format) (bodies_of c.args.bodies.now)) ≤ c.args.self.now.log_bytes =
     omega (arith, c.in-Some.ensures.some.0, c.in-Some.ensures.some.1, length-text format (bodies_of c.args.bodies.now)) in
-    lost_pair g.D.Disk.tears _ _ old stood old_log _ p format fresh above _ c.in-Lost.is
+    lost_pair g.D.Disk old stood old_log _ p format fresh above _ c.in-Lost.is
     (wrote.ensures.answer h most stood room p.other)
     refl refl refl refl
 
@@ -87,7 +87,7 @@ returns-in-Refused-clause-answer g c h old stood p above =
     let end : c.in-Some.end ≡ length (text format (bodies_of c.args.bodies.now)) = c.in-Some.ensures.some.0 in
     let room : 12 + length (records (start format) (bodies_of c.args.bodies.now)) ≤ c.args.self.now.log_bytes =
     omega (arith, c.in-Some.ensures.some.0, c.in-Some.ensures.some.1, length-text format (bodies_of c.args.bodies.now)) in
-    refused_pair g.D.Disk.tears _ _ old stood old_log _ p format fresh _ c.in-Refused.is wrote.ensures.not_full
+    refused_pair g.D.Disk old stood old_log _ p format fresh _ c.in-Refused.is wrote.ensures.not_full
     (wrote.ensures.answer h most stood room p.other)
     refl refl refl refl refl refl refl
 

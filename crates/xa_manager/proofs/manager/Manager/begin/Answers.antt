@@ -46,7 +46,7 @@ returns-clause-turn g c =
     let number : c.args.planned.durable.boot ≡ f.state.logged_boot = ap (λ (d : Durable). d.boot) is in
     is_answer _ (answer (detailed XAER_RMFAIL detail.Limit) (down f.state)) _ (ap (λ (o : Outcome). taken (restart_turn s) o) c.stopped.ensures.told ∙ turn_stops c.has_survived-survived.result s f.state fate (subst (λ (n : ℕ). nat_lt n most_boots ≡ false) number used)) (
       sym c.stopped.ensures.reply,
-      down_stands g.D.Disk.honest g.D.Disk.tears g.D.Disk.seen g.D.Disk.may_leave c.args.self.now _ s f.state c.has_survived-survived.result f.records
+      down_stands g.D.Disk c.args.self.now _ s f.state c.has_survived-survived.result f.records
           (ap (λ m. m.tables) c.stopped.ensures.down) (ap (λ m. m.up) c.stopped.ensures.down) (ap (λ m. m.doubt) c.stopped.ensures.down) (ap (λ m. m.log.log_bytes) c.stopped.ensures.down) st fate f.backs
-          (subst (λ m. HasRecords g.D.Disk.tears g.D.Disk.seen g.D.Disk.may_leave f.records m.log) (sym c.stopped.ensures.down) f.has),
+          (subst (λ m. HasRecords g.D.Disk f.records m.log) (sym c.stopped.ensures.down) f.has),
     )

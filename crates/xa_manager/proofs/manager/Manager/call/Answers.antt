@@ -10,13 +10,13 @@ use Rattle.xa_manager.proofs.manager.Manager.call.Goals as goal
 
 pub returns-in-Ok-clause-answered : goal.returns-in-Ok-clause-answered
 returns-in-Ok-clause-answered g c =
-    done_answered _ _ _ _ _ _ c.args.self.now c.give_low_water.new.self (Call c.args.session c.args.request) c.in-Ok.done.reply c.in-Ok.done.outcome
-    (given_done _ _ _ _ _ _ c.args.self.now c.answer-answered.new.self c.give_low_water.new.self (Call c.args.session c.args.request) c.in-Ok.done.reply c.in-Ok.done.outcome c.in-Ok.ensures.ok
+    done_answered _ c.args.self.now c.give_low_water.new.self (Call c.args.session c.args.request) c.in-Ok.done.reply c.in-Ok.done.outcome
+    (given_done _ c.args.self.now c.answer-answered.new.self c.give_low_water.new.self (Call c.args.session c.args.request) c.in-Ok.done.reply c.in-Ok.done.outcome c.in-Ok.ensures.ok
     c.give_low_water.ensures.stays c.give_low_water.ensures.log)
 
 pub returns-in-Err-clause-answered : goal.returns-in-Err-clause-answered
 returns-in-Err-clause-answered g c =
-    wanted_answered _ _ _ _ _ _ c.args.self.now c.give_low_water.new.self c.args.session c.args.request c.detailed.result (c.detailed.ensures ∙ ap (λ (k : ℤ). detailed k detail.Memory) (ap (λ (k : ℤ). to_z w32 (of_z w32 k)) c.memory_code-code.ensures ∙ code_kept c.args.request)) (given_stays _ _ _ _ g.D.Disk.failures g.D.Disk.counts c.args.self.now c.answer-answered.new.self c.give_low_water.new.self c.in-Err.ensures.err c.give_low_water.ensures.stays)
+    wanted_answered _ c.args.self.now c.give_low_water.new.self c.args.session c.args.request c.detailed.result (c.detailed.ensures ∙ ap (λ (k : ℤ). detailed k detail.Memory) (ap (λ (k : ℤ). to_z w32 (of_z w32 k)) c.memory_code-code.ensures ∙ code_kept c.args.request)) (given_stays g.D.Disk c.args.self.now c.answer-answered.new.self c.give_low_water.new.self c.in-Err.ensures.err c.give_low_water.ensures.stays)
     (c.give_low_water.ensures.outcome ∙ c.answer-answered.ensures.outcome) (rw c.give_low_water.ensures.log c.in-Err.ensures.quiet)
     (wants c.answer-answered.result _ (may_want c.args.request) c.in-Err.is c.answer-answered.ensures.room)
 

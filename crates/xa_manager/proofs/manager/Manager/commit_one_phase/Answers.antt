@@ -27,7 +27,7 @@ returns-then-is_empty-clause-ok g c =
     let unmarked : c.mark_of.result ≡ None = search rules in
     let none : length c.in_ok-writes.writes.items ≡ 0 = grind (arith, nat_tests, c.is_empty.ensures, c.if-is_empty.true) in
     rw (c.now-then-is_empty.ensures, c.plain-then-is_empty.ensures)
-    (takes_now _ _ _ _ _ _ m m' (λ (s : State). commit_one_phase_turn s xid) _ _ refl refl refl refl refl
+    (takes_now _ m m' (λ (s : State). commit_one_phase_turn s xid) _ _ refl refl refl refl refl
     (λ s whole is_up st.
     let passes = sym free ∙ c.one_phase_refusal.ensures.value s st in
     let known = worked_known s xid passes in
@@ -58,7 +58,7 @@ returns-then-not-has_room-clause-ok g c =
     let size : c.len.result ≡ length c.in_ok-body.body.items = grind (arith, c.len.ensures, c.in_ok-body.body.ok.0) in
     let full : c.has_room.result ≡ false = search rules in
     rw (c.now-then-not-has_room.ensures, c.log_full.ensures.reply)
-    (takes_now _ _ _ _ _ _ m m' (λ (s : State). commit_one_phase_turn s xid) _ _ refl refl refl refl refl
+    (takes_now _ m m' (λ (s : State). commit_one_phase_turn s xid) _ _ refl refl refl refl refl
     (λ s whole is_up st.
     let r = logged.Committed xid (timestamp_in s xid) (writes_in s xid) in
     let h = has_committed (kept m) s xid t ws c.len.result c.in_ok-body.body.items c.has_room.result st told spells size (λ short few. c.has_room.ensures.room s whole is_up short few) in
@@ -92,9 +92,9 @@ returns-clause-ok g c =
     let fits : c.has_room.result ≡ true = search rules in
     let same : c.journal-answer.new.self.tables ≡ mid.tables = c.journal-answer.ensures.tables in
     rw c.appended.ensures
-    (takes_appending _ _ _ _ _ _ m mid mid' m' (λ (s : State). commit_one_phase_turn s xid) c.deref.result.now a _ _ (served_by XAER_RMERR a) refl refl refl c.journal-answer.ensures refl refl refl
+    (takes_appending _ m mid mid' m' (λ (s : State). commit_one_phase_turn s xid) c.deref.result.now a _ _ (served_by XAER_RMERR a) refl refl refl c.journal-answer.ensures refl refl refl
     (λ s whole is_up.
-    let st = tables_up _ _ _ _ m s is_up whole in
+    let st = tables_up _ m s is_up whole in
     let r = logged.Committed xid (timestamp_in s xid) (writes_in s xid) in
     let h = has_committed (kept m) s xid t ws c.len.result c.in_ok-body.body.items c.has_room.result st told spells size (λ short few. c.has_room.ensures.room s whole is_up short few) in
     let there : HasRecord s xid r 0 c.deref.result.now true =

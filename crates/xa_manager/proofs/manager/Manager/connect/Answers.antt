@@ -8,5 +8,5 @@ use Rattle.xa_manager.proofs.manager.Manager.connect.Goals as goal
 
 pub returns-in-Ok-clause-answered : goal.returns-in-Ok-clause-answered
 returns-in-Ok-clause-answered g c =
-    event_answered _ _ _ _ _ _ c.args.self.now (record c.args.self.now { tables = c.connect.new.self }) Connect (λ s. connect_by s) (connect_reply (Ok c.in-Ok.number)) tt refl (λ s. refl) refl refl refl
+    event_answered _ c.args.self.now (record c.args.self.now { tables = c.connect.new.self }) Connect (λ s. connect_by s) (connect_reply (Ok c.in-Ok.number)) tt refl (λ s. refl) refl refl refl
     (c.in-Ok.ensures.ok (λ q. cc q)) (c.in-Ok.ensures.down (λ q. cc q))

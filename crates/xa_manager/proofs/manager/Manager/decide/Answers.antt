@@ -27,9 +27,9 @@ returns-clause-turn g c =
     let body = spelled c.in-Ok.record in
     let same : c.journal_small-answer.new.self.tables ≡ m.tables = c.journal_small-answer.ensures.tables in
     rw c.appended.ensures
-    (takes_appending _ _ _ _ _ _ m m mid' m' (λ (s : State). decide_turn s c.args.direction xid) body a _ _ (served_by XAER_RMERR a) refl refl refl c.journal_small-answer.ensures refl refl refl
+    (takes_appending _ m m mid' m' (λ (s : State). decide_turn s c.args.direction xid) body a _ _ (served_by XAER_RMERR a) refl refl refl c.journal_small-answer.ensures refl refl refl
     (λ s whole is_up.
-    let st = tables_up _ _ _ _ m s is_up whole in
+    let st = tables_up _ m s is_up whole in
     let passes : None ≡ decide_refusal (known_as s xid) = c.in-Ok.ensures.refusal s st in
     let doubt : known_as s xid ≡ InDoubt = decided_doubtful s xid passes in
     let r = logged.Decided xid c.args.direction in

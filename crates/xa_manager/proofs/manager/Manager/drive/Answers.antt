@@ -19,12 +19,12 @@ happen-reply-requires g c = (subst AreEvents c.in-Some.ensures.steps.0 c.loop-ev
 pub loop-event-preserved : goal.loop-event-preserved
 loop-event-preserved g c = record {
   answered =
-      let more = answers_more g.D.Disk.honest g.D.Disk.tears g.D.Disk.seen g.D.Disk.may_leave c.args.self.now c.loop-event.self c.happen-reply.new.self
+      let more = answers_more g.D.Disk c.args.self.now c.loop-event.self c.happen-reply.new.self
       c.loop-event.yielded c.loop-event.replies.items c.in-Some.event c.happen-reply.result
       (pinned_each c.loop-event.yielded c.loop-event.replies.items c.loop-event.invariant.pinned) c.loop-event.invariant.answered c.happen-reply.ensures.answered in
       rw c.push_reserved.ensures.items more;
   counted =
-      let more = counts_more g.D.Disk.honest g.D.Disk.tears g.D.Disk.seen g.D.Disk.may_leave g.D.Disk.failures g.D.Disk.counts c.args.self.now c.loop-event.self c.happen-reply.new.self
+      let more = counts_more g.D.Disk c.args.self.now c.loop-event.self c.happen-reply.new.self
       c.loop-event.yielded c.loop-event.replies.items c.in-Some.event c.happen-reply.result
       (pinned_each c.loop-event.yielded c.loop-event.replies.items c.loop-event.invariant.pinned) c.loop-event.invariant.counted c.happen-reply.ensures in
       rw c.push_reserved.ensures.items more;
@@ -40,7 +40,7 @@ returns-clause-promises g c =
     let ended = YieldsList-end (YieldsList-from_vec c.args.events.items (cc) (cc)) c.loop-event.yielded c.loop-event.event-iterator c.loop-event.yielded_by
     c.next.result c.next.new.self c.in-None.is c.next.ensures.steps in
     let all : c.loop-event.yielded ≡ c.args.events.items = sym (map-id c.loop-event.yielded) ∙ ended.0 in
-    let history = subst (λ (events : List Event). AnswersAll g.D.Disk.honest g.D.Disk.tears g.D.Disk.seen g.D.Disk.may_leave c.args.self.now events c.loop-event.replies.items c.loop-event.self)
+    let history = subst (λ (events : List Event). AnswersAll g.D.Disk c.args.self.now events c.loop-event.replies.items c.loop-event.self)
     all c.loop-event.invariant.answered in
-    promises_all g.D.Disk.honest g.D.Disk.tears g.D.Disk.seen g.D.Disk.may_leave c.args.self.now c.loop-event.self c.args.events.items
+    promises_all g.D.Disk c.args.self.now c.loop-event.self c.args.events.items
     c.loop-event.replies.items c.requires history

@@ -6,8 +6,8 @@ use Rattle.xa_manager.proofs.manager.Manager.drive.Given as goal
 
 abbrev pub invariant-loop-event : goal.invariant-loop-event
 invariant-loop-event g l = record {
-  answered : AnswersAll g.D.Disk.honest g.D.Disk.tears g.D.Disk.seen g.D.Disk.may_leave l.fn.self l.yielded l.replies.items l.self;
-  counted : CountsAll g.D.Disk.honest g.D.Disk.tears g.D.Disk.seen g.D.Disk.may_leave g.D.Disk.failures l.fn.self l.yielded l.replies.items l.self;
+  answered : AnswersAll g.D.Disk l.fn.self l.yielded l.replies.items l.self;
+  counted : CountsAll g.D.Disk l.fn.self l.yielded l.replies.items l.self;
   pinned : ArePinned l.yielded l.replies.items;
   room : vec_len l.replies + l.event-iterator.rest.len ≤ vec_capacity l.replies;
   spelled : AreEvents l.event-iterator.rest.items;

@@ -26,9 +26,9 @@ returns-clause-turn g c =
     let body = spelled c.in-Ok.record in
     let same : c.journal_small-answer.new.self.tables ≡ m.tables = c.journal_small-answer.ensures.tables in
     rw c.appended.ensures
-    (takes_appending _ _ _ _ _ _ m m mid' m' (λ (s : State). forget_turn s xid) body a _ _ (served_by XAER_RMERR a) refl refl refl c.journal_small-answer.ensures refl refl refl
+    (takes_appending _ m m mid' m' (λ (s : State). forget_turn s xid) body a _ _ (served_by XAER_RMERR a) refl refl refl c.journal_small-answer.ensures refl refl refl
     (λ s whole is_up.
-    let st = tables_up _ _ _ _ m s is_up whole in
+    let st = tables_up _ m s is_up whole in
     let passes : None ≡ forget_refusal (known_as s xid) = c.in-Ok.ensures.refusal s st in
     let done = forgets_completed s xid passes in
     let r = logged.Forgotten xid in

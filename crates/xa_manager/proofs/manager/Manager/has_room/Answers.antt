@@ -6,7 +6,7 @@ use Rattle.xa_manager.proofs.manager.Manager.has_room.Goals as goal
 
 pub returns-clause-room : goal.returns-clause-room
 returns-clause-room g c = λ s st is_up short few.
-    let up = tables_up _ _ _ _ c.args.self.now s is_up st in
+    let up = tables_up _ c.args.self.now s is_up st in
     let kept_ = few_kept s up.recoverable.sound in
     let room = c.kept_room.ensures s up few in
     let bytes = up.log_bytes in

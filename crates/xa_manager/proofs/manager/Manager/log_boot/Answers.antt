@@ -25,12 +25,12 @@ returns-in-Kept-clause-turn g c =
     let below : t.logged_boot < most_boots = ltb-true t.logged_boot most_boots less in
     let above = subst (λ (b : List (List ℕ)). generation (map spelled rs) < generation b) (sym bodies) (newer rs (durable t) backs.lasts below) in
     let went = c.checkpoint.ensures.answer trusts.disk (map spelled rs) has.0 has.1 above in
-    let kept = subst (λ (a : Appended). Checkpoints g.D.Disk.tears g.D.Disk.seen g.D.Disk.may_leave a (map spelled rs) has.0 (bodies_of c.deref.result.now) c.checkpoint.new.self) c.in-Kept.is went in
+    let kept = subst (λ (a : Appended). Checkpoints g.D.Disk a (map spelled rs) has.0 (bodies_of c.deref.result.now) c.checkpoint.new.self) c.in-Kept.is went in
     let swaps = subst (λ (a : Appended). Swaps a (bodies_of c.deref.result.now) c.args.self.now.log c.checkpoint.new.self) c.in-Kept.is (c.checkpoint.ensures.swaps alive) in
-    let pair = subst (λ (b : List (List ℕ)). Pair g.D.Disk.tears g.D.Disk.seen g.D.Disk.may_leave b (map spelled rs) c.checkpoint.new.self) bodies kept.0 in
+    let pair = subst (λ (b : List (List ℕ)). Pair g.D.Disk b (map spelled rs) c.checkpoint.new.self) bodies kept.0 in
     is_answer _ (boot_became t (t.logged_boot + 1) Kept) _ (ap (λ (o : Outcome). taken (restart_turn s) o) c.begun.ensures.told ∙ turn_opens c.args.survived s t Kept fate less) (
       cc,
-      begun_stands g.D.Disk.honest g.D.Disk.tears g.D.Disk.seen g.D.Disk.may_leave c.args.self.now _ s t c.args.survived rs refl refl refl refl c.checkpoint.ensures.settings st fate backs less c.restart.ensures.any ready.branches ready.records
+      begun_stands g.D.Disk c.args.self.now _ s t c.args.survived rs refl refl refl refl c.checkpoint.ensures.settings st fate backs less c.restart.ensures.any ready.branches ready.records
           (pair.current.end ∙ text_size _ (snapshot (durable t) (t.logged_boot + 1))) pair.current.alive (map spelled rs, pair),
     )
 
@@ -41,9 +41,9 @@ returns-in-Refused-clause-turn g c =
     let below : t.logged_boot < most_boots = ltb-true t.logged_boot most_boots less in
     let above = subst (λ (b : List (List ℕ)). generation (map spelled rs) < generation b) (sym bodies) (newer rs (durable t) backs.lasts below) in
     let went = c.checkpoint.ensures.answer trusts.disk (map spelled rs) has.0 has.1 above in
-    let kept = subst (λ (a : Appended). Checkpoints g.D.Disk.tears g.D.Disk.seen g.D.Disk.may_leave a (map spelled rs) has.0 (bodies_of c.deref.result.now) c.checkpoint.new.self) c.in-Refused.is went in
+    let kept = subst (λ (a : Appended). Checkpoints g.D.Disk a (map spelled rs) has.0 (bodies_of c.deref.result.now) c.checkpoint.new.self) c.in-Refused.is went in
     is_answer _ (boot_became t (t.logged_boot + 1) Refused) _ (ap (λ (o : Outcome). taken (restart_turn s) o) c.begun-in-Refused.ensures.told ∙ turn_opens c.args.survived s t Refused fate less)
-    (cc, down_stands g.D.Disk.honest g.D.Disk.tears g.D.Disk.seen g.D.Disk.may_leave c.args.self.now _ s t c.args.survived rs refl refl refl c.checkpoint.ensures.settings st fate backs (refused_pair g.D.Disk.tears g.D.Disk.seen g.D.Disk.may_leave (map spelled rs) has.0 c.checkpoint.new.self kept))
+    (cc, down_stands g.D.Disk c.args.self.now _ s t c.args.survived rs refl refl refl c.checkpoint.ensures.settings st fate backs (refused_pair g.D.Disk (map spelled rs) has.0 c.checkpoint.new.self kept))
 
 pub returns-in-Lost-clause-turn : goal.returns-in-Lost-clause-turn
 returns-in-Lost-clause-turn g c =
@@ -52,11 +52,11 @@ returns-in-Lost-clause-turn g c =
     let below : t.logged_boot < most_boots = ltb-true t.logged_boot most_boots less in
     let above = subst (λ (b : List (List ℕ)). generation (map spelled rs) < generation b) (sym bodies) (newer rs (durable t) backs.lasts below) in
     let went = c.checkpoint.ensures.answer trusts.disk (map spelled rs) has.0 has.1 above in
-    let kept = subst (λ (a : Appended). Checkpoints g.D.Disk.tears g.D.Disk.seen g.D.Disk.may_leave a (map spelled rs) has.0 (bodies_of c.deref.result.now) c.checkpoint.new.self) c.in-Lost.is went in
+    let kept = subst (λ (a : Appended). Checkpoints g.D.Disk a (map spelled rs) has.0 (bodies_of c.deref.result.now) c.checkpoint.new.self) c.in-Lost.is went in
     is_answer _ (boot_became t (t.logged_boot + 1) Lost) _ (ap (λ (o : Outcome). taken (restart_turn s) o) c.begun-in-Lost.ensures.told ∙ turn_opens c.args.survived s t Lost fate less) (
       cc,
-      lost_stands g.D.Disk.honest g.D.Disk.tears g.D.Disk.seen g.D.Disk.may_leave c.args.self.now _ s t c.args.survived rs refl refl (ap (λ (n : ℕ). Some (Boot n)) boot) c.checkpoint.ensures.settings st fate backs below
-          (subst (λ (b : List (List ℕ)). MaySeal g.D.Disk.tears g.D.Disk.seen g.D.Disk.may_leave (map spelled rs) b c.checkpoint.new.self) bodies kept),
+      lost_stands g.D.Disk c.args.self.now _ s t c.args.survived rs refl refl (ap (λ (n : ℕ). Some (Boot n)) boot) c.checkpoint.ensures.settings st fate backs below
+          (subst (λ (b : List (List ℕ)). MaySeal g.D.Disk (map spelled rs) b c.checkpoint.new.self) bodies kept),
     )
 
 pub returns-in-Full-clause-turn : goal.returns-in-Full-clause-turn
@@ -65,4 +65,4 @@ returns-in-Full-clause-turn g c =
     let full = (c.checkpoint.ensures.full alive).0 c.in-Full.is in
     let bodies : bodies_of c.deref.result.now ≡ map spelled (snapshot (durable t) (t.logged_boot + 1)) = cc (ready.bodies, ap (λ vs. bodies_of vs) c.deref.ensures.value) in
     let size = ap (λ (b : List (List ℕ)). length (text newest b)) bodies ∙ text_size newest (snapshot (durable t) (t.logged_boot + 1)) in
-    absurd (never_full g.D.Disk.honest g.D.Disk.tears g.D.Disk.seen g.D.Disk.may_leave c.args.self.now s t c.args.survived rs st fate backs (omega (arith, full, size)))
+    absurd (never_full g.D.Disk c.args.self.now s t c.args.survived rs st fate backs (omega (arith, full, size)))

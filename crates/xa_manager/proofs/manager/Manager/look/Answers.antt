@@ -10,44 +10,44 @@ use Rattle.xa_manager.proofs.manager.Manager.look.Goals as goal
 pub returns-clause-err : goal.returns-clause-err
 returns-clause-err g c = on_err c.rescan.result _ (λ e is s st.
     let same = at_err _ c.rescan.result e is c.rescan.ensures.as_before in
-    still_stands g.D.Disk.honest g.D.Disk.tears g.D.Disk.seen g.D.Disk.may_leave c.args.self.now _ s refl refl refl (λ up. same.end ∙ st.end up) (λ up. same.lost ∙ st.alive up) c.rescan.ensures.settings
-    (λ trusts. stands_kept g.D.Disk.tears g.D.Disk.seen g.D.Disk.may_leave c.args.self.now.log c.rescan.new.self s (record {
-      pair = at_err _ c.rescan.result e is (c.rescan.ensures.pair trusts.disk);
-      append = at_err _ c.rescan.result e is (c.rescan.ensures.may_stand_pair trusts.disk);
-      seal = at_err _ c.rescan.result e is (c.rescan.ensures.may_seal trusts.disk);
+    still_stands g.D.Disk c.args.self.now _ s refl refl refl (λ up. same.end ∙ st.end up) (λ up. same.lost ∙ st.alive up) c.rescan.ensures.settings
+    (λ trusts. stands_kept g.D.Disk c.args.self.now.log c.rescan.new.self s (record {
+      pair = (at_err _ c.rescan.result e is (c.rescan.ensures.keeps trusts.disk)).pair;
+      append = (at_err _ c.rescan.result e is (c.rescan.ensures.keeps trusts.disk)).may_stand_pair;
+      seal = (at_err _ c.rescan.result e is (c.rescan.ensures.keeps trusts.disk)).may_seal;
     }) (st.log trusts)) st)
 
 pub returns-clause-stays : goal.returns-clause-stays
 returns-clause-stays g c = on_ok c.rescan.result _ (λ v is ends s st.
     let alive = at_ok _ c.rescan.result v is c.rescan.ensures.alive in
-    still_stands g.D.Disk.honest g.D.Disk.tears g.D.Disk.seen g.D.Disk.may_leave c.args.self.now _ s refl refl refl (λ up. ends up ∙ st.end up) (λ up. alive) c.rescan.ensures.settings
-    (λ trusts. let finds : Finds g.D.Disk.tears g.D.Disk.seen g.D.Disk.may_leave (bodies_of v.items) c.args.self.now.log c.rescan.new.self = record {
+    still_stands g.D.Disk c.args.self.now _ s refl refl refl (λ up. ends up ∙ st.end up) (λ up. alive) c.rescan.ensures.settings
+    (λ trusts. let finds : Finds g.D.Disk (bodies_of v.items) c.args.self.now.log c.rescan.new.self = record {
       stood = logged (g.D.Disk.seen c.rescan.new.self.other);
-      pair = λ bodies stood p. let f = in_ok _ c.rescan.result v is (c.rescan.ensures.anew trusts.disk bodies stood p (inl trusts.headers)) in (f.0, f.1);
-      append = λ bodies body stood p. let f = in_ok _ c.rescan.result v is (c.rescan.ensures.anew_lost trusts.disk bodies body stood p trusts.appends (inl trusts.headers)) in (f.0, f.1);
-      seal = λ bodies fresh p. let f = in_ok _ c.rescan.result v is (c.rescan.ensures.anew_sealed trusts.disk bodies fresh p (inl trusts.seals)) in (f.0, f.1);
+      pair = λ bodies stood p. let f = in_ok _ c.rescan.result v is (c.rescan.ensures.anew trusts.disk bodies stood p (inl trusts.headers)) in (f.0, f.1.0);
+      append = λ bodies body stood p. let f = in_ok _ c.rescan.result v is (c.rescan.ensures.anew_lost trusts.disk bodies body stood p trusts.appends (inl trusts.headers)) in (f.0, f.1.0);
+      seal = λ bodies fresh p. let f = in_ok _ c.rescan.result v is (c.rescan.ensures.anew_sealed trusts.disk bodies fresh p (inl trusts.seals)) in (f.0, f.1.0);
     } in
-    stands_found g.D.Disk.tears g.D.Disk.seen g.D.Disk.may_leave (bodies_of v.items) c.args.self.now.log c.rescan.new.self s finds (st.log trusts)) st)
+    stands_found g.D.Disk (bodies_of v.items) c.args.self.now.log c.rescan.new.self s finds (st.log trusts)) st)
 
 pub returns-clause-found : goal.returns-clause-found
 returns-clause-found g c = λ trusts. if_ok c.rescan.result _ (λ v is s st.
-    let finds : Finds g.D.Disk.tears g.D.Disk.seen g.D.Disk.may_leave (bodies_of v.items) c.args.self.now.log c.rescan.new.self = record {
+    let finds : Finds g.D.Disk (bodies_of v.items) c.args.self.now.log c.rescan.new.self = record {
       stood = logged (g.D.Disk.seen c.rescan.new.self.other);
-      pair = λ bodies stood p. let f = in_ok _ c.rescan.result v is (c.rescan.ensures.anew trusts.disk bodies stood p (inl trusts.headers)) in (f.0, f.1);
-      append = λ bodies body stood p. let f = in_ok _ c.rescan.result v is (c.rescan.ensures.anew_lost trusts.disk bodies body stood p trusts.appends (inl trusts.headers)) in (f.0, f.1);
-      seal = λ bodies fresh p. let f = in_ok _ c.rescan.result v is (c.rescan.ensures.anew_sealed trusts.disk bodies fresh p (inl trusts.seals)) in (f.0, f.1);
+      pair = λ bodies stood p. let f = in_ok _ c.rescan.result v is (c.rescan.ensures.anew trusts.disk bodies stood p (inl trusts.headers)) in (f.0, f.1.0);
+      append = λ bodies body stood p. let f = in_ok _ c.rescan.result v is (c.rescan.ensures.anew_lost trusts.disk bodies body stood p trusts.appends (inl trusts.headers)) in (f.0, f.1.0);
+      seal = λ bodies fresh p. let f = in_ok _ c.rescan.result v is (c.rescan.ensures.anew_sealed trusts.disk bodies fresh p (inl trusts.seals)) in (f.0, f.1.0);
     } in
-    found_state g.D.Disk.tears g.D.Disk.seen g.D.Disk.may_leave (bodies_of v.items) c.args.self.now.log c.rescan.new.self s finds (outside c.args.self.now.up (kept c.args.self.now) s st.tables).recoverable (st.log trusts))
+    found_state g.D.Disk (bodies_of v.items) c.args.self.now.log c.rescan.new.self s finds (outside c.args.self.now.up (kept c.args.self.now) s st.tables).recoverable (st.log trusts))
 
 pub returns-clause-ends : goal.returns-clause-ends
 returns-clause-ends g c = λ trusts. on_ok c.rescan.result _ (λ v is s st up.
     let found = in_ok _ c.rescan.result v is (returns-clause-found g c trusts) s st in
-    found_end g.D.Disk.tears g.D.Disk.seen g.D.Disk.may_leave (bodies_of v.items) c.rescan.new.self s (outside c.args.self.now.up (kept c.args.self.now) s st.tables).recoverable (is_up c.args.self.now.up (kept c.args.self.now) s st.tables up) found ∙ sym (st.end up))
+    found_end g.D.Disk (bodies_of v.items) c.rescan.new.self s (outside c.args.self.now.up (kept c.args.self.now) s st.tables).recoverable (is_up c.args.self.now.up (kept c.args.self.now) s st.tables up) found ∙ sym (st.end up))
 
 pub returns-clause-readable : goal.returns-clause-readable
 returns-clause-readable g c = λ trusts. if_err c.rescan.result _ (λ e is s st.
     let log = st.log trusts in
-    has_gives g.D.Disk.tears g.D.Disk.seen g.D.Disk.may_leave c.args.self.now.log log.records s s.open_record _
+    has_gives g.D.Disk c.args.self.now.log log.records s s.open_record _
     (λ bodies stood p. in_err _ c.rescan.result e is (c.rescan.ensures.readable trusts.disk bodies stood p (inl trusts.headers)))
     (λ bodies body stood p. in_err _ c.rescan.result e is (c.rescan.ensures.readable_lost trusts.disk bodies body stood p (inl trusts.headers)))
     (λ bodies fresh p. in_err _ c.rescan.result e is (c.rescan.ensures.readable_sealed trusts.disk bodies fresh p (inl trusts.seals))) log.has)

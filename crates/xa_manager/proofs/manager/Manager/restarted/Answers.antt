@@ -45,7 +45,7 @@ pub returns-in-Err-Device-clause-turn : goal.returns-in-Err-Device-clause-turn
 returns-in-Err-Device-clause-turn g c =
     λ s st trusts.
     is_answer _ (answer (detailed XAER_RMFAIL detail.Device) (down s)) _ (ap (λ (o : Outcome). taken (restart_turn s) o) c.failed.ensures.told)
-    (sym c.failed.ensures.reply, failed_stands g.D.Disk.honest g.D.Disk.tears g.D.Disk.seen g.D.Disk.may_leave c.look.new.self c.failed.new.self s c.failed.ensures.down (c.in-Err-Device.ensures.err s st))
+    (sym c.failed.ensures.reply, failed_stands g.D.Disk c.look.new.self c.failed.new.self s c.failed.ensures.down (c.in-Err-Device.ensures.err s st))
 
 pub returns-in-Err-NotALog-clause-turn : goal.returns-in-Err-NotALog-clause-turn
 returns-in-Err-NotALog-clause-turn g c = λ s st trusts. elim (c.in-Err-NotALog.ensures.readable trusts s st) [ inl e ↦ absurd (cc e) | inr e ↦ absurd (cc e) ]

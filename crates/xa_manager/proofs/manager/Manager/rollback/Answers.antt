@@ -30,9 +30,9 @@ returns-clause-turn g c =
     let body = spelled (logged.Completed c.copied.result Rollback) in
     let same : c.journal_small-answer.new.self.tables ≡ m.tables = c.journal_small-answer.ensures.tables in
     rw c.appended.ensures
-    (takes_appending _ _ _ _ _ _ m m mid' m' (λ (s : State). rollback_turn s xid) body a _ _ (served_by XAER_RMERR a) refl refl refl c.journal_small-answer.ensures refl refl refl
+    (takes_appending _ m m mid' m' (λ (s : State). rollback_turn s xid) body a _ _ (served_by XAER_RMERR a) refl refl refl c.journal_small-answer.ensures refl refl refl
     (λ s whole is_up.
-    let st = tables_up _ _ _ _ m s is_up whole in
+    let st = tables_up _ m s is_up whole in
     let passes = sym free ∙ c.rollback_refusal.ensures.value s st in
     let through = sym none ∙ c.heuristic_refusal.ensures.value s st in
     let settled = c.is_settled.ensures s st ∙ settled_ in

@@ -2,4 +2,4 @@ use Rattle.xa_manager.proofs.PlannedLogs.{planned_stays}
 use Rattle.xa_manager.proofs.planning.Manager+MemDisk.fail_other.Goals as goal
 
 pub returns-clause-stays : goal.returns-clause-stays
-returns-clause-stays c = planned_stays c.args.self.now _ c.fail_other.ensures.untouched c.fail_other.ensures.state
+returns-clause-stays c = planned_stays _ c.args.self.now _ c.fail_other.ensures.untouched c.fail_other.ensures.state

@@ -5,4 +5,4 @@ use Rattle.xa_room.proofs.manager.ManagerManages.call.Goals as goal
 pub returns-clause-acts : goal.returns-clause-acts
 returns-clause-acts g c =
     let d = g.D.Disk in
-    acted d.honest d.tears d.seen d.may_leave d.failures d.counts c.args.self.now (Call c.args.session c.args.request) c.call.result c.call.new.self c.call.ensures.answered
+    acted d c.args.self.now (Call c.args.session c.args.request) c.call.result c.call.new.self c.call.ensures.answered
