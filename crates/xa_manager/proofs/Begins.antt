@@ -1,21 +1,20 @@
 -- What the next boot begins with, of the log that was read.
-use Rattle.std.proofs.Common.{◌≡◌, ◌+◌, ◌<◌, ◌≤◌, ℕ, Bool, true, false, List, [], ◌∷◌, map, length, Option, None, Some, refl, ap, sym, ◌∙◌, subst, arith}
-use Rattle.std.specs.Prelude.{Result, Ok, Err, Vec}
+use Rattle.std.proofs.Common.{◌≡◌, ◌+◌, ◌<◌, ℕ, Bool, List, [], ◌∷◌, map, length, Option, Some, refl, ap, sym, ◌∙◌, subst, arith}
+use Rattle.std.specs.Prelude.{Ok, Vec}
 use Rattle.std.specs.declared.alloc.Global.{Global}
 use Rattle.std.specs.List.{AllByRecursion}
 use Rattle.std.proofs.lemmas.List.{length-map}
 use Rattle.xa_record.specs.Limits.{IsRecord}
 use Rattle.xa_record.specs.Spelling.{spelled}
-use Rattle.xa_record.specs.declared.record.Record.{Record}
 use Rattle.xa_log.specs.Chain.{IsBody, newest, text}
-use Rattle.xa_log.specs.Pair.{generation, number_in}
+use Rattle.xa_log.specs.Pair.{generation}
 use Rattle.xa_log.specs.Reading.{bodies_of}
 use Rattle.xa_model.specs.Durable.{Durable, IsDurable}
-use Rattle.xa_model.specs.Fold.{fold, snapshot, sizes}
+use Rattle.xa_model.specs.Fold.{snapshot, sizes}
 use Rattle.xa_model.specs.Logging.{log_room}
 use Rattle.xa_model.specs.Restarting.{most_boots}
 use Rattle.xa_model.proofs.Readings.{fold_is_durable}
-use Rattle.xa_recovery.specs.Log.{LogRebuilt, AreBodiesOf}
+use Rattle.xa_recovery.specs.Log.{LogRebuilt}
 use Rattle.xa_manager.specs.declared.boots.NextBoot.{NextBoot}
 use Rattle.xa_manager.specs.declared.boots.Planned.{Planned}
 use Rattle.xa_manager.specs.Opening.{ComeTo, has_boot_room}

@@ -1,31 +1,28 @@
 -- The rows that complete, decide and forget what lasts, by what the tables said of it.
-use Rattle.std.proofs.Common.{◌≡◌, ◌≢◌, ℕ, ℤ, pos, ◌+◌, ◌≤◌, not, Bool, true, false, cond, List, [], ◌∷◌, length, Option, Some, None, refl, ap, sym, ◌∙◌, subst, arith}
-use Rattle.std.specs.Prelude.{IsSome, find, unwrap_or, option_map}
+use Rattle.std.proofs.Common.{◌≡◌, ◌≢◌, ℕ, ℤ, pos, ◌+◌, ◌≤◌, Bool, true, false, cond, List, [], ◌∷◌, length, Option, Some, None, refl, ap, sym, ◌∙◌, subst, arith}
+use Rattle.std.specs.Prelude.{find, unwrap_or}
 use Rattle.std.proofs.lemmas.Bool.Decides.{nat_tests}
-use Rattle.xa_codes.specs.declared.codes.TheConstants.{XAER_NOTA, XAER_PROTO}
 use Rattle.xa_codes.specs.declared.direction.Direction.{Direction}
-use Rattle.xa_codes.specs.declared.direction.Direction.TheVariants as direction
 use Rattle.xa_frame.specs.declared.reply.Reply.{Reply}
-use Rattle.xa_xid.specs.Triple.{Triple, xid_eq}
+use Rattle.xa_xid.specs.Triple.{Triple}
 use Rattle.xa_record.specs.Spelling.{spelled}
 use Rattle.xa_record.specs.declared.record.Record.{Record}
-use Rattle.xa_record.specs.declared.record.Record.TheVariants as logged
 use Rattle.xa_model.specs.declared.outcome.Appending.{Appending}
-use Rattle.xa_model.specs.declared.outcome.Appending.TheVariants.{Kept as WasKept, Refused, Lost}
-use Rattle.xa_model.specs.State.{State, Branch, Decided, Phase, Working, Prepared, Committed, Up, Ended, Known, Unknown, AtWork, InDoubt, Completed, count, known_of, known_as, known_by, known_among, or_completed, decided_of, is_known_as}
-use Rattle.xa_model.specs.Answer.{Answer, plain, answer, ok}
+use Rattle.xa_model.specs.declared.outcome.Appending.TheVariants.{Kept as WasKept}
+use Rattle.xa_model.specs.State.{State, Branch, Decided, Phase, Working, Prepared, Committed, Up, Known, Unknown, AtWork, InDoubt, Completed, count, known_of, known_as, known_by, known_among, or_completed, decided_of, is_known_as}
+use Rattle.xa_model.specs.Answer.{plain, answer}
 use Rattle.xa_model.specs.Associations.{is_unknown, is_settled, mark_in}
-use Rattle.xa_model.specs.Branches.{rolled_back, two_phase_refusal, rollback_refusal, heuristic_refusal, is_associated}
-use Rattle.xa_model.specs.Completions.{is_doubtful, is_completed, decide_refusal, forget_refusal, roll_back_turn}
-use Rattle.xa_model.specs.Logging.{applied, lost, logs, log_room, is_in_doubt, prepared_count, append_became}
+use Rattle.xa_model.specs.Branches.{rolled_back, two_phase_refusal, heuristic_refusal}
+use Rattle.xa_model.specs.Completions.{is_completed, decide_refusal, forget_refusal, roll_back_turn}
+use Rattle.xa_model.specs.Logging.{applied, logs, log_room, is_in_doubt, prepared_count}
 use Rattle.xa_model.specs.Loggable.{IsRecoverable}
 use Rattle.xa_model.specs.Room.{IsRoomy}
-use Rattle.xa_model.specs.Turn.{Turn, Now, unless_now, marked_now}
+use Rattle.xa_model.specs.Turn.{Turn, Now, unless_now}
 use Rattle.xa_manager.specs.Kept.{Kept}
-use Rattle.xa_manager.specs.Stands.{StandsFor, StandsDown, TablesStandFor}
-use Rattle.xa_manager.specs.Turns.{reply_to, up_after}
+use Rattle.xa_manager.specs.Stands.{StandsFor}
+use Rattle.xa_manager.specs.Turns.{reply_to}
 use Rattle.xa_manager.proofs.Taking.{AnswersNow, AnswersAppending, by_answer, logs_answers, lost_stands, refused_is, lost_is}
-use Rattle.xa_manager.proofs.OnePhase.{refused_turn, passed_turn, marked_turn, unmarked_turn}
+use Rattle.xa_manager.proofs.OnePhase.{refused_turn, passed_turn}
 
 -- what is refused
 

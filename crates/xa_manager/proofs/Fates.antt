@@ -1,5 +1,5 @@
 -- The states that a read of the log settles: the record whose fate was unknown survived, or it didn't.
-use Rattle.std.proofs.Common.{◌≡◌, ◌≢◌, ◌⊎◌, ◌<◌, ◌≤◌, ◌+◌, ℕ, Bool, true, false, cond, List, [], ◌∷◌, ◌++◌, map, length, Option, Some, None, Ok, refl, ap, sym, ◌∙◌, subst, arith}
+use Rattle.std.proofs.Common.{◌≡◌, ◌+◌, ℕ, Bool, true, false, cond, List, length, Option, Some, None, refl, ap, sym, ◌∙◌, subst, arith}
 use Rattle.std.specs.Prelude.{nat_lt, IfSome, option_map, option_and_then, IsSomeAnd}
 use Rattle.xa_codes.specs.declared.direction.Direction.TheVariants as direction
 use Rattle.xa_codes.specs.declared.codes.TheConstants.{XAER_RMFAIL}
@@ -8,19 +8,18 @@ use Rattle.xa_record.specs.declared.record.Record.{Record}
 use Rattle.xa_record.specs.declared.record.Record.TheVariants as logged
 use Rattle.xa_model.specs.declared.outcome.Outcome.TheVariants.{Reread}
 use Rattle.xa_model.specs.declared.outcome.Appending.{Appending}
-use Rattle.xa_model.specs.declared.outcome.Appending.TheVariants.{Kept, Refused, Lost}
-use Rattle.xa_model.specs.State.{State, Standing, Up, Down, Ended}
+use Rattle.xa_model.specs.State.{State}
 use Rattle.xa_model.specs.Answer.{Answer, detailed, answer}
-use Rattle.xa_model.specs.Turn.{Rereading, Stops, Opens, going_on, taken}
-use Rattle.xa_model.specs.Logging.{applied, snapshot_end, prepared_count, prepared_room, decided_room, down}
+use Rattle.xa_model.specs.Turn.{Stops, Opens, going_on, taken}
+use Rattle.xa_model.specs.Logging.{applied, prepared_count, down}
 use Rattle.xa_model.specs.Restarting.{missed, survived, restarted, restarting, restart_turn, boot_became, most_boots}
 use Rattle.xa_model.specs.Loggable.{IsRecoverable, MayBeLast}
 use Rattle.xa_model.specs.Durable.{Durable, durable}
 use Rattle.xa_model.specs.Fold.{snapshot}
 use Rattle.xa_model.specs.Backing.{Backs, BacksReading, settled}
-use Rattle.xa_model.specs.Room.{HasRoom, HasRoomAnyway, IsRoomy}
+use Rattle.xa_model.specs.Room.{HasRoom, HasRoomAnyway}
 use Rattle.xa_model.proofs.Booted.{same_backed, restart_backed}
-use Rattle.xa_model.proofs.Restarts.{missed_recoverable, survived_recoverable, applied_standing, booted_lasts}
+use Rattle.xa_model.proofs.Restarts.{missed_recoverable, survived_recoverable, booted_lasts}
 use Rattle.xa_model.proofs.Rooms.{still_room, prepared_lasting, recoverable_snapshot_ends}
 use Rattle.xa_manager.specs.Rereading.{IsFate}
 

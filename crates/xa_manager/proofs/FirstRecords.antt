@@ -1,12 +1,11 @@
 -- A log without records has no room for its first.
-use Rattle.std.proofs.Common.{◌≡◌, ◌+◌, ◌<◌, ℕ, List, [], ◌∷◌, length, false, refl, ap, sym, ◌∙◌, subst, arith}
+use Rattle.std.proofs.Common.{◌≡◌, ◌+◌, ◌<◌, ℕ, List, [], ◌∷◌, length, false, ap, sym, ◌∙◌, subst, arith}
 use Rattle.std.specs.Prelude.{Vec, slice_index_or}
 use Rattle.std.specs.declared.alloc.Global.{Global}
 use Rattle.xa_disk.specs.declared.disk.Disk.{Ghosts}
 use Rattle.xa_log.specs.Chain.{newest, text}
 use Rattle.xa_log.specs.Reading.{bodies_of}
 use Rattle.xa_log.specs.declared.log.Log.{Log}
-use Rattle.xa_log.specs.TwoFiles.{Pair}
 use Rattle.xa_manager.specs.Opening.{HasBodies}
 use Rattle.xa_manager.proofs.LogLengths.{one_size, none_size}
 

@@ -1,5 +1,5 @@
 -- The new boot's records come before those that the log has, and bodies are those of one list of records.
-use Rattle.std.proofs.Common.{◌≡◌, ◌<◌, ◌≤◌, ◌+◌, ◌^◌, ℕ, List, [], ◌∷◌, ◌++◌, map, Ok, Err, refl, ap, sym, ◌∙◌, subst, arith}
+use Rattle.std.proofs.Common.{◌≡◌, ◌<◌, ◌+◌, ◌^◌, ℕ, List, [], ◌∷◌, ◌++◌, map, Ok, Err, refl, ap, sym, ◌∙◌, subst, arith}
 use Rattle.std.specs.List.{AllByRecursion}
 use Rattle.std.proofs.lemmas.Nat.{from_be_bytes-to_be_bytes_4}
 use Rattle.xa_record.specs.Limits.{IsRecord}
@@ -11,7 +11,7 @@ use Rattle.xa_log.specs.Pair.{number_in, generation}
 use Rattle.xa_model.specs.Durable.{Durable}
 use Rattle.xa_model.specs.Fold.{fold, snapshot}
 use Rattle.xa_model.specs.Restarting.{most_boots}
-use Rattle.xa_recovery.specs.Log.{LogRebuilt, AreBodiesOf, IsFirstMalformed}
+use Rattle.xa_recovery.specs.Log.{LogRebuilt}
 use Rattle.xa_recovery.specs.declared.log_fault.LogFault.{LogFault}
 use Rattle.xa_recovery.specs.declared.log_fault.LogFault.TheVariants.{Memory, Malformed, Order}
 use Rattle.xa_recovery.proofs.Boots.{begins_with_boot}

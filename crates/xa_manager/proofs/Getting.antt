@@ -1,5 +1,5 @@
 -- A manager that stands for a state, after a get.
-use Rattle.std.proofs.Common.{◌≡◌, ◌≢◌, ℕ, ℤ, ◌+◌, Bool, true, false, List, ◌∷◌, map, Option, Some, None, refl, ap, sym, ◌∙◌, subst, arith}
+use Rattle.std.proofs.Common.{◌≡◌, ◌≢◌, ℕ, ℤ, ◌+◌, Bool, true, false, List, ◌∷◌, map, Option, Some, None, refl, ap, sym, ◌∙◌, subst}
 use Rattle.xa_codes.specs.declared.codes.TheConstants.{XA_RETRY, XAER_PROTO}
 use Rattle.xa_codes.specs.declared.detail.Detail.TheVariants as detail
 use Rattle.xa_xid.specs.Triple.{Triple}

@@ -1,10 +1,10 @@
 -- Records that were given the low water stand for what they stood for.
-use Rattle.std.proofs.Common.{◌≡◌, ℕ, ◌+◌, max, sym, ◌∙◌, ap, subst, map, arith}
+use Rattle.std.proofs.Common.{◌≡◌, ℕ, ◌+◌, max, subst, map, arith}
 use Rattle.mv_chain.specs.History.{AreWhole}
 use Rattle.mv_rules.specs.declared.records.Records.{Records}
 use Rattle.mv_rules.specs.History.{History}
 use Rattle.mv_rules.specs.Records.{StandsFor as RecordsStandFor}
-use Rattle.mv_rules.specs.Ties.{low_of, history_of, writes_in, read_as}
+use Rattle.mv_rules.specs.Ties.{history_of, writes_in, read_as}
 use Rattle.mv_rules.proofs.Open.{are_whole}
 use Rattle.xa_model.specs.LowWater.{low_water}
 use Rattle.xa_model.specs.Sound.{IsSound}

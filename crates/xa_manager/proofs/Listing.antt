@@ -8,7 +8,6 @@ use Rattle.xa_model.specs.State.{State}
 use Rattle.xa_model.specs.Durable.{durable}
 use Rattle.xa_model.specs.Listed.{list_after, in_order, is_above, lasting_names}
 use Rattle.xa_model.specs.Recovering.{listing, recovered, recover_by, scanning, scan_after}
-use Rattle.xa_model.specs.Loggable.{IsRecoverable}
 use Rattle.xa_assoc.specs.Sessions.{SessionsStandFor}
 use Rattle.xa_branch.proofs.Elsewhere.{stands_elsewhere}
 use Rattle.xa_assoc.specs.Refusals.{is_memory}

@@ -1,12 +1,12 @@
 -- How long a log of records is.
-use Rattle.std.proofs.Common.{◌≡◌, ◌+◌, ◌<◌, ℕ, List, [], ◌∷◌, ◌++◌, map, length, refl, ap, sym, ◌∙◌, arith}
+use Rattle.std.proofs.Common.{◌≡◌, ◌+◌, ℕ, List, [], ◌∷◌, map, length, refl, arith}
 use Rattle.std.proofs.lemmas.List.{length-append}
 use Rattle.xa_record.specs.Spelling.{spelled}
 use Rattle.xa_record.specs.declared.record.Record.{Record}
 use Rattle.xa_log.specs.declared.format.Format.{Format}
 use Rattle.xa_log.specs.Chain.{digest, record_of, records, start, text}
 use Rattle.xa_log.proofs.Records.{length-text, length-record_of}
-use Rattle.xa_model.specs.Fold.{size_of, sizes}
+use Rattle.xa_model.specs.Fold.{sizes}
 
 records_size : (prev : List ℕ) (rs : List Record) → length (records prev (map spelled rs)) ≡ sizes rs
 records_size prev [] = refl

@@ -1,5 +1,5 @@
 -- From where on a state's history counts: at most the timestamp of a branch at work, and no lower where the low water is no lower.
-use Rattle.std.proofs.Common.{◌≡◌, ◌≤◌, max, Some, ap, arith}
+use Rattle.std.proofs.Common.{◌≡◌, ◌≤◌, Some, ap, arith}
 use Rattle.xa_xid.specs.Triple.{Triple}
 use Rattle.mv_rules.specs.Ties.{low_of}
 use Rattle.xa_model.specs.State.{State, Branch, known_of, timestamp_of}

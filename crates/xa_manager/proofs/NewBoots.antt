@@ -1,19 +1,16 @@
 -- A manager whose boot began stands for the states that a restart or an opening leads to.
-use Rattle.std.proofs.Common.{◌≡◌, ◌+◌, ◌<◌, ◌≤◌, ℕ, Bool, true, false, List, [], ◌∷◌, map, length, None, Some, Ok, refl, ap, sym, ◌∙◌, subst, arith}
+use Rattle.std.proofs.Common.{◌≡◌, ◌+◌, ◌<◌, ◌≤◌, ℕ, Bool, true, false, List, [], ◌∷◌, map, length, None, Ok, ap, sym, ◌∙◌, subst}
 use Rattle.std.specs.List.{AllByRecursion}
 use Rattle.xa_disk.specs.declared.disk.Disk.{Ghosts}
 use Rattle.xa_record.specs.Limits.{IsRecord}
 use Rattle.xa_record.specs.Spelling.{spelled}
 use Rattle.xa_record.specs.declared.record.Record.{Record}
-use Rattle.xa_log.specs.Chain.{newest, text}
-use Rattle.xa_log.specs.TwoFiles.{Pair}
-use Rattle.xa_log.specs.declared.log.Log.{Log}
 use Rattle.xa_model.specs.State.{State, Branch, timestamp_of}
 use Rattle.xa_model.specs.Sound.{is_working}
 use Rattle.xa_model.specs.Durable.{Durable, IsDurable, durable}
-use Rattle.xa_model.specs.Fold.{fold, snapshot, sizes, reading, unread, is_used}
-use Rattle.xa_model.specs.Logging.{log_room, prepared_count, snapshot_end}
-use Rattle.xa_model.specs.Backing.{Backs, IsNew}
+use Rattle.xa_model.specs.Fold.{snapshot, sizes, reading, unread, is_used}
+use Rattle.xa_model.specs.Logging.{log_room, prepared_count}
+use Rattle.xa_model.specs.Backing.{Backs}
 use Rattle.xa_model.specs.Restored.{IsRestored}
 use Rattle.xa_model.proofs.Snapshots.{snapshot_folds}
 use Rattle.xa_model.proofs.Booted.{snapshot_given}
@@ -23,9 +20,9 @@ use Rattle.xa_branch.specs.Branches.{BranchesStandFor}
 use Rattle.mv_rules.specs.Records.{StandsFor as RecordsStandFor}
 use Rattle.mv_rules.specs.Ties.{history_of}
 use Rattle.xa_manager.specs.declared.manager.Manager.{Manager}
-use Rattle.xa_manager.specs.Managed.{kept, Doubts, ManagerStandsFor}
+use Rattle.xa_manager.specs.Managed.{kept, ManagerStandsFor}
 use Rattle.xa_manager.specs.Opening.{HasBodies, has_boot_room}
-use Rattle.xa_manager.specs.Stands.{StandsFor, TablesStandFor}
+use Rattle.xa_manager.specs.Stands.{TablesStandFor}
 use Rattle.xa_manager.proofs.LogLengths.{text_size}
 
 idle_unused : (ts : List ℕ) (bs : List Branch) → AllByRecursion (λ b. is_working b.phase ≡ false) bs

@@ -1,12 +1,10 @@
 -- The tables of a new boot, made branch by branch.
-use Rattle.std.proofs.Common.{◌≡◌, ◌<◌, ◌≤◌, ◌+◌, ◌++◌, ◌==◌, ℕ, zero, suc, Bool, true, false, List, [], ◌∷◌, map, Option, Some, None, refl, ap, sym, ◌∙◌, subst, arith}
+use Rattle.std.proofs.Common.{◌≡◌, ◌<◌, ◌+◌, ◌++◌, ◌==◌, ℕ, zero, suc, Bool, true, false, List, [], ◌∷◌, map, Option, Some, refl, ap, sym, ◌∙◌, subst, arith}
 use Rattle.std.proofs.lemmas.Bool.Decides.{nat_tests}
 use Rattle.std.specs.Prelude.{fold, nat_lt}
-use Rattle.std.specs.List.{AllByRecursion, list_any}
-use Rattle.std.specs.Ordering.{is_lt}
+use Rattle.std.specs.List.{AllByRecursion}
 use Rattle.xa_codes.specs.declared.write.Write.{Write}
-use Rattle.xa_codes.specs.declared.direction.Direction.{Direction}
-use Rattle.xa_xid.specs.Triple.{Triple, xid_eq, xid_cmp}
+use Rattle.xa_xid.specs.Triple.{Triple, xid_eq}
 use Rattle.mv_chain.specs.declared.fate.Fate.{Fate}
 use Rattle.mv_chain.specs.declared.fate.Fate.TheVariants.{Committed as kept}
 use Rattle.mv_chain.specs.History.{Written}
@@ -17,7 +15,7 @@ use Rattle.mv_rules.proofs.Remade.{stands_restored}
 use Rattle.mv_rules.specs.Ties.{history_of}
 use Rattle.mv_rules.specs.Restoring.{with_write, with_branch, with_committed, with_prepared, IsRestorable}
 use Rattle.xa_model.specs.State.{State, Decided}
-use Rattle.xa_model.specs.Durable.{Durable, CommittedBranch, PreparedBranch, Pairwise, IsDurable, durable, commits_before, prepares_before, named_apart, named_before, is_prepared, is_decided, is_past}
+use Rattle.xa_model.specs.Durable.{Durable, CommittedBranch, PreparedBranch, Pairwise, IsDurable, commits_before, prepares_before, named_apart, named_before, is_prepared, is_decided, is_past}
 use Rattle.xa_model.specs.Restored.{IsRestored}
 use Rattle.xa_model.proofs.Inserts.{pairwise_before}
 use Rattle.xa_model.proofs.Recoveries.{recoverable_durable}

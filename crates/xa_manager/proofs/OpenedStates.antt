@@ -1,10 +1,8 @@
 -- The states that an opened manager stands for.
 use Rattle.std.proofs.lemmas.Bool.Decides.{nat_tests}
-use Rattle.std.proofs.Common.{◌≡◌, ◌⊎◌, inl, inr, ⊎_elim, ◌+◌, ◌<◌, ◌≤◌, ℕ, Bool, true, false, List, [], ◌∷◌, map, length, Option, None, Some, IsSomeAnd, refl, ap, sym, ◌∙◌, subst, arith}
+use Rattle.std.proofs.Common.{◌≡◌, ◌⊎◌, inl, inr, ◌+◌, ◌<◌, ℕ, Bool, true, false, List, [], ◌∷◌, map, Option, None, Some, IsSomeAnd, refl, ap, sym, ◌∙◌, subst, arith}
 use Rattle.std.specs.Prelude.{Result, Ok, Err, IfOk, IfErr, IfSome, nat_lt, ◌&&◌, option_map, option_and_then}
-use Rattle.std.specs.List.{AllByRecursion}
 use Rattle.xa_disk.specs.declared.disk.Disk.{Ghosts}
-use Rattle.xa_record.specs.Limits.{IsRecord}
 use Rattle.xa_record.specs.Spelling.{spelled}
 use Rattle.xa_record.specs.declared.record.Record.{Record}
 use Rattle.xa_log.specs.Pair.{pair_fault, logged_pair}
@@ -14,13 +12,12 @@ use Rattle.xa_model.specs.declared.outcome.Appending.TheVariants.{Kept}
 use Rattle.xa_model.specs.State.{State}
 use Rattle.xa_model.specs.Answer.{Answer, ok}
 use Rattle.xa_model.specs.Durable.{Durable, durable}
-use Rattle.xa_model.specs.Fold.{fold, snapshot, sizes, nothing}
-use Rattle.xa_model.specs.Logging.{log_room, prepared_count}
+use Rattle.xa_model.specs.Fold.{fold, nothing}
 use Rattle.xa_model.specs.Loggable.{IsRecoverable, MayBeLast}
 use Rattle.xa_model.specs.Backing.{Backs}
 use Rattle.xa_model.specs.Restarting.{missed, survived, most_boots, can_open, reopened, reopening, opening}
 use Rattle.xa_model.specs.Restored.{IsRestored}
-use Rattle.xa_model.specs.Turn.{Reopened, Rereading, Opens, taken, going_on}
+use Rattle.xa_model.specs.Turn.{Reopened, going_on}
 use Rattle.xa_model.specs.Step.{step}
 use Rattle.xa_model.specs.History.{fresh}
 use Rattle.xa_model.proofs.Openings.{opens_restored, opens_fresh}
@@ -31,7 +28,7 @@ use Rattle.xa_manager.specs.declared.manager.Manager.{Manager}
 use Rattle.xa_manager.specs.declared.fault.ManagerFault.{ManagerFault}
 use Rattle.xa_manager.specs.declared.fault.ManagerFault.TheVariants as fault
 use Rattle.xa_manager.specs.Managed.{ManagerStandsFor}
-use Rattle.xa_manager.specs.Opening.{ComeTo, HasBegun, BootRefused, OpenRefused, has_boot_room}
+use Rattle.xa_manager.specs.Opening.{HasBegun, BootRefused, OpenRefused, has_boot_room}
 use Rattle.xa_manager.specs.Files.{FilesStandFor, Settles}
 use Rattle.xa_manager.proofs.Generations.{same_records}
 

@@ -1,5 +1,5 @@
 -- The log behind a state, once it was read again.
-use Rattle.std.proofs.Common.{◌≡◌, ◌≢◌, ◌⊎◌, ◌<◌, ◌≤◌, ◌+◌, ℕ, Bool, true, false, cond, List, [], ◌∷◌, ◌++◌, map, length, Option, Some, None, refl, ap, sym, ◌∙◌, subst, arith, inl, inr}
+use Rattle.std.proofs.Common.{◌≡◌, ◌⊎◌, ◌+◌, ℕ, List, [], ◌∷◌, ◌++◌, map, length, Option, Some, None, refl, ap, sym, ◌∙◌, subst, arith, inl, inr}
 use Rattle.std.proofs.lemmas.List.{length-append}
 use Rattle.xa_disk.specs.declared.disk.Disk.{Ghosts}
 use Rattle.xa_record.specs.Spelling.{spelled}
@@ -17,7 +17,7 @@ use Rattle.xa_model.specs.Backing.{Backs, settled}
 use Rattle.xa_model.specs.Loggable.{IsRecoverable}
 use Rattle.xa_model.specs.Restarting.{missed, survived}
 use Rattle.xa_manager.specs.LogStands.{HasRecords, MayHaveRecord, HasRecordsOf, LogStandsFor}
-use Rattle.xa_manager.specs.Rereading.{IsFate, Found}
+use Rattle.xa_manager.specs.Rereading.{Found}
 use Rattle.xa_manager.proofs.Fates.{survived_backed, missed_backed}
 
 -- how long a log of records is

@@ -1,7 +1,7 @@
 -- The room that the log keeps.
-use Rattle.std.proofs.Common.{◌≡◌, ℕ, ◌+◌, ◌*◌, ◌≤◌, Bool, true, false, List, [], ◌∷◌, length, refl, ap, ◌∙◌, arith}
+use Rattle.std.proofs.Common.{◌≡◌, ◌+◌, ◌≤◌, Bool, true, List, [], ◌∷◌, length, refl, arith}
 use Rattle.std.specs.Prelude.{is_some}
-use Rattle.xa_model.specs.State.{State, Branch, Phase, Working, Prepared, Committed, count, name_of, known_count, known_in}
+use Rattle.xa_model.specs.State.{State, Branch, Phase, Working, Prepared, Committed, count, name_of, known_count}
 use Rattle.xa_model.specs.Sound.{IsSound}
 use Rattle.xa_model.specs.Logging.{is_in_doubt, prepared_count}
 use Rattle.xa_model.proofs.Counts.{count_less}

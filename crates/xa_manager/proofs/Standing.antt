@@ -1,5 +1,5 @@
 -- What a manager stands for, where its log was read again or a new boot was logged.
-use Rattle.std.proofs.Common.{◌≡◌, ◌≢◌, ◌⊎◌, inl, inr, ◌<◌, ◌≤◌, ◌+◌, ◌^◌, ℕ, Bool, true, false, List, [], ◌∷◌, ◌++◌, map, length, Option, Some, None, refl, ap, sym, ◌∙◌, subst, arith, ltb-true}
+use Rattle.std.proofs.Common.{◌≡◌, ◌≢◌, ◌⊎◌, inl, inr, ◌<◌, ◌≤◌, ◌+◌, ℕ, Bool, true, false, List, [], map, length, Option, Some, None, refl, ap, sym, ◌∙◌, subst, arith, ltb-true}
 use Rattle.std.specs.Prelude.{nat_lt, IfSome}
 use Rattle.xa_disk.specs.declared.disk.Disk.{Ghosts}
 use Rattle.xa_codes.specs.declared.direction.Direction.TheVariants as direction
@@ -9,17 +9,17 @@ use Rattle.xa_record.specs.declared.record.Record.TheVariants as logged
 use Rattle.xa_log.specs.declared.log.Log.{Log}
 use Rattle.xa_log.specs.Checkpoint.{IsQuiet}
 use Rattle.xa_log.specs.TwoFiles.{Pair, MaySeal}
-use Rattle.xa_model.specs.State.{State, Standing, Up, Down, Ended}
+use Rattle.xa_model.specs.State.{State, Up, Ended}
 use Rattle.xa_model.specs.Durable.{durable}
 use Rattle.xa_model.specs.Fold.{snapshot}
 use Rattle.xa_model.specs.Logging.{applied, down}
-use Rattle.xa_model.specs.Loggable.{IsRecoverable, IsLoggable, MayBeLast, is_boot}
+use Rattle.xa_model.specs.Loggable.{IsRecoverable, MayBeLast}
 use Rattle.xa_model.specs.Backing.{Backs}
-use Rattle.xa_model.specs.Restarting.{missed, survived, restarted, most_boots}
+use Rattle.xa_model.specs.Restarting.{restarted, most_boots}
 use Rattle.xa_model.specs.Restored.{IsRestored}
-use Rattle.xa_model.specs.Room.{HasRoom, HasRoomAnyway, IsRoomy}
+use Rattle.xa_model.specs.Room.{HasRoom}
 use Rattle.xa_model.specs.Fold.{sizes}
-use Rattle.xa_model.specs.Logging.{snapshot_end, log_room, prepared_count, closing, prepared_room, decided_room}
+use Rattle.xa_model.specs.Logging.{snapshot_end, prepared_count}
 use Rattle.xa_model.specs.Restarting.{without_scan}
 use Rattle.xa_model.proofs.Restores.{restarts_restored}
 use Rattle.xa_model.proofs.Rooms.{room_is, recoverable_snapshot_ends}

@@ -1,8 +1,7 @@
 -- How a manager takes a turn, by what it did.
-use Rattle.std.proofs.Common.{◌≡◌, ◌≢◌, ℕ, ℤ, ◌+◌, ◌≤◌, Bool, true, false, List, length, Option, Some, None, refl, ap, sym, ◌∙◌, subst}
+use Rattle.std.proofs.Common.{◌≡◌, ◌≢◌, ℕ, ℤ, ◌+◌, ◌≤◌, Bool, true, false, List, length, refl, ap, sym, ◌∙◌, subst}
 use Rattle.std.specs.Prelude.{Result, Ok, Err, OnErr}
 use Rattle.xa_disk.specs.declared.disk.Disk.{Ghosts}
-use Rattle.xa_codes.specs.declared.codes.TheConstants.{XAER_RMFAIL}
 use Rattle.xa_frame.specs.declared.reply.Reply.{Reply}
 use Rattle.xa_record.specs.Spelling.{spelled}
 use Rattle.xa_record.specs.declared.record.Record.{Record}
@@ -18,7 +17,6 @@ use Rattle.xa_model.specs.Logging.{append_became, applied, lost, logs}
 use Rattle.xa_model.specs.Loggable.{IsRecoverable}
 use Rattle.xa_assoc.specs.Refusals.{is_memory}
 use Rattle.xa_assoc.proofs.Follows.{unmoved}
-use Rattle.xa_manager.specs.declared.doubt.Doubt.{Doubt}
 use Rattle.xa_manager.specs.declared.manager.Manager.{Manager}
 use Rattle.xa_manager.specs.Answered.{StaysFor}
 use Rattle.xa_manager.specs.Kept.{Kept}

@@ -1,10 +1,9 @@
 -- The writes of a known branch, as the records list them.
-use Rattle.std.proofs.Common.{◌≡◌, inl, inr, ◌⊎◌, ℕ, ◌<◌, ◌≤◌, ◌==◌, ◌&&◌, Bool, true, false, cond, List, [], ◌∷◌, ◌++◌, Option, Some, None, refl, ap, sym, ◌∙◌, subst, arith}
+use Rattle.std.proofs.Common.{◌≡◌, inl, inr, ℕ, ◌<◌, ◌≤◌, ◌==◌, ◌&&◌, Bool, true, false, cond, List, [], ◌∷◌, ◌++◌, Option, Some, None, refl, ap, sym, ◌∙◌, subst, arith}
 use Rattle.std.specs.Prelude.{bytes_eq}
 use Rattle.std.specs.List.{AllByRecursion}
 use Rattle.std.specs.Cmp.Lexicographic.{slice_cmp}
 use Rattle.std.specs.Ordering.{nat_cmp, is_lt}
-use Rattle.std.specs.declared.cmp.Ordering.{Ordering}
 use Rattle.std.specs.declared.cmp.Ordering.TheVariants.{Less}
 use Rattle.std.proofs.lemmas.Bool.Decides.{nat_tests}
 use Rattle.std.proofs.lemmas.Slice.Eq.{bytes_eq-Decides}
@@ -12,7 +11,7 @@ use Rattle.xa_codes.specs.declared.write.Write.{Write}
 use Rattle.mv_chain.specs.declared.fate.Fate.{Fate}
 use Rattle.mv_chain.specs.History.{Written}
 use Rattle.mv_rules.specs.History.{last_write, listed_value, IsAscending, IsWritesOf}
-use Rattle.mv_rules.specs.Ties.{fate_of, writes_by, writes_one, writes_in}
+use Rattle.mv_rules.specs.Ties.{fate_of, writes_by, writes_in}
 use Rattle.mv_rules.proofs.Ties.{bytes_eq_swapped}
 use Rattle.xa_xid.specs.Triple.{Triple}
 use Rattle.xa_model.specs.State.{Branch, Operation, Got, Wrote, is_known_as, known_of}

@@ -1,5 +1,5 @@
 -- What states of the sequential resource manager a log of two files stands behind.
-use Rattle.std.specs.Prelude.{◌≡◌, ◌⊎◌, ℕ, Option, Some, None, List, map}
+use Rattle.std.specs.Prelude.{◌⊎◌, ℕ, Option, Some, None, List, map}
 use Rattle.xa_disk.specs.declared.disk.Disk.{Ghosts}
 use Rattle.xa_record.specs.Spelling.{spelled}
 use Rattle.xa_record.specs.declared.record.Record.{Record}

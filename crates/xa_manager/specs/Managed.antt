@@ -1,12 +1,12 @@
 -- What states of the sequential resource manager a manager stands for.
-use Rattle.std.specs.Prelude.{◌≡◌, ◌≢◌, Bool, true, false, Option, Some, None, IsSomeAnd, length}
+use Rattle.std.specs.Prelude.{◌≡◌, true, false, Option, Some, None, IsSomeAnd}
 use Rattle.xa_disk.specs.declared.disk.Disk.{Ghosts}
 use Rattle.xa_record.specs.declared.record.Record.{Record}
 use Rattle.xa_record.specs.declared.record.Record.TheVariants as logged
 use Rattle.xa_frame.specs.declared.reply.Reply.{Reply}
 use Rattle.xa_model.specs.Answer.{Answer}
 use Rattle.xa_model.specs.State.{State}
-use Rattle.xa_model.specs.Loggable.{IsRecoverable, is_boot}
+use Rattle.xa_model.specs.Loggable.{is_boot}
 use Rattle.xa_model.specs.Room.{IsRoomy}
 use Rattle.xa_manager.specs.declared.doubt.Doubt.{Doubt}
 use Rattle.xa_manager.specs.declared.doubt.Doubt.TheVariants.{Boot, Record as LastRecord}

@@ -1,30 +1,23 @@
 -- What opening a manager comes to.
-use Rattle.std.specs.Prelude.{◌≡◌, ◌≢◌, ◌⊎◌, ◌≤◌, ◌<◌, ◌+◌, ℕ, Bool, true, false, List, [], map, length, Ok, Err, Some, None, IsSomeAnd}
-use Rattle.std.specs.List.{AllByRecursion}
+use Rattle.std.specs.Prelude.{◌≡◌, ◌≢◌, ◌⊎◌, ◌≤◌, ◌<◌, ◌+◌, ℕ, Bool, true, false, List, [], length, Ok, Err, Some, None}
 use Rattle.xa_disk.specs.declared.disk.Disk.{Ghosts}
-use Rattle.xa_record.specs.Spelling.{spelled}
 use Rattle.xa_record.specs.declared.record.Record.{Record}
 use Rattle.xa_log.specs.Pair.{pair_fault, logged_pair}
-use Rattle.xa_log.specs.TwoFiles.{Pair, NoStray}
+use Rattle.xa_log.specs.TwoFiles.{Pair}
 use Rattle.xa_log.specs.declared.fault.OpenFault.{OpenFault}
 use Rattle.xa_log.specs.declared.fault.OpenFault.TheVariants as log
 use Rattle.xa_log.specs.declared.log.Log.{Log}
-use Rattle.xa_model.specs.declared.outcome.Outcome.TheVariants.{Reread}
-use Rattle.xa_model.specs.declared.outcome.Appending.TheVariants.{Kept}
 use Rattle.xa_model.specs.State.{State}
 use Rattle.xa_model.specs.Durable.{Durable}
 use Rattle.xa_model.specs.Fold.{fold, snapshot, sizes}
 use Rattle.xa_model.specs.Logging.{log_room}
 use Rattle.xa_model.specs.Restarting.{most_boots}
 use Rattle.xa_model.specs.Restored.{IsRestored}
-use Rattle.xa_model.specs.Turn.{Reopened}
-use Rattle.xa_model.specs.Step.{step}
 use Rattle.xa_recovery.specs.Log.{AreBodiesOf, LogRebuilt}
 use Rattle.xa_recovery.specs.declared.log_fault.LogFault.TheVariants as rebuilt
 use Rattle.xa_manager.specs.declared.fault.ManagerFault.{ManagerFault}
 use Rattle.xa_manager.specs.declared.fault.ManagerFault.TheVariants as fault
 use Rattle.xa_manager.specs.declared.manager.Manager.{Manager}
-use Rattle.xa_manager.specs.LogStands.{Trusts}
 use Rattle.xa_manager.specs.Managed.{ManagerStandsFor}
 
 -- settings out of their limits

@@ -1,4 +1,4 @@
-use Rattle.std.proofs.Common.{List, ◌≡◌, ◌<◌, ◌+◌, length, subst}
+use Rattle.std.proofs.Common.{subst}
 use Rattle.xa_manager.specs.Opening.{HasBodies}
 use Rattle.xa_manager.proofs.FirstRecords.{first_full, one_body}
 use Rattle.xa_manager.proofs.first_records.log_first.Goals as goal

@@ -1,8 +1,8 @@
-use Rattle.std.proofs.Common.{rules, length, ◌≡◌, ◌+◌, ℕ, List, true, false, ap, sym, refl, ◌∙◌, subst, arith}
+use Rattle.std.proofs.Common.{rules, ◌≡◌, ◌+◌, ℕ, List, true, false, sym, refl, ◌∙◌, subst, arith}
 use Rattle.xa_log.specs.Reading.{bodies_of}
 use Rattle.xa_manager.specs.Opening.{HasBodies, has_boot_room}
 use Rattle.xa_recovery.specs.Durable.{as_prepared, as_decided}
-use Rattle.xa_manager.proofs.Begins.{IsPlanned, planned, first_bodies, first_sizes, first_room, first_newer, count_of, none_given}
+use Rattle.xa_manager.proofs.Begins.{planned, first_bodies, first_sizes, first_room, first_newer, count_of, none_given}
 use Rattle.xa_manager.proofs.NewBoots.{new_stands}
 use Rattle.xa_manager.proofs.opening.begin.Goals as goal
 

@@ -1,4 +1,4 @@
-use Rattle.std.proofs.Common.{ℕ, map, ap, refl, sym}
+use Rattle.std.proofs.Common.{map, ap, refl, sym}
 use Rattle.std.specs.Map.Iter.{deref_pair}
 use Rattle.std.proofs.lemmas.Map.Iter.{rest_more}
 use Rattle.xa_codes.specs.declared.direction.Direction.{Direction}

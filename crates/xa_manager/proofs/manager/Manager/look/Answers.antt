@@ -1,4 +1,4 @@
-use Rattle.std.proofs.Common.{◌≡◌, inl, inr, refl, sym, ◌∙◌}
+use Rattle.std.proofs.Common.{inl, refl, sym, ◌∙◌}
 use Rattle.xa_log.specs.Chain.{logged}
 use Rattle.xa_log.specs.Reading.{bodies_of}
 use Rattle.xa_manager.specs.Managed.{kept}

@@ -1,4 +1,4 @@
-use Rattle.std.proofs.Common.{◌≡◌, List, Vec, Global, ℕ, Ok, Err, map, refl, ap, sym, ◌∙◌, subst, inl, inr}
+use Rattle.std.proofs.Common.{◌≡◌, Ok, Err, ap, sym, subst, inl, inr}
 use Rattle.xa_log.specs.Reading.{bodies_of}
 use Rattle.xa_codes.specs.declared.codes.TheConstants.{XAER_RMFAIL}
 use Rattle.xa_codes.specs.declared.detail.Detail.TheVariants as detail
@@ -9,7 +9,6 @@ use Rattle.xa_model.specs.Logging.{down}
 use Rattle.xa_model.specs.Restarting.{restart_turn}
 use Rattle.xa_model.specs.Turn.{taken}
 use Rattle.xa_recovery.specs.Log.{LogRebuilt}
-use Rattle.xa_recovery.specs.declared.log_fault.LogFault.TheVariants.{Malformed, Order}
 use Rattle.xa_manager.proofs.Fates.{is_answer}
 use Rattle.xa_manager.proofs.Generations.{never_refused}
 use Rattle.xa_manager.proofs.Standing.{failed_stands}

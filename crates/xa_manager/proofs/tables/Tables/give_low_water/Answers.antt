@@ -1,4 +1,3 @@
-use Rattle.xa_manager.specs.Kept.{kept_of}
 use Rattle.xa_manager.proofs.Given.{given_stands}
 use Rattle.xa_manager.proofs.tables.Tables.give_low_water.Goals as goal
 
