@@ -18,7 +18,7 @@ use std::alloc::AllocError;
 /// made over; give it that pool again at each call.
 ///
 /// Every call is total. A look-up by timestamp is a binary search. Timestamps of branches are above 0.
-#[derive(Drop)]
+#[derive(Debug, Drop)]
 pub struct Chain {
     slots: Vec<usize>,
 }

@@ -8,7 +8,7 @@ use slab::Slab;
 use std::alloc::Global;
 
 /// The versions of all chains.
-#[derive(Drop)]
+#[derive(Debug, Drop)]
 pub struct Pool {
     pub(crate) alloc: Global,
     pub(crate) slab: Slab<Version>,

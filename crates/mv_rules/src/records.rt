@@ -17,7 +17,7 @@ use xa_codes::{Bytes, Write};
 ///
 /// Every call is total. What a call promises holds for every history that the records stood for. Timestamps
 /// of branches are above 0, and none is used again once it is settled.
-#[derive(Drop)]
+#[derive(Debug, Drop)]
 pub struct Records {
     alloc: Global,
     /// Where each key's chain stands.

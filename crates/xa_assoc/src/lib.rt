@@ -6,7 +6,7 @@
 //! - `refusing`: how a start and an end are refused, by the table and the facts of the branch
 //! - `refusals`: the same by facts alone, as `connect_refusal`, `close_refusal`, `start_refusal`, `join_refusal`,
 //!   `resume_refusal`, `end_refusal` and `loose_refusal`; and the limits `MOST_SESSIONS`, `MOST_BRANCHES`, `MOST_GIVEN` and
-//!   `MOST_LOOSE`. `replies` has plain replies
+//!   `MOST_LOOSE`
 //! - what changes, once nothing is refused: `coming`, how sessions come and go, with `ConnectFault` of `fault`; `work`, how
 //!   they come to work for branches and leave them; `scans`, their recovery scans; `restarts`, what a restart leaves
 //! - below these: `acts`, a seat changes; `free`, the numbers that no session has, a bit each
@@ -18,7 +18,6 @@ mod fault;
 mod free;
 mod refusals;
 mod refusing;
-mod replies;
 mod restarts;
 mod scans;
 mod seat;

@@ -3,7 +3,6 @@ ghost use Rattle.xa_model.specs.State.{Known};
 ghost use Rattle.xa_model.specs.Associations.{connect_refusal, close_refusal, start_refusal, join_refusal, resume_refusal, end_refusal, loose_refusal, is_unknown, is_settled};
 ghost use Rattle.xa_assoc.specs.Refusals.{is_memory, IsBare};
 
-use crate::replies::{detailed, plain};
 use xa_codes::{Detail, XAER_DUPID, XAER_NOTA, XAER_PROTO, XAER_RMERR};
 use xa_frame::Reply;
 
@@ -25,7 +24,7 @@ pub fn connect_refusal(connected: usize) -> Option<Reply>
     if connected < MOST_SESSIONS {
         return None;
     }
-    Some(detailed(XAER_RMERR, Detail::Limit))
+    Some(Reply::detailed(XAER_RMERR, Detail::Limit))
 }
 
 /// Of a close, where the session has an association or none.
@@ -35,7 +34,7 @@ pub fn close_refusal(holds: bool) -> Option<Reply>
     ensures bare { IfSome result IsBare }
 {
     if holds {
-        return Some(plain(XAER_PROTO));
+        return Some(Reply::plain(XAER_PROTO));
     }
     None
 }
@@ -47,13 +46,13 @@ pub fn start_refusal(is_at_work: bool, is_taken: bool, known: usize, given: u64)
     ensures bare { IfSome result IsBare }
 {
     if is_at_work {
-        return Some(plain(XAER_PROTO));
+        return Some(Reply::plain(XAER_PROTO));
     }
     if is_taken {
-        return Some(plain(XAER_DUPID));
+        return Some(Reply::plain(XAER_DUPID));
     }
     if known >= MOST_BRANCHES || given >= MOST_GIVEN {
-        return Some(detailed(XAER_RMERR, Detail::Limit));
+        return Some(Reply::detailed(XAER_RMERR, Detail::Limit));
     }
     None
 }
@@ -70,13 +69,13 @@ pub fn join_refusal(
     ensures bare { IfSome result IsBare }
 {
     if is_at_work || has_suspended {
-        return Some(plain(XAER_PROTO));
+        return Some(Reply::plain(XAER_PROTO));
     }
     if unknown {
-        return Some(plain(XAER_NOTA));
+        return Some(Reply::plain(XAER_NOTA));
     }
     if settled {
-        return Some(plain(XAER_PROTO));
+        return Some(Reply::plain(XAER_PROTO));
     }
     None
 }
@@ -93,13 +92,13 @@ pub fn resume_refusal(
     ensures bare { IfSome result IsBare }
 {
     if is_at_work {
-        return Some(plain(XAER_PROTO));
+        return Some(Reply::plain(XAER_PROTO));
     }
     if unknown {
-        return Some(plain(XAER_NOTA));
+        return Some(Reply::plain(XAER_NOTA));
     }
     if !(has_suspended || has_loose) {
-        return Some(plain(XAER_PROTO));
+        return Some(Reply::plain(XAER_PROTO));
     }
     None
 }
@@ -111,10 +110,10 @@ pub fn end_refusal(unknown: bool, holds: bool) -> Option<Reply>
     ensures bare { IfSome result IsBare }
 {
     if unknown {
-        return Some(plain(XAER_NOTA));
+        return Some(Reply::plain(XAER_NOTA));
     }
     if !holds {
-        return Some(plain(XAER_PROTO));
+        return Some(Reply::plain(XAER_PROTO));
     }
     None
 }
@@ -126,7 +125,7 @@ pub fn loose_refusal(migrates: bool, loose: u64) -> Option<Reply>
     ensures bare { IfSome result IsBare }
 {
     if migrates && loose >= MOST_LOOSE {
-        return Some(detailed(XAER_RMERR, Detail::Limit));
+        return Some(Reply::detailed(XAER_RMERR, Detail::Limit));
     }
     None
 }

@@ -7,7 +7,6 @@ ghost use Rattle.xa_assoc.specs.Refusals.{is_memory, IsBare};
 ghost use Rattle.xa_assoc.specs.Seats.{scan_at};
 ghost use Rattle.xa_assoc.specs.Sessions.{SessionsStandFor};
 
-use crate::replies::plain;
 use crate::sessions::Sessions;
 use xa_codes::{TMENDRSCAN, TMSTARTRSCAN, XAER_INVAL};
 use xa_frame::Reply;
@@ -40,7 +39,7 @@ impl Sessions {
         }
         match self.scan_of(session) {
             Some(cursor) => Ok(cursor),
-            None => Err(plain(XAER_INVAL)),
+            None => Err(Reply::plain(XAER_INVAL)),
         }
     }
 

@@ -10,7 +10,7 @@ use std::collections::BTreeMap;
 use xa_xid::Xid;
 
 /// The connected sessions by their numbers, and the numbers from 1 to 1,024 that are free, a bit each.
-#[derive(Drop)]
+#[derive(Debug, Drop)]
 pub struct Sessions {
     pub(crate) alloc: Global,
     pub(crate) seats: BTreeMap<u64, Seat>,

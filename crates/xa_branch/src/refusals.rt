@@ -1,23 +1,11 @@
 ghost use Rattle.std.specs.Prelude.{◌≡◌, ◌≢◌, IfSome};
-ghost use Rattle.xa_model.specs.Answer.{plain};
 ghost use Rattle.xa_model.specs.Branches.{one_phase_refusal, two_phase_refusal, rollback_refusal, doom_refusal};
 ghost use Rattle.xa_branch.specs.Facts.{fact_of, IsBare};
+ghost use Rattle.xa_codes.specs.declared.detail.Detail.{Detail};
 
 use crate::known::Known;
-use xa_codes::{Code, Detail, XAER_NOTA, XAER_PROTO};
-use xa_frame::{Body, Reply};
-
-/// A reply that carries nothing.
-fn plain(code: Code) -> Reply
-    ensures { result ≡ plain code }
-{
-    Reply {
-        code,
-        detail: Detail::Nothing,
-        place: 0,
-        body: Body::Nothing,
-    }
-}
+use xa_codes::{XAER_NOTA, XAER_PROTO};
+use xa_frame::Reply;
 
 /// Why a branch can't be committed in one phase: its XID isn't known, it is associated, or it is prepared or completed.
 pub fn one_phase_refusal(known: Known, is_associated: bool) -> Option<Reply>
@@ -26,9 +14,9 @@ pub fn one_phase_refusal(known: Known, is_associated: bool) -> Option<Reply>
     ensures bare { IfSome result IsBare }
 {
     match known {
-        Known::Unknown => Some(plain(XAER_NOTA)),
+        Known::Unknown => Some(Reply::plain(XAER_NOTA)),
         Known::AtWork(_) if !is_associated => None,
-        _ => Some(plain(XAER_PROTO)),
+        _ => Some(Reply::plain(XAER_PROTO)),
     }
 }
 
@@ -39,8 +27,8 @@ pub fn two_phase_refusal(known: Known) -> Option<Reply>
     ensures bare { IfSome result IsBare }
 {
     match known {
-        Known::Unknown => Some(plain(XAER_NOTA)),
-        Known::AtWork(_) => Some(plain(XAER_PROTO)),
+        Known::Unknown => Some(Reply::plain(XAER_NOTA)),
+        Known::AtWork(_) => Some(Reply::plain(XAER_PROTO)),
         Known::InDoubt | Known::Completed(_) => None,
     }
 }
@@ -52,8 +40,8 @@ pub fn rollback_refusal(known: Known, is_associated: bool) -> Option<Reply>
     ensures bare { IfSome result IsBare }
 {
     match known {
-        Known::Unknown => Some(plain(XAER_NOTA)),
-        _ if is_associated => Some(plain(XAER_PROTO)),
+        Known::Unknown => Some(Reply::plain(XAER_NOTA)),
+        _ if is_associated => Some(Reply::plain(XAER_PROTO)),
         _ => None,
     }
 }
@@ -65,8 +53,8 @@ pub fn doom_refusal(known: Known) -> Option<Reply>
     ensures bare { IfSome result IsBare }
 {
     match known {
-        Known::Unknown => Some(plain(XAER_NOTA)),
+        Known::Unknown => Some(Reply::plain(XAER_NOTA)),
         Known::AtWork(_) => None,
-        Known::InDoubt | Known::Completed(_) => Some(plain(XAER_PROTO)),
+        Known::InDoubt | Known::Completed(_) => Some(Reply::plain(XAER_PROTO)),
     }
 }

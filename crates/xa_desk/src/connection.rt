@@ -11,7 +11,7 @@ use crate::served::Served;
 use std::alloc::{AllocError, Global};
 use std::io::{Read, Write};
 use xa_codes::{Detail, XAER_INVAL, XAER_RMFAIL};
-use xa_frame::{Body, FrameFault, Reply, decode_request, encode_reply, one_reply};
+use xa_frame::{FrameFault, Reply, decode_request, encode_reply, one_reply};
 
 /// The longest content of a frame.
 const LONGEST: u32 = 65_535;
@@ -96,12 +96,7 @@ fn refusal() -> Reply
     ensures reply { result ≡ refused }
     ensures limits { IsReply result }
 {
-    Reply {
-        code: XAER_INVAL,
-        detail: Detail::Frame,
-        place: 0,
-        body: Body::Nothing,
-    }
+    Reply::detailed(XAER_INVAL, Detail::Frame)
 }
 
 /// The reply where decoding found no memory.
@@ -109,12 +104,7 @@ fn no_memory() -> Reply
     ensures reply { result ≡ without_memory }
     ensures limits { IsReply result }
 {
-    Reply {
-        code: XAER_RMFAIL,
-        detail: Detail::Memory,
-        place: 0,
-        body: Body::Nothing,
-    }
+    Reply::detailed(XAER_RMFAIL, Detail::Memory)
 }
 
 fn frame_of(alloc: Global, reply: &Reply) -> Result<Vec<u8>, AllocError>

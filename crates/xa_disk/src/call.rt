@@ -7,7 +7,7 @@ use crate::bytes::put_bytes;
 use std::alloc::{AllocError, Global};
 
 /// A device call that had an effect.
-#[derive(Drop)]
+#[derive(Debug, Drop)]
 pub enum Call {
     /// These bytes were written at this place.
     Write(u64, Vec<u8>),

@@ -3,8 +3,11 @@ ghost use Rattle.xa_disk.specs.Counts.{with_length, with_read, with_write, with_
 ghost use Rattle.xa_disk.specs.declared.counts.Counts.{Counts};
 ghost use Rattle.xa_disk.specs.Disk.{put, Torn, Same, Only, Passes, CountsFault, Reads};
 
+use thiserror::Error;
+
 /// A device call that failed.
-#[derive(Clone, Copy, Debug, PartialEq, Eq)]
+#[derive(Clone, Copy, Debug, PartialEq, Eq, Error)]
+#[error("device fault")]
 pub struct DiskFault;
 
 /// A disk that may lose, at a crash, what no sync has made stable.

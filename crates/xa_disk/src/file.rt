@@ -17,7 +17,7 @@ use std::os::unix::fs::FileExt;
 
 /// A disk that is a file, with counts of its calls and of those that failed. While it is there no other
 /// `FileDisk` has the file, in this process or another.
-#[derive(Drop)]
+#[derive(Debug, Drop)]
 pub struct FileDisk {
     file: File,
     failures: u64,

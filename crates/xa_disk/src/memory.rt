@@ -12,7 +12,7 @@ use crate::{Counts, Disk, DiskFault};
 use std::alloc::{AllocError, Global};
 
 /// A disk in memory. A test plans which of its calls fail, and when it crashes.
-#[derive(Drop)]
+#[derive(Debug, Drop)]
 pub struct MemDisk {
     // What it held at first, if a write has changed the bytes since.
     first: Option<Vec<u8>>,

@@ -1,4 +1,5 @@
 pub mod Limits
+pub mod Made
 pub mod Spelling
 pub mod Faults
 pub mod Reading

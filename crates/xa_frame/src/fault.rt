@@ -2,23 +2,31 @@ ghost use Rattle.std.specs.Prelude.{◌≡◌};
 ghost use Rattle.xa_frame.specs.declared.fault.FrameFault.TheVariants.{Memory};
 
 use std::alloc::{AllocError, AllocFailed};
+use thiserror::Error;
 
 /// Why a content gave no value: the first fault, read from left to right.
-#[derive(Clone, Copy, Debug, PartialEq, Eq)]
+#[derive(Clone, Copy, Debug, PartialEq, Eq, Error)]
 pub enum FrameFault {
     /// A number, a length or the bytes that it announces are cut.
+    #[error("content cut short")]
     Short = 1,
     /// There are more than 65,535 bytes.
+    #[error("content above 65,535 bytes")]
     Long = 2,
     /// The first byte isn't 1.
+    #[error("version not 1")]
     Version = 3,
     /// The operation isn't one of 1 to 15.
+    #[error("operation not one of 1 to 15")]
     Operation = 4,
     /// A field is out of its limits, or no XID.
+    #[error("field out of its limits")]
     Field = 5,
     /// Bytes are left.
+    #[error("bytes behind the last field")]
     Trailing = 6,
     /// There is a value, but memory was wanted.
+    #[error("no memory")]
     Memory = 7,
 }
 

@@ -5,6 +5,7 @@
 //!
 //! - `request`: `Request`, with what each call is given
 //! - `reply`: `Reply`; `body`: `Body`, what a reply carries; `xids`: `Xids`, that contracts see as a list
+//! - `making`: `Reply::plain`, `detailed` and `carrying`; `copying`: `Request::copied`, and `hold`, what its parts hold
 //!
 //! Their bytes:
 //!
@@ -20,10 +21,12 @@
 #![tactic(auto)]
 
 mod body;
+mod copying;
 mod encode;
 mod fault;
 mod fields;
 mod laws;
+mod making;
 mod numbers;
 mod reply;
 mod reply_decoder;

@@ -17,7 +17,7 @@ use xa_disk::Disk;
 
 /// A log on two disks: the current file has its records of 1 to 524,288 bytes, at most `log_bytes` bytes in all; the
 /// other one is where a checkpoint goes.
-#[derive(Drop)]
+#[derive(Debug, Drop)]
 pub struct Log<D> {
     // The current file's disk and the other one's, and whether the current one is the first of the two.
     pub(crate) disk: D,

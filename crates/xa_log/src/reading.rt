@@ -28,7 +28,7 @@ pub struct Found {
 }
 
 /// What reading a log gave.
-#[derive(Drop)]
+#[derive(Debug, Drop)]
 pub struct Scan {
     pub format: Format,
     pub bodies: Vec<Vec<u8>>,

@@ -10,7 +10,6 @@ ghost use Rattle.xa_assoc.specs.Refusals.{IsBare};
 ghost use Rattle.xa_assoc.specs.Company.{company_of};
 
 use crate::acts::fate_of;
-use crate::replies::detailed;
 use crate::tables::Tables;
 use mv_chain::Fate;
 use std::alloc::AllocError;
@@ -49,7 +48,7 @@ impl Tables {
         ensures bare { IsBare result }
     {
         self.finish_branch(xid, Fate::RolledBack);
-        detailed(XA_RBOTHER, Detail::LogFull)
+        Reply::detailed(XA_RBOTHER, Detail::LogFull)
     }
 }
 

@@ -7,7 +7,6 @@ ghost use Rattle.xa_manager.specs.Stands.{Follows, FollowsDown, Stays, StaysDown
 ghost use Rattle.xa_assoc.specs.Company.{company_of, Gains, Loses};
 ghost use Rattle.xa_assoc.specs.Refusals.{IsBare};
 
-use crate::replies::plain;
 use crate::tables::Tables;
 use xa_assoc::ConnectFault;
 use xa_codes::XA_OK;
@@ -45,7 +44,7 @@ impl Tables {
         ensures bare { IsBare result }
     {
         self.sessions.open(session);
-        plain(XA_OK)
+        Reply::plain(XA_OK)
     }
 
     /// A session with an association of its own isn't closed.
@@ -57,7 +56,7 @@ impl Tables {
     {
         match self.sessions.close(session) {
             Err(reply) => reply,
-            Ok(()) => plain(XA_OK),
+            Ok(()) => Reply::plain(XA_OK),
         }
     }
 }

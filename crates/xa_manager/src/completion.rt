@@ -14,7 +14,6 @@ ghost use Rattle.xa_manager.specs.Connected.{connected_to};
 
 use crate::done::Done;
 use crate::manager::Manager;
-use crate::replies::plain;
 use crate::tables::Tables;
 use mv_chain::Fate;
 use std::alloc::AllocError;
@@ -44,13 +43,13 @@ impl<D: Disk> Manager<D> {
         }
         if let Some(code) = self.tables.mark_of(xid) {
             self.tables.finish_branch(xid, Fate::RolledBack);
-            return Ok(Done::now(plain(code)));
+            return Ok(Done::now(Reply::plain(code)));
         }
         let timestamp = self.tables.branches.timestamp(xid);
         let writes = self.tables.records.writes_of(timestamp)?;
         if writes.is_empty() {
             self.tables.finish_branch(xid, Fate::Committed);
-            return Ok(Done::now(plain(XA_RDONLY)));
+            return Ok(Done::now(Reply::plain(XA_RDONLY)));
         }
         let record = Record::Prepared {
             xid: xid.copied(),
@@ -103,13 +102,13 @@ impl<D: Disk> Manager<D> {
         }
         if let Some(code) = self.tables.mark_of(xid) {
             self.tables.finish_branch(xid, Fate::RolledBack);
-            return Ok(Done::now(plain(code)));
+            return Ok(Done::now(Reply::plain(code)));
         }
         let timestamp = self.tables.branches.timestamp(xid);
         let writes = self.tables.records.writes_of(timestamp)?;
         if writes.is_empty() {
             self.tables.finish_branch(xid, Fate::Committed);
-            return Ok(Done::now(plain(XA_OK)));
+            return Ok(Done::now(Reply::plain(XA_OK)));
         }
         let record = Record::Committed {
             xid: xid.copied(),
@@ -165,7 +164,7 @@ impl<D: Disk> Manager<D> {
         if !self.tables.is_settled(xid) {
             let mark = self.tables.mark_of(xid);
             self.tables.finish_branch(xid, Fate::RolledBack);
-            return Done::now(plain(mark.unwrap_or(XA_OK)));
+            return Done::now(Reply::plain(mark.unwrap_or(XA_OK)));
         }
         let answer = self.journal_small(&Record::Completed {
             xid: xid.copied(),
@@ -187,6 +186,6 @@ impl Tables {
             return reply;
         }
         self.mark_branch(xid, XA_RBOTHER);
-        plain(XA_OK)
+        Reply::plain(XA_OK)
     }
 }

@@ -9,7 +9,6 @@ ghost use Rattle.xa_assoc.specs.Refusals.{IsBare};
 ghost use Rattle.mv_chain.specs.Within.{IsShort};
 ghost use Rattle.xa_manager.specs.Replies.{IsFresh};
 
-use crate::replies::{carrying, detailed, plain};
 use crate::tables::Tables;
 use mv_rules::{Got, Put};
 use std::alloc::AllocError;
@@ -26,15 +25,15 @@ impl Tables {
         ensures fresh { IfOk result IsFresh }
     {
         let Some((_, working)) = self.own_branch(session) else {
-            return Ok(plain(XAER_PROTO));
+            return Ok(Reply::plain(XAER_PROTO));
         };
         if let Some(code) = working.mark {
-            return Ok(plain(code));
+            return Ok(Reply::plain(code));
         }
         match self.read(working.timestamp, key) {
-            Got::Value(value) => Ok(carrying(Body::Value(value))),
-            Got::Absent => Ok(carrying(Body::Absent)),
-            Got::Busy(_) => Ok(detailed(XA_RETRY, Detail::Busy)),
+            Got::Value(value) => Ok(Reply::carrying(Body::Value(value))),
+            Got::Absent => Ok(Reply::carrying(Body::Absent)),
+            Got::Busy(_) => Ok(Reply::detailed(XA_RETRY, Detail::Busy)),
             Got::Memory => Err(AllocError),
         }
     }
@@ -53,18 +52,18 @@ impl Tables {
         ensures bare { IfOk result IsBare }
     {
         let Some((xid, working)) = self.own_branch(session) else {
-            return Ok(plain(XAER_PROTO));
+            return Ok(Reply::plain(XAER_PROTO));
         };
         if let Some(code) = working.mark {
-            return Ok(plain(code));
+            return Ok(Reply::plain(code));
         }
         match self.write(working.timestamp, key, value) {
-            Put::Done => Ok(plain(XA_OK)),
+            Put::Done => Ok(Reply::plain(XA_OK)),
             Put::Late => {
                 self.mark_branch(&xid, XA_RBTRANSIENT);
-                Ok(detailed(XA_RBTRANSIENT, Detail::Late))
+                Ok(Reply::detailed(XA_RBTRANSIENT, Detail::Late))
             }
-            Put::Limit => Ok(detailed(XAER_INVAL, Detail::Limit)),
+            Put::Limit => Ok(Reply::detailed(XAER_INVAL, Detail::Limit)),
             Put::Memory => Err(AllocError),
         }
     }

@@ -1,7 +1,6 @@
 ghost use Rattle.std.specs.Prelude.{◌≡◌};
 ghost use Rattle.xa_manager.specs.Turns.{reply_to};
 
-use crate::replies::{detailed, plain};
 use xa_codes::{Code, Detail, XA_OK, XAER_RMFAIL};
 use xa_frame::Reply;
 use xa_model::{Appending, Outcome};
@@ -29,9 +28,9 @@ impl Done {
         ensures { result ≡ record { reply = reply_to refused answer; outcome = Outcome.Appended answer } }
     {
         let reply = match answer {
-            Appending::Kept => plain(XA_OK),
-            Appending::Refused => detailed(refused, Detail::Device),
-            Appending::Lost => detailed(XAER_RMFAIL, Detail::Device),
+            Appending::Kept => Reply::plain(XA_OK),
+            Appending::Refused => Reply::detailed(refused, Detail::Device),
+            Appending::Lost => Reply::detailed(XAER_RMFAIL, Detail::Device),
         };
         Done {
             reply,

@@ -2,7 +2,6 @@ ghost use Rattle.std.specs.Prelude.{◌≡◌, IfSome, IsSome, None, Option, Boo
 ghost use Rattle.xa_model.specs.Early.{flags_of, call_of, needs_open, passes_down, is_async, has_wrong_info, has_wrong_count, is_invalid, is_opened, early_refusal};
 ghost use Rattle.xa_assoc.specs.Refusals.{is_memory, IsBare};
 
-use crate::replies::plain;
 use xa_codes::{
     Bytes, Call, TMASYNC, XAER_ASYNC, XAER_INVAL, XAER_PROTO, XAER_RMFAIL, legal_flags,
 };
@@ -30,28 +29,6 @@ fn flags_of(request: &Request) -> u32
         | Request::Decide { .. }
         | Request::Doom { .. }
         | Request::Restart => 0,
-    }
-}
-
-fn call_of(request: &Request) -> Call
-    ensures { result ≡ call_of request.now }
-{
-    match request {
-        Request::Open { .. } => Call::Open,
-        Request::Close { .. } => Call::Close,
-        Request::Start { .. } => Call::Start,
-        Request::End { .. } => Call::End,
-        Request::Prepare { .. } => Call::Prepare,
-        Request::Commit { .. } => Call::Commit,
-        Request::Rollback { .. } => Call::Rollback,
-        Request::Forget { .. } => Call::Forget,
-        Request::Recover { .. } => Call::Recover,
-        Request::Get { .. } => Call::Get,
-        Request::Put { .. } => Call::Put,
-        Request::Delete { .. } => Call::Delete,
-        Request::Decide { .. } => Call::Decide,
-        Request::Doom { .. } => Call::Doom,
-        Request::Restart => Call::Restart,
     }
 }
 
@@ -124,7 +101,7 @@ fn has_wrong_count(request: &Request) -> bool
 fn is_invalid(name: &Bytes, request: &Request) -> bool
     ensures { result ≡ is_invalid name.now request.now }
 {
-    let call = call_of(request);
+    let call = request.call();
     let flags = flags_of(request);
     !legal_flags(call, flags) || has_wrong_info(name, request) || has_wrong_count(request)
 }
@@ -144,21 +121,21 @@ pub fn early_refusal(
     ensures counted { result ≡ None → has_wrong_count request.now ≡ false }
     ensures answered { result ≡ None → up ≡ false → passes_down (call_of request.now) ≡ true }
 {
-    let call = call_of(request);
+    let call = request.call();
     if !up && !passes_down(call) {
-        return Some(plain(XAER_RMFAIL));
+        return Some(Reply::plain(XAER_RMFAIL));
     }
     let Some(opened) = session else {
-        return Some(plain(XAER_PROTO));
+        return Some(Reply::plain(XAER_PROTO));
     };
     if needs_open(call) && !opened {
-        return Some(plain(XAER_PROTO));
+        return Some(Reply::plain(XAER_PROTO));
     }
     if is_async(call, flags_of(request)) {
-        return Some(plain(XAER_ASYNC));
+        return Some(Reply::plain(XAER_ASYNC));
     }
     if is_invalid(name, request) {
-        return Some(plain(XAER_INVAL));
+        return Some(Reply::plain(XAER_INVAL));
     }
     None
 }

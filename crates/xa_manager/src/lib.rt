@@ -3,7 +3,8 @@
 //! `manager` has the calls, `calls` the way of a request, `early` the refusals before its row. The rows stand by table: of
 //! sessions in `coming`, of associations in `work`, of branches in `completion`, of the operator in `operator`, of gets and
 //! puts in `data`, of recovery scans in `recovery`. `facts` and `refusals` are what rows ask of the tables, `acts` what they
-//! change. `journal` is how a record comes into the log, and `answered` what its rows do by the device's answer.
+//! change. `journal` is how a record comes into the log, and `answered` what its rows do by the device's answer. `replies` has
+//! those to a connect and to want of memory.
 //!
 //! A boot begins by `opening` or `restarting`: `boots` makes ready what it begins with, `rebuilding` its tables, and
 //! `first_records` logs it where a manager is opened. `laws` says what a crash leaves, and what is promised of
@@ -45,4 +46,5 @@ pub use laws::{
     read_leaves, read_stands,
 };
 pub use manager::Manager;
+pub use replies::{connect_reply, memory_reply};
 pub use settings::Settings;

@@ -2,7 +2,7 @@ ghost use Rattle.std.specs.Prelude.{◌≡◌, pos, IfOk, OnErr};
 ghost use Rattle.xa_model.specs.Events.{IsAsked, AreEvents, IsEvent};
 ghost use Rattle.xa_log.specs.TwoFiles.{first_of, second_of};
 ghost use Rattle.xa_model.specs.Answer.{plain};
-ghost use Rattle.xa_manager.specs.Answered.{FullyAnswered, AnswersAll, ArePinned, StaysFor, connect_reply, memory_code};
+ghost use Rattle.xa_manager.specs.Answered.{FullyAnswered, AnswersAll, ArePinned, StaysFor, connect_reply};
 ghost use Rattle.xa_assoc.specs.Company.{Gains, Loses};
 ghost use Rattle.xa_manager.specs.Connected.{connected_to};
 ghost use Rattle.xa_manager.specs.Promises.{PromisesAll};
@@ -12,13 +12,13 @@ ghost use Rattle.mv_rules.specs.Records.{versions_in};
 
 use crate::done::Done;
 use crate::doubt::Doubt;
-use crate::replies::{carrying, detailed, plain};
+use crate::replies::{connect_reply, memory_code};
 use crate::tables::Tables;
 use std::alloc::AllocError;
 use xa_assoc::ConnectFault;
-use xa_codes::{Code, Detail, TMONEPHASE, XA_OK, XA_RETRY, XAER_RMERR, XAER_RMFAIL};
+use xa_codes::{Detail, XA_OK};
 use xa_disk::Disk;
-use xa_frame::{Body, Reply, Request};
+use xa_frame::{Reply, Request};
 use xa_log::Log;
 use xa_model::{Event, Outcome};
 
@@ -27,7 +27,7 @@ use xa_model::{Event, Outcome};
 ///
 /// Whatever state of the sequential resource manager it stood for before a call, it answers as that manager's step and
 /// then stands for the step's new state. Where memory was wanted, it stands for whatever it stood for.
-#[derive(Drop)]
+#[derive(Debug, Drop)]
 pub struct Manager<D> {
     pub(crate) tables: Tables,
     pub(crate) log: Log<D>,
@@ -78,7 +78,7 @@ impl<D: Disk> Manager<D> {
                 self.outcome = done.outcome;
                 done.reply
             }
-            Err(_) => detailed(code, Detail::Memory),
+            Err(_) => Reply::detailed(code, Detail::Memory),
         }
     }
 
@@ -151,14 +151,10 @@ impl<D: Disk> Manager<D> {
         ensures { FullyAnswered D.Disk self.old event result self.new }
     {
         match event {
-            Event::Connect => match self.connect() {
-                Ok(number) => carrying(Body::Number(number)),
-                Err(ConnectFault::Full) => detailed(XAER_RMERR, Detail::Limit),
-                Err(ConnectFault::Memory) => detailed(XAER_RMFAIL, Detail::Memory),
-            },
+            Event::Connect => connect_reply(self.connect()),
             Event::Hangup(session) => {
                 self.hangup(session);
-                plain(XA_OK)
+                Reply::plain(XA_OK)
             }
             Event::Call(session, request) => self.call(session, request),
         }
@@ -185,21 +181,5 @@ impl<D: Disk> Manager<D> {
             replies.push_reserved(reply);
         }
         Ok(replies)
-    }
-}
-
-/// The code that says that memory was wanted.
-fn memory_code(request: &Request) -> Code
-    ensures { result ≡ memory_code request.now }
-{
-    match request {
-        Request::Commit { flags, .. } => {
-            if flags & TMONEPHASE == TMONEPHASE {
-                XAER_RMFAIL
-            } else {
-                XA_RETRY
-            }
-        }
-        _ => XAER_RMFAIL,
     }
 }

@@ -7,9 +7,9 @@ ghost use Rattle.xa_manager.specs.Connected.{connected_to};
 
 use crate::done::Done;
 use crate::manager::Manager;
-use crate::replies::plain;
 use xa_codes::{Direction, XAER_RMERR};
 use xa_disk::Disk;
+use xa_frame::Reply;
 use xa_xid::Xid;
 
 /// How the operator completes branches in doubt, and how what was decided is forgotten. None of these takes memory.
@@ -24,7 +24,7 @@ impl<D: Disk> Manager<D> {
     {
         let record = match self.tables.decision(direction, xid) {
             Ok(record) => record,
-            Err(code) => return Done::now(plain(code)),
+            Err(code) => return Done::now(Reply::plain(code)),
         };
         let answer = self.journal_small(&record);
         self.tables.take_decided(xid, direction, answer);
@@ -40,7 +40,7 @@ impl<D: Disk> Manager<D> {
     {
         let record = match self.tables.forgetting(xid) {
             Ok(record) => record,
-            Err(code) => return Done::now(plain(code)),
+            Err(code) => return Done::now(Reply::plain(code)),
         };
         let answer = self.journal_small(&record);
         self.tables.take_forgotten(xid, answer);

@@ -10,7 +10,6 @@ ghost use Rattle.xa_heur.specs.Answers.{refused, completion_refusal};
 ghost use Rattle.xa_manager.specs.Kept.{kept_of};
 ghost use Rattle.xa_manager.specs.Stands.{StandsFor};
 
-use crate::replies::plain;
 use crate::tables::Tables;
 use xa_assoc::loose_refusal;
 use xa_branch::{doom_refusal, one_phase_refusal, rollback_refusal, two_phase_refusal};
@@ -121,7 +120,7 @@ impl Tables {
         ensures bare { IfSome result IsBare }
     {
         let code = answer_completed(self.branches.state(xid)?, call)?;
-        Some(plain(code))
+        Some(Reply::plain(code))
     }
 
     /// The record of an operator's decision, or the code that refuses it: only a prepared branch is decided.

@@ -29,7 +29,6 @@ use crate::boots::{NextBoot, Planned, plan};
 use crate::done::Done;
 use crate::doubt::Doubt;
 use crate::manager::Manager;
-use crate::replies::{detailed, plain};
 use std::alloc::AllocError;
 use xa_codes::{Detail, XA_OK, XAER_RMFAIL};
 use xa_disk::Disk;
@@ -85,7 +84,7 @@ impl<D: Disk> Manager<D> {
         self.up = false;
         self.doubt = None;
         Done {
-            reply: detailed(XAER_RMFAIL, detail),
+            reply: Reply::detailed(XAER_RMFAIL, detail),
             outcome: Outcome::Reread {
                 survived,
                 appended: None,
@@ -117,7 +116,7 @@ impl<D: Disk> Manager<D> {
                 self.tables.records = next.records;
                 self.up = true;
                 self.doubt = None;
-                begun(survived, Appending::Kept, plain(XA_OK))
+                begun(survived, Appending::Kept, Reply::plain(XA_OK))
             }
             Appended::Refused => {
                 self.up = false;
@@ -125,7 +124,7 @@ impl<D: Disk> Manager<D> {
                 begun(
                     survived,
                     Appending::Refused,
-                    detailed(XAER_RMFAIL, Detail::Device),
+                    Reply::detailed(XAER_RMFAIL, Detail::Device),
                 )
             }
             Appended::Lost => {
@@ -134,7 +133,7 @@ impl<D: Disk> Manager<D> {
                 begun(
                     survived,
                     Appending::Lost,
-                    detailed(XAER_RMFAIL, Detail::Device),
+                    Reply::detailed(XAER_RMFAIL, Detail::Device),
                 )
             }
             Appended::Full => self.stopped(survived, Detail::LogFull),
@@ -170,7 +169,7 @@ impl<D: Disk> Manager<D> {
     {
         self.up = false;
         Done {
-            reply: detailed(XAER_RMFAIL, Detail::Nothing),
+            reply: Reply::detailed(XAER_RMFAIL, Detail::Nothing),
             outcome: Outcome::Reread {
                 survived: false,
                 appended: None,
@@ -186,7 +185,7 @@ impl<D: Disk> Manager<D> {
     {
         self.up = false;
         Done {
-            reply: detailed(XAER_RMFAIL, Detail::Device),
+            reply: Reply::detailed(XAER_RMFAIL, Detail::Device),
             outcome: Outcome::Failed,
         }
     }
@@ -256,7 +255,7 @@ impl<D: Disk> Manager<D> {
                 self.outcome = done.outcome;
                 done.reply
             }
-            Err(_) => detailed(XAER_RMFAIL, Detail::Memory),
+            Err(_) => Reply::detailed(XAER_RMFAIL, Detail::Memory),
         }
     }
 }

@@ -8,7 +8,7 @@ use xa_branch::Branches;
 use xa_codes::Bytes;
 
 /// What a manager keeps: its settings, the tables of sessions and of branches, and the versions of all keys.
-#[derive(Drop)]
+#[derive(Debug, Drop)]
 pub struct Tables {
     pub alloc: Global,
     pub name: Bytes,

@@ -7,7 +7,6 @@ ghost use Rattle.xa_manager.specs.Replies.{IsFresh};
 ghost use Rattle.xa_assoc.specs.Refusals.{IsBare};
 ghost use Rattle.xa_assoc.specs.Company.{company_of};
 
-use crate::replies::{carrying, plain};
 use crate::tables::Tables;
 use std::alloc::AllocError;
 use xa_branch::Kind;
@@ -45,7 +44,7 @@ impl Tables {
             return Ok(reply);
         }
         let timestamp = self.begin_branch(session, xid)?;
-        Ok(carrying(Body::Number(timestamp)))
+        Ok(Reply::carrying(Body::Number(timestamp)))
     }
 
     #[tactic(auto, using(crate::proofs::Replying::bare_fresh, crate::proofs::Replying::number_fresh))]
@@ -60,11 +59,11 @@ impl Tables {
             return Ok(reply);
         }
         if let Some(code) = self.mark_of(xid) {
-            return Ok(plain(code));
+            return Ok(Reply::plain(code));
         }
         let timestamp = self.branches.timestamp(xid);
         self.join_branch(session, xid)?;
-        Ok(carrying(Body::Number(timestamp)))
+        Ok(Reply::carrying(Body::Number(timestamp)))
     }
 
     /// What would be resumed of a marked branch ends.
@@ -82,11 +81,11 @@ impl Tables {
         let from = self.resumed_kind(session, xid);
         if let Some(code) = self.mark_of(xid) {
             self.leave_branch(session, xid, from);
-            return Ok(plain(code));
+            return Ok(Reply::plain(code));
         }
         let timestamp = self.branches.timestamp(xid);
         self.resume_branch(session, xid, from)?;
-        Ok(carrying(Body::Number(timestamp)))
+        Ok(Reply::carrying(Body::Number(timestamp)))
     }
 }
 
@@ -117,13 +116,13 @@ impl Tables {
         }
         if let Some(code) = self.mark_of(xid) {
             self.leave_branch(session, xid, Kind::Active);
-            return plain(code);
+            return Reply::plain(code);
         }
         if let Some(reply) = self.loose_refusal(migrates, xid) {
             return reply;
         }
         self.suspend_branch(session, xid, migrates);
-        plain(XA_OK)
+        Reply::plain(XA_OK)
     }
 
     fn leave(&mut self, session: u64, fails: bool, xid: &Xid) -> Reply
@@ -138,13 +137,13 @@ impl Tables {
         let kind = self.ended_kind(session, xid);
         if let Some(code) = self.mark_of(xid) {
             self.leave_branch(session, xid, kind);
-            return plain(code);
+            return Reply::plain(code);
         }
         if fails {
             self.fail_branch(session, xid, kind);
-            return plain(XA_RBROLLBACK);
+            return Reply::plain(XA_RBROLLBACK);
         }
         self.leave_branch(session, xid, kind);
-        plain(XA_OK)
+        Reply::plain(XA_OK)
     }
 }

@@ -1,25 +1,12 @@
 -- What a step answers: a reply and the state after it.
 use Rattle.std.specs.Prelude.{ℤ, pos, Bool, Option, Some, None, List, [], ◌∷◌, if◌then◌else◌}
-use Rattle.xa_codes.specs.declared.detail.Detail.{Detail}
-use Rattle.xa_codes.specs.declared.detail.Detail.TheVariants as detail
+pub use Rattle.xa_frame.specs.Made.{plain, detailed, carrying}
 use Rattle.xa_frame.specs.declared.reply.Reply.{Reply}
-use Rattle.xa_frame.specs.declared.body.Body.{Body}
-use Rattle.xa_frame.specs.declared.body.Body.TheVariants as body
 use Rattle.xa_model.specs.State.{State}
 
 pub record Answer : Type 0 where
   pub reply : Reply
   pub after : State
-
--- replies that carry nothing, a detail, or a body
-abbrev pub plain : ℤ → Reply
-plain code = record { code = code; detail = detail.Nothing; place = 0; body = body.Nothing }
-
-abbrev pub detailed : ℤ → Detail → Reply
-detailed code detail = record { code = code; detail = detail; place = 0; body = body.Nothing }
-
-abbrev pub carrying : Body → Reply
-carrying body = record { code = pos 0; detail = detail.Nothing; place = 0; body = body }
 
 abbrev pub answer : Reply → State → Answer
 answer reply after = record { reply = reply; after = after }

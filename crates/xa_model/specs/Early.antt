@@ -6,27 +6,11 @@ use Rattle.xa_codes.specs.declared.codes.TheConstants.{XAER_PROTO, XAER_ASYNC, X
 use Rattle.xa_codes.specs.declared.flags.TheConstants.{TMASYNC}
 use Rattle.xa_codes.specs.declared.call.Call.{Call}
 use Rattle.xa_codes.specs.declared.call.Call.TheVariants as call
+pub use Rattle.xa_frame.specs.Spelling.{call_of}
 use Rattle.xa_frame.specs.declared.reply.Reply.{Reply}
 use Rattle.xa_frame.specs.declared.request.Request.{Request}
 use Rattle.xa_frame.specs.declared.request.Request.TheVariants.{Open, Close, Start, End, Prepare, Commit, Rollback, Forget, Recover, Get, Put, Delete, Decide, Doom, Restart}
 use Rattle.xa_model.specs.Answer.{plain, first}
-
-abbrev pub call_of : Request → Call
-call_of (Open flags info) = call.Open
-call_of (Close flags) = call.Close
-call_of (Start flags xid) = call.Start
-call_of (End flags xid) = call.End
-call_of (Prepare flags xid) = call.Prepare
-call_of (Commit flags xid) = call.Commit
-call_of (Rollback flags xid) = call.Rollback
-call_of (Forget flags xid) = call.Forget
-call_of (Recover flags count) = call.Recover
-call_of (Get key) = call.Get
-call_of (Put key value) = call.Put
-call_of (Delete key) = call.Delete
-call_of (Decide direction xid) = call.Decide
-call_of (Doom xid) = call.Doom
-call_of Restart = call.Restart
 
 -- a request with no field of flags has none
 abbrev pub flags_of : Request → ℕ

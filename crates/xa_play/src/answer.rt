@@ -1,26 +1,21 @@
 //! What one line is answered.
-ghost use Rattle.std.specs.Prelude.{◌≡◌, ◌<◌, ◌^◌, IfErr, IfOk};
-ghost use Rattle.xa_frame.specs.Limits.{Holds, IsRequest};
-ghost use Rattle.xa_model.specs.Answer.{detailed};
+ghost use Rattle.std.specs.Prelude.{IfErr, IfOk};
+ghost use Rattle.xa_frame.specs.Limits.{IsRequest};
 ghost use Rattle.xa_model.specs.Events.{IsAsked};
 ghost use Rattle.xa_script.specs.Lines as lines;
-ghost use Rattle.xa_xid.specs.Triple.{IsWithinLimits};
 ghost use Rattle.xa_manager.specs.Opening.{IsBadSetting};
 ghost use Rattle.xa_play.specs.Disks.{Answered, Planned};
 ghost use Rattle.xa_play.specs.Played.{AnswerFails, LineAnswered};
 
 use crate::fault::PlayFault;
 use crate::opening::{crash, reopen};
-use arrayvec::ArrayVec;
 use std::alloc::{AllocError, Global};
-use xa_assoc::ConnectFault;
-use xa_codes::{Code, Detail, XA_OK, XAER_INVAL, XAER_RMERR, XAER_RMFAIL};
+use xa_codes::{Detail, XA_OK, XAER_INVAL};
 use xa_disk::{Effect, MemDisk};
-use xa_frame::{Body, Reply, Request};
-use xa_manager::{Manager, Settings};
+use xa_frame::{Reply, Request};
+use xa_manager::{Manager, Settings, connect_reply};
 use xa_model::Event;
 use xa_script::{CallEffect, Line, LogFile};
-use xa_xid::Xid;
 
 /// The manager behind a line, and the reply that the line shows, if it shows one.
 pub fn answer(
@@ -37,7 +32,7 @@ pub fn answer(
     let mut manager = manager;
     match said {
         Line::Silent => Ok((manager, None)),
-        Line::Unknown => Ok((manager, Some(bare(XAER_INVAL, Detail::Frame)))),
+        Line::Unknown => Ok((manager, Some(Reply::detailed(XAER_INVAL, Detail::Frame)))),
         Line::Connect => {
             let reply = connect(&mut manager);
             Ok((manager, Some(reply)))
@@ -56,11 +51,11 @@ pub fn answer(
         }
         Line::Reopen => {
             let manager = reopen(alloc, manager, settings)?;
-            Ok((manager, Some(bare(XA_OK, Detail::Nothing))))
+            Ok((manager, Some(Reply::plain(XA_OK))))
         }
         Line::Crash => {
             let manager = crash(alloc, manager, settings)?;
-            Ok((manager, Some(bare(XA_OK, Detail::Nothing))))
+            Ok((manager, Some(Reply::plain(XA_OK))))
         }
     }
 }
@@ -69,16 +64,7 @@ pub fn answer(
 fn connect(manager: &mut Manager<MemDisk>) -> Reply
     ensures { Answered manager.old Event.Connect result manager.new }
 {
-    match manager.connect() {
-        Ok(number) => Reply {
-            code: XA_OK,
-            detail: Detail::Nothing,
-            place: 0,
-            body: Body::Number(number),
-        },
-        Err(ConnectFault::Full) => bare(XAER_RMERR, Detail::Limit),
-        Err(ConnectFault::Memory) => bare(XAER_RMFAIL, Detail::Memory),
-    }
+    connect_reply(manager.connect())
 }
 
 /// Hangs a session up, whether it is connected or not.
@@ -86,7 +72,7 @@ fn hang_up(manager: &mut Manager<MemDisk>, session: u64) -> Reply
     ensures { Answered manager.old (Event.Hangup session) result manager.new }
 {
     manager.hangup(session);
-    bare(XA_OK, Detail::Nothing)
+    Reply::plain(XA_OK)
 }
 
 /// Asks a request of a session.
@@ -95,47 +81,8 @@ fn call(manager: &mut Manager<MemDisk>, session: u64, request: Request) -> Reply
     ensures asked { IsAsked request }
     ensures answered { Answered manager.old (Event.Call session request) result manager.new }
 {
-    hold(&request);
+    request.hold();
     manager.call(session, request)
-}
-
-/// What the types of a request's parts hold: numbers of 32 bits, and XIDs.
-fn hold(request: &Request)
-    ensures { Holds request.now }
-{
-    match request {
-        Request::Open { flags, .. } | Request::Close { flags } => hold_flags(*flags),
-        Request::Recover { flags, count } => {
-            hold_flags(*flags);
-            hold_flags(*count);
-        }
-        Request::Start { flags, xid }
-        | Request::End { flags, xid }
-        | Request::Prepare { flags, xid }
-        | Request::Commit { flags, xid }
-        | Request::Rollback { flags, xid }
-        | Request::Forget { flags, xid } => {
-            hold_flags(*flags);
-            hold_name(xid);
-        }
-        Request::Decide { xid, .. } | Request::Doom { xid } => hold_name(xid),
-        Request::Get { .. } | Request::Put { .. } | Request::Delete { .. } | Request::Restart => {}
-    }
-}
-
-/// What a number of 32 bits holds.
-fn hold_flags(flags: u32)
-    ensures { flags < 2 ^ 32 }
-{
-    let _flags = flags;
-}
-
-/// What an XID holds.
-fn hold_name(xid: &Xid)
-    ensures { IsWithinLimits xid.now }
-{
-    let mut bytes: ArrayVec<u8, 134> = ArrayVec::new();
-    xid.put(&mut bytes);
 }
 
 /// Plans that this device call of the log's file that is named fails with this effect.
@@ -154,17 +101,5 @@ fn plan(
     match file {
         LogFile::Current => manager.fail(call, effect),
         LogFile::Other => manager.fail_other(call, effect),
-    }
-}
-
-/// A reply that carries nothing.
-fn bare(code: Code, detail: Detail) -> Reply
-    ensures { result ≡ detailed code detail }
-{
-    Reply {
-        code,
-        detail,
-        place: 0,
-        body: Body::Nothing,
     }
 }

@@ -2,13 +2,16 @@ ghost use Rattle.std.specs.Prelude.{◌≡◌};
 ghost use Rattle.xa_record.specs.declared.fault.RecordFault.TheVariants.{Memory};
 
 use std::alloc::{AllocError, AllocFailed};
+use thiserror::Error;
 
 /// Why bytes gave no record.
-#[derive(Clone, Copy, Debug, PartialEq, Eq)]
+#[derive(Clone, Copy, Debug, PartialEq, Eq, Error)]
 pub enum RecordFault {
     /// They are no record's body.
+    #[error("record malformed")]
     Malformed = 1,
     /// They are one, but memory was wanted.
+    #[error("no memory")]
     Memory = 2,
 }
 

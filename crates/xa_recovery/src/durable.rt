@@ -15,7 +15,7 @@ pub struct InDoubt {
 }
 
 /// What lasts: what the records of a log come to.
-#[derive(Drop)]
+#[derive(Debug, Drop)]
 pub struct Durable {
     pub(crate) boot: u32,
     pub(crate) committed: BTreeMap<u64, Writes>,

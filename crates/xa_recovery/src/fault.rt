@@ -3,22 +3,27 @@ ghost use Rattle.xa_recovery.specs.declared.fault.AddFault.TheVariants.{Memory};
 ghost use Rattle.xa_recovery.specs.declared.fault.RebuildFault.TheVariants.{Memory as WantsMemory};
 
 use std::alloc::{AllocError, AllocFailed};
+use thiserror::Error;
 
 /// Why a record wasn't taken.
-#[derive(Clone, Copy, Debug, PartialEq, Eq)]
+#[derive(Clone, Copy, Debug, PartialEq, Eq, Error)]
 pub enum AddFault {
     /// Want of memory.
+    #[error("no memory")]
     Memory,
     /// It may not stand behind those that were read.
+    #[error("record out of order")]
     Order,
 }
 
 /// Why records come to nothing.
-#[derive(Clone, Copy, Debug, PartialEq, Eq)]
+#[derive(Clone, Copy, Debug, PartialEq, Eq, Error)]
 pub enum RebuildFault {
     /// Want of memory.
+    #[error("no memory")]
     Memory,
     /// The record with this index, counted from 0, is the first that may not stand behind those before it.
+    #[error("record {0} out of order")]
     Order(usize),
 }
 

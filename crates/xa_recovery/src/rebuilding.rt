@@ -14,7 +14,7 @@ use xa_xid::Xid;
 /// What was read of a log, record by record.
 ///
 /// A record takes time that grows with the logarithm of the number of branches, and with its own length.
-#[derive(Drop)]
+#[derive(Debug, Drop)]
 pub struct Rebuilding {
     pub(crate) alloc: Global,
     /// The last boot, or 0.

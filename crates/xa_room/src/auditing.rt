@@ -10,17 +10,22 @@ use crate::share::Share;
 use crate::start::Start;
 use std::alloc::{AllocError, Global};
 use std::sync::ledger::Ledger;
+use thiserror::Error;
 
 /// What an audit finds at fault first.
-#[derive(Clone, Copy, Debug, PartialEq, Eq)]
+#[derive(Clone, Copy, Debug, PartialEq, Eq, Error)]
 pub enum AuditFault {
     /// The shares' counts don't add up to the number of entries.
+    #[error("counts not the number of entries")]
     Count,
     /// The place of the receipt of this index is 0 or above the last, or a receipt before it has it.
+    #[error("receipt {0} with a place that is none or another's")]
     Place(usize),
     /// The receipt of this index isn't the entry at its place.
+    #[error("receipt {0} not the entry at its place")]
     Differs(usize),
     /// There was no memory for the audit.
+    #[error("no memory")]
     Memory,
 }
 

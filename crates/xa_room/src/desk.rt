@@ -6,10 +6,9 @@ ghost use Rattle.xa_room.specs.Book.{placed};
 ghost use Rattle.xa_room.specs.Share.{Records};
 
 use crate::book::Receipt;
-use crate::copies::{hold, two_copies};
+use crate::copies::two_copies;
 use crate::counted::Counted;
 use crate::manages::Manages;
-use crate::replies::no_memory;
 use crate::room::Room;
 use crate::share::Share;
 use crate::start::Start;
@@ -19,6 +18,7 @@ use std::sync::ledger::{Blank, Book, Ledger};
 use std::sync::{Mutex, Wait};
 use xa_assoc::ConnectFault;
 use xa_frame::{Reply, Request};
+use xa_manager::memory_reply;
 
 /// A room behind the one lock, which many threads share. Each call is one call of the room. It is recorded by the caller's
 /// share, whose count so tells how many of the entries are the caller's.
@@ -56,10 +56,10 @@ impl<M: Manages, S: Start, L: Ledger> Desk<M, S, L> {
             (λ r. (r.reply ≡ result.0) × Records share.old share.new (Event.Call session request) r) }
         ensures limits { IsReply result.0 }
     {
-        hold(&request);
+        request.hold();
         // made before the lock is taken, so that it is held no longer than the call takes
         let Some((first, second)) = two_copies(self.alloc, &request) else {
-            return (no_memory(&request), None);
+            return (memory_reply(&request), None);
         };
         take(rt, &self.lock).call(share, session, request, first, second)
     }

@@ -9,17 +9,18 @@ ghost use Rattle.xa_room.specs.Kept.{IsLegal, IsCounted, Adds, Leaves};
 ghost use Rattle.xa_room.specs.Promises.{Promises};
 
 use crate::book::{Entry, Receipt};
-use crate::copies::{hold, two_copies};
+use crate::copies::two_copies;
 use crate::manages::Manages;
 use crate::notes::{make_room, note};
-use crate::replies::{done, is_memory, no_memory, placed, reply_to};
+use crate::replies::{is_memory, placed};
 use crate::spare::Spare;
 use crate::start::Start;
 use std::alloc::{AllocError, Global};
 use std::marker::{Model, PhantomData};
 use xa_assoc::ConnectFault;
+use xa_codes::XA_OK;
 use xa_frame::{Reply, Request};
-use xa_manager::reached_promises;
+use xa_manager::{connect_reply, memory_reply, reached_promises};
 use xa_model::Event;
 
 /// A manager with the history of all that was asked of it. To a contract it is the manager as it is now, and the entries.
@@ -79,9 +80,9 @@ impl<M: Manages, S: Start> Room<M, S> {
             (λ r. (r.reply ≡ result.0) × Adds M.stands M.trusts M.told M.has_called M.failures self.old self.new (Event.Call session request) r.reply r) }
         ensures limits { IsReply result.0 }
     {
-        hold(&request);
+        request.hold();
         let Some((first, second)) = two_copies(self.alloc, &request) else {
-            return (no_memory(&request), None);
+            return (memory_reply(&request), None);
         };
         self.call_copied(session, request, first, second)
     }
@@ -105,7 +106,7 @@ impl<M: Manages, S: Start> Room<M, S> {
     {
         let count = self.manager.connected() as usize + 1;
         if !make_room(&mut self.history, count) || !self.kept.fill() || !self.given.fill() {
-            return (no_memory(&request), None);
+            return (memory_reply(&request), None);
         }
         let reply = self.manager.call(session, request);
         if is_memory(&reply) {
@@ -146,9 +147,9 @@ impl<M: Manages, S: Start> Room<M, S> {
             &mut self.history,
             Event::Connect,
             self.manager.outcome(),
-            reply_to(session),
+            connect_reply(session),
             Event::Connect,
-            reply_to(session),
+            connect_reply(session),
         );
         (session, Some(receipt))
     }
@@ -167,9 +168,9 @@ impl<M: Manages, S: Start> Room<M, S> {
             &mut self.history,
             Event::Hangup(session),
             self.manager.outcome(),
-            done(),
+            Reply::plain(XA_OK),
             Event::Hangup(session),
-            done(),
+            Reply::plain(XA_OK),
         ))
     }
 

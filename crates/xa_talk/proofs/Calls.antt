@@ -2,11 +2,11 @@
 use Rattle.std.proofs.Common.{◌≡◌, ℕ, zero, suc, ◌+◌, ◌<◌, List, [], ◌∷◌, length, Option, Some, None, Result, Ok, arith, ap, sym, ◌∙◌, slice_index_or, slice_set}
 use Rattle.std.specs.Prelude.{option_and_then}
 use Rattle.xa_codes.specs.declared.codes.TheConstants.{XAER_PROTO}
-use Rattle.xa_codes.specs.declared.detail.Detail.TheVariants as detail
+use Rattle.xa_frame.specs.Made.{plain}
 use Rattle.xa_frame.specs.declared.reply.Reply.{Reply}
 use Rattle.xa_frame.specs.declared.request.Request.{Request}
 use Rattle.xa_talk.specs.declared.fault.TalkFault.{TalkFault}
-use Rattle.xa_talk.specs.Answers.{CallAnswered, bare}
+use Rattle.xa_talk.specs.Answers.{CallAnswered}
 use Rattle.xa_talk.specs.Exchanges.{Exchanged}
 use Rattle.xa_talk.specs.Numbers.{connection_at, place_of, there, with_at}
 
@@ -28,5 +28,5 @@ module _ {C : Type 0} (sent left : C → Option (List ℕ)) (n place : ℕ) (req
       CallAnswered sent left n request answer places (slice_set places place (Some c'))
   call_over c c' at done = rw (found (Some c) at) (c', sym (ap (λ (o : Option ℕ). with_at o (Some c') places) is), done)
 
-  pub call_none : (places' : List (Option C)) → there places place ≡ None → answer ≡ Ok (bare XAER_PROTO detail.Nothing) → places' ≡ places → CallAnswered sent left n request answer places places'
+  pub call_none : (places' : List (Option C)) → there places place ≡ None → answer ≡ Ok (plain XAER_PROTO) → places' ≡ places → CallAnswered sent left n request answer places places'
   call_none places' at refused same = rw (found None at) (refused, same)

@@ -1,8 +1,8 @@
 -- What one line is answered, and what it leaves of the script's connections.
-use Rattle.std.specs.Prelude.{ℕ, ℤ, ◌≡◌, ◌⊎◌, ◌+◌, pos, List, nat_lt, Option, Some, None, Result, Ok, Err, MatchBool, MatchOption, MatchResult}
+use Rattle.std.specs.Prelude.{ℕ, ◌≡◌, ◌⊎◌, ◌+◌, pos, List, nat_lt, Option, Some, None, Result, Ok, Err, MatchBool, MatchOption, MatchResult}
 use Rattle.xa_codes.specs.declared.codes.TheConstants.{XAER_INVAL, XAER_PROTO, XAER_RMERR}
-use Rattle.xa_codes.specs.declared.detail.Detail.{Detail}
 use Rattle.xa_codes.specs.declared.detail.Detail.TheVariants as detail
+use Rattle.xa_frame.specs.Made.{plain, detailed, carrying}
 use Rattle.xa_frame.specs.declared.body.Body.TheVariants as body
 use Rattle.xa_frame.specs.declared.reply.Reply.{Reply}
 use Rattle.xa_frame.specs.declared.request.Request.{Request}
@@ -13,17 +13,9 @@ use Rattle.xa_talk.specs.declared.fault.TalkFault.TheVariants as faults
 use Rattle.xa_talk.specs.Exchanges.{Exchanged}
 use Rattle.xa_talk.specs.Numbers.{connection_at, free_place, place_of, with_at, with_new}
 
--- a reply that carries nothing
-abbrev pub bare : ℤ → Detail → Reply
-bare code detail = record { code = code; detail = detail; place = 0; body = body.Nothing }
-
--- the reply to a connect
-abbrev pub numbered : ℕ → Reply
-numbered n = record { code = pos 0; detail = detail.Nothing; place = 0; body = body.Number n }
-
 -- the line isn't in the grammar, or speaks of what only disks in memory have
 abbrev pub refused : Reply
-refused = bare XAER_INVAL detail.Frame
+refused = detailed XAER_INVAL detail.Frame
 
 -- the most connections, as a manager has sessions
 abbrev pub most_connections : ℕ
@@ -41,7 +33,7 @@ module _ {C : Type 0} (sent left : C → Option (List ℕ)) where
   abbrev pub CallAnswered : ℕ → Request → Result Reply TalkFault → List (Option C) → List (Option C) → Type 0
   CallAnswered n request answer places places' =
       MatchOption (connection_at n places)
-      ((answer ≡ Ok (bare XAER_PROTO detail.Nothing)) × (places' ≡ places))
+      ((answer ≡ Ok (plain XAER_PROTO)) × (places' ≡ places))
       (λ c. (c' : C) × (places' ≡ with_at (place_of n) (Some c') places) × Exchanged request answer (sent c) (sent c') (left c) (left c'))
 
   -- a connection more, which has the least free number; or none could be opened
@@ -49,14 +41,14 @@ module _ {C : Type 0} (sent left : C → Option (List ℕ)) where
   ConnectAnswered answer places places' =
       MatchBool (nat_lt (free_place places) most_connections)
       (MatchResult answer
-      (λ reply. (c : C) × (reply ≡ numbered (free_place places + 1)) × (places' ≡ with_new c places))
+      (λ reply. (c : C) × (reply ≡ carrying (body.Number (free_place places + 1))) × (places' ≡ with_new c places))
       (λ fault. (fault ≡ faults.Connect) ⊎ (fault ≡ faults.Memory)))
-      ((answer ≡ Ok (bare XAER_RMERR detail.Limit)) × (places' ≡ places))
+      ((answer ≡ Ok (detailed XAER_RMERR detail.Limit)) × (places' ≡ places))
 
   -- What a line is answered, if it is answered anything. Where it fails that is a fault of the connection or of memory.
   abbrev pub LineAnswered : Line → Result (Option Reply) TalkFault → List (Option C) → List (Option C) → Type 0
   LineAnswered Silent answer places places' = (answer ≡ Ok None) × (places' ≡ places)
   LineAnswered Connect answer places places' = (reply : Result Reply TalkFault) × (answer ≡ shown reply) × ConnectAnswered reply places places'
-  LineAnswered (Hangup n) answer places places' = (answer ≡ Ok (Some (bare (pos 0) detail.Nothing))) × (places' ≡ with_at (place_of n) None places)
+  LineAnswered (Hangup n) answer places places' = (answer ≡ Ok (Some (plain (pos 0)))) × (places' ≡ with_at (place_of n) None places)
   LineAnswered (Call n request) answer places places' = (reply : Result Reply TalkFault) × (answer ≡ shown reply) × CallAnswered n request reply places places'
   LineAnswered said answer places places' = (answer ≡ Ok (Some refused)) × (places' ≡ places)

@@ -2,7 +2,7 @@
 ghost use Rattle.std.specs.Prelude.{◌≡◌, ◌+◌, pos};
 ghost use Rattle.xa_frame.specs.Limits.{IsRequest};
 ghost use Rattle.xa_script.specs.Lines as lines;
-ghost use Rattle.xa_talk.specs.Answers.{CallAnswered, ConnectAnswered, LineAnswered, bare, numbered, shown};
+ghost use Rattle.xa_talk.specs.Answers.{CallAnswered, ConnectAnswered, LineAnswered, shown};
 
 use crate::connections::{Connections, place_of};
 use crate::dial::Dial;
@@ -10,7 +10,7 @@ use crate::exchanging::exchange;
 use crate::fault::TalkFault;
 use std::alloc::Global;
 use std::io::{Read, Write};
-use xa_codes::{Code, Detail, XA_OK, XAER_INVAL, XAER_PROTO, XAER_RMERR};
+use xa_codes::{Detail, XA_OK, XAER_INVAL, XAER_PROTO, XAER_RMERR};
 use xa_frame::{Body, Reply, Request};
 use xa_script::Line;
 
@@ -32,11 +32,11 @@ pub fn answer<R: Read + Drop, W: Write + Drop, D: Dial<R, W>>(
         Line::Connect => shown(connect(dial, connections)),
         Line::Hangup(number) => {
             connections.close(number);
-            Ok(Some(bare(XA_OK, Detail::Nothing)))
+            Ok(Some(Reply::plain(XA_OK)))
         }
         Line::Call(number, request) => shown(call(alloc, connections, number, &request)),
         Line::Unknown | Line::Fail { .. } | Line::Reopen | Line::Crash => {
-            Ok(Some(bare(XAER_INVAL, Detail::Frame)))
+            Ok(Some(Reply::detailed(XAER_INVAL, Detail::Frame)))
         }
     }
 }
@@ -60,12 +60,12 @@ fn connect<R: Read + Drop, W: Write + Drop, D: Dial<R, W>>(
 {
     let place = connections.free_place();
     if place >= MOST_CONNECTIONS {
-        return Ok(bare(XAER_RMERR, Detail::Limit));
+        return Ok(Reply::detailed(XAER_RMERR, Detail::Limit));
     }
     match dial.dial() {
         Ok(connection) => {
             connections.add(connection)?;
-            Ok(numbered(place as u64 + 1))
+            Ok(Reply::carrying(Body::Number(place as u64 + 1)))
         }
         Err(_) => Err(TalkFault::Connect),
     }
@@ -82,37 +82,13 @@ fn call<R: Read + Drop, W: Write + Drop>(
     ensures { CallAnswered (λ c. W.contents c.writer) (λ c. R.remaining c.reader) number request.now result connections.old.places.items connections.new.places.items }
 {
     let Some(place) = place_of(number) else {
-        return Ok(bare(XAER_PROTO, Detail::Nothing));
+        return Ok(Reply::plain(XAER_PROTO));
     };
     if place >= connections.places.len() {
-        return Ok(bare(XAER_PROTO, Detail::Nothing));
+        return Ok(Reply::plain(XAER_PROTO));
     }
     match &mut connections.places[place] {
         Some(connection) => exchange(alloc, connection, request),
-        None => Ok(bare(XAER_PROTO, Detail::Nothing)),
-    }
-}
-
-/// A reply that carries nothing.
-fn bare(code: Code, detail: Detail) -> Reply
-    ensures { result ≡ bare code detail }
-{
-    Reply {
-        code,
-        detail,
-        place: 0,
-        body: Body::Nothing,
-    }
-}
-
-/// The reply to a connect.
-fn numbered(number: u64) -> Reply
-    ensures { result ≡ numbered number }
-{
-    Reply {
-        code: XA_OK,
-        detail: Detail::Nothing,
-        place: 0,
-        body: Body::Number(number),
+        None => Ok(Reply::plain(XAER_PROTO)),
     }
 }

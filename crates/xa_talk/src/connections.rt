@@ -6,7 +6,7 @@ use crate::dial::Connection;
 use std::alloc::{AllocError, Global};
 
 /// The connections of a script. The first number is 1, and each connection gets the least that is free.
-#[derive(Drop)]
+#[derive(Debug, Drop)]
 pub struct Connections<R, W> {
     pub places: Vec<Option<Connection<R, W>>>,
 }

@@ -1,7 +1,7 @@
 use std::io;
 
 /// A connection to a server: what comes from it, and what goes to it. It is closed when it is dropped.
-#[derive(Drop)]
+#[derive(Debug, Drop)]
 pub struct Connection<R, W> {
     pub reader: R,
     pub writer: W,

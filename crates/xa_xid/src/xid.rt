@@ -5,6 +5,7 @@ ghost use Rattle.xa_xid.specs.Triple.{IsXid};
 use arrayvec::ArrayVec;
 use std::cmp::Ordering;
 use std::marker::Model;
+use thiserror::Error;
 
 /// The name of a branch, in at most 134 bytes of its own. Contracts see it as its three parts.
 #[derive(Debug, Drop)]
@@ -26,13 +27,16 @@ impl Model for Xid {
 }
 
 /// Why parts are no XID.
-#[derive(Clone, Copy, Debug, PartialEq, Eq)]
+#[derive(Clone, Copy, Debug, PartialEq, Eq, Error)]
 pub enum XidFault {
     /// The format number is -1.
+    #[error("format number -1")]
     Null = 1,
     /// The gtrid is empty or has more than 64 bytes.
+    #[error("gtrid not of 1 to 64 bytes")]
     GtridLength = 2,
     /// The bqual has more than 64 bytes.
+    #[error("bqual not of 0 to 64 bytes")]
     BqualLength = 3,
 }
 

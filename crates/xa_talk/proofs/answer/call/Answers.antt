@@ -18,7 +18,7 @@ returns-in-None g c =
     let is : place_of c.args.number ≡ Some c.in-Some.place = sym c.place_of.ensures ∙ c.in-Some.is in
     let within : c.in-Some.place < length places = omega (arith, c.if-place-len.false, c.len.ensures, c.args.connections.now.places.ok) in
     let value = sym c.index_mut.ensures.value in
-    rw c.bare-in-None.ensures
+    rw c.plain-in-None.ensures
     (call_none (λ k. g.W.Write.contents k.writer) (λ k. g.R.Read.remaining k.reader) c.args.number c.in-Some.place c.args.request.now (Ok _) places is
     _ (there_at places c.in-Some.place None c.index_mut.result.now within (value ∙ c.in-None.is)) refl
     (kept_at places c.in-Some.place c.index_mut.result.now c.index_mut.result.now within value))

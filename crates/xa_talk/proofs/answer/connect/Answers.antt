@@ -8,4 +8,4 @@ use Rattle.xa_talk.proofs.answer.connect.Goals as goal
 pub returns-in_ok-add-in-Ok : goal.returns-in_ok-add-in-Ok
 returns-in_ok-add-in-Ok g c =
     let below : nat_lt (free_place c.args.connections.now.places.items) most_connections ≡ true = grind (arith, nat_tests, c.free_place-place.ensures, c.if-place-ge-MOST_CONNECTIONS.false) in
-    rw (below, c.numbered.ensures, c.free_place-place.ensures) (c.in-Ok.connection, refl, c.in_ok-add-in-Ok.ensures)
+    rw (below, c.carrying.ensures, c.free_place-place.ensures) (c.in-Ok.connection, refl, c.in_ok-add-in-Ok.ensures)

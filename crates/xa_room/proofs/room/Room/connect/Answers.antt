@@ -11,12 +11,12 @@ invariant_of-self-2 g c =
     let m = g.M.Manages in
     let room = c.self.inside in
     let connect = c.connect-session.ensures in
-    let served : is_memory c.reply_to.result.detail ≡ false = ap (λ (r : Reply). is_memory r.detail) c.reply_to.ensures ∙ sym c.if-found_none.ensures.value in
+    let served : is_memory c.connect_reply.result.detail ≡ false = ap (λ (r : Reply). is_memory r.detail) c.connect_reply.ensures.value ∙ sym c.if-found_none.ensures.value in
     kept_noted m.stands m.trusts m.told m.has_called m.failures m.sessions g.S.Start.start g.S.Start.base room.manager c.connect-session.new.self
     room.history.items _ _ _ _ Connect _ _
     c.self.invariant
-    (subst (λ (r : Reply). Acts m.stands m.trusts m.told m.has_called m.failures room.manager Connect r c.connect-session.new.self) (sym c.reply_to.ensures) connect.acts)
-    served (ap (λ (r : Reply). r.place) c.reply_to.ensures ∙ connect_place _) tt c.outcome.ensures
+    (subst (λ (r : Reply). Acts m.stands m.trusts m.told m.has_called m.failures room.manager Connect r c.connect-session.new.self) (sym c.connect_reply.ensures.value) connect.acts)
+    served (ap (λ (r : Reply). r.place) c.connect_reply.ensures.value ∙ connect_place _) tt c.outcome.ensures
     c.make_room.ensures.items c.note-receipt.ensures.entries
     (omega (
       arith,

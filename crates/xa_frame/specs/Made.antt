@@ -1,0 +1,17 @@
+-- Replies that carry nothing, a detail, or a body. Their place is 0.
+use Rattle.std.specs.Prelude.{ℤ, pos}
+use Rattle.xa_codes.specs.declared.detail.Detail.{Detail}
+use Rattle.xa_codes.specs.declared.detail.Detail.TheVariants as detail
+use Rattle.xa_frame.specs.declared.reply.Reply.{Reply}
+use Rattle.xa_frame.specs.declared.body.Body.{Body}
+use Rattle.xa_frame.specs.declared.body.Body.TheVariants as body
+
+abbrev pub plain : ℤ → Reply
+plain code = record { code = code; detail = detail.Nothing; place = 0; body = body.Nothing }
+
+abbrev pub detailed : ℤ → Detail → Reply
+detailed code detail = record { code = code; detail = detail; place = 0; body = body.Nothing }
+
+-- a success
+abbrev pub carrying : Body → Reply
+carrying body = record { code = pos 0; detail = detail.Nothing; place = 0; body = body }
