@@ -4,6 +4,7 @@ use Rattle.std.specs.List.{AllByRecursion as Each}
 use Rattle.std.specs.Cmp.Lexicographic.{slice_cmp}
 use Rattle.std.specs.Ordering.{nat_cmp}
 use Rattle.std.specs.declared.cmp.Ordering.TheVariants.{Less}
+use Rattle.xa_codes.specs.declared.write.TheConstants.{MOST_WRITES}
 use Rattle.xa_codes.specs.declared.write.Write.{Write}
 use Rattle.mv_chain.specs.History.{Written, Answered, Seen, is_busy, is_undecided, has_open, IsOpen}
 use Rattle.mv_rules.specs.declared.answers.Got.{Got}
@@ -45,7 +46,7 @@ put_by false true = Late
 put_by false false = Done
 
 abbrev pub put_of : Bool → ℕ → Bool → Put
-put_of own count late = put_by (not own && nat_le 256 count) late
+put_of own count late = put_by (not own && nat_le MOST_WRITES count) late
 
 -- a write whose branch is undecided
 abbrev pub wrote : ℕ → List ℕ → Option (List ℕ) → Written

@@ -1,5 +1,6 @@
 -- What a put is to do.
 use Rattle.std.specs.Prelude.{ℕ, Bool, true, false, not, ◌&&◌, nat_le}
+use Rattle.xa_codes.specs.declared.write.TheConstants.{MOST_WRITES}
 use Rattle.mv_rules.specs.declared.answers.Put.TheVariants.{Late, Limit}
 use Rattle.mv_rules.specs.declared.verdict.Verdict.{Verdict}
 use Rattle.mv_rules.specs.declared.verdict.Verdict.TheVariants.{Refused, Again, First}
@@ -12,4 +13,4 @@ verdict_by false false false = First
 
 -- own says whether the branch wrote the key before, count how many keys it wrote
 abbrev pub verdict_of : Bool → ℕ → Bool → Verdict
-verdict_of own count late = verdict_by own (not own && nat_le 256 count) late
+verdict_of own count late = verdict_by own (not own && nat_le MOST_WRITES count) late

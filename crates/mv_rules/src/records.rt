@@ -167,7 +167,7 @@ impl Records {
         }
     }
 
-    /// Adds a branch's write, or replaces its own: `None` deletes the key. A branch writes at most 256 keys.
+    /// Adds a branch's write, or replaces its own: `None` deletes the key. A branch writes at most `MOST_WRITES` keys.
     /// Limit, Late and want of memory change nothing.
     pub fn put(&mut self, ts: u64, key: &[u8], value: Option<Vec<u8>>) -> Put
         ensures answer { (h : History) → StandsFor h self.old → IsUnsettled ts h.low h.writes → result ≢ Put.Memory → result ≡ put_of (has_open key.now ts h.writes) (open_keys ts h.writes) (is_late key.now ts h.reads) }

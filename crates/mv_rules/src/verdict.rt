@@ -3,9 +3,7 @@ ghost use Rattle.mv_rules.specs.Verdict.{verdict_of};
 
 use crate::answers::Put;
 use mv_chain::Look;
-
-/// How many keys a branch may write.
-const MOST_KEYS: usize = 256;
+use xa_codes::MOST_WRITES;
 
 /// What a put is to do.
 #[derive(Clone, Copy, Debug, PartialEq, Eq)]
@@ -23,7 +21,7 @@ pub(crate) fn judge(look: &Look, count: usize) -> Verdict
     ensures { result ≡ verdict_of (look.now.from == look.now.at) count look.now.late }
 {
     let own = look.from == look.at;
-    if !own && count >= MOST_KEYS {
+    if !own && count >= MOST_WRITES {
         return Verdict::Refused(Put::Limit);
     }
     if look.late {

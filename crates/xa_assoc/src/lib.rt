@@ -5,8 +5,7 @@
 //! - `sessions`: `Sessions`, the table, and what is asked of it; `seat`: `Seat`, what it keeps of one session
 //! - `refusing`: how a start and an end are refused, by the table and the facts of the branch
 //! - `refusals`: the same by facts alone, as `connect_refusal`, `close_refusal`, `start_refusal`, `join_refusal`,
-//!   `resume_refusal`, `end_refusal` and `loose_refusal`; and the limits `MOST_SESSIONS`, `MOST_BRANCHES`, `MOST_GIVEN` and
-//!   `MOST_LOOSE`
+//!   `resume_refusal`, `end_refusal` and `loose_refusal`
 //! - what changes, once nothing is refused: `coming`, how sessions come and go, with `ConnectFault` of `fault`; `work`, how
 //!   they come to work for branches and leave them; `scans`, their recovery scans; `restarts`, what a restart leaves
 //! - below these: `acts`, a seat changes; `free`, the numbers that no session has, a bit each
@@ -26,8 +25,8 @@ mod work;
 
 pub use fault::ConnectFault;
 pub use refusals::{
-    MOST_BRANCHES, MOST_GIVEN, MOST_LOOSE, MOST_SESSIONS, close_refusal, connect_refusal,
-    end_refusal, join_refusal, loose_refusal, resume_refusal, start_refusal,
+    close_refusal, connect_refusal, end_refusal, join_refusal, loose_refusal, resume_refusal,
+    start_refusal,
 };
 pub use seat::Seat;
 pub use sessions::Sessions;

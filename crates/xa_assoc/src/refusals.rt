@@ -5,15 +5,7 @@ ghost use Rattle.xa_assoc.specs.Refusals.{is_memory, IsBare};
 
 use xa_codes::{Detail, XAER_DUPID, XAER_NOTA, XAER_PROTO, XAER_RMERR};
 use xa_frame::Reply;
-
-/// The most sessions that are connected at a time.
-pub const MOST_SESSIONS: usize = 1024;
-/// The most branches that are known at a time.
-pub const MOST_BRANCHES: usize = 4096;
-/// The most timestamps that one boot gives.
-pub const MOST_GIVEN: u64 = 4294967295;
-/// The most loose associations of a branch.
-pub const MOST_LOOSE: u64 = 64;
+use xa_model::{MOST_BRANCHES, MOST_GIVEN, MOST_LOOSE, MOST_SESSIONS};
 
 /// Of a connect, where so many sessions are connected.
 pub fn connect_refusal(connected: usize) -> Option<Reply>

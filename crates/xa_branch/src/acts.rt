@@ -10,12 +10,9 @@ use crate::changes::{add, add_time, set, take};
 use crate::fault::BeginFault;
 use crate::working::Working;
 use xa_codes::Code;
+use xa_model::{MOST_BRANCHES, MOST_GIVEN};
 use xa_xid::Xid;
 
-/// The most branches that are known at a time.
-const MOST_BRANCHES: usize = 4096;
-/// The most timestamps that one boot gives.
-const MOST_GIVEN: u64 = 4294967295;
 /// How many timestamps a boot's number makes room for.
 pub(crate) const BOOT: u64 = 4294967296;
 

@@ -7,6 +7,7 @@ use Rattle.xa_frame.specs.declared.fault.FrameFault.{FrameFault}
 use Rattle.xa_frame.specs.declared.fault.FrameFault.TheVariants as faults
 use Rattle.xa_frame.specs.declared.request.Request.{Request}
 use Rattle.xa_frame.specs.declared.reply.Reply.{Reply}
+use Rattle.xa_frame.specs.declared.request_decoder.TheConstants.{MOST_CONTENT}
 use Rattle.xa_frame.specs.Faults.{fault_of_request}
 use Rattle.xa_frame.specs.Spelling.{SpellsRequest}
 use Rattle.xa_desk.specs.declared.served.Served.{Served}
@@ -37,17 +38,17 @@ AnswersAll called d (c ∷ cs) [] e = ⊥
 AnswersAll {D} called d (c ∷ cs) (r ∷ rs) e = (m : D) × Answers called d c r m × AnswersAll called m cs rs e
 
 abbrev pub IsShort : List ℕ → Type 0
-IsShort content = length content ≤ 65535
+IsShort content = length content ≤ MOST_CONTENT
 
 -- a frame's length alone, a length that is too great for a frame, and a frame that is cut
 abbrev pub IsLength : List ℕ → Type 0
-IsLength bytes = (n : ℕ) × (n ≤ 65535) × (bytes ≡ to_be_bytes w32 n)
+IsLength bytes = (n : ℕ) × (n ≤ MOST_CONTENT) × (bytes ≡ to_be_bytes w32 n)
 
 abbrev pub IsTooLong : List ℕ → Type 0
-IsTooLong bytes = (n : ℕ) × (65535 < n) × (n < 2 ^ 32) × (bytes ≡ to_be_bytes w32 n)
+IsTooLong bytes = (n : ℕ) × (MOST_CONTENT < n) × (n < 2 ^ 32) × (bytes ≡ to_be_bytes w32 n)
 
 abbrev pub IsCut : List ℕ → Type 0
-IsCut bytes = (length bytes < 4) ⊎ ((n : ℕ) × (part : List ℕ) × (n ≤ 65535) × (length part < n) × (bytes ≡ to_be_bytes w32 n ++ part))
+IsCut bytes = (length bytes < 4) ⊎ ((n : ℕ) × (part : List ℕ) × (n ≤ MOST_CONTENT) × (length part < n) × (bytes ≡ to_be_bytes w32 n ++ part))
 
 -- these bytes begin with the part, and go on
 abbrev pub IsPart : List ℕ → List ℕ → Type 0

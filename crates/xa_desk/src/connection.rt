@@ -1,7 +1,9 @@
 ghost use Rattle.std.specs.Prelude.{◌≡◌, ℕ, ◌<◌, ◌≤◌, [], ◌∷◌, length, IfOk, IfErr, true, false, Some, List};
 ghost use Rattle.std.specs.Int.{to_be_bytes, w32};
 ghost use Rattle.std.specs.Io.KnownBytes.{Consumes, Appends, IsAtEnd};
+ghost use Rattle.xa_frame.specs.declared.request_decoder.TheConstants.{MOST_CONTENT};
 ghost use Rattle.xa_frame.specs.Limits.{IsReply};
+ghost use Rattle.xa_desk.specs.declared.connection.TheConstants.{MOST_FRAMES};
 ghost use Rattle.xa_desk.specs.Frames.{reply_frame, refused, without_memory};
 ghost use Rattle.xa_desk.specs.Serving.{Answers, IsPart, Talks};
 ghost use Rattle.xa_desk.specs.Steps.{Fills, Lacks, Sends};
@@ -11,10 +13,10 @@ use crate::served::Served;
 use std::alloc::{AllocError, Global};
 use std::io::{Read, Write};
 use xa_codes::{Detail, XAER_INVAL, XAER_RMFAIL};
-use xa_frame::{FrameFault, Reply, decode_request, encode_reply, one_reply};
+use xa_frame::{FrameFault, MOST_CONTENT, Reply, decode_request, encode_reply, one_reply};
 
-/// The longest content of a frame.
-const LONGEST: u32 = 65_535;
+/// The most frames of a connection.
+pub const MOST_FRAMES: u32 = 4_294_967_295;
 
 /// What begins a frame.
 #[derive(Drop)]
@@ -70,10 +72,10 @@ fn read_front<R: Read>(reader: &mut R) -> Front
 }
 
 fn is_too_long(length: u32) -> bool
-    ensures long { result ≡ true → 65535 < length }
-    ensures fits { result ≡ false → length ≤ 65535 }
+    ensures long { result ≡ true → MOST_CONTENT < length }
+    ensures fits { result ≡ false → length ≤ MOST_CONTENT }
 {
-    length > LONGEST
+    length as usize > MOST_CONTENT
 }
 
 // Writes all the bytes, in whatever pieces the writer takes.
@@ -211,7 +213,7 @@ fn converse<D: Door, R: Read, W: Write>(
 /// with `ReadFault`, and reads no further.
 ///
 /// Of each frame it reads the length and then the content, each by one read where the reader gives all that is asked,
-/// and nothing beyond: what stands behind the last frame or behind a length above 65,535 is left in the reader. So the
+/// and nothing beyond: what stands behind the last frame or behind a length above `MOST_CONTENT` is left in the reader. So the
 /// caller may hand in a reader with a buffer. The frame of each reply is handed to the writer whole, and again only
 /// where the writer took a part. A read or a write that fails ends the connection, whatever its error.
 pub fn serve_upto<D: Door, R: Read, W: Write>(
@@ -229,7 +231,7 @@ pub fn serve_upto<D: Door, R: Read, W: Write>(
     end
 }
 
-/// Serves a session on a connection as [`serve_upto`] does, for 4,294,967,295 frames at most.
+/// Serves a session on a connection as [`serve_upto`] does, for `MOST_FRAMES` frames at most.
 pub fn serve<D: Door, R: Read, W: Write>(
     alloc: Global,
     door: &mut D,
@@ -237,7 +239,7 @@ pub fn serve<D: Door, R: Read, W: Write>(
     writer: &mut W,
     session: u64,
 ) -> Served
-    ensures { (d : D) × Talks (D.called session) 4294967295 (Some result) (R.remaining reader.old) (R.remaining reader.new) (W.contents writer.old) (W.contents writer.new) door.old d × D.left session d door.new }
+    ensures { (d : D) × Talks (D.called session) MOST_FRAMES (Some result) (R.remaining reader.old) (R.remaining reader.new) (W.contents writer.old) (W.contents writer.new) door.old d × D.left session d door.new }
 {
-    serve_upto(alloc, door, reader, writer, session, u32::MAX)
+    serve_upto(alloc, door, reader, writer, session, MOST_FRAMES)
 }

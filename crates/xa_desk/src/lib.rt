@@ -5,6 +5,6 @@ mod connection;
 mod door;
 mod served;
 
-pub use connection::{serve, serve_upto};
+pub use connection::{MOST_FRAMES, serve, serve_upto};
 pub use door::Door;
 pub use served::Served;

@@ -7,7 +7,7 @@ pub enum Served {
     ReadFault,
     /// A write failed or took nothing.
     WriteFault,
-    /// A frame's length was above 65,535.
+    /// A frame's length was above `MOST_CONTENT`.
     TooLong,
     /// A buffer or a reply's bytes found no memory.
     Memory,

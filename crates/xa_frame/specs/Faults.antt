@@ -3,10 +3,13 @@ use Rattle.std.specs.Prelude.{ℕ, zero, suc, List, [], ◌∷◌, length, take,
 use Rattle.std.specs.Int.{w16, from_be_bytes}
 use Rattle.xa_codes.specs.declared.call.Call.{Call}
 use Rattle.xa_codes.specs.declared.call.Call.TheVariants as call
+use Rattle.xa_codes.specs.declared.write.TheConstants.{MOST_KEY, MOST_VALUE}
 use Rattle.xa_xid.specs.Triple.{Triple}
 use Rattle.xa_xid.specs.Reading.{xid_at}
 use Rattle.xa_frame.specs.declared.fault.FrameFault.{FrameFault}
 use Rattle.xa_frame.specs.declared.fault.FrameFault.TheVariants.{Short, Long, Version, Operation, Field, Trailing}
+use Rattle.xa_frame.specs.declared.request_decoder.TheConstants.{MOST_CONTENT}
+use Rattle.xa_frame.specs.declared.xids.TheConstants.{MOST_XIDS}
 use Rattle.xa_frame.specs.Spelling.{numbered, detail_numbered}
 
 -- What stands behind a field, or the field's fault.
@@ -22,16 +25,16 @@ abbrev pub after_info : After
 after_info [] = Err Short
 after_info (n ∷ rest) = after_bytes n rest
 
--- the same, with 1 to 64 bytes
+-- the same, with 1 to MOST_KEY bytes
 abbrev pub after_key : After
 after_key [] = Err Short
-after_key (n ∷ rest) = if (n == 0) || nat_lt 64 n then Err Field else after_bytes n rest
+after_key (n ∷ rest) = if (n == 0) || nat_lt MOST_KEY n then Err Field else after_bytes n rest
 
--- a length of two bytes, at most 1,024, and so many bytes
+-- a length of two bytes, at most MOST_VALUE, and so many bytes
 abbrev pub after_value : After
 after_value bytes =
     if nat_lt (length bytes) 2 then Err Short
-    else if nat_lt 1024 (from_be_bytes w16 (take 2 bytes)) then Err Field
+    else if nat_lt MOST_VALUE (from_be_bytes w16 (take 2 bytes)) then Err Field
     else after_bytes (from_be_bytes w16 (take 2 bytes)) (drop 2 bytes)
 
 -- one byte, 1 or 2
@@ -64,11 +67,11 @@ abbrev pub after_each : ℕ → After
 after_each zero bytes = Ok bytes
 after_each (suc n) bytes = and_then (after_xid bytes) (after_each n)
 
--- a count of two bytes, at most 256, and so many XIDs
+-- a count of two bytes, at most MOST_XIDS, and so many XIDs
 abbrev pub after_xids : After
 after_xids bytes =
     if nat_lt (length bytes) 2 then Err Short
-    else if nat_lt 256 (from_be_bytes w16 (take 2 bytes)) then Err Field
+    else if nat_lt MOST_XIDS (from_be_bytes w16 (take 2 bytes)) then Err Field
     else after_each (from_be_bytes w16 (take 2 bytes)) (drop 2 bytes)
 
 -- a kind of 0 to 4, and what it carries
@@ -123,7 +126,7 @@ fault_behind_version f [] = Some Short
 fault_behind_version f (version ∷ bytes) = if version == 1 then f bytes else Some Version
 
 abbrev pub fault_unless_long : (List ℕ → Option FrameFault) → List ℕ → Option FrameFault
-fault_unless_long f bytes = if nat_lt 65535 (length bytes) then Some Long else fault_behind_version f bytes
+fault_unless_long f bytes = if nat_lt MOST_CONTENT (length bytes) then Some Long else fault_behind_version f bytes
 
 -- the fault of a request's content, or none
 abbrev pub fault_of_request : List ℕ → Option FrameFault

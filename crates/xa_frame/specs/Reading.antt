@@ -6,6 +6,7 @@ use Rattle.xa_codes.specs.declared.call.Call.TheVariants as call
 use Rattle.xa_codes.specs.declared.detail.Detail.{Detail}
 use Rattle.xa_codes.specs.declared.direction.Direction.{Direction}
 use Rattle.xa_codes.specs.declared.direction.Direction.TheVariants.{Commit, Rollback}
+use Rattle.xa_codes.specs.declared.write.TheConstants.{MOST_KEY, MOST_VALUE}
 use Rattle.xa_xid.specs.Triple.{Triple}
 use Rattle.xa_xid.specs.Reading.{xid_at}
 use Rattle.xa_frame.specs.declared.request.Request.{Request}
@@ -15,6 +16,8 @@ use Rattle.xa_frame.specs.declared.body.Body.TheVariants as body
 use Rattle.xa_frame.specs.declared.reply.Reply.{Reply}
 use Rattle.xa_frame.specs.declared.fault.FrameFault.{FrameFault}
 use Rattle.xa_frame.specs.declared.fault.FrameFault.TheVariants.{Short, Long, Version, Operation, Field, Trailing}
+use Rattle.xa_frame.specs.declared.request_decoder.TheConstants.{MOST_CONTENT}
+use Rattle.xa_frame.specs.declared.xids.TheConstants.{MOST_XIDS}
 use Rattle.xa_frame.specs.Spelling.{numbered, detail_numbered}
 
 infixl 10 ◌>>=◌
@@ -63,12 +66,12 @@ info_at (n ∷ rest) = bytes_at n rest
 
 unfoldable pub key_at : Reads (List ℕ)
 key_at [] = Err Short
-key_at (n ∷ rest) = if (n == 0) || nat_lt 64 n then Err Field else bytes_at n rest
+key_at (n ∷ rest) = if (n == 0) || nat_lt MOST_KEY n then Err Field else bytes_at n rest
 
 unfoldable pub value_at : Reads (List ℕ)
 value_at bytes = do
   n ← number_at w16 bytes
-  if nat_lt 1024 n.0 then Err Field else bytes_at n.0 n.1
+  if nat_lt MOST_VALUE n.0 then Err Field else bytes_at n.0 n.1
 
 unfoldable pub direction_at : Reads Direction
 direction_at [] = Err Short
@@ -92,7 +95,7 @@ names_at (suc n) bytes = do
 unfoldable pub xids_at : Reads (List Triple)
 xids_at bytes = do
   n ← number_at w16 bytes
-  if nat_lt 256 n.0 then Err Field else names_at n.0 n.1
+  if nat_lt MOST_XIDS n.0 then Err Field else names_at n.0 n.1
 
 abbrev pub made : {A B : Type 0} → (A → B) → Result A FrameFault → Result B FrameFault
 made f (Ok x) = Ok (f x)
@@ -139,7 +142,7 @@ behind_version (version ∷ rest) = if version == 1 then Ok rest else Err Versio
 
 -- what stands behind the version of a content that isn't too long
 unfoldable pub versioned_at : List ℕ → Result (List ℕ) FrameFault
-versioned_at bytes = if nat_lt 65535 (length bytes) then Err Long else behind_version bytes
+versioned_at bytes = if nat_lt MOST_CONTENT (length bytes) then Err Long else behind_version bytes
 
 -- all of a request's content
 unfoldable pub request_at : List ℕ → Result Request FrameFault

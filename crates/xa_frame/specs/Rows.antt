@@ -1,6 +1,7 @@
 -- Worked contents: the numbers in them, how some requests and replies are spelled, and which fault some bytes have.
-use Rattle.std.specs.Prelude.{◌≡◌, ℕ, pos, negsuc, List, [], ◌∷◌, map, Some, None}
+use Rattle.std.specs.Prelude.{◌≡◌, ℕ, pos, List, [], ◌∷◌, map, Some, None}
 use Rattle.xa_codes.specs.declared.call.Call.TheVariants as call
+use Rattle.xa_codes.specs.declared.codes.TheConstants.{XAER_INVAL}
 use Rattle.xa_codes.specs.declared.detail.Detail.TheVariants as detail
 use Rattle.xa_codes.specs.declared.direction.Direction.TheVariants as direction
 use Rattle.xa_xid.specs.Triple.{Triple}
@@ -34,7 +35,7 @@ begun = record { code = pos 0; detail = detail.Nothing; place = 3; body = body.N
 
 -- the request didn't decode
 abbrev pub refused : Reply
-refused = record { code = negsuc 4; detail = detail.Frame; place = 0; body = body.Nothing }
+refused = record { code = XAER_INVAL; detail = detail.Frame; place = 0; body = body.Nothing }
 
 abbrev pub start_bytes : List ℕ
 start_bytes = 1 ∷ 3 ∷ 0 ∷ 0 ∷ 0 ∷ 0 ∷ 0 ∷ 0 ∷ 0 ∷ 1 ∷ 1 ∷ 1 ∷ 170 ∷ 187 ∷ []

@@ -1,7 +1,7 @@
 use crate::xids::Xids;
 use xa_codes::Bytes;
 
-/// What a reply carries beside its code. A value has at most 1,024 bytes; there are at most 256 XIDs.
+/// What a reply carries beside its code. A value has at most `MOST_VALUE` bytes; there are at most `MOST_XIDS` XIDs.
 #[derive(Debug, Drop)]
 pub enum Body {
     Nothing,

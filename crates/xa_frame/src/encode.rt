@@ -1,5 +1,7 @@
 ghost use Rattle.std.specs.Int.{w16, w32, w64, to_be_bytes};
 ghost use Rattle.std.specs.Prelude.{◌≡◌, ◌≤◌, ◌++◌, length, flat_map, All, IfOk, OnOk};
+ghost use Rattle.xa_codes.specs.declared.write.TheConstants.{MOST_VALUE};
+ghost use Rattle.xa_frame.specs.declared.request.TheConstants.{MOST_INFO};
 ghost use Rattle.xa_frame.specs.Limits.{IsRequest, IsBody, IsReply, Holds, HoldsBody};
 ghost use Rattle.xa_frame.specs.Spelling.{short_bytes, value_bytes, xids_bytes, fields_bytes, body_bytes, SpellsRequest, SpellsReply};
 ghost use Rattle.xa_xid.specs.Spelling.{bytes_of};
@@ -11,7 +13,7 @@ use crate::reply::Reply;
 use crate::request::Request;
 use arrayvec::ArrayVec;
 use std::alloc::{AllocError, Global};
-use xa_xid::Xid;
+use xa_xid::{MOST_BYTES, Xid};
 
 /// What each content begins with.
 const VERSION: u8 = 1;
@@ -20,13 +22,13 @@ fn put_name(out: &mut Vec<u8>, xid: &Xid) -> Result<(), AllocError>
     ensures bytes { OnOk result (out.new.items ≡ out.old.items ++ bytes_of xid.now) }
     ensures limits { IsWithinLimits xid.now }
 {
-    let mut bytes: ArrayVec<u8, 134> = ArrayVec::new();
+    let mut bytes: ArrayVec<u8, MOST_BYTES> = ArrayVec::new();
     xid.put(&mut bytes);
     out.extend_from_slice(bytes.as_slice())
 }
 
 fn put_short(out: &mut Vec<u8>, bytes: &[u8]) -> Result<(), AllocError>
-    requires { length bytes.now ≤ 255 }
+    requires { length bytes.now ≤ MOST_INFO }
     ensures { OnOk result (out.new.items ≡ out.old.items ++ short_bytes bytes.now) }
 {
     out.push(bytes.len() as u8)?;
@@ -34,7 +36,7 @@ fn put_short(out: &mut Vec<u8>, bytes: &[u8]) -> Result<(), AllocError>
 }
 
 fn put_value(out: &mut Vec<u8>, value: &[u8]) -> Result<(), AllocError>
-    requires { length value.now ≤ 1024 }
+    requires { length value.now ≤ MOST_VALUE }
     ensures { OnOk result (out.new.items ≡ out.old.items ++ value_bytes value.now) }
 {
     out.extend_from_slice(&(value.len() as u16).to_be_bytes())?;
@@ -94,7 +96,7 @@ fn room_of(request: &Request) -> usize
         Request::Get { key } | Request::Delete { key } => 3 + key.as_slice().len(),
         Request::Put { key, value } => 5 + key.as_slice().len() + value.as_slice().len(),
         Request::Close { .. } | Request::Recover { .. } | Request::Restart => 10,
-        _ => 140,
+        _ => 6 + MOST_BYTES,
     }
 }
 

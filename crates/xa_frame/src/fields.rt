@@ -5,7 +5,7 @@ ghost use Rattle.xa_frame.specs.Reading.{ended, number_at, bytes_at, info_at, ke
 
 use crate::fault::FrameFault;
 use crate::numbers::detail_of;
-use xa_codes::{Code, Detail, Direction};
+use xa_codes::{Code, Detail, Direction, MOST_KEY, MOST_VALUE};
 use xa_xid::Xid;
 
 /// Nothing may be left.
@@ -95,7 +95,7 @@ pub(crate) fn key_of(bytes: &[u8]) -> Result<(&[u8], &[u8]), FrameFault>
         [] => Err(FrameFault::Short),
         [len, rest @ ..] => {
             let len = usize::from(*len);
-            if len == 0 || len > 64 {
+            if len == 0 || len > MOST_KEY {
                 return Err(FrameFault::Field);
             }
             bytes_of(len, rest)
@@ -109,7 +109,7 @@ pub(crate) fn value_of(bytes: &[u8]) -> Result<(&[u8], &[u8]), FrameFault>
 {
     let (len, rest) = u16_at(bytes)?;
     let len = usize::from(len);
-    if len > 1024 {
+    if len > MOST_VALUE {
         return Err(FrameFault::Field);
     }
     bytes_of(len, rest)

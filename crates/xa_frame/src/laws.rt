@@ -1,6 +1,7 @@
 ghost use Rattle.std.specs.Prelude.{◌≡◌, ◌≢◌, ◌≤◌, ◌<◌, ℕ, List, length, slice_index, Some, None};
 ghost use Rattle.xa_frame.specs.declared.fault.FrameFault.TheVariants.{Memory};
 ghost use Rattle.xa_frame.specs.declared.reply.Reply.{Reply};
+ghost use Rattle.xa_frame.specs.declared.request_decoder.TheConstants.{MOST_CONTENT};
 ghost use Rattle.xa_frame.specs.declared.request.Request.{Request};
 ghost use Rattle.xa_frame.specs.Faults.{fault_of_request, fault_of_reply};
 ghost use Rattle.xa_frame.specs.Rows.{HasNumbers, SpelledSo, FaultyRequests, FaultyReplies};
@@ -26,7 +27,7 @@ pub fn one_reply()
     ensures faultless { (bytes : List ℕ) → ((i : ℕ) → slice_index bytes i < 256) → fault_of_reply bytes ≡ None → (r : Reply) × SpellsReply bytes r }
     // Want of memory is no fault of bytes.
     ensures memory { (bytes : List ℕ) → fault_of_reply bytes ≢ Some Memory }
-    ensures short { (bytes : List ℕ) (r : Reply) → SpellsReply bytes r → length bytes ≤ 65535 }
+    ensures short { (bytes : List ℕ) (r : Reply) → SpellsReply bytes r → length bytes ≤ MOST_CONTENT }
 {}
 
 /// Worked contents: the numbers of operations, details and directions, what spells some requests and replies, and which

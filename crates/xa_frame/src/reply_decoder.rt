@@ -12,7 +12,7 @@ use crate::fault::FrameFault;
 use crate::fields::{code_of, detail_front, end, name_of, u16_at, u64_at, value_of};
 use crate::reply::Reply;
 use crate::request_decoder::versioned;
-use crate::xids::Xids;
+use crate::xids::{MOST_XIDS, Xids};
 use std::alloc::Global;
 use xa_codes::Bytes;
 
@@ -64,7 +64,7 @@ fn xids_alone(alloc: Global, bytes: &[u8]) -> Result<Xids, FrameFault>
     ensures { Answers result (one_of xids_at bytes.now) }
 {
     let (count, names) = u16_at(bytes)?;
-    if count > 256 {
+    if usize::from(count) > MOST_XIDS {
         return Err(FrameFault::Field);
     }
     end(behind_names(count, names)?)?;

@@ -1,9 +1,12 @@
 use xa_codes::{Bytes, Direction};
 use xa_xid::Xid;
 
+/// The most bytes of an open info: its length is one byte.
+pub const MOST_INFO: usize = 255;
+
 /// What a session asks for: C193's calls of a resource manager (`xa_open` to `xa_recover`), gets, puts and deletes of
-/// records, and the operator's calls. Flags are C193's, or-ed. A key has 1 to 64 bytes, a value 0 to 1,024, an open info
-/// 0 to 255.
+/// records, and the operator's calls. Flags are C193's, or-ed. A key has 1 to `MOST_KEY` bytes, a value at most
+/// `MOST_VALUE`, an open info at most `MOST_INFO`.
 #[derive(Debug, Drop)]
 pub enum Request {
     Open { flags: u32, info: Bytes },

@@ -15,8 +15,8 @@ use std::alloc::Global;
 use xa_codes::{Bytes, Call, Direction};
 use xa_xid::Xid;
 
-/// The longest content of a frame.
-const LONGEST: usize = 65_535;
+/// The most bytes of a frame's content.
+pub const MOST_CONTENT: usize = 65_535;
 
 fn flags_alone(bytes: &[u8]) -> Result<u32, FrameFault>
     ensures { result ≡ one_of (number_at w32) bytes.now }
@@ -171,7 +171,7 @@ fn operation_of(alloc: Global, bytes: &[u8]) -> Result<Request, FrameFault>
 pub(crate) fn versioned(bytes: &[u8]) -> Result<&[u8], FrameFault>
     ensures { Gives (λ x. x.now) result (versioned_at bytes.now) }
 {
-    if bytes.len() > LONGEST {
+    if bytes.len() > MOST_CONTENT {
         return Err(FrameFault::Long);
     }
     match bytes {

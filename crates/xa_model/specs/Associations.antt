@@ -8,22 +8,23 @@ use Rattle.xa_codes.specs.declared.flags.TheConstants.{TMJOIN, TMRESUME, TMSUSPE
 use Rattle.xa_xid.specs.Triple.{Triple}
 use Rattle.xa_frame.specs.declared.body.Body.TheVariants as body
 use Rattle.xa_frame.specs.declared.reply.Reply.{Reply}
+use Rattle.xa_model.specs.declared.limits.TheConstants.{MOST_SESSIONS, MOST_BRANCHES, MOST_GIVEN, MOST_LOOSE}
 use Rattle.xa_model.specs.State.{State, Session, Branch, Phase, Working, Prepared, Committed, Association, Holder, Active, Suspended, Loose, Known, Unknown, AtWork, InDoubt, Completed, known_as, known_in, known_of, active_of, is_own, is_with, is_known_as, owns, works_in, suspends, is_loose_with, loose_of, without, change, free_number, timestamp_of}
 use Rattle.xa_model.specs.Answer.{Answer, plain, detailed, carrying, answer, ok, first, unless, marked}
 
 abbrev pub most_sessions : ℕ
-most_sessions = 1024
+most_sessions = MOST_SESSIONS
 
 abbrev pub most_branches : ℕ
-most_branches = 4096
+most_branches = MOST_BRANCHES
 
 -- the last timestamp of a boot
 abbrev pub most_given : ℕ
-most_given = 4294967295
+most_given = MOST_GIVEN
 
 -- the most loose associations of a branch
 abbrev pub most_loose : ℕ
-most_loose = 64
+most_loose = MOST_LOOSE
 
 -- Connect: the session gets the least number that is free
 

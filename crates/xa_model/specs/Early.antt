@@ -10,6 +10,7 @@ pub use Rattle.xa_frame.specs.Spelling.{call_of}
 use Rattle.xa_frame.specs.declared.reply.Reply.{Reply}
 use Rattle.xa_frame.specs.declared.request.Request.{Request}
 use Rattle.xa_frame.specs.declared.request.Request.TheVariants.{Open, Close, Start, End, Prepare, Commit, Rollback, Forget, Recover, Get, Put, Delete, Decide, Doom, Restart}
+use Rattle.xa_frame.specs.declared.xids.TheConstants.{MOST_XIDS}
 use Rattle.xa_model.specs.Answer.{plain, first}
 
 -- a request with no field of flags has none
@@ -56,9 +57,9 @@ abbrev pub has_wrong_info : List ℕ → Request → Bool
 has_wrong_info name (Open flags info) = not (bytes_eq info name)
 has_wrong_info name _ = false
 
--- a recovery lists at most 256 XIDs
+-- a recovery lists at most MOST_XIDS
 abbrev pub has_wrong_count : Request → Bool
-has_wrong_count (Recover flags count) = nat_lt 256 count
+has_wrong_count (Recover flags count) = nat_lt MOST_XIDS count
 has_wrong_count _ = false
 
 abbrev pub is_invalid : List ℕ → Request → Bool

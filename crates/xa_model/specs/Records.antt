@@ -2,6 +2,7 @@
 use Rattle.std.specs.Prelude.{ℕ, Bool, true, false, not, ◌&&◌, Option, Some, None, List, [], ◌∷◌, is_some, nat_lt}
 use Rattle.xa_codes.specs.declared.codes.TheConstants.{XAER_PROTO, XAER_INVAL, XA_RETRY, XA_RBTRANSIENT}
 use Rattle.xa_codes.specs.declared.detail.Detail.TheVariants as detail
+use Rattle.xa_codes.specs.declared.write.TheConstants.{MOST_WRITES}
 use Rattle.xa_xid.specs.Triple.{Triple}
 use Rattle.xa_frame.specs.declared.body.Body.{Body}
 use Rattle.xa_frame.specs.declared.body.Body.TheVariants as body
@@ -13,7 +14,7 @@ use Rattle.xa_model.specs.Associations.{with_mark}
 
 -- the most keys that a branch may write
 abbrev pub most_keys : ℕ
-most_keys = 256
+most_keys = MOST_WRITES
 
 abbrev pub having_done : Operation → Branch → Branch
 having_done op b = record b { operations = op ∷ b.operations }

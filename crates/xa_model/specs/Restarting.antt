@@ -5,6 +5,7 @@ use Rattle.xa_codes.specs.declared.detail.Detail.TheVariants as detail
 use Rattle.xa_codes.specs.declared.write.Write.{Write}
 use Rattle.xa_record.specs.declared.record.Record.{Record}
 use Rattle.xa_record.specs.declared.record.Record.TheVariants as logged
+use Rattle.xa_model.specs.declared.limits.TheConstants.{MOST_BOOTS}
 use Rattle.xa_model.specs.declared.outcome.Appending.{Appending}
 use Rattle.xa_model.specs.declared.outcome.Appending.TheVariants.{Kept, Refused, Lost}
 use Rattle.xa_model.specs.State.{State, Session, Branch, Operation, Wrote, Prepared, Committed, Up, Ended}
@@ -34,7 +35,7 @@ survived s r = record (applied r s) { open_record = None }
 -- The new boot
 
 abbrev pub most_boots : ℕ
-most_boots = 4294967295
+most_boots = MOST_BOOTS
 
 abbrev pub without_scan : Session → Session
 without_scan x = record x { scan = None }

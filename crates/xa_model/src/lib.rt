@@ -1,6 +1,7 @@
 //! The sequential resource manager: its states, its one step, and histories. It answers by the tables of C193, and
 //! orders reads and writes by multiversion timestamp ordering (Bernstein, Hadzilacos and Goodman, 5.3). What the
-//! contracts of the layers above speak of stands in `specs/`; the program's part is the types of events and outcomes.
+//! contracts of the layers above speak of stands in `specs/`; the program's part is the types of events and outcomes, and
+//! the limits.
 //!
 //! The definitions, in an order to read; docs/MODEL.md retells them:
 //!
@@ -12,7 +13,8 @@
 //!
 //! The modules:
 //!
-//! - `event`: `Event`, what is asked; `outcome`: `Outcome` and `Appending`, what the device did
+//! - `event`: `Event`, what is asked; `outcome`: `Outcome` and `Appending`, what the device did; `limits`: how many
+//!   sessions, branches, timestamps and boots there may be
 //! - `laws`: functions that do nothing, and whose contracts are theorems on the definitions. Of histories `one_history`,
 //!   `total`, `sound`, `recoverable`, `one_copy` and `listed_until_asked`; of what lasts `lasting`, `sound_lasting`,
 //!   `logged_lasts`, `backed`, `restored` and `roomy`. Those that begin with `worked_` are worked rows: replies that the
@@ -21,6 +23,7 @@
 
 mod event;
 mod laws;
+mod limits;
 mod outcome;
 
 pub use event::Event;
@@ -30,4 +33,5 @@ pub use laws::{
     worked_limits, worked_logs, worked_low_water, worked_marks, worked_recovery, worked_refusals,
     worked_rows, worked_turns, worked_versions,
 };
+pub use limits::{MOST_BOOTS, MOST_BRANCHES, MOST_GIVEN, MOST_LOOSE, MOST_SESSIONS};
 pub use outcome::{Appending, Outcome};

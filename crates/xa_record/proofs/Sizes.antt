@@ -1,36 +1,40 @@
 -- How long bodies are.
-use Rattle.std.proofs.Common.{◌≡◌, ℕ, ◌*◌, ◌≤◌, List, [], ◌∷◌, length, Option, Some, None, refl, arith}
+use Rattle.std.proofs.Common.{◌≡◌, ℕ, ◌*◌, ◌<◌, ◌≤◌, List, [], ◌∷◌, length, Option, Some, None, refl, arith}
 use Rattle.std.specs.List.{AllByRecursion}
 use Rattle.std.specs.Prelude.{IfSome, flat_map}
 use Rattle.std.proofs.lemmas.List.{length-append}
 use Rattle.xa_codes.specs.declared.direction.Direction.{Direction}
+use Rattle.xa_codes.specs.declared.write.TheConstants.{MOST_VALUE}
 use Rattle.xa_codes.specs.declared.write.Write.{Write}
 use Rattle.xa_xid.specs.Triple.{Triple, IsWithinLimits}
 use Rattle.xa_xid.specs.Spelling.{bytes_of}
+use Rattle.xa_xid.specs.declared.bytes.TheConstants.{MOST_BYTES}
+use Rattle.xa_record.specs.declared.record.TheConstants.{MOST_BODY}
+use Rattle.xa_record.specs.declared.writing.TheConstants.{MOST_SMALL}
 use Rattle.xa_record.specs.declared.record.Record.{Record}
 use Rattle.xa_record.specs.declared.record.Record.TheVariants.{Opened, Prepared, Committed, Completed, Decided, Forgotten, Base, Held, Known}
 use Rattle.xa_record.specs.Limits.{IsWrite, IsStamped, IsBranch, IsRecord}
 use Rattle.xa_record.specs.Spelling.{value_bytes, write_bytes, stamped_bytes, branch_bytes, direction_byte, spelled}
 
-name_short : (x : Triple) → IsWithinLimits x → length (bytes_of x) ≤ 134
+name_short : (x : Triple) → IsWithinLimits x → length (bytes_of x) ≤ MOST_BYTES
 name_short x h = omega (arith, length-append x.gtrid x.bqual, h.lengths.2, h.lengths.3)
 
 pub opened : (boot : ℕ) → length (spelled (Opened boot)) ≡ 5
 opened boot = refl
 
-pub completed : (x : Triple) (d : Direction) → IsWithinLimits x → length (spelled (Completed x d)) ≤ 136
+pub completed : (x : Triple) (d : Direction) → IsWithinLimits x → length (spelled (Completed x d)) ≤ MOST_SMALL
 completed x d h = omega (arith, name_short x h, length-append (bytes_of x) (direction_byte d ∷ []))
 
-pub decided : (x : Triple) (d : Direction) → IsWithinLimits x → length (spelled (Decided x d)) ≤ 136
+pub decided : (x : Triple) (d : Direction) → IsWithinLimits x → length (spelled (Decided x d)) ≤ MOST_SMALL
 decided x d h = omega (arith, name_short x h, length-append (bytes_of x) (direction_byte d ∷ []))
 
-pub forgotten : (x : Triple) → IsWithinLimits x → length (spelled (Forgotten x)) ≤ 135
+pub forgotten : (x : Triple) → IsWithinLimits x → length (spelled (Forgotten x)) < MOST_SMALL
 forgotten x h = omega (arith, name_short x h)
 
-pub known : (x : Triple) (d : Direction) → IsWithinLimits x → length (spelled (Known x d)) ≤ 136
+pub known : (x : Triple) (d : Direction) → IsWithinLimits x → length (spelled (Known x d)) ≤ MOST_SMALL
 known x d h = omega (arith, name_short x h, length-append (bytes_of x) (direction_byte d ∷ []))
 
-value_short : (v : Option (List ℕ)) → IfSome v (λ s. length s ≤ 1024) → length (value_bytes v) ≤ 1027
+value_short : (v : Option (List ℕ)) → IfSome v (λ s. length s ≤ MOST_VALUE) → length (value_bytes v) ≤ 1027
 value_short None h = omega arith
 value_short (Some s) h = omega (arith, h)
 
@@ -47,7 +51,7 @@ stamped_short t ws h = omega (arith, writes_short ws h.writes.each, h.writes.few
 branch_short : (x : Triple) (t : ℕ) (ws : List Write) → IsBranch x t ws → length (branch_bytes x t ws) ≤ 279696
 branch_short x t ws h = omega (arith, name_short x h.name, stamped_short t ws h.stamped, length-append (bytes_of x) (stamped_bytes t ws))
 
-pub any : (r : Record) → IsRecord r → (1 ≤ length (spelled r)) × (length (spelled r) ≤ 524288)
+pub any : (r : Record) → IsRecord r → (1 ≤ length (spelled r)) × (length (spelled r) ≤ MOST_BODY)
 any (Opened boot) h = (omega arith, omega arith)
 any (Prepared x t ws) h = (omega arith, omega (arith, branch_short x t ws h))
 any (Committed x t ws) h = (omega arith, omega (arith, branch_short x t ws h))

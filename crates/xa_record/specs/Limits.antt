@@ -4,26 +4,27 @@ use Rattle.std.specs.declared.cmp.Ordering.TheVariants.{Less}
 use Rattle.std.specs.Cmp.Lexicographic.{slice_cmp}
 use Rattle.std.specs.List.{AllByRecursion}
 use Rattle.std.specs.Ordering.{nat_cmp}
+use Rattle.xa_codes.specs.declared.write.TheConstants.{MOST_KEY, MOST_VALUE, MOST_WRITES}
 use Rattle.xa_codes.specs.declared.write.Write.{Write}
 use Rattle.xa_xid.specs.Triple.{Triple, IsWithinLimits}
 use Rattle.xa_record.specs.declared.record.Record.{Record}
 use Rattle.xa_record.specs.declared.record.Record.TheVariants.{Opened, Prepared, Committed, Completed, Decided, Forgotten, Base, Held, Known}
 
--- a key of 1 to 64 bytes, and a value of at most 1,024
+-- a key of 1 to MOST_KEY bytes, and a value of at most MOST_VALUE
 pub record IsWrite (w : Write) : Type 0 where
   pub some : 1 ≤ length w.key
-  pub short : length w.key ≤ 64
-  pub value : IfSome w.value (λ v. length v ≤ 1024)
+  pub short : length w.key ≤ MOST_KEY
+  pub value : IfSome w.value (λ v. length v ≤ MOST_VALUE)
 
 -- each key is above the one before it, and the first above this one
 abbrev pub AscendsFrom : List ℕ → List Write → Type 0
 AscendsFrom key [] = Unit {0}
 AscendsFrom key (w ∷ ws) = (slice_cmp nat_cmp key w.key ≡ Less) × AscendsFrom w.key ws
 
--- 1 to 256 writes, strictly ascending by key
+-- 1 to MOST_WRITES writes, strictly ascending by key
 pub record AreWrites (ws : List Write) : Type 0 where
   pub some : 1 ≤ length ws
-  pub few : length ws ≤ 256
+  pub few : length ws ≤ MOST_WRITES
   pub each : AllByRecursion IsWrite ws
   pub ascending : AscendsFrom [] ws
 

@@ -5,6 +5,7 @@ use Rattle.std.specs.Int.{Width, w16, w32, w64, byte_len, from_be_bytes}
 use Rattle.std.specs.Ordering.{nat_cmp, is_lt}
 use Rattle.xa_codes.specs.declared.direction.Direction.{Direction}
 use Rattle.xa_codes.specs.declared.direction.Direction.TheVariants.{Commit, Rollback}
+use Rattle.xa_codes.specs.declared.write.TheConstants.{MOST_KEY, MOST_VALUE, MOST_WRITES}
 use Rattle.xa_codes.specs.declared.write.Write.{Write}
 use Rattle.xa_xid.specs.Triple.{Triple}
 use Rattle.xa_xid.specs.Reading.{xid_at}
@@ -39,14 +40,14 @@ direction_at (suc (suc (suc b)) ∷ rest) = None
 unfoldable pub key_at : List ℕ → List ℕ → Option (List ℕ × List ℕ)
 key_at previous [] = None
 key_at previous (n ∷ rest) =
-    if nat_le n 64 && (nat_le n (length rest) && is_lt (slice_cmp nat_cmp previous (take n rest))) then Some (take n rest, drop n rest) else None
+    if nat_le n MOST_KEY && (nat_le n (length rest) && is_lt (slice_cmp nat_cmp previous (take n rest))) then Some (take n rest, drop n rest) else None
 
 unfoldable pub value_at : List ℕ → Option (Option (List ℕ) × List ℕ)
 value_at [] = None
 value_at (zero ∷ rest) = Some (None, rest)
 value_at (suc zero ∷ rest) = do
   n ← number_at w16 rest
-  if nat_le n.0 1024 && nat_le n.0 (length n.1) then Some (Some (take n.0 n.1), drop n.0 n.1) else None
+  if nat_le n.0 MOST_VALUE && nat_le n.0 (length n.1) then Some (Some (take n.0 n.1), drop n.0 n.1) else None
 value_at (suc (suc b) ∷ rest) = None
 
 unfoldable pub write_at : List ℕ → List ℕ → Option (Write × List ℕ)
@@ -68,7 +69,7 @@ unfoldable pub head_at : List ℕ → Option (ℕ × ℕ × List ℕ)
 head_at bytes = do
   t ← number_at w64 bytes
   n ← number_at w16 t.1
-  if nat_le 1 n.0 && nat_le n.0 256 then Some (t.0, n.0, n.1) else None
+  if nat_le 1 n.0 && nat_le n.0 MOST_WRITES then Some (t.0, n.0, n.1) else None
 
 unfoldable pub stamped_at : List ℕ → Option (ℕ × List Write)
 stamped_at bytes = do

@@ -1,7 +1,9 @@
-ghost use Rattle.std.specs.Prelude.{◌≡◌, ◌≤◌, ℕ, length, Some};
+ghost use Rattle.std.specs.Prelude.{◌≡◌, ◌<◌, ◌≤◌, ℕ, length, Some};
 ghost use Rattle.xa_codes.specs.declared.direction.Direction.{Direction};
 ghost use Rattle.xa_record.specs.declared.record.Record.{Record};
 ghost use Rattle.xa_record.specs.declared.record.Record.TheVariants.{Opened, Completed, Decided, Forgotten, Known};
+ghost use Rattle.xa_record.specs.declared.record.TheConstants.{MOST_BODY};
+ghost use Rattle.xa_record.specs.declared.writing.TheConstants.{MOST_SMALL};
 ghost use Rattle.xa_record.specs.Limits.{IsRecord};
 ghost use Rattle.xa_record.specs.Reading.{record_at};
 ghost use Rattle.xa_record.specs.Spelling.{spelled};
@@ -15,10 +17,10 @@ pub fn one_record()
 
 /// How long bodies are.
 pub fn body_sizes()
-    ensures any { (r : Record) → IsRecord r → (1 ≤ length (spelled r)) × (length (spelled r) ≤ 524288) }
+    ensures any { (r : Record) → IsRecord r → (1 ≤ length (spelled r)) × (length (spelled r) ≤ MOST_BODY) }
     ensures opened { (boot : ℕ) → length (spelled (Opened boot)) ≡ 5 }
-    ensures completed { (x : Triple) (d : Direction) → IsWithinLimits x → length (spelled (Completed x d)) ≤ 136 }
-    ensures decided { (x : Triple) (d : Direction) → IsWithinLimits x → length (spelled (Decided x d)) ≤ 136 }
-    ensures forgotten { (x : Triple) → IsWithinLimits x → length (spelled (Forgotten x)) ≤ 135 }
-    ensures known { (x : Triple) (d : Direction) → IsWithinLimits x → length (spelled (Known x d)) ≤ 136 }
+    ensures completed { (x : Triple) (d : Direction) → IsWithinLimits x → length (spelled (Completed x d)) ≤ MOST_SMALL }
+    ensures decided { (x : Triple) (d : Direction) → IsWithinLimits x → length (spelled (Decided x d)) ≤ MOST_SMALL }
+    ensures forgotten { (x : Triple) → IsWithinLimits x → length (spelled (Forgotten x)) < MOST_SMALL }
+    ensures known { (x : Triple) (d : Direction) → IsWithinLimits x → length (spelled (Known x d)) ≤ MOST_SMALL }
 {}

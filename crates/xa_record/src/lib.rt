@@ -21,6 +21,6 @@ mod writing;
 pub use fault::RecordFault;
 pub use laws::{body_sizes, one_record};
 pub use reading::read;
-pub use record::Record;
+pub use record::{MOST_BODY, Record};
 pub use writes::Writes;
-pub use writing::{write, write_small};
+pub use writing::{MOST_SMALL, write, write_small};

@@ -12,7 +12,7 @@ use crate::fault::RecordFault;
 use crate::record::Record;
 use crate::writes::Writes;
 use std::alloc::{AllocError, Global};
-use xa_codes::{Bytes, Direction, Write};
+use xa_codes::{Bytes, Direction, MOST_KEY, MOST_VALUE, MOST_WRITES, Write};
 use xa_xid::Xid;
 
 fn u16_at(bytes: &[u8]) -> Option<(u16, &[u8])>
@@ -76,7 +76,7 @@ fn key_of<'a>(previous: &[u8], bytes: &'a [u8]) -> Option<(&'a [u8], &'a [u8])>
         return None;
     };
     let len = usize::from(*len);
-    if len > 64 || len > rest.len() {
+    if len > MOST_KEY || len > rest.len() {
         return None;
     }
     let (key, rest) = rest.split_at(len);
@@ -96,7 +96,7 @@ fn value_of(bytes: &[u8]) -> Option<(Option<&[u8]>, &[u8])>
         [1, rest @ ..] => {
             let (len, rest) = u16_at(rest)?;
             let len = usize::from(len);
-            if len > 1024 || len > rest.len() {
+            if len > MOST_VALUE || len > rest.len() {
                 return None;
             }
             let (value, rest) = rest.split_at(len);
@@ -168,7 +168,7 @@ fn head_of(bytes: &[u8]) -> Option<(u64, u16, &[u8])>
 {
     let (timestamp, rest) = u64_at(bytes)?;
     let (count, rest) = u16_at(rest)?;
-    if (1..=256).contains(&count) {
+    if (1..=MOST_WRITES).contains(&usize::from(count)) {
         Some((timestamp, count, rest))
     } else {
         None

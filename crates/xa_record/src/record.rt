@@ -2,6 +2,9 @@ use crate::writes::Writes;
 use xa_codes::Direction;
 use xa_xid::Xid;
 
+/// The most bytes of a body: a log takes none that is longer.
+pub const MOST_BODY: usize = 524_288;
+
 /// What one record of the log says.
 #[derive(Debug, Drop)]
 pub enum Record {
@@ -9,7 +12,7 @@ pub enum Record {
     Opened {
         boot: u32,
     },
-    /// A branch was prepared, with 1 to 256 writes, ascending by key.
+    /// A branch was prepared, with 1 to `MOST_WRITES` writes, ascending by key.
     Prepared {
         xid: Xid,
         timestamp: u64,

@@ -1,8 +1,9 @@
 ghost use Rattle.arrayvec.specs.ArrayVec.{array_vec_len};
 ghost use Rattle.std.specs.Int.{w16, to_be_bytes};
-ghost use Rattle.std.specs.Prelude.{◌≡◌, ◌≤◌, [], ◌∷◌, ◌++◌, flat_map, IfOk, OnOk};
+ghost use Rattle.std.specs.Prelude.{◌≡◌, ◌<◌, [], ◌∷◌, ◌++◌, flat_map, IfOk, OnOk};
 ghost use Rattle.xa_record.specs.Spelling.{spelled, branch_bytes, stamped_bytes, write_bytes, value_bytes};
 ghost use Rattle.xa_record.specs.Small.{IsSmall};
+ghost use Rattle.xa_record.specs.declared.writing.TheConstants.{MOST_SMALL};
 ghost use Rattle.xa_xid.specs.Spelling.{bytes_of};
 
 use crate::record::Record;
@@ -10,7 +11,10 @@ use crate::writes::Writes;
 use arrayvec::ArrayVec;
 use std::alloc::{AllocError, Global};
 use xa_codes::{Bytes, Write};
-use xa_xid::Xid;
+use xa_xid::{MOST_BYTES, Xid};
+
+/// The most bytes of a body without writes: its kind, an XID, a direction.
+pub const MOST_SMALL: usize = 2 + MOST_BYTES;
 
 /// The record's body. A record out of its limits has none that `read` takes.
 pub fn write(alloc: Global, record: &Record) -> Result<Vec<u8>, AllocError>
@@ -34,7 +38,7 @@ pub fn write(alloc: Global, record: &Record) -> Result<Vec<u8>, AllocError>
             writes,
         } => branch(alloc, 8, xid, *timestamp, writes),
         _ => {
-            let mut small: ArrayVec<u8, 136> = ArrayVec::new();
+            let mut small: ArrayVec<u8, MOST_SMALL> = ArrayVec::new();
             write_small(record, &mut small);
             small.as_slice().to_vec(alloc)
         }
@@ -42,7 +46,7 @@ pub fn write(alloc: Global, record: &Record) -> Result<Vec<u8>, AllocError>
 }
 
 /// Replaces what the vector holds by the body of a record without writes. Takes no memory.
-pub fn write_small(record: &Record, out: &mut ArrayVec<u8, 136>)
+pub fn write_small(record: &Record, out: &mut ArrayVec<u8, MOST_SMALL>)
     requires { IsSmall «record».now }
     ensures { out.new.items ≡ spelled «record».now }
 {
@@ -72,12 +76,12 @@ pub fn write_small(record: &Record, out: &mut ArrayVec<u8, 136>)
     }
 }
 
-fn put_xid(out: &mut ArrayVec<u8, 136>, kind: u8, xid: &Xid)
+fn put_xid(out: &mut ArrayVec<u8, MOST_SMALL>, kind: u8, xid: &Xid)
     requires { out.old.items ≡ [] }
     ensures items { out.new.items ≡ kind ∷ bytes_of xid.now }
-    ensures len { array_vec_len out.new ≤ 135 }
+    ensures len { array_vec_len out.new < MOST_SMALL }
 {
-    let mut bytes: ArrayVec<u8, 134> = ArrayVec::new();
+    let mut bytes: ArrayVec<u8, MOST_BYTES> = ArrayVec::new();
     xid.put(&mut bytes);
     out.push(kind);
     let _ = out.try_extend_from_slice(bytes.as_slice());
@@ -92,7 +96,7 @@ fn branch(
 ) -> Result<Vec<u8>, AllocError>
     ensures { IfOk result (λ v. v.items ≡ kind ∷ branch_bytes xid.now timestamp writes.now) }
 {
-    let mut bytes: ArrayVec<u8, 134> = ArrayVec::new();
+    let mut bytes: ArrayVec<u8, MOST_BYTES> = ArrayVec::new();
     xid.put(&mut bytes);
     let mut out = Vec::new(alloc);
     out.push(kind)?;

@@ -1,4 +1,5 @@
 ghost use Rattle.std.specs.Prelude.{◌≡◌, ◌+◌, map, nat_lt, if◌then◌else◌, None, Some};
+ghost use Rattle.xa_model.specs.Restarting.{most_boots};
 ghost use Rattle.xa_recovery.specs.Durable.{as_committed, as_prepared, as_decided};
 
 use std::collections::BTreeMap;
@@ -63,9 +64,9 @@ impl Durable {
     }
 }
 
-/// The number of the boot after those that were logged. None after 4,294,967,295. Takes no memory.
+/// The number of the boot after those that were logged. None after `MOST_BOOTS`. Takes no memory.
 pub fn next_boot(durable: &Durable) -> Option<u32>
-    ensures { result ≡ (if nat_lt durable.now.boot 4294967295 then Some (durable.now.boot + 1) else None) }
+    ensures { result ≡ (if nat_lt durable.now.boot most_boots then Some (durable.now.boot + 1) else None) }
 {
     durable.boot.checked_add(1)
 }

@@ -1,5 +1,5 @@
 -- What a session asks for, by the words behind its number.
-use Rattle.std.specs.Prelude.{◌≡◌, ℕ, ◌&&◌, nat_le, Bool, List, [], ◌∷◌, length, Option, Some, None, IfSome, if◌then◌else◌, option_and_then, bytes_eq, codes, find}
+use Rattle.std.specs.Prelude.{◌≡◌, ℕ, ◌*◌, ◌&&◌, nat_le, Bool, List, [], ◌∷◌, length, Option, Some, None, IfSome, if◌then◌else◌, option_and_then, bytes_eq, codes, find}
 use Rattle.std.specs.Option.{option_map}
 use Rattle.std.specs.List.{list_all}
 use Rattle.xa_script.specs.Flags.{flags_of}
@@ -10,8 +10,10 @@ use Rattle.xa_script.specs.declared.verb.Verb.{Verb}
 use Rattle.xa_script.specs.declared.verb.Verb.TheVariants as verb
 use Rattle.xa_codes.specs.declared.direction.Direction.{Direction}
 use Rattle.xa_codes.specs.declared.direction.Direction.TheVariants as direction
+use Rattle.xa_codes.specs.declared.write.TheConstants.{MOST_KEY, MOST_VALUE}
 use Rattle.xa_xid.specs.Triple.{Triple, IsWithinLimits}
 use Rattle.xa_xid.specs.Spelling.{text_of}
+use Rattle.xa_frame.specs.declared.request.TheConstants.{MOST_INFO}
 use Rattle.xa_frame.specs.declared.request.Request.{Request}
 use Rattle.xa_frame.specs.declared.request.Request.TheVariants.{Open, Close, Start, End, Prepare, Commit, Rollback, Forget, Recover, Get, Put, Delete, Decide, Doom, Restart}
 
@@ -38,22 +40,22 @@ named_verbs =
 abbrev pub verb_of : List ℕ → Option Verb
 verb_of word = option_map (λ entry. entry.1) (find (λ entry. bytes_eq entry.0 word) named_verbs)
 
--- 1 to 255 bytes from ! to ~
+-- 1 to MOST_INFO bytes from ! to ~
 abbrev pub is_graphic : List ℕ → Bool
 is_graphic word = list_all (λ c. nat_le 33 c && nat_le c 126) word
 
 abbrev pub is_name : List ℕ → Bool
-is_name word = nat_le 1 (length word) && nat_le (length word) 255 && is_graphic word
+is_name word = nat_le 1 (length word) && nat_le (length word) MOST_INFO && is_graphic word
 
--- 1 to 64 bytes
+-- 1 to MOST_KEY bytes, of two digits each
 abbrev pub key_of : List ℕ → Option (List ℕ)
-key_of word = if nat_le 1 (length word) && nat_le (length word) 128 then bytes_of word else None
+key_of word = if nat_le 1 (length word) && nat_le (length word) (2 * MOST_KEY) then bytes_of word else None
 
--- at most 1,024 bytes; the empty value is a dash
+-- at most MOST_VALUE bytes, of two digits each; the empty value is a dash
 abbrev pub value_of : List ℕ → Option (List ℕ)
 value_of word =
     if bytes_eq word (codes "-") then Some []
-    else if nat_le 1 (length word) && nat_le (length word) 2048 then bytes_of word
+    else if nat_le 1 (length word) && nat_le (length word) (2 * MOST_VALUE) then bytes_of word
     else None
 
 -- what the words behind `open` ask

@@ -12,8 +12,8 @@ use crate::numbers::read_count;
 use crate::parts::{only_word, two_words};
 use crate::verb::Verb;
 use std::alloc::{AllocError, Global};
-use xa_codes::{Bytes, Direction};
-use xa_frame::Request;
+use xa_codes::{Bytes, Direction, MOST_KEY, MOST_VALUE};
+use xa_frame::{MOST_INFO, Request};
 use xa_xid::Xid;
 
 /// The request of a verb and the words behind it, where they are as it wants them.
@@ -134,11 +134,11 @@ fn read_open(alloc: Global, words: Option<&[u8]>) -> Result<Option<Request>, All
     Ok(Some(Request::Open { flags, info }))
 }
 
-/// Whether a word is a name: 1 to 255 bytes from `!` to `~`.
+/// Whether a word is a name: 1 to `MOST_INFO` bytes from `!` to `~`.
 fn is_name(word: &[u8]) -> bool
     ensures { result ≡ is_name word.now }
 {
-    !word.is_empty() && word.len() <= 255 && is_graphic(word)
+    !word.is_empty() && word.len() <= MOST_INFO && is_graphic(word)
 }
 
 fn is_graphic(word: &[u8]) -> bool
@@ -180,18 +180,18 @@ fn read_put(alloc: Global, words: Option<&[u8]>) -> Result<Option<Request>, Allo
     Ok(read_value(alloc, value)?.map(|value| Request::Put { key, value }))
 }
 
-/// A key of 1 to 64 bytes.
+/// A key of 1 to `MOST_KEY` bytes.
 fn read_key(alloc: Global, word: &[u8]) -> Result<Option<Bytes>, AllocError>
     ensures value { IfOk result (λ key. key ≡ key_of word.now) }
     ensures limits { IfOk result (λ key. IfSome key IsKey) }
 {
-    if word.is_empty() || word.len() > 128 {
+    if word.is_empty() || word.len() > 2 * MOST_KEY {
         return Ok(None);
     }
     read_bytes(alloc, word)
 }
 
-/// A value of at most 1,024 bytes. The empty one is `-`.
+/// A value of at most `MOST_VALUE` bytes. The empty one is `-`.
 fn read_value(alloc: Global, word: &[u8]) -> Result<Option<Bytes>, AllocError>
     ensures value { IfOk result (λ value. value ≡ value_of word.now) }
     ensures limits { IfOk result (λ value. IfSome value IsValue) }
@@ -199,7 +199,7 @@ fn read_value(alloc: Global, word: &[u8]) -> Result<Option<Bytes>, AllocError>
     if word == b"-".as_slice() {
         return Ok(Some(Bytes::new(Vec::new(alloc))));
     }
-    if word.is_empty() || word.len() > 2048 {
+    if word.is_empty() || word.len() > 2 * MOST_VALUE {
         return Ok(None);
     }
     read_bytes(alloc, word)

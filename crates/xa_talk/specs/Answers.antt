@@ -8,6 +8,7 @@ use Rattle.xa_frame.specs.declared.reply.Reply.{Reply}
 use Rattle.xa_frame.specs.declared.request.Request.{Request}
 use Rattle.xa_script.specs.declared.line.Line.{Line}
 use Rattle.xa_script.specs.declared.line.Line.TheVariants.{Silent, Unknown, Connect, Hangup, Call, Fail, Reopen, Crash}
+use Rattle.xa_talk.specs.declared.answer.TheConstants.{MOST_CONNECTIONS}
 use Rattle.xa_talk.specs.declared.fault.TalkFault.{TalkFault}
 use Rattle.xa_talk.specs.declared.fault.TalkFault.TheVariants as faults
 use Rattle.xa_talk.specs.Exchanges.{Exchanged}
@@ -16,10 +17,6 @@ use Rattle.xa_talk.specs.Numbers.{connection_at, free_place, place_of, with_at, 
 -- the line isn't in the grammar, or speaks of what only disks in memory have
 abbrev pub refused : Reply
 refused = detailed XAER_INVAL detail.Frame
-
--- the most connections, as a manager has sessions
-abbrev pub most_connections : ℕ
-most_connections = 1024
 
 -- a reply is shown, a fault isn't
 abbrev pub shown : Result Reply TalkFault → Result (Option Reply) TalkFault
@@ -39,7 +36,7 @@ module _ {C : Type 0} (sent left : C → Option (List ℕ)) where
   -- a connection more, which has the least free number; or none could be opened
   abbrev pub ConnectAnswered : Result Reply TalkFault → List (Option C) → List (Option C) → Type 0
   ConnectAnswered answer places places' =
-      MatchBool (nat_lt (free_place places) most_connections)
+      MatchBool (nat_lt (free_place places) MOST_CONNECTIONS)
       (MatchResult answer
       (λ reply. (c : C) × (reply ≡ carrying (body.Number (free_place places + 1))) × (places' ≡ with_new c places))
       (λ fault. (fault ≡ faults.Connect) ⊎ (fault ≡ faults.Memory)))

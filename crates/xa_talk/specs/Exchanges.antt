@@ -5,6 +5,7 @@ use Rattle.std.specs.Io.KnownBytes.{Appends, Consumes}
 use Rattle.xa_desk.specs.Frames.{frame}
 use Rattle.xa_frame.specs.declared.reply.Reply.{Reply}
 use Rattle.xa_frame.specs.declared.request.Request.{Request}
+use Rattle.xa_frame.specs.declared.request_decoder.TheConstants.{MOST_CONTENT}
 use Rattle.xa_frame.specs.Spelling.{SpellsReply, bytes_of_request}
 use Rattle.xa_talk.specs.declared.fault.TalkFault.{TalkFault}
 use Rattle.xa_talk.specs.declared.fault.TalkFault.TheVariants.{Lost, Memory, NoReply}
@@ -34,7 +35,7 @@ Sends request (Err fault) output output' = IsBroken fault × SendsPart request o
 -- a length that no frame has, or a frame that spells no reply
 abbrev pub IsNoReply : List ℕ → Type 0
 IsNoReply read =
-    ((n : ℕ) × (65_535 < n) × (read ≡ to_be_bytes w32 n))
+    ((n : ℕ) × (MOST_CONTENT < n) × (read ≡ to_be_bytes w32 n))
     ⊎ ((content : List ℕ) × (read ≡ frame content) × ((reply : Reply) → SpellsReply content reply → ⊥))
 
 -- the frame of this reply is read, or what is no reply

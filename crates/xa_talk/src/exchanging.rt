@@ -10,11 +10,8 @@ use crate::dial::Connection;
 use crate::fault::TalkFault;
 use std::alloc::{AllocError, Global};
 use std::io::{Read, Write};
-use xa_frame::{FrameFault, Reply, Request, decode_reply, encode_request};
+use xa_frame::{FrameFault, MOST_CONTENT, Reply, Request, decode_reply, encode_request};
 use xa_output::write_text;
-
-/// The longest content of a frame.
-const LONGEST: u32 = 65_535;
 
 /// Sends the frame of a request, by one write where the writer takes it whole, and gives the reply that comes back.
 pub fn exchange<R: Read, W: Write>(
@@ -77,7 +74,7 @@ fn read_content<R: Read>(alloc: Global, reader: &mut R) -> Result<Vec<u8>, TalkF
         return Err(TalkFault::Lost);
     }
     let length = number_of(front[0], front[1], front[2], front[3]);
-    if length > LONGEST {
+    if length as usize > MOST_CONTENT {
         return Err(TalkFault::NoReply);
     }
     let mut content = vec![in alloc; 0u8; length as usize]?;

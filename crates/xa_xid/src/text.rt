@@ -4,17 +4,24 @@ ghost use Rattle.std.specs.Int.{w32, IsInRange};
 ghost use Rattle.std.specs.Prelude.{◌≡◌, ◌≢◌, ◌↔◌, ◌⊎◌, ◌<◌, ◌≤◌, ◌+◌, ◌*◌, ℕ, ℤ, List, [], ◌∷◌, ◌++◌, length, All, Some, IsTrue, IfSome, MatchOption, option_map, decimal, FitsSigned, slice_index};
 ghost use Rattle.xa_xid.specs.Triple.{Triple, IsWithinLimits};
 ghost use Rattle.xa_xid.specs.Spelling.{text_of, hex, hex_byte, hex_digit};
+ghost use Rattle.xa_xid.specs.declared.text.TheConstants.{MOST_NUMBER, MOST_TEXT};
+ghost use Rattle.xa_xid.specs.declared.xid.TheConstants.{MOST_PART};
 
-use crate::xid::Xid;
+use crate::xid::{MOST_PART, Xid};
 use arrayvec::ArrayVec;
 
-type Text = ArrayVec<u8, 269>;
+/// The most bytes of a format number in decimal.
+const MOST_NUMBER: usize = 11;
+/// The most bytes of an XID's text: the format number, and two colons with two parts in hexadecimal.
+pub const MOST_TEXT: usize = MOST_NUMBER + 2 * (1 + 2 * MOST_PART);
+
+type Text = ArrayVec<u8, MOST_TEXT>;
 
 /// The text of an XID: the format number in decimal, without leading zeros, a colon, gtrid in lower case hexadecimal, a
 /// colon, bqual in lower case hexadecimal, as `1:aa:bb` and `1:aabb:`.
 impl Xid {
     /// Replaces what the vector holds by the XID's text. Takes no memory.
-    pub fn put_text(&self, out: &mut ArrayVec<u8, 269>)
+    pub fn put_text(&self, out: &mut ArrayVec<u8, MOST_TEXT>)
         ensures { out.new.items ≡ text_of self.now }
     {
         out.clear();
@@ -42,9 +49,9 @@ impl Xid {
 }
 
 fn put_number(out: &mut Text, n: i32)
-    requires { array_vec_len out.old + 11 ≤ 269 }
+    requires { array_vec_len out.old + MOST_NUMBER ≤ MOST_TEXT }
     ensures value { out.new.items ≡ out.old.items ++ signed_decimal n }
-    ensures len { array_vec_len out.new ≤ array_vec_len out.old + 11 }
+    ensures len { array_vec_len out.new ≤ array_vec_len out.old + MOST_NUMBER }
 {
     if n < 0 {
         out.push(b'-');
@@ -53,7 +60,7 @@ fn put_number(out: &mut Text, n: i32)
 }
 
 fn put_decimal(out: &mut Text, n: u32)
-    requires { array_vec_len out.old + length (decimal n) ≤ 269 }
+    requires { array_vec_len out.old + length (decimal n) ≤ MOST_TEXT }
     ensures { out.new.items ≡ out.old.items ++ decimal n }
 {
     if n >= 10 {
@@ -63,7 +70,7 @@ fn put_decimal(out: &mut Text, n: u32)
 }
 
 fn put_hex(out: &mut Text, bytes: &[u8])
-    requires { array_vec_len out.old + 2 * length bytes.now ≤ 269 }
+    requires { array_vec_len out.old + 2 * length bytes.now ≤ MOST_TEXT }
     ensures value { out.new.items ≡ out.old.items ++ hex bytes.now }
     ensures len { array_vec_len out.new ≡ array_vec_len out.old + 2 * length bytes.now }
 {
@@ -109,11 +116,11 @@ fn is_plain(text: &[u8]) -> bool
     }
 }
 
-fn unhex(text: &[u8]) -> Option<ArrayVec<u8, 64>>
+fn unhex(text: &[u8]) -> Option<ArrayVec<u8, MOST_PART>>
     ensures found { IfSome result (λ v. All (λ b. b < 256) v.items × (text.now ≡ hex v.items)) }
-    ensures only { (bytes : List ℕ) → All (λ b. b < 256) bytes → length bytes ≤ 64 → text.now ≡ hex bytes → option_map (λ v. v.items) result ≡ Some bytes }
+    ensures only { (bytes : List ℕ) → All (λ b. b < 256) bytes → length bytes ≤ MOST_PART → text.now ≡ hex bytes → option_map (λ v. v.items) result ≡ Some bytes }
 {
-    let mut bytes: ArrayVec<u8, 64> = ArrayVec::new();
+    let mut bytes: ArrayVec<u8, MOST_PART> = ArrayVec::new();
     let mut rest = text;
     while let [high, low, others @ ..] = rest {
         bytes.try_push(byte_of(*high, *low)?).ok()?;

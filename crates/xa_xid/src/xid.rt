@@ -1,18 +1,24 @@
-ghost use Rattle.std.specs.Prelude.{◌≡◌, ◌≢◌, ◌↔◌, IfOk, IsOk, negsuc, ◌≤◌, length};
+ghost use Rattle.std.specs.Prelude.{◌≡◌, ◌≢◌, ◌↔◌, IfOk, IsOk, ◌≤◌, length};
 ghost use Rattle.xa_xid.specs.Fault.{xid_of};
 ghost use Rattle.xa_xid.specs.Triple.{IsXid};
+ghost use Rattle.xa_xid.specs.declared.xid.TheConstants.{MOST_PART, NULL_FORMAT};
 
 use arrayvec::ArrayVec;
 use std::cmp::Ordering;
 use std::marker::Model;
 use thiserror::Error;
 
-/// The name of a branch, in at most 134 bytes of its own. Contracts see it as its three parts.
+/// The format number of the null XID, which names no branch.
+pub const NULL_FORMAT: i32 = -1;
+/// The most bytes of a gtrid, which has at least one, and of a bqual.
+pub const MOST_PART: usize = 64;
+
+/// The name of a branch, in at most `MOST_BYTES` bytes of its own. Contracts see it as its three parts.
 #[derive(Debug, Drop)]
 pub struct Xid {
     format: i32,
-    gtrid: ArrayVec<u8, 64>,
-    bqual: ArrayVec<u8, 64>,
+    gtrid: ArrayVec<u8, MOST_PART>,
+    bqual: ArrayVec<u8, MOST_PART>,
 }
 
 impl Model for Xid {
@@ -32,29 +38,29 @@ pub enum XidFault {
     /// The format number is -1.
     #[error("format number -1")]
     Null = 1,
-    /// The gtrid is empty or has more than 64 bytes.
+    /// The gtrid is empty or has more than `MOST_PART` bytes.
     #[error("gtrid not of 1 to 64 bytes")]
     GtridLength = 2,
-    /// The bqual has more than 64 bytes.
+    /// The bqual has more than `MOST_PART` bytes.
     #[error("bqual not of 0 to 64 bytes")]
     BqualLength = 3,
 }
 
 impl Xid {
-    /// An XID of these parts, or the first fault: the null format number -1, a gtrid that hasn't 1 to 64 bytes, a bqual
-    /// of more than 64. C193 has 1 to 64 for both; here a bqual may be empty. Takes no memory.
+    /// An XID of these parts, or the first fault: the null format number -1, a gtrid that hasn't 1 to `MOST_PART` bytes, a bqual
+    /// of more than `MOST_PART`. C193 has 1 to 64 for both; here a bqual may be empty. Takes no memory.
     pub fn new(format: i32, gtrid: &[u8], bqual: &[u8]) -> Result<Xid, XidFault>
         ensures exact { result ≡ xid_of format gtrid.now bqual.now }
         ensures xid { IfOk result (λ x. x ≡ record { format = format; gtrid = gtrid.now; bqual = bqual.now }) }
         ensures valid { IsOk result ↔ IsXid format gtrid.now bqual.now }
     {
-        if format == -1 {
+        if format == NULL_FORMAT {
             return Err(XidFault::Null);
         }
-        if gtrid.is_empty() || gtrid.len() > 64 {
+        if gtrid.is_empty() || gtrid.len() > MOST_PART {
             return Err(XidFault::GtridLength);
         }
-        if bqual.len() > 64 {
+        if bqual.len() > MOST_PART {
             return Err(XidFault::BqualLength);
         }
         Ok(Xid {
@@ -67,23 +73,23 @@ impl Xid {
     /// The format number, which isn't -1.
     pub fn format(&self) -> i32
         ensures value { result ≡ self.now.format }
-        ensures not_null { result ≢ negsuc 0 }
+        ensures not_null { result ≢ NULL_FORMAT }
     {
         self.format
     }
 
-    /// The global part, 1 to 64 bytes.
+    /// The global part, 1 to `MOST_PART` bytes.
     pub fn gtrid(&self) -> &[u8]
         ensures value { result.now ≡ self.now.gtrid }
-        ensures limits { (1 ≤ length result.now) × (length result.now ≤ 64) }
+        ensures limits { (1 ≤ length result.now) × (length result.now ≤ MOST_PART) }
     {
         self.gtrid.as_slice()
     }
 
-    /// The branch part, 0 to 64 bytes.
+    /// The branch part, 0 to `MOST_PART` bytes.
     pub fn bqual(&self) -> &[u8]
         ensures value { result.now ≡ self.now.bqual }
-        ensures limits { length result.now ≤ 64 }
+        ensures limits { length result.now ≤ MOST_PART }
     {
         self.bqual.as_slice()
     }
@@ -100,11 +106,11 @@ impl Xid {
     }
 }
 
-fn held(bytes: &[u8]) -> ArrayVec<u8, 64>
-    requires { length bytes.now ≤ 64 }
+fn held(bytes: &[u8]) -> ArrayVec<u8, MOST_PART>
+    requires { length bytes.now ≤ MOST_PART }
     ensures { result.items ≡ bytes.now }
 {
-    let mut all: ArrayVec<u8, 64> = ArrayVec::new();
+    let mut all: ArrayVec<u8, MOST_PART> = ArrayVec::new();
     let _ = all.try_extend_from_slice(bytes);
     all
 }
