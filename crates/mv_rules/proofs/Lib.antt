@@ -17,3 +17,4 @@ pub mod Counted
 pub mod Remade
 pub mod Orderly
 pub mod Within
+pub mod Tidied

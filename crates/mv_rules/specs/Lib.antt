@@ -2,6 +2,7 @@ pub mod History
 pub mod Own
 pub mod Held
 pub mod Records
+pub mod Tidy
 pub mod Steps
 pub mod Verdict
 pub mod Ties

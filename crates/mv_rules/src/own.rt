@@ -1,5 +1,6 @@
-ghost use Rattle.std.specs.Prelude.{◌≡◌, ℕ, [], ◌∷◌, ◌++◌, ◌==◌, ◌-◌, ◌<◌, if◌then◌else◌, take, length, IfSome, OnOk, OnErr};
+ghost use Rattle.std.specs.Prelude.{◌≡◌, ℕ, [], ◌∷◌, ◌++◌, ◌==◌, ◌-◌, ◌<◌, if◌then◌else◌, take, length, IfSome, IfNone, OnOk, OnErr};
 ghost use Rattle.mv_rules.specs.Own.{own_in};
+ghost use Rattle.mv_rules.specs.Tidy.{due, not_due};
 
 use std::alloc::{AllocError, Global};
 use std::collections::BTreeMap;
@@ -116,6 +117,10 @@ pub(crate) fn keep_decided(notes: &mut BTreeMap<u64, Notes>, ts: u64, own: Vec<O
 pub(crate) fn next_due(notes: &mut BTreeMap<u64, Notes>, low: u64) -> Option<Notes>
     ensures same { (t : ℕ) → own_in t notes.new ≡ own_in t notes.old }
     ensures fewer { IfSome result (λ _. length notes.new.entries < length notes.old.entries) }
+    ensures due { IfSome result (λ n. due low notes.old.entries ≡ n.decided.items ++ n.read.items ++ due low notes.new.entries) }
+    ensures later { IfSome result (λ _. not_due low notes.old.entries ≡ not_due low notes.new.entries) }
+    ensures none { IfNone result (due low notes.old.entries ≡ []) }
+    ensures left { IfNone result (notes.new.entries ≡ not_due low notes.old.entries) }
 {
     let is_due = match notes.first_key_value() {
         Some((ts, noted)) => *ts <= low && noted.written.is_empty(),

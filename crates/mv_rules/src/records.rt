@@ -1,4 +1,5 @@
-ghost use Rattle.std.specs.Prelude.{◌≡◌, ◌≢◌, ℕ, ◌≤◌, max, List, [], ◌∷◌, Some, None, false, IfOk, OnOk, option_map};
+ghost use Rattle.std.specs.Prelude.{◌≡◌, ◌≢◌, ℕ, ◌≤◌, max, List, [], ◌∷◌, Some, None, false, IfOk, OnOk, option_map, bytes_eq, if◌then◌else◌};
+ghost use Rattle.mv_chain.specs.Chain.{pruned};
 ghost use Rattle.mv_chain.specs.Within.{IsShort};
 ghost use Rattle.mv_chain.specs.History.{seen, is_late, has_open, decided, AreWhole, IsOpen, IsUnsettled};
 
@@ -33,6 +34,7 @@ impl Records {
     ghost use Rattle.mv_rules.specs.History.{History, answer_of, reads_after, open_keys, put_of, after_put, wrote, IsWritesOf, IsWholeAt};
     ghost use Rattle.mv_rules.specs.Records.{StandsFor, place_of, versions_in};
     ghost use Rattle.mv_rules.specs.Restoring.{with_branch, IsRestorable};
+    ghost use Rattle.mv_rules.specs.Tidy.{kept_of, names, forgotten, tidied_if, Tidies};
     ghost use Rattle.mv_rules.specs.Within.{IsWithin, KeepsWithin, IsShortAnswer, AreShort};
 
     /// No key was written or read. Takes no memory.
@@ -71,6 +73,8 @@ impl Records {
     /// Forgets a key that nobody has written, and whose reads lie below `low`. Takes no memory.
     fn forget(&mut self, key: &[u8], low: u64)
         ensures stands { (h : History) → StandsFor h self.old → IsWholeAt key.now h.writes → low ≤ h.low → StandsFor h self.new }
+        ensures kept { (h : History) → StandsFor h self.old → (q : List ℕ)
+            → kept_of q self.new ≡ (if bytes_eq q key.now then forgotten low (kept_of q self.old) else kept_of q self.old) }
         ensures notes { self.new.notes ≡ self.old.notes }
         ensures within { KeepsWithin self.old self.new }
     {
@@ -202,6 +206,8 @@ impl Records {
     /// Prunes the chain of a key. Takes no memory.
     fn prune(&mut self, key: &[u8], low: u64)
         ensures stands { (h : History) → StandsFor h self.old → AreWhole h.writes → low ≤ h.low → StandsFor h self.new }
+        ensures kept { (h : History) → StandsFor h self.old → (q : List ℕ)
+            → kept_of q self.new ≡ (if bytes_eq q key.now then option_map (pruned low) (kept_of q self.old) else kept_of q self.old) }
         ensures notes { self.new.notes ≡ self.old.notes }
         ensures within { KeepsWithin self.old self.new }
     {
@@ -216,6 +222,8 @@ impl Records {
     /// Drops what is no longer read from `low` on of these keys. Takes no memory.
     fn drain(&mut self, due: &[Own], low: u64)
         ensures stands { (h : History) → StandsFor h self.old → AreWhole h.writes → low ≤ h.low → StandsFor h self.new }
+        ensures kept { (h : History) → StandsFor h self.old → AreWhole h.writes → low ≤ h.low → (q : List ℕ)
+            → kept_of q self.new ≡ tidied_if low (names q due.now) (kept_of q self.old) }
         ensures notes { self.new.notes ≡ self.old.notes }
         ensures within { KeepsWithin self.old self.new }
     {
@@ -229,6 +237,7 @@ impl Records {
     /// what is no longer read. It costs what it drops, and takes no memory.
     pub fn low_water(&mut self, low: u64)
         ensures stands { (h : History) → StandsFor h self.old → AreWhole h.writes → StandsFor (record h { low = max h.low low }) self.new }
+        ensures tidies { (h : History) → StandsFor h self.old → AreWhole h.writes → Tidies low self.old self.new }
         ensures within { KeepsWithin self.old self.new }
     {
         while let Some(noted) = next_due(&mut self.notes, low) {

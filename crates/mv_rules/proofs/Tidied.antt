@@ -1,0 +1,186 @@
+-- What is kept of each key once one chain is pruned or forgotten, and that to tidy a key twice is to tidy it once.
+use Rattle.std.proofs.Common.{◌≡◌, ℕ, ◌<◌, ◌⊎◌, inl, inr, Bool, true, false, ◌||◌, ◌&&◌, not, ◌==◌, List, [], ◌∷◌, ◌++◌, length, Option, Some, None, refl, sym, ap, ◌∙◌, subst, arith}
+use Rattle.std.specs.Prelude.{nat_le, option_map, bytes_eq, slice_get, if◌then◌else◌}
+use Rattle.std.specs.BTreeMap.{BTreeMap}
+use Rattle.std.proofs.lemmas.Slice.Eq.{bytes_eq-Decides}
+use Rattle.slab.specs.Slab.{get as chain_in}
+use Rattle.mv_chain.specs.declared.version.Version.{Version}
+use Rattle.mv_chain.specs.declared.pool.Pool.{Pool}
+use Rattle.mv_chain.specs.declared.chain.Chain.{Chain}
+use Rattle.mv_chain.specs.Chain.{has_base, pruned}
+use Rattle.mv_chain.specs.Idle.{is_idle}
+use Rattle.mv_chain.specs.Pool.{versions_of, IsKept, LeavesOthers}
+use Rattle.mv_rules.specs.declared.records.Records.{Records}
+use Rattle.mv_rules.specs.declared.own.Own.{Own}
+use Rattle.mv_rules.specs.declared.own.Notes.{Notes}
+use Rattle.mv_rules.specs.History.{History}
+use Rattle.mv_rules.specs.Held.{Changes}
+use Rattle.mv_rules.specs.Records.{StandsFor, ChainsStandFor, place_of, chain_at}
+use Rattle.mv_rules.specs.Tidy.{kept_of, names, is_due, due, not_due, forgotten, tidied, tidied_if}
+use Rattle.mv_rules.proofs.Frames.{shown_elsewhere}
+use Rattle.mv_rules.proofs.Changed.{with_chain, changes_at, before_at, after_at}
+
+abbrev kept_at : Option ℕ → Records → Option (List Version)
+kept_at o r = option_map (λ i. chain_at i r) o
+
+same_key : (q key : List ℕ) → bytes_eq q key ≡ true → q ≡ key
+same_key q key e = (bytes_eq-Decides q key).0 e
+
+differ : (q key : List ℕ) → bytes_eq q key ≡ false → q ≡ key → ⊥
+differ q key d e = let t : bytes_eq q key ≡ true = (bytes_eq-Decides q key).1 e in absurd (cc (t, d))
+
+-- the others stay
+elsewhere : (h : History) (r r2 : Records) (key q : List ℕ) (i : ℕ) → place_of key r ≡ Some i → bytes_eq q key ≡ false → place_of q r2 ≡ place_of q r → Changes i r.pool r.chains r2.pool r2.chains → ChainsStandFor h r → kept_of q r2 ≡ kept_of q r
+elsewhere h r r2 key q i here d same change s = ap (λ o. kept_at o r2) same ∙ at (place_of q r) refl
+  where
+    at : (o : Option ℕ) → place_of q r ≡ o → kept_at o r2 ≡ kept_at o r
+    at None e = refl
+    at (Some j) e = ap Some (shown_elsewhere i j r.pool r2.pool r.chains r2.chains change s.held (λ n. differ q key d (s.apart q key i (e ∙ ap Some n) here)))
+
+-- nothing changes
+pub forgets_nothing : (r : Records) (key : List ℕ) (low : ℕ) → forgotten low (kept_of key r) ≡ kept_of key r → (q : List ℕ) → kept_of q r ≡ (if bytes_eq q key then forgotten low (kept_of q r) else kept_of q r)
+forgets_nothing r key low same q = at (bytes_eq q key) refl
+  where
+    at : (x : Bool) → bytes_eq q key ≡ x → kept_of q r ≡ (if x then forgotten low (kept_of q r) else kept_of q r)
+    at false e = refl
+    at true e = subst (λ (k : List ℕ). kept_of k r ≡ forgotten low (kept_of k r)) (sym (same_key q key e)) (sym same)
+
+pub prunes_nothing : (r : Records) (key : List ℕ) (low : ℕ) → kept_of key r ≡ None → (q : List ℕ) → kept_of q r ≡ (if bytes_eq q key then option_map (pruned low) (kept_of q r) else kept_of q r)
+prunes_nothing r key low none q = at (bytes_eq q key) refl
+  where
+    at : (x : Bool) → bytes_eq q key ≡ x → kept_of q r ≡ (if x then option_map (pruned low) (kept_of q r) else kept_of q r)
+    at false e = refl
+    at true e =
+        let here : kept_of q r ≡ None = ap (λ k. kept_of k r) (same_key q key e) ∙ none in
+        here ∙ sym (ap (option_map (pruned low)) here)
+
+pub not_idle : (r : Records) (key : List ℕ) (i low : ℕ) → place_of key r ≡ Some i → is_idle low (chain_at i r) ≡ false → forgotten low (kept_of key r) ≡ kept_of key r
+not_idle r key i low here busy =
+    let is : kept_of key r ≡ Some (chain_at i r) = ap (λ o. kept_at o r) here in
+    ap (forgotten low) is ∙ (rw busy refl ∙ sym is)
+
+-- a key is forgotten
+pub kept_forgotten : (h : History) (r r2 : Records) (key : List ℕ) (i low : ℕ) → place_of key r ≡ Some i → is_idle low (chain_at i r) ≡ true → place_of key r2 ≡ None → ((q : List ℕ) → bytes_eq q key ≡ false → place_of q r2 ≡ place_of q r) → Changes i r.pool r.chains r2.pool r2.chains → ChainsStandFor h r
+    → (q : List ℕ) → kept_of q r2 ≡ (if bytes_eq q key then forgotten low (kept_of q r) else kept_of q r)
+kept_forgotten h r r2 key i low here idle gone_ same change s q = at (bytes_eq q key) refl
+  where
+    at : (x : Bool) → bytes_eq q key ≡ x → kept_of q r2 ≡ (if x then forgotten low (kept_of q r) else kept_of q r)
+    at false e = elsewhere h r r2 key q i here e (same q e) change s
+    at true e =
+        let is : q ≡ key = same_key q key e in
+        let after : kept_of q r2 ≡ None = ap (λ o. kept_at o r2) (ap (λ k. place_of k r2) is ∙ gone_) in
+        let before : kept_of q r ≡ Some (chain_at i r) = ap (λ o. kept_at o r) (ap (λ k. place_of k r) is ∙ here) in
+        after ∙ sym (ap (forgotten low) before ∙ rw idle refl)
+
+-- one chain changes
+pub kept_changed : (h : History) (r r2 : Records) (key : List ℕ) (i : ℕ) (f : List Version → List Version) → place_of key r ≡ Some i → ((q : List ℕ) → place_of q r2 ≡ place_of q r) → Changes i r.pool r.chains r2.pool r2.chains → chain_at i r2 ≡ f (chain_at i r) → ChainsStandFor h r
+    → (q : List ℕ) → kept_of q r2 ≡ (if bytes_eq q key then option_map f (kept_of q r) else kept_of q r)
+kept_changed h r r2 key i f here same change there s q = at (bytes_eq q key) refl
+  where
+    at : (x : Bool) → bytes_eq q key ≡ x → kept_of q r2 ≡ (if x then option_map f (kept_of q r) else kept_of q r)
+    at false e = elsewhere h r r2 key q i here e (same q) change s
+    at true e =
+        let is : q ≡ key = same_key q key e in
+        let was : place_of q r ≡ Some i = ap (λ k. place_of k r) is ∙ here in
+        let after : kept_of q r2 ≡ Some (chain_at i r2) = ap (λ o. kept_at o r2) (same q ∙ was) in
+        let before : kept_of q r ≡ Some (chain_at i r) = ap (λ o. kept_at o r) was in
+        after ∙ (ap Some there ∙ sym (ap (option_map f) before))
+
+module _ (h : History) (r : Records) (key : List ℕ) (i : ℕ) (a b : Chain) (p2 : Pool) (notes : BTreeMap ℕ Notes) (s : StandsFor h r) (here : place_of key r ≡ Some i) (there : chain_in r.chains i ≡ Some a) (leaves : LeavesOthers r.pool a p2 b) (keeps : IsKept r.pool a → IsKept p2 b) where
+  pub kept_with : (f : List Version → List Version) → (IsKept r.pool a → versions_of p2 b ≡ f (versions_of r.pool a)) → (q : List ℕ) → kept_of q (with_chain r i p2 b notes) ≡ (if bytes_eq q key then option_map f (kept_of q r) else kept_of q r)
+  kept_with f is =
+      kept_changed h r (with_chain r i p2 b notes) key i f here (λ q. refl) (changes_at h r key i a b p2 notes s here there leaves keeps)
+      (after_at h r key i a b p2 notes s here there leaves keeps ∙ (is (s.chains.held.kept i a there) ∙ ap f (sym (before_at h r key i a b p2 notes s here there leaves keeps)))) s.chains
+
+-- to prune twice is to prune once
+base_pruned : (low : ℕ) (vs : List Version) → has_base low (pruned low vs) ≡ has_base low vs
+base_pruned low [] = refl
+base_pruned low (v ∷ vs) = at (not v.pending && has_base low vs) refl (base_pruned low vs)
+  where
+    at : (x : Bool) → (not v.pending && has_base low vs) ≡ x → has_base low (pruned low vs) ≡ has_base low vs → has_base low (if x then pruned low vs else v ∷ pruned low vs) ≡ has_base low (v ∷ vs)
+    at true e rest = let based : has_base low vs ≡ true = grind (arith, e) in rest ∙ (based ∙ sym (here (nat_le v.timestamp low && not v.pending) based))
+      where
+        here : (y : Bool) → has_base low vs ≡ true → (y || has_base low vs) ≡ true
+        here true b = refl
+        here false b = b
+    at false e rest = ap (λ y. (nat_le v.timestamp low && not v.pending) || y) rest
+
+pub pruned_twice : (low : ℕ) (vs : List Version) → pruned low (pruned low vs) ≡ pruned low vs
+pruned_twice low [] = refl
+pruned_twice low (v ∷ vs) = at (not v.pending && has_base low vs) refl (pruned_twice low vs)
+  where
+    at : (x : Bool) → (not v.pending && has_base low vs) ≡ x → pruned low (pruned low vs) ≡ pruned low vs → pruned low (if x then pruned low vs else v ∷ pruned low vs) ≡ (if x then pruned low vs else v ∷ pruned low vs)
+    at true e rest = rest
+    at false e rest =
+        let stays : (not v.pending && has_base low (pruned low vs)) ≡ false = ap (λ y. not v.pending && y) (base_pruned low vs) ∙ e in
+        rw (stays, rest) refl
+
+pub tidied_twice : (low : ℕ) (kept : Option (List Version)) → tidied low (tidied low kept) ≡ tidied low kept
+tidied_twice low None = refl
+tidied_twice low (Some vs) = at (is_idle low (pruned low vs)) refl
+  where
+    at : (x : Bool) → is_idle low (pruned low vs) ≡ x → tidied low (if x then None else Some (pruned low vs)) ≡ (if x then None else Some (pruned low vs))
+    at true e = refl
+    at false e = rw (pruned_twice low vs, e) refl
+
+or_more : (low : ℕ) (x y : Bool) (kept : Option (List Version)) → tidied_if low (x || y) kept ≡ tidied_if low y (tidied_if low x kept)
+or_more low true true kept = sym (tidied_twice low kept)
+or_more low true false kept = refl
+or_more low false y kept = refl
+
+names_both : (q : List ℕ) (xs ys : List Own) → names q (xs ++ ys) ≡ (names q xs || names q ys)
+names_both q [] ys = refl
+names_both q (o ∷ xs) ys = at (bytes_eq q o.key) (names_both q xs ys)
+  where
+    at : (x : Bool) → names q (xs ++ ys) ≡ (names q xs || names q ys) → (x || names q (xs ++ ys)) ≡ ((x || names q xs) || names q ys)
+    at true rest = refl
+    at false rest = rest
+
+-- the keys of one list, and then those of another
+pub tidied_both : (low : ℕ) (q : List ℕ) (xs ys : List Own) (kept : Option (List Version)) → tidied_if low (names q (xs ++ ys)) kept ≡ tidied_if low (names q ys) (tidied_if low (names q xs) kept)
+tidied_both low q xs ys kept = ap (λ x. tidied_if low x kept) (names_both q xs ys) ∙ or_more low (names q xs) (names q ys) kept
+
+-- one more key
+pub tidied_one : (low : ℕ) (q : List ℕ) (done : List Own) (o : Own) (kept before middle after : Option (List Version)) → before ≡ tidied_if low (names q done) kept
+    → middle ≡ (if bytes_eq q o.key then option_map (pruned low) before else before) → after ≡ (if bytes_eq q o.key then forgotten low middle else middle)
+    → after ≡ tidied_if low (names q (done ++ o ∷ [])) kept
+tidied_one low q done o kept before middle after was pruned_ forgot =
+    at (bytes_eq q o.key) pruned_ forgot ∙ sym (tidied_both low q done (o ∷ []) kept ∙ (ap (tidied_if low (names q (o ∷ []))) (sym was) ∙ one (bytes_eq q o.key)))
+  where
+    at : (x : Bool) → middle ≡ (if x then option_map (pruned low) before else before) → after ≡ (if x then forgotten low middle else middle) → after ≡ tidied_if low x before
+    at true p f = f ∙ ap (forgotten low) p
+    at false p f = f ∙ p
+
+    one : (x : Bool) → tidied_if low (x || false) before ≡ tidied_if low x before
+    one true = refl
+    one false = refl
+
+-- what was noted for one branch, and then the rest
+pub tidied_three : (low : ℕ) (q : List ℕ) (ds rs rest all : List Own) (kept first second : Option (List Version)) → all ≡ ds ++ rs ++ rest → first ≡ tidied_if low (names q ds) kept → second ≡ tidied_if low (names q rs) first
+    → tidied_if low (names q rest) second ≡ tidied_if low (names q all) kept
+tidied_three low q ds rs rest all kept first second is one two =
+    ap (tidied_if low (names q rest)) (two ∙ (ap (tidied_if low (names q rs)) one ∙ sym (tidied_both low q ds rs kept)))
+    ∙ (sym (tidied_both low q (ds ++ rs) rest kept) ∙ ap (λ (xs : List Own). tidied_if low (names q xs) kept) (sym is))
+
+-- nothing is due where the first note isn't
+pub none_due : (low : ℕ) (es : List (ℕ × Notes)) → ((e : ℕ × Notes) → slice_get es 0 ≡ Some e → is_due low e ≡ false) → (due low es ≡ []) × (es ≡ not_due low es)
+none_due low [] first = (refl, refl)
+none_due low (e ∷ es) first = let f = first e refl in (rw f refl, rw f refl)
+
+pub is_not_due : (low ts : ℕ) (n : Notes) (es : List (ℕ × Notes)) (e : ℕ × Notes) → slice_get es 0 ≡ Some (ts, n) → slice_get es 0 ≡ Some e → (nat_le ts low ≡ false) ⊎ ((length n.written.items == 0) ≡ false) → is_due low e ≡ false
+is_not_due low ts n es e first here why =
+    let both : Some (ts, n) ≡ Some e = sym first ∙ here in
+    let same : (ts, n) ≡ e = cc both in
+    subst (λ (x : ℕ × Notes). is_due low x ≡ false) same (at why)
+  where
+    none : (x : Bool) → (x && false) ≡ false
+    none true = refl
+    none false = refl
+
+    at : (nat_le ts low ≡ false) ⊎ ((length n.written.items == 0) ≡ false) → is_due low (ts, n) ≡ false
+    at (inl e) = rw e refl
+    at (inr e) = rw e (none (nat_le ts low))
+
+pub has_first : (es : List (ℕ × Notes)) (e : ℕ × Notes) → slice_get es 0 ≡ Some e → 0 < length es
+has_first [] e here = absurd (cc here)
+has_first (x ∷ es) e here = omega arith
