@@ -2,14 +2,25 @@ use xa_disk::{Disk, DiskFault, FileDisk};
 
 /// What opens the files of a log as disks.
 pub trait Opens {
+    ghost use Rattle.std.specs.Prelude.{ℕ, List, IfOk};
+
     type Disk: Disk + Drop;
 
+    /// A disk is what the file at a path, by the path's bytes, was opened as.
+    ghost opened: { Self.Disk → List ℕ → Type 0 };
+
     /// The file at a path, made if it isn't there. No other disk may have it.
-    fn open_disk(&self, path: &str) -> Result<Self::Disk, DiskFault>;
+    fn open_disk(&self, path: &str) -> Result<Self::Disk, DiskFault>
+        ensures { IfOk result (λ disk. opened disk path.now) };
 }
 
+/// Of a file a contract can't say more than that its disk had no failure yet.
 impl Opens for HostRuntime {
+    ghost use Rattle.std.specs.Prelude.{◌≡◌};
+
     type Disk = FileDisk;
+
+    ghost opened = { λ disk _. disk.failures ≡ 0 };
 
     fn open_disk(&self, path: &str) -> Result<FileDisk, DiskFault> {
         FileDisk::at(self, path)

@@ -153,6 +153,8 @@ impl io::Eprint for Host<'_> {
 impl Opens for Host<'_> {
     type Disk = MemDisk;
 
+    ghost opened = { λ _ _. Unit {0} };
+
     fn open_disk(&self, path: &str) -> Result<MemDisk, DiskFault> {
         if path == "closed" {
             Err(DiskFault)

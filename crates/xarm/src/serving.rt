@@ -82,17 +82,11 @@ pub fn serve<
         + Wait
         + Sync,
 >(rt: &R, service: &Service) -> Result<bool, ServeFault> {
-    let second_path = second_path(rt.alloc(), service.path)?;
     let settings = Settings {
         name: Bytes::from_slice(rt.alloc(), service.name.as_bytes())?,
         log_bytes: LOG_BYTES,
     };
-    let Ok(first) = rt.open_disk(service.path) else {
-        return Err(ServeFault::Manager(ManagerFault::Device));
-    };
-    let Ok(second) = rt.open_disk(second_path.as_str()) else {
-        return Err(ServeFault::Manager(ManagerFault::Device));
-    };
+    let (first, second) = open_files(rt, service.path)?;
     let Ok(listener) = TcpListener::bind(rt, ("127.0.0.1", service.port)) else {
         return Err(ServeFault::Listen);
     };
@@ -106,6 +100,20 @@ pub fn serve<
         Ok(()) => Ok(told.is_whole),
         Err(_) => Err(ServeFault::Write),
     }
+}
+
+/// The log's two files, the first one at this path.
+fn open_files<R: AllocGlobal + Opens>(rt: &R, path: &str) -> Result<(R::Disk, R::Disk), ServeFault>
+    ensures { IfOk result (λ disks. R.opened disks.0 path.now × R.opened disks.1 (path.now ++ codes ".2")) }
+{
+    let second_path = second_path(rt.alloc(), path)?;
+    let Ok(first) = rt.open_disk(path) else {
+        return Err(ServeFault::Manager(ManagerFault::Device));
+    };
+    let Ok(second) = rt.open_disk(second_path.as_str()) else {
+        return Err(ServeFault::Manager(ManagerFault::Device));
+    };
+    Ok((first, second))
 }
 
 /// The path of the log's second file.
