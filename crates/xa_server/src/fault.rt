@@ -1,12 +1,15 @@
 use std::alloc::AllocError;
+use thiserror::Error;
 use xa_workers::WorkFault;
 
 /// Why nothing is told of what was served.
-#[derive(Clone, Copy, Debug, PartialEq, Eq)]
+#[derive(Clone, Copy, Debug, PartialEq, Eq, Error)]
 pub enum ServerFault {
     /// There was no memory for the room, the workers or the audit.
+    #[error("no memory")]
     Memory,
     /// The number of workers isn't one from 1 to 64. Nobody was served.
+    #[error("workers not 1 to 64")]
     Workers,
 }
 

@@ -10,12 +10,14 @@ use std::net::TcpListener;
 use std::sync::ledger::Ledger;
 use std::sync::{Mutex, Wait};
 use std::thread::{Threads, map_vec};
+use thiserror::Error;
 use xa_room::{Desk, Manages, Share, Start};
 
 /// Why there is no report.
-#[derive(Clone, Copy, Debug, PartialEq, Eq)]
+#[derive(Clone, Copy, Debug, PartialEq, Eq, Error)]
 pub enum WorkFault {
     /// There was no memory for the workers.
+    #[error("no memory")]
     Memory = 1,
 }
 
