@@ -1,5 +1,5 @@
 -- Known bytes, one step after another.
-use Rattle.std.proofs.Common.{ℕ, List, [], ◌++◌, Option, Some, None, refl, sym, ap, ◌∙◌, append_assoc, append-nil, arith, ◌<◌, get_or, ◌∷◌, zero, suc}
+use Rattle.std.proofs.Common.{ℕ, List, [], ◌++◌, Option, Some, None, refl, sym, ap, ◌∙◌, append_assoc, append-nil}
 use Rattle.std.specs.Io.KnownBytes.{Consumes, Appends, Keeps}
 
 pub consumes-none : (x : Option (List ℕ)) → Consumes x x []
@@ -32,9 +32,3 @@ appends-twice None y z bs cs h k = tt
 appends-twice (Some xs) None z bs cs h k = absurd h
 appends-twice (Some xs) (Some ys) None bs cs h k = absurd k
 appends-twice (Some xs) (Some ys) (Some zs) bs cs h k = k ∙ ap (λ ws. ws ++ cs) h ∙ append_assoc xs bs cs
-
-pub small : (n : ℕ) → n < 256 → (xs : List ℕ) → ((i : ℕ) → get_or xs i 0 < 256) → (i : ℕ) → get_or (n ∷ xs) i 0 < 256
-small n h xs f i = elim i as (λ j. get_or (n ∷ xs) j 0 < 256) [ zero ↦ h | suc j ↦ f j ]
-
-pub none_small : (i : ℕ) → get_or {A = ℕ} [] i 0 < 256
-none_small i = omega arith

@@ -1,4 +1,4 @@
-ghost use Rattle.std.specs.Prelude.{◌≡◌, ℕ, ◌<◌, ◌≤◌, [], ◌∷◌, length, IfOk, IfErr, true, false, Some, List};
+ghost use Rattle.std.specs.Prelude.{◌≡◌, ℕ, ◌<◌, ◌≤◌, [], length, IfOk, IfErr, true, false, Some, List};
 ghost use Rattle.std.specs.Int.{to_be_bytes, w32};
 ghost use Rattle.std.specs.Io.KnownBytes.{Consumes, Appends, IsAtEnd};
 ghost use Rattle.xa_frame.specs.declared.request_decoder.TheConstants.{MOST_CONTENT};
@@ -12,6 +12,7 @@ use crate::door::Door;
 use crate::served::Served;
 use std::alloc::{AllocError, Global};
 use std::io::{Read, Write};
+use xa_bytes::{number_of, put_u32};
 use xa_codes::{Detail, XAER_INVAL, XAER_RMFAIL};
 use xa_frame::{FrameFault, MOST_CONTENT, Reply, decode_request, encode_reply, one_reply};
 
@@ -49,12 +50,6 @@ fn fill<R: Read>(reader: &mut R, buffer: &mut [u8]) -> Filled
         }
     }
     Filled::Whole
-}
-
-fn number_of(a: u8, b: u8, c: u8, d: u8) -> u32
-    ensures { to_be_bytes w32 result ≡ a ∷ b ∷ c ∷ d ∷ [] }
-{
-    u32::from_be_bytes([a, b, c, d])
 }
 
 // The length of the next frame.
@@ -116,7 +111,7 @@ fn frame_of(alloc: Global, reply: &Reply) -> Result<Vec<u8>, AllocError>
     let content = encode_reply(alloc, reply)?;
     one_reply();
     let mut frame = Vec::with_capacity(alloc, 4 + content.len())?;
-    frame.extend_from_slice(&(content.len() as u32).to_be_bytes())?;
+    put_u32(&mut frame, content.len() as u32)?;
     frame.extend_from_slice(&content)?;
     Ok(frame)
 }

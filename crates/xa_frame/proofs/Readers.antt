@@ -1,6 +1,7 @@
 -- Each field: what is read is what was written, what was written is read again, and which fault it is.
 use Rattle.std.proofs.Common.{◌≡◌, ℕ, zero, suc, ◌^◌, ◌<◌, ◌≤◌, Bool, true, false, cond, ltb, eqb, ◌||◌, List, [], ◌∷◌, ◌++◌, length, take, drop, Option, Some, None, find, Result, Ok, Err, refl, sym, ap, subst, ◌∙◌, append_assoc, arith}
 use Rattle.std.specs.Int.{w16, w32, w64, from_be_bytes, to_be_bytes, cast_signed, cast_unsigned}
+use Rattle.std.specs.Option.{ok_or}
 use Rattle.std.specs.List.{flat_map, AllByRecursion}
 use Rattle.std.specs.Prelude.{ℤ, pos, negsuc, FitsSigned}
 use Rattle.std.proofs.lemmas.Bool.{ltb-false, le-ltb}
@@ -23,7 +24,8 @@ use Rattle.xa_frame.specs.Limits.{IsKey, IsValue, IsInfo}
 use Rattle.xa_frame.specs.Spelling.{short_bytes, value_bytes, direction_byte, direction_bytes, xids_bytes, detail_byte, detail_bytes, details, detail_numbered}
 use Rattle.xa_frame.specs.Faults.{After, after_bytes, after_info, after_key, after_value, after_direction, after_detail, behind, after_xid, and_then, after_each, after_xids, if_some}
 use Rattle.xa_frame.specs.Reading.{◌>>=◌, Reads, rest_of, number_at, bytes_at, info_at, key_at, value_at, direction_at, named, name_at, names_at, xids_at, code_at, detailed, detail_at}
-use Rattle.xa_frame.proofs.Digits.{IsBytes, IsBytes-drop, IsBytes-rest, bind_ok, guard_ok, done, ok_is, Takes, Takes-then, wide16, wide32, wide64, number_takes, number_again, number_fault}
+use Rattle.xa_bytes.proofs.Digits.{IsBytes, IsBytes-drop, IsBytes-rest, Takes, Takes-then, wide16, wide32, wide64}
+use Rattle.xa_frame.proofs.Digits.{bind_ok, guard_ok, done, ok_is, number_takes, number_again, number_fault}
 
 -- a reader, the spelling of what it reads, what it reads, and what stands behind it
 pub record IsField (A : Type 0) (at : Reads A) (spell : A → List ℕ) (fits : A → Type 0) (after : After) : Type 0 where
@@ -154,7 +156,7 @@ value_again text rest h =
     ap (λ (r : Result (ℕ × List ℕ) FrameFault). r >>= λ n. cond (ltb 1024 n.0) (Err Field) (bytes_at n.0 n.1)) (number_again w16 (2 ^ 16) wide16 (length text) (text ++ rest) (omega (arith, h)))
     ∙ rw high (bytes_again text rest)
 
-rest-number : {A : Type 0} (b : Bool) (x : ℕ × List ℕ) (f : ℕ × List ℕ → Result (A × List ℕ) FrameFault) → rest_of (cond b (Err Short) (Ok x) >>= f) ≡ cond b (Err Short) (rest_of (f x))
+rest-number : {A : Type 0} (b : Bool) (x : ℕ × List ℕ) (f : ℕ × List ℕ → Result (A × List ℕ) FrameFault) → rest_of (ok_or (cond b None (Some x)) Short >>= f) ≡ cond b (Err Short) (rest_of (f x))
 rest-number true x f = refl
 rest-number false x f = refl
 

@@ -1,6 +1,8 @@
 -- Reading a content from left to right. A field is a value and the bytes after it.
 use Rattle.std.specs.Prelude.{ℕ, ℤ, zero, suc, List, [], ◌∷◌, length, take, drop, Option, Some, None, Result, Ok, Err, nat_lt, ◌==◌, ◌||◌, if◌then◌else◌}
-use Rattle.std.specs.Int.{Width, w16, w32, w64, byte_len, from_be_bytes, cast_signed}
+use Rattle.std.specs.Int.{Width, w16, w32, w64, cast_signed}
+use Rattle.std.specs.Option.{ok_or}
+use Rattle.xa_bytes.specs.Numbers as numbers
 use Rattle.xa_codes.specs.declared.call.Call.{Call}
 use Rattle.xa_codes.specs.declared.call.Call.TheVariants as call
 use Rattle.xa_codes.specs.declared.detail.Detail.{Detail}
@@ -54,7 +56,7 @@ two_of f g bytes = do
   ended (x.0, y.0) y.1
 
 unfoldable pub number_at : Width → Reads ℕ
-number_at w bytes = if nat_lt (length bytes) (byte_len w) then Err Short else Ok (from_be_bytes w (take (byte_len w) bytes), drop (byte_len w) bytes)
+number_at w bytes = ok_or (numbers.number_at w bytes) Short
 
 -- so many bytes
 abbrev pub bytes_at : ℕ → Reads (List ℕ)

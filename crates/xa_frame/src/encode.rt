@@ -1,4 +1,3 @@
-ghost use Rattle.std.specs.Int.{w16, w32, w64, to_be_bytes};
 ghost use Rattle.std.specs.Prelude.{◌≡◌, ◌≤◌, ◌++◌, length, flat_map, All, IfOk, OnOk};
 ghost use Rattle.xa_codes.specs.declared.write.TheConstants.{MOST_VALUE};
 ghost use Rattle.xa_frame.specs.declared.request.TheConstants.{MOST_INFO};
@@ -13,6 +12,7 @@ use crate::reply::Reply;
 use crate::request::Request;
 use arrayvec::ArrayVec;
 use std::alloc::{AllocError, Global};
+use xa_bytes::{put_u16, put_u32, put_u64};
 use xa_xid::{MOST_BYTES, Xid};
 
 /// What each content begins with.
@@ -39,14 +39,8 @@ fn put_value(out: &mut Vec<u8>, value: &[u8]) -> Result<(), AllocError>
     requires { length value.now ≤ MOST_VALUE }
     ensures { OnOk result (out.new.items ≡ out.old.items ++ value_bytes value.now) }
 {
-    out.extend_from_slice(&(value.len() as u16).to_be_bytes())?;
+    put_u16(out, value.len() as u16)?;
     out.extend_from_slice(value)
-}
-
-fn put_flags(out: &mut Vec<u8>, flags: u32) -> Result<(), AllocError>
-    ensures { OnOk result (out.new.items ≡ out.old.items ++ to_be_bytes w32 flags) }
-{
-    out.extend_from_slice(&flags.to_be_bytes())
 }
 
 fn put_fields(out: &mut Vec<u8>, request: &Request) -> Result<(), AllocError>
@@ -56,22 +50,22 @@ fn put_fields(out: &mut Vec<u8>, request: &Request) -> Result<(), AllocError>
 {
     match request {
         Request::Open { flags, info } => {
-            put_flags(out, *flags)?;
+            put_u32(out, *flags)?;
             put_short(out, info.as_slice())
         }
-        Request::Close { flags } => put_flags(out, *flags),
+        Request::Close { flags } => put_u32(out, *flags),
         Request::Start { flags, xid }
         | Request::End { flags, xid }
         | Request::Prepare { flags, xid }
         | Request::Commit { flags, xid }
         | Request::Rollback { flags, xid }
         | Request::Forget { flags, xid } => {
-            put_flags(out, *flags)?;
+            put_u32(out, *flags)?;
             put_name(out, xid)
         }
         Request::Recover { flags, count } => {
-            put_flags(out, *flags)?;
-            put_flags(out, *count)
+            put_u32(out, *flags)?;
+            put_u32(out, *count)
         }
         Request::Get { key } | Request::Delete { key } => put_short(out, key.as_slice()),
         Request::Put { key, value } => {
@@ -131,7 +125,7 @@ fn put_body(out: &mut Vec<u8>, body: &Body) -> Result<(), AllocError>
         Body::Nothing => Ok(out.push(0)?),
         Body::Number(number) => {
             out.push(1)?;
-            out.extend_from_slice(&number.to_be_bytes())
+            put_u64(out, *number)
         }
         Body::Value(value) => {
             out.push(2)?;
@@ -141,7 +135,7 @@ fn put_body(out: &mut Vec<u8>, body: &Body) -> Result<(), AllocError>
         Body::Xids(xids) => {
             let xids = xids.as_slice();
             out.push(4)?;
-            out.extend_from_slice(&(xids.len() as u16).to_be_bytes())?;
+            put_u16(out, xids.len() as u16)?;
             put_names(out, xids)
         }
     }
@@ -167,7 +161,7 @@ pub fn encode_reply(alloc: Global, reply: &Reply) -> Result<Vec<u8>, AllocError>
     content.push(VERSION)?;
     content.extend_from_slice(&reply.code.to_be_bytes())?;
     content.push(detail_number(reply.detail))?;
-    content.extend_from_slice(&reply.place.to_be_bytes())?;
+    put_u64(&mut content, reply.place)?;
     put_body(&mut content, &reply.body)?;
     Ok(content)
 }

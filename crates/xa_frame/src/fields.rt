@@ -5,6 +5,7 @@ ghost use Rattle.xa_frame.specs.Reading.{ended, number_at, bytes_at, info_at, ke
 
 use crate::fault::FrameFault;
 use crate::numbers::detail_of;
+use xa_bytes::{take_u16, take_u32, take_u64};
 use xa_codes::{Code, Detail, Direction, MOST_KEY, MOST_VALUE};
 use xa_xid::Xid;
 
@@ -23,37 +24,21 @@ pub(crate) fn end(bytes: &[u8]) -> Result<(), FrameFault>
 pub(crate) fn u16_at(bytes: &[u8]) -> Result<(u16, &[u8]), FrameFault>
     ensures { Gives (λ x. (x.0, x.1.now)) result (number_at w16 bytes.now) }
 {
-    if bytes.len() < 2 {
-        return Err(FrameFault::Short);
-    }
-    let (front, rest) = bytes.split_at(2);
-    Ok((u16::from_be_bytes([front[0], front[1]]), rest))
+    take_u16(bytes).ok_or(FrameFault::Short)
 }
 
 #[tactic(auto, unfolding(crate::specs::Reading::number_at))]
 pub(crate) fn u32_at(bytes: &[u8]) -> Result<(u32, &[u8]), FrameFault>
     ensures { Gives (λ x. (x.0, x.1.now)) result (number_at w32 bytes.now) }
 {
-    if bytes.len() < 4 {
-        return Err(FrameFault::Short);
-    }
-    let (front, rest) = bytes.split_at(4);
-    let number = u32::from_be_bytes([front[0], front[1], front[2], front[3]]);
-    Ok((number, rest))
+    take_u32(bytes).ok_or(FrameFault::Short)
 }
 
 #[tactic(auto, unfolding(crate::specs::Reading::number_at))]
 pub(crate) fn u64_at(bytes: &[u8]) -> Result<(u64, &[u8]), FrameFault>
     ensures { Gives (λ x. (x.0, x.1.now)) result (number_at w64 bytes.now) }
 {
-    if bytes.len() < 8 {
-        return Err(FrameFault::Short);
-    }
-    let (front, rest) = bytes.split_at(8);
-    let number = u64::from_be_bytes([
-        front[0], front[1], front[2], front[3], front[4], front[5], front[6], front[7],
-    ]);
-    Ok((number, rest))
+    take_u64(bytes).ok_or(FrameFault::Short)
 }
 
 #[tactic(auto, unfolding(crate::specs::Reading::code_at, crate::specs::Reading::number_at))]

@@ -8,6 +8,8 @@ use Rattle.std.specs.Ordering.{nat_cmp}
 use Rattle.std.specs.Prelude.{IfOk, IsSome, flat_map}
 use Rattle.std.proofs.lemmas.List.{append-nil, nil_from_length}
 use Rattle.std.proofs.lemmas.Option.{cond_some, some_pair_parts}
+use Rattle.xa_bytes.specs.Numbers.{number_at}
+use Rattle.xa_bytes.proofs.Digits.{IsBytes, IsBytes-rest, Takes, Takes-then, wide16, wide32, wide64, number_takes, number_again}
 use Rattle.xa_codes.specs.declared.direction.Direction.{Direction}
 use Rattle.xa_codes.specs.declared.write.Write.{Write}
 use Rattle.xa_xid.specs.Triple.{Triple, IsWithinLimits}
@@ -19,8 +21,8 @@ use Rattle.xa_record.specs.declared.record.Record.TheVariants.{Opened, Prepared,
 use Rattle.xa_record.specs.Answers.{Answers, Gives}
 use Rattle.xa_record.specs.Limits.{IsWrite, AscendsFrom, IsStamped, IsBranch, IsRecord}
 use Rattle.xa_record.specs.Spelling.{value_bytes, write_bytes, stamped_bytes, branch_bytes, direction_byte, spelled}
-use Rattle.xa_record.specs.Reading.{◌>>=◌, ended, number_at, xid_front, direction_at, key_at, value_at, write_at, writes_at, head_at, stamped_at, opened_at, branch_at, directed_at, forgotten_at, record_at}
-use Rattle.xa_record.proofs.Fields.{IsBytes, IsBytes-rest, bind_some, both_true, leb_true, true_leb, zero_from, ended_is, Takes, Takes-then, wide16, wide32, wide64, number_takes, number_again, name_takes, name_again, direction_takes, direction_again, key_takes, key_again, value_takes, value_again}
+use Rattle.xa_record.specs.Reading.{◌>>=◌, ended, xid_front, direction_at, key_at, value_at, write_at, writes_at, head_at, stamped_at, opened_at, branch_at, directed_at, forgotten_at, record_at}
+use Rattle.xa_record.proofs.Fields.{bind_some, both_true, leb_true, true_leb, zero_from, ended_is, name_takes, name_again, direction_takes, direction_again, key_takes, key_again, value_takes, value_again}
 
 -- ---- writes
 

@@ -1,8 +1,9 @@
 -- Reading a record's body from left to right. A field is a value and the bytes after it.
-use Rattle.std.specs.Prelude.{ℕ, zero, suc, List, [], ◌∷◌, length, take, drop, Option, Some, None, option_map, ◌&&◌, ◌==◌, nat_lt, nat_le, if◌then◌else◌}
+use Rattle.std.specs.Prelude.{ℕ, zero, suc, List, [], ◌∷◌, length, take, drop, Option, Some, None, option_map, ◌&&◌, ◌==◌, nat_le, if◌then◌else◌}
 use Rattle.std.specs.Cmp.Lexicographic.{slice_cmp}
-use Rattle.std.specs.Int.{Width, w16, w32, w64, byte_len, from_be_bytes}
+use Rattle.std.specs.Int.{w16, w32, w64}
 use Rattle.std.specs.Ordering.{nat_cmp, is_lt}
+use Rattle.xa_bytes.specs.Numbers.{number_at}
 use Rattle.xa_codes.specs.declared.direction.Direction.{Direction}
 use Rattle.xa_codes.specs.declared.direction.Direction.TheVariants.{Commit, Rollback}
 use Rattle.xa_codes.specs.declared.write.TheConstants.{MOST_KEY, MOST_VALUE, MOST_WRITES}
@@ -20,9 +21,6 @@ None >>= f = None
 -- all of the bytes
 abbrev pub ended : {A : Type 0} → A → List ℕ → Option A
 ended x bytes = if length bytes == 0 then Some x else None
-
-abbrev pub number_at : Width → List ℕ → Option (ℕ × List ℕ)
-number_at w bytes = if nat_lt (length bytes) (byte_len w) then None else Some (from_be_bytes w (take (byte_len w) bytes), drop (byte_len w) bytes)
 
 unfoldable pub xid_front : List ℕ → Option (Triple × List ℕ)
 xid_front bytes = do

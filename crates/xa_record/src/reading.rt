@@ -1,53 +1,19 @@
-ghost use Rattle.std.specs.Int.{w16, w32, w64};
 ghost use Rattle.std.specs.Prelude.{◌≡◌, [], Err, IfOk, option_map, is_some, IsSome};
 ghost use Rattle.xa_record.specs.declared.fault.RecordFault.TheVariants.{Memory};
 ghost use Rattle.xa_record.specs.declared.record.Record.{Record};
 ghost use Rattle.xa_record.specs.declared.record.Record.TheVariants.{Prepared, Committed, Base, Held};
 ghost use Rattle.xa_record.specs.Answers.{Answers, Gives};
 ghost use Rattle.xa_record.specs.Limits.{IsRecord};
-ghost use Rattle.xa_record.specs.Reading.{number_at, xid_front, direction_at, key_at, value_at, write_at, writes_at, head_at, stamped_at, opened_at, branch_at, directed_at, forgotten_at, record_at};
+ghost use Rattle.xa_record.specs.Reading.{xid_front, direction_at, key_at, value_at, write_at, writes_at, head_at, stamped_at, opened_at, branch_at, directed_at, forgotten_at, record_at};
 ghost use Rattle.xa_record.specs.Spelling.{spelled};
 
 use crate::fault::RecordFault;
 use crate::record::Record;
 use crate::writes::Writes;
 use std::alloc::{AllocError, Global};
+use xa_bytes::{take_u16, take_u32, take_u64};
 use xa_codes::{Bytes, Direction, MOST_KEY, MOST_VALUE, MOST_WRITES, Write};
 use xa_xid::Xid;
-
-fn u16_at(bytes: &[u8]) -> Option<(u16, &[u8])>
-    ensures { option_map (λ x. (x.0, x.1.now)) result ≡ number_at w16 bytes.now }
-{
-    if bytes.len() < 2 {
-        return None;
-    }
-    let (front, rest) = bytes.split_at(2);
-    Some((u16::from_be_bytes([front[0], front[1]]), rest))
-}
-
-fn u32_at(bytes: &[u8]) -> Option<(u32, &[u8])>
-    ensures { option_map (λ x. (x.0, x.1.now)) result ≡ number_at w32 bytes.now }
-{
-    if bytes.len() < 4 {
-        return None;
-    }
-    let (front, rest) = bytes.split_at(4);
-    let number = u32::from_be_bytes([front[0], front[1], front[2], front[3]]);
-    Some((number, rest))
-}
-
-fn u64_at(bytes: &[u8]) -> Option<(u64, &[u8])>
-    ensures { option_map (λ x. (x.0, x.1.now)) result ≡ number_at w64 bytes.now }
-{
-    if bytes.len() < 8 {
-        return None;
-    }
-    let (front, rest) = bytes.split_at(8);
-    let number = u64::from_be_bytes([
-        front[0], front[1], front[2], front[3], front[4], front[5], front[6], front[7],
-    ]);
-    Some((number, rest))
-}
 
 #[tactic(auto, unfolding(crate::specs::Reading::xid_front))]
 fn xid_of(bytes: &[u8]) -> Option<(Xid, &[u8])>
@@ -94,7 +60,7 @@ fn value_of(bytes: &[u8]) -> Option<(Option<&[u8]>, &[u8])>
     match bytes {
         [0, rest @ ..] => Some((None, rest)),
         [1, rest @ ..] => {
-            let (len, rest) = u16_at(rest)?;
+            let (len, rest) = take_u16(rest)?;
             let len = usize::from(len);
             if len > MOST_VALUE || len > rest.len() {
                 return None;
@@ -166,8 +132,8 @@ fn made(alloc: Global, key: &[u8], value: Option<&[u8]>) -> Result<Write, AllocE
 fn head_of(bytes: &[u8]) -> Option<(u64, u16, &[u8])>
     ensures { option_map (λ x. (x.0, x.1, x.2.now)) result ≡ head_at bytes.now }
 {
-    let (timestamp, rest) = u64_at(bytes)?;
-    let (count, rest) = u16_at(rest)?;
+    let (timestamp, rest) = take_u64(bytes)?;
+    let (count, rest) = take_u16(rest)?;
     if (1..=MOST_WRITES).contains(&usize::from(count)) {
         Some((timestamp, count, rest))
     } else {
@@ -203,7 +169,7 @@ fn branch_of(alloc: Global, bytes: &[u8]) -> Result<(Xid, u64, Writes), RecordFa
 fn opened(bytes: &[u8]) -> Option<Record>
     ensures { result ≡ opened_at bytes.now }
 {
-    let (boot, rest) = u32_at(bytes)?;
+    let (boot, rest) = take_u32(bytes)?;
     if boot >= 1 && rest.is_empty() {
         Some(Record::Opened { boot })
     } else {

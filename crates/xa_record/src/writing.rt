@@ -10,6 +10,7 @@ use crate::record::Record;
 use crate::writes::Writes;
 use arrayvec::ArrayVec;
 use std::alloc::{AllocError, Global};
+use xa_bytes::{put_u16, put_u64};
 use xa_codes::{Bytes, Write};
 use xa_xid::{MOST_BYTES, Xid};
 
@@ -118,7 +119,7 @@ fn put_stamped(out: &mut Vec<u8>, timestamp: u64, writes: &Writes) -> Result<(),
     ensures { OnOk result (out.new.items ≡ out.old.items ++ stamped_bytes timestamp writes.now) }
 {
     let writes = writes.as_slice();
-    out.extend_from_slice(&timestamp.to_be_bytes())?;
+    put_u64(out, timestamp)?;
     put_length(out, writes.len())?;
     put_writes(out, writes)
 }
@@ -160,5 +161,5 @@ fn put_value(out: &mut Vec<u8>, value: &Option<Bytes>) -> Result<(), AllocError>
 fn put_length(out: &mut Vec<u8>, len: usize) -> Result<(), AllocError>
     ensures { OnOk result (out.new.items ≡ out.old.items ++ to_be_bytes w16 len) }
 {
-    out.extend_from_slice(&((len % 65536) as u16).to_be_bytes())
+    put_u16(out, (len % 65536) as u16)
 }

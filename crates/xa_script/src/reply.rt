@@ -6,7 +6,7 @@ use arrayvec::ArrayVec;
 use std::alloc::{AllocError, Global};
 use xa_codes::Detail;
 use xa_frame::{Body, Reply};
-use xa_xid::Xid;
+use xa_xid::{MOST_TEXT, Xid};
 
 /// The line that shows a reply: the code, the detail's name and the body, with the line's end.
 pub fn reply_line(alloc: Global, reply: &Reply) -> Result<Vec<u8>, AllocError>
@@ -50,7 +50,7 @@ fn push_xids(line: &mut Vec<u8>, xids: &[Xid]) -> Result<(), AllocError>
     ensures { OnOk result (line.new.items ≡ line.old.items ++ (codes " xids" ++ xids_text xids.now)) }
 {
     line.extend_from_slice(b" xids")?;
-    let mut text: ArrayVec<u8, 269> = ArrayVec::new();
+    let mut text: ArrayVec<u8, MOST_TEXT> = ArrayVec::new();
     for xid in xids {
         xid.put_text(&mut text);
         line.push(b' ')?;

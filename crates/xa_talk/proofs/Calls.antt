@@ -1,5 +1,5 @@
 -- A call over the connection of a number, and of a number that has none.
-use Rattle.std.proofs.Common.{◌≡◌, ℕ, zero, suc, ◌+◌, ◌<◌, List, [], ◌∷◌, length, Option, Some, None, Result, Ok, arith, ap, sym, ◌∙◌, slice_index_or, slice_set}
+use Rattle.std.proofs.Common.{◌≡◌, ℕ, zero, suc, ◌<◌, List, [], ◌∷◌, length, Option, Some, None, Result, Ok, arith, ap, sym, ◌∙◌, slice_index_or, slice_set}
 use Rattle.std.specs.Prelude.{option_and_then}
 use Rattle.xa_codes.specs.declared.codes.TheConstants.{XAER_PROTO}
 use Rattle.xa_frame.specs.Made.{plain}

@@ -1,5 +1,5 @@
 -- The least free place is counted.
-use Rattle.std.proofs.Common.{◌≡◌, ℕ, ◌+◌, Bool, true, false, List, [], ◌∷◌, length, Option, Some, None, arith, ap}
+use Rattle.std.proofs.Common.{◌≡◌, ℕ, ◌+◌, true, false, List, [], ◌∷◌, length, Option, Some, None, arith, ap}
 use Rattle.std.specs.Prelude.{is_none}
 use Rattle.xa_talk.specs.Numbers.{free_place}
 

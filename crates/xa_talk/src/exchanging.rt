@@ -1,7 +1,6 @@
 //! A request goes over a connection, and its reply comes back.
-ghost use Rattle.std.specs.Int.{to_be_bytes, w32};
 ghost use Rattle.std.specs.Io.KnownBytes.{Consumes};
-ghost use Rattle.std.specs.Prelude.{◌≡◌, ◌∷◌, [], Err, IfOk, MatchResult};
+ghost use Rattle.std.specs.Prelude.{◌≡◌, Err, IfOk, MatchResult};
 ghost use Rattle.xa_desk.specs.Frames.{frame};
 ghost use Rattle.xa_frame.specs.Limits.{IsRequest};
 ghost use Rattle.xa_talk.specs.Exchanges.{Exchanged, Receives, Sends, request_frame};
@@ -10,6 +9,7 @@ use crate::dial::Connection;
 use crate::fault::TalkFault;
 use std::alloc::{AllocError, Global};
 use std::io::{Read, Write};
+use xa_bytes::{number_of, put_u32};
 use xa_frame::{FrameFault, MOST_CONTENT, Reply, Request, decode_reply, encode_request};
 use xa_output::write_text;
 
@@ -46,7 +46,7 @@ fn frame_of(alloc: Global, request: &Request) -> Result<Vec<u8>, AllocError>
 {
     let content = encode_request(alloc, request)?;
     let mut bytes = Vec::with_capacity(alloc, 4 + content.len())?;
-    bytes.extend_from_slice(&(content.len() as u32).to_be_bytes())?;
+    put_u32(&mut bytes, content.len() as u32)?;
     bytes.extend_from_slice(content.as_slice())?;
     Ok(bytes)
 }
@@ -82,11 +82,4 @@ fn read_content<R: Read>(alloc: Global, reader: &mut R) -> Result<Vec<u8>, TalkF
         Ok(()) => Ok(content),
         Err(_) => Err(TalkFault::Lost),
     }
-}
-
-/// The number that four bytes spell.
-fn number_of(a: u8, b: u8, c: u8, d: u8) -> u32
-    ensures { to_be_bytes w32 result ≡ a ∷ b ∷ c ∷ d ∷ [] }
-{
-    u32::from_be_bytes([a, b, c, d])
 }

@@ -1,4 +1,4 @@
-use Rattle.std.proofs.Common.{◌≡◌, refl, ◌<◌, ◌∙◌, ap, arith, length, sym, None, Some, Ok}
+use Rattle.std.proofs.Common.{◌≡◌, refl, ◌<◌, ◌∙◌, arith, length, sym, None, Some, Ok}
 use Rattle.xa_talk.proofs.Calls.{call_none, call_over, kept_at, there_at}
 use Rattle.xa_talk.specs.Numbers.{place_of}
 use Rattle.xa_talk.proofs.answer.call.Goals as goal
