@@ -2,6 +2,7 @@ pub mod Manages
 pub mod Book
 pub mod Told
 pub mod Kept
+pub mod Gone
 pub mod Promises
 pub mod Share
 pub mod Audit

@@ -1,8 +1,9 @@
-ghost use Rattle.std.specs.Prelude.{◌≡◌, ℕ, ◌+◌, ◌<◌, ◌≤◌, ◌^◌, length, Err, MatchOption, true, false};
+ghost use Rattle.std.specs.Prelude.{◌≡◌, ℕ, ◌+◌, ◌<◌, ◌≤◌, ◌^◌, length, Err, IfNone, MatchOption, true, false};
 ghost use Rattle.xa_frame.specs.Limits.{Holds, IsRequest, IsReply};
 ghost use Rattle.xa_manager.specs.Answered.{connect_reply, wanted_memory};
 ghost use Rattle.xa_model.specs.declared.event.Event.{Event};
 ghost use Rattle.xa_room.specs.Book.{placed};
+ghost use Rattle.xa_room.specs.Gone.{WasGone};
 ghost use Rattle.xa_room.specs.Kept.{Adds, Leaves};
 ghost use Rattle.xa_room.specs.Share.{Records};
 
@@ -100,9 +101,10 @@ impl<M: Manages, S: Start, L: Ledger> Counted<M, S, L> {
     }
 
     pub(crate) fn hangup(&mut self, share: &mut Share<L>, session: u64) -> Option<Receipt>
-        ensures { MatchOption result
+        ensures recorded { MatchOption result
             ((M.has_session self.old.now session ≡ false) × (share.new ≡ share.old) × Leaves M.stands self.old self.new)
             (λ r. (M.has_session self.old.now session ≡ true) × Records share.old share.new (Event.Hangup session) r × Adds M.stands M.trusts M.told M.has_called M.failures self.old self.new (Event.Hangup session) r.reply r) }
+        ensures gone { IfNone result (WasGone M.has_session M.stands M.trusts S.start session) }
     {
         let Counted { room, book } = self;
         let receipt = room.hangup(session);

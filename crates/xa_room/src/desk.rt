@@ -1,8 +1,9 @@
-ghost use Rattle.std.specs.Prelude.{◌≡◌, ℕ, ◌+◌, ◌<◌, length, Err, MatchOption};
+ghost use Rattle.std.specs.Prelude.{◌≡◌, ℕ, ◌+◌, ◌<◌, length, Err, IfNone, MatchOption};
 ghost use Rattle.xa_frame.specs.Limits.{IsRequest, IsReply};
 ghost use Rattle.xa_manager.specs.Answered.{connect_reply, wanted_memory};
 ghost use Rattle.xa_model.specs.declared.event.Event.{Event};
 ghost use Rattle.xa_room.specs.Book.{placed};
+ghost use Rattle.xa_room.specs.Gone.{WasGone};
 ghost use Rattle.xa_room.specs.Share.{Records};
 
 use crate::book::Receipt;
@@ -77,11 +78,12 @@ impl<M: Manages, S: Start, L: Ledger> Desk<M, S, L> {
         take(rt, &self.lock).connect(share)
     }
 
-    /// Hangs a session up, by a share that is lent. Without a receipt it wasn't connected.
+    /// Hangs a session up, by a share that is lent. Without a receipt the room was asked, and the session wasn't connected.
     pub fn hangup_by<R: Wait>(&self, rt: &R, share: &mut Share<L>, session: u64) -> Option<Receipt>
-        ensures { MatchOption result
+        ensures recorded { MatchOption result
             (share.new ≡ share.old)
             (λ r. Records share.old share.new (Event.Hangup session) r) }
+        ensures gone { IfNone result (WasGone M.has_session M.stands M.trusts S.start session) }
     {
         take(rt, &self.lock).hangup(share, session)
     }
@@ -127,9 +129,10 @@ impl<M: Manages, S: Start, L: Ledger> Desk<M, S, L> {
         share: Share<L>,
         session: u64,
     ) -> (Option<Receipt>, Share<L>)
-        ensures { MatchOption result.0
+        ensures recorded { MatchOption result.0
             (result.1 ≡ share)
             (λ r. Records share result.1 (Event.Hangup session) r) }
+        ensures gone { IfNone result.0 (WasGone M.has_session M.stands M.trusts S.start session) }
     {
         let mut share = share;
         let receipt = self.hangup_by(rt, &mut share, session);

@@ -1,10 +1,11 @@
-ghost use Rattle.std.specs.Prelude.{◌≡◌, ℕ, ◌+◌, [], IfOk, Err, MatchOption, true, false};
+ghost use Rattle.std.specs.Prelude.{◌≡◌, ℕ, ◌+◌, [], IfOk, IfNone, Err, MatchOption, true, false};
 ghost use Rattle.xa_assoc.specs.Refusals.{is_memory};
 ghost use Rattle.xa_frame.specs.Limits.{Holds, IsRequest, IsReply};
 ghost use Rattle.xa_manager.specs.Answered.{connect_reply, wanted_memory};
 ghost use Rattle.xa_model.specs.State.{State};
 ghost use Rattle.xa_model.specs.Events.{HaveHappened};
 ghost use Rattle.xa_room.specs.Book.{AreNumbered, placed, plain_entries};
+ghost use Rattle.xa_room.specs.Gone.{WasGone};
 ghost use Rattle.xa_room.specs.Kept.{IsLegal, IsCounted, Adds, Leaves};
 ghost use Rattle.xa_room.specs.Promises.{Promises};
 
@@ -156,9 +157,10 @@ impl<M: Manages, S: Start> Room<M, S> {
 
     /// Hangs a session up, if it is connected. Takes no memory.
     pub fn hangup(&mut self, session: u64) -> Option<Receipt>
-        ensures { MatchOption result
+        ensures recorded { MatchOption result
             ((M.has_session self.old.now session ≡ false) × Leaves M.stands self.old self.new)
             (λ r. (M.has_session self.old.now session ≡ true) × Adds M.stands M.trusts M.told M.has_called M.failures self.old self.new (Event.Hangup session) r.reply r) }
+        ensures gone { IfNone result (WasGone M.has_session M.stands M.trusts S.start session) }
     {
         if !self.manager.is_connected(session) {
             return None;

@@ -44,6 +44,6 @@ pub connects_balance : {L : Type 0} (a : Report L) (result : Result ℕ ConnectF
 connects_balance a result b (inl h) = takes_balances a b _ h.0 h.2
 connects_balance a result b (inr h) = rests_balances a b h.1
 
-pub hangs_up_balances : {L : Type 0} (session : ℕ) (a b : Report L) → HangsUp session a b → Balances a b
-hangs_up_balances session a b (inl h) = takes_balances a b _ h.0 h.1
-hangs_up_balances session a b (inr h) = rests_balances a b h
+pub hangs_up_balances : {L : Type 0} (gone : ℕ → Type 0) (session : ℕ) (a b : Report L) → HangsUp gone session a b → Balances a b
+hangs_up_balances gone session a b (inl h) = takes_balances a b _ h.0 h.1
+hangs_up_balances gone session a b (inr h) = rests_balances a b h.1

@@ -1,3 +1,5 @@
 pub mod Conversing
 pub mod Balancing
 pub mod Sums
+pub mod Serving
+pub mod Gathering

@@ -53,9 +53,9 @@ Connects r result r' =
     ((receipt : Receipt) × (receipt.reply ≡ placed receipt.place (connect_reply result)) × Takes r r' Connect receipt)
     ⊎ ((result ≡ Err Memory) × Rests r r')
 
--- a hang-up, or nothing where the session wasn't connected
-abbrev pub HangsUp : {L : Type 0} → ℕ → Report L → Report L → Type 0
-HangsUp session r r' = ((receipt : Receipt) × Takes r r' (Hangup session) receipt) ⊎ Rests r r'
+-- a hang-up; or nothing was recorded, since the desk was asked and the session was gone
+abbrev pub HangsUp : {L : Type 0} → (ℕ → Type 0) → ℕ → Report L → Report L → Type 0
+HangsUp gone session r r' = ((receipt : Receipt) × Takes r r' (Hangup session) receipt) ⊎ (gone session × Rests r r')
 
 -- one call more, up to the greatest number that is counted
 abbrev pub CountsOn : ℕ → ℕ → Type 0
@@ -64,10 +64,3 @@ CountsOn calls calls' = calls < 2 ^ 64 - 1 → calls' ≡ calls + 1
 -- the share has the parts that it had, and as many events more as the report tells of
 abbrev pub Balances : {L : Type 0} → Report L → Report L → Type 0
 Balances r r' = (r'.share.parts ≡ r.share.parts) × (r'.share.count + told r ≡ r.share.count + told r')
-
--- of each share a report: it has the share's parts, and tells of all that the share counts besides
-abbrev pub AreReports : {L : Type 0} → List Held → List (Report L) → Type 0
-AreReports {L} shares reports =
-    (i : ℕ) (d : Report L) (e : Held) → i < length shares
-    → ((slice_index_or reports i d).share.parts ≡ (slice_index_or shares i e).parts)
-    × ((slice_index_or reports i d).share.count ≡ (slice_index_or shares i e).count + told (slice_index_or reports i d))

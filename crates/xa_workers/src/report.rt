@@ -20,6 +20,7 @@ pub struct Report<L: Ledger> {
 
 impl<L: Ledger> Report<L> {
     ghost use Rattle.xa_frame.specs.Limits.{IsRequest, IsReply};
+    ghost use Rattle.xa_room.specs.Gone.{WasGone};
     ghost use Rattle.xa_workers.specs.Reports.{told, Calls, Connects, HangsUp, Joins};
 
     /// A report that begins.
@@ -92,7 +93,7 @@ impl<L: Ledger> Report<L> {
         desk: &Desk<M, S, L>,
         session: u64,
     )
-        ensures { HangsUp session self.old self.new }
+        ensures { HangsUp (WasGone M.has_session M.stands M.trusts S.start) session self.old self.new }
     {
         let Report {
             share,

@@ -67,11 +67,12 @@ impl<'a, M: Manages, S: Start, L: Ledger, G: Gate, R: Wait> Seat<'a, M, S, L, G,
 }
 
 impl<M: Manages, S: Start, L: Ledger, G: Gate, R: Wait> Door for Seat<'_, M, S, L, G, R> {
+    ghost use Rattle.xa_room.specs.Gone.{WasGone};
     ghost use Rattle.xa_workers.specs.Reports.{Calls, HangsUp, CountsOn};
 
     ghost called = { λ session a request reply b. Calls session a.report request reply b.report × CountsOn a.calls b.calls };
 
-    ghost left = { λ session a b. HangsUp session a.report b.report };
+    ghost left = { λ session a b. HangsUp (WasGone M.has_session M.stands M.trusts S.start) session a.report b.report };
 
     fn call(&mut self, session: u64, request: Request) -> Reply {
         self.calls = self.calls.saturating_add(1);

@@ -1,4 +1,6 @@
 ghost use Rattle.std.specs.Prelude.{◌≡◌, ◌+◌};
+ghost use Rattle.xa_room.specs.Gone.{WasGone};
+ghost use Rattle.xa_workers.specs.Connections.{Serves, Works};
 ghost use Rattle.xa_workers.specs.Reports.{told, Balances};
 
 use crate::gate::Gate;
@@ -13,7 +15,7 @@ use std::sync::{Mutex, Wait};
 use xa_desk::serve;
 use xa_room::{Desk, Manages, Share, Start};
 
-/// Serves a connection for each number that it takes, until none is left.
+/// Serves a connection for each number that it takes, until none is left. Each session that it connected it hung up.
 pub(crate) fn work<M: Manages, S: Start, L: Ledger, G: Gate, R: Wait>(
     rt: &R,
     alloc: Global,
@@ -26,6 +28,7 @@ pub(crate) fn work<M: Manages, S: Start, L: Ledger, G: Gate, R: Wait>(
 ) -> Report<L>
     ensures parts { result.share.parts ≡ share.parts }
     ensures count { result.share.count ≡ share.count + told result }
+    ensures served { Works (WasGone M.has_session M.stands M.trusts S.start) share result }
 {
     let mut seat = Seat::new(alloc, rt, desk, gate, share);
     for _ in 0..connections {
@@ -44,7 +47,8 @@ fn serve_next<M: Manages, S: Start, L: Ledger, G: Gate, R: Wait>(
     listener: &TcpListener,
     seat: &mut Seat<'_, M, S, L, G, R>,
 )
-    ensures { Balances seat.old.report seat.new.report }
+    ensures balances { Balances seat.old.report seat.new.report }
+    ensures served { Serves (WasGone M.has_session M.stands M.trusts S.start) seat.old.report seat.new.report }
 {
     let Ok((stream, _)) = listener.accept() else {
         return;

@@ -1,5 +1,7 @@
 ghost use Rattle.std.specs.Prelude.{◌≡◌, ℕ, ◌+◌, ◌<◌, ◌≤◌, vec_len, IfOk, length, sum_by};
-ghost use Rattle.xa_workers.specs.Reports.{AreReports, told};
+ghost use Rattle.xa_room.specs.Gone.{WasGone};
+ghost use Rattle.xa_workers.specs.Connections.{AreReports, Gathers, Runs, Works};
+ghost use Rattle.xa_workers.specs.Reports.{told};
 
 use crate::gate::Gate;
 use crate::numbers::Numbers;
@@ -58,14 +60,16 @@ fn work_all<
     connections: u64,
     shares: Vec<Share<L>>,
 ) -> Result<Vec<Report<L>>, AllocError>
-    ensures { IfOk result (λ v. (length v.items ≡ length shares.items) × AreReports shares.items v.items) }
+    ensures { IfOk result (λ v. (length v.items ≡ length shares.items)
+        × AreReports (WasGone M.has_session M.stands M.trusts S.start) shares.items v.items) }
 {
     let numbers = Mutex::new(Numbers::new(connections));
     map_vec(
         rt,
         shares,
         &|share: Share<L>| -> Report<L>
-            ensures { (result.share.parts ≡ share.parts) × (result.share.count ≡ share.count + told result) }
+            ensures { (result.share.parts ≡ share.parts) × (result.share.count ≡ share.count + told result)
+                × Works (WasGone M.has_session M.stands M.trusts S.start) share result }
         {
             work(
                 rt,
@@ -91,6 +95,7 @@ fn gather<M: Manages, S: Start, L: Ledger, R: Wait>(
     ensures parts { result.share.parts ≡ sum_by (λ r. r.share.parts) reports.items }
     ensures count { result.share.count ≡ sum_by (λ r. r.share.count) reports.items }
     ensures told { told result ≡ sum_by (λ r. told r) reports.items }
+    ensures gathered { Gathers reports.items result }
 {
     let mut reports = reports;
     let Some(mut all) = reports.pop() else {
@@ -106,8 +111,8 @@ fn gather<M: Manages, S: Start, L: Ledger, R: Wait>(
 /// a worker takes the next of the numbers 1 to `connections`, and it ends when none is left. An accept that fails, and a
 /// connection whose session isn't connected or that finds no memory, use theirs up; such a connection is closed without a byte.
 ///
-/// The report has the workers' shares as one, and tells of all their connects, calls and hang-ups. After a fault the share
-/// is gone, and the desk stays.
+/// The report has the workers' shares as one, and tells of all their connects, calls and hang-ups: each session that was
+/// connected was hung up behind its calls, or had no connection any more. After a fault the share is gone, and the desk stays.
 pub fn run_workers<
     M: Manages + Send,
     S: Start + Send + Sync,
@@ -127,6 +132,7 @@ pub fn run_workers<
     requires { (0 < n) × (n ≤ share.parts) }
     ensures parts { IfOk result (λ r. r.share.parts ≡ share.parts) }
     ensures count { IfOk result (λ r. r.share.count ≡ share.count + (vec_len r.receipts + r.dropped)) }
+    ensures served { IfOk result (λ r. Runs (WasGone M.has_session M.stands M.trusts S.start) n r) }
 {
     let Ok(shares) = split_all(alloc, share, n) else {
         return Err(WorkFault::Memory);

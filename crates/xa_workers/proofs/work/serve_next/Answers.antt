@@ -1,10 +1,13 @@
+use Rattle.std.proofs.Common.{inl}
+use Rattle.xa_room.specs.Gone.{WasGone}
 use Rattle.xa_workers.specs.Reports.{Balances}
 use Rattle.xa_workers.proofs.Balancing.{balances_same, balances_twice, calls_balance, connects_balance, hangs_up_balances}
 use Rattle.xa_workers.proofs.Conversing.{answers_keep}
+use Rattle.xa_workers.proofs.Serving.{calls_all}
 use Rattle.xa_workers.proofs.work.serve_next.Goals as goal
 
-pub returns : goal.returns
-returns g c =
+pub returns-clause-balances : goal.returns-clause-balances
+returns-clause-balances g c =
     let first = c.args.seat.now in
     let second = c.connect.new.self in
     let served = c.serve-served.ensures in
@@ -17,6 +20,23 @@ returns g c =
     (λ a b c. balances_twice a.report b.report c.report) (λ a q r b h. calls_balance _ a.report q r b.report h.0)
     second talks.contents talks.replies third talks.answered
     in
-    let left = hangs_up_balances _ third.report last.report served.2 in
+    let left = hangs_up_balances (WasGone g.M.Manages.has_session g.M.Manages.stands g.M.Manages.trusts g.S.Start.start) _ third.report last.report served.2 in
     let before = balances_twice first.report second.report third.report connected answered in
     balances_twice first.report third.report last.report before left
+
+pub returns-clause-served : goal.returns-clause-served
+returns-clause-served g c =
+    let second = c.connect.new.self in
+    let served = c.serve-served.ensures in
+    let third = served.0 in
+    let talks = served.1 in
+    let all = calls_all _ (λ d. d.report) _ (λ d q r e h. h.0) second talks.contents talks.replies third talks.answered in
+    inl (record {
+      session = c.in-Ok-connect.session;
+      calls = all.0;
+      connected = second.report;
+      left = third.report;
+      connects = c.in-Ok-connect.ensures.report;
+      called = all.1;
+      hangs_up = served.2;
+    })

@@ -1,5 +1,10 @@
+use Rattle.xa_room.specs.Gone.{WasGone}
 use Rattle.xa_workers.specs.Reports.{Balances}
+use Rattle.xa_workers.proofs.Serving.{Served}
 use Rattle.xa_workers.proofs.work.work.Given as goal
 
 abbrev pub invariant-loop : goal.invariant-loop
-invariant-loop g l = Balances l.initial.seat.report l.seat.report
+invariant-loop g l = record {
+  balances : Balances l.initial.seat.report l.seat.report;
+  served : Served (WasGone g.M.Manages.has_session g.M.Manages.stands g.M.Manages.trusts g.S.Start.start) l.initial.seat.report l.seat.report;
+}

@@ -18,8 +18,8 @@ invariant_of-self g c =
     c.self.invariant acts (ap (λ (r : Reply). is_memory r.detail) c.plain.ensures) (ap (λ (r : Reply). r.place) c.plain.ensures) tt c.outcome.ensures refl c.note.ensures.entries
     (omega (arith, c.self.invariant.reserved, c.hangup.ensures.sessions (sym c.if-not-is_connected.ensures), c.note.ensures.capacity))
 
-pub returns : goal.returns
-returns g c =
+pub returns-clause-recorded : goal.returns-clause-recorded
+returns-clause-recorded g c =
     let m = g.M.Manages in
     let room = c.self.inside in
     let acts = subst (λ (r : Reply). Acts m.stands m.trusts m.told m.has_called m.failures room.manager (Hangup c.args.session) r c.hangup.new.self) (sym c.plain.ensures) c.hangup.ensures.acts in
@@ -32,3 +32,12 @@ returns g c =
           refl c.note.ensures.entries c.note.ensures.receipt c.outcome.ensures
           acts (ap (λ (r : Reply). is_memory r.detail) c.plain.ensures) (ap (λ (r : Reply). r.place) c.plain.ensures),
     )
+
+pub returns-then-not-is_connected-clause-gone : goal.returns-then-not-is_connected-clause-gone
+returns-then-not-is_connected-clause-gone g c =
+    let room = c.self.inside in
+    record {
+      asked = record { now = room.manager; entries = room.history.items };
+      gone = sym c.if-not-is_connected.ensures;
+      legal = c.self.invariant.legal;
+    }

@@ -1,0 +1,11 @@
+-- A session that has no connection.
+use Rattle.std.specs.Prelude.{ℕ, ◌≡◌, Bool, false}
+use Rattle.xa_model.specs.State.{State}
+use Rattle.xa_room.specs.Kept.{IsLegal}
+use Rattle.xa_room.specs.Told.{Told}
+
+-- A room was asked, and its manager had no such session. As ever, its book was a legal history from each starting state.
+pub record WasGone {M : Type 0} (has_session : M → ℕ → Bool) (stands : M → State → Type 0) (trusts : Type 0) (start : State → Type 0) (session : ℕ) : Type 0 where
+  pub asked : Told M
+  pub gone : has_session asked.now session ≡ false
+  pub legal : IsLegal stands trusts start asked.now asked.entries
