@@ -1,23 +1,25 @@
 -- What is kept of each key once one chain is pruned or forgotten, and that to tidy a key twice is to tidy it once.
-use Rattle.std.proofs.Common.{◌≡◌, ℕ, ◌<◌, ◌⊎◌, inl, inr, Bool, true, false, ◌||◌, ◌&&◌, not, ◌==◌, List, [], ◌∷◌, ◌++◌, length, Option, Some, None, refl, sym, ap, ◌∙◌, subst, arith}
-use Rattle.std.specs.Prelude.{nat_le, option_map, bytes_eq, slice_get, if◌then◌else◌}
+use Rattle.std.proofs.Common.{◌≡◌, ◌≢◌, ℕ, ◌<◌, ◌≤◌, ◌⊎◌, inl, inr, Bool, true, false, ◌||◌, ◌&&◌, not, ◌==◌, List, [], ◌∷◌, ◌++◌, length, Option, Some, None, refl, sym, ap, ◌∙◌, subst, arith}
+use Rattle.std.specs.Prelude.{is_some, nat_le, option_map, bytes_eq, slice_get, if◌then◌else◌, Result, Ok, Err, OnErr}
 use Rattle.std.specs.BTreeMap.{BTreeMap}
 use Rattle.std.proofs.lemmas.Slice.Eq.{bytes_eq-Decides}
-use Rattle.slab.specs.Slab.{get as chain_in}
+use Rattle.slab.specs.Slab.{get as chain_in, SameValues}
 use Rattle.mv_chain.specs.declared.version.Version.{Version}
 use Rattle.mv_chain.specs.declared.pool.Pool.{Pool}
 use Rattle.mv_chain.specs.declared.chain.Chain.{Chain}
-use Rattle.mv_chain.specs.Chain.{has_base, pruned}
+use Rattle.mv_chain.specs.Chain.{fresh, shows, has_base, pruned, StandsFor as ChainStandsFor}
+use Rattle.mv_chain.specs.History.{absent, nobody, seen}
 use Rattle.mv_chain.specs.Idle.{is_idle}
-use Rattle.mv_chain.specs.Pool.{versions_of, IsKept, LeavesOthers}
+use Rattle.mv_chain.specs.Pool.{versions_of, IsKept, LeavesOthers, LeavesOthersAt}
 use Rattle.mv_rules.specs.declared.records.Records.{Records}
 use Rattle.mv_rules.specs.declared.own.Own.{Own}
 use Rattle.mv_rules.specs.declared.own.Notes.{Notes}
-use Rattle.mv_rules.specs.History.{History}
-use Rattle.mv_rules.specs.Held.{Changes}
+use Rattle.mv_rules.specs.declared.answers.Got.{Got}
+use Rattle.mv_rules.specs.History.{History, answer_of}
+use Rattle.mv_rules.specs.Held.{IsHeld, Changes}
 use Rattle.mv_rules.specs.Records.{StandsFor, ChainsStandFor, place_of, chain_at}
-use Rattle.mv_rules.specs.Tidy.{kept_of, names, is_due, due, not_due, forgotten, tidied, tidied_if}
-use Rattle.mv_rules.proofs.Frames.{shown_elsewhere}
+use Rattle.mv_rules.specs.Tidy.{kept_of, names, is_due, due, not_due, forgotten, tidied, tidied_if, KeepsAll, has_read}
+use Rattle.mv_rules.proofs.Frames.{shown_elsewhere, shown_grown}
 use Rattle.mv_rules.proofs.Changed.{with_chain, changes_at, before_at, after_at}
 
 abbrev kept_at : Option ℕ → Records → Option (List Version)
@@ -184,3 +186,78 @@ is_not_due low ts n es e first here why =
 pub has_first : (es : List (ℕ × Notes)) (e : ℕ × Notes) → slice_get es 0 ≡ Some e → 0 < length es
 has_first [] e here = absurd (cc here)
 has_first (x ∷ es) e here = omega arith
+
+pub none_left : (low : ℕ) (es : List (ℕ × Notes)) → due low (not_due low es) ≡ []
+none_left low [] = refl
+none_left low (e ∷ es) = at (is_due low e) refl (none_left low es)
+  where
+    at : (x : Bool) → is_due low e ≡ x → due low (not_due low es) ≡ [] → due low (if x then not_due low es else e ∷ es) ≡ []
+    at true d rest = rest
+    at false d rest = rw d refl
+
+-- where the code leaves every chain as it was
+pub keeps_alike : (r r2 : Records) → ((q : List ℕ) → place_of q r2 ≡ place_of q r) → SameValues r.chains r2.chains → LeavesOthersAt r.pool [] r2.pool [] → IsHeld r.pool r.chains → KeepsAll r r2
+keeps_alike r r2 places same leaves held q = ap (λ o. kept_at o r2) (places q) ∙ at (place_of q r)
+  where
+    at : (o : Option ℕ) → kept_at o r2 ≡ kept_at o r
+    at None = refl
+    at (Some i) = ap Some (shown_grown r.pool r2.pool r.chains r2.chains i same leaves held)
+
+-- a key is added
+pub kept_added : (h : History) (r r2 : Records) (key : List ℕ) (new : ℕ) → place_of key r ≡ None → chain_in r.chains new ≡ None → Changes new r.pool r.chains r2.pool r2.chains → chain_at new r2 ≡ fresh → ((q : List ℕ) → place_of q r2 ≡ (if bytes_eq q key then Some new else place_of q r)) → ChainsStandFor h r
+    → (q : List ℕ) → kept_of q r2 ≡ (if bytes_eq q key then Some fresh else kept_of q r)
+kept_added h r r2 key new none vacant change at_new found s q = at (bytes_eq q key) refl
+  where
+    other : (j : ℕ) → place_of q r ≡ Some j → j ≢ new
+    other j e same = absurd (cc (s.within q j e, ap (λ k. is_some (chain_in r.chains k)) same, ap is_some vacant))
+
+    stays : (o : Option ℕ) → place_of q r ≡ o → kept_at o r2 ≡ kept_at o r
+    stays None e = refl
+    stays (Some j) e = ap Some (shown_elsewhere new j r.pool r2.pool r.chains r2.chains change s.held (other j e))
+
+    at : (x : Bool) → bytes_eq q key ≡ x → kept_of q r2 ≡ (if x then Some fresh else kept_of q r)
+    at true e =
+        let here : place_of q r2 ≡ Some new = found q ∙ rw e refl in
+        ap (λ o. kept_at o r2) here ∙ ap Some at_new
+    at false e =
+        let here : place_of q r2 ≡ place_of q r = found q ∙ rw e refl in
+        ap (λ o. kept_at o r2) here ∙ stays (place_of q r) refl
+
+-- one chain is as it was
+pub same_kept : (r r2 : Records) (key : List ℕ) → ((q : List ℕ) → kept_of q r2 ≡ (if bytes_eq q key then option_map (λ vs. vs) (kept_of q r) else kept_of q r)) → KeepsAll r r2
+same_kept r r2 key is q = is q ∙ at (bytes_eq q key) (kept_of q r)
+  where
+    at : (x : Bool) (o : Option (List Version)) → (if x then option_map (λ vs. vs) o else o) ≡ o
+    at true None = refl
+    at true (Some vs) = refl
+    at false o = refl
+
+-- a key that was made and is forgotten again
+pub unmade : (r made used left : Records) (key : List ℕ) → kept_of key r ≡ None → ((q : List ℕ) → kept_of q made ≡ (if bytes_eq q key then Some fresh else kept_of q r)) → KeepsAll made used → ((q : List ℕ) → kept_of q left ≡ (if bytes_eq q key then forgotten 0 (kept_of q used) else kept_of q used)) → KeepsAll r left
+unmade r made used left key none begun same over q = over q ∙ (rw same (at (bytes_eq q key) refl (begun q)))
+  where
+    at : (x : Bool) → bytes_eq q key ≡ x → kept_of q made ≡ (if x then Some fresh else kept_of q r) → (if x then forgotten 0 (kept_of q made) else kept_of q made) ≡ kept_of q r
+    at true e b = ap (forgotten 0) b ∙ sym (ap (λ k. kept_of k r) (same_key q key e) ∙ none)
+    at false e b = b
+
+pub absent_kept : (r : Records) (key : List ℕ) → place_of key r ≡ None → kept_of key r ≡ None
+absent_kept r key none = ap (λ o. kept_at o r) none
+
+-- a key that nobody wrote is read
+fresh_shows : (t : ℕ) → shows t fresh ≡ absent
+fresh_shows t = at (nat_le 0 t)
+  where
+    at : (x : Bool) → (if x && nat_le 0 0 then absent else absent) ≡ absent
+    at true = refl
+    at false = refl
+
+pub reads_unwritten : (h : History) (r : Records) (key : List ℕ) (t : ℕ) (got : Got) → StandsFor h r → place_of key r ≡ None → h.low ≤ t → has_read got ≡ false → got ≡ answer_of t (seen key t h.writes) → ⊥
+reads_unwritten h r key t got s none le unread answer =
+    let here : ChainStandsFor key h.low h.writes h.reads fresh = rw none at (s.chains.chains key) in
+    let shown : absent ≡ seen key t h.writes = sym (fresh_shows t) ∙ here.seen nobody t le in
+    let is : got ≡ answer_of t absent = answer ∙ ap (answer_of t) (sym shown) in
+    absurd (cc (unread, ap has_read is))
+
+pub then_err : {T E : Type 0} {A : Type 0} (r : Result T E) → A → OnErr r A
+then_err (Ok x) a = tt
+then_err (Err e) a = a

@@ -1,6 +1,6 @@
 -- What is kept of each key, and what a low water gives back of it: the versions that no read from there on sees, and the
 -- key itself where nothing is left but that it was absent.
-use Rattle.std.specs.Prelude.{◌≡◌, ℕ, Bool, ◌&&◌, ◌==◌, nat_le, List, [], ◌∷◌, ◌++◌, length, Option, Some, None, option_map, bytes_eq, if◌then◌else◌}
+use Rattle.std.specs.Prelude.{◌≡◌, ℕ, Bool, true, false, ◌&&◌, ◌==◌, nat_le, List, [], ◌∷◌, ◌++◌, length, Option, Some, None, option_map, bytes_eq, if◌then◌else◌}
 use Rattle.std.specs.List.{list_any}
 use Rattle.mv_chain.specs.declared.version.Version.{Version}
 use Rattle.mv_chain.specs.Chain.{pruned}
@@ -8,6 +8,8 @@ use Rattle.mv_chain.specs.Idle.{is_idle}
 use Rattle.mv_rules.specs.declared.records.Records.{Records}
 use Rattle.mv_rules.specs.declared.own.Own.{Own}
 use Rattle.mv_rules.specs.declared.own.Notes.{Notes}
+use Rattle.mv_rules.specs.declared.answers.Got.{Got}
+use Rattle.mv_rules.specs.declared.answers.Got.TheVariants.{Value, Absent, Busy, Memory}
 use Rattle.mv_rules.specs.Records.{place_of, chain_at}
 
 -- the versions that are kept of a key; None where nothing is kept of it
@@ -31,6 +33,10 @@ due low (e ∷ later) = if is_due low e then e.1.decided.items ++ e.1.read.items
 abbrev pub not_due : ℕ → List (ℕ × Notes) → List (ℕ × Notes)
 not_due low [] = []
 not_due low (e ∷ later) = if is_due low e then not_due low later else e ∷ later
+
+-- nothing that is noted is due
+abbrev pub IsDrained : ℕ → Records → Type 0
+IsDrained low r = due low r.notes.entries ≡ []
 
 -- a key of which there is nothing but that it was absent isn't kept
 abbrev pub unless_idle : ℕ → List Version → Option (List Version)
@@ -56,3 +62,10 @@ pub record Tidies (low : ℕ) (old new : Records) : Type 0 where
 -- every key is as it was
 abbrev pub KeepsAll : Records → Records → Type 0
 KeepsAll old new = (key : List ℕ) → kept_of key new ≡ kept_of key old
+
+-- whether a get has read: Busy and want of memory haven't
+abbrev pub has_read : Got → Bool
+has_read (Value v) = true
+has_read Absent = true
+has_read (Busy by) = false
+has_read Memory = false

@@ -1,5 +1,5 @@
-ghost use Rattle.std.specs.Prelude.{◌≡◌, ◌≢◌, ℕ, ◌≤◌, max, List, [], ◌∷◌, Some, None, false, IfOk, OnOk, option_map, bytes_eq, if◌then◌else◌};
-ghost use Rattle.mv_chain.specs.Chain.{pruned};
+ghost use Rattle.std.specs.Prelude.{◌≡◌, ◌≢◌, ℕ, ◌≤◌, max, List, [], ◌∷◌, Some, None, false, IfOk, OnOk, OnErr, option_map, bytes_eq, if◌then◌else◌};
+ghost use Rattle.mv_chain.specs.Chain.{fresh, pruned};
 ghost use Rattle.mv_chain.specs.Within.{IsShort};
 ghost use Rattle.mv_chain.specs.History.{seen, is_late, has_open, decided, AreWhole, IsOpen, IsUnsettled};
 
@@ -34,7 +34,7 @@ impl Records {
     ghost use Rattle.mv_rules.specs.History.{History, answer_of, reads_after, open_keys, put_of, after_put, wrote, IsWritesOf, IsWholeAt};
     ghost use Rattle.mv_rules.specs.Records.{StandsFor, place_of, versions_in};
     ghost use Rattle.mv_rules.specs.Restoring.{with_branch, IsRestorable};
-    ghost use Rattle.mv_rules.specs.Tidy.{kept_of, names, forgotten, tidied_if, Tidies};
+    ghost use Rattle.mv_rules.specs.Tidy.{kept_of, names, forgotten, tidied_if, Tidies, IsDrained, KeepsAll, has_read};
     ghost use Rattle.mv_rules.specs.Within.{IsWithin, KeepsWithin, IsShortAnswer, AreShort};
 
     /// No key was written or read. Takes no memory.
@@ -55,6 +55,9 @@ impl Records {
     fn make(&mut self, key: &[u8]) -> Result<usize, AllocError>
         ensures place { IfOk result (λ i. place_of key.now self.new ≡ Some i) }
         ensures stands { (h : History) → StandsFor h self.old → place_of key.now self.old ≡ None → StandsFor h self.new }
+        ensures made { OnOk result ((h : History) → StandsFor h self.old → place_of key.now self.old ≡ None → (q : List ℕ)
+            → kept_of q self.new ≡ (if bytes_eq q key.now then Some fresh else kept_of q self.old)) }
+        ensures same { OnErr result ((h : History) → StandsFor h self.old → place_of key.now self.old ≡ None → KeepsAll self.old self.new) }
         ensures within { KeepsWithin self.old self.new }
     {
         let copy = key.to_vec(self.alloc)?;
@@ -98,6 +101,7 @@ impl Records {
     fn get_at(&mut self, i: usize, ts: u64, key: &[u8]) -> Got
         ensures answer { (h : History) → StandsFor h self.old → place_of key.now self.old ≡ Some i → h.low ≤ ts → result ≢ Got.Memory → result ≡ answer_of ts (seen key.now ts h.writes) }
         ensures stands { (h : History) → StandsFor h self.old → place_of key.now self.old ≡ Some i → h.low ≤ ts → StandsFor (record h { reads = reads_after result ts key.now (seen key.now ts h.writes).from h.reads }) self.new }
+        ensures same { has_read result ≡ false → (h : History) → StandsFor h self.old → place_of key.now self.old ≡ Some i → KeepsAll self.old self.new }
         ensures short { (n : ℕ) → IsWithin n self.old → IsShortAnswer n result }
         ensures within { KeepsWithin self.old self.new }
     {
@@ -112,6 +116,7 @@ impl Records {
     pub fn get(&mut self, ts: u64, key: &[u8]) -> Got
         ensures answer { (h : History) → StandsFor h self.old → h.low ≤ ts → result ≢ Got.Memory → result ≡ answer_of ts (seen key.now ts h.writes) }
         ensures stands { (h : History) → StandsFor h self.old → h.low ≤ ts → StandsFor (record h { reads = reads_after result ts key.now (seen key.now ts h.writes).from h.reads }) self.new }
+        ensures same { has_read result ≡ false → (h : History) → StandsFor h self.old → h.low ≤ ts → KeepsAll self.old self.new }
         ensures short { (n : ℕ) → IsWithin n self.old → IsShortAnswer n result }
         ensures within { KeepsWithin self.old self.new }
     {
@@ -134,6 +139,7 @@ impl Records {
     fn put_at(&mut self, i: usize, ts: u64, key: &[u8], value: Option<Vec<u8>>) -> Put
         ensures answer { (h : History) → StandsFor h self.old → place_of key.now self.old ≡ Some i → IsUnsettled ts h.low h.writes → result ≢ Put.Memory → result ≡ put_of (has_open key.now ts h.writes) (open_keys ts h.writes) (is_late key.now ts h.reads) }
         ensures stands { (h : History) → StandsFor h self.old → place_of key.now self.old ≡ Some i → IsUnsettled ts h.low h.writes → StandsFor (after_put result ts key.now (option_map (λ v. v.items) value) h) self.new }
+        ensures same { result ≢ Put.Done → (h : History) → StandsFor h self.old → place_of key.now self.old ≡ Some i → KeepsAll self.old self.new }
         ensures within { (n : ℕ) → IsWithin n self.old → IsShort n (option_map (λ v. v.items) value) → IsWithin n self.new }
     {
         let count = count(&self.notes, ts);
@@ -176,6 +182,7 @@ impl Records {
     pub fn put(&mut self, ts: u64, key: &[u8], value: Option<Vec<u8>>) -> Put
         ensures answer { (h : History) → StandsFor h self.old → IsUnsettled ts h.low h.writes → result ≢ Put.Memory → result ≡ put_of (has_open key.now ts h.writes) (open_keys ts h.writes) (is_late key.now ts h.reads) }
         ensures stands { (h : History) → StandsFor h self.old → IsUnsettled ts h.low h.writes → StandsFor (after_put result ts key.now (option_map (λ v. v.items) value) h) self.new }
+        ensures same { result ≢ Put.Done → (h : History) → StandsFor h self.old → IsUnsettled ts h.low h.writes → KeepsAll self.old self.new }
         ensures within { (n : ℕ) → IsWithin n self.old → IsShort n (option_map (λ v. v.items) value) → IsWithin n self.new }
     {
         if let Some(i) = self.places.get(key) {
@@ -238,6 +245,7 @@ impl Records {
     pub fn low_water(&mut self, low: u64)
         ensures stands { (h : History) → StandsFor h self.old → AreWhole h.writes → StandsFor (record h { low = max h.low low }) self.new }
         ensures tidies { (h : History) → StandsFor h self.old → AreWhole h.writes → Tidies low self.old self.new }
+        ensures drained { IsDrained low self.new }
         ensures within { KeepsWithin self.old self.new }
     {
         while let Some(noted) = next_due(&mut self.notes, low) {

@@ -1,4 +1,4 @@
-ghost use Rattle.std.specs.Prelude.{◌≡◌, ◌≢◌, ℕ, ◌≤◌, List, [], ◌∷◌, ◌++◌, ◌==◌, if◌then◌else◌, OnOk, OnErr, option_map};
+ghost use Rattle.std.specs.Prelude.{◌≡◌, ◌≢◌, ℕ, ◌≤◌, List, [], ◌∷◌, ◌++◌, ◌==◌, if◌then◌else◌, false, OnOk, OnErr, option_map};
 ghost use Rattle.mv_chain.specs.History.{Written, Answered};
 ghost use Rattle.mv_chain.specs.Chain.{shows, StandsFor};
 ghost use Rattle.mv_chain.specs.Look.{looked};
@@ -8,6 +8,7 @@ ghost use Rattle.mv_rules.specs.History.{reads_after, answer_of};
 ghost use Rattle.mv_rules.specs.Held.{IsHeld};
 ghost use Rattle.mv_rules.specs.Own.{own_in};
 ghost use Rattle.mv_rules.specs.Steps.{SettlesListed, IsWritten};
+ghost use Rattle.mv_rules.specs.Tidy.{has_read};
 ghost use Rattle.mv_rules.specs.Within.{IsShortAnswer};
 
 use crate::answers::Got;
@@ -51,6 +52,7 @@ pub(crate) fn read(
 ) -> Got
     ensures answer { IsKept pool.old chain.old → result ≢ Got.Memory → result ≡ answer_of ts (shows ts (versions_of pool.old chain.old)) }
     ensures stands { (k : List ℕ) (low : ℕ) (writes : List Written) (reads : List Answered) → IsKept pool.old chain.old → StandsFor k low writes reads (versions_of pool.old chain.old) → low ≤ ts → StandsFor k low writes (reads_after result ts k (shows ts (versions_of pool.old chain.old)).from reads) (versions_of pool.new chain.new) }
+    ensures same { has_read result ≡ false → versions_of pool.new chain.new ≡ versions_of pool.old chain.old }
     ensures kept { IsKept pool.old chain.old → IsKept pool.new chain.new }
     ensures others { LeavesOthers pool.old chain.old pool.new chain.new }
     ensures notes { (t : ℕ) → own_in t notes.new ≡ own_in t notes.old }

@@ -2,6 +2,7 @@ pub mod Kept
 pub mod Stands
 pub mod LogStands
 pub mod Managed
+pub mod Drained
 pub mod Changes
 pub mod Connected
 pub mod Answered

@@ -5,6 +5,9 @@ ghost use Rattle.xa_model.specs.Branches.{rolled_back, committed, decided_by, fo
 ghost use Rattle.xa_model.specs.Completions.{is_completed};
 ghost use Rattle.xa_model.specs.Loggable.{IsRecoverable};
 ghost use Rattle.xa_model.specs.LowWater.{low_water};
+ghost use Rattle.xa_model.specs.Sound.{IsSound};
+ghost use Rattle.xa_branch.specs.Branches.{BranchesStandFor};
+ghost use Rattle.xa_manager.specs.Drained.{GivesBack};
 ghost use Rattle.xa_assoc.specs.Seats.{opened_at};
 ghost use Rattle.xa_assoc.specs.Sessions.{begin_refusal_of, resume_refusal_of, suspend_refusal_of};
 ghost use Rattle.xa_branch.specs.Calls.{marked_with};
@@ -179,7 +182,7 @@ impl Tables {
 impl Tables {
     /// The least timestamp of a branch at work or prepared, or where there is none the last that this boot gave.
     fn low_water(&self) -> u64
-        ensures { (s : State) → StandsFor (kept_of self.now) s → result ≡ low_water s }
+        ensures { (s : State) → IsSound s → BranchesStandFor self.now.branches s → result ≡ low_water s }
     {
         self.branches.low_water()
     }
@@ -188,6 +191,7 @@ impl Tables {
     pub fn give_low_water(&mut self)
         ensures stays { Stays (kept_of self.old) (kept_of self.new) }
         ensures down { StaysDown (kept_of self.old) (kept_of self.new) }
+        ensures drained { GivesBack self.new.branches self.new.records }
         ensures company { company_of self.new.sessions ≡ company_of self.old.sessions }
     {
         let low = self.low_water();

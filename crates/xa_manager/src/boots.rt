@@ -3,6 +3,7 @@ ghost use Rattle.std.specs.List.{AllByRecursion};
 ghost use Rattle.mv_rules.specs.Within.{IsWithin};
 ghost use Rattle.xa_record.specs.Limits.{IsRecord};
 ghost use Rattle.xa_model.specs.Fold.{snapshot};
+ghost use Rattle.xa_manager.specs.Drained.{GivesBack};
 ghost use Rattle.xa_manager.specs.Rereading.{IsReady, Plans};
 
 use crate::rebuilding::{branches_of, records_of};
@@ -31,6 +32,7 @@ pub struct Planned {
 fn ready(alloc: Global, durable: &Durable, boot: u32) -> Result<NextBoot, AllocError>
     ensures ready { IfOk result (IsReady durable.now boot) }
     ensures boot { IfOk result (λ next. next.boot ≡ boot) }
+    ensures drained { IfOk result (λ next. GivesBack next.branches next.records) }
     ensures short { AllByRecursion IsRecord (snapshot durable.now boot) → IfOk result (λ next. IsWithin 1024 next.records) }
 {
     let branches = branches_of(alloc, durable, boot)?;

@@ -4,6 +4,7 @@ ghost use Rattle.xa_log.specs.TwoFiles.{first_of, second_of};
 ghost use Rattle.xa_model.specs.Answer.{plain};
 ghost use Rattle.xa_manager.specs.Answered.{FullyAnswered, AnswersAll, ArePinned, StaysFor, connect_reply};
 ghost use Rattle.xa_assoc.specs.Company.{Gains, Loses};
+ghost use Rattle.xa_manager.specs.Drained.{GivesBack};
 ghost use Rattle.xa_manager.specs.Connected.{connected_to};
 ghost use Rattle.xa_manager.specs.Promises.{PromisesAll};
 ghost use Rattle.xa_frame.specs.Limits.{IsReply};
@@ -61,12 +62,14 @@ impl<D: Disk> Manager<D> {
 
     /// Answers a request of a session, by its number, with a code of C193. The reply has place 0. Its detail is Memory
     /// where there was no memory: then the code is XAER_RMFAIL, but XA_RETRY for a commit in two phases, and nothing
-    /// changed. Open, Close, End, a commit in two phases, Rollback, Forget, Decide and Doom take no memory.
+    /// changed. Open, Close, End, a commit in two phases, Rollback, Forget, Decide and Doom take no memory. Behind each call
+    /// the records have given back what the low water lets go.
     #[tactic(auto, using(crate::proofs::Replying::bare_fresh))]
     pub fn call(&mut self, session: u64, request: Request) -> Reply
         requires { IsAsked request }
         ensures answered { FullyAnswered D.Disk self.old (Event.Call session request) result self.new }
         ensures connected { connected_to self.new ≡ connected_to self.old }
+        ensures drained { GivesBack self.new.tables.branches self.new.tables.records }
         ensures place { result.place ≡ 0 }
         ensures limits { IsReply result }
     {
@@ -140,6 +143,7 @@ impl<D: Disk> Manager<D> {
         ensures stays { StaysFor D.Disk self.old self.new }
         ensures log { self.new.log ≡ self.old.log }
         ensures outcome { self.new.outcome ≡ self.old.outcome }
+        ensures drained { GivesBack self.new.tables.branches self.new.tables.records }
         ensures company { connected_to self.new ≡ connected_to self.old }
     {
         self.tables.give_low_water();

@@ -4,6 +4,7 @@ use Rattle.mv_chain.specs.History.{nobody, seen}
 use Rattle.mv_chain.specs.Chain.{shows}
 use Rattle.mv_chain.specs.Pool.{versions_of}
 use Rattle.mv_rules.proofs.Places.{answered_free}
+use Rattle.mv_rules.specs.Tidy.{has_read}
 use Rattle.mv_rules.proofs.steps.read.Goals as goal
 use Rattle.mv_rules.proofs.steps.read.Goals.{in-None, in-Some+in-Ok}
 
@@ -17,4 +18,12 @@ returns-clause-stands c =
     elim c.match-value_at.branch [
       | in-None w ↦ rw (w.got-is, from) (c.mark_at.ensures.stands c.args.ts key low writes reads k is s le free)
       | in-Some+in-Ok w ↦ rw (w.got-is, from) (c.mark_at.ensures.stands c.args.ts key low writes reads k is s le free)
+    ]
+
+pub returns-clause-same : goal.returns-clause-same
+returns-clause-same c =
+    λ none.
+    elim c.match-value_at.branch [
+      | in-None w ↦ absurd (cc (none, ap has_read w.got-is))
+      | in-Some+in-Ok w ↦ absurd (cc (none, ap has_read w.got-is))
     ]

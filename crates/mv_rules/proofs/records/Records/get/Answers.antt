@@ -1,5 +1,7 @@
-use Rattle.std.proofs.Common.{◌≡◌, sym, None}
+use Rattle.std.proofs.Common.{◌≡◌, sym, ap, None}
 use Rattle.mv_rules.specs.Records.{place_of}
+use Rattle.mv_rules.specs.Tidy.{has_read}
+use Rattle.mv_rules.proofs.Tidied.{unmade, absent_kept, reads_unwritten}
 use Rattle.mv_rules.proofs.records.Records.get.Goals as goal
 
 pub returns-in-Some-clause-stands : goal.returns-in-Some-clause-stands
@@ -13,7 +15,22 @@ returns c =
     let none : place_of c.args.key.now c.args.self.now ≡ None = sym c.in_default.ensures.value in
     record {
       answer = λ h s le m. c.get_at-got.ensures.answer h (c.make.ensures.stands h s none) c.in-Ok.ensures.place le m;
+      same = λ refused h s le. absurd (reads_unwritten h c.args.self.now c.args.key.now c.args.ts c.get_at-got.result s none le refused (c.get_at-got.ensures.answer h (c.make.ensures.stands h s none) c.in-Ok.ensures.place le c.in_default-got.not-Memory));
       stands = λ h s le. c.get_at-got.ensures.stands h (c.make.ensures.stands h s none) c.in-Ok.ensures.place le;
       short = λ n h. c.get_at-got.ensures.short n (c.make.ensures.within n h);
       within = λ n h. c.get_at-got.ensures.within n (c.make.ensures.within n h);
     }
+
+pub returns-in-Some-clause-same : goal.returns-in-Some-clause-same
+returns-in-Some-clause-same c = λ refused h s le. c.get_at.ensures.same refused h s (sym c.in-Some.ensures.value)
+
+pub returns-in-Memory-clause-same : goal.returns-in-Memory-clause-same
+returns-in-Memory-clause-same c =
+    λ refused h s le.
+    let none : place_of c.args.key.now c.args.self.now ≡ None = sym c.in_default.ensures.value in
+    let made = c.make.ensures.stands h s none in
+    unmade c.args.self.now c.make.new.self c.get_at-got.new.self c.forget.new.self c.args.key.now (absent_kept c.args.self.now c.args.key.now none) (c.in-Ok.ensures.made h s none)
+    (c.get_at-got.ensures.same (ap has_read c.in-Memory.is) h made c.in-Ok.ensures.place) (c.forget.ensures.kept _ (c.get_at-got.ensures.stands h made c.in-Ok.ensures.place le))
+
+pub returns-in_default-make-clause-same : goal.returns-in_default-make-clause-same
+returns-in_default-make-clause-same c = λ refused h s le. c.in_default-make.ensures.same h s (sym c.in_default.ensures.value)

@@ -7,7 +7,7 @@ use Rattle.mv_rules.specs.declared.own.Notes.{Notes}
 use Rattle.mv_rules.specs.declared.records.Records.{Records}
 use Rattle.mv_rules.specs.Records.{StandsFor}
 use Rattle.mv_rules.specs.Tidy.{kept_of, names, due, not_due, tidied_if}
-use Rattle.mv_rules.proofs.Tidied.{tidied_three}
+use Rattle.mv_rules.proofs.Tidied.{tidied_three, none_left}
 use Rattle.mv_rules.proofs.Frames.{nothing_left}
 use Rattle.mv_rules.proofs.Places.{stands_alike}
 use Rattle.mv_rules.proofs.Remade.{low_rises}
@@ -51,3 +51,6 @@ returns-clause-tidies c =
       kept = λ q. rw c.in_default.ensures.none at (c.loop-noted.invariant.kept risen stood whole low q);
       notes = c.in_default.ensures.left ∙ c.loop-noted.invariant.notes;
     }
+
+pub returns-clause-drained : goal.returns-clause-drained
+returns-clause-drained c = rw c.in_default.ensures.left (none_left c.args.low c.loop-noted.self.notes.entries)

@@ -3,6 +3,7 @@ use Rattle.std.specs.Prelude.{option_map}
 use Rattle.mv_rules.specs.History.{History, after_put}
 use Rattle.mv_rules.specs.Records.{StandsFor, place_of}
 use Rattle.mv_rules.proofs.Written.{refused_same}
+use Rattle.mv_rules.proofs.Tidied.{unmade, absent_kept}
 use Rattle.mv_rules.proofs.records.Records.put.Goals as goal
 
 pub returns-in_default-make-clause-stands : goal.returns-in_default-make-clause-stands
@@ -18,5 +19,14 @@ returns c =
           let same : after_put c.put_at-answer.result c.args.ts c.args.key.now value h ≡ h = refused_same c.put_at-answer.result c.args.ts c.args.key.now value h c.in_default-answer.not-Done in
           let after : StandsFor h c.put_at-answer.new.self = subst (λ (x : History). StandsFor x c.put_at-answer.new.self) same (c.put_at-answer.ensures.stands h (c.make.ensures.stands h s none) c.in-Ok.ensures.place u) in
           subst (λ (x : History). StandsFor x c.forget.new.self) (sym same) (c.forget.ensures.stands h after (λ t e. absurd (cc (e, s.lists.unplaced t c.args.key.now none))) (omega arith));
+      same = λ refused h s u.
+          unmade c.args.self.now c.make.new.self c.put_at-answer.new.self c.forget.new.self c.args.key.now (absent_kept c.args.self.now c.args.key.now none) (c.in-Ok.ensures.made h s none)
+          (c.put_at-answer.ensures.same c.in_default-answer.not-Done h (c.make.ensures.stands h s none) c.in-Ok.ensures.place) (c.forget.ensures.kept _ (c.put_at-answer.ensures.stands h (c.make.ensures.stands h s none) c.in-Ok.ensures.place u));
       within = λ n h short. c.forget.ensures.within n (c.put_at-answer.ensures.within n (c.make.ensures.within n h) short);
     }
+
+pub returns-in-Some-clause-same : goal.returns-in-Some-clause-same
+returns-in-Some-clause-same c = λ refused h s u. c.put_at.ensures.same refused h s (sym c.in-Some.ensures.value)
+
+pub returns-in_default-make-clause-same : goal.returns-in_default-make-clause-same
+returns-in_default-make-clause-same c = λ refused h s u. c.in_default-make.ensures.same h s (sym c.in_default.ensures.value)

@@ -6,6 +6,8 @@ use Rattle.mv_chain.proofs.Frames.{nothing_leaves}
 use Rattle.mv_rules.specs.Held.{shown_in}
 use Rattle.mv_rules.proofs.Changed.{alike_at, again_at, first_at}
 use Rattle.mv_rules.proofs.Written.{looked_at, put_refused}
+use Rattle.mv_rules.proofs.Changed.{with_chain}
+use Rattle.mv_rules.proofs.Tidied.{kept_with, same_kept}
 use Rattle.mv_rules.proofs.records.Records.put_at.Goals as goal
 
 pub returns-in_default-from_slice-clause-stands : goal.returns-in_default-from_slice-clause-stands
@@ -72,3 +74,29 @@ returns-in-Err-add-clause-stands c =
     λ h s here u.
     let k = s.chains.held.kept c.args.i c.in-Some.chain.now (sym c.in-Some.ensures.value) in
     alike_at h c.args.self.now c.args.key.now c.args.i c.in-Some.chain.now c.add.new.chain c.add.new.pool c.add.new.notes s here (sym c.in-Some.ensures.value) c.add.ensures.others (λ kk. c.add.ensures.kept c.args.ts kk (c.look-look.ensures kk)) (c.in-Err-add.ensures.err k) c.in-Err-add.ensures.unnoted
+
+pub returns-in_default-from_slice-clause-same : goal.returns-in_default-from_slice-clause-same
+returns-in_default-from_slice-clause-same c =
+    λ n h s here.
+    let chain = c.in-Some.chain.now in
+    same_kept c.args.self.now (with_chain c.args.self.now c.args.i c.args.self.now.pool chain c.args.self.now.notes) c.args.key.now
+    (kept_with h c.args.self.now c.args.key.now c.args.i chain chain c.args.self.now.pool c.args.self.now.notes s here (sym c.in-Some.ensures.value) (nothing_leaves c.args.self.now.pool chain.slots.items) (λ k. k) (λ vs. vs) (λ k. refl))
+
+pub returns-in-Refused-clause-same : goal.returns-in-Refused-clause-same
+returns-in-Refused-clause-same c =
+    λ n h s here.
+    let chain = c.in-Some.chain.now in
+    same_kept c.args.self.now (with_chain c.args.self.now c.args.i c.args.self.now.pool chain c.args.self.now.notes) c.args.key.now
+    (kept_with h c.args.self.now c.args.key.now c.args.i chain chain c.args.self.now.pool c.args.self.now.notes s here (sym c.in-Some.ensures.value) (nothing_leaves c.args.self.now.pool chain.slots.items) (λ k. k) (λ vs. vs) (λ k. refl))
+
+pub returns-in-Err-clause-same : goal.returns-in-Err-clause-same
+returns-in-Err-clause-same c =
+    λ n h s here.
+    same_kept c.args.self.now (with_chain c.args.self.now c.args.i c.install_at.new.pool c.install_at.new.self c.args.self.now.notes) c.args.key.now
+    (kept_with h c.args.self.now c.args.key.now c.args.i c.in-Some.chain.now c.install_at.new.self c.install_at.new.pool c.args.self.now.notes s here (sym c.in-Some.ensures.value) c.install_at.ensures.others (λ kk. c.install_at.ensures.kept c.args.ts kk (c.look-look.ensures kk)) (λ vs. vs) c.in-Err.ensures.err)
+
+pub returns-in-Err-add-clause-same : goal.returns-in-Err-add-clause-same
+returns-in-Err-add-clause-same c =
+    λ n h s here.
+    same_kept c.args.self.now (with_chain c.args.self.now c.args.i c.add.new.pool c.add.new.chain c.add.new.notes) c.args.key.now
+    (kept_with h c.args.self.now c.args.key.now c.args.i c.in-Some.chain.now c.add.new.chain c.add.new.pool c.add.new.notes s here (sym c.in-Some.ensures.value) c.add.ensures.others (λ kk. c.add.ensures.kept c.args.ts kk (c.look-look.ensures kk)) (λ vs. vs) c.in-Err-add.ensures.err)

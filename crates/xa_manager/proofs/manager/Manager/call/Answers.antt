@@ -28,3 +28,9 @@ returns-in-Ok-clause-limits g c = c.in-Ok.ensures.fresh.limits
 
 pub returns-in-Err-clause-limits : goal.returns-in-Err-clause-limits
 returns-in-Err-clause-limits g c = let bare : IsBare c.detailed.result = search rules in (bare_fresh c.detailed.result bare).limits
+
+pub returns-in-Ok-clause-drained : goal.returns-in-Ok-clause-drained
+returns-in-Ok-clause-drained g c = c.give_low_water.ensures.drained
+
+pub returns-in-Err-clause-drained : goal.returns-in-Err-clause-drained
+returns-in-Err-clause-drained g c = c.give_low_water.ensures.drained
