@@ -3,6 +3,7 @@ use Rattle.std.specs.Prelude.{ℕ, ◌+◌, List, [], ◌∷◌, ◌++◌, lengt
 use Rattle.std.specs.Fmt.{decimal}
 use Rattle.xa_record.specs.declared.record.Record.{Record}
 use Rattle.xa_record.specs.Reading.{record_at}
+use Rattle.xa_scan.specs.declared.scan.TheConstants.{AROUND_BODY, FIRST_PLACE}
 use Rattle.xa_scan.specs.Records.{record_text}
 
 -- the text of a record that was read, or that there is none
@@ -20,12 +21,12 @@ line_at place body = decimal place ++ 32 ∷ body_text body ++ 10 ∷ []
 -- A record has its body, a length of four bytes and a digest of 32, and the next one stands behind it.
 abbrev pub behind : ℕ → List (List ℕ) → ℕ
 behind place [] = place
-behind place (body ∷ bodies) = behind (place + (36 + length body)) bodies
+behind place (body ∷ bodies) = behind (place + (AROUND_BODY + length body)) bodies
 
 -- a line for each record, the first one's at this place
 abbrev pub lines_from : ℕ → List (List ℕ) → List ℕ
 lines_from place [] = []
-lines_from place (body ∷ bodies) = line_at place body ++ lines_from (place + (36 + length body)) bodies
+lines_from place (body ∷ bodies) = line_at place body ++ lines_from (place + (AROUND_BODY + length body)) bodies
 
 -- where the next record would begin
 abbrev pub end_line : ℕ → List ℕ
@@ -33,7 +34,7 @@ end_line place = codes "end " ++ decimal place ++ 10 ∷ []
 
 -- the place of the first record, behind the eight bytes that every log begins with
 abbrev pub first_place : ℕ
-first_place = 8
+first_place = FIRST_PLACE
 
 -- the lines of a log that has these bodies
 abbrev pub scan_text : List (List ℕ) → List ℕ

@@ -4,13 +4,14 @@ use Rattle.std.specs.Io.KnownBytes.{Appends}
 use Rattle.xa_output.specs.Output.{IsPart}
 use Rattle.xa_log.specs.Chain.{logged}
 use Rattle.xa_log.specs.Reading.{Explains, fault_of}
+use Rattle.xa_scan.specs.declared.scan.TheConstants.{MOST_BYTES}
 use Rattle.xa_scan.specs.declared.fault.ScanFault.{ScanFault}
 use Rattle.xa_scan.specs.declared.fault.ScanFault.TheVariants.{Memory, Write, Log}
 use Rattle.xa_scan.specs.Lines.{lines_from, scan_text, first_place}
 
 -- the most bytes that a log has
 abbrev pub most_bytes : ℕ
-most_bytes = 1_073_741_824
+most_bytes = MOST_BYTES
 
 -- the first bytes of a text, perhaps all
 abbrev pub IsFront : List ℕ → List ℕ → Type 0

@@ -7,7 +7,7 @@ use arrayvec::ArrayVec;
 use std::alloc::{AllocError, Global};
 use xa_codes::Direction;
 use xa_record::{Record, Writes};
-use xa_xid::Xid;
+use xa_xid::{MOST_TEXT, Xid};
 
 /// Adds the text of a record: its kind, and what it speaks of.
 pub fn push_record(alloc: Global, line: &mut Vec<u8>, said: &Record) -> Result<(), AllocError>
@@ -119,7 +119,7 @@ fn direction_name(direction: Direction) -> &'static str
 fn push_xid(line: &mut Vec<u8>, xid: &Xid) -> Result<(), AllocError>
     ensures { OnOk result (line.new.items ≡ line.old.items ++ text_of xid.now) }
 {
-    let mut text: ArrayVec<u8, 269> = ArrayVec::new();
+    let mut text: ArrayVec<u8, MOST_TEXT> = ArrayVec::new();
     xid.put_text(&mut text);
     line.extend_from_slice(text.as_slice())
 }

@@ -4,6 +4,7 @@ ghost use Rattle.std.specs.Prelude.{◌≡◌, ◌≤◌, ◌<◌, ◌+◌, ◌^
 ghost use Rattle.xa_log.specs.Reading.{bodies_of};
 ghost use Rattle.xa_scan.specs.Faults.{ended};
 ghost use Rattle.xa_scan.specs.Lines.{behind, end_line, first_place, line_at};
+ghost use Rattle.xa_scan.specs.declared.scan.TheConstants.{AROUND_BODY};
 ghost use Rattle.xa_scan.specs.Scans.{PrintsLine, PrintsLines, Scans, most_bytes};
 
 use crate::fault::ScanFault;
@@ -69,8 +70,8 @@ fn end_of(bodies: &[Vec<u8>]) -> Result<u64, OpenFault>
 
 /// Where a record ends that begins at this place and whose body has this length.
 fn next_place(place: u64, length: usize) -> Option<u64>
-    ensures value { IfSome result (λ next. next ≡ place + (36 + length)) }
-    ensures none { result ≡ None → 2 ^ 64 ≤ place + (36 + length) }
+    ensures value { IfSome result (λ next. next ≡ place + (AROUND_BODY + length)) }
+    ensures none { result ≡ None → 2 ^ 64 ≤ place + (AROUND_BODY + length) }
 {
     place.checked_add(AROUND_BODY)?.checked_add(length as u64)
 }
