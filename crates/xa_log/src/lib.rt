@@ -34,8 +34,8 @@ pub use checkpointing::end_of;
 pub use fault::OpenFault;
 pub use format::Format;
 pub use laws::{
-    memory_without_chance, memory_without_chance_beside, pair_is_current, pair_is_current_or_new,
-    plain_by_body, stray_is_possible,
+    memory_without_chance, memory_without_chance_beside, opened_is_pair, pair_is_current,
+    pair_is_current_or_new, plain_by_body, stray_is_possible,
 };
 pub use log::Log;
 pub use opened::Opened;

@@ -31,7 +31,7 @@ abbrev pub ServesAll : {L : Type 0} → (ℕ → Type 0) → Report L → List (
 ServesAll gone a [] b = a ≡ b
 ServesAll gone a (m ∷ ms) b = ServesAll gone a ms m × Serves gone m b
 
--- a worker's report: it began with a share and nothing else, and all that it tells of its connections were
+-- a worker's report: it began with a share and nothing else, and connections made it what it is
 pub record Works {L : Type 0} (gone : ℕ → Type 0) (share : Held) (r : Report L) : Type 0 where
   pub begun : Report L
   pub share_is : begun.share ≡ share
