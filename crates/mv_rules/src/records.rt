@@ -57,7 +57,8 @@ impl Records {
         ensures stands { (h : History) → StandsFor h self.old → place_of key.now self.old ≡ None → StandsFor h self.new }
         ensures made { OnOk result ((h : History) → StandsFor h self.old → place_of key.now self.old ≡ None → (q : List ℕ)
             → kept_of q self.new ≡ (if bytes_eq q key.now then Some fresh else kept_of q self.old)) }
-        ensures same { OnErr result ((h : History) → StandsFor h self.old → place_of key.now self.old ≡ None → KeepsAll self.old self.new) }
+        ensures same { OnErr result ((h : History) → StandsFor h self.old → place_of key.now self.old ≡ None
+            → KeepsAll self.old self.new) }
         ensures within { KeepsWithin self.old self.new }
     {
         let copy = key.to_vec(self.alloc)?;
@@ -101,7 +102,8 @@ impl Records {
     fn get_at(&mut self, i: usize, ts: u64, key: &[u8]) -> Got
         ensures answer { (h : History) → StandsFor h self.old → place_of key.now self.old ≡ Some i → h.low ≤ ts → result ≢ Got.Memory → result ≡ answer_of ts (seen key.now ts h.writes) }
         ensures stands { (h : History) → StandsFor h self.old → place_of key.now self.old ≡ Some i → h.low ≤ ts → StandsFor (record h { reads = reads_after result ts key.now (seen key.now ts h.writes).from h.reads }) self.new }
-        ensures same { has_read result ≡ false → (h : History) → StandsFor h self.old → place_of key.now self.old ≡ Some i → KeepsAll self.old self.new }
+        ensures same { has_read result ≡ false → (h : History) → StandsFor h self.old → place_of key.now self.old ≡ Some i
+            → KeepsAll self.old self.new }
         ensures short { (n : ℕ) → IsWithin n self.old → IsShortAnswer n result }
         ensures within { KeepsWithin self.old self.new }
     {
@@ -116,7 +118,8 @@ impl Records {
     pub fn get(&mut self, ts: u64, key: &[u8]) -> Got
         ensures answer { (h : History) → StandsFor h self.old → h.low ≤ ts → result ≢ Got.Memory → result ≡ answer_of ts (seen key.now ts h.writes) }
         ensures stands { (h : History) → StandsFor h self.old → h.low ≤ ts → StandsFor (record h { reads = reads_after result ts key.now (seen key.now ts h.writes).from h.reads }) self.new }
-        ensures same { has_read result ≡ false → (h : History) → StandsFor h self.old → h.low ≤ ts → KeepsAll self.old self.new }
+        ensures same { has_read result ≡ false → (h : History) → StandsFor h self.old → h.low ≤ ts
+            → KeepsAll self.old self.new }
         ensures short { (n : ℕ) → IsWithin n self.old → IsShortAnswer n result }
         ensures within { KeepsWithin self.old self.new }
     {
@@ -139,7 +142,8 @@ impl Records {
     fn put_at(&mut self, i: usize, ts: u64, key: &[u8], value: Option<Vec<u8>>) -> Put
         ensures answer { (h : History) → StandsFor h self.old → place_of key.now self.old ≡ Some i → IsUnsettled ts h.low h.writes → result ≢ Put.Memory → result ≡ put_of (has_open key.now ts h.writes) (open_keys ts h.writes) (is_late key.now ts h.reads) }
         ensures stands { (h : History) → StandsFor h self.old → place_of key.now self.old ≡ Some i → IsUnsettled ts h.low h.writes → StandsFor (after_put result ts key.now (option_map (λ v. v.items) value) h) self.new }
-        ensures same { result ≢ Put.Done → (h : History) → StandsFor h self.old → place_of key.now self.old ≡ Some i → KeepsAll self.old self.new }
+        ensures same { result ≢ Put.Done → (h : History) → StandsFor h self.old → place_of key.now self.old ≡ Some i
+            → KeepsAll self.old self.new }
         ensures within { (n : ℕ) → IsWithin n self.old → IsShort n (option_map (λ v. v.items) value) → IsWithin n self.new }
     {
         let count = count(&self.notes, ts);
@@ -182,7 +186,8 @@ impl Records {
     pub fn put(&mut self, ts: u64, key: &[u8], value: Option<Vec<u8>>) -> Put
         ensures answer { (h : History) → StandsFor h self.old → IsUnsettled ts h.low h.writes → result ≢ Put.Memory → result ≡ put_of (has_open key.now ts h.writes) (open_keys ts h.writes) (is_late key.now ts h.reads) }
         ensures stands { (h : History) → StandsFor h self.old → IsUnsettled ts h.low h.writes → StandsFor (after_put result ts key.now (option_map (λ v. v.items) value) h) self.new }
-        ensures same { result ≢ Put.Done → (h : History) → StandsFor h self.old → IsUnsettled ts h.low h.writes → KeepsAll self.old self.new }
+        ensures same { result ≢ Put.Done → (h : History) → StandsFor h self.old → IsUnsettled ts h.low h.writes
+            → KeepsAll self.old self.new }
         ensures within { (n : ℕ) → IsWithin n self.old → IsShort n (option_map (λ v. v.items) value) → IsWithin n self.new }
     {
         if let Some(i) = self.places.get(key) {
