@@ -1,4 +1,4 @@
-use Rattle.std.proofs.Common.{◌≡◌, ◌+◌, None, length, refl, ap, sym, ◌∙◌, subst}
+use Rattle.std.proofs.Common.{◌≡◌, ◌≤◌, ◌+◌, None, length, refl, ap, sym, ◌∙◌, subst, arith}
 use Rattle.xa_codes.specs.declared.codes.TheConstants.{XAER_RMERR}
 use Rattle.xa_record.specs.Spelling.{spelled}
 use Rattle.xa_record.specs.declared.record.Record.TheVariants as logged
@@ -32,6 +32,7 @@ returns-clause-turn g c =
     let passes : None ≡ forget_refusal (known_as s xid) = c.in-Ok.ensures.refusal s st in
     let done = forgets_completed s xid passes in
     let r = logged.Forgotten xid in
-    small_appends (kept m) (kept m') s (forget_turn s xid) r XAER_RMERR body a st (passed_turn (forget_refusal (known_as s xid)) s (logs s r XAER_RMERR s) passes) (ap spelled (sym c.in-Ok.ensures.logs)) (forgotten_fits s xid (length (spelled r)) st.up whole.roomy done (forgotten xid c.requires.name))
+    let small : length (spelled r) ≤ 135 = omega (arith, forgotten xid c.requires.name) in
+    small_appends (kept m) (kept m') s (forget_turn s xid) r XAER_RMERR body a st (passed_turn (forget_refusal (known_as s xid)) s (logs s r XAER_RMERR s) passes) (ap spelled (sym c.in-Ok.ensures.logs)) (forgotten_fits s xid (length (spelled r)) st.up whole.roomy done small)
     (λ e recoverable. c.take_forgotten.ensures.kept e s (s.end + size_of r) (subst (λ (k : Tables). StandsFor (kept_of k) s) (sym same) st) done recoverable)
     (λ e. ap kept_of (c.take_forgotten.ensures.left e ∙ same))))
