@@ -5,6 +5,7 @@ use xa_codes::{
     Bytes, Call, Code, TMASYNC, TMJOIN, TMMIGRATE, TMNOFLAGS, TMRESUME, TMSUCCESS, TMSUSPEND,
     XA_OK, XAER_OUTSIDE, code_name, legal_flags, worked_flags,
 };
+use xa_rows::first_wrong;
 
 const NAMES: [(Code, &str); 7] = [
     (XA_OK, "XA_OK"),
@@ -21,12 +22,7 @@ fn is_named(code: Code, name: &str) -> bool {
 }
 
 fn wrong_name(rows: &[(Code, &str)]) -> Option<usize> {
-    for (place, (code, name)) in rows.iter().enumerate() {
-        if !is_named(*code, name) {
-            return Some(place);
-        }
-    }
-    None
+    first_wrong(rows, |(code, name)| is_named(*code, name))
 }
 
 #[test]
@@ -48,12 +44,10 @@ fn is_legal(call: Call, flags: u32) -> bool {
 }
 
 fn wrong_flags(rows: &[(Call, u32, bool)]) -> Option<usize> {
-    for (place, (call, flags, legal)) in rows.iter().enumerate() {
-        if is_legal(*call, *flags) != *legal {
-            return Some(place);
-        }
-    }
-    None
+    first_wrong(
+        rows,
+        |(call, flags, legal)| is_legal(*call, *flags) == *legal,
+    )
 }
 
 #[test]

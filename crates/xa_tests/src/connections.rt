@@ -108,6 +108,7 @@ fn wrong_read(alloc: Global, talk: &Talk, fails: bool) -> Option<usize> {
 #[test]
 fn broken_readers(rt: HostRuntime) {
     let talk = gets(rt.alloc(), 2).expect(&rt, "a talk");
+    assert!(rt; talk.input.len() == 2 * GET);
     none_wrong(&rt, wrong_read(rt.alloc(), &talk, false));
     none_wrong(&rt, wrong_read(rt.alloc(), &talk, true));
 }
@@ -140,6 +141,7 @@ fn wrong_write(alloc: Global, talk: &Talk, fails: bool) -> Option<usize> {
 #[test]
 fn broken_writers(rt: HostRuntime) {
     let talk = gets(rt.alloc(), 2).expect(&rt, "a talk");
+    assert!(rt; talk.output.len() == 2 * NUMBERED);
     none_wrong(&rt, wrong_write(rt.alloc(), &talk, false));
     none_wrong(&rt, wrong_write(rt.alloc(), &talk, true));
 }

@@ -5,6 +5,7 @@ use xa_frame::{
     Body, FrameFault, Reply, Request, decode_reply, decode_request, encode_reply, encode_request,
     worked_contents,
 };
+use xa_rows::first_wrong;
 use xa_xid::Xid;
 
 const START: [u8; 14] = [1, 3, 0, 0, 0, 0, 0, 0, 0, 1, 1, 1, 0xaa, 0xbb];
@@ -222,12 +223,7 @@ fn are_cuts(alloc: Global, content: &[u8], cuts: &[u8]) -> bool {
 }
 
 fn wrong_prefix(alloc: Global, rows: &[Content]) -> Option<usize> {
-    for (place, (content, cuts, _)) in rows.iter().enumerate() {
-        if !are_cuts(alloc, content, cuts) {
-            return Some(place);
-        }
-    }
-    None
+    first_wrong(rows, |(content, cuts, _)| are_cuts(alloc, content, cuts))
 }
 
 #[test]
@@ -279,12 +275,7 @@ fn are_kinds(alloc: Global, content: &[u8], kinds: &[u8]) -> bool {
 }
 
 fn wrong_change(alloc: Global, rows: &[Content]) -> Option<usize> {
-    for (place, (content, _, kinds)) in rows.iter().enumerate() {
-        if !are_kinds(alloc, content, kinds) {
-            return Some(place);
-        }
-    }
-    None
+    first_wrong(rows, |(content, _, kinds)| are_kinds(alloc, content, kinds))
 }
 
 #[test]

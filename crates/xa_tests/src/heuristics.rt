@@ -5,6 +5,7 @@ use xa_branch::State;
 use xa_codes::{Call, Code, Direction, XA_HEURCOM, XA_HEURRB, XA_RBOTHER, XAER_PROTO};
 use xa_heur::{answer_completed, decide, forget};
 use xa_record::{Record, write_small};
+use xa_rows::first_wrong;
 use xa_xid::Xid;
 
 // What calls are answered of branches in each state, where the operator's decision answers them.
@@ -25,12 +26,10 @@ fn is_answered(state: State, call: Call, code: Option<Code>) -> bool {
 }
 
 fn wrong_answer(rows: &[(State, Call, Option<Code>)]) -> Option<usize> {
-    for (place, (state, call, code)) in rows.iter().enumerate() {
-        if !is_answered(*state, *call, *code) {
-            return Some(place);
-        }
-    }
-    None
+    first_wrong(
+        rows,
+        |(state, call, code)| is_answered(*state, *call, *code),
+    )
 }
 
 #[test]

@@ -1,6 +1,7 @@
 use std::alloc::Global;
 use std::cell::RefCell;
 use std::io::{self, ErrorKind, Write};
+use xa_rows::first_wrong;
 use xa_talk::{Connection, Dial, TalkFault, talk_run};
 
 /// Keeps what is sent over a connection.
@@ -137,12 +138,7 @@ fn is_row(alloc: Global, row: &Row) -> bool {
 }
 
 fn wrong_row(alloc: Global, rows: &[Row]) -> Option<usize> {
-    for (place, row) in rows.iter().enumerate() {
-        if !is_row(alloc, row) {
-            return Some(place);
-        }
-    }
-    None
+    first_wrong(rows, |row| is_row(alloc, row))
 }
 
 #[test]

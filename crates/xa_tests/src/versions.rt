@@ -344,7 +344,7 @@ fn written_over(rt: HostRuntime) {
 // How many versions are left where one branch after another reads a key of its own that nobody wrote.
 fn read_in_turn(alloc: Global) -> Option<u64> {
     let mut records = Records::new(alloc);
-    for count in 0..10_000u32 {
+    for count in 0..100_000u32 {
         let ts = FIRST + u64::from(count);
         if got(&mut records, ts, &count.to_be_bytes()) != Told::Absent {
             return None;

@@ -1,0 +1,143 @@
+use crate::folders::path_of;
+use crate::log_pairs::{
+    MOST, NEW, OLD, appends, are, bytes_on, checkpoint_of, checkpoints, crashed, file_of,
+    keeps_all, log_of,
+};
+use crate::logs::{are_numbered, contains, filled};
+use crate::rows::none_wrong;
+use std::alloc::Global;
+use std::fs;
+use xa_disk::{FileDisk, MemDisk};
+use xa_log::{Appended, Log, read_log};
+use xa_rows::first_wrong;
+
+// The records of a checkpoint of the second boot and a branch that it holds, as docs/LOG.md has them, the digests by
+// sha256sum.
+const SECOND: [u8; 114] = [
+    0x58, 0x41, 0x52, 0x4d, 0x4c, 0x4f, 0x47, 0x31, 0, 0, 0, 5, 1, 0, 0, 0, 2, //
+    0x3c, 0xfc, 0xc4, 0x59, 0xca, 0x50, 0x01, 0xdc, 0x48, 0x1f, 0x58, 0xca, 0x58, 0x52, 0xec, 0x87,
+    0x84, 0x69, 0x5b, 0x0d, 0xa8, 0x94, 0x65, 0x07, 0x75, 0xd6, 0x63, 0x9f, 0x8f, 0xf3, 0xbb, 0x18,
+    0, 0, 0, 0x19, 8, 0, 0, 0, 1, 1, 1, 0xaa, 0xbb, 0, 0, 0, 1, 0, 0, 0, 1, 0, 1, 1, 0x6b, 1, 0, 1,
+    0x76, //
+    0x78, 0xd5, 0xb8, 0xc7, 0xaa, 0x50, 0x24, 0xf9, 0x72, 0x0e, 0x32, 0x9e, 0x3e, 0x11, 0x36, 0x59,
+    0x52, 0xcd, 0xee, 0x0c, 0xd3, 0x43, 0x6b, 0xbf, 0x5a, 0x43, 0xed, 0xb8, 0xe4, 0x29, 0xf2, 0xe7,
+    0, 0, 0, 0,
+];
+
+// What a checkpoint leaves of both disks behind a crash.
+fn two_files(alloc: Global) -> Option<(MemDisk, MemDisk)> {
+    let mut log = log_of(alloc, &OLD)?;
+    if checkpoint_of(alloc, &mut log, &NEW)? != Appended::Kept {
+        return None;
+    }
+    crashed(log)
+}
+
+fn two_byte_strings(alloc: Global) -> Option<(Vec<u8>, Vec<u8>)> {
+    let (mut first, mut second) = two_files(alloc)?;
+    Some((bytes_on(alloc, &mut first)?, bytes_on(alloc, &mut second)?))
+}
+
+// Each file's own bodies, current or not.
+fn two_logs(alloc: Global) -> Option<(Vec<Vec<u8>>, Vec<Vec<u8>>)> {
+    let (mut first, mut second) = two_files(alloc)?;
+    let old = read_log(alloc, &mut first, MOST).ok()?;
+    Some((old, read_log(alloc, &mut second, MOST).ok()?))
+}
+
+#[test]
+fn a_checkpoint_in_bytes(rt: HostRuntime) {
+    let (first, second) = two_byte_strings(rt.alloc()).expect(&rt, "two files");
+    let old = file_of(rt.alloc(), &OLD).expect(&rt, "a file");
+    assert!(rt; first.as_slice() == old.as_slice());
+    assert!(rt; second.as_slice() == SECOND.as_slice());
+    let (first, second) = two_logs(rt.alloc()).expect(&rt, "two logs");
+    assert!(rt; are(&first, &OLD) && are(&second, &NEW));
+}
+
+fn two_disks(rt: &HostRuntime, path: &str, other: &str) -> Option<(FileDisk, FileDisk)> {
+    Some((FileDisk::at(rt, path).ok()?, FileDisk::at(rt, other).ok()?))
+}
+
+// The files are the log's alone until it is dropped.
+fn is_kept_in(rt: &HostRuntime, path: &str, other: &str) -> Option<bool> {
+    let (first, second) = two_disks(rt, path, other)?;
+    let mut log = Log::create(rt.alloc(), first, second, MOST).ok()?;
+    let appended = keeps_all(&mut log, &OLD);
+    let came = checkpoint_of(rt.alloc(), &mut log, &NEW)?;
+    let kept = came == Appended::Kept && !log.on_first();
+    Some(appended && kept && FileDisk::at(rt, path).is_err() && FileDisk::at(rt, other).is_err())
+}
+
+// Opened again, with a checkpoint of the third boot to the first file.
+const THIRD: [&[u8]; 1] = [&[1, 0, 0, 0, 3]];
+
+fn is_kept_again_in(rt: &HostRuntime, path: &str, other: &str) -> Option<bool> {
+    let (first, second) = two_disks(rt, path, other)?;
+    let (mut log, bodies) = Log::open(rt.alloc(), first, second, MOST).ok()?;
+    let right = are(&bodies, &NEW) && !log.on_first();
+    let came = checkpoint_of(rt.alloc(), &mut log, &THIRD)?;
+    Some(right && came == Appended::Kept && log.on_first())
+}
+
+fn is_opened_in(rt: &HostRuntime, path: &str, other: &str) -> Option<bool> {
+    let (first, second) = two_disks(rt, path, other)?;
+    let (log, bodies) = Log::open(rt.alloc(), first, second, MOST).ok()?;
+    Some(are(&bodies, &THIRD) && log.on_first())
+}
+
+#[test]
+fn a_checkpoint_in_two_files(rt: HostRuntime) {
+    let first = path_of(&rt, "xa_log-first").expect(&rt, "a path");
+    let second = path_of(&rt, "xa_log-second").expect(&rt, "a path");
+    let (path, other) = (first.as_str(), second.as_str());
+    assert!(rt; is_kept_in(&rt, path, other) == Some(true));
+    let old = file_of(rt.alloc(), &OLD).expect(&rt, "a file");
+    assert!(rt; contains(&rt, path, &old));
+    assert!(rt; contains(&rt, other, &SECOND));
+    assert!(rt; is_kept_again_in(&rt, path, other) == Some(true));
+    assert!(rt; contains(&rt, other, &SECOND));
+    assert!(rt; is_opened_in(&rt, path, other) == Some(true));
+    assert!(rt; fs::remove_file(&rt, path).is_ok());
+    assert!(rt; fs::remove_file(&rt, other).is_ok());
+}
+
+fn many(alloc: Global, records: usize, size: usize) -> Option<Vec<Vec<u8>>> {
+    let mut bodies = Vec::new(alloc);
+    for place in 0..records {
+        bodies.push(filled(alloc, place, size)?).ok()?;
+    }
+    Some(bodies)
+}
+
+// Whether a checkpoint of so many bodies, each filled with its number, is read after a crash as it was written. Beside a
+// log of no record it is taken whatever its first bytes are.
+fn is_checkpointed(alloc: Global, records: usize, size: usize) -> Option<bool> {
+    let mut log = log_of(alloc, &[])?;
+    let came = checkpoints(&mut log, &many(alloc, records, size)?)?;
+    let (first, second) = crashed(log)?;
+    let (log, bodies) = Log::open(alloc, first, second, MOST).ok()?;
+    let right = bodies.len() == records && are_numbered(&bodies, size);
+    Some(came == Appended::Kept && right && !log.on_first())
+}
+
+fn wrong_size(alloc: Global, rows: &[(usize, usize)]) -> Option<usize> {
+    first_wrong(
+        rows,
+        |(records, size)| is_checkpointed(alloc, *records, *size) == Some(true),
+    )
+}
+
+// Up to the largest body, and past the window of 1 MiB.
+#[test]
+fn checkpoints_of_many_sizes(rt: HostRuntime) {
+    let rows = [
+        (1, 1),
+        (2, 1),
+        (12, 100_000),
+        (2_000, 5),
+        (1, 524_288),
+        (3, 524_288),
+    ];
+    none_wrong(&rt, wrong_size(rt.alloc(), &rows));
+}

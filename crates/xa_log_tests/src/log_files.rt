@@ -1,0 +1,276 @@
+ghost use Rattle.xa_frame.specs.Limits.{IsRequest};
+
+use crate::log_pairs::{
+    AGAIN, DECIDED, HELD, MOST, OPENED, PREPARED, are, bytes_on, disk_of, file_of,
+};
+use crate::rows::none_wrong;
+use std::alloc::Global;
+use xa_codes::{Bytes, XA_OK};
+use xa_disk::MemDisk;
+use xa_frame::{Request, encode_request};
+use xa_log::{Log, OpenFault, read_log};
+use xa_manager::{Manager, ManagerFault, Settings};
+use xa_rows::first_wrong;
+use xa_script::{Line, read_line};
+
+fn open(
+    alloc: Global,
+    first: MemDisk,
+    second: MemDisk,
+    log_bytes: u64,
+) -> Result<Manager<MemDisk>, ManagerFault> {
+    let Ok(name) = Bytes::from_slice(alloc, b"xarm") else {
+        return Err(ManagerFault::Memory);
+    };
+    Manager::open(alloc, first, second, Settings { name, log_bytes })
+}
+
+// Whether a request is answered with XA_OK. That its numbers are within their types' limits is known once it is encoded.
+fn is_ok(alloc: Global, manager: &mut Manager<MemDisk>, session: u64, request: Request) -> bool
+    requires { IsRequest request }
+{
+    match encode_request(alloc, &request) {
+        Ok(_content) => manager.call(session, request).code == XA_OK,
+        Err(_) => false,
+    }
+}
+
+// Whether what a line asks is answered with XA_OK.
+fn is_done(alloc: Global, manager: &mut Manager<MemDisk>, line: &str) -> bool {
+    let Ok(said) = read_line(alloc, line.as_bytes()) else {
+        return false;
+    };
+    match said {
+        Line::Connect => manager.connect().is_ok(),
+        Line::Call(session, request) => is_ok(alloc, manager, session, request),
+        _ => false,
+    }
+}
+
+fn are_done(alloc: Global, manager: &mut Manager<MemDisk>, lines: &[&str]) -> bool {
+    for line in lines {
+        if !is_done(alloc, manager, line) {
+            return false;
+        }
+    }
+    true
+}
+
+// A branch is prepared in the first boot.
+const BEGUN: [&str; 6] = [
+    "connect",
+    "1 open TMNOFLAGS xarm",
+    "1 start TMNOFLAGS 1:aa:bb",
+    "1 put 6b 76",
+    "1 end TMSUCCESS 1:aa:bb",
+    "1 prepare TMNOFLAGS 1:aa:bb",
+];
+
+/// The two disks once these lines were done behind those that prepare a branch, and a crash.
+pub fn disks_behind(alloc: Global, lines: &[&str]) -> Option<(MemDisk, MemDisk)> {
+    let mut manager = open(alloc, MemDisk::new(alloc), MemDisk::new(alloc), MOST).ok()?;
+    if !are_done(alloc, &mut manager, &BEGUN) || !are_done(alloc, &mut manager, lines) {
+        return None;
+    }
+    let (mut first, mut second) = manager.into_disks();
+    first.crash().ok()?;
+    second.crash().ok()?;
+    Some((first, second))
+}
+
+// The third boot's record, what the branch wrote once it is committed, and that the operator committed it, or rolled it back.
+const THIRD: [u8; 5] = [1, 0, 0, 0, 3];
+
+const BASE: [u8; 17] = [7, 0, 0, 0, 1, 0, 0, 0, 1, 0, 1, 1, 0x6b, 1, 0, 1, 0x76];
+
+const KNOWN: [u8; 10] = [9, 0, 0, 0, 1, 1, 1, 0xaa, 0xbb, 1];
+
+const KNOWN_BACK: [u8; 10] = [9, 0, 0, 0, 1, 1, 1, 0xaa, 0xbb, 2];
+
+// The branch is completed, in either direction, and what the operator decided is forgotten.
+const COMPLETED: [u8; 10] = [4, 0, 0, 0, 1, 1, 1, 0xaa, 0xbb, 1];
+
+const COMPLETED_BACK: [u8; 10] = [4, 0, 0, 0, 1, 1, 1, 0xaa, 0xbb, 2];
+
+const FORGOTTEN: [u8; 9] = [6, 0, 0, 0, 1, 1, 1, 0xaa, 0xbb];
+
+// 1:cc: of timestamp 4294967298 deletes 6b, in one phase.
+const AT_ONCE: [u8; 21] = [
+    3, 0, 0, 0, 1, 1, 0, 0xcc, 0, 0, 0, 1, 0, 0, 0, 2, 0, 1, 1, 0x6b, 0,
+];
+
+/// What is done behind the prepare, whether the first file is current then, its records, and where they end.
+type Row = (&'static [&'static str], bool, &'static [&'static [u8]], u64);
+
+const ROWS: [Row; 11] = [
+    (&[], true, &[&OPENED, &PREPARED], 110),
+    (&["1 restart"], false, &[&AGAIN, &HELD], 110),
+    (
+        &["1 restart", "1 commit TMNOFLAGS 1:aa:bb"],
+        false,
+        &[&AGAIN, &HELD, &COMPLETED],
+        156,
+    ),
+    (
+        &["1 restart", "1 commit TMNOFLAGS 1:aa:bb", "1 restart"],
+        true,
+        &[&THIRD, &BASE],
+        102,
+    ),
+    (
+        &["1 decide commit 1:aa:bb"],
+        true,
+        &[&OPENED, &PREPARED, &DECIDED],
+        156,
+    ),
+    (
+        &["1 decide commit 1:aa:bb", "1 restart"],
+        false,
+        &[&AGAIN, &BASE, &KNOWN],
+        148,
+    ),
+    (
+        &["1 decide rollback 1:aa:bb", "1 restart"],
+        false,
+        &[&AGAIN, &KNOWN_BACK],
+        95,
+    ),
+    (
+        &["1 decide commit 1:aa:bb", "1 forget TMNOFLAGS 1:aa:bb"],
+        true,
+        &[&OPENED, &PREPARED, &DECIDED, &FORGOTTEN],
+        201,
+    ),
+    (
+        &["1 rollback TMNOFLAGS 1:aa:bb"],
+        true,
+        &[&OPENED, &PREPARED, &COMPLETED_BACK],
+        156,
+    ),
+    (
+        &["1 rollback TMNOFLAGS 1:aa:bb", "1 restart"],
+        false,
+        &[&AGAIN],
+        49,
+    ),
+    (
+        &[
+            "1 start TMNOFLAGS 1:cc:",
+            "1 delete 6b",
+            "1 end TMSUCCESS 1:cc:",
+            "1 commit TMONEPHASE 1:cc:",
+        ],
+        true,
+        &[&OPENED, &PREPARED, &AT_ONCE],
+        167,
+    ),
+];
+
+// The closing length stands there.
+fn is_closed(alloc: Global, disk: &mut MemDisk, end: u64) -> Option<bool> {
+    let bytes = bytes_on(alloc, disk)?;
+    let closing = bytes.get(end as usize..)?.get(..4)?;
+    Some(closing == [0, 0, 0, 0].as_slice())
+}
+
+fn is_row(alloc: Global, row: &Row) -> Option<bool> {
+    let (lines, on_first, bodies, end) = row;
+    let (first, second) = disks_behind(alloc, lines)?;
+    let (log, found) = Log::open(alloc, first, second, MOST).ok()?;
+    let right = log.on_first() == *on_first && log.end() == *end && are(&found, bodies);
+    let (mut first, mut second) = log.into_disks();
+    let current = if *on_first { &mut first } else { &mut second };
+    Some(right && is_closed(alloc, current, *end)?)
+}
+
+fn wrong_row(alloc: Global, rows: &[Row]) -> Option<usize> {
+    first_wrong(rows, |row| is_row(alloc, row) == Some(true))
+}
+
+#[test]
+fn files_of_the_log(rt: HostRuntime) {
+    none_wrong(&rt, wrong_row(rt.alloc(), &ROWS));
+}
+
+// A restart leaves the file that was current as it was.
+fn keeps_the_old(alloc: Global) -> Option<bool> {
+    let (mut first, mut second) = disks_behind(alloc, &["1 restart"])?;
+    let old = read_log(alloc, &mut first, MOST).ok()?;
+    let new = read_log(alloc, &mut second, MOST).ok()?;
+    Some(are(&old, &[&OPENED, &PREPARED]) && are(&new, &[&AGAIN, &HELD]))
+}
+
+#[test]
+fn a_restart_writes_the_other_file(rt: HostRuntime) {
+    assert!(rt; keeps_the_old(rt.alloc()) == Some(true));
+}
+
+/// The records in the first file, how many bytes a log may have, and why no manager is opened on it and an empty file.
+type Refusal = (&'static [&'static [u8]], u64, Option<ManagerFault>);
+
+const NO_RECORD: [u8; 5] = [10, 0, 0, 0, 1];
+
+const LAST: [u8; 5] = [1, 255, 255, 255, 255];
+
+const NEXT_TO_LAST: [u8; 5] = [1, 255, 255, 255, 254];
+
+const REFUSALS: [Refusal; 11] = [
+    (&[&OPENED, &PREPARED], 457, None),
+    (&[&OPENED, &PREPARED], 456, Some(ManagerFault::LogFull)),
+    (
+        &[&OPENED, &PREPARED],
+        113,
+        Some(ManagerFault::Log(OpenFault::TooLong)),
+    ),
+    (&[&OPENED], 64, None),
+    (&[&OPENED], 63, Some(ManagerFault::Setting)),
+    (&[&OPENED], MOST + 1, Some(ManagerFault::Setting)),
+    (
+        &[&OPENED, &NO_RECORD],
+        MOST,
+        Some(ManagerFault::Malformed(1)),
+    ),
+    (
+        &[&OPENED, &PREPARED, &PREPARED],
+        MOST,
+        Some(ManagerFault::Order(2)),
+    ),
+    (
+        &[&PREPARED, &OPENED, &NO_RECORD],
+        MOST,
+        Some(ManagerFault::Malformed(2)),
+    ),
+    (&[&LAST], MOST, Some(ManagerFault::Boots)),
+    (&[&NEXT_TO_LAST], MOST, None),
+];
+
+fn is_refused_so(alloc: Global, row: &Refusal) -> Option<bool> {
+    let (bodies, log_bytes, fault) = row;
+    let first = disk_of(alloc, &file_of(alloc, bodies)?)?;
+    let refused = open(alloc, first, MemDisk::new(alloc), *log_bytes).err();
+    Some(refused == *fault)
+}
+
+fn wrong_refusal(alloc: Global, rows: &[Refusal]) -> Option<usize> {
+    first_wrong(rows, |row| is_refused_so(alloc, row) == Some(true))
+}
+
+#[test]
+fn openings_of_logs(rt: HostRuntime) {
+    none_wrong(&rt, wrong_refusal(rt.alloc(), &REFUSALS));
+}
+
+// Why no manager is opened on these bytes and an empty file.
+fn fault_of(alloc: Global, bytes: &[u8]) -> Option<ManagerFault> {
+    open(alloc, disk_of(alloc, bytes)?, MemDisk::new(alloc), MOST).err()
+}
+
+#[test]
+fn openings_of_other_files(rt: HostRuntime) {
+    let alloc = rt.alloc();
+    let other = ManagerFault::Log(OpenFault::NotALog);
+    assert!(rt; fault_of(alloc, b"XARMLOGx") == Some(other));
+    let newer = ManagerFault::Log(OpenFault::TooNew);
+    assert!(rt; fault_of(alloc, b"XARMLOG2") == Some(newer));
+    assert!(rt; fault_of(alloc, b"").is_none());
+}

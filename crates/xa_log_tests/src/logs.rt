@@ -1,0 +1,311 @@
+use crate::folders::path_of;
+use crate::log_pairs::{MOST, OLD, OPENED, appends, crashed, disk_of, file_of, keeps_all, log_of};
+use crate::rows::none_wrong;
+use std::alloc::Global;
+use std::fs;
+use xa_disk::{Disk, Effect, FileDisk, MemDisk};
+use xa_log::{Appended, Log, OpenFault, open_on, read_log};
+use xa_rows::first_wrong;
+
+// SHA-256 of SHA-256 of "XARMLOG1", the length 00000005 and OPENED, by sha256sum:
+// (printf XARMLOG1 | sha256sum | cut -c-64 | xxd -r -p; echo 000000050100000001 | xxd -r -p) | sha256sum
+const DIGEST: [u8; 32] = [
+    0x7c, 0x84, 0x58, 0xee, 0x3a, 0x62, 0x10, 0xab, 0x2e, 0x6a, 0x5f, 0x80, 0xe3, 0x81, 0x8f, 0x93,
+    0x00, 0xf2, 0x67, 0x2b, 0x94, 0x6d, 0x2c, 0x74, 0x13, 0x21, 0x17, 0xed, 0xec, 0x1f, 0x91, 0xf2,
+];
+
+// The 114 bytes of a log of both.
+fn two_records(alloc: Global) -> Option<Vec<u8>> {
+    file_of(alloc, &OLD)
+}
+
+// How many bodies a disk of these bytes gives, beside an empty one.
+fn bodies_in(alloc: Global, bytes: &[u8]) -> Result<usize, OpenFault> {
+    let disk = MemDisk::with_bytes(Vec::from_slice(alloc, bytes)?);
+    let (_log, bodies) = Log::open(alloc, disk, MemDisk::new(alloc), MOST)?;
+    Ok(bodies.len())
+}
+
+fn bodies_left(cut: usize) -> usize {
+    if cut < 110 { 1 } else { 2 }
+}
+
+// The first cut behind which another count of bodies is left.
+fn wrong_cut(alloc: Global, bytes: &[u8]) -> Option<usize> {
+    for cut in 49..111 {
+        if bodies_in(alloc, bytes.get(..cut).unwrap_or_default()) != Ok(bodies_left(cut)) {
+            return Some(cut);
+        }
+    }
+    None
+}
+
+#[test]
+fn a_log_ends_where_its_last_record_is_cut(rt: HostRuntime) {
+    let bytes = two_records(rt.alloc()).expect(&rt, "two records");
+    assert_eq!(rt; bytes.len(), 114);
+    assert_eq!(rt; &bytes[17..49], DIGEST.as_slice());
+    none_wrong(&rt, wrong_cut(rt.alloc(), &bytes));
+}
+
+// The bytes of a log of both, to which a third record is appended.
+fn with_third(alloc: Global) -> Option<MemDisk> {
+    let disk = disk_of(alloc, &two_records(alloc)?)?;
+    let (mut log, _bodies) = Log::open(alloc, disk, MemDisk::new(alloc), MOST).ok()?;
+    if keeps_all(&mut log, &[&OPENED]) {
+        Some(log.into_disks().0)
+    } else {
+        None
+    }
+}
+
+fn count_on(alloc: Global, disk: &mut MemDisk) -> Result<usize, OpenFault> {
+    Ok(read_log(alloc, disk, MOST)?.len())
+}
+
+// A third record behind the two, and one byte of the second's digest changed.
+fn counts_unchained(alloc: Global) -> Option<(usize, usize)> {
+    let mut disk = with_third(alloc)?;
+    let before = count_on(alloc, &mut disk).ok()?;
+    disk.write_at(100, [0].as_slice()).ok()?;
+    let after = count_on(alloc, &mut disk).ok()?;
+    Some((before, after))
+}
+
+#[test]
+fn a_log_ends_where_a_digest_does_not_chain(rt: HostRuntime) {
+    assert!(rt; counts_unchained(rt.alloc()) == Some((3, 1)));
+}
+
+fn fault_of(alloc: Global, bytes: &[u8]) -> Option<OpenFault> {
+    bodies_in(alloc, bytes).err()
+}
+
+// A log of both in 113 bytes: too long by the second call, with no read behind it.
+fn is_too_long(alloc: Global, bytes: &[u8]) -> Option<bool> {
+    let mut disk = disk_of(alloc, bytes)?;
+    disk.fail(3, Effect::Lost).ok()?;
+    let fault = read_log(alloc, &mut disk, 113).err();
+    Some(fault == Some(OpenFault::TooLong) && disk.length().is_err())
+}
+
+// The same of the second of two, where the first has no read behind it either.
+fn is_second_too_long(alloc: Global, bytes: &[u8]) -> Option<bool> {
+    let mut first = disk_of(alloc, b"XARMLOG2")?;
+    let mut second = disk_of(alloc, bytes)?;
+    first.fail(3, Effect::Lost).ok()?;
+    second.fail(3, Effect::Lost).ok()?;
+    let fault = open_on(alloc, &mut first, &mut second, 113).err();
+    Some(fault == Some(OpenFault::TooLong) && first.length().is_err() && second.length().is_err())
+}
+
+#[test]
+fn other_bytes_are_refused(rt: HostRuntime) {
+    let alloc = rt.alloc();
+    assert!(rt; fault_of(alloc, b"") == Some(OpenFault::NotALog));
+    assert!(rt; fault_of(alloc, b"XARMLOGx") == Some(OpenFault::NotALog));
+    assert!(rt; fault_of(alloc, b"XARMLOG2") == Some(OpenFault::TooNew));
+    let bytes = two_records(alloc).expect(&rt, "two records");
+    assert!(rt; is_too_long(alloc, &bytes) == Some(true));
+    assert!(rt; is_second_too_long(alloc, &bytes) == Some(true));
+}
+
+// A log of no body, whose next device calls fail so.
+fn with_plans(alloc: Global, plans: &[(u64, Effect)]) -> Result<Log<MemDisk>, OpenFault> {
+    let mut log = Log::create(alloc, MemDisk::new(alloc), MemDisk::new(alloc), MOST)?;
+    for (k, effect) in plans {
+        log.fail(*k, *effect)?;
+    }
+    Ok(log)
+}
+
+fn append(log: &mut Log<MemDisk>) -> Appended {
+    log.append(&OPENED)
+}
+
+// What two appends in a row come to.
+fn two_appends(log: &mut Log<MemDisk>) -> (Appended, Appended) {
+    (append(log), append(log))
+}
+
+fn is_refused_once(alloc: Global) -> Option<bool> {
+    let mut log = with_plans(alloc, &[(1, Effect::Lost)]).ok()?;
+    let came = two_appends(&mut log);
+    Some(came == (Appended::Refused, Appended::Kept) && log.free() == MOST - 53)
+}
+
+fn bodies_again(log: &mut Log<MemDisk>) -> Option<usize> {
+    Some(log.rescan().ok()?.len())
+}
+
+fn is_lost_until_read(alloc: Global) -> Option<bool> {
+    let mut log = with_plans(alloc, &[(1, Effect::Lost), (2, Effect::Lost)]).ok()?;
+    let came = two_appends(&mut log);
+    let bodies = bodies_again(&mut log);
+    Some(
+        came == (Appended::Lost, Appended::Lost)
+            && bodies == Some(0)
+            && append(&mut log) == Appended::Kept,
+    )
+}
+
+fn one_append(alloc: Global, plans: &[(u64, Effect)]) -> Option<(Appended, bool)> {
+    let mut log = with_plans(alloc, plans).ok()?;
+    let came = append(&mut log);
+    let (mut disk, _empty) = log.into_disks();
+    Some((came, disk.length().is_err()))
+}
+
+fn is_lost(alloc: Global) -> bool {
+    match one_append(alloc, &[(2, Effect::Kept), (3, Effect::Kept)]) {
+        Some((came, _)) => came == Appended::Lost,
+        None => false,
+    }
+}
+
+#[test]
+fn device_faults_in_an_append(rt: HostRuntime) {
+    let alloc = rt.alloc();
+    assert!(rt; is_refused_once(alloc) == Some(true));
+    assert!(rt; is_lost_until_read(alloc) == Some(true));
+    assert!(rt; is_lost(alloc));
+    // A write and a sync are all that an append asks for: the third call is another's.
+    assert!(rt; one_append(alloc, &[(3, Effect::Lost)]) == Some((Appended::Kept, true)));
+}
+
+// Where the next record begins once one was appended, and behind a rescan.
+fn two_ends(alloc: Global, plans: &[(u64, Effect)]) -> Option<(u64, u64)> {
+    let mut log = with_plans(alloc, plans).ok()?;
+    append(&mut log);
+    let end = log.end();
+    bodies_again(&mut log)?;
+    Some((end, log.end()))
+}
+
+fn end_of(alloc: Global, bodies: &[&[u8]]) -> Option<u64> {
+    Some(log_of(alloc, bodies)?.end())
+}
+
+#[test]
+fn ends_of_logs(rt: HostRuntime) {
+    let alloc = rt.alloc();
+    assert!(rt; end_of(alloc, &[]) == Some(8));
+    assert!(rt; end_of(alloc, &OLD) == Some(110));
+    assert!(rt; two_ends(alloc, &[]) == Some((49, 49)));
+    assert!(rt; two_ends(alloc, &[(1, Effect::Kept)]) == Some((8, 8)));
+    // The record isn't there, or it is and its repair isn't.
+    assert!(rt; two_ends(alloc, &[(1, Effect::Lost), (2, Effect::Lost)]) == Some((8, 8)));
+    assert!(rt; two_ends(alloc, &[(1, Effect::Kept), (2, Effect::Lost)]) == Some((8, 49)));
+}
+
+// The files are the log's alone until it is dropped.
+fn keeps_both_in(rt: &HostRuntime, path: &str, other: &str) -> Option<bool> {
+    let first = FileDisk::at(rt, path).ok()?;
+    let second = FileDisk::at(rt, other).ok()?;
+    let mut log = Log::create(rt.alloc(), first, second, MOST).ok()?;
+    let kept = keeps_all(&mut log, &OLD);
+    Some(kept && FileDisk::at(rt, path).is_err() && FileDisk::at(rt, other).is_err())
+}
+
+pub fn contains(rt: &HostRuntime, path: &str, bytes: &[u8]) -> bool {
+    match fs::read(rt, path) {
+        Ok(read) => read.as_slice() == bytes,
+        Err(_) => false,
+    }
+}
+
+// So many bodies, of which the first is the boot's record.
+fn are_bodies(bodies: &[Vec<u8>], count: usize) -> bool {
+    match bodies.first() {
+        Some(first) => bodies.len() == count && first.as_slice() == OPENED.as_slice(),
+        None => false,
+    }
+}
+
+fn is_opened(rt: &HostRuntime, path: &str, other: &str, count: usize) -> Option<bool> {
+    let first = FileDisk::at(rt, path).ok()?;
+    let second = FileDisk::at(rt, other).ok()?;
+    let (_log, bodies) = Log::open(rt.alloc(), first, second, MOST).ok()?;
+    Some(are_bodies(&bodies, count))
+}
+
+fn wrong_file(rt: &HostRuntime, path: &str, other: &str, bytes: &[u8]) -> Option<usize> {
+    for cut in 49..111 {
+        let written = fs::write(rt, path, bytes.get(..cut).unwrap_or_default());
+        if written.is_err() || is_opened(rt, path, other, bodies_left(cut)) != Some(true) {
+            return Some(cut);
+        }
+    }
+    None
+}
+
+#[test]
+fn a_log_in_a_file_is_cut(rt: HostRuntime) {
+    let path = path_of(&rt, "xa_log").expect(&rt, "a path");
+    let other = path_of(&rt, "xa_log-empty").expect(&rt, "a path");
+    assert!(rt; keeps_both_in(&rt, path.as_str(), other.as_str()) == Some(true));
+    let bytes = two_records(rt.alloc()).expect(&rt, "two records");
+    assert!(rt; contains(&rt, path.as_str(), &bytes));
+    assert!(rt; contains(&rt, other.as_str(), &[]));
+    none_wrong(&rt, wrong_file(&rt, path.as_str(), other.as_str(), &bytes));
+    assert!(rt; fs::remove_file(&rt, path.as_str()).is_ok());
+    assert!(rt; fs::remove_file(&rt, other.as_str()).is_ok());
+}
+
+/// Each body is of this size, and filled with its number.
+pub fn are_numbered(bodies: &[Vec<u8>], size: usize) -> bool {
+    for (i, body) in bodies.iter().enumerate() {
+        let number = Some((i % 256) as u8);
+        if body.len() != size || body.first().copied() != number || body.last().copied() != number {
+            return false;
+        }
+    }
+    true
+}
+
+/// A body of this size, filled with its number.
+pub fn filled(alloc: Global, place: usize, size: usize) -> Option<Vec<u8>> {
+    vec![in alloc; (place % 256) as u8; size].ok()
+}
+
+fn keeps_filled(alloc: Global, log: &mut Log<MemDisk>, place: usize, size: usize) -> Option<bool> {
+    Some(appends(log, &filled(alloc, place, size)?)? == Appended::Kept)
+}
+
+fn log_of_filled(alloc: Global, records: usize, size: usize) -> Option<Log<MemDisk>> {
+    let mut log = log_of(alloc, &[])?;
+    for place in 0..records {
+        if keeps_filled(alloc, &mut log, place, size) != Some(true) {
+            return None;
+        }
+    }
+    Some(log)
+}
+
+// Whether a log of so many bodies, each filled with its number, is read after a crash as it was written.
+fn is_read_again(alloc: Global, records: usize, size: usize) -> Option<bool> {
+    let (mut disk, _empty) = crashed(log_of_filled(alloc, records, size)?)?;
+    let bodies = read_log(alloc, &mut disk, MOST).ok()?;
+    Some(bodies.len() == records && are_numbered(&bodies, size))
+}
+
+fn wrong_size(alloc: Global, rows: &[(usize, usize)]) -> Option<usize> {
+    first_wrong(
+        rows,
+        |(records, size)| is_read_again(alloc, *records, *size) == Some(true),
+    )
+}
+
+// Up to the largest body, and past the window of 1 MiB.
+#[test]
+fn logs_of_many_sizes(rt: HostRuntime) {
+    let rows = [
+        (0, 1),
+        (1, 1),
+        (12, 100_000),
+        (300, 5),
+        (1, 524_288),
+        (3, 524_288),
+    ];
+    none_wrong(&rt, wrong_size(rt.alloc(), &rows));
+}

@@ -1,0 +1,51 @@
+use crate::plays::ends_as;
+use std::alloc::{AllocError, Global};
+use xa_rows::{Line, Play};
+
+fn push_line(text: &mut String, line: &str) -> Result<(), AllocError> {
+    if line.is_empty() {
+        return Ok(());
+    }
+    text.push_str(line)?;
+    text.push_str("\n")
+}
+
+fn push_part(script: &mut String, want: &mut String, part: &[Line]) -> Result<(), AllocError> {
+    for (line, reply) in part {
+        push_line(script, line)?;
+        push_line(want, reply)?;
+    }
+    Ok(())
+}
+
+/// The script of a play, and what it prints.
+fn texts(alloc: Global, play: &[&[Line]]) -> Result<(String, String), AllocError> {
+    let mut script = String::new(alloc);
+    let mut want = String::new(alloc);
+    for part in play {
+        push_part(&mut script, &mut want, part)?;
+    }
+    Ok((script, want))
+}
+
+fn is_played(alloc: Global, log_bytes: u64, play: &[&[Line]], fault: &str) -> bool {
+    match texts(alloc, play) {
+        Ok((script, want)) => ends_as(alloc, log_bytes, script.as_str(), want.as_str(), fault),
+        Err(_) => false,
+    }
+}
+
+/// The place of the first play, of a log of so many bytes, that doesn't print what stands in it, or doesn't end so.
+pub fn wrong_end(alloc: Global, log_bytes: u64, plays: &[Play], fault: &str) -> Option<usize> {
+    for (place, play) in plays.iter().enumerate() {
+        if !is_played(alloc, log_bytes, play, fault) {
+            return Some(place);
+        }
+    }
+    None
+}
+
+/// The same of plays that are played to their ends, of a log of 2^30 bytes.
+pub fn wrong_play(alloc: Global, plays: &[Play]) -> Option<usize> {
+    wrong_end(alloc, 1 << 30, plays, "")
+}

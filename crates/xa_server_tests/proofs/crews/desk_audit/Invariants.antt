@@ -1,0 +1,10 @@
+use Rattle.xa_manager.specs.Counted.{counted_by}
+use Rattle.xa_play.specs.Disks.{StandsFor}
+use Rattle.xa_server_tests.proofs.crews.desk_audit.Given as goal
+
+-- every state that the manager stands for
+abbrev pub ghosts-audited-S-Start : goal.ghosts-audited-S-Start
+ghosts-audited-S-Start g a = record { start = λ s. StandsFor a.manager s; base = counted_by (λ d. d.failures) a.manager.log }
+
+abbrev pub ghosts-audited-L-Ledger : goal.ghosts-audited-L-Ledger
+ghosts-audited-L-Ledger g a = record { name = a.blank.name; parts = a.blank.parts }

@@ -1,0 +1,309 @@
+ghost use Rattle.std.specs.Prelude.{◌≡◌};
+ghost use Rattle.xa_model.specs.State.{State};
+
+use crate::crews::opened;
+use crate::rows::none_wrong;
+use std::alloc::Global;
+use std::io;
+use std::io::{Read, Write};
+use std::marker::Brand;
+use xa_desk::{Served, serve, serve_upto};
+use xa_disk::MemDisk;
+use xa_manager::Manager;
+use xa_model::Event;
+use xa_room::{Entry, Manages, Room, Start};
+
+// Connections to a room that break.
+
+/// The frame of an open, and of its reply where it is recorded at this place.
+const OPEN: [u8; 15] = [0, 0, 0, 11, 1, 1, 0, 0, 0, 0, 4, 0x78, 0x61, 0x72, 0x6d];
+
+const REPLY: usize = 19;
+
+fn put_reply(replies: &mut Vec<u8>, place: u8) -> Option<()> {
+    replies
+        .extend_from_slice(&[0, 0, 0, 15, 1, 0, 0, 0, 0, 0, 0, 0, 0, 0, 0, 0, 0, place, 0])
+        .ok()
+}
+
+/// Gives its bytes, of which one is in front of a read that fails, once.
+#[derive(Drop)]
+struct Faulty<'a> {
+    bytes: &'a [u8],
+    given: usize,
+    fails_at: usize,
+}
+
+impl Read for Faulty<'_> {
+    fn read(&mut self, buf: &mut [u8]) -> io::Result<usize> {
+        if self.given == self.fails_at {
+            self.fails_at = usize::MAX;
+            return Err(io::Error::other("the reader fails"));
+        }
+        let before = if self.given < self.fails_at {
+            self.fails_at - self.given
+        } else {
+            usize::MAX
+        };
+        let n = before.min(self.bytes.len()).min(buf.len());
+        let (given, rest) = self.bytes.split_at(n);
+        buf[..n].copy_from_slice(given);
+        self.bytes = rest;
+        self.given = self.given.saturating_add(n);
+        Ok(n)
+    }
+}
+
+/// Takes its bytes, and fails in front of one, once.
+#[derive(Drop)]
+struct Full {
+    taken: Vec<u8>,
+    fails_at: usize,
+}
+
+impl Write for Full {
+    fn write(&mut self, buf: &[u8]) -> io::Result<usize> {
+        if self.taken.len() == self.fails_at {
+            self.fails_at = usize::MAX;
+            return Err(io::Error::other("the writer fails"));
+        }
+        let before = self.fails_at.saturating_sub(self.taken.len());
+        let n = before.min(buf.len());
+        self.taken.extend_from_slice(&buf[..n])?;
+        Ok(n)
+    }
+
+    fn flush(&mut self) -> io::Result<()> {
+        Ok(())
+    }
+}
+
+/// How a connection breaks: its input is cut, or a read or a write fails in front of that byte; and how many frames it may
+/// have.
+#[derive(Clone, Copy)]
+struct Break {
+    cut: usize,
+    read: usize,
+    write: usize,
+    most: u32,
+}
+
+/// It doesn't.
+const WHOLE: Break = Break {
+    cut: usize::MAX,
+    read: usize::MAX,
+    write: usize::MAX,
+    most: u32::MAX,
+};
+
+/// What is wanted of it: its end, how many bytes of the replies were written, how many frames were answered, and how many
+/// bytes were not read.
+#[derive(Clone, Copy)]
+struct Wanted {
+    end: Served,
+    written: usize,
+    answered: usize,
+    left: usize,
+}
+
+/// Three opens, and their replies behind the connect.
+const FRAMES: usize = 3;
+
+fn opens(alloc: Global) -> Option<Vec<u8>> {
+    let mut bytes = Vec::new(alloc);
+    for _ in 0..FRAMES {
+        bytes.extend_from_slice(&OPEN).ok()?;
+    }
+    Some(bytes)
+}
+
+fn replies(alloc: Global) -> Option<Vec<u8>> {
+    let mut bytes = Vec::new(alloc);
+    put_reply(&mut bytes, 2)?;
+    put_reply(&mut bytes, 3)?;
+    put_reply(&mut bytes, 4)?;
+    Some(bytes)
+}
+
+fn is_hangup(entry: &Entry) -> bool {
+    matches!(&entry.event, Event::Hangup(1))
+}
+
+/// A connect, so many calls, and one hang-up, the last of all.
+fn are_recorded(entries: &[Entry], calls: usize) -> bool {
+    let hung_up = entries.iter().filter(|entry| is_hangup(entry)).count();
+    let last = entries.last().map_or(false, is_hangup);
+    last && hung_up == 1 && entries.len() - 1 == calls.saturating_add(1)
+}
+
+fn front(bytes: &[u8], length: usize) -> &[u8] {
+    bytes.get(..length).unwrap_or(bytes)
+}
+
+fn is_served<M: Manages, S: Start>(
+    alloc: Global,
+    room: &mut Room<M, S>,
+    how: Break,
+    wanted: Wanted,
+) -> Option<bool> {
+    let (session, _receipt) = room.connect();
+    let session = session.ok()?;
+    let bytes = opens(alloc)?;
+    let replies = replies(alloc)?;
+    let mut reader = Faulty {
+        bytes: front(&bytes, how.cut),
+        given: 0,
+        fails_at: how.read,
+    };
+    let mut writer = Full {
+        taken: Vec::new(alloc),
+        fails_at: how.write,
+    };
+    let end = if how.most == u32::MAX {
+        serve(alloc, room, &mut reader, &mut writer, session)
+    } else {
+        serve_upto(alloc, room, &mut reader, &mut writer, session, how.most)
+    };
+    Some(
+        end == wanted.end
+            && writer.taken.as_slice() == front(&replies, wanted.written)
+            && reader.bytes.len() == wanted.left
+            && are_recorded(room.entries(), wanted.answered),
+    )
+}
+
+fn in_a_room<M: Manages + Drop, S: Start>(
+    alloc: Global,
+    manager: M,
+    how: Break,
+    wanted: Wanted,
+) -> Option<bool>
+    requires start { (s : State) → S.start s → M.stands manager s }
+    requires base { M.failures manager ≡ S.base }
+{
+    let mut room: Room<M, S> = Room::new(alloc, manager).ok()?;
+    is_served(alloc, &mut room, how, wanted)
+}
+
+/// A first connection that breaks so ends so.
+fn is_right(alloc: Global, how: Break, wanted: Wanted) -> bool {
+    match opened(alloc) {
+        Some(manager) => {
+            in_a_room::<Manager<MemDisk>, Brand>(alloc, manager, how, wanted) == Some(true)
+        }
+        None => false,
+    }
+}
+
+/// The input is cut behind so many bytes.
+fn is_right_cut(alloc: Global, n: usize) -> bool {
+    let end = if n % OPEN.len() == 0 {
+        Served::Ended
+    } else {
+        Served::ReadFault
+    };
+    let answered = n / OPEN.len();
+    let how = Break { cut: n, ..WHOLE };
+    let wanted = Wanted {
+        end,
+        written: answered.saturating_mul(REPLY),
+        answered,
+        left: 0,
+    };
+    is_right(alloc, how, wanted)
+}
+
+fn wrong_cut(alloc: Global) -> Option<usize> {
+    for n in 0..=FRAMES * 15 {
+        if !is_right_cut(alloc, n) {
+            return Some(n);
+        }
+    }
+    None
+}
+
+#[test]
+fn inputs_that_are_cut(rt: HostRuntime) {
+    none_wrong(&rt, wrong_cut(rt.alloc()));
+}
+
+/// A read fails once, in front of this byte or of the end.
+fn is_right_read(alloc: Global, n: usize) -> bool {
+    let answered = n / OPEN.len();
+    let how = Break { read: n, ..WHOLE };
+    let wanted = Wanted {
+        end: Served::ReadFault,
+        written: answered.saturating_mul(REPLY),
+        answered,
+        left: (FRAMES * OPEN.len()).saturating_sub(n),
+    };
+    is_right(alloc, how, wanted)
+}
+
+fn wrong_read(alloc: Global) -> Option<usize> {
+    for n in 0..=FRAMES * 15 {
+        if !is_right_read(alloc, n) {
+            return Some(n);
+        }
+    }
+    None
+}
+
+#[test]
+fn reads_that_fail_once(rt: HostRuntime) {
+    none_wrong(&rt, wrong_read(rt.alloc()));
+}
+
+/// A write fails once, in front of this byte.
+fn is_right_write(alloc: Global, n: usize) -> bool {
+    let answered = n / REPLY + 1;
+    let how = Break { write: n, ..WHOLE };
+    let wanted = Wanted {
+        end: Served::WriteFault,
+        written: n,
+        answered,
+        left: FRAMES.saturating_sub(answered) * OPEN.len(),
+    };
+    is_right(alloc, how, wanted)
+}
+
+fn wrong_write(alloc: Global) -> Option<usize> {
+    for n in 0..FRAMES * REPLY {
+        if !is_right_write(alloc, n) {
+            return Some(n);
+        }
+    }
+    None
+}
+
+#[test]
+fn writes_that_fail_once(rt: HostRuntime) {
+    none_wrong(&rt, wrong_write(rt.alloc()));
+}
+
+/// A connection may have so many frames.
+fn is_right_bound(alloc: Global, most: u32) -> bool {
+    let answered = FRAMES.min(most as usize);
+    let end = if most > 3 {
+        Served::Ended
+    } else {
+        Served::ReadFault
+    };
+    let how = Break { most, ..WHOLE };
+    let wanted = Wanted {
+        end,
+        written: answered.saturating_mul(REPLY),
+        answered,
+        left: (FRAMES - answered) * OPEN.len(),
+    };
+    is_right(alloc, how, wanted)
+}
+
+/// Behind the last frame that it may have nothing is read, nor is it seen that the input ended.
+#[test]
+fn a_bound_of_frames(rt: HostRuntime) {
+    assert!(rt; is_right_bound(rt.alloc(), 0));
+    assert!(rt; is_right_bound(rt.alloc(), 2));
+    assert!(rt; is_right_bound(rt.alloc(), 3));
+    assert!(rt; is_right_bound(rt.alloc(), 4));
+}

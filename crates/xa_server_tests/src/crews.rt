@@ -1,0 +1,207 @@
+ghost use Rattle.std.specs.Prelude.{◌≡◌, IfSome};
+ghost use Rattle.xa_frame.specs.Limits.{IsRequest};
+ghost use Rattle.xa_model.specs.State.{State};
+
+use std::alloc::Global;
+use std::marker::Brand;
+use std::sync::Wait;
+use std::sync::ledger::{Blank, Ledger};
+use std::thread::{Threads, map_vec};
+use xa_codes::{Bytes, TMNOFLAGS, TMONEPHASE, TMSUCCESS, XA_OK};
+use xa_desk::Door;
+use xa_disk::MemDisk;
+use xa_frame::{Body, Reply, Request};
+use xa_manager::{Manager, Settings};
+use xa_room::{Desk, Manages, Receipt, Room, Share, Start, audit};
+use xa_workers::{Gate, OpenGate, Report, Seat, split_all};
+use xa_xid::Xid;
+
+/// A manager on two empty disks in memory, with the name `xarm` and a log of so many bytes. None where memory was wanted.
+pub fn opened_over(alloc: Global, log_bytes: u64) -> Option<Manager<MemDisk>> {
+    let name = Bytes::from_slice(alloc, b"xarm").ok()?;
+    let settings = Settings { name, log_bytes };
+    Manager::open(alloc, MemDisk::new(alloc), MemDisk::new(alloc), settings).ok()
+}
+
+/// The same, with the longest log.
+pub fn opened(alloc: Global) -> Option<Manager<MemDisk>> {
+    opened_over(alloc, 1 << 30)
+}
+
+fn open_request(alloc: Global) -> Option<Request>
+    ensures { IfSome result IsRequest }
+{
+    let info = Bytes::from_slice(alloc, b"xarm").ok()?;
+    Some(Request::Open {
+        flags: TMNOFLAGS,
+        info,
+    })
+}
+
+// The calls of one round: a branch writes the key, and when it is committed another reads it back.
+fn round_request(alloc: Global, key: u8, round: u8, place: u8) -> Option<Request>
+    ensures { IfSome result IsRequest }
+{
+    let branch = if place < 5 { 0 } else { 1 };
+    let xid = Xid::new(1, &[key], &[round, branch]).ok()?;
+    Some(match place {
+        0 | 5 => Request::Start {
+            flags: TMNOFLAGS,
+            xid,
+        },
+        1 => Request::Put {
+            key: Bytes::from_slice(alloc, &[key]).ok()?,
+            value: Bytes::from_slice(alloc, &[round]).ok()?,
+        },
+        2 | 7 => Request::End {
+            flags: TMSUCCESS,
+            xid,
+        },
+        3 => Request::Prepare {
+            flags: TMNOFLAGS,
+            xid,
+        },
+        4 => Request::Commit {
+            flags: TMNOFLAGS,
+            xid,
+        },
+        6 => Request::Get {
+            key: Bytes::from_slice(alloc, &[key]).ok()?,
+        },
+        _ => Request::Commit {
+            flags: TMONEPHASE,
+            xid,
+        },
+    })
+}
+
+fn has_value(reply: &Reply, wanted: u8) -> bool {
+    match &reply.body {
+        Body::Value(value) => value.as_slice() == [wanted].as_slice(),
+        _ => false,
+    }
+}
+
+// One round of calls. All answer 0, and the get reads what was committed.
+fn is_right_round<M: Manages, S: Start, L: Ledger, G: Gate, R: Wait>(
+    alloc: Global,
+    seat: &mut Seat<'_, M, S, L, G, R>,
+    session: u64,
+    key: u8,
+    round: u8,
+) -> bool {
+    for place in 0..9u8 {
+        let Some(request) = round_request(alloc, key, round, place) else {
+            return false;
+        };
+        let reply = seat.call(session, request);
+        if reply.code != XA_OK || (place == 6 && !has_value(&reply, round)) {
+            return false;
+        }
+    }
+    true
+}
+
+// A session of five rounds, on a key of its own.
+fn visit<M: Manages, S: Start, L: Ledger, G: Gate, R: Wait>(
+    alloc: Global,
+    seat: &mut Seat<'_, M, S, L, G, R>,
+) -> Option<bool> {
+    let session = seat.connect().ok()?;
+    let key = u8::try_from(session).ok()?;
+    let open = open_request(alloc)?;
+    let mut is_right = seat.call(session, open).code == XA_OK;
+    for round in 0..5u8 {
+        is_right = is_right && is_right_round(alloc, seat, session, key, round);
+    }
+    seat.hangup(session);
+    Some(is_right)
+}
+
+// Whether the places rise, and no receipt is missing.
+fn is_whole<L: Ledger>(report: &Report<L>) -> bool {
+    let mut last = 0;
+    for receipt in &report.receipts {
+        if receipt.place <= last || receipt.reply.place != receipt.place {
+            return false;
+        }
+        last = receipt.place;
+    }
+    report.dropped == 0 && report.receipts.len() == 48
+}
+
+/// What one of the callers did.
+#[derive(Drop)]
+struct Done<L: Ledger> {
+    report: Report<L>,
+    is_right: bool,
+}
+
+fn caller<M: Manages, S: Start, L: Ledger, R: Wait>(
+    rt: &R,
+    alloc: Global,
+    desk: &Desk<M, S, L>,
+    share: Share<L>,
+) -> Done<L> {
+    let mut seat = Seat::new(alloc, rt, desk, &OpenGate, share);
+    let was_right = visit(alloc, &mut seat) == Some(true);
+    let report = seat.into_report();
+    let is_right = was_right && is_whole(&report);
+    Done { report, is_right }
+}
+
+// All receipts and shares, if all callers were right.
+fn gathered<L: Ledger>(
+    alloc: Global,
+    dones: Vec<Done<L>>,
+) -> Option<(Vec<Receipt>, Vec<Share<L>>)> {
+    let mut receipts = Vec::new(alloc);
+    let mut shares = Vec::new(alloc);
+    for done in dones {
+        let Done { report, is_right } = done;
+        let Report {
+            share,
+            receipts: mut more,
+            dropped: _,
+        } = report;
+        if !is_right {
+            return None;
+        }
+        receipts.append(&mut more).ok()?;
+        shares.push(share).ok()?;
+    }
+    Some((receipts, shares))
+}
+
+fn audited<
+    M: Manages + Send + Drop,
+    S: Start + Send + Sync,
+    L: Ledger + Send + Sync,
+    R: Threads + Wait + Sync,
+>(rt: &R, alloc: Global, manager: M, blank: Blank) -> Option<bool>
+    requires start { (s : State) → S.start s → M.stands manager s }
+    requires base { M.failures manager ≡ S.base }
+    requires name { blank.name ≡ L.name }
+    requires parts { (blank.parts ≡ L.parts) × (blank.parts ≡ 8) }
+{
+    let room: Room<M, S> = Room::new(alloc, manager).ok()?;
+    let (desk, share) = Desk::<M, S, L>::new(room, blank);
+    let shares = split_all(alloc, share, 8).ok()?;
+    let dones = map_vec(rt, shares, &|share| caller(rt, alloc, &desk, share)).ok()?;
+    let (receipts, shares) = gathered(alloc, dones)?;
+    let (room, _book) = desk.into_room();
+    let is_sound = audit(alloc, &room, receipts.as_slice(), shares.as_slice()).is_ok();
+    Some(is_sound && room.entries().len() == 384)
+}
+
+#[test]
+fn desk_audit(rt: HostRuntime) {
+    let manager = opened(rt.alloc()).expect(&rt, "a manager");
+    let found = audited::<Manager<MemDisk>, Brand, Brand, HostRuntime>(
+        &rt,
+        rt.alloc(),
+        manager,
+        Blank::new(8),
+    );
+    assert_eq!(rt; found, Some(true));
+}

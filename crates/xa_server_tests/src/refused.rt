@@ -1,0 +1,376 @@
+ghost use Rattle.std.specs.Prelude.{◌≡◌, ◌<◌, ◌^◌};
+ghost use Rattle.xa_frame.specs.Limits.{Holds, IsRequest};
+ghost use Rattle.xa_model.specs.State.{State};
+ghost use Rattle.xa_xid.specs.Triple.{IsWithinLimits};
+
+use crate::crews::opened_over;
+use crate::refused_rows::{FAILING, NO_ROOM, ROOM, ROWS};
+use crate::rows::none_wrong;
+use arrayvec::ArrayVec;
+use std::alloc::Global;
+use std::marker::Brand;
+use std::sync::Wait;
+use std::sync::ledger::{Blank, Ledger};
+use xa_assoc::ConnectFault;
+use xa_codes::{Code, Detail, XA_OK, XAER_RMERR, XAER_RMFAIL};
+use xa_desk::Door;
+use xa_disk::{Effect, MemDisk};
+use xa_frame::{Body, Reply, Request};
+use xa_manager::Manager;
+use xa_room::{AuditFault, Desk, Manages, Room, Start, audit};
+use xa_rows::{Line, Play};
+use xa_script::{CallEffect, LogFile, read_line, reply_line};
+use xa_workers::{Gate, OpenGate, Report, Seat};
+use xa_xid::Xid;
+
+// Worked rows, that are right whichever one allocation is refused: what was answered that it wanted memory is asked again, and
+// all other replies are those with ample memory. A manager that isn't opened ends a row, and so does a disk in memory that
+// found none, whose call is answered with detail Device. Such a row is played once more. `.ci/refused` refuses each allocation
+// in turn; without it these tests show the rows with ample memory.
+
+/// How a row ended.
+#[derive(Clone, Copy, Debug, PartialEq, Eq)]
+pub enum End {
+    /// All was answered as with ample memory.
+    Whole,
+    /// A manager wasn't opened, or a device call failed for want of memory.
+    Stopped,
+    /// Something else was answered.
+    Wrong,
+}
+
+/// Who is asked: a manager, or a desk.
+pub trait Asks {
+    ghost use Rattle.xa_frame.specs.Limits.{IsRequest};
+
+    fn connect(&mut self) -> Reply;
+
+    fn hang_up(&mut self, session: u64);
+
+    fn ask(&mut self, session: u64, request: Request) -> Reply
+        requires { IsRequest request };
+
+    /// Plans that a device call fails. Whether there was memory for the plan.
+    fn plan(&mut self, file: LogFile, call: u64, effect: Effect) -> bool;
+}
+
+fn bare(code: Code, detail: Detail) -> Reply {
+    Reply {
+        code,
+        detail,
+        place: 0,
+        body: Body::Nothing,
+    }
+}
+
+fn connect_reply(session: Result<u64, ConnectFault>) -> Reply {
+    match session {
+        Ok(number) => Reply {
+            code: XA_OK,
+            detail: Detail::Nothing,
+            place: 0,
+            body: Body::Number(number),
+        },
+        Err(ConnectFault::Full) => bare(XAER_RMERR, Detail::Limit),
+        Err(ConnectFault::Memory) => bare(XAER_RMFAIL, Detail::Memory),
+    }
+}
+
+/// What the types of a request's parts hold: numbers of 32 bits, and XIDs.
+fn hold(request: &Request)
+    ensures { Holds request.now }
+{
+    match request {
+        Request::Open { flags, .. } | Request::Close { flags } => hold_flags(*flags),
+        Request::Recover { flags, count } => {
+            hold_flags(*flags);
+            hold_flags(*count);
+        }
+        Request::Start { flags, xid }
+        | Request::End { flags, xid }
+        | Request::Prepare { flags, xid }
+        | Request::Commit { flags, xid }
+        | Request::Rollback { flags, xid }
+        | Request::Forget { flags, xid } => {
+            hold_flags(*flags);
+            hold_name(xid);
+        }
+        Request::Decide { xid, .. } | Request::Doom { xid } => hold_name(xid),
+        Request::Get { .. } | Request::Put { .. } | Request::Delete { .. } | Request::Restart => {}
+    }
+}
+
+fn hold_flags(flags: u32)
+    ensures { flags < 2 ^ 32 }
+{
+    let _flags = flags;
+}
+
+fn hold_name(xid: &Xid)
+    ensures { IsWithinLimits xid.now }
+{
+    let mut bytes: ArrayVec<u8, 134> = ArrayVec::new();
+    xid.put(&mut bytes);
+}
+
+impl Asks for Manager<MemDisk> {
+    fn connect(&mut self) -> Reply {
+        connect_reply(self.connect())
+    }
+
+    fn hang_up(&mut self, session: u64) {
+        self.hangup(session);
+    }
+
+    fn ask(&mut self, session: u64, request: Request) -> Reply {
+        hold(&request);
+        self.call(session, request)
+    }
+
+    fn plan(&mut self, file: LogFile, call: u64, effect: Effect) -> bool {
+        match file {
+            LogFile::Current => self.fail(call, effect).is_ok(),
+            LogFile::Other => self.fail_other(call, effect).is_ok(),
+        }
+    }
+}
+
+/// A desk's device calls can't be planned to fail.
+impl<M: Manages, S: Start, L: Ledger, G: Gate, R: Wait> Asks for Seat<'_, M, S, L, G, R> {
+    fn connect(&mut self) -> Reply {
+        connect_reply(self.connect())
+    }
+
+    fn hang_up(&mut self, session: u64) {
+        Door::hangup(self, session);
+    }
+
+    fn ask(&mut self, session: u64, request: Request) -> Reply {
+        Door::call(self, session, request)
+    }
+
+    fn plan(&mut self, _file: LogFile, _call: u64, _effect: Effect) -> bool {
+        false
+    }
+}
+
+/// What a line came to.
+#[derive(Drop)]
+enum Told {
+    /// No event was asked for.
+    Nothing,
+    /// There is no such line.
+    Unknown,
+    /// An event's reply.
+    Event(Reply),
+}
+
+fn effect_of(effect: CallEffect) -> Effect {
+    match effect {
+        CallEffect::Kept => Effect::Kept,
+        CallEffect::Lost => Effect::Lost,
+    }
+}
+
+/// What a line came to, if memory was found.
+fn said<A: Asks>(alloc: Global, asked: &mut A, line: &str) -> Option<Told> {
+    let reply = match read_line(alloc, line.as_bytes()).ok()? {
+        xa_script::Line::Connect => asked.connect(),
+        xa_script::Line::Hangup(session) => {
+            asked.hang_up(session);
+            bare(XA_OK, Detail::Nothing)
+        }
+        xa_script::Line::Call(session, request) => asked.ask(session, request),
+        xa_script::Line::Fail { file, call, effect } => {
+            return if asked.plan(file, call, effect_of(effect)) {
+                Some(Told::Nothing)
+            } else {
+                None
+            };
+        }
+        _ => return Some(Told::Unknown),
+    };
+    if reply.detail == Detail::Memory {
+        None
+    } else {
+        Some(Told::Event(reply))
+    }
+}
+
+/// The same, asked again where it found no memory.
+fn said_again<A: Asks>(alloc: Global, asked: &mut A, line: &str) -> Option<Told> {
+    match said(alloc, asked, line) {
+        Some(said) => Some(said),
+        None => said(alloc, asked, line),
+    }
+}
+
+fn shows(alloc: Global, reply: &Reply, want: &str) -> Option<bool> {
+    let text = reply_line(alloc, reply).ok()?;
+    Some(text.strip_suffix(b"\n") == Some(want.as_bytes()))
+}
+
+fn end_of(alloc: Global, reply: &Reply, want: &str) -> End {
+    let shown = match shows(alloc, reply, want) {
+        Some(shown) => Some(shown),
+        None => shows(alloc, reply, want),
+    };
+    if shown == Some(true) {
+        End::Whole
+    } else if reply.detail == Detail::Device {
+        End::Stopped
+    } else {
+        End::Wrong
+    }
+}
+
+/// How a row goes on behind a line, and how many events were answered by then.
+fn behind_line<A: Asks>(alloc: Global, asked: &mut A, line: Line, events: &mut u64) -> End {
+    let (line, want) = line;
+    match said_again(alloc, asked, line) {
+        Some(Told::Event(reply)) => {
+            *events = events.saturating_add(1);
+            end_of(alloc, &Reply { place: 0, ..reply }, want)
+        }
+        Some(Told::Nothing) if want.is_empty() => End::Whole,
+        Some(Told::Unknown) if want == "-5 Frame" => End::Whole,
+        _ => End::Wrong,
+    }
+}
+
+fn behind_part<A: Asks>(alloc: Global, asked: &mut A, part: &[Line], events: &mut u64) -> End {
+    for line in part {
+        match behind_line(alloc, asked, *line, events) {
+            End::Whole => {}
+            end => return end,
+        }
+    }
+    End::Whole
+}
+
+fn behind<A: Asks>(alloc: Global, asked: &mut A, play: &[&[Line]], events: &mut u64) -> End {
+    for part in play {
+        match behind_part(alloc, asked, part, events) {
+            End::Whole => {}
+            end => return end,
+        }
+    }
+    End::Whole
+}
+
+fn by_manager(alloc: Global, log_bytes: u64, play: Play) -> End {
+    let mut events = 0;
+    match opened_over(alloc, log_bytes) {
+        Some(mut manager) => behind(alloc, &mut manager, play, &mut events),
+        None => End::Stopped,
+    }
+}
+
+/// Whether a row ends right, once more where it was stopped.
+fn is_right(alloc: Global, log_bytes: u64, play: Play) -> bool {
+    match by_manager(alloc, log_bytes, play) {
+        End::Whole => true,
+        End::Stopped => by_manager(alloc, log_bytes, play) == End::Whole,
+        End::Wrong => false,
+    }
+}
+
+fn wrong_row(alloc: Global, log_bytes: u64, plays: &[Play]) -> Option<usize> {
+    for (place, play) in plays.iter().enumerate() {
+        if !is_right(alloc, log_bytes, play) {
+            return Some(place);
+        }
+    }
+    None
+}
+
+#[test]
+fn by_a_manager(rt: HostRuntime) {
+    none_wrong(&rt, wrong_row(rt.alloc(), 1 << 30, &ROWS));
+    none_wrong(&rt, wrong_row(rt.alloc(), 1 << 30, &FAILING));
+    none_wrong(&rt, wrong_row(rt.alloc(), 457, &ROOM));
+    none_wrong(&rt, wrong_row(rt.alloc(), 456, &NO_ROOM));
+}
+
+// The same rows at a desk. What wanted memory has no receipt.
+
+/// Whether the audit finds all that was answered, and nothing else. Where an allocation is refused in the audit, it answers Memory and
+/// no other fault, and the same is found when it is asked again.
+fn is_audited<M: Manages, S: Start, L: Ledger>(
+    alloc: Global,
+    room: &Room<M, S>,
+    report: Report<L>,
+    events: u64,
+) -> bool {
+    let Report {
+        share,
+        receipts,
+        dropped,
+    } = report;
+    let shares = [share];
+    let sound = match audit(alloc, room, &receipts, &shares) {
+        Err(AuditFault::Memory) => audit(alloc, room, &receipts, &shares),
+        found => found,
+    };
+    let kept = (receipts.len() as u64).saturating_add(dropped);
+    sound.is_ok() && kept == events && room.entries().len() as u64 == events
+}
+
+fn by_desk<M: Manages + Drop, S: Start, L: Ledger, R: Wait>(
+    rt: &R,
+    alloc: Global,
+    manager: M,
+    blank: Blank,
+    play: Play,
+) -> End
+    requires start { (s : State) → S.start s → M.stands manager s }
+    requires base { M.failures manager ≡ S.base }
+    requires name { blank.name ≡ L.name }
+    requires parts { (blank.parts ≡ L.parts) × (blank.parts ≡ 1) }
+{
+    let room: Room<M, S> = match Room::new(alloc, manager) {
+        Ok(room) => room,
+        Err(_) => return End::Stopped,
+    };
+    let (desk, share) = Desk::<M, S, L>::new(room, blank);
+    let mut seat = Seat::new(alloc, rt, &desk, &OpenGate, share);
+    let mut events = 0;
+    let end = behind(alloc, &mut seat, play, &mut events);
+    let report = seat.into_report();
+    let (room, _book) = desk.into_room();
+    if is_audited(alloc, &room, report, events) {
+        end
+    } else {
+        End::Wrong
+    }
+}
+
+fn by_new_desk<R: Wait>(rt: &R, alloc: Global, play: Play) -> End {
+    let Some(manager) = opened_over(alloc, 1 << 30) else {
+        return End::Stopped;
+    };
+    let blank = Blank::new(1);
+    by_desk::<Manager<MemDisk>, Brand, Brand, R>(rt, alloc, manager, blank, play)
+}
+
+fn is_right_by_desk<R: Wait>(rt: &R, alloc: Global, play: Play) -> bool {
+    match by_new_desk(rt, alloc, play) {
+        End::Whole => true,
+        End::Stopped => by_new_desk(rt, alloc, play) == End::Whole,
+        End::Wrong => false,
+    }
+}
+
+fn wrong_by_desk<R: Wait>(rt: &R, alloc: Global, plays: &[Play]) -> Option<usize> {
+    for (place, play) in plays.iter().enumerate() {
+        if !is_right_by_desk(rt, alloc, play) {
+            return Some(place);
+        }
+    }
+    None
+}
+
+#[test]
+fn by_a_desk(rt: HostRuntime) {
+    none_wrong(&rt, wrong_by_desk(&rt, rt.alloc(), &ROWS));
+}

@@ -1,0 +1,269 @@
+ghost use Rattle.std.specs.Prelude.{IfSome};
+ghost use Rattle.xa_frame.specs.Limits.{IsRequest};
+
+use crate::crews::opened_over;
+use crate::refused::{Asks, End};
+use std::alloc::Global;
+use xa_codes::{
+    Bytes, Code, Detail, TMJOIN, TMMIGRATE, TMNOFLAGS, TMSUCCESS, TMSUSPEND, XA_OK, XAER_INVAL,
+    XAER_RMERR,
+};
+use xa_frame::Request;
+use xa_xid::Xid;
+
+// The limits of sessions, branches, keys and loose associations, right whichever one allocation is refused, as the rows of
+// `refused`.
+
+/// What is asked of session 1.
+#[derive(Clone, Copy)]
+enum What {
+    Open,
+    /// Of the branch with this number.
+    Start(u16),
+    Join(u16),
+    Suspend(u16),
+    End(u16),
+    /// Of the key with this number.
+    Put(u16),
+}
+
+fn xid(number: u16) -> Option<Xid> {
+    Xid::new(1, &number.to_be_bytes(), &[]).ok()
+}
+
+fn request(alloc: Global, what: What) -> Option<Request>
+    ensures { IfSome result IsRequest }
+{
+    Some(match what {
+        What::Open => Request::Open {
+            flags: TMNOFLAGS,
+            info: Bytes::from_slice(alloc, b"xarm").ok()?,
+        },
+        What::Start(number) => Request::Start {
+            flags: TMNOFLAGS,
+            xid: xid(number)?,
+        },
+        What::Join(number) => Request::Start {
+            flags: TMJOIN,
+            xid: xid(number)?,
+        },
+        What::Suspend(number) => Request::End {
+            flags: TMSUSPEND | TMMIGRATE,
+            xid: xid(number)?,
+        },
+        What::End(number) => Request::End {
+            flags: TMSUCCESS,
+            xid: xid(number)?,
+        },
+        What::Put(number) => Request::Put {
+            key: Bytes::from_slice(alloc, &number.to_be_bytes()).ok()?,
+            value: Bytes::from_slice(alloc, b"v").ok()?,
+        },
+    })
+}
+
+type Answer = (Code, Detail);
+
+const DONE: Answer = (XA_OK, Detail::Nothing);
+
+/// What is answered, if memory was found.
+fn answered<A: Asks>(alloc: Global, asked: &mut A, what: What) -> Option<Answer> {
+    let request = request(alloc, what)?;
+    let reply = asked.ask(1, request);
+    if reply.detail == Detail::Memory {
+        None
+    } else {
+        Some((reply.code, reply.detail))
+    }
+}
+
+fn connected<A: Asks>(asked: &mut A) -> Option<Answer> {
+    let reply = asked.connect();
+    if reply.detail == Detail::Memory {
+        None
+    } else {
+        Some((reply.code, reply.detail))
+    }
+}
+
+fn end_of(found: Option<Answer>, want: Answer) -> End {
+    if found == Some(want) {
+        End::Whole
+    } else if let Some((_, Detail::Device)) = found {
+        End::Stopped
+    } else {
+        End::Wrong
+    }
+}
+
+/// How it goes on behind a call, which is asked again where it found no memory.
+fn behind<A: Asks>(alloc: Global, asked: &mut A, what: What, want: Answer) -> End {
+    match answered(alloc, asked, what) {
+        Some(found) => end_of(Some(found), want),
+        None => end_of(answered(alloc, asked, what), want),
+    }
+}
+
+fn behind_connect<A: Asks>(asked: &mut A, want: Answer) -> End {
+    match connected(asked) {
+        Some(found) => end_of(Some(found), want),
+        None => end_of(connected(asked), want),
+    }
+}
+
+fn behind_all<A: Asks>(alloc: Global, asked: &mut A, calls: &[(What, Answer)]) -> End {
+    for (what, want) in calls {
+        match behind(alloc, asked, *what, *want) {
+            End::Whole => {}
+            end => return end,
+        }
+    }
+    End::Whole
+}
+
+fn begins<A: Asks>(alloc: Global, asked: &mut A) -> End {
+    match behind_connect(asked, DONE) {
+        End::Whole => behind(alloc, asked, What::Open, DONE),
+        end => end,
+    }
+}
+
+/// Session 1 connects, opens and works for branch 0.
+fn works<A: Asks>(alloc: Global, asked: &mut A) -> End {
+    match begins(alloc, asked) {
+        End::Whole => behind(alloc, asked, What::Start(0), DONE),
+        end => end,
+    }
+}
+
+fn puts<A: Asks>(alloc: Global, asked: &mut A) -> End {
+    for number in 0..256u16 {
+        match behind(alloc, asked, What::Put(number), DONE) {
+            End::Whole => {}
+            end => return end,
+        }
+    }
+    End::Whole
+}
+
+/// The 257th key of a branch.
+fn keys<A: Asks>(alloc: Global, asked: &mut A) -> End {
+    match works(alloc, asked) {
+        End::Whole => {}
+        end => return end,
+    }
+    match puts(alloc, asked) {
+        End::Whole => {}
+        end => return end,
+    }
+    let last = [
+        (What::Put(256), (XAER_INVAL, Detail::Limit)),
+        (What::Put(7), DONE),
+    ];
+    behind_all(alloc, asked, &last)
+}
+
+/// The 1,025th session.
+fn sessions<A: Asks>(asked: &mut A) -> End {
+    for _ in 0..1024u16 {
+        match behind_connect(asked, DONE) {
+            End::Whole => {}
+            end => return end,
+        }
+    }
+    behind_connect(asked, (XAER_RMERR, Detail::Limit))
+}
+
+fn starts<A: Asks>(alloc: Global, asked: &mut A) -> End {
+    for number in 0..4096u16 {
+        let calls = [(What::Start(number), DONE), (What::End(number), DONE)];
+        match behind_all(alloc, asked, &calls) {
+            End::Whole => {}
+            end => return end,
+        }
+    }
+    End::Whole
+}
+
+/// The 4,097th known branch.
+fn branches<A: Asks>(alloc: Global, asked: &mut A) -> End {
+    match begins(alloc, asked) {
+        End::Whole => {}
+        end => return end,
+    }
+    match starts(alloc, asked) {
+        End::Whole => behind(alloc, asked, What::Start(4096), (XAER_RMERR, Detail::Limit)),
+        end => end,
+    }
+}
+
+fn joins<A: Asks>(alloc: Global, asked: &mut A) -> End {
+    for _ in 0..63u16 {
+        let calls = [(What::Suspend(0), DONE), (What::Join(0), DONE)];
+        match behind_all(alloc, asked, &calls) {
+            End::Whole => {}
+            end => return end,
+        }
+    }
+    End::Whole
+}
+
+/// The 65th loose association of a branch.
+fn loose<A: Asks>(alloc: Global, asked: &mut A) -> End {
+    match works(alloc, asked) {
+        End::Whole => {}
+        end => return end,
+    }
+    match joins(alloc, asked) {
+        End::Whole => {}
+        end => return end,
+    }
+    let last = [
+        (What::Suspend(0), DONE),
+        (What::Join(0), DONE),
+        (What::Suspend(0), (XAER_RMERR, Detail::Limit)),
+        (What::End(0), DONE),
+    ];
+    behind_all(alloc, asked, &last)
+}
+
+/// Which limit is met.
+#[derive(Clone, Copy)]
+enum Limit {
+    Keys,
+    Sessions,
+    Branches,
+    Loose,
+}
+
+fn met_by(alloc: Global, limit: Limit) -> End {
+    let Some(mut manager) = opened_over(alloc, 1 << 30) else {
+        return End::Stopped;
+    };
+    match limit {
+        Limit::Keys => keys(alloc, &mut manager),
+        Limit::Sessions => sessions(&mut manager),
+        Limit::Branches => branches(alloc, &mut manager),
+        Limit::Loose => loose(alloc, &mut manager),
+    }
+}
+
+fn is_met(alloc: Global, limit: Limit) -> bool {
+    match met_by(alloc, limit) {
+        End::Whole => true,
+        End::Stopped => met_by(alloc, limit) == End::Whole,
+        End::Wrong => false,
+    }
+}
+
+#[test]
+fn keys_of_a_branch(rt: HostRuntime) {
+    assert!(rt; is_met(rt.alloc(), Limit::Keys));
+    assert!(rt; is_met(rt.alloc(), Limit::Loose));
+}
+
+#[test]
+fn sessions_and_branches(rt: HostRuntime) {
+    assert!(rt; is_met(rt.alloc(), Limit::Sessions));
+    assert!(rt; is_met(rt.alloc(), Limit::Branches));
+}
