@@ -10,7 +10,7 @@ pub enum FrameFault {
     /// A number, a length or the bytes that it announces are cut.
     #[error("content cut short")]
     Short = 1,
-    /// There are more than 65,535 bytes.
+    /// There are more than `MOST_CONTENT` bytes.
     #[error("content above 65,535 bytes")]
     Long = 2,
     /// The first byte isn't 1.

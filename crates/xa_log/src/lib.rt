@@ -1,7 +1,8 @@
 //! An append-only log on two disks, of which one is current: records that chain by SHA-256, so that a log ends where its
 //! bytes say so. A checkpoint writes a new log to the other one.
 //!
-//! - `log`: `Log`, with `append` and `checkpoint`; `making` has `create` and `open`, `rescanning` has `rescan` and `into_disks`, `planning` has planned faults in memory
+//! - `log`: `Log`, with `append` and `checkpoint`; `making` has `create` and `open`, `rescanning` has `rescan` and `into_disks`,
+//!   `planning` has planned faults in memory
 //! - `appending`: how a record goes to the disk, and what became of it; with `record` (a record's bytes)
 //! - `checkpointing`: how a checkpoint goes to the other disk, in its three parts
 //! - `opening`: making and reading a log on disks that are lent, which gives an `Opened`

@@ -15,7 +15,8 @@ use std::sync::{Mutex, Wait};
 use xa_desk::serve;
 use xa_room::{Desk, Manages, Share, Start};
 
-/// Serves a connection for each number that it takes, until none is left. Each session that it connected it hung up, unless it was gone.
+/// Serves a connection for each number that it takes, until none is left. Each session that it connected it hung up,
+/// unless it was gone.
 pub(crate) fn work<M: Manages, S: Start, L: Ledger, G: Gate, R: Wait>(
     rt: &R,
     alloc: Global,
