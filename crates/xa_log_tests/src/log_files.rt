@@ -10,7 +10,6 @@ use xa_disk::MemDisk;
 use xa_frame::{Request, encode_request};
 use xa_log::{Log, OpenFault, read_log};
 use xa_manager::{Manager, ManagerFault, Settings};
-use xa_rows::first_wrong;
 use xa_script::{Line, read_line};
 
 fn open(
@@ -184,7 +183,12 @@ fn is_row(alloc: Global, row: &Row) -> Option<bool> {
 }
 
 fn wrong_row(alloc: Global, rows: &[Row]) -> Option<usize> {
-    first_wrong(rows, |row| is_row(alloc, row) == Some(true))
+    for (place, row) in rows.iter().enumerate() {
+        if is_row(alloc, row) != Some(true) {
+            return Some(place);
+        }
+    }
+    None
 }
 
 #[test]
@@ -252,7 +256,12 @@ fn is_refused_so(alloc: Global, row: &Refusal) -> Option<bool> {
 }
 
 fn wrong_refusal(alloc: Global, rows: &[Refusal]) -> Option<usize> {
-    first_wrong(rows, |row| is_refused_so(alloc, row) == Some(true))
+    for (place, row) in rows.iter().enumerate() {
+        if is_refused_so(alloc, row) != Some(true) {
+            return Some(place);
+        }
+    }
+    None
 }
 
 #[test]

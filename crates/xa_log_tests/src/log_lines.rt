@@ -5,7 +5,6 @@ use std::alloc::Global;
 use std::io::{self, ErrorKind, Write};
 use xa_disk::{Disk, Effect, MemDisk};
 use xa_log::{Log, OpenFault};
-use xa_rows::first_wrong;
 use xa_scan::{ScanFault, places_in_the_file, scan_run, worked_scans};
 
 /// How the printing of a disk's log ends, and what it printed.
@@ -79,7 +78,12 @@ fn is_row(alloc: Global, row: &Row) -> Option<bool> {
 }
 
 fn wrong_row(alloc: Global, rows: &[Row]) -> Option<usize> {
-    first_wrong(rows, |row| is_row(alloc, row) == Some(true))
+    for (place, row) in rows.iter().enumerate() {
+        if is_row(alloc, row) != Some(true) {
+            return Some(place);
+        }
+    }
+    None
 }
 
 #[test]
