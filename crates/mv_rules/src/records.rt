@@ -14,7 +14,7 @@ use std::alloc::{AllocError, Global};
 use std::collections::BTreeMap;
 use xa_codes::{Bytes, Write};
 
-/// The versions of all keys, and for each undecided branch the keys that it has written.
+/// The versions of all keys, and by timestamp the keys that a branch has written or read, until the low water has passed it.
 ///
 /// Every call is total. What a call promises holds for every history that the records stood for. Timestamps
 /// of branches are above 0, and none is used again once it is settled.

@@ -1,5 +1,5 @@
 //! Tests of what no clause says, of disks and logs: what stands in the files, what is found there behind a crash or a cut
-//! at each byte, what the manager logs, and what `xarm log` prints of it.
+//! at each byte, what the manager logs, and what `xarm scan` prints of it.
 #![tactic(auto)]
 
 #[cfg(test)]

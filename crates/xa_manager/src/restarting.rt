@@ -237,7 +237,8 @@ impl<D: Disk> Manager<D> {
 
     /// What the request Restart does, for whoever asks it without a session: the log is read again, and a new boot begins with what
     /// lasts of it. Sessions stay connected, and opened as they were; branches at work, associations, scans and read marks are
-    /// gone. Where it fails the manager is down. Want of memory changes nothing.
+    /// gone. Where it fails the manager is down. Behind want of memory it stands for what it
+    /// stood for.
     pub fn restart(&mut self) -> Reply
         ensures answered { MatchBool (is_memory result.detail)
             (StaysFor D.Disk self.old self.new × (self.new.outcome ≡ self.old.outcome))

@@ -78,7 +78,7 @@ impl<M: Manages, S: Start, L: Ledger> Desk<M, S, L> {
         take(rt, &self.lock).connect(share)
     }
 
-    /// Hangs a session up, by a share that is lent. Without a receipt the room was asked, and the session wasn't connected.
+    /// Hangs a session up, by a share that is lent. Without a receipt a room's manager had no such session.
     pub fn hangup_by<R: Wait>(&self, rt: &R, share: &mut Share<L>, session: u64) -> Option<Receipt>
         ensures recorded { MatchOption result
             (share.new ≡ share.old)

@@ -16,7 +16,7 @@ pub record Tells (entries : List Entry) (receipts : List Receipt) (counted calls
   pub found : is_whole ≡ is_ok answer
 
 -- From each starting state the history is a legal one, with what that promises, and tells of no more failures than were counted.
--- It has so many entries, and the audit of the receipts that were given out found that.
+-- It has so many entries, and the audit of some receipts found that.
 pub record Serves {M : Type 0} (stands : M → State → Type 0) (trusts : Type 0) (failures : M → ℕ × ℕ) (start : State → Type 0) (base : ℕ × ℕ) (calls : ℕ) (is_whole : Bool) : Type 0 where
   pub now : M
   pub entries : List Entry

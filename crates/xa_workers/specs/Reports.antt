@@ -53,7 +53,7 @@ Connects r result r' =
     ((receipt : Receipt) × (receipt.reply ≡ placed receipt.place (connect_reply result)) × Takes r r' Connect receipt)
     ⊎ ((result ≡ Err Memory) × Rests r r')
 
--- a hang-up; or nothing was recorded, since the desk was asked and the session was gone
+-- a hang-up; or nothing was recorded, since a room's manager had no such session
 abbrev pub HangsUp : {L : Type 0} → (ℕ → Type 0) → ℕ → Report L → Report L → Type 0
 HangsUp gone session r r' = ((receipt : Receipt) × Takes r r' (Hangup session) receipt) ⊎ (gone session × Rests r r')
 

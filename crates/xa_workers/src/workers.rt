@@ -112,7 +112,7 @@ fn gather<M: Manages, S: Start, L: Ledger, R: Wait>(
 /// connection whose session isn't connected or that finds no memory, use theirs up; such a connection is closed without a byte.
 ///
 /// The report has the workers' shares as one, and tells of all their connects, calls and hang-ups: each session that was
-/// connected was hung up behind its calls, or had no connection any more. After a fault the share is gone, and the desk stays.
+/// connected was hung up behind its calls, or a room's manager had no such session. After a fault the share is gone, and the desk stays.
 pub fn run_workers<
     M: Manages + Send,
     S: Start + Send + Sync,

@@ -1,4 +1,4 @@
--- What a command did. The reader and the disk are what the runtime gave.
+-- What a command did, with some reader or disk: no clause says that it is the one that the runtime gave.
 use Rattle.std.specs.Prelude.{ℕ, List, Option, Result}
 use Rattle.xa_play.specs.Plays.{Plays}
 use Rattle.xa_play.specs.Runs.{IsLawful}
