@@ -1,27 +1,23 @@
-ghost use Rattle.std.specs.Prelude.{◌≡◌, ◌<◌, ◌^◌};
-ghost use Rattle.xa_frame.specs.Limits.{Holds, IsRequest};
+ghost use Rattle.std.specs.Prelude.{◌≡◌};
+ghost use Rattle.xa_frame.specs.Limits.{IsRequest};
 ghost use Rattle.xa_model.specs.State.{State};
-ghost use Rattle.xa_xid.specs.Triple.{IsWithinLimits};
 
 use crate::crews::opened_over;
 use crate::refused_rows::{FAILING, NO_ROOM, ROOM, ROWS};
 use crate::rows::none_wrong;
-use arrayvec::ArrayVec;
 use std::alloc::Global;
 use std::marker::Brand;
 use std::sync::Wait;
 use std::sync::ledger::{Blank, Ledger};
-use xa_assoc::ConnectFault;
-use xa_codes::{Code, Detail, XA_OK, XAER_RMERR, XAER_RMFAIL};
+use xa_codes::{Detail, XA_OK};
 use xa_desk::Door;
 use xa_disk::{Effect, MemDisk};
-use xa_frame::{Body, Reply, Request};
-use xa_manager::Manager;
+use xa_frame::{Reply, Request};
+use xa_manager::{Manager, connect_reply};
 use xa_room::{AuditFault, Desk, Manages, Room, Start, audit};
 use xa_rows::{Line, Play};
 use xa_script::{CallEffect, LogFile, read_line, reply_line};
 use xa_workers::{Gate, OpenGate, Report, Seat};
-use xa_xid::Xid;
 
 // Worked rows, that are right whichever one allocation is refused: what was answered that it wanted memory is asked again, and
 // all other replies are those with ample memory. A manager that isn't opened ends a row, and so does a disk in memory that
@@ -54,65 +50,6 @@ pub trait Asks {
     fn plan(&mut self, file: LogFile, call: u64, effect: Effect) -> bool;
 }
 
-fn bare(code: Code, detail: Detail) -> Reply {
-    Reply {
-        code,
-        detail,
-        place: 0,
-        body: Body::Nothing,
-    }
-}
-
-fn connect_reply(session: Result<u64, ConnectFault>) -> Reply {
-    match session {
-        Ok(number) => Reply {
-            code: XA_OK,
-            detail: Detail::Nothing,
-            place: 0,
-            body: Body::Number(number),
-        },
-        Err(ConnectFault::Full) => bare(XAER_RMERR, Detail::Limit),
-        Err(ConnectFault::Memory) => bare(XAER_RMFAIL, Detail::Memory),
-    }
-}
-
-/// What the types of a request's parts hold: numbers of 32 bits, and XIDs.
-fn hold(request: &Request)
-    ensures { Holds request.now }
-{
-    match request {
-        Request::Open { flags, .. } | Request::Close { flags } => hold_flags(*flags),
-        Request::Recover { flags, count } => {
-            hold_flags(*flags);
-            hold_flags(*count);
-        }
-        Request::Start { flags, xid }
-        | Request::End { flags, xid }
-        | Request::Prepare { flags, xid }
-        | Request::Commit { flags, xid }
-        | Request::Rollback { flags, xid }
-        | Request::Forget { flags, xid } => {
-            hold_flags(*flags);
-            hold_name(xid);
-        }
-        Request::Decide { xid, .. } | Request::Doom { xid } => hold_name(xid),
-        Request::Get { .. } | Request::Put { .. } | Request::Delete { .. } | Request::Restart => {}
-    }
-}
-
-fn hold_flags(flags: u32)
-    ensures { flags < 2 ^ 32 }
-{
-    let _flags = flags;
-}
-
-fn hold_name(xid: &Xid)
-    ensures { IsWithinLimits xid.now }
-{
-    let mut bytes: ArrayVec<u8, 134> = ArrayVec::new();
-    xid.put(&mut bytes);
-}
-
 impl Asks for Manager<MemDisk> {
     fn connect(&mut self) -> Reply {
         connect_reply(self.connect())
@@ -123,7 +60,7 @@ impl Asks for Manager<MemDisk> {
     }
 
     fn ask(&mut self, session: u64, request: Request) -> Reply {
-        hold(&request);
+        request.hold();
         self.call(session, request)
     }
 
@@ -178,7 +115,7 @@ fn said<A: Asks>(alloc: Global, asked: &mut A, line: &str) -> Option<Told> {
         xa_script::Line::Connect => asked.connect(),
         xa_script::Line::Hangup(session) => {
             asked.hang_up(session);
-            bare(XA_OK, Detail::Nothing)
+            Reply::plain(XA_OK)
         }
         xa_script::Line::Call(session, request) => asked.ask(session, request),
         xa_script::Line::Fail { file, call, effect } => {
