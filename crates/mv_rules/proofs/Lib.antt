@@ -18,3 +18,5 @@ pub mod Remade
 pub mod Orderly
 pub mod Within
 pub mod Tidied
+pub mod Noted
+pub mod Exact

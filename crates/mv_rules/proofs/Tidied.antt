@@ -25,7 +25,7 @@ use Rattle.mv_rules.proofs.Changed.{with_chain, changes_at, before_at, after_at}
 abbrev kept_at : Option ℕ → Records → Option (List Version)
 kept_at o r = option_map (λ i. chain_at i r) o
 
-same_key : (q key : List ℕ) → bytes_eq q key ≡ true → q ≡ key
+pub same_key : (q key : List ℕ) → bytes_eq q key ≡ true → q ≡ key
 same_key q key e = (bytes_eq-Decides q key).0 e
 
 differ : (q key : List ℕ) → bytes_eq q key ≡ false → q ≡ key → ⊥
@@ -130,7 +130,7 @@ or_more low true true kept = sym (tidied_twice low kept)
 or_more low true false kept = refl
 or_more low false y kept = refl
 
-names_both : (q : List ℕ) (xs ys : List Own) → names q (xs ++ ys) ≡ (names q xs || names q ys)
+pub names_both : (q : List ℕ) (xs ys : List Own) → names q (xs ++ ys) ≡ (names q xs || names q ys)
 names_both q [] ys = refl
 names_both q (o ∷ xs) ys = at (bytes_eq q o.key) (names_both q xs ys)
   where
@@ -244,7 +244,7 @@ pub absent_kept : (r : Records) (key : List ℕ) → place_of key r ≡ None →
 absent_kept r key none = ap (λ o. kept_at o r) none
 
 -- a key that nobody wrote is read
-fresh_shows : (t : ℕ) → shows t fresh ≡ absent
+pub fresh_shows : (t : ℕ) → shows t fresh ≡ absent
 fresh_shows t = at (nat_le 0 t)
   where
     at : (x : Bool) → (if x && nat_le 0 0 then absent else absent) ≡ absent

@@ -3,6 +3,7 @@ pub mod Own
 pub mod Held
 pub mod Records
 pub mod Tidy
+pub mod Noted
 pub mod Steps
 pub mod Verdict
 pub mod Ties

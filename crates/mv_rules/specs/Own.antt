@@ -1,4 +1,4 @@
--- The keys that each undecided branch has written.
+-- The keys that each branch has written or read, as far as they are noted.
 use Rattle.std.specs.Prelude.{ℕ, Bool, ◌==◌, List, []}
 use Rattle.std.specs.List.{list_any}
 use Rattle.std.specs.Option.{option_map_or}
@@ -10,6 +10,14 @@ use Rattle.mv_rules.specs.declared.own.Notes.{Notes}
 -- the keys that the undecided branch has written, each with its place
 abbrev pub own_in : ℕ → BTreeMap ℕ Notes → List Own
 own_in t notes = option_map_or (λ n. n.written.items) (get_by (nat_cmp t) notes) []
+
+-- the keys that it had written when it was decided
+abbrev pub decided_in : ℕ → BTreeMap ℕ Notes → List Own
+decided_in t notes = option_map_or (λ n. n.decided.items) (get_by (nat_cmp t) notes) []
+
+-- the keys that nobody had written when it read them
+abbrev pub read_in : ℕ → BTreeMap ℕ Notes → List Own
+read_in t notes = option_map_or (λ n. n.read.items) (get_by (nat_cmp t) notes) []
 
 abbrev pub is_listed : ℕ → List Own → Bool
 is_listed i own = list_any (λ o. i == o.place) own

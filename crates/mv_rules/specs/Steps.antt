@@ -6,7 +6,7 @@ use Rattle.mv_chain.specs.declared.chain.Chain.{Chain}
 use Rattle.mv_chain.specs.declared.fate.Fate.{Fate}
 use Rattle.mv_chain.specs.declared.version.Version.{Version}
 use Rattle.mv_chain.specs.History.{Written, Answered, is_late, decided, IsOpen, IsUnsettled}
-use Rattle.mv_chain.specs.Chain.{StandsFor}
+use Rattle.mv_chain.specs.Chain.{settled, StandsFor}
 use Rattle.mv_rules.specs.declared.own.Own.{Own}
 use Rattle.mv_rules.specs.History.{wrote}
 use Rattle.mv_rules.specs.Held.{shown_in, IsHeld}
@@ -25,4 +25,5 @@ pub record SettlesListed (t : ℕ) (fate : Fate) (own : List Own) (pool : Pool) 
   pub held : IsHeld left_pool left
   pub stands : (i : ℕ) → is_some (chain_in left i) ≡ is_some (chain_in chains i)
   pub listed : (i : ℕ) → is_listed i own ≡ true → IsSettled t fate (shown_in pool (chain_in chains i)) (shown_in left_pool (chain_in left i))
+  pub exact : (i : ℕ) → is_listed i own ≡ true → shown_in left_pool (chain_in left i) ≡ settled t fate (shown_in pool (chain_in chains i))
   pub others : (i : ℕ) → is_listed i own ≡ false → shown_in left_pool (chain_in left i) ≡ shown_in pool (chain_in chains i)

@@ -1,4 +1,5 @@
 ghost use Rattle.mv_rules.specs.Ties.{OneSource, OneLateness};
+ghost use Rattle.mv_rules.specs.Noted.{LeaveNothing, LeaveAll};
 ghost use Rattle.mv_rules.specs.Restoring.{AreInTurn, LowRises, StandsRestored};
 
 /// What a timestamp reads of a key among the branches of the sequential resource manager, and which writes are late
@@ -16,4 +17,11 @@ pub fn restoring()
     ensures order { AreInTurn }
     ensures low { LowRises }
     ensures restored { StandsRestored }
+{}
+
+/// Branches that each read one key of which nothing was kept, and were decided then, leave nothing: once the low water
+/// has passed them, all is as if it had risen without them.
+pub fn reads_leave_nothing()
+    ensures nothing { LeaveNothing }
+    ensures all { LeaveAll }
 {}

@@ -15,6 +15,6 @@ mod verdict;
 mod writes;
 
 pub use answers::{Got, Put};
-pub use laws::{one_history, restoring};
+pub use laws::{one_history, reads_leave_nothing, restoring};
 pub use own::Own;
 pub use records::Records;

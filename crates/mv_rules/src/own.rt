@@ -1,5 +1,6 @@
 ghost use Rattle.std.specs.Prelude.{◌≡◌, ℕ, [], ◌∷◌, ◌++◌, ◌==◌, ◌-◌, ◌<◌, if◌then◌else◌, take, length, IfSome, IfNone, OnOk, OnErr};
-ghost use Rattle.mv_rules.specs.Own.{own_in};
+ghost use Rattle.mv_rules.specs.Noted.{NotesAt};
+ghost use Rattle.mv_rules.specs.Own.{own_in, decided_in, read_in};
 ghost use Rattle.mv_rules.specs.Tidy.{due, not_due};
 
 use std::alloc::{AllocError, Global};
@@ -33,6 +34,7 @@ pub(crate) fn note(
     own: Own,
 ) -> Result<(), AllocError>
     ensures ok { OnOk result ((t : ℕ) → own_in t notes.new ≡ (if t == ts then own_in ts notes.old ++ own ∷ [] else own_in t notes.old)) }
+    ensures noted { OnOk result (NotesAt ts (own_in ts notes.old ++ own ∷ []) (decided_in ts notes.old) (read_in ts notes.old) notes.old notes.new) }
     ensures err { OnErr result ((t : ℕ) → own_in t notes.new ≡ own_in t notes.old) }
 {
     if let Some(noted) = notes.get_mut(&ts) {
@@ -57,7 +59,8 @@ pub(crate) fn note_read(
     ts: u64,
     own: Own,
 ) -> Result<(), AllocError>
-    ensures { (t : ℕ) → own_in t notes.new ≡ own_in t notes.old }
+    ensures same { (t : ℕ) → own_in t notes.new ≡ own_in t notes.old }
+    ensures noted { OnOk result (NotesAt ts (own_in ts notes.old) (decided_in ts notes.old) (read_in ts notes.old ++ own ∷ []) notes.old notes.new) }
 {
     if let Some(noted) = notes.get_mut(&ts) {
         noted.read.push(own)?;
@@ -93,23 +96,13 @@ pub(crate) fn count(notes: &BTreeMap<u64, Notes>, ts: u64) -> usize
     }
 }
 
-/// Takes the list of a branch out.
-pub(crate) fn take_list(alloc: Global, notes: &mut BTreeMap<u64, Notes>, ts: u64) -> Vec<Own>
-    ensures list { result.items ≡ own_in ts notes.old }
+/// The branch is decided: the keys that it has written are kept until the low water has passed it.
+pub(crate) fn keep_decided(alloc: Global, notes: &mut BTreeMap<u64, Notes>, ts: u64)
     ensures others { (t : ℕ) → own_in t notes.new ≡ (if t == ts then [] else own_in t notes.old) }
-{
-    match notes.get_mut(&ts) {
-        Some(noted) => mem::replace(&mut noted.written, Vec::new(alloc)),
-        None => Vec::new(alloc),
-    }
-}
-
-/// Keeps the keys of a branch that is decided until the low water has passed it.
-pub(crate) fn keep_decided(notes: &mut BTreeMap<u64, Notes>, ts: u64, own: Vec<Own>)
-    ensures { (t : ℕ) → own_in t notes.new ≡ own_in t notes.old }
+    ensures noted { 0 < length (own_in ts notes.old) → NotesAt ts [] (own_in ts notes.old) (read_in ts notes.old) notes.old notes.new }
 {
     if let Some(noted) = notes.get_mut(&ts) {
-        noted.decided = own;
+        noted.decided = mem::replace(&mut noted.written, Vec::new(alloc));
     }
 }
 

@@ -1,10 +1,10 @@
-ghost use Rattle.std.specs.Prelude.{◌≡◌, ◌≢◌, ℕ, ◌≤◌, max, List, [], ◌∷◌, Some, None, false, IfOk, OnOk, OnErr, option_map, bytes_eq, if◌then◌else◌};
+ghost use Rattle.std.specs.Prelude.{◌≡◌, ◌≢◌, ℕ, ◌≤◌, max, List, [], ◌∷◌, Some, None, false, true, IsSome, IfOk, OnOk, OnErr, option_map, bytes_eq, if◌then◌else◌};
 ghost use Rattle.mv_chain.specs.Chain.{fresh, pruned};
 ghost use Rattle.mv_chain.specs.Within.{IsShort};
 ghost use Rattle.mv_chain.specs.History.{seen, is_late, has_open, decided, AreWhole, IsOpen, IsUnsettled};
 
 use crate::answers::{Got, Put};
-use crate::own::{Notes, Own, count, keep_decided, next_due, take_list};
+use crate::own::{Notes, Own, count, keep_decided, next_due};
 use crate::steps::{add, read, settle_all};
 use crate::verdict::{Verdict, judge};
 use crate::writes::{collect, copied, listed};
@@ -32,6 +32,7 @@ pub struct Records {
 
 impl Records {
     ghost use Rattle.mv_rules.specs.History.{History, answer_of, reads_after, open_keys, put_of, after_put, wrote, IsWritesOf, IsWholeAt};
+    ghost use Rattle.mv_rules.specs.Noted.{Reads, Puts, Settles, Restores};
     ghost use Rattle.mv_rules.specs.Records.{StandsFor, place_of, versions_in};
     ghost use Rattle.mv_rules.specs.Restoring.{with_branch, IsRestorable};
     ghost use Rattle.mv_rules.specs.Tidy.{kept_of, names, forgotten, tidied_if, Tidies, IsDrained, KeepsAll, has_read};
@@ -59,6 +60,7 @@ impl Records {
             → kept_of q self.new ≡ (if bytes_eq q key.now then Some fresh else kept_of q self.old)) }
         ensures same { OnErr result ((h : History) → StandsFor h self.old → place_of key.now self.old ≡ None
             → KeepsAll self.old self.new) }
+        ensures notes { self.new.notes ≡ self.old.notes }
         ensures within { KeepsWithin self.old self.new }
     {
         let copy = key.to_vec(self.alloc)?;
@@ -104,6 +106,8 @@ impl Records {
         ensures stands { (h : History) → StandsFor h self.old → place_of key.now self.old ≡ Some i → h.low ≤ ts → StandsFor (record h { reads = reads_after result ts key.now (seen key.now ts h.writes).from h.reads }) self.new }
         ensures same { has_read result ≡ false → (h : History) → StandsFor h self.old → place_of key.now self.old ≡ Some i
             → KeepsAll self.old self.new }
+        ensures reads { has_read result ≡ true → (h : History) → StandsFor h self.old → place_of key.now self.old ≡ Some i
+            → Reads ts key.now self.old self.new }
         ensures short { (n : ℕ) → IsWithin n self.old → IsShortAnswer n result }
         ensures within { KeepsWithin self.old self.new }
     {
@@ -120,6 +124,7 @@ impl Records {
         ensures stands { (h : History) → StandsFor h self.old → h.low ≤ ts → StandsFor (record h { reads = reads_after result ts key.now (seen key.now ts h.writes).from h.reads }) self.new }
         ensures same { has_read result ≡ false → (h : History) → StandsFor h self.old → h.low ≤ ts
             → KeepsAll self.old self.new }
+        ensures reads { has_read result ≡ true → (h : History) → StandsFor h self.old → Reads ts key.now self.old self.new }
         ensures short { (n : ℕ) → IsWithin n self.old → IsShortAnswer n result }
         ensures within { KeepsWithin self.old self.new }
     {
@@ -144,6 +149,8 @@ impl Records {
         ensures stands { (h : History) → StandsFor h self.old → place_of key.now self.old ≡ Some i → IsUnsettled ts h.low h.writes → StandsFor (after_put result ts key.now (option_map (λ v. v.items) value) h) self.new }
         ensures same { result ≢ Put.Done → (h : History) → StandsFor h self.old → place_of key.now self.old ≡ Some i
             → KeepsAll self.old self.new }
+        ensures puts { result ≡ Put.Done → (h : History) → StandsFor h self.old → place_of key.now self.old ≡ Some i
+            → IsUnsettled ts h.low h.writes → Puts ts key.now (option_map (λ v. v.items) value) self.old self.new }
         ensures within { (n : ℕ) → IsWithin n self.old → IsShort n (option_map (λ v. v.items) value) → IsWithin n self.new }
     {
         let count = count(&self.notes, ts);
@@ -188,6 +195,8 @@ impl Records {
         ensures stands { (h : History) → StandsFor h self.old → IsUnsettled ts h.low h.writes → StandsFor (after_put result ts key.now (option_map (λ v. v.items) value) h) self.new }
         ensures same { result ≢ Put.Done → (h : History) → StandsFor h self.old → IsUnsettled ts h.low h.writes
             → KeepsAll self.old self.new }
+        ensures puts { result ≡ Put.Done → (h : History) → StandsFor h self.old → IsUnsettled ts h.low h.writes
+            → Puts ts key.now (option_map (λ v. v.items) value) self.old self.new }
         ensures within { (n : ℕ) → IsWithin n self.old → IsShort n (option_map (λ v. v.items) value) → IsWithin n self.new }
     {
         if let Some(i) = self.places.get(key) {
@@ -208,11 +217,18 @@ impl Records {
     /// Decides the fate of a branch, also of one below the low water: its writes stay, or go. Takes no memory.
     pub fn settle(&mut self, ts: u64, fate: Fate)
         ensures stands { (h : History) → StandsFor h self.old → IsOpen ts h.writes → StandsFor (record h { writes = decided ts fate h.writes }) self.new }
+        ensures settles { (h : History) → StandsFor h self.old → Settles ts fate self.old self.new }
         ensures within { KeepsWithin self.old self.new }
     {
-        let own = take_list(self.alloc, &mut self.notes, ts);
-        settle_all(&mut self.pool, &mut self.chains, &own, ts, fate);
-        keep_decided(&mut self.notes, ts, own);
+        let Some(noted) = self.notes.get(&ts) else {
+            return;
+        };
+        let own = &noted.written;
+        if own.is_empty() {
+            return;
+        }
+        settle_all(&mut self.pool, &mut self.chains, own, ts, fate);
+        keep_decided(self.alloc, &mut self.notes, ts);
     }
 
     /// Prunes the chain of a key. Takes no memory.
@@ -270,6 +286,10 @@ impl Records {
     fn place(&mut self, key: &[u8]) -> Result<usize, AllocError>
         ensures place { IfOk result (λ i. place_of key.now self.new ≡ Some i) }
         ensures stands { (h : History) → StandsFor h self.old → StandsFor h self.new }
+        ensures known { IsSome (place_of key.now self.old) → self.new ≡ self.old }
+        ensures made { OnOk result ((h : History) → StandsFor h self.old → place_of key.now self.old ≡ None → (q : List ℕ)
+            → kept_of q self.new ≡ (if bytes_eq q key.now then Some fresh else kept_of q self.old)) }
+        ensures notes { self.new.notes ≡ self.old.notes }
         ensures within { KeepsWithin self.old self.new }
     {
         if let Some(i) = self.places.get(key) {
@@ -281,6 +301,8 @@ impl Records {
     /// Adds a branch's write, however many keys it has written.
     fn put_back(&mut self, ts: u64, key: &[u8], value: Option<Vec<u8>>) -> Result<(), AllocError>
         ensures stands { OnOk result ((h : History) → StandsFor h self.old → IsUnsettled ts h.low h.writes → is_late key.now ts h.reads ≡ false → StandsFor (record h { writes = wrote ts key.now (option_map (λ v. v.items) value) ∷ h.writes }) self.new) }
+        ensures puts { OnOk result ((h : History) → StandsFor h self.old → IsUnsettled ts h.low h.writes
+            → Puts ts key.now (option_map (λ v. v.items) value) self.old self.new) }
         ensures within { (n : ℕ) → IsWithin n self.old → IsShort n (option_map (λ v. v.items) value) → IsWithin n self.new }
     {
         let i = self.place(key)?;
@@ -318,6 +340,7 @@ impl Records {
         fate: Option<Fate>,
     ) -> Result<(), AllocError>
         ensures stands { OnOk result ((h : History) → StandsFor h self.old → IsRestorable ts h → StandsFor (record h { writes = with_branch ts fate writes.now h.writes }) self.new) }
+        ensures restores { OnOk result ((h : History) → StandsFor h self.old → IsRestorable ts h → Restores ts writes.now fate self.old self.new) }
         ensures within { (n : ℕ) → IsWithin n self.old → AreShort n writes.now → IsWithin n self.new }
     {
         for write in writes {

@@ -1,12 +1,13 @@
-ghost use Rattle.std.specs.Prelude.{◌≡◌, ◌≢◌, ℕ, ◌≤◌, List, [], ◌∷◌, ◌++◌, ◌==◌, if◌then◌else◌, false, OnOk, OnErr, option_map};
+ghost use Rattle.std.specs.Prelude.{◌≡◌, ◌≢◌, ℕ, ◌≤◌, List, [], ◌∷◌, ◌++◌, ◌==◌, if◌then◌else◌, false, true, OnOk, OnErr, option_map};
 ghost use Rattle.mv_chain.specs.History.{Written, Answered};
-ghost use Rattle.mv_chain.specs.Chain.{shows, StandsFor};
+ghost use Rattle.mv_chain.specs.Chain.{shows, installed, StandsFor};
 ghost use Rattle.mv_chain.specs.Look.{looked};
 ghost use Rattle.mv_chain.specs.Pool.{versions_of, IsKept, LeavesOthers};
 ghost use Rattle.mv_chain.specs.Within.{IsShort, IsWithin, KeepsWithin};
 ghost use Rattle.mv_rules.specs.History.{reads_after, answer_of};
 ghost use Rattle.mv_rules.specs.Held.{IsHeld};
-ghost use Rattle.mv_rules.specs.Own.{own_in};
+ghost use Rattle.mv_rules.specs.Noted.{NotesAt, read_by, NotesRead};
+ghost use Rattle.mv_rules.specs.Own.{own_in, decided_in, read_in};
 ghost use Rattle.mv_rules.specs.Steps.{SettlesListed, IsWritten};
 ghost use Rattle.mv_rules.specs.Tidy.{has_read};
 ghost use Rattle.mv_rules.specs.Within.{IsShortAnswer};
@@ -29,7 +30,8 @@ fn note_unwritten(
     ts: u64,
     key: &[u8],
 ) -> Result<(), AllocError>
-    ensures { (t : ℕ) → own_in t notes.new ≡ own_in t notes.old }
+    ensures same { (t : ℕ) → own_in t notes.new ≡ own_in t notes.old }
+    ensures noted { OnOk result (NotesRead ts key.now (versions_of pool.now chain.now) notes.old notes.new) }
 {
     if !chain.is_idle(pool, ts.saturating_sub(1)) {
         return Ok(());
@@ -55,7 +57,9 @@ pub(crate) fn read(
     ensures same { has_read result ≡ false → versions_of pool.new chain.new ≡ versions_of pool.old chain.old }
     ensures kept { IsKept pool.old chain.old → IsKept pool.new chain.new }
     ensures others { LeavesOthers pool.old chain.old pool.new chain.new }
+    ensures versions { has_read result ≡ true → IsKept pool.old chain.old → versions_of pool.new chain.new ≡ read_by ts (versions_of pool.old chain.old) }
     ensures notes { (t : ℕ) → own_in t notes.new ≡ own_in t notes.old }
+    ensures noted { has_read result ≡ true → NotesRead ts key.now (versions_of pool.old chain.old) notes.old notes.new }
     ensures short { (n : ℕ) → IsWithin n pool.old → IsShortAnswer n result }
     ensures within { KeepsWithin pool.old pool.new }
 {
@@ -88,6 +92,8 @@ pub(crate) fn add(
     value: Option<Vec<u8>>,
 ) -> Result<(), AllocError>
     ensures ok { OnOk result ((ts : ℕ) → IsKept pool.old chain.old → look.now ≡ looked ts (versions_of pool.old chain.old) → IsWritten ts (option_map (λ v. v.items) value) (versions_of pool.old chain.old) (versions_of pool.new chain.new)) }
+    ensures versions { OnOk result ((ts : ℕ) → IsKept pool.old chain.old → look.now ≡ looked ts (versions_of pool.old chain.old) → versions_of pool.new chain.new ≡ installed ts (option_map (λ v. v.items) value) (versions_of pool.old chain.old)) }
+    ensures lists { OnOk result (NotesAt look.now.at (own_in look.now.at notes.old ++ own ∷ []) (decided_in look.now.at notes.old) (read_in look.now.at notes.old) notes.old notes.new) }
     ensures noted { OnOk result ((t : ℕ) → own_in t notes.new ≡ (if t == look.now.at then own_in look.now.at notes.old ++ own ∷ [] else own_in t notes.old)) }
     ensures err { OnErr result (IsKept pool.old chain.old → versions_of pool.new chain.new ≡ versions_of pool.old chain.old) }
     ensures unnoted { OnErr result ((t : ℕ) → own_in t notes.new ≡ own_in t notes.old) }

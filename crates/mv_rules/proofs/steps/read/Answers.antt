@@ -27,3 +27,6 @@ returns-clause-same c =
       | in-None w ↦ absurd (cc (none, ap has_read w.got-is))
       | in-Some+in-Ok w ↦ absurd (cc (none, ap has_read w.got-is))
     ]
+
+pub returns-clause-versions : goal.returns-clause-versions
+returns-clause-versions c = λ answered k. c.mark_at.ensures.versions c.args.ts k (c.look-look.ensures k)

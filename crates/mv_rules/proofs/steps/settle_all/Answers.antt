@@ -38,6 +38,7 @@ returns-clause-settled c = λ held.
       held = done.held;
       stands = done.stands;
       listed = λ i e key low writes reads s u. rw (done.listed i e).0 ((done.listed i e).1 key low writes reads s u);
+      exact = λ i e. (done.listed i e).0;
       others = done.others;
     }
 

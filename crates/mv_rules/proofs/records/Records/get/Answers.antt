@@ -1,6 +1,7 @@
 use Rattle.std.proofs.Common.{◌≡◌, sym, ap, None}
 use Rattle.mv_rules.specs.Records.{place_of}
 use Rattle.mv_rules.specs.Tidy.{has_read}
+use Rattle.mv_rules.proofs.Exact.{reads_made}
 use Rattle.mv_rules.proofs.Tidied.{unmade, absent_kept, reads_unwritten}
 use Rattle.mv_rules.proofs.records.Records.get.Goals as goal
 
@@ -16,6 +17,9 @@ returns c =
     record {
       answer = λ h s le m. c.get_at-got.ensures.answer h (c.make.ensures.stands h s none) c.in-Ok.ensures.place le m;
       same = λ refused h s le. absurd (reads_unwritten h c.args.self.now c.args.key.now c.args.ts c.get_at-got.result s none le refused (c.get_at-got.ensures.answer h (c.make.ensures.stands h s none) c.in-Ok.ensures.place le c.in_default-got.not-Memory));
+      reads = λ answered h s.
+          reads_made c.args.key.now c.args.self.now c.make.new.self (absent_kept c.args.self.now c.args.key.now none) (c.in-Ok.ensures.made h s none) c.args.ts c.get_at-got.new.self c.make.ensures.notes
+          (c.get_at-got.ensures.reads answered h (c.make.ensures.stands h s none) c.in-Ok.ensures.place);
       stands = λ h s le. c.get_at-got.ensures.stands h (c.make.ensures.stands h s none) c.in-Ok.ensures.place le;
       short = λ n h. c.get_at-got.ensures.short n (c.make.ensures.within n h);
       within = λ n h. c.get_at-got.ensures.within n (c.make.ensures.within n h);
@@ -34,3 +38,6 @@ returns-in-Memory-clause-same c =
 
 pub returns-in_default-make-clause-same : goal.returns-in_default-make-clause-same
 returns-in_default-make-clause-same c = λ refused h s le. c.in_default-make.ensures.same h s (sym c.in_default.ensures.value)
+
+pub returns-in-Some-clause-reads : goal.returns-in-Some-clause-reads
+returns-in-Some-clause-reads c = λ answered h s. c.get_at.ensures.reads answered h s (sym c.in-Some.ensures.value)

@@ -1,4 +1,11 @@
-use Rattle.std.proofs.Common.{sym}
+use Rattle.std.proofs.Common.{◌≡◌, ◌∙◌, Some, sym, ap}
+use Rattle.std.specs.Prelude.{option_map}
+use Rattle.mv_chain.specs.Pool.{versions_of}
+use Rattle.mv_rules.specs.Held.{shown_in}
+use Rattle.mv_rules.specs.Records.{chain_at}
+use Rattle.mv_rules.specs.Tidy.{kept_of}
+use Rattle.mv_rules.specs.Noted.{read_by}
+use Rattle.mv_rules.proofs.Exact.{reads_there}
 use Rattle.mv_rules.proofs.Changed.{read_at}
 use Rattle.mv_rules.proofs.Changed.{with_chain}
 use Rattle.mv_rules.proofs.Tidied.{kept_with, same_kept}
@@ -15,3 +22,13 @@ returns-in-Some-clause-same c =
     λ none h s here.
     same_kept c.args.self.now (with_chain c.args.self.now c.args.i c.read.new.pool c.read.new.chain c.read.new.notes) c.args.key.now
     (kept_with h c.args.self.now c.args.key.now c.args.i c.in-Some.chain.now c.read.new.chain c.read.new.pool c.read.new.notes s here (sym c.in-Some.ensures.value) c.read.ensures.others c.read.ensures.kept (λ vs. vs) (λ k. c.read.ensures.same none))
+
+pub returns-in-Some-clause-reads : goal.returns-in-Some-clause-reads
+returns-in-Some-clause-reads c =
+    λ answered h s here.
+    let r = c.args.self.now in
+    let a = c.in-Some.chain.now in
+    let there : kept_of c.args.key.now r ≡ Some (versions_of r.pool a) = ap (λ o. option_map (λ j. chain_at j r) o) here ∙ ap (λ o. Some (shown_in r.pool o)) (sym c.in-Some.ensures.value) in
+    reads_there c.args.ts c.args.key.now r (with_chain r c.args.i c.read.new.pool c.read.new.chain c.read.new.notes) (versions_of r.pool a) there
+    (kept_with h r c.args.key.now c.args.i a c.read.new.chain c.read.new.pool c.read.new.notes s here (sym c.in-Some.ensures.value) c.read.ensures.others c.read.ensures.kept (read_by c.args.ts) (λ k. c.read.ensures.versions answered k))
+    (c.read.ensures.noted answered)

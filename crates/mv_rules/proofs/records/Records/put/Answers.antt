@@ -22,6 +22,7 @@ returns c =
       same = λ refused h s u.
           unmade c.args.self.now c.make.new.self c.put_at-answer.new.self c.forget.new.self c.args.key.now (absent_kept c.args.self.now c.args.key.now none) (c.in-Ok.ensures.made h s none)
           (c.put_at-answer.ensures.same c.in_default-answer.not-Done h (c.make.ensures.stands h s none) c.in-Ok.ensures.place) (c.forget.ensures.kept _ (c.put_at-answer.ensures.stands h (c.make.ensures.stands h s none) c.in-Ok.ensures.place u));
+      puts = λ done. absurd (c.in_default-answer.not-Done done);
       within = λ n h short. c.forget.ensures.within n (c.put_at-answer.ensures.within n (c.make.ensures.within n h) short);
     }
 
@@ -30,3 +31,6 @@ returns-in-Some-clause-same c = λ refused h s u. c.put_at.ensures.same refused 
 
 pub returns-in_default-make-clause-same : goal.returns-in_default-make-clause-same
 returns-in_default-make-clause-same c = λ refused h s u. c.in_default-make.ensures.same h s (sym c.in_default.ensures.value)
+
+pub returns-in-Some-clause-puts : goal.returns-in-Some-clause-puts
+returns-in-Some-clause-puts c = λ done h s u. c.put_at.ensures.puts done h s (sym c.in-Some.ensures.value) u

@@ -1,11 +1,13 @@
 use Rattle.std.proofs.Common.{◌≡◌, refl, sym, ap, ℕ, List, Option}
-use Rattle.std.specs.Prelude.{option_map}
+use Rattle.std.specs.Prelude.{option_map, ◌==◌}
 use Rattle.mv_chain.specs.declared.look.Look.{Look}
+use Rattle.mv_chain.specs.Chain.{shows, is_marked, installed}
 use Rattle.mv_chain.specs.Pool.{versions_of}
 use Rattle.mv_chain.proofs.Frames.{nothing_leaves}
 use Rattle.mv_rules.specs.Held.{shown_in}
 use Rattle.mv_rules.proofs.Changed.{alike_at, again_at, first_at}
-use Rattle.mv_rules.proofs.Written.{looked_at, put_refused}
+use Rattle.mv_rules.proofs.Written.{looked_at, put_refused, again_is, first_is}
+use Rattle.mv_rules.proofs.Exact.{puts_again, puts_first}
 use Rattle.mv_rules.proofs.Changed.{with_chain}
 use Rattle.mv_rules.proofs.Tidied.{kept_with, same_kept}
 use Rattle.mv_rules.proofs.records.Records.put_at.Goals as goal
@@ -100,3 +102,33 @@ returns-in-Err-add-clause-same c =
     λ n h s here.
     same_kept c.args.self.now (with_chain c.args.self.now c.args.i c.add.new.pool c.add.new.chain c.add.new.notes) c.args.key.now
     (kept_with h c.args.self.now c.args.key.now c.args.i c.in-Some.chain.now c.add.new.chain c.add.new.pool c.add.new.notes s here (sym c.in-Some.ensures.value) c.add.ensures.others (λ kk. c.add.ensures.kept c.args.ts kk (c.look-look.ensures kk)) (λ vs. vs) c.in-Err-add.ensures.err)
+
+pub returns-in-Ok-clause-puts : goal.returns-in-Ok-clause-puts
+returns-in-Ok-clause-puts c =
+    λ done h s here u.
+    let r = c.args.self.now in
+    let a = c.in-Some.chain.now in
+    let value : Option (List ℕ) = option_map (λ v. v.items) c.args.value in
+    let k = s.chains.held.kept c.args.i a (sym c.in-Some.ensures.value) in
+    let vs = versions_of r.pool a in
+    let verdict = looked_at _ c.look-look.result c.args.ts c.count-count.result _ (c.look-look.ensures k) c.in-Again.ensures in
+    puts_again h r (with_chain r c.args.i c.install_at.new.pool c.install_at.new.self r.notes) c.args.key.now c.args.i c.args.ts vs value u s here (ap (shown_in r.pool) c.in-Some.ensures.value)
+    (kept_with h r c.args.key.now c.args.i a c.install_at.new.self c.install_at.new.pool r.notes s here (sym c.in-Some.ensures.value) c.install_at.ensures.others (λ kk. c.install_at.ensures.kept c.args.ts kk (c.look-look.ensures kk))
+    (installed c.args.ts value) (λ kk. c.in-Ok.ensures.versions c.args.ts kk (c.look-look.ensures kk)))
+    (again_is ((shows c.args.ts vs).from == c.args.ts) c.count-count.result (is_marked c.args.ts vs) verdict).1 refl
+
+pub returns-in-Ok-add-clause-puts : goal.returns-in-Ok-add-clause-puts
+returns-in-Ok-add-clause-puts c =
+    λ done h s here u.
+    let r = c.args.self.now in
+    let a = c.in-Some.chain.now in
+    let value : Option (List ℕ) = option_map (λ v. v.items) c.args.value in
+    let k = s.chains.held.kept c.args.i a (sym c.in-Some.ensures.value) in
+    let vs = versions_of r.pool a in
+    let verdict = looked_at _ c.look-look.result c.args.ts c.count-count.result _ (c.look-look.ensures k) c.in-First.ensures in
+    let at_ts : c.look-look.result.at ≡ c.args.ts = ap (λ (l : Look). l.at) (c.look-look.ensures k) in
+    let lists = rw (c.in-Ok-from_slice.ensures, at_ts) at c.in-Ok-add.ensures.lists in
+    puts_first h r (with_chain r c.args.i c.add.new.pool c.add.new.chain c.add.new.notes) c.args.key.now c.args.i c.args.ts vs value u s here (ap (shown_in r.pool) c.in-Some.ensures.value)
+    (kept_with h r c.args.key.now c.args.i a c.add.new.chain c.add.new.pool c.add.new.notes s here (sym c.in-Some.ensures.value) c.add.ensures.others (λ kk. c.add.ensures.kept c.args.ts kk (c.look-look.ensures kk))
+    (installed c.args.ts value) (λ kk. c.in-Ok-add.ensures.versions c.args.ts kk (c.look-look.ensures kk)))
+    (first_is ((shows c.args.ts vs).from == c.args.ts) c.count-count.result (is_marked c.args.ts vs) verdict).1 refl lists

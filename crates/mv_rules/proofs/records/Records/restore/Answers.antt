@@ -3,6 +3,7 @@ use Rattle.std.proofs.lemmas.List.{take_more, take_all}
 use Rattle.xa_codes.specs.declared.write.Write.{Write}
 use Rattle.mv_rules.specs.History.{History}
 use Rattle.mv_rules.specs.Restoring.{with_branch}
+use Rattle.mv_rules.proofs.Exact.{puts_more}
 use Rattle.mv_rules.proofs.Within.{write_short}
 use Rattle.mv_rules.proofs.Rebuilt.{branch_grown, restorable_unsettled, restorable_timely, branch_decided}
 use Rattle.mv_rules.proofs.records.Records.restore.Goals as goal
@@ -18,6 +19,10 @@ loop-write-preserved c =
           let before : History = record h { writes = with_branch c.args.ts None done h.writes } in
           let after = c.in_ok-put_back.ensures.stands before (c.loop-write.invariant.stands h s e) (restorable_unsettled c.args.ts h done e) (restorable_timely c.args.ts h _ e) in
           rw step (branch_grown c.args.ts h _ done w _ _ c.as_slice.ensures c.in_ok-value.ensures after);
+      puts = λ h s e.
+          let before : History = record h { writes = with_branch c.args.ts None done h.writes } in
+          let one = c.in_ok-put_back.ensures.puts before (c.loop-write.invariant.stands h s e) (restorable_unsettled c.args.ts h done e) in
+          rw step (puts_more c.args.ts done w c.args.self.now c.loop-write.self c.put_back.new.self (c.loop-write.invariant.puts h s e) (rw (c.as_slice.ensures, c.in_ok-value.ensures) at one));
       within = λ n h short.
           c.in_ok-put_back.ensures.within n (c.loop-write.invariant.within n h short) (rw c.in_ok-value.ensures (write_short n c.loop-write.write-index ws w c.loop-write-test.true c.write-item.is short));
     }
@@ -39,3 +44,11 @@ returns-in_err-put_back-clause-within c =
 pub returns-in-Some-clause-within : goal.returns-in-Some-clause-within
 returns-in-Some-clause-within c =
     λ n h short. c.settle.ensures.within n (c.loop-write.invariant.within n h short)
+
+pub returns-in-Some-clause-restores : goal.returns-in-Some-clause-restores
+returns-in-Some-clause-restores c =
+    let ws = c.args.writes.now in
+    λ h s e.
+    let all : take c.loop-write.write-index ws ≡ ws = take_all c.loop-write.write-index ws c.loop-write-test.false in
+    let before : History = record h { writes = with_branch c.args.ts None ws h.writes } in
+    rw c.in-Some.is (c.loop-write.self, rw all at (c.loop-write.invariant.puts h s e), c.settle.ensures.settles before (rw all at (c.loop-write.invariant.stands h s e)))
