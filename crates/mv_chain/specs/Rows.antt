@@ -1,51 +1,50 @@
--- Worked rows, computed on the definitions alone. Three branches begin in the first boot; the key is `k`.
-use Rattle.std.proofs.Common.{◌≡◌, ℕ, true, false, List, [], ◌∷◌, None, Some, refl}
+-- Worked rows: what is seen and what is late. Three branches begin in the first boot; the key is `k`.
+use Rattle.std.specs.Prelude.{◌≡◌, ℕ, true, false, List, [], ◌∷◌, None, Some}
 use Rattle.mv_chain.specs.declared.fate.Fate.TheVariants.{Committed, RolledBack}
-use Rattle.mv_chain.specs.History.{Written, seen, is_busy, is_late, decided, absent}
+use Rattle.mv_chain.specs.History.{Written, Seen, wrote, read_by, seen, is_busy, is_late, decided, absent}
 
-abbrev key : List ℕ
+abbrev pub key : List ℕ
 key = 0x6b ∷ []
 
-abbrev first : ℕ
+abbrev pub first : ℕ
 first = 4294967297
 
-abbrev second : ℕ
+abbrev pub second : ℕ
 second = 4294967298
 
-abbrev third : ℕ
+abbrev pub third : ℕ
 third = 4294967299
 
-abbrev wrote : ℕ → ℕ → Written
-wrote t byte = record { timestamp = t; key = key; value = Some (byte ∷ []); fate = None }
+-- the key has this byte, as a branch of this timestamp wrote it
+abbrev pub put_by : ℕ → ℕ → Written
+put_by t byte = wrote t key (Some (byte ∷ []))
 
--- a late write: the second branch has read the key as absent, so the first may not write it; the third may
-late_write : is_late key first (record { reader = second; key = key; from = 0 } ∷ []) ≡ true
-late_write = refl
+-- what is seen of it, once it is committed
+abbrev pub value_by : ℕ → ℕ → Seen
+value_by t byte = record { from = t; value = Some (byte ∷ []); pending = false }
 
-later_write : is_late key third (record { reader = second; key = key; from = 0 } ∷ []) ≡ false
-later_write = refl
+-- the second branch has read the key as absent: the first may not write it, the third may
+abbrev pub LateWrite : Type 0
+LateWrite =
+    (is_late key first (read_by second key 0 ∷ []) ≡ true)
+    × (is_late key third (read_by second key 0 ∷ []) ≡ false)
 
--- an earlier blind write: the second branch writes 2 and commits, then the first writes 1 and commits; the third reads 2
-abbrev blind : List Written
-blind = decided first Committed (wrote first 0x31 ∷ decided second Committed (wrote second 0x32 ∷ []))
+-- the second branch writes 2 and commits, then the first writes 1 and commits: the third reads 2
+abbrev pub BlindWrite : Type 0
+BlindWrite =
+    seen key third (decided first Committed (put_by first 0x31 ∷ decided second Committed (put_by second 0x32 ∷ [])))
+    ≡ value_by second 0x32
 
-blind_write : seen key third blind ≡ record { from = second; value = Some (0x32 ∷ []); pending = false }
-blind_write = refl
+-- the first branch has written and is undecided: the second may not read, the
+-- first may; once it commits, the second reads
+abbrev pub BusyUntilCommitted : Type 0
+BusyUntilCommitted =
+    (is_busy second (seen key second (put_by first 0x76 ∷ [])) ≡ true)
+    × (is_busy first (seen key first (put_by first 0x76 ∷ [])) ≡ false)
+    × (seen key second (decided first Committed (put_by first 0x76 ∷ [])) ≡ value_by first 0x76)
 
--- busy: the first branch has written and is undecided, so the second may not read; once it commits, the second reads
-busy : is_busy second (seen key second (wrote first 0x76 ∷ [])) ≡ true
-busy = refl
-
-read_own : is_busy first (seen key first (wrote first 0x76 ∷ [])) ≡ false
-read_own = refl
-
-read_committed : seen key second (decided first Committed (wrote first 0x76 ∷ [])) ≡ record { from = first; value = Some (0x76 ∷ []); pending = false }
-read_committed = refl
-
--- with the write made by the second branch instead, the first reads nothing
-read_before : seen key first (wrote second 0x76 ∷ []) ≡ absent
-read_before = refl
-
--- a rolled back write is seen by no one
-read_rolled_back : seen key second (decided first RolledBack (wrote first 0x76 ∷ [])) ≡ absent
-read_rolled_back = refl
+-- nobody reads what a later branch wrote, nor what was rolled back
+abbrev pub NotSeen : Type 0
+NotSeen =
+    (seen key first (put_by second 0x76 ∷ []) ≡ absent)
+    × (seen key second (decided first RolledBack (put_by first 0x76 ∷ [])) ≡ absent)
