@@ -12,7 +12,7 @@ use Rattle.mv_chain.proofs.Seen.{and_gone, but_not, cleared, seen_rolled_back, s
 use Rattle.mv_chain.proofs.Chains.{place_within, shows_none, shows_inserted, marked_inserted, marked_set, writes_set, shows_replaced, shows_committed, shows_removed, marked_removed}
 use Rattle.std.specs.Cmp.Lexicographic.{bytes_decides}
 
-key_itself : (key : List ℕ) → bytes_eq key key ≡ true
+pub key_itself : (key : List ℕ) → bytes_eq key key ≡ true
 key_itself key = (bytes_decides key key).1 refl
 
 base_set : (low i : ℕ) (vs : List Version) (w d : Version) → i < length vs → w.timestamp ≡ (get_or vs i d).timestamp → (w.pending ≡ true → (get_or vs i d).pending ≡ true) → has_base low vs ≡ true → has_base low (set vs i w) ≡ true

@@ -12,7 +12,7 @@ use Rattle.xa_model.specs.Sound.{IsSound}
 use Rattle.xa_model.specs.Durable.{Pairwise, insert, named_before, durable, by_name}
 use Rattle.xa_model.specs.Fold.{apply, complete, decide}
 use Rattle.xa_model.specs.LoggingLaws.{KeepsSoundApplied, AppliedLasts}
-use Rattle.xa_model.proofs.Beside.{sound_beside}
+use Rattle.xa_model.proofs.Parts.{sound_beside}
 use Rattle.xa_model.proofs.Inserts.{insert_all, insert_pairwise, all_imply}
 use Rattle.xa_model.proofs.Names.{committed_sound}
 use Rattle.xa_model.proofs.Doubts.{prepared_sound, decided_sound, forgotten_sound, completed_sound, in_doubt}

@@ -54,7 +54,6 @@ pub mod ShortWrites
 pub mod RecordableRows
 pub mod StillLogged
 pub mod Recoveries
-pub mod Beside
 pub mod Stopped
 pub mod Restarts
 pub mod LoggedEvents

@@ -22,7 +22,7 @@ use Rattle.xa_model.proofs.Counts.{count_filter, count_map}
 use Rattle.xa_model.proofs.Order.{descends_below}
 use Rattle.xa_model.proofs.Applied.{committed_of, prepared_of, same_durable}
 use Rattle.xa_model.proofs.AppliedDecisions.{applied_lasts, applied_sound}
-use Rattle.xa_model.proofs.Beside.{sound_beside, left_sound}
+use Rattle.xa_model.proofs.Parts.{sound_beside, left_sound}
 use Rattle.xa_model.proofs.Stopped.{down_sound, ended_sound, down_may, ended_may, down_durable, ended_durable}
 use Rattle.xa_model.proofs.Recordable.{recordable, loggable, relogged, applied_loggable, lasting_recordable}
 

@@ -16,7 +16,7 @@ use Rattle.xa_model.specs.Durable.{durable}
 use Rattle.xa_model.specs.Listed.{list_after}
 use Rattle.xa_model.specs.Recovering.{scan_of, scan_from, scan_after, with_scan, recovered_from, recover_by}
 use Rattle.xa_model.specs.Sound.{IsSound}
-use Rattle.xa_model.proofs.Beside.{sound_beside}
+use Rattle.xa_model.proofs.Parts.{sound_beside}
 use Rattle.xa_model.proofs.Marks.{mark_keeps, done_keeps, changed_sound}
 use Rattle.xa_model.proofs.Rows.{unless_sound, marked_sound, passed}
 use Rattle.xa_model.proofs.Seats.{seat_sound}

@@ -9,7 +9,7 @@ use Rattle.xa_model.specs.Durable.{durable}
 use Rattle.xa_model.specs.Restarting.{refused_opening}
 use Rattle.xa_model.specs.Logging.{applied, down}
 use Rattle.xa_model.specs.MayLog.{MayLog}
-use Rattle.xa_model.proofs.Beside.{sound_beside, left_sound}
+use Rattle.xa_model.proofs.Parts.{sound_beside, left_sound}
 
 pub down_sound : (s : State) (r : Option Record) → IsSound s → IsSound (record (down s) { open_record = r })
 down_sound s r h = sound_beside s s.reads s.logged_boot s.end Down r h
