@@ -7,10 +7,10 @@ use Rattle.mv_chain.specs.declared.fate.Fate.{Fate}
 use Rattle.mv_chain.specs.declared.fate.Fate.TheVariants.{Committed, RolledBack}
 use Rattle.mv_chain.specs.declared.version.Version.{Version}
 use Rattle.mv_chain.specs.History.{Written, Answered, seen, is_busy, is_late, decided, IsOpen, IsUnsettled}
-use Rattle.mv_chain.specs.Chain.{base, StandsFor, IsChain, IsPlace, is_marked, marked, unread, may_install, installed, settled}
-use Rattle.mv_chain.proofs.Chains.{place_within, shows_none, chain_removed, chain_inserted, place_new, new_after}
+use Rattle.mv_chain.specs.Chain.{base, StandsFor, IsBefore, IsChain, IsPlace, is_marked, marked, unread, may_install, installed, settled}
+use Rattle.mv_chain.proofs.Chains.{place_within, shows_none, chain_removed, chain_inserted, place_new, new_after, none_pending}
 use Rattle.mv_chain.proofs.Exact.{marked_some, marked_nothing, installed_own, installed_new, committed_own, rolled_back_own, settled_nothing}
-use Rattle.mv_chain.proofs.Kept.{raised_chain, raised_stands, replaced_chain, replaced_stands, committed_chain, committed_stands, own_decided, none_pending}
+use Rattle.mv_chain.proofs.Kept.{raised_chain, raised_stands, replaced_chain, replaced_stands, committed_chain, committed_stands, own_decided}
 use Rattle.mv_chain.proofs.Stands.{base_place, stands_free, stands_inserted, stands_untouched, stands_rolled_back}
 
 -- each timestamp has its place
@@ -18,7 +18,7 @@ pub place_for : (t : ℕ) (vs : List Version) → IsChain vs → (i : ℕ) × Is
 place_for t [] c = (zero, tt)
 place_for t (v ∷ vs) c = at (nat_le v.timestamp t) refl (place_for t vs c.2)
   where
-    above : (xs : List Version) → t < v.timestamp → Each (λ w. (v.timestamp < w.timestamp) × (v.mark ≤ w.timestamp)) xs → IsPlace t zero xs
+    above : (xs : List Version) → t < v.timestamp → Each (IsBefore v) xs → IsPlace t zero xs
     above [] lt h = tt
     above (x ∷ xs) lt h = (omega (arith, lt, h.0.0), above xs lt h.1)
 

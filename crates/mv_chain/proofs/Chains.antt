@@ -8,7 +8,7 @@ use Rattle.mv_chain.specs.declared.fate.Fate.{Fate}
 use Rattle.mv_chain.specs.declared.fate.Fate.TheVariants.{Committed, RolledBack}
 use Rattle.mv_chain.specs.declared.version.Version.{Version}
 use Rattle.mv_chain.specs.History.{Written, shown, newest, seen_of, stands, deciding, decided}
-use Rattle.mv_chain.specs.Chain.{as_written, shows_without, shows, is_marked, IsChain, IsPlace}
+use Rattle.mv_chain.specs.Chain.{as_written, shows_without, shows, is_marked, IsBefore, IsChain, IsPlace}
 use Rattle.mv_chain.specs.Look.{IsBelow}
 use Rattle.mv_chain.proofs.Seen.{seen_behind, seen_swapped, and_gone, but_not, cleared, seen_rolled_back, seen_committed}
 
@@ -34,6 +34,14 @@ place_at t i [] d h = absurd h
 place_at t zero (v ∷ vs) d h = h.0
 place_at t (suc i) (v ∷ vs) d h = place_at t i vs d h.1
 
+-- a version is shown pending where it is
+pub pending_shown : (v : Version) → (shown (as_written v)).pending ≡ v.pending
+pending_shown v = at v.pending
+  where
+    at : (b : Bool) → (shown (as_written (record v { pending = b }))).pending ≡ b
+    at true = refl
+    at false = refl
+
 -- nothing is shown below the first version
 pub shows_none : (t : ℕ) (vs : List Version) → IsPlace t zero vs → shows t vs ≡ record { from = 0; value = None; pending = false }
 shows_none t [] h = refl
@@ -44,7 +52,7 @@ pub shows_last : (t i : ℕ) (vs : List Version) (d : Version) → IsChain vs �
 shows_last t i [] d c h = absurd h
 shows_last t zero (v ∷ vs) d c h = grind (arith, nat_tests, shows_none t vs h.1)
 shows_last t (suc i) (v ∷ vs) d c h =
-    let above = each_at (λ w. (v.timestamp < w.timestamp) × (v.mark ≤ w.timestamp)) vs i d (place_within t i vs h.1) c.0 in
+    let above = each_at (IsBefore v) vs i d (place_within t i vs h.1) c.0 in
     grind (arith, nat_tests, shows_last t i vs d c.2 h.1, above.0)
 
 -- the mark of the last version below t decides
@@ -66,7 +74,7 @@ pub marked_last : (t i : ℕ) (vs : List Version) (d : Version) → IsChain vs �
 marked_last t i [] d c h = absurd h
 marked_last t zero (v ∷ vs) d c h = grind (arith, nat_tests, h.0, marked_none t vs h.1)
 marked_last t (suc i) (v ∷ vs) d c h =
-    let above = each_at (λ w. (v.timestamp < w.timestamp) × (v.mark ≤ w.timestamp)) vs i d (below_within t i vs h.1) c.0 in
+    let above = each_at (IsBefore v) vs i d (below_within t i vs h.1) c.0 in
     let under = below_at t i vs d h.1 in
     grind (arith, nat_tests, marked_last t i vs d c.2 h.1, above.1)
 
@@ -79,7 +87,7 @@ pub below_own : (t i : ℕ) (vs : List Version) (d : Version) → IsChain vs →
 below_own t i [] d c h own = absurd h
 below_own t zero (v ∷ vs) d c h own = (omega (arith, own), none_below t vs h.1)
 below_own t (suc i) (v ∷ vs) d c h own =
-    let above = each_at (λ w. (v.timestamp < w.timestamp) × (v.mark ≤ w.timestamp)) vs i d (place_within t i vs h.1) c.0 in
+    let above = each_at (IsBefore v) vs i d (place_within t i vs h.1) c.0 in
     (omega (arith, above.0, own), below_own t i vs d c.2 h.1 own)
 
 pub below_new : (t i : ℕ) (vs : List Version) → IsPlace t i vs → Each (λ v. v.timestamp ≡ t → ⊥) vs → IsBelow t i vs
@@ -128,12 +136,12 @@ chain_set i r [] w d h c e m own = tt
 chain_set zero r (v ∷ vs) w d h c e m own =
     (each_both vs c.0 (place_after r vs h.1), own, c.2)
   where
-    each_both : (xs : List Version) → Each (λ x. (v.timestamp < x.timestamp) × (v.mark ≤ x.timestamp)) xs → Each (λ x. r < x.timestamp) xs → Each (λ x. (w.timestamp < x.timestamp) × (w.mark ≤ x.timestamp)) xs
+    each_both : (xs : List Version) → Each (IsBefore v) xs → Each (λ x. r < x.timestamp) xs → Each (IsBefore w) xs
     each_both [] a b = tt
     each_both (x ∷ xs) a b = ((omega arith, omega arith), each_both xs a.1 b.1)
 chain_set (suc i) r (v ∷ vs) w d h c e m own =
-    let above = each_at (λ x. (v.timestamp < x.timestamp) × (v.mark ≤ x.timestamp)) vs i d (place_within r i vs h.1) c.0 in
-    (each_set (λ x. (v.timestamp < x.timestamp) × (v.mark ≤ x.timestamp)) vs i w (omega (arith, above.0), omega (arith, above.1)) c.0, c.1, chain_set i r vs w d h.1 c.2 e m own)
+    let above = each_at (IsBefore v) vs i d (place_within r i vs h.1) c.0 in
+    (each_set (IsBefore v) vs i w (omega (arith, above.0), omega (arith, above.1)) c.0, c.1, chain_set i r vs w d h.1 c.2 e m own)
 
 pub writes_set : (i : ℕ) (vs : List Version) (w d : Version) → i < length vs → as_written w ≡ as_written (get_or vs i d) → map as_written (set vs i w) ≡ map as_written vs
 writes_set i [] w d lt e = refl
@@ -166,14 +174,14 @@ place_new t zero vs c h new = each_above vs (place_after t vs h)
 place_new t (suc i) [] c h new = tt
 place_new t (suc zero) (v ∷ vs) c h new = (new 0 v refl, place_new t zero vs c.2 h.1 (λ j d e. absurd (omega arith)))
 place_new t (suc (suc i)) (v ∷ vs) c h new =
-    let above = each_at (λ x. (v.timestamp < x.timestamp) × (v.mark ≤ x.timestamp)) vs i v (place_within t i vs h.1) c.0 in
+    let above = each_at (IsBefore v) vs i v (place_within t i vs h.1) c.0 in
     let under = place_at t i vs v h.1 in
     ((λ e. omega (arith, above.0, e)), place_new t (suc i) vs c.2 h.1 (λ j d e. new (suc j) d (ap suc e)))
 
 pub chain_inserted : (t i : ℕ) (vs : List Version) (w : Version) → w.timestamp ≡ t → w.mark ≡ 0 → IsChain vs → IsPlace t i vs → Each (λ v. v.timestamp ≡ t → ⊥) vs → is_marked t vs ≡ false → IsChain (insert vs i w)
 chain_inserted t zero vs w e m c h new free = (each_above vs (place_after t vs h), λ p. omega arith, c)
   where
-    each_above : (xs : List Version) → Each (λ v. t < v.timestamp) xs → Each (λ x. (w.timestamp < x.timestamp) × (w.mark ≤ x.timestamp)) xs
+    each_above : (xs : List Version) → Each (λ v. t < v.timestamp) xs → Each (IsBefore w) xs
     each_above [] a = tt
     each_above (x ∷ xs) a = ((omega arith, omega arith), each_above xs a.1)
 chain_inserted t (suc i) [] w e m c h new free = absurd h
@@ -181,9 +189,13 @@ chain_inserted t (suc i) (v ∷ vs) w e m c h new free =
     (each_insert _ vs i w (grind (arith, nat_tests, new.0), grind (arith, nat_tests, new.0)) c.0, c.1, chain_inserted t i vs w e m c.2 h.1 new.1 (grind (arith, nat_tests)))
 
 -- only one version has the timestamp
-none_own : (v : Version) (ts : ℕ) (vs : List Version) → v.timestamp ≡ ts → Each (λ x. (v.timestamp < x.timestamp) × (v.mark ≤ x.timestamp)) vs → Each (λ x. x.timestamp ≡ ts → ⊥) vs
+pub none_own : (v : Version) (ts : ℕ) (vs : List Version) → v.timestamp ≡ ts → Each (IsBefore v) vs → Each (λ x. x.timestamp ≡ ts → ⊥) vs
 none_own v ts [] e h = tt
 none_own v ts (x ∷ xs) e h = ((λ same. omega (arith, h.0.0, e, same)), none_own v ts xs e h.1)
+
+pub none_pending : (ts : ℕ) (vs : List Version) → Each (λ v. v.timestamp ≡ ts → ⊥) vs → Each (λ v. v.timestamp ≡ ts → v.pending ≡ false) vs
+none_pending ts [] h = tt
+none_pending ts (v ∷ vs) h = ((λ own. absurd (h.0 own)), none_pending ts vs h.1)
 
 decided_other : (ts : ℕ) (f : Fate) (vs : List Version) → Each (λ v. v.timestamp ≡ ts → ⊥) vs → decided ts f (map as_written vs) ≡ map as_written vs
 decided_other ts f [] h = refl
@@ -200,7 +212,7 @@ is_undecided_at ts zero (v ∷ vs) d lt c e p = ((λ own. grind (arith, p)), oth
     others [] h = tt
     others (x ∷ xs) h = ((λ own. absurd (h.0 own)), others xs h.1)
 is_undecided_at ts (suc i) (v ∷ vs) d lt c e p =
-    let above = each_at (λ x. (v.timestamp < x.timestamp) × (v.mark ≤ x.timestamp)) vs i d (omega arith) c.0 in
+    let above = each_at (IsBefore v) vs i d (omega arith) c.0 in
     ((λ own. absurd (omega (arith, above.0, e, own))), is_undecided_at ts i vs d (omega arith) c.2 e p)
 
 -- a version that is removed was rolled back
@@ -211,7 +223,7 @@ removed_is gone t ts zero (v ∷ vs) d lt c e =
     let own : (v.timestamp == ts) ≡ true = grind (arith, nat_tests) in
     rw (own, rest) refl
 removed_is gone t ts (suc i) (v ∷ vs) d lt c e =
-    let above = each_at (λ x. (v.timestamp < x.timestamp) × (v.mark ≤ x.timestamp)) vs i d (omega arith) c.0 in
+    let above = each_at (IsBefore v) vs i d (omega arith) c.0 in
     let other : (v.timestamp == ts) ≡ false = grind (arith, nat_tests, above.0) in
     rw other (seen_behind (λ w. stands gone w.timestamp w.fate && nat_le w.timestamp t) (as_written v) (map as_written (remove vs i)) (decided ts RolledBack (map as_written vs)) (removed_is gone t ts i vs d (omega arith) c.2 e))
 
@@ -219,7 +231,7 @@ committed_is : (ts i : ℕ) (vs : List Version) (w d : Version) → i < length v
 committed_is ts i [] w d lt c e same = absurd (omega arith)
 committed_is ts zero (v ∷ vs) w d lt c e same = ap₂ (λ (x : Written) (xs : List Written). x ∷ xs) same (sym (decided_other ts Committed vs (none_own v ts vs e c.0)))
 committed_is ts (suc i) (v ∷ vs) w d lt c e same =
-    let above = each_at (λ x. (v.timestamp < x.timestamp) × (v.mark ≤ x.timestamp)) vs i d (omega arith) c.0 in
+    let above = each_at (IsBefore v) vs i d (omega arith) c.0 in
     let other : as_written v ≡ deciding ts Committed (as_written v) = grind (arith, nat_tests, above.0) in
     ap₂ (λ (x : Written) (xs : List Written). x ∷ xs) other (committed_is ts i vs w d (omega arith) c.2 e same)
 
@@ -238,7 +250,7 @@ shows_replaced gone t i [] w d lt c e p q = absurd (omega arith)
 shows_replaced gone t zero (v ∷ vs) w d lt c e p q =
     sym (shows_twice (λ x. stands gone x.timestamp x.fate && nat_le x.timestamp t) (as_written w) (as_written v) (map as_written vs) (sym e) (rw (p, q, e) refl))
 shows_replaced gone t (suc i) (v ∷ vs) w d lt c e p q =
-    let above = each_at (λ x. (v.timestamp < x.timestamp) × (v.mark ≤ x.timestamp)) vs i d (omega arith) c.0 in
+    let above = each_at (IsBefore v) vs i d (omega arith) c.0 in
     let test : Written → Bool = λ x. stands gone x.timestamp x.fate && nat_le x.timestamp t in
     seen_behind test (as_written v) (map as_written (set vs i w)) (as_written w ∷ map as_written vs) (shows_replaced gone t i vs w d (omega arith) c.2 e p q)
     ∙ seen_swapped test (as_written v) (as_written w) (map as_written vs) (λ same. omega (arith, above.0, e, same))
@@ -249,7 +261,7 @@ chain_ascends vs c = λ i j d le lt. up vs c i j d le lt
     up : (vs : List Version) → IsChain vs → (i j : ℕ) (d : Version) → i ≤ j → j < length vs → (get_or vs i d).timestamp ≤ (get_or vs j d).timestamp
     up [] c i j d le lt = absurd (omega arith)
     up (v ∷ vs) c zero zero d le lt = omega arith
-    up (v ∷ vs) c zero (suc j) d le lt = let above = each_at (λ w. (v.timestamp < w.timestamp) × (v.mark ≤ w.timestamp)) vs j d (omega arith) c.0 in omega (arith, above.0)
+    up (v ∷ vs) c zero (suc j) d le lt = let above = each_at (IsBefore v) vs j d (omega arith) c.0 in omega (arith, above.0)
     up (v ∷ vs) c (suc i) zero d le lt = absurd (omega arith)
     up (v ∷ vs) c (suc i) (suc j) d le lt = up vs c.2 i j d (omega arith) (omega arith)
 

@@ -1,13 +1,13 @@
 -- A change at an index is the change of the list.
-use Rattle.std.proofs.Common.{◌≡◌, ℕ, zero, suc, ◌<◌, ◌≤◌, Bool, true, false, not, ◌&&◌, List, [], ◌∷◌, map, length, get_or, set, Option, refl, sym, ap, ap₂, ◌∙◌, arith}
+use Rattle.std.proofs.Common.{◌≡◌, ℕ, zero, suc, ◌<◌, Bool, true, false, not, ◌&&◌, List, [], ◌∷◌, map, length, get_or, set, Option, refl, sym, ap, ap₂, ◌∙◌, arith}
 use Rattle.std.specs.Prelude.{if◌then◌else◌, nat_lt, ◌==◌, filter}
 use Rattle.std.specs.List.{list_any, AllByRecursion as Each, insert, remove}
 use Rattle.std.proofs.lemmas.Bool.Decides.{nat_tests}
 use Rattle.mv_chain.specs.declared.fate.Fate.{Fate}
 use Rattle.mv_chain.specs.declared.fate.Fate.TheVariants.{Committed, RolledBack}
 use Rattle.mv_chain.specs.declared.version.Version.{Version}
-use Rattle.mv_chain.specs.Chain.{IsChain, IsPlace, is_marked, shows, raised, marked, unread, placed, installed, committing, settled}
-use Rattle.mv_chain.proofs.Chains.{each_at, place_within, place_after, shows_last}
+use Rattle.mv_chain.specs.Chain.{IsBefore, IsChain, IsPlace, is_marked, shows, raised, marked, unread, placed, installed, committing, settled}
+use Rattle.mv_chain.proofs.Chains.{each_at, none_own, none_pending, place_within, place_after, shows_last}
 
 pub set_itself : (i : ℕ) (vs : List Version) (w d : Version) → i < length vs → w ≡ get_or vs i d → set vs i w ≡ vs
 set_itself i [] w d lt e = refl
@@ -19,7 +19,7 @@ map_same f [] h = refl
 map_same f (v ∷ vs) h = ap₂ (λ (x : Version) (xs : List Version). x ∷ xs) h.0 (map_same f vs h.1)
 
 -- the other versions have other timestamps
-others_apart : (f : Version → Version) (v : Version) (vs : List Version) → Each (λ w. (v.timestamp < w.timestamp) × (v.mark ≤ w.timestamp)) vs → ((w : Version) → (w.timestamp ≡ v.timestamp → ⊥) → f w ≡ w) → Each (λ w. f w ≡ w) vs
+others_apart : (f : Version → Version) (v : Version) (vs : List Version) → Each (IsBefore v) vs → ((w : Version) → (w.timestamp ≡ v.timestamp → ⊥) → f w ≡ w) → Each (λ w. f w ≡ w) vs
 others_apart f v [] h same = tt
 others_apart f v (w ∷ ws) h same = (same w (λ e. omega (arith, h.0.0, e)), others_apart f v ws h.1 same)
 
@@ -27,7 +27,7 @@ pub map_set : (f : Version → Version) (i : ℕ) (vs : List Version) (w d : Ver
 map_set f i [] w d lt c e same = refl
 map_set f zero (v ∷ vs) w d lt c e same = ap₂ (λ (x : Version) (xs : List Version). x ∷ xs) e (sym (map_same f vs (others_apart f v vs c.0 same)))
 map_set f (suc i) (v ∷ vs) w d lt c e same =
-    let above = each_at (λ x. (v.timestamp < x.timestamp) × (v.mark ≤ x.timestamp)) vs i d (omega arith) c.0 in
+    let above = each_at (IsBefore v) vs i d (omega arith) c.0 in
     ap₂ (λ (x : Version) (xs : List Version). x ∷ xs) (sym (same v (λ q. omega (arith, above.0, q)))) (map_set f i vs w d (omega arith) c.2 e same)
 
 -- a read's mark
@@ -57,11 +57,11 @@ no_committed : (ts i : ℕ) (vs : List Version) (d : Version) → i < length vs 
 no_committed ts i [] d lt c e p = refl
 no_committed ts zero (v ∷ vs) d lt c e p = grind (arith, nat_tests, p, above vs c.0)
   where
-    above : (xs : List Version) → Each (λ w. (v.timestamp < w.timestamp) × (v.mark ≤ w.timestamp)) xs → list_any (λ v. (v.timestamp == ts) && not v.pending) xs ≡ false
+    above : (xs : List Version) → Each (IsBefore v) xs → list_any (λ v. (v.timestamp == ts) && not v.pending) xs ≡ false
     above [] a = refl
     above (x ∷ xs) a = grind (arith, nat_tests, a.0.0, e, above xs a.1)
 no_committed ts (suc i) (v ∷ vs) d lt c e p =
-    let above = each_at (λ x. (v.timestamp < x.timestamp) × (v.mark ≤ x.timestamp)) vs i d (omega arith) c.0 in
+    let above = each_at (IsBefore v) vs i d (omega arith) c.0 in
     grind (arith, nat_tests, above.0, e, no_committed ts i vs d (omega arith) c.2 e p)
 
 placed_own : (ts i : ℕ) (value : Option (List ℕ)) (vs : List Version) (w d : Version) → i < length vs → IsChain vs → (get_or vs i d).timestamp ≡ ts → w ≡ record (get_or vs i d) { value = value } → set vs i w ≡ placed ts value vs
@@ -71,7 +71,7 @@ placed_own ts zero value (v ∷ vs) w d lt c e same =
     let own : (v.timestamp == ts) ≡ true = grind (arith, nat_tests, e) in
     rw (below, own, same) refl
 placed_own ts (suc i) value (v ∷ vs) w d lt c e same =
-    let above = each_at (λ x. (v.timestamp < x.timestamp) × (v.mark ≤ x.timestamp)) vs i d (omega arith) c.0 in
+    let above = each_at (IsBefore v) vs i d (omega arith) c.0 in
     let below : nat_lt ts v.timestamp ≡ false = grind (arith, nat_tests, e, above.0) in
     let other : (v.timestamp == ts) ≡ false = grind (arith, nat_tests, e, above.0) in
     rw (below, other) (ap (λ xs. v ∷ xs) (placed_own ts i value vs w d (omega arith) c.2 e same))
@@ -124,13 +124,9 @@ pub rolled_back_own : (ts i : ℕ) (vs : List Version) (d : Version) → i < len
 rolled_back_own ts i [] d lt c e p = absurd (omega arith)
 rolled_back_own ts zero (v ∷ vs) d lt c e p =
     let goes : not (v.pending && (v.timestamp == ts)) ≡ false = grind (arith, nat_tests, e, p) in
-    rw goes (sym (kept ts vs (above vs c.0)))
-  where
-    above : (xs : List Version) → Each (λ w. (v.timestamp < w.timestamp) × (v.mark ≤ w.timestamp)) xs → Each (λ w. w.timestamp ≡ ts → w.pending ≡ false) xs
-    above [] a = tt
-    above (x ∷ xs) a = ((λ q. absurd (omega (arith, a.0.0, e, q))), above xs a.1)
+    rw goes (sym (kept ts vs (none_pending ts vs (none_own v ts vs e c.0))))
 rolled_back_own ts (suc i) (v ∷ vs) d lt c e p =
-    let above = each_at (λ x. (v.timestamp < x.timestamp) × (v.mark ≤ x.timestamp)) vs i d (omega arith) c.0 in
+    let above = each_at (IsBefore v) vs i d (omega arith) c.0 in
     let stays : not (v.pending && (v.timestamp == ts)) ≡ true = grind (arith, nat_tests, above.0, e) in
     rw stays (ap (λ xs. v ∷ xs) (rolled_back_own ts i vs d (omega arith) c.2 e p))
 

@@ -6,29 +6,18 @@ use Rattle.std.proofs.lemmas.Bool.Decides.{nat_tests}
 use Rattle.mv_chain.specs.declared.fate.Fate.TheVariants.{Committed}
 use Rattle.mv_chain.specs.declared.version.Version.{Version}
 use Rattle.mv_chain.specs.History.{Written, Answered, shown, seen, is_busy, nobody, decided, IsOpen}
-use Rattle.mv_chain.specs.Chain.{as_written, StandsFor, IsChain, IsPlace, raised}
-use Rattle.mv_chain.proofs.Chains.{each_at, chain_set, place_within, shows_last}
+use Rattle.mv_chain.specs.Chain.{as_written, may_read, StandsFor, IsBefore, IsChain, IsPlace, raised}
+use Rattle.mv_chain.proofs.Chains.{each_at, pending_shown, none_own, none_pending, chain_set, place_within, shows_last}
 use Rattle.mv_chain.proofs.Exact.{set_itself}
 use Rattle.mv_chain.proofs.Stands.{own_mark, stands_marked, stands_replaced, stands_committed}
 
-pending_of : (v : Version) → (shown (as_written v)).pending ≡ v.pending
-pending_of v = at v.pending
-  where
-    at : (b : Bool) → (shown (as_written (record v { pending = b }))).pending ≡ b
-    at true = refl
-    at false = refl
-
--- the source of a read may be marked by it
-abbrev reads : ℕ → ℕ → Version → Bool
-reads from reader v = (v.timestamp == from) && (not v.pending || (from == reader))
-
 pub raised_chain : (vs : List Version) (i from reader : ℕ) (w d : Version) → IsChain vs → IsPlace reader (suc i) vs → w ≡ raised from reader (get_or vs i d) → IsChain (set vs i w)
-raised_chain vs i from reader w d c h e = at (reads from reader (get_or vs i d)) refl
+raised_chain vs i from reader w d c h e = at (may_read from reader (get_or vs i d)) refl
   where
     lt : i < length vs
     lt = place_within reader i vs h
 
-    at : (q : Bool) → reads from reader (get_or vs i d) ≡ q → IsChain (set vs i w)
+    at : (q : Bool) → may_read from reader (get_or vs i d) ≡ q → IsChain (set vs i w)
     at false q = subst IsChain (sym (set_itself i vs w d lt (e ∙ rw q refl))) c
     at true q =
         let is : w ≡ record (get_or vs i d) { mark = max (get_or vs i d).mark reader } = e ∙ rw q refl in
@@ -57,9 +46,9 @@ raised_stands vs i from reader w d c h e key low ws rs s le source free =
     from_is = ap (λ r. r.from) found ∙ sym source
 
     pending_is : (get_or vs i d).pending ≡ (seen key reader ws).pending
-    pending_is = sym (pending_of (get_or vs i d)) ∙ ap (λ r. r.pending) found
+    pending_is = sym (pending_shown (get_or vs i d)) ∙ ap (λ r. r.pending) found
 
-    test : reads from reader (get_or vs i d) ≡ true
+    test : may_read from reader (get_or vs i d) ≡ true
     test = answered (get_or vs i d).pending (seen key reader ws).pending (get_or vs i d).timestamp from (seen key reader ws).from reader from_is pending_is source free
 
     is : w ≡ record (get_or vs i d) { mark = max (get_or vs i d).mark reader }
@@ -90,15 +79,7 @@ committed_stands vs i ts w d c h own p e key low ws rs s open_ =
 -- a branch without a pending version
 pub own_decided : (ts i : ℕ) (vs : List Version) (d : Version) → i < length vs → IsChain vs → (get_or vs i d).timestamp ≡ ts → (get_or vs i d).pending ≡ false → Each (λ v. v.timestamp ≡ ts → v.pending ≡ false) vs
 own_decided ts i [] d lt c e p = tt
-own_decided ts zero (v ∷ vs) d lt c e p = ((λ own. p), others vs c.0)
-  where
-    others : (xs : List Version) → Each (λ w. (v.timestamp < w.timestamp) × (v.mark ≤ w.timestamp)) xs → Each (λ w. w.timestamp ≡ ts → w.pending ≡ false) xs
-    others [] h = tt
-    others (x ∷ xs) h = ((λ own. absurd (omega (arith, h.0.0, e, own))), others xs h.1)
+own_decided ts zero (v ∷ vs) d lt c e p = ((λ own. p), none_pending ts vs (none_own v ts vs e c.0))
 own_decided ts (suc i) (v ∷ vs) d lt c e p =
-    let above = each_at (λ x. (v.timestamp < x.timestamp) × (v.mark ≤ x.timestamp)) vs i d (omega arith) c.0 in
+    let above = each_at (IsBefore v) vs i d (omega arith) c.0 in
     ((λ own. absurd (omega (arith, above.0, e, own))), own_decided ts i vs d (omega arith) c.2 e p)
-
-pub none_pending : (ts : ℕ) (vs : List Version) → Each (λ v. v.timestamp ≡ ts → ⊥) vs → Each (λ v. v.timestamp ≡ ts → v.pending ≡ false) vs
-none_pending ts [] h = tt
-none_pending ts (v ∷ vs) h = ((λ own. absurd (h.0 own)), none_pending ts vs h.1)

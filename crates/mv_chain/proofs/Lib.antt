@@ -3,7 +3,6 @@ pub mod Chains
 pub mod Stands
 pub mod Exact
 pub mod Kept
-mod Rows
 pub mod Frames
 pub mod Counted
 pub mod Sought

@@ -9,11 +9,11 @@ use Rattle.mv_chain.specs.History.{Written, Answered, nobody, seen, is_busy}
 use Rattle.mv_chain.specs.Chain.{base, shows, is_marked, raised, marked, may_install, StandsFor, IsChain, IsPlace}
 use Rattle.mv_chain.specs.Look.{count_upto, looked}
 use Rattle.mv_chain.specs.Slot.{IsOwn, IsNew}
-use Rattle.mv_chain.proofs.Chains.{place_within, place_new, shows_none, shows_last}
+use Rattle.mv_chain.proofs.Chains.{pending_shown, none_pending, place_within, place_new, shows_none, shows_last}
 use Rattle.mv_chain.proofs.Exact.{marked_some, marked_nothing}
-use Rattle.mv_chain.proofs.Kept.{own_decided, none_pending}
+use Rattle.mv_chain.proofs.Kept.{own_decided}
 use Rattle.mv_chain.proofs.Anywhere.{place_for, marked_stands, decided_refuses}
-use Rattle.mv_chain.proofs.Sought.{pending_shown, place_counts}
+use Rattle.mv_chain.proofs.Sought.{place_counts}
 
 count_within : (t : ℕ) (vs : List Version) → count_upto t vs ≤ length vs
 count_within t [] = omega arith

@@ -1,11 +1,13 @@
 -- What is pruned isn't seen, nor is a write late by it.
-use Rattle.std.proofs.Common.{◌≡◌, ℕ, zero, suc, ◌<◌, ◌≤◌, Bool, true, false, not, ◌||◌, ◌&&◌, List, [], ◌∷◌, ◌++◌, length, get_or, take, drop, None, refl, sym, ap, ◌∙◌, max, arith}
-use Rattle.std.specs.Prelude.{if◌then◌else◌, nat_le, ◌==◌, bytes_eq}
+use Rattle.std.proofs.Common.{◌≡◌, ℕ, zero, suc, ◌<◌, ◌≤◌, Bool, true, false, not, ◌||◌, ◌&&◌, List, [], ◌∷◌, ◌++◌, length, get_or, take, drop, refl, sym, ap, ◌∙◌, max, arith}
+use Rattle.std.specs.Prelude.{if◌then◌else◌, nat_le}
 use Rattle.std.specs.List.{AllByRecursion as Each, remove}
 use Rattle.std.proofs.lemmas.Bool.Decides.{nat_tests}
 use Rattle.mv_chain.specs.declared.version.Version.{Version}
-use Rattle.mv_chain.specs.History.{Written, Answered, shown, has_open, seen_without, stands, IsOpen, AreWhole}
-use Rattle.mv_chain.specs.Chain.{base, as_written, shows_without, is_marked, has_base, StandsFor, IsChain, IsPlace, pruned}
+use Rattle.mv_chain.specs.History.{Written, Answered, stands, AreWhole}
+use Rattle.mv_chain.specs.Chain.{base, as_written, shows_without, is_marked, has_base, StandsFor, IsBefore, IsChain, IsPlace, pruned}
+use Rattle.mv_chain.proofs.Seen.{open_pending}
+use Rattle.mv_chain.proofs.Chains.{pending_shown}
 
 above_base : (gone : ℕ → Bool) (low t n m : ℕ) (vs : List Version) → low ≤ t → has_base low vs ≡ true → Each (λ w. (n < w.timestamp) × (m ≤ w.timestamp)) vs → (n < (shows_without gone t vs).from) × (m ≤ low)
 above_base gone low t n m [] le b h = absurd (cc)
@@ -69,53 +71,24 @@ under gone low t n (w ∷ ws) h le = at (stands gone w.timestamp (as_written w).
     at true e q f ih = absurd (grind (arith, nat_tests, e, le, h.0))
     at false e q f ih = grind (arith, nat_tests, e, f, ih (grind (arith, nat_tests, e, le)))
 
-pending_of : (v : Version) → (shown (as_written v)).pending ≡ v.pending
-pending_of v = at v.pending
-  where
-    at : (b : Bool) → (shown (as_written (record v { pending = b }))).pending ≡ b
-    at true = refl
-    at false = refl
-
 -- an undecided branch's own version stays
 pub own_pruned : (gone : ℕ → Bool) (low t : ℕ) (vs : List Version) → IsChain vs → (shows_without gone t vs).pending ≡ true → shows_without gone t (pruned low vs) ≡ shows_without gone t vs
 own_pruned gone low t [] c h = refl
 own_pruned gone low t (v ∷ vs) c h = at ((stands gone v.timestamp (as_written v).fate && nat_le v.timestamp t) && nat_le (shows_without gone t vs).from v.timestamp) refl v.pending refl (has_base low vs) refl (λ e. own_pruned gone low t vs c.2 e)
   where
-    later : (xs : List Version) → Each (λ w. (v.timestamp < w.timestamp) × (v.mark ≤ w.timestamp)) xs → Each (λ w. v.timestamp < w.timestamp) xs
+    later : (xs : List Version) → Each (IsBefore v) xs → Each (λ w. v.timestamp < w.timestamp) xs
     later [] a = tt
     later (x ∷ xs) a = (a.0.0, later xs a.1)
 
     at : (q : Bool) → ((stands gone v.timestamp (as_written v).fate && nat_le v.timestamp t) && nat_le (shows_without gone t vs).from v.timestamp) ≡ q → (p : Bool) → v.pending ≡ p → (b : Bool) → has_base low vs ≡ b
         → ((shows_without gone t vs).pending ≡ true → shows_without gone t (pruned low vs) ≡ shows_without gone t vs) → shows_without gone t (pruned low (v ∷ vs)) ≡ shows_without gone t (v ∷ vs)
-    at true e false f b g ih = absurd (cc (sym (rw e at h) ∙ (pending_of v ∙ f)))
+    at true e false f b g ih = absurd (cc (sym (rw e at h) ∙ (pending_shown v ∙ f)))
     at true e true f b g ih =
         let same = under gone low t v.timestamp vs (later vs c.0) (grind (arith, nat_tests, e)) in
         rw (f, same) refl
     at false e true f b g ih = let same = ih (rw e at h) in rw (f, same) refl
     at false e false f true g ih = let same = ih (rw e at h) in rw (e, f, g) same
     at false e false f false g ih = let same = ih (rw e at h) in rw (f, g, same) refl
-
-bound : (gone : ℕ → Bool) (q : List ℕ) (t : ℕ) (ws : List Written) → (seen_without gone q t ws).from ≤ t
-bound gone q t [] = omega arith
-bound gone q t (w ∷ ws) = grind (arith, nat_tests, bound gone q t ws)
-
--- what an undecided branch has written is pending, and its own
-open_pending : (gone : ℕ → Bool) (q : List ℕ) (ts : ℕ) (ws : List Written) → IsOpen ts ws → gone ts ≡ false → has_open q ts ws ≡ true → ((seen_without gone q ts ws).from ≡ ts) × ((seen_without gone q ts ws).pending ≡ true)
-open_pending gone q ts [] o g h = absurd (grind (arith, h))
-open_pending gone q ts (w ∷ ws) o g h = at (bytes_eq q w.key) refl (w.timestamp == ts) refl (λ e. open_pending gone q ts ws o.1 g e)
-  where
-    at : (x : Bool) → bytes_eq q w.key ≡ x → (y : Bool) → (w.timestamp == ts) ≡ y → (has_open q ts ws ≡ true → ((seen_without gone q ts ws).from ≡ ts) × ((seen_without gone q ts ws).pending ≡ true))
-        → ((seen_without gone q ts (w ∷ ws)).from ≡ ts) × ((seen_without gone q ts (w ∷ ws)).pending ≡ true)
-    at false e y e2 ih = let r = ih (grind (arith, h, e)) in rw e (r.0, r.1)
-    at true e false e2 ih =
-        let r = ih (grind (arith, h, e, e2)) in
-        (grind (arith, nat_tests, e2, r.0), grind (arith, nat_tests, e2, r.0, r.1))
-    at true e true e2 ih =
-        let own : w.timestamp ≡ ts = grind (arith, nat_tests, e2) in
-        let f : w.fate ≡ None = o.0 own in
-        let b = bound gone q ts ws in
-        let counts : gone w.timestamp ≡ false = ap gone own ∙ g in
-        (grind (arith, nat_tests, e, own, f, b, counts), grind (arith, nat_tests, e, own, f, b, counts))
 
 -- a higher base stays one
 base_left : (low high : ℕ) (vs : List Version) → low ≤ high → has_base high vs ≡ true → has_base high (pruned low vs) ≡ true

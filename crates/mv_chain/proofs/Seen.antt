@@ -1,11 +1,11 @@
 -- What is seen after a change of the writes.
-use Rattle.std.proofs.Common.{◌≡◌, ℕ, ◌<◌, ◌≤◌, Bool, true, false, not, ◌||◌, ◌&&◌, List, [], ◌∷◌, Option, None, Some, refl, sym, ◌∙◌, inl, inr, ◌⊎◌, arith}
+use Rattle.std.proofs.Common.{◌≡◌, ℕ, ◌<◌, ◌≤◌, Bool, true, false, not, ◌||◌, ◌&&◌, List, [], ◌∷◌, Option, None, Some, refl, sym, ap, ◌∙◌, inl, inr, ◌⊎◌, arith}
 use Rattle.std.specs.Prelude.{if◌then◌else◌, bytes_eq, nat_le, ◌==◌}
 use Rattle.std.specs.List.{AllByRecursion as Each}
 use Rattle.std.proofs.lemmas.Bool.Decides.{nat_tests}
 use Rattle.mv_chain.specs.declared.fate.Fate.{Fate}
 use Rattle.mv_chain.specs.declared.fate.Fate.TheVariants.{Committed, RolledBack}
-use Rattle.mv_chain.specs.History.{Written, Seen, shown, newest, seen_of, seen_without, stands, deciding, decided, has_open, seen, IsOpen}
+use Rattle.mv_chain.specs.History.{Written, Seen, shown, newest, seen_of, seen_without, stands, deciding, decided, has_open, seen, nobody, IsOpen}
 
 -- what stands behind a write matters by what it shows alone
 pub seen_behind : (p : Written → Bool) (w : Written) (xs ys : List Written) → newest p xs ≡ newest p ys → newest p (w ∷ xs) ≡ newest p (w ∷ ys)
@@ -84,16 +84,17 @@ still_open q t ts f ws o = at (t == ts) refl (sym (open_decided q t ts f ws) ∙
     at true e h = absurd (cc h)
     at false e h = (e, h)
 
-bound : (q : List ℕ) (ts : ℕ) (ws : List Written) → (seen q ts ws).from ≤ ts
-bound q ts [] = omega arith
-bound q ts (w ∷ ws) = grind (arith, nat_tests, bound q ts ws)
+bound : (gone : ℕ → Bool) (q : List ℕ) (t : ℕ) (ws : List Written) → (seen_without gone q t ws).from ≤ t
+bound gone q t [] = omega arith
+bound gone q t (w ∷ ws) = grind (arith, nat_tests, bound gone q t ws)
 
--- an open write is what its branch sees
-pub open_seen : (q : List ℕ) (ts : ℕ) (ws : List Written) → IsOpen ts ws → has_open q ts ws ≡ true → ((seen q ts ws).from ≡ ts) × ((seen q ts ws).pending ≡ true)
-open_seen q ts [] o h = absurd (grind (arith, h))
-open_seen q ts (w ∷ ws) o h = at (bytes_eq q w.key) refl (w.timestamp == ts) refl (λ e. open_seen q ts ws o.1 e)
+-- what an undecided branch has written is pending, and its own, unless it is thought away
+pub open_pending : (gone : ℕ → Bool) (q : List ℕ) (ts : ℕ) (ws : List Written) → IsOpen ts ws → gone ts ≡ false → has_open q ts ws ≡ true → ((seen_without gone q ts ws).from ≡ ts) × ((seen_without gone q ts ws).pending ≡ true)
+open_pending gone q ts [] o g h = absurd (grind (arith, h))
+open_pending gone q ts (w ∷ ws) o g h = at (bytes_eq q w.key) refl (w.timestamp == ts) refl (λ e. open_pending gone q ts ws o.1 g e)
   where
-    at : (x : Bool) → bytes_eq q w.key ≡ x → (y : Bool) → (w.timestamp == ts) ≡ y → (has_open q ts ws ≡ true → ((seen q ts ws).from ≡ ts) × ((seen q ts ws).pending ≡ true)) → ((seen q ts (w ∷ ws)).from ≡ ts) × ((seen q ts (w ∷ ws)).pending ≡ true)
+    at : (x : Bool) → bytes_eq q w.key ≡ x → (y : Bool) → (w.timestamp == ts) ≡ y → (has_open q ts ws ≡ true → ((seen_without gone q ts ws).from ≡ ts) × ((seen_without gone q ts ws).pending ≡ true))
+        → ((seen_without gone q ts (w ∷ ws)).from ≡ ts) × ((seen_without gone q ts (w ∷ ws)).pending ≡ true)
     at false e y e2 ih = let r = ih (grind (arith, h, e)) in rw e (r.0, r.1)
     at true e false e2 ih =
         let r = ih (grind (arith, h, e, e2)) in
@@ -101,8 +102,13 @@ open_seen q ts (w ∷ ws) o h = at (bytes_eq q w.key) refl (w.timestamp == ts) r
     at true e true e2 ih =
         let own : w.timestamp ≡ ts = grind (arith, nat_tests, e2) in
         let f : w.fate ≡ None = o.0 own in
-        let b = bound q ts ws in
-        (grind (arith, nat_tests, e, own, f, b), grind (arith, nat_tests, e, own, f, b))
+        let b = bound gone q ts ws in
+        let counts : gone w.timestamp ≡ false = ap gone own ∙ g in
+        (grind (arith, nat_tests, e, own, f, b, counts), grind (arith, nat_tests, e, own, f, b, counts))
+
+-- an open write is what its branch sees
+pub open_seen : (q : List ℕ) (ts : ℕ) (ws : List Written) → IsOpen ts ws → has_open q ts ws ≡ true → ((seen q ts ws).from ≡ ts) × ((seen q ts ws).pending ≡ true)
+open_seen q ts ws o h = open_pending nobody q ts ws o refl h
 
 -- what a branch sees at its own timestamp is its own write
 pub seen_open : (q : List ℕ) (ts : ℕ) (ws : List Written) → 0 < ts → IsOpen ts ws → (seen q ts ws).from ≡ ts → has_open q ts ws ≡ true

@@ -10,7 +10,7 @@ use Rattle.mv_chain.specs.Chain.{base, as_written, shows, is_marked, IsChain, Is
 use Rattle.mv_chain.specs.declared.look.Look.{Look}
 use Rattle.mv_chain.specs.Look.{count_upto, looked, IsBelow}
 use Rattle.mv_chain.specs.Pool.{version_at, shown_at}
-use Rattle.mv_chain.proofs.Chains.{is_place, chain_ascends, shows_none, shows_last, marked_last, new_after, place_new, below_own, below_new}
+use Rattle.mv_chain.proofs.Chains.{is_place, pending_shown, chain_ascends, shows_none, shows_last, marked_last, new_after, place_new, below_own, below_new}
 use Rattle.mv_chain.proofs.Frames.{shown_length, shown_index}
 
 pub ascends : (pool : Pool) (slots : List ℕ) → IsChain (shown_at pool slots) → IsNonDecreasingBy (λ s. (version_at pool s).timestamp) slots
@@ -30,13 +30,6 @@ is_place_in pool t i slots le h =
     let test : leb (version_at pool (get_or slots k zero)).timestamp t ≡ false = h.1 k zero from within in
     let same = ap (λ v. v.timestamp) (shown_index pool slots k zero d within) in
     grind (arith, nat_tests, test, same))
-
-pub pending_shown : (v : Version) → (shown (as_written v)).pending ≡ v.pending
-pending_shown v = at v.pending
-  where
-    at : (b : Bool) → (shown (as_written (record v { pending = b }))).pending ≡ b
-    at true = refl
-    at false = refl
 
 abbrev pub look_of : ℕ → ℕ → Bool → Bool → ℕ → Look
 look_of t from pending late count = record { at = t; from = from; pending = pending; late = late; count = count }

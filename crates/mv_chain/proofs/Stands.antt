@@ -7,12 +7,12 @@ use Rattle.mv_chain.specs.declared.fate.Fate.{Fate}
 use Rattle.mv_chain.specs.declared.fate.Fate.TheVariants.{Committed, RolledBack}
 use Rattle.mv_chain.specs.declared.version.Version.{Version}
 use Rattle.mv_chain.specs.History.{Written, Answered, shown, seen_of, seen_without, stands, nobody, deciding, decided, is_late, IsOpen, IsUnsettled, has_open, seen, absent}
-use Rattle.mv_chain.specs.Chain.{as_written, shows, shows_without, has_base, StandsFor, IsChain, IsPlace, may_install, fresh}
+use Rattle.mv_chain.specs.Chain.{as_written, shows, shows_without, has_base, StandsFor, IsBefore, IsChain, IsPlace, may_install, fresh}
 use Rattle.mv_chain.proofs.Seen.{and_gone, but_not, cleared, seen_rolled_back, seen_committed, still_open, open_seen, seen_open}
 use Rattle.mv_chain.proofs.Chains.{place_within, shows_none, shows_inserted, marked_inserted, marked_set, writes_set, shows_replaced, shows_committed, shows_removed, marked_removed}
 use Rattle.std.specs.Cmp.Lexicographic.{bytes_decides}
 
-key_itself : (key : List ℕ) → bytes_eq key key ≡ true
+pub key_itself : (key : List ℕ) → bytes_eq key key ≡ true
 key_itself key = (bytes_decides key key).1 refl
 
 base_set : (low i : ℕ) (vs : List Version) (w d : Version) → i < length vs → w.timestamp ≡ (get_or vs i d).timestamp → (w.pending ≡ true → (get_or vs i d).pending ≡ true) → has_base low vs ≡ true → has_base low (set vs i w) ≡ true
@@ -159,7 +159,7 @@ stands_untouched key low ts RolledBack ws rs vs none s open_ =
 pub stands_free : (key : List ℕ) (low ts : ℕ) (ws : List Written) (rs : List Answered) (vs : List Version) → IsChain vs → StandsFor key low ws rs vs → IsUnsettled ts low ws → is_late key ts rs ≡ false → may_install ts vs ≡ true
 stands_free key low ts ws rs vs c s u l = rw (s.late ts u.above, l) (at (list_any (λ v. (v.timestamp == ts) && not v.pending) vs) refl)
   where
-    above : (v : Version) (xs : List Version) → v.timestamp ≡ ts → Each (λ w. (v.timestamp < w.timestamp) × (v.mark ≤ w.timestamp)) xs → IsPlace ts zero xs
+    above : (v : Version) (xs : List Version) → v.timestamp ≡ ts → Each (IsBefore v) xs → IsPlace ts zero xs
     above v [] e h = tt
     above v (x ∷ xs) e h = (omega (arith, h.0.0, e), above v xs e h.1)
 

@@ -1,6 +1,7 @@
 -- A history of one resource manager's data under multiversion timestamp ordering: writes with their fates and
 -- answered reads, newest first, in any order of timestamps. What a read sees, and when a write is late.
-use Rattle.std.specs.Prelude.{◌≡◌, ℕ, ◌<◌, ◌≤◌, Bool, true, false, ◌&&◌, not, ◌==◌, nat_lt, nat_le, List, [], ◌∷◌, Option, Some, None, map, bytes_eq, if◌then◌else◌}
+use Rattle.std.specs.Prelude.{◌≡◌, ℕ, ◌<◌, ◌≤◌, Bool, true, false, ◌&&◌, not, ◌==◌, nat_lt, nat_le}
+use Rattle.std.specs.Prelude.{List, [], ◌∷◌, Option, Some, None, map, bytes_eq, if◌then◌else◌}
 use Rattle.std.specs.List.{list_any, AllByRecursion as Each}
 use Rattle.mv_chain.specs.declared.fate.Fate.{Fate}
 use Rattle.mv_chain.specs.declared.fate.Fate.TheVariants.{Committed, RolledBack}
@@ -17,6 +18,14 @@ pub record Answered : Type 0 where
   pub reader : ℕ
   pub key : List ℕ
   pub from : ℕ
+
+-- an accepted write whose branch is undecided
+abbrev pub wrote : ℕ → List ℕ → Option (List ℕ) → Written
+wrote t key value = record { timestamp = t; key = key; value = value; fate = None }
+
+-- an answered read
+abbrev pub read_by : ℕ → List ℕ → ℕ → Answered
+read_by reader key from = record { reader = reader; key = key; from = from }
 
 -- what a read sees: from which timestamp's write, its value, and whether its branch is undecided
 pub record Seen : Type 0 where
@@ -38,7 +47,8 @@ shown w = record { from = w.timestamp; value = w.value; pending = is_undecided w
 -- of the writes that pass the test, the one with the greatest timestamp; of several with that timestamp the newest
 abbrev pub newest : (Written → Bool) → List Written → Seen
 newest counts [] = absent
-newest counts (w ∷ older) = if counts w && nat_le (newest counts older).from w.timestamp then shown w else newest counts older
+newest counts (w ∷ older) =
+    if counts w && nat_le (newest counts older).from w.timestamp then shown w else newest counts older
 
 -- a rolled back write counts nowhere; an undecided one unless its branch is among those thought gone
 abbrev pub stands : (ℕ → Bool) → ℕ → Option Fate → Bool
@@ -51,7 +61,8 @@ nobody timestamp = false
 
 -- what is seen at t of the keys that pass the test, once the undecided branches in gone are rolled back
 abbrev pub seen_of : (List ℕ → Bool) → (ℕ → Bool) → ℕ → List Written → Seen
-seen_of has_key gone t writes = newest (λ w. has_key w.key && (stands gone w.timestamp w.fate && nat_le w.timestamp t)) writes
+seen_of has_key gone t writes =
+    newest (λ w. has_key w.key && (stands gone w.timestamp w.fate && nat_le w.timestamp t)) writes
 
 abbrev pub seen_without : (ℕ → Bool) → List ℕ → ℕ → List Written → Seen
 seen_without gone key t writes = seen_of (λ k. bytes_eq key k) gone t writes

@@ -18,4 +18,5 @@ is_idle low (v ∷ w ∷ later) = false
 abbrev pub IdleStands : Type 0
 IdleStands =
     (key : List ℕ) (low before : ℕ) (writes : List Written) (reads : List Answered) (versions : List Version)
-    → is_idle low versions ≡ true → low ≤ before → StandsFor key before writes reads versions → StandsFor key before writes reads fresh
+    → is_idle low versions ≡ true → low ≤ before → StandsFor key before writes reads versions
+    → StandsFor key before writes reads fresh

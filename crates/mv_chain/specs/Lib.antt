@@ -1,8 +1,10 @@
 pub mod History
 pub mod Chain
+pub mod Rows
 pub mod Look
 pub mod Idle
 pub mod Pool
+pub mod Calls
 pub mod Slots
 pub mod Slot
 pub mod Within

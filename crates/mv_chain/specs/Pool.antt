@@ -80,4 +80,6 @@ pub record IsAsBefore (old : Pool) (other : Chain) (new : Pool) (left : Chain) :
   pub apart : AreApart other left
 
 abbrev pub OthersStay : Type 0
-OthersStay = (old new : Pool) (mine left other : Chain) → LeavesOthers old mine new left → IsKept old other → AreApart other mine → IsAsBefore old other new left
+OthersStay =
+    (old new : Pool) (mine left other : Chain)
+    → LeavesOthers old mine new left → IsKept old other → AreApart other mine → IsAsBefore old other new left

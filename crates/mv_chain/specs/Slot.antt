@@ -1,17 +1,28 @@
 -- Where a write goes among the versions of its key.
-use Rattle.std.specs.Prelude.{◌≡◌, ℕ, suc, ◌<◌, ◌≤◌, true, false, List, length, slice_index_or}
+use Rattle.std.specs.Prelude.{◌≡◌, ℕ, suc, ◌<◌, ◌≤◌, true, false, List, length, Option, MatchOption, slice_index_or}
 use Rattle.std.specs.List.{AllByRecursion as Each}
 use Rattle.mv_chain.specs.declared.version.Version.{Version}
 use Rattle.mv_chain.specs.declared.changes.Slot.{Slot}
 use Rattle.mv_chain.specs.declared.changes.Slot.TheVariants.{Refused, Own, New}
 use Rattle.mv_chain.specs.Chain.{IsPlace, is_marked, may_install}
 
+-- the version at i is t's, and pending
+abbrev pub IsPendingAt : ℕ → ℕ → List Version → Type 0
+IsPendingAt t i versions =
+    (d : Version) → ((slice_index_or versions i d).timestamp ≡ t) × ((slice_index_or versions i d).pending ≡ true)
+
 -- the branch's own version is pending and stands there
 pub record IsOwn (t i : ℕ) (versions : List Version) : Type 0 where
   pub within : i < length versions
   pub place : IsPlace t (suc i) versions
-  pub own : (d : Version) → ((slice_index_or versions i d).timestamp ≡ t) × ((slice_index_or versions i d).pending ≡ true)
+  pub own : IsPendingAt t i versions
   pub in_time : is_marked t versions ≡ false
+
+-- the place of the branch's pending version, where it has one
+abbrev pub IsOwnPlace : ℕ → List Version → Option ℕ → Type 0
+IsOwnPlace t versions found =
+    MatchOption found (Each (λ v. v.timestamp ≡ t → v.pending ≡ false) versions)
+    (λ i. IsPlace t (suc i) versions × IsPendingAt t i versions)
 
 -- the branch has no version, and one would stand there
 pub record IsNew (t i : ℕ) (versions : List Version) : Type 0 where

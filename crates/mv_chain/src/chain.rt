@@ -1,6 +1,5 @@
-ghost use Rattle.std.specs.Prelude.{◌≡◌, ℕ, ◌≤◌, List, [], ◌∷◌, None, IfOk, OnOk, OnErr, false, max, option_map};
-ghost use Rattle.mv_chain.specs.History.{Written, Answered, seen, is_busy, is_late, decided, AreWhole, IsOpen, IsUnsettled};
-ghost use Rattle.mv_chain.specs.Chain.{StandsFor, fresh, shows, is_marked, marked, installed, settled, pruned};
+ghost use Rattle.std.specs.Prelude.{◌≡◌, ℕ, List, [], IfOk, OnOk, OnErr, option_map};
+ghost use Rattle.mv_chain.specs.Chain.{StandsFor, fresh, is_marked, marked, marked_at, installed, settled, pruned};
 ghost use Rattle.mv_chain.specs.Look.{looked};
 
 use crate::changes::{install_in, mark_in, settle_in};
@@ -25,7 +24,9 @@ pub struct Chain {
 
 impl Chain {
     ghost use Rattle.mv_chain.specs.Idle.{is_idle};
-    ghost use Rattle.mv_chain.specs.Pool.{versions_of, IsKept, Counts, LeavesOthers, shown_at, CountsAt, LeavesOthersAt};
+    ghost use Rattle.mv_chain.specs.Pool.{versions_of, IsKept, Counts, LeavesOthers, CountsAt, LeavesOthersAt};
+    ghost use Rattle.mv_chain.specs.Calls.{sees, bytes_of, IfLooked, Leaves, LeavesLooked};
+    ghost use Rattle.mv_chain.specs.Calls.{Notes, NotesLooked, Adds, AddsLooked, Decides, Raises};
     ghost use Rattle.mv_chain.specs.Within.{IsShort, IsWithin, KeepsWithin};
 
     /// A key that nobody wrote: one committed version at timestamp 0, absent.
@@ -35,7 +36,8 @@ impl Chain {
     pub fn new(pool: &mut Pool) -> Result<Chain, AllocError>
         ensures base { IfOk result (λ c. versions_of pool.new c ≡ fresh) }
         ensures kept { IfOk result (λ c. IsKept pool.new c) }
-        ensures stands { IfOk result (λ c. (key : List ℕ) (low : ℕ) → StandsFor key low [] [] (versions_of pool.new c)) }
+        ensures stands { IfOk result (λ c. (key : List ℕ) (low : ℕ)
+            → StandsFor key low [] [] (versions_of pool.new c)) }
         ensures others { IfOk result (λ c. LeavesOthersAt pool.old [] pool.new c.slots.items) }
         ensures count { IfOk result (λ c. CountsAt pool.old [] pool.new c.slots.items) }
         ensures err { OnErr result (LeavesOthersAt pool.old [] pool.new []) }
@@ -63,8 +65,8 @@ impl Chain {
     /// The source of a read at `ts`: the version with the greatest timestamp of at most `ts`. A read is to
     /// wait or give up where that is pending and not at `ts` itself.
     pub fn source(&self, pool: &Pool, ts: u64) -> Found
-        ensures from { IsKept pool.now self.now → result.from ≡ (shows ts (versions_of pool.now self.now)).from }
-        ensures pending { IsKept pool.now self.now → result.pending ≡ (shows ts (versions_of pool.now self.now)).pending }
+        ensures from { IsKept pool.now self.now → result.from ≡ (sees ts pool.now self.now).from }
+        ensures pending { IsKept pool.now self.now → result.pending ≡ (sees ts pool.now self.now).pending }
     {
         let look = self.look(pool, ts);
         Found {
@@ -75,8 +77,8 @@ impl Chain {
 
     /// The value that a read sees at the timestamp that was looked at. `None` where the key is absent.
     pub fn value_at<'a>(&self, pool: &'a Pool, look: &Look) -> Option<&'a [u8]>
-        ensures value { (ts : ℕ) → IsKept pool.now self.now → look.now ≡ looked ts (versions_of pool.now self.now)
-            → option_map (λ v. v.now) result ≡ (shows ts (versions_of pool.now self.now)).value }
+        ensures value { IfLooked look.now pool.now self.now
+            (λ ts. option_map (λ v. v.now) result ≡ (sees ts pool.now self.now).value) }
         ensures within { (n : ℕ) → IsWithin n pool.now → IsShort n (option_map (λ v. v.now) result) }
     {
         match look.last(self.slots.len()) {
@@ -88,7 +90,8 @@ impl Chain {
     /// The value of the version that a read at `from` sees, so of the version of timestamp `from` where
     /// there is one. `None` where the key is absent.
     pub fn value<'a>(&self, pool: &'a Pool, from: u64) -> Option<&'a [u8]>
-        ensures value { IsKept pool.now self.now → option_map (λ v. v.now) result ≡ (shows from (versions_of pool.now self.now)).value }
+        ensures value { IsKept pool.now self.now
+            → option_map (λ v. v.now) result ≡ (sees from pool.now self.now).value }
         ensures within { (n : ℕ) → IsWithin n pool.now → IsShort n (option_map (λ v. v.now) result) }
     {
         self.value_at(pool, &self.look(pool, from))
@@ -104,15 +107,9 @@ impl Chain {
     /// Notes an answered read at the timestamp that was looked at. Where that read may not be answered, nothing
     /// changes.
     pub fn mark_at(&mut self, pool: &mut Pool, look: &Look)
-        ensures versions { (ts : ℕ) → IsKept pool.old self.old → look.now ≡ looked ts (versions_of pool.old self.old)
-            → versions_of pool.new self.new ≡ marked (shows ts (versions_of pool.old self.old)).from ts (versions_of pool.old self.old) }
-        ensures kept { (ts : ℕ) → IsKept pool.old self.old → look.now ≡ looked ts (versions_of pool.old self.old)
-            → IsKept pool.new self.new }
-        ensures stands { (ts : ℕ) (key : List ℕ) (low : ℕ) (writes : List Written) (reads : List Answered) → IsKept pool.old self.old
-            → look.now ≡ looked ts (versions_of pool.old self.old)
-            → StandsFor key low writes reads (versions_of pool.old self.old)
-            → low ≤ ts → is_busy ts (seen key ts writes) ≡ false
-            → StandsFor key low writes (record { reader = ts; key = key; from = (seen key ts writes).from } ∷ reads) (versions_of pool.new self.new) }
+        ensures versions { LeavesLooked marked_at look.now pool.old self.old pool.new self.new }
+        ensures kept { IfLooked look.now pool.old self.old (λ ts. IsKept pool.new self.new) }
+        ensures stands { NotesLooked look.now pool.old self.old pool.new self.new }
         ensures others { LeavesOthers pool.old self.old pool.new self.new }
         ensures count { IsKept pool.old self.old → Counts pool.old self.old pool.new self.new }
         ensures within { KeepsWithin pool.old pool.new }
@@ -123,9 +120,9 @@ impl Chain {
     /// Notes an answered read: the version of timestamp `from` was read at `reader`. Where `from` isn't the
     /// source of a read at `reader`, or that read may not be answered, nothing changes.
     pub fn mark(&mut self, pool: &mut Pool, from: u64, reader: u64)
-        ensures versions { IsKept pool.old self.old → versions_of pool.new self.new ≡ marked from reader (versions_of pool.old self.old) }
+        ensures versions { Leaves (marked from reader) pool.old self.old pool.new self.new }
         ensures kept { IsKept pool.old self.old → IsKept pool.new self.new }
-        ensures stands { (key : List ℕ) (low : ℕ) (writes : List Written) (reads : List Answered) → IsKept pool.old self.old → StandsFor key low writes reads (versions_of pool.old self.old) → low ≤ reader → from ≡ (seen key reader writes).from → is_busy reader (seen key reader writes) ≡ false → StandsFor key low writes (record { reader = reader; key = key; from = from } ∷ reads) (versions_of pool.new self.new) }
+        ensures stands { Notes from reader pool.old self.old pool.new self.new }
         ensures others { LeavesOthers pool.old self.old pool.new self.new }
         ensures count { IsKept pool.old self.old → Counts pool.old self.old pool.new self.new }
         ensures within { KeepsWithin pool.old pool.new }
@@ -148,19 +145,14 @@ impl Chain {
         look: &Look,
         value: Option<Vec<u8>>,
     ) -> Result<(), AllocError>
-        ensures versions { OnOk result ((ts : ℕ) → IsKept pool.old self.old → look.now ≡ looked ts (versions_of pool.old self.old)
-            → versions_of pool.new self.new ≡ installed ts (option_map (λ v. v.items) value) (versions_of pool.old self.old)) }
-        ensures kept { (ts : ℕ) → IsKept pool.old self.old → look.now ≡ looked ts (versions_of pool.old self.old)
-            → IsKept pool.new self.new }
-        ensures stands { OnOk result ((ts : ℕ) (key : List ℕ) (low : ℕ) (writes : List Written) (reads : List Answered)
-            → IsKept pool.old self.old → look.now ≡ looked ts (versions_of pool.old self.old)
-            → StandsFor key low writes reads (versions_of pool.old self.old)
-            → IsUnsettled ts low writes → is_late key ts reads ≡ false
-            → StandsFor key low (record { timestamp = ts; key = key; value = option_map (λ v. v.items) value; fate = None } ∷ writes) reads (versions_of pool.new self.new)) }
-        ensures err { OnErr result (IsKept pool.old self.old → versions_of pool.new self.new ≡ versions_of pool.old self.old) }
+        ensures versions { OnOk result
+            (LeavesLooked (λ ts. installed ts (bytes_of value)) look.now pool.old self.old pool.new self.new) }
+        ensures kept { IfLooked look.now pool.old self.old (λ ts. IsKept pool.new self.new) }
+        ensures stands { OnOk result (AddsLooked look.now (bytes_of value) pool.old self.old pool.new self.new) }
+        ensures err { OnErr result (Leaves (λ versions. versions) pool.old self.old pool.new self.new) }
         ensures others { LeavesOthers pool.old self.old pool.new self.new }
         ensures count { IsKept pool.old self.old → Counts pool.old self.old pool.new self.new }
-        ensures within { (n : ℕ) → IsWithin n pool.old → IsShort n (option_map (λ v. v.items) value) → IsWithin n pool.new }
+        ensures within { (n : ℕ) → IsWithin n pool.old → IsShort n (bytes_of value) → IsWithin n pool.new }
     {
         install_in(pool, &mut self.slots, look, content_of(value))
     }
@@ -176,13 +168,14 @@ impl Chain {
         ts: u64,
         value: Option<Vec<u8>>,
     ) -> Result<(), AllocError>
-        ensures versions { OnOk result (IsKept pool.old self.old → versions_of pool.new self.new ≡ installed ts (option_map (λ v. v.items) value) (versions_of pool.old self.old)) }
+        ensures versions { OnOk result
+            (Leaves (installed ts (bytes_of value)) pool.old self.old pool.new self.new) }
         ensures kept { IsKept pool.old self.old → IsKept pool.new self.new }
-        ensures stands { OnOk result ((key : List ℕ) (low : ℕ) (writes : List Written) (reads : List Answered) → IsKept pool.old self.old → StandsFor key low writes reads (versions_of pool.old self.old) → IsUnsettled ts low writes → is_late key ts reads ≡ false → StandsFor key low (record { timestamp = ts; key = key; value = option_map (λ v. v.items) value; fate = None } ∷ writes) reads (versions_of pool.new self.new)) }
-        ensures err { OnErr result (IsKept pool.old self.old → versions_of pool.new self.new ≡ versions_of pool.old self.old) }
+        ensures stands { OnOk result (Adds ts (bytes_of value) pool.old self.old pool.new self.new) }
+        ensures err { OnErr result (Leaves (λ versions. versions) pool.old self.old pool.new self.new) }
         ensures others { LeavesOthers pool.old self.old pool.new self.new }
         ensures count { IsKept pool.old self.old → Counts pool.old self.old pool.new self.new }
-        ensures within { (n : ℕ) → IsWithin n pool.old → IsShort n (option_map (λ v. v.items) value) → IsWithin n pool.new }
+        ensures within { (n : ℕ) → IsWithin n pool.old → IsShort n (bytes_of value) → IsWithin n pool.new }
     {
         let look = self.look(pool, ts);
         self.install_at(pool, &look, value)
@@ -191,9 +184,9 @@ impl Chain {
     /// Decides the fate of a branch's write, also of one below the low water: it stays, or it goes with its
     /// mark. Where the branch has no pending version, nothing changes.
     pub fn settle(&mut self, pool: &mut Pool, ts: u64, fate: Fate)
-        ensures versions { IsKept pool.old self.old → versions_of pool.new self.new ≡ settled ts fate (versions_of pool.old self.old) }
+        ensures versions { Leaves (settled ts fate) pool.old self.old pool.new self.new }
         ensures kept { IsKept pool.old self.old → IsKept pool.new self.new }
-        ensures stands { (key : List ℕ) (low : ℕ) (writes : List Written) (reads : List Answered) → IsKept pool.old self.old → StandsFor key low writes reads (versions_of pool.old self.old) → IsOpen ts writes → StandsFor key low (decided ts fate writes) reads (versions_of pool.new self.new) }
+        ensures stands { Decides ts fate pool.old self.old pool.new self.new }
         ensures others { LeavesOthers pool.old self.old pool.new self.new }
         ensures count { IsKept pool.old self.old → Counts pool.old self.old pool.new self.new }
         ensures within { KeepsWithin pool.old pool.new }
@@ -203,11 +196,9 @@ impl Chain {
 
     /// Drops each committed version below another committed one that is at most `low`: no read from `low` on sees it.
     pub fn prune(&mut self, pool: &mut Pool, low: u64)
-        ensures versions { IsKept pool.old self.old → versions_of pool.new self.new ≡ pruned low (versions_of pool.old self.old) }
+        ensures versions { Leaves (pruned low) pool.old self.old pool.new self.new }
         ensures kept { IsKept pool.old self.old → IsKept pool.new self.new }
-        ensures stands { (key : List ℕ) (before : ℕ) (writes : List Written) (reads : List Answered) → IsKept pool.old self.old
-            → StandsFor key before writes reads (versions_of pool.old self.old) → AreWhole writes
-            → StandsFor key (max before low) writes reads (versions_of pool.new self.new) }
+        ensures stands { Raises low pool.old self.old pool.new self.new }
         ensures others { LeavesOthers pool.old self.old pool.new self.new }
         ensures count { IsKept pool.old self.old → Counts pool.old self.old pool.new self.new }
         ensures within { KeepsWithin pool.old pool.new }
@@ -226,7 +217,6 @@ impl Chain {
     /// Takes all versions out, and gives their places back to the pool. Takes no memory.
     pub fn clear(&mut self, pool: &mut Pool)
         ensures versions { versions_of pool.new self.new ≡ [] }
-        ensures kept { IsKept pool.new self.new }
         ensures others { LeavesOthers pool.old self.old pool.new self.new }
         ensures count { IsKept pool.old self.old → Counts pool.old self.old pool.new self.new }
         ensures within { KeepsWithin pool.old pool.new }

@@ -1,11 +1,11 @@
-ghost use Rattle.std.specs.Prelude.{◌≡◌, ℕ, ◌<◌, ◌≤◌, Some, None, true, false, suc, List, length, slice_index_or, IfSome, MatchOption, OnOk, OnErr};
-ghost use Rattle.std.specs.List.{AllByRecursion as Each};
+ghost use Rattle.std.specs.Prelude.{◌≡◌, ℕ, ◌<◌, ◌≤◌, List, length, IfSome, OnOk, OnErr};
 ghost use Rattle.mv_chain.specs.declared.version.Version.{Version};
 ghost use Rattle.mv_chain.specs.declared.changes.Slot.{Slot};
-ghost use Rattle.mv_chain.specs.Chain.{IsChain, IsPlace, shows, marked, installed, settled};
+ghost use Rattle.mv_chain.specs.Calls.{IfLookedAt, LeavesAt, LeavesLookedAt};
+ghost use Rattle.mv_chain.specs.Chain.{IsChain, marked_at, installed, settled};
 ghost use Rattle.mv_chain.specs.Look.{looked};
 ghost use Rattle.mv_chain.specs.Pool.{shown_at, IsKeptAt, CountsAt, LeavesOthersAt};
-ghost use Rattle.mv_chain.specs.Slot.{IsSlot};
+ghost use Rattle.mv_chain.specs.Slot.{IsOwnPlace, IsSlot};
 ghost use Rattle.mv_chain.specs.Within.{IsShort, IsWithin, KeepsWithin};
 
 use crate::fate::Fate;
@@ -18,10 +18,8 @@ use std::alloc::AllocError;
 
 /// Notes an answered read, where its source was looked for.
 pub(crate) fn mark_in(pool: &mut Pool, slots: &[usize], look: &Look)
-    ensures versions { (ts : ℕ) → IsKeptAt pool.old slots.now → look.now ≡ looked ts (shown_at pool.old slots.now)
-        → shown_at pool.new slots.now ≡ marked (shows ts (shown_at pool.old slots.now)).from ts (shown_at pool.old slots.now) }
-    ensures kept { (ts : ℕ) → IsKeptAt pool.old slots.now → look.now ≡ looked ts (shown_at pool.old slots.now)
-        → IsKeptAt pool.new slots.now }
+    ensures versions { LeavesLookedAt marked_at look.now pool.old slots.now pool.new slots.now }
+    ensures kept { IfLookedAt look.now pool.old slots.now (λ ts. IsKeptAt pool.new slots.now) }
     ensures others { LeavesOthersAt pool.old slots.now pool.new slots.now }
     ensures count { CountsAt pool.old slots.now pool.new slots.now }
     ensures within { KeepsWithin pool.old pool.new }
@@ -44,8 +42,8 @@ enum Slot {
 
 /// Where a write goes, among so many versions.
 fn slot_of(look: &Look, versions: usize) -> Slot
-    ensures slot { (ts : ℕ) (shown : List Version) → IsChain shown → versions ≡ length shown → look.now ≡ looked ts shown
-        → IsSlot ts shown result }
+    ensures slot { (ts : ℕ) (shown : List Version) → IsChain shown → versions ≡ length shown
+        → look.now ≡ looked ts shown → IsSlot ts shown result }
     ensures own { (i : ℕ) → result ≡ Slot.Own i → i < versions }
     ensures new { (i : ℕ) → result ≡ Slot.New i → i ≤ versions }
 {
@@ -76,12 +74,10 @@ pub(crate) fn install_in(
     look: &Look,
     value: Option<Content>,
 ) -> Result<(), AllocError>
-    ensures versions { OnOk result ((ts : ℕ) → IsKeptAt pool.old slots.old.items → look.now ≡ looked ts (shown_at pool.old slots.old.items)
-        → shown_at pool.new slots.new.items ≡ installed ts value (shown_at pool.old slots.old.items)) }
-    ensures err { OnErr result (IsKeptAt pool.old slots.old.items
-        → shown_at pool.new slots.new.items ≡ shown_at pool.old slots.old.items) }
-    ensures kept { (ts : ℕ) → IsKeptAt pool.old slots.old.items → look.now ≡ looked ts (shown_at pool.old slots.old.items)
-        → IsKeptAt pool.new slots.new.items }
+    ensures versions { OnOk result
+        (LeavesLookedAt (λ ts. installed ts value) look.now pool.old slots.old.items pool.new slots.new.items) }
+    ensures err { OnErr result (LeavesAt (λ versions. versions) pool.old slots.old.items pool.new slots.new.items) }
+    ensures kept { IfLookedAt look.now pool.old slots.old.items (λ ts. IsKeptAt pool.new slots.new.items) }
     ensures others { LeavesOthersAt pool.old slots.old.items pool.new slots.new.items }
     ensures count { CountsAt pool.old slots.old.items pool.new slots.new.items }
     ensures within { (n : ℕ) → IsWithin n pool.old → IsShort n value → IsWithin n pool.new }
@@ -106,7 +102,7 @@ pub(crate) fn install_in(
 
 /// The pending version of this timestamp.
 fn own_place(pool: &Pool, slots: &[usize], ts: u64) -> Option<usize>
-    ensures found { IsChain (shown_at pool.now slots.now) → MatchOption result (Each (λ v. v.timestamp ≡ ts → v.pending ≡ false) (shown_at pool.now slots.now)) (λ i. IsPlace ts (suc i) (shown_at pool.now slots.now) × ((d : Version) → ((slice_index_or (shown_at pool.now slots.now) i d).timestamp ≡ ts) × ((slice_index_or (shown_at pool.now slots.now) i d).pending ≡ true))) }
+    ensures found { IsChain (shown_at pool.now slots.now) → IsOwnPlace ts (shown_at pool.now slots.now) result }
     ensures within { IfSome result (λ i. i < length slots.now) }
 {
     let look = look_in(pool, slots, ts);
@@ -118,7 +114,7 @@ fn own_place(pool: &Pool, slots: &[usize], ts: u64) -> Option<usize>
 
 /// Decides the fate of the branch's write.
 pub(crate) fn settle_in(pool: &mut Pool, slots: &mut Vec<usize>, ts: u64, fate: Fate)
-    ensures versions { IsKeptAt pool.old slots.old.items → shown_at pool.new slots.new.items ≡ settled ts fate (shown_at pool.old slots.old.items) }
+    ensures versions { LeavesAt (settled ts fate) pool.old slots.old.items pool.new slots.new.items }
     ensures kept { IsKeptAt pool.old slots.old.items → IsKeptAt pool.new slots.new.items }
     ensures others { LeavesOthersAt pool.old slots.old.items pool.new slots.new.items }
     ensures count { IsKeptAt pool.old slots.old.items → CountsAt pool.old slots.old.items pool.new slots.new.items }

@@ -1,13 +1,23 @@
 ghost use Rattle.mv_chain.specs.Idle.{IdleStands};
 ghost use Rattle.mv_chain.specs.Pool.{OthersStay};
+ghost use Rattle.mv_chain.specs.Rows.{LateWrite, BlindWrite, BusyUntilCommitted, NotSeen};
 
-/// What a call on one chain leaves is every other chain of the pool: its versions, that it is one of the pool's, and that
-/// no version is in both.
+/// What a call on one chain leaves is every other chain of the pool: its versions, that it is one of the pool's, and
+/// that no version is in both.
 pub fn others_stay()
     ensures { OthersStay }
 {}
 
-/// A key that was only read, up to the low water, may be forgotten: it stands for what a key stands for that is made anew.
+/// A key that was only read, up to the low water, may be forgotten: it stands
+/// for what a key stands for that is made anew.
 pub fn idle_stands()
     ensures { IdleStands }
+{}
+
+/// Worked rows: what the definitions make of writes and reads of three branches. It does nothing.
+pub fn worked_histories()
+    ensures late { LateWrite }
+    ensures blind { BlindWrite }
+    ensures busy { BusyUntilCommitted }
+    ensures gone { NotSeen }
 {}

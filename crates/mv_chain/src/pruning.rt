@@ -1,7 +1,8 @@
-ghost use Rattle.std.specs.Prelude.{◌≡◌, [], ◌<◌, ◌≤◌, not, ◌&&◌, ◌||◌, if◌then◌else◌, length, slice_index_or};
-ghost use Rattle.std.specs.List.{remove};
-ghost use Rattle.mv_chain.specs.Chain.{base, pruned};
+ghost use Rattle.std.specs.Prelude.{◌≡◌, [], ◌<◌, ◌≤◌, ◌||◌, length};
+ghost use Rattle.mv_chain.specs.Calls.{LeavesAt};
+ghost use Rattle.mv_chain.specs.Chain.{pruned};
 ghost use Rattle.mv_chain.specs.Pool.{shown_at, IsHeld, IsKeptAt, CountsAt, LeavesOthersAt};
+ghost use Rattle.mv_chain.specs.Slots.{is_committed_at, pruned_at};
 ghost use Rattle.mv_chain.specs.Within.{KeepsWithin};
 
 use crate::places::place;
@@ -12,8 +13,9 @@ use crate::slots::{pending_at, take_out};
 /// k on.
 fn prune_at(pool: &mut Pool, slots: &mut Vec<usize>, k: usize, based: bool) -> bool
     requires { k < length slots.old.items }
-    ensures versions { IsHeld pool.old slots.old.items → shown_at pool.new slots.new.items ≡ (if not (slice_index_or (shown_at pool.old slots.old.items) k base).pending && based then remove (shown_at pool.old slots.old.items) k else shown_at pool.old slots.old.items) }
-    ensures based { result ≡ (not (slice_index_or (shown_at pool.old slots.old.items) k base).pending || based) }
+    ensures versions { IsHeld pool.old slots.old.items
+        → shown_at pool.new slots.new.items ≡ pruned_at k based (shown_at pool.old slots.old.items) }
+    ensures based { result ≡ (is_committed_at k (shown_at pool.old slots.old.items) || based) }
     ensures held { IsHeld pool.old slots.old.items → IsHeld pool.new slots.new.items }
     ensures within { k ≤ length slots.new.items }
     ensures others { LeavesOthersAt pool.old slots.old.items pool.new slots.new.items }
@@ -32,7 +34,7 @@ fn prune_at(pool: &mut Pool, slots: &mut Vec<usize>, k: usize, based: bool) -> b
 /// Takes out each committed version below another committed one that is at most `low`. It goes down from the last
 /// version that is at most `low`: what is above that costs nothing.
 pub(crate) fn prune_in(pool: &mut Pool, slots: &mut Vec<usize>, low: u64)
-    ensures versions { IsKeptAt pool.old slots.old.items → shown_at pool.new slots.new.items ≡ pruned low (shown_at pool.old slots.old.items) }
+    ensures versions { LeavesAt (pruned low) pool.old slots.old.items pool.new slots.new.items }
     ensures kept { IsKeptAt pool.old slots.old.items → IsKeptAt pool.new slots.new.items }
     ensures others { LeavesOthersAt pool.old slots.old.items pool.new slots.new.items }
     ensures count { IsHeld pool.old slots.old.items → CountsAt pool.old slots.old.items pool.new slots.new.items }

@@ -1,5 +1,6 @@
-ghost use Rattle.std.specs.Prelude.{◌≡◌, ℕ, ◌≤◌, ◌<◌, Some, None, length, slice_index_or, OnOk, OnErr, option_map, false};
-ghost use Rattle.std.specs.List.{insert, remove};
+ghost use Rattle.std.specs.Prelude.{◌≡◌, ℕ, ◌≤◌, ◌<◌, false, Some, None, length, slice_index_or};
+ghost use Rattle.std.specs.Prelude.{OnOk, OnErr, option_map};
+ghost use Rattle.std.specs.List.{remove};
 ghost use Rattle.slab.specs.Slab.{Updates, SameValues};
 ghost use Rattle.mv_chain.specs.declared.version.Version.{Version};
 ghost use Rattle.mv_chain.specs.Chain.{raised};

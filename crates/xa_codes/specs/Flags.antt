@@ -1,6 +1,7 @@
 -- Which flags a call may have (C193, with the calls on records and the operator's beside it).
 use Rattle.std.specs.Prelude.{ℕ, ◌==◌, Bool, not, ◌&&◌, ◌||◌, bit_and, ◌-◌, ◌+◌}
-use Rattle.xa_codes.specs.declared.flags.TheConstants.{TMONEPHASE, TMFAIL, TMNOWAIT, TMRESUME, TMSUCCESS, TMSUSPEND, TMSTARTRSCAN, TMENDRSCAN, TMJOIN, TMMIGRATE}
+use Rattle.xa_codes.specs.declared.flags.TheConstants.{TMONEPHASE, TMFAIL, TMNOWAIT, TMRESUME, TMSUCCESS, TMSUSPEND}
+use Rattle.xa_codes.specs.declared.flags.TheConstants.{TMSTARTRSCAN, TMENDRSCAN, TMJOIN, TMMIGRATE}
 use Rattle.xa_codes.specs.declared.call.Call.{Call}
 use Rattle.xa_codes.specs.declared.call.Call.TheVariants.{Start, End, Commit, Recover}
 
@@ -18,8 +19,10 @@ waiting flags = bit_and flags 0x7fff_ffff
 
 abbrev pub legal : Call → ℕ → Bool
 legal Recover flags = within flags (TMSTARTRSCAN + TMENDRSCAN)
-legal Start flags = within (waiting flags) (TMJOIN + TMRESUME + TMNOWAIT) && not (has (waiting flags) (TMJOIN + TMRESUME))
+legal Start flags =
+    within (waiting flags) (TMJOIN + TMRESUME + TMNOWAIT) && not (has (waiting flags) (TMJOIN + TMRESUME))
 legal End flags =
-    (waiting flags == TMSUCCESS) || (waiting flags == TMFAIL) || (waiting flags == TMSUSPEND) || (waiting flags == TMSUSPEND + TMMIGRATE)
+    (waiting flags == TMSUCCESS) || (waiting flags == TMFAIL) || (waiting flags == TMSUSPEND)
+    || (waiting flags == TMSUSPEND + TMMIGRATE)
 legal Commit flags = within (waiting flags) (TMONEPHASE + TMNOWAIT)
 legal _ flags = waiting flags == 0

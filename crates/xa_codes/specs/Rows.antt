@@ -1,9 +1,12 @@
 -- Worked rows: flags, in the numbers of C193's header, and the directions' numbers.
 use Rattle.std.specs.Prelude.{◌≡◌, true, false}
 use Rattle.xa_codes.specs.Flags.{legal}
-use Rattle.xa_codes.specs.declared.flags.TheConstants.{TMNOFLAGS, TMASYNC, TMONEPHASE, TMFAIL, TMNOWAIT, TMRESUME, TMSUCCESS, TMSUSPEND, TMSTARTRSCAN, TMENDRSCAN, TMMULTIPLE, TMJOIN, TMMIGRATE}
+use Rattle.xa_codes.specs.declared.flags.TheConstants.{TMNOFLAGS, TMASYNC, TMONEPHASE, TMFAIL, TMNOWAIT, TMRESUME}
+use Rattle.xa_codes.specs.declared.flags.TheConstants.{TMSUCCESS, TMSUSPEND, TMSTARTRSCAN, TMENDRSCAN, TMMULTIPLE}
+use Rattle.xa_codes.specs.declared.flags.TheConstants.{TMJOIN, TMMIGRATE}
 use Rattle.xa_codes.specs.declared.direction.TheConstants.{COMMIT, ROLLBACK}
-use Rattle.xa_codes.specs.declared.call.Call.TheVariants.{Open, Close, Start, End, Prepare, Commit, Rollback, Recover, Forget, Get, Put, Restart}
+use Rattle.xa_codes.specs.declared.call.Call.TheVariants.{Open, Close, Start, End, Prepare, Commit, Rollback, Recover}
+use Rattle.xa_codes.specs.declared.call.Call.TheVariants.{Forget, Get, Put, Restart}
 
 -- the flags' values
 abbrev pub HasValues : Type 0

@@ -56,8 +56,8 @@ pub fn legal_flags(call: Call, flags: u32) -> bool
     }
 }
 
-/// The law of worked rows: the values of the flags, the numbers of the directions, flags that a call may have, and flags
-/// that it may not have, by the definition of `legal_flags`. It does nothing.
+/// The law of worked rows: the values of the flags, the numbers of the directions, flags that a call may have, and
+/// flags that it may not have, by the definition of `legal_flags`. It does nothing.
 pub fn worked_flags()
     ensures values { HasValues }
     ensures directions { HasNumbers }

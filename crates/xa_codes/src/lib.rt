@@ -1,5 +1,5 @@
-//! The numbers and names of the XA interface (X/Open C193), and the small types that the layers above share. In an order to
-//! read:
+//! The numbers and names of the XA interface (X/Open C193), and the small types
+//! that the layers above share. In an order to read:
 //!
 //! - `codes`: `Code`, the code of a reply, and each by its name, from `XA_OK` to `XAER_OUTSIDE`; `names`: `code_name`
 //! - `flags`: each flag by its name, from `TMNOFLAGS` to `TMMIGRATE`; `legal_flags`, which of them a call may have; and
@@ -8,7 +8,7 @@
 //! - `detail`: `Detail`, what a refusal is about, beside its code
 //! - `direction`: `Direction`, how a branch is to end
 //! - `bytes`: `Bytes`, a byte string that contracts see as a list; `write`: `Write`, what a branch leaves at a key, and
-//!   its limits
+//!   its limits `MOST_KEY`, `MOST_VALUE` and `MOST_WRITES`
 //!
 //! docs/PROTOCOL.md says what codes and flags mean.
 #![tactic(auto)]

@@ -12,6 +12,7 @@ use Rattle.xa_model.specs.Sound.{IsSound}
 use Rattle.xa_model.specs.Durable.{Pairwise, insert, named_before, durable, by_name}
 use Rattle.xa_model.specs.Fold.{apply, complete, decide}
 use Rattle.xa_model.specs.LoggingLaws.{KeepsSoundApplied, AppliedLasts}
+use Rattle.xa_model.proofs.Parts.{sound_beside}
 use Rattle.xa_model.proofs.Inserts.{insert_all, insert_pairwise, all_imply}
 use Rattle.xa_model.proofs.Names.{committed_sound}
 use Rattle.xa_model.proofs.Doubts.{prepared_sound, decided_sound, forgotten_sound, completed_sound, in_doubt}
@@ -111,19 +112,7 @@ applied_lasts s (logged.Known xid direction) h may = absurd may
 
 -- neither the log's end nor its boot is a part of what is sound
 elsewhere : (s : State) (boot end : ℕ) → IsSound s → IsSound (record s { logged_boot = boot; end = end })
-elsewhere s boot end h = record {
-  descends = h.descends;
-  distinct = h.distinct;
-  numbered = h.numbered;
-  active = h.active;
-  own = h.own;
-  connected = h.connected;
-  bound = h.bound;
-  sessions = h.sessions;
-  known = h.known;
-  given = h.given;
-  loose = h.loose;
-}
+elsewhere s boot end h = sound_beside s s.reads boot end s.standing s.open_record h
 
 pub applied_sound : KeepsSoundApplied
 applied_sound s (logged.Opened boot) h may = elsewhere s boot _ h

@@ -86,7 +86,7 @@ any_inserted : (p : Decided → Bool) (d : Decided) (es : List Decided) → list
 any_inserted p d [] = refl
 any_inserted p d (e ∷ es) = inserted_by p d e es (insert named_before d es) (named_before e d) (any_inserted p d es)
 
-any_named : (p : Decided → Bool) (ds : List Decided) → list_any p (by_name ds) ≡ list_any p ds
+pub any_named : (p : Decided → Bool) (ds : List Decided) → list_any p (by_name ds) ≡ list_any p ds
 any_named p [] = refl
 any_named p (d ∷ ds) = any_inserted p d (by_name ds) ∙ ap (λ q. p d || q) (any_named p ds)
 

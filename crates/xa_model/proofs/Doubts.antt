@@ -14,7 +14,7 @@ use Rattle.xa_model.proofs.Leaving.{count_left, count_turned, found_any}
 use Rattle.xa_model.proofs.Lists.{find_change_other}
 use Rattle.xa_model.proofs.Names.{called_apart, gone_sound, committed_sound}
 use Rattle.xa_model.proofs.Order.{KeepsTimestamp, change_descends}
-use Rattle.xa_model.proofs.Parts.{with_branches}
+use Rattle.xa_model.proofs.Parts.{with_branches, with_decided}
 
 -- Prepared
 
@@ -80,19 +80,8 @@ with_decision t direction xid = record t { decided = record { xid = xid; directi
 
 noted_sound : (t : State) (direction : Direction) (xid : Triple) → IsSound t → ((q : Triple) → named t q + cond (xid_eq xid q) 1 0 ≤ 1) → known_count t.branches + length t.decided + 1 ≤ 4096
     → IsSound (with_decision t direction xid)
-noted_sound t direction xid h distinct room = record {
-  descends = h.descends;
-  distinct = λ q. omega (arith, distinct q);
-  numbered = h.numbered;
-  active = h.active;
-  own = h.own;
-  connected = h.connected;
-  bound = h.bound;
-  sessions = h.sessions;
-  known = omega (arith, room);
-  given = h.given;
-  loose = h.loose;
-}
+noted_sound t direction xid h distinct room =
+    with_decided t (record { xid = xid; direction = direction } ∷ t.decided) h (λ q. omega (arith, distinct q)) (omega (arith, room))
 
 held_decided : (s : State) (direction : Direction) (xid : Triple) → IsSound s → list_any (is_known_as xid) s.branches ≡ true → holders_of s.associations xid ≡ 0 → IsSound (decided_by s direction xid)
 held_decided s direction.Commit xid h any free =
@@ -136,16 +125,7 @@ fewer p [] = omega arith
 fewer p (x ∷ xs) = fewer_by x xs (without p xs) (p x) (fewer p xs)
 
 pub forgotten_sound : (s : State) (xid : Triple) → IsSound s → IsSound (forgotten s xid)
-forgotten_sound s xid h = record {
-  descends = h.descends;
-  distinct = λ q. omega (arith, h.distinct q, count_without (is_decision_of xid) (λ d. xid_eq d.xid q) s.decided);
-  numbered = h.numbered;
-  active = h.active;
-  own = h.own;
-  connected = h.connected;
-  bound = h.bound;
-  sessions = h.sessions;
-  known = omega (arith, h.known, fewer (is_decision_of xid) s.decided);
-  given = h.given;
-  loose = h.loose;
-}
+forgotten_sound s xid h =
+    with_decided s (without (is_decision_of xid) s.decided) h
+    (λ q. omega (arith, h.distinct q, count_without (is_decision_of xid) (λ d. xid_eq d.xid q) s.decided))
+    (omega (arith, h.known, fewer (is_decision_of xid) s.decided))

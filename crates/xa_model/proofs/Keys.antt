@@ -18,7 +18,7 @@ use Rattle.xa_model.proofs.Members.{Member, member_all, same_members, same_place
 
 -- keys
 
-key_itself : (key : List ℕ) → bytes_eq key key ≡ true
+pub key_itself : (key : List ℕ) → bytes_eq key key ≡ true
 key_itself key = (bytes_eq-Decides key key).1 refl
 
 key_back : (key k : List ℕ) → bytes_eq key k ≡ false → bytes_eq k key ≡ false
@@ -31,7 +31,7 @@ below_by v w true e h =
     let strict : is_lt (slice_cmp nat_cmp v.key v.key) ≡ false = keys_strict.never v in
     absurd (cc (ap (λ k. is_lt (slice_cmp nat_cmp v.key k)) same, strict, h))
 
-key_below : (v w : Write) → keys_before v w ≡ true → bytes_eq v.key w.key ≡ false
+pub key_below : (v w : Write) → keys_before v w ≡ true → bytes_eq v.key w.key ≡ false
 key_below v w h = below_by v w (bytes_eq v.key w.key) refl h
 
 -- a write and its value

@@ -1,7 +1,7 @@
 -- What a state may log fits behind the log that stands behind the state.
-use Rattle.std.proofs.Common.{◌≡◌, ℕ, ◌+◌, ◌<◌, ◌≤◌, ◌==◌, Bool, true, false, not, ◌&&◌, ◌||◌, cond, List, [], ◌∷◌, ◌++◌, Option, Some, None, refl, ap, sym, ◌∙◌, subst, arith}
+use Rattle.std.proofs.Common.{◌≡◌, ℕ, ◌+◌, ◌<◌, ◌≤◌, ◌==◌, Bool, true, false, not, ◌&&◌, List, ◌++◌, Option, Some, None, refl, ap, sym, ◌∙◌, subst, arith}
 use Rattle.std.specs.Prelude.{find, nat_le, option_map}
-use Rattle.std.specs.List.{list_any, AllByRecursion}
+use Rattle.std.specs.List.{AllByRecursion}
 use Rattle.std.proofs.lemmas.Bool.Decides.{nat_tests}
 use Rattle.xa_codes.specs.declared.direction.Direction.{Direction}
 use Rattle.xa_codes.specs.declared.write.Write.{Write}
@@ -10,7 +10,7 @@ use Rattle.xa_record.specs.declared.record.Record.TheVariants as logged
 use Rattle.xa_xid.specs.Triple.{Triple, xid_eq}
 use Rattle.xa_model.specs.State.{State, Branch, Phase, Working, Prepared, Committed, InDoubt, Decided, count, known_among, known_by, known_of, decided_of, or_completed, is_known_as}
 use Rattle.xa_model.specs.Sound.{IsSound, is_working, is_at_work}
-use Rattle.xa_model.specs.Durable.{Durable, PreparedBranch, durable, insert, named_before, by_name, is_prepared, is_decided, is_past, boot_of, number_of}
+use Rattle.xa_model.specs.Durable.{Durable, PreparedBranch, durable, by_name, is_prepared, is_decided, is_past, boot_of, number_of}
 use Rattle.xa_model.specs.Fold.{Reading, fits, reading, unread, is_new, is_used, prepared_as}
 use Rattle.xa_model.specs.Completions.{is_completed}
 use Rattle.xa_model.specs.MayLog.{IsIdle}
@@ -24,6 +24,7 @@ use Rattle.xa_model.proofs.Lists.{found_all, found_passes}
 use Rattle.xa_model.proofs.Splits.{parts, parts_none, parts_all, all_append, uncounted}
 use Rattle.xa_model.proofs.Applied.{prepared_of, among, unnamed_by, doubt_by, doubted, idle_branch}
 use Rattle.xa_model.proofs.AppliedDecisions.{all_by_name}
+use Rattle.xa_model.proofs.Behind.{any_named}
 
 -- names
 
@@ -62,25 +63,6 @@ prepared_by s xid (Some b) h found doubt =
 
 -- completed by the operator
 
-inserted_any_by : (p : Decided → Bool) (x y : Decided) (ys : List Decided) (c : Bool) → list_any p (insert named_before x ys) ≡ (p x || list_any p ys)
-    → list_any p (cond c (y ∷ insert named_before x ys) (x ∷ y ∷ ys)) ≡ (p x || (p y || list_any p ys))
-inserted_any_by p x y ys true ih = ap (λ b. p y || b) ih ∙ swapped (p y) (p x) (list_any p ys)
-  where
-    swapped : (a b c : Bool) → (a || (b || c)) ≡ (b || (a || c))
-    swapped true true c = refl
-    swapped true false c = refl
-    swapped false true c = refl
-    swapped false false c = refl
-inserted_any_by p x y ys false ih = refl
-
-inserted_any : (p : Decided → Bool) (x : Decided) (ys : List Decided) → list_any p (insert named_before x ys) ≡ (p x || list_any p ys)
-inserted_any p x [] = refl
-inserted_any p x (y ∷ ys) = inserted_any_by p x y ys (named_before y x) (inserted_any p x ys)
-
-any_by_name : (p : Decided → Bool) (ds : List Decided) → list_any p (by_name ds) ≡ list_any p ds
-any_by_name p [] = refl
-any_by_name p (d ∷ ds) = inserted_any p d (by_name ds) ∙ ap (λ b. p d || b) (any_by_name p ds)
-
 phase_uncompleted : (b : Branch) → is_completed (known_by b.phase) ≡ false
 phase_uncompleted b = by_phase b.phase
   where
@@ -94,7 +76,7 @@ decided_found : (s : State) (xid : Triple) (f : Option Decided) → find (λ (d 
     → is_decided xid (durable s).decided ≡ true
 decided_found s xid None found e = absurd (cc e)
 decided_found s xid (Some d) found e =
-    any_by_name (λ (c : Decided). xid_eq c.xid xid) s.decided ∙ found_any (λ (c : Decided). xid_eq c.xid xid) d s.decided found
+    any_named (λ (c : Decided). xid_eq c.xid xid) s.decided ∙ found_any (λ (c : Decided). xid_eq c.xid xid) d s.decided found
 
 decided_is : (s : State) (xid : Triple) (o : Option Branch) → is_completed (known_among o (decided_of s.decided xid)) ≡ true
     → is_decided xid (durable s).decided ≡ true

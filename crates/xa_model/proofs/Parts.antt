@@ -1,10 +1,11 @@
 -- A state stays sound where one of its parts changes and keeps what soundness asks of that part.
-use Rattle.std.proofs.Common.{◌≡◌, ◌+◌, ◌≤◌, Bool, false, List, Option, Some, None, refl, arith, sym, ◌∙◌}
+use Rattle.std.proofs.Common.{◌≡◌, ◌+◌, ℕ, ◌≤◌, Bool, false, List, [], Option, Some, None, refl, arith, sym, ◌∙◌}
 use Rattle.std.specs.Prelude.{is_some, map}
+use Rattle.xa_record.specs.declared.record.Record.{Record}
 use Rattle.xa_xid.specs.Triple.{Triple, xid_eq}
-use Rattle.xa_model.specs.State.{State, Branch, Association, count, change, name_of, is_known_as, is_active, owns, is_loose_with, known_of, holders_of, timestamp_of}
-use Rattle.xa_model.specs.Associations.{is_anyones}
-use Rattle.xa_model.specs.Sound.{IsSound, Descends, is_working, is_at_work}
+use Rattle.xa_model.specs.State.{State, Branch, Association, Decided, Read, Standing, known_in, count, change, name_of, is_known_as, is_active, owns, is_loose_with, known_of, holders_of, timestamp_of}
+use Rattle.xa_model.specs.Associations.{is_anyones, most_branches}
+use Rattle.xa_model.specs.Sound.{IsSound, Descends, is_working, is_at_work, named}
 use Rattle.xa_model.proofs.Counts.{count_same, count_map}
 use Rattle.xa_model.proofs.Finds.{told, told_change, told_map}
 use Rattle.xa_model.proofs.Order.{KeepsTimestamp, change_descends, map_descends}
@@ -45,6 +46,58 @@ with_fewer_held s held h fewer = record {
   known = h.known;
   given = h.given;
   loose = λ xid. omega (arith, h.loose xid, fewer (is_loose_with xid));
+}
+
+-- of the decisions it matters that no XID has two, and how many they are
+pub with_decided : (s : State) (ds : List Decided) → IsSound s → ((q : Triple) → named (record s { decided = ds }) q ≤ 1)
+    → known_in (record s { decided = ds }) ≤ most_branches → IsSound (record s { decided = ds })
+with_decided s ds h distinct known = record {
+  descends = h.descends;
+  distinct = distinct;
+  numbered = h.numbered;
+  active = h.active;
+  own = h.own;
+  connected = h.connected;
+  bound = h.bound;
+  sessions = h.sessions;
+  known = known;
+  given = h.given;
+  loose = h.loose;
+}
+
+-- the answered reads, the log, and whether anybody answers are no part of what is sound
+pub sound_beside : (s : State) (reads : List Read) (logged_boot end : ℕ) (standing : Standing) (open_record : Option Record)
+    → IsSound s
+    → IsSound (record s { reads = reads; logged_boot = logged_boot; end = end; standing = standing; open_record = open_record })
+sound_beside s reads logged_boot end standing open_record h = record {
+  descends = h.descends;
+  distinct = h.distinct;
+  numbered = h.numbered;
+  active = h.active;
+  own = h.own;
+  connected = h.connected;
+  bound = h.bound;
+  sessions = h.sessions;
+  known = h.known;
+  given = h.given;
+  loose = h.loose;
+}
+
+-- nor are the settings; and nobody need be connected
+pub left_sound : (s : State) (name : List ℕ) (log_bytes : ℕ) → IsSound s
+    → IsSound (record s { name = name; log_bytes = log_bytes; sessions = []; associations = [] })
+left_sound s name log_bytes h = record {
+  descends = h.descends;
+  distinct = h.distinct;
+  numbered = λ n. omega arith;
+  active = λ n. omega arith;
+  own = λ n xid. omega arith;
+  connected = λ n none. refl;
+  bound = λ xid none. refl;
+  sessions = omega arith;
+  known = h.known;
+  given = h.given;
+  loose = λ xid. omega arith;
 }
 
 -- a change of a branch that leaves its timestamp, its name, and whether it is at work

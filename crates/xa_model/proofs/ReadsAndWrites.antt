@@ -11,13 +11,11 @@ use Rattle.xa_model.specs.Source.{Version, write_of, absent, source, is_busy, is
 use Rattle.xa_model.specs.Sound.{Descends}
 use Rattle.xa_model.specs.Records.{having_done, did}
 use Rattle.xa_model.proofs.Inserts.{all_imply}
+use Rattle.xa_model.proofs.Keys.{key_itself}
 use Rattle.xa_model.proofs.Lists.{found_all, change_all}
 use Rattle.xa_model.proofs.Moves.{Core, Moves, remains, restarts, begins, gets, puts, known_uncommitted}
 use Rattle.xa_model.proofs.Pins.{Has, IsSource, IsOutside, IsRight, IsPinned, Settled, AreSettled, IsOrdered, settled_weaker, changed_has, changed_all, remains_settled, restarts_settled, begins_settled}
 use Rattle.xa_model.proofs.Sources.{Left, IsAtMost, IsNewest, source_is, found_one}
-
-key_itself : (key : List ℕ) → bytes_eq key key ≡ true
-key_itself key = (bytes_eq-Decides key key).1 refl
 
 later_read : (key : List ℕ) (u : ℕ) (r : Read) (reads : List Read) → is_late key u reads ≡ true → is_late key u (r ∷ reads) ≡ true
 later_read key u r reads e = grind (arith, e)

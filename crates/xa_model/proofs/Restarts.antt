@@ -22,6 +22,7 @@ use Rattle.xa_model.proofs.Counts.{count_filter, count_map}
 use Rattle.xa_model.proofs.Order.{descends_below}
 use Rattle.xa_model.proofs.Applied.{committed_of, prepared_of, same_durable}
 use Rattle.xa_model.proofs.AppliedDecisions.{applied_lasts, applied_sound}
+use Rattle.xa_model.proofs.Parts.{sound_beside, left_sound}
 use Rattle.xa_model.proofs.Stopped.{down_sound, ended_sound, down_may, ended_may, down_durable, ended_durable}
 use Rattle.xa_model.proofs.Recordable.{recordable, loggable, relogged, applied_loggable, lasting_recordable}
 
@@ -91,19 +92,7 @@ booted_sound s next h less = record {
 }
 
 reopened_sound : (s : State) (name : List ℕ) (log_bytes next : ℕ) → IsSound s → s.boot < next → IsSound (reopened s name log_bytes next)
-reopened_sound s name log_bytes next h less = let k = booted_sound s next h less in record {
-  descends = k.descends;
-  distinct = k.distinct;
-  numbered = λ n. omega arith;
-  active = λ n. omega arith;
-  own = λ n xid. omega arith;
-  connected = λ n none. refl;
-  bound = λ xid none. refl;
-  sessions = omega arith;
-  known = k.known;
-  given = k.given;
-  loose = λ xid. omega arith;
-}
+reopened_sound s name log_bytes next h less = left_sound (restarted s next) name log_bytes (booted_sound s next h less)
 
 -- a manager that is down, or ended
 
@@ -250,19 +239,7 @@ reopens s name log_bytes h settled = reopens_by s name log_bytes (nat_lt s.logge
 -- the open record is settled
 
 settled_sound : (s : State) → IsSound s → IsSound (missed s)
-settled_sound s h = record {
-  descends = h.descends;
-  distinct = h.distinct;
-  numbered = h.numbered;
-  active = h.active;
-  own = h.own;
-  connected = h.connected;
-  bound = h.bound;
-  sessions = h.sessions;
-  known = h.known;
-  given = h.given;
-  loose = h.loose;
-}
+settled_sound s h = sound_beside s s.reads s.logged_boot s.end s.standing None h
 
 pub applied_standing : (s : State) (r : Record) → (applied r s).standing ≡ s.standing
 applied_standing s (logged.Opened boot) = refl

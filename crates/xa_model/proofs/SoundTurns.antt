@@ -12,10 +12,10 @@ use Rattle.xa_model.specs.Turn.{Turn, Nobody, Now, Appends, Rereads, taken}
 use Rattle.xa_model.specs.Step.{respond, asked}
 use Rattle.xa_model.specs.Events.{is_restart}
 use Rattle.xa_model.specs.Sound.{IsSound}
-use Rattle.xa_model.specs.Logging.{lost}
 use Rattle.xa_model.specs.LoggingLaws.{LogsWhatLasts}
 use Rattle.xa_model.specs.Laws.{KeepsSound}
 use Rattle.xa_model.proofs.AppliedDecisions.{applied_sound}
+use Rattle.xa_model.proofs.Stopped.{down_sound}
 use Rattle.xa_model.proofs.LoggedEvents.{events_log_what_lasts}
 
 -- each answer leaves a sound state
@@ -24,27 +24,11 @@ IsSoundTurn (Now a) = IsSound a.after
 IsSoundTurn (Appends r after) = (x : Appending) → IsSound (after x).after
 IsSoundTurn _ = ⊥
 
--- neither whether anybody answers nor the record whose fate is unknown is a part of what is sound
-lost_sound : (s : State) (r : Record) → IsSound s → IsSound (lost s r).after
-lost_sound s r h = record {
-  descends = h.descends;
-  distinct = h.distinct;
-  numbered = h.numbered;
-  active = h.active;
-  own = h.own;
-  connected = h.connected;
-  bound = h.bound;
-  sessions = h.sessions;
-  known = h.known;
-  given = h.given;
-  loose = h.loose;
-}
-
 appended_sound : (s : State) (r : Record) (after : Appending → Answer) → IsSound s → LogsWhatLasts s (Appends r after)
     → (x : Appending) → IsSound (after x).after
 appended_sound s r after h logs Kept = subst (λ (a : Answer). IsSound a.after) (sym logs.1) (applied_sound s r h logs.0)
 appended_sound s r after h logs Refused = logs.2.sound
-appended_sound s r after h logs Lost = subst (λ (a : Answer). IsSound a.after) (sym logs.3) (lost_sound s r h)
+appended_sound s r after h logs Lost = subst (λ (a : Answer). IsSound a.after) (sym logs.3) (down_sound s (Some r) h)
 
 logged_sound : (s : State) (t : Turn) → IsSound s → LogsWhatLasts s t → IsSoundTurn t
 logged_sound s Nobody h logs = logs

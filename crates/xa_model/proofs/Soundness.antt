@@ -16,6 +16,7 @@ use Rattle.xa_model.specs.Durable.{durable}
 use Rattle.xa_model.specs.Listed.{list_after}
 use Rattle.xa_model.specs.Recovering.{scan_of, scan_from, scan_after, with_scan, recovered_from, recover_by}
 use Rattle.xa_model.specs.Sound.{IsSound}
+use Rattle.xa_model.proofs.Parts.{sound_beside}
 use Rattle.xa_model.proofs.Marks.{mark_keeps, done_keeps, changed_sound}
 use Rattle.xa_model.proofs.Rows.{unless_sound, marked_sound, passed}
 use Rattle.xa_model.proofs.Seats.{seat_sound}
@@ -30,19 +31,7 @@ doom_sound s xid h =
 
 -- reads are no part of what is sound
 more_reads : (s : State) (reads : List _) → IsSound s → IsSound (record s { reads = reads })
-more_reads s reads h = record {
-  descends = h.descends;
-  distinct = h.distinct;
-  numbered = h.numbered;
-  active = h.active;
-  own = h.own;
-  connected = h.connected;
-  bound = h.bound;
-  sessions = h.sessions;
-  known = h.known;
-  given = h.given;
-  loose = h.loose;
-}
+more_reads s reads h = sound_beside s reads s.logged_boot s.end s.standing s.open_record h
 
 got_sound : (s : State) (key : List ℕ) (xid : Triple) (b : Branch) (v : Version) → IsSound s → IsSound (got s key xid b v).after
 got_sound s key xid b v h = more_reads _ _ (changed_sound s (having_done (Got key v.value v.timestamp)) xid (done_keeps (Got key v.value v.timestamp)) h)

@@ -1,44 +1,23 @@
 -- A manager that is down, or whose process ended: it stays sound, and what may be logged still may, and comes to the same.
-use Rattle.std.proofs.Common.{◌≡◌, ℕ, List, Option, refl, arith}
+use Rattle.std.proofs.Common.{◌≡◌, ℕ, List, [], Option, refl}
 use Rattle.xa_codes.specs.declared.direction.Direction.TheVariants as direction
 use Rattle.xa_record.specs.declared.record.Record.{Record}
 use Rattle.xa_record.specs.declared.record.Record.TheVariants as logged
-use Rattle.xa_model.specs.State.{State}
+use Rattle.xa_model.specs.State.{State, Down, Ended}
 use Rattle.xa_model.specs.Sound.{IsSound}
 use Rattle.xa_model.specs.Durable.{durable}
 use Rattle.xa_model.specs.Restarting.{refused_opening}
 use Rattle.xa_model.specs.Logging.{applied, down}
 use Rattle.xa_model.specs.MayLog.{MayLog}
+use Rattle.xa_model.proofs.Parts.{sound_beside, left_sound}
 
 pub down_sound : (s : State) (r : Option Record) → IsSound s → IsSound (record (down s) { open_record = r })
-down_sound s r h = record {
-  descends = h.descends;
-  distinct = h.distinct;
-  numbered = h.numbered;
-  active = h.active;
-  own = h.own;
-  connected = h.connected;
-  bound = h.bound;
-  sessions = h.sessions;
-  known = h.known;
-  given = h.given;
-  loose = h.loose;
-}
+down_sound s r h = sound_beside s s.reads s.logged_boot s.end Down r h
 
 pub ended_sound : (s : State) (name : List ℕ) (log_bytes : ℕ) (r : Option Record) → IsSound s → IsSound (record (refused_opening s name log_bytes) { open_record = r })
-ended_sound s name log_bytes r h = record {
-  descends = h.descends;
-  distinct = h.distinct;
-  numbered = λ n. omega arith;
-  active = λ n. omega arith;
-  own = λ n xid. omega arith;
-  connected = λ n none. refl;
-  bound = λ xid none. refl;
-  sessions = omega arith;
-  known = h.known;
-  given = h.given;
-  loose = λ xid. omega arith;
-}
+ended_sound s name log_bytes r h =
+    let left : State = record s { name = name; log_bytes = log_bytes; sessions = []; associations = [] } in
+    sound_beside left s.reads s.logged_boot s.end Ended r (left_sound s name log_bytes h)
 
 -- what may be logged still may
 

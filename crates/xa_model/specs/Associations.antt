@@ -1,15 +1,20 @@
 -- The association table: how sessions come, and how they come to work for branches.
-use Rattle.std.specs.Prelude.{ℕ, ◌+◌, ◌==◌, ℤ, Bool, true, false, not, ◌||◌, Option, Some, None, List, [], ◌∷◌, filter, length, map, is_some, nat_lt, if◌then◌else◌}
+use Rattle.std.specs.Prelude.{ℕ, ◌+◌, ◌==◌, ℤ, Bool, true, false, not, ◌||◌, Option, Some, None, List, [], ◌∷◌, filter}
+use Rattle.std.specs.Prelude.{length, map, is_some, nat_lt, if◌then◌else◌}
 use Rattle.std.specs.List.{list_any}
 use Rattle.xa_codes.specs.Flags.{has}
-use Rattle.xa_codes.specs.declared.codes.TheConstants.{XAER_PROTO, XAER_NOTA, XAER_DUPID, XAER_RMERR, XA_RBROLLBACK, XA_RBCOMMFAIL}
+use Rattle.xa_codes.specs.declared.codes.TheConstants.{XAER_PROTO, XAER_NOTA, XAER_DUPID, XAER_RMERR, XA_RBROLLBACK}
+use Rattle.xa_codes.specs.declared.codes.TheConstants.{XA_RBCOMMFAIL}
 use Rattle.xa_codes.specs.declared.detail.Detail.TheVariants as detail
 use Rattle.xa_codes.specs.declared.flags.TheConstants.{TMJOIN, TMRESUME, TMSUSPEND, TMMIGRATE, TMFAIL}
 use Rattle.xa_xid.specs.Triple.{Triple}
 use Rattle.xa_frame.specs.declared.body.Body.TheVariants as body
 use Rattle.xa_frame.specs.declared.reply.Reply.{Reply}
 use Rattle.xa_model.specs.declared.limits.TheConstants.{MOST_SESSIONS, MOST_BRANCHES, MOST_GIVEN, MOST_LOOSE}
-use Rattle.xa_model.specs.State.{State, Session, Branch, Phase, Working, Prepared, Committed, Association, Holder, Active, Suspended, Loose, Known, Unknown, AtWork, InDoubt, Completed, known_as, known_in, known_of, active_of, is_own, is_with, is_known_as, owns, works_in, suspends, is_loose_with, loose_of, without, change, free_number, timestamp_of}
+use Rattle.xa_model.specs.State.{State, Session, Branch, Phase, Working, Prepared, Committed, Association, Holder}
+use Rattle.xa_model.specs.State.{Active, Suspended, Loose, Known, Unknown, AtWork, InDoubt, Completed, known_as}
+use Rattle.xa_model.specs.State.{known_in, known_of, active_of, is_own, is_with, is_known_as, owns, works_in, suspends}
+use Rattle.xa_model.specs.State.{is_loose_with, loose_of, without, change, free_number, timestamp_of}
 use Rattle.xa_model.specs.Answer.{Answer, plain, detailed, carrying, answer, ok, first, unless, marked}
 
 abbrev pub most_sessions : ℕ
@@ -34,7 +39,8 @@ connect_refusal connected = first ((not (nat_lt connected most_sessions), detail
 abbrev pub connected : State → Answer
 connected s =
     let n = free_number s.sessions in
-    answer (carrying (body.Number n)) (record s { sessions = record { number = n; opened = false; scan = None } ∷ s.sessions })
+    answer (carrying (body.Number n))
+    (record s { sessions = record { number = n; opened = false; scan = None } ∷ s.sessions })
 
 abbrev pub connect_by : State → Answer
 connect_by s = unless (connect_refusal (length s.sessions)) s (connected s)
@@ -60,7 +66,8 @@ as_closed x = record x { opened = false; scan = None }
 
 abbrev pub close_by : State → ℕ → Answer
 close_by s n =
-    unless (close_refusal (list_any (is_anyones n) s.associations)) s (ok (record s { sessions = change (λ x. x.number == n) as_closed s.sessions }))
+    unless (close_refusal (list_any (is_anyones n) s.associations)) s
+    (ok (record s { sessions = change (λ x. x.number == n) as_closed s.sessions }))
 
 -- Marks: the first stays, and only a branch that is at work has one
 
@@ -117,7 +124,9 @@ begun s n xid =
     })
 
 abbrev pub begin_by : State → ℕ → Triple → Answer
-begin_by s n xid = unless (start_refusal (is_some (active_of s.associations n)) (is_taken (known_as s xid)) (known_in s) s.given) s (begun s n xid)
+begin_by s n xid =
+    unless (start_refusal (is_some (active_of s.associations n)) (is_taken (known_as s xid)) (known_in s) s.given) s
+    (begun s n xid)
 
 -- Facts of an XID
 
@@ -155,15 +164,18 @@ join_refusal is_at_work has_suspended known =
 
 abbrev pub joined : State → ℕ → Triple → Answer
 joined s n xid =
-    answer (carrying (body.Number (timestamp_in s xid))) (record s { associations = record { xid = xid; holder = Active n } ∷ s.associations })
+    answer (carrying (body.Number (timestamp_in s xid)))
+    (record s { associations = record { xid = xid; holder = Active n } ∷ s.associations })
 
 abbrev pub join_by : State → ℕ → Triple → Answer
 join_by s n xid =
-    unless (join_refusal (is_some (active_of s.associations n)) (list_any (suspends n xid) s.associations) (known_as s xid)) s
+    unless
+    (join_refusal (is_some (active_of s.associations n)) (list_any (suspends n xid) s.associations) (known_as s xid))
+    s
     (marked (mark_in (known_as s xid)) s (joined s n xid))
 
--- Start with TMRESUME: the session's own suspended association with the XID becomes its active one, or a loose one if it
--- has none
+-- Start with TMRESUME: the session's own suspended association with the XID
+-- becomes its active one, or a loose one if it has none
 
 abbrev pub resume_refusal : Bool → Known → Bool → Bool → Option Reply
 resume_refusal is_at_work known has_suspended is_loose =
@@ -190,7 +202,10 @@ not_resumed s n xid = record s { associations = without (resumable s.association
 
 abbrev pub resume_by : State → ℕ → Triple → Answer
 resume_by s n xid =
-    unless (resume_refusal (is_some (active_of s.associations n)) (known_as s xid) (list_any (suspends n xid) s.associations) (list_any (is_loose_with xid) s.associations)) s
+    unless
+    (resume_refusal (is_some (active_of s.associations n)) (known_as s xid) (list_any (suspends n xid) s.associations)
+    (list_any (is_loose_with xid) s.associations))
+    s
     (marked (mark_in (known_as s xid)) (not_resumed s n xid) (resumed s n xid))
 
 abbrev pub start_by : State → ℕ → ℕ → Triple → Answer
@@ -205,11 +220,13 @@ abbrev pub end_refusal : Known → Bool → Option Reply
 end_refusal known holds = first ((is_unknown known, plain XAER_NOTA) ∷ (not holds, plain XAER_PROTO) ∷ [])
 
 abbrev pub loose_refusal : Bool → ℕ → Option Reply
-loose_refusal migrates loose = if migrates then first ((not (nat_lt loose most_loose), detailed XAER_RMERR detail.Limit) ∷ []) else None
+loose_refusal migrates loose =
+    if migrates then first ((not (nat_lt loose most_loose), detailed XAER_RMERR detail.Limit) ∷ []) else None
 
 abbrev pub suspended : State → ℕ → Bool → Triple → State
-suspended s n migrates xid =
-    record s { associations = change (works_in n xid) (held_by (if migrates then Loose else Suspended n)) s.associations }
+suspended s n migrates xid = record s {
+  associations = change (works_in n xid) (held_by (if migrates then Loose else Suspended n)) s.associations;
+}
 
 -- what would be suspended of a marked branch ends
 abbrev pub not_suspended : State → ℕ → Triple → State
@@ -229,15 +246,18 @@ abbrev pub can_end : List Association → ℕ → Triple → Bool
 can_end held n xid = list_any (owns n xid) held || list_any (is_loose_with xid) held
 
 abbrev pub without_one : List Association → ℕ → Triple → List Association
-without_one held n xid = if list_any (owns n xid) held then without (owns n xid) held else without (is_loose_with xid) held
+without_one held n xid =
+    if list_any (owns n xid) held then without (owns n xid) held else without (is_loose_with xid) held
 
 abbrev pub ended : State → ℕ → Triple → State
 ended s n xid = record s { associations = without_one s.associations n xid }
 
 abbrev pub failed : State → ℕ → Triple → Answer
 failed s n xid =
-    answer (plain XA_RBROLLBACK)
-    (record s { associations = without_one s.associations n xid; branches = change (is_known_as xid) (with_mark XA_RBROLLBACK) s.branches })
+    answer (plain XA_RBROLLBACK) (record s {
+      associations = without_one s.associations n xid;
+      branches = change (is_known_as xid) (with_mark XA_RBROLLBACK) s.branches;
+    })
 
 abbrev pub leave_by : State → ℕ → Bool → Triple → Answer
 leave_by s n fails xid =

@@ -17,15 +17,16 @@ pub record IsNew (s : State) (timestamps : List ℕ) : Type 0 where
   pub given : AllByRecursion (λ t. t ≤ timestamp_of s.boot s.given) timestamps
   pub unused : AllByRecursion (λ b. is_working b.phase ≡ true → is_used b.timestamp timestamps ≡ false) s.branches
 
--- a log of these records: it comes to what would last, ends where the state says, and what the state has still to log is new
--- to it
+-- a log of these records: it comes to what would last, ends where the state says,
+-- and what the state has still to log is new to it
 pub record Backs (rs : List Record) (s : State) : Type 0 where
   pub records : AllByRecursion IsRecord rs
   pub lasts : fold rs ≡ Ok (durable s)
   pub end : s.end ≡ 8 + sizes rs
   pub new : s.logged_boot ≡ s.boot → IsNew s (reading unread rs).timestamps
 
--- the records of a log whose last record's fate is settled: it stands there; an opened record stands first in a snapshot
+-- the records of a log whose last record's fate is settled: it stands
+-- there; an opened record stands first in a snapshot
 abbrev pub settled : List Record → State → Record → List Record
 settled rs s (logged.Opened boot) = snapshot (durable s) boot
 settled rs s r = rs ++ r ∷ []
@@ -35,12 +36,14 @@ settled rs s r = rs ++ r ∷ []
 abbrev pub BacksReading : List Record → State → Rereading → Type 0
 BacksReading rs s (Stops a) = Backs rs a.after
 BacksReading rs s (Opens r after) =
-    Backs (snapshot (durable s) (s.logged_boot + 1)) (after Kept).after × Backs rs (after Refused).after × Backs rs (after Lost).after
+    Backs (snapshot (durable s) (s.logged_boot + 1)) (after Kept).after × Backs rs (after Refused).after
+    × Backs rs (after Lost).after
 
 abbrev pub BacksTurn : List Record → State → Turn → Type 0
 BacksTurn rs s Nobody = Unit {0}
 BacksTurn rs s (Now a) = Backs rs a.after
-BacksTurn rs s (Appends r after) = Backs (rs ++ r ∷ []) (after Kept).after × Backs rs (after Refused).after × Backs rs (after Lost).after
+BacksTurn rs s (Appends r after) =
+    Backs (rs ++ r ∷ []) (after Kept).after × Backs rs (after Refused).after × Backs rs (after Lost).after
 BacksTurn rs s (Rereads failed found missing) =
     Backs rs failed.after
     × IfSome s.open_record (λ r. IfSome found (BacksReading (settled rs s r) (survived s r)))

@@ -27,15 +27,20 @@ KeepsRecoverable =
 -- so every history goes through recoverable states
 abbrev pub AlwaysRecoverable : Type 0
 AlwaysRecoverable =
-    (first last : State) (entries : List Entry) → HaveHappened entries → IsRecoverable first → Leads first entries last → IsRecoverable last
+    (first last : State) (entries : List Entry) → HaveHappened entries → IsRecoverable first → Leads first entries last
+    → IsRecoverable last
 
 -- what a state may log fits behind the log's records
 abbrev pub LoggedInOrder : Type 0
-LoggedInOrder = (rs : List Record) (s : State) (r : Record) → IsRecoverable s → Backs rs s → MayBeLast s r → fits r (reading unread rs) ≡ true
+LoggedInOrder =
+    (rs : List Record) (s : State) (r : Record) → IsRecoverable s → Backs rs s → MayBeLast s r
+    → fits r (reading unread rs) ≡ true
 
 -- the log's records go on with the state, whatever is asked and whatever the device answers
 abbrev pub KeepsBacked : Type 0
-KeepsBacked = (rs : List Record) (s : State) (happening : Happening) → IsHappening happening → IsRecoverable s → Backs rs s → BacksTurn rs s (turn s happening)
+KeepsBacked =
+    (rs : List Record) (s : State) (happening : Happening) → IsHappening happening → IsRecoverable s → Backs rs s
+    → BacksTurn rs s (turn s happening)
 
 -- a restart and an opening, of a state whose records' fates are settled, lead to what lasted of it
 abbrev pub RestartsRestored : Type 0
@@ -51,9 +56,11 @@ ReopensRestored =
 -- so does an opening on records of which nothing else is known, if no more branches are known by them than may be
 abbrev pub OpensRestored : Type 0
 OpensRestored =
-    (rs : List Record) (d : Durable) (name : List ℕ) (log_bytes : ℕ) → AllByRecursion IsRecord rs → fold rs ≡ Ok d → d.boot < most_boots
+    (rs : List Record) (d : Durable) (name : List ℕ) (log_bytes : ℕ) → AllByRecursion IsRecord rs → fold rs ≡ Ok d
+    → d.boot < most_boots
     → length d.prepared + length d.decided ≤ most_branches
-    → IsRestored d (d.boot + 1) (opening d name log_bytes (d.boot + 1)) × Backs (snapshot d (d.boot + 1)) (opening d name log_bytes (d.boot + 1))
+    → IsRestored d (d.boot + 1) (opening d name log_bytes (d.boot + 1))
+    × Backs (snapshot d (d.boot + 1)) (opening d name log_bytes (d.boot + 1))
 
 -- a new manager is one that was opened on a log of no records
 abbrev pub OpensFresh : Type 0

@@ -5,7 +5,8 @@ use Rattle.xa_codes.specs.declared.direction.Direction.{Direction}
 use Rattle.xa_codes.specs.declared.direction.Direction.TheVariants as direction
 use Rattle.xa_xid.specs.Triple.{Triple, xid_eq}
 use Rattle.xa_frame.specs.declared.reply.Reply.{Reply}
-use Rattle.xa_model.specs.State.{State, Branch, Decided, Phase, Working, Prepared, Committed, Known, Completed, known_as, holders_of, is_known_as, without, change}
+use Rattle.xa_model.specs.State.{State, Branch, Decided, Phase, Working, Prepared, Committed, Known, Completed}
+use Rattle.xa_model.specs.State.{known_as, holders_of, is_known_as, without, change}
 use Rattle.xa_model.specs.Answer.{Answer, plain, ok, first, unless}
 use Rattle.xa_model.specs.Associations.{is_unknown, is_settled, with_mark}
 
@@ -47,7 +48,8 @@ two_phase_refusal known = first ((is_unknown known, plain XAER_NOTA) ∷ (not (i
 -- Rollback, by any session: of a branch without associations
 
 abbrev pub rollback_refusal : Known → Bool → Option Reply
-rollback_refusal known is_associated = first ((is_unknown known, plain XAER_NOTA) ∷ (is_associated, plain XAER_PROTO) ∷ [])
+rollback_refusal known is_associated =
+    first ((is_unknown known, plain XAER_NOTA) ∷ (is_associated, plain XAER_PROTO) ∷ [])
 
 -- Doom, the operator's mark, also of a branch at which sessions work
 
@@ -81,7 +83,8 @@ completed s direction.Rollback xid = rolled_back s xid
 
 -- the operator completes the prepared branch, and the XID keeps the direction
 abbrev pub decided_by : State → Direction → Triple → State
-decided_by s direction xid = record (completed s direction xid) { decided = record { xid = xid; direction = direction } ∷ s.decided }
+decided_by s direction xid =
+    record (completed s direction xid) { decided = record { xid = xid; direction = direction } ∷ s.decided }
 
 abbrev pub is_decision_of : Triple → Decided → Bool
 is_decision_of xid d = xid_eq d.xid xid

@@ -9,13 +9,14 @@ use Rattle.xa_record.specs.declared.record.Record.TheVariants as logged
 use Rattle.xa_model.specs.State.{State, Known, InDoubt, Completed, known_as}
 use Rattle.xa_model.specs.Answer.{plain, answer, ok, first}
 use Rattle.xa_model.specs.Associations.{is_unknown, mark_in, timestamp_in}
-use Rattle.xa_model.specs.Branches.{is_associated, one_phase_refusal, two_phase_refusal, rollback_refusal, heuristic_refusal, rolled_back, committed}
+use Rattle.xa_model.specs.Branches.{is_associated, one_phase_refusal, two_phase_refusal, rollback_refusal}
+use Rattle.xa_model.specs.Branches.{heuristic_refusal, rolled_back, committed}
 use Rattle.xa_model.specs.Fold.{is_empty}
 use Rattle.xa_model.specs.Turn.{Turn, Now, unless_now, marked_now}
 use Rattle.xa_model.specs.Logging.{logs, has_room, log_full, writes_in}
 
--- Prepare: a branch that is associated, prepared or completed isn't prepared, as it isn't committed in one phase. A branch
--- without writes counts as committed, and nothing is logged of it.
+-- Prepare: a branch that is associated, prepared or completed isn't prepared, as it isn't committed in one phase. A
+-- branch without writes counts as committed, and nothing is logged of it.
 abbrev pub prepare_written : State → Triple → Turn
 prepare_written s xid =
     let r = logged.Prepared xid (timestamp_in s xid) (writes_in s xid) in
@@ -64,7 +65,8 @@ abbrev pub decide_refusal : Known → Option Reply
 decide_refusal known = first ((is_unknown known, plain XAER_NOTA) ∷ (not (is_doubtful known), plain XAER_PROTO) ∷ [])
 
 abbrev pub decide_turn : State → Direction → Triple → Turn
-decide_turn s direction xid = unless_now (decide_refusal (known_as s xid)) s (logs s (logged.Decided xid direction) XAER_RMERR s)
+decide_turn s direction xid =
+    unless_now (decide_refusal (known_as s xid)) s (logs s (logged.Decided xid direction) XAER_RMERR s)
 
 -- Forget: of what the operator completed
 abbrev pub is_completed : Known → Bool

@@ -1,5 +1,7 @@
 -- What lasts over a crash: what the log's records come to, and what a state would leave.
-use Rattle.std.specs.Prelude.{◌≡◌, ℕ, ◌+◌, ◌≤◌, ◌/◌, ◌%◌, ◌^◌, ◌==◌, nat_lt, nat_le, Bool, true, false, not, ◌&&◌, Option, Some, None, List, [], ◌∷◌, length, reverse, find, filter, filter_map, option_map, bytes_eq, if◌then◌else◌}
+use Rattle.std.specs.Prelude.{◌≡◌, ℕ, ◌+◌, ◌≤◌, ◌/◌, ◌%◌, ◌^◌, ◌==◌, nat_lt, nat_le, Bool, true, false, not, ◌&&◌}
+use Rattle.std.specs.Prelude.{Option, Some, None, List, [], ◌∷◌, length, reverse, find, filter, filter_map, option_map}
+use Rattle.std.specs.Prelude.{bytes_eq, if◌then◌else◌}
 use Rattle.std.specs.Option.{option_or}
 use Rattle.std.specs.List.{list_any, AllByRecursion}
 use Rattle.std.specs.Cmp.Lexicographic.{slice_cmp}
@@ -19,8 +21,9 @@ pub record PreparedBranch : Type 0 where
   pub timestamp : ℕ
   pub writes : List Write
 
--- `boot` is the greatest that was logged, 0 where none was. Branches ascend by timestamp, XIDs that the operator completed
--- by XID. Committed branches stand by timestamp and not their keys in one list, since a snapshot has a record a branch.
+-- `boot` is the greatest that was logged, 0 where none was. Branches ascend by timestamp,
+-- XIDs that the operator completed by XID. Committed branches stand by timestamp and not
+-- their keys in one list, since a snapshot has a record a branch.
 pub record Durable : Type 0 where
   pub boot : ℕ
   pub committed : List CommittedBranch
@@ -84,7 +87,8 @@ value_in key (w ∷ ws) = if bytes_eq w.key key then Some w.value else value_in 
 
 abbrev pub last_write : List ℕ → List CommittedBranch → Option (ℕ × Option (List ℕ))
 last_write key [] = None
-last_write key (b ∷ later) = option_or (last_write key later) (option_map (λ v. (b.timestamp, v)) (value_in key b.writes))
+last_write key (b ∷ later) =
+    option_or (last_write key later) (option_map (λ v. (b.timestamp, v)) (value_in key b.writes))
 
 -- one more branch is committed
 abbrev pub commit : CommittedBranch → List CommittedBranch → List CommittedBranch
@@ -96,7 +100,8 @@ commit b bs = last_writes (insert commits_before b bs)
 abbrev pub put_write : Write → List Write → List Write
 put_write w [] = w ∷ []
 put_write w (v ∷ vs) =
-    if bytes_eq v.key w.key then w ∷ vs else if is_lt (slice_cmp nat_cmp v.key w.key) then v ∷ put_write w vs else w ∷ v ∷ vs
+    if bytes_eq v.key w.key then w ∷ vs else if is_lt (slice_cmp nat_cmp v.key w.key) then v ∷ put_write w vs
+    else w ∷ v ∷ vs
 
 -- a branch's last write of each key, ascending by key
 abbrev pub writes_of : List Operation → List Write
@@ -122,7 +127,8 @@ by_name (d ∷ ds) = insert named_before d (by_name ds)
 abbrev pub durable : State → Durable
 durable s = record {
   boot = s.logged_boot;
-  committed = last_writes (reverse (filter_map (λ b. committed_part b.timestamp (writes_of b.operations) b.phase) s.branches));
+  committed =
+      last_writes (reverse (filter_map (λ b. committed_part b.timestamp (writes_of b.operations) b.phase) s.branches));
   prepared = reverse (filter_map (λ b. prepared_part b.timestamp (writes_of b.operations) b.phase) s.branches);
   decided = by_name s.decided;
 }
@@ -143,7 +149,8 @@ is_past boot t = nat_le 1 (boot_of t) && nat_lt (boot_of t) boot && not (number_
 -- each branch has writes, each of them the last of its key
 abbrev pub AreLast : List CommittedBranch → Type 0
 AreLast [] = Unit {0}
-AreLast (b ∷ later) = (1 ≤ length b.writes) × AllByRecursion (λ w. is_written w.key later ≡ false) b.writes × AreLast later
+AreLast (b ∷ later) =
+    (1 ≤ length b.writes) × AllByRecursion (λ w. is_written w.key later ≡ false) b.writes × AreLast later
 
 abbrev pub is_prepared : Triple → List PreparedBranch → Bool
 is_prepared xid ps = list_any (λ p. xid_eq p.xid xid) ps

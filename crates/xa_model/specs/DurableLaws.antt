@@ -6,7 +6,8 @@ use Rattle.xa_record.specs.Limits.{IsRecord}
 use Rattle.xa_model.specs.State.{State, Operation}
 use Rattle.xa_model.specs.Source.{write_of}
 use Rattle.xa_model.specs.Sound.{IsSound}
-use Rattle.xa_model.specs.Durable.{Durable, CommittedBranch, IsDurable, IsByKey, HasSame, Pairwise, keys_before, is_past, value_in, writes_of, last_write, last_writes, durable}
+use Rattle.xa_model.specs.Durable.{Durable, CommittedBranch, IsDurable, IsByKey, HasSame, Pairwise, keys_before}
+use Rattle.xa_model.specs.Durable.{is_past, value_in, writes_of, last_write, last_writes, durable}
 use Rattle.xa_model.specs.Fold.{apply, fits, fold, reading, unread, snapshot, sizes}
 
 -- what records come to is what was read of them
@@ -41,11 +42,13 @@ FoldIsByKey = (rs : List Record) (d : Durable) → AllByRecursion IsRecord rs �
 
 -- a snapshot comes to what it was made of, with its own boot
 abbrev pub SnapshotFolds : Type 0
-SnapshotFolds = (d : Durable) (boot : ℕ) → IsDurable d → d.boot < boot → fold (snapshot d boot) ≡ Ok (record d { boot = boot })
+SnapshotFolds =
+    (d : Durable) (boot : ℕ) → IsDurable d → d.boot < boot → fold (snapshot d boot) ≡ Ok (record d { boot = boot })
 
 -- a snapshot of what the log holds takes no more of a file than the log
 abbrev pub SnapshotIsShort : Type 0
-SnapshotIsShort = (rs : List Record) (d : Durable) (boot : ℕ) → 1 ≤ length rs → fold rs ≡ Ok d → sizes (snapshot d boot) ≤ sizes rs
+SnapshotIsShort =
+    (rs : List Record) (d : Durable) (boot : ℕ) → 1 ≤ length rs → fold rs ≡ Ok d → sizes (snapshot d boot) ≤ sizes rs
 
 -- and its records are within their limits
 abbrev pub SnapshotIsWritten : Type 0
@@ -55,8 +58,12 @@ SnapshotIsWritten =
 
 -- what a sound state would leave is of the form, where logged boots gave all its timestamps
 abbrev pub LeavesDurable : Type 0
-LeavesDurable = (s : State) → IsSound s → AllByRecursion (λ b. is_past (s.logged_boot + 1) b.timestamp ≡ true) s.branches → IsDurable (durable s)
+LeavesDurable =
+    (s : State) → IsSound s → AllByRecursion (λ b. is_past (s.logged_boot + 1) b.timestamp ≡ true) s.branches
+    → IsDurable (durable s)
 
 -- the writes that a branch leaves ascend by key, and are its last of each key
 abbrev pub WritesOf : Type 0
-WritesOf = (ops : List Operation) → Pairwise keys_before (writes_of ops) × ((key : List ℕ) → value_in key (writes_of ops) ≡ write_of key ops)
+WritesOf =
+    (ops : List Operation)
+    → Pairwise keys_before (writes_of ops) × ((key : List ℕ) → value_in key (writes_of ops) ≡ write_of key ops)

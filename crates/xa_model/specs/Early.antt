@@ -1,6 +1,7 @@
 -- The refusals that come before the row of a call: the manager is down, the session is not connected or not opened,
 -- TMASYNC, and arguments that the call may not have.
-use Rattle.std.specs.Prelude.{ℕ, Bool, true, false, not, ◌&&◌, ◌||◌, Option, Some, None, List, [], ◌∷◌, bytes_eq, nat_lt, is_none}
+use Rattle.std.specs.Prelude.{ℕ, Bool, true, false, not, ◌&&◌, ◌||◌, Option, Some, None, List, [], ◌∷◌, bytes_eq}
+use Rattle.std.specs.Prelude.{nat_lt, is_none}
 use Rattle.xa_codes.specs.Flags.{has, legal}
 use Rattle.xa_codes.specs.declared.codes.TheConstants.{XAER_PROTO, XAER_ASYNC, XAER_INVAL, XAER_RMFAIL}
 use Rattle.xa_codes.specs.declared.flags.TheConstants.{TMASYNC}
@@ -9,7 +10,9 @@ use Rattle.xa_codes.specs.declared.call.Call.TheVariants as call
 pub use Rattle.xa_frame.specs.Spelling.{call_of}
 use Rattle.xa_frame.specs.declared.reply.Reply.{Reply}
 use Rattle.xa_frame.specs.declared.request.Request.{Request}
-use Rattle.xa_frame.specs.declared.request.Request.TheVariants.{Open, Close, Start, End, Prepare, Commit, Rollback, Forget, Recover, Get, Put, Delete, Decide, Doom, Restart}
+use Rattle.xa_frame.specs.declared.request.Request.TheVariants.{Open, Close, Start, End, Prepare, Commit, Rollback}
+use Rattle.xa_frame.specs.declared.request.Request.TheVariants.{Forget, Recover, Get, Put, Delete, Decide, Doom}
+use Rattle.xa_frame.specs.declared.request.Request.TheVariants.{Restart}
 use Rattle.xa_frame.specs.declared.xids.TheConstants.{MOST_XIDS}
 use Rattle.xa_model.specs.Answer.{plain, first}
 

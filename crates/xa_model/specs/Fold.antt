@@ -1,5 +1,6 @@
 -- What the log's records come to, in which order they may stand, and the records that a new file begins with.
-use Rattle.std.specs.Prelude.{ℕ, ◌+◌, ◌==◌, nat_lt, nat_le, Bool, false, not, ◌&&◌, Option, Some, None, Result, Ok, Err, List, [], ◌∷◌, ◌++◌, length, map, find, if◌then◌else◌}
+use Rattle.std.specs.Prelude.{ℕ, ◌+◌, ◌==◌, nat_lt, nat_le, Bool, false, not, ◌&&◌, Option, Some, None, Result, Ok, Err}
+use Rattle.std.specs.Prelude.{List, [], ◌∷◌, ◌++◌, length, map, find, if◌then◌else◌}
 use Rattle.std.specs.List.{list_any, list_all}
 use Rattle.std.specs.Ordering.{is_lt}
 use Rattle.xa_codes.specs.declared.direction.Direction.{Direction}
@@ -8,21 +9,25 @@ use Rattle.xa_codes.specs.declared.write.Write.{Write}
 use Rattle.xa_xid.specs.Triple.{Triple, xid_eq, xid_cmp}
 use Rattle.xa_record.specs.Spelling.{spelled}
 use Rattle.xa_record.specs.declared.record.Record.{Record}
-use Rattle.xa_record.specs.declared.record.Record.TheVariants.{Opened, Prepared, Committed, Completed, Decided, Forgotten, Base, Held, Known}
+use Rattle.xa_record.specs.declared.record.Record.TheVariants.{Opened, Prepared, Committed, Completed, Decided}
+use Rattle.xa_record.specs.declared.record.Record.TheVariants.{Forgotten, Base, Held, Known}
 use Rattle.xa_model.specs.State.{without}
 use Rattle.xa_model.specs.State.{Decided as Decision}
-use Rattle.xa_model.specs.Durable.{Durable, CommittedBranch, PreparedBranch, insert, commit, prepares_before, named_before, is_prepared, is_decided, is_past, boot_of, number_of}
+use Rattle.xa_model.specs.Durable.{Durable, CommittedBranch, PreparedBranch, insert, commit, prepares_before}
+use Rattle.xa_model.specs.Durable.{named_before, is_prepared, is_decided, is_past, boot_of, number_of}
 
 -- What a record does
 
 abbrev pub prepare : Triple → ℕ → List Write → Durable → Durable
-prepare xid t ws d = record d { prepared = insert prepares_before (record { xid = xid; timestamp = t; writes = ws }) d.prepared }
+prepare xid t ws d =
+    record d { prepared = insert prepares_before (record { xid = xid; timestamp = t; writes = ws }) d.prepared }
 
 abbrev pub commit_writes : ℕ → List Write → Durable → Durable
 commit_writes t ws d = record d { committed = commit (record { timestamp = t; writes = ws }) d.committed }
 
 abbrev pub decide : Triple → Direction → Durable → Durable
-decide xid direction d = record d { decided = insert named_before (record { xid = xid; direction = direction }) d.decided }
+decide xid direction d =
+    record d { decided = insert named_before (record { xid = xid; direction = direction }) d.decided }
 
 -- the writes of a branch that was prepared are committed
 abbrev pub commit_prepared : Option PreparedBranch → Durable → Durable
@@ -34,7 +39,8 @@ prepared_as xid p = xid_eq p.xid xid
 
 -- a prepared branch is committed or rolled back, and no longer prepared
 abbrev pub complete : Triple → Direction → Durable → Durable
-complete xid Commit d = commit_prepared (find (prepared_as xid) d.prepared) (record d { prepared = without (prepared_as xid) d.prepared })
+complete xid Commit d =
+    commit_prepared (find (prepared_as xid) d.prepared) (record d { prepared = without (prepared_as xid) d.prepared })
 complete xid Rollback d = record d { prepared = without (prepared_as xid) d.prepared }
 
 abbrev pub apply : Record → Durable → Durable
@@ -50,8 +56,8 @@ apply (Known xid direction) d = decide xid direction d
 
 -- The order of records
 
--- What was read so far: what it comes to, whether it is the first boot and its snapshot alone, and the timestamps of its
--- branches.
+-- What was read so far: what it comes to, whether it is the first boot and its
+-- snapshot alone, and the timestamps of its branches.
 pub record Reading : Type 0 where
   pub durable : Durable
   pub is_snapshot : Bool
@@ -74,13 +80,15 @@ is_used t timestamps = list_any (λ u. u == t) timestamps
 
 -- a timestamp that the last boot gave, and that no record has yet
 abbrev pub is_timely : ℕ → Reading → Bool
-is_timely t x = nat_le 1 x.durable.boot && (boot_of t == x.durable.boot) && not (number_of t == 0) && not (is_used t x.timestamps)
+is_timely t x =
+    nat_le 1 x.durable.boot && (boot_of t == x.durable.boot) && not (number_of t == 0) && not (is_used t x.timestamps)
 
 -- a branch of this boot, of which nothing is known yet
 abbrev pub is_new : Triple → ℕ → Reading → Bool
 is_new xid t x = is_timely t x && is_unknown xid x.durable
 
--- A snapshot stands behind the first boot: committed branches, prepared ones, XIDs that the operator completed, each ascending.
+-- A snapshot stands behind the first boot: committed branches, prepared ones,
+-- XIDs that the operator completed, each ascending.
 abbrev pub fits : Record → Reading → Bool
 fits (Opened boot) x = nat_lt x.durable.boot boot
 fits (Prepared xid t ws) x = is_new xid t x
@@ -96,7 +104,8 @@ fits (Held xid t ws) x =
     && is_past x.durable.boot t && not (is_used t x.timestamps)
     && list_all (λ p. nat_lt p.timestamp t) x.durable.prepared && is_unknown xid x.durable
 fits (Known xid direction) x =
-    x.is_snapshot && not (is_prepared xid x.durable.prepared) && list_all (λ d. is_lt (xid_cmp d.xid xid)) x.durable.decided
+    x.is_snapshot && not (is_prepared xid x.durable.prepared)
+    && list_all (λ d. is_lt (xid_cmp d.xid xid)) x.durable.decided
 
 -- whether a record leaves the reading at the first boot and its snapshot
 abbrev pub stays_snapshot : Record → Reading → Bool
@@ -114,7 +123,11 @@ timestamps_with (Held xid t ws) ts = t ∷ ts
 timestamps_with _ ts = ts
 
 abbrev pub read : Record → Reading → Reading
-read r x = record { durable = apply r x.durable; is_snapshot = stays_snapshot r x; timestamps = timestamps_with r x.timestamps }
+read r x = record {
+  durable = apply r x.durable;
+  is_snapshot = stays_snapshot r x;
+  timestamps = timestamps_with r x.timestamps;
+}
 
 -- what the records come to, read on from the one with this index; or the index of the first that is out of order
 abbrev pub fold_from : ℕ → Reading → List Record → Result Durable ℕ

@@ -37,7 +37,8 @@ fresh name log_bytes = record {
 
 -- one entry leads from a state to the next
 abbrev pub Steps : State → Entry → State → Type 0
-Steps before entry after = step before entry.happening entry.outcome ≡ Some (record { reply = entry.reply; after = after })
+Steps before entry after =
+    step before entry.happening entry.outcome ≡ Some (record { reply = entry.reply; after = after })
 
 -- the entries lead from the first state to the last
 abbrev pub Leads : State → List Entry → State → Type 0

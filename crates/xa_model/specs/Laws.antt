@@ -21,20 +21,24 @@ happened (e ∷ es) = (e.happening, e.outcome) ∷ happened es
 -- happenings and outcomes have at most one legal history
 abbrev pub OneHistory : Type 0
 OneHistory =
-    (start : State) (es fs : List Entry) (last end : State) → happened es ≡ happened fs → Leads start es last → Leads start fs end → (es ≡ fs) × (last ≡ end)
+    (start : State) (es fs : List Entry) (last end : State) → happened es ≡ happened fs → Leads start es last
+    → Leads start fs end → (es ≡ fs) × (last ≡ end)
 
 -- every event but a restart keeps a state sound, whatever the device did
 abbrev pub KeepsSound : Type 0
 KeepsSound =
-    (s : State) (e : Event) (outcome : Outcome) (a : Answer) → IsSound s → is_restart e ≡ false → step s (Asked e) outcome ≡ Some a → IsSound a.after
+    (s : State) (e : Event) (outcome : Outcome) (a : Answer) → IsSound s → is_restart e ≡ false
+    → step s (Asked e) outcome ≡ Some a → IsSound a.after
 
--- a state stays sound where a branch without associations is prepared, where the operator completes one in doubt, and where
--- that is forgotten
+-- a state stays sound where a branch without associations is prepared, where the operator completes one in doubt, and
+-- where that is forgotten
 abbrev pub KeepsSoundPrepared : Type 0
 KeepsSoundPrepared = (s : State) (xid : Triple) → IsSound s → is_associated s xid ≡ false → IsSound (prepared s xid)
 
 abbrev pub KeepsSoundDecided : Type 0
-KeepsSoundDecided = (s : State) (direction : Direction) (xid : Triple) → IsSound s → known_as s xid ≡ InDoubt → IsSound (decided_by s direction xid)
+KeepsSoundDecided =
+    (s : State) (direction : Direction) (xid : Triple) → IsSound s → known_as s xid ≡ InDoubt
+    → IsSound (decided_by s direction xid)
 
 abbrev pub KeepsSoundForgotten : Type 0
 KeepsSoundForgotten = (s : State) (xid : Triple) → IsSound s → IsSound (forgotten s xid)

@@ -51,12 +51,14 @@ HasPrepared xid e = (is_request (is_prepare xid) e.happening ≡ true) × (e.rep
 abbrev pub AreRefusals : State → Type 0
 AreRefusals s = AllByRecursion (λ b. mark_of b.phase ≡ Some XA_OK → ⊥) s.branches
 
--- in a history from this state: behind a prepare that was answered XA_OK recovery lists the XID as long as nobody asks for its
--- completion, whatever else is asked, decided, restarted and opened again
+-- in a history from this state: behind a prepare that was answered XA_OK recovery lists the XID as long as nobody asks
+-- for its completion, whatever else is asked, decided, restarted and opened again
 abbrev pub ListsUntilAsked : State → Type 0
 ListsUntilAsked first =
-    (last : State) (before later : List Entry) (prepare : Entry) (xid : Triple) → HaveHappened (before ++ prepare ∷ later)
-    → Leads first (before ++ prepare ∷ later) last → HasPrepared xid prepare → AllByRecursion (λ e. AsksCompletion xid e → ⊥) later
+    (last : State) (before later : List Entry) (prepare : Entry) (xid : Triple)
+    → HaveHappened (before ++ prepare ∷ later)
+    → Leads first (before ++ prepare ∷ later) last → HasPrepared xid prepare
+    → AllByRecursion (λ e. AsksCompletion xid e → ⊥) later
     → IsListed xid last
 
 abbrev pub ListedUntilAsked : Type 0

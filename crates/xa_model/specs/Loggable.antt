@@ -37,8 +37,8 @@ pub record MayBeLast (s : State) (r : Record) : Type 0 where
   pub limits : IsRecord r
   pub current : is_boot r ≡ false → s.logged_boot ≡ s.boot
 
--- What every state of a history has: a manager that is up has no record whose fate is unknown, and is in the last boot that
--- was logged.
+-- What every state of a history has: a manager that is up has no record whose fate is
+-- unknown, and is in the last boot that was logged.
 pub record IsRecoverable (s : State) : Type 0 where
   pub sound : IsSound s
   pub loggable : IsLoggable s

@@ -30,7 +30,8 @@ closing = 4
 
 -- whether a log of so many bytes that ends there keeps the room of so many prepared branches and completed XIDs
 abbrev pub log_room : ℕ → ℕ → ℕ → ℕ → Bool
-log_room log_bytes end prepared decided = nat_le (end + closing + prepared_room * prepared + decided_room * decided) log_bytes
+log_room log_bytes end prepared decided =
+    nat_le (end + closing + prepared_room * prepared + decided_room * decided) log_bytes
 
 abbrev pub is_in_doubt : Phase → Bool
 is_in_doubt (Working xid mark) = false

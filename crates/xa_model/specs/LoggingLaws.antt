@@ -34,7 +34,8 @@ is_in_time _ x = true
 -- it fits behind records that come to what the state would leave, if it comes in time
 abbrev pub AppliedFits : Type 0
 AppliedFits =
-    (s : State) (rs : List Record) (r : Record) → IsSound s → fold rs ≡ Ok (durable s) → MayLog s r → is_in_time r (reading unread rs) ≡ true
+    (s : State) (rs : List Record) (r : Record) → IsSound s → fold rs ≡ Ok (durable s) → MayLog s r
+    → is_in_time r (reading unread rs) ≡ true
     → fold (rs ++ r ∷ []) ≡ Ok (durable (applied r s))
 
 -- What events log
@@ -49,11 +50,12 @@ pub record KeepsLog (s t : State) : Type 0 where
   pub open_record : t.open_record ≡ s.open_record
   pub standing : t.standing ≡ s.standing
 
--- what is answered at once logs nothing; a record that is kept does what it says, one that is refused nothing, and one that is
--- lost is the open one
+-- what is answered at once logs nothing; a record that is kept does what it says, one that is refused nothing, and one
+-- that is lost is the open one
 abbrev pub LogsWhatLasts : State → Turn → Type 0
 LogsWhatLasts s (Now a) = KeepsLog s a.after
-LogsWhatLasts s (Appends r after) = MayLog s r × (after Kept ≡ ok (applied r s)) × KeepsLog s (after Refused).after × (after Lost ≡ lost s r)
+LogsWhatLasts s (Appends r after) =
+    MayLog s r × (after Kept ≡ ok (applied r s)) × KeepsLog s (after Refused).after × (after Lost ≡ lost s r)
 LogsWhatLasts s _ = ⊥
 
 abbrev pub EventsLogWhatLasts : Type 0
@@ -83,14 +85,17 @@ pub record IsInDoubt (s : State) (r : Record) (t : State) : Type 0 where
 abbrev pub BootLasts : State → Rereading → Type 0
 BootLasts s (Stops a) = Fails s a.after
 BootLasts s (Opens r after) =
-    (r ≡ logged.Opened (s.logged_boot + 1)) × Boots s (s.logged_boot + 1) (after Kept).after × Fails s (after Refused).after
+    (r ≡ logged.Opened (s.logged_boot + 1)) × Boots s (s.logged_boot + 1) (after Kept).after
+    × Fails s (after Refused).after
     × IsInDoubt s r (after Lost).after
 
--- a look that failed leaves both fates; else the open record did what it says, or nothing, and the new boot begins with that
+-- a look that failed leaves both fates; else the open record did what it says,
+-- or nothing, and the new boot begins with that
 abbrev pub SettlesWhatLasts : State → Turn → Type 0
 SettlesWhatLasts s (Rereads failed found missing) =
     Fails s failed.after
-    × IfSome s.open_record (λ r. (durable (survived s r) ≡ apply r (durable s)) × IfSome found (BootLasts (survived s r)))
+    × IfSome s.open_record
+    (λ r. (durable (survived s r) ≡ apply r (durable s)) × IfSome found (BootLasts (survived s r)))
     × (durable (missed s) ≡ durable s) × IfSome missing (BootLasts (missed s))
 SettlesWhatLasts s _ = ⊥
 
@@ -98,4 +103,5 @@ abbrev pub RestartLasts : Type 0
 RestartLasts = (s : State) → IsRecoverable s → SettlesWhatLasts s (restart_turn s)
 
 abbrev pub ReopenLasts : Type 0
-ReopenLasts = (s : State) (name : List ℕ) (log_bytes : ℕ) → IsRecoverable s → SettlesWhatLasts s (reopen_turn s name log_bytes)
+ReopenLasts =
+    (s : State) (name : List ℕ) (log_bytes : ℕ) → IsRecoverable s → SettlesWhatLasts s (reopen_turn s name log_bytes)

@@ -1,5 +1,6 @@
 -- The low water: a timestamp below which no known branch stands, and none will.
-use Rattle.std.specs.Prelude.{ℕ, ◌==◌, Bool, ◌&&◌, Option, Some, None, List, [], ◌∷◌, min, is_some, unwrap_or, if◌then◌else◌}
+use Rattle.std.specs.Prelude.{ℕ, ◌==◌, Bool, ◌&&◌, Option, Some, None, List, [], ◌∷◌, min, is_some, unwrap_or}
+use Rattle.std.specs.Prelude.{if◌then◌else◌}
 use Rattle.std.specs.List.{list_any}
 use Rattle.xa_model.specs.State.{State, Branch, name_of, timestamp_of}
 
@@ -21,7 +22,7 @@ abbrev pub least_known : List Branch → Option ℕ
 least_known [] = None
 least_known (b ∷ bs) = if is_known b then Some (lesser b.timestamp (least_known bs)) else least_known bs
 
--- the least timestamp of a known branch, or, if there is none, the last that this boot gave: before its first the boot's
--- number times 2^32
+-- the least timestamp of a known branch, or, if there is none, the last that this boot gave: before its first the
+-- boot's number times 2^32
 abbrev pub low_water : State → ℕ
 low_water s = unwrap_or (least_known s.branches) (timestamp_of s.boot s.given)

@@ -18,14 +18,17 @@ BelowKnown = (s : State) → AllByRecursion (λ b. is_known b ≡ true → low_w
 abbrev pub IsReached : Type 0
 IsReached =
     (s : State)
-    → (is_known_at (low_water s) s.branches ≡ true) ⊎ ((known_count s.branches ≡ 0) × (low_water s ≡ timestamp_of s.boot s.given))
+    → (is_known_at (low_water s) s.branches ≡ true)
+    ⊎ ((known_count s.branches ≡ 0) × (low_water s ≡ timestamp_of s.boot s.given))
 
 -- each timestamp that is given from now on is above it
 abbrev pub BelowNext : Type 0
 BelowNext = (s : State) (n : ℕ) → IsSound s → s.given < n → low_water s < timestamp_of s.boot n
 
--- whatever happens, and whatever the device did, it never falls: not where branches are completed, not over a restart or an opening
+-- whatever happens, and whatever the device did, it never falls: not where
+-- branches are completed, not over a restart or an opening
 abbrev pub NeverFalls : Type 0
 NeverFalls =
-    (s : State) (happening : Happening) (outcome : Outcome) (a : Answer) → IsRecoverable s → step s happening outcome ≡ Some a
+    (s : State) (happening : Happening) (outcome : Outcome) (a : Answer) → IsRecoverable s
+    → step s happening outcome ≡ Some a
     → low_water s ≤ low_water a.after

@@ -40,7 +40,8 @@ IsOneCopy (b ∷ older) = FindsAnswers b.operations (left_by older) × IsOneCopy
 
 -- the committed branches stand by timestamp, the greatest first, and are one copy
 abbrev pub HasOneCopy : State → Type 0
-HasOneCopy s = Descends (timestamp_of s.boot s.given + 1) (committed_of s.branches) × IsOneCopy (committed_of s.branches)
+HasOneCopy s =
+    Descends (timestamp_of s.boot s.given + 1) (committed_of s.branches) × IsOneCopy (committed_of s.branches)
 
 -- nobody was answered a read
 abbrev pub HasNoGet : List Operation → Type 0
@@ -51,7 +52,8 @@ HasNoGet (Wrote k value ∷ older) = HasNoGet older
 -- so it is at each place of a history that begins without reads
 abbrev pub AlwaysOneCopy : Type 0
 AlwaysOneCopy =
-    (first last : State) (entries : List Entry) → IsRecoverable first → AllByRecursion (λ b. HasNoGet b.operations) first.branches
+    (first last : State) (entries : List Entry) → IsRecoverable first
+    → AllByRecursion (λ b. HasNoGet b.operations) first.branches
     → HaveHappened entries → Leads first entries last → HasOneCopy last
 
 -- as a new manager's does

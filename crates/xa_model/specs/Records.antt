@@ -55,7 +55,9 @@ limit_refusal full = first ((full, detailed XAER_INVAL detail.Limit) ∷ [])
 
 -- only an unmarked branch writes
 abbrev pub came_late : State → Triple → Answer
-came_late s xid = answer (detailed XA_RBTRANSIENT detail.Late) (record s { branches = change (is_known_as xid) (with_mark XA_RBTRANSIENT) s.branches })
+came_late s xid =
+    answer (detailed XA_RBTRANSIENT detail.Late)
+    (record s { branches = change (is_known_as xid) (with_mark XA_RBTRANSIENT) s.branches })
 
 abbrev pub written : State → List ℕ → Option (List ℕ) → Triple → Answer
 written s key value xid = ok (record s { branches = did xid (Wrote key value) s.branches })
@@ -66,7 +68,8 @@ in_time false late go_on = go_on
 
 abbrev pub put_from : State → List ℕ → Option (List ℕ) → Triple → Branch → Answer
 put_from s key value xid b =
-    unless (limit_refusal (is_full key b.operations)) s (in_time (is_late key b.timestamp s.reads) (came_late s xid) (written s key value xid))
+    unless (limit_refusal (is_full key b.operations)) s
+    (in_time (is_late key b.timestamp s.reads) (came_late s xid) (written s key value xid))
 
 abbrev pub put_by : State → List ℕ → Option (List ℕ) → Option (Triple × Branch) → Answer
 put_by s key value None = answer (plain XAER_PROTO) s

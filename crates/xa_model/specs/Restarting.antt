@@ -1,5 +1,6 @@
 -- Restarts and openings: what the record whose fate was unknown comes to, and the new boot.
-use Rattle.std.specs.Prelude.{ℕ, ◌+◌, nat_lt, Bool, not, Option, Some, None, List, [], ◌∷◌, ◌++◌, map, filter, length, option_map, ◌&&◌, if◌then◌else◌}
+use Rattle.std.specs.Prelude.{ℕ, ◌+◌, nat_lt, Bool, not, Option, Some, None, List, [], ◌∷◌, ◌++◌, map, filter, length}
+use Rattle.std.specs.Prelude.{option_map, ◌&&◌, if◌then◌else◌}
 use Rattle.xa_codes.specs.declared.codes.TheConstants.{XAER_RMFAIL}
 use Rattle.xa_codes.specs.declared.detail.Detail.TheVariants as detail
 use Rattle.xa_codes.specs.declared.write.Write.{Write}
@@ -65,21 +66,24 @@ boot_became s boot other = append_became s (logged.Opened boot) XAER_RMFAIL (dow
 
 abbrev pub restarting : State → Rereading
 restarting s =
-    if nat_lt s.logged_boot most_boots then Opens (logged.Opened (s.logged_boot + 1)) (boot_became s (s.logged_boot + 1))
+    if nat_lt s.logged_boot most_boots
+    then Opens (logged.Opened (s.logged_boot + 1)) (boot_became s (s.logged_boot + 1))
     else Stops (answer (detailed XAER_RMFAIL detail.Limit) (down s))
 
 abbrev pub restart_turn : State → Turn
 restart_turn s =
-    Rereads (answer (detailed XAER_RMFAIL detail.Device) (down s)) (option_map (λ r. restarting (survived s r)) s.open_record)
+    Rereads (answer (detailed XAER_RMFAIL detail.Device) (down s))
+    (option_map (λ r. restarting (survived s r)) s.open_record)
     (Some (restarting (missed s)))
 
--- An opening that was refused or stopped leaves the state as it was, with the settings handed in and without sessions, and
--- only an opening may follow it.
+-- An opening that was refused or stopped leaves the state as it was, with the settings handed in and without sessions,
+-- and only an opening may follow it.
 abbrev pub refused_opening : State → List ℕ → ℕ → State
-refused_opening s name log_bytes = record s { name = name; log_bytes = log_bytes; sessions = []; associations = []; standing = Ended }
+refused_opening s name log_bytes =
+    record s { name = name; log_bytes = log_bytes; sessions = []; associations = []; standing = Ended }
 
--- Opened again: as a restart, without sessions, and with the settings handed in. A log that leaves no room for its snapshot
--- isn't opened.
+-- Opened again: as a restart, without sessions, and with the settings handed in. A log that leaves no room for its
+-- snapshot isn't opened.
 
 abbrev pub reopened : State → List ℕ → ℕ → ℕ → State
 reopened s name log_bytes boot = record (restarted s boot) { name = name; log_bytes = log_bytes; sessions = [] }
@@ -87,7 +91,8 @@ reopened s name log_bytes boot = record (restarted s boot) { name = name; log_by
 abbrev pub reopen_became : State → List ℕ → ℕ → ℕ → Appending → Answer
 reopen_became s name log_bytes boot Kept = ok (reopened s name log_bytes boot)
 reopen_became s name log_bytes boot Refused = ok (refused_opening s name log_bytes)
-reopen_became s name log_bytes boot Lost = ok (record (refused_opening s name log_bytes) { open_record = Some (logged.Opened boot) })
+reopen_became s name log_bytes boot Lost =
+    ok (record (refused_opening s name log_bytes) { open_record = Some (logged.Opened boot) })
 
 abbrev pub can_open : State → ℕ → ℕ → Bool
 can_open s log_bytes boot = log_room log_bytes (snapshot_end s boot) (prepared_count s) (length s.decided)
@@ -100,7 +105,8 @@ reopening name log_bytes s =
 
 abbrev pub reopen_turn : State → List ℕ → ℕ → Turn
 reopen_turn s name log_bytes =
-    Rereads (ok (refused_opening s name log_bytes)) (option_map (λ r. reopening name log_bytes (survived s r)) s.open_record)
+    Rereads (ok (refused_opening s name log_bytes))
+    (option_map (λ r. reopening name log_bytes (survived s r)) s.open_record)
     (Some (reopening name log_bytes (missed s)))
 
 -- The state of a manager that was opened on a log, and asked nothing. Of a branch its writes are known, and no more.

@@ -7,8 +7,9 @@ use Rattle.xa_model.specs.Durable.{Durable, durable, is_past}
 use Rattle.xa_model.specs.Logging.{snapshot_end}
 use Rattle.xa_model.specs.Loggable.{IsRecoverable}
 
--- The next boot began with this, and nothing was asked of it yet: no branch is at work, and nobody has read. Committed branches may
--- have reads, and writes that later ones wrote over: what lasts is all that later branches can see of them.
+-- The next boot began with this, and nothing was asked of it yet: no branch is at work, and
+-- nobody has read. Committed branches may have reads, and writes that later ones wrote over:
+-- what lasts is all that later branches can see of them.
 pub record IsRestored (d : Durable) (next : ℕ) (s : State) : Type 0 where
   pub recoverable : IsRecoverable s
   pub lasts : durable s ≡ record d { boot = next }

@@ -27,11 +27,13 @@ IsRoomy s = s.standing ≢ Ended → HasRoomAnyway s
 -- every event but a restart keeps the room
 abbrev pub KeepsRoom : Type 0
 KeepsRoom =
-    (s : State) (e : Event) (outcome : Outcome) (a : Answer) → IsEvent e → IsRecoverable s → IsRoomy s → is_restart e ≡ false
+    (s : State) (e : Event) (outcome : Outcome) (a : Answer) → IsEvent e → IsRecoverable s → IsRoomy s
+    → is_restart e ≡ false
     → step s (Asked e) outcome ≡ Some a → IsRoomy a.after
 
 -- so does a restart, and an opening that succeeds: the new file is no longer than the log behind the state
 abbrev pub RestartKeepsRoom : Type 0
 RestartKeepsRoom =
-    (rs : List Record) (s : State) (happening : Happening) (outcome : Outcome) (a : Answer) → IsHappening happening → IsRecoverable s → Backs rs s → IsRoomy s
+    (rs : List Record) (s : State) (happening : Happening) (outcome : Outcome) (a : Answer) → IsHappening happening
+    → IsRecoverable s → Backs rs s → IsRoomy s
     → step s happening outcome ≡ Some a → IsRoomy a.after

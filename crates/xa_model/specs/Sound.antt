@@ -1,7 +1,8 @@
 -- What every state of a history has.
 use Rattle.std.specs.Prelude.{ℕ, ◌≡◌, ◌+◌, ◌<◌, ◌≤◌, ◌==◌, Bool, true, false, Option, Some, None, List, [], ◌∷◌, length}
 use Rattle.xa_xid.specs.Triple.{Triple, xid_eq}
-use Rattle.xa_model.specs.State.{State, Branch, Phase, Working, Prepared, Committed, count, is_active, is_known_as, owns, known_of, known_in, session_of, holders_of, loose_of, timestamp_of}
+use Rattle.xa_model.specs.State.{State, Branch, Phase, Working, Prepared, Committed, count, is_active, is_known_as}
+use Rattle.xa_model.specs.State.{owns, known_of, known_in, session_of, holders_of, loose_of, timestamp_of}
 use Rattle.xa_model.specs.Associations.{is_anyones, most_sessions, most_branches, most_given, most_loose}
 
 -- the timestamps are above 0, below the limit, and descend

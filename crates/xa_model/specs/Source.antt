@@ -1,6 +1,7 @@
 -- Multiversion timestamp ordering (Bernstein, Hadzilacos and Goodman, 5.3): which version of a key a timestamp reads,
 -- and which write comes too late.
-use Rattle.std.specs.Prelude.{ℕ, ◌+◌, ◌==◌, Bool, true, not, ◌&&◌, Option, Some, None, List, [], ◌∷◌, fold, filter_map, option_map, bytes_eq, is_some, nat_le, nat_lt, if◌then◌else◌}
+use Rattle.std.specs.Prelude.{ℕ, ◌+◌, ◌==◌, Bool, true, not, ◌&&◌, Option, Some, None, List, [], ◌∷◌, fold, filter_map}
+use Rattle.std.specs.Prelude.{option_map, bytes_eq, is_some, nat_le, nat_lt, if◌then◌else◌}
 use Rattle.std.specs.List.{list_any}
 use Rattle.xa_model.specs.State.{Operation, Got, Wrote, Branch, Read, is_committed}
 
@@ -20,10 +21,13 @@ write_of key (Wrote k value ∷ older) = if bytes_eq k key then Some value else 
 abbrev pub written_keys : List Operation → ℕ
 written_keys [] = 0
 written_keys (Got key answer source ∷ older) = written_keys older
-written_keys (Wrote key value ∷ older) = if is_some (write_of key older) then written_keys older else written_keys older + 1
+written_keys (Wrote key value ∷ older) =
+    if is_some (write_of key older) then written_keys older else written_keys older + 1
 
 abbrev pub version_by : List ℕ → Branch → Option Version
-version_by key b = option_map (λ v. record { timestamp = b.timestamp; committed = is_committed b.phase; value = v }) (write_of key b.operations)
+version_by key b =
+    option_map (λ v. record { timestamp = b.timestamp; committed = is_committed b.phase; value = v })
+    (write_of key b.operations)
 
 -- the versions of a key, by the committed branches and the undecided ones
 abbrev pub versions_of : List ℕ → List Branch → List Version

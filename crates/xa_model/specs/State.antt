@@ -1,5 +1,6 @@
 -- The state of the sequential resource manager.
-use Rattle.std.specs.Prelude.{ℕ, zero, suc, ◌+◌, ◌*◌, ◌^◌, ◌==◌, ℤ, Bool, true, false, ◌&&◌, Option, Some, None, List, [], ◌∷◌, find, filter, length, option_map, option_and_then, is_some, if◌then◌else◌}
+use Rattle.std.specs.Prelude.{ℕ, zero, suc, ◌+◌, ◌*◌, ◌^◌, ◌==◌, ℤ, Bool, true, false, ◌&&◌, Option, Some, None, List}
+use Rattle.std.specs.Prelude.{[], ◌∷◌, find, filter, length, option_map, option_and_then, is_some, if◌then◌else◌}
 use Rattle.xa_codes.specs.declared.direction.Direction.{Direction}
 use Rattle.xa_xid.specs.Triple.{Triple, xid_eq}
 use Rattle.xa_record.specs.declared.record.Record.{Record}
@@ -10,8 +11,8 @@ pub data Operation : Type 0 where
   Got : (key : List ℕ) (answer : Option (List ℕ)) (source : ℕ) → Operation
   Wrote : (key : List ℕ) (value : Option (List ℕ)) → Operation
 
--- Where a branch stands: it is known under an XID, at work with the mark that it may have, or prepared; or it is committed
--- and known no more. A branch that was rolled back stands nowhere.
+-- Where a branch stands: it is known under an XID, at work with the mark that it may have, or prepared; or it is
+-- committed and known no more. A branch that was rolled back stands nowhere.
 pub data Phase : Type 0 where
   Working : (xid : Triple) (mark : Option ℤ) → Phase
   Prepared : (xid : Triple) → Phase
@@ -57,11 +58,10 @@ pub data Standing : Type 0 where
   Down : Standing
   Ended : Standing
 
--- Known and committed branches stand in one list, the greatest timestamp first; beside it stand the XIDs that the operator
--- completed.
--- `given` counts the timestamps that this boot has given. `logged_boot` is the greatest boot number in the log, which a
--- restart that failed may have left above `boot`. `end` is where the log's next record would begin. `open_record` is
--- the record whose append was lost, and whose fate no restart has settled.
+-- Known and committed branches stand in one list, the greatest timestamp first; beside it stand the XIDs that the
+-- operator completed. `given` counts the timestamps that this boot has given. `logged_boot` is the greatest boot number
+-- in the log, which a restart that failed may have left above `boot`. `end` is where the log's next record would begin.
+-- `open_record` is the record whose append was lost, and whose fate no restart has settled.
 pub record State : Type 0 where
   pub name : List ℕ
   pub log_bytes : ℕ

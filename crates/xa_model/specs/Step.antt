@@ -3,7 +3,9 @@ use Rattle.std.specs.Prelude.{ℕ, Bool, true, false, Option, Some, None, option
 use Rattle.xa_codes.specs.Flags.{has}
 use Rattle.xa_codes.specs.declared.flags.TheConstants.{TMONEPHASE}
 use Rattle.xa_frame.specs.declared.request.Request.{Request}
-use Rattle.xa_frame.specs.declared.request.Request.TheVariants.{Open, Close, Start, End, Prepare, Commit, Rollback, Forget, Recover, Get, Put, Delete, Decide, Doom, Restart}
+use Rattle.xa_frame.specs.declared.request.Request.TheVariants.{Open, Close, Start, End, Prepare, Commit, Rollback}
+use Rattle.xa_frame.specs.declared.request.Request.TheVariants.{Forget, Recover, Get, Put, Delete, Decide, Doom}
+use Rattle.xa_frame.specs.declared.request.Request.TheVariants.{Restart}
 use Rattle.xa_xid.specs.Triple.{Triple}
 use Rattle.xa_model.specs.declared.event.Event.{Event}
 use Rattle.xa_model.specs.declared.event.Event.TheVariants as event
@@ -14,7 +16,8 @@ use Rattle.xa_model.specs.Turn.{Happening, Asked, Reopened, Turn, Nobody, Now, t
 use Rattle.xa_model.specs.Early.{early_refusal}
 use Rattle.xa_model.specs.Associations.{connect_by, open_by, close_by, hang_up_by, start_by, end_by}
 use Rattle.xa_model.specs.Branches.{doom_by}
-use Rattle.xa_model.specs.Completions.{prepare_turn, commit_one_phase_turn, commit_two_phase_turn, rollback_turn, decide_turn, forget_turn}
+use Rattle.xa_model.specs.Completions.{prepare_turn, commit_one_phase_turn, commit_two_phase_turn, rollback_turn}
+use Rattle.xa_model.specs.Completions.{decide_turn, forget_turn}
 use Rattle.xa_model.specs.Records.{get_by, put_by}
 use Rattle.xa_model.specs.Recovering.{recover_by}
 use Rattle.xa_model.specs.Restarting.{restart_turn, reopen_turn}
@@ -52,7 +55,8 @@ is_up Ended = false
 abbrev pub respond : State → Event → Turn
 respond s event.Connect = Now (connect_by s)
 respond s (event.Hangup n) = Now (hang_up_by s n)
-respond s (event.Call n request) = unless_now (early_refusal (is_up s.standing) s.name (opened_of s n) request) s (row s n request)
+respond s (event.Call n request) =
+    unless_now (early_refusal (is_up s.standing) s.name (opened_of s n) request) s (row s n request)
 
 abbrev pub asked : Standing → Turn → Turn
 asked Up turn = turn

@@ -41,13 +41,16 @@ NothingIsStuck =
 abbrev pub NobodyAnswers : Type 0
 NobodyAnswers = (s : State) (h : Happening) (outcome : Outcome) → is_over s.standing h ≡ true → step s h outcome ≡ None
 
--- a look that found the record whose fate was unknown, or that didn't, fits with this answer to the next append, or with none
+-- a look that found the record whose fate was unknown, or that didn't, fits
+-- with this answer to the next append, or with none
 abbrev pub fits_look : Turn → Bool → Appending → Bool
 fits_look t found appending = fits t (Reread found None) || fits t (Reread found (Some appending))
 
 -- a restart and an opening may always miss that record, and find it exactly where there is one
 abbrev pub Looks : State → Turn → Type 0
-Looks s t = (appending : Appending) → (fits_look t false appending ≡ true) × (fits_look t true appending ≡ is_some s.open_record)
+Looks s t =
+    (appending : Appending)
+    → (fits_look t false appending ≡ true) × (fits_look t true appending ≡ is_some s.open_record)
 
 abbrev pub RestartsLook : Type 0
 RestartsLook = (s : State) → Looks s (restart_turn s)

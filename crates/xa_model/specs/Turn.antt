@@ -14,13 +14,15 @@ pub data Happening : Type 0 where
   Asked : (event : Event) → Happening
   Reopened : (name : List ℕ) (log_bytes : ℕ) → Happening
 
--- What a rereading goes on with, once the log was read: with nothing, or with a record of the new boot that is appended.
+-- What a rereading goes on with, once the log was read: with nothing, or
+-- with a record of the new boot that is appended.
 pub data Rereading : Type 0 where
   Stops : (answer : Answer) → Rereading
   Opens : (appended : Record) (after : Appending → Answer) → Rereading
 
--- A turn: what is asked of the device, and what each of its answers leads to. Nobody answers, no device call is made, one
--- record is appended, or the log is read again: that fails, or the record whose fate was unknown is there, or it isn't.
+-- A turn: what is asked of the device, and what each of its answers leads to. Nobody answers,
+-- no device call is made, one record is appended, or the log is read again: that fails, or
+-- the record whose fate was unknown is there, or it isn't.
 pub data Turn : Type 0 where
   Nobody : Turn
   Now : (answer : Answer) → Turn

@@ -1,6 +1,7 @@
 -- Worked rows: what a new manager answers, computed on the definitions alone.
 use Rattle.std.specs.Prelude.{ℕ, pos, ◌≡◌, ◌+◌, Option, Some, List, [], ◌∷◌}
-use Rattle.xa_codes.specs.declared.flags.TheConstants.{TMNOFLAGS, TMASYNC, TMJOIN, TMRESUME, TMSUCCESS, TMMIGRATE, TMONEPHASE}
+use Rattle.xa_codes.specs.declared.flags.TheConstants.{TMNOFLAGS, TMASYNC, TMJOIN, TMRESUME, TMSUCCESS, TMMIGRATE}
+use Rattle.xa_codes.specs.declared.flags.TheConstants.{TMONEPHASE}
 use Rattle.xa_codes.specs.declared.codes.TheConstants.{XAER_ASYNC, XAER_INVAL, XA_RETRY}
 use Rattle.xa_codes.specs.declared.detail.Detail.TheVariants as detail
 use Rattle.xa_xid.specs.Triple.{Triple}
@@ -114,4 +115,5 @@ FlagsRefused =
     ∷ asks (End (TMSUCCESS + TMMIGRATE) (xid 0xaa []))
     ∷ asks (Recover TMASYNC 1)
     ∷ [])
-    ≡ Some (number 1 ∷ done ∷ plain XAER_INVAL ∷ plain XAER_ASYNC ∷ plain XAER_INVAL ∷ plain XAER_INVAL ∷ plain XAER_INVAL ∷ [])
+    ≡ Some (
+    number 1 ∷ done ∷ plain XAER_INVAL ∷ plain XAER_ASYNC ∷ plain XAER_INVAL ∷ plain XAER_INVAL ∷ plain XAER_INVAL ∷ [])

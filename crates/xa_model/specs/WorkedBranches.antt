@@ -4,7 +4,9 @@ use Rattle.xa_codes.specs.declared.codes.TheConstants.{XAER_PROTO, XAER_NOTA, XA
 use Rattle.xa_codes.specs.declared.direction.Direction.TheVariants as direction
 use Rattle.xa_model.specs.Answer.{plain}
 use Rattle.xa_model.specs.Worked.{done, number}
-use Rattle.xa_model.specs.WorkedScripts.{Replied, new_manager, xid_a, time, connects, session, begins, resumes, suspends, migrates, ends, commits, completes, prepares, rolls_back, dooms, decides, forgets, gets, puts, deletes}
+use Rattle.xa_model.specs.WorkedScripts.{Replied, new_manager, xid_a, time, connects, session, begins, resumes}
+use Rattle.xa_model.specs.WorkedScripts.{suspends, migrates, ends, commits, completes, prepares, rolls_back, dooms}
+use Rattle.xa_model.specs.WorkedScripts.{decides, forgets, gets, puts, deletes}
 use Rattle.xa_model.specs.WorkedRefusals.{in_doubt, was_committed, was_rolled_back, settled}
 
 -- no commit in one phase with an association left, active, suspended or nobody's, nor of a branch that isn't at work; a
@@ -74,8 +76,8 @@ RollbackRefused =
     ∷ rolls_back 1 was_rolled_back (plain XA_HEURRB)
     ∷ [])
 
--- no prepare with an association left, nor of a branch that isn't at work; no decision but of a branch in doubt, and only what
--- was decided is forgotten
+-- no prepare with an association left, nor of a branch that isn't at work; no decision but of a branch in doubt, and
+-- only what was decided is forgotten
 abbrev pub PrepareRefused : Type 0
 PrepareRefused =
     Replied settled (

@@ -1,12 +1,15 @@
 -- Worked rows of several sessions: how they work for branches together, and what marks leave.
 use Rattle.std.specs.Prelude.{[], ◌∷◌, ◌++◌}
-use Rattle.xa_codes.specs.declared.codes.TheConstants.{XAER_PROTO, XAER_INVAL, XAER_NOTA, XA_RBROLLBACK, XA_RBCOMMFAIL, XA_RBOTHER, XA_RBTRANSIENT}
+use Rattle.xa_codes.specs.declared.codes.TheConstants.{XAER_PROTO, XAER_INVAL, XAER_NOTA, XA_RBROLLBACK, XA_RBCOMMFAIL}
+use Rattle.xa_codes.specs.declared.codes.TheConstants.{XA_RBOTHER, XA_RBTRANSIENT}
 use Rattle.xa_codes.specs.declared.detail.Detail.TheVariants as detail
 use Rattle.xa_codes.specs.declared.flags.TheConstants.{TMNOFLAGS}
 use Rattle.xa_frame.specs.declared.request.Request.TheVariants.{Open}
 use Rattle.xa_model.specs.Answer.{plain, detailed}
 use Rattle.xa_model.specs.Worked.{done, number}
-use Rattle.xa_model.specs.WorkedScripts.{Replied, new_manager, xid_a, xid_b, xid_c, time, not_there, connects, hangs_up, asks_by, opens, closes, session, begins, joins, resumes, suspends, migrates, ends, fails, commits, rolls_back, dooms, gets, puts}
+use Rattle.xa_model.specs.WorkedScripts.{Replied, new_manager, xid_a, xid_b, xid_c, time, not_there, connects, hangs_up}
+use Rattle.xa_model.specs.WorkedScripts.{asks_by, opens, closes, session, begins, joins, resumes, suspends, migrates}
+use Rattle.xa_model.specs.WorkedScripts.{ends, fails, commits, rolls_back, dooms, gets, puts}
 
 -- Associations
 

@@ -14,7 +14,9 @@ use Rattle.xa_model.specs.Turn.{Asked, taken}
 use Rattle.xa_model.specs.Step.{turn}
 use Rattle.xa_model.specs.Worked.{done}
 use Rattle.xa_model.specs.WorkedLog.{xid_1, put_1}
-use Rattle.xa_model.specs.WorkedTurns.{Takes, with_branch, idle, in_doubt, without_branch, prepared_1, preparing, committing_at_once, committing, rolling_back, deciding, forgetting, restarting, reopening, no_device}
+use Rattle.xa_model.specs.WorkedTurns.{Takes, with_branch, idle, in_doubt, without_branch, prepared_1, preparing}
+use Rattle.xa_model.specs.WorkedTurns.{committing_at_once, committing, rolling_back, deciding, forgetting, restarting}
+use Rattle.xa_model.specs.WorkedTurns.{reopening, no_device}
 
 -- the operator committed the branch in doubt
 abbrev pub decided : State
@@ -38,9 +40,12 @@ down_with s r = record s { standing = Down; open_record = Some r }
 abbrev pub EachLost : Type 0
 EachLost =
     Takes (preparing idle) (Appended Lost) no_device (down_with idle prepared_1)
-    × Takes (committing_at_once idle) (Appended Lost) no_device (down_with idle (logged.Committed xid_1 4294967297 put_1))
-    × Takes (committing in_doubt) (Appended Lost) no_device (down_with in_doubt (logged.Completed xid_1 direction.Commit))
-    × Takes (rolling_back in_doubt) (Appended Lost) no_device (down_with in_doubt (logged.Completed xid_1 direction.Rollback))
+    × Takes (committing_at_once idle) (Appended Lost) no_device
+    (down_with idle (logged.Committed xid_1 4294967297 put_1))
+    × Takes (committing in_doubt) (Appended Lost) no_device
+    (down_with in_doubt (logged.Completed xid_1 direction.Commit))
+    × Takes (rolling_back in_doubt) (Appended Lost) no_device
+    (down_with in_doubt (logged.Completed xid_1 direction.Rollback))
     × Takes (deciding in_doubt direction.Rollback) (Appended Lost) no_device
     (down_with in_doubt (logged.Decided xid_1 direction.Rollback))
     × Takes (forgetting decided) (Appended Lost) no_device (down_with decided (logged.Forgotten xid_1))

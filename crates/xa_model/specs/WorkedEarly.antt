@@ -4,12 +4,15 @@ use Rattle.xa_codes.specs.declared.codes.TheConstants.{XAER_ASYNC, XAER_PROTO, X
 use Rattle.xa_codes.specs.declared.direction.Direction.TheVariants as direction
 use Rattle.xa_codes.specs.declared.flags.TheConstants.{TMNOFLAGS, TMASYNC, TMMULTIPLE, TMSUCCESS, TMSTARTRSCAN}
 use Rattle.xa_frame.specs.declared.request.Request.{Request}
-use Rattle.xa_frame.specs.declared.request.Request.TheVariants.{Open, Close, Start, End, Prepare, Commit, Rollback, Forget, Recover, Get, Put, Delete, Decide, Doom, Restart}
+use Rattle.xa_frame.specs.declared.request.Request.TheVariants.{Open, Close, Start, End, Prepare, Commit, Rollback}
+use Rattle.xa_frame.specs.declared.request.Request.TheVariants.{Forget, Recover, Get, Put, Delete, Decide, Doom}
+use Rattle.xa_frame.specs.declared.request.Request.TheVariants.{Restart}
 use Rattle.xa_model.specs.State.{Down}
 use Rattle.xa_model.specs.Answer.{plain}
 use Rattle.xa_model.specs.History.{Entry}
 use Rattle.xa_model.specs.Worked.{xarm, byte, done, number}
-use Rattle.xa_model.specs.WorkedScripts.{Replied, new_manager, xid_a, connects, asks_by, opens, closes, session, restarts}
+use Rattle.xa_model.specs.WorkedScripts.{Replied, new_manager, xid_a, connects, asks_by, opens, closes, session}
+use Rattle.xa_model.specs.WorkedScripts.{restarts}
 
 -- the calls that need an opened session: of branches, of recovery, and of keys
 abbrev pub of_opened : List Request
@@ -50,7 +53,8 @@ all_refused code requests = map (λ (request : Request). asks_by 1 request (plai
 abbrev pub NotConnected : Type 0
 NotConnected =
     Replied new_manager
-    (all_refused XAER_PROTO (Open TMNOFLAGS xarm ∷ Close TMNOFLAGS ∷ Restart ∷ of_opened) ++ all_refused XAER_PROTO of_operator)
+    (all_refused XAER_PROTO (Open TMNOFLAGS xarm ∷ Close TMNOFLAGS ∷ Restart ∷ of_opened)
+    ++ all_refused XAER_PROTO of_operator)
 
 -- of one that isn't opened the operator's calls are served, and Open, Close and Restart
 abbrev pub NotOpened : Type 0

@@ -4,7 +4,8 @@ use Rattle.xa_codes.specs.declared.direction.Direction.TheVariants.{Commit, Roll
 use Rattle.xa_codes.specs.declared.flags.TheConstants.{TMNOFLAGS, TMSUCCESS, TMONEPHASE}
 use Rattle.xa_frame.specs.declared.request.Request.TheVariants as request
 use Rattle.xa_record.specs.declared.record.Record.{Record}
-use Rattle.xa_record.specs.declared.record.Record.TheVariants.{Opened, Prepared, Committed, Completed, Decided, Forgotten}
+use Rattle.xa_record.specs.declared.record.Record.TheVariants.{Opened, Prepared, Committed, Completed, Decided}
+use Rattle.xa_record.specs.declared.record.Record.TheVariants.{Forgotten}
 use Rattle.xa_model.specs.declared.outcome.Outcome.{Outcome}
 use Rattle.xa_model.specs.State.{State}
 use Rattle.xa_model.specs.Turn.{Happening}
@@ -56,7 +57,9 @@ abbrev pub none : Durable
 none = record { boot = 1; committed = []; prepared = []; decided = [] }
 
 abbrev pub in_doubt : Durable
-in_doubt = record none { prepared = record { xid = xid_1; timestamp = 4294967297; writes = delete 0x6a ∷ write 0x6b 0x76 ∷ [] } ∷ [] }
+in_doubt = record none {
+  prepared = record { xid = xid_1; timestamp = 4294967297; writes = delete 0x6a ∷ write 0x6b 0x76 ∷ [] } ∷ [];
+}
 
 abbrev pub kept : Durable
 kept = record none { committed = record { timestamp = 4294967297; writes = delete 0x6a ∷ write 0x6b 0x76 ∷ [] } ∷ [] }
@@ -69,10 +72,13 @@ StatesLeave =
     × leaves (commits ∷ []) kept 113
     × leaves (prepares ∷ Completed xid_1 Commit ∷ []) kept 159
     × leaves (prepares ∷ Completed xid_1 Rollback ∷ []) none 159
-    × leaves (prepares ∷ Decided xid_1 Commit ∷ []) (record kept { decided = record { xid = xid_1; direction = Commit } ∷ [] }) 159
-    × leaves (prepares ∷ Decided xid_1 Rollback ∷ []) (record none { decided = record { xid = xid_1; direction = Rollback } ∷ [] }) 159
+    × leaves (prepares ∷ Decided xid_1 Commit ∷ [])
+    (record kept { decided = record { xid = xid_1; direction = Commit } ∷ [] }) 159
+    × leaves (prepares ∷ Decided xid_1 Rollback ∷ [])
+    (record none { decided = record { xid = xid_1; direction = Rollback } ∷ [] }) 159
     × leaves (prepares ∷ Decided xid_1 Commit ∷ Forgotten xid_1 ∷ []) kept 204
 
 -- What is committed in one phase by a call leaves what its record comes to.
 abbrev pub CommittedLeaves : Type 0
-CommittedLeaves = option_map durable (option_and_then (λ s. led s (logs (request.Commit TMONEPHASE xid_1) ∷ [])) at_work) ≡ Some kept
+CommittedLeaves =
+    option_map durable (option_and_then (λ s. led s (logs (request.Commit TMONEPHASE xid_1) ∷ [])) at_work) ≡ Some kept

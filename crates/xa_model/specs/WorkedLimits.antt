@@ -9,7 +9,8 @@ use Rattle.xa_frame.specs.declared.request.Request.TheVariants.{Put, Delete}
 use Rattle.xa_model.specs.State.{State, Session, Branch, Association, Operation, Wrote, Working, Loose}
 use Rattle.xa_model.specs.Answer.{plain, detailed}
 use Rattle.xa_model.specs.Worked.{byte, done, number}
-use Rattle.xa_model.specs.WorkedScripts.{Replied, new_manager, xid_a, xid_b, time, connects, hangs_up, asks_by, session, begins, joins, resumes, suspends, migrates, ends, commits}
+use Rattle.xa_model.specs.WorkedScripts.{Replied, new_manager, xid_a, xid_b, time, connects, hangs_up, asks_by, session}
+use Rattle.xa_model.specs.WorkedScripts.{begins, joins, resumes, suspends, migrates, ends, commits}
 use Rattle.xa_model.specs.WorkedRefusals.{settled}
 
 abbrev pub at_limit : Reply
@@ -35,7 +36,9 @@ formatted k = record { format = pos k; gtrid = byte 0x67; bqual = [] }
 
 -- n branches, which no session works for
 abbrev pub branches_to : ℕ → List Branch
-branches_to n = map (λ k. record { timestamp = 4294967296 + (n - k); operations = []; phase = Working (formatted k) None }) (range_with_len 0 n)
+branches_to n =
+    map (λ k. record { timestamp = 4294967296 + (n - k); operations = []; phase = Working (formatted k) None })
+    (range_with_len 0 n)
 
 -- 4,096 XIDs are known at most, those that the operator completed among them; a branch that is committed makes room
 abbrev pub ManyBranches : Type 0
@@ -93,8 +96,11 @@ abbrev pub late_key : List ℕ
 late_key = 0x6c ∷ 0x6c ∷ []
 
 abbrev pub many_writes : State
-many_writes =
-    record new_manager { given = 2; branches = having (writes_to 255); reads = record { reader = 4294967298; key = late_key; source = 0 } ∷ [] }
+many_writes = record new_manager {
+  given = 2;
+  branches = having (writes_to 255);
+  reads = record { reader = 4294967298; key = late_key; source = 0 } ∷ [];
+}
 
 -- a branch writes at most 256 keys; a further one is refused, also where it would be late, and leaves no mark
 abbrev pub ManyKeys : Type 0

@@ -4,7 +4,8 @@ use Rattle.xa_codes.specs.declared.direction.Direction.TheVariants.{Commit, Roll
 use Rattle.xa_codes.specs.declared.write.Write.{Write}
 use Rattle.xa_xid.specs.Triple.{Triple}
 use Rattle.xa_record.specs.declared.record.Record.{Record}
-use Rattle.xa_record.specs.declared.record.Record.TheVariants.{Opened, Prepared, Committed, Completed, Decided, Forgotten, Base, Held, Known}
+use Rattle.xa_record.specs.declared.record.Record.TheVariants.{Opened, Prepared, Committed, Completed, Decided}
+use Rattle.xa_record.specs.declared.record.Record.TheVariants.{Forgotten, Base, Held, Known}
 use Rattle.xa_model.specs.Durable.{Durable}
 use Rattle.xa_model.specs.Fold.{fold, snapshot, size_of}
 use Rattle.xa_model.specs.Worked.{byte, xid}
@@ -60,21 +61,26 @@ DecidedAndForgotten =
     let second : List Record = Opened 2 ∷ Base 4294967297 put_1 ∷ Known xid_1 Commit ∷ [] in
     (restarted 2 first ≡ Ok second)
     × (places 8 second ≡ 8 ∷ 49 ∷ 102 ∷ 148 ∷ [])
-    × (restarted 3 (Opened 2 ∷ Base 4294967297 put_1 ∷ Known xid_1 Commit ∷ Forgotten xid_1 ∷ []) ≡ Ok (Opened 3 ∷ Base 4294967297 put_1 ∷ []))
-    × (restarted 2 (Opened 1 ∷ Prepared xid_1 4294967297 put_1 ∷ Decided xid_1 Rollback ∷ []) ≡ Ok (Opened 2 ∷ Known xid_1 Rollback ∷ []))
+    × (restarted 3 (Opened 2 ∷ Base 4294967297 put_1 ∷ Known xid_1 Commit ∷ Forgotten xid_1 ∷ [])
+    ≡ Ok (Opened 3 ∷ Base 4294967297 put_1 ∷ []))
+    × (restarted 2 (Opened 1 ∷ Prepared xid_1 4294967297 put_1 ∷ Decided xid_1 Rollback ∷ [])
+    ≡ Ok (Opened 2 ∷ Known xid_1 Rollback ∷ []))
 
 -- Rolled back, nothing is left; the XID may come back.
 abbrev pub RolledBack : Type 0
 RolledBack =
     (restarted 2 (Opened 1 ∷ Prepared xid_1 4294967297 put_1 ∷ Completed xid_1 Rollback ∷ []) ≡ Ok (Opened 2 ∷ []))
-    × (restarted 2 (Opened 1 ∷ Prepared xid_1 4294967297 put_1 ∷ Completed xid_1 Rollback ∷ Prepared xid_1 4294967298 put_1 ∷ [])
+    × (restarted 2 (
+    Opened 1 ∷ Prepared xid_1 4294967297 put_1 ∷ Completed xid_1 Rollback ∷ Prepared xid_1 4294967298 put_1 ∷ [])
     ≡ Ok (Opened 2 ∷ Held xid_1 4294967298 put_1 ∷ []))
 
--- The last write of a key is that of the greatest timestamp, whichever was committed last. A delete is kept. A branch whose
--- writes were all written over is left out.
+-- The last write of a key is that of the greatest timestamp, whichever was committed last. A delete is kept. A branch
+-- whose writes were all written over is left out.
 abbrev pub LastWrites : Type 0
 LastWrites =
-    (restarted 2 (Opened 1 ∷ Committed xid_2 4294967298 (write 0x6b 0x32 ∷ []) ∷ Committed xid_1 4294967297 (write 0x6b 0x31 ∷ write 0x6c 0x31 ∷ []) ∷ [])
+    (restarted 2 (
+    Opened 1 ∷ Committed xid_2 4294967298 (write 0x6b 0x32 ∷ [])
+    ∷ Committed xid_1 4294967297 (write 0x6b 0x31 ∷ write 0x6c 0x31 ∷ []) ∷ [])
     ≡ Ok (Opened 2 ∷ Base 4294967297 (write 0x6c 0x31 ∷ []) ∷ Base 4294967298 (write 0x6b 0x32 ∷ []) ∷ []))
     × (restarted 2 (Opened 1 ∷ Committed xid_1 4294967297 put_1 ∷ Committed xid_2 4294967298 (delete 0x6b ∷ []) ∷ [])
     ≡ Ok (Opened 2 ∷ Base 4294967298 (delete 0x6b ∷ []) ∷ []))
@@ -84,7 +90,9 @@ abbrev pub InOrder : Type 0
 InOrder =
     (restarted 2 (Opened 1 ∷ Prepared xid_2 4294967298 put_1 ∷ Prepared xid_1 4294967297 put_1 ∷ [])
     ≡ Ok (Opened 2 ∷ Held xid_1 4294967297 put_1 ∷ Held xid_2 4294967298 put_1 ∷ []))
-    × (restarted 2 (Opened 1 ∷ Prepared xid_2 4294967297 put_1 ∷ Prepared xid_1 4294967298 put_1 ∷ Decided xid_2 Rollback ∷ Decided xid_1 Rollback ∷ [])
+    × (restarted 2 (
+    Opened 1 ∷ Prepared xid_2 4294967297 put_1 ∷ Prepared xid_1 4294967298 put_1
+    ∷ Decided xid_2 Rollback ∷ Decided xid_1 Rollback ∷ [])
     ≡ Ok (Opened 2 ∷ Known xid_1 Rollback ∷ Known xid_2 Rollback ∷ []))
 
 -- The first record that is out of order, by its index.
@@ -103,13 +111,17 @@ TimestampsInOrder =
     (fold (Opened 2 ∷ Prepared xid_1 4294967297 put_1 ∷ []) ≡ Err 1)
     × (fold (Opened 1 ∷ Committed xid_1 4294967296 put_1 ∷ []) ≡ Err 1)
     × (fold (Opened 1 ∷ Committed xid_1 4294967297 put_1 ∷ Prepared xid_1 4294967297 put_1 ∷ []) ≡ Err 2)
-    × (fold (Opened 1 ∷ Prepared xid_1 4294967297 put_1 ∷ Completed xid_1 Rollback ∷ Prepared xid_1 4294967297 put_1 ∷ []) ≡ Err 3)
+    × (fold (
+    Opened 1 ∷ Prepared xid_1 4294967297 put_1 ∷ Completed xid_1 Rollback ∷ Prepared xid_1 4294967297 put_1 ∷ [])
+    ≡ Err 3)
 
--- an XID isn't prepared twice, and what wasn't prepared isn't completed, nor forgotten what the operator didn't complete
+-- an XID isn't prepared twice, and what wasn't prepared isn't completed,
+-- nor forgotten what the operator didn't complete
 abbrev pub NamesInOrder : Type 0
 NamesInOrder =
     (fold (Opened 1 ∷ Prepared xid_1 4294967297 put_1 ∷ Prepared xid_1 4294967298 put_1 ∷ []) ≡ Err 2)
-    × (fold (Opened 1 ∷ Prepared xid_1 4294967297 put_1 ∷ Decided xid_1 Commit ∷ Committed xid_1 4294967298 put_1 ∷ []) ≡ Err 3)
+    × (fold (Opened 1 ∷ Prepared xid_1 4294967297 put_1 ∷ Decided xid_1 Commit ∷ Committed xid_1 4294967298 put_1 ∷ [])
+    ≡ Err 3)
     × (fold (Opened 1 ∷ Prepared xid_1 4294967297 put_1 ∷ Completed xid_2 Commit ∷ []) ≡ Err 2)
     × (fold (Opened 1 ∷ Prepared xid_1 4294967297 put_1 ∷ Decided xid_1 Commit ∷ Decided xid_1 Commit ∷ []) ≡ Err 3)
     × (fold (Opened 1 ∷ Prepared xid_1 4294967297 put_1 ∷ Forgotten xid_1 ∷ []) ≡ Err 2)

@@ -22,15 +22,27 @@ written = Some (1 ∷ [])
 
 -- the write of 3 is none of the reader's at 2, and its own get is none of its later write
 abbrev pub ReadsBelow : Type 0
-ReadsBelow = IsOneCopy (branch_at 3 (Wrote key None ∷ []) ∷ branch_at 2 (Wrote key None ∷ Got key written 1 ∷ []) ∷ branch_at 1 (Wrote key written ∷ []) ∷ [])
+ReadsBelow =
+    IsOneCopy (
+    branch_at 3 (Wrote key None ∷ [])
+    ∷ branch_at 2 (Wrote key None ∷ Got key written 1 ∷ [])
+    ∷ branch_at 1 (Wrote key written ∷ [])
+    ∷ [])
 
 -- the reader at 3 doesn't know of the delete by 2
 abbrev pub MissesDelete : Type 0
-MissesDelete = IsOneCopy (branch_at 3 (Got key written 1 ∷ []) ∷ branch_at 2 (Wrote key None ∷ []) ∷ branch_at 1 (Wrote key written ∷ []) ∷ []) → ⊥
+MissesDelete =
+    IsOneCopy (
+    branch_at 3 (Got key written 1 ∷ [])
+    ∷ branch_at 2 (Wrote key None ∷ [])
+    ∷ branch_at 1 (Wrote key written ∷ [])
+    ∷ [])
+    → ⊥
 
 -- nor one of its own
 abbrev pub MissesOwnDelete : Type 0
-MissesOwnDelete = IsOneCopy (branch_at 2 (Got key written 1 ∷ Wrote key None ∷ []) ∷ branch_at 1 (Wrote key written ∷ []) ∷ []) → ⊥
+MissesOwnDelete =
+    IsOneCopy (branch_at 2 (Got key written 1 ∷ Wrote key None ∷ []) ∷ branch_at 1 (Wrote key written ∷ []) ∷ []) → ⊥
 
 -- the reader at 1 has read what was written later
 abbrev pub ReadsAbove : Type 0
@@ -41,7 +53,9 @@ abbrev at_work : List Operation → List Read → State
 at_work operations reads = record new_manager {
   sessions = record { number = 1; opened = true; scan = None } ∷ [];
   associations = record { xid = xid_a; holder = Active 1 } ∷ [];
-  branches = record { timestamp = 2; operations = operations; phase = Working xid_a None } ∷ branch_at 1 (Wrote key written ∷ []) ∷ [];
+  branches =
+      record { timestamp = 2; operations = operations; phase = Working xid_a None }
+      ∷ branch_at 1 (Wrote key written ∷ []) ∷ [];
   reads = reads;
 }
 
@@ -49,4 +63,7 @@ at_work operations reads = record new_manager {
 abbrev pub RecordsRead : Type 0
 RecordsRead =
     step (at_work [] []) (Asked (Call 1 (Get key))) Quiet
-    ≡ Some (record { reply = carrying (body.Value (1 ∷ [])); after = at_work (Got key written 1 ∷ []) (record { reader = 2; key = key; source = 1 } ∷ []) })
+    ≡ Some (record {
+      reply = carrying (body.Value (1 ∷ []));
+      after = at_work (Got key written 1 ∷ []) (record { reader = 2; key = key; source = 1 } ∷ []);
+    })

@@ -1,6 +1,7 @@
 -- Worked rows of branches in doubt: what recovery lists, what restarts find, and what the operator decides.
 use Rattle.std.specs.Prelude.{◌+◌, true, false, List, [], ◌∷◌, ◌++◌}
-use Rattle.xa_codes.specs.declared.codes.TheConstants.{XAER_INVAL, XAER_NOTA, XAER_RMERR, XAER_RMFAIL, XA_RDONLY, XA_RETRY, XA_RBOTHER, XA_HEURCOM}
+use Rattle.xa_codes.specs.declared.codes.TheConstants.{XAER_INVAL, XAER_NOTA, XAER_RMERR, XAER_RMFAIL, XA_RDONLY}
+use Rattle.xa_codes.specs.declared.codes.TheConstants.{XA_RETRY, XA_RBOTHER, XA_HEURCOM}
 use Rattle.xa_codes.specs.declared.detail.Detail.TheVariants as detail
 use Rattle.xa_codes.specs.declared.direction.Direction.TheVariants as direction
 use Rattle.xa_codes.specs.declared.flags.TheConstants.{TMNOFLAGS, TMSTARTRSCAN, TMENDRSCAN}
@@ -11,7 +12,9 @@ use Rattle.xa_model.specs.History.{Entry}
 use Rattle.xa_model.specs.Recovering.{listing}
 use Rattle.xa_model.specs.Worked.{byte, done, number}
 use Rattle.xa_model.specs.WorkedLog.{xid_1}
-use Rattle.xa_model.specs.WorkedScripts.{Replied, new_manager, xid_a, xid_b, xid_c, time, found, not_there, kept, refused, lost, asks_by, session, begins, ends, prepares, commits, completes, rolls_back, decides, forgets, gets, puts, recovers, restarts}
+use Rattle.xa_model.specs.WorkedScripts.{Replied, new_manager, xid_a, xid_b, xid_c, time, found, not_there, kept}
+use Rattle.xa_model.specs.WorkedScripts.{refused, lost, asks_by, session, begins, ends, prepares, commits, completes}
+use Rattle.xa_model.specs.WorkedScripts.{rolls_back, decides, forgets, gets, puts, recovers, restarts}
 
 -- session 1 puts 76 at 6b for 1:aa:bb, and leaves it
 abbrev pub written : List Entry
@@ -29,7 +32,8 @@ lists xids = recovers 1 (TMSTARTRSCAN + TMENDRSCAN) 10 (listing xids)
 abbrev pub Recovered : Type 0
 Recovered =
     Replied new_manager (
-    in_doubt ++ lists (xid_1 ∷ []) ∷ restarts 1 false done ∷ lists (xid_1 ∷ []) ∷ kept (completes 1 xid_1 done) ∷ lists [] ∷ [])
+    in_doubt
+    ++ lists (xid_1 ∷ []) ∷ restarts 1 false done ∷ lists (xid_1 ∷ []) ∷ kept (completes 1 xid_1 done) ∷ lists [] ∷ [])
 
 -- a branch that wrote nothing is never in doubt
 abbrev pub PreparedWithoutWrites : Type 0
@@ -59,7 +63,8 @@ NextBoot =
     ∷ kept (commits 1 xid_b done)
     ∷ [])
 
--- a commit whose record was lost leaves a manager that is down, until a restart finds the record: the branch is committed
+-- a commit whose record was lost leaves a manager that is down, until a
+-- restart finds the record: the branch is committed
 abbrev pub LostAndFound : Type 0
 LostAndFound =
     Replied new_manager (
@@ -113,7 +118,8 @@ two_in_doubt =
     ∷ kept (prepares 1 xid_b done)
     ∷ []
 
--- a scan goes on above what it listed, whatever is completed meanwhile, until it is ended; none lists more than 256 at once
+-- a scan goes on above what it listed, whatever is completed meanwhile, until
+-- it is ended; none lists more than 256 at once
 abbrev pub Scans : Type 0
 Scans =
     Replied new_manager (
@@ -129,7 +135,8 @@ Scans =
     ∷ recovers 1 TMNOFLAGS 256 (listing (xid_b ∷ []))
     ∷ [])
 
--- a branch is prepared where its record leaves just the room to complete and to forget it, and else rolled back, and gone
+-- a branch is prepared where its record leaves just the room to complete and
+-- to forget it, and else rolled back, and gone
 abbrev pub JustRoom : Type 0
 JustRoom = Replied (record new_manager { log_bytes = 457 }) in_doubt
 

@@ -1,14 +1,19 @@
 -- Worked rows: each refusal before the row of a call, and each of a row of the association table, and what it leaves.
 use Rattle.std.specs.Prelude.{◌+◌, [], ◌∷◌, ◌++◌}
-use Rattle.xa_codes.specs.declared.codes.TheConstants.{XAER_ASYNC, XAER_PROTO, XAER_INVAL, XAER_NOTA, XAER_DUPID, XA_RBROLLBACK, XA_RBOTHER}
+use Rattle.xa_codes.specs.declared.codes.TheConstants.{XAER_ASYNC, XAER_PROTO, XAER_INVAL, XAER_NOTA, XAER_DUPID}
+use Rattle.xa_codes.specs.declared.codes.TheConstants.{XA_RBROLLBACK, XA_RBOTHER}
 use Rattle.xa_codes.specs.declared.direction.Direction.TheVariants as direction
-use Rattle.xa_codes.specs.declared.flags.TheConstants.{TMASYNC, TMJOIN, TMRESUME, TMSUCCESS, TMFAIL, TMSUSPEND, TMMIGRATE, TMONEPHASE, TMNOWAIT}
+use Rattle.xa_codes.specs.declared.flags.TheConstants.{TMASYNC, TMJOIN, TMRESUME, TMSUCCESS, TMFAIL, TMSUSPEND}
+use Rattle.xa_codes.specs.declared.flags.TheConstants.{TMMIGRATE, TMONEPHASE, TMNOWAIT}
 use Rattle.xa_xid.specs.Triple.{Triple}
-use Rattle.xa_frame.specs.declared.request.Request.TheVariants.{Open, Close, Start, End, Prepare, Commit, Rollback, Forget, Recover}
+use Rattle.xa_frame.specs.declared.request.Request.TheVariants.{Open, Close, Start, End, Prepare, Commit, Rollback}
+use Rattle.xa_frame.specs.declared.request.Request.TheVariants.{Forget, Recover}
 use Rattle.xa_model.specs.State.{State, Prepared}
 use Rattle.xa_model.specs.Answer.{plain}
 use Rattle.xa_model.specs.Worked.{xarm, xid, done, number}
-use Rattle.xa_model.specs.WorkedScripts.{Replied, new_manager, xid_a, xid_b, time, connects, asks_by, opens, closes, session, begins, joins, resumes, suspends, migrates, ends, fails, rolls_back, dooms, gets}
+use Rattle.xa_model.specs.WorkedScripts.{Replied, new_manager, xid_a, xid_b, time, connects, asks_by, opens, closes}
+use Rattle.xa_model.specs.WorkedScripts.{session, begins, joins, resumes, suspends, migrates, ends, fails, rolls_back}
+use Rattle.xa_model.specs.WorkedScripts.{dooms, gets}
 
 abbrev pub in_doubt : Triple
 in_doubt = xid 0xdd []
@@ -24,7 +29,9 @@ abbrev pub settled : State
 settled = record new_manager {
   given = 3;
   branches = record { timestamp = 4294967297; operations = []; phase = Prepared in_doubt } ∷ [];
-  decided = record { xid = was_committed; direction = direction.Commit } ∷ record { xid = was_rolled_back; direction = direction.Rollback } ∷ [];
+  decided =
+      record { xid = was_committed; direction = direction.Commit }
+      ∷ record { xid = was_rolled_back; direction = direction.Rollback } ∷ [];
 }
 
 -- Before the row
@@ -111,8 +118,8 @@ JoinRefused =
     ∷ closes 2 done
     ∷ [])
 
--- nothing is resumed at work, nor where nothing is suspended that the session may go on with; what is resumed of a marked
--- branch ends, the session's own or nobody's
+-- nothing is resumed at work, nor where nothing is suspended that the session may go on with; what is resumed of a
+-- marked branch ends, the session's own or nobody's
 abbrev pub ResumeRefused : Type 0
 ResumeRefused =
     Replied settled (

@@ -1,6 +1,7 @@
 -- Worked rows of the calls that log: what each asks of the device, and what its outcomes lead to.
 use Rattle.std.specs.Prelude.{ℕ, ◌≡◌, true, false, Option, Some, None, Ok, [], ◌∷◌}
-use Rattle.xa_codes.specs.declared.codes.TheConstants.{XAER_PROTO, XAER_NOTA, XAER_RMFAIL, XA_RDONLY, XA_RBOTHER, XA_HEURCOM}
+use Rattle.xa_codes.specs.declared.codes.TheConstants.{XAER_PROTO, XAER_NOTA, XAER_RMFAIL, XA_RDONLY, XA_RBOTHER}
+use Rattle.xa_codes.specs.declared.codes.TheConstants.{XA_HEURCOM}
 use Rattle.xa_codes.specs.declared.detail.Detail.TheVariants as detail
 use Rattle.xa_codes.specs.declared.direction.Direction.{Direction}
 use Rattle.xa_codes.specs.declared.direction.Direction.TheVariants as direction
@@ -42,7 +43,8 @@ abbrev pub with_branch : Phase → ℕ → State
 with_branch phase end = record new_manager {
   given = 1;
   sessions = record { number = 1; opened = true; scan = Some None } ∷ [];
-  branches = record { timestamp = 4294967297; operations = Wrote (byte 0x6b) (Some (byte 0x76)) ∷ []; phase = phase } ∷ [];
+  branches =
+      record { timestamp = 4294967297; operations = Wrote (byte 0x6b) (Some (byte 0x76)) ∷ []; phase = phase } ∷ [];
   end = end;
 }
 
@@ -58,10 +60,20 @@ without_branch = record idle { branches = [] }
 
 -- a branch that wrote nothing
 abbrev pub read_only : State
-read_only = record idle { branches = record { timestamp = 4294967297; operations = []; phase = Working xid_1 None } ∷ [] }
+read_only =
+    record idle { branches = record { timestamp = 4294967297; operations = []; phase = Working xid_1 None } ∷ [] }
 
 abbrev pub prepared_1 : Record
 prepared_1 = logged.Prepared xid_1 4294967297 put_1
+
+-- what lasts of it
+abbrev pub held : Durable
+held = record {
+  boot = 1;
+  committed = [];
+  prepared = record { xid = xid_1; timestamp = 4294967297; writes = put_1 } ∷ [];
+  decided = [];
+}
 
 -- What session 1 asks of that branch
 
@@ -118,29 +130,41 @@ RolledBackAgain =
 abbrev pub MarkedIsGone : Type 0
 MarkedIsGone =
     Takes (preparing (with_branch (Working xid_1 (Some XA_RBOTHER)) 49)) Quiet (plain XA_RBOTHER) without_branch
-    × Takes (committing_at_once (with_branch (Working xid_1 (Some XA_RBOTHER)) 49)) Quiet (plain XA_RBOTHER) without_branch
+    × Takes (committing_at_once (with_branch (Working xid_1 (Some XA_RBOTHER)) 49)) Quiet
+    (plain XA_RBOTHER) without_branch
 
 -- A branch without writes is gone, as committed, and nothing is logged.
 abbrev pub ReadOnly : Type 0
 ReadOnly =
-    let gone = record read_only { branches = record { timestamp = 4294967297; operations = []; phase = Committed } ∷ [] } in
+    let gone = record read_only {
+      branches = record { timestamp = 4294967297; operations = []; phase = Committed } ∷ [];
+    } in
     Takes (preparing read_only) Quiet (plain XA_RDONLY) gone
     × Takes (committing_at_once read_only) Quiet done gone
 
--- At equality there is room, for the record, the closing length, and what is kept for the branch: 49 + 61 + 4 + 343. A branch
--- for which there is none is rolled back. A commit in one phase needs no more than its record.
+-- At equality there is room, for the record, the closing length, and what is kept for the branch: 49 + 61 + 4 + 343. A
+-- branch for which there is none is rolled back. A commit in one phase needs no more than its record.
 abbrev pub Room : Type 0
 Room =
     Takes (preparing (record idle { log_bytes = 457 })) (Appended Kept) done (record in_doubt { log_bytes = 457 })
-    × Takes (preparing (record idle { log_bytes = 456 })) Quiet (detailed XA_RBOTHER detail.LogFull) (record without_branch { log_bytes = 456 })
-    × Takes (committing_at_once (record idle { log_bytes = 114 })) (Appended Kept) done (record (with_branch Committed 110) { log_bytes = 114 })
-    × Takes (committing_at_once (record idle { log_bytes = 113 })) Quiet (detailed XA_RBOTHER detail.LogFull) (record without_branch { log_bytes = 113 })
+    × Takes (preparing (record idle { log_bytes = 456 })) Quiet (detailed XA_RBOTHER detail.LogFull)
+    (record without_branch { log_bytes = 456 })
+    × Takes (committing_at_once (record idle { log_bytes = 114 })) (Appended Kept) done
+    (record (with_branch Committed 110) { log_bytes = 114 })
+    × Takes (committing_at_once (record idle { log_bytes = 113 })) Quiet (detailed XA_RBOTHER detail.LogFull)
+    (record without_branch { log_bytes = 113 })
     × (log_room 860 0 1 3 ≡ true)
     × (log_room 859 0 1 3 ≡ false)
 
 -- after a restart with this boot
 abbrev pub booted : State → ℕ → ℕ → State
-booted s boot end = record s { boot = boot; given = 0; logged_boot = boot; sessions = record { number = 1; opened = true; scan = None } ∷ []; end = end }
+booted s boot end = record s {
+  boot = boot;
+  given = 0;
+  logged_boot = boot;
+  sessions = record { number = 1; opened = true; scan = None } ∷ [];
+  end = end;
+}
 
 abbrev pub no_device : Reply
 no_device = detailed XAER_RMFAIL detail.Device
@@ -149,7 +173,6 @@ no_device = detailed XAER_RMFAIL detail.Device
 abbrev pub LostAppends : Type 0
 LostAppends =
     let lost = record idle { standing = Down; open_record = Some prepared_1 } in
-    let held : Durable = record { boot = 1; committed = []; prepared = record { xid = xid_1; timestamp = 4294967297; writes = put_1 } ∷ []; decided = [] } in
     Takes (preparing idle) (Appended Lost) no_device lost
     × (fates lost ≡ record { boot = 1; committed = []; prepared = []; decided = [] } ∷ held ∷ [])
     × Takes (restarting lost) (Reread true (Some Kept)) done (booted in_doubt 2 110)
@@ -166,7 +189,8 @@ LostBoots =
     Takes (restarting in_doubt) (Reread false (Some Lost)) no_device lost
     × Takes (restarting lost) (Reread true (Some Kept)) done (booted in_doubt 3 110)
     × Takes (restarting lost) (Reread false (Some Kept)) done (booted in_doubt 2 110)
-    × Takes (restarting (record idle { logged_boot = 4294967295 })) (Reread false None) (detailed XAER_RMFAIL detail.Limit)
+    × Takes (restarting (record idle { logged_boot = 4294967295 })) (Reread false None)
+    (detailed XAER_RMFAIL detail.Limit)
     (record idle { logged_boot = 4294967295; standing = Down })
 
 -- The operator completes a branch in doubt, which is kept over a restart, and forgets it.
@@ -186,15 +210,15 @@ DecidedByOperator =
     × Takes (forgetting in_doubt) Quiet (plain XAER_PROTO) in_doubt
     × Takes (forgetting without_branch) Quiet (plain XAER_NOTA) without_branch
 
--- A manager that is opened again has no sessions, and stands as one that is opened on the log's records. It isn't opened where
--- there is no room: 110 + 4 + 343.
+-- A manager that is opened again has no sessions, and stands as one that is opened on the log's records. It isn't
+-- opened where there is no room: 110 + 4 + 343.
 abbrev pub OpenedAgain : Type 0
 OpenedAgain =
     let ended = record in_doubt { log_bytes = 456; sessions = []; standing = Ended } in
-    let held : Durable = record { boot = 1; committed = []; prepared = record { xid = xid_1; timestamp = 4294967297; writes = put_1 } ∷ []; decided = [] } in
     Takes (reopening in_doubt 457) (Reread false (Some Kept)) done (opening held xarm 457 2)
     × (fold (logged.Opened 1 ∷ prepared_1 ∷ []) ≡ Ok held)
     × Takes (reopening in_doubt 456) (Reread false None) done ended
     × Takes (reopening in_doubt 456) Failed done ended
-    × Takes (reopening ended 457) (Reread false (Some Lost)) done (record ended { log_bytes = 457; open_record = Some (logged.Opened 2) })
+    × Takes (reopening ended 457) (Reread false (Some Lost)) done
+    (record ended { log_bytes = 457; open_record = Some (logged.Opened 2) })
     × (opening nothing xarm 1073741824 1 ≡ new_manager)

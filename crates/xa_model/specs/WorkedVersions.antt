@@ -6,7 +6,9 @@ use Rattle.xa_frame.specs.declared.body.Body.TheVariants as body
 use Rattle.xa_frame.specs.declared.request.Request.TheVariants.{Put}
 use Rattle.xa_model.specs.Answer.{plain, detailed, carrying}
 use Rattle.xa_model.specs.Worked.{byte, done}
-use Rattle.xa_model.specs.WorkedScripts.{Replied, new_manager, xid_a, xid_b, xid_c, time, found, not_there, kept, hangs_up, asks_by, session, begins, joins, ends, commits, prepares, rolls_back, gets, puts, deletes}
+use Rattle.xa_model.specs.WorkedScripts.{Replied, new_manager, xid_a, xid_b, xid_c, time, found, not_there, kept}
+use Rattle.xa_model.specs.WorkedScripts.{hangs_up, asks_by, session, begins, joins, ends, commits, prepares, rolls_back}
+use Rattle.xa_model.specs.WorkedScripts.{gets, puts, deletes}
 
 -- a write that a later branch should have read comes too late: its branch is marked, and can only be rolled back
 abbrev pub LateWrite : Type 0

@@ -1,25 +1,37 @@
 ghost use Rattle.xa_model.specs.Total.{StepIsTotal, NothingIsStuck, NobodyAnswers, RestartsLook, OpeningsLook};
-ghost use Rattle.xa_model.specs.Laws.{OneHistory, KeepsSound, KeepsSoundPrepared, KeepsSoundDecided, KeepsSoundForgotten};
-ghost use Rattle.xa_model.specs.DurableLaws.{FoldReads, OneMore, FirstFault, FoldIsByKey, FoldIsDurable, LastWritesStay, LeavesDurable, OneValue, SnapshotFolds, SnapshotIsShort, SnapshotIsWritten, WritesOf};
-ghost use Rattle.xa_model.specs.LoggingLaws.{KeepsSoundApplied, AppliedLasts, AppliedFits, EventsLogWhatLasts, RestartLasts, ReopenLasts};
-ghost use Rattle.xa_model.specs.BackingLaws.{KeepsRecoverable, AlwaysRecoverable, LoggedInOrder, KeepsBacked, RestartsRestored, ReopensRestored, OpensRestored, OpensFresh};
+ghost use Rattle.xa_model.specs.Laws.{OneHistory, KeepsSound, KeepsSoundPrepared, KeepsSoundDecided};
+ghost use Rattle.xa_model.specs.Laws.{KeepsSoundForgotten};
+ghost use Rattle.xa_model.specs.DurableLaws.{FoldReads, OneMore, FirstFault, FoldIsByKey, FoldIsDurable};
+ghost use Rattle.xa_model.specs.DurableLaws.{LastWritesStay, LeavesDurable, OneValue, SnapshotFolds, SnapshotIsShort};
+ghost use Rattle.xa_model.specs.DurableLaws.{SnapshotIsWritten, WritesOf};
+ghost use Rattle.xa_model.specs.LoggingLaws.{KeepsSoundApplied, AppliedLasts, AppliedFits, EventsLogWhatLasts};
+ghost use Rattle.xa_model.specs.LoggingLaws.{RestartLasts, ReopenLasts};
+ghost use Rattle.xa_model.specs.BackingLaws.{KeepsRecoverable, AlwaysRecoverable, LoggedInOrder, KeepsBacked};
+ghost use Rattle.xa_model.specs.BackingLaws.{RestartsRestored, ReopensRestored, OpensRestored, OpensFresh};
 ghost use Rattle.xa_model.specs.Room.{KeepsRoom, RestartKeepsRoom};
 ghost use Rattle.xa_model.specs.OneCopy.{AlwaysOneCopy, FreshOneCopy, OpenedOneCopy};
 ghost use Rattle.xa_model.specs.ListedLaw.{ListedUntilAsked, ListedSinceBoot};
 ghost use Rattle.xa_model.specs.LowWaterLaws.{BelowKnown, IsReached, BelowNext, NeverFalls};
 ghost use Rattle.xa_model.specs.WorkedLowWater.{WaterRises};
-ghost use Rattle.xa_model.specs.WorkedLog.{HeldAndCommitted, DecidedAndForgotten, RolledBack, LastWrites, InOrder, BootsInOrder, TimestampsInOrder, NamesInOrder, SnapshotsInOrder};
+ghost use Rattle.xa_model.specs.WorkedLog.{HeldAndCommitted, DecidedAndForgotten, RolledBack, LastWrites, InOrder};
+ghost use Rattle.xa_model.specs.WorkedLog.{BootsInOrder, TimestampsInOrder, NamesInOrder, SnapshotsInOrder};
 ghost use Rattle.xa_model.specs.WorkedLasting.{StatesLeave, CommittedLeaves};
 ghost use Rattle.xa_model.specs.WorkedOneCopy.{ReadsBelow, MissesDelete, MissesOwnDelete, ReadsAbove, RecordsRead};
-ghost use Rattle.xa_model.specs.WorkedTurns.{PreparedAndCommitted, RolledBackAgain, MarkedIsGone, ReadOnly, Room, LostAppends, LostBoots, DecidedByOperator, OpenedAgain};
+ghost use Rattle.xa_model.specs.WorkedTurns.{PreparedAndCommitted, RolledBackAgain, MarkedIsGone, ReadOnly, Room};
+ghost use Rattle.xa_model.specs.WorkedTurns.{LostAppends, LostBoots, DecidedByOperator, OpenedAgain};
 ghost use Rattle.xa_model.specs.WorkedDevice.{EachRefused, EachLost, RestartRefused, OpeningRefused};
-ghost use Rattle.xa_model.specs.WorkedRecovery.{Recovered, PreparedWithoutWrites, NextBoot, LostAndFound, LostAndGone, Heuristics, Scans, JustRoom, NoRoom, Refusals};
+ghost use Rattle.xa_model.specs.WorkedRecovery.{Recovered, PreparedWithoutWrites, NextBoot, LostAndFound, LostAndGone};
+ghost use Rattle.xa_model.specs.WorkedRecovery.{Heuristics, Scans, JustRoom, NoRoom, Refusals};
 ghost use Rattle.xa_model.specs.Worked.{ReadBack, BusyUntilCommitted, FlagsRefused};
-ghost use Rattle.xa_model.specs.WorkedCalls.{ComesAndGoes, Migration, OwnBeforeLoose, LooseEnds, BrokenConnection, SuspendedAndBroken, NumbersAgain, Opening, Marks, FirstMark};
-ghost use Rattle.xa_model.specs.WorkedVersions.{LateWrite, LateDelete, BlindWrite, BusyBelow, BusyInDoubt, SharedBranch, NotBusyAbove, Deleted, DeletedAfterwards, ReadOver};
-ghost use Rattle.xa_model.specs.WorkedRefusals.{EarlyRefused, CloseRefused, StartRefused, JoinRefused, ResumeRefused, SuspendRefused, EndRefused};
+ghost use Rattle.xa_model.specs.WorkedCalls.{ComesAndGoes, Migration, OwnBeforeLoose, LooseEnds, BrokenConnection};
+ghost use Rattle.xa_model.specs.WorkedCalls.{SuspendedAndBroken, NumbersAgain, Opening, Marks, FirstMark};
+ghost use Rattle.xa_model.specs.WorkedVersions.{LateWrite, LateDelete, BlindWrite, BusyBelow, BusyInDoubt};
+ghost use Rattle.xa_model.specs.WorkedVersions.{SharedBranch, NotBusyAbove, Deleted, DeletedAfterwards, ReadOver};
+ghost use Rattle.xa_model.specs.WorkedRefusals.{EarlyRefused, CloseRefused, StartRefused, JoinRefused, ResumeRefused};
+ghost use Rattle.xa_model.specs.WorkedRefusals.{SuspendRefused, EndRefused};
 ghost use Rattle.xa_model.specs.WorkedEarly.{NotConnected, NotOpened, IsDown, FlagsOfEach};
-ghost use Rattle.xa_model.specs.WorkedBranches.{OnePhaseRefused, TwoPhaseRefused, RollbackRefused, PrepareRefused, DoomRefused, RecordsRefused};
+ghost use Rattle.xa_model.specs.WorkedBranches.{OnePhaseRefused, TwoPhaseRefused, RollbackRefused, PrepareRefused};
+ghost use Rattle.xa_model.specs.WorkedBranches.{DoomRefused, RecordsRefused};
 ghost use Rattle.xa_model.specs.WorkedLimits.{ManySessions, ManyBranches, ManyTimestamps, ManyLoose, ManyKeys};
 
 /// From a given start, given events and outcomes have at most one legal history.
@@ -27,9 +39,10 @@ pub fn one_history()
     ensures { OneHistory }
 {}
 
-/// Each event and each opening, in every state, is answered with each outcome that fits its turn, and with no other; and some
-/// outcome fits, unless the manager's process ended, after which only an opening is answered. A restart and an opening fit a look
-/// that misses the record whose fate was unknown always, and one that finds it exactly where there is such a record.
+/// Each event and each opening, in every state, is answered with each outcome that fits its turn, and
+/// with no other; and some outcome fits, unless the manager's process ended, after which only an opening
+/// is answered. A restart and an opening fit a look that misses the record whose fate was unknown
+/// always, and one that finds it exactly where there is such a record.
 pub fn total()
     ensures step { StepIsTotal }
     ensures some { NothingIsStuck }
@@ -38,13 +51,14 @@ pub fn total()
     ensures opening { OpeningsLook }
 {}
 
-/// Every event but a restart leads from a sound state to a sound one, with every outcome of its device calls. Of restarts and
-/// openings `recoverable` says more.
+/// Every event but a restart leads from a sound state to a sound one, with every outcome of its device calls. Of
+/// restarts and openings `recoverable` says more.
 pub fn sound()
     ensures { KeepsSound }
 {}
 
-/// What lasts of branches keeps a state sound too: prepared ones, the operator's decisions, and that these are forgotten.
+/// What lasts of branches keeps a state sound too: prepared ones, the
+/// operator's decisions, and that these are forgotten.
 pub fn sound_lasting()
     ensures prepared { KeepsSoundPrepared }
     ensures decided { KeepsSoundDecided }
@@ -121,9 +135,9 @@ pub fn worked_limits()
     ensures keys { ManyKeys }
 {}
 
-/// What the log's records come to, and the snapshot that a new file begins with: one record more, the first that is out of
-/// order, the one form of what lasts, that a snapshot comes to the same and is no longer, and that a sound state would leave
-/// that form.
+/// What the log's records come to, and the snapshot that a new file begins with: one record more, the first that is out
+/// of order, the one form of what lasts, that a snapshot comes to the same and is no longer, and that a sound state
+/// would leave that form.
 pub fn lasting()
     ensures reads { FoldReads }
     ensures one_more { OneMore }
@@ -171,8 +185,8 @@ pub fn worked_turns()
     ensures opened { OpenedAgain }
 {}
 
-/// Worked rows of branches in doubt: what recovery lists, what restarts find of records that were lost, what the operator
-/// decides, and where the log is full or the device refuses.
+/// Worked rows of branches in doubt: what recovery lists, what restarts find of records that were lost, what the
+/// operator decides, and where the log is full or the device refuses.
 pub fn worked_recovery()
     ensures recovered { Recovered }
     ensures read_only { PreparedWithoutWrites }
@@ -186,9 +200,9 @@ pub fn worked_recovery()
     ensures refused { Refusals }
 {}
 
-/// What is logged is what lasts: what a record does to a state that may log it keeps the state sound, and does to what would
-/// last what it does to what the log's records come to; behind records that come to what would last, it fits if its timestamp
-/// is a new one. So each event, a restart and an opening leave what lasts.
+/// What is logged is what lasts: what a record does to a state that may log it keeps the state sound, and does to what
+/// would last what it does to what the log's records come to; behind records that come to what would last, it fits if
+/// its timestamp is a new one. So each event, a restart and an opening leave what lasts.
 pub fn logged_lasts()
     ensures sound { KeepsSoundApplied }
     ensures applied { AppliedLasts }
@@ -204,8 +218,8 @@ pub fn recoverable()
     ensures history { AlwaysRecoverable }
 {}
 
-/// The log's records stand behind every state: what may be logged fits behind them, and with each turn and each answer of the
-/// device they go on with the state.
+/// The log's records stand behind every state: what may be logged fits behind them, and with each turn and each answer
+/// of the device they go on with the state.
 pub fn backed()
     ensures order { LoggedInOrder }
     ensures turn { KeepsBacked }
@@ -219,43 +233,45 @@ pub fn restored()
     ensures fresh { OpensFresh }
 {}
 
-/// A log keeps the room to complete and forget what is prepared, and to forget what the operator completed, also if the record
-/// whose fate is unknown is found there: every event but a restart keeps it, with every outcome of its device calls, and so
-/// does all that happens where records stand behind the state.
+/// A log keeps the room to complete and forget what is prepared, and to forget what the operator completed, also if the
+/// record whose fate is unknown is found there: every event but a restart keeps it, with every outcome of its device
+/// calls, and so does all that happens where records stand behind the state.
 pub fn roomy()
     ensures asked { KeepsRoom }
     ensures restart { RestartKeepsRoom }
 {}
 
-/// One-copy serializability, in the order of timestamps: take the committed branches of any state that a history leads to, and
-/// execute them alone, one after another from the least timestamp to the greatest, on a plain map from keys to values that is
-/// empty at first. Then every get that they were answered finds the value, or the absence, that it was answered. Every prefix of a
-/// history is one, so it is so at each of its places.
+/// One-copy serializability, in the order of timestamps: take the committed branches of any state that a history leads
+/// to, and execute them alone, one after another from the least timestamp to the greatest, on a plain map from keys to
+/// values that is empty at first. Then every get that they were answered finds the value, or the absence, that it was
+/// answered. Every prefix of a history is one, so it is so at each of its places.
 ///
-/// Restarts, openings and lost records are among what happens, and so are branches in doubt: a branch that commits long after
-/// later ones have read, or after a restart, still takes the place of its timestamp. Reads of branches that were rolled back
-/// count for nothing. The history begins with any state that a restart may begin with, if no branch in it has read; so with a new
-/// manager, and with one that was opened on a log's records, of whose branches the log has the writes alone.
+/// Restarts, openings and lost records are among what happens, and so are branches in doubt: a branch that
+/// commits long after later ones have read, or after a restart, still takes the place of its timestamp.
+/// Reads of branches that were rolled back count for nothing. The history begins with any state that a
+/// restart may begin with, if no branch in it has read; so with a new manager, and with one that was opened
+/// on a log's records, of whose branches the log has the writes alone.
 pub fn one_copy()
     ensures always { AlwaysOneCopy }
     ensures fresh { FreshOneCopy }
     ensures opened { OpenedOneCopy }
 {}
 
-/// A vote to commit is kept: behind a prepare that was answered XA_OK recovery lists its XID at every place of the history, until
-/// somebody asks for its completion, by a commit, a rollback or a forget that is answered XA_OK, or whose append was lost, so
-/// that it may have been done. A commit that the device refuses (XA_RETRY), a lost append of any other record, crashes, restarts,
-/// openings and what the operator decides leave it listed, and so does all that is done with other XIDs.
+/// A vote to commit is kept: behind a prepare that was answered XA_OK recovery lists its XID at every place
+/// of the history, until somebody asks for its completion, by a commit, a rollback or a forget that is
+/// answered XA_OK, or whose append was lost, so that it may have been done. A commit that the device refuses
+/// (XA_RETRY), a lost append of any other record, crashes, restarts, openings and what the operator decides
+/// leave it listed, and so does all that is done with other XIDs.
 ///
-/// The history begins with any state that a restart may begin with, if no branch in it is marked with the code of success; so
-/// with all that restarts and openings lead to.
+/// The history begins with any state that a restart may begin with, if no branch in it is marked with the code of
+/// success; so with all that restarts and openings lead to.
 pub fn listed_until_asked()
     ensures always { ListedUntilAsked }
     ensures boot { ListedSinceBoot }
 {}
 
-/// Worked lists of committed branches: one that is one copy, and three that aren't, since a read missed a write before it, or
-/// found one behind it. And a get that is answered: what is recorded is what was answered.
+/// Worked lists of committed branches: one that is one copy, and three that aren't, since a read missed a write before
+/// it, or found one behind it. And a get that is answered: what is recorded is what was answered.
 pub fn worked_copies()
     ensures below { ReadsBelow }
     ensures misses { MissesDelete }
@@ -264,8 +280,8 @@ pub fn worked_copies()
     ensures records { RecordsRead }
 {}
 
-/// The low water, the least timestamp of a known branch, or, if there is none, the last that this boot gave: no known branch
-/// stands below it, and none will, since whatever happens it never falls.
+/// The low water, the least timestamp of a known branch, or, if there is none, the last that this boot gave: no known
+/// branch stands below it, and none will, since whatever happens it never falls.
 pub fn low_water()
     ensures known { BelowKnown }
     ensures reached { IsReached }

@@ -1,24 +1,27 @@
-//! The sequential resource manager: its states, its one step, and histories. It answers by the tables of C193, and
-//! orders reads and writes by multiversion timestamp ordering (Bernstein, Hadzilacos and Goodman, 5.3). What the
-//! contracts of the layers above speak of stands in `specs/`; the program's part is the types of events and outcomes, and
-//! the limits.
+//! The sequential resource manager: its states, its one step, and histories. It answers by the
+//! tables of C193, and orders reads and writes by multiversion timestamp ordering (Bernstein,
+//! Hadzilacos and Goodman, 5.3). What the contracts of the layers above speak of stands in `specs/`;
+//! the program's part is the types of events and outcomes, and the limits.
 //!
 //! The definitions, in an order to read; docs/MODEL.md retells them:
 //!
 //! - `State`, the state; `Source`, which version of a key a timestamp reads
 //! - `Early`, the refusals before a call's row. The rows: `Associations`, `Branches`, `Records`, `Recovering`
-//! - `Turn`, what is asked of the device, and what comes of its answers; `Completions` and `Logging`, of the calls that log
+//! - `Turn`, what is asked of the device, and what comes of its answers; `Completions` and `Logging`, of the calls that
+//!   log
 //! - `Fold` and `Durable`, what lasts; `Restarting`, restarts and openings; `Room`, the room that the log keeps
 //! - `Step`, the one step; `History`; and what is proved of histories, of which `OneCopy` and `ListedLaw` come first
+//! - `LowWater`, a timestamp below which no known branch stands
+//! - `Sound`, `Loggable`, `Backing` and `Restored`, what every state of a history has; `Total`, which outcomes fit
 //!
 //! The modules:
 //!
 //! - `event`: `Event`, what is asked; `outcome`: `Outcome` and `Appending`, what the device did; `limits`: how many
-//!   sessions, branches, timestamps and boots there may be
+//!   sessions, branches, timestamps, loose associations and boots there may be, from `MOST_SESSIONS` to `MOST_BOOTS`
 //! - `laws`: functions that do nothing, and whose contracts are theorems on the definitions. Of histories `one_history`,
-//!   `total`, `sound`, `recoverable`, `one_copy` and `listed_until_asked`; of what lasts `lasting`, `sound_lasting`,
-//!   `logged_lasts`, `backed`, `restored` and `roomy`. Those that begin with `worked_` are worked rows: replies that the
-//!   definitions compute
+//!   `total`, `sound`, `recoverable`, `low_water`, `one_copy` and `listed_until_asked`; of what lasts `lasting`,
+//!   `sound_lasting`, `logged_lasts`, `backed`, `restored` and `roomy`. Those that begin with `worked_` are worked rows:
+//!   replies that the definitions compute
 #![tactic(auto)]
 
 mod event;
