@@ -9,7 +9,7 @@ use Rattle.std.specs.Ordering.{nat_cmp}
 use Rattle.xa_xid.specs.Triple.{Triple, xid_cmp}
 use Rattle.xa_model.specs.State.{State, Session, Association, session_of, active_of, owns}
 use Rattle.xa_model.specs.Recovering.{scan_of}
-use Rattle.xa_model.specs.Restarting.{restarted, without_scan}
+use Rattle.xa_model.specs.Restarting.{without_scan}
 use Rattle.xa_assoc.specs.declared.seat.Seat.{Seat}
 use Rattle.xa_assoc.specs.declared.sessions.Sessions.{Sessions}
 use Rattle.xa_assoc.specs.Free.{is_free}
@@ -104,6 +104,3 @@ cleared_follows m m' s t d sessions nobody st = record {
   connected = d.connected ∙ st.connected ∙ sym (length-without_scan s.sessions) ∙ ap (λ (xs : List Session). length xs) (sym sessions);
   free = λ k below. ap (λ (words : List ℕ). is_free words k) d.free ∙ st.free k below ∙ ap (λ (o : Option Bool). not (is_some o)) (sym (d.opened (k + 1)));
 }
-
-pub restart_follows : (m m' : Sessions) (s : State) (boot : ℕ) → Clears m m' → SessionsStandFor m s → SessionsStandFor m' (restarted s boot)
-restart_follows m m' s boot d st = cleared_follows m m' s (restarted s boot) d refl refl st

@@ -14,8 +14,8 @@ use Rattle.xa_model.proofs.Rows.{nothing}
 use Rattle.xa_assoc.specs.declared.sessions.Sessions.{Sessions}
 use Rattle.xa_assoc.specs.Free.{is_free}
 use Rattle.xa_assoc.specs.Seats.{active_at, owns_at}
-use Rattle.xa_assoc.specs.Changes.{SitsDown, StandsUp, Leaves, IsSameRoom}
-use Rattle.xa_assoc.specs.Sessions.{SessionsStandFor, Follows, FollowsIf, resume_refusal_of, suspend_refusal_of}
+use Rattle.xa_assoc.specs.Changes.{SitsDown, StandsUp, Leaves, ComesToWork, ComesToRest, LosesOwn, IsSameRoom}
+use Rattle.xa_assoc.specs.Sessions.{SessionsStandFor, Follows, FollowsIf, CanResume, CanSuspend, resume_refusal_of, suspend_refusal_of}
 use Rattle.xa_assoc.proofs.Moves.{AreSeen, IsOnce, begun_sits, resumed_sits, suspended_resumes, loose_resumes, suspended_stands}
 use Rattle.xa_assoc.proofs.Leaving.{migrated_leaves, working_leaves, not_resumed_leaves, ended_leaves}
 
@@ -37,19 +37,19 @@ unmoved m s s' same held st =
     (λ n. st.active n ∙ ap (λ (xs : List Association). active_of xs n) (sym held))
     (λ n xid. st.own n xid ∙ ap (λ (xs : List Association). list_any (owns n xid) xs) (sym held))
 
-pub sits_follow : (m m' : Sessions) (n : ℕ) (xid : Triple) (s s' : State) → SessionsStandFor m s → IsSameRoom m m' → SitsDown (active_at m) (owns_at m) (active_at m') (owns_at m') n xid
+pub sits_follow : (m m' : Sessions) (n : ℕ) (xid : Triple) (s s' : State) → SessionsStandFor m s → IsSameRoom m m' → ComesToWork m n xid m'
     → s'.sessions ≡ s.sessions → AreSeen (λ a o a' o'. SitsDown a o a' o' n xid) s.associations s'.associations → SessionsStandFor m' s'
 sits_follow m m' n xid s s' st room d same e = room_follows m m' s s' st room same
     (λ k. d.active k ∙ ap (λ (o : Option Triple). cond (n == k) (Some xid) o) (st.active k) ∙ sym (e.active k))
     (λ k q. d.own k q ∙ ap (λ (b : Bool). b || (n == k && xid_eq xid q)) (st.own k q) ∙ sym (e.own k q))
 
-pub stands_follow : (m m' : Sessions) (n : ℕ) (s s' : State) → SessionsStandFor m s → IsSameRoom m m' → StandsUp (active_at m) (owns_at m) (active_at m') (owns_at m') n
+pub stands_follow : (m m' : Sessions) (n : ℕ) (s s' : State) → SessionsStandFor m s → IsSameRoom m m' → ComesToRest m n m'
     → s'.sessions ≡ s.sessions → AreSeen (λ a o a' o'. StandsUp a o a' o' n) s.associations s'.associations → SessionsStandFor m' s'
 stands_follow m m' n s s' st room d same e = room_follows m m' s s' st room same
     (λ k. d.active k ∙ ap (λ (o : Option Triple). cond (n == k) None o) (st.active k) ∙ sym (e.active k))
     (λ k q. d.own k q ∙ st.own k q ∙ sym (e.own k q))
 
-pub leaves_follow : (m m' : Sessions) (n : ℕ) (xid : Triple) (s s' : State) → SessionsStandFor m s → IsSameRoom m m' → Leaves (active_at m) (owns_at m) (active_at m') (owns_at m') n xid
+pub leaves_follow : (m m' : Sessions) (n : ℕ) (xid : Triple) (s s' : State) → SessionsStandFor m s → IsSameRoom m m' → LosesOwn m n xid m'
     → s'.sessions ≡ s.sessions → AreSeen (λ a o a' o'. Leaves a o a' o' n xid) s.associations s'.associations → SessionsStandFor m' s'
 leaves_follow m m' n xid s s' st room d same e = room_follows m m' s s' st room same
     (λ k. d.active k ∙ ap (λ (o : Option Triple). cond (n == k && is_with xid o) None o) (st.active k) ∙ sym (e.active k))
@@ -61,10 +61,10 @@ once s n xid h = record { active = h.active n; own = h.own n xid }
 
 -- Start
 
-pub begun_follows : (m m' : Sessions) (n : ℕ) (xid : Triple) → IsSameRoom m m' → SitsDown (active_at m) (owns_at m) (active_at m') (owns_at m') n xid → Follows m (λ s. (begun s n xid).after) m'
+pub begun_follows : (m m' : Sessions) (n : ℕ) (xid : Triple) → IsSameRoom m m' → ComesToWork m n xid m' → Follows m (λ s. (begun s n xid).after) m'
 begun_follows m m' n xid room d = λ s sound st. sits_follow m m' n xid s (begun s n xid).after st room d refl (begun_sits n xid s.associations)
 
-pub joined_follows : (m m' : Sessions) (n : ℕ) (xid : Triple) → IsSameRoom m m' → SitsDown (active_at m) (owns_at m) (active_at m') (owns_at m') n xid → Follows m (λ s. (joined s n xid).after) m'
+pub joined_follows : (m m' : Sessions) (n : ℕ) (xid : Triple) → IsSameRoom m m' → ComesToWork m n xid m' → Follows m (λ s. (joined s n xid).after) m'
 joined_follows m m' n xid room d = λ s sound st. sits_follow m m' n xid s (joined s n xid).after st room d refl (begun_sits n xid s.associations)
 
 -- a resume that isn't refused
@@ -97,8 +97,8 @@ resumed_by : (n : ℕ) (xid : Triple) (held : List Association) (c : Bool) → l
 resumed_by n xid held true e idle any = resumed_sits n xid (suspends n xid) held (suspended_resumes n xid) idle e
 resumed_by n xid held false e idle any = resumed_sits n xid (is_loose_with xid) held (loose_resumes n xid) idle any
 
-pub resumed_follows : (m m' : Sessions) (n : ℕ) (xid : Triple) → IsSameRoom m m' → SitsDown (active_at m) (owns_at m) (active_at m') (owns_at m') n xid
-    → FollowsIf m (λ s. resume_refusal_of s n xid ≡ None) (λ s. (resumed s n xid).after) m'
+pub resumed_follows : (m m' : Sessions) (n : ℕ) (xid : Triple) → IsSameRoom m m' → ComesToWork m n xid m'
+    → FollowsIf m (CanResume n xid) (λ s. (resumed s n xid).after) m'
 resumed_follows m m' n xid room d = λ s sound free st.
     let idle = mapped_nothing (λ (a : Association). a.xid) (find (λ a. is_active n a.holder) s.associations) (idle_where s n xid free) in
     sits_follow m m' n xid s (resumed s n xid).after st room d refl (resumed_by n xid s.associations (list_any (suspends n xid) s.associations) refl idle ((resume_passed s n xid free).1))
@@ -108,30 +108,30 @@ resumed_follows m m' n xid room d = λ s sound free st.
 pub working_where : (s : State) (n : ℕ) (xid : Triple) → suspend_refusal_of s n xid ≡ None → is_with xid (active_of s.associations n) ≡ true
 working_where s n xid e = two_passed (is_unknown (known_as s xid)) (is_with xid (active_of s.associations n)) (plain XAER_NOTA) (plain XAER_PROTO) e
 
-pub suspended_follows : (m m' : Sessions) (n : ℕ) (xid : Triple) → IsSameRoom m m' → StandsUp (active_at m) (owns_at m) (active_at m') (owns_at m') n
-    → FollowsIf m (λ s. suspend_refusal_of s n xid ≡ None) (λ s. suspended s n false xid) m'
+pub suspended_follows : (m m' : Sessions) (n : ℕ) (xid : Triple) → IsSameRoom m m' → ComesToRest m n m'
+    → FollowsIf m (CanSuspend n xid) (λ s. suspended s n false xid) m'
 suspended_follows m m' n xid room d = λ s sound free st.
     stands_follow m m' n s (suspended s n false xid) st room d refl (suspended_stands n xid s.associations (once s n xid sound) (working_where s n xid free))
 
-pub migrated_follows : (m m' : Sessions) (n : ℕ) (xid : Triple) → IsSameRoom m m' → Leaves (active_at m) (owns_at m) (active_at m') (owns_at m') n xid
-    → FollowsIf m (λ s. suspend_refusal_of s n xid ≡ None) (λ s. suspended s n true xid) m'
+pub migrated_follows : (m m' : Sessions) (n : ℕ) (xid : Triple) → IsSameRoom m m' → LosesOwn m n xid m'
+    → FollowsIf m (CanSuspend n xid) (λ s. suspended s n true xid) m'
 migrated_follows m m' n xid room d = λ s sound free st.
     leaves_follow m m' n xid s (suspended s n true xid) st room d refl (migrated_leaves n xid s.associations (once s n xid sound) (working_where s n xid free))
 
-pub not_suspended_follows : (m m' : Sessions) (n : ℕ) (xid : Triple) → IsSameRoom m m' → Leaves (active_at m) (owns_at m) (active_at m') (owns_at m') n xid
-    → FollowsIf m (λ s. suspend_refusal_of s n xid ≡ None) (λ s. not_suspended s n xid) m'
+pub not_suspended_follows : (m m' : Sessions) (n : ℕ) (xid : Triple) → IsSameRoom m m' → LosesOwn m n xid m'
+    → FollowsIf m (CanSuspend n xid) (λ s. not_suspended s n xid) m'
 not_suspended_follows m m' n xid room d = λ s sound free st.
     leaves_follow m m' n xid s (not_suspended s n xid) st room d refl (working_leaves n xid s.associations (once s n xid sound) (working_where s n xid free))
 
-pub not_resumed_follows : (m m' : Sessions) (n : ℕ) (xid : Triple) → IsSameRoom m m' → Leaves (active_at m) (owns_at m) (active_at m') (owns_at m') n xid
-    → FollowsIf m (λ s. resume_refusal_of s n xid ≡ None) (λ s. not_resumed s n xid) m'
+pub not_resumed_follows : (m m' : Sessions) (n : ℕ) (xid : Triple) → IsSameRoom m m' → LosesOwn m n xid m'
+    → FollowsIf m (CanResume n xid) (λ s. not_resumed s n xid) m'
 not_resumed_follows m m' n xid room d = λ s sound free st.
     leaves_follow m m' n xid s (not_resumed s n xid) st room d refl (not_resumed_leaves n xid s.associations (once s n xid sound) (ap (is_with xid) (idle_where s n xid free)))
 
-pub ended_follows : (m m' : Sessions) (n : ℕ) (xid : Triple) → IsSameRoom m m' → Leaves (active_at m) (owns_at m) (active_at m') (owns_at m') n xid → Follows m (λ s. ended s n xid) m'
+pub ended_follows : (m m' : Sessions) (n : ℕ) (xid : Triple) → IsSameRoom m m' → LosesOwn m n xid m' → Follows m (λ s. ended s n xid) m'
 ended_follows m m' n xid room d = λ s sound st. leaves_follow m m' n xid s (ended s n xid) st room d refl (ended_leaves n xid s.associations (once s n xid sound))
 
-pub failed_follows : (m m' : Sessions) (n : ℕ) (xid : Triple) → IsSameRoom m m' → Leaves (active_at m) (owns_at m) (active_at m') (owns_at m') n xid → Follows m (λ s. (failed s n xid).after) m'
+pub failed_follows : (m m' : Sessions) (n : ℕ) (xid : Triple) → IsSameRoom m m' → LosesOwn m n xid m' → Follows m (λ s. (failed s n xid).after) m'
 failed_follows m m' n xid room d = λ s sound st. leaves_follow m m' n xid s (failed s n xid).after st room d refl (ended_leaves n xid s.associations (once s n xid sound))
 
 -- for an act that may want memory

@@ -10,8 +10,9 @@ use Rattle.xa_model.specs.State.{is_with}
 use Rattle.xa_model.proofs.Xids.{cmp_is_eq}
 use Rattle.xa_assoc.specs.declared.seat.Seat.{Seat}
 use Rattle.xa_assoc.specs.declared.sessions.Sessions.{Sessions}
+use Rattle.xa_assoc.specs.Own.{SetsOne}
 use Rattle.xa_assoc.specs.Seats.{seat_at, opened_at, active_at, owns_at, scan_at, holds}
-use Rattle.xa_assoc.specs.Changes.{SitsDown, StandsUp, Leaves, IsSameRoom}
+use Rattle.xa_assoc.specs.Changes.{ComesToWork, ComesToRest, LosesOwn, IsSameRoom}
 
 pub number_is : (n k : ℕ) → is_eq (nat_cmp n k) ≡ (n == k)
 number_is n k = search (comparing, rules) depth 9
@@ -66,7 +67,7 @@ or_false true = refl
 or_false false = refl
 
 pub sat : (m m' : Sessions) (n : ℕ) (xid : Triple) (x x' : Seat) → Reseats m m' n x x' → x'.active ≡ Some xid
-    → ((q : Triple) → contains xid_cmp x'.own q ≡ cond (is_eq (xid_cmp xid q)) true (contains xid_cmp x.own q)) → SitsDown (active_at m) (owns_at m) (active_at m') (owns_at m') n xid
+    → SetsOne x.own xid true x'.own → ComesToWork m n xid m'
 sat m m' n xid x x' r active own = record {
   active = λ k. seen (λ o. option_and_then (λ y. y.active) o) m m' n x x' r k ∙ ap (λ (o : Option Triple). cond (n == k) o (active_at m k)) active;
   own = λ k q. seen (holds q) m m' n x x' r k
@@ -77,7 +78,7 @@ sat m m' n xid x x' r active own = record {
 
 -- a session stands up
 
-pub stood : (m m' : Sessions) (n : ℕ) (x x' : Seat) → Reseats m m' n x x' → x'.active ≡ None → x'.own ≡ x.own → StandsUp (active_at m) (owns_at m) (active_at m') (owns_at m') n
+pub stood : (m m' : Sessions) (n : ℕ) (x x' : Seat) → Reseats m m' n x x' → x'.active ≡ None → x'.own ≡ x.own → ComesToRest m n m'
 stood m m' n x x' r active own = record {
   active = λ k. seen (λ o. option_and_then (λ y. y.active) o) m m' n x x' r k ∙ ap (λ (o : Option Triple). cond (n == k) o (active_at m k)) active;
   own = λ k q. seen (holds q) m m' n x x' r k
@@ -97,7 +98,7 @@ and_true true = refl
 and_true false = refl
 
 pub left : (m m' : Sessions) (n : ℕ) (xid : Triple) (x x' : Seat) → Reseats m m' n x x' → x'.active ≡ cond (is_with xid x.active) None x.active
-    → ((q : Triple) → contains xid_cmp x'.own q ≡ cond (is_eq (xid_cmp xid q)) false (contains xid_cmp x.own q)) → Leaves (active_at m) (owns_at m) (active_at m') (owns_at m') n xid
+    → SetsOne x.own xid false x'.own → LosesOwn m n xid m'
 left m m' n xid x x' r active own = record {
   active = λ k. seen (λ o. option_and_then (λ y. y.active) o) m m' n x x' r k
       ∙ at_number (active_at m) (λ (c : Bool) (o : Option Triple). cond (c && is_with xid o) None o) n k x'.active (n == k) refl

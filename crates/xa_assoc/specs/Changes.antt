@@ -7,7 +7,8 @@ use Rattle.xa_assoc.specs.declared.sessions.Sessions.{Sessions}
 use Rattle.xa_assoc.specs.Free.{is_free}
 use Rattle.xa_assoc.specs.Seats.{connected_in, opened_at, active_at, owns_at, scan_at}
 
-module _ (works : ℕ → Option Triple) (owns : ℕ → Triple → Bool) (works' : ℕ → Option Triple) (owns' : ℕ → Triple → Bool) where
+module _ (works : ℕ → Option Triple) (owns : ℕ → Triple → Bool)
+    (works' : ℕ → Option Triple) (owns' : ℕ → Triple → Bool) where
   -- a session comes to work for a branch
   pub record SitsDown (n : ℕ) (xid : Triple) : Type 0 where
     pub active : (k : ℕ) → works' k ≡ cond (n == k) (Some xid) (works k)
@@ -23,6 +24,17 @@ module _ (works : ℕ → Option Triple) (owns : ℕ → Triple → Bool) (works
     pub active : (k : ℕ) → works' k ≡ cond (n == k && is_with xid (works k)) None (works k)
     pub own : (k : ℕ) (q : Triple) → owns' k q ≡ (owns k q && not (n == k && xid_eq xid q))
 
+-- the same of two tables
+
+abbrev pub ComesToWork : Sessions → ℕ → Triple → Sessions → Type 0
+ComesToWork m n xid m' = SitsDown (active_at m) (owns_at m) (active_at m') (owns_at m') n xid
+
+abbrev pub ComesToRest : Sessions → ℕ → Sessions → Type 0
+ComesToRest m n m' = StandsUp (active_at m) (owns_at m) (active_at m') (owns_at m') n
+
+abbrev pub LosesOwn : Sessions → ℕ → Triple → Sessions → Type 0
+LosesOwn m n xid m' = Leaves (active_at m) (owns_at m) (active_at m') (owns_at m') n xid
+
 -- the same sessions are connected and opened, and their scans stand where they stood
 pub record IsSameRoom (m m' : Sessions) : Type 0 where
   pub opened : (n : ℕ) → opened_at m' n ≡ opened_at m n
@@ -31,9 +43,13 @@ pub record IsSameRoom (m m' : Sessions) : Type 0 where
   pub free : m'.free ≡ m.free
 
 -- what becomes of a session, if it is connected: of whether it is opened, and of its scan
-pub record Sets (m : Sessions) (n : ℕ) (opens : Bool → Bool) (scans : Option (Option Triple) → Option (Option Triple)) (m' : Sessions) : Type 0 where
+pub record Sets
+    (m : Sessions) (n : ℕ)
+    (opens : Bool → Bool) (scans : Option (Option Triple) → Option (Option Triple)) (m' : Sessions)
+    : Type 0 where
   pub opened : (k : ℕ) → opened_at m' k ≡ cond (n == k) (option_map opens (opened_at m k)) (opened_at m k)
-  pub scan : (k : ℕ) → scan_at m' k ≡ cond (n == k) (option_and_then (λ _. scans (scan_at m k)) (opened_at m k)) (scan_at m k)
+  pub scan : (k : ℕ)
+      → scan_at m' k ≡ cond (n == k) (option_and_then (λ _. scans (scan_at m k)) (opened_at m k)) (scan_at m k)
   pub active : (k : ℕ) → active_at m' k ≡ active_at m k
   pub own : (k : ℕ) (q : Triple) → owns_at m' k q ≡ owns_at m k q
   pub connected : connected_in m' ≡ connected_in m

@@ -1,6 +1,6 @@
 ghost use Rattle.std.specs.Prelude.{◌≡◌, ◌+◌, ◌<◌, true, false, None, OnOk, OnErr, IsSome};
-ghost use Rattle.xa_assoc.specs.Seats.{seat_at, active_at, owns_at};
-ghost use Rattle.xa_assoc.specs.Changes.{Comes, Goes, Sets, Clears, SitsDown, StandsUp, Leaves, IsSameRoom};
+ghost use Rattle.xa_assoc.specs.Seats.{seat_at, owns_at};
+ghost use Rattle.xa_assoc.specs.Changes.{Comes, Goes, Sets, Clears, ComesToWork, ComesToRest, LosesOwn, IsSameRoom};
 ghost use Rattle.xa_assoc.specs.Company.{company_of};
 ghost use Rattle.xa_assoc.specs.Sessions.{Stays};
 
@@ -85,7 +85,7 @@ impl Sessions {
     pub(crate) fn sit_down(&mut self, session: u64, xid: Xid) -> Result<(), AllocError>
         requires { IsSome (seat_at self.old session) }
         ensures room { OnOk result (IsSameRoom self.old self.new) }
-        ensures seat { OnOk result (SitsDown (active_at self.old) (owns_at self.old) (active_at self.new) (owns_at self.new) session xid) }
+        ensures seat { OnOk result (ComesToWork self.old session xid self.new) }
         ensures err { OnErr result (Stays self.old self.new) }
         ensures absent { OnErr result (owns_at self.old session xid ≡ false) }
         ensures company { company_of self.new ≡ company_of self.old }
@@ -99,7 +99,7 @@ impl Sessions {
     pub(crate) fn stand_up(&mut self, session: u64)
         requires { IsSome (seat_at self.old session) }
         ensures room { IsSameRoom self.old self.new }
-        ensures seat { StandsUp (active_at self.old) (owns_at self.old) (active_at self.new) (owns_at self.new) session }
+        ensures seat { ComesToRest self.old session self.new }
     {
         if let Some(seat) = self.seats.get_mut(&session) {
             seat.stand_up();
@@ -109,7 +109,7 @@ impl Sessions {
     pub(crate) fn leave_seat(&mut self, session: u64, xid: &Xid)
         requires { IsSome (seat_at self.old session) }
         ensures room { IsSameRoom self.old self.new }
-        ensures seat { Leaves (active_at self.old) (owns_at self.old) (active_at self.new) (owns_at self.new) session xid.now }
+        ensures seat { LosesOwn self.old session xid.now self.new }
     {
         if let Some(seat) = self.seats.get_mut(&session) {
             seat.leave(xid);

@@ -2,14 +2,12 @@ ghost use Rattle.std.specs.Prelude.{◌≡◌, false, pos, IfOk, IfErr, OnOk, On
 ghost use Rattle.xa_frame.specs.declared.body.Body.TheVariants as body;
 ghost use Rattle.xa_codes.specs.declared.detail.Detail.TheVariants as detail;
 ghost use Rattle.xa_codes.specs.declared.codes.TheConstants.{XAER_RMERR};
-ghost use Rattle.xa_model.specs.State.{State};
-ghost use Rattle.xa_model.specs.Answer.{answer, plain, carrying, detailed};
+ghost use Rattle.xa_model.specs.Answer.{plain, carrying, detailed};
 ghost use Rattle.xa_model.specs.Associations.{connect_by, open_by, close_by, hang_up_by};
-ghost use Rattle.xa_model.specs.Sound.{IsSound};
 ghost use Rattle.xa_assoc.specs.Company.{company_of, Gains, Loses};
 ghost use Rattle.xa_assoc.specs.Refusals.{is_memory, IsBare};
 ghost use Rattle.xa_assoc.specs.Seats.{seat_at};
-ghost use Rattle.xa_assoc.specs.Sessions.{SessionsStandFor, Follows, Stays};
+ghost use Rattle.xa_assoc.specs.Sessions.{Follows, Refuses, Replies, Stays};
 
 use crate::fault::ConnectFault;
 use crate::free::first_free;
@@ -22,9 +20,9 @@ use xa_frame::Reply;
 impl Sessions {
     /// The number of a new session: the least that is free.
     pub fn connect(&mut self) -> Result<u64, ConnectFault>
-        ensures number { IfOk result (λ n. (s : State) → SessionsStandFor self.old s → (connect_by s).reply ≡ carrying (body.Number n)) }
+        ensures number { IfOk result (λ n. Replies self.old connect_by (carrying (body.Number n))) }
         ensures ok { OnOk result (Follows self.old (λ s. (connect_by s).after) self.new) }
-        ensures full { result ≡ Err ConnectFault.Full → (s : State) → SessionsStandFor self.old s → connect_by s ≡ answer (detailed XAER_RMERR detail.Limit) s }
+        ensures full { result ≡ Err ConnectFault.Full → Refuses self.old connect_by (detailed XAER_RMERR detail.Limit) }
         ensures err { OnErr result (Stays self.old self.new) }
         ensures came { IfOk result (λ n. Gains (company_of self.old) n (company_of self.new)) }
         ensures same { OnErr result (company_of self.new ≡ company_of self.old) }
@@ -65,10 +63,10 @@ impl Sessions {
     /// A session with an association of its own isn't closed. With a session that is closed its scan ends.
     #[tactic(auto, using(crate::proofs::Companies::set_company))]
     pub fn close(&mut self, session: u64) -> Result<(), Reply>
-        ensures refused { IfErr result (λ reply. (s : State) → SessionsStandFor self.old s → close_by s session ≡ answer reply s) }
+        ensures refused { IfErr result (Refuses self.old (λ s. close_by s session)) }
         ensures served { IfErr result (λ reply. is_memory reply.detail ≡ false) }
         ensures bare { IfErr result IsBare }
-        ensures closed { OnOk result ((s : State) → SessionsStandFor self.old s → (close_by s session).reply ≡ plain (pos 0)) }
+        ensures closed { OnOk result (Replies self.old (λ s. close_by s session) (plain (pos 0))) }
         ensures after { Follows self.old (λ s. (close_by s session).after) self.new }
         ensures company { company_of self.new ≡ company_of self.old }
     {

@@ -10,8 +10,6 @@ use xa_model::{MOST_BRANCHES, MOST_GIVEN, MOST_LOOSE, MOST_SESSIONS};
 /// Of a connect, where so many sessions are connected.
 pub fn connect_refusal(connected: usize) -> Option<Reply>
     ensures value { result ≡ connect_refusal connected }
-    ensures served { IfSome result (λ r. is_memory r.detail ≡ false) }
-    ensures bare { IfSome result IsBare }
 {
     if connected < MOST_SESSIONS {
         return None;
@@ -56,7 +54,8 @@ pub fn join_refusal(
     unknown: bool,
     settled: bool,
 ) -> Option<Reply>
-    ensures value { (known : Known) → is_unknown known ≡ unknown → is_settled known ≡ settled → result ≡ join_refusal is_at_work has_suspended known }
+    ensures value { (known : Known) → is_unknown known ≡ unknown → is_settled known ≡ settled
+        → result ≡ join_refusal is_at_work has_suspended known }
     ensures served { IfSome result (λ r. is_memory r.detail ≡ false) }
     ensures bare { IfSome result IsBare }
 {
@@ -79,7 +78,8 @@ pub fn resume_refusal(
     has_suspended: bool,
     has_loose: bool,
 ) -> Option<Reply>
-    ensures value { (known : Known) → is_unknown known ≡ unknown → result ≡ resume_refusal is_at_work known has_suspended has_loose }
+    ensures value { (known : Known) → is_unknown known ≡ unknown
+        → result ≡ resume_refusal is_at_work known has_suspended has_loose }
     ensures served { IfSome result (λ r. is_memory r.detail ≡ false) }
     ensures bare { IfSome result IsBare }
 {

@@ -1,11 +1,9 @@
 ghost use Rattle.std.specs.Prelude.{◌≡◌, IfSome, false};
-ghost use Rattle.std.specs.List.{list_any};
 ghost use Rattle.xa_xid.specs.Triple.{Triple};
-ghost use Rattle.xa_model.specs.State.{State, known_as, known_in, is_loose_with};
-ghost use Rattle.xa_model.specs.Associations.{is_taken, is_unknown, is_settled};
-ghost use Rattle.xa_model.specs.Sound.{IsSound};
+ghost use Rattle.xa_model.specs.State.{State, known_in};
 ghost use Rattle.xa_assoc.specs.Refusals.{is_memory, IsBare};
-ghost use Rattle.xa_assoc.specs.Sessions.{SessionsStandFor, begin_refusal_of, join_refusal_of, resume_refusal_of, suspend_refusal_of, leave_refusal_of};
+ghost use Rattle.xa_assoc.specs.Sessions.{SessionsStandFor, InEach, InSound, TellsTaken, TellsUnknown, TellsSettled, TellsLoose};
+ghost use Rattle.xa_assoc.specs.Sessions.{begin_refusal_of, join_refusal_of, resume_refusal_of, suspend_refusal_of, leave_refusal_of};
 
 use crate::refusals::{end_refusal, join_refusal, resume_refusal, start_refusal};
 use crate::sessions::Sessions;
@@ -22,7 +20,8 @@ impl Sessions {
         known: usize,
         given: u64,
     ) -> Option<Reply>
-        ensures value { (s : State) (xid : Triple) → SessionsStandFor self.now s → is_taken (known_as s xid) ≡ taken → known_in s ≡ known → s.given ≡ given → result ≡ begin_refusal_of s session xid }
+        ensures value { (s : State) (xid : Triple) → SessionsStandFor self.now s → TellsTaken s xid taken
+            → known_in s ≡ known → s.given ≡ given → result ≡ begin_refusal_of s session xid }
         ensures served { IfSome result (λ r. is_memory r.detail ≡ false) }
         ensures bare { IfSome result IsBare }
     {
@@ -37,7 +36,8 @@ impl Sessions {
         unknown: bool,
         settled: bool,
     ) -> Option<Reply>
-        ensures value { (s : State) → IsSound s → SessionsStandFor self.now s → is_unknown (known_as s xid.now) ≡ unknown → is_settled (known_as s xid.now) ≡ settled → result ≡ join_refusal_of s session xid.now }
+        ensures value { InSound self.now (λ s. TellsUnknown s xid.now unknown → TellsSettled s xid.now settled
+            → result ≡ join_refusal_of s session xid.now) }
         ensures served { IfSome result (λ r. is_memory r.detail ≡ false) }
         ensures bare { IfSome result IsBare }
     {
@@ -58,7 +58,8 @@ impl Sessions {
         unknown: bool,
         has_loose: bool,
     ) -> Option<Reply>
-        ensures value { (s : State) → IsSound s → SessionsStandFor self.now s → is_unknown (known_as s xid.now) ≡ unknown → list_any (is_loose_with xid.now) s.associations ≡ has_loose → result ≡ resume_refusal_of s session xid.now }
+        ensures value { InSound self.now (λ s. TellsUnknown s xid.now unknown → TellsLoose s xid.now has_loose
+            → result ≡ resume_refusal_of s session xid.now) }
         ensures served { IfSome result (λ r. is_memory r.detail ≡ false) }
         ensures bare { IfSome result IsBare }
     {
@@ -73,7 +74,8 @@ impl Sessions {
 
     /// Of an end with TMSUSPEND: the session has to be at work for the branch.
     pub fn suspend_refusal(&self, session: u64, xid: &Xid, unknown: bool) -> Option<Reply>
-        ensures value { (s : State) → SessionsStandFor self.now s → is_unknown (known_as s xid.now) ≡ unknown → result ≡ suspend_refusal_of s session xid.now }
+        ensures value { InEach self.now (λ s. TellsUnknown s xid.now unknown
+            → result ≡ suspend_refusal_of s session xid.now) }
         ensures served { IfSome result (λ r. is_memory r.detail ≡ false) }
         ensures bare { IfSome result IsBare }
     {
@@ -88,7 +90,8 @@ impl Sessions {
         unknown: bool,
         has_loose: bool,
     ) -> Option<Reply>
-        ensures value { (s : State) → SessionsStandFor self.now s → is_unknown (known_as s xid.now) ≡ unknown → list_any (is_loose_with xid.now) s.associations ≡ has_loose → result ≡ leave_refusal_of s session xid.now }
+        ensures value { InEach self.now (λ s. TellsUnknown s xid.now unknown → TellsLoose s xid.now has_loose
+            → result ≡ leave_refusal_of s session xid.now) }
         ensures served { IfSome result (λ r. is_memory r.detail ≡ false) }
         ensures bare { IfSome result IsBare }
     {

@@ -1,6 +1,6 @@
-ghost use Rattle.std.specs.Prelude.{◌≡◌, ℕ, [], map};
+ghost use Rattle.std.specs.Prelude.{◌≡◌, [], map};
 ghost use Rattle.xa_model.specs.State.{State};
-ghost use Rattle.xa_model.specs.Restarting.{restarted, without_scan};
+ghost use Rattle.xa_model.specs.Restarting.{without_scan};
 ghost use Rattle.xa_assoc.specs.Company.{company_of};
 ghost use Rattle.xa_assoc.specs.Sessions.{SessionsStandFor};
 
@@ -11,8 +11,8 @@ impl Sessions {
     /// All associations are gone, and all scans. Sessions stay connected, and opened as they were. Takes no memory.
     #[tactic(auto, using(crate::proofs::Companies::cleared_company))]
     pub fn restart(&mut self)
-        ensures restarted { (s : State) (boot : ℕ) → SessionsStandFor self.old s → SessionsStandFor self.new (restarted s boot) }
-        ensures any { (s t : State) → t.sessions ≡ map without_scan s.sessions → t.associations ≡ [] → SessionsStandFor self.old s → SessionsStandFor self.new t }
+        ensures any { (s t : State) → t.sessions ≡ map without_scan s.sessions → t.associations ≡ []
+            → SessionsStandFor self.old s → SessionsStandFor self.new t }
         ensures company { company_of self.new ≡ company_of self.old }
     {
         self.clear_seats();

@@ -1,8 +1,8 @@
 ghost use Rattle.std.specs.Prelude.{◌≡◌, None, Some, [], cond, true, false, OnOk, OnErr};
 ghost use Rattle.std.specs.BTreeSet.{contains};
-ghost use Rattle.std.specs.Ordering.{is_eq};
-ghost use Rattle.xa_xid.specs.Triple.{Triple, xid_cmp};
+ghost use Rattle.xa_xid.specs.Triple.{xid_cmp};
 ghost use Rattle.xa_model.specs.State.{is_with};
+ghost use Rattle.xa_assoc.specs.Own.{SetsOne};
 
 use std::alloc::AllocError;
 use std::collections::BTreeSet;
@@ -24,7 +24,7 @@ impl Seat {
     pub(crate) fn sit_down(&mut self, xid: Xid) -> Result<(), AllocError>
         ensures opened { self.new.opened ≡ self.old.opened }
         ensures active { OnOk result (self.new.active ≡ Some xid) }
-        ensures own { OnOk result ((q : Triple) → contains xid_cmp self.new.own q ≡ cond (is_eq (xid_cmp xid q)) true (contains xid_cmp self.old.own q)) }
+        ensures own { OnOk result (SetsOne self.old.own xid true self.new.own) }
         ensures scan { self.new.scan ≡ self.old.scan }
         ensures err { OnErr result (self.new ≡ self.old) }
         ensures absent { OnErr result (contains xid_cmp self.old.own xid ≡ false) }
@@ -49,7 +49,7 @@ impl Seat {
     pub(crate) fn leave(&mut self, xid: &Xid)
         ensures opened { self.new.opened ≡ self.old.opened }
         ensures active { self.new.active ≡ cond (is_with xid.now self.old.active) None self.old.active }
-        ensures own { (q : Triple) → contains xid_cmp self.new.own q ≡ cond (is_eq (xid_cmp xid.now q)) false (contains xid_cmp self.old.own q) }
+        ensures own { SetsOne self.old.own xid.now false self.new.own }
         ensures scan { self.new.scan ≡ self.old.scan }
     {
         self.own.remove(xid);

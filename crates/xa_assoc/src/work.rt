@@ -1,10 +1,9 @@
-ghost use Rattle.std.specs.Prelude.{◌≡◌, None, false, OnOk, OnErr, IsSome};
-ghost use Rattle.xa_model.specs.State.{State};
+ghost use Rattle.std.specs.Prelude.{◌≡◌, false, OnOk, OnErr, IsSome};
 ghost use Rattle.xa_model.specs.Associations.{begun, joined, resumed, not_resumed, suspended, not_suspended, ended, failed};
 ghost use Rattle.xa_assoc.specs.Seats.{opened_at, owns_at};
 ghost use Rattle.xa_assoc.specs.Changes.{IsSameRoom};
 ghost use Rattle.xa_assoc.specs.Company.{company_of};
-ghost use Rattle.xa_assoc.specs.Sessions.{Follows, FollowsIf, Stays, resume_refusal_of, suspend_refusal_of};
+ghost use Rattle.xa_assoc.specs.Sessions.{CanResume, CanSuspend, Follows, FollowsIf, Stays};
 
 use crate::sessions::Sessions;
 use std::alloc::AllocError;
@@ -37,7 +36,8 @@ impl Sessions {
     /// Start with TMRESUME: of the session's own suspended association, or of a loose one. Only that may want memory.
     pub fn resume(&mut self, session: u64, xid: Xid) -> Result<(), AllocError>
         requires { IsSome (opened_at self.old session) }
-        ensures ok { OnOk result (FollowsIf self.old (λ s. resume_refusal_of s session xid ≡ None) (λ s. (resumed s session xid).after) self.new) }
+        ensures ok { OnOk result (FollowsIf self.old (CanResume session xid)
+            (λ s. (resumed s session xid).after) self.new) }
         ensures err { OnErr result (Stays self.old self.new) }
         ensures absent { OnErr result (owns_at self.old session xid ≡ false) }
         ensures company { company_of self.new ≡ company_of self.old }
@@ -49,7 +49,8 @@ impl Sessions {
     #[tactic(auto, using(crate::proofs::Companies::room_company))]
     pub fn suspend(&mut self, session: u64, xid: &Xid, migrates: bool)
         requires { IsSome (opened_at self.old session) }
-        ensures after { FollowsIf self.old (λ s. suspend_refusal_of s session xid.now ≡ None) (λ s. suspended s session migrates xid.now) self.new }
+        ensures after { FollowsIf self.old (CanSuspend session xid.now)
+            (λ s. suspended s session migrates xid.now) self.new }
         ensures company { company_of self.new ≡ company_of self.old }
     {
         if migrates {
@@ -66,8 +67,10 @@ impl Sessions {
         requires { IsSome (opened_at self.old session) }
         ensures ended { Follows self.old (λ s. ended s session xid.now) self.new }
         ensures failed { Follows self.old (λ s. (failed s session xid.now).after) self.new }
-        ensures not_suspended { FollowsIf self.old (λ s. suspend_refusal_of s session xid.now ≡ None) (λ s. not_suspended s session xid.now) self.new }
-        ensures not_resumed { FollowsIf self.old (λ s. resume_refusal_of s session xid.now ≡ None) (λ s. not_resumed s session xid.now) self.new }
+        ensures not_suspended { FollowsIf self.old (CanSuspend session xid.now)
+            (λ s. not_suspended s session xid.now) self.new }
+        ensures not_resumed { FollowsIf self.old (CanResume session xid.now)
+            (λ s. not_resumed s session xid.now) self.new }
         ensures company { company_of self.new ≡ company_of self.old }
     {
         self.leave_seat(session, xid);

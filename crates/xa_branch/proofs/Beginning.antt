@@ -1,17 +1,18 @@
 -- No branch is known, and a branch begins.
-use Rattle.std.proofs.Common.{◌≡◌, ℕ, ◌<◌, ◌≤◌, Bool, true, false, ◌&&◌, ◌||◌, ◌⊎◌, inl, inr, Option, Some, None, List, [], ◌∷◌, length, refl, ap, sym, ◌∙◌, arith}
-use Rattle.std.specs.Prelude.{is_some, nat_lt}
+use Rattle.std.proofs.Common.{◌≡◌, ℕ, ◌<◌, ◌≤◌, Bool, true, false, ◌||◌, Option, Some, None, List, [], ◌∷◌, length, refl, ap, sym, ◌∙◌, arith}
+use Rattle.std.specs.Prelude.{is_some, nat_le}
 use Rattle.xa_xid.specs.Triple.{Triple}
 use Rattle.std.proofs.lemmas.Bool.Decides.{nat_tests}
 use Rattle.xa_model.specs.State.{State, Branch, Decided, Phase, Working, Prepared, Committed, count, name_of, is_with, is_known_as, known_of, known_in, known_as, known_count}
+use Rattle.xa_model.specs.Logging.{is_in_doubt}
 use Rattle.xa_model.specs.Associations.{is_taken}
 use Rattle.xa_model.proofs.Counts.{count_less, found_none}
 use Rattle.xa_branch.specs.declared.branches.Branches.{Branches}
-use Rattle.xa_branch.specs.declared.fault.BeginFault.TheVariants.{Limit}
+use Rattle.xa_branch.specs.declared.fault.BeginFault.TheVariants.{Full, Spent}
 use Rattle.xa_branch.specs.declared.lasting.Lasting.{Lasting}
 use Rattle.xa_branch.specs.declared.lasting.Lasting.TheVariants as lasts
 use Rattle.xa_branch.specs.declared.working.Working.{Working as Kept}
-use Rattle.xa_branch.specs.Branches.{BranchesStandFor, working_at, lasting_at, is_prepared, prepared_among, number_of}
+use Rattle.xa_branch.specs.Branches.{BranchesStandFor, working_at, lasting_at, prepared_among, number_of}
 use Rattle.xa_branch.specs.Calls.{begin_fault}
 use Rattle.xa_branch.proofs.Looks.{fact_at, known_is}
 use Rattle.xa_branch.proofs.Timed.{times_none}
@@ -29,14 +30,14 @@ unknown s xid none =
     let zero : count (is_known_as xid) s.branches ≡ 0 = omega arith in
     found_none (is_known_as xid) s.branches zero
 
-prepared_by : (p : Phase) → is_prepared p ≡ true → is_some (name_of p) ≡ true
+prepared_by : (p : Phase) → is_in_doubt p ≡ true → is_some (name_of p) ≡ true
 prepared_by (Working x mark) e = absurd (cc e)
 prepared_by (Prepared x) e = refl
 prepared_by Committed e = absurd (cc e)
 
 -- the prepared branches are known ones
 pub prepared_known : (bs : List Branch) → prepared_among bs ≤ known_count bs
-prepared_known bs = count_less (λ b. is_prepared b.phase) (λ b. is_some (name_of b.phase)) (λ b e. prepared_by b.phase e) bs
+prepared_known bs = count_less (λ b. is_in_doubt b.phase) (λ b. is_some (name_of b.phase)) (λ b e. prepared_by b.phase e) bs
 
 empty : (ds : List Decided) → length ds ≡ 0 → ds ≡ []
 empty [] e = refl
@@ -76,15 +77,17 @@ fault_is m s xid st =
     let taken : is_taken (known_as s xid) ≡ taken_in m xid = ap is_taken (known_is m s xid (working_at m xid) (lasting_at m xid) st refl refl) ∙ taken_at (working_at m xid) (lasting_at m xid) in
     rw (taken, ← st.known, ← st.given) refl
 
-no_room : (known given : ℕ) → (4096 ≤ known) ⊎ (4294967295 ≤ given) → (nat_lt known 4096 && nat_lt given 4294967295) ≡ false
-no_room known given (inl full) = grind (arith, nat_tests)
-no_room known given (inr full) = grind (arith, nat_tests)
+reached : (most n : ℕ) → most ≤ n → nat_le most n ≡ true
+reached most n most_n = grind (arith, nat_tests)
 
-pub limited : (taken : Bool) (known given : ℕ) → taken ≡ false → (4096 ≤ known) ⊎ (4294967295 ≤ given) → begin_fault taken known given ≡ Some Limit
-limited taken known given e full = rw (e, no_room known given full) refl
+below : (most n : ℕ) → n < most → nat_le most n ≡ false
+below most n n_most = grind (arith, nat_tests)
 
-room : (known given : ℕ) → known < 4096 → given < 4294967295 → (nat_lt known 4096 && nat_lt given 4294967295) ≡ true
-room known given k g = grind (arith, nat_tests)
+pub full : (taken : Bool) (known given : ℕ) → taken ≡ false → 4096 ≤ known → begin_fault taken known given ≡ Some Full
+full taken known given e k = rw (e, reached 4096 known k) refl
+
+pub spent : (taken : Bool) (known given : ℕ) → taken ≡ false → known < 4096 → 4294967295 ≤ given → begin_fault taken known given ≡ Some Spent
+spent taken known given e k g = rw (e, below 4096 known k, reached 4294967295 given g) refl
 
 pub let_in : (taken : Bool) (known given : ℕ) → taken ≡ false → known < 4096 → given < 4294967295 → begin_fault taken known given ≡ None
-let_in taken known given e k g = rw (e, room known given k g) refl
+let_in taken known given e k g = rw (e, below 4096 known k, below 4294967295 given g) refl

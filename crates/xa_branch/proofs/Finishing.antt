@@ -7,6 +7,7 @@ use Rattle.std.specs.List.{list_any}
 use Rattle.xa_xid.specs.Triple.{Triple, xid_eq}
 use Rattle.xa_xid.proofs.Same.{xid_same}
 use Rattle.xa_model.specs.State.{State, Branch, count, name_of, is_known_as, known_of, known_count, decided_of, timestamp_of, without, change}
+use Rattle.xa_model.specs.Logging.{is_in_doubt}
 use Rattle.xa_model.specs.Branches.{rolled_back, committed, as_committed}
 use Rattle.xa_model.specs.LowWater.{is_known_at}
 use Rattle.xa_model.specs.Sound.{IsSound}
@@ -20,7 +21,7 @@ use Rattle.xa_branch.specs.declared.branches.Branches.{Branches}
 use Rattle.xa_branch.specs.declared.lasting.Lasting.{Lasting}
 use Rattle.xa_branch.specs.declared.lasting.Lasting.TheVariants as lasts
 use Rattle.xa_branch.specs.declared.working.Working.{Working as Kept}
-use Rattle.xa_branch.specs.Branches.{BranchesStandFor, working_at, working_in, lasting_at, lasting_among, timed_at, is_prepared, prepared_among}
+use Rattle.xa_branch.specs.Branches.{BranchesStandFor, working_at, working_in, lasting_at, lasting_among, timed_at, prepared_among}
 use Rattle.xa_branch.specs.Changes.{Sets, SetsTime}
 use Rattle.xa_branch.proofs.Beginning.{named as is_named}
 use Rattle.xa_branch.proofs.Finding.{found_left, found_turned}
@@ -33,7 +34,7 @@ pub record Leaves (xid : Triple) (bs after : List Branch) (b : Branch) : Type 0 
   pub here : known_of after xid ≡ None
   pub others : (q : Triple) → xid_eq xid q ≡ false → known_of after q ≡ known_of bs q
   pub known : known_count after + 1 ≡ known_count bs
-  pub prepared : prepared_among after + cond (is_prepared b.phase) 1 0 ≡ prepared_among bs
+  pub prepared : prepared_among after + cond (is_in_doubt b.phase) 1 0 ≡ prepared_among bs
   pub times : (t : ℕ) → is_known_at t after ≡ cond (b.timestamp == t) false (is_known_at t bs)
 
 alone : (s : State) (xid : Triple) → IsSound s → count (is_known_as xid) s.branches ≤ 1
@@ -49,7 +50,7 @@ rolled_leaves s xid b h found = record {
   known =
       let any : list_any (is_known_as xid) s.branches ≡ true = found_any (is_known_as xid) b s.branches found in
       count_left (is_known_as xid) (λ x. is_some (name_of x.phase)) true (is_named xid) s.branches any;
-  prepared = found_left (is_known_as xid) (λ x. is_prepared x.phase) b s.branches found;
+  prepared = found_left (is_known_as xid) (λ x. is_in_doubt x.phase) b s.branches found;
   times = λ t. times_left xid b (timestamp_of s.boot s.given + 1) t s.branches h.descends found;
 }
 
@@ -65,7 +66,7 @@ committed_leaves s xid b h found = record {
       let any : list_any (is_known_as xid) s.branches ≡ true = found_any (is_known_as xid) b s.branches found in
       let fewer = count_left (is_known_as xid) (λ x. is_some (name_of x.phase)) true (is_named xid) s.branches any in
       let same = count_turned (is_known_as xid) (λ x. is_some (name_of x.phase)) as_committed false (λ x passes. refl) s.branches any in omega (arith, fewer, same);
-  prepared = let turned = found_turned (is_known_as xid) (λ x. is_prepared x.phase) as_committed b s.branches found in omega (arith, turned);
+  prepared = let turned = found_turned (is_known_as xid) (λ x. is_in_doubt x.phase) as_committed b s.branches found in omega (arith, turned);
   times = λ t. times_committed xid t s.branches ∙ times_left xid b (timestamp_of s.boot s.given + 1) t s.branches h.descends found;
 }
 
@@ -99,7 +100,7 @@ left_times m ts s xid bs b t st leaves timed same u = timed u ∙ rw (same, st.t
 -- A branch at work leaves
 
 working_left : (m : Branches) (after : BTreeMap Triple Kept) (ts : BTreeSet ℕ) (s : State) (xid : Triple) (bs : List Branch) (b : Branch) (w : Kept) → BranchesStandFor m s → Leaves xid s.branches bs b → working_at m xid ≡ Some w
-    → lasting_at m xid ≡ None → decided_of s.decided xid ≡ None → is_prepared b.phase ≡ false → Sets m.working xid None after → SetsTime m.times w.timestamp false ts → w.timestamp ≡ b.timestamp
+    → lasting_at m xid ≡ None → decided_of s.decided xid ≡ None → is_in_doubt b.phase ≡ false → Sets m.working xid None after → SetsTime m.times w.timestamp false ts → w.timestamp ≡ b.timestamp
     → BranchesStandFor (record m { working = after; times = ts }) (record s { branches = bs })
 working_left m after ts s xid bs b w st leaves there nor none plain sets timed same = record {
   boot = st.boot;
@@ -114,7 +115,7 @@ working_left m after ts s xid bs b w st leaves there nor none plain sets timed s
 
 -- A prepared branch leaves
 prepared_left : (m : Branches) (after : BTreeMap Triple Lasting) (ts : BTreeSet ℕ) (n t : ℕ) (s : State) (xid : Triple) (bs : List Branch) (b : Branch) (l : Lasting) → BranchesStandFor m s → Leaves xid s.branches bs b
-    → working_at m xid ≡ None → lasting_at m xid ≡ Some l → decided_of s.decided xid ≡ None → is_prepared b.phase ≡ true → n ≡ m.prepared - 1 → Sets m.lasting xid None after → SetsTime m.times t false ts → t ≡ b.timestamp
+    → working_at m xid ≡ None → lasting_at m xid ≡ Some l → decided_of s.decided xid ≡ None → is_in_doubt b.phase ≡ true → n ≡ m.prepared - 1 → Sets m.lasting xid None after → SetsTime m.times t false ts → t ≡ b.timestamp
     → BranchesStandFor (record m { lasting = after; times = ts; prepared = n }) (record s { branches = bs })
 prepared_left m after ts n t s xid bs b l st leaves nor there none prepared fewer sets timed same = record {
   boot = st.boot;

@@ -8,6 +8,7 @@ use Rattle.xa_codes.specs.declared.codes.TheConstants.{XA_RBCOMMFAIL}
 use Rattle.xa_xid.specs.Triple.{Triple, xid_eq, xid_cmp}
 use Rattle.xa_xid.proofs.Same.{xid_same}
 use Rattle.xa_model.specs.State.{State, Branch, Phase, Working, Prepared, Committed, Association, Holder, Active, Suspended, Loose, count, name_of, is_with, is_active, is_own, is_suspended, is_known_as, known_of, known_count, decided_of, owns, works_in, suspends, active_of}
+use Rattle.xa_model.specs.Logging.{is_in_doubt}
 use Rattle.xa_model.specs.Associations.{is_anyones, is_worked_by, marked_phase, with_mark, left_behind as left_by_session, hang_up_by}
 use Rattle.xa_model.specs.Sound.{IsSound}
 use Rattle.xa_model.proofs.Counts.{count_less, count_nowhere, count_map}
@@ -18,7 +19,7 @@ use Rattle.xa_branch.specs.declared.branches.Branches.{Branches}
 use Rattle.xa_branch.specs.declared.kind.Kind.TheVariants as kind
 use Rattle.xa_branch.specs.declared.working.Working.{Working as Kept}
 use Rattle.xa_branch.specs.Kinds.{kind_of, same_kind, is_as, held_as, own_kind}
-use Rattle.xa_branch.specs.Branches.{BranchesStandFor, kept_of, working_by, working_in, lasting_in, is_prepared}
+use Rattle.xa_branch.specs.Branches.{BranchesStandFor, kept_of, working_by, working_in, lasting_in}
 use Rattle.xa_branch.specs.Changes.{LeavesAll, marked, less_one, left_behind}
 use Rattle.xa_model.proofs.Leaving.{any_counts, none_counted}
 use Rattle.xa_branch.proofs.Begun.{kept_same}
@@ -201,7 +202,7 @@ lasts_by : (b : Branch) (c : Bool) → lasting_in (cond c (with_mark XA_RBCOMMFA
 lasts_by b true = (marked_keeps XA_RBCOMMFAIL).lasts b
 lasts_by b false = refl
 
-plain_by : (b : Branch) (c : Bool) → is_prepared (cond c (with_mark XA_RBCOMMFAIL b) b).phase ≡ is_prepared b.phase
+plain_by : (b : Branch) (c : Bool) → is_in_doubt (cond c (with_mark XA_RBCOMMFAIL b) b).phase ≡ is_in_doubt b.phase
 plain_by b true = (marked_keeps XA_RBCOMMFAIL).plain b
 plain_by b false = refl
 

@@ -4,15 +4,16 @@ use Rattle.std.specs.Prelude.{map}
 use Rattle.xa_codes.specs.declared.direction.Direction.{Direction}
 use Rattle.xa_xid.specs.Triple.{Triple}
 use Rattle.xa_model.specs.State.{Branch, name_of, is_with, is_known_as, known_of, change}
+use Rattle.xa_model.specs.Logging.{is_in_doubt}
 use Rattle.xa_model.specs.LowWater.{is_known_at}
 use Rattle.xa_model.proofs.Counts.{count_same, count_map}
-use Rattle.xa_branch.specs.Branches.{lasting_in, lasting_among, is_prepared, prepared_among}
+use Rattle.xa_branch.specs.Branches.{lasting_in, lasting_among, prepared_among}
 use Rattle.xa_branch.proofs.Timed.{times_change, times_map}
 
 pub record KeepsLasting (f : Branch → Branch) : Type 0 where
   pub name : (b : Branch) → name_of (f b).phase ≡ name_of b.phase
   pub lasts : (b : Branch) → lasting_in (f b) ≡ lasting_in b
-  pub plain : (b : Branch) → is_prepared (f b).phase ≡ is_prepared b.phase
+  pub plain : (b : Branch) → is_in_doubt (f b).phase ≡ is_in_doubt b.phase
   pub time : (b : Branch) → (f b).timestamp ≡ b.timestamp
 
 called_same : (f : Branch → Branch) → KeepsLasting f → (q : Triple) (b : Branch) → is_known_as q (f b) ≡ is_known_as q b
@@ -47,10 +48,10 @@ lasting_map f k q d (b ∷ bs) = first_same f k q d b (known_of (map f bs) q) �
 -- as many are prepared
 
 pub prepared_change : (p : Branch → Bool) (f : Branch → Branch) → KeepsLasting f → (bs : List Branch) → prepared_among (change p f bs) ≡ prepared_among bs
-prepared_change p f k bs = count_same p f (λ b. is_prepared b.phase) k.plain bs
+prepared_change p f k bs = count_same p f (λ b. is_in_doubt b.phase) k.plain bs
 
 pub prepared_map : (f : Branch → Branch) → KeepsLasting f → (bs : List Branch) → prepared_among (map f bs) ≡ prepared_among bs
-prepared_map f k bs = count_map f (λ b. is_prepared b.phase) k.plain bs
+prepared_map f k bs = count_map f (λ b. is_in_doubt b.phase) k.plain bs
 
 -- they are known at the same timestamps
 

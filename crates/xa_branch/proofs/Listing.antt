@@ -26,7 +26,7 @@ use Rattle.xa_model.proofs.Members.{Member, IsStrict, same_members}
 use Rattle.xa_model.proofs.Xids.{cmp_is_eq}
 use Rattle.xa_branch.specs.declared.branches.Branches.{Branches}
 use Rattle.xa_branch.specs.declared.lasting.Lasting.{Lasting}
-use Rattle.xa_branch.specs.Branches.{BranchesStandFor, lasting_of}
+use Rattle.xa_branch.specs.Branches.{BranchesStandFor, lasting_known}
 use Rattle.xa_branch.specs.Restored.{restored_by}
 use Rattle.xa_branch.proofs.Returning.{found_lasting}
 
@@ -176,7 +176,7 @@ either_restored (Some p) d = refl
 either_restored None (Some d) = refl
 either_restored None None = refl
 
-has_names : (s : State) (q : Triple) → IsSound s → has q (lasting_names (durable s)) ≡ is_some (lasting_of s q)
+has_names : (s : State) (q : Triple) → IsSound s → has q (lasting_names (durable s)) ≡ is_some (lasting_known s q)
 has_names s q h =
     let ps = (durable s).prepared in
     let ds = (durable s).decided in

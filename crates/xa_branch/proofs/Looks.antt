@@ -10,7 +10,7 @@ use Rattle.xa_branch.specs.declared.branches.Branches.{Branches}
 use Rattle.xa_branch.specs.declared.lasting.Lasting.{Lasting}
 use Rattle.xa_branch.specs.declared.lasting.Lasting.TheVariants as lasts
 use Rattle.xa_branch.specs.declared.working.Working.{Working as Kept}
-use Rattle.xa_branch.specs.Branches.{BranchesStandFor, kept_of, working_at, working_by, working_in, working_of, lasting_at, lasting_by, lasting_among, lasting_of}
+use Rattle.xa_branch.specs.Branches.{BranchesStandFor, kept_of, working_at, working_by, working_in, working_known, lasting_at, lasting_by, lasting_among, lasting_known}
 
 -- a known branch at work
 pub record IsWorking (s : State) (xid : Triple) (w : Kept) : Type 0 where
@@ -49,12 +49,12 @@ seen_by : (s : State) (xid : Triple) (o : Option Branch) → known_of s.branches
 seen_by s xid None e = seen_none s xid (decided_of s.decided xid) e refl
 seen_by s xid (Some b) e = seen_phase s xid b b.phase refl e (found_passes (is_known_as xid) b s.branches e)
 
-pub seen : (s : State) (xid : Triple) → Seen s xid (working_of s xid) (lasting_of s xid)
+pub seen : (s : State) (xid : Triple) → Seen s xid (working_known s xid) (lasting_known s xid)
 seen s xid = seen_by s xid (known_of s.branches xid) refl
 
 pub seen_at : (m : Branches) (s : State) (xid : Triple) (o : Option Kept) (l : Option Lasting) → BranchesStandFor m s → working_at m xid ≡ o → lasting_at m xid ≡ l → Seen s xid o l
 seen_at m s xid o l st e h =
-    subst (λ (j : Option Lasting). Seen s xid o j) (sym (st.lasting xid) ∙ h) (subst (λ (k : Option Kept). Seen s xid k (lasting_of s xid)) (sym (st.working xid) ∙ e) (seen s xid))
+    subst (λ (j : Option Lasting). Seen s xid o j) (sym (st.lasting xid) ∙ h) (subst (λ (k : Option Kept). Seen s xid k (lasting_known s xid)) (sym (st.working xid) ∙ e) (seen s xid))
 
 -- a branch that is kept as at work is
 

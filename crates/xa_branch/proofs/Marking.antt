@@ -5,6 +5,7 @@ use Rattle.std.specs.BTreeMap.{BTreeMap, btree_map_len}
 use Rattle.xa_xid.specs.Triple.{Triple, xid_eq}
 use Rattle.xa_xid.proofs.Same.{xid_same}
 use Rattle.xa_model.specs.State.{State, Branch, Phase, Working, Prepared, Committed, Association, name_of, is_with, is_known_as, known_of, known_count, decided_of, change}
+use Rattle.xa_model.specs.Logging.{is_in_doubt}
 use Rattle.xa_model.specs.Associations.{marked_phase, with_mark}
 use Rattle.xa_model.proofs.Xids.{cmp_is_eq}
 use Rattle.xa_model.proofs.Counts.{count_same}
@@ -12,7 +13,7 @@ use Rattle.xa_model.proofs.Lists.{find_change_same, find_change_other}
 use Rattle.xa_model.proofs.Names.{called_apart}
 use Rattle.xa_branch.specs.declared.branches.Branches.{Branches}
 use Rattle.xa_branch.specs.declared.working.Working.{Working as Kept}
-use Rattle.xa_branch.specs.Branches.{BranchesStandFor, working_at, working_by, working_in, lasting_by, is_prepared}
+use Rattle.xa_branch.specs.Branches.{BranchesStandFor, working_at, working_by, working_in, lasting_by}
 use Rattle.xa_branch.specs.Calls.{marked_with}
 use Rattle.xa_branch.specs.Changes.{Sets, marked}
 use Rattle.xa_branch.proofs.Lastings.{KeepsLasting, lasting_change, prepared_change, timed_change}
@@ -32,7 +33,7 @@ marked_name code Committed = refl
 marked_known : (code : ℤ) (xid : Triple) (b : Branch) → is_known_as xid (with_mark code b) ≡ is_known_as xid b
 marked_known code xid b = ap (λ (o : Option Triple). is_with xid o) (marked_name code b.phase)
 
-marked_plain : (code : ℤ) (p : Phase) → is_prepared (marked_phase code p) ≡ is_prepared p
+marked_plain : (code : ℤ) (p : Phase) → is_in_doubt (marked_phase code p) ≡ is_in_doubt p
 marked_plain code (Working x mark) = refl
 marked_plain code (Prepared x) = refl
 marked_plain code Committed = refl

@@ -5,6 +5,7 @@ use Rattle.std.specs.BTreeMap.{BTreeMap}
 use Rattle.xa_xid.specs.Triple.{Triple, xid_eq}
 use Rattle.xa_xid.proofs.Same.{xid_same}
 use Rattle.xa_model.specs.State.{State, Branch, Phase, Prepared, name_of, is_known_as, known_of, known_count, decided_of, change}
+use Rattle.xa_model.specs.Logging.{is_in_doubt}
 use Rattle.xa_model.specs.Branches.{prepared_phase, as_prepared, prepared}
 use Rattle.xa_model.specs.LowWater.{is_known_at}
 use Rattle.xa_model.specs.Sound.{IsSound}
@@ -18,7 +19,7 @@ use Rattle.xa_branch.specs.declared.branches.Branches.{Branches}
 use Rattle.xa_branch.specs.declared.lasting.Lasting.{Lasting}
 use Rattle.xa_branch.specs.declared.lasting.Lasting.TheVariants as lasts
 use Rattle.xa_branch.specs.declared.working.Working.{Working as Kept}
-use Rattle.xa_branch.specs.Branches.{BranchesStandFor, working_at, working_in, working_of, lasting_at, lasting_among, lasting_of, is_prepared, prepared_among}
+use Rattle.xa_branch.specs.Branches.{BranchesStandFor, working_at, working_in, working_known, lasting_at, lasting_among, lasting_known, prepared_among}
 use Rattle.xa_branch.specs.Changes.{Sets}
 use Rattle.xa_branch.specs.Room.{HasRoom, kept_twice}
 use Rattle.xa_branch.proofs.Beginning.{prepared_known as prepared_are_known}
@@ -54,14 +55,14 @@ unlasting : (s : State) (xid : Triple) (w : Kept) (l : Option Lasting) → Seen 
 unlasting s xid w None (There v is) = refl
 unlasting s xid w (Some l) x = elim x [ ]
 
-there_none : (s : State) (xid : Triple) → working_of s xid ≡ None → after_of s xid ≡ s.branches
-there_none s xid e = unprepared s xid (lasting_of s xid) (subst (λ (o : Option Kept). Seen s xid o (lasting_of s xid)) e (seen s xid))
+there_none : (s : State) (xid : Triple) → working_known s xid ≡ None → after_of s xid ≡ s.branches
+there_none s xid e = unprepared s xid (lasting_known s xid) (subst (λ (o : Option Kept). Seen s xid o (lasting_known s xid)) e (seen s xid))
 
-works_of : (s : State) (xid : Triple) (w : Kept) → working_of s xid ≡ Some w → IsWorking s xid w
-works_of s xid w e = works s xid w (lasting_of s xid) (subst (λ (o : Option Kept). Seen s xid o (lasting_of s xid)) e (seen s xid))
+works_of : (s : State) (xid : Triple) (w : Kept) → working_known s xid ≡ Some w → IsWorking s xid w
+works_of s xid w e = works s xid w (lasting_known s xid) (subst (λ (o : Option Kept). Seen s xid o (lasting_known s xid)) e (seen s xid))
 
-nor_lasting : (s : State) (xid : Triple) (w : Kept) → working_of s xid ≡ Some w → lasting_of s xid ≡ None
-nor_lasting s xid w e = unlasting s xid w (lasting_of s xid) (subst (λ (o : Option Kept). Seen s xid o (lasting_of s xid)) e (seen s xid))
+nor_lasting : (s : State) (xid : Triple) (w : Kept) → working_known s xid ≡ Some w → lasting_known s xid ≡ None
+nor_lasting s xid w e = unlasting s xid w (lasting_known s xid) (subst (λ (o : Option Kept). Seen s xid o (lasting_known s xid)) e (seen s xid))
 
 -- at the branch's XID, and elsewhere
 
@@ -72,7 +73,7 @@ prepared_look m s xid q w true e st is =
     rw (found, is.phase) refl
 prepared_look m s xid q w false e st is = st.working q ∙ sym (ap (option_and_then (working_in s.associations q)) (there s xid q e))
 
-prepared_lasting : (s : State) (xid q : Triple) (w : Kept) (o : Option Lasting) (c : Bool) → xid_eq xid q ≡ c → o ≡ lasting_of s q → (is : IsWorking s xid w)
+prepared_lasting : (s : State) (xid q : Triple) (w : Kept) (o : Option Lasting) (c : Bool) → xid_eq xid q ≡ c → o ≡ lasting_known s q → (is : IsWorking s xid w)
     → cond c (Some (lasts.Prepared w.timestamp)) o ≡ lasting_among (known_of (after_of s xid) q) (decided_of s.decided q)
 prepared_lasting s xid q w o true e same is =
     let found : known_of (after_of s xid) q ≡ Some (as_prepared is.branch) = subst (λ (x : Triple). known_of (after_of s xid) x ≡ Some (as_prepared is.branch)) (xid_same xid q e) (here s xid w is) in
@@ -81,14 +82,14 @@ prepared_lasting s xid q w o true e same is =
 prepared_lasting s xid q w o false e same is = same ∙ sym (ap (λ (o : Option Branch). lasting_among o (decided_of s.decided q)) (there s xid q e))
 
 -- what is taken away again
-unprepared_lasting : (s : State) (xid q : Triple) (c : Bool) → xid_eq xid q ≡ c → lasting_of s xid ≡ None → cond c None (lasting_of (prepared s xid) q) ≡ lasting_of s q
-unprepared_lasting s xid q true e none = sym (subst (λ (x : Triple). lasting_of s x ≡ None) (xid_same xid q e) none)
+unprepared_lasting : (s : State) (xid q : Triple) (c : Bool) → xid_eq xid q ≡ c → lasting_known s xid ≡ None → cond c None (lasting_known (prepared s xid) q) ≡ lasting_known s q
+unprepared_lasting s xid q true e none = sym (subst (λ (x : Triple). lasting_known s x ≡ None) (xid_same xid q e) none)
 unprepared_lasting s xid q false e none = ap (λ (o : Option Branch). lasting_among o (decided_of s.decided q)) (there s xid q e)
 
 -- one more is prepared
 one_more : (s : State) (xid : Triple) (w : Kept) → (is : IsWorking s xid w) → prepared_among (after_of s xid) ≡ prepared_among s.branches + 1
 one_more s xid w is =
-    let turned = found_turned (is_known_as xid) (λ b. is_prepared b.phase) as_prepared is.branch s.branches is.found in
+    let turned = found_turned (is_known_as xid) (λ b. is_in_doubt b.phase) as_prepared is.branch s.branches is.found in
     let counted = rw is.phase at turned in omega (arith, counted)
 
 as_many : (s : State) (xid : Triple) → known_count (after_of s xid) ≡ known_count s.branches
@@ -105,15 +106,15 @@ twice s xid w is = rw (is.found, is.phase) refl
 kept_once : (s : State) (xid : Triple) (l : Option Lasting) → Seen s xid None l → kept_twice s xid ≡ 0
 kept_once s xid l x = rw (idle s xid l x) refl
 
-once_of : (s : State) (xid : Triple) → working_of s xid ≡ None → kept_twice s xid ≡ 0
-once_of s xid e = kept_once s xid (lasting_of s xid) (subst (λ (o : Option Kept). Seen s xid o (lasting_of s xid)) e (seen s xid))
+once_of : (s : State) (xid : Triple) → working_known s xid ≡ None → kept_twice s xid ≡ 0
+once_of s xid e = kept_once s xid (lasting_known s xid) (subst (λ (o : Option Kept). Seen s xid o (lasting_known s xid)) e (seen s xid))
 
 -- room is made
 
 pub room_made : (m : Branches) (lasting : BTreeMap Triple Lasting) (s : State) (xid : Triple) (w : Kept) → BranchesStandFor m s → working_at m xid ≡ Some w
     → Sets m.lasting xid (Some (lasts.Prepared w.timestamp)) lasting → HasRoom xid (record m { lasting = lasting }) s
 room_made m lasting s xid w st e adds =
-    let works : working_of s xid ≡ Some w = sym (st.working xid) ∙ e in
+    let works : working_known s xid ≡ Some w = sym (st.working xid) ∙ e in
     let is : IsWorking s xid w = works_of s xid w works in
     record {
       boot = st.boot;
@@ -131,7 +132,7 @@ room_made m lasting s xid w st e adds =
 
 pub no_room_made : (m : Branches) (s : State) (xid : Triple) → BranchesStandFor m s → working_at m xid ≡ None → HasRoom xid m s
 no_room_made m s xid st e =
-    let none : working_of s xid ≡ None = sym (st.working xid) ∙ e in
+    let none : working_known s xid ≡ None = sym (st.working xid) ∙ e in
     record {
       boot = st.boot;
       given = st.given;
@@ -162,7 +163,7 @@ prepared_stands m working n s xid w h st e takes more =
 
 pub unprepared_stands : (m : Branches) (s : State) (xid : Triple) → HasRoom xid m s → working_at m xid ≡ None → BranchesStandFor m (prepared s xid)
 unprepared_stands m s xid st e =
-    let none : working_of s xid ≡ None = sym (st.working xid) ∙ e in
+    let none : working_known s xid ≡ None = sym (st.working xid) ∙ e in
     let same : after_of s xid ≡ s.branches = there_none s xid none in
     record {
       boot = st.boot;
@@ -180,7 +181,7 @@ unprepared_stands m s xid st e =
 pub given_back : (m : Branches) (lasting : BTreeMap Triple Lasting) (s : State) (xid : Triple) (w : Kept) → HasRoom xid m s → working_at m xid ≡ Some w → Sets m.lasting xid None lasting
     → BranchesStandFor (record m { lasting = lasting }) s
 given_back m lasting s xid w st e takes =
-    let works : working_of s xid ≡ Some w = sym (st.working xid) ∙ e in
+    let works : working_known s xid ≡ Some w = sym (st.working xid) ∙ e in
     let is : IsWorking s xid w = works_of s xid w works in
     record {
       boot = st.boot;
@@ -198,7 +199,7 @@ given_back m lasting s xid w st e takes =
 
 pub nothing_back : (m : Branches) (s : State) (xid : Triple) → HasRoom xid m s → working_at m xid ≡ None → BranchesStandFor m s
 nothing_back m s xid st e =
-    let none : working_of s xid ≡ None = sym (st.working xid) ∙ e in
+    let none : working_known s xid ≡ None = sym (st.working xid) ∙ e in
     record {
       boot = st.boot;
       given = st.given;

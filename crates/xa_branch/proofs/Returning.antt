@@ -10,6 +10,7 @@ use Rattle.std.proofs.lemmas.List.Folds.{find-append}
 use Rattle.xa_xid.specs.Triple.{Triple, xid_eq}
 use Rattle.xa_xid.proofs.Same.{xid_same, xid_eq_itself, xid_eq_same}
 use Rattle.xa_model.specs.State.{State, Branch, Phase, Working, Prepared, Committed, Decided, count, name_of, is_known_as, known_of, known_count, decided_of}
+use Rattle.xa_model.specs.Logging.{is_in_doubt}
 use Rattle.xa_model.specs.Sound.{IsSound, is_working}
 use Rattle.xa_model.specs.Durable.{Durable, PreparedBranch, durable, is_prepared, is_decided, insert, named_before, by_name, writes_of}
 use Rattle.xa_model.proofs.Ascending.{parts, add, parts-cons, parts_none, found_in, absent}
@@ -22,7 +23,7 @@ use Rattle.xa_model.proofs.Xids.{cmp_is_eq}
 use Rattle.xa_branch.specs.declared.branches.Branches.{Branches}
 use Rattle.xa_branch.specs.declared.lasting.Lasting.{Lasting}
 use Rattle.xa_branch.specs.declared.lasting.Lasting.TheVariants as lasts
-use Rattle.xa_branch.specs.Branches.{working_in, lasting_at, lasting_in, lasting_by, lasting_among, lasting_of, prepared_among, is_prepared as is_held}
+use Rattle.xa_branch.specs.Branches.{working_in, lasting_at, lasting_in, lasting_by, lasting_among, lasting_known, prepared_among}
 use Rattle.xa_branch.specs.Changes.{Sets, SetsTime}
 use Rattle.xa_branch.specs.Restored.{HasRestored, RestoredStand, restored_by, restored_at}
 use Rattle.xa_branch.proofs.Retimed.{is_held_at, held_last, held_times}
@@ -136,7 +137,7 @@ named_length (d ∷ ds) = omega (arith, inserted_length named_before d (by_name 
 
 -- as many branches are prepared as are held, and no others are known
 
-held_length : (b : Branch) (phase : Phase) (xs : List PreparedBranch) (k : ℕ) → b.phase ≡ phase → length xs ≡ k → length (add (held_of b) xs) ≡ cond (is_held b.phase) 1 0 + k
+held_length : (b : Branch) (phase : Phase) (xs : List PreparedBranch) (k : ℕ) → b.phase ≡ phase → length xs ≡ k → length (add (held_of b) xs) ≡ cond (is_in_doubt b.phase) 1 0 + k
 held_length b (Working x mark) xs k e same = rw e (omega (arith, same))
 held_length b (Prepared x) xs k e same = rw e (omega (arith, same, one_longer xs (held_as x b)))
 held_length b Committed xs k e same = rw e (omega (arith, same))
@@ -145,7 +146,7 @@ pub parts_length : (bs : List Branch) → length (parts held_of bs) ≡ prepared
 parts_length [] = refl
 parts_length (b ∷ bs) = ap length (parts-cons held_of b bs) ∙ held_length b b.phase (parts held_of bs) (prepared_among bs) refl (parts_length bs)
 
-idle_one : (b : Branch) (phase : Phase) → b.phase ≡ phase → is_working phase ≡ false → is_some (name_of b.phase) ≡ is_held b.phase
+idle_one : (b : Branch) (phase : Phase) → b.phase ≡ phase → is_working phase ≡ false → is_some (name_of b.phase) ≡ is_in_doubt b.phase
 idle_one b (Working x mark) e idle = absurd (cc idle)
 idle_one b (Prepared x) e idle = rw e refl
 idle_one b Committed e idle = rw e refl
@@ -204,7 +205,7 @@ lasts_by s xid None h e =
 lasts_by s xid (Some b) h e = known_lasts s xid b (is_working b.phase) refl h e
 
 -- what lasts of an XID is found in what the state would leave
-pub found_lasting : (s : State) (xid : Triple) → IsSound s → restored_at (durable s).prepared (durable s).decided xid ≡ lasting_of s xid
+pub found_lasting : (s : State) (xid : Triple) → IsSound s → restored_at (durable s).prepared (durable s).decided xid ≡ lasting_known s xid
 found_lasting s xid h = lasts_by s xid (known_of s.branches xid) h refl
 
 -- and nothing is at work

@@ -1,11 +1,12 @@
 -- Which states of the sequential resource manager the known branches stand for.
-use Rattle.std.specs.Prelude.{ℕ, ◌≡◌, ◌+◌, ℤ, Bool, true, false, Option, Some, None, List, length, option_map, option_and_then}
+use Rattle.std.specs.Prelude.{ℕ, ◌≡◌, ◌+◌, ℤ, Bool, Option, Some, None, List, length, option_map, option_and_then}
 use Rattle.std.specs.BTreeMap.{get, btree_map_len}
 use Rattle.std.specs.BTreeSet.{contains}
 use Rattle.std.specs.Ordering.{nat_cmp}
 use Rattle.xa_codes.specs.declared.direction.Direction.{Direction}
 use Rattle.xa_xid.specs.Triple.{Triple, xid_cmp}
 use Rattle.xa_model.specs.State.{State, Branch, Phase, Working, Prepared, Committed, Association, count, known_of, known_in, decided_of}
+use Rattle.xa_model.specs.Logging.{is_in_doubt, prepared_count}
 use Rattle.xa_model.specs.LowWater.{is_known_at}
 use Rattle.xa_branch.specs.declared.branches.Branches.{Branches}
 use Rattle.xa_branch.specs.declared.kind.Kind.TheVariants as kind
@@ -49,8 +50,8 @@ abbrev pub working_in : List Association → Triple → Branch → Option Kept
 working_in held xid b = working_by held xid b.timestamp b.phase
 
 -- the known branch with this XID, if it is at work
-abbrev pub working_of : State → Triple → Option Kept
-working_of s xid = option_and_then (working_in s.associations xid) (known_of s.branches xid)
+abbrev pub working_known : State → Triple → Option Kept
+working_known s xid = option_and_then (working_in s.associations xid) (known_of s.branches xid)
 
 -- what lasts of a branch: of one at work nothing
 abbrev pub lasting_by : ℕ → Phase → Option Lasting
@@ -66,28 +67,20 @@ lasting_among (Some b) direction = lasting_in b
 lasting_among None direction = option_map lasting.Completed direction
 
 -- what lasts of the known branch with this XID, or the direction in which the operator completed it
-abbrev pub lasting_of : State → Triple → Option Lasting
-lasting_of s xid = lasting_among (known_of s.branches xid) (decided_of s.decided xid)
-
-abbrev pub is_prepared : Phase → Bool
-is_prepared (Working x mark) = false
-is_prepared (Prepared x) = true
-is_prepared Committed = false
+abbrev pub lasting_known : State → Triple → Option Lasting
+lasting_known s xid = lasting_among (known_of s.branches xid) (decided_of s.decided xid)
 
 -- how many branches are prepared
 abbrev pub prepared_among : List Branch → ℕ
-prepared_among branches = count (λ b. is_prepared b.phase) branches
-
-abbrev pub prepared_in : State → ℕ
-prepared_in s = prepared_among s.branches
+prepared_among branches = count (λ b. is_in_doubt b.phase) branches
 
 -- Nothing is said of what branches did, of sessions or of reads.
 pub record BranchesStandFor (m : Branches) (s : State) : Type 0 where
   pub boot : m.boot ≡ s.boot
   pub given : m.given ≡ s.given
-  pub working : (xid : Triple) → working_at m xid ≡ working_of s xid
-  pub lasting : (xid : Triple) → lasting_at m xid ≡ lasting_of s xid
+  pub working : (xid : Triple) → working_at m xid ≡ working_known s xid
+  pub lasting : (xid : Triple) → lasting_at m xid ≡ lasting_known s xid
   pub times : (t : ℕ) → timed_at m t ≡ is_known_at t s.branches
   pub known : number_of m ≡ known_in s
-  pub prepared : m.prepared ≡ prepared_in s
+  pub prepared : m.prepared ≡ prepared_count s
   pub completed : m.completed ≡ length s.decided

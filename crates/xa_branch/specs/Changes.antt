@@ -12,7 +12,9 @@ use Rattle.xa_branch.specs.declared.working.Working.{Working as Kept}
 use Rattle.xa_branch.specs.Kinds.{own_kind}
 
 -- what is at one XID is another, and nothing else is
-pub record Sets {V : Type 0} (m : BTreeMap Triple V) (xid : Triple) (o : Option V) (m' : BTreeMap Triple V) : Type 0 where
+pub record Sets
+    {V : Type 0} (m : BTreeMap Triple V) (xid : Triple) (o : Option V) (m' : BTreeMap Triple V)
+    : Type 0 where
   pub at : (q : Triple) → get xid_cmp m' q ≡ cond (is_eq (xid_cmp xid q)) o (get xid_cmp m q)
   pub number : btree_map_len m' + cond (is_some (get xid_cmp m xid)) 1 0 ≡ btree_map_len m + cond (is_some o) 1 0
 
@@ -46,7 +48,12 @@ less_one kind.Loose w = record w { loose = w.loose - 1 }
 abbrev pub left_behind : Kind → Kept → Kept
 left_behind k w = marked XA_RBCOMMFAIL (less_one k w)
 
--- Each of these branches is left behind once, by a session that is at work for one of them or for none; nothing else changes.
-pub record LeavesAll (m : BTreeMap Triple Kept) (own : BTreeSet Triple) (active : Option Triple) (m' : BTreeMap Triple Kept) : Type 0 where
-  pub at : (q : Triple) → get xid_cmp m' q ≡ cond (contains xid_cmp own q) (option_map (left_behind (own_kind active q)) (get xid_cmp m q)) (get xid_cmp m q)
+-- Each of these branches is left behind once, by a session that is at work for one of them or for none; nothing else
+-- changes.
+pub record LeavesAll
+    (m : BTreeMap Triple Kept) (own : BTreeSet Triple) (active : Option Triple) (m' : BTreeMap Triple Kept)
+    : Type 0 where
+  pub at : (q : Triple)
+      → get xid_cmp m' q
+      ≡ cond (contains xid_cmp own q) (option_map (left_behind (own_kind active q)) (get xid_cmp m q)) (get xid_cmp m q)
   pub number : btree_map_len m' ≡ btree_map_len m

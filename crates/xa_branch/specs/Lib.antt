@@ -1,6 +1,7 @@
 pub mod Kinds
 pub mod Facts
 pub mod Branches
+pub mod Follows
 pub mod Room
 pub mod Restored
 pub mod State

@@ -3,23 +3,24 @@ use Rattle.std.specs.Prelude.{ℕ, ◌≡◌, ◌+◌, length, if◌then◌else�
 use Rattle.xa_xid.specs.Triple.{Triple}
 use Rattle.xa_model.specs.State.{State, known_of, known_in}
 use Rattle.xa_model.specs.Branches.{prepared}
+use Rattle.xa_model.specs.Logging.{prepared_count}
 use Rattle.xa_model.specs.LowWater.{is_known_at}
 use Rattle.xa_model.specs.Sound.{is_at_work}
 use Rattle.xa_branch.specs.declared.branches.Branches.{Branches}
-use Rattle.xa_branch.specs.Branches.{working_at, working_of, lasting_at, lasting_of, timed_at, number_of, prepared_in}
+use Rattle.xa_branch.specs.Branches.{working_at, working_known, lasting_at, lasting_known, timed_at, number_of}
 
 -- how many branches are kept twice
 abbrev pub kept_twice : State → Triple → ℕ
 kept_twice s xid = if is_at_work (known_of s.branches xid) then 1 else 0
 
--- The branches stand for the state, but that what will last of the branch with this XID once it is prepared is kept as well:
--- one that is at work is kept twice.
+-- The branches stand for the state, but that what will last of the branch with this XID once it is prepared is kept as
+-- well: one that is at work is kept twice.
 pub record HasRoom (xid : Triple) (m : Branches) (s : State) : Type 0 where
   pub boot : m.boot ≡ s.boot
   pub given : m.given ≡ s.given
-  pub working : (q : Triple) → working_at m q ≡ working_of s q
-  pub lasting : (q : Triple) → lasting_at m q ≡ lasting_of (prepared s xid) q
+  pub working : (q : Triple) → working_at m q ≡ working_known s q
+  pub lasting : (q : Triple) → lasting_at m q ≡ lasting_known (prepared s xid) q
   pub times : (t : ℕ) → timed_at m t ≡ is_known_at t s.branches
   pub known : number_of m ≡ known_in s + kept_twice s xid
-  pub prepared : m.prepared ≡ prepared_in s
+  pub prepared : m.prepared ≡ prepared_count s
   pub completed : m.completed ≡ length s.decided

@@ -2,7 +2,7 @@
 use Rattle.std.specs.Prelude.{Bool, ◌||◌, Option, Some, None, nat_lt, if◌then◌else◌}
 use Rattle.xa_codes.specs.declared.direction.Direction.TheVariants as direction
 use Rattle.xa_xid.specs.Triple.{Triple}
-use Rattle.xa_model.specs.State.{State as ModelState, Known, Unknown, AtWork, InDoubt, Completed, known_as}
+use Rattle.xa_model.specs.State.{State as ModelState, Known as Fact, Unknown, AtWork, InDoubt, Completed, known_as}
 use Rattle.xa_branch.specs.declared.kind.Kind.TheVariants as kind
 use Rattle.xa_branch.specs.declared.state.State.{State}
 use Rattle.xa_branch.specs.declared.state.State.TheVariants.{RollbackOnly, Active, Suspended, Idle, Prepared, HeurCommitted, HeurRolledBack}
@@ -12,7 +12,7 @@ use Rattle.xa_branch.specs.Kinds.{held_as}
 abbrev pub unmarked_state : Bool → Bool → State
 unmarked_state is_active rests = if is_active then Active else if rests then Suspended else Idle
 
-abbrev pub state_by : Known → Bool → Bool → Option State
+abbrev pub state_by : Fact → Bool → Bool → Option State
 state_by Unknown is_active rests = None
 state_by (AtWork (Some code)) is_active rests = Some (RollbackOnly code)
 state_by (AtWork None) is_active rests = Some (unmarked_state is_active rests)

@@ -7,9 +7,9 @@ use Rattle.xa_model.specs.State.{State as ModelState, InDoubt, Completed, known_
 use Rattle.xa_model.specs.Associations.{begun, joined, suspended, ended, failed, hang_up_by}
 use Rattle.xa_model.specs.Branches.{rolled_back, committed, doomed, prepared, decided_by, forgotten}
 use Rattle.xa_model.specs.History.{fresh}
+use Rattle.xa_model.specs.Logging.{prepared_count}
 use Rattle.xa_model.specs.Worked.{xarm, xid}
 use Rattle.xa_branch.specs.declared.state.State.TheVariants.{RollbackOnly, Active, Suspended, Idle, Prepared, HeurCommitted, HeurRolledBack}
-use Rattle.xa_branch.specs.Branches.{prepared_in}
 use Rattle.xa_branch.specs.State.{state_of}
 
 abbrev pub a : Triple
@@ -32,8 +32,8 @@ migrated = suspended at_work 1 true a
 abbrev pub doubtful : ModelState
 doubtful = prepared (ended at_work 1 a) a
 
-abbrev pub kept : ModelState
-kept = decided_by doubtful direction.Commit a
+abbrev pub carried_out : ModelState
+carried_out = decided_by doubtful direction.Commit a
 
 abbrev pub undone : ModelState
 undone = decided_by doubtful direction.Rollback a
@@ -51,8 +51,13 @@ pub record WorkedStates : Type 0 where
   pub when_hung_up : state_of (hang_up_by at_work 1).after a ≡ Some (RollbackOnly XA_RBCOMMFAIL)
   pub when_rolled_back : state_of (rolled_back at_work a) a ≡ None
   pub when_committed : state_of (committed at_work a) a ≡ None
-  pub when_prepared : (state_of doubtful a ≡ Some Prepared) × (prepared_in doubtful ≡ 1) × (known_as doubtful a ≡ InDoubt)
-  pub when_decided : (state_of kept a ≡ Some HeurCommitted) × (prepared_in kept ≡ 0) × (known_as kept a ≡ Completed direction.Commit)
-  pub when_undone : (state_of undone a ≡ Some HeurRolledBack) × (prepared_in undone ≡ 0) × (known_as undone a ≡ Completed direction.Rollback)
-  pub when_forgotten : (state_of (forgotten kept a) a ≡ None) × (known_in (forgotten kept a) ≡ 0)
+  pub when_prepared :
+      (state_of doubtful a ≡ Some Prepared) × (prepared_count doubtful ≡ 1) × (known_as doubtful a ≡ InDoubt)
+  pub when_decided :
+      (state_of carried_out a ≡ Some HeurCommitted) × (prepared_count carried_out ≡ 0)
+      × (known_as carried_out a ≡ Completed direction.Commit)
+  pub when_undone :
+      (state_of undone a ≡ Some HeurRolledBack) × (prepared_count undone ≡ 0)
+      × (known_as undone a ≡ Completed direction.Rollback)
+  pub when_forgotten : (state_of (forgotten carried_out a) a ≡ None) × (known_in (forgotten carried_out a) ≡ 0)
   pub when_in_doubt_ends : (state_of (committed doubtful a) a ≡ None) × (state_of (rolled_back doubtful a) a ≡ None)

@@ -1,9 +1,8 @@
-ghost use Rattle.std.specs.Prelude.{◌≡◌, ◌+◌, ℕ, IfOk, OnOk, OnErr};
-ghost use Rattle.xa_model.specs.State.{State as ModelState, known_as, known_in, timestamp_of};
-ghost use Rattle.xa_model.specs.Associations.{begun, is_taken};
-ghost use Rattle.xa_model.specs.Sound.{IsSound};
-ghost use Rattle.xa_branch.specs.Branches.{BranchesStandFor};
-ghost use Rattle.xa_branch.specs.Calls.{begin_fault, fault_of, marked_with};
+ghost use Rattle.std.specs.Prelude.{◌≡◌, ◌+◌, IfOk, OnOk, OnErr};
+ghost use Rattle.xa_model.specs.State.{timestamp_of};
+ghost use Rattle.xa_model.specs.Associations.{begun};
+ghost use Rattle.xa_branch.specs.Calls.{begin_fault_of, fault_of, marked_with};
+ghost use Rattle.xa_branch.specs.Follows.{FollowsAlways, FollowsEach, InEach, Stays};
 
 use crate::branches::Branches;
 use crate::changes::{add, add_time, set, take};
@@ -21,16 +20,19 @@ impl Branches {
     /// A branch begins, with one active association, and is given the boot's next timestamp: the boot's number times 2^32,
     /// and how many timestamps the boot has given with this one. No number is given twice.
     pub fn begin(&mut self, xid: &Xid) -> Result<u64, BeginFault>
-        ensures refused { (s : ModelState) → BranchesStandFor self.old s → fault_of result ≡ begin_fault (is_taken (known_as s xid.now)) (known_in s) s.given }
-        ensures timestamp { (s : ModelState) → BranchesStandFor self.old s → IfOk result (λ t. t ≡ timestamp_of s.boot (s.given + 1)) }
-        ensures ok { (s : ModelState) (n : ℕ) → IsSound s → BranchesStandFor self.old s → OnOk result (BranchesStandFor self.new (begun s n xid.now).after) }
-        ensures err { (s : ModelState) → BranchesStandFor self.old s → OnErr result (BranchesStandFor self.new s) }
+        ensures refused { InEach self.old (λ s. fault_of result ≡ begin_fault_of s xid.now) }
+        ensures timestamp { InEach self.old (λ s. IfOk result (λ t. t ≡ timestamp_of s.boot (s.given + 1))) }
+        ensures ok { OnOk result (FollowsEach self.old (λ s n. (begun s n xid.now).after) self.new) }
+        ensures err { OnErr result (Stays self.old self.new) }
     {
         if self.working_of(xid).is_some() || self.lasting_of(xid).is_some() {
             return Err(BeginFault::Duplicate);
         }
-        if self.len() >= MOST_BRANCHES || self.given >= MOST_GIVEN {
-            return Err(BeginFault::Limit);
+        if self.len() >= MOST_BRANCHES {
+            return Err(BeginFault::Full);
+        }
+        if self.given >= MOST_GIVEN {
+            return Err(BeginFault::Spent);
         }
         let timestamp = u64::from(self.boot) * BOOT + self.given + 1;
         match add(&mut self.working, xid.copied(), Working::new(timestamp)) {
@@ -50,7 +52,7 @@ impl Branches {
 
     /// Marks a branch at work, unless it is marked: then it can only be rolled back. Of another XID nothing changes.
     pub fn doom(&mut self, xid: &Xid, code: Code)
-        ensures { (s : ModelState) → BranchesStandFor self.old s → BranchesStandFor self.new (marked_with code s xid.now) }
+        ensures { FollowsAlways self.old (λ s. marked_with code s xid.now) self.new }
     {
         if let Some(working) = self.working_of(xid) {
             set(&mut self.working, xid, working.marked(code));

@@ -1,11 +1,10 @@
 ghost use Rattle.std.specs.Prelude.{◌≡◌, ℕ, Some, true, option_copied};
-ghost use Rattle.std.specs.BTreeSet.{contains};
 ghost use Rattle.std.specs.List.{list_any};
-ghost use Rattle.xa_xid.specs.Triple.{Triple, xid_cmp};
-ghost use Rattle.xa_model.specs.State.{State as ModelState, active_of, owns, works_in};
+ghost use Rattle.xa_model.specs.State.{State as ModelState, active_of, works_in};
 ghost use Rattle.xa_model.specs.Associations.{joined, resumed, not_resumed, suspended, not_suspended, ended, hang_up_by};
 ghost use Rattle.xa_model.specs.Sound.{IsSound};
 ghost use Rattle.xa_branch.specs.Branches.{BranchesStandFor};
+ghost use Rattle.xa_branch.specs.Follows.{AreOwn, FollowsEach, InEachOf, InSoundOf};
 ghost use Rattle.xa_branch.specs.Kinds.{ended_kind, resumed_kind};
 
 use crate::branches::Branches;
@@ -18,7 +17,7 @@ use xa_xid::Xid;
 impl Branches {
     /// A session joins the branch: one more active association.
     pub fn join(&mut self, xid: &Xid)
-        ensures { (s : ModelState) (n : ℕ) → IsSound s → BranchesStandFor self.old s → BranchesStandFor self.new (joined s n xid.now).after }
+        ensures { FollowsEach self.old (λ s n. (joined s n xid.now).after) self.new }
     {
         if let Some(working) = self.working_of(xid) {
             set(&mut self.working, xid, working.with_one(Kind::Active));
@@ -28,7 +27,8 @@ impl Branches {
     /// A session resumes its work for the branch: an association of the kind `from`, the session's own suspended one or a
     /// loose one, becomes active.
     pub fn resume(&mut self, xid: &Xid, from: Kind)
-        ensures { (s : ModelState) (n : ℕ) → IsSound s → BranchesStandFor self.old s → resumed_kind s.associations n xid.now ≡ Some from → BranchesStandFor self.new (resumed s n xid.now).after }
+        ensures { InSoundOf self.old (λ s n. resumed_kind s.associations n xid.now ≡ Some from
+            → BranchesStandFor self.new (resumed s n xid.now).after) }
     {
         if let Some(working) = self.working_of(xid) {
             set(
@@ -41,7 +41,8 @@ impl Branches {
 
     /// A session suspends its work for the branch: an active association is suspended, or becomes loose where it migrates.
     pub fn suspend(&mut self, xid: &Xid, migrates: bool)
-        ensures { (s : ModelState) (n : ℕ) → IsSound s → BranchesStandFor self.old s → list_any (works_in n xid.now) s.associations ≡ true → BranchesStandFor self.new (suspended s n migrates xid.now) }
+        ensures { InSoundOf self.old (λ s n. list_any (works_in n xid.now) s.associations ≡ true
+            → BranchesStandFor self.new (suspended s n migrates xid.now)) }
     {
         if let Some(working) = self.working_of(xid) {
             let rests = if migrates {
@@ -60,9 +61,13 @@ impl Branches {
     /// An association of this kind ends: by an end of the session's work, or where the branch is marked and the session
     /// would resume or suspend its work.
     pub fn leave(&mut self, xid: &Xid, kind: Kind)
-        ensures ended { (s : ModelState) (n : ℕ) → IsSound s → BranchesStandFor self.old s → ended_kind s.associations n xid.now ≡ Some kind → BranchesStandFor self.new (ended s n xid.now) }
-        ensures not_resumed { (s : ModelState) (n : ℕ) → BranchesStandFor self.old s → resumed_kind s.associations n xid.now ≡ Some kind → BranchesStandFor self.new (not_resumed s n xid.now) }
-        ensures not_suspended { (s : ModelState) (n : ℕ) → BranchesStandFor self.old s → kind ≡ Kind.Active → list_any (works_in n xid.now) s.associations ≡ true → BranchesStandFor self.new (not_suspended s n xid.now) }
+        ensures ended { InSoundOf self.old (λ s n. ended_kind s.associations n xid.now ≡ Some kind
+            → BranchesStandFor self.new (ended s n xid.now)) }
+        ensures not_resumed { InEachOf self.old (λ s n. resumed_kind s.associations n xid.now ≡ Some kind
+            → BranchesStandFor self.new (not_resumed s n xid.now)) }
+        ensures not_suspended { InEachOf self.old (λ s n. kind ≡ Kind.Active
+            → list_any (works_in n xid.now) s.associations ≡ true
+            → BranchesStandFor self.new (not_suspended s n xid.now)) }
     {
         if let Some(working) = self.working_of(xid) {
             set(&mut self.working, xid, working.less_one(kind));
@@ -73,8 +78,9 @@ impl Branches {
     /// XA_RBCOMMFAIL, unless it was marked. `own` are the XIDs of these associations, and `active` the one that the
     /// session was at work for.
     pub fn hang_up(&mut self, own: &BTreeSet<Xid>, active: Option<&Xid>)
-        ensures { (s : ModelState) (n : ℕ) → IsSound s → ((q : Triple) → contains xid_cmp own.now q ≡ list_any (owns n q) s.associations) → option_copied active.entry ≡ active_of s.associations n →
-            BranchesStandFor self.old s → BranchesStandFor self.new (hang_up_by s n).after }
+        ensures { (s : ModelState) (n : ℕ) → IsSound s → AreOwn own.now s n
+            → option_copied active.entry ≡ active_of s.associations n
+            → BranchesStandFor self.old s → BranchesStandFor self.new (hang_up_by s n).after }
     {
         leave_all(&mut self.working, own, active);
     }

@@ -2,7 +2,7 @@ ghost use Rattle.std.specs.Prelude.{◌≡◌, ◌+◌, MatchResult, None, Some,
 ghost use Rattle.xa_model.specs.State.{State as ModelState, known_as, known_in, loose_of};
 ghost use Rattle.xa_model.specs.Associations.{timestamp_in};
 ghost use Rattle.xa_model.specs.Branches.{is_associated};
-ghost use Rattle.xa_model.specs.Sound.{IsSound};
+ghost use Rattle.xa_model.specs.Logging.{prepared_count};
 
 use crate::known::Known;
 use crate::lasting::Lasting;
@@ -32,16 +32,18 @@ pub struct Branches {
 }
 
 impl Branches {
-    ghost use Rattle.xa_branch.specs.Branches.{BranchesStandFor, working_at, lasting_at, number_of, prepared_in};
-    ghost use Rattle.xa_branch.specs.Calls.{readiness};
+    ghost use Rattle.xa_branch.specs.Branches.{BranchesStandFor, working_at, lasting_at, number_of};
+    ghost use Rattle.xa_branch.specs.Calls.{readiness_of};
     ghost use Rattle.xa_branch.specs.Facts.{fact_of};
+    ghost use Rattle.xa_branch.specs.Follows.{InEach, InSound};
     ghost use Rattle.xa_branch.specs.Restored.{HasRestored};
     ghost use Rattle.xa_branch.specs.State.{state_of};
 
     /// No branch is known in this boot, and `next` is the number of the boot's next timestamp: 1 where it gave none, else
     /// one more than how many it gave. 0 counts as 1. Takes no memory.
     pub fn new(alloc: Global, boot: u32, next: u64) -> Branches
-        ensures fresh { (s : ModelState) → s.boot ≡ boot → s.given + 1 ≡ next → known_in s ≡ 0 → BranchesStandFor result s }
+        ensures fresh { (s : ModelState) → s.boot ≡ boot → s.given + 1 ≡ next → known_in s ≡ 0
+            → BranchesStandFor result s }
         ensures restored { next ≡ 1 → HasRestored result boot [] [] }
     {
         Branches {
@@ -58,28 +60,27 @@ impl Branches {
     /// How many branches are known.
     pub fn len(&self) -> usize
         ensures value { result ≡ number_of self.now }
-        ensures known { (s : ModelState) → BranchesStandFor self.now s → result ≡ known_in s }
     {
         self.working.len() + self.lasting.len()
     }
 
     /// How many branches are prepared.
     pub fn prepared(&self) -> usize
-        ensures { (s : ModelState) → BranchesStandFor self.now s → result ≡ prepared_in s }
+        ensures { InEach self.now (λ s. result ≡ prepared_count s) }
     {
         self.prepared
     }
 
     /// How many branches the operator completed, and are not forgotten.
     pub fn completed(&self) -> usize
-        ensures { (s : ModelState) → BranchesStandFor self.now s → result ≡ length s.decided }
+        ensures { InEach self.now (λ s. result ≡ length s.decided) }
     {
         self.completed
     }
 
     /// How many timestamps this boot gave.
     pub fn given(&self) -> u64
-        ensures { (s : ModelState) → BranchesStandFor self.now s → result ≡ s.given }
+        ensures { InEach self.now (λ s. result ≡ s.given) }
     {
         self.given
     }
@@ -100,7 +101,7 @@ impl Branches {
 
     /// The timestamp of the branch with this XID that is at work or prepared, or 0.
     pub fn timestamp(&self, xid: &Xid) -> u64
-        ensures { (s : ModelState) → BranchesStandFor self.now s → result ≡ timestamp_in s xid.now }
+        ensures { InEach self.now (λ s. result ≡ timestamp_in s xid.now) }
     {
         match self.working_of(xid) {
             Some(working) => working.timestamp,
@@ -114,7 +115,7 @@ impl Branches {
 
     /// How many loose associations are with this XID.
     pub fn loose(&self, xid: &Xid) -> u64
-        ensures { (s : ModelState) → IsSound s → BranchesStandFor self.now s → result ≡ loose_of s.associations xid.now }
+        ensures { InSound self.now (λ s. result ≡ loose_of s.associations xid.now) }
     {
         match self.working_of(xid) {
             None => 0,
@@ -124,7 +125,7 @@ impl Branches {
 
     /// What is known of an XID.
     pub fn known(&self, xid: &Xid) -> Known
-        ensures { (s : ModelState) → BranchesStandFor self.now s → fact_of result ≡ known_as s xid.now }
+        ensures { InEach self.now (λ s. fact_of result ≡ known_as s xid.now) }
     {
         match self.working_of(xid) {
             Some(working) => Known::AtWork(working.mark),
@@ -138,7 +139,7 @@ impl Branches {
 
     /// Whether any association is with this XID.
     pub fn is_associated(&self, xid: &Xid) -> bool
-        ensures { (s : ModelState) → IsSound s → BranchesStandFor self.now s → result ≡ is_associated s xid.now }
+        ensures { InSound self.now (λ s. result ≡ is_associated s xid.now) }
     {
         match self.working_of(xid) {
             None => false,
@@ -148,7 +149,7 @@ impl Branches {
 
     /// The state of a known branch.
     pub fn state(&self, xid: &Xid) -> Option<State>
-        ensures { (s : ModelState) → BranchesStandFor self.now s → result ≡ state_of s xid.now }
+        ensures { InEach self.now (λ s. result ≡ state_of s xid.now) }
     {
         if let Some(working) = self.working_of(xid) {
             return Some(working.state());
@@ -163,8 +164,8 @@ impl Branches {
     /// Whether the branch may be prepared, or else the code that answers: XAER_NOTA where it isn't known, XAER_PROTO where
     /// it is associated, prepared or completed, or its mark.
     pub fn ready_to_prepare(&self, xid: &Xid) -> Result<(), Code>
-        ensures { (s : ModelState) → BranchesStandFor self.now s →
-            MatchResult result (λ _. readiness (known_as s xid.now) (is_associated s xid.now) ≡ None) (λ code. readiness (known_as s xid.now) (is_associated s xid.now) ≡ Some code) }
+        ensures { InEach self.now (λ s.
+            MatchResult result (λ _. readiness_of s xid.now ≡ None) (λ code. readiness_of s xid.now ≡ Some code)) }
     {
         let Some(working) = self.working_of(xid) else {
             return match self.lasting_of(xid) {

@@ -3,6 +3,7 @@ ghost use Rattle.xa_model.specs.State.{State as ModelState, InDoubt, known_as};
 ghost use Rattle.xa_model.specs.Branches.{rolled_back, committed, prepared, decided_by, forgotten};
 ghost use Rattle.xa_model.specs.Sound.{IsSound};
 ghost use Rattle.xa_branch.specs.Branches.{BranchesStandFor};
+ghost use Rattle.xa_branch.specs.Follows.{Follows, InEach, InSound, Stays};
 ghost use Rattle.xa_branch.specs.Room.{HasRoom};
 
 use crate::branches::Branches;
@@ -18,8 +19,8 @@ impl Branches {
     /// can't fail. Either that or `give_back` has to follow. Whether the branch may be prepared is to be asked before
     /// (`ready_to_prepare`). Of another XID nothing changes, nor where there is no memory.
     pub fn make_room(&mut self, xid: &Xid) -> Result<(), AllocError>
-        ensures ok { (s : ModelState) → BranchesStandFor self.old s → OnOk result (HasRoom xid.now self.new s) }
-        ensures err { (s : ModelState) → BranchesStandFor self.old s → OnErr result (BranchesStandFor self.new s) }
+        ensures ok { OnOk result (InEach self.old (λ s. HasRoom xid.now self.new s)) }
+        ensures err { OnErr result (Stays self.old self.new) }
     {
         let Some(working) = self.working_of(xid) else {
             return Ok(());
@@ -33,7 +34,8 @@ impl Branches {
 
     /// The branch that room was made for is prepared: of it, only the timestamp is kept. Takes no memory.
     pub fn prepare(&mut self, xid: &Xid)
-        ensures { (s : ModelState) → IsSound s → HasRoom xid.now self.old s → BranchesStandFor self.new (prepared s xid.now) }
+        ensures { (s : ModelState) → IsSound s → HasRoom xid.now self.old s
+            → BranchesStandFor self.new (prepared s xid.now) }
     {
         match self.working_of(xid) {
             Some(_) => {
@@ -56,8 +58,9 @@ impl Branches {
 
     /// The operator completes a prepared branch. Of another XID nothing changes.
     pub fn decide(&mut self, xid: &Xid, direction: Direction)
-        ensures decided { (s : ModelState) → IsSound s → BranchesStandFor self.old s → known_as s xid.now ≡ InDoubt → BranchesStandFor self.new (decided_by s direction xid.now) }
-        ensures other { (s : ModelState) → BranchesStandFor self.old s → known_as s xid.now ≢ InDoubt → BranchesStandFor self.new s }
+        ensures decided { InSound self.old (λ s. known_as s xid.now ≡ InDoubt
+            → BranchesStandFor self.new (decided_by s direction xid.now)) }
+        ensures other { InEach self.old (λ s. known_as s xid.now ≢ InDoubt → BranchesStandFor self.new s) }
     {
         match self.lasting_of(xid) {
             Some(Lasting::Prepared(timestamp)) => {
@@ -73,8 +76,8 @@ impl Branches {
 
     /// A branch at work or a prepared one is committed or rolled back, and known no more. Of another XID nothing changes.
     pub fn finish(&mut self, xid: &Xid)
-        ensures rolled_back { (s : ModelState) → IsSound s → BranchesStandFor self.old s → BranchesStandFor self.new (rolled_back s xid.now) }
-        ensures committed { (s : ModelState) → IsSound s → BranchesStandFor self.old s → BranchesStandFor self.new (committed s xid.now) }
+        ensures rolled_back { Follows self.old (λ s. rolled_back s xid.now) self.new }
+        ensures committed { Follows self.old (λ s. committed s xid.now) self.new }
     {
         match self.lasting_of(xid) {
             Some(Lasting::Prepared(timestamp)) => {
@@ -94,7 +97,7 @@ impl Branches {
 
     /// What the operator decided is forgotten. Of another XID nothing changes.
     pub fn forget(&mut self, xid: &Xid)
-        ensures { (s : ModelState) → IsSound s → BranchesStandFor self.old s → BranchesStandFor self.new (forgotten s xid.now) }
+        ensures { Follows self.old (λ s. forgotten s xid.now) self.new }
     {
         match self.lasting_of(xid) {
             Some(Lasting::Completed(_)) => {

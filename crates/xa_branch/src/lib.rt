@@ -1,6 +1,6 @@
-//! The known branches: their timestamps, their marks, and how many associations each has, which of them are prepared or were
-//! completed by the operator, and the states that follow from these (X/Open C193's branch table). Whose the associations are
-//! is `xa_assoc`'s.
+//! The known branches: their timestamps, their marks, and how many associations each has, which of them are prepared or
+//! were completed by the operator, and the states that follow from these (X/Open C193's branch table). Whose the
+//! associations are is `xa_assoc`'s.
 //!
 //! What is kept, and what is asked of it:
 //!
@@ -8,14 +8,18 @@
 //! - `working`: `Working`, a branch at work; `kind`: `Kind`, of one association
 //! - `lasting`: `Lasting`, what of a branch outlives the boot: it is in doubt, or was completed by the operator
 //! - `known`: `Known`, what is known of an XID; `state`: `State`, the state that follows
-//! - `refusals`: `one_phase_refusal`, `two_phase_refusal`, `rollback_refusal` and `doom_refusal`, by what is known alone
+//! - `refusals`: `one_phase_refusal`, `two_phase_refusal`, `rollback_refusal` and `doom_refusal`, by what is known of a
+//!   branch alone
+//! - `low_water`: `Branches::low_water`, the timestamp below which nobody works
+//! - `recovery`: `Branches::list_after`, what recovery lists
 //!
 //! What changes:
 //!
 //! - `acts`: a branch begins, or is marked; `fault`: `BeginFault`, why it doesn't begin
 //! - `associations`: joins, suspensions, resumes, ends, and what a broken session leaves behind
-//! - `completion`: a branch is prepared, completed, forgotten. Room is made first, so that what follows the log can't fail
-//! - `restoring`: what lasted is put into new branches; `recovery`: `Branches::list_after`, what recovery lists
+//! - `completion`: a branch is prepared, completed, forgotten. Room is made first, so that what follows the log can't
+//!   fail
+//! - `restoring`: what lasted is put into new branches
 //! - `changes`: how the maps change, below all of these
 //! - `laws`: `restored_stand`, what is restored stands for what lasted; `worked_states`, worked rows
 #![tactic(auto)]

@@ -1,8 +1,6 @@
 ghost use Rattle.std.specs.Prelude.{◌≡◌};
-ghost use Rattle.xa_model.specs.State.{State as ModelState};
 ghost use Rattle.xa_model.specs.LowWater.{low_water};
-ghost use Rattle.xa_model.specs.Sound.{IsSound};
-ghost use Rattle.xa_branch.specs.Branches.{BranchesStandFor};
+ghost use Rattle.xa_branch.specs.Follows.{InSound};
 
 use crate::acts::BOOT;
 use crate::branches::Branches;
@@ -13,7 +11,7 @@ impl Branches {
     /// before its first the boot's number times 2^32. Branches that the operator completed don't count. No later branch has a
     /// timestamp that is less, and as branches are completed this only rises. Takes no memory.
     pub fn low_water(&self) -> u64
-        ensures { (s : ModelState) → IsSound s → BranchesStandFor self.now s → result ≡ low_water s }
+        ensures { InSound self.now (λ s. result ≡ low_water s) }
     {
         match self.times.first() {
             Some(least) => *least,

@@ -2,11 +2,9 @@ ghost use Rattle.std.specs.Prelude.{◌≡◌, ◌≤◌, IfOk, length, option_c
 ghost use Rattle.std.specs.BTreeMap.Range.{is_from_start};
 ghost use Rattle.std.specs.Range.Bound.{bound_map};
 ghost use Rattle.xa_xid.specs.Triple.{Triple, xid_cmp};
-ghost use Rattle.xa_model.specs.State.{State as ModelState};
 ghost use Rattle.xa_model.specs.Durable.{durable};
 ghost use Rattle.xa_model.specs.Listed.{is_above, list_after};
-ghost use Rattle.xa_model.specs.Sound.{IsSound};
-ghost use Rattle.xa_branch.specs.Branches.{BranchesStandFor};
+ghost use Rattle.xa_branch.specs.Follows.{InSound};
 
 use crate::branches::Branches;
 use std::alloc::{AllocError, Global};
@@ -15,7 +13,8 @@ use xa_xid::Xid;
 
 /// Where the XIDs above the given one begin, or all of them.
 fn above(after: Option<&Xid>) -> Bound<&Xid>
-    ensures { (q : Triple) → is_from_start xid_cmp (bound_map (λ x. x.now) result) q ≡ is_above (option_copied after.entry) q }
+    ensures { (q : Triple) → is_from_start xid_cmp (bound_map (λ x. x.now) result) q
+        ≡ is_above (option_copied after.entry) q }
 {
     match after {
         Some(after) => Bound::Excluded(after),
@@ -34,7 +33,8 @@ impl Branches {
         count: usize,
     ) -> Result<Vec<Xid>, AllocError>
         ensures few { IfOk result (λ v. length v.items ≤ count) }
-        ensures listed { (s : ModelState) → IsSound s → BranchesStandFor self.now s → IfOk result (λ v. v.items ≡ list_after (option_copied after.entry) count (durable s)) }
+        ensures listed { InSound self.now (λ s.
+            IfOk result (λ v. v.items ≡ list_after (option_copied after.entry) count (durable s))) }
     {
         let mut listed = Vec::with_capacity(alloc, count.min(self.lasting.len()))?;
         for (xid, _) in self

@@ -1,7 +1,5 @@
-ghost use Rattle.std.specs.Prelude.{◌≡◌, ◌∷◌, ◌++◌, ℕ, false, List, [], OnOk};
-ghost use Rattle.xa_model.specs.State.{Decided};
-ghost use Rattle.xa_model.specs.Durable.{PreparedBranch, is_prepared, is_decided};
-ghost use Rattle.xa_branch.specs.Restored.{HasRestored};
+ghost use Rattle.std.specs.Prelude.{OnOk};
+ghost use Rattle.xa_branch.specs.Restored.{RestoresPrepared, RestoresCompleted};
 
 use crate::branches::Branches;
 use crate::changes::{add, add_time};
@@ -16,8 +14,7 @@ use xa_xid::Xid;
 impl Branches {
     /// A branch is in doubt, with this timestamp.
     pub fn restore_prepared(&mut self, xid: Xid, timestamp: u64) -> Result<(), AllocError>
-        ensures { (boot : ℕ) (ps : List PreparedBranch) (ds : List Decided) (p : PreparedBranch) → p.xid ≡ xid → p.timestamp ≡ timestamp → is_prepared xid ps ≡ false → is_decided xid ds ≡ false →
-            HasRestored self.old boot ps ds → OnOk result (HasRestored self.new boot (ps ++ p ∷ []) ds) }
+        ensures { OnOk result (RestoresPrepared self.old xid timestamp self.new) }
     {
         prove!(self.lasting.len() < usize::MAX);
         add(&mut self.lasting, xid, Lasting::Prepared(timestamp))?;
@@ -28,8 +25,7 @@ impl Branches {
 
     /// The operator completed the branch with this XID, in this direction.
     pub fn restore_completed(&mut self, xid: Xid, direction: Direction) -> Result<(), AllocError>
-        ensures { (boot : ℕ) (ps : List PreparedBranch) (ds : List Decided) (d : Decided) → d.xid ≡ xid → d.direction ≡ direction → is_prepared xid ps ≡ false → is_decided xid ds ≡ false →
-            HasRestored self.old boot ps ds → OnOk result (HasRestored self.new boot ps (ds ++ d ∷ [])) }
+        ensures { OnOk result (RestoresCompleted self.old xid direction self.new) }
     {
         prove!(self.lasting.len() < usize::MAX);
         add(&mut self.lasting, xid, Lasting::Completed(direction))?;

@@ -100,7 +100,8 @@ impl Working {
 
     /// The state of the branch.
     pub(crate) fn state(&self) -> State
-        ensures { state_by (AtWork self.now.mark) (nat_lt 0 self.now.active) (nat_lt 0 self.now.suspended || nat_lt 0 self.now.loose) ≡ Some result }
+        ensures { state_by (AtWork self.now.mark) (nat_lt 0 self.now.active)
+            (nat_lt 0 self.now.suspended || nat_lt 0 self.now.loose) ≡ Some result }
     {
         match self.mark {
             Some(code) => State::RollbackOnly(code),

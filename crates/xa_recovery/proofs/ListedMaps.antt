@@ -13,6 +13,7 @@ use Rattle.xa_model.specs.Fold.{base, held, known, snapshot}
 use Rattle.xa_model.specs.Listed.{in_order}
 use Rattle.xa_recovery.specs.declared.durable.InDoubt.{InDoubt}
 use Rattle.xa_recovery.specs.Durable.{as_committed, as_prepared, as_decided}
+use Rattle.xa_recovery.specs.Snapshots.{base_body, held_body, known_body}
 use Rattle.xa_recovery.proofs.Loops.{joined, mapped_both}
 
 filtered_by : (c : Bool) (x : Triple) (xs ys zs : List Triple) → zs ≡ xs ++ ys → cond c (x ∷ zs) zs ≡ cond c (x ∷ xs) xs ++ ys
@@ -45,29 +46,29 @@ listed_maps p ps ds none some all e f g =
     ∙ (ap (λ zs. fold (insert_key xid_cmp) [] (filter p (zs ++ ys))) (prepared_names ps)
     ∙ ap (λ zs. fold (insert_key xid_cmp) [] (filter p (map (λ q. q.xid) (map as_prepared ps) ++ zs))) (decided_names ds)))))
 
-committed_bodies : (es : List (ℕ × List Write)) → map spelled (map base (map as_committed es)) ≡ map (λ e. spelled (base (as_committed e))) es
+committed_bodies : (es : List (ℕ × List Write)) → map spelled (map base (map as_committed es)) ≡ map base_body es
 committed_bodies [] = refl
-committed_bodies (e ∷ es) = ap (λ bs. spelled (base (as_committed e)) ∷ bs) (committed_bodies es)
+committed_bodies (e ∷ es) = ap (λ bs. base_body e ∷ bs) (committed_bodies es)
 
-prepared_bodies : (es : List (ℕ × InDoubt)) → map spelled (map held (map as_prepared es)) ≡ map (λ e. spelled (held (as_prepared e))) es
+prepared_bodies : (es : List (ℕ × InDoubt)) → map spelled (map held (map as_prepared es)) ≡ map held_body es
 prepared_bodies [] = refl
-prepared_bodies (e ∷ es) = ap (λ bs. spelled (held (as_prepared e)) ∷ bs) (prepared_bodies es)
+prepared_bodies (e ∷ es) = ap (λ bs. held_body e ∷ bs) (prepared_bodies es)
 
-decided_bodies : (es : List (Triple × Direction)) → map spelled (map known (map as_decided es)) ≡ map (λ e. spelled (known (as_decided e))) es
+decided_bodies : (es : List (Triple × Direction)) → map spelled (map known (map as_decided es)) ≡ map known_body es
 decided_bodies [] = refl
-decided_bodies (e ∷ es) = ap (λ bs. spelled (known (as_decided e)) ∷ bs) (decided_bodies es)
+decided_bodies (e ∷ es) = ap (λ bs. known_body e ∷ bs) (decided_bodies es)
 
 -- one after another
 pub bodies_are : (boot n : ℕ) (cs : List (ℕ × List Write)) (ps : List (ℕ × InDoubt)) (ds : List (Triple × Direction)) (none opened one two all : List (List ℕ)) → none ≡ []
     → opened ≡ none ++ spelled (Opened boot) ∷ []
-    → one ≡ opened ++ map (λ e. spelled (base (as_committed e))) cs
-    → two ≡ one ++ map (λ e. spelled (held (as_prepared e))) ps
-    → all ≡ two ++ map (λ e. spelled (known (as_decided e))) ds
+    → one ≡ opened ++ map base_body cs
+    → two ≡ one ++ map held_body ps
+    → all ≡ two ++ map known_body ds
     → all ≡ map spelled (snapshot (record { boot = n; committed = map as_committed cs; prepared = map as_prepared ps; decided = map as_decided ds }) boot)
 bodies_are boot n cs ps ds none opened one two all e f g h k =
-    let bs = map (λ (d : ℕ × List Write). spelled (base (as_committed d))) cs in
-    let hs = map (λ (d : ℕ × InDoubt). spelled (held (as_prepared d))) ps in
-    let ks = map (λ (d : Triple × Direction). spelled (known (as_decided d))) ds in
+    let bs = map base_body cs in
+    let hs = map held_body ps in
+    let ks = map known_body ds in
     let start : opened ≡ spelled (Opened boot) ∷ [] = f ∙ ap (λ xs. xs ++ spelled (Opened boot) ∷ []) e in
     let three : all ≡ ((spelled (Opened boot) ∷ [] ++ bs) ++ hs) ++ ks = k ∙ ap (λ xs. xs ++ ks) (h ∙ ap (λ xs. xs ++ hs) (g ∙ ap (λ xs. xs ++ bs) start)) in
     let parts : map spelled (map base (map as_committed cs) ++ (map held (map as_prepared ps) ++ map known (map as_decided ds))) ≡ bs ++ (hs ++ ks) =

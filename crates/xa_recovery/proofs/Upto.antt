@@ -2,7 +2,7 @@
 use Rattle.std.proofs.Common.{◌≡◌, ℕ, ◌==◌, Bool, true, false, not, ◌||◌, cond, List, [], ◌∷◌, ◌++◌, length, map, refl, ap, sym, ◌∙◌, subst, arith}
 use Rattle.std.specs.Prelude.{filter, nat_lt, bytes_eq}
 use Rattle.std.specs.BTreeMap.{insert_entry}
-use Rattle.std.specs.BTreeSet.{BTreeSet, contains}
+use Rattle.std.specs.BTreeSet.{BTreeSet}
 use Rattle.std.specs.Cmp.Lexicographic.{slice_cmp}
 use Rattle.std.specs.List.{AllByRecursion}
 use Rattle.std.specs.Ordering.{nat_cmp, is_eq}
@@ -15,6 +15,7 @@ use Rattle.xa_model.specs.Durable.{CommittedBranch, Pairwise, commits_before, is
 use Rattle.xa_model.proofs.Inserts.{pairwise_behind}
 use Rattle.xa_model.proofs.LastWrites.{left_or_later, last_all}
 use Rattle.xa_recovery.specs.Durable.{as_committed}
+use Rattle.xa_recovery.specs.Last.{Notes, has_key}
 use Rattle.xa_recovery.proofs.Entries.{front}
 use Rattle.xa_recovery.proofs.Standing.{all_of}
 
@@ -23,7 +24,7 @@ pub record Upto (all : List CommittedBranch) (rest : List (ℕ × List Write)) (
   pub later : List CommittedBranch
   pub split : all ≡ map as_committed rest ++ later
   pub last_is : map as_committed last ≡ last_writes later
-  pub keys : (key : List ℕ) → contains (slice_cmp nat_cmp) written key ≡ is_written key later
+  pub keys : (key : List ℕ) → has_key written key ≡ is_written key later
 
 pub nothing_yet : (es : List (ℕ × List Write)) (written : BTreeSet (List ℕ)) (last : List (ℕ × List Write)) → written.keys ≡ [] → last ≡ [] → Upto (map as_committed es) es written last
 nothing_yet es written last none empty = record {
@@ -58,16 +59,16 @@ no_write [] e = refl
 no_write (w ∷ ws) e = absurd (omega arith)
 
 -- what the branch before them leaves
-left_is : (written : BTreeSet (List ℕ)) (later : List CommittedBranch) (ws kept : List Write) → ((key : List ℕ) → contains (slice_cmp nat_cmp) written key ≡ is_written key later)
-    → kept ≡ filter (λ w. not (contains (slice_cmp nat_cmp) written w.key)) ws → kept ≡ left_by later ws
-left_is written later ws kept keys e = e ∙ same_filter (λ w. not (contains (slice_cmp nat_cmp) written w.key)) (λ w. not (is_written w.key later)) (λ w. ap not (keys w.key)) ws
+left_is : (written : BTreeSet (List ℕ)) (later : List CommittedBranch) (ws kept : List Write) → ((key : List ℕ) → has_key written key ≡ is_written key later)
+    → kept ≡ filter (λ w. not (has_key written w.key)) ws → kept ≡ left_by later ws
+left_is written later ws kept keys e = e ∙ same_filter (λ w. not (has_key written w.key)) (λ w. not (is_written w.key later)) (λ w. ap not (keys w.key)) ws
 
 now_written : (b : CommittedBranch) (later : List CommittedBranch) (kept : List Write) (key : List ℕ) → kept ≡ left_by later b.writes → (is_written_in key kept || is_written key later) ≡ is_written key (b ∷ later)
 now_written b later kept key e = ap (λ ws. is_written_in key ws || is_written key later) e ∙ left_or_later key later b.writes
 
 -- a branch whose writes were all written over
 pub passed_over : (all : List CommittedBranch) (old rest : List (ℕ × List Write)) (e : ℕ × List Write) (written : BTreeSet (List ℕ)) (last : List (ℕ × List Write)) (kept : List Write)
-    → Upto all old written last → old ≡ rest ++ e ∷ [] → kept ≡ filter (λ w. not (contains (slice_cmp nat_cmp) written w.key)) e.1 → length kept ≡ 0 → Upto all rest written last
+    → Upto all old written last → old ≡ rest ++ e ∷ [] → kept ≡ filter (λ w. not (has_key written w.key)) e.1 → length kept ≡ 0 → Upto all rest written last
 passed_over all old rest e written last kept u is left none =
     let here : kept ≡ left_by u.later e.1 = left_is written u.later e.1 kept u.keys left in
     let empty : left_by u.later e.1 ≡ [] = sym here ∙ no_write kept none in
@@ -80,8 +81,8 @@ passed_over all old rest e written last kept u is left none =
 
 -- and one that has last writes
 pub taken : (all : List CommittedBranch) (old rest : List (ℕ × List Write)) (e : ℕ × List Write) (written new : BTreeSet (List ℕ)) (last more : List (ℕ × List Write)) (kept : List Write)
-    → Pairwise commits_before all → Upto all old written last → old ≡ rest ++ e ∷ [] → kept ≡ filter (λ w. not (contains (slice_cmp nat_cmp) written w.key)) e.1 → (length kept ≡ 0 → ⊥)
-    → ((key : List ℕ) → contains (slice_cmp nat_cmp) new key ≡ (is_written_in key kept || contains (slice_cmp nat_cmp) written key))
+    → Pairwise commits_before all → Upto all old written last → old ≡ rest ++ e ∷ [] → kept ≡ filter (λ w. not (has_key written w.key)) e.1 → (length kept ≡ 0 → ⊥)
+    → Notes written kept new
     → more ≡ insert_entry nat_cmp last e.0 kept → Upto all rest new more
 taken all old rest e written new last more kept ordered u is left some noted entries =
     let here : kept ≡ left_by u.later e.1 = left_is written u.later e.1 kept u.keys left in

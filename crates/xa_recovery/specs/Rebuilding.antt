@@ -1,5 +1,5 @@
 -- What was read of a log, by the maps that are kept of it.
-use Rattle.std.specs.Prelude.{◌≡◌, ℕ, ◌==◌, true, false, List, [], ◌∷◌, ◌++◌, Result, Ok, Err, length, map, find, option_map}
+use Rattle.std.specs.Prelude.{◌≡◌, ℕ, ◌==◌, true, false, List, [], ◌∷◌, ◌++◌, Result, Ok, Err, length, find, option_map}
 use Rattle.std.specs.BTreeMap.{get}
 use Rattle.std.specs.BTreeSet.{contains}
 use Rattle.std.specs.List.{AllByRecursion}
@@ -8,12 +8,13 @@ use Rattle.xa_xid.specs.Triple.{Triple, xid_cmp}
 use Rattle.xa_record.specs.declared.record.Record.{Record}
 use Rattle.xa_model.specs.Durable.{Durable, CommittedBranch, Pairwise, commits_before, last_writes}
 use Rattle.xa_model.specs.Fold.{Reading, prepared_as, is_used, fold, unread, reading}
+use Rattle.xa_model.proofs.Readings.{IsRead}
 use Rattle.xa_recovery.specs.declared.fault.AddFault.{AddFault}
 use Rattle.xa_recovery.specs.declared.fault.AddFault.TheVariants.{Memory, Order}
 use Rattle.xa_recovery.specs.declared.fault.RebuildFault.{RebuildFault}
 use Rattle.xa_recovery.specs.declared.fault.RebuildFault.TheVariants as fault
 use Rattle.xa_recovery.specs.declared.rebuilding.Rebuilding.{Rebuilding}
-use Rattle.xa_recovery.specs.Durable.{as_committed, as_prepared, as_decided}
+use Rattle.xa_recovery.specs.Durable.{committed_of, prepared_of, decided_of}
 
 -- The branches that were committed, each with all its writes, by timestamp: each timestamp was read, and is no prepared
 -- branch's.
@@ -26,11 +27,24 @@ pub record Commits (bs : List CommittedBranch) (x : Reading) : Type 0 where
 pub record StandsFor (m : Rebuilding) (x : Reading) : Type 0 where
   pub boot : m.boot ≡ x.durable.boot
   pub is_snapshot : m.is_snapshot ≡ x.is_snapshot
-  pub committed : Commits (map as_committed m.committed.entries) x
-  pub prepared : map as_prepared m.prepared.entries ≡ x.durable.prepared
-  pub decided : map as_decided m.decided.entries ≡ x.durable.decided
-  pub names : (xid : Triple) → get xid_cmp m.names xid ≡ option_map (λ p. p.timestamp) (find (prepared_as xid) x.durable.prepared)
+  pub committed : Commits (committed_of m.committed) x
+  pub prepared : prepared_of m.prepared ≡ x.durable.prepared
+  pub decided : decided_of m.decided ≡ x.durable.decided
+  pub names : (xid : Triple)
+      → get xid_cmp m.names xid ≡ option_map (λ p. p.timestamp) (find (prepared_as xid) x.durable.prepared)
   pub timestamps : (t : ℕ) → contains nat_cmp m.timestamps t ≡ is_used t x.timestamps
+
+-- whatever was read that it stands for
+abbrev pub InEach : Rebuilding → (Reading → Type 0) → Type 0
+InEach m P = (x : Reading) → StandsFor m x → P x
+
+-- also in an order that records may have
+abbrev pub InRead : Rebuilding → (Reading → Type 0) → Type 0
+InRead m P = (x : Reading) → IsRead x → StandsFor m x → P x
+
+-- a branch of this timestamp was read as well, of which this is kept
+abbrev pub with_branch : ℕ → (Durable → Durable) → Reading → Reading
+with_branch t act x = record x { durable = act x.durable; timestamps = t ∷ x.timestamps }
 
 -- the records are in order, and it stands for what was read of them
 pub record HasRead (m : Rebuilding) (rs : List Record) : Type 0 where

@@ -1,8 +1,7 @@
-ghost use Rattle.std.specs.Prelude.{◌≡◌, false, true, OnOk, ◌∷◌};
+ghost use Rattle.std.specs.Prelude.{◌≡◌, false, true, OnOk};
 ghost use Rattle.xa_model.specs.Durable.{is_prepared, is_decided};
-ghost use Rattle.xa_model.specs.Fold.{Reading, is_used, prepare, commit_writes, complete, decide, fits, read};
-ghost use Rattle.xa_model.proofs.Readings.{IsRead};
-ghost use Rattle.xa_recovery.specs.Rebuilding.{StandsFor};
+ghost use Rattle.xa_model.specs.Fold.{is_used, prepare, commit_writes, complete, decide, fits, read};
+ghost use Rattle.xa_recovery.specs.Rebuilding.{StandsFor, InEach, InRead, with_branch};
 
 use crate::durable::InDoubt;
 use crate::rebuilding::Rebuilding;
@@ -15,7 +14,7 @@ use xa_xid::Xid;
 impl Rebuilding {
     /// Does what the record does, which fits.
     pub(crate) fn apply(&mut self, record: Record) -> Result<(), AllocError>
-        ensures { (x : Reading) → IsRead x → StandsFor self.old x → fits «record» x ≡ true → OnOk result (StandsFor self.new (read «record» x)) }
+        ensures { InRead self.old (λ x. fits «record» x ≡ true → OnOk result (StandsFor self.new (read «record» x))) }
     {
         match record {
             Record::Opened { boot } => {
@@ -65,8 +64,9 @@ impl Rebuilding {
 
     /// A branch is prepared, with a timestamp and a name that none has.
     fn prepare(&mut self, xid: Xid, timestamp: u64, writes: Writes) -> Result<(), AllocError>
-        ensures { (x : Reading) → IsRead x → StandsFor self.old x → is_used timestamp x.timestamps ≡ false → is_prepared xid x.durable.prepared ≡ false →
-            OnOk result (StandsFor self.new (record x { durable = prepare xid timestamp writes x.durable; timestamps = timestamp ∷ x.timestamps })) }
+        ensures { InRead self.old (λ x. is_used timestamp x.timestamps ≡ false
+            → is_prepared xid x.durable.prepared ≡ false
+            → OnOk result (StandsFor self.new (with_branch timestamp (prepare xid timestamp writes) x))) }
     {
         self.timestamps.insert(timestamp)?;
         self.names.insert(xid.copied(), timestamp)?;
@@ -76,8 +76,8 @@ impl Rebuilding {
 
     /// A branch is committed, with a timestamp that none has.
     fn commit(&mut self, timestamp: u64, writes: Writes) -> Result<(), AllocError>
-        ensures { (x : Reading) → IsRead x → StandsFor self.old x → is_used timestamp x.timestamps ≡ false →
-            OnOk result (StandsFor self.new (record x { durable = commit_writes timestamp writes x.durable; timestamps = timestamp ∷ x.timestamps })) }
+        ensures { InRead self.old (λ x. is_used timestamp x.timestamps ≡ false
+            → OnOk result (StandsFor self.new (with_branch timestamp (commit_writes timestamp writes) x))) }
     {
         self.timestamps.insert(timestamp)?;
         self.committed.insert(timestamp, writes)?;
@@ -86,8 +86,8 @@ impl Rebuilding {
 
     /// A branch in doubt is committed or rolled back.
     fn complete(&mut self, xid: &Xid, direction: Direction) -> Result<(), AllocError>
-        ensures { (x : Reading) → IsRead x → StandsFor self.old x → is_prepared xid.now x.durable.prepared ≡ true →
-            OnOk result (StandsFor self.new (record x { durable = complete xid.now direction x.durable })) }
+        ensures { InRead self.old (λ x. is_prepared xid.now x.durable.prepared ≡ true
+            → OnOk result (StandsFor self.new (record x { durable = complete xid.now direction x.durable }))) }
     {
         let Some(timestamp) = self.names.remove(xid) else {
             return Ok(());
@@ -106,8 +106,8 @@ impl Rebuilding {
 
     /// The operator's decision is kept, of an XID that isn't known.
     fn decide(&mut self, xid: Xid, direction: Direction) -> Result<(), AllocError>
-        ensures { (x : Reading) → StandsFor self.old x → is_decided xid x.durable.decided ≡ false →
-            OnOk result (StandsFor self.new (record x { durable = decide xid direction x.durable })) }
+        ensures { InEach self.old (λ x. is_decided xid x.durable.decided ≡ false
+            → OnOk result (StandsFor self.new (record x { durable = decide xid direction x.durable }))) }
     {
         self.decided.insert(xid, direction)?;
         Ok(())

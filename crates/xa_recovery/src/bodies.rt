@@ -1,6 +1,7 @@
-ghost use Rattle.std.specs.Prelude.{◌≡◌, List, ℕ, ◌∷◌, ◌++◌, [], Err, length, map, take};
+ghost use Rattle.std.specs.Prelude.{◌≡◌, List, ℕ, ◌∷◌, ◌++◌, [], Err, length, take};
 ghost use Rattle.xa_recovery.specs.declared.log_fault.LogFault.TheVariants.{Order};
 ghost use Rattle.xa_recovery.specs.Log.{HasReadBodies, BodyTaken, LogRebuilt};
+ghost use Rattle.xa_recovery.specs.Snapshots.{bytes_of};
 
 use crate::durable::Durable;
 use crate::fault::AddFault;
@@ -16,7 +17,8 @@ fn add_body(
     index: usize,
     body: &[u8],
 ) -> Result<Rebuilding, LogFault>
-    ensures { (before : List (List ℕ)) → length before ≡ index → HasReadBodies rebuilding before → BodyTaken (before ++ body.now ∷ []) result }
+    ensures { (before : List (List ℕ)) → length before ≡ index → HasReadBodies rebuilding before
+        → BodyTaken (before ++ body.now ∷ []) result }
 {
     match read(alloc, body) {
         Ok(record) => match rebuilding.add(record) {
@@ -32,7 +34,8 @@ fn add_body(
 /// The fault of bodies of which those before the index `from` are records', where the record with the index `first` is the
 /// first out of order: a body that is malformed goes before it.
 fn fault_behind(alloc: Global, bodies: &[Vec<u8>], first: usize, from: usize) -> LogFault
-    ensures { LogRebuilt (take from (map (λ b. b.items) bodies.now)) (Err (Order first)) → LogRebuilt (map (λ b. b.items) bodies.now) (Err result) }
+    ensures { LogRebuilt (take from (bytes_of bodies.now)) (Err (Order first))
+        → LogRebuilt (bytes_of bodies.now) (Err result) }
 {
     for index in from..bodies.len() {
         match read(alloc, &bodies[index]) {
@@ -51,7 +54,7 @@ fn fault_behind(alloc: Global, bodies: &[Vec<u8>], first: usize, from: usize) ->
 /// The index of the first body that is no record's; where each is one's, that of the first record out of order; or want of
 /// memory.
 pub fn rebuild_log(alloc: Global, bodies: &[Vec<u8>]) -> Result<Durable, LogFault>
-    ensures { LogRebuilt (map (λ b. b.items) bodies.now) result }
+    ensures { LogRebuilt (bytes_of bodies.now) result }
 {
     let mut rebuilding = Rebuilding::new(alloc);
     for index in 0..bodies.len() {

@@ -1,6 +1,6 @@
-ghost use Rattle.std.specs.Prelude.{◌≡◌, ◌+◌, map, nat_lt, if◌then◌else◌, None, Some};
+ghost use Rattle.std.specs.Prelude.{◌≡◌, ◌+◌, nat_lt, if◌then◌else◌, None, Some};
 ghost use Rattle.xa_model.specs.Restarting.{most_boots};
-ghost use Rattle.xa_recovery.specs.Durable.{as_committed, as_prepared, as_decided};
+ghost use Rattle.xa_recovery.specs.Durable.{committed_of, prepared_of, decided_of};
 
 use std::collections::BTreeMap;
 use std::marker::Model;
@@ -25,13 +25,17 @@ pub struct Durable {
 }
 
 impl Model for Durable {
-    ghost use Rattle.std.specs.Prelude.{map};
     ghost use Rattle.xa_model.specs.Durable.{Durable as Seen};
-    ghost use Rattle.xa_recovery.specs.Durable.{as_committed, as_prepared, as_decided};
+    ghost use Rattle.xa_recovery.specs.Durable.{committed_of, prepared_of, decided_of};
 
     ghost Value = { Seen };
 
-    ghost view = { λ d. record { boot = d.boot; committed = map as_committed d.committed.entries; prepared = map as_prepared d.prepared.entries; decided = map as_decided d.decided.entries } };
+    ghost view = { λ d. record {
+      boot = d.boot;
+      committed = committed_of d.committed;
+      prepared = prepared_of d.prepared;
+      decided = decided_of d.decided;
+    } };
 }
 
 impl Durable {
@@ -44,21 +48,21 @@ impl Durable {
 
     /// The committed branches by timestamp, each with those of its writes that are the last of their keys.
     pub fn committed(&self) -> &BTreeMap<u64, Writes>
-        ensures { map as_committed result.now.entries ≡ self.now.committed }
+        ensures { committed_of result.now ≡ self.now.committed }
     {
         &self.committed
     }
 
     /// The branches in doubt by timestamp.
     pub fn prepared(&self) -> &BTreeMap<u64, InDoubt>
-        ensures { map as_prepared result.now.entries ≡ self.now.prepared }
+        ensures { prepared_of result.now ≡ self.now.prepared }
     {
         &self.prepared
     }
 
     /// What the operator decided and isn't forgotten, by XID.
     pub fn decided(&self) -> &BTreeMap<Xid, Direction>
-        ensures { map as_decided result.now.entries ≡ self.now.decided }
+        ensures { decided_of result.now ≡ self.now.decided }
     {
         &self.decided
     }

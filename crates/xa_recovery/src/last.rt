@@ -1,11 +1,9 @@
-ghost use Rattle.std.specs.Prelude.{◌≡◌, ◌||◌, List, ℕ, map, filter, not, IfOk, OnOk};
+ghost use Rattle.std.specs.Prelude.{◌≡◌, filter, not, IfOk, OnOk};
 ghost use Rattle.std.specs.BTreeMap.{insert_entry};
-ghost use Rattle.std.specs.BTreeSet.{contains};
-ghost use Rattle.std.specs.Cmp.Lexicographic.{slice_cmp};
 ghost use Rattle.std.specs.Ordering.{nat_cmp};
-ghost use Rattle.xa_codes.specs.declared.write.Write.{Write};
-ghost use Rattle.xa_model.specs.Durable.{CommittedBranch, Pairwise, commits_before, is_written_in, last_writes};
-ghost use Rattle.xa_recovery.specs.Durable.{as_committed};
+ghost use Rattle.xa_model.specs.Durable.{Pairwise, commits_before, last_writes};
+ghost use Rattle.xa_recovery.specs.Durable.{committed_of};
+ghost use Rattle.xa_recovery.specs.Last.{Notes, has_key};
 
 use std::alloc::{AllocError, Global};
 use std::collections::{BTreeMap, BTreeSet};
@@ -14,7 +12,7 @@ use xa_record::Writes;
 
 /// The writes of keys that aren't in the set.
 fn unwritten(alloc: Global, written: &BTreeSet<Bytes>, writes: Writes) -> Result<Writes, AllocError>
-    ensures { IfOk result (λ ws. ws ≡ filter (λ w. not (contains (slice_cmp nat_cmp) written.now w.key)) writes) }
+    ensures { IfOk result (λ ws. ws ≡ filter (λ w. not (has_key written.now w.key)) writes) }
 {
     let mut kept = Vec::new(alloc);
     for write in writes.into_vec() {
@@ -27,7 +25,7 @@ fn unwritten(alloc: Global, written: &BTreeSet<Bytes>, writes: Writes) -> Result
 
 /// Adds the keys of writes to the set.
 fn note(alloc: Global, written: &mut BTreeSet<Bytes>, writes: &[Write]) -> Result<(), AllocError>
-    ensures { OnOk result ((key : List ℕ) → contains (slice_cmp nat_cmp) written.new key ≡ (is_written_in key writes.now || contains (slice_cmp nat_cmp) written.old key)) }
+    ensures { OnOk result (Notes written.old writes.now written.new) }
 {
     for write in writes {
         written.insert(write.key.copied(alloc)?)?;
@@ -47,7 +45,8 @@ pub(crate) fn last_writes(
     alloc: Global,
     mut all: BTreeMap<u64, Writes>,
 ) -> Result<BTreeMap<u64, Writes>, AllocError>
-    ensures { Pairwise commits_before (map as_committed all.entries) → IfOk result (λ m. map as_committed m.entries ≡ last_writes (map as_committed all.entries)) }
+    ensures { Pairwise commits_before (committed_of all)
+        → IfOk result (λ m. committed_of m ≡ last_writes (committed_of all)) }
 {
     let mut written = BTreeSet::new(alloc);
     let mut last = BTreeMap::new(alloc);

@@ -1,8 +1,7 @@
-ghost use Rattle.std.specs.Prelude.{◌≡◌, ◌++◌, ℕ, List, IfOk, OnOk, map, filter, fold, take, option_copied, if◌then◌else◌};
+ghost use Rattle.std.specs.Prelude.{◌≡◌, IfOk, OnOk, map, take, option_copied};
 ghost use Rattle.std.specs.BTreeMap.{keys, values};
-ghost use Rattle.std.specs.BTreeSet.{insert_key};
-ghost use Rattle.xa_xid.specs.Triple.{xid_cmp};
-ghost use Rattle.xa_model.specs.Listed.{is_above, list_after};
+ghost use Rattle.xa_model.specs.Listed.{list_after};
+ghost use Rattle.xa_recovery.specs.Listing.{with_above, with_all_above};
 
 use crate::durable::{Durable, InDoubt};
 use std::alloc::{AllocError, Global};
@@ -11,8 +10,8 @@ use xa_codes::Direction;
 use xa_xid::Xid;
 
 /// Adds an XID to the set, if it is above the given one.
-fn add(above: &mut BTreeSet<Xid>, xid: &Xid, after: Option<&Xid>) -> Result<(), AllocError>
-    ensures { OnOk result (above.new.keys ≡ (if is_above (option_copied after.entry) xid.now then insert_key xid_cmp above.old.keys xid.now else above.old.keys)) }
+fn add_xid(above: &mut BTreeSet<Xid>, xid: &Xid, after: Option<&Xid>) -> Result<(), AllocError>
+    ensures { OnOk result (above.new.keys ≡ with_above (option_copied after.entry) above.old.keys xid.now) }
 {
     let passes = match after {
         Some(after) => *after < *xid,
@@ -29,10 +28,11 @@ fn add_prepared(
     prepared: &BTreeMap<u64, InDoubt>,
     after: Option<&Xid>,
 ) -> Result<(), AllocError>
-    ensures { OnOk result (above.new.keys ≡ fold (insert_key xid_cmp) above.old.keys (filter (is_above (option_copied after.entry)) (map (λ b. b.xid) (values prepared.now)))) }
+    ensures { OnOk result (above.new.keys
+        ≡ with_all_above (option_copied after.entry) above.old.keys (map (λ b. b.xid) (values prepared.now))) }
 {
     for branch in prepared.values() {
-        add(above, &branch.xid, after)?;
+        add_xid(above, &branch.xid, after)?;
     }
     Ok(())
 }
@@ -42,10 +42,11 @@ fn add_decided(
     decided: &BTreeMap<Xid, Direction>,
     after: Option<&Xid>,
 ) -> Result<(), AllocError>
-    ensures { OnOk result (above.new.keys ≡ fold (insert_key xid_cmp) above.old.keys (filter (is_above (option_copied after.entry)) (keys decided.now))) }
+    ensures { OnOk result (above.new.keys
+        ≡ with_all_above (option_copied after.entry) above.old.keys (keys decided.now)) }
 {
     for xid in decided.keys() {
-        add(above, xid, after)?;
+        add_xid(above, xid, after)?;
     }
     Ok(())
 }

@@ -1,7 +1,7 @@
-ghost use Rattle.std.specs.Prelude.{◌≡◌, ◌++◌, ◌∷◌, [], List, ℕ, map, IfOk, OnOk};
+ghost use Rattle.std.specs.Prelude.{◌≡◌, ◌∷◌, [], map, IfOk, OnOk};
 ghost use Rattle.xa_record.specs.Spelling.{spelled};
-ghost use Rattle.xa_model.specs.Fold.{base, held, known, snapshot};
-ghost use Rattle.xa_recovery.specs.Durable.{as_committed, as_prepared, as_decided};
+ghost use Rattle.xa_model.specs.Fold.{snapshot};
+ghost use Rattle.xa_recovery.specs.Snapshots.{Puts, bytes_of, base_body, held_body, known_body};
 
 use crate::copies::writes_copied;
 use crate::durable::{Durable, InDoubt};
@@ -13,7 +13,7 @@ use xa_xid::Xid;
 
 /// Writes the body of a record behind the others.
 fn put(alloc: Global, bodies: &mut Vec<Vec<u8>>, said: &Record) -> Result<(), AllocError>
-    ensures { OnOk result (map (λ b. b.items) bodies.new.items ≡ map (λ b. b.items) bodies.old.items ++ spelled said.now ∷ []) }
+    ensures { OnOk result (Puts bodies.old (spelled said.now ∷ []) bodies.new) }
 {
     bodies.push(write(alloc, said)?)?;
     Ok(())
@@ -25,7 +25,7 @@ fn put_base(
     timestamp: u64,
     writes: &Writes,
 ) -> Result<(), AllocError>
-    ensures { OnOk result (map (λ b. b.items) bodies.new.items ≡ map (λ b. b.items) bodies.old.items ++ spelled (base (as_committed (timestamp, writes.now))) ∷ []) }
+    ensures { OnOk result (Puts bodies.old (base_body (timestamp, writes.now) ∷ []) bodies.new) }
 {
     let writes = writes_copied(alloc, writes)?;
     put(alloc, bodies, &Record::Base { timestamp, writes })
@@ -36,7 +36,7 @@ fn put_committed(
     bodies: &mut Vec<Vec<u8>>,
     committed: &BTreeMap<u64, Writes>,
 ) -> Result<(), AllocError>
-    ensures { OnOk result (map (λ b. b.items) bodies.new.items ≡ map (λ b. b.items) bodies.old.items ++ map (λ e. spelled (base (as_committed e))) committed.now.entries) }
+    ensures { OnOk result (Puts bodies.old (map base_body committed.now.entries) bodies.new) }
 {
     for (timestamp, writes) in committed {
         put_base(alloc, bodies, *timestamp, writes)?;
@@ -50,7 +50,7 @@ fn put_held(
     timestamp: u64,
     branch: &InDoubt,
 ) -> Result<(), AllocError>
-    ensures { OnOk result (map (λ b. b.items) bodies.new.items ≡ map (λ b. b.items) bodies.old.items ++ spelled (held (as_prepared (timestamp, branch.now))) ∷ []) }
+    ensures { OnOk result (Puts bodies.old (held_body (timestamp, branch.now) ∷ []) bodies.new) }
 {
     let xid = branch.xid.copied();
     let writes = writes_copied(alloc, &branch.writes)?;
@@ -70,7 +70,7 @@ fn put_prepared(
     bodies: &mut Vec<Vec<u8>>,
     prepared: &BTreeMap<u64, InDoubt>,
 ) -> Result<(), AllocError>
-    ensures { OnOk result (map (λ b. b.items) bodies.new.items ≡ map (λ b. b.items) bodies.old.items ++ map (λ e. spelled (held (as_prepared e))) prepared.now.entries) }
+    ensures { OnOk result (Puts bodies.old (map held_body prepared.now.entries) bodies.new) }
 {
     for (timestamp, branch) in prepared {
         put_held(alloc, bodies, *timestamp, branch)?;
@@ -84,7 +84,7 @@ fn put_known(
     xid: &Xid,
     direction: Direction,
 ) -> Result<(), AllocError>
-    ensures { OnOk result (map (λ b. b.items) bodies.new.items ≡ map (λ b. b.items) bodies.old.items ++ spelled (known (as_decided (xid.now, direction))) ∷ []) }
+    ensures { OnOk result (Puts bodies.old (known_body (xid.now, direction) ∷ []) bodies.new) }
 {
     let xid = xid.copied();
     put(alloc, bodies, &Record::Known { xid, direction })
@@ -95,7 +95,7 @@ fn put_decided(
     bodies: &mut Vec<Vec<u8>>,
     decided: &BTreeMap<Xid, Direction>,
 ) -> Result<(), AllocError>
-    ensures { OnOk result (map (λ b. b.items) bodies.new.items ≡ map (λ b. b.items) bodies.old.items ++ map (λ e. spelled (known (as_decided e))) decided.now.entries) }
+    ensures { OnOk result (Puts bodies.old (map known_body decided.now.entries) bodies.new) }
 {
     for (xid, direction) in decided {
         put_known(alloc, bodies, xid, *direction)?;
@@ -111,7 +111,7 @@ fn put_decided(
 /// # Errors
 /// Want of memory.
 pub fn snapshot(alloc: Global, durable: &Durable, boot: u32) -> Result<Vec<Vec<u8>>, AllocError>
-    ensures { IfOk result (λ v. map (λ b. b.items) v.items ≡ map spelled (snapshot durable.now boot)) }
+    ensures { IfOk result (λ v. bytes_of v.items ≡ map spelled (snapshot durable.now boot)) }
 {
     let mut bodies = Vec::new(alloc);
     put(alloc, &mut bodies, &Record::Opened { boot })?;

@@ -1,9 +1,7 @@
 use Rattle.std.proofs.Common.{◌||◌, map, ap, ◌∙◌}
-use Rattle.std.specs.BTreeSet.{contains}
-use Rattle.std.specs.Cmp.Lexicographic.{slice_cmp}
-use Rattle.std.specs.Ordering.{nat_cmp}
 use Rattle.xa_model.specs.Durable.{is_written_in}
 use Rattle.xa_recovery.specs.Durable.{as_committed}
+use Rattle.xa_recovery.specs.Last.{has_key}
 use Rattle.xa_recovery.proofs.Upto.{taken, passed_over, kept_some, kept_none}
 use Rattle.xa_recovery.proofs.last.last_writes.Goals as goal
 
@@ -13,7 +11,7 @@ loop-timestamp-preserved-in-Continue-branch-3 c = λ ordered.
     taken (map as_committed c.args.all.entries) c.loop-timestamp.all.entries c.pop_last.new.self.entries (c.in-Some.timestamp, c.in-Some.writes) c.loop-timestamp.written c.note.new.written c.loop-timestamp.last.entries c.keep.new.last.entries kept
     ordered (c.loop-timestamp.invariant ordered) c.in-Some.ensures.removal c.in_ok-kept.ensures
     (kept_some c.as_slice.result.now kept c.is_empty.result c.is_empty.ensures c.as_slice.ensures c.if-not-is_empty.true)
-    (λ key. c.in_ok-note.ensures key ∙ ap (λ ws. is_written_in key ws || contains (slice_cmp nat_cmp) c.loop-timestamp.written key) c.as_slice-then-not-is_empty.ensures)
+    (λ key. c.in_ok-note.ensures key ∙ ap (λ ws. is_written_in key ws || has_key c.loop-timestamp.written key) c.as_slice-then-not-is_empty.ensures)
     c.in_ok-keep.ensures
 
 pub loop-timestamp-preserved : goal.loop-timestamp-preserved

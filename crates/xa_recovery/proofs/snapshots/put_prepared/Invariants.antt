@@ -1,10 +1,8 @@
 use Rattle.std.proofs.Common.{◌≡◌, ◌++◌, map}
-use Rattle.xa_record.specs.Spelling.{spelled}
-use Rattle.xa_model.specs.Fold.{held}
-use Rattle.xa_recovery.specs.Durable.{as_prepared}
+use Rattle.xa_recovery.specs.Snapshots.{held_body, bytes_of}
 use Rattle.xa_recovery.proofs.snapshots.put_prepared.Given as goal
 
 abbrev pub invariant-loop-timestamp : goal.invariant-loop-timestamp
 invariant-loop-timestamp l =
-    map (λ b. b.items) l.bodies.items ++ map (λ e. spelled (held (as_prepared e))) l.timestamp-iterator
-    ≡ map (λ b. b.items) l.fn.bodies.items ++ map (λ e. spelled (held (as_prepared e))) l.prepared.entries
+    bytes_of l.bodies.items ++ map held_body l.timestamp-iterator
+    ≡ bytes_of l.fn.bodies.items ++ map held_body l.prepared.entries

@@ -2,6 +2,7 @@ use Rattle.std.proofs.Common.{map, ap, ◌∙◌}
 use Rattle.xa_record.specs.Spelling.{spelled}
 use Rattle.xa_model.specs.Durable.{Durable}
 use Rattle.xa_model.specs.Fold.{snapshot}
+use Rattle.xa_recovery.specs.Snapshots.{bytes_of}
 use Rattle.xa_recovery.proofs.ListedMaps.{bodies_are}
 use Rattle.xa_recovery.proofs.snapshots.snapshot.Goals as goal
 
@@ -9,7 +10,7 @@ pub returns : goal.returns
 returns c =
     let inside = c.durable.inside in
     bodies_are c.args.boot inside.boot inside.committed.entries inside.prepared.entries inside.decided.entries
-    (map (λ b. b.items) c.new-bodies.result.items) (map (λ b. b.items) c.put.new.bodies.items) (map (λ b. b.items) c.put_committed.new.bodies.items)
-    (map (λ b. b.items) c.put_prepared.new.bodies.items) (map (λ b. b.items) c.put_decided.new.bodies.items)
-    (ap (map (λ b. b.items)) c.new-bodies.ensures.items) c.in_ok-put.ensures c.in_ok-put_committed.ensures c.in_ok-put_prepared.ensures c.in_ok-put_decided.ensures
+    (bytes_of c.new-bodies.result.items) (bytes_of c.put.new.bodies.items) (bytes_of c.put_committed.new.bodies.items)
+    (bytes_of c.put_prepared.new.bodies.items) (bytes_of c.put_decided.new.bodies.items)
+    (ap bytes_of c.new-bodies.ensures.items) c.in_ok-put.ensures c.in_ok-put_committed.ensures c.in_ok-put_prepared.ensures c.in_ok-put_decided.ensures
     ∙ ap (λ (d : Durable). map spelled (snapshot d c.args.boot)) c.durable.view_is

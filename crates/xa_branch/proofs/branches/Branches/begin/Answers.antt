@@ -1,13 +1,12 @@
-use Rattle.std.proofs.Common.{◌≡◌, ℕ, ◌≤◌, ◌+◌, ◌*◌, ◌⊎◌, inl, inr, true, false, refl, sym, ◌∙◌, ap, subst, arith}
+use Rattle.std.proofs.Common.{◌≡◌, ℕ, ◌+◌, ◌*◌, true, false, refl, sym, ◌∙◌, ap, subst, arith}
 use Rattle.std.specs.Prelude.{is_some}
 use Rattle.xa_model.specs.State.{timestamp_of}
 use Rattle.xa_branch.specs.Branches.{working_at, lasting_at, number_of}
 use Rattle.xa_branch.specs.Changes.{SetsTime, new_kept}
-use Rattle.xa_branch.proofs.Beginning.{taken_in, fault_is, limited, let_in, none_of}
+use Rattle.xa_branch.proofs.Beginning.{taken_in, fault_is, full, spent, let_in, none_of}
 use Rattle.xa_branch.proofs.Setting.{set_same}
 use Rattle.xa_branch.proofs.Begun.{begun_stands, taken_stands}
 use Rattle.xa_branch.proofs.branches.Branches.begin.Goals as goal
-use Rattle.xa_branch.proofs.branches.Branches.begin.Goals.{then-len-ge-MOST_BRANCHES-via-then-len-ge-MOST_BRANCHES, then-len-ge-MOST_BRANCHES-via-else-len-ge-MOST_BRANCHES+then-self-ge-MOST_GIVEN}
 
 pub returns-then-len-ge-MOST_BRANCHES-clause-refused : goal.returns-then-len-ge-MOST_BRANCHES-clause-refused
 returns-then-len-ge-MOST_BRANCHES-clause-refused c = λ s st.
@@ -15,12 +14,15 @@ returns-then-len-ge-MOST_BRANCHES-clause-refused c = λ s st.
     let idle : is_some (working_at m c.args.xid.now) ≡ false = grind (arith, c.working_of.ensures, c.is_some.ensures, c.if-is_some.false) in
     let nor : is_some (lasting_at m c.args.xid.now) ≡ false = grind (arith, c.lasting_of.ensures, c.is_some-else-is_some.ensures, c.if-is_some-2.false) in
     let free : taken_in m c.args.xid.now ≡ false = rw idle nor in
-    let full : (4096 ≤ number_of m) ⊎ (4294967295 ≤ m.given) =
-    elim c.then-len-ge-MOST_BRANCHES.branch [
-      | then-len-ge-MOST_BRANCHES-via-then-len-ge-MOST_BRANCHES w ↦ inl (omega (arith, c.len.ensures.value))
-      | then-len-ge-MOST_BRANCHES-via-else-len-ge-MOST_BRANCHES+then-self-ge-MOST_GIVEN w ↦ inr (omega arith)
-    ] in
-    sym (fault_is m s c.args.xid.now st ∙ limited (taken_in m c.args.xid.now) (number_of m) m.given free full)
+    sym (fault_is m s c.args.xid.now st ∙ full (taken_in m c.args.xid.now) (number_of m) m.given free (omega (arith, c.len.ensures.value)))
+
+pub returns-then-self-ge-MOST_GIVEN-clause-refused : goal.returns-then-self-ge-MOST_GIVEN-clause-refused
+returns-then-self-ge-MOST_GIVEN-clause-refused c = λ s st.
+    let m = c.args.self.now in
+    let idle : is_some (working_at m c.args.xid.now) ≡ false = grind (arith, c.working_of.ensures, c.is_some.ensures, c.if-is_some.false) in
+    let nor : is_some (lasting_at m c.args.xid.now) ≡ false = grind (arith, c.lasting_of.ensures, c.is_some-else-is_some.ensures, c.if-is_some-2.false) in
+    let free : taken_in m c.args.xid.now ≡ false = rw idle nor in
+    sym (fault_is m s c.args.xid.now st ∙ spent (taken_in m c.args.xid.now) (number_of m) m.given free (omega (arith, c.len.ensures.value)) (omega arith))
 
 pub returns-in-Err-clause-refused : goal.returns-in-Err-clause-refused
 returns-in-Err-clause-refused c = λ s st.

@@ -10,9 +10,9 @@ returns-in_default-clause-ok c = λ s st.
     let none : working_at c.args.self.now c.args.xid.now ≡ None = search rules in no_room_made c.args.self.now s c.args.xid.now st none
 
 pub returns-clause-ok : goal.returns-clause-ok
-returns-clause-ok c = λ s st.
+returns-clause-ok c =
     let m = c.args.self.now in
     let t = c.in-Some.working.timestamp in
     on_ok c.add.result _ _
-    (λ sets. room_made m _ s c.args.xid.now c.in-Some.working st (sym c.in-Some.ensures) (set_same m.lasting _ c.copied.result c.args.xid.now (lasts.Prepared t) (lasts.Prepared t) c.copied.ensures refl sets))
+    (λ sets s st. room_made m _ s c.args.xid.now c.in-Some.working st (sym c.in-Some.ensures) (set_same m.lasting _ c.copied.result c.args.xid.now (lasts.Prepared t) (lasts.Prepared t) c.copied.ensures refl sets))
     c.add.ensures.ok
