@@ -18,11 +18,12 @@ use Rattle.xa_recovery.specs.declared.log_fault.LogFault.TheVariants as rebuilt
 use Rattle.xa_manager.specs.declared.fault.ManagerFault.{ManagerFault}
 use Rattle.xa_manager.specs.declared.fault.ManagerFault.TheVariants as fault
 use Rattle.xa_manager.specs.declared.manager.Manager.{Manager}
+use Rattle.xa_manager.specs.declared.settings.TheConstants.{MOST_NAME, LEAST_LOG, MOST_LOG}
 use Rattle.xa_manager.specs.Managed.{ManagerStandsFor}
 
 -- settings out of their limits
 abbrev pub IsBadSetting : List ℕ → ℕ → Type 0
-IsBadSetting name log_bytes = (255 < length name) ⊎ (log_bytes < 64) ⊎ (1073741824 < log_bytes)
+IsBadSetting name log_bytes = (MOST_NAME < length name) ⊎ (log_bytes < LEAST_LOG) ⊎ (MOST_LOG < log_bytes)
 
 -- the current file has these bodies, and the other one comes behind it
 abbrev pub HasBodies : {D : Type 0} → Ghosts D → List (List ℕ) → Log D → Type 0

@@ -5,6 +5,7 @@ use Rattle.mv_chain.specs.History.{Written}
 use Rattle.mv_rules.specs.declared.records.Records.{Records}
 use Rattle.mv_rules.specs.Records.{StandsFor as RecordsStandFor}
 use Rattle.mv_rules.specs.Within.{AreShort}
+use Rattle.xa_codes.specs.declared.write.TheConstants.{MOST_VALUE}
 use Rattle.xa_model.specs.State.{Decided}
 use Rattle.xa_model.specs.Durable.{CommittedBranch, PreparedBranch}
 use Rattle.xa_branch.specs.declared.branches.Branches.{Branches}
@@ -38,10 +39,10 @@ pub record CompletedUpto (boot : ℕ) (ps : List PreparedBranch) (all left : Lis
   pub split : done ++ left ≡ all
   pub stands : HasRestored m boot ps done
 
--- what these branches wrote has no value over 1,024 bytes
+-- what these branches wrote has no value over MOST_VALUE bytes
 
 abbrev pub CommittedAreShort : List CommittedBranch → Type 0
-CommittedAreShort bs = AllByRecursion (λ b. AreShort 1024 b.writes) bs
+CommittedAreShort bs = AllByRecursion (λ b. AreShort MOST_VALUE b.writes) bs
 
 abbrev pub PreparedAreShort : List PreparedBranch → Type 0
-PreparedAreShort ps = AllByRecursion (λ p. AreShort 1024 p.writes) ps
+PreparedAreShort ps = AllByRecursion (λ p. AreShort MOST_VALUE p.writes) ps

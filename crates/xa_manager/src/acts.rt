@@ -4,9 +4,6 @@ ghost use Rattle.xa_model.specs.Associations.{begun, joined, resumed, not_resume
 ghost use Rattle.xa_model.specs.Branches.{rolled_back, committed, decided_by, forgotten};
 ghost use Rattle.xa_model.specs.Completions.{is_completed};
 ghost use Rattle.xa_model.specs.Loggable.{IsRecoverable};
-ghost use Rattle.xa_model.specs.LowWater.{low_water};
-ghost use Rattle.xa_model.specs.Sound.{IsSound};
-ghost use Rattle.xa_branch.specs.Branches.{BranchesStandFor};
 ghost use Rattle.xa_manager.specs.Drained.{GivesBack};
 ghost use Rattle.xa_assoc.specs.Seats.{opened_at};
 ghost use Rattle.xa_assoc.specs.Sessions.{begin_refusal_of, resume_refusal_of, suspend_refusal_of};
@@ -14,17 +11,14 @@ ghost use Rattle.xa_branch.specs.Calls.{marked_with};
 ghost use Rattle.xa_branch.specs.Kinds.{ended_kind, resumed_kind};
 ghost use Rattle.xa_manager.specs.Kept.{kept_of};
 ghost use Rattle.xa_manager.specs.Stands.{StandsFor, Becomes, BecomesAt, Stays, StaysDown};
-ghost use Rattle.xa_manager.specs.Changes.{Gets, Puts, items_of, fate_of};
+ghost use Rattle.xa_manager.specs.Changes.{fate_of};
 ghost use Rattle.xa_assoc.specs.Company.{company_of};
-ghost use Rattle.mv_chain.specs.Within.{IsShort};
-ghost use Rattle.mv_rules.specs.Within.{IsShortAnswer};
 
 use crate::tables::Tables;
 use mv_chain::Fate;
-use mv_rules::{Got, Put};
 use std::alloc::AllocError;
 use xa_branch::Kind;
-use xa_codes::{Bytes, Code, Direction, XA_RBROLLBACK};
+use xa_codes::{Code, Direction, XA_RBROLLBACK};
 use xa_xid::Xid;
 
 /// How a session comes to work for a branch, in each table alike, once nothing is refused. What can fail comes first.
@@ -157,36 +151,8 @@ pub fn fate_of(direction: Direction) -> Fate
     }
 }
 
-/// What a branch reads and writes.
-impl Tables {
-    /// What a branch of this timestamp reads of a key. An answered read is noted.
-    pub fn read(&mut self, timestamp: u64, key: &Bytes) -> Got
-        ensures gets { Gets (kept_of self.old) timestamp key.now result (kept_of self.new) }
-        ensures company { company_of self.new.sessions ≡ company_of self.old.sessions }
-        ensures short { IsShortAnswer 1024 result }
-    {
-        self.records.get(timestamp, key.as_slice())
-    }
-
-    /// A branch of this timestamp writes a value, or deletes a key.
-    pub fn write(&mut self, timestamp: u64, key: &Bytes, value: Option<Vec<u8>>) -> Put
-        requires { IsShort 1024 (items_of value) }
-        ensures puts { Puts (kept_of self.old) timestamp key.now (items_of value) result (kept_of self.new) }
-        ensures company { company_of self.new.sessions ≡ company_of self.old.sessions }
-    {
-        self.records.put(timestamp, key.as_slice(), value)
-    }
-}
-
 /// What is no longer needed of the versions.
 impl Tables {
-    /// The least timestamp of a branch at work or prepared, or where there is none the last that this boot gave.
-    fn low_water(&self) -> u64
-        ensures { (s : State) → IsSound s → BranchesStandFor self.now.branches s → result ≡ low_water s }
-    {
-        self.branches.low_water()
-    }
-
     /// Gives the records the low water. Takes no memory.
     pub fn give_low_water(&mut self)
         ensures stays { Stays (kept_of self.old) (kept_of self.new) }
@@ -194,7 +160,7 @@ impl Tables {
         ensures drained { GivesBack self.new.branches self.new.records }
         ensures company { company_of self.new.sessions ≡ company_of self.old.sessions }
     {
-        let low = self.low_water();
+        let low = self.branches.low_water();
         self.records.low_water(low);
     }
 }

@@ -1,4 +1,5 @@
 ghost use Rattle.std.specs.Prelude.{◌≡◌, IfOk, OnErr};
+ghost use Rattle.xa_codes.specs.declared.write.TheConstants.{MOST_VALUE};
 ghost use Rattle.xa_model.specs.State.{own_branch};
 ghost use Rattle.xa_model.specs.Records.{get_by, put_by};
 ghost use Rattle.xa_manager.specs.Changes.{items_of};
@@ -30,7 +31,7 @@ impl Tables {
         if let Some(code) = working.mark {
             return Ok(Reply::plain(code));
         }
-        match self.read(working.timestamp, key) {
+        match self.records.get(working.timestamp, key.as_slice()) {
             Got::Value(value) => Ok(Reply::carrying(Body::Value(value))),
             Got::Absent => Ok(Reply::carrying(Body::Absent)),
             Got::Busy(_) => Ok(Reply::detailed(XA_RETRY, Detail::Busy)),
@@ -45,7 +46,7 @@ impl Tables {
         key: &Bytes,
         value: Option<Vec<u8>>,
     ) -> Result<Reply, AllocError>
-        requires { IsShort 1024 (items_of value) }
+        requires { IsShort MOST_VALUE (items_of value) }
         ensures ok { IfOk result (λ r. Follows (kept_of self.old) (λ s. put_by s key.now (items_of value) (own_branch s session)) r (kept_of self.new)) }
         ensures err { OnErr result (Stays (kept_of self.old) (kept_of self.new)) }
         ensures company { company_of self.new.sessions ≡ company_of self.old.sessions }
@@ -57,7 +58,7 @@ impl Tables {
         if let Some(code) = working.mark {
             return Ok(Reply::plain(code));
         }
-        match self.write(working.timestamp, key, value) {
+        match self.records.put(working.timestamp, key.as_slice(), value) {
             Put::Done => Ok(Reply::plain(XA_OK)),
             Put::Late => {
                 self.mark_branch(&xid, XA_RBTRANSIENT);

@@ -11,6 +11,7 @@ ghost use Rattle.xa_model.specs.Restored.{IsRestored};
 ghost use Rattle.xa_model.specs.State.{State};
 ghost use Rattle.xa_recovery.specs.Durable.{as_committed, as_prepared, as_decided};
 ghost use Rattle.mv_rules.specs.Within.{IsWithin};
+ghost use Rattle.xa_codes.specs.declared.write.TheConstants.{MOST_VALUE};
 ghost use Rattle.xa_record.specs.Limits.{IsRecord};
 ghost use Rattle.xa_model.specs.Fold.{snapshot};
 ghost use Rattle.xa_manager.specs.Rebuilding.{AreNew, HaveWrites, CommittedAreShort, PreparedAreShort};
@@ -72,7 +73,7 @@ pub(crate) fn branches_of(
 fn put_committed(records: &mut Records, committed: &BTreeMap<u64, Writes>) -> Result<(), AllocError>
     ensures stands { AreNew (map (λ c. c.timestamp) (map as_committed committed.now.entries)) [] → HaveWrites [] records.old
         → OnOk result (HaveWrites (fold with_committed [] (map as_committed committed.now.entries)) records.new) }
-    ensures short { CommittedAreShort (map as_committed committed.now.entries) → IsWithin 1024 records.old → OnOk result (IsWithin 1024 records.new) }
+    ensures short { CommittedAreShort (map as_committed committed.now.entries) → IsWithin MOST_VALUE records.old → OnOk result (IsWithin MOST_VALUE records.new) }
 {
     for (timestamp, writes) in committed {
         records.restore(*timestamp, writes.as_slice(), Some(Fate::Committed))?;
@@ -84,7 +85,7 @@ fn put_committed(records: &mut Records, committed: &BTreeMap<u64, Writes>) -> Re
 fn put_undecided(records: &mut Records, prepared: &BTreeMap<u64, InDoubt>) -> Result<(), AllocError>
     ensures stands { (older : List Written) → AreNew (map (λ p. p.timestamp) (map as_prepared prepared.now.entries)) older → HaveWrites older records.old
         → OnOk result (HaveWrites (fold with_prepared older (map as_prepared prepared.now.entries)) records.new) }
-    ensures short { PreparedAreShort (map as_prepared prepared.now.entries) → IsWithin 1024 records.old → OnOk result (IsWithin 1024 records.new) }
+    ensures short { PreparedAreShort (map as_prepared prepared.now.entries) → IsWithin MOST_VALUE records.old → OnOk result (IsWithin MOST_VALUE records.new) }
 {
     for (timestamp, branch) in prepared {
         records.restore(*timestamp, branch.writes.as_slice(), None)?;
@@ -95,7 +96,7 @@ fn put_undecided(records: &mut Records, prepared: &BTreeMap<u64, InDoubt>) -> Re
 /// The versions that lasted.
 pub(crate) fn records_of(alloc: Global, durable: &Durable) -> Result<Records, AllocError>
     ensures stands { IfOk result (λ m. (s : State) (next : ℕ) → IsRestored durable.now next s → RecordsStandFor (history_of s) m) }
-    ensures short { (boot : ℕ) → AllByRecursion IsRecord (snapshot durable.now boot) → IfOk result (IsWithin 1024) }
+    ensures short { (boot : ℕ) → AllByRecursion IsRecord (snapshot durable.now boot) → IfOk result (IsWithin MOST_VALUE) }
 {
     let mut records = Records::new(alloc);
     put_committed(&mut records, durable.committed())?;
