@@ -48,12 +48,14 @@ has_boot_room log_bytes d boot = log_room log_bytes (8 + sizes (snapshot d boot)
 -- A boot began with what these bodies come to. The manager stands for every state that a restart or an opening leads to from
 -- there, with these settings and without sessions: committed branches of it may have reads, and writes that later ones wrote
 -- over.
-pub record HasBegun {D : Type 0} (disks : Ghosts D) (bodies : List (List ℕ)) (name : List ℕ) (log_bytes : ℕ) (m : Manager D) : Type 0 where
+pub record HasBegun {D : Type 0} (disks : Ghosts D) (bodies : List (List ℕ)) (name : List ℕ)
+    (log_bytes : ℕ) (m : Manager D) : Type 0 where
   pub durable : Durable
   pub comes : ComeTo bodies durable
   pub boots : durable.boot < most_boots
   pub room : has_boot_room log_bytes durable (durable.boot + 1) ≡ true
-  pub stands : (s : State) → IsRestored durable (durable.boot + 1) s → s.name ≡ name → s.log_bytes ≡ log_bytes → s.sessions ≡ []
+  pub stands : (s : State) → IsRestored durable (durable.boot + 1) s → s.name ≡ name → s.log_bytes ≡ log_bytes
+      → s.sessions ≡ []
       → ManagerStandsFor disks m s
 
 -- why no boot began with these bodies
@@ -61,7 +63,8 @@ abbrev pub BootRefused : ManagerFault → List (List ℕ) → ℕ → Type 0
 BootRefused (fault.Malformed i) bodies log_bytes = LogRebuilt bodies (Err (rebuilt.Malformed i))
 BootRefused (fault.Order i) bodies log_bytes = LogRebuilt bodies (Err (rebuilt.Order i))
 BootRefused fault.Boots bodies log_bytes = (d : Durable) × ComeTo bodies d × (most_boots ≤ d.boot)
-BootRefused fault.LogFull bodies log_bytes = (d : Durable) × ComeTo bodies d × (d.boot < most_boots) × (has_boot_room log_bytes d (d.boot + 1) ≡ false)
+BootRefused fault.LogFull bodies log_bytes =
+    (d : Durable) × ComeTo bodies d × (d.boot < most_boots) × (has_boot_room log_bytes d (d.boot + 1) ≡ false)
 BootRefused fault.Memory bodies log_bytes = Unit {0}
 BootRefused fault.Device bodies log_bytes = Unit {0}
 BootRefused _ bodies log_bytes = ⊥
@@ -72,4 +75,5 @@ abbrev pub OpenRefused : ManagerFault → List ℕ → ℕ → List ℕ → List
 OpenRefused fault.Setting name log_bytes first second = IsBadSetting name log_bytes
 OpenRefused (fault.Log e) name log_bytes first second = LogRefused e log_bytes first second
 OpenRefused e name log_bytes first second =
-    (((first ≡ []) × (second ≡ [])) ⊎ (pair_fault log_bytes first second ≡ None)) × BootRefused e (logged_pair first second) log_bytes
+    (((first ≡ []) × (second ≡ [])) ⊎ (pair_fault log_bytes first second ≡ None))
+    × BootRefused e (logged_pair first second) log_bytes

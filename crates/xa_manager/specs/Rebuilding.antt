@@ -14,14 +14,16 @@ use Rattle.xa_branch.specs.Restored.{HasRestored}
 -- timestamps above 0, each once, and no write has one of them
 abbrev pub AreNew : List ℕ → List Written → Type 0
 AreNew [] writes = Unit {0}
-AreNew (t ∷ ts) writes = (0 < t) × AllByRecursion (λ u. u ≡ t → ⊥) ts × AllByRecursion (λ w. w.timestamp ≡ t → ⊥) writes × AreNew ts writes
+AreNew (t ∷ ts) writes =
+    (0 < t) × AllByRecursion (λ u. u ≡ t → ⊥) ts × AllByRecursion (λ w. w.timestamp ≡ t → ⊥) writes × AreNew ts writes
 
 -- nobody has read, and these writes stand
 abbrev pub HaveWrites : List Written → Records → Type 0
 HaveWrites writes m = RecordsStandFor (record { low = 0; writes = writes; reads = [] }) m
 
 -- Branches that are added in turn: of those that are left, each is new.
-pub record AddedUpto {B : Type 0} (add : List Written → B → List Written) (time : B → ℕ) (older : List Written) (all left : List B) (m : Records) : Type 0 where
+pub record AddedUpto {B : Type 0} (add : List Written → B → List Written) (time : B → ℕ) (older : List Written)
+    (all left : List B) (m : Records) : Type 0 where
   pub writes : List Written
   pub leads : fold add writes left ≡ fold add older all
   pub new : AreNew (map time left) writes

@@ -34,7 +34,8 @@ fn ready(alloc: Global, durable: &Durable, boot: u32) -> Result<NextBoot, AllocE
     ensures ready { IfOk result (IsReady durable.now boot) }
     ensures boot { IfOk result (λ next. next.boot ≡ boot) }
     ensures drained { IfOk result (λ next. GivesBack next.branches next.records) }
-    ensures short { AllByRecursion IsRecord (snapshot durable.now boot) → IfOk result (λ next. IsWithin MOST_VALUE next.records) }
+    ensures short { AllByRecursion IsRecord (snapshot durable.now boot)
+        → IfOk result (λ next. IsWithin MOST_VALUE next.records) }
 {
     let branches = branches_of(alloc, durable, boot)?;
     let mut records = records_of(alloc, durable)?;

@@ -3,12 +3,11 @@ ghost use Rattle.xa_codes.specs.declared.write.TheConstants.{MOST_VALUE};
 ghost use Rattle.xa_model.specs.State.{own_branch};
 ghost use Rattle.xa_model.specs.Records.{get_by, put_by};
 ghost use Rattle.xa_manager.specs.Changes.{items_of};
-ghost use Rattle.xa_manager.specs.Kept.{kept_of};
-ghost use Rattle.xa_manager.specs.Stands.{Follows, Stays};
 ghost use Rattle.xa_assoc.specs.Company.{company_of};
 ghost use Rattle.xa_assoc.specs.Refusals.{IsBare};
 ghost use Rattle.mv_chain.specs.Within.{IsShort};
 ghost use Rattle.xa_manager.specs.Replies.{IsFresh};
+ghost use Rattle.xa_manager.specs.Tables.{TablesFollow, TablesStay};
 
 use crate::tables::Tables;
 use mv_rules::{Got, Put};
@@ -20,8 +19,9 @@ use xa_frame::{Body, Reply};
 impl Tables {
     #[tactic(auto, using(crate::proofs::Replying::bare_fresh, crate::proofs::Replying::value_fresh, crate::proofs::Replying::absent_fresh))]
     pub fn get(&mut self, session: u64, key: &Bytes) -> Result<Reply, AllocError>
-        ensures ok { IfOk result (λ r. Follows (kept_of self.old) (λ s. get_by s key.now (own_branch s session)) r (kept_of self.new)) }
-        ensures err { OnErr result (Stays (kept_of self.old) (kept_of self.new)) }
+        ensures ok { IfOk result
+            (λ r. TablesFollow self.old (λ s. get_by s key.now (own_branch s session)) r self.new) }
+        ensures err { OnErr result (TablesStay self.old self.new) }
         ensures company { company_of self.new.sessions ≡ company_of self.old.sessions }
         ensures fresh { IfOk result IsFresh }
     {
@@ -47,8 +47,9 @@ impl Tables {
         value: Option<Vec<u8>>,
     ) -> Result<Reply, AllocError>
         requires { IsShort MOST_VALUE (items_of value) }
-        ensures ok { IfOk result (λ r. Follows (kept_of self.old) (λ s. put_by s key.now (items_of value) (own_branch s session)) r (kept_of self.new)) }
-        ensures err { OnErr result (Stays (kept_of self.old) (kept_of self.new)) }
+        ensures ok { IfOk result
+            (λ r. TablesFollow self.old (λ s. put_by s key.now (items_of value) (own_branch s session)) r self.new) }
+        ensures err { OnErr result (TablesStay self.old self.new) }
         ensures company { company_of self.new.sessions ≡ company_of self.old.sessions }
         ensures bare { IfOk result IsBare }
     {

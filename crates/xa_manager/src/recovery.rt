@@ -2,10 +2,9 @@ ghost use Rattle.std.specs.Prelude.{◌≡◌, ◌≤◌, IfOk, OnErr, length, f
 ghost use Rattle.xa_frame.specs.declared.xids.TheConstants.{MOST_XIDS};
 ghost use Rattle.xa_model.specs.Recovering.{listing, recover_by};
 ghost use Rattle.xa_assoc.specs.Refusals.{is_memory};
-ghost use Rattle.xa_manager.specs.Kept.{kept_of};
-ghost use Rattle.xa_manager.specs.Stands.{Follows, Stays};
 ghost use Rattle.xa_assoc.specs.Company.{company_of};
 ghost use Rattle.xa_manager.specs.Replies.{IsFresh};
+ghost use Rattle.xa_manager.specs.Tables.{TablesFollow, TablesStay};
 
 use crate::tables::Tables;
 use std::alloc::AllocError;
@@ -19,8 +18,8 @@ impl Tables {
     #[tactic(auto, using(crate::proofs::Replying::bare_fresh, crate::proofs::Replying::listing_fresh))]
     pub fn recover(&mut self, session: u64, flags: u32, count: u32) -> Result<Reply, AllocError>
         requires { count ≤ MOST_XIDS }
-        ensures ok { IfOk result (λ r. Follows (kept_of self.old) (λ s. recover_by s session flags count) r (kept_of self.new)) }
-        ensures err { OnErr result (Stays (kept_of self.old) (kept_of self.new)) }
+        ensures ok { IfOk result (λ r. TablesFollow self.old (λ s. recover_by s session flags count) r self.new) }
+        ensures err { OnErr result (TablesStay self.old self.new) }
         ensures company { company_of self.new.sessions ≡ company_of self.old.sessions }
         ensures fresh { IfOk result IsFresh }
     {

@@ -1,7 +1,6 @@
 use Rattle.std.proofs.Common.{ℕ, subst}
 use Rattle.xa_codes.specs.declared.write.TheConstants.{MOST_VALUE}
 use Rattle.mv_rules.specs.Tidy.{IsDrained}
-use Rattle.xa_manager.specs.Kept.{kept_of}
 use Rattle.xa_manager.proofs.Given.{given_stands}
 use Rattle.xa_manager.proofs.tables.Tables.give_low_water.Goals as goal
 
