@@ -3,6 +3,7 @@ use Rattle.std.proofs.Common.{◌≡◌, ◌<◌, ◌≤◌, ◌+◌, ℕ, true,
 use Rattle.std.specs.Prelude.{nat_lt}
 use Rattle.std.specs.List.{AllByRecursion}
 use Rattle.std.proofs.lemmas.Bool.Decides.{nat_tests}
+use Rattle.xa_codes.specs.declared.write.TheConstants.{MOST_VALUE}
 use Rattle.mv_rules.specs.Within.{IsWithin}
 use Rattle.xa_log.specs.Chain.{IsBody}
 use Rattle.xa_log.specs.Reading.{bodies_of}
@@ -20,9 +21,9 @@ next_sizes d (Some n) next e h =
     let all : AllByRecursion IsBody (bodies_of n.bodies.items) = subst (λ (b : List (List ℕ)). AllByRecursion IsBody b) (sym h.2.bodies) (are_bodies (snapshot d (d.boot + 1)) h.3) in
     subst (λ (x : NextBoot). AllByRecursion IsBody (bodies_of x.bodies.items)) same all
 
-pub next_short : (d : Durable) (o : Option NextBoot) (next : NextBoot) → o ≡ Some next → IsNext d o → IsWithin 1024 next.records
+pub next_short : (d : Durable) (o : Option NextBoot) (next : NextBoot) → o ≡ Some next → IsNext d o → IsWithin MOST_VALUE next.records
 next_short d None next e h = absurd (cc e)
-next_short d (Some n) next e h = let same : n ≡ next = cc e in subst (λ (x : NextBoot). IsWithin 1024 x.records) same h.4
+next_short d (Some n) next e h = let same : n ≡ next = cc e in subst (λ (x : NextBoot). IsWithin MOST_VALUE x.records) same h.4
 
 pub record IsNextOf (d : Durable) (next : NextBoot) : Type 0 where
   pub less : nat_lt d.boot most_boots ≡ true

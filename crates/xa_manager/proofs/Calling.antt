@@ -1,6 +1,7 @@
 -- What a call has done, by its refusals and its row.
 use Rattle.std.proofs.Common.{◌≡◌, ⊎_elim, ℕ, Bool, true, false, List, Option, Some, None, IsSomeAnd, MatchBool, if◌then◌else◌, refl, ap, sym, ◌∙◌, subst, w32, to_z, of_z}
-use Rattle.std.specs.Prelude.{Result, Ok, Err, IsOk}
+use Rattle.std.specs.Prelude.{Result, Ok, Err, IsOk, IfOk}
+use Rattle.std.specs.declared.alloc.AllocError.{AllocError}
 use Rattle.xa_disk.specs.declared.disk.Disk.{Ghosts}
 use Rattle.xa_codes.specs.Flags.{has}
 use Rattle.xa_codes.specs.declared.codes.TheConstants.{XAER_RMFAIL, XA_RETRY}
@@ -17,7 +18,7 @@ use Rattle.xa_model.specs.declared.outcome.Outcome.{Outcome}
 use Rattle.xa_model.specs.declared.outcome.Outcome.TheVariants.{Quiet}
 use Rattle.xa_model.specs.State.{State, Standing}
 use Rattle.xa_model.specs.Answer.{Answer, answer, detailed}
-use Rattle.xa_model.specs.Early.{early_refusal}
+use Rattle.xa_model.specs.Early.{call_of, passes_down, early_refusal}
 use Rattle.xa_model.specs.Events.{IsEvent, IsAsked, asks_restart, is_restart}
 use Rattle.xa_model.specs.Loggable.{IsRecoverable}
 use Rattle.xa_model.specs.Restarting.{restart_turn}
@@ -27,13 +28,16 @@ use Rattle.xa_assoc.specs.Refusals.{is_memory}
 use Rattle.xa_assoc.specs.Seats.{opened_at}
 use Rattle.xa_assoc.specs.declared.fault.ConnectFault.TheVariants.{Memory}
 use Rattle.xa_manager.specs.declared.manager.Manager.{Manager}
-use Rattle.xa_manager.specs.Answered.{FullyAnswered, StaysFor, NoneRises, connect_reply, may_want, memory_code}
+use Rattle.xa_manager.specs.declared.done.Done.{Done}
+use Rattle.xa_manager.specs.LogStands.{Trusts}
+use Rattle.xa_manager.specs.Answered.{FullyAnswered, HasCalled, StaysFor, NoneRises, connect_reply, may_want, memory_code}
 use Rattle.xa_manager.specs.Kept.{Kept}
-use Rattle.xa_manager.specs.Managed.{kept, ManagerStandsFor}
+use Rattle.xa_manager.specs.Managed.{kept, ManagerStandsFor, AnswersAs}
 use Rattle.xa_manager.specs.Stands.{TablesStandFor, Follows, FollowsDown, Stays, StaysDown}
-use Rattle.xa_manager.specs.Turns.{Takes, TakesTurn, HasDone, HasRestarted}
+use Rattle.xa_manager.specs.Turns.{Takes, TakesTurn, HasDone}
 use Rattle.xa_manager.proofs.OnePhase.{refused_turn, passed_turn}
 use Rattle.xa_manager.proofs.Stepping.{asked_by, has_done}
+use Rattle.xa_manager.proofs.Taking.{takes_row}
 
 early_by : (b : Bool) (k : Kept) (s : State) (n : ℕ) (request : Request) → TablesStandFor b k s → early_refusal (is_up s.standing) s.name (opened_of s n) request ≡ early_refusal b k.name (opened_at k.sessions n) request
 early_by true k s n request st =
@@ -62,6 +66,10 @@ wants_by : {T E : Type 0} (r : Result T E) (e : E) (b : Bool) → r ≡ Err e �
 wants_by r e true is h = refl
 wants_by (Ok x) e false is h = absurd (cc is)
 wants_by (Err x) e false is h = absurd (cc (h refl))
+
+up_by : (up passes : Bool) → passes ≡ false → (up ≡ false → passes ≡ true) → up ≡ true
+up_by true passes stops h = refl
+up_by false passes stops h = absurd (cc (stops, h refl))
 
 pub wants : {T E : Type 0} (r : Result T E) (e : E) (b : Bool) → r ≡ Err e → (b ≡ false → IsOk r) → b ≡ true
 wants r e b is h = wants_by r e b is h
@@ -140,25 +148,59 @@ module _ {D : Type 0} (disks : Ghosts D) where
       row_done m m' n request reply Quiet event other h f.served
       (λ s st. subst (λ (t : Turn). Takes disks m t reply Quiet m') (sym (is s)) (takes_either m m' act reply Quiet refl log up doubt f d s st))
 
-  -- the row of a manager that is up
-  pub up_done : (m m' : Manager D) (n : ℕ) (request handed : Request) (reply : Reply) (outcome : Outcome) → handed ≡ request → IsAsked request → asks_restart request ≡ false
-      → None ≡ early_refusal m.up (kept m).name (opened_at (kept m).sessions n) request → m.up ≡ true → TakesTurn disks m (λ s. row s n handed) reply outcome m'
+  -- the row of a request that a manager which is down refuses
+  pub turn_done : (m m' : Manager D) (n : ℕ) (request handed : Request) (o : Option Reply) (turn : State → Turn) (reply : Reply) (outcome : Outcome) → IsAsked request → request ≡ handed
+      → asks_restart handed ≡ false → passes_down (call_of handed) ≡ false → o ≡ None → o ≡ early_refusal m.up (kept m).name (opened_at (kept m).sessions n) request
+      → (o ≡ None → m.up ≡ false → passes_down (call_of request) ≡ true) → ((s : State) → row s n handed ≡ turn s) → TakesTurn disks m turn reply outcome m'
       → HasDone disks m (Call n request) reply outcome m'
-  up_done m m' n request handed reply outcome same event other h is_up x =
-      row_done m m' n request reply outcome event other h x.served
-      (λ s st. subst (λ (r : Request). Takes disks m (row s n r) reply outcome m') same (x.takes s st is_up))
+  turn_done m m' n request handed o turn reply outcome event same other stops none h passes is x =
+      let is_up = up_by m.up (passes_down (call_of request)) (ap (λ (r : Request). passes_down (call_of r)) same ∙ stops) (passes none) in
+      row_done m m' n request reply outcome event (ap asks_restart same ∙ other) (sym none ∙ h) x.served
+      (λ s st. subst (λ (t : Turn). Takes disks m t reply outcome m') (sym (ap (row s n) same ∙ is s)) (x.takes s st is_up))
 
-  pub restart_done : (m m' : Manager D) (n : ℕ) (reply : Reply) (outcome : Outcome) → None ≡ early_refusal m.up (kept m).name (opened_at (kept m).sessions n) Restart
-      → HasRestarted disks m reply outcome m' → HasDone disks m (Call n Restart) reply outcome m'
-  restart_done m m' n reply outcome h x = record {
+  pub turns_done : (m m' : Manager D) (n : ℕ) (request handed : Request) (o : Option Reply) (turn : State → Turn) (r : Result Done AllocError) → IsAsked request → request ≡ handed
+      → asks_restart handed ≡ false → passes_down (call_of handed) ≡ false → o ≡ None → o ≡ early_refusal m.up (kept m).name (opened_at (kept m).sessions n) request
+      → (o ≡ None → m.up ≡ false → passes_down (call_of request) ≡ true) → ((s : State) → row s n handed ≡ turn s) → IfOk r (λ d. TakesTurn disks m turn d.reply d.outcome m')
+      → IfOk r (λ d. HasDone disks m (Call n request) d.reply d.outcome m')
+  turns_done m m' n request handed o turn (Ok d) event same other stops none h passes is x = turn_done m m' n request handed o turn d.reply d.outcome event same other stops none h passes is x
+  turns_done m m' n request handed o turn (Err e) event same other stops none h passes is x = tt
+
+  -- the same of a row of the tables
+  pub follows_done : (m m' : Manager D) (n : ℕ) (request handed : Request) (o : Option Reply) (act : State → Answer) (reply : Reply) → IsAsked request → request ≡ handed
+      → asks_restart handed ≡ false → passes_down (call_of handed) ≡ false → o ≡ None → o ≡ early_refusal m.up (kept m).name (opened_at (kept m).sessions n) request
+      → (o ≡ None → m.up ≡ false → passes_down (call_of request) ≡ true) → ((s : State) → row s n handed ≡ Now (act s)) → m'.log ≡ m.log → m'.up ≡ m.up → m'.doubt ≡ m.doubt
+      → Follows (kept m) act reply (kept m') → HasDone disks m (Call n request) reply Quiet m'
+  follows_done m m' n request handed o act reply event same other stops none h passes is log up doubt f =
+      turn_done m m' n request handed o (λ s. Now (act s)) reply Quiet event same other stops none h passes is (takes_row disks m m' act reply Quiet refl log up doubt f)
+
+  -- a restart, of whichever state the manager stood for, up or down
+  restarted_done : (m m' : Manager D) (n : ℕ) (reply : Reply) (outcome : Outcome) → None ≡ early_refusal m.up (kept m).name (opened_at (kept m).sessions n) Restart
+      → ((s : State) → ManagerStandsFor disks m s → Trusts disks → AnswersAs disks (taken (restart_turn s) outcome) reply m') → HasCalled disks outcome m.log m'.log → is_memory reply.detail ≡ false
+      → HasDone disks m (Call n Restart) reply outcome m'
+  restarted_done m m' n reply outcome h turn called served = record {
     steps = λ s st premises.
         let steps : step s (Asked (Call n Restart)) outcome ≡ taken (restart_turn s) outcome =
         ap (λ (t : Turn). taken t outcome) (asked_by m.up (kept m) s (respond s (Call n Restart)) st.tables ∙ passed_row m s n Restart h st) in
         subst (λ (o : Option Answer). IsSomeAnd o (λ a. (a.reply ≡ reply) × ManagerStandsFor disks m' a.after)) (sym steps)
-        (⊎_elim (λ trusts. x.turn trusts s st) (λ no. absurd (cc no)) premises);
-    called = λ s st premises. ⊎_elim (λ trusts. x.called trusts s st) (λ no. absurd (cc no)) premises;
-    served = x.served;
+        (⊎_elim (λ trusts. turn s st trusts) (λ no. absurd (cc no)) premises);
+    called = λ s st premises. called;
+    served = served;
   }
+
+  restart_by : (m m' : Manager D) (n : ℕ) (r : Result Done AllocError) → None ≡ early_refusal m.up (kept m).name (opened_at (kept m).sessions n) Restart
+      → IfOk r (λ d. (s : State) → ManagerStandsFor disks m s → Trusts disks → AnswersAs disks (taken (restart_turn s) d.outcome) d.reply m')
+      → IfOk r (λ d. HasCalled disks d.outcome m.log m'.log) → IfOk r (λ d. is_memory d.reply.detail ≡ false)
+      → IfOk r (λ d. HasDone disks m (Call n Restart) d.reply d.outcome m')
+  restart_by m m' n (Ok d) h turn called served = restarted_done m m' n d.reply d.outcome h turn called served
+  restart_by m m' n (Err e) h turn called served = tt
+
+  pub restart_done : (m m' : Manager D) (n : ℕ) (request : Request) (r : Result Done AllocError) → request ≡ Restart → None ≡ early_refusal m.up (kept m).name (opened_at (kept m).sessions n) request
+      → IfOk r (λ d. (s : State) → ManagerStandsFor disks m s → Trusts disks → AnswersAs disks (taken (restart_turn s) d.outcome) d.reply m')
+      → IfOk r (λ d. HasCalled disks d.outcome m.log m'.log) → IfOk r (λ d. is_memory d.reply.detail ≡ false)
+      → IfOk r (λ d. HasDone disks m (Call n request) d.reply d.outcome m')
+  restart_done m m' n request r same h turn called served =
+      subst (λ (q : Request). IfOk r (λ d. HasDone disks m (Call n q) d.reply d.outcome m')) (sym same)
+      (restart_by m m' n r (subst (λ (q : Request). None ≡ early_refusal m.up (kept m).name (opened_at (kept m).sessions n) q) same h) turn called served)
 
   -- the outcome is no part of what a manager stands for
   told : (m : Manager D) (o : Outcome) (s : State) → ManagerStandsFor disks m s → ManagerStandsFor disks (record m { outcome = o }) s

@@ -22,10 +22,9 @@ use Rattle.xa_branch.specs.declared.working.Working.{Working as Kept_branch}
 use Rattle.xa_branch.specs.Branches.{working_at}
 use Rattle.xa_branch.proofs.Looks.{IsWorking}
 use Rattle.xa_manager.specs.Kept.{Kept, own_at}
-use Rattle.xa_manager.specs.Changes.{Gets}
 use Rattle.xa_manager.specs.Stands.{StandsFor, Follows, Stays}
 use Rattle.xa_manager.proofs.Looks.{finds, own_works, own_is, no_own, own_mark, time_of, above_low}
-use Rattle.xa_manager.proofs.Changed.{done_stands, stays_by}
+use Rattle.xa_manager.proofs.Changed.{Gets, done_stands, stays_by}
 use Rattle.xa_manager.proofs.Rows.{follows_by}
 
 -- what the records see is the source

@@ -38,7 +38,6 @@ pub mod PlannedLogs
 pub mod Replying
 pub mod ShortWrites
 pub mod Rescanned
-pub mod Restarted
 pub mod Results
 pub mod Standing
 pub mod Driving

@@ -2,6 +2,7 @@
 use Rattle.std.proofs.Common.{◌≡◌, ℕ, ◌≤◌, false, List, Option, length, take, refl, ap, sym, subst, ◌∙◌, arith}
 use Rattle.std.specs.Prelude.{min, filter}
 use Rattle.std.proofs.lemmas.List.{length-take}
+use Rattle.xa_frame.specs.declared.xids.TheConstants.{MOST_XIDS}
 use Rattle.xa_frame.specs.declared.reply.Reply.{Reply}
 use Rattle.xa_xid.specs.Triple.{Triple}
 use Rattle.xa_model.specs.State.{State}
@@ -23,20 +24,20 @@ pub record Moves (m : Kept) (n flags : ℕ) (cursor : Option Triple) (xids : Lis
   pub records : m'.records ≡ m.records
   pub sessions : (s : State) → SessionsStandFor m.sessions s → SessionsStandFor m'.sessions (scanning s n (scan_after flags cursor xids))
 
-few_listed : (all : List Triple) (count : ℕ) (xids : List Triple) → xids ≡ take count all → count ≤ 256 → length xids ≤ 256
+few_listed : (all : List Triple) (count : ℕ) (xids : List Triple) → xids ≡ take count all → count ≤ MOST_XIDS → length xids ≤ MOST_XIDS
 few_listed all count xids same few =
     let short : length xids ≡ min count (length all) = ap length same ∙ length-take count all in
     omega arith
 
-pub recover_follows : (m m' : Kept) (n flags count : ℕ) (cursor : Option Triple) (xids : List Triple) (reply : Reply) → count ≤ 256
+pub recover_follows : (m m' : Kept) (n flags count : ℕ) (cursor : Option Triple) (xids : List Triple) (reply : Reply) → count ≤ MOST_XIDS
     → ((s : State) → SessionsStandFor m.sessions s → recover_by s n flags count ≡ recovered s n flags count cursor)
-    → ((s : State) → StandsFor m s → xids ≡ list_after cursor count (durable s)) → (length xids ≤ 256 → reply ≡ listing xids) → Moves m n flags cursor xids m' → is_memory reply.detail ≡ false
+    → ((s : State) → StandsFor m s → xids ≡ list_after cursor count (durable s)) → (length xids ≤ MOST_XIDS → reply ≡ listing xids) → Moves m n flags cursor xids m' → is_memory reply.detail ≡ false
     → Follows m (λ s. recover_by s n flags count) reply m'
 recover_follows m m' n flags count cursor xids reply few goes listed says moves served =
     follows_by m m' (λ s. recover_by s n flags count) reply served
     (λ s st.
     let same = listed s st in
-    let short : length xids ≤ 256 = few_listed (in_order (filter (is_above cursor) (lasting_names (durable s)))) count xids same few in (
+    let short : length xids ≤ MOST_XIDS = few_listed (in_order (filter (is_above cursor) (lasting_names (durable s)))) count xids same few in (
       recovered s n flags count cursor,
       goes s st.sessions,
       ap listing (sym same) ∙ sym (says short),

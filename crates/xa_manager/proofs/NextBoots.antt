@@ -2,6 +2,7 @@
 use Rattle.std.proofs.Common.{◌≡◌, ◌<◌, ◌≤◌, ◌+◌, ◌^◌, ℕ, Bool, true, false, cond, List, [], ◌∷◌, map, Option, Some, None, Ok, refl, ◌∙◌, subst, arith, ltb-true, ltb-false}
 use Rattle.std.specs.Prelude.{nat_lt}
 use Rattle.std.specs.List.{AllByRecursion}
+use Rattle.xa_codes.specs.declared.write.TheConstants.{MOST_VALUE}
 use Rattle.xa_record.specs.declared.record.Record.{Record}
 use Rattle.xa_record.specs.Limits.{IsRecord}
 use Rattle.xa_record.specs.Spelling.{spelled}
@@ -25,7 +26,7 @@ none_by d true e h = absurd (cc)
 none_by d false e h = ltb-false d most_boots e
 
 pub is_next : (bodies : List (List ℕ)) (d : Durable) (n : ℕ) (next : NextBoot) → LogRebuilt bodies (Ok d) → Some n ≡ cond (nat_lt d.boot most_boots) (Some (d.boot + 1)) None
-    → next.boot ≡ n → IsReady d n next → (AllByRecursion IsRecord (snapshot d n) → IsWithin 1024 next.records) → IsNext d (Some next)
+    → next.boot ≡ n → IsReady d n next → (AllByRecursion IsRecord (snapshot d n) → IsWithin MOST_VALUE next.records) → IsNext d (Some next)
 is_next bodies d n next (rs, are, folds) e boot ready short =
     let number = some_by d.boot n (nat_lt d.boot most_boots) refl e in
     let below : d.boot + 1 < 2 ^ 32 = omega (arith, number.1) in
@@ -34,7 +35,7 @@ is_next bodies d n next (rs, are, folds) e boot ready short =
       number.1,
       subst (λ (m : ℕ). IsReady d m next) number.0 ready,
       limits,
-      subst (λ (m : ℕ). AllByRecursion IsRecord (snapshot d m) → IsWithin 1024 next.records) number.0 short limits,
+      subst (λ (m : ℕ). AllByRecursion IsRecord (snapshot d m) → IsWithin MOST_VALUE next.records) number.0 short limits,
     )
 
 pub no_next : (d : Durable) → ◌≡◌ {A = Option ℕ} None (cond (nat_lt d.boot most_boots) (Some (d.boot + 1)) None) → IsNext d None

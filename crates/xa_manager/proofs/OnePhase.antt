@@ -10,6 +10,7 @@ use Rattle.mv_rules.proofs.Open.{at_work as among}
 use Rattle.xa_codes.specs.declared.codes.TheConstants.{XAER_NOTA, XAER_PROTO, XA_RBOTHER}
 use Rattle.xa_codes.specs.declared.detail.Detail.TheVariants as detail
 use Rattle.xa_codes.specs.declared.write.Write.{Write}
+use Rattle.xa_record.specs.declared.record.TheConstants.{MOST_BODY}
 use Rattle.xa_frame.specs.declared.reply.Reply.{Reply}
 use Rattle.xa_xid.specs.Triple.{Triple, IsWithinLimits}
 use Rattle.xa_record.specs.Limits.{IsBranch}
@@ -196,10 +197,10 @@ pub record WasTold (m : Kept) (xid : Triple) (t : ℕ) (ws : List Write) : Type 
   pub writes : (h : History) → RecordsStandFor h m.records → IsOpen t h.writes → IsWritesOf t h.writes ws
 
 abbrev IsRoom : State → ℕ → ℕ → Bool → Type 0
-IsRoom s n more room = n ≤ 524288 → more ≤ 1 → room ≡ log_room s.log_bytes (s.end + (n + 36)) (prepared_count s + more) (length s.decided)
+IsRoom s n more room = n ≤ MOST_BODY → more ≤ 1 → room ≡ log_room s.log_bytes (s.end + (n + 36)) (prepared_count s + more) (length s.decided)
 
 has_record : (m : Kept) (s : State) (xid : Triple) (t : ℕ) (ws : List Write) (record_of : Triple → ℕ → List Write → Record) (more n : ℕ) (body : List ℕ) (room : Bool) → StandsFor m s → WasTold m xid t ws
-    → ((t : ℕ) (ws : List Write) → IsBranch xid t ws → length (spelled (record_of xid t ws)) ≤ 524288) → body ≡ spelled (record_of xid t ws) → n ≡ length body → more ≤ 1 → IsRoom s n more room
+    → ((t : ℕ) (ws : List Write) → IsBranch xid t ws → length (spelled (record_of xid t ws)) ≤ MOST_BODY) → body ≡ spelled (record_of xid t ws) → n ≡ length body → more ≤ 1 → IsRoom s n more room
     → HasRecord s xid (record_of xid (timestamp_in s xid) (writes_in s xid)) more body room
 has_record m s xid t ws record_of more n body room st w short spells size few is_room =
     let free = w.free s st in
@@ -210,7 +211,7 @@ has_record m s xid t ws record_of more n body room st w short spells size few is
     let branch = is_branch s xid st.recoverable.sound st.recoverable.loggable w.name known some in
     let e : spelled (record_of xid (timestamp_in s xid) (writes_in s xid)) ≡ body =
     ap (λ (u : ℕ). spelled (record_of xid u (writes_in s xid))) (sym time) ∙ ap (λ (us : List Write). spelled (record_of xid t us)) (sym writes) ∙ sym spells in
-    let long : n ≤ 524288 = subst (λ (k : ℕ). k ≤ 524288) (ap length e ∙ sym size) (short (timestamp_in s xid) (writes_in s xid) branch) in
+    let long : n ≤ MOST_BODY = subst (λ (k : ℕ). k ≤ MOST_BODY) (ap length e ∙ sym size) (short (timestamp_in s xid) (writes_in s xid) branch) in
     record {
       free = free;
       unmarked = w.unmarked s st;

@@ -4,6 +4,7 @@ use Rattle.std.specs.Prelude.{is_some, nat_lt, nat_le}
 use Rattle.std.proofs.lemmas.Bool.Decides.{nat_tests}
 use Rattle.xa_codes.specs.declared.codes.TheConstants.{XAER_INVAL, XAER_PROTO, XA_RBTRANSIENT}
 use Rattle.xa_codes.specs.declared.detail.Detail.TheVariants as detail
+use Rattle.xa_codes.specs.declared.write.TheConstants.{MOST_WRITES}
 use Rattle.xa_xid.specs.Triple.{Triple}
 use Rattle.mv_chain.specs.History.{has_open, is_late, IsUnsettled}
 use Rattle.mv_rules.specs.declared.answers.Put.{Put}
@@ -25,10 +26,9 @@ use Rattle.xa_branch.specs.Branches.{working_at}
 use Rattle.xa_branch.specs.Calls.{marked_with}
 use Rattle.xa_branch.proofs.Looks.{IsWorking}
 use Rattle.xa_manager.specs.Kept.{Kept, own_at}
-use Rattle.xa_manager.specs.Changes.{Puts}
 use Rattle.xa_manager.specs.Stands.{StandsFor, Follows, Stays}
 use Rattle.xa_manager.proofs.Looks.{finds, own_works, own_is, no_own, own_mark, time_of, open_fate, from_low}
-use Rattle.xa_manager.proofs.Changed.{done_stands, stays_by}
+use Rattle.xa_manager.proofs.Changed.{Puts, done_stands, stays_by}
 use Rattle.xa_manager.proofs.Rows.{follows_by}
 
 pub put_alone : (m : Kept) (n : ℕ) (key : List ℕ) (value : Option (List ℕ)) → own_at m n ≡ None → Follows m (λ s. put_row s key value (own_branch s n)) (plain XAER_PROTO) m
@@ -72,7 +72,7 @@ open_at m s xid w st x =
 
 -- what a put answers, by whether the keys are used up and whether it is late
 judged : (m m' : Kept) (s : State) (xid : Triple) (w : Kept_branch) (key : List ℕ) (value : Option (List ℕ)) (put : Put) → StandsFor m s → (x : IsWorking s xid w) → Puts m w.timestamp key value put m' → put ≢ put_as.Memory
-    → put ≡ put_by (not (is_some (write_of key x.branch.operations)) && nat_le 256 (written_keys x.branch.operations)) (is_late_among key x.branch.timestamp s.reads)
+    → put ≡ put_by (not (is_some (write_of key x.branch.operations)) && nat_le MOST_WRITES (written_keys x.branch.operations)) (is_late_among key x.branch.timestamp s.reads)
 judged m m' s xid w key value put st x c some =
     let b = x.branch in
     let works = at_work xid b (timestamp_of s.boot s.given + 1) s.branches st.recoverable.sound.descends x.found (open_fate s xid w x) in
@@ -82,7 +82,7 @@ judged m m' s xid w key value put st x c some =
     ∙ ap (λ (count : ℕ). put_of (is_some (write_of key b.operations)) count (is_late key b.timestamp (map read_as s.reads))) works.count
     ∙ ap (λ (late : Bool). put_of (is_some (write_of key b.operations)) (written_keys b.operations) late) (one_lateness key b.timestamp s.reads)
 
-full_by : (old : Bool) (keys : ℕ) → (not old && not (nat_lt keys 256)) ≡ (not old && nat_le 256 keys)
+full_by : (old : Bool) (keys : ℕ) → (not old && not (nat_lt keys MOST_WRITES)) ≡ (not old && nat_le MOST_WRITES keys)
 full_by old keys = ap (λ (b : Bool). not old && b) (grind (arith, nat_tests))
 
 limit_of : (a b : Bool) → put_as.Limit ≡ put_by a b → a ≡ true
@@ -107,7 +107,7 @@ put_full m m' n key value xid w h e c =
     (λ s st.
     let x = finds m s xid w st (own_works m n xid w h).1 in
     let ops = x.branch.operations in
-    let full = limit_of (not (is_some (write_of key ops)) && nat_le 256 (written_keys ops)) (is_late_among key x.branch.timestamp s.reads) (judged m m' s xid w key value put_as.Limit st x c (λ q. cc q)) in (
+    let full = limit_of (not (is_some (write_of key ops)) && nat_le MOST_WRITES (written_keys ops)) (is_late_among key x.branch.timestamp s.reads) (judged m m' s xid w key value put_as.Limit st x c (λ q. cc q)) in (
       answer (detailed XAER_INVAL detail.Limit) s,
       put_unmarked m s n key value xid w st h e x ∙ judge_full (is_full key ops) s _ (full_by (is_some (write_of key ops)) (written_keys ops) ∙ full),
       refl,
@@ -126,7 +126,7 @@ put_late m mid m' n key value xid w h e c k =
     (λ s st.
     let x = finds m s xid w st (own_works m n xid w h).1 in
     let ops = x.branch.operations in
-    let both = late_of (not (is_some (write_of key ops)) && nat_le 256 (written_keys ops)) (is_late_among key x.branch.timestamp s.reads) (judged m mid s xid w key value put_as.Late st x c (λ q. cc q)) in
+    let both = late_of (not (is_some (write_of key ops)) && nat_le MOST_WRITES (written_keys ops)) (is_late_among key x.branch.timestamp s.reads) (judged m mid s xid w key value put_as.Late st x c (λ q. cc q)) in
     let free = full_by (is_some (write_of key ops)) (written_keys ops) ∙ both.0 in (
       came_late s xid,
       put_unmarked m s n key value xid w st h e x ∙ judge_rest (is_full key ops) (is_late_among key x.branch.timestamp s.reads) s (came_late s xid) (written s key value xid) true free both.1,
@@ -155,7 +155,7 @@ put_follows m m' n key value xid w h e c =
     (λ s st.
     let x = finds m s xid w st (own_works m n xid w h).1 in
     let ops = x.branch.operations in
-    let both = done_of (not (is_some (write_of key ops)) && nat_le 256 (written_keys ops)) (is_late_among key x.branch.timestamp s.reads) (judged m m' s xid w key value put_as.Done st x c (λ q. cc q)) in
+    let both = done_of (not (is_some (write_of key ops)) && nat_le MOST_WRITES (written_keys ops)) (is_late_among key x.branch.timestamp s.reads) (judged m m' s xid w key value put_as.Done st x c (λ q. cc q)) in
     let free = full_by (is_some (write_of key ops)) (written_keys ops) ∙ both.0 in (
       written s key value xid,
       put_unmarked m s n key value xid w st h e x ∙ judge_rest (is_full key ops) (is_late_among key x.branch.timestamp s.reads) s (came_late s xid) (written s key value xid) false free both.1,

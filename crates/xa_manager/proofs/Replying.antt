@@ -2,6 +2,8 @@
 use Rattle.std.specs.Prelude.{IfOk, Result, Ok, Err}
 use Rattle.std.specs.declared.alloc.AllocError.{AllocError}
 use Rattle.std.proofs.Common.{◌≡◌, ◌≤◌, ℕ, List, length, refl, sym, subst}
+use Rattle.xa_codes.specs.declared.write.TheConstants.{MOST_VALUE}
+use Rattle.xa_frame.specs.declared.xids.TheConstants.{MOST_XIDS}
 use Rattle.xa_assoc.specs.Refusals.{IsBare}
 use Rattle.xa_frame.specs.Limits.{IsBody}
 use Rattle.xa_frame.specs.declared.body.Body.{Body}
@@ -23,10 +25,10 @@ number_fresh r n e = subst (λ (x : Reply). IsFresh x) (sym e) (record { place =
 pub absent_fresh : (r : Reply) → r ≡ carrying body.Absent → IsFresh r
 absent_fresh r e = subst (λ (x : Reply). IsFresh x) (sym e) (record { place = refl; limits = tt })
 
-pub value_fresh : (r : Reply) (v : List ℕ) → length v ≤ 1024 → r ≡ carrying (body.Value v) → IsFresh r
+pub value_fresh : (r : Reply) (v : List ℕ) → length v ≤ MOST_VALUE → r ≡ carrying (body.Value v) → IsFresh r
 value_fresh r v short e = subst (λ (x : Reply). IsFresh x) (sym e) (record { place = refl; limits = short })
 
-pub listing_fresh : (r : Reply) (xids : List Triple) → length xids ≤ 256 → r ≡ listing xids → IsFresh r
+pub listing_fresh : (r : Reply) (xids : List Triple) → length xids ≤ MOST_XIDS → r ≡ listing xids → IsFresh r
 listing_fresh r xids few e = subst (λ (x : Reply). IsFresh x) (sym e) (record { place = refl; limits = few })
 
 pub now_fresh : (d : Done) (r : Reply) (o : Outcome) → d ≡ record { reply = r; outcome = o } → IsFresh r → IsFresh d.reply

@@ -1,7 +1,8 @@
--- No value of what lasts has more than 1,024 bytes.
+-- No value of what lasts has more than MOST_VALUE bytes.
 use Rattle.std.proofs.Common.{◌≡◌, ℕ, List, [], ◌∷◌, ◌++◌, map, subst}
 use Rattle.std.specs.List.{AllByRecursion}
 use Rattle.xa_codes.specs.declared.write.Write.{Write}
+use Rattle.xa_codes.specs.declared.write.TheConstants.{MOST_VALUE}
 use Rattle.xa_record.specs.declared.record.Record.{Record}
 use Rattle.xa_record.specs.Limits.{IsRecord, IsWrite}
 use Rattle.mv_rules.specs.Within.{AreShort}
@@ -9,7 +10,7 @@ use Rattle.xa_model.specs.Durable.{Durable, CommittedBranch, PreparedBranch}
 use Rattle.xa_model.specs.Fold.{snapshot, base, held, known}
 use Rattle.xa_manager.specs.Rebuilding.{CommittedAreShort, PreparedAreShort}
 
-writes_short : (ws : List Write) → AllByRecursion IsWrite ws → AreShort 1024 ws
+writes_short : (ws : List Write) → AllByRecursion IsWrite ws → AreShort MOST_VALUE ws
 writes_short [] h = tt
 writes_short (w ∷ ws) h = (h.0.value, writes_short ws h.1)
 
@@ -31,8 +32,8 @@ snapshot_short d boot h =
     let second = both_limited (map held d.prepared) (map known d.decided) first.1 in
     (committed_short d.committed first.0, prepared_short d.prepared second.0)
 
-pub committed_next : (bs cs : List CommittedBranch) (b : CommittedBranch) → bs ≡ b ∷ cs → CommittedAreShort bs → AreShort 1024 b.writes × CommittedAreShort cs
+pub committed_next : (bs cs : List CommittedBranch) (b : CommittedBranch) → bs ≡ b ∷ cs → CommittedAreShort bs → AreShort MOST_VALUE b.writes × CommittedAreShort cs
 committed_next bs cs b e h = subst (λ (l : List CommittedBranch). CommittedAreShort l) e h
 
-pub prepared_next : (ps qs : List PreparedBranch) (p : PreparedBranch) → ps ≡ p ∷ qs → PreparedAreShort ps → AreShort 1024 p.writes × PreparedAreShort qs
+pub prepared_next : (ps qs : List PreparedBranch) (p : PreparedBranch) → ps ≡ p ∷ qs → PreparedAreShort ps → AreShort MOST_VALUE p.writes × PreparedAreShort qs
 prepared_next ps qs p e h = subst (λ (l : List PreparedBranch). PreparedAreShort l) e h

@@ -18,7 +18,8 @@ pub record Kept : Type 0 where
   pub records : Records
 
 abbrev pub kept_of : Tables → Kept
-kept_of t = record { name = t.name; log_bytes = t.log_bytes; sessions = t.sessions; branches = t.branches; records = t.records }
+kept_of t =
+    record { name = t.name; log_bytes = t.log_bytes; sessions = t.sessions; branches = t.branches; records = t.records }
 
 -- the branch that a session is at work for
 abbrev pub with_working : Kept → Triple → Option (Triple × Working)

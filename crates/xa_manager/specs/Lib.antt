@@ -1,5 +1,7 @@
 pub mod Kept
 pub mod Stands
+pub mod Tables
+pub mod Acts
 pub mod LogStands
 pub mod Managed
 pub mod Drained

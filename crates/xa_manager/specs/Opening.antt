@@ -18,11 +18,12 @@ use Rattle.xa_recovery.specs.declared.log_fault.LogFault.TheVariants as rebuilt
 use Rattle.xa_manager.specs.declared.fault.ManagerFault.{ManagerFault}
 use Rattle.xa_manager.specs.declared.fault.ManagerFault.TheVariants as fault
 use Rattle.xa_manager.specs.declared.manager.Manager.{Manager}
+use Rattle.xa_manager.specs.declared.settings.TheConstants.{MOST_NAME, LEAST_LOG, MOST_LOG}
 use Rattle.xa_manager.specs.Managed.{ManagerStandsFor}
 
 -- settings out of their limits
 abbrev pub IsBadSetting : List ℕ → ℕ → Type 0
-IsBadSetting name log_bytes = (255 < length name) ⊎ (log_bytes < 64) ⊎ (1073741824 < log_bytes)
+IsBadSetting name log_bytes = (MOST_NAME < length name) ⊎ (log_bytes < LEAST_LOG) ⊎ (MOST_LOG < log_bytes)
 
 -- the current file has these bodies, and the other one comes behind it
 abbrev pub HasBodies : {D : Type 0} → Ghosts D → List (List ℕ) → Log D → Type 0
@@ -47,12 +48,14 @@ has_boot_room log_bytes d boot = log_room log_bytes (8 + sizes (snapshot d boot)
 -- A boot began with what these bodies come to. The manager stands for every state that a restart or an opening leads to from
 -- there, with these settings and without sessions: committed branches of it may have reads, and writes that later ones wrote
 -- over.
-pub record HasBegun {D : Type 0} (disks : Ghosts D) (bodies : List (List ℕ)) (name : List ℕ) (log_bytes : ℕ) (m : Manager D) : Type 0 where
+pub record HasBegun {D : Type 0} (disks : Ghosts D) (bodies : List (List ℕ)) (name : List ℕ)
+    (log_bytes : ℕ) (m : Manager D) : Type 0 where
   pub durable : Durable
   pub comes : ComeTo bodies durable
   pub boots : durable.boot < most_boots
   pub room : has_boot_room log_bytes durable (durable.boot + 1) ≡ true
-  pub stands : (s : State) → IsRestored durable (durable.boot + 1) s → s.name ≡ name → s.log_bytes ≡ log_bytes → s.sessions ≡ []
+  pub stands : (s : State) → IsRestored durable (durable.boot + 1) s → s.name ≡ name → s.log_bytes ≡ log_bytes
+      → s.sessions ≡ []
       → ManagerStandsFor disks m s
 
 -- why no boot began with these bodies
@@ -60,7 +63,8 @@ abbrev pub BootRefused : ManagerFault → List (List ℕ) → ℕ → Type 0
 BootRefused (fault.Malformed i) bodies log_bytes = LogRebuilt bodies (Err (rebuilt.Malformed i))
 BootRefused (fault.Order i) bodies log_bytes = LogRebuilt bodies (Err (rebuilt.Order i))
 BootRefused fault.Boots bodies log_bytes = (d : Durable) × ComeTo bodies d × (most_boots ≤ d.boot)
-BootRefused fault.LogFull bodies log_bytes = (d : Durable) × ComeTo bodies d × (d.boot < most_boots) × (has_boot_room log_bytes d (d.boot + 1) ≡ false)
+BootRefused fault.LogFull bodies log_bytes =
+    (d : Durable) × ComeTo bodies d × (d.boot < most_boots) × (has_boot_room log_bytes d (d.boot + 1) ≡ false)
 BootRefused fault.Memory bodies log_bytes = Unit {0}
 BootRefused fault.Device bodies log_bytes = Unit {0}
 BootRefused _ bodies log_bytes = ⊥
@@ -71,4 +75,5 @@ abbrev pub OpenRefused : ManagerFault → List ℕ → ℕ → List ℕ → List
 OpenRefused fault.Setting name log_bytes first second = IsBadSetting name log_bytes
 OpenRefused (fault.Log e) name log_bytes first second = LogRefused e log_bytes first second
 OpenRefused e name log_bytes first second =
-    (((first ≡ []) × (second ≡ [])) ⊎ (pair_fault log_bytes first second ≡ None)) × BootRefused e (logged_pair first second) log_bytes
+    (((first ≡ []) × (second ≡ [])) ⊎ (pair_fault log_bytes first second ≡ None))
+    × BootRefused e (logged_pair first second) log_bytes

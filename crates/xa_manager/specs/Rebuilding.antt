@@ -5,6 +5,7 @@ use Rattle.mv_chain.specs.History.{Written}
 use Rattle.mv_rules.specs.declared.records.Records.{Records}
 use Rattle.mv_rules.specs.Records.{StandsFor as RecordsStandFor}
 use Rattle.mv_rules.specs.Within.{AreShort}
+use Rattle.xa_codes.specs.declared.write.TheConstants.{MOST_VALUE}
 use Rattle.xa_model.specs.State.{Decided}
 use Rattle.xa_model.specs.Durable.{CommittedBranch, PreparedBranch}
 use Rattle.xa_branch.specs.declared.branches.Branches.{Branches}
@@ -13,14 +14,16 @@ use Rattle.xa_branch.specs.Restored.{HasRestored}
 -- timestamps above 0, each once, and no write has one of them
 abbrev pub AreNew : List ℕ → List Written → Type 0
 AreNew [] writes = Unit {0}
-AreNew (t ∷ ts) writes = (0 < t) × AllByRecursion (λ u. u ≡ t → ⊥) ts × AllByRecursion (λ w. w.timestamp ≡ t → ⊥) writes × AreNew ts writes
+AreNew (t ∷ ts) writes =
+    (0 < t) × AllByRecursion (λ u. u ≡ t → ⊥) ts × AllByRecursion (λ w. w.timestamp ≡ t → ⊥) writes × AreNew ts writes
 
 -- nobody has read, and these writes stand
 abbrev pub HaveWrites : List Written → Records → Type 0
 HaveWrites writes m = RecordsStandFor (record { low = 0; writes = writes; reads = [] }) m
 
 -- Branches that are added in turn: of those that are left, each is new.
-pub record AddedUpto {B : Type 0} (add : List Written → B → List Written) (time : B → ℕ) (older : List Written) (all left : List B) (m : Records) : Type 0 where
+pub record AddedUpto {B : Type 0} (add : List Written → B → List Written) (time : B → ℕ) (older : List Written)
+    (all left : List B) (m : Records) : Type 0 where
   pub writes : List Written
   pub leads : fold add writes left ≡ fold add older all
   pub new : AreNew (map time left) writes
@@ -38,10 +41,10 @@ pub record CompletedUpto (boot : ℕ) (ps : List PreparedBranch) (all left : Lis
   pub split : done ++ left ≡ all
   pub stands : HasRestored m boot ps done
 
--- what these branches wrote has no value over 1,024 bytes
+-- what these branches wrote has no value over MOST_VALUE bytes
 
 abbrev pub CommittedAreShort : List CommittedBranch → Type 0
-CommittedAreShort bs = AllByRecursion (λ b. AreShort 1024 b.writes) bs
+CommittedAreShort bs = AllByRecursion (λ b. AreShort MOST_VALUE b.writes) bs
 
 abbrev pub PreparedAreShort : List PreparedBranch → Type 0
-PreparedAreShort ps = AllByRecursion (λ p. AreShort 1024 p.writes) ps
+PreparedAreShort ps = AllByRecursion (λ p. AreShort MOST_VALUE p.writes) ps

@@ -16,6 +16,7 @@ use Rattle.xa_model.specs.Restored.{IsRestored}
 use Rattle.mv_rules.specs.Records.{StandsFor as RecordsStandFor}
 use Rattle.mv_rules.specs.Ties.{history_of}
 use Rattle.mv_rules.specs.Within.{IsWithin}
+use Rattle.xa_codes.specs.declared.write.TheConstants.{MOST_VALUE}
 use Rattle.xa_branch.specs.Branches.{BranchesStandFor}
 use Rattle.xa_recovery.specs.Log.{LogRebuilt}
 use Rattle.xa_recovery.specs.declared.log_fault.LogFault.{LogFault}
@@ -48,7 +49,9 @@ pub record IsReady (d : Durable) (boot : ℕ) (next : NextBoot) : Type 0 where
 -- the boot after those that were logged, unless their numbers are used up
 abbrev pub IsNext : Durable → Option NextBoot → Type 0
 IsNext d None = most_boots ≤ d.boot
-IsNext d (Some next) = (next.boot ≡ d.boot + 1) × (d.boot < most_boots) × IsReady d (d.boot + 1) next × AllByRecursion IsRecord (snapshot d (d.boot + 1)) × IsWithin 1024 next.records
+IsNext d (Some next) =
+    (next.boot ≡ d.boot + 1) × (d.boot < most_boots) × IsReady d (d.boot + 1) next
+    × AllByRecursion IsRecord (snapshot d (d.boot + 1)) × IsWithin MOST_VALUE next.records
 
 -- what the bodies of a log come to, and what the next boot begins with
 abbrev pub Plans : List (List ℕ) → Result Planned LogFault → Type 0

@@ -70,7 +70,8 @@ abbrev pub ending : State → ℕ → State
 ending s end = record s { end = end }
 
 abbrev pub BecomesAt : Kept → (State → Type 0) → (State → State) → Kept → Type 0
-BecomesAt m P act m' = (s : State) (end : ℕ) → StandsFor m s → P s → IsRecoverable (ending (act s) end) → StandsFor m' (ending (act s) end)
+BecomesAt m P act m' =
+    (s : State) (end : ℕ) → StandsFor m s → P s → IsRecoverable (ending (act s) end) → StandsFor m' (ending (act s) end)
 
 -- they stand for whichever state they stood for
 abbrev pub Stays : Kept → Kept → Type 0

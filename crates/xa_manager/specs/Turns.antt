@@ -17,11 +17,10 @@ use Rattle.xa_model.specs.declared.outcome.Appending.{Appending}
 use Rattle.xa_model.specs.declared.outcome.Appending.TheVariants.{Kept, Refused, Lost}
 use Rattle.xa_model.specs.State.{State}
 use Rattle.xa_model.specs.Answer.{Answer, plain, detailed}
-use Rattle.xa_model.specs.Turn.{Turn, Asked, taken, Nobody, Now, Appends, Rereads}
+use Rattle.xa_model.specs.Turn.{Turn, Asked, Nobody, Now, Appends, Rereads}
 use Rattle.xa_model.specs.declared.event.Event.{Event}
 use Rattle.xa_model.specs.Step.{step}
 use Rattle.xa_model.specs.Events.{is_restart}
-use Rattle.xa_model.specs.Restarting.{restart_turn}
 use Rattle.xa_model.specs.Loggable.{IsRecoverable}
 use Rattle.xa_assoc.specs.Refusals.{is_memory}
 use Rattle.xa_manager.specs.declared.doubt.Doubt.{Doubt}
@@ -106,11 +105,4 @@ pub record HasDone {D : Type 0} (disks : Ghosts D) (m : Manager D) (event : Even
   pub steps : (s : State) → ManagerStandsFor disks m s → Trusts disks ⊎ (is_restart event ≡ false)
       → AnswersAs disks (step s (Asked event) outcome) reply m'
   pub called : (s : State) → ManagerStandsFor disks m s → Trusts disks ⊎ (is_restart event ≡ false) → HasCalled disks outcome m.log m'.log
-  pub served : is_memory reply.detail ≡ false
-
--- a restart, of whichever state the manager stood for, up or down
-pub record HasRestarted {D : Type 0} (disks : Ghosts D) (m : Manager D) (reply : Reply) (outcome : Outcome) (m' : Manager D) : Type 0 where
-  pub turn : Trusts disks → (s : State) → ManagerStandsFor disks m s
-      → AnswersAs disks (taken (restart_turn s) outcome) reply m'
-  pub called : Trusts disks → (s : State) → ManagerStandsFor disks m s → HasCalled disks outcome m.log m'.log
   pub served : is_memory reply.detail ≡ false

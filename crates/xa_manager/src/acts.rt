@@ -1,30 +1,21 @@
 ghost use Rattle.std.specs.Prelude.{◌≡◌, ◌+◌, None, Some, true, IfOk, OnOk, OnErr, IsSome};
-ghost use Rattle.xa_model.specs.State.{State, InDoubt, known_as, known_of, timestamp_of};
+ghost use Rattle.xa_model.specs.State.{timestamp_of};
 ghost use Rattle.xa_model.specs.Associations.{begun, joined, resumed, not_resumed, suspended, not_suspended, ended, failed};
-ghost use Rattle.xa_model.specs.Branches.{rolled_back, committed, decided_by, forgotten};
-ghost use Rattle.xa_model.specs.Completions.{is_completed};
-ghost use Rattle.xa_model.specs.Loggable.{IsRecoverable};
-ghost use Rattle.xa_model.specs.LowWater.{low_water};
-ghost use Rattle.xa_model.specs.Sound.{IsSound};
-ghost use Rattle.xa_branch.specs.Branches.{BranchesStandFor};
+ghost use Rattle.xa_model.specs.Branches.{rolled_back, committed};
 ghost use Rattle.xa_manager.specs.Drained.{GivesBack};
 ghost use Rattle.xa_assoc.specs.Seats.{opened_at};
-ghost use Rattle.xa_assoc.specs.Sessions.{begin_refusal_of, resume_refusal_of, suspend_refusal_of};
+ghost use Rattle.xa_assoc.specs.Sessions.{begin_refusal_of};
 ghost use Rattle.xa_branch.specs.Calls.{marked_with};
-ghost use Rattle.xa_branch.specs.Kinds.{ended_kind, resumed_kind};
-ghost use Rattle.xa_manager.specs.Kept.{kept_of};
-ghost use Rattle.xa_manager.specs.Stands.{StandsFor, Becomes, BecomesAt, Stays, StaysDown};
-ghost use Rattle.xa_manager.specs.Changes.{Gets, Puts, items_of, fate_of};
+ghost use Rattle.xa_manager.specs.Changes.{fate_of};
 ghost use Rattle.xa_assoc.specs.Company.{company_of};
-ghost use Rattle.mv_chain.specs.Within.{IsShort};
-ghost use Rattle.mv_rules.specs.Within.{IsShortAnswer};
+ghost use Rattle.xa_manager.specs.Tables.{TablesBecome, TablesMove, TablesSay, TablesStay, TablesStayDown};
+ghost use Rattle.xa_manager.specs.Acts.{BranchBecomes, Decides, Ends, Forgets, Resumes, Suspends, SuspendsAs};
 
 use crate::tables::Tables;
 use mv_chain::Fate;
-use mv_rules::{Got, Put};
 use std::alloc::AllocError;
 use xa_branch::Kind;
-use xa_codes::{Bytes, Code, Direction, XA_RBROLLBACK};
+use xa_codes::{Code, Direction, XA_RBROLLBACK};
 use xa_xid::Xid;
 
 /// How a session comes to work for a branch, in each table alike, once nothing is refused. What can fail comes first.
@@ -32,10 +23,10 @@ impl Tables {
     /// Begins a branch, for which the session is at work. Answers its timestamp.
     pub fn begin_branch(&mut self, session: u64, xid: &Xid) -> Result<u64, AllocError>
         requires connected { IsSome (opened_at self.old.sessions session) }
-        requires free { (s : State) → StandsFor (kept_of self.old) s → begin_refusal_of s session xid.now ≡ None }
-        ensures timestamp { IfOk result (λ t. (s : State) → StandsFor (kept_of self.old) s → t ≡ timestamp_of s.boot (s.given + 1)) }
-        ensures ok { OnOk result ((s : State) → StandsFor (kept_of self.old) s → IsRecoverable (begun s session xid.now).after → StandsFor (kept_of self.new) (begun s session xid.now).after) }
-        ensures err { OnErr result (Stays (kept_of self.old) (kept_of self.new)) }
+        requires free { TablesSay self.old (λ s. begin_refusal_of s session xid.now ≡ None) }
+        ensures timestamp { IfOk result (λ t. TablesSay self.old (λ s. t ≡ timestamp_of s.boot (s.given + 1))) }
+        ensures ok { OnOk result (TablesMove self.old (λ s. (begun s session xid.now).after) self.new) }
+        ensures err { OnErr result (TablesStay self.old self.new) }
         ensures company { company_of self.new.sessions ≡ company_of self.old.sessions }
     {
         self.sessions.begin(session, xid.copied())?;
@@ -50,8 +41,8 @@ impl Tables {
 
     pub fn join_branch(&mut self, session: u64, xid: &Xid) -> Result<(), AllocError>
         requires connected { IsSome (opened_at self.old.sessions session) }
-        ensures ok { OnOk result ((s : State) → StandsFor (kept_of self.old) s → IsRecoverable (joined s session xid.now).after → StandsFor (kept_of self.new) (joined s session xid.now).after) }
-        ensures err { OnErr result (Stays (kept_of self.old) (kept_of self.new)) }
+        ensures ok { OnOk result (TablesMove self.old (λ s. (joined s session xid.now).after) self.new) }
+        ensures err { OnErr result (TablesStay self.old self.new) }
         ensures company { company_of self.new.sessions ≡ company_of self.old.sessions }
     {
         self.sessions.join(session, xid.copied())?;
@@ -62,9 +53,9 @@ impl Tables {
     /// Resumes an association of this kind.
     pub fn resume_branch(&mut self, session: u64, xid: &Xid, from: Kind) -> Result<(), AllocError>
         requires connected { IsSome (opened_at self.old.sessions session) }
-        ensures ok { OnOk result (Becomes (kept_of self.old) (λ s. (resume_refusal_of s session xid.now ≡ None) × (resumed_kind s.associations session xid.now ≡ Some from))
-            (λ s. (resumed s session xid.now).after) (kept_of self.new)) }
-        ensures err { OnErr result (Stays (kept_of self.old) (kept_of self.new)) }
+        ensures ok { OnOk result (TablesBecome self.old (Resumes session xid.now from)
+            (λ s. (resumed s session xid.now).after) self.new) }
+        ensures err { OnErr result (TablesStay self.old self.new) }
         ensures company { company_of self.new.sessions ≡ company_of self.old.sessions }
     {
         self.sessions.resume(session, xid.copied())?;
@@ -77,7 +68,8 @@ impl Tables {
 impl Tables {
     pub fn suspend_branch(&mut self, session: u64, xid: &Xid, migrates: bool)
         requires connected { IsSome (opened_at self.old.sessions session) }
-        ensures becomes { Becomes (kept_of self.old) (λ s. suspend_refusal_of s session xid.now ≡ None) (λ s. suspended s session migrates xid.now) (kept_of self.new) }
+        ensures becomes { TablesBecome self.old (Suspends session xid.now)
+            (λ s. suspended s session migrates xid.now) self.new }
         ensures company { company_of self.new.sessions ≡ company_of self.old.sessions }
     {
         self.sessions.suspend(session, xid, migrates);
@@ -87,9 +79,11 @@ impl Tables {
     /// An association of this kind ends.
     pub fn leave_branch(&mut self, session: u64, xid: &Xid, kind: Kind)
         requires connected { IsSome (opened_at self.old.sessions session) }
-        ensures ended { Becomes (kept_of self.old) (λ s. ended_kind s.associations session xid.now ≡ Some kind) (λ s. ended s session xid.now) (kept_of self.new) }
-        ensures not_resumed { Becomes (kept_of self.old) (λ s. (resume_refusal_of s session xid.now ≡ None) × (resumed_kind s.associations session xid.now ≡ Some kind)) (λ s. not_resumed s session xid.now) (kept_of self.new) }
-        ensures not_suspended { Becomes (kept_of self.old) (λ s. (suspend_refusal_of s session xid.now ≡ None) × (kind ≡ Kind.Active)) (λ s. not_suspended s session xid.now) (kept_of self.new) }
+        ensures ended { TablesBecome self.old (Ends session xid.now kind) (λ s. ended s session xid.now) self.new }
+        ensures not_resumed { TablesBecome self.old (Resumes session xid.now kind)
+            (λ s. not_resumed s session xid.now) self.new }
+        ensures not_suspended { TablesBecome self.old (SuspendsAs session xid.now kind)
+            (λ s. not_suspended s session xid.now) self.new }
         ensures company { company_of self.new.sessions ≡ company_of self.old.sessions }
     {
         self.sessions.leave(session, xid);
@@ -99,7 +93,8 @@ impl Tables {
     /// An association of this kind ends, and its branch is marked.
     pub fn fail_branch(&mut self, session: u64, xid: &Xid, kind: Kind)
         requires connected { IsSome (opened_at self.old.sessions session) }
-        ensures becomes { Becomes (kept_of self.old) (λ s. ended_kind s.associations session xid.now ≡ Some kind) (λ s. (failed s session xid.now).after) (kept_of self.new) }
+        ensures becomes { TablesBecome self.old (Ends session xid.now kind)
+            (λ s. (failed s session xid.now).after) self.new }
         ensures company { company_of self.new.sessions ≡ company_of self.old.sessions }
     {
         self.sessions.leave(session, xid);
@@ -110,9 +105,9 @@ impl Tables {
 
 /// How a branch is marked, and completed.
 impl Tables {
-    /// A branch at work is marked, unless it is.
+    /// A branch at work is marked, unless it is: one table's change, said of all of them.
     pub fn mark_branch(&mut self, xid: &Xid, code: Code)
-        ensures marks { (s : State) → StandsFor (kept_of self.old) s → IsRecoverable (marked_with code s xid.now) → StandsFor (kept_of self.new) (marked_with code s xid.now) }
+        ensures marks { TablesMove self.old (λ s. marked_with code s xid.now) self.new }
         ensures company { company_of self.new.sessions ≡ company_of self.old.sessions }
     {
         self.branches.doom(xid, code);
@@ -120,8 +115,8 @@ impl Tables {
 
     /// The fate of a branch at work or of a prepared one is decided, and it is known no more.
     pub fn finish_branch(&mut self, xid: &Xid, fate: Fate)
-        ensures rolled_back { fate ≡ Fate.RolledBack → BecomesAt (kept_of self.old) (λ s. IsSome (known_of s.branches xid.now)) (λ s. rolled_back s xid.now) (kept_of self.new) }
-        ensures committed { fate ≡ Fate.Committed → BecomesAt (kept_of self.old) (λ s. IsSome (known_of s.branches xid.now)) (λ s. committed s xid.now) (kept_of self.new) }
+        ensures rolled_back { fate ≡ Fate.RolledBack → BranchBecomes self.old xid.now rolled_back self.new }
+        ensures committed { fate ≡ Fate.Committed → BranchBecomes self.old xid.now committed self.new }
         ensures company { company_of self.new.sessions ≡ company_of self.old.sessions }
     {
         let timestamp = self.branches.timestamp(xid);
@@ -131,7 +126,7 @@ impl Tables {
 
     /// The operator completes a prepared branch.
     pub fn decide_branch(&mut self, xid: &Xid, direction: Direction)
-        ensures becomes { BecomesAt (kept_of self.old) (λ s. known_as s xid.now ≡ InDoubt) (λ s. decided_by s direction xid.now) (kept_of self.new) }
+        ensures becomes { Decides self.old direction xid.now self.new }
         ensures company { company_of self.new.sessions ≡ company_of self.old.sessions }
     {
         let timestamp = self.branches.timestamp(xid);
@@ -139,9 +134,9 @@ impl Tables {
         self.records.settle(timestamp, fate_of(direction));
     }
 
-    /// What the operator completed is forgotten.
+    /// What the operator completed is forgotten: one table's change, said of all of them.
     pub fn forget_branch(&mut self, xid: &Xid)
-        ensures becomes { BecomesAt (kept_of self.old) (λ s. is_completed (known_as s xid.now) ≡ true) (λ s. forgotten s xid.now) (kept_of self.new) }
+        ensures becomes { Forgets self.old xid.now self.new }
         ensures company { company_of self.new.sessions ≡ company_of self.old.sessions }
     {
         self.branches.forget(xid);
@@ -157,44 +152,16 @@ pub fn fate_of(direction: Direction) -> Fate
     }
 }
 
-/// What a branch reads and writes.
-impl Tables {
-    /// What a branch of this timestamp reads of a key. An answered read is noted.
-    pub fn read(&mut self, timestamp: u64, key: &Bytes) -> Got
-        ensures gets { Gets (kept_of self.old) timestamp key.now result (kept_of self.new) }
-        ensures company { company_of self.new.sessions ≡ company_of self.old.sessions }
-        ensures short { IsShortAnswer 1024 result }
-    {
-        self.records.get(timestamp, key.as_slice())
-    }
-
-    /// A branch of this timestamp writes a value, or deletes a key.
-    pub fn write(&mut self, timestamp: u64, key: &Bytes, value: Option<Vec<u8>>) -> Put
-        requires { IsShort 1024 (items_of value) }
-        ensures puts { Puts (kept_of self.old) timestamp key.now (items_of value) result (kept_of self.new) }
-        ensures company { company_of self.new.sessions ≡ company_of self.old.sessions }
-    {
-        self.records.put(timestamp, key.as_slice(), value)
-    }
-}
-
 /// What is no longer needed of the versions.
 impl Tables {
-    /// The least timestamp of a branch at work or prepared, or where there is none the last that this boot gave.
-    fn low_water(&self) -> u64
-        ensures { (s : State) → IsSound s → BranchesStandFor self.now.branches s → result ≡ low_water s }
-    {
-        self.branches.low_water()
-    }
-
     /// Gives the records the low water. Takes no memory.
     pub fn give_low_water(&mut self)
-        ensures stays { Stays (kept_of self.old) (kept_of self.new) }
-        ensures down { StaysDown (kept_of self.old) (kept_of self.new) }
+        ensures stays { TablesStay self.old self.new }
+        ensures down { TablesStayDown self.old self.new }
         ensures drained { GivesBack self.new.branches self.new.records }
         ensures company { company_of self.new.sessions ≡ company_of self.old.sessions }
     {
-        let low = self.low_water();
+        let low = self.branches.low_water();
         self.records.low_water(low);
     }
 }

@@ -1,6 +1,7 @@
 ghost use Rattle.std.specs.Prelude.{◌≡◌, ◌+◌, ◌<◌, ◌≤◌, map, IfOk};
 ghost use Rattle.std.specs.List.{AllByRecursion};
 ghost use Rattle.mv_rules.specs.Within.{IsWithin};
+ghost use Rattle.xa_codes.specs.declared.write.TheConstants.{MOST_VALUE};
 ghost use Rattle.xa_record.specs.Limits.{IsRecord};
 ghost use Rattle.xa_model.specs.Fold.{snapshot};
 ghost use Rattle.xa_manager.specs.Drained.{GivesBack};
@@ -33,7 +34,8 @@ fn ready(alloc: Global, durable: &Durable, boot: u32) -> Result<NextBoot, AllocE
     ensures ready { IfOk result (IsReady durable.now boot) }
     ensures boot { IfOk result (λ next. next.boot ≡ boot) }
     ensures drained { IfOk result (λ next. GivesBack next.branches next.records) }
-    ensures short { AllByRecursion IsRecord (snapshot durable.now boot) → IfOk result (λ next. IsWithin 1024 next.records) }
+    ensures short { AllByRecursion IsRecord (snapshot durable.now boot)
+        → IfOk result (λ next. IsWithin MOST_VALUE next.records) }
 {
     let branches = branches_of(alloc, durable, boot)?;
     let mut records = records_of(alloc, durable)?;

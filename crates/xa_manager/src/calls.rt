@@ -1,12 +1,11 @@
 ghost use Rattle.std.specs.Prelude.{◌≡◌, IfOk, OnErr, IfSome, IsOk, IsSome, None, true, false};
 ghost use Rattle.xa_model.specs.declared.event.Event.{Event};
 ghost use Rattle.xa_model.specs.Early.{call_of, passes_down, has_wrong_count, early_refusal};
-ghost use Rattle.xa_model.specs.Step.{row};
-ghost use Rattle.xa_model.specs.Events.{IsAsked, asks_restart};
+ghost use Rattle.xa_model.specs.Events.{IsAsked};
 ghost use Rattle.xa_assoc.specs.Refusals.{is_memory, IsBare};
 ghost use Rattle.xa_assoc.specs.Seats.{opened_at};
 ghost use Rattle.xa_manager.specs.Answered.{StaysFor, NoneRises, may_want};
-ghost use Rattle.xa_manager.specs.Turns.{HasDone, TakesTurn};
+ghost use Rattle.xa_manager.specs.Turns.{HasDone};
 ghost use Rattle.xa_manager.specs.Connected.{connected_to};
 ghost use Rattle.xa_manager.specs.Replies.{IsFresh};
 
@@ -33,8 +32,9 @@ impl<D: Disk> Manager<D> {
         early_refusal(self.up, &self.tables.name, opened, request)
     }
 
-    /// Answers a request of a session: the refusals that come before its row, then the row.
-    #[tactic(auto, using(crate::proofs::Calling::refused_done, crate::proofs::Calling::row_done, crate::proofs::Calling::restart_done, crate::proofs::Calling::takes_either, crate::proofs::Replying::now_bare, crate::proofs::Replying::now_fresh, crate::proofs::Replying::done_bare))]
+    /// Answers a request of a session: the refusals that come before its row, then the row. A manager that is down comes to
+    /// the first three alone.
+    #[tactic(auto, using(crate::proofs::Replying::now_bare, crate::proofs::Replying::now_fresh, crate::proofs::Replying::done_bare))]
     pub(crate) fn answer(&mut self, session: u64, request: Request) -> Result<Done, AllocError>
         requires { IsAsked request }
         ensures ok { IfOk result
@@ -49,32 +49,10 @@ impl<D: Disk> Manager<D> {
         if let Some(reply) = self.refusal(session, &request) {
             return Ok(Done::now(reply));
         }
-        match &request {
-            Request::Open { .. } => Ok(Done::now(self.tables.open(session))),
-            Request::Close { .. } => Ok(Done::now(self.tables.close(session))),
-            Request::Restart => self.asked_restart(),
-            _ => self.answer_up(session, request),
-        }
-    }
-
-    /// The row of a request that only a manager answers which is up, of a connected session.
-    #[tactic(auto, using(crate::proofs::Replying::now_bare, crate::proofs::Replying::now_fresh, crate::proofs::Replying::done_bare, crate::proofs::Replying::bare_fresh))]
-    fn answer_up(&mut self, session: u64, request: Request) -> Result<Done, AllocError>
-        requires asked { IsAsked request }
-        requires other { asks_restart request ≡ false }
-        requires counted { has_wrong_count request ≡ false }
-        requires up { self.old.up ≡ true }
-        requires connected { IsSome (opened_at self.old.tables.sessions session) }
-        ensures ok { IfOk result
-            (λ d. TakesTurn D.Disk self.old (λ s. row s session request) d.reply d.outcome self.new) }
-        ensures err { OnErr result (StaysFor D.Disk self.old self.new) }
-        ensures outcome { self.new.outcome ≡ self.old.outcome }
-        ensures room { may_want request ≡ false → IsOk result }
-        ensures company { connected_to self.new ≡ connected_to self.old }
-        ensures fresh { IfOk result (λ d. IsFresh d.reply) }
-        ensures quiet { OnErr result (NoneRises D.failures self.old.log self.new.log) }
-    {
         match request {
+            Request::Open { info: _info, .. } => Ok(Done::now(self.tables.open(session))),
+            Request::Close { .. } => Ok(Done::now(self.tables.close(session))),
+            Request::Restart => self.restarted(),
             Request::Start { flags, xid } => Ok(Done::now(
                 self.tables.start(session, flags, &xid)?,
             )),
@@ -94,9 +72,6 @@ impl<D: Disk> Manager<D> {
             Request::Delete { key } => Ok(Done::now(self.tables.put(session, &key, None)?)),
             Request::Decide { direction, xid } => Ok(self.decide(direction, &xid)),
             Request::Doom { xid } => Ok(Done::now(self.tables.doom(&xid))),
-            Request::Open { .. } => Ok(Done::now(self.tables.open(session))),
-            Request::Close { .. } => Ok(Done::now(self.tables.close(session))),
-            Request::Restart => unreachable!(),
         }
     }
 }

@@ -2,10 +2,9 @@ ghost use Rattle.std.specs.Prelude.{◌≡◌, ◌≢◌, Result, Err, ℕ, pos,
 ghost use Rattle.xa_model.specs.Answer.{plain};
 ghost use Rattle.xa_model.specs.Associations.{connect_by, open_by, close_by, hang_up_by};
 ghost use Rattle.xa_manager.specs.Answered.{connect_reply};
-ghost use Rattle.xa_manager.specs.Kept.{kept_of};
-ghost use Rattle.xa_manager.specs.Stands.{Follows, FollowsDown, Stays, StaysDown};
 ghost use Rattle.xa_assoc.specs.Company.{company_of, Gains, Loses};
 ghost use Rattle.xa_assoc.specs.Refusals.{IsBare};
+ghost use Rattle.xa_manager.specs.Tables.{TablesFollow, TablesFollowDown, TablesStay, TablesStayDown};
 
 use crate::tables::Tables;
 use xa_assoc::ConnectFault;
@@ -16,10 +15,12 @@ use xa_frame::Reply;
 impl Tables {
     /// The number of a new session, the least that is free.
     pub fn connect(&mut self) -> Result<u64, ConnectFault>
-        ensures ok { result ≢ Err ConnectFault.Memory → Follows (kept_of self.old) (λ s. connect_by s) (connect_reply result) (kept_of self.new) }
-        ensures memory { result ≡ Err ConnectFault.Memory → Stays (kept_of self.old) (kept_of self.new) }
-        ensures down { result ≢ Err ConnectFault.Memory → FollowsDown (kept_of self.old) (λ s. connect_by s) (connect_reply result) (kept_of self.new) }
-        ensures memory_down { result ≡ Err ConnectFault.Memory → StaysDown (kept_of self.old) (kept_of self.new) }
+        ensures ok { result ≢ Err ConnectFault.Memory
+            → TablesFollow self.old (λ s. connect_by s) (connect_reply result) self.new }
+        ensures memory { result ≡ Err ConnectFault.Memory → TablesStay self.old self.new }
+        ensures down { result ≢ Err ConnectFault.Memory
+            → TablesFollowDown self.old (λ s. connect_by s) (connect_reply result) self.new }
+        ensures memory_down { result ≡ Err ConnectFault.Memory → TablesStayDown self.old self.new }
         ensures came { IfOk result (λ n. Gains (company_of self.old.sessions) n (company_of self.new.sessions)) }
         ensures same { OnErr result (company_of self.new.sessions ≡ company_of self.old.sessions) }
     {
@@ -28,8 +29,8 @@ impl Tables {
 
     /// The session is connected no more, its associations end, and their branches are marked.
     pub fn hangup(&mut self, session: u64)
-        ensures up { Follows (kept_of self.old) (λ s. hang_up_by s session) (plain (pos 0)) (kept_of self.new) }
-        ensures down { FollowsDown (kept_of self.old) (λ s. hang_up_by s session) (plain (pos 0)) (kept_of self.new) }
+        ensures up { TablesFollow self.old (λ s. hang_up_by s session) (plain (pos 0)) self.new }
+        ensures down { TablesFollowDown self.old (λ s. hang_up_by s session) (plain (pos 0)) self.new }
         ensures gone { Loses (company_of self.old.sessions) session (company_of self.new.sessions) }
     {
         if let Some(seat) = self.sessions.hangup(session) {
@@ -38,8 +39,8 @@ impl Tables {
     }
 
     pub fn open(&mut self, session: u64) -> Reply
-        ensures up { Follows (kept_of self.old) (λ s. open_by s session) result (kept_of self.new) }
-        ensures down { FollowsDown (kept_of self.old) (λ s. open_by s session) result (kept_of self.new) }
+        ensures up { TablesFollow self.old (λ s. open_by s session) result self.new }
+        ensures down { TablesFollowDown self.old (λ s. open_by s session) result self.new }
         ensures company { company_of self.new.sessions ≡ company_of self.old.sessions }
         ensures bare { IsBare result }
     {
@@ -49,8 +50,8 @@ impl Tables {
 
     /// A session with an association of its own isn't closed.
     pub fn close(&mut self, session: u64) -> Reply
-        ensures up { Follows (kept_of self.old) (λ s. close_by s session) result (kept_of self.new) }
-        ensures down { FollowsDown (kept_of self.old) (λ s. close_by s session) result (kept_of self.new) }
+        ensures up { TablesFollow self.old (λ s. close_by s session) result self.new }
+        ensures down { TablesFollowDown self.old (λ s. close_by s session) result self.new }
         ensures company { company_of self.new.sessions ≡ company_of self.old.sessions }
         ensures bare { IsBare result }
     {

@@ -5,12 +5,11 @@ ghost use Rattle.xa_model.specs.Completions.{prepare_turn, commit_one_phase_turn
 ghost use Rattle.xa_model.specs.Branches.{doom_by};
 ghost use Rattle.xa_model.specs.Step.{commit_turn};
 ghost use Rattle.xa_manager.specs.Answered.{StaysFor, NoneRises};
-ghost use Rattle.xa_manager.specs.Kept.{kept_of};
-ghost use Rattle.xa_manager.specs.Stands.{Follows};
 ghost use Rattle.xa_manager.specs.Turns.{TakesTurn};
 ghost use Rattle.xa_assoc.specs.Refusals.{IsBare};
 ghost use Rattle.xa_assoc.specs.Company.{company_of};
 ghost use Rattle.xa_manager.specs.Connected.{connected_to};
+ghost use Rattle.xa_manager.specs.Tables.{TablesFollow};
 
 use crate::done::Done;
 use crate::manager::Manager;
@@ -178,7 +177,7 @@ impl<D: Disk> Manager<D> {
 /// The operator's mark.
 impl Tables {
     pub fn doom(&mut self, xid: &Xid) -> Reply
-        ensures follows { Follows (kept_of self.old) (λ s. doom_by s xid.now) result (kept_of self.new) }
+        ensures follows { TablesFollow self.old (λ s. doom_by s xid.now) result self.new }
         ensures company { company_of self.new.sessions ≡ company_of self.old.sessions }
         ensures bare { IsBare result }
     {

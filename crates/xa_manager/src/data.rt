@@ -1,13 +1,13 @@
 ghost use Rattle.std.specs.Prelude.{◌≡◌, IfOk, OnErr};
+ghost use Rattle.xa_codes.specs.declared.write.TheConstants.{MOST_VALUE};
 ghost use Rattle.xa_model.specs.State.{own_branch};
 ghost use Rattle.xa_model.specs.Records.{get_by, put_by};
 ghost use Rattle.xa_manager.specs.Changes.{items_of};
-ghost use Rattle.xa_manager.specs.Kept.{kept_of};
-ghost use Rattle.xa_manager.specs.Stands.{Follows, Stays};
 ghost use Rattle.xa_assoc.specs.Company.{company_of};
 ghost use Rattle.xa_assoc.specs.Refusals.{IsBare};
 ghost use Rattle.mv_chain.specs.Within.{IsShort};
 ghost use Rattle.xa_manager.specs.Replies.{IsFresh};
+ghost use Rattle.xa_manager.specs.Tables.{TablesFollow, TablesStay};
 
 use crate::tables::Tables;
 use mv_rules::{Got, Put};
@@ -19,8 +19,9 @@ use xa_frame::{Body, Reply};
 impl Tables {
     #[tactic(auto, using(crate::proofs::Replying::bare_fresh, crate::proofs::Replying::value_fresh, crate::proofs::Replying::absent_fresh))]
     pub fn get(&mut self, session: u64, key: &Bytes) -> Result<Reply, AllocError>
-        ensures ok { IfOk result (λ r. Follows (kept_of self.old) (λ s. get_by s key.now (own_branch s session)) r (kept_of self.new)) }
-        ensures err { OnErr result (Stays (kept_of self.old) (kept_of self.new)) }
+        ensures ok { IfOk result
+            (λ r. TablesFollow self.old (λ s. get_by s key.now (own_branch s session)) r self.new) }
+        ensures err { OnErr result (TablesStay self.old self.new) }
         ensures company { company_of self.new.sessions ≡ company_of self.old.sessions }
         ensures fresh { IfOk result IsFresh }
     {
@@ -30,7 +31,7 @@ impl Tables {
         if let Some(code) = working.mark {
             return Ok(Reply::plain(code));
         }
-        match self.read(working.timestamp, key) {
+        match self.records.get(working.timestamp, key.as_slice()) {
             Got::Value(value) => Ok(Reply::carrying(Body::Value(value))),
             Got::Absent => Ok(Reply::carrying(Body::Absent)),
             Got::Busy(_) => Ok(Reply::detailed(XA_RETRY, Detail::Busy)),
@@ -45,9 +46,10 @@ impl Tables {
         key: &Bytes,
         value: Option<Vec<u8>>,
     ) -> Result<Reply, AllocError>
-        requires { IsShort 1024 (items_of value) }
-        ensures ok { IfOk result (λ r. Follows (kept_of self.old) (λ s. put_by s key.now (items_of value) (own_branch s session)) r (kept_of self.new)) }
-        ensures err { OnErr result (Stays (kept_of self.old) (kept_of self.new)) }
+        requires { IsShort MOST_VALUE (items_of value) }
+        ensures ok { IfOk result
+            (λ r. TablesFollow self.old (λ s. put_by s key.now (items_of value) (own_branch s session)) r self.new) }
+        ensures err { OnErr result (TablesStay self.old self.new) }
         ensures company { company_of self.new.sessions ≡ company_of self.old.sessions }
         ensures bare { IfOk result IsBare }
     {
@@ -57,7 +59,7 @@ impl Tables {
         if let Some(code) = working.mark {
             return Ok(Reply::plain(code));
         }
-        match self.write(working.timestamp, key, value) {
+        match self.records.put(working.timestamp, key.as_slice(), value) {
             Put::Done => Ok(Reply::plain(XA_OK)),
             Put::Late => {
                 self.mark_branch(&xid, XA_RBTRANSIENT);

@@ -5,10 +5,7 @@ ghost use Rattle.xa_assoc.specs.Refusals.{is_memory, IsBare};
 use xa_codes::{
     Bytes, Call, TMASYNC, XAER_ASYNC, XAER_INVAL, XAER_PROTO, XAER_RMFAIL, legal_flags,
 };
-use xa_frame::{Reply, Request};
-
-/// The most XIDs that a recovery lists.
-pub const MOST_LISTED: u32 = 256;
+use xa_frame::{MOST_XIDS, Reply, Request};
 
 fn flags_of(request: &Request) -> u32
     ensures { result ≡ flags_of request.now }
@@ -93,7 +90,7 @@ fn has_wrong_count(request: &Request) -> bool
     ensures { result ≡ has_wrong_count request.now }
 {
     match request {
-        Request::Recover { count, .. } => *count > MOST_LISTED,
+        Request::Recover { count, .. } => *count as usize > MOST_XIDS,
         _ => false,
     }
 }

@@ -1,11 +1,11 @@
 ghost use Rattle.std.specs.Prelude.{◌≡◌, Some, None};
 ghost use Rattle.std.specs.List.{list_any};
-ghost use Rattle.xa_model.specs.State.{State, known_as, is_loose_with};
-ghost use Rattle.xa_model.specs.Associations.{is_unknown, is_settled, is_taken, mark_in, timestamp_in};
+ghost use Rattle.xa_model.specs.State.{known_as, is_loose_with};
+ghost use Rattle.xa_model.specs.Associations.{is_unknown, is_settled, is_taken, mark_in};
 ghost use Rattle.xa_assoc.specs.Sessions.{resume_refusal_of, leave_refusal_of};
 ghost use Rattle.xa_branch.specs.Kinds.{resumed_kind, ended_kind};
 ghost use Rattle.xa_manager.specs.Kept.{kept_of, own_at};
-ghost use Rattle.xa_manager.specs.Stands.{StandsFor};
+ghost use Rattle.xa_manager.specs.Tables.{TablesSay};
 
 use crate::tables::Tables;
 use xa_branch::{Kind, Known, Working};
@@ -16,7 +16,7 @@ use xa_xid::Xid;
 impl Tables {
     /// Whether nothing is known of the XID.
     pub fn is_unknown(&self, xid: &Xid) -> bool
-        ensures { (s : State) → StandsFor (kept_of self.now) s → is_unknown (known_as s xid.now) ≡ result }
+        ensures { TablesSay self.now (λ s. is_unknown (known_as s xid.now) ≡ result) }
     {
         match self.branches.known(xid) {
             Known::Unknown => true,
@@ -26,7 +26,7 @@ impl Tables {
 
     /// Whether a branch or a decision has the XID.
     pub fn is_taken(&self, xid: &Xid) -> bool
-        ensures { (s : State) → StandsFor (kept_of self.now) s → is_taken (known_as s xid.now) ≡ result }
+        ensures { TablesSay self.now (λ s. is_taken (known_as s xid.now) ≡ result) }
     {
         match self.branches.known(xid) {
             Known::Unknown => false,
@@ -36,7 +36,7 @@ impl Tables {
 
     /// Whether the branch is prepared, or was completed by the operator.
     pub fn is_settled(&self, xid: &Xid) -> bool
-        ensures { (s : State) → StandsFor (kept_of self.now) s → is_settled (known_as s xid.now) ≡ result }
+        ensures { TablesSay self.now (λ s. is_settled (known_as s xid.now) ≡ result) }
     {
         match self.branches.known(xid) {
             Known::InDoubt | Known::Completed(_) => true,
@@ -46,7 +46,7 @@ impl Tables {
 
     /// The mark of a branch at work.
     pub fn mark_of(&self, xid: &Xid) -> Option<Code>
-        ensures { (s : State) → StandsFor (kept_of self.now) s → mark_in (known_as s xid.now) ≡ result }
+        ensures { TablesSay self.now (λ s. mark_in (known_as s xid.now) ≡ result) }
     {
         match self.branches.known(xid) {
             Known::AtWork(mark) => mark,
@@ -56,14 +56,15 @@ impl Tables {
 
     /// Whether the branch has a loose association.
     pub fn has_loose(&self, xid: &Xid) -> bool
-        ensures { (s : State) → StandsFor (kept_of self.now) s → list_any (is_loose_with xid.now) s.associations ≡ result }
+        ensures { TablesSay self.now (λ s. list_any (is_loose_with xid.now) s.associations ≡ result) }
     {
         self.branches.loose(xid) > 0
     }
 
     /// Of which kind the association is that a start with TMRESUME takes, where it isn't refused.
     pub fn resumed_kind(&self, session: u64, xid: &Xid) -> Kind
-        ensures { (s : State) → StandsFor (kept_of self.now) s → resume_refusal_of s session xid.now ≡ None → resumed_kind s.associations session xid.now ≡ Some result }
+        ensures { TablesSay self.now (λ s. resume_refusal_of s session xid.now ≡ None
+            → resumed_kind s.associations session xid.now ≡ Some result) }
     {
         if self.sessions.has_suspended(session, xid) {
             Kind::Suspended
@@ -74,7 +75,8 @@ impl Tables {
 
     /// Of which kind the association is that an end with TMSUCCESS or TMFAIL takes, where it isn't refused.
     pub fn ended_kind(&self, session: u64, xid: &Xid) -> Kind
-        ensures { (s : State) → StandsFor (kept_of self.now) s → leave_refusal_of s session xid.now ≡ None → ended_kind s.associations session xid.now ≡ Some result }
+        ensures { TablesSay self.now (λ s. leave_refusal_of s session xid.now ≡ None
+            → ended_kind s.associations session xid.now ≡ Some result) }
     {
         if self.sessions.works_in(session, xid) {
             Kind::Active

@@ -1,14 +1,17 @@
 //! The manager: what a session asks is answered, and acts, as one step of the sequential resource manager.
 //!
-//! `manager` has the calls, `calls` the way of a request, `early` the refusals before its row. The rows stand by table: of
-//! sessions in `coming`, of associations in `work`, of branches in `completion`, of the operator in `operator`, of gets and
-//! puts in `data`, of recovery scans in `recovery`. `facts` and `refusals` are what rows ask of the tables, `acts` what they
-//! change. `journal` is how a record comes into the log, and `answered` what its rows do by the device's answer. `replies` has
-//! those to a connect and to want of memory.
+//! The modules:
 //!
-//! A boot begins by `opening` or `restarting`: `boots` makes ready what it begins with, `rebuilding` its tables, and
-//! `first_records` logs it where a manager is opened. `laws` says what a crash leaves, and what is promised of
-//! histories; `planning` has planned faults in memory.
+//! - `manager`: `Manager`, its calls; `calls`, the way of a request; `early`, the refusals before its row; `replies`, those to
+//!   a connect and to want of memory
+//! - the rows, by table: of sessions in `coming`, of associations in `work`, of branches in `completion`, of the operator in
+//!   `operator`, of gets and puts in `data`, of recovery scans in `recovery`
+//! - `tables`: what a manager keeps; `facts` and `refusals`, what rows ask of it, `acts`, what they change
+//! - `journal`: how a record comes into the log; `room`, the room that the log keeps free; `doubt`: `Doubt`, what is kept of a
+//!   record that was lost; `answered`, what rows do by the device's answer; `done`, what a call comes to
+//! - a boot: `settings`, `Settings` and their limits; `opening` or `restarting`, how it begins; `boots`, what is made ready for
+//!   it, and `rebuilding` its tables; `first_records`, how an opening logs it; `fault`: `ManagerFault`, why there is no manager
+//! - `laws`: what a crash leaves, and what is promised of histories; `planning`: planned faults in memory
 #![tactic(auto)]
 
 mod acts;
@@ -35,6 +38,7 @@ mod recovery;
 mod refusals;
 mod replies;
 mod restarting;
+mod room;
 mod settings;
 mod tables;
 mod work;
@@ -47,4 +51,5 @@ pub use laws::{
 };
 pub use manager::Manager;
 pub use replies::{connect_reply, memory_reply};
-pub use settings::Settings;
+pub use room::{DECIDED_ROOM, PREPARED_ROOM};
+pub use settings::{LEAST_LOG, MOST_LOG, MOST_NAME, Settings};

@@ -16,9 +16,10 @@ ghost use Rattle.xa_manager.specs.Opening.{IsBadSetting, HasBodies, HasBegun, Lo
 
 use crate::boots::{NextBoot, Planned, plan};
 use crate::fault::ManagerFault;
-use crate::first_records::{begins_with_room, log_first};
+use crate::first_records::log_first;
 use crate::manager::Manager;
-use crate::settings::Settings;
+use crate::room::begins_with_room;
+use crate::settings::{LEAST_LOG, MOST_LOG, MOST_NAME, Settings};
 use crate::tables::Tables;
 use std::alloc::Global;
 use xa_assoc::Sessions;
@@ -26,13 +27,6 @@ use xa_codes::Bytes;
 use xa_disk::Disk;
 use xa_log::{Appended, Log, OpenFault};
 use xa_model::Outcome;
-
-/// The longest name of a manager, in bytes.
-const MOST_NAME: usize = 255;
-/// The least size of a log, in bytes.
-const LEAST_LOG: u64 = 64;
-/// The greatest size of a log, in bytes.
-const MOST_LOG: u64 = 1 << 30;
 
 impl<D: Disk + Drop> Manager<D> {
     /// Opens a manager on two disks: where both are empty it makes a log, and else it reads the log that they have. A new boot

@@ -1,16 +1,15 @@
 ghost use Rattle.std.specs.Prelude.{◌≡◌, ◌≤◌, IfOk, OnErr, length, false};
+ghost use Rattle.xa_frame.specs.declared.xids.TheConstants.{MOST_XIDS};
 ghost use Rattle.xa_model.specs.Recovering.{listing, recover_by};
 ghost use Rattle.xa_assoc.specs.Refusals.{is_memory};
-ghost use Rattle.xa_manager.specs.Kept.{kept_of};
-ghost use Rattle.xa_manager.specs.Stands.{Follows, Stays};
 ghost use Rattle.xa_assoc.specs.Company.{company_of};
 ghost use Rattle.xa_manager.specs.Replies.{IsFresh};
+ghost use Rattle.xa_manager.specs.Tables.{TablesFollow, TablesStay};
 
-use crate::early::MOST_LISTED;
 use crate::tables::Tables;
 use std::alloc::AllocError;
 use xa_codes::{Code, Detail};
-use xa_frame::{Body, Reply, Xids};
+use xa_frame::{Body, MOST_XIDS, Reply, Xids};
 use xa_xid::Xid;
 
 /// The row of recoveries.
@@ -18,9 +17,9 @@ impl Tables {
     /// Lists the next of the branches that are prepared or were completed by the operator, at most so many.
     #[tactic(auto, using(crate::proofs::Replying::bare_fresh, crate::proofs::Replying::listing_fresh))]
     pub fn recover(&mut self, session: u64, flags: u32, count: u32) -> Result<Reply, AllocError>
-        requires { count ≤ 256 }
-        ensures ok { IfOk result (λ r. Follows (kept_of self.old) (λ s. recover_by s session flags count) r (kept_of self.new)) }
-        ensures err { OnErr result (Stays (kept_of self.old) (kept_of self.new)) }
+        requires { count ≤ MOST_XIDS }
+        ensures ok { IfOk result (λ r. TablesFollow self.old (λ s. recover_by s session flags count) r self.new) }
+        ensures err { OnErr result (TablesStay self.old self.new) }
         ensures company { company_of self.new.sessions ≡ company_of self.old.sessions }
         ensures fresh { IfOk result IsFresh }
     {
@@ -37,12 +36,12 @@ impl Tables {
     }
 }
 
-/// A reply that lists at most 256 XIDs. Its code says how many.
+/// A reply that lists at most `MOST_XIDS`. Its code says how many.
 fn listing(xids: Vec<Xid>) -> Reply
-    ensures value { length xids.items ≤ 256 → result ≡ listing xids.items }
+    ensures value { length xids.items ≤ MOST_XIDS → result ≡ listing xids.items }
     ensures served { is_memory result.detail ≡ false }
 {
-    let code = xids.len().min(MOST_LISTED as usize) as Code;
+    let code = xids.len().min(MOST_XIDS) as Code;
     Reply {
         code,
         detail: Detail::Nothing,

@@ -1,14 +1,13 @@
 ghost use Rattle.std.specs.Prelude.{◌≡◌, IfSome, IfOk, false};
 ghost use Rattle.xa_record.specs.declared.record.Record.TheVariants as logged;
-ghost use Rattle.xa_model.specs.State.{State, known_as, loose_of};
+ghost use Rattle.xa_model.specs.State.{known_as, loose_of};
 ghost use Rattle.xa_model.specs.Associations.{loose_refusal};
 ghost use Rattle.xa_model.specs.Branches.{one_phase_refusal, two_phase_refusal, rollback_refusal, doom_refusal, is_associated};
 ghost use Rattle.xa_model.specs.Completions.{decide_refusal, forget_refusal};
 ghost use Rattle.xa_assoc.specs.Refusals.{is_memory, IsBare};
 ghost use Rattle.xa_assoc.specs.Sessions.{begin_refusal_of, join_refusal_of, resume_refusal_of, suspend_refusal_of, leave_refusal_of};
 ghost use Rattle.xa_heur.specs.Answers.{refused, completion_refusal};
-ghost use Rattle.xa_manager.specs.Kept.{kept_of};
-ghost use Rattle.xa_manager.specs.Stands.{StandsFor};
+ghost use Rattle.xa_manager.specs.Tables.{TablesSay};
 
 use crate::tables::Tables;
 use xa_assoc::loose_refusal;
@@ -23,7 +22,7 @@ use xa_xid::Xid;
 impl Tables {
     /// Of the start of a new branch.
     pub fn begin_refusal(&self, session: u64, xid: &Xid) -> Option<Reply>
-        ensures value { (s : State) → StandsFor (kept_of self.now) s → result ≡ begin_refusal_of s session xid.now }
+        ensures value { TablesSay self.now (λ s. result ≡ begin_refusal_of s session xid.now) }
         ensures served { IfSome result (λ r. is_memory r.detail ≡ false) }
         ensures bare { IfSome result IsBare }
     {
@@ -34,7 +33,7 @@ impl Tables {
 
     /// Of a start with TMJOIN.
     pub fn join_refusal(&self, session: u64, xid: &Xid) -> Option<Reply>
-        ensures value { (s : State) → StandsFor (kept_of self.now) s → result ≡ join_refusal_of s session xid.now }
+        ensures value { TablesSay self.now (λ s. result ≡ join_refusal_of s session xid.now) }
         ensures served { IfSome result (λ r. is_memory r.detail ≡ false) }
         ensures bare { IfSome result IsBare }
     {
@@ -45,7 +44,7 @@ impl Tables {
 
     /// Of a start with TMRESUME.
     pub fn resume_refusal(&self, session: u64, xid: &Xid) -> Option<Reply>
-        ensures value { (s : State) → StandsFor (kept_of self.now) s → result ≡ resume_refusal_of s session xid.now }
+        ensures value { TablesSay self.now (λ s. result ≡ resume_refusal_of s session xid.now) }
         ensures served { IfSome result (λ r. is_memory r.detail ≡ false) }
         ensures bare { IfSome result IsBare }
     {
@@ -57,7 +56,7 @@ impl Tables {
 
     /// Of an end with TMSUSPEND.
     pub fn suspend_refusal(&self, session: u64, xid: &Xid) -> Option<Reply>
-        ensures value { (s : State) → StandsFor (kept_of self.now) s → result ≡ suspend_refusal_of s session xid.now }
+        ensures value { TablesSay self.now (λ s. result ≡ suspend_refusal_of s session xid.now) }
         ensures served { IfSome result (λ r. is_memory r.detail ≡ false) }
         ensures bare { IfSome result IsBare }
     {
@@ -67,7 +66,7 @@ impl Tables {
 
     /// Of an end with TMSUSPEND, of a branch that isn't marked: one more loose association with TMMIGRATE.
     pub fn loose_refusal(&self, migrates: bool, xid: &Xid) -> Option<Reply>
-        ensures value { (s : State) → StandsFor (kept_of self.now) s → result ≡ loose_refusal migrates (loose_of s.associations xid.now) }
+        ensures value { TablesSay self.now (λ s. result ≡ loose_refusal migrates (loose_of s.associations xid.now)) }
         ensures served { IfSome result (λ r. is_memory r.detail ≡ false) }
         ensures bare { IfSome result IsBare }
     {
@@ -76,7 +75,7 @@ impl Tables {
 
     /// Of an end with TMSUCCESS or TMFAIL.
     pub fn leave_refusal(&self, session: u64, xid: &Xid) -> Option<Reply>
-        ensures value { (s : State) → StandsFor (kept_of self.now) s → result ≡ leave_refusal_of s session xid.now }
+        ensures value { TablesSay self.now (λ s. result ≡ leave_refusal_of s session xid.now) }
         ensures served { IfSome result (λ r. is_memory r.detail ≡ false) }
         ensures bare { IfSome result IsBare }
     {
@@ -90,7 +89,8 @@ impl Tables {
 /// How the completion of a branch is refused, and what the operator asks.
 impl Tables {
     pub fn one_phase_refusal(&self, xid: &Xid) -> Option<Reply>
-        ensures value { (s : State) → StandsFor (kept_of self.now) s → result ≡ one_phase_refusal (known_as s xid.now) (is_associated s xid.now) }
+        ensures value { TablesSay self.now (λ s. result ≡ one_phase_refusal (known_as s xid.now)
+            (is_associated s xid.now)) }
         ensures served { IfSome result (λ r. is_memory r.detail ≡ false) }
         ensures bare { IfSome result IsBare }
     {
@@ -98,7 +98,7 @@ impl Tables {
     }
 
     pub fn two_phase_refusal(&self, xid: &Xid) -> Option<Reply>
-        ensures value { (s : State) → StandsFor (kept_of self.now) s → result ≡ two_phase_refusal (known_as s xid.now) }
+        ensures value { TablesSay self.now (λ s. result ≡ two_phase_refusal (known_as s xid.now)) }
         ensures served { IfSome result (λ r. is_memory r.detail ≡ false) }
         ensures bare { IfSome result IsBare }
     {
@@ -106,7 +106,8 @@ impl Tables {
     }
 
     pub fn rollback_refusal(&self, xid: &Xid) -> Option<Reply>
-        ensures value { (s : State) → StandsFor (kept_of self.now) s → result ≡ rollback_refusal (known_as s xid.now) (is_associated s xid.now) }
+        ensures value { TablesSay self.now (λ s. result ≡ rollback_refusal (known_as s xid.now)
+            (is_associated s xid.now)) }
         ensures served { IfSome result (λ r. is_memory r.detail ≡ false) }
         ensures bare { IfSome result IsBare }
     {
@@ -115,7 +116,7 @@ impl Tables {
 
     /// Of a commit in two phases or a rollback of a branch that the operator completed.
     pub fn heuristic_refusal(&self, call: Call, xid: &Xid) -> Option<Reply>
-        ensures value { (s : State) → StandsFor (kept_of self.now) s → result ≡ completion_refusal call (known_as s xid.now) }
+        ensures value { TablesSay self.now (λ s. result ≡ completion_refusal call (known_as s xid.now)) }
         ensures served { IfSome result (λ r. is_memory r.detail ≡ false) }
         ensures bare { IfSome result IsBare }
     {
@@ -125,7 +126,7 @@ impl Tables {
 
     /// The record of an operator's decision, or the code that refuses it: only a prepared branch is decided.
     pub fn decision(&self, direction: Direction, xid: &Xid) -> Result<Record, Code>
-        ensures refusal { (s : State) → StandsFor (kept_of self.now) s → refused result ≡ decide_refusal (known_as s xid.now) }
+        ensures refusal { TablesSay self.now (λ s. refused result ≡ decide_refusal (known_as s xid.now)) }
         ensures logs { IfOk result (λ r. r ≡ logged.Decided xid.now direction) }
     {
         match self.branches.state(xid) {
@@ -136,7 +137,7 @@ impl Tables {
 
     /// The record of a Forget, or the code that refuses it: only what the operator completed is forgotten.
     pub fn forgetting(&self, xid: &Xid) -> Result<Record, Code>
-        ensures refusal { (s : State) → StandsFor (kept_of self.now) s → refused result ≡ forget_refusal (known_as s xid.now) }
+        ensures refusal { TablesSay self.now (λ s. refused result ≡ forget_refusal (known_as s xid.now)) }
         ensures logs { IfOk result (λ r. r ≡ logged.Forgotten xid.now) }
     {
         match self.branches.state(xid) {
@@ -146,7 +147,7 @@ impl Tables {
     }
 
     pub fn doom_refusal(&self, xid: &Xid) -> Option<Reply>
-        ensures value { (s : State) → StandsFor (kept_of self.now) s → result ≡ doom_refusal (known_as s xid.now) }
+        ensures value { TablesSay self.now (λ s. result ≡ doom_refusal (known_as s xid.now)) }
         ensures served { IfSome result (λ r. is_memory r.detail ≡ false) }
         ensures bare { IfSome result IsBare }
     {

@@ -9,6 +9,7 @@ ghost use Rattle.xa_log.specs.Reading.{bodies_of};
 ghost use Rattle.xa_log.specs.declared.log.Log.{Log};
 ghost use Rattle.xa_log.specs.TwoFiles.{first_of, second_of};
 ghost use Rattle.mv_rules.specs.Within.{IsWithin};
+ghost use Rattle.xa_codes.specs.declared.write.TheConstants.{MOST_VALUE};
 ghost use Rattle.xa_model.specs.Answer.{detailed};
 ghost use Rattle.xa_model.specs.Backing.{Backs};
 ghost use Rattle.xa_model.specs.Durable.{durable};
@@ -20,7 +21,6 @@ ghost use Rattle.xa_recovery.specs.Log.{LogRebuilt};
 ghost use Rattle.xa_manager.specs.Answered.{StaysFor, HasCalled, NoneRises};
 ghost use Rattle.xa_manager.specs.LogStands.{Trusts, HasRecords};
 ghost use Rattle.xa_manager.specs.Managed.{ManagerStandsFor, AnswersAs, Doubts};
-ghost use Rattle.xa_manager.specs.Turns.{HasRestarted};
 ghost use Rattle.xa_manager.specs.Rereading.{IsFate, Found, IsNext, IsReady};
 ghost use Rattle.xa_manager.specs.Connected.{connected_to};
 ghost use Rattle.xa_frame.specs.Limits.{IsReply};
@@ -96,7 +96,7 @@ impl<D: Disk> Manager<D> {
     fn log_boot(&mut self, survived: bool, next: NextBoot) -> Done
         requires some { 1 ≤ length next.bodies.items }
         requires sizes { AllByRecursion IsBody (bodies_of next.bodies.items) }
-        requires short { IsWithin 1024 next.records }
+        requires short { IsWithin MOST_VALUE next.records }
         ensures turn { (s t : State) (rs : List Record) → ManagerStandsFor D.Disk self.old s → Trusts D.Disk
             → IsFate survived s t → Backs rs t → HasRecords D.Disk rs self.old.log
             → self.old.log.lost ≡ false → nat_lt t.logged_boot most_boots ≡ true
@@ -190,19 +190,7 @@ impl<D: Disk> Manager<D> {
         }
     }
 
-    /// The row of the request Restart.
-    pub(crate) fn asked_restart(&mut self) -> Result<Done, AllocError>
-        ensures turn { IfOk result (λ d. HasRestarted D.Disk self.old d.reply d.outcome self.new) }
-        ensures err { OnErr result (StaysFor D.Disk self.old self.new) }
-        ensures outcome { self.new.outcome ≡ self.old.outcome }
-        ensures company { connected_to self.new ≡ connected_to self.old }
-        ensures bare { IfOk result (λ d. IsBare d.reply) }
-        ensures quiet { OnErr result (NoneRises D.failures self.old.log self.new.log) }
-    {
-        self.restarted()
-    }
-
-    /// As `restart`, where want of memory is an error.
+    /// The row of the request Restart: as `restart`, where want of memory is an error.
     pub(crate) fn restarted(&mut self) -> Result<Done, AllocError>
         ensures turn { IfOk result (λ d. (s : State) → ManagerStandsFor D.Disk self.old s → Trusts D.Disk
             → AnswersAs D.Disk (taken (restart_turn s) d.outcome) d.reply self.new) }

@@ -1,5 +1,6 @@
 ghost use Rattle.std.proofs.Props.{props};
 ghost use Rattle.mv_rules.specs.Within.{IsWithin};
+ghost use Rattle.xa_codes.specs.declared.write.TheConstants.{MOST_VALUE};
 
 use mv_rules::Records;
 use std::alloc::Global;
@@ -17,5 +18,5 @@ pub struct Tables {
     pub branches: Branches,
     pub records: Records,
     /// No value that is kept has more bytes than a reply carries.
-    ghost short: { IsWithin 1024 records } by { Prim.hlevel props },
+    ghost short: { IsWithin MOST_VALUE records } by { Prim.hlevel props },
 }

@@ -1,11 +1,10 @@
 ghost use Rattle.std.specs.Prelude.{◌≡◌, IfOk, OnErr, IsSome};
 ghost use Rattle.xa_model.specs.Associations.{begin_by, join_by, resume_by, start_by, suspend_by, leave_by, end_by};
 ghost use Rattle.xa_assoc.specs.Seats.{opened_at};
-ghost use Rattle.xa_manager.specs.Kept.{kept_of};
-ghost use Rattle.xa_manager.specs.Stands.{Follows, Stays};
 ghost use Rattle.xa_manager.specs.Replies.{IsFresh};
 ghost use Rattle.xa_assoc.specs.Refusals.{IsBare};
 ghost use Rattle.xa_assoc.specs.Company.{company_of};
+ghost use Rattle.xa_manager.specs.Tables.{TablesFollow, TablesStay};
 
 use crate::tables::Tables;
 use std::alloc::AllocError;
@@ -18,8 +17,8 @@ use xa_xid::Xid;
 impl Tables {
     pub fn start(&mut self, session: u64, flags: u32, xid: &Xid) -> Result<Reply, AllocError>
         requires connected { IsSome (opened_at self.old.sessions session) }
-        ensures ok { IfOk result (λ r. Follows (kept_of self.old) (λ s. start_by s session flags xid.now) r (kept_of self.new)) }
-        ensures err { OnErr result (Stays (kept_of self.old) (kept_of self.new)) }
+        ensures ok { IfOk result (λ r. TablesFollow self.old (λ s. start_by s session flags xid.now) r self.new) }
+        ensures err { OnErr result (TablesStay self.old self.new) }
         ensures company { company_of self.new.sessions ≡ company_of self.old.sessions }
         ensures fresh { IfOk result IsFresh }
     {
@@ -35,8 +34,8 @@ impl Tables {
     #[tactic(auto, using(crate::proofs::Replying::bare_fresh, crate::proofs::Replying::number_fresh))]
     fn begin(&mut self, session: u64, xid: &Xid) -> Result<Reply, AllocError>
         requires connected { IsSome (opened_at self.old.sessions session) }
-        ensures ok { IfOk result (λ r. Follows (kept_of self.old) (λ s. begin_by s session xid.now) r (kept_of self.new)) }
-        ensures err { OnErr result (Stays (kept_of self.old) (kept_of self.new)) }
+        ensures ok { IfOk result (λ r. TablesFollow self.old (λ s. begin_by s session xid.now) r self.new) }
+        ensures err { OnErr result (TablesStay self.old self.new) }
         ensures company { company_of self.new.sessions ≡ company_of self.old.sessions }
         ensures fresh { IfOk result IsFresh }
     {
@@ -50,8 +49,8 @@ impl Tables {
     #[tactic(auto, using(crate::proofs::Replying::bare_fresh, crate::proofs::Replying::number_fresh))]
     fn join(&mut self, session: u64, xid: &Xid) -> Result<Reply, AllocError>
         requires connected { IsSome (opened_at self.old.sessions session) }
-        ensures ok { IfOk result (λ r. Follows (kept_of self.old) (λ s. join_by s session xid.now) r (kept_of self.new)) }
-        ensures err { OnErr result (Stays (kept_of self.old) (kept_of self.new)) }
+        ensures ok { IfOk result (λ r. TablesFollow self.old (λ s. join_by s session xid.now) r self.new) }
+        ensures err { OnErr result (TablesStay self.old self.new) }
         ensures company { company_of self.new.sessions ≡ company_of self.old.sessions }
         ensures fresh { IfOk result IsFresh }
     {
@@ -70,8 +69,8 @@ impl Tables {
     #[tactic(auto, using(crate::proofs::Replying::bare_fresh, crate::proofs::Replying::number_fresh))]
     fn resume(&mut self, session: u64, xid: &Xid) -> Result<Reply, AllocError>
         requires connected { IsSome (opened_at self.old.sessions session) }
-        ensures ok { IfOk result (λ r. Follows (kept_of self.old) (λ s. resume_by s session xid.now) r (kept_of self.new)) }
-        ensures err { OnErr result (Stays (kept_of self.old) (kept_of self.new)) }
+        ensures ok { IfOk result (λ r. TablesFollow self.old (λ s. resume_by s session xid.now) r self.new) }
+        ensures err { OnErr result (TablesStay self.old self.new) }
         ensures company { company_of self.new.sessions ≡ company_of self.old.sessions }
         ensures fresh { IfOk result IsFresh }
     {
@@ -93,7 +92,7 @@ impl Tables {
 impl Tables {
     pub fn end(&mut self, session: u64, flags: u32, xid: &Xid) -> Reply
         requires connected { IsSome (opened_at self.old.sessions session) }
-        ensures follows { Follows (kept_of self.old) (λ s. end_by s session flags xid.now) result (kept_of self.new) }
+        ensures follows { TablesFollow self.old (λ s. end_by s session flags xid.now) result self.new }
         ensures company { company_of self.new.sessions ≡ company_of self.old.sessions }
         ensures bare { IsBare result }
     {
@@ -107,7 +106,7 @@ impl Tables {
     /// What would be suspended of a marked branch ends.
     fn suspend(&mut self, session: u64, migrates: bool, xid: &Xid) -> Reply
         requires connected { IsSome (opened_at self.old.sessions session) }
-        ensures follows { Follows (kept_of self.old) (λ s. suspend_by s session migrates xid.now) result (kept_of self.new) }
+        ensures follows { TablesFollow self.old (λ s. suspend_by s session migrates xid.now) result self.new }
         ensures company { company_of self.new.sessions ≡ company_of self.old.sessions }
         ensures bare { IsBare result }
     {
@@ -127,7 +126,7 @@ impl Tables {
 
     fn leave(&mut self, session: u64, fails: bool, xid: &Xid) -> Reply
         requires connected { IsSome (opened_at self.old.sessions session) }
-        ensures follows { Follows (kept_of self.old) (λ s. leave_by s session fails xid.now) result (kept_of self.new) }
+        ensures follows { TablesFollow self.old (λ s. leave_by s session fails xid.now) result self.new }
         ensures company { company_of self.new.sessions ≡ company_of self.old.sessions }
         ensures bare { IsBare result }
     {

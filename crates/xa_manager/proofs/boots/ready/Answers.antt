@@ -1,4 +1,5 @@
 use Rattle.std.proofs.Common.{ℕ, subst}
+use Rattle.xa_codes.specs.declared.write.TheConstants.{MOST_VALUE}
 use Rattle.mv_rules.specs.Tidy.{IsDrained}
 use Rattle.xa_manager.proofs.Given.{given_stands}
 use Rattle.xa_manager.proofs.boots.ready.Goals as goal
@@ -13,7 +14,7 @@ returns-clause-ready c = record {
 }
 
 pub returns-clause-short : goal.returns-clause-short
-returns-clause-short c = λ limits. c.low_water-2.ensures.within 1024 (c.in_ok-records.ensures.short c.args.boot limits)
+returns-clause-short c = λ limits. c.low_water-2.ensures.within MOST_VALUE (c.in_ok-records.ensures.short c.args.boot limits)
 
 pub returns-clause-drained : goal.returns-clause-drained
 returns-clause-drained c = λ s sound st. subst (λ (low : ℕ). IsDrained low c.low_water-2.new.self) (c.low_water.ensures s sound st) c.low_water-2.ensures.drained

@@ -2,6 +2,7 @@ use Rattle.std.proofs.Common.{ℕ, List, [], map, ap, refl, Some}
 use Rattle.std.specs.Map.Iter.{deref_pair}
 use Rattle.std.proofs.lemmas.Map.Iter.{rest_more}
 use Rattle.xa_codes.specs.declared.write.Write.{Write}
+use Rattle.xa_codes.specs.declared.write.TheConstants.{MOST_VALUE}
 use Rattle.mv_chain.specs.declared.fate.Fate.TheVariants.{Committed as kept}
 use Rattle.mv_rules.specs.Restoring.{with_committed}
 use Rattle.xa_recovery.specs.Durable.{as_committed}
@@ -19,7 +20,7 @@ loop-timestamp-preserved c =
       short = λ all start.
           let i = c.loop-timestamp.invariant.short all start in
           let next = committed_next (map as_committed c.loop-timestamp.timestamp-iterator) (map as_committed c.next.new.self) (as_committed e) (ap (λ es. map as_committed es) more) i.0 in
-          (next.1, c.in_ok-restore.ensures.within 1024 i.1 (rw c.as_slice.ensures next.0));
+          (next.1, c.in_ok-restore.ensures.within MOST_VALUE i.1 (rw c.as_slice.ensures next.0));
     }
 
 pub returns-clause-stands : goal.returns-clause-stands

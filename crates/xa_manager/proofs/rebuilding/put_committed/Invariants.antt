@@ -1,4 +1,5 @@
 use Rattle.std.proofs.Common.{[], map}
+use Rattle.xa_codes.specs.declared.write.TheConstants.{MOST_VALUE}
 use Rattle.mv_rules.specs.Within.{IsWithin}
 use Rattle.mv_rules.specs.Restoring.{with_committed}
 use Rattle.xa_recovery.specs.Durable.{as_committed}
@@ -9,5 +10,5 @@ abbrev pub invariant-loop-timestamp : goal.invariant-loop-timestamp
 invariant-loop-timestamp l = record {
   stands : AreNew (map (λ c. c.timestamp) (map as_committed l.committed.entries)) [] → HaveWrites [] l.fn.records
       → AddedUpto with_committed (λ c. c.timestamp) [] (map as_committed l.committed.entries) (map as_committed l.timestamp-iterator) l.records;
-  short : CommittedAreShort (map as_committed l.committed.entries) → IsWithin 1024 l.fn.records → CommittedAreShort (map as_committed l.timestamp-iterator) × IsWithin 1024 l.records;
+  short : CommittedAreShort (map as_committed l.committed.entries) → IsWithin MOST_VALUE l.fn.records → CommittedAreShort (map as_committed l.timestamp-iterator) × IsWithin MOST_VALUE l.records;
 }

@@ -1,6 +1,7 @@
 use Rattle.std.proofs.Common.{ℕ, map, ap, refl, None}
 use Rattle.std.specs.Map.Iter.{deref_pair}
 use Rattle.std.proofs.lemmas.Map.Iter.{rest_more}
+use Rattle.xa_codes.specs.declared.write.TheConstants.{MOST_VALUE}
 use Rattle.mv_rules.specs.Restoring.{with_prepared}
 use Rattle.xa_recovery.specs.declared.durable.InDoubt.{InDoubt}
 use Rattle.xa_recovery.specs.Durable.{as_prepared}
@@ -18,7 +19,7 @@ loop-timestamp-preserved c =
       short = λ all start.
           let i = c.loop-timestamp.invariant.short all start in
           let next = prepared_next (map as_prepared c.loop-timestamp.timestamp-iterator) (map as_prepared c.next.new.self) (as_prepared e) (ap (λ es. map as_prepared es) more) i.0 in
-          (next.1, c.in_ok-restore.ensures.within 1024 i.1 (rw c.as_slice.ensures next.0));
+          (next.1, c.in_ok-restore.ensures.within MOST_VALUE i.1 (rw c.as_slice.ensures next.0));
     }
 
 pub returns-clause-stands : goal.returns-clause-stands

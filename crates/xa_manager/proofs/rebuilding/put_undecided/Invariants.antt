@@ -1,4 +1,5 @@
 use Rattle.std.proofs.Common.{List, map}
+use Rattle.xa_codes.specs.declared.write.TheConstants.{MOST_VALUE}
 use Rattle.mv_chain.specs.History.{Written}
 use Rattle.mv_rules.specs.Within.{IsWithin}
 use Rattle.mv_rules.specs.Restoring.{with_prepared}
@@ -10,5 +11,5 @@ abbrev pub invariant-loop-timestamp : goal.invariant-loop-timestamp
 invariant-loop-timestamp l = record {
   stands : (older : List Written) → AreNew (map (λ p. p.timestamp) (map as_prepared l.prepared.entries)) older → HaveWrites older l.fn.records
       → AddedUpto with_prepared (λ p. p.timestamp) older (map as_prepared l.prepared.entries) (map as_prepared l.timestamp-iterator) l.records;
-  short : PreparedAreShort (map as_prepared l.prepared.entries) → IsWithin 1024 l.fn.records → PreparedAreShort (map as_prepared l.timestamp-iterator) × IsWithin 1024 l.records;
+  short : PreparedAreShort (map as_prepared l.prepared.entries) → IsWithin MOST_VALUE l.fn.records → PreparedAreShort (map as_prepared l.timestamp-iterator) × IsWithin MOST_VALUE l.records;
 }

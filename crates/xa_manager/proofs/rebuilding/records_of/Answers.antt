@@ -1,4 +1,5 @@
 use Rattle.std.proofs.Common.{List, map, subst, sym}
+use Rattle.xa_codes.specs.declared.write.TheConstants.{MOST_VALUE}
 use Rattle.xa_recovery.specs.Durable.{as_committed, as_prepared}
 use Rattle.xa_model.specs.Durable.{CommittedBranch, PreparedBranch}
 use Rattle.xa_manager.specs.Rebuilding.{CommittedAreShort, PreparedAreShort}
@@ -16,4 +17,4 @@ returns-clause-short c = λ boot limits.
     let short = snapshot_short c.args.durable.now boot limits in
     let committed = subst (λ (bs : List CommittedBranch). CommittedAreShort bs) (sym c.committed.ensures) short.0 in
     let prepared = subst (λ (ps : List PreparedBranch). PreparedAreShort ps) (sym c.prepared.ensures) short.1 in
-    c.in_ok-put_undecided.ensures.short prepared (c.in_ok-put_committed.ensures.short committed (c.new-records.ensures.within 1024))
+    c.in_ok-put_undecided.ensures.short prepared (c.in_ok-put_committed.ensures.short committed (c.new-records.ensures.within MOST_VALUE))

@@ -1,4 +1,5 @@
 use Rattle.std.proofs.Common.{refl, subst}
+use Rattle.xa_codes.specs.declared.write.TheConstants.{MOST_VALUE}
 use Rattle.mv_chain.specs.declared.fate.Fate.{Fate}
 use Rattle.xa_manager.specs.Kept.{kept_of}
 use Rattle.xa_manager.proofs.Finishing.{Settles, decided_stands}
@@ -12,4 +13,4 @@ returns-clause-becomes c = λ s end st doubt recoverable.
     (subst (λ (fate : Fate). Settles t fate c.args.self.now.records c.settle.new.self) c.fate_of.ensures c.settle.ensures.stands) recoverable
 
 pub invariant_of-self : goal.invariant_of-self
-invariant_of-self c = record { short = c.settle.ensures.within 1024 c.args.self.now.short }
+invariant_of-self c = record { short = c.settle.ensures.within MOST_VALUE c.args.self.now.short }

@@ -1,4 +1,5 @@
 use Rattle.std.proofs.Common.{refl, subst}
+use Rattle.xa_codes.specs.declared.write.TheConstants.{MOST_VALUE}
 use Rattle.mv_chain.specs.declared.fate.Fate.{Fate}
 use Rattle.xa_model.specs.Branches.{rolled_back, committed}
 use Rattle.xa_assoc.proofs.Follows.{unmoved}
@@ -37,4 +38,4 @@ returns-clause-committed c = λ is s end st here recoverable.
     }
 
 pub invariant_of-self : goal.invariant_of-self
-invariant_of-self c = record { short = c.settle.ensures.within 1024 c.args.self.now.short }
+invariant_of-self c = record { short = c.settle.ensures.within MOST_VALUE c.args.self.now.short }

@@ -1,6 +1,6 @@
 use Rattle.std.proofs.Common.{ℕ, subst}
+use Rattle.xa_codes.specs.declared.write.TheConstants.{MOST_VALUE}
 use Rattle.mv_rules.specs.Tidy.{IsDrained}
-use Rattle.xa_manager.specs.Kept.{kept_of}
 use Rattle.xa_manager.proofs.Given.{given_stands}
 use Rattle.xa_manager.proofs.tables.Tables.give_low_water.Goals as goal
 
@@ -16,7 +16,7 @@ returns-clause-stays c = λ s st. record {
 }
 
 pub invariant_of-self : goal.invariant_of-self
-invariant_of-self c = record { short = c.low_water.ensures.within 1024 c.args.self.now.short }
+invariant_of-self c = record { short = c.low_water.ensures.within MOST_VALUE c.args.self.now.short }
 
 pub returns-clause-drained : goal.returns-clause-drained
 returns-clause-drained c = λ s sound st. subst (λ (low : ℕ). IsDrained low c.low_water.new.self) (c.low_water-low.ensures s sound st) c.low_water.ensures.drained

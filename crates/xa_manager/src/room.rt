@@ -1,0 +1,56 @@
+ghost use Rattle.std.specs.Prelude.{◌≡◌, ◌+◌, ◌*◌, ◌^◌, length, Some, None, nat_lt, if◌then◌else◌};
+ghost use Rattle.std.specs.List.{AllByRecursion};
+ghost use Rattle.xa_log.specs.Chain.{IsBody, newest, text};
+ghost use Rattle.xa_log.specs.Reading.{bodies_of};
+ghost use Rattle.xa_model.specs.Logging.{log_room, prepared_room, decided_room};
+
+use xa_log::{Format, end_of};
+use xa_record::MOST_SMALL;
+use xa_xid::MOST_BYTES;
+
+/// How many bytes a record takes in the log beside its body, a length and a digest.
+pub(crate) const AROUND_BODY: u64 = 36;
+/// The log's closing length.
+const CLOSING: u64 = 4;
+/// The most bytes of what forgets a branch, a kind and an XID.
+pub const DECIDED_ROOM: u64 = AROUND_BODY + 1 + MOST_BYTES as u64;
+/// The most bytes of what completes a prepared branch and of what forgets it.
+pub const PREPARED_ROOM: u64 = AROUND_BODY + MOST_SMALL as u64 + DECIDED_ROOM;
+
+/// The room that a log keeps for so many prepared branches and completed XIDs. None where it is over 2^64 - 1 bytes.
+fn kept_room(prepared: u64, completed: u64) -> Option<u64>
+    ensures { result ≡ (if nat_lt (prepared_room * prepared + decided_room * completed) (2 ^ 64)
+        then Some (prepared_room * prepared + decided_room * completed) else None) }
+{
+    let kept = prepared.checked_mul(PREPARED_ROOM)?;
+    kept.checked_add(completed.checked_mul(DECIDED_ROOM)?)
+}
+
+/// Whether a log that ends there keeps that room.
+pub(crate) fn leaves_room(end: u64, prepared: u64, completed: u64, log_bytes: u64) -> bool
+    ensures { result ≡ log_room log_bytes end prepared completed }
+{
+    match (end.checked_add(CLOSING), kept_room(prepared, completed)) {
+        (Some(end), Some(kept)) => match end.checked_add(kept) {
+            Some(needed) => needed <= log_bytes,
+            None => false,
+        },
+        _ => false,
+    }
+}
+
+/// Whether a new log with these bodies keeps it.
+pub(crate) fn begins_with_room(
+    bodies: &[Vec<u8>],
+    prepared: u64,
+    completed: u64,
+    log_bytes: u64,
+) -> bool
+    requires sizes { AllByRecursion IsBody (bodies_of bodies.now) }
+    ensures { result ≡ log_room log_bytes (length (text newest (bodies_of bodies.now))) prepared completed }
+{
+    match end_of(Format::newest(), bodies, log_bytes) {
+        Some(end) => leaves_room(end, prepared, completed, log_bytes),
+        None => false,
+    }
+}
