@@ -4,6 +4,7 @@
 //! - `log`: `Log`, with `append` and `checkpoint`; `making` has `create` and `open`, `rescanning` has `rescan` and
 //!   `into_disks`, `planning` has planned faults in memory
 //! - `appending`: how a record goes to the disk, and `Appended`, what became of it
+//! - `ahead`: how far a file is made ready ahead of its log, by pieces of `READY_BYTES`
 //! - `checkpointing`: how a checkpoint goes to the other disk, in its three parts; `end_of`, whether it fits
 //! - `opening`: making and reading a log on disks that are lent: `create_on`, `open_on`, `read_log`
 //! - `opened`: `Opened`, a log that was made or read so, without its disks
@@ -16,6 +17,7 @@
 //! docs/LOG.md has the format and what each device fault leaves.
 #![tactic(auto)]
 
+mod ahead;
 mod appending;
 mod checkpointing;
 mod fault;
@@ -33,6 +35,7 @@ mod rescanning;
 mod window;
 mod worked;
 
+pub use ahead::READY_BYTES;
 pub use appending::Appended;
 pub use checkpointing::end_of;
 pub use fault::OpenFault;

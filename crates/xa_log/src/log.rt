@@ -11,6 +11,7 @@ ghost use Rattle.xa_log.specs.Reading.{bodies_of};
 ghost use Rattle.xa_log.specs.Answers.{HasCause};
 ghost use Rattle.xa_log.specs.declared.window.TheConstants.{WINDOW};
 
+use crate::ahead::ready_behind;
 use crate::appending::{Appended, append_at};
 use crate::checkpointing::{checkpoint_on, end_of};
 use crate::format::Format;
@@ -45,6 +46,7 @@ pub struct Log<D> {
 }
 
 impl<D: Disk> Log<D> {
+    ghost use Rattle.xa_log.specs.Ahead.{Writes};
     ghost use Rattle.xa_log.specs.Stands.{Stands, Leaves, Moves, Answers};
     ghost use Rattle.xa_log.specs.TwoFiles.{Pair, AppendsTo, Checkpoints, Swaps, written};
 
@@ -74,6 +76,7 @@ impl<D: Disk> Log<D> {
         // The other file needs no look: what was said of the two stays.
         ensures pair { D.honest → (bodies stood : List (List ℕ)) → Pair D.Disk bodies stood self.old
             → AppendsTo D.Disk result bodies body.now stood self.new }
+        ensures writes { D.honest → result ≡ Appended.Kept → Writes D.Disk body.now self.old self.new }
     {
         if self.lost {
             return Appended::Lost; // Until a rescan, whether the last record stands is open.
@@ -82,12 +85,18 @@ impl<D: Disk> Log<D> {
         if self.log_bytes - self.end < AROUND_CLOSED as u64 + len as u64 {
             return Appended::Full;
         }
+        let ready = ready_behind(
+            self.end,
+            self.end + AROUND_CLOSED as u64 + len as u64,
+            self.log_bytes,
+        );
         let (outcome, digest) = append_at(
             &mut self.disk,
             self.end,
             &self.digest,
             &mut self.buffer,
             body,
+            ready,
         );
         match outcome {
             Appended::Kept => {
