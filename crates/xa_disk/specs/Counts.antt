@@ -1,9 +1,13 @@
--- How many device calls a disk was asked for, failed or not. Each number stays at the top of a u64.
+-- How many device calls a disk was asked for, failed or not.
 use Rattle.std.specs.Prelude.{ℕ, ◌+◌, ◌-◌, ◌^◌, min}
 use Rattle.xa_disk.specs.declared.counts.Counts.{Counts}
 
+-- the greatest count, where each stays: the greatest u64
+abbrev pub top : ℕ
+top = 2 ^ 64 - 1
+
 abbrev pub plus : ℕ → ℕ → ℕ
-plus n more = min (n + more) (2 ^ 64 - 1)
+plus n more = min (n + more) top
 
 abbrev pub no_calls : Counts
 no_calls = record { lengths = 0; reads = 0; read_bytes = 0; writes = 0; syncs = 0 }

@@ -1,4 +1,5 @@
--- Laws of the images that a crash of a disk in memory may leave, for the members of its trait. All of them are proved here.
+-- Laws of the images that a crash of a disk in memory may leave, for the members of its trait. All of them are proved
+-- here.
 use Rattle.std.specs.Prelude.{◌≡◌, ◌≤◌, ℕ, List, [], ◌∷◌, length, refl}
 use Rattle.std.proofs.Common.{arith, sym, subst}
 use Rattle.std.proofs.lemmas.List.{take_all, places}
@@ -18,32 +19,43 @@ put_torn old at bytes = record {
   above = λ i l b. search (rules, places);
 }
 
-pub seen_stays : (s : Now) (calls : List Call) → IsImage s s.seen → IsImage (replay_from s calls) (replay_from s calls).seen
+pub seen_stays : (s : Now) (calls : List Call) → IsImage s s.seen
+    → IsImage (replay_from s calls) (replay_from s calls).seen
 seen_stays s [] here = here
-seen_stays s (Write at bytes ∷ calls) here = seen_stays (after (Write at bytes) s) calls (s.seen, here, put_torn s.seen at bytes.items)
+seen_stays s (Write at bytes ∷ calls) here =
+    seen_stays (after (Write at bytes) s) calls (s.seen, here, put_torn s.seen at bytes.items)
 seen_stays s (Sync ∷ calls) here = seen_stays (after Sync s) calls refl
 
 pub seen_may_stay : (first : List ℕ) (calls : List Call) → IsImage (replay first calls) (replay first calls).seen
 seen_may_stay first calls = seen_stays (at_first first) calls refl
 
-pub counts_now : (first : List ℕ) (calls : List Call) (t : ℕ) (c : List ℕ) → t ≤ length calls → IsImage (replay first calls) c → LeftSince first calls t c
-counts_now first calls t c le now = (length calls, le, omega arith, subst (λ l. IsImage (replay first l) c) (sym (take_all (length calls) calls (omega arith))) now)
+pub counts_now : (first : List ℕ) (calls : List Call) (t : ℕ) (c : List ℕ)
+    → t ≤ length calls → IsImage (replay first calls) c → LeftSince first calls t c
+counts_now first calls t c le now =
+    let all = sym (take_all (length calls) calls (omega arith)) in
+    (length calls, le, omega arith, subst (λ l. IsImage (replay first l) c) all now)
 
-pub only_now : (first : List ℕ) (calls : List Call) (c : List ℕ) → LeftSince first calls (length calls) c → IsImage (replay first calls) c
+pub only_now : (first : List ℕ) (calls : List Call) (c : List ℕ)
+    → LeftSince first calls (length calls) c → IsImage (replay first calls) c
 only_now first calls c left = subst (λ l. IsImage (replay first l) c) (take_all left.0 calls left.1) left.3
 
-pub stays_of : (first : List ℕ) (calls : List Call) (bytes : List ℕ) → bytes ≡ (replay first calls).seen → IsImage (replay first calls) bytes
+pub stays_of : (first : List ℕ) (calls : List Call) (bytes : List ℕ)
+    → bytes ≡ (replay first calls).seen → IsImage (replay first calls) bytes
 stays_of first calls bytes is = subst (λ b. IsImage (replay first calls) b) (sym is) (seen_may_stay first calls)
 
 torn_same : (at n : ℕ) (c : List ℕ) → Torn at n c c
-torn_same at n c = record { no_shorter = omega arith; no_longer = omega arith; below = λ i l b. refl; above = λ i l b. refl }
+torn_same at n c =
+    record { no_shorter = omega arith; no_longer = omega arith; below = λ i l b. refl; above = λ i l b. refl }
 
 pub torn_by_nothing : (old : List ℕ) (at : ℕ) (bytes new : List ℕ) → new ≡ old → Torn at (length bytes) old new
-torn_by_nothing old at bytes new is = subst (λ c. Torn at (length bytes) old c) (sym is) (torn_same at (length bytes) old)
+torn_by_nothing old at bytes new is =
+    subst (λ c. Torn at (length bytes) old c) (sym is) (torn_same at (length bytes) old)
 
-pub all_or_none_torn : (old : List ℕ) (at : ℕ) (bytes new : List ℕ) → AllOrNone old at bytes new → Torn at (length bytes) old new
+pub all_or_none_torn : (old : List ℕ) (at : ℕ) (bytes new : List ℕ)
+    → AllOrNone old at bytes new → Torn at (length bytes) old new
 all_or_none_torn old at bytes new (inl is) = torn_by_nothing old at bytes new is
-all_or_none_torn old at bytes new (inr is) = subst (λ c. Torn at (length bytes) old c) (sym is) (put_torn old at bytes)
+all_or_none_torn old at bytes new (inr is) =
+    subst (λ c. Torn at (length bytes) old c) (sym is) (put_torn old at bytes)
 
 reaches_stable : (stable : List ℕ) (pending : List (ℕ × ℕ)) → Reaches stable pending stable
 reaches_stable stable [] = refl

@@ -20,7 +20,8 @@ pub record Now : Type 0 where
   pub pending : List (ℕ × ℕ)
 
 abbrev pub after : Call → Now → Now
-after (Write at bytes) s = record { seen = put s.seen at bytes.items; stable = s.stable; pending = (at, length bytes.items) ∷ s.pending }
+after (Write at bytes) s =
+    record { seen = put s.seen at bytes.items; stable = s.stable; pending = (at, length bytes.items) ∷ s.pending }
 after Sync s = record { seen = s.seen; stable = s.seen; pending = [] }
 
 abbrev pub replay_from : Now → List Call → Now
@@ -48,6 +49,7 @@ abbrev pub LeftSince : List ℕ → List Call → ℕ → List ℕ → Type 0
 LeftSince first calls t c = (k : ℕ) × (t ≤ k) × (k ≤ length calls) × IsImage (replay first (take k calls)) c
 
 -- law: one call more
-pub replay_more : (s : Now) (calls : List Call) (call : Call) → replay_from s (calls ++ call ∷ []) ≡ after call (replay_from s calls)
+pub replay_more : (s : Now) (calls : List Call) (call : Call)
+    → replay_from s (calls ++ call ∷ []) ≡ after call (replay_from s calls)
 replay_more s [] call = refl
 replay_more s (c ∷ calls) call = replay_more (after c s) calls call

@@ -1,10 +1,13 @@
-//! A disk as a log sees it: what a read gives, what a crash may leave, and counts of its calls and of those that failed.
+//! A disk as a log sees it: what a read gives, what a crash may leave, and counts of its calls and of those that
+//! failed.
 //!
 //! - `disk`: the trait `Disk`, whose ghost members say what its calls mean, and `DiskFault`
 //! - `counts`: `Counts`, how many device calls of each kind a disk was asked for
-//! - `memory`: `MemDisk`, of which all of that is proved; with `plan` (calls that are to fail), `call` (the
-//!   record of its writes and syncs) and `bytes` (the bytes alone)
-//! - `file`: `FileDisk`, a real file, of which only the counts are proved; with `opening` (how a file is taken, and why not)
+//! - `memory`: `MemDisk`, of which all of that is proved; with `call` (the record of its writes and syncs) and `bytes`
+//!   (the bytes alone)
+//! - `plan`: which calls of a `MemDisk` are to fail, and with which `Effect`
+//! - `file`: `FileDisk`, a real file, of which only the counts are proved
+//! - `opening`: how a file is taken as a disk, and `FileFault`, why it isn't
 #![tactic(auto)]
 
 mod bytes;

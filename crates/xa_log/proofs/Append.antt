@@ -1,11 +1,12 @@
 -- What each step of an append leaves.
 use Rattle.std.proofs.Common.{◌≡◌, ◌≢◌, ◌⊎◌, inl, inr, ⊎_elim, ℕ, ◌+◌, ◌-◌, ◌^◌, ◌<◌, ◌≤◌, true, List, [], ◌∷◌, ◌++◌, length, take, drop, replicate, refl, sym, ◌∙◌, ap, subst, arith, append_assoc, length-append, suc}
-use Rattle.std.proofs.lemmas.List.{take_at, drop_at, length-replicate}
+use Rattle.std.proofs.lemmas.List.{take_at, drop_at, take-take, take-replicate, length-replicate}
 use Rattle.xa_disk.specs.Disk.{put, Torn, Only}
 use Rattle.xa_disk.specs.Time.{TimePasses, LeavesOnly}
 use Rattle.xa_disk.specs.declared.disk.Disk.{Ghosts}
-use Rattle.xa_log.specs.Chain.{start, last, text, IsBody, digest, record_of, closed_record, Rests, IsBeforeOrAfter}
+use Rattle.xa_log.specs.Chain.{start, last, text, IsBody, digest, record_of, closed_by, closed_record, Rests, IsBeforeOrAfter}
 use Rattle.xa_log.specs.declared.format.Format.{Format}
+use Rattle.xa_log.specs.Ahead.{ready, appended}
 use Rattle.xa_log.specs.Answers.{Went, Fell, HasCause}
 use Rattle.xa_log.specs.Stands.{Stands, MayStand, Leaves, Answers}
 use Rattle.xa_log.specs.declared.appending.Appended.{Appended}
@@ -15,11 +16,11 @@ use Rattle.xa_log.proofs.Records.{length-record_of, text_more, last_more, rests_
 use Rattle.xa_log.proofs.Again.{no_fault}
 use Rattle.xa_log.proofs.Torn.{torn_same, torn_then, torn_front, put_torn, put_within}
 
-pub length-closed_by : (prev body : List ℕ) → length (record_of prev body ++ 0 ∷ 0 ∷ 0 ∷ 0 ∷ []) ≡ 4 + (36 + length body)
-length-closed_by prev body = omega (arith, length-append (record_of prev body) (0 ∷ 0 ∷ 0 ∷ 0 ∷ []), length-record_of prev body)
+pub length-closed_by : (more : ℕ) (prev body : List ℕ) → length (closed_by more prev body) ≡ 4 + (36 + length body + more)
+length-closed_by more prev body = omega (arith, length-append (record_of prev body ++ 0 ∷ 0 ∷ 0 ∷ 0 ∷ []) (replicate {A = ℕ} more 0), length-append (record_of prev body) (0 ∷ 0 ∷ 0 ∷ 0 ∷ []), length-record_of prev body, length-replicate {A = ℕ} more 0)
 
-pub length-closed : (format : Format) (bodies : List (List ℕ)) (body : List ℕ) → length (closed_record format bodies body) ≡ 40 + length body
-length-closed format bodies body = omega (arith, length-closed_by (last (start format) bodies) body)
+pub length-closed : (more : ℕ) (format : Format) (bodies : List (List ℕ)) (body : List ℕ) → length (closed_record more format bodies body) ≡ 40 + length body + more
+length-closed more format bodies body = omega (arith, length-closed_by more (last (start format) bodies) body)
 
 module _ (format : Format) (bodies : List (List ℕ)) (body file : List ℕ) (rests : Rests format bodies file) where
   abbrev end : ℕ
@@ -38,13 +39,15 @@ module _ (format : Format) (bodies : List (List ℕ)) (body file : List ℕ) (re
       let kept : take end c ≡ text format bodies = torn_front end n file c long torn ∙ front in
       record { fits = fits; front = kept; opens = no_fault most format c bodies fits kept; reads = plain_front format bodies body c rests.sizes ok kept }
 
-  pub kept : (new : List ℕ) → IsBody body → new ≡ put file end (closed_record format bodies body) → Rests format (bodies ++ body ∷ []) new
-  kept new ok is =
-      let n = end + length (closed_record format bodies body) in
-      rests_more format bodies body new (drop n file) rests.sizes ok
-      (is ∙ put_within file end (closed_record format bodies body) long
-      ∙ ap (λ (l : List ℕ). l ++ closed_record format bodies body ++ drop n file) front
-      ∙ append_assoc (text format bodies) (closed_record format bodies body) (drop n file))
+  pub kept : (more : ℕ) (new : List ℕ) → IsBody body → new ≡ put file end (closed_record more format bodies body) → Rests format (bodies ++ body ∷ []) new
+  kept more new ok is =
+      let n = end + length (closed_record more format bodies body) in
+      let zeros : List ℕ = replicate more 0 in
+      rests_more format bodies body new (zeros ++ drop n file) rests.sizes ok
+      (is ∙ put_within file end (closed_record more format bodies body) long
+      ∙ ap (λ (l : List ℕ). l ++ closed_record more format bodies body ++ drop n file) front
+      ∙ append_assoc (text format bodies) (closed_record more format bodies body) (drop n file)
+      ∙ ap (λ (l : List ℕ). text format bodies ++ l) (append_assoc (record_of (last (start format) bodies) body ++ 0 ∷ 0 ∷ 0 ∷ 0 ∷ []) zeros (drop n file)))
 
   zeros_split : (n : ℕ) → replicate {A = ℕ} (4 + n) 0 ≡ 0 ∷ 0 ∷ 0 ∷ 0 ∷ replicate n 0
   zeros_split n = let m : 4 + n ≡ suc (suc (suc (suc n))) = omega arith in ap (λ (k : ℕ). replicate {A = ℕ} k 0) m
@@ -91,37 +94,37 @@ module _ (format : Format) (bodies : List (List ℕ)) (body file : List ℕ) (re
 
 -- ---- what a log stands for after each answer
 
-module _ {D : Type 0} (disks : Ghosts D) (bodies : List (List ℕ)) (body : List ℕ) (old new : Log D) (stands : Stands disks bodies old) where
+module _ {D : Type 0} (disks : Ghosts D) (bodies : List (List ℕ)) (body : List ℕ) (more : ℕ) (old new : Log D) (stands : Stands disks bodies old) where
   abbrev format : Format
   format = old.format
 
   abbrev Went_by : Appended → Type 0
-  Went_by outcome = Went disks.tears outcome old.end (record_of old.digest body ++ 0 ∷ 0 ∷ 0 ∷ 0 ∷ []) (disks.seen old.disk) (disks.seen new.disk) (disks.may_leave new.disk)
+  Went_by outcome = Went disks.tears outcome old.end (closed_by more old.digest body) (disks.seen old.disk) (disks.seen new.disk) (disks.may_leave new.disk)
 
-  length-range : length (record_of old.digest body ++ 0 ∷ 0 ∷ 0 ∷ 0 ∷ []) ≡ 4 + (36 + length body)
-  length-range = length-closed_by old.digest body
+  length-range : length (closed_by more old.digest body) ≡ 4 + (36 + length body + more)
+  length-range = length-closed_by more old.digest body
 
   -- the range ends within the log's bytes
-  fits_after : old.end + (40 + length body) ≤ old.log_bytes → new.log_bytes ≡ old.log_bytes → Torn old.end (length (record_of old.digest body ++ 0 ∷ 0 ∷ 0 ∷ 0 ∷ [])) (disks.seen old.disk) (disks.seen new.disk) → length (disks.seen new.disk) ≤ new.log_bytes
+  fits_after : old.end + (40 + length body + more) ≤ old.log_bytes → new.log_bytes ≡ old.log_bytes → Torn old.end (length (closed_by more old.digest body)) (disks.seen old.disk) (disks.seen new.disk) → length (disks.seen new.disk) ≤ new.log_bytes
   fits_after room same torn = omega (arith, torn.no_longer, stands.fits, length-range, room, same)
 
-  torn_kept : Went_by Kept → Torn old.end (length (record_of old.digest body ++ 0 ∷ 0 ∷ 0 ∷ 0 ∷ [])) (disks.seen old.disk) (disks.seen new.disk)
-  torn_kept went = subst (λ f. Torn old.end (length (record_of old.digest body ++ 0 ∷ 0 ∷ 0 ∷ 0 ∷ [])) (disks.seen old.disk) f) (sym went.0) (put_torn (disks.seen old.disk) old.end (record_of old.digest body ++ 0 ∷ 0 ∷ 0 ∷ 0 ∷ []))
+  torn_kept : Went_by Kept → Torn old.end (length (closed_by more old.digest body)) (disks.seen old.disk) (disks.seen new.disk)
+  torn_kept went = subst (λ f. Torn old.end (length (closed_by more old.digest body)) (disks.seen old.disk) f) (sym went.0) (put_torn (disks.seen old.disk) old.end (closed_by more old.digest body))
 
-  torn_refused : Went_by Refused → Torn old.end (length (record_of old.digest body ++ 0 ∷ 0 ∷ 0 ∷ 0 ∷ [])) (disks.seen old.disk) (disks.seen new.disk)
+  torn_refused : Went_by Refused → Torn old.end (length (closed_by more old.digest body)) (disks.seen old.disk) (disks.seen new.disk)
   torn_refused went =
-      let range = length (record_of old.digest body ++ 0 ∷ 0 ∷ 0 ∷ 0 ∷ []) in
+      let range = length (closed_by more old.digest body) in
       let zeros : List ℕ = replicate range 0 in
       let cleared : Torn old.end (length zeros) went.0 (disks.seen new.disk) = subst (λ f. Torn old.end (length zeros) went.0 f) (sym went.2) (put_torn went.0 old.end zeros) in
       torn_then old.end range (disks.seen old.disk) went.0 (disks.seen new.disk) went.1 (subst (λ n. Torn old.end n went.0 (disks.seen new.disk)) (length-replicate range 0) cleared)
 
   abbrev Room : Type 0
-  Room = (old.end + (40 + length body) ≤ old.log_bytes) × (new.log_bytes ≡ old.log_bytes) × (new.format ≡ old.format)
+  Room = (old.end + (40 + length body + more) ≤ old.log_bytes) × (new.log_bytes ≡ old.log_bytes) × (new.format ≡ old.format)
 
   pub answer_kept : Room → IsBody body → Went_by Kept → new.end ≡ old.end + (36 + length body) → new.digest ≡ digest old.digest body → new.lost ≡ old.lost → Stands disks (bodies ++ body ∷ []) new
   answer_kept room ok went end_is digest_is lost_is = record {
     fits = fits_after room.0 room.1 (torn_kept went);
-    file = subst (λ k. Rests k (bodies ++ body ∷ []) (disks.seen new.disk)) (sym room.2) (kept format bodies body (disks.seen old.disk) stands.file (disks.seen new.disk) ok (went.0 ∙ (λ i. put (disks.seen old.disk) (stands.end i) (record_of (stands.digest i) body ++ 0 ∷ 0 ∷ 0 ∷ 0 ∷ []))));
+    file = subst (λ k. Rests k (bodies ++ body ∷ []) (disks.seen new.disk)) (sym room.2) (kept format bodies body (disks.seen old.disk) stands.file more (disks.seen new.disk) ok (went.0 ∙ (λ i. put (disks.seen old.disk) (stands.end i) (closed_by more (stands.digest i) body))));
     end = subst (λ k. new.end ≡ length (text k (bodies ++ body ∷ []))) (sym room.2)
         (omega (arith, end_is, stands.end, ap length (text_more format bodies body), length-append (text format bodies) (record_of (last (start format) bodies) body), length-record_of (last (start format) bodies) body));
     digest = subst (λ k. new.digest ≡ last (start k) (bodies ++ body ∷ [])) (sym room.2) (digest_is ∙ ap (λ (d : List ℕ). digest d body) stands.digest ∙ sym (last_more (start format) bodies body));
@@ -131,10 +134,11 @@ module _ {D : Type 0} (disks : Ghosts D) (bodies : List (List ℕ)) (body : List
 
   pub answer_refused : Room → Went_by Refused → new.end ≡ old.end → new.digest ≡ old.digest → new.lost ≡ old.lost → Stands disks bodies new × (take (40 + length body) (drop (length (text new.format bodies)) (disks.seen new.disk)) ≡ replicate (40 + length body) 0)
   answer_refused room went end_is digest_is lost_is =
-      let torn : Torn (length (text format bodies)) (4 + (36 + length body)) (disks.seen old.disk) went.0 = subst (λ n. Torn (length (text format bodies)) n (disks.seen old.disk) went.0) length-range (subst (λ e. Torn e (length (record_of old.digest body ++ 0 ∷ 0 ∷ 0 ∷ 0 ∷ [])) (disks.seen old.disk) went.0) stands.end went.1) in
-      let is : disks.seen new.disk ≡ put went.0 (length (text format bodies)) (replicate (4 + (36 + length body)) 0) = went.2 ∙ (λ i. put went.0 (stands.end i) (replicate (length-range i) 0)) in
-      let it = refused format bodies body (disks.seen old.disk) stands.file (36 + length body) went.0 (disks.seen new.disk) torn is in
-      let n : 40 + length body ≡ 4 + (36 + length body) = omega arith in (
+      let n = 36 + length body + more in
+      let torn : Torn (length (text format bodies)) (4 + n) (disks.seen old.disk) went.0 = subst (λ k. Torn (length (text format bodies)) k (disks.seen old.disk) went.0) length-range (subst (λ e. Torn e (length (closed_by more old.digest body)) (disks.seen old.disk) went.0) stands.end went.1) in
+      let is : disks.seen new.disk ≡ put went.0 (length (text format bodies)) (replicate (4 + n) 0) = went.2 ∙ (λ i. put went.0 (stands.end i) (replicate (length-range i) 0)) in
+      let it = refused format bodies body (disks.seen old.disk) stands.file n went.0 (disks.seen new.disk) torn is in
+      let few : 40 + length body ≤ 4 + n = omega arith in (
         record {
           file = subst (λ k. Rests k bodies (disks.seen new.disk)) (sym room.2) it.0;
           fits = fits_after room.0 room.1 (torn_refused went);
@@ -144,32 +148,34 @@ module _ {D : Type 0} (disks : Ghosts D) (bodies : List (List ℕ)) (body : List
           alive = lost_is ∙ stands.alive;
         },
         subst (λ k. take (40 + length body) (drop (length (text k bodies)) (disks.seen new.disk)) ≡ replicate (40 + length body) 0) (sym room.2)
-            (subst (λ k. take k (drop (length (text format bodies)) (disks.seen new.disk)) ≡ replicate k 0) (sym n) it.1),
+            (sym (take-take (40 + length body) (4 + n) (drop (length (text format bodies)) (disks.seen new.disk)) few)
+            ∙ ap (λ (l : List ℕ). take (40 + length body) l) it.1
+            ∙ take-replicate (40 + length body) (4 + n) 0 few),
       )
 
-  pub answer_lost : Room → IsBody body → Went_by Lost → new.lost ≡ true → ((c : List ℕ) → disks.may_leave new.disk c → (d : List ℕ) × disks.may_leave old.disk d × Torn old.end (length (record_of old.digest body ++ 0 ∷ 0 ∷ 0 ∷ 0 ∷ [])) d c) → MayStand disks bodies body new
+  pub answer_lost : Room → IsBody body → Went_by Lost → new.lost ≡ true → ((c : List ℕ) → disks.may_leave new.disk c → (d : List ℕ) × disks.may_leave old.disk d × Torn old.end (length (closed_by more old.digest body)) d c) → MayStand disks bodies body new
   answer_lost room ok went lost_is follows = record {
     seen_is = its (disks.seen new.disk) (good (disks.seen new.disk) went.0);
-    seen_on = λ lucky. subst (λ k. IsBeforeOrAfter k bodies body (disks.seen new.disk)) (sym room.2) ((good (disks.seen new.disk) went.0).reads (lucky format bodies body (disks.seen old.disk) went.1 (disks.seen new.disk) stands.file ok first second));
+    seen_on = λ lucky. subst (λ k. IsBeforeOrAfter k bodies body (disks.seen new.disk)) (sym room.2) ((good (disks.seen new.disk) went.0).reads (lucky format bodies body (disks.seen old.disk) went.1 (disks.seen new.disk) more stands.file ok first second));
     left_is = λ c left. let x = follows c left in its c (good c (subst (λ f. Torn old.end range f c) (stands.durable x.0 x.1) x.2));
     lost = lost_is;
   }
     where
-      first : Fell disks.tears (disks.seen old.disk) (length (text format bodies)) (closed_record format bodies body) went.1
+      first : Fell disks.tears (disks.seen old.disk) (length (text format bodies)) (closed_record more format bodies body) went.1
       first =
-          subst (λ d. Fell disks.tears (disks.seen old.disk) (length (text format bodies)) (record_of d body ++ 0 ∷ 0 ∷ 0 ∷ 0 ∷ []) went.1) stands.digest
-          (subst (λ e. Fell disks.tears (disks.seen old.disk) e (record_of old.digest body ++ 0 ∷ 0 ∷ 0 ∷ 0 ∷ []) went.1) stands.end went.2)
+          subst (λ d. Fell disks.tears (disks.seen old.disk) (length (text format bodies)) (closed_by more d body) went.1) stands.digest
+          (subst (λ e. Fell disks.tears (disks.seen old.disk) e (closed_by more old.digest body) went.1) stands.end went.2)
 
-      forty : length (record_of old.digest body ++ 0 ∷ 0 ∷ 0 ∷ 0 ∷ []) ≡ 40 + length body
+      forty : length (closed_by more old.digest body) ≡ 40 + length body + more
       forty = omega (arith, length-range)
 
-      second : Fell disks.tears went.1 (length (text format bodies)) (replicate (40 + length body) 0) (disks.seen new.disk)
+      second : Fell disks.tears went.1 (length (text format bodies)) (replicate (40 + length body + more) 0) (disks.seen new.disk)
       second =
-          subst (λ e. Fell disks.tears went.1 e (replicate (40 + length body) 0) (disks.seen new.disk)) stands.end
+          subst (λ e. Fell disks.tears went.1 e (replicate (40 + length body + more) 0) (disks.seen new.disk)) stands.end
           (subst (λ n. Fell disks.tears went.1 old.end (replicate n 0) (disks.seen new.disk)) forty went.3)
 
       range : ℕ
-      range = length (record_of old.digest body ++ 0 ∷ 0 ∷ 0 ∷ 0 ∷ [])
+      range = length (closed_by more old.digest body)
 
       good : (c : List ℕ) → Torn old.end range (disks.seen old.disk) c → Leaves new.log_bytes format bodies body c
       good c torn =
@@ -180,7 +186,7 @@ module _ {D : Type 0} (disks : Ghosts D) (bodies : List (List ℕ)) (body : List
       its c it = subst (λ k. Leaves new.log_bytes k bodies body c) (sym room.2) it
 
   abbrev Went_as : Appended → Type 0
-  Went_as outcome = Went disks.tears outcome old.end (record_of old.digest body ++ 0 ∷ 0 ∷ 0 ∷ 0 ∷ []) (disks.seen old.disk) (disks.seen new.disk) (disks.may_leave new.disk)
+  Went_as outcome = Went disks.tears outcome old.end (closed_by more old.digest body) (disks.seen old.disk) (disks.seen new.disk) (disks.may_leave new.disk)
 
   pub answers_kept : Room → (o : Appended) → o ≡ Kept → IsBody body → Went_as o → new.end ≡ old.end + (36 + length body) → new.digest ≡ digest old.digest body → new.lost ≡ old.lost → Answers disks o bodies body new
   answers_kept room o is ok went e d l = subst (λ x. Answers disks x bodies body new) (sym is) (answer_kept room ok (subst Went_as is went) e d l)
@@ -189,7 +195,7 @@ module _ {D : Type 0} (disks : Ghosts D) (bodies : List (List ℕ)) (body : List
   answers_refused room o (inl is) other went e d l = subst (λ x. Answers disks x bodies body new) (sym is) (answer_refused room (subst Went_as is went) e d l)
   answers_refused room o (inr is) other went e d l = absurd (other is)
 
-  pub answers_lost : Room → (o : Appended) → o ≡ Lost → IsBody body → Went_as o → new.lost ≡ true → ((c : List ℕ) → disks.may_leave new.disk c → (d : List ℕ) × disks.may_leave old.disk d × Torn old.end (length (record_of old.digest body ++ 0 ∷ 0 ∷ 0 ∷ 0 ∷ [])) d c) → Answers disks o bodies body new
+  pub answers_lost : Room → (o : Appended) → o ≡ Lost → IsBody body → Went_as o → new.lost ≡ true → ((c : List ℕ) → disks.may_leave new.disk c → (d : List ℕ) × disks.may_leave old.disk d × Torn old.end (length (closed_by more old.digest body)) d c) → Answers disks o bodies body new
   answers_lost room o is ok went l follows = subst (λ x. Answers disks x bodies body new) (sym is) (answer_lost room ok (subst Went_as is went) l follows)
 
 module _ {D : Type 0} (disks : Ghosts D) (bodies : List (List ℕ)) (body : List ℕ) (old : Log D) (stands : Stands disks bodies old)
@@ -202,10 +208,10 @@ module _ {D : Type 0} (disks : Ghosts D) (bodies : List (List ℕ)) (body : List
       (subst (λ e. TimePasses disks (Torn e n) old.disk new) stands.end time)
 
   -- the same, where the range is a record with its closing length
-  pub record_moments : (new : D) (range : List ℕ) → length range ≡ 4 + (36 + length body) → IsBody body → old.end + (40 + length body) ≤ old.log_bytes
+  pub record_moments : (new : D) (more : ℕ) (range : List ℕ) → length range ≡ 4 + (36 + length body + more) → IsBody body → old.end + (40 + length body + more) ≤ old.log_bytes
       → TimePasses disks (Torn old.end (length range)) old.disk new
       → LeavesOnly disks old.disk new (Leaves old.log_bytes old.format bodies body)
-  record_moments new range long ok room time = answer_moments new (length range) ok (omega (arith, long, room)) time
+  record_moments new more range long ok room time = answer_moments new (length range) ok (omega (arith, long, room)) time
 
   -- nothing was asked of the disk
   pub no_moments : IsBody body → old.end ≤ old.log_bytes → LeavesOnly disks old.disk old.disk (Leaves old.log_bytes old.format bodies body)
@@ -219,3 +225,12 @@ kept_if Kept a b cause low same other = refl
 kept_if Refused a b cause low same other = absurd (omega (arith, cause))
 kept_if Lost a b cause low same other = absurd (omega (arith, cause))
 kept_if Full a b cause low same other = absurd (other refl)
+
+-- what an append that was kept has written
+pub writes_kept : {D : Type 0} (disks : Ghosts D) (body : List ℕ) (old : Log D) (new : D) (o : Appended) → o ≡ Kept → (more : ℕ)
+    → Went disks.tears o old.end (closed_by more old.digest body) (disks.seen old.disk) (disks.seen new) (disks.may_leave new)
+    → more ≡ ready old.end (old.end + 40 + length body) old.log_bytes → disks.seen new ≡ put (disks.seen old.disk) old.end (appended old body)
+writes_kept disks body old new o is more went exact =
+    let it : Went disks.tears Kept old.end (closed_by more old.digest body) (disks.seen old.disk) (disks.seen new) (disks.may_leave new) =
+    subst (λ x. Went disks.tears x old.end (closed_by more old.digest body) (disks.seen old.disk) (disks.seen new) (disks.may_leave new)) is went in
+    it.0 ∙ ap (λ (n : ℕ). put (disks.seen old.disk) old.end (closed_by n old.digest body)) exact

@@ -7,7 +7,7 @@ use Rattle.xa_disk.specs.Disk.{put, Torn, Passes}
 use Rattle.xa_log.specs.declared.format.Format.{Format}
 use Rattle.xa_log.specs.Chain.{start, last, text, records, record_of, digest, IsBody}
 use Rattle.xa_log.specs.Reading.{bodies_of}
-use Rattle.xa_log.specs.Checkpoint.{tailed, first_length}
+use Rattle.xa_log.specs.Checkpoint.{records_bytes, tailed, first_length}
 use Rattle.xa_log.proofs.Records.{records_more, text_more, last_more, length-record_of, length-text}
 use Rattle.xa_log.proofs.Torn.{put_within, torn_then, then}
 
@@ -135,10 +135,6 @@ next format bodies i body at is here =
       from = omega (arith, here, length-text format done);
     }
 
--- how many bytes the records take from byte 12 on, with the closing length
-abbrev pub span : Format → List (List ℕ) → ℕ
-span format bodies = length (records (start format) bodies)
-
 -- one body of those that are written
 pub record Item (format : Format) (bodies : List (List ℕ)) (i : ℕ) (body : List ℕ) (at : ℕ) : Type 0 where
   pub is : take (i + 1) bodies ≡ take i bodies ++ body ∷ []
@@ -173,20 +169,20 @@ module _ (format : Format) (bodies : List (List ℕ)) (i : ℕ) (body : List ℕ
   abbrev Writes : List ℕ → List ℕ → Type 0
   Writes a b = Torn (at + (12 - at)) (36 + length body + zeros - (12 - at)) a b
 
-  inside : (a b : List ℕ) → Writes a b → Torn 12 (span format bodies) a b
+  inside : (a b : List ℕ) → Writes a b → Torn 12 (records_bytes format bodies) a b
   inside a b t =
-      wider (at + (12 - at)) (36 + length body + zeros - (12 - at)) 12 (span format bodies) a b
+      wider (at + (12 - at)) (36 + length body + zeros - (12 - at)) 12 (records_bytes format bodies) a b
       (omega (arith, it.place.from)) (omega (arith, it.place.within, it.place.from, few)) t
 
-  pub torn_step : (old a b : List ℕ) → Torn 12 (span format bodies) old a → Writes a b → Torn 12 (span format bodies) old b
-  torn_step old a b so t = torn_then 12 (span format bodies) old a b so (inside a b t)
+  pub torn_step : (old a b : List ℕ) → Torn 12 (records_bytes format bodies) old a → Writes a b → Torn 12 (records_bytes format bodies) old b
+  torn_step old a b so t = torn_then 12 (records_bytes format bodies) old a b so (inside a b t)
 
-  pub time_step : (l m n : ℕ) (s0 s1 s2 : ℕ → List ℕ → Type 0) (m0 m1 m2 : List ℕ → Type 0) → Passes (Torn 12 (span format bodies)) l m s0 s1 m0 m1
+  pub time_step : (l m n : ℕ) (s0 s1 s2 : ℕ → List ℕ → Type 0) (m0 m1 m2 : List ℕ → Type 0) → Passes (Torn 12 (records_bytes format bodies)) l m s0 s1 m0 m1
       → Passes Writes m n s1 s2 m1 m2
-      → Passes (Torn 12 (span format bodies)) l n s0 s2 m0 m2
+      → Passes (Torn 12 (records_bytes format bodies)) l n s0 s2 m0 m2
   time_step l m n s0 s1 s2 m0 m1 m2 so now =
-      then (Torn 12 (span format bodies)) (torn_then 12 (span format bodies)) l m n s0 s1 s2 m0 m1 m2 so
-      (weaker Writes (Torn 12 (span format bodies)) inside m n s1 s2 m1 m2 now)
+      then (Torn 12 (records_bytes format bodies)) (torn_then 12 (records_bytes format bodies)) l m n s0 s1 s2 m0 m1 m2 so
+      (weaker Writes (Torn 12 (records_bytes format bodies)) inside m n s1 s2 m1 m2 now)
 
 -- the records written so far and one more, with zeros behind it
 pub seen_step : (format : Format) (bodies : List (List ℕ)) (i : ℕ) (body d : List ℕ) (at zeros : ℕ) (it : Item format bodies i body at)

@@ -1,5 +1,6 @@
--- Which device calls a log makes. The counts of a disk say how many of each kind; they stay at the top of a u64.
-use Rattle.std.specs.Prelude.{◌≡◌, ◌⊎◌, ℕ, zero, suc, ◌+◌, ◌*◌, ◌≤◌, ◌<◌, Bool, true, false, Option, None, Some, Result, MatchResult}
+-- Which device calls a log makes. The counts of a disk say how many of each kind; they stay at their top.
+use Rattle.std.specs.Prelude.{◌≡◌, ◌⊎◌, ℕ, zero, suc, ◌+◌, ◌*◌, ◌≤◌, ◌<◌, Bool, true, false, Option, None, Some, Result}
+use Rattle.std.specs.Prelude.{MatchResult}
 use Rattle.xa_disk.specs.Counts.{plus, with_length, with_write, with_sync}
 use Rattle.xa_disk.specs.declared.counts.Counts.{Counts}
 use Rattle.xa_log.specs.declared.reading.Found.{Found}
@@ -7,21 +8,22 @@ use Rattle.xa_log.specs.declared.appending.Appended.{Appended}
 use Rattle.xa_log.specs.declared.appending.Appended.TheVariants.{Kept, Refused, Lost, Full}
 use Rattle.xa_log.specs.declared.fault.OpenFault.{OpenFault}
 use Rattle.xa_log.specs.declared.fault.OpenFault.TheVariants.{NotALog, TooNew, TooLong, Device, Memory}
+use Rattle.xa_log.specs.declared.window.TheConstants.{WINDOW, LEAST_READ}
 
 -- so many reads more, of so many bytes together
 abbrev pub with_reads : ℕ → ℕ → Counts → Counts
 with_reads zero bytes c = c
 with_reads (suc more) bytes c = record c { reads = plus c.reads (suc more); read_bytes = plus c.read_bytes bytes }
 
--- The first bytes of a file of this length were read up to a place, each once, in pieces of at most 1 MiB; a piece of
--- less than 524,252 bytes reached the file's end.
+-- The first bytes of a file of this length were read up to a place, each once, in pieces of at most WINDOW bytes; a
+-- piece of less than LEAST_READ bytes reached the file's end.
 pub record Fetched (len upto : ℕ) (first now : Counts) : Type 0 where
   pub reads : ℕ
   pub counts : now ≡ with_reads reads upto first
   pub within : upto ≤ len
-  pub pieces : upto ≤ reads * 1048576
-  pub few : reads * 524252 ≤ upto + 524252
-  pub full : upto < len → reads * 524252 ≤ upto
+  pub pieces : upto ≤ reads * WINDOW
+  pub few : reads * LEAST_READ ≤ upto + LEAST_READ
+  pub full : upto < len → reads * LEAST_READ ≤ upto
 
 pub record FetchedSome (len : ℕ) (first now : Counts) : Type 0 where
   pub upto : ℕ
@@ -32,15 +34,15 @@ abbrev pub FetchedNext : ℕ → Counts → Counts → Option Found → Type 0
 FetchedNext len first now None = FetchedSome len first now
 FetchedNext len first now (Some found) = Fetched len (found.span.from + found.span.have) first now
 
--- Reads of at most so many bytes together, and no other call: pieces of at most 1 MiB, and at most one of them of
--- less than 524,252 bytes.
+-- Reads of at most so many bytes together, and no other call: pieces of at most WINDOW bytes, and at most one of
+-- them of less than LEAST_READ.
 pub record OnlyReads (most : ℕ) (first now : Counts) : Type 0 where
   pub reads : ℕ
   pub bytes : ℕ
   pub counts : now ≡ with_reads reads bytes first
   pub once : bytes ≤ most
-  pub pieces : bytes ≤ reads * 1048576
-  pub few : reads * 524252 ≤ bytes + 524252
+  pub pieces : bytes ≤ reads * WINDOW
+  pub few : reads * LEAST_READ ≤ bytes + LEAST_READ
 
 abbrev pub asked : Counts → Counts
 asked c = with_length (with_sync c)
@@ -61,23 +63,29 @@ abbrev pub LooksSecondAt : OpenFault → ℕ → Counts → Counts → Type 0
 LooksSecondAt e most old new = ((e ≡ Device) × (new ≡ old)) ⊎ LooksAt e most old new
 
 abbrev pub LooksSecond : {T : Type 0} → Result T OpenFault → ℕ → Counts → Counts → Type 0
-LooksSecond result most old new = MatchResult result (λ _. OnlyReads most (asked old) new) (λ e. LooksSecondAt e most old new)
+LooksSecond result most old new =
+    MatchResult result (λ _. OnlyReads most (asked old) new) (λ e. LooksSecondAt e most old new)
 
--- of the file that isn't the current one at most 1 MiB is read, where the current one is the first or isn't
+-- of the file that isn't the current one at most one window is read, where the current one is the first or isn't
 abbrev pub ReadsLittle : {D : Type 0} → (D → Counts) → Bool → D → D → D → D → Type 0
-ReadsLittle counts true first first_new second second_new = OnlyReads 1048576 (asked (counts second)) (counts second_new)
-ReadsLittle counts false first first_new second second_new = OnlyReads 1048576 (asked (counts first)) (counts first_new)
+ReadsLittle counts true first first_new second second_new = OnlyReads WINDOW (asked (counts second)) (counts second_new)
+ReadsLittle counts false first first_new second second_new = OnlyReads WINDOW (asked (counts first)) (counts first_new)
 
 -- a write and a sync, of which the first that failed is the last
 abbrev pub PutCalls : {T E : Type 0} → Result T E → Counts → Counts → Type 0
-PutCalls result old new = MatchResult result (λ _. new ≡ with_sync (with_write old)) (λ _. (new ≡ with_write old) ⊎ (new ≡ with_sync (with_write old)))
+PutCalls result old new =
+    MatchResult result (λ _. new ≡ with_sync (with_write old))
+    (λ _. (new ≡ with_write old) ⊎ (new ≡ with_sync (with_write old)))
 
 -- The calls of an append that isn't answered from memory: a write and a sync; where one of them failed the repair's
 -- write, and its sync unless that write failed.
 abbrev pub AppendCalls : Appended → Counts → Counts → Type 0
 AppendCalls Kept old new = new ≡ with_sync (with_write old)
-AppendCalls Refused old new = (new ≡ with_sync (with_write (with_write old))) ⊎ (new ≡ with_sync (with_sync (with_write (with_write old))))
-AppendCalls Lost old new = (new ≡ with_write (with_write old)) ⊎ (new ≡ with_sync (with_write (with_write old))) ⊎ (new ≡ with_sync (with_sync (with_write (with_write old))))
+AppendCalls Refused old new =
+    (new ≡ with_sync (with_write (with_write old))) ⊎ (new ≡ with_sync (with_sync (with_write (with_write old))))
+AppendCalls Lost old new =
+    (new ≡ with_write (with_write old)) ⊎ (new ≡ with_sync (with_write (with_write old)))
+    ⊎ (new ≡ with_sync (with_sync (with_write (with_write old))))
 AppendCalls Full old new = new ≡ old
 
 -- so many writes more
@@ -90,7 +98,8 @@ abbrev pub RecordsCalls : {T E : Type 0} → Result T E → ℕ → Counts → C
 RecordsCalls result n old new = MatchResult result (λ _. new ≡ with_sync (with_writes n old))
     (λ _. ((k : ℕ) × (1 ≤ k) × (k ≤ n) × (new ≡ with_writes k old)) ⊎ (new ≡ with_sync (with_writes n old)))
 
--- the calls of a checkpoint of so many records before its seal: the header's write and sync, the records' writes and sync
+-- the calls of a checkpoint of so many records before its seal: the header's write and sync, the records' writes and
+-- sync
 abbrev pub readied : ℕ → Counts → Counts
 readied n c = with_sync (with_writes n (with_sync (with_write c)))
 
@@ -109,7 +118,8 @@ CheckpointCalls Lost n old new = AppendCalls Lost (readied n old) new
 CheckpointCalls Full n old new = new ≡ old
 
 abbrev pub MakesAt : OpenFault → Counts → Counts → Type 0
-MakesAt Device old new = (new ≡ with_length old) ⊎ (new ≡ with_write (with_length old)) ⊎ (new ≡ with_sync (with_write (with_length old)))
+MakesAt Device old new =
+    (new ≡ with_length old) ⊎ (new ≡ with_write (with_length old)) ⊎ (new ≡ with_sync (with_write (with_length old)))
 MakesAt Memory old new = new ≡ old
 MakesAt NotALog old new = new ≡ with_length old
 MakesAt TooNew old new = ⊥

@@ -1,5 +1,5 @@
 -- What a checkpoint's parts do to the file that they write.
-use Rattle.std.specs.Prelude.{◌≡◌, ◌⊎◌, ℕ, ◌≤◌, true, List, [], ◌∷◌, ◌++◌, length, take, drop}
+use Rattle.std.specs.Prelude.{◌≡◌, ◌⊎◌, ℕ, ◌+◌, ◌-◌, ◌≤◌, true, List, [], ◌∷◌, ◌++◌, length, take, drop}
 use Rattle.std.specs.List.{AllByRecursion}
 use Rattle.std.specs.Int.{w32, to_be_bytes}
 use Rattle.xa_disk.specs.Disk.{Only}
@@ -8,16 +8,30 @@ use Rattle.xa_log.specs.declared.appending.Appended.{Appended}
 use Rattle.xa_log.specs.declared.appending.Appended.TheVariants.{Kept, Refused, Lost, Full}
 use Rattle.xa_log.specs.Answers.{Fell}
 use Rattle.xa_log.specs.declared.format.Format.{Format}
-use Rattle.xa_log.specs.Chain.{start, opening, record_of, records, IsBody, Rests}
+use Rattle.xa_log.specs.declared.format.TheConstants.{FIRST_PLACE, OPENING_BYTES}
+use Rattle.xa_log.specs.declared.record.TheConstants.{LENGTH_BYTES, AROUND_BODY}
+use Rattle.xa_log.specs.Chain.{start, closing, opening, record_of, records, IsBody, Rests}
 use Rattle.xa_log.specs.Pair.{has_log, IsCalm, Behind, AllOrNoBodies, CalmTears}
 
 -- a record, and so many bytes of a closing length
 abbrev pub tailed : List ℕ → List ℕ → ℕ → List ℕ
-tailed prev body zeros = record_of prev body ++ take zeros (0 ∷ 0 ∷ 0 ∷ 0 ∷ [])
+tailed prev body zeros = record_of prev body ++ take zeros closing
 
--- what stands from byte 12 on: the records without the first length, and a closing length
+-- where the writing of a record at this place begins: an opening's bytes are left out
+abbrev pub behind_opening : ℕ → ℕ
+behind_opening at = at + (OPENING_BYTES - at)
+
+-- how many bytes of a body's record are then written, with so many of a closing length
+abbrev pub bytes_behind : ℕ → List ℕ → ℕ → ℕ
+bytes_behind at body zeros = AROUND_BODY + length body + zeros - (OPENING_BYTES - at)
+
+-- how many bytes the records of these bodies have: as many as stand behind an opening, with a closing length
+abbrev pub records_bytes : Format → List (List ℕ) → ℕ
+records_bytes format bodies = length (records (start format) bodies)
+
+-- what stands behind an opening: the records without the first length, and a closing length
 abbrev pub behind_front : Format → List (List ℕ) → List ℕ
-behind_front format bodies = drop 4 (records (start format) bodies) ++ 0 ∷ 0 ∷ 0 ∷ 0 ∷ []
+behind_front format bodies = drop LENGTH_BYTES (records (start format) bodies) ++ closing
 
 -- a log of these bodies that lacks its first length
 pub record IsReady (format : Format) (bodies : List (List ℕ)) (file : List ℕ) : Type 0 where
@@ -30,8 +44,8 @@ abbrev pub first_length : List (List ℕ) → ℕ
 first_length [] = 0
 first_length (body ∷ bodies) = length body
 
--- Of the other file: no longer than a log may be, and behind byte 12 as the log that stood there, if one did. So is each
--- image that a crash may leave of it.
+-- Of the other file: no longer than a log may be, and behind an opening's bytes as the log that stood there, if one
+-- did. So is each image that a crash may leave of it.
 pub record IsOther {D : Type 0} (disks : Ghosts D) (most : ℕ) (stood : List (List ℕ)) (disk : D) : Type 0 where
   pub fits : length (disks.seen disk) ≤ most
   pub behind : Behind stood (disks.seen disk)
@@ -43,7 +57,8 @@ pub record IsQuiet {D : Type 0} (disks : Ghosts D) (stood : List (List ℕ)) (di
   pub calm : IsCalm stood (disks.seen disk)
   pub left_calm : (c : List ℕ) → disks.may_leave disk c → IsCalm stood c
 
--- an image of a file that a checkpoint writes: no longer than a log may be, and without chance a log of these bodies or of none
+-- an image of a file that a checkpoint writes: no longer than a log may be, and without chance a log of these bodies or
+-- of none
 pub record LeavesOf (most : ℕ) (bodies : List (List ℕ)) (c : List ℕ) : Type 0 where
   pub fits : length c ≤ most
   pub reads : IsCalm bodies c → AllOrNoBodies bodies c
@@ -51,25 +66,29 @@ pub record LeavesOf (most : ℕ) (bodies : List (List ℕ)) (c : List ℕ) : Typ
 -- an image of a file with a whole header and a length 0
 pub record LeavesNone (most : ℕ) (format : Format) (c : List ℕ) : Type 0 where
   pub fits : length c ≤ most
-  pub front : take 12 c ≡ opening format
+  pub front : take OPENING_BYTES c ≡ opening format
 
--- An image of a file at any moment of a checkpoint: until the header is synced it has without chance what stood there or
--- nothing, until the seal nothing, whatever was left, and from the seal on without chance these bodies or nothing.
+-- An image of a file at any moment of a checkpoint: until the header is synced it has without chance what stood there
+-- or nothing, until the seal nothing, whatever was left, and from the seal on without chance these bodies or nothing.
 abbrev pub LeavesAny : ℕ → Format → List (List ℕ) → List (List ℕ) → List ℕ → Type 0
 LeavesAny most format stood bodies c = LeavesOf most stood c ⊎ LeavesNone most format c ⊎ LeavesOf most bodies c
 
 -- The premise on a disk's failed writes: a seal that was lost leaves nothing by chance to a read.
 abbrev pub SealTears : (List ℕ → ℕ → List ℕ → List ℕ → Type 0) → Type 0
 SealTears tears = (format : Format) (bodies : List (List ℕ)) (old mid new : List ℕ) → IsReady format bodies old
-    → Fell tears old 8 (to_be_bytes w32 (first_length bodies)) mid → Fell tears mid 8 (0 ∷ 0 ∷ 0 ∷ 0 ∷ []) new → IsCalm bodies new
+    → Fell tears old FIRST_PLACE (to_be_bytes w32 (first_length bodies)) mid → Fell tears mid FIRST_PLACE closing new
+    → IsCalm bodies new
 
 -- what a checkpoint left of the file that it wrote
-abbrev pub Checkpointed : {D : Type 0} → Ghosts D → Appended → ℕ → Format → List (List ℕ) → List (List ℕ) → D → D → Type 0
+abbrev pub Checkpointed : {D : Type 0} → Ghosts D → Appended → ℕ → Format → List (List ℕ) → List (List ℕ)
+    → D → D → Type 0
 Checkpointed disks Kept most format stood bodies old new =
-    Rests format bodies (disks.seen new) × (length (disks.seen new) ≤ most) × Only (disks.seen new) (disks.may_leave new)
+    Rests format bodies (disks.seen new) × (length (disks.seen new) ≤ most)
+    × Only (disks.seen new) (disks.may_leave new)
 -- by a fault in the first part, or behind it
 Checkpointed disks Refused most format stood bodies old new =
-    (IsOther disks most stood new × (CalmTears disks.tears → IsCalm stood (disks.seen old) → IsCalm stood (disks.seen new)))
+    (IsOther disks most stood new
+    × (CalmTears disks.tears → IsCalm stood (disks.seen old) → IsCalm stood (disks.seen new)))
     ⊎ (IsOther disks most [] new × IsQuiet disks [] new)
 Checkpointed disks Lost most format stood bodies old new =
     LeavesOf most bodies (disks.seen new) × (SealTears disks.tears → IsCalm bodies (disks.seen new))

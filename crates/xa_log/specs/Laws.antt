@@ -1,6 +1,7 @@
 -- Which log two files have, from what an image of each is.
 use Rattle.std.specs.Prelude.{◌≡◌, ◌⊎◌, ℕ, ◌≤◌, ◌<◌, Bool, true, false, List, [], ◌∷◌, ◌++◌, length, None}
 use Rattle.xa_log.specs.declared.format.Format.{Format}
+use Rattle.xa_log.specs.declared.format.TheConstants.{OPENING_BYTES}
 use Rattle.xa_disk.specs.Disk.{Torn}
 use Rattle.xa_disk.specs.declared.disk.Disk.{Ghosts}
 use Rattle.xa_log.specs.Chain.{Rests, IsPlain, logged}
@@ -18,39 +19,49 @@ pub record IsLogOf (most : ℕ) (bodies : List (List ℕ)) (file : List ℕ) : T
 
 -- any image of the other file that is behind the first 12 bytes as what stood there
 abbrev pub BehindLaw : Type 0
-BehindLaw = (most : ℕ) (stood : List (List ℕ)) (other : List ℕ) → length other ≤ most → Behind stood other → LeavesOf most stood other
+BehindLaw = (most : ℕ) (stood : List (List ℕ)) (other : List ℕ)
+    → length other ≤ most → Behind stood other → LeavesOf most stood other
 
--- until a checkpoint's header is synced, and beside a log that nothing is appended to: whichever image the other file is
+-- until a checkpoint's header is synced, and beside a log that nothing is appended to: whichever image the other file
+-- is
 abbrev pub PairLaw : Type 0
-PairLaw = (most : ℕ) (first : Bool) (bodies stood : List (List ℕ)) (current other : List ℕ) → IsLogOf most bodies current → LeavesOf most stood other
-    → IsCalm stood other → beats first bodies stood ≡ true
+PairLaw = (most : ℕ) (first : Bool) (bodies stood : List (List ℕ)) (current other : List ℕ)
+    → IsLogOf most bodies current → LeavesOf most stood other → IsCalm stood other → beats first bodies stood ≡ true
     → (fault_pair most first current other ≡ None) × (logged_of first current other ≡ bodies)
 
 -- beside an append: whichever images the two files are
 abbrev pub AppendLaw : Type 0
-AppendLaw = (most : ℕ) (first : Bool) (format : Format) (bodies : List (List ℕ)) (body : List ℕ) (stood : List (List ℕ)) (current other : List ℕ)
-    → Leaves most format bodies body current → IsPlain format bodies body current → LeavesOf most stood other → IsCalm stood other → beats first bodies stood ≡ true
-    → (fault_pair most first current other ≡ None) × ((logged_of first current other ≡ bodies) ⊎ (logged_of first current other ≡ bodies ++ body ∷ []))
+AppendLaw = (most : ℕ) (first : Bool) (format : Format) (bodies : List (List ℕ)) (body : List ℕ)
+    (stood : List (List ℕ)) (current other : List ℕ)
+    → Leaves most format bodies body current → IsPlain format bodies body current
+    → LeavesOf most stood other → IsCalm stood other → beats first bodies stood ≡ true
+    → (fault_pair most first current other ≡ None)
+    × ((logged_of first current other ≡ bodies) ⊎ (logged_of first current other ≡ bodies ++ body ∷ []))
 
 -- between the header and the seal: whatever was left of the records
 abbrev pub HeaderLaw : Type 0
-HeaderLaw = (most : ℕ) (first : Bool) (format : Format) (bodies : List (List ℕ)) (current other : List ℕ) → IsLogOf most bodies current
-    → LeavesNone most format other
+HeaderLaw = (most : ℕ) (first : Bool) (format : Format) (bodies : List (List ℕ)) (current other : List ℕ)
+    → IsLogOf most bodies current → LeavesNone most format other
     → (fault_pair most first current other ≡ None) × (logged_of first current other ≡ bodies)
 
 -- from the seal on
 abbrev pub SealLaw : Type 0
-SealLaw = (most : ℕ) (first : Bool) (bodies fresh : List (List ℕ)) (current other : List ℕ) → IsLogOf most bodies current → LeavesOf most fresh other
-    → IsCalm fresh other → generation bodies < generation fresh
-    → (fault_pair most first current other ≡ None) × ((logged_of first current other ≡ bodies) ⊎ (logged_of first current other ≡ fresh))
+SealLaw = (most : ℕ) (first : Bool) (bodies fresh : List (List ℕ)) (current other : List ℕ)
+    → IsLogOf most bodies current → LeavesOf most fresh other → IsCalm fresh other
+    → generation bodies < generation fresh
+    → (fault_pair most first current other ≡ None)
+    × ((logged_of first current other ≡ bodies) ⊎ (logged_of first current other ≡ fresh))
 
--- What was read of two files is a pair, of which the other file comes behind, where no stray records would come before it.
+-- What was read of two files is a pair, of which the other file comes behind, where no stray records would come before
+-- it.
 abbrev pub OpenedLaw : {D : Type 0} → Ghosts D → Type 0
-OpenedLaw {D} disks = (bodies : List (List ℕ)) (log : Log D) → IsOpenPair disks bodies (logged (disks.seen log.other)) log
-    → NoStray (disks.seen (first_of log)) (disks.seen (second_of log)) → Pair disks bodies (logged (disks.seen log.other)) log
+OpenedLaw {D} disks = (bodies : List (List ℕ)) (log : Log D)
+    → IsOpenPair disks bodies (logged (disks.seen log.other)) log
+    → NoStray (disks.seen (first_of log)) (disks.seen (second_of log))
+    → Pair disks bodies (logged (disks.seen log.other)) log
 
 -- Chance is possible, and not only by a digest: what stands behind 8 bytes that are no log's may be a log's records. So
 -- where a file isn't a log, that none chain there which would come before the other file's log is a premise of its own.
 abbrev pub StrayLaw : Type 0
 StrayLaw = (format : Format) (bodies : List (List ℕ)) (file : List ℕ) → Rests format bodies file
-    → (old : List ℕ) × (has_log old ≡ false) × Torn 0 12 old file × (logged file ≡ bodies)
+    → (old : List ℕ) × (has_log old ≡ false) × Torn 0 OPENING_BYTES old file × (logged file ≡ bodies)

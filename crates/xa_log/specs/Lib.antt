@@ -1,4 +1,5 @@
 pub mod Chain
+pub mod Ahead
 pub mod Answers
 pub mod Calls
 pub mod Stands

@@ -1,5 +1,6 @@
 -- What reading two files finds.
-use Rattle.std.specs.Prelude.{◌≡◌, ◌≢◌, ℕ, ◌≤◌, min, Bool, true, false, ◌||◌, if◌then◌else◌, List, [], length, take, Option, Some, None}
+use Rattle.std.specs.Prelude.{◌≡◌, ◌≢◌, ℕ, ◌≤◌, min, Bool, true, false, ◌||◌, if◌then◌else◌, List, [], length, take}
+use Rattle.std.specs.Prelude.{Option, Some, None}
 use Rattle.xa_log.specs.declared.format.Format.{Format}
 use Rattle.xa_log.specs.declared.looking.Front.{Front}
 use Rattle.xa_log.specs.declared.looking.Head.{Head}
@@ -8,6 +9,8 @@ use Rattle.xa_log.specs.Chain.{format_of, is_record, body_at, logged}
 use Rattle.xa_log.specs.Reading.{is_newer, IsScan}
 use Rattle.xa_log.specs.Pair.{number_in, generation, is_nil, has_log, on_first}
 use Rattle.xa_log.specs.Window.{Caches}
+use Rattle.xa_log.specs.declared.format.TheConstants.{FORMAT_BYTES}
+use Rattle.xa_log.specs.declared.window.TheConstants.{WINDOW}
 
 -- lengths of two files that aren't too long
 pub record AreShort (most : ℕ) (first second : List ℕ) (m n : ℕ) : Type 0 where
@@ -18,20 +21,20 @@ pub record AreShort (most : ℕ) (first second : List ℕ) (m n : ℕ) : Type 0 
 
 -- how a file begins, and that a window has it
 pub record IsFront (file window : List ℕ) (front : Front) : Type 0 where
-  pub format : front.format ≡ format_of (take 8 file)
-  pub newer : front.newer ≡ is_newer (take 8 file)
+  pub format : front.format ≡ format_of (take FORMAT_BYTES file)
+  pub newer : front.newer ≡ is_newer (take FORMAT_BYTES file)
   pub caches : Caches file window front.span
 
--- a window of 1 MiB has the first bytes of a file of this length, where its first eight say that it is a log
+-- a window has the first bytes of a file of this length, as many as it can where they name a log's format
 pub record HasFront (len : ℕ) (front : Front) : Type 0 where
   pub from : front.span.from ≡ 0
-  pub held : front.span.have ≤ 1048576
+  pub held : front.span.have ≤ WINDOW
   pub inside : front.span.have ≤ len
-  pub whole : front.format ≢ None → (front.span.have ≡ min len 1048576) × (8 ≤ len)
+  pub whole : front.format ≢ None → (front.span.have ≡ min len WINDOW) × (FORMAT_BYTES ≤ len)
 
 -- one of two files is of a later format, or is a log
 abbrev pub either_newer : List ℕ → List ℕ → Bool
-either_newer first second = is_newer (take 8 first) || is_newer (take 8 second)
+either_newer first second = is_newer (take FORMAT_BYTES first) || is_newer (take FORMAT_BYTES second)
 
 abbrev pub either_log : List ℕ → List ℕ → Bool
 either_log first second = has_log first || has_log second
@@ -47,14 +50,15 @@ Tells bodies None = bodies ≡ []
 Tells bodies (Some number) = (is_nil bodies ≡ false) × (generation bodies ≡ number)
 
 abbrev pub IsHead : List ℕ → Option Head → Type 0
-IsHead file None = format_of (take 8 file) ≡ None
-IsHead file (Some head) = (format_of (take 8 file) ≡ Some head.format) × Tells (logged file) head.number
+IsHead file None = format_of (take FORMAT_BYTES file) ≡ None
+IsHead file (Some head) = (format_of (take FORMAT_BYTES file) ≡ Some head.format) × Tells (logged file) head.number
 
 -- which of two files is the current one, with its format
 abbrev pub Chooses : List ℕ → List ℕ → Option (Bool × Format) → Type 0
 Chooses first second None = either_log first second ≡ false
 Chooses first second (Some choice) =
-    (either_log first second ≡ true) × (choice.0 ≡ on_first first second) × (format_of (take 8 (if choice.0 then first else second)) ≡ Some choice.1)
+    (either_log first second ≡ true) × (choice.0 ≡ on_first first second)
+    × (format_of (take FORMAT_BYTES (if choice.0 then first else second)) ≡ Some choice.1)
 
 -- the current file's log, of two
 pub record IsCurrent (first second : List ℕ) (is_first : Bool) (scan : Scan) : Type 0 where

@@ -1,16 +1,21 @@
 -- Two files, of which one has the log: which of them is the current one.
-use Rattle.std.specs.Prelude.{◌≡◌, ◌⊎◌, ℕ, Bool, true, false, ◌&&◌, ◌||◌, not, nat_le, nat_lt, ◌==◌, if◌then◌else◌, List, [], ◌∷◌, length, take, drop, Option, Some, None, is_some}
+use Rattle.std.specs.Prelude.{◌≡◌, ◌⊎◌, ℕ, ◌-◌, Bool, true, false, ◌&&◌, ◌||◌, not, nat_le, nat_lt, ◌==◌}
+use Rattle.std.specs.Prelude.{if◌then◌else◌, List, [], ◌∷◌, length, take, drop, Option, Some, None, is_some}
 use Rattle.std.specs.Int.{w32, from_be_bytes}
 use Rattle.xa_disk.specs.Disk.{Torn}
 use Rattle.xa_log.specs.declared.fault.OpenFault.{OpenFault}
 use Rattle.xa_log.specs.declared.fault.OpenFault.TheVariants.{NotALog, TooNew, TooLong}
 use Rattle.xa_log.specs.declared.format.Format.{Format}
+use Rattle.xa_log.specs.declared.format.TheConstants.{FORMAT_BYTES, OPENING_BYTES}
+use Rattle.xa_log.specs.declared.looking.TheConstants.{NUMBER_PLACE, NUMBER_END}
 use Rattle.xa_log.specs.Chain.{start, opening, format_of, format_in, body_at, is_record, logged}
 use Rattle.xa_log.specs.Reading.{is_newer}
 
 -- the number in bytes 1 to 4 of a body, 0 in a shorter one
 unfoldable pub number_in : List ℕ → ℕ
-number_in body = if nat_le 5 (length body) then from_be_bytes w32 (take 4 (drop 1 body)) else 0
+number_in body =
+    if nat_le NUMBER_END (length body)
+    then from_be_bytes w32 (take (NUMBER_END - NUMBER_PLACE) (drop NUMBER_PLACE body)) else 0
 
 -- a log's generation: the number in its first body, 0 where it has none
 abbrev pub generation : List (List ℕ) → ℕ
@@ -24,11 +29,13 @@ is_nil (body ∷ bodies) = false
 -- These bodies are taken before those of the other file: by generation, on a tie by having records, then by standing in
 -- the first file. Where neither file has a record both say the same.
 abbrev pub beats : Bool → List (List ℕ) → List (List ℕ) → Bool
-beats first mine other = nat_lt (generation other) (generation mine) || ((generation other == generation mine) && (is_nil other || (first && not (is_nil mine))))
+beats first mine other =
+    nat_lt (generation other) (generation mine)
+    || ((generation other == generation mine) && (is_nil other || (first && not (is_nil mine))))
 
 -- the file begins as a log
 abbrev pub has_log : List ℕ → Bool
-has_log file = is_some (format_of (take 8 file))
+has_log file = is_some (format_of (take FORMAT_BYTES file))
 
 -- the first file is the current one
 abbrev pub on_first : List ℕ → List ℕ → Bool
@@ -42,7 +49,7 @@ logged_pair first second = if on_first first second then logged first else logge
 abbrev pub pair_fault : ℕ → List ℕ → List ℕ → Option OpenFault
 pair_fault most first second =
     if nat_lt most (length first) || nat_lt most (length second) then Some TooLong
-    else (if is_newer (take 8 first) || is_newer (take 8 second) then Some TooNew
+    else (if is_newer (take FORMAT_BYTES first) || is_newer (take FORMAT_BYTES second) then Some TooNew
     else (if has_log first || has_log second then None else Some NotALog))
 
 -- the same of the current file and the other one, where the flag says whether the current one is the first
@@ -56,12 +63,13 @@ fault_pair most first current other = if first then pair_fault most current othe
 
 -- Without chance: it isn't a later format's, and a record that chains at its front is the first of these.
 pub record IsCalm (stood : List (List ℕ)) (file : List ℕ) : Type 0 where
-  pub known : is_newer (take 8 file) ≡ false
-  pub only : is_record (start (format_in file)) (drop 8 file) ≡ true → take 1 stood ≡ body_at (drop 8 file) ∷ []
+  pub known : is_newer (take FORMAT_BYTES file) ≡ false
+  pub only : is_record (start (format_in file)) (drop FORMAT_BYTES file) ≡ true
+      → take 1 stood ≡ body_at (drop FORMAT_BYTES file) ∷ []
 
 -- what stands behind the first 12 bytes is what stood behind them in a log of these bodies, or they are none
 abbrev pub Behind : List (List ℕ) → List ℕ → Type 0
-Behind stood file = (stood ≡ []) ⊎ ((base : List ℕ) × (logged base ≡ stood) × Torn 0 12 base file)
+Behind stood file = (stood ≡ []) ⊎ ((base : List ℕ) × (logged base ≡ stood) × Torn 0 OPENING_BYTES base file)
 
 -- it has these bodies, or none
 abbrev pub AllOrNoBodies : List (List ℕ) → List ℕ → Type 0
@@ -69,4 +77,5 @@ AllOrNoBodies bodies file = (logged file ≡ bodies) ⊎ (logged file ≡ [])
 
 -- The premise on a disk's failed writes: a header that was lost leaves nothing by chance to a read.
 abbrev pub CalmTears : (List ℕ → ℕ → List ℕ → List ℕ → Type 0) → Type 0
-CalmTears tears = (format : Format) (stood : List (List ℕ)) (old new : List ℕ) → IsCalm stood old → tears old 0 (opening format) new → IsCalm stood new
+CalmTears tears = (format : Format) (stood : List (List ℕ)) (old new : List ℕ)
+    → IsCalm stood old → tears old 0 (opening format) new → IsCalm stood new

@@ -1,13 +1,14 @@
 -- What a log stands for.
-use Rattle.std.specs.Prelude.{◌≡◌, ◌≤◌, ℕ, ◌+◌, true, false, List, [], ◌∷◌, ◌++◌, length, take, drop, replicate, None}
+use Rattle.std.specs.Prelude.{◌≡◌, ◌≤◌, ℕ, ◌+◌, true, false, List, [], ◌∷◌, ◌++◌, length, take, replicate, None}
 use Rattle.xa_disk.specs.Disk.{Only}
 use Rattle.xa_disk.specs.declared.disk.Disk.{Ghosts}
-use Rattle.xa_log.specs.Chain.{start, last, text, Rests, IsPlain, IsBeforeOrAfter, NoChance}
+use Rattle.xa_log.specs.Chain.{start, last, text, behind_text, Rests, IsPlain, IsBeforeOrAfter, NoChance}
 use Rattle.xa_log.specs.Reading.{fault_of}
 use Rattle.xa_log.specs.declared.format.Format.{Format}
 use Rattle.xa_log.specs.declared.appending.Appended.{Appended}
 use Rattle.xa_log.specs.declared.appending.Appended.TheVariants.{Kept, Refused, Lost, Full}
 use Rattle.xa_log.specs.declared.log.Log.{Log}
+use Rattle.xa_log.specs.declared.record.TheConstants.{AROUND_BODY, AROUND_CLOSED}
 
 -- a log of these bodies, which a read gives and each crash leaves
 pub record Stands {D : Type 0} (disks : Ghosts D) (bodies : List (List ℕ)) (log : Log D) : Type 0 where
@@ -33,7 +34,8 @@ pub record LeavesLog (most : ℕ) (format : Format) (bodies : List (List ℕ)) (
   pub rests : Rests format bodies file
 
 -- The append of a body to these was lost: without chance, a read and a crash give the bodies, with it or without.
-pub record MayStand {D : Type 0} (disks : Ghosts D) (bodies : List (List ℕ)) (body : List ℕ) (log : Log D) : Type 0 where
+pub record MayStand {D : Type 0} (disks : Ghosts D) (bodies : List (List ℕ)) (body : List ℕ)
+    (log : Log D) : Type 0 where
   pub seen_is : Leaves log.log_bytes log.format bodies body (disks.seen log.disk)
   -- the same, where the disk's failed writes leave nothing by chance to a read
   pub seen_on : NoChance disks.tears → IsBeforeOrAfter log.format bodies body (disks.seen log.disk)
@@ -46,7 +48,8 @@ Answers disks Kept bodies body log = Stands disks (bodies ++ body ∷ []) log
 -- a read gives zeros over the whole range that the record and its closing length took
 Answers disks Refused bodies body log =
     Stands disks bodies log
-    × (take (40 + length body) (drop (length (text log.format bodies)) (disks.seen log.disk)) ≡ replicate (40 + length body) 0)
+    × (take (AROUND_CLOSED + length body) (behind_text log.format bodies (disks.seen log.disk))
+    ≡ replicate (AROUND_CLOSED + length body) 0)
 Answers disks Lost bodies body log = MayStand disks bodies body log
 Answers disks Full bodies body log = Stands disks bodies log
 
@@ -61,7 +64,9 @@ pub record Untouched {D : Type 0} (old new : Log D) : Type 0 where
 
 -- where a log's next record begins after an append of so many bytes
 abbrev pub Moves : {D : Type 0} → Appended → ℕ → Log D → Log D → Type 0
-Moves Kept n old new = (new.end ≡ old.end + (36 + n)) × (new.format ≡ old.format) × (new.lost ≡ old.lost)
-Moves Refused n old new = (new.end ≡ old.end) × (new.format ≡ old.format) × (new.digest ≡ old.digest) × (new.lost ≡ old.lost)
-Moves Lost n old new = (new.end ≡ old.end) × (new.format ≡ old.format) × (new.digest ≡ old.digest) × (new.lost ≡ true)
+Moves Kept n old new = (new.end ≡ old.end + (AROUND_BODY + n)) × (new.format ≡ old.format) × (new.lost ≡ old.lost)
+Moves Refused n old new =
+    (new.end ≡ old.end) × (new.format ≡ old.format) × (new.digest ≡ old.digest) × (new.lost ≡ old.lost)
+Moves Lost n old new =
+    (new.end ≡ old.end) × (new.format ≡ old.format) × (new.digest ≡ old.digest) × (new.lost ≡ true)
 Moves Full n old new = new ≡ old

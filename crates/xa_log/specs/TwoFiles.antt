@@ -27,7 +27,8 @@ pub record MayStandPair {D : Type 0} (disks : Ghosts D) (bodies : List (List ℕ
   pub older : beats log.on_first bodies stood ≡ true
   pub older_after : beats log.on_first (bodies ++ body ∷ []) stood ≡ true
 
--- The checkpoint of new bodies was lost: the other file begins as a log, and without chance it is one of them or of none.
+-- The checkpoint of new bodies was lost: the other file begins as a log, and without chance it is one of them or of
+-- none.
 pub record MaySeal {D : Type 0} (disks : Ghosts D) (bodies fresh : List (List ℕ)) (log : Log D) : Type 0 where
   pub file : Rests log.format bodies (disks.seen log.disk)
   pub fits : length (disks.seen log.disk) ≤ log.log_bytes
@@ -41,10 +42,12 @@ pub record MaySeal {D : Type 0} (disks : Ghosts D) (bodies fresh : List (List �
   pub lost : log.lost ≡ true
 
 -- what each answer of a checkpoint says
-abbrev pub Checkpoints : {D : Type 0} → Ghosts D → Appended → List (List ℕ) → List (List ℕ) → List (List ℕ) → Log D → Type 0
+abbrev pub Checkpoints : {D : Type 0} → Ghosts D → Appended → List (List ℕ) → List (List ℕ) → List (List ℕ)
+    → Log D → Type 0
 Checkpoints disks Kept bodies stood fresh log = Pair disks fresh bodies log × IsQuiet disks bodies log.other
 -- by a fault in the first part, or behind it
-Checkpoints disks Refused bodies stood fresh log = Pair disks bodies stood log ⊎ (Pair disks bodies [] log × IsQuiet disks [] log.other)
+Checkpoints disks Refused bodies stood fresh log =
+    Pair disks bodies stood log ⊎ (Pair disks bodies [] log × IsQuiet disks [] log.other)
 Checkpoints disks Lost bodies stood fresh log = MaySeal disks bodies fresh log
 Checkpoints disks Full bodies stood fresh log = Pair disks bodies stood log
 
@@ -58,9 +61,14 @@ written Full log = log.other
 -- a log's fields after a checkpoint of new bodies
 abbrev pub Swaps : {D : Type 0} → Appended → List (List ℕ) → Log D → Log D → Type 0
 Swaps Kept fresh old new =
-    (new.other ≡ old.disk) × (new.on_first ≡ not old.on_first) × (new.format ≡ newest) × (new.end ≡ length (text newest fresh)) × (new.digest ≡ last (start newest) fresh) × (new.lost ≡ old.lost)
-Swaps Refused fresh old new = (new.disk ≡ old.disk) × (new.on_first ≡ old.on_first) × (new.format ≡ old.format) × (new.end ≡ old.end) × (new.digest ≡ old.digest) × (new.lost ≡ old.lost)
-Swaps Lost fresh old new = (new.disk ≡ old.disk) × (new.on_first ≡ old.on_first) × (new.format ≡ old.format) × (new.end ≡ old.end) × (new.digest ≡ old.digest) × (new.lost ≡ true)
+    (new.other ≡ old.disk) × (new.on_first ≡ not old.on_first) × (new.format ≡ newest)
+    × (new.end ≡ length (text newest fresh)) × (new.digest ≡ last (start newest) fresh) × (new.lost ≡ old.lost)
+Swaps Refused fresh old new =
+    (new.disk ≡ old.disk) × (new.on_first ≡ old.on_first) × (new.format ≡ old.format)
+    × (new.end ≡ old.end) × (new.digest ≡ old.digest) × (new.lost ≡ old.lost)
+Swaps Lost fresh old new =
+    (new.disk ≡ old.disk) × (new.on_first ≡ old.on_first) × (new.format ≡ old.format)
+    × (new.end ≡ old.end) × (new.digest ≡ old.digest) × (new.lost ≡ true)
 Swaps Full fresh old new = new ≡ old
 
 -- what each answer of an append says of two files
@@ -88,16 +96,18 @@ pub record KeepsAll {D : Type 0} (disks : Ghosts D) (old new : Log D) : Type 0 w
   pub stands : (bodies : List (List ℕ)) → Stands disks bodies old → Stands disks bodies new
   pub pair : (bodies stood : List (List ℕ)) → Pair disks bodies stood old → Pair disks bodies stood new
   pub quiet : (stood : List (List ℕ)) → IsQuiet disks stood old.other → IsQuiet disks stood new.other
-  pub may_stand : (bodies : List (List ℕ)) (body : List ℕ) → MayStand disks bodies body old → MayStand disks bodies body new
-  pub may_stand_pair : (bodies : List (List ℕ)) (body : List ℕ) (stood : List (List ℕ)) → MayStandPair disks bodies body stood old
-      → MayStandPair disks bodies body stood new
+  pub may_stand : (bodies : List (List ℕ)) (body : List ℕ)
+      → MayStand disks bodies body old → MayStand disks bodies body new
+  pub may_stand_pair : (bodies : List (List ℕ)) (body : List ℕ) (stood : List (List ℕ))
+      → MayStandPair disks bodies body stood old → MayStandPair disks bodies body stood new
   pub may_seal : (bodies fresh : List (List ℕ)) → MaySeal disks bodies fresh old → MaySeal disks bodies fresh new
 
 -- The premise of an opening on the first and the second file: where one begins as no log, the records that chain behind
 -- its first 8 bytes, if any do, come behind those of the other one.
 abbrev pub NoStray : List ℕ → List ℕ → Type 0
 NoStray first second =
-    (has_log first ≡ false → beats false (logged second) (logged first) ≡ true) × (has_log second ≡ false → beats true (logged first) (logged second) ≡ true)
+    (has_log first ≡ false → beats false (logged second) (logged first) ≡ true)
+    × (has_log second ≡ false → beats true (logged first) (logged second) ≡ true)
 
 -- the two disks in the order in which they were given
 abbrev pub first_of : {D : Type 0} → Log D → D

@@ -1,5 +1,5 @@
--- Worked logs of two files, in bytes: the first boot's record with a branch prepared, and behind the checkpoint of the second
--- boot its record with the branch held. The digests are sha256sum's.
+-- Worked logs of two files, in bytes: the first boot's record with a branch prepared, and behind the checkpoint of the
+-- second boot its record with the branch held. The digests are sha256sum's.
 use Rattle.std.specs.Prelude.{◌≡◌, List, [], ◌∷◌, ◌++◌, ℕ, true, false, Some, None, slice_set}
 use Rattle.xa_log.specs.declared.fault.OpenFault.TheVariants.{NotALog, TooNew, TooLong}
 use Rattle.xa_log.specs.declared.format.Format.TheVariants.{One}
@@ -81,8 +81,8 @@ BeforeTheSeal =
     (on_first first_file unsealed ≡ true) × (logged_pair first_file unsealed ≡ opened ∷ prepared ∷ [])
     × (on_first unsealed first_file ≡ false) × (logged_pair unsealed first_file ≡ opened ∷ prepared ∷ [])
 
--- On a tie the one that has records, and the first where both have or neither has. A first body of four bytes is generation
--- 0. What the first file says of itself, and what the second one says.
+-- On a tie the one that has records, and the first where both have or neither has. A first body of four bytes is
+-- generation 0. What the first file says of itself, and what the second one says.
 abbrev pub Ties : Type 0
 Ties =
     (beats true (prepared ∷ []) (opened ∷ []) ≡ true) × (beats false (prepared ∷ []) (opened ∷ []) ≡ false)

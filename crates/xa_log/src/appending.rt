@@ -1,12 +1,12 @@
 //! How a record goes to the disk.
-ghost use Rattle.std.specs.Prelude.{◌≡◌, ◌≢◌, ◌+◌, ◌≤◌, ◌++◌, ◌∷◌, [], length, OnOk, OnErr};
+ghost use Rattle.std.specs.Prelude.{◌≡◌, ◌≢◌, ◌+◌, ◌≤◌, length, OnOk, OnErr};
 ghost use Rattle.xa_disk.specs.Disk.{put, Torn, Only, CountsFault};
 ghost use Rattle.xa_disk.specs.Time.{TimePasses};
-ghost use Rattle.xa_log.specs.Chain.{digest, record_of, IsBody};
+ghost use Rattle.xa_log.specs.Chain.{digest, closed_by, IsBody};
 ghost use Rattle.xa_log.specs.Answers.{Went, Fell, HasCause};
 ghost use Rattle.xa_log.specs.Calls.{PutCalls, AppendCalls};
 
-use crate::record::encode;
+use crate::record::{AROUND_CLOSED, DIGEST_BYTES, clear, encode};
 use xa_disk::{Disk, DiskFault};
 
 /// What became of a record, or of a checkpoint.
@@ -36,10 +36,10 @@ pub(crate) fn put_synced<D: Disk>(disk: &mut D, at: u64, bytes: &[u8]) -> Result
     disk.sync()
 }
 
-// Writes the bytes and syncs. If that fails, writes zeros over the whole range and syncs. Clearing the length alone isn't
-// enough: a refused body and its digest would still lie there, and chain again once a later record of the same length is
-// torn behind its length. A disk that syncs no more behind a failed sync, as `FileDisk`, so comes to `Lost` there, and then
-// a rescan fails too: only the files opened anew tell what stands.
+// Writes the bytes and syncs. If that fails, writes zeros over the whole range and syncs. Clearing the length alone
+// isn't enough: a refused body and its digest would still lie there, and chain again once a later record of the same
+// length is torn behind its length. A disk that syncs no more behind a failed sync, as `FileDisk`, so comes to `Lost`
+// there, and then a rescan fails too: only the files opened anew tell what stands.
 pub(crate) fn put_or_clear<D: Disk>(disk: &mut D, at: u64, bytes: &mut [u8]) -> Appended
     ensures went { D.honest
         → Went D.tears result at bytes.old (D.seen disk.old) (D.seen disk.new) (D.may_leave disk.new) }
@@ -59,28 +59,32 @@ pub(crate) fn put_or_clear<D: Disk>(disk: &mut D, at: u64, bytes: &mut [u8]) -> 
     }
 }
 
-// Writes a body's record, as `put_or_clear` does, and gives its digest. The closing length goes in the same write:
-// an append is one write and one sync, and what stands behind it isn't read as a record.
+// Writes a body's record, as `put_or_clear` does, and gives its digest. The closing length goes in the same write, and so
+// do the zeros that make the file ready: an append is one write and one sync, and what stands behind it isn't read as a
+// record.
 pub(crate) fn append_at<D: Disk>(
     disk: &mut D,
     at: u64,
-    prev: &[u8; 32],
+    prev: &[u8; DIGEST_BYTES],
     buffer: &mut [u8],
     body: &[u8],
-) -> (Appended, [u8; 32])
-    requires room { 40 + length body.now ≤ length buffer.old }
+    ready: usize,
+) -> (Appended, [u8; DIGEST_BYTES])
+    requires room { AROUND_CLOSED + length body.now + ready ≤ length buffer.old }
     requires body { IsBody body.now }
     ensures digest { result.1 ≡ digest prev.now body.now }
     ensures went { D.honest
-        → Went D.tears result.0 at (record_of prev.now body.now ++ 0 ∷ 0 ∷ 0 ∷ 0 ∷ [])
+        → Went D.tears result.0 at (closed_by ready prev.now body.now)
         (D.seen disk.old) (D.seen disk.new) (D.may_leave disk.new) }
     ensures time { D.honest
-        → TimePasses D.Disk (Torn at (length (record_of prev.now body.now ++ 0 ∷ 0 ∷ 0 ∷ 0 ∷ []))) disk.old disk.new }
+        → TimePasses D.Disk (Torn at (length (closed_by ready prev.now body.now))) disk.old disk.new }
     ensures cause { HasCause result.0 (D.failures disk.old) (D.failures disk.new) }
     ensures calls { AppendCalls result.0 (D.counts disk.old) (D.counts disk.new) }
     ensures not_full { result.0 ≢ Appended.Full }
 {
     let digest = encode(buffer, prev, body);
-    let outcome = put_or_clear(disk, at, &mut buffer[..40 + body.len()]);
+    let len = AROUND_CLOSED + body.len();
+    clear(buffer, len, ready);
+    let outcome = put_or_clear(disk, at, &mut buffer[..len + ready]);
     (outcome, digest)
 }

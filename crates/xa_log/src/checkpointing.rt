@@ -6,125 +6,129 @@ ghost use Rattle.xa_disk.specs.Disk.{put, Torn, Only, CountsFault};
 ghost use Rattle.xa_disk.specs.Time.{TimePasses, LeavesOnly};
 ghost use Rattle.xa_disk.specs.Counts.{with_write};
 ghost use Rattle.xa_log.specs.declared.format.Format.{Format};
-ghost use Rattle.xa_log.specs.Chain.{start, opening, last, digest, records, text, IsBody};
+ghost use Rattle.xa_log.specs.Chain.{start, opening, last, digest, text, IsBody};
 ghost use Rattle.xa_log.specs.Reading.{bodies_of};
 ghost use Rattle.xa_log.specs.Answers.{Went, Fell, HasCause};
 ghost use Rattle.xa_log.specs.Calls.{PutCalls, RecordsCalls, AppendCalls, CheckpointCalls};
 ghost use Rattle.xa_log.specs.Pair.{IsCalm, CalmTears};
-ghost use Rattle.xa_log.specs.Checkpoint.{tailed, behind_front, first_length, IsReady, IsOther, LeavesOf, LeavesNone, LeavesAny, Checkpointed};
+ghost use Rattle.xa_log.specs.Checkpoint.{behind_opening, bytes_behind, tailed, records_bytes, behind_front, first_length, IsReady, IsOther, LeavesOf, LeavesNone, LeavesAny, Checkpointed};
 
 use crate::appending::{Appended, put_or_clear, put_synced};
-use crate::format::Format;
-use crate::record::encode;
+use crate::format::{FIRST_PLACE, Format, OPENING_BYTES};
+use crate::record::{AROUND_BODY, AROUND_CLOSED, DIGEST_BYTES, LENGTH_BYTES, MOST_BODY, encode};
 use xa_disk::{Disk, DiskFault};
 
-// The first part: writes the 8 bytes and a length 0, and syncs, so that the older log is gone for good before a byte of the
-// new one is written. A fault is not repaired: the older log may be there still, which comes behind the current one as before.
+// The first part: writes a log of no records, and syncs, so that the older log is gone for good before a byte of the
+// new one is written. A fault is not repaired: the older log may be there still, which comes behind the current one as
+// before.
 pub(crate) fn put_front<D: Disk>(disk: &mut D, format: Format) -> Result<(), DiskFault>
-    ensures made { D.honest → OnOk result (D.seen disk.new ≡ opening format ++ drop 12 (D.seen disk.old)) }
+    ensures made { D.honest → OnOk result (D.seen disk.new ≡ opening format ++ drop OPENING_BYTES (D.seen disk.old)) }
     ensures durable { D.honest → OnOk result (Only (D.seen disk.new) (D.may_leave disk.new)) }
-    ensures stays { D.honest → (most : ℕ) (stood : List (List ℕ)) → 12 ≤ most → IsOther D.Disk most stood disk.old
-        → OnErr result (IsOther D.Disk most stood disk.new) }
+    ensures stays { D.honest → (most : ℕ) (stood : List (List ℕ)) → OPENING_BYTES ≤ most
+        → IsOther D.Disk most stood disk.old → OnErr result (IsOther D.Disk most stood disk.new) }
     ensures calm { D.honest → CalmTears D.tears → (stood : List (List ℕ)) → IsCalm stood (D.seen disk.old)
         → OnErr result (IsCalm stood (D.seen disk.new)) }
     // Whichever image is left: without chance what stood there, or nothing.
-    ensures any_moment { D.honest → (most : ℕ) (stood : List (List ℕ)) → 12 ≤ most → IsOther D.Disk most stood disk.old
-        → LeavesOnly D.Disk disk.old disk.new (LeavesOf most stood) }
+    ensures any_moment { D.honest → (most : ℕ) (stood : List (List ℕ)) → OPENING_BYTES ≤ most
+        → IsOther D.Disk most stood disk.old → LeavesOnly D.Disk disk.old disk.new (LeavesOf most stood) }
     ensures count { CountsFault result (D.failures disk.old) (D.failures disk.new) }
     ensures calls { PutCalls result (D.counts disk.old) (D.counts disk.new) }
 {
     put_synced(disk, 0, format.opening().as_slice())
 }
 
-// Writes a body's record and so many zero bytes behind it, but nothing before byte 12. Gives its digest.
+// Writes a body's record and so many zero bytes behind it, but nothing before the end of an opening. Gives its
+// digest.
 fn put_record<D: Disk>(
     disk: &mut D,
     at: u64,
-    prev: &[u8; 32],
+    prev: &[u8; DIGEST_BYTES],
     buffer: &mut [u8],
     body: &[u8],
     zeros: usize,
-) -> Result<[u8; 32], DiskFault>
-    requires room { 40 + length body.now ≤ length buffer.old }
+) -> Result<[u8; DIGEST_BYTES], DiskFault>
+    requires room { AROUND_CLOSED + length body.now ≤ length buffer.old }
     requires body { IsBody body.now }
-    requires from { 8 ≤ at }
-    requires zeros { zeros ≤ 4 }
+    requires from { FIRST_PLACE ≤ at }
+    requires zeros { zeros ≤ LENGTH_BYTES }
     ensures digest { IfOk result (λ d. d ≡ digest prev.now body.now) }
     ensures written { D.honest
-        → OnOk result (D.seen disk.new ≡ put (D.seen disk.old) (at + (12 - at))
-        (drop (12 - at) (tailed prev.now body.now zeros))) }
+        → OnOk result (D.seen disk.new ≡ put (D.seen disk.old) (behind_opening at)
+        (drop (OPENING_BYTES - at) (tailed prev.now body.now zeros))) }
     ensures torn { D.honest
-        → Torn (at + (12 - at)) (36 + length body.now + zeros - (12 - at)) (D.seen disk.old) (D.seen disk.new) }
+        → Torn (behind_opening at) (bytes_behind at body.now zeros) (D.seen disk.old) (D.seen disk.new) }
     ensures time { D.honest
-        → TimePasses D.Disk (Torn (at + (12 - at)) (36 + length body.now + zeros - (12 - at))) disk.old disk.new }
+        → TimePasses D.Disk (Torn (behind_opening at) (bytes_behind at body.now zeros)) disk.old disk.new }
     ensures count { CountsFault result (D.failures disk.old) (D.failures disk.new) }
     ensures calls { D.counts disk.new ≡ with_write (D.counts disk.old) }
 {
     let digest = encode(buffer, prev, body);
-    let skip = 12u64.saturating_sub(at);
-    let end = 36 + body.len() + zeros;
-    disk.write_at(at.max(12), &buffer[skip as usize..end])?;
+    let skip = (OPENING_BYTES as u64).saturating_sub(at);
+    let end = AROUND_BODY + body.len() + zeros;
+    disk.write_at(at.max(OPENING_BYTES as u64), &buffer[skip as usize..end])?;
     Ok(digest)
 }
 
-// The second part: writes the records from byte 12 on, each in one write, a closing length behind the last, and syncs.
-// Gives the last record's digest. A fault is not repaired: the first length is still 0, and stable, so whatever was written
-// here, the file has no record. The sync makes the records stable before the seal makes them count.
+// The second part: writes the records behind an opening's bytes, each in one write, a closing length behind the last,
+// and syncs. Gives the last record's digest. A fault is not repaired: the first length is still 0, and stable, so whatever was
+// written here, the file has no record. The sync makes the records stable before the seal makes them count.
 pub(crate) fn put_records<D: Disk>(
     disk: &mut D,
     format: Format,
     buffer: &mut [u8],
     bodies: &[Vec<u8>],
-) -> Result<[u8; 32], DiskFault>
-    requires room { 524328 ≤ length buffer.old }
+) -> Result<[u8; DIGEST_BYTES], DiskFault>
+    requires room { AROUND_CLOSED + MOST_BODY ≤ length buffer.old }
     requires some { 1 ≤ length bodies.now }
     requires sizes { AllByRecursion IsBody (bodies_of bodies.now) }
-    requires fits { 12 + length (records (start format) (bodies_of bodies.now)) < 2 ^ 64 }
+    requires fits { OPENING_BYTES + records_bytes format (bodies_of bodies.now) < 2 ^ 64 }
     ensures digest { IfOk result (λ d. d ≡ last (start format) (bodies_of bodies.now)) }
-    ensures written { D.honest → 12 ≤ length (D.seen disk.old)
-        → OnOk result (D.seen disk.new ≡ put (D.seen disk.old) 12 (behind_front format (bodies_of bodies.now))) }
+    ensures written { D.honest → OPENING_BYTES ≤ length (D.seen disk.old)
+        → OnOk result
+        (D.seen disk.new ≡ put (D.seen disk.old) OPENING_BYTES (behind_front format (bodies_of bodies.now))) }
     ensures durable { D.honest → OnOk result (Only (D.seen disk.new) (D.may_leave disk.new)) }
     ensures torn { D.honest
-        → Torn 12 (length (records (start format) (bodies_of bodies.now))) (D.seen disk.old) (D.seen disk.new) }
+        → Torn OPENING_BYTES (records_bytes format (bodies_of bodies.now)) (D.seen disk.old) (D.seen disk.new) }
     // Whichever image is left: nothing.
-    ensures any_moment { D.honest → (most : ℕ) → 12 + length (records (start format) (bodies_of bodies.now)) ≤ most
+    ensures any_moment { D.honest → (most : ℕ) → OPENING_BYTES + records_bytes format (bodies_of bodies.now) ≤ most
         → LeavesNone most format (D.seen disk.old) → Only (D.seen disk.old) (D.may_leave disk.old)
         → LeavesOnly D.Disk disk.old disk.new (LeavesNone most format) }
     ensures time { D.honest
-        → TimePasses D.Disk (Torn 12 (length (records (start format) (bodies_of bodies.now)))) disk.old disk.new }
+        → TimePasses D.Disk (Torn OPENING_BYTES (records_bytes format (bodies_of bodies.now))) disk.old disk.new }
     ensures count { CountsFault result (D.failures disk.old) (D.failures disk.new) }
     ensures calls { RecordsCalls result (length bodies.now) (D.counts disk.old) (D.counts disk.new) }
 {
     let most = bodies.len() - 1;
-    let mut end: u64 = 8;
+    let mut end = FIRST_PLACE;
     let mut digest = format.first_digest();
     for body in &bodies[..most] {
         digest = put_record(disk, end, &digest, buffer, body, 0)?;
-        end += 36 + body.len() as u64;
+        end += AROUND_BODY as u64 + body.len() as u64;
     }
-    let digest = put_record(disk, end, &digest, buffer, &bodies[most], 4)?;
+    let digest = put_record(disk, end, &digest, buffer, &bodies[most], LENGTH_BYTES)?;
     disk.sync()?;
     Ok(digest)
 }
 
-// The third part, the seal: writes the first length and syncs; if that fails, writes a length 0 and syncs. A torn seal is
-// the right length or, without chance, one whose record doesn't chain. Here a fault is repaired: a seal that may be there can
-// make this file the current one.
+// The third part, the seal: writes the first length and syncs; if that fails, writes a length 0 and syncs. A torn seal
+// is the right length or, without chance, one whose record doesn't chain. Here a fault is repaired: a seal that may be
+// there can make this file the current one.
 pub(crate) fn put_seal<D: Disk>(disk: &mut D, size: u32) -> Appended
     ensures went { D.honest
-        → Went D.tears result 8 (to_be_bytes w32 size) (D.seen disk.old) (D.seen disk.new) (D.may_leave disk.new) }
+        → Went D.tears result FIRST_PLACE (to_be_bytes w32 size)
+        (D.seen disk.old) (D.seen disk.new) (D.may_leave disk.new) }
     ensures any_moment { D.honest → (most : ℕ) (format : Format) (bodies : List (List ℕ))
         → IsReady format bodies (D.seen disk.old)
         → size ≡ first_length bodies → length (D.seen disk.old) ≤ most → Only (D.seen disk.old) (D.may_leave disk.old)
         → LeavesOnly D.Disk disk.old disk.new (LeavesOf most bodies) }
     ensures time { D.honest
-        → TimePasses D.Disk (Torn 8 4) disk.old disk.new }
+        → TimePasses D.Disk (Torn FIRST_PLACE LENGTH_BYTES) disk.old disk.new }
     ensures cause { HasCause result (D.failures disk.old) (D.failures disk.new) }
     ensures calls { AppendCalls result (D.counts disk.old) (D.counts disk.new) }
     ensures not_full { result ≢ Appended.Full }
 {
     let mut bytes = size.to_be_bytes();
-    put_or_clear(disk, 8, &mut bytes)
+    put_or_clear(disk, FIRST_PLACE, &mut bytes)
 }
 
 // The three parts. Gives the last record's digest, if the checkpoint is kept.
@@ -133,18 +137,18 @@ pub(crate) fn checkpoint_on<D: Disk>(
     format: Format,
     buffer: &mut [u8],
     bodies: &[Vec<u8>],
-) -> (Appended, [u8; 32])
-    requires room { 524328 ≤ length buffer.old }
+) -> (Appended, [u8; DIGEST_BYTES])
+    requires room { AROUND_CLOSED + MOST_BODY ≤ length buffer.old }
     requires some { 1 ≤ length bodies.now }
     requires sizes { AllByRecursion IsBody (bodies_of bodies.now) }
-    requires fits { 12 + length (records (start format) (bodies_of bodies.now)) < 2 ^ 64 }
+    requires fits { OPENING_BYTES + records_bytes format (bodies_of bodies.now) < 2 ^ 64 }
     ensures digest { result.0 ≡ Appended.Kept → result.1 ≡ last (start format) (bodies_of bodies.now) }
     ensures answer { D.honest → (most : ℕ) (stood : List (List ℕ))
-        → 12 + length (records (start format) (bodies_of bodies.now)) ≤ most
+        → OPENING_BYTES + records_bytes format (bodies_of bodies.now) ≤ most
         → IsOther D.Disk most stood disk.old
         → Checkpointed D.Disk result.0 most format stood (bodies_of bodies.now) disk.old disk.new }
     ensures any_moment { D.honest → (most : ℕ) (stood : List (List ℕ))
-        → 12 + length (records (start format) (bodies_of bodies.now)) ≤ most
+        → OPENING_BYTES + records_bytes format (bodies_of bodies.now) ≤ most
         → IsOther D.Disk most stood disk.old
         → LeavesOnly D.Disk disk.old disk.new (LeavesAny most format stood (bodies_of bodies.now)) }
     ensures cause { HasCause result.0 (D.failures disk.old) (D.failures disk.new) }
@@ -153,27 +157,28 @@ pub(crate) fn checkpoint_on<D: Disk>(
 {
     match put_front(disk, format) {
         Ok(()) => {}
-        Err(_) => return (Appended::Refused, [0; 32]),
+        Err(_) => return (Appended::Refused, [0; DIGEST_BYTES]),
     }
     match put_records(disk, format, buffer, bodies) {
         Ok(digest) => {
             let outcome = put_seal(disk, bodies[0].len() as u32);
             (outcome, digest)
         }
-        Err(_) => (Appended::Refused, [0; 32]),
+        Err(_) => (Appended::Refused, [0; DIGEST_BYTES]),
     }
 }
 
-/// Where a log of these bodies, each of 1 to 524,288 bytes, ends in a format, if it fits into so many bytes with its closing
-/// length.
+/// Where a log of these bodies, each of 1 to `MOST_BODY` bytes, ends in a format, if it fits into so many bytes with
+/// its closing length.
 pub fn end_of(format: Format, bodies: &[Vec<u8>], most: u64) -> Option<u64>
     requires sizes { AllByRecursion IsBody (bodies_of bodies.now) }
-    ensures some { IfSome result (λ end. (end ≡ length (text format (bodies_of bodies.now))) × (end + 4 ≤ most)) }
-    ensures none { IfNone result (most < length (text format (bodies_of bodies.now)) + 4) }
+    ensures some { IfSome result
+        (λ end. (end ≡ length (text format (bodies_of bodies.now))) × (end + LENGTH_BYTES ≤ most)) }
+    ensures none { IfNone result (most < length (text format (bodies_of bodies.now)) + LENGTH_BYTES) }
 {
     let mut left = most.checked_sub(format.opening().len() as u64)?;
     for body in bodies {
-        left = left.checked_sub(36 + body.len() as u64)?;
+        left = left.checked_sub(AROUND_BODY as u64 + body.len() as u64)?;
     }
-    Some(most - left - 4)
+    Some(most - left - LENGTH_BYTES as u64)
 }

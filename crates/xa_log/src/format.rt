@@ -3,12 +3,25 @@ ghost use Rattle.xa_log.specs.Chain.{magic, newest, start, opening, format_of};
 ghost use Rattle.xa_log.specs.Reading.{front_fault};
 
 use crate::OpenFault;
+use crate::record::{DIGEST_BYTES, LENGTH_BYTES};
 use sha2::{Digest, Sha256};
+
+/// The bytes of a format's name, with which a log's file begins.
+pub const FORMAT_BYTES: usize = 8;
+
+// The place of the name's last byte, which is a digit and tells the formats apart.
+const DIGIT: usize = FORMAT_BYTES - 1;
+
+/// Where the first record of a log begins.
+pub const FIRST_PLACE: u64 = FORMAT_BYTES as u64;
+
+/// The bytes of a log of no records: its format's name, and a closing length.
+pub const OPENING_BYTES: usize = FORMAT_BYTES + LENGTH_BYTES;
 
 /// A format of a log's file, which the file's first eight bytes name.
 #[derive(Clone, Copy, Debug, PartialEq, Eq)]
 pub enum Format {
-    /// `XARMLOG1`: bodies of at most 524,288 bytes.
+    /// `XARMLOG1`: bodies of at most `MOST_BODY` bytes.
     One,
 }
 
@@ -22,20 +35,23 @@ impl Format {
 
     // The format that the first eight bytes of a file name.
     pub(crate) fn of(front: &[u8]) -> Result<Format, OpenFault>
-        requires { length front.now ≡ 8 }
+        requires { length front.now ≡ FORMAT_BYTES }
         ensures { MatchResult result (λ f. format_of front.now ≡ Some f) (λ e. front_fault front.now ≡ Some e) }
     {
         if front == b"XARMLOG1".as_slice() {
             return Ok(Format::One);
         }
-        if &front[..7] == b"XARMLOG".as_slice() && front[7] >= b'2' && front[7] <= b'9' {
+        if &front[..DIGIT] == b"XARMLOG".as_slice()
+            && front[DIGIT] >= b'2'
+            && front[DIGIT] <= b'9'
+        {
             return Err(OpenFault::TooNew);
         }
         Err(OpenFault::NotALog)
     }
 
     // A log of no records: the first eight bytes and a closing length.
-    pub(crate) fn opening(self) -> [u8; 12]
+    pub(crate) fn opening(self) -> [u8; OPENING_BYTES]
         ensures { result ≡ opening self }
     {
         match self {
@@ -44,7 +60,7 @@ impl Format {
     }
 
     // The digest before the first record.
-    pub(crate) fn first_digest(self) -> [u8; 32]
+    pub(crate) fn first_digest(self) -> [u8; DIGEST_BYTES]
         ensures { result ≡ start self }
     {
         match self {

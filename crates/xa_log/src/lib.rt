@@ -1,18 +1,23 @@
-//! An append-only log on two disks, of which one is current: records that chain by SHA-256, so that a log ends where its
-//! bytes say so. A checkpoint writes a new log to the other one.
+//! An append-only log on two disks, of which one is current: records that chain by SHA-256, so that a log ends where
+//! its bytes say so. A checkpoint writes a new log to the other one.
 //!
-//! - `log`: `Log`, with `append` and `checkpoint`; `making` has `create` and `open`, `rescanning` has `rescan` and `into_disks`,
-//!   `planning` has planned faults in memory
-//! - `appending`: how a record goes to the disk, and what became of it; with `record` (a record's bytes)
-//! - `checkpointing`: how a checkpoint goes to the other disk, in its three parts
-//! - `opening`: making and reading a log on disks that are lent, which gives an `Opened`
-//! - `looking`: which of two files is the current one; with `reading` (record by record) and `window` (in pieces)
-//! - `format`: a file's first bytes; `fault`: why its bytes aren't taken as a log
+//! - `log`: `Log`, with `append` and `checkpoint`; `making` has `create` and `open`, `rescanning` has `rescan` and
+//!   `into_disks`, `planning` has planned faults in memory
+//! - `appending`: how a record goes to the disk, and `Appended`, what became of it
+//! - `ahead`: how far a file is made ready ahead of its log, by pieces of `READY_BYTES`
+//! - `checkpointing`: how a checkpoint goes to the other disk, in its three parts; `end_of`, whether it fits
+//! - `opening`: making and reading a log on disks that are lent: `create_on`, `open_on`, `read_log`
+//! - `opened`: `Opened`, a log that was made or read so, without its disks
+//! - `looking`: which of two files is the current one, by the number in its first body
+//! - `reading`, `window`: reading a file record by record, and in pieces
+//! - `format`: `Format`, a file's first bytes; `record`: the bytes of a record
+//! - `fault`: `OpenFault`, why a file's bytes aren't taken as a log
 //! - `laws`: which log two files have, and what is without chance; `worked`: worked rows
 //!
 //! docs/LOG.md has the format and what each device fault leaves.
 #![tactic(auto)]
 
+mod ahead;
 mod appending;
 mod checkpointing;
 mod fault;
@@ -30,15 +35,19 @@ mod rescanning;
 mod window;
 mod worked;
 
+pub use ahead::READY_BYTES;
 pub use appending::Appended;
 pub use checkpointing::end_of;
 pub use fault::OpenFault;
-pub use format::Format;
+pub use format::{FIRST_PLACE, FORMAT_BYTES, Format, OPENING_BYTES};
 pub use laws::{
     memory_without_chance, memory_without_chance_beside, opened_is_pair, pair_is_current,
     pair_is_current_or_new, plain_by_body, stray_is_possible,
 };
-pub use log::Log;
+pub use log::{Log, MOST_LOG};
+pub use looking::{NUMBER_END, NUMBER_PLACE};
 pub use opened::Opened;
 pub use opening::{create_on, open_on, read_log};
+pub use record::{AROUND_BODY, AROUND_CLOSED, DIGEST_BYTES, LENGTH_BYTES, MOST_BODY, MOST_RECORD};
+pub use window::{LEAST_READ, WINDOW};
 pub use worked::worked_pairs;

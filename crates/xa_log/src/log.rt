@@ -1,5 +1,6 @@
 //! The log on its disk.
-ghost use Rattle.std.specs.Prelude.{◌≡◌, ◌+◌, ◌-◌, ◌≤◌, ◌<◌, ◌^◌, ◌↔◌, List, ℕ, true, false, length};
+ghost use Rattle.std.specs.Prelude.{◌≡◌, ◌+◌, ◌-◌, ◌≤◌, ◌<◌, ◌↔◌, List, ℕ, true, false, length};
+ghost use Rattle.xa_disk.specs.Counts.{top};
 ghost use Rattle.xa_disk.specs.Time.{LeavesOnly};
 ghost use Rattle.std.specs.List.{AllByRecursion};
 ghost use Rattle.xa_log.specs.Calls.{AppendCalls, CheckpointCalls};
@@ -8,15 +9,21 @@ ghost use Rattle.xa_log.specs.Checkpoint.{LeavesAny};
 ghost use Rattle.xa_log.specs.Pair.{generation};
 ghost use Rattle.xa_log.specs.Reading.{bodies_of};
 ghost use Rattle.xa_log.specs.Answers.{HasCause};
+ghost use Rattle.xa_log.specs.declared.window.TheConstants.{WINDOW};
 
+use crate::ahead::ready_behind;
 use crate::appending::{Appended, append_at};
 use crate::checkpointing::{checkpoint_on, end_of};
 use crate::format::Format;
+use crate::record::{AROUND_BODY, AROUND_CLOSED, DIGEST_BYTES, LENGTH_BYTES};
 use std::mem;
 use xa_disk::Disk;
 
-/// A log on two disks: the current file has its records of 1 to 524,288 bytes, at most `log_bytes` bytes in all; the
-/// other one is where a checkpoint goes.
+/// The most bytes that a log's file is to have. What a log keeps to is its own `log_bytes`.
+pub const MOST_LOG: u64 = 1_073_741_824;
+
+/// A log on two disks: the current file has its records, with bodies of 1 to `MOST_BODY` bytes, at most `log_bytes`
+/// bytes in all; the other one is where a checkpoint goes.
 #[derive(Debug, Drop)]
 pub struct Log<D> {
     // The current file's disk and the other one's, and whether the current one is the first of the two.
@@ -28,21 +35,22 @@ pub struct Log<D> {
     pub(crate) log_bytes: u64,
     // Where the next record begins, and the digest of the one before it.
     pub(crate) end: u64,
-    pub(crate) digest: [u8; 32],
+    pub(crate) digest: [u8; DIGEST_BYTES],
     // The window when the log is read, and a record's bytes when one is appended.
     pub(crate) buffer: Vec<u8>,
-    // An append or a checkpoint was lost, and no rescan has succeeded since: whether the last record stands, or which file the
-    // next opening takes, isn't known, and a record that went to the wrong one would be passed over.
+    // An append or a checkpoint was lost, and no rescan has succeeded since: whether the last record stands, or which
+    // file the next opening takes, isn't known, and a record that went to the wrong one would be passed over.
     pub(crate) lost: bool,
     ghost within: { end ≤ log_bytes },
-    ghost room: { length buffer.items ≡ 1048576 },
+    ghost room: { length buffer.items ≡ WINDOW },
 }
 
 impl<D: Disk> Log<D> {
+    ghost use Rattle.xa_log.specs.Ahead.{Writes};
     ghost use Rattle.xa_log.specs.Stands.{Stands, Leaves, Moves, Answers};
     ghost use Rattle.xa_log.specs.TwoFiles.{Pair, AppendsTo, Checkpoints, Swaps, written};
 
-    /// Adds a record of a body of 1 to 524,288 bytes: one write and one sync where nothing fails. Takes no memory.
+    /// Adds a record of a body of 1 to `MOST_BODY` bytes: one write and one sync where nothing fails. Takes no memory.
     /// After `Lost`, its own or a checkpoint's, every append answers so, and asks nothing of the disk, until a rescan
     /// succeeds.
     pub fn append(&mut self, body: &[u8]) -> Appended
@@ -55,37 +63,44 @@ impl<D: Disk> Log<D> {
             (Leaves self.old.log_bytes self.old.format bodies body.now) }
         ensures lost { self.old.lost ≡ true → (result ≡ Appended.Lost) × (self.new ≡ self.old) }
         ensures full { self.old.lost ≡ false
-            → (result ≡ Appended.Full) ↔ (self.old.log_bytes < self.old.end + 40 + length body.now) }
+            → (result ≡ Appended.Full) ↔ (self.old.log_bytes < self.old.end + AROUND_CLOSED + length body.now) }
         ensures unchanged { result ≡ Appended.Full → self.new ≡ self.old }
         ensures moves { Moves result (length body.now) self.old self.new }
         ensures cause { self.old.lost ≡ false → HasCause result (D.failures self.old.disk) (D.failures self.new.disk) }
         ensures calls { self.old.lost ≡ false → AppendCalls result (D.counts self.old.disk) (D.counts self.new.disk) }
-        ensures kept { self.old.lost ≡ false → self.old.end + 40 + length body.now ≤ self.old.log_bytes
-            → D.failures self.old.disk < 2 ^ 64 - 1 → D.failures self.new.disk ≡ D.failures self.old.disk
+        ensures kept { self.old.lost ≡ false → self.old.end + AROUND_CLOSED + length body.now ≤ self.old.log_bytes
+            → D.failures self.old.disk < top → D.failures self.new.disk ≡ D.failures self.old.disk
             → result ≡ Appended.Kept }
         ensures settings { self.new.log_bytes ≡ self.old.log_bytes }
         ensures other { (self.new.other ≡ self.old.other) × (self.new.on_first ≡ self.old.on_first) }
         // The other file needs no look: what was said of the two stays.
         ensures pair { D.honest → (bodies stood : List (List ℕ)) → Pair D.Disk bodies stood self.old
             → AppendsTo D.Disk result bodies body.now stood self.new }
+        ensures writes { D.honest → result ≡ Appended.Kept → Writes D.Disk body.now self.old self.new }
     {
         if self.lost {
             return Appended::Lost; // Until a rescan, whether the last record stands is open.
         }
         let len = body.len();
-        if self.log_bytes - self.end < 40 + len as u64 {
+        if self.log_bytes - self.end < AROUND_CLOSED as u64 + len as u64 {
             return Appended::Full;
         }
+        let ready = ready_behind(
+            self.end,
+            self.end + AROUND_CLOSED as u64 + len as u64,
+            self.log_bytes,
+        );
         let (outcome, digest) = append_at(
             &mut self.disk,
             self.end,
             &self.digest,
             &mut self.buffer,
             body,
+            ready,
         );
         match outcome {
             Appended::Kept => {
-                self.end += 36 + len as u64;
+                self.end += AROUND_BODY as u64 + len as u64;
                 self.digest = digest;
             }
             Appended::Lost => self.lost = true,
@@ -103,16 +118,16 @@ impl<D: Disk> Log<D> {
 
     /// How many bytes are left for records: `log_bytes` less the log with its closing length, or 0.
     pub fn free(&self) -> u64
-        ensures { result ≡ self.now.log_bytes - (self.now.end + 4) }
+        ensures { result ≡ self.now.log_bytes - (self.now.end + LENGTH_BYTES) }
     {
-        (self.log_bytes - self.end).saturating_sub(4)
+        (self.log_bytes - self.end).saturating_sub(LENGTH_BYTES as u64)
     }
 
-    /// Writes a log of these bodies, each of 1 to 524,288 bytes, to the other file, in the newest format. `Kept`: that
-    /// file is the current one from then on. An opening takes it if its generation, the number in bytes 1 to 4 of the
-    /// first body, is above the old one's: nothing else is written to say which is current, and the old log stays where it
-    /// is. `Refused`: the current file stays in use. `Full`: they don't fit, with a closing length. Where nothing fails: a
-    /// write and a sync, a write a record and a sync, a write and a sync. Takes no memory.
+    /// Writes a log of these bodies, each of 1 to `MOST_BODY` bytes, to the other file, in the newest format. `Kept`:
+    /// that file is the current one from then on. An opening takes it if its generation, the number in the first body
+    /// from byte `NUMBER_PLACE` on, is above the old one's: nothing else is written to say which is current, and the old
+    /// log stays where it is. `Refused`: the current file stays in use. `Full`: they don't fit, with a closing length.
+    /// Where nothing fails: a write and a sync, a write a record and a sync, a write and a sync. Takes no memory.
     /// After `Lost`, its own or an append's, every checkpoint answers so, and asks nothing of the disks, until a rescan
     /// succeeds.
     pub fn checkpoint(&mut self, bodies: &[Vec<u8>]) -> Appended
@@ -128,14 +143,16 @@ impl<D: Disk> Log<D> {
         ensures swaps { self.old.lost ≡ false → Swaps result (bodies_of bodies.now) self.old self.new }
         ensures lost { self.old.lost ≡ true → (result ≡ Appended.Lost) × (self.new ≡ self.old) }
         ensures full { self.old.lost ≡ false
-            → (result ≡ Appended.Full) ↔ (self.old.log_bytes < length (text newest (bodies_of bodies.now)) + 4) }
+            → (result ≡ Appended.Full)
+            ↔ (self.old.log_bytes < length (text newest (bodies_of bodies.now)) + LENGTH_BYTES) }
         ensures cause { self.old.lost ≡ false
             → HasCause result (D.failures self.old.other) (D.failures (written result self.new)) }
         ensures calls { self.old.lost ≡ false
             → CheckpointCalls result (length bodies.now)
             (D.counts self.old.other) (D.counts (written result self.new)) }
-        ensures kept { self.old.lost ≡ false → length (text newest (bodies_of bodies.now)) + 4 ≤ self.old.log_bytes
-            → D.failures self.old.other < 2 ^ 64 - 1 → D.failures (written result self.new) ≡ D.failures self.old.other
+        ensures kept { self.old.lost ≡ false
+            → length (text newest (bodies_of bodies.now)) + LENGTH_BYTES ≤ self.old.log_bytes
+            → D.failures self.old.other < top → D.failures (written result self.new) ≡ D.failures self.old.other
             → result ≡ Appended.Kept }
         ensures settings { self.new.log_bytes ≡ self.old.log_bytes }
     {

@@ -11,13 +11,19 @@ ghost use Rattle.xa_log.specs.Looking.{AreShort, IsFront, HasFront, either_newer
 ghost use Rattle.xa_log.specs.Window.{Caches};
 
 use crate::OpenFault;
-use crate::format::Format;
-use crate::reading::{MAX_BODY, Scan, read_front, read_records, synced_length};
-use crate::record::{chained, size_of};
-use crate::window::Span;
+use crate::format::{FORMAT_BYTES, Format, OPENING_BYTES};
+use crate::reading::{Scan, read_front, read_records, synced_length};
+use crate::record::{AROUND_BODY, DIGEST_BYTES, MOST_BODY, chained, size_of};
+use crate::window::{Span, WINDOW};
 use std::alloc::Global;
 use std::mem;
 use xa_disk::{Disk, DiskFault};
+
+/// Where in a body its number stands, which in the first body is the log's generation.
+pub const NUMBER_PLACE: usize = 1;
+
+/// Where that number ends. A shorter body has the number 0.
+pub const NUMBER_END: usize = 5;
 
 /// How a file begins: its format, if it names one, or that it names a later one; and what a window has of it.
 #[derive(Clone, Copy)]
@@ -62,9 +68,9 @@ fn measure<D: Disk>(first: &mut D, second: &mut D, log_bytes: u64) -> Result<(u6
     Ok((len, other_len))
 }
 
-// How a file of this length begins, as an empty window has it then. Fewer than 8 bytes are not read.
+// How a file of this length begins, as an empty window has it then. Fewer bytes than a format's name has are not read.
 fn front_of<D: Disk>(disk: &mut D, window: &mut [u8], len: u64) -> Result<Front, DiskFault>
-    requires { length window.old ≡ 1048576 }
+    requires { length window.old ≡ WINDOW }
     ensures front { D.honest → len ≡ length (D.seen disk.old) → IfOk result (IsFront (D.seen disk.old) window.new) }
     ensures holds { IfOk result (HasFront len) }
     ensures same { D.honest → D.seen disk.new ≡ D.seen disk.old }
@@ -74,7 +80,7 @@ fn front_of<D: Disk>(disk: &mut D, window: &mut [u8], len: u64) -> Result<Front,
         (λ f. Fetched len (f.span.from + f.span.have) (D.counts disk.old) (D.counts disk.new))
         (λ _. FetchedSome len (D.counts disk.old) (D.counts disk.new)) }
 {
-    if len < 8 {
+    if len < FORMAT_BYTES as u64 {
         return Ok(Front {
             format: None,
             newer: false,
@@ -82,7 +88,7 @@ fn front_of<D: Disk>(disk: &mut D, window: &mut [u8], len: u64) -> Result<Front,
         });
     }
     let span = read_front(disk, window, len)?;
-    match Format::of(&window[..8]) {
+    match Format::of(&window[..FORMAT_BYTES]) {
         Ok(format) => Ok(Front {
             format: Some(format),
             newer: false,
@@ -101,42 +107,47 @@ fn front_of<D: Disk>(disk: &mut D, window: &mut [u8], len: u64) -> Result<Front,
     }
 }
 
-// The number in bytes 1 to 4 of a body.
+// The number in a body.
 fn number_of(body: &[u8]) -> usize
     ensures { result ≡ number_in body.now }
 {
-    if body.len() < 5 {
+    if body.len() < NUMBER_END {
         return 0;
     }
-    size_of(&body[1..5])
+    size_of(&body[NUMBER_PLACE..NUMBER_END])
 }
 
-// The number of the record behind a log's first 8 bytes, if one stands there that chains. The window has the file's
+// The number of the record behind a log's format, if one stands there that chains. The window has the file's
 // first bytes, so all of it.
-fn first_number(window: &[u8], span: Span, len: u64, prev: &[u8; 32]) -> Option<usize>
-    requires room { length window.now ≡ 1048576 }
+fn first_number(window: &[u8], span: Span, len: u64, prev: &[u8; DIGEST_BYTES]) -> Option<usize>
+    requires room { length window.now ≡ WINDOW }
     requires from { span.from ≡ 0 }
-    requires have { span.have ≡ min len 1048576 }
+    requires have { span.have ≡ min len WINDOW }
     ensures { (file : List ℕ) → len ≡ length file → Caches file window.now span
-        → Numbers prev.now (drop 8 file) result }
+        → Numbers prev.now (drop FORMAT_BYTES file) result }
 {
-    if len < 44 {
+    let around = (FORMAT_BYTES + AROUND_BODY) as u64;
+    if len < around {
         return None;
     }
-    let size = size_of(&window[8..12]);
-    if size == 0 || size > MAX_BODY || len < 44 + size as u64 {
+    let size = size_of(&window[FORMAT_BYTES..OPENING_BYTES]);
+    if size == 0 || size > MOST_BODY || len < around + size as u64 {
         return None;
     }
-    match chained(&window[8..44 + size], size, prev) {
-        Some(_digest) => Some(number_of(&window[12..12 + size])),
+    match chained(
+        &window[FORMAT_BYTES..FORMAT_BYTES + AROUND_BODY + size],
+        size,
+        prev,
+    ) {
+        Some(_digest) => Some(number_of(&window[OPENING_BYTES..OPENING_BYTES + size])),
         None => None,
     }
 }
 
-// What of a file tells whether it is the current one of two, if it is a log: its first record alone, which has the generation,
-// and without which the file has no bodies. So of the one that isn't current no more is read.
+// What of a file tells whether it is the current one of two, if it is a log: its first record alone, which has the
+// generation, and without which the file has no bodies. So of the one that isn't current no more is read.
 fn head_of(window: &[u8], front: Front, len: u64) -> Option<Head>
-    requires room { length window.now ≡ 1048576 }
+    requires room { length window.now ≡ WINDOW }
     requires holds { HasFront len front }
     ensures head { (file : List ℕ) → len ≡ length file → IsFront file window.now front → IsHead file result }
     ensures some { result ≢ None → front.format ≢ None }
@@ -187,8 +198,8 @@ fn read_fronts<D: Disk>(
     other_window: &mut [u8],
     lens: (u64, u64),
 ) -> Result<(Front, Front), OpenFault>
-    requires room { length window.old ≡ 1048576 }
-    requires other_room { length other_window.old ≡ 1048576 }
+    requires room { length window.old ≡ WINDOW }
+    requires other_room { length other_window.old ≡ WINDOW }
     ensures front { D.honest → lens.0 ≡ length (D.seen first.old)
         → IfOk result (λ r. IsFront (D.seen first.old) window.new r.0) }
     ensures other_front { D.honest → lens.1 ≡ length (D.seen second.old)
@@ -228,8 +239,8 @@ fn read_current<D: Disk>(
     lens: (u64, u64),
     fronts: (Front, Front),
 ) -> Result<(bool, Scan), OpenFault>
-    requires room { length window.old ≡ 1048576 }
-    requires other_room { length other_window.old ≡ 1048576 }
+    requires room { length window.old ≡ WINDOW }
+    requires other_room { length other_window.old ≡ WINDOW }
     requires holds { HasFront lens.0 fronts.0 }
     requires other_holds { HasFront lens.1 fronts.1 }
     ensures value { D.honest → lens.0 ≡ length (D.seen first.old) → lens.1 ≡ length (D.seen second.old)
@@ -277,8 +288,8 @@ pub(crate) fn read_pair<D: Disk>(
     other_window: &mut [u8],
     log_bytes: u64,
 ) -> Result<(bool, Scan), OpenFault>
-    requires room { length window.old ≡ 1048576 }
-    requires other_room { length other_window.old ≡ 1048576 }
+    requires room { length window.old ≡ WINDOW }
+    requires other_room { length other_window.old ≡ WINDOW }
     ensures value { D.honest
         → MatchResult result (λ r. (pair_fault log_bytes (D.seen first.old) (D.seen second.old) ≡ None)
         × IsCurrent (D.seen first.old) (D.seen second.old) r.0 r.1)
@@ -313,8 +324,8 @@ pub(crate) fn read_again<D: Disk>(
     other_window: &mut [u8],
     log_bytes: u64,
 ) -> Result<(bool, Scan), OpenFault>
-    requires room { length window.old ≡ 1048576 }
-    requires other_room { length other_window.old ≡ 1048576 }
+    requires room { length window.old ≡ WINDOW }
+    requires other_room { length other_window.old ≡ WINDOW }
     ensures value { D.honest → MatchResult result
         (λ r. (fault_pair log_bytes on_first (D.seen disk.old) (D.seen other.old) ≡ None)
         × IsCurrent (D.seen (if on_first then disk.old else other.old))

@@ -11,19 +11,17 @@ ghost use Rattle.xa_log.specs.Reading.{Finds, Fits, IsScan, bodies_of, fault_of,
 ghost use Rattle.xa_log.specs.Window.{Caches, Covers};
 
 use crate::OpenFault;
-use crate::format::Format;
-use crate::record::{chained, size_of};
-use crate::window::{Span, fill};
+use crate::format::{FIRST_PLACE, FORMAT_BYTES, Format};
+use crate::record::{AROUND_BODY, DIGEST_BYTES, LENGTH_BYTES, MOST_BODY, chained, size_of};
+use crate::window::{Span, WINDOW, fill};
 use std::alloc::{AllocError, Global};
 use xa_disk::{Disk, DiskFault};
-
-pub(crate) const MAX_BODY: usize = 524288;
 
 /// A record that chains: its body's length, its digest, and what the window has by then, all of it included.
 #[derive(Clone, Copy)]
 pub struct Found {
     pub size: usize,
-    pub digest: [u8; 32],
+    pub digest: [u8; DIGEST_BYTES],
     pub span: Span,
 }
 
@@ -33,7 +31,7 @@ pub struct Scan {
     pub format: Format,
     pub bodies: Vec<Vec<u8>>,
     pub end: u64,
-    pub digest: [u8; 32],
+    pub digest: [u8; DIGEST_BYTES],
 }
 
 // The record that stands at a place, if one does that chains.
@@ -43,9 +41,9 @@ fn next_record<D: Disk>(
     span: Span,
     at: u64,
     len: u64,
-    prev: &[u8; 32],
+    prev: &[u8; DIGEST_BYTES],
 ) -> Result<Option<Found>, DiskFault>
-    requires room { length window.old ≡ 1048576 }
+    requires room { length window.old ≡ WINDOW }
     requires within { at ≤ len }
     requires held { span.have ≤ length window.old }
     requires begins { span.from ≤ at }
@@ -62,18 +60,18 @@ fn next_record<D: Disk>(
         → MatchResult result (FetchedNext len start (D.counts disk.new))
         (λ _. FetchedSome len start (D.counts disk.new)) }
 {
-    if len - at < 36 {
+    if len - at < AROUND_BODY as u64 {
         return Ok(None);
     }
-    let front = fill(disk, window, span, at, 4, len)?;
+    let front = fill(disk, window, span, at, LENGTH_BYTES, len)?;
     let begin = (at - front.from) as usize;
-    let size = size_of(&window[begin..begin + 4]);
-    if size == 0 || size > MAX_BODY || len - at < 36 + size as u64 {
+    let size = size_of(&window[begin..begin + LENGTH_BYTES]);
+    if size == 0 || size > MOST_BODY || len - at < AROUND_BODY as u64 + size as u64 {
         return Ok(None);
     }
-    let span = fill(disk, window, front, at, 36 + size, len)?;
+    let span = fill(disk, window, front, at, AROUND_BODY + size, len)?;
     let begin = (at - span.from) as usize;
-    match chained(&window[begin..begin + 36 + size], size, prev) {
+    match chained(&window[begin..begin + AROUND_BODY + size], size, prev) {
         Some(digest) => Ok(Some(Found { size, digest, span })),
         None => Ok(None),
     }
@@ -86,7 +84,7 @@ fn push_body(bodies: &mut Vec<Vec<u8>>, alloc: Global, body: &[u8]) -> Result<()
     Ok(())
 }
 
-// The records from byte 8 on, where a window has the file's first bytes.
+// The records from the first one's place on, where a window has the file's first bytes.
 pub(crate) fn read_records<D: Disk>(
     alloc: Global,
     disk: &mut D,
@@ -95,16 +93,16 @@ pub(crate) fn read_records<D: Disk>(
     len: u64,
     format: Format,
 ) -> Result<Scan, OpenFault>
-    requires room { length window.old ≡ 1048576 }
-    requires within { 8 ≤ len }
+    requires room { length window.old ≡ WINDOW }
+    requires within { FORMAT_BYTES ≤ len }
     requires held { first.have ≤ length window.old }
-    requires begins { first.from ≤ 8 }
-    requires reaches { 8 ≤ first.from + first.have }
+    requires begins { first.from ≤ FIRST_PLACE }
+    requires reaches { FIRST_PLACE ≤ first.from + first.have }
     requires inside { first.from + first.have ≤ len }
     ensures value { D.honest → Caches (D.seen disk.old) window.old first → len ≡ length (D.seen disk.old)
-        → take 8 (D.seen disk.old) ≡ magic format → IfOk result (IsScan (D.seen disk.old)) }
+        → take FORMAT_BYTES (D.seen disk.old) ≡ magic format → IfOk result (IsScan (D.seen disk.old)) }
     ensures logged { D.honest → Caches (D.seen disk.old) window.old first → len ≡ length (D.seen disk.old)
-        → take 8 (D.seen disk.old) ≡ magic format
+        → take FORMAT_BYTES (D.seen disk.old) ≡ magic format
         → IfOk result (λ s. logged (D.seen disk.old) ≡ bodies_of s.bodies.items) }
     ensures format { IfOk result (λ s. s.format ≡ format) }
     ensures fits { IfOk result (λ s. s.end ≤ len) }
@@ -116,7 +114,7 @@ pub(crate) fn read_records<D: Disk>(
         → FetchedSome len start (D.counts disk.new) }
 {
     let mut bodies = Vec::new(alloc);
-    let mut end: u64 = 8;
+    let mut end = FIRST_PLACE;
     let mut digest = format.first_digest();
     let mut span = first;
     'records: loop {
@@ -130,9 +128,9 @@ pub(crate) fn read_records<D: Disk>(
                 });
             }
             Some(found) => {
-                let begin = (end - found.span.from) as usize + 4;
+                let begin = (end - found.span.from) as usize + LENGTH_BYTES;
                 push_body(&mut bodies, alloc, &window[begin..begin + found.size])?;
-                end += 36 + found.size as u64;
+                end += AROUND_BODY as u64 + found.size as u64;
                 digest = found.digest;
                 span = found.span;
             }
@@ -146,13 +144,13 @@ pub(crate) fn read_front<D: Disk>(
     window: &mut [u8],
     len: u64,
 ) -> Result<Span, DiskFault>
-    requires room { length window.old ≡ 1048576 }
-    requires within { 8 ≤ len }
-    ensures front { D.honest → OnOk result (take 8 window.new ≡ take 8 (D.seen disk.old)) }
+    requires room { length window.old ≡ WINDOW }
+    requires within { FORMAT_BYTES ≤ len }
+    ensures front { D.honest → OnOk result (take FORMAT_BYTES window.new ≡ take FORMAT_BYTES (D.seen disk.old)) }
     ensures caches { D.honest → IfOk result (Caches (D.seen disk.old) window.new) }
     ensures held { IfOk result (λ s. s.have ≤ length window.old) }
-    ensures covers { IfOk result (λ s. Covers s 0 8) }
-    ensures whole { IfOk result (λ s. (s.from ≡ 0) × (s.have ≡ min len 1048576)) }
+    ensures covers { IfOk result (λ s. Covers s 0 FORMAT_BYTES) }
+    ensures whole { IfOk result (λ s. (s.from ≡ 0) × (s.have ≡ min len WINDOW)) }
     ensures inside { IfOk result (λ s. s.from + s.have ≤ len) }
     ensures same { D.honest → D.seen disk.new ≡ D.seen disk.old }
     ensures time { D.honest → TimePasses D.Disk Same disk.old disk.new }
@@ -160,7 +158,14 @@ pub(crate) fn read_front<D: Disk>(
     ensures fetched { MatchResult result (λ s. Fetched len (s.from + s.have) (D.counts disk.old) (D.counts disk.new))
         (λ _. FetchedSome len (D.counts disk.old) (D.counts disk.new)) }
 {
-    fill(disk, window, Span { from: 0, have: 0 }, 0, 8, len)
+    fill(
+        disk,
+        window,
+        Span { from: 0, have: 0 },
+        0,
+        FORMAT_BYTES,
+        len,
+    )
 }
 
 // Syncs, and asks the length. The sync comes first, so that what is read then is what a crash leaves.
@@ -184,7 +189,7 @@ pub(crate) fn read_whole<D: Disk>(
     window: &mut [u8],
     log_bytes: u64,
 ) -> Result<Scan, OpenFault>
-    requires { length window.old ≡ 1048576 }
+    requires { length window.old ≡ WINDOW }
     ensures value { D.honest
         → MatchResult result (λ s. (fault_of log_bytes (D.seen disk.old) ≡ None) × IsScan (D.seen disk.old) s)
         (λ e. Explains e (fault_of log_bytes (D.seen disk.old))) }
@@ -201,10 +206,10 @@ pub(crate) fn read_whole<D: Disk>(
     if len > log_bytes {
         return Err(OpenFault::TooLong);
     }
-    if len < 8 {
+    if len < FORMAT_BYTES as u64 {
         return Err(OpenFault::NotALog);
     }
     let span = read_front(disk, window, len)?;
-    let format = Format::of(&window[..8])?;
+    let format = Format::of(&window[..FORMAT_BYTES])?;
     read_records(alloc, disk, window, span, len, format)
 }

@@ -63,8 +63,8 @@ impl<D: Disk> Log<D> {
         ensures alive { OnOk result (self.new.lost ≡ false) }
         ensures as_before { OnErr result (Untouched self.old self.new) }
         ensures keeps { D.honest → OnErr result (KeepsAll D.Disk self.old self.new) }
-        // What was left to chance comes out well: then a rescan that succeeds finds what the log stood for, and the other
-        // file behind it.
+        // What was left to chance comes out well: then a rescan that succeeds finds what the log stood for, and the
+        // other file behind it.
         ensures anew { D.honest → (bodies stood : List (List ℕ)) → Pair D.Disk bodies stood self.old
             → CalmTears D.tears ⊎ IsQuiet D.Disk stood self.old.other
             → IfOk result (λ r. (bodies_of r.items ≡ bodies)

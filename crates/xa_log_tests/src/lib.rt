@@ -23,6 +23,8 @@ mod log_pairs;
 #[cfg(test)]
 mod logs;
 #[cfg(test)]
+mod made_ready;
+#[cfg(test)]
 mod recoveries;
 #[cfg(test)]
 mod rows;

@@ -3,7 +3,8 @@ use Rattle.std.specs.Prelude.{ℕ, ◌+◌, List, [], ◌∷◌, ◌++◌, lengt
 use Rattle.std.specs.Fmt.{decimal}
 use Rattle.xa_record.specs.declared.record.Record.{Record}
 use Rattle.xa_record.specs.Reading.{record_at}
-use Rattle.xa_scan.specs.declared.scan.TheConstants.{AROUND_BODY, FIRST_PLACE}
+use Rattle.xa_log.specs.declared.format.TheConstants.{FIRST_PLACE}
+use Rattle.xa_log.specs.declared.record.TheConstants.{AROUND_BODY}
 use Rattle.xa_scan.specs.Records.{record_text}
 
 -- the text of a record that was read, or that there is none
@@ -18,7 +19,7 @@ body_text body = read_text (record_at body)
 abbrev pub line_at : ℕ → List ℕ → List ℕ
 line_at place body = decimal place ++ 32 ∷ body_text body ++ 10 ∷ []
 
--- A record has its body, a length of four bytes and a digest of 32, and the next one stands behind it.
+-- A record has its body, a length and a digest, and the next one stands behind it.
 abbrev pub behind : ℕ → List (List ℕ) → ℕ
 behind place [] = place
 behind place (body ∷ bodies) = behind (place + (AROUND_BODY + length body)) bodies
@@ -32,7 +33,7 @@ lines_from place (body ∷ bodies) = line_at place body ++ lines_from (place + (
 abbrev pub end_line : ℕ → List ℕ
 end_line place = codes "end " ++ decimal place ++ 10 ∷ []
 
--- the place of the first record, behind the eight bytes that every log begins with
+-- the place of the first record, behind the format that every log begins with
 abbrev pub first_place : ℕ
 first_place = FIRST_PLACE
 

@@ -4,14 +4,14 @@ use Rattle.std.specs.Io.KnownBytes.{Appends}
 use Rattle.xa_output.specs.Output.{IsPart}
 use Rattle.xa_log.specs.Chain.{logged}
 use Rattle.xa_log.specs.Reading.{Explains, fault_of}
-use Rattle.xa_scan.specs.declared.scan.TheConstants.{MOST_BYTES}
+use Rattle.xa_log.specs.declared.log.TheConstants.{MOST_LOG}
 use Rattle.xa_scan.specs.declared.fault.ScanFault.{ScanFault}
 use Rattle.xa_scan.specs.declared.fault.ScanFault.TheVariants.{Memory, Write, Log}
 use Rattle.xa_scan.specs.Lines.{lines_from, scan_text, first_place}
 
 -- the most bytes that a log has
 abbrev pub most_bytes : ℕ
-most_bytes = MOST_BYTES
+most_bytes = MOST_LOG
 
 -- the first bytes of a text, perhaps all
 abbrev pub IsFront : List ℕ → List ℕ → Type 0
@@ -19,10 +19,12 @@ IsFront front text = (rest : List ℕ) × (text ≡ front ++ rest)
 
 -- the lines of some first records
 abbrev pub AreLines : List (List ℕ) → List ℕ → Type 0
-AreLines bodies text = (printed : List (List ℕ)) × (others : List (List ℕ)) × (bodies ≡ printed ++ others) × (text ≡ lines_from first_place printed)
+AreLines bodies text =
+    (printed : List (List ℕ)) × (others : List (List ℕ))
+    × (bodies ≡ printed ++ others) × (text ≡ lines_from first_place printed)
 
--- By the end, what was printed of a log that has these bodies: all; the lines of some records, where memory ran out; some first
--- bytes, where they couldn't be written.
+-- By the end, what was printed of a log that has these bodies: all; the lines of some records, where memory ran out;
+-- some first bytes, where they couldn't be written.
 abbrev pub PrintsLines : {X : Type 0} → Result X ScanFault → List (List ℕ) → List ℕ → Type 0
 PrintsLines (Ok x) bodies text = text ≡ scan_text bodies
 PrintsLines (Err Memory) bodies text = AreLines bodies text
@@ -41,7 +43,15 @@ PrintsLine (Err Memory) line text = text ≡ []
 PrintsLine (Err Write) line text = IsPart text line
 PrintsLine (Err (Log fault)) line text = ⊥
 
--- By the end, what the file is: a log, where its lines were printed or couldn't be written; none, for the reason that is told.
+-- what was added to an output is what was printed of the lines of a log, or of one line
+abbrev pub AddsLines : {X : Type 0} → Result X ScanFault → List (List ℕ) → Option (List ℕ) → Option (List ℕ) → Type 0
+AddsLines end bodies output output' = (text : List ℕ) × Appends output output' text × PrintsLines end bodies text
+
+abbrev pub AddsLine : {X : Type 0} → Result X ScanFault → List ℕ → Option (List ℕ) → Option (List ℕ) → Type 0
+AddsLine end line output output' = (text : List ℕ) × Appends output output' text × PrintsLine end line text
+
+-- By the end, what the file is: a log, where its lines were printed or couldn't be written; none, for the reason that
+-- is told.
 abbrev pub IsFound : {X : Type 0} → Result X ScanFault → List ℕ → List (List ℕ) → Type 0
 IsFound (Ok x) file bodies = (fault_of most_bytes file ≡ None) × (logged file ≡ bodies)
 IsFound (Err Memory) file bodies = (bodies ≡ []) ⊎ ((fault_of most_bytes file ≡ None) × (logged file ≡ bodies))
@@ -49,7 +59,8 @@ IsFound (Err Write) file bodies = (fault_of most_bytes file ≡ None) × (logged
 IsFound (Err (Log fault)) file bodies = Explains fault (fault_of most_bytes file)
 
 -- A printing: the bodies that were read, which are the file's where the disk is honest, and the text that was written.
-pub record Scans {X : Type 0} (honest : Type 0) (end : Result X ScanFault) (file : List ℕ) (output output' : Option (List ℕ)) : Type 0 where
+pub record Scans {X : Type 0} (honest : Type 0) (end : Result X ScanFault) (file : List ℕ)
+    (output output' : Option (List ℕ)) : Type 0 where
   pub bodies : List (List ℕ)
   pub text : List ℕ
   pub found : honest → IsFound end file bodies

@@ -25,25 +25,37 @@ abbrev pub known : List ℕ
 known = 9 ∷ name ++ 1 ∷ []
 
 abbrev pub Prepared : Type 0
-Prepared = scan_text (opened ∷ prepared ∷ []) ≡ ended (codes "8 opened 1") ++ ended (codes "49 prepared 1:aa:bb 4294967297 1") ++ ended (codes "end 110")
+Prepared =
+    scan_text (opened ∷ prepared ∷ [])
+    ≡ ended (codes "8 opened 1") ++ ended (codes "49 prepared 1:aa:bb 4294967297 1") ++ ended (codes "end 110")
 
 abbrev pub Held : Type 0
-Held = scan_text (again ∷ held ∷ []) ≡ ended (codes "8 opened 2") ++ ended (codes "49 held 1:aa:bb 4294967297 1") ++ ended (codes "end 110")
+Held =
+    scan_text (again ∷ held ∷ [])
+    ≡ ended (codes "8 opened 2") ++ ended (codes "49 held 1:aa:bb 4294967297 1") ++ ended (codes "end 110")
 
 abbrev pub Based : Type 0
-Based = scan_text (opened_third ∷ base ∷ []) ≡ ended (codes "8 opened 3") ++ ended (codes "49 base 4294967297 1") ++ ended (codes "end 102")
+Based =
+    scan_text (opened_third ∷ base ∷ [])
+    ≡ ended (codes "8 opened 3") ++ ended (codes "49 base 4294967297 1") ++ ended (codes "end 102")
 
 abbrev pub Known : Type 0
 Known =
     scan_text (again ∷ base ∷ known ∷ [])
-    ≡ ended (codes "8 opened 2") ++ ended (codes "49 base 4294967297 1") ++ ended (codes "102 known 1:aa:bb commit") ++ ended (codes "end 148")
+    ≡ ended (codes "8 opened 2") ++ ended (codes "49 base 4294967297 1")
+    ++ ended (codes "102 known 1:aa:bb commit") ++ ended (codes "end 148")
 
--- The other kinds: a branch that was committed in one phase; one that was rolled back; one that the operator rolled back, and
--- that is forgotten. A body that is no record's.
+-- 1:aa:bb was committed in one phase, at the second timestamp of boot 1, with a delete of the key 6b
+abbrev pub committed : List ℕ
+committed = 3 ∷ name ++ 0 ∷ 0 ∷ 0 ∷ 1 ∷ 0 ∷ 0 ∷ 0 ∷ 2 ∷ 0 ∷ 1 ∷ 1 ∷ 107 ∷ 0 ∷ []
+
+-- The other kinds: a branch that was committed in one phase; one that was rolled back; one that the operator rolled
+-- back, and that is forgotten. A body that is no record's.
 abbrev pub Others : Type 0
 Others =
-    scan_text ((3 ∷ 0 ∷ 0 ∷ 0 ∷ 1 ∷ 1 ∷ 1 ∷ 170 ∷ 187 ∷ 0 ∷ 0 ∷ 0 ∷ 1 ∷ 0 ∷ 0 ∷ 0 ∷ 2 ∷ 0 ∷ 1 ∷ 1 ∷ 107 ∷ 0 ∷ []) ∷ (4 ∷ name ++ 2 ∷ []) ∷ (5 ∷ name ++ 2 ∷ []) ∷ (6 ∷ name) ∷ (0 ∷ []) ∷ [])
-    ≡ ended (codes "8 committed 1:aa:bb 4294967298 1") ++ ended (codes "66 completed 1:aa:bb rollback") ++ ended (codes "112 decided 1:aa:bb rollback")
+    scan_text (committed ∷ (4 ∷ name ++ 2 ∷ []) ∷ (5 ∷ name ++ 2 ∷ []) ∷ (6 ∷ name) ∷ (0 ∷ []) ∷ [])
+    ≡ ended (codes "8 committed 1:aa:bb 4294967298 1") ++ ended (codes "66 completed 1:aa:bb rollback")
+    ++ ended (codes "112 decided 1:aa:bb rollback")
     ++ ended (codes "158 forgotten 1:aa:bb") ++ ended (codes "203 malformed") ++ ended (codes "end 240")
 
 -- a log without a record

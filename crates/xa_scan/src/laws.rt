@@ -1,8 +1,9 @@
 //! What can be said of the lines apart from the code.
 ghost use Rattle.xa_scan.specs.Worked.{Based, Empty, Held, Known, Others, PlacesInTheFile, Prepared};
 
-/// Worked rows, computed on the definitions alone: a first boot with a prepared branch; snapshots with a branch that is held, with
-/// what was committed, and with what the operator completed; the other kinds of records; a log without records.
+/// Worked rows, computed on the definitions alone: a first boot with a prepared branch; snapshots with a branch that is
+/// held, with what was committed, and with what the operator completed; the other kinds of records; a log without
+/// records.
 pub fn worked_scans()
     ensures prepared { Prepared }
     ensures held { Held }

@@ -1,33 +1,23 @@
 //! A log is read, and its lines are written.
-ghost use Rattle.std.specs.Io.KnownBytes.{Appends};
 ghost use Rattle.std.specs.Prelude.{◌≡◌, ◌≤◌, ◌<◌, ◌+◌, ◌^◌, IfErr, IfOk, IfSome, List, None, ℕ};
 ghost use Rattle.xa_log.specs.Reading.{bodies_of};
 ghost use Rattle.xa_scan.specs.Faults.{ended};
 ghost use Rattle.xa_scan.specs.Lines.{behind, end_line, first_place, line_at};
-ghost use Rattle.xa_scan.specs.declared.scan.TheConstants.{AROUND_BODY};
-ghost use Rattle.xa_scan.specs.Scans.{PrintsLine, PrintsLines, Scans, most_bytes};
+ghost use Rattle.xa_scan.specs.Scans.{AddsLine, AddsLines, Scans, most_bytes};
 
 use crate::fault::ScanFault;
 use crate::lines::{body_line, last_line};
 use std::alloc::Global;
 use std::io::{self, Write};
 use xa_disk::Disk;
-use xa_log::{OpenFault, read_log};
+use xa_log::{AROUND_BODY, FIRST_PLACE, MOST_LOG, OpenFault, read_log};
 use xa_output::write_text;
 
-/// The most bytes that a log has.
-const MOST_BYTES: u64 = 1_073_741_824;
-
-/// Where the first record of a log begins: behind the eight bytes of its format.
-const FIRST_PLACE: u64 = 8;
-
-/// How many bytes of a record aren't its body: a length of four, and a digest of 32.
-const AROUND_BODY: u64 = 36;
-
-/// Reads the log that a disk is, of 1,073,741,824 bytes at most, and writes a line for each of its records, in order: its place
-/// and its text. Behind them stands the line of the log's end.
+/// Reads the log that a disk is, of `MOST_LOG` bytes at most, and writes a line for each of its records, in order: its
+/// place and its text. Behind them stands the line of the log's end.
 ///
-/// The log is read before anything is written. What is read of the disk and which calls it is asked are those of `read_log`.
+/// The log is read before anything is written. What is read of the disk and which calls it is asked are those of
+/// `read_log`.
 pub fn scan_run<D: Disk, W: Write>(
     alloc: Global,
     disk: &mut D,
@@ -35,7 +25,7 @@ pub fn scan_run<D: Disk, W: Write>(
 ) -> Result<(), ScanFault>
     ensures { Scans D.honest result (D.seen disk.old) (W.contents writer.old) (W.contents writer.new) }
 {
-    let bodies = read_log(alloc, disk, MOST_BYTES)?;
+    let bodies = read_log(alloc, disk, MOST_LOG)?;
     let end = end_of(bodies.as_slice())?;
     let written = write_lines(alloc, writer, bodies.as_slice(), end);
     let flushed = writer.flush();
@@ -50,11 +40,12 @@ fn ended(written: Result<(), ScanFault>, flushed: io::Result<()>) -> Result<(), 
     flushed.map_err(|_| ScanFault::Write)
 }
 
-/// Where the next record of a log of these bodies would begin. No log of at most 1,073,741,824 bytes has bodies whose end isn't a
-/// number of 64 bits.
+/// Where the next record of a log of these bodies would begin. No log of at most `MOST_LOG` bytes has bodies whose end
+/// isn't a number of 64 bits.
 fn end_of(bodies: &[Vec<u8>]) -> Result<u64, OpenFault>
     ensures value { IfOk result (λ end. end ≡ behind first_place (bodies_of bodies.now)) }
-    ensures fault { IfErr result (λ fault. (fault ≡ OpenFault.TooLong) × (most_bytes < behind first_place (bodies_of bodies.now))) }
+    ensures fault { IfErr result
+        (λ fault. (fault ≡ OpenFault.TooLong) × (most_bytes < behind first_place (bodies_of bodies.now))) }
 {
     let mut place = FIRST_PLACE;
     let mut rest = bodies;
@@ -73,7 +64,9 @@ fn next_place(place: u64, length: usize) -> Option<u64>
     ensures value { IfSome result (λ next. next ≡ place + (AROUND_BODY + length)) }
     ensures none { result ≡ None → 2 ^ 64 ≤ place + (AROUND_BODY + length) }
 {
-    place.checked_add(AROUND_BODY)?.checked_add(length as u64)
+    place
+        .checked_add(AROUND_BODY as u64)?
+        .checked_add(length as u64)
 }
 
 /// Writes the lines of the bodies, and the line of the end.
@@ -84,14 +77,14 @@ fn write_lines<W: Write>(
     end: u64,
 ) -> Result<(), ScanFault>
     requires { end ≡ behind first_place (bodies_of bodies.now) }
-    ensures { (text : List ℕ) × Appends (W.contents writer.old) (W.contents writer.new) text × PrintsLines result (bodies_of bodies.now) text }
+    ensures { AddsLines result (bodies_of bodies.now) (W.contents writer.old) (W.contents writer.new) }
 {
     let mut place = FIRST_PLACE;
     let mut rest = bodies;
     while let Some((body, others)) = rest.split_first() {
         let body = body.as_slice();
         write_body(alloc, writer, place, body)?;
-        place += AROUND_BODY + body.len() as u64;
+        place += AROUND_BODY as u64 + body.len() as u64;
         rest = others;
     }
     write_end(alloc, writer, end)
@@ -104,7 +97,7 @@ fn write_body<W: Write>(
     place: u64,
     body: &[u8],
 ) -> Result<(), ScanFault>
-    ensures { (text : List ℕ) × Appends (W.contents writer.old) (W.contents writer.new) text × PrintsLine result (line_at place body.now) text }
+    ensures { AddsLine result (line_at place body.now) (W.contents writer.old) (W.contents writer.new) }
 {
     let line = body_line(alloc, place, body)?;
     write_line(writer, line.as_slice())
@@ -112,14 +105,14 @@ fn write_body<W: Write>(
 
 /// Writes the line of the end.
 fn write_end<W: Write>(alloc: Global, writer: &mut W, place: u64) -> Result<(), ScanFault>
-    ensures { (text : List ℕ) × Appends (W.contents writer.old) (W.contents writer.new) text × PrintsLine result (end_line place) text }
+    ensures { AddsLine result (end_line place) (W.contents writer.old) (W.contents writer.new) }
 {
     let line = last_line(alloc, place)?;
     write_line(writer, line.as_slice())
 }
 
 fn write_line<W: Write>(writer: &mut W, line: &[u8]) -> Result<(), ScanFault>
-    ensures { (text : List ℕ) × Appends (W.contents writer.old) (W.contents writer.new) text × PrintsLine result line.now text }
+    ensures { AddsLine result line.now (W.contents writer.old) (W.contents writer.new) }
 {
     if write_text(writer, line) {
         Ok(())

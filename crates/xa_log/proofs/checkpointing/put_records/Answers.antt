@@ -2,9 +2,10 @@ use Rattle.std.proofs.Common.{rules, ◌≡◌, ◌+◌, ◌-◌, ◌<◌, ◌^�
 use Rattle.std.proofs.lemmas.List.{append-nil, length-take}
 use Rattle.xa_disk.specs.Disk.{put, Torn}
 use Rattle.xa_log.specs.Chain.{start, last, records}
+use Rattle.xa_log.specs.Checkpoint.{records_bytes}
 use Rattle.xa_log.specs.Reading.{bodies_of}
 use Rattle.xa_log.proofs.Torn.{torn_same, torn_then, then, stays}
-use Rattle.xa_log.proofs.Steps.{Item, item_in, item_last, last_all, span, torn_step, time_step, seen_step, digest_step, end_step}
+use Rattle.xa_log.proofs.Steps.{Item, item_in, item_last, last_all, torn_step, time_step, seen_step, digest_step, end_step}
 use Rattle.xa_log.proofs.Counted.{one_more, failed_write, failed_sync, all_synced}
 use Rattle.xa_log.proofs.Parts.{during}
 use Rattle.xa_log.proofs.checkpointing.put_records.Goals as goal
@@ -185,7 +186,7 @@ returns-in_err-sync-clause-torn g c h =
     c.requires.some c.loop-body-test.false l.auto.body-index-end c.index-bodies-most.is c.deref-2.ensures.value c.requires.sizes l.invariant.end in
     let seen = g.D.Disk.seen in
     let old = seen c.args.disk.now in
-    subst (λ f. Torn 12 (span format bodies) old f) (sym (c.sync.ensures.same h))
+    subst (λ f. Torn 12 (records_bytes format bodies) old f) (sym (c.sync.ensures.same h))
     (torn_step format bodies l.body-index body l.end 4 (omega arith) it old (seen l.disk) (seen c.put_record-2.new.disk) (l.invariant.torn h) (c.put_record-2.ensures.torn h))
 
 pub returns-in_err-sync-clause-time : goal.returns-in_err-sync-clause-time
@@ -197,7 +198,7 @@ returns-in_err-sync-clause-time g c h =
     let it : Item c.args.format (bodies_of c.args.bodies.now) c.loop-body.body-index c.deref-2.result.now c.loop-body.end =
     item_last format c.args.bodies.now l.body-index c.index-bodies-most.result body l.end
     c.requires.some c.loop-body-test.false l.auto.body-index-end c.index-bodies-most.is c.deref-2.ensures.value c.requires.sizes l.invariant.end in
-    let n = span format bodies in
+    let n = records_bytes format bodies in
     then (Torn 12 n) (torn_then 12 n) _ _ _ _ _ _ _ _ _
     (time_step format bodies l.body-index body l.end 4 (omega arith) it _ _ _ _ _ _ _ _ _ (l.invariant.time h) (c.put_record-2.ensures.time h))
     (stays (Torn 12 n) (torn_same 12 n) _ _ _ _ _ _ (c.sync.ensures.time h))
@@ -213,7 +214,7 @@ returns-clause-torn g c h =
     c.requires.some c.loop-body-test.false l.auto.body-index-end c.index-bodies-most.is c.deref-2.ensures.value c.requires.sizes l.invariant.end in
     let seen = g.D.Disk.seen in
     let old = seen c.args.disk.now in
-    subst (λ f. Torn 12 (span format bodies) old f) (sym (c.sync.ensures.same h))
+    subst (λ f. Torn 12 (records_bytes format bodies) old f) (sym (c.sync.ensures.same h))
     (torn_step format bodies l.body-index body l.end 4 (omega arith) it old (seen l.disk) (seen c.put_record-2.new.disk) (l.invariant.torn h) (c.put_record-2.ensures.torn h))
 
 pub returns-clause-time : goal.returns-clause-time
@@ -225,7 +226,7 @@ returns-clause-time g c h =
     let it : Item c.args.format (bodies_of c.args.bodies.now) c.loop-body.body-index c.deref-2.result.now c.loop-body.end =
     item_last format c.args.bodies.now l.body-index c.index-bodies-most.result body l.end
     c.requires.some c.loop-body-test.false l.auto.body-index-end c.index-bodies-most.is c.deref-2.ensures.value c.requires.sizes l.invariant.end in
-    let n = span format bodies in
+    let n = records_bytes format bodies in
     then (Torn 12 n) (torn_then 12 n) _ _ _ _ _ _ _ _ _
     (time_step format bodies l.body-index body l.end 4 (omega arith) it _ _ _ _ _ _ _ _ _ (l.invariant.time h) (c.put_record-2.ensures.time h))
     (stays (Torn 12 n) (torn_same 12 n) _ _ _ _ _ _ (c.sync.ensures.time h))

@@ -6,10 +6,10 @@ use Rattle.xa_log.specs.Pair.{number_in}
 use Rattle.xa_log.proofs.Front.{none_short, none_empty, none_large, none_cut, size_front, found}
 use Rattle.xa_log.proofs.Cached.{cached_slice}
 use Rattle.xa_log.proofs.looking.first_number.Goals as goal
-use Rattle.xa_log.proofs.looking.first_number.Goals.{then-size-eq0-via-then-size-eq0, then-size-eq0-via-else-size-eq0+then-size-gt-MAX_BODY, then-size-eq0-via-else-size-eq0+else-size-gt-MAX_BODY+then-len-size}
+use Rattle.xa_log.proofs.looking.first_number.Goals.{then-size-eq0-via-then-size-eq0, then-size-eq0-via-else-size-eq0+then-size-gt-MOST_BODY, then-size-eq0-via-else-size-eq0+else-size-gt-MOST_BODY+then-len-around-2}
 
-pub returns-then-len-lt44 : goal.returns-then-len-lt44
-returns-then-len-lt44 c file whole caches = none_short c.args.prev.now (drop 8 file) (omega (arith, whole, length-drop 8 file))
+pub returns-then-len-around : goal.returns-then-len-around
+returns-then-len-around c file whole caches = none_short c.args.prev.now (drop 8 file) (omega (arith, whole, length-drop 8 file))
 
 pub returns-then-size-eq0 : goal.returns-then-size-eq0
 returns-then-size-eq0 c file whole caches =
@@ -18,8 +18,8 @@ returns-then-size-eq0 c file whole caches =
     c.size_of-size.ensures ∙ size_front _ x (cached_slice file c.args.window.now c.args.span 8 4 8 4 (omega arith) refl caches (record { begins = omega arith; reaches = omega arith })) in
     elim c.then-size-eq0.branch [
       | then-size-eq0-via-then-size-eq0 w ↦ none_empty c.args.prev.now x (sym size ∙ w.if-size-eq0.true)
-      | then-size-eq0-via-else-size-eq0+then-size-gt-MAX_BODY w ↦ none_large c.args.prev.now x (omega (arith, size))
-      | then-size-eq0-via-else-size-eq0+else-size-gt-MAX_BODY+then-len-size w ↦ none_cut c.args.prev.now x (omega (arith, size, whole, length-drop 8 file))
+      | then-size-eq0-via-else-size-eq0+then-size-gt-MOST_BODY w ↦ none_large c.args.prev.now x (omega (arith, size))
+      | then-size-eq0-via-else-size-eq0+else-size-gt-MOST_BODY+then-len-around-2 w ↦ none_cut c.args.prev.now x (omega (arith, size, whole, length-drop 8 file))
     ]
 
 pub returns-in-Some : goal.returns-in-Some

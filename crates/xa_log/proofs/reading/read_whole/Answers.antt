@@ -10,11 +10,11 @@ returns-in_err-len-clause-calls g c = looked c.from_residual.result _ _ _ c.from
 pub returns-in_err-len-clause-calls_once : goal.returns-in_err-len-clause-calls_once
 returns-in_err-len-clause-calls_once g c h = looked c.from_residual.result _ _ _ c.from_residual.ensures c.in_err-len.ensures.calls
 
-pub returns-then-len-lt8-clause-calls : goal.returns-then-len-lt8-clause-calls
-returns-then-len-lt8-clause-calls g c = reads_none _ _ _ c.in_ok-len.ensures.calls
+pub returns-then-len-clause-calls : goal.returns-then-len-clause-calls
+returns-then-len-clause-calls g c = reads_none _ _ _ c.in_ok-len.ensures.calls
 
-pub returns-then-len-lt8-clause-calls_once : goal.returns-then-len-lt8-clause-calls_once
-returns-then-len-lt8-clause-calls_once g c h = reads_none _ _ _ c.in_ok-len.ensures.calls
+pub returns-then-len-clause-calls_once : goal.returns-then-len-clause-calls_once
+returns-then-len-clause-calls_once g c h = reads_none _ _ _ c.in_ok-len.ensures.calls
 
 pub returns-in_err-span-clause-time : goal.returns-in_err-span-clause-time
 returns-in_err-span-clause-time g c h = then Same (λ a b d p q. q ∙ p) _ _ _ _ _ _ _ _ _ (c.in_ok-len.ensures.time h) (c.in_err-span.ensures.time h)

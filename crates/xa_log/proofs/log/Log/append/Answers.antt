@@ -1,5 +1,5 @@
 use Rattle.std.proofs.Common.{rules, refl, arith}
-use Rattle.xa_log.proofs.Append.{answers_kept, answers_refused, answers_lost, record_moments, length-closed_by, no_moments, kept_if}
+use Rattle.xa_log.proofs.Append.{answers_kept, answers_refused, answers_lost, record_moments, length-closed_by, no_moments, kept_if, writes_kept}
 use Rattle.xa_log.proofs.Two.{appends}
 use Rattle.xa_log.proofs.log.Log.append.Goals as goal
 
@@ -9,27 +9,27 @@ returns-then-self-len-clause-any_moment g c h bodies s =
 
 pub returns-in-Kept-clause-any_moment : goal.returns-in-Kept-clause-any_moment
 returns-in-Kept-clause-any_moment g c h bodies s =
-    record_moments _ bodies _ c.args.self.now s (g.met.D.Disk.only_now c.args.self.now.disk) c.append_at-outcome.new.disk _ (length-closed_by _ _) c.requires (omega arith) (c.append_at-outcome.ensures.time h)
+    record_moments _ bodies _ c.args.self.now s (g.met.D.Disk.only_now c.args.self.now.disk) c.append_at-outcome.new.disk _ _ (length-closed_by _ _ _) c.requires (omega (arith, c.ready_behind-ready.ensures.within)) (c.append_at-outcome.ensures.time h)
 
 pub returns-in-Refused-clause-any_moment : goal.returns-in-Refused-clause-any_moment
 returns-in-Refused-clause-any_moment g c h bodies s =
-    record_moments _ bodies _ c.args.self.now s (g.met.D.Disk.only_now c.args.self.now.disk) c.append_at-outcome.new.disk _ (length-closed_by _ _) c.requires (omega arith) (c.append_at-outcome.ensures.time h)
+    record_moments _ bodies _ c.args.self.now s (g.met.D.Disk.only_now c.args.self.now.disk) c.append_at-outcome.new.disk _ _ (length-closed_by _ _ _) c.requires (omega (arith, c.ready_behind-ready.ensures.within)) (c.append_at-outcome.ensures.time h)
 
 pub returns-in-Lost-clause-any_moment : goal.returns-in-Lost-clause-any_moment
 returns-in-Lost-clause-any_moment g c h bodies s =
-    record_moments _ bodies _ c.args.self.now s (g.met.D.Disk.only_now c.args.self.now.disk) c.append_at-outcome.new.disk _ (length-closed_by _ _) c.requires (omega arith) (c.append_at-outcome.ensures.time h)
+    record_moments _ bodies _ c.args.self.now s (g.met.D.Disk.only_now c.args.self.now.disk) c.append_at-outcome.new.disk _ _ (length-closed_by _ _ _) c.requires (omega (arith, c.ready_behind-ready.ensures.within)) (c.append_at-outcome.ensures.time h)
 
 pub returns-in-Kept-clause-answer : goal.returns-in-Kept-clause-answer
 returns-in-Kept-clause-answer g c h bodies s =
-    answers_kept _ bodies _ c.args.self.now _ s (omega arith, refl, refl) _ c.in-Kept.is c.requires (c.append_at-outcome.ensures.went h) refl c.append_at-outcome.ensures.digest refl
+    answers_kept _ bodies _ _ c.args.self.now _ s (omega (arith, c.ready_behind-ready.ensures.within), refl, refl) _ c.in-Kept.is c.requires (c.append_at-outcome.ensures.went h) refl c.append_at-outcome.ensures.digest refl
 
 pub returns-in-Refused-clause-answer : goal.returns-in-Refused-clause-answer
 returns-in-Refused-clause-answer g c h bodies s =
-    answers_refused _ bodies _ c.args.self.now _ s (omega arith, refl, refl) _ c.in-Refused.is c.append_at-outcome.ensures.not_full (c.append_at-outcome.ensures.went h) refl refl refl
+    answers_refused _ bodies _ _ c.args.self.now _ s (omega (arith, c.ready_behind-ready.ensures.within), refl, refl) _ c.in-Refused.is c.append_at-outcome.ensures.not_full (c.append_at-outcome.ensures.went h) refl refl refl
 
 pub returns-in-Lost-clause-answer : goal.returns-in-Lost-clause-answer
 returns-in-Lost-clause-answer g c h bodies s =
-    answers_lost _ bodies _ c.args.self.now _ s (omega arith, refl, refl) _ c.in-Lost.is c.requires (c.append_at-outcome.ensures.went h) refl (c.append_at-outcome.ensures.time h).follows
+    answers_lost _ bodies _ _ c.args.self.now _ s (omega (arith, c.ready_behind-ready.ensures.within), refl, refl) _ c.in-Lost.is c.requires (c.append_at-outcome.ensures.went h) refl (c.append_at-outcome.ensures.time h).follows
 
 pub returns-in-Kept-clause-kept : goal.returns-in-Kept-clause-kept
 returns-in-Kept-clause-kept g c alive fits low same = kept_if _ _ _ c.append_at-outcome.ensures.cause low same c.append_at-outcome.ensures.not_full
@@ -69,3 +69,7 @@ returns-in-Refused-clause-other g c = search rules
 
 pub returns-in-Lost-clause-other : goal.returns-in-Lost-clause-other
 returns-in-Lost-clause-other g c = search rules
+
+pub returns-in-Kept-clause-writes : goal.returns-in-Kept-clause-writes
+returns-in-Kept-clause-writes g c h is =
+    writes_kept g.D.Disk c.args.body.now c.args.self.now c.append_at-outcome.new.disk _ c.in-Kept.is _ (c.append_at-outcome.ensures.went h) c.ready_behind-ready.ensures.exact
