@@ -31,7 +31,8 @@ pub fn serve_manager<M: Manages + Send + Drop, R: AllocGlobal + Threads + Wait +
 ) -> Result<Audited, ServerFault>
     ensures served { IfOk result (λ told. Serves M.Manages (M.stands manager) (M.failures manager)
         told.calls told.is_whole) }
-    ensures workers { IsErrOf result ServerFault.Workers ↔ ((workers ≡ 0) ⊎ (MOST_WORKERS < workers)) }
+    ensures workers { IsErrOf result (ServerFault.Workers workers) ↔ ((workers ≡ 0) ⊎ (MOST_WORKERS < workers)) }
+    ensures fault { IfErr result (λ fault. (fault ≡ ServerFault.Memory) ⊎ (fault ≡ ServerFault.Workers workers)) }
 {
     let blank = Blank::new(MOST_WORKERS);
     serve_by::<M, Brand, Brand, R>(rt, listener, manager, blank, workers, connections)
@@ -56,10 +57,11 @@ fn serve_by<
     requires name { blank.name ≡ L.name }
     requires parts { (blank.parts ≡ L.parts) × (blank.parts ≡ MOST_WORKERS) }
     ensures served { IfOk result (λ told. Serves M.Manages S.start S.base told.calls told.is_whole) }
-    ensures workers { IsErrOf result ServerFault.Workers ↔ ((workers ≡ 0) ⊎ (MOST_WORKERS < workers)) }
+    ensures workers { IsErrOf result (ServerFault.Workers workers) ↔ ((workers ≡ 0) ⊎ (MOST_WORKERS < workers)) }
+    ensures fault { IfErr result (λ fault. (fault ≡ ServerFault.Memory) ⊎ (fault ≡ ServerFault.Workers workers)) }
 {
     if workers == 0 || workers > MOST_WORKERS {
-        return Err(ServerFault::Workers);
+        return Err(ServerFault::Workers(workers));
     }
     let room: Room<M, S> = Room::new(rt.alloc(), manager)?;
     let (desk, share) = Desk::<M, S, L>::new(room, blank);
