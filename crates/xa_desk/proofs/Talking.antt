@@ -1,5 +1,6 @@
 -- One turn, and a turn behind others.
-use Rattle.std.proofs.Common.{◌≡◌, ◌⊎◌, ℕ, ◌+◌, ◌<◌, ◌≤◌, ◌^◌, List, [], ◌∷◌, ◌++◌, length, Option, Some, None, refl, sym, ap, ◌∙◌, inl, inr, append_assoc, append-nil, arith, subst, unwrap_or}
+use Rattle.std.proofs.Common.{◌≡◌, ◌⊎◌, ℕ, ◌+◌, ◌<◌, ◌≤◌, ◌^◌, List, [], ◌∷◌, ◌++◌, length, Option, Some, None, refl, sym, ap, ◌∙◌, inl, inr, append_assoc, append-nil, arith, subst, unwrap_or, Result, Ok, Err}
+use Rattle.std.specs.Result.{result_err}
 use Rattle.std.specs.List.{flat_map}
 use Rattle.std.specs.Int.{to_be_bytes, w32}
 use Rattle.std.specs.Io.KnownBytes.{Consumes, Appends, IsAtEnd}
@@ -12,7 +13,7 @@ use Rattle.xa_desk.specs.declared.served.Served.{Served}
 use Rattle.xa_desk.specs.declared.served.Served.TheVariants.{Ended, ReadFault, WriteFault, TooLong, Memory}
 use Rattle.xa_desk.specs.Frames.{frame, reply_frame, refused}
 use Rattle.xa_desk.specs.Serving.{Answers, AnswersAll, IsShort, frames_of, Owes, Ends, Talks}
-use Rattle.xa_desk.specs.Steps.{Lacks, Sends}
+use Rattle.xa_desk.specs.Steps.{Lacks, ReadsLength, Sends, Writes, end_of}
 use Rattle.xa_desk.proofs.Known.{consumes-none, appends-none, consumes-twice, appends-twice}
 
 answers-append : {D : Type 0} (called : D → Request → Reply → D → Type 0) (d m e : D) (cs ds : List (List ℕ)) (rs qs : List Reply)
@@ -119,40 +120,58 @@ alone called most end i j o p d read written h k ends beyond at_end = record {
   at_end = at_end;
 }
 
--- the input ended
-pub talks-ended : {D : Type 0} (called : D → Request → Reply → D → Type 0) (i j o : Option (List ℕ)) (d : D) → Consumes i j [] → IsAtEnd j → Talks called 1 (Some Ended) i j o o d d
-talks-ended called i j o d h at = alone called 1 Ended i j o o d [] [] h (appends-none o) (refl, refl) (inl refl) (λ is. (at, omega arith))
-
 -- a length is cut
-pub talks-cut : {D : Type 0} (called : D → Request → Reply → D → Type 0) (most : ℕ) (i j o : Option (List ℕ)) (d : D) (part : List ℕ)
+talks-cut : {D : Type 0} (called : D → Request → Reply → D → Type 0) (most : ℕ) (i j o : Option (List ℕ)) (d : D) (part : List ℕ)
     → length part < 4 → (part ≡ []) ⊎ (0 < most) → Consumes i j part → Talks called most (Some ReadFault) i j o o d d
 talks-cut called most i j o d part less beyond h = alone called most ReadFault i j o o d part [] h (appends-none o) (inl less, refl) beyond (λ is. cc)
 
--- the bound of frames is met
-pub talks-bound : {D : Type 0} (called : D → Request → Reply → D → Type 0) (most all : ℕ) (i j o p : Option (List ℕ)) (d e : D)
-    → most ≤ all → Talks called most None i j o p d e → Talks called all (Some ReadFault) i j o p d e
-talks-bound called most all i j o p d e within s = talks-behind called most 0 all (Some ReadFault) i j j o p p d e e (omega arith) s (talks-cut called 0 j j p e [] (omega arith) (inl refl) (consumes-none j))
+-- by the end of a conversation: behind as many frames as it may have it ends too
+pub talks-bound : {D : Type 0} (called : D → Request → Reply → D → Type 0) (most : ℕ) (end : Result (Unit {0}) Served) (i j o p : Option (List ℕ)) (d e : D)
+    → Talks called most (end_of end) i j o p d e → Talks called most (Some (unwrap_or (result_err end) ReadFault)) i j o p d e
+talks-bound called most (Ok x) i j o p d e s =
+    talks-behind called most 0 most (Some ReadFault) i j j o p p d e e (omega arith) s (talks-cut called 0 j j p e [] (omega arith) (inl refl) (consumes-none j))
+talks-bound called most (Err end) i j o p d e s = s
 
--- a length is too great
-talks-long : {D : Type 0} (called : D → Request → Reply → D → Type 0) (sent : Option Served) (i j o p : Option (List ℕ)) (d : D) (n : ℕ)
-    → 65535 < n → n < 2 ^ 32 → Consumes i j (to_be_bytes w32 n) → Sends sent (reply_frame refused) o p → Talks called 1 (Some (unwrap_or sent TooLong)) i j o p d d
-talks-long called None i j o p d n more bound h k =
-    alone called 1 TooLong i j o p d (to_be_bytes w32 n) (reply_frame refused) h k ((n, more, bound, refl), sym (append-nil (reply_frame refused))) (inr (omega arith)) (λ is. cc)
-talks-long called (Some WriteFault) i j o p d n more bound h k =
+pub writes-sends : {X : Type 0} (sent : Result X Served) (bytes : List ℕ) (o p : Option (List ℕ)) → Writes sent bytes o p → Sends sent bytes o p
+writes-sends (Ok x) bytes o p h = h
+writes-sends (Err WriteFault) bytes o p h = h
+writes-sends (Err Memory) bytes o p h = absurd h
+writes-sends (Err Ended) bytes o p h = absurd h
+writes-sends (Err ReadFault) bytes o p h = absurd h
+writes-sends (Err TooLong) bytes o p h = absurd h
+
+-- a length is too great, and the refusal was written
+pub talks-refused : {D : Type 0} (called : D → Request → Reply → D → Type 0) (reply : Reply) (i j o p : Option (List ℕ)) (d : D) (n : ℕ)
+    → reply ≡ refused → 65535 < n → n < 2 ^ 32 → Consumes i j (to_be_bytes w32 n) → Appends o p (reply_frame reply) → Talks called 1 (Some TooLong) i j o p d d
+talks-refused called reply i j o p d n is more bound h k =
+    let P : Reply → Type 0 = λ x. Appends o p (reply_frame x) in
+    alone called 1 TooLong i j o p d (to_be_bytes w32 n) (reply_frame refused) h (subst P is k) ((n, more, bound, refl), sym (append-nil (reply_frame refused))) (inr (omega arith)) (λ is. cc)
+
+-- the same, and it was not, or not all of it
+unsent : {D : Type 0} (called : D → Request → Reply → D → Type 0) (end : Served) (i j o p : Option (List ℕ)) (d : D) (n : ℕ)
+    → 65535 < n → n < 2 ^ 32 → Consumes i j (to_be_bytes w32 n) → Sends {X = Unit {0}} (Err end) (reply_frame refused) o p → Talks called 1 (Some end) i j o p d d
+unsent called WriteFault i j o p d n more bound h k =
     alone called 1 WriteFault i j o p d (to_be_bytes w32 n) k.0 h k.2 ([], refused, k.0, inr ((n, more, bound, refl), refl), k.1, refl) (inr (omega arith)) (λ is. cc)
-talks-long called (Some Memory) i j o p d n more bound h k =
+unsent called Memory i j o p d n more bound h k =
     alone called 1 Memory i j o p d (to_be_bytes w32 n) [] h k ([], refl, inr (refused, inr ((n, more, bound, refl), refl))) (inr (omega arith)) (λ is. cc)
-talks-long called (Some Ended) i j o p d n more bound h k = absurd k
-talks-long called (Some ReadFault) i j o p d n more bound h k = absurd k
-talks-long called (Some TooLong) i j o p d n more bound h k = absurd k
+unsent called Ended i j o p d n more bound h k = absurd k
+unsent called ReadFault i j o p d n more bound h k = absurd k
+unsent called TooLong i j o p d n more bound h k = absurd k
 
--- the same, where the reply and the end are known by equations
-pub talks-refused : {D : Type 0} (called : D → Request → Reply → D → Type 0) (sent : Option Served) (end : Served) (reply : Reply) (i j o p : Option (List ℕ)) (d : D) (n : ℕ)
-    → end ≡ unwrap_or sent TooLong → reply ≡ refused → 65535 < n → n < 2 ^ 32 → Consumes i j (to_be_bytes w32 n) → Sends sent (reply_frame reply) o p → Talks called 1 (Some end) i j o p d d
-talks-refused called sent end reply i j o p d n end_is reply_is more bound h k =
-    let P : Served → Type 0 = λ x. Talks called 1 (Some x) i j o p d d in
-    let Q : Reply → Type 0 = λ x. Sends sent (reply_frame x) o p in
-    subst P (sym end_is) (talks-long called sent i j o p d n more bound h (subst Q reply_is k))
+pub talks-unsent : {D : Type 0} (called : D → Request → Reply → D → Type 0) (end : Served) (reply : Reply) (i j o p : Option (List ℕ)) (d : D) (n : ℕ)
+    → reply ≡ refused → 65535 < n → n < 2 ^ 32 → Consumes i j (to_be_bytes w32 n) → Sends {X = Unit {0}} (Err end) (reply_frame reply) o p → Talks called 1 (Some end) i j o p d d
+talks-unsent called end reply i j o p d n is more bound h k =
+    let Q : Reply → Type 0 = λ x. Sends {X = Unit {0}} (Err end) (reply_frame x) o p in
+    unsent called end i j o p d n more bound h (subst Q is k)
+
+-- no length was read
+pub talks-unread : {D : Type 0} (called : D → Request → Reply → D → Type 0) (end : Served) (i j o : Option (List ℕ)) (d : D)
+    → ReadsLength (Err end) i j → Talks called 1 (Some end) i j o o d d
+talks-unread called Ended i j o d h = alone called 1 Ended i j o o d [] [] h.0 (appends-none o) (refl, refl) (inl refl) (λ is. (h.1, omega arith))
+talks-unread called ReadFault i j o d h = talks-cut called 1 i j o d h.0 h.1 (inr (omega arith)) h.2
+talks-unread called WriteFault i j o d h = absurd h
+talks-unread called TooLong i j o d h = absurd h
+talks-unread called Memory i j o d h = absurd h
 
 -- a content was not read
 pub talks-lacking : {D : Type 0} (called : D → Request → Reply → D → Type 0) (end : Served) (i j k o : Option (List ℕ)) (d : D) (n : ℕ)
@@ -187,18 +206,18 @@ answered-so called end i j o p d e c r written few h said k ends at_end =
       at_end = at_end;
     }
 
-sent-so : {D : Type 0} (called : D → Request → Reply → D → Type 0) (sent : Option Served) (i j o p : Option (List ℕ)) (d e : D) (c : List ℕ) (r : Reply)
-    → length c ≤ 65535 → Consumes i j (frame c) → Answers called d c r e → Sends sent (reply_frame r) o p → Talks called 1 sent i j o p d e
-sent-so called None i j o p d e c r few h said k = answered-so called None i j o p d e c r (reply_frame r) few h said k (refl, sym (append-nil (reply_frame r))) (λ is. cc)
-sent-so called (Some WriteFault) i j o p d e c r few h said k =
+sent-so : {D : Type 0} (called : D → Request → Reply → D → Type 0) (sent : Result (Unit {0}) Served) (i j o p : Option (List ℕ)) (d e : D) (c : List ℕ) (r : Reply)
+    → length c ≤ 65535 → Consumes i j (frame c) → Answers called d c r e → Sends sent (reply_frame r) o p → Talks called 1 (end_of sent) i j o p d e
+sent-so called (Ok x) i j o p d e c r few h said k = answered-so called None i j o p d e c r (reply_frame r) few h said k (refl, sym (append-nil (reply_frame r))) (λ is. cc)
+sent-so called (Err WriteFault) i j o p d e c r few h said k =
     answered-so called (Some WriteFault) i j o p d e c r k.0 few h said k.2 ([], r, k.0, inl (refl, refl), k.1, refl) (λ is. cc)
-sent-so called (Some Memory) i j o p d e c r few h said k = answered-so called (Some Memory) i j o p d e c r [] few h said k ([], refl, inr (r, inl (refl, refl))) (λ is. cc)
-sent-so called (Some Ended) i j o p d e c r few h said k = absurd k
-sent-so called (Some ReadFault) i j o p d e c r few h said k = absurd k
-sent-so called (Some TooLong) i j o p d e c r few h said k = absurd k
+sent-so called (Err Memory) i j o p d e c r few h said k = answered-so called (Some Memory) i j o p d e c r [] few h said k ([], refl, inr (r, inl (refl, refl))) (λ is. cc)
+sent-so called (Err Ended) i j o p d e c r few h said k = absurd k
+sent-so called (Err ReadFault) i j o p d e c r few h said k = absurd k
+sent-so called (Err TooLong) i j o p d e c r few h said k = absurd k
 
-pub talks-answered : {D : Type 0} (called : D → Request → Reply → D → Type 0) (sent : Option Served) (i j k o p : Option (List ℕ)) (d e : D) (n : ℕ) (c content : List ℕ) (r : Reply)
-    → n ≤ 65535 → Consumes i j (to_be_bytes w32 n) → length c ≡ n → Consumes j k c → content ≡ c → Answers called d content r e → Sends sent (reply_frame r) o p → Talks called 1 sent i k o p d e
+pub talks-answered : {D : Type 0} (called : D → Request → Reply → D → Type 0) (sent : Result (Unit {0}) Served) (i j k o p : Option (List ℕ)) (d e : D) (n : ℕ) (c content : List ℕ) (r : Reply)
+    → n ≤ 65535 → Consumes i j (to_be_bytes w32 n) → length c ≡ n → Consumes j k c → content ≡ c → Answers called d content r e → Sends sent (reply_frame r) o p → Talks called 1 (end_of sent) i k o p d e
 talks-answered called sent i j k o p d e n c content r few front len body same said s =
     let Q : List ℕ → Type 0 = λ xs. Answers called d xs r e in
     let P : ℕ → Type 0 = λ m. Consumes i k (to_be_bytes w32 m ++ c) in

@@ -20,7 +20,8 @@ Called called d content reply e = (q : Request) × SpellsRequest content q × ca
 
 -- the content has a fault, and reached no door
 abbrev pub Refused : {D : Type 0} → D → List ℕ → Reply → D → Type 0
-Refused d content reply e = (f : FrameFault) × (f ≢ faults.Memory) × (fault_of_request content ≡ Some f) × (e ≡ d) × (reply ≡ refused)
+Refused d content reply e =
+    (f : FrameFault) × (f ≢ faults.Memory) × (fault_of_request content ≡ Some f) × (e ≡ d) × (reply ≡ refused)
 
 -- the content has no fault, but decoding found no memory, and no door was reached
 abbrev pub Wanted : {D : Type 0} → D → List ℕ → Reply → D → Type 0
@@ -28,7 +29,8 @@ Wanted d content reply e = (fault_of_request content ≡ None) × (e ≡ d) × (
 
 -- one content and its reply
 abbrev pub Answers : {D : Type 0} → (D → Request → Reply → D → Type 0) → D → List ℕ → Reply → D → Type 0
-Answers called d content reply e = Called called d content reply e ⊎ (Refused d content reply e ⊎ Wanted d content reply e)
+Answers called d content reply e =
+    Called called d content reply e ⊎ (Refused d content reply e ⊎ Wanted d content reply e)
 
 -- contents and their replies, in order
 abbrev pub AnswersAll : {D : Type 0} → (D → Request → Reply → D → Type 0) → D → List (List ℕ) → List Reply → D → Type 0
@@ -48,7 +50,9 @@ abbrev pub IsTooLong : List ℕ → Type 0
 IsTooLong bytes = (n : ℕ) × (MOST_CONTENT < n) × (n < 2 ^ 32) × (bytes ≡ to_be_bytes w32 n)
 
 abbrev pub IsCut : List ℕ → Type 0
-IsCut bytes = (length bytes < 4) ⊎ ((n : ℕ) × (part : List ℕ) × (n ≤ MOST_CONTENT) × (length part < n) × (bytes ≡ to_be_bytes w32 n ++ part))
+IsCut bytes =
+    (length bytes < 4)
+    ⊎ ((n : ℕ) × (part : List ℕ) × (n ≤ MOST_CONTENT) × (length part < n) × (bytes ≡ to_be_bytes w32 n ++ part))
 
 -- these bytes begin with the part, and go on
 abbrev pub IsPart : List ℕ → List ℕ → Type 0
@@ -73,10 +77,13 @@ Ends (Some WriteFault) replies read written =
     × Owes replies read (sent ++ reply ∷ []) × IsPart part (reply_frame reply) × (written ≡ frames_of sent ++ part)
 -- a content is not read, or one reply is not written
 Ends (Some Memory) replies read written =
-    (sent : List Reply) × (written ≡ frames_of sent) × ((IsLength read × (sent ≡ replies)) ⊎ ((reply : Reply) × Owes replies read (sent ++ reply ∷ [])))
+    (sent : List Reply) × (written ≡ frames_of sent)
+    × ((IsLength read × (sent ≡ replies)) ⊎ ((reply : Reply) × Owes replies read (sent ++ reply ∷ [])))
 
--- a conversation so far: its whole frames, no more than so many, with their replies, what was read behind them, and all that was written
-pub record Talks {D : Type 0} (called : D → Request → Reply → D → Type 0) (most : ℕ) (end : Option Served) (input input' output output' : Option (List ℕ)) (d e : D) : Type 0 where
+-- a conversation so far: its whole frames, no more than so many, with their replies, what was read behind them, and all
+-- that was written
+pub record Talks {D : Type 0} (called : D → Request → Reply → D → Type 0) (most : ℕ) (end : Option Served)
+    (input input' output output' : Option (List ℕ)) (d e : D) : Type 0 where
   pub contents : List (List ℕ)
   pub replies : List Reply
   pub read : List ℕ

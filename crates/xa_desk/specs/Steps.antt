@@ -1,11 +1,17 @@
 -- The steps of a turn: a buffer is filled, the bytes of a reply are written.
-use Rattle.std.specs.Prelude.{ℕ, ◌<◌, List, [], length, take, Option, Some, None}
+use Rattle.std.specs.Prelude.{ℕ, ◌<◌, List, [], length, take, Option, Some, None, Result, Ok, Err}
+use Rattle.std.specs.Int.{to_be_bytes, w32}
 use Rattle.std.specs.Io.KnownBytes.{Consumes, Appends, IsAtEnd}
 use Rattle.xa_desk.specs.declared.connection.Filled.{Filled}
 use Rattle.xa_desk.specs.declared.connection.Filled.TheVariants as filled
 use Rattle.xa_desk.specs.declared.served.Served.{Served}
-use Rattle.xa_desk.specs.declared.served.Served.TheVariants.{ReadFault, WriteFault, Memory}
+use Rattle.xa_desk.specs.declared.served.Served.TheVariants.{Ended, ReadFault, WriteFault, Memory}
 use Rattle.xa_desk.specs.Serving.{IsPart}
+
+-- the end that a step came to, or None where it goes on
+abbrev pub end_of : {X : Type 0} → Result X Served → Option Served
+end_of (Ok x) = None
+end_of (Err end) = Some end
 
 -- a buffer is full, or has so many bytes where the input ended or a read failed
 abbrev pub Fills : Filled → Option (List ℕ) → Option (List ℕ) → List ℕ → Type 0
@@ -13,15 +19,28 @@ Fills filled.Whole input input' buffer = Consumes input input' buffer
 Fills (filled.Ended n) input input' buffer = (n < length buffer) × Consumes input input' (take n buffer) × IsAtEnd input'
 Fills (filled.Fault n) input input' buffer = (n < length buffer) × Consumes input input' (take n buffer)
 
+-- the length of a frame was read; or the input ended before it, or it is cut
+abbrev pub ReadsLength : Result ℕ Served → Option (List ℕ) → Option (List ℕ) → Type 0
+ReadsLength (Ok n) input input' = Consumes input input' (to_be_bytes w32 n)
+ReadsLength (Err Ended) input input' = Consumes input input' [] × IsAtEnd input'
+ReadsLength (Err ReadFault) input input' = (part : List ℕ) × (length part < 4) × Consumes input input' part
+ReadsLength (Err end) input input' = ⊥
+
 -- a content of so many bytes was not read: there was no memory, or it is cut
 abbrev pub Lacks : Served → ℕ → Option (List ℕ) → Option (List ℕ) → Type 0
 Lacks Memory count input input' = Consumes input input' []
 Lacks ReadFault count input input' = (part : List ℕ) × (length part < count) × Consumes input input' part
 Lacks _ count input input' = ⊥
 
--- all of a reply's bytes were written, or a part, or none
-abbrev pub Sends : Option Served → List ℕ → Option (List ℕ) → Option (List ℕ) → Type 0
-Sends None bytes output output' = Appends output output' bytes
-Sends (Some WriteFault) bytes output output' = (part : List ℕ) × IsPart part bytes × Appends output output' part
-Sends (Some Memory) bytes output output' = Appends output output' []
-Sends _ bytes output output' = ⊥
+-- all of the bytes were written, or a part
+abbrev pub Writes : {X : Type 0} → Result X Served → List ℕ → Option (List ℕ) → Option (List ℕ) → Type 0
+Writes (Ok x) bytes output output' = Appends output output' bytes
+Writes (Err WriteFault) bytes output output' = (part : List ℕ) × IsPart part bytes × Appends output output' part
+Writes (Err end) bytes output output' = ⊥
+
+-- all of a reply's bytes were written, or a part, or there was no memory for them
+abbrev pub Sends : {X : Type 0} → Result X Served → List ℕ → Option (List ℕ) → Option (List ℕ) → Type 0
+Sends (Ok x) bytes output output' = Appends output output' bytes
+Sends (Err WriteFault) bytes output output' = (part : List ℕ) × IsPart part bytes × Appends output output' part
+Sends (Err Memory) bytes output output' = Appends output output' []
+Sends (Err end) bytes output output' = ⊥

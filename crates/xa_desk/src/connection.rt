@@ -1,12 +1,11 @@
-ghost use Rattle.std.specs.Prelude.{◌≡◌, ℕ, ◌<◌, ◌≤◌, [], length, IfOk, IfErr, true, false, Some, List};
-ghost use Rattle.std.specs.Int.{to_be_bytes, w32};
-ghost use Rattle.std.specs.Io.KnownBytes.{Consumes, Appends, IsAtEnd};
+ghost use Rattle.std.specs.Prelude.{◌≡◌, ◌<◌, ◌≤◌, length, IfOk, IfErr, true, false, Some};
+ghost use Rattle.std.specs.Io.KnownBytes.{Consumes};
 ghost use Rattle.xa_frame.specs.declared.request_decoder.TheConstants.{MOST_CONTENT};
 ghost use Rattle.xa_frame.specs.Limits.{IsReply};
 ghost use Rattle.xa_desk.specs.declared.connection.TheConstants.{MOST_FRAMES};
 ghost use Rattle.xa_desk.specs.Frames.{reply_frame, refused, without_memory};
-ghost use Rattle.xa_desk.specs.Serving.{Answers, IsPart, Talks};
-ghost use Rattle.xa_desk.specs.Steps.{Fills, Lacks, Sends};
+ghost use Rattle.xa_desk.specs.Serving.{Answers, Talks};
+ghost use Rattle.xa_desk.specs.Steps.{Fills, Lacks, ReadsLength, Sends, Writes, end_of};
 
 use crate::door::Door;
 use crate::served::Served;
@@ -18,14 +17,6 @@ use xa_frame::{FrameFault, MOST_CONTENT, Reply, decode_request, encode_reply, on
 
 /// The most frames of a connection.
 pub const MOST_FRAMES: u32 = 4_294_967_295;
-
-/// What begins a frame.
-#[derive(Drop)]
-enum Front {
-    Length(u32),
-    End,
-    Fault,
-}
 
 /// How far a buffer was filled.
 #[derive(Drop)]
@@ -52,17 +43,15 @@ fn fill<R: Read>(reader: &mut R, buffer: &mut [u8]) -> Filled
     Filled::Whole
 }
 
-// The length of the next frame.
-fn read_front<R: Read>(reader: &mut R) -> Front
-    ensures length { (n : ℕ) → result ≡ Front.Length n → Consumes (R.remaining reader.old) (R.remaining reader.new) (to_be_bytes w32 n) }
-    ensures end { result ≡ Front.End → Consumes (R.remaining reader.old) (R.remaining reader.new) [] × IsAtEnd (R.remaining reader.new) }
-    ensures fault { result ≡ Front.Fault → (part : List ℕ) × (length part < 4) × Consumes (R.remaining reader.old) (R.remaining reader.new) part }
+// The length of the next frame. An end is the input's, or a length that is cut.
+fn read_length<R: Read>(reader: &mut R) -> Result<u32, Served>
+    ensures { ReadsLength result (R.remaining reader.old) (R.remaining reader.new) }
 {
     let mut front = [0u8; 4];
     match fill(reader, &mut front) {
-        Filled::Whole => Front::Length(number_of(front[0], front[1], front[2], front[3])),
-        Filled::Ended(0) => Front::End,
-        Filled::Ended(_) | Filled::Fault(_) => Front::Fault,
+        Filled::Whole => Ok(number_of(front[0], front[1], front[2], front[3])),
+        Filled::Ended(0) => Err(Served::Ended),
+        Filled::Ended(_) | Filled::Fault(_) => Err(Served::ReadFault),
     }
 }
 
@@ -73,19 +62,18 @@ fn is_too_long(length: u32) -> bool
     length as usize > MOST_CONTENT
 }
 
-// Writes all the bytes, in whatever pieces the writer takes.
-fn write_bytes<W: Write>(writer: &mut W, bytes: &[u8]) -> bool
-    ensures whole { result ≡ true → Appends (W.contents writer.old) (W.contents writer.new) bytes.now }
-    ensures part { result ≡ false → (part : List ℕ) × IsPart part bytes.now × Appends (W.contents writer.old) (W.contents writer.new) part }
+// Writes all the bytes, in whatever pieces the writer takes. An end is a write that failed.
+fn write_bytes<W: Write>(writer: &mut W, bytes: &[u8]) -> Result<(), Served>
+    ensures { Writes result bytes.now (W.contents writer.old) (W.contents writer.new) }
 {
     let mut rest = bytes;
     while !rest.is_empty() {
         match writer.write(rest) {
-            Ok(0) | Err(_) => return false,
+            Ok(0) | Err(_) => return Err(Served::WriteFault),
             Ok(n) => rest = rest.split_at(n).1,
         }
     }
-    true
+    Ok(())
 }
 
 /// The reply to a length that is too great, and to a content that doesn't decode.
@@ -117,57 +105,45 @@ fn frame_of(alloc: Global, reply: &Reply) -> Result<Vec<u8>, AllocError>
 }
 
 // Writes the frame of a reply. An end is want of memory or a write that failed.
-fn send<W: Write>(alloc: Global, writer: &mut W, reply: &Reply) -> Option<Served>
+fn send<W: Write>(alloc: Global, writer: &mut W, reply: &Reply) -> Result<(), Served>
     requires { IsReply reply.now }
     ensures { Sends result (reply_frame reply.now) (W.contents writer.old) (W.contents writer.new) }
 {
-    let Ok(bytes) = frame_of(alloc, reply) else {
-        return Some(Served::Memory);
-    };
-    if write_bytes(writer, &bytes) {
-        None
-    } else {
-        Some(Served::WriteFault)
-    }
+    let bytes = frame_of(alloc, reply)?;
+    write_bytes(writer, &bytes)
 }
 
 // The content of a frame. An end is want of memory or a content that is cut.
 fn read_content<R: Read>(alloc: Global, reader: &mut R, count: usize) -> Result<Vec<u8>, Served>
-    ensures read { IfOk result (λ v. (length v.items ≡ count) × Consumes (R.remaining reader.old) (R.remaining reader.new) v.items) }
+    ensures read { IfOk result (λ v. (length v.items ≡ count)
+        × Consumes (R.remaining reader.old) (R.remaining reader.new) v.items) }
     ensures ends { IfErr result (λ end. Lacks end count (R.remaining reader.old) (R.remaining reader.new)) }
 {
-    let Ok(mut content) = vec![in alloc; 0u8; count] else {
-        return Err(Served::Memory);
-    };
+    let mut content = vec![in alloc; 0u8; count]?;
     match fill(reader, content.as_mut_slice()) {
         Filled::Whole => Ok(content),
         Filled::Ended(_) | Filled::Fault(_) => Err(Served::ReadFault),
     }
 }
 
-// Reads a frame and answers it. An end, or nothing where it goes on.
+// Reads a frame and answers it. An end, or Ok where it goes on.
 fn turn<D: Door, R: Read, W: Write>(
     alloc: Global,
     door: &mut D,
     reader: &mut R,
     writer: &mut W,
     session: u64,
-) -> Option<Served>
-    ensures { Talks (D.called session) 1 result (R.remaining reader.old) (R.remaining reader.new) (W.contents writer.old) (W.contents writer.new) door.old door.new }
+) -> Result<(), Served>
+    ensures { Talks (D.called session) 1 (end_of result)
+        (R.remaining reader.old) (R.remaining reader.new) (W.contents writer.old) (W.contents writer.new)
+        door.old door.new }
 {
-    let length = match read_front(reader) {
-        Front::Length(length) => length,
-        Front::End => return Some(Served::Ended),
-        Front::Fault => return Some(Served::ReadFault),
-    };
+    let length = read_length(reader)?;
     if is_too_long(length) {
-        let reply = refusal();
-        return Some(send(alloc, writer, &reply).unwrap_or(Served::TooLong));
+        send(alloc, writer, &refusal())?;
+        return Err(Served::TooLong);
     }
-    let content = match read_content(alloc, reader, length as usize) {
-        Ok(content) => content,
-        Err(end) => return Some(end),
-    };
+    let content = read_content(alloc, reader, length as usize)?;
     let reply = answer(alloc, door, session, content.as_slice());
     send(alloc, writer, &reply)
 }
@@ -184,7 +160,7 @@ fn answer<D: Door>(alloc: Global, door: &mut D, session: u64, content: &[u8]) ->
     }
 }
 
-// Answers frames until it ends, so many at most.
+// Answers frames, so many at most. An end, or Ok behind the last of them.
 fn converse<D: Door, R: Read, W: Write>(
     alloc: Global,
     door: &mut D,
@@ -192,25 +168,24 @@ fn converse<D: Door, R: Read, W: Write>(
     writer: &mut W,
     session: u64,
     most: u32,
-) -> Served
-    ensures { Talks (D.called session) most (Some result) (R.remaining reader.old) (R.remaining reader.new) (W.contents writer.old) (W.contents writer.new) door.old door.new }
+) -> Result<(), Served>
+    ensures { Talks (D.called session) most (end_of result)
+        (R.remaining reader.old) (R.remaining reader.new) (W.contents writer.old) (W.contents writer.new)
+        door.old door.new }
 {
     for _ in 0..most {
-        match turn(alloc, door, reader, writer, session) {
-            Some(end) => return end,
-            None => {}
-        }
+        turn(alloc, door, reader, writer, session)?;
     }
-    Served::ReadFault
+    Ok(())
 }
 
-/// Serves a session on a connection until it ends, and hangs the session up, always and once. Behind so many frames it ends
-/// with `ReadFault`, and reads no further.
+/// Serves a session on a connection until it ends, and hangs the session up, always and once. Behind so many frames it
+/// ends with `ReadFault`, and reads no further.
 ///
 /// Of each frame it reads the length and then the content, each by one read where the reader gives all that is asked,
-/// and nothing beyond: what stands behind the last frame or behind a length above `MOST_CONTENT` is left in the reader. So the
-/// caller may hand in a reader with a buffer. The frame of each reply is handed to the writer whole, and again only
-/// where the writer took a part. A read or a write that fails ends the connection, whatever its error.
+/// and nothing beyond: what stands behind the last frame or behind a length above `MOST_CONTENT` is left in the reader.
+/// So the caller may hand in a reader with a buffer. The frame of each reply is handed to the writer whole, and again
+/// only where the writer took a part. A read or a write that fails ends the connection, whatever its error.
 pub fn serve_upto<D: Door, R: Read, W: Write>(
     alloc: Global,
     door: &mut D,
@@ -219,11 +194,13 @@ pub fn serve_upto<D: Door, R: Read, W: Write>(
     session: u64,
     most: u32,
 ) -> Served
-    ensures { (d : D) × Talks (D.called session) most (Some result) (R.remaining reader.old) (R.remaining reader.new) (W.contents writer.old) (W.contents writer.new) door.old d × D.left session d door.new }
+    ensures { (d : D) × Talks (D.called session) most (Some result)
+        (R.remaining reader.old) (R.remaining reader.new) (W.contents writer.old) (W.contents writer.new)
+        door.old d × D.left session d door.new }
 {
-    let end = converse(alloc, door, reader, writer, session, most);
+    let ended = converse(alloc, door, reader, writer, session, most);
     door.hangup(session);
-    end
+    ended.err().unwrap_or(Served::ReadFault)
 }
 
 /// Serves a session on a connection as [`serve_upto`] does, for `MOST_FRAMES` frames at most.
@@ -234,7 +211,9 @@ pub fn serve<D: Door, R: Read, W: Write>(
     writer: &mut W,
     session: u64,
 ) -> Served
-    ensures { (d : D) × Talks (D.called session) MOST_FRAMES (Some result) (R.remaining reader.old) (R.remaining reader.new) (W.contents writer.old) (W.contents writer.new) door.old d × D.left session d door.new }
+    ensures { (d : D) × Talks (D.called session) MOST_FRAMES (Some result)
+        (R.remaining reader.old) (R.remaining reader.new) (W.contents writer.old) (W.contents writer.new)
+        door.old d × D.left session d door.new }
 {
     serve_upto(alloc, door, reader, writer, session, MOST_FRAMES)
 }

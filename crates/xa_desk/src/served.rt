@@ -1,3 +1,5 @@
+use std::alloc::AllocError;
+
 /// How a connection ended.
 #[derive(Clone, Copy, Debug, PartialEq, Eq)]
 pub enum Served {
@@ -11,4 +13,15 @@ pub enum Served {
     TooLong,
     /// A buffer or a reply's bytes found no memory.
     Memory,
+}
+
+impl From<AllocError> for Served {
+    ghost use Rattle.std.specs.Prelude.{◌≡◌};
+    ghost use Rattle.xa_desk.specs.declared.served.Served.TheVariants.{Memory};
+
+    ghost from_gives = { λ _ end. end ≡ Memory };
+
+    fn from(_: AllocError) -> Served {
+        Served::Memory
+    }
 }

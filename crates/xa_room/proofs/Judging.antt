@@ -3,23 +3,20 @@ use Rattle.std.proofs.Common.{◌≡◌, ℕ, ◌+◌, ◌<◌, ◌⊎◌, inl, 
 use Rattle.xa_room.specs.declared.book.Entry.{Entry}
 use Rattle.xa_room.specs.declared.book.Receipt.{Receipt}
 use Rattle.xa_room.specs.declared.auditing.AuditFault.{AuditFault}
-use Rattle.xa_room.specs.declared.auditing.AuditFault.TheVariants.{Place, Differs}
-use Rattle.xa_room.specs.Audit.{IsMisplaced, IsEntry, Judges}
+use Rattle.xa_room.specs.Audit.{HasFault, IsSound, Judges}
 
 front : (rs : List Receipt) (i : ℕ) (r : Receipt) → i < length rs → r ≡ get_or rs i r → drop i rs ≡ r ∷ drop (i + 1) rs
 front rs i r lt e = (rw (add-one, drop-cons rs i r lt) refl) ∙ ap (λ x. x ∷ drop (i + 1) rs) (sym e)
 
 pub judges_good : (entries : List Entry) (met : List ℕ) (rs : List Receipt) (i : ℕ) (r : Receipt) (answer : Result (Unit {0}) AuditFault)
-    → i < length rs → r ≡ get_or rs i r → (IsMisplaced entries met r → ⊥) × IsEntry entries r
+    → i < length rs → r ≡ get_or rs i r → IsSound entries met r
     → Judges entries (r.place ∷ met) (i + 1) (drop (i + 1) rs) answer → Judges entries met i (drop i rs) answer
 judges_good entries met rs i r answer lt e good js =
     let P : List Receipt → Type 0 = λ xs. Judges entries met i xs answer in
-    subst P (sym (front rs i r lt e)) (inr (inr (good, js)))
+    subst P (sym (front rs i r lt e)) (inr (good, js))
 
 pub judges_bad : (entries : List Entry) (met : List ℕ) (rs : List Receipt) (i : ℕ) (r : Receipt) (f : AuditFault)
-    → i < length rs → r ≡ get_or rs i r
-    → (IsMisplaced entries met r × (f ≡ Place i)) ⊎ (((IsMisplaced entries met r → ⊥) × (IsEntry entries r → ⊥)) × (f ≡ Differs i))
-    → Judges entries met i (drop i rs) (Err f)
+    → i < length rs → r ≡ get_or rs i r → HasFault entries met i r f → Judges entries met i (drop i rs) (Err f)
 judges_bad entries met rs i r f lt e bad =
     let P : List Receipt → Type 0 = λ xs. Judges entries met i xs (Err f) in
-    subst P (sym (front rs i r lt e)) (elim bad [ inl b ↦ inl (b.0, ap Err b.1) | inr b ↦ inr (inl (b.0, ap Err b.1)) ])
+    subst P (sym (front rs i r lt e)) (inl (f, bad, refl))

@@ -17,6 +17,7 @@ use Rattle.xa_model.specs.Events.{HaveHappened, IsEvent, is_restart}
 use Rattle.xa_model.specs.History.{Leads}
 use Rattle.xa_room.specs.declared.book.Entry.{Entry}
 use Rattle.xa_room.specs.declared.book.Receipt.{Receipt}
+use Rattle.xa_room.specs.declared.manages.Manages.{Ghosts}
 use Rattle.xa_room.specs.Book.{AreNumbered, HasNoRestart, entry_of, plain_entries, receipt_of, unplaced}
 use Rattle.xa_room.specs.Manages.{Acts, Counts, StepsTo}
 use Rattle.xa_room.specs.Kept.{Adds, Kept}
@@ -69,69 +70,68 @@ rises_twice m n a b c p q = λ first second.
     (earlier.0, earlier.1, omega (arith, earlier.2, later.2))
 
 -- a step more keeps what a room keeps
-kept_step : {M : Type 0} (stands : M → State → Type 0) (trusts : Type 0) (failures : M → ℕ × ℕ) (sessions : M → ℕ) (start : State → Type 0) (base : ℕ × ℕ)
-    (now then : M) (es : List Entry) (cap cap' : ℕ) (e : Entry)
-    → Kept stands trusts failures sessions start base now es cap
-    → StepsTo stands trusts now e.event e.outcome (unplaced e.reply) then
-    → Counts stands trusts failures now e.event e.outcome then
-    → IsEvent e.event → e.place ≡ length es + 1 → e.reply.place ≡ length es + 1 → length es + 1 + sessions then ≤ cap'
-    → Kept stands trusts failures sessions start base then (es ++ e ∷ []) cap'
-kept_step stands trusts failures sessions start base now then es cap cap' e kept steps counts event p q room = record {
+kept_step : {M : Type 0} (m : Ghosts M) (start : State → Type 0) (base : ℕ × ℕ) (now then : M) (es : List Entry) (cap cap' : ℕ) (e : Entry)
+    → Kept m start base now es cap
+    → StepsTo m.stands m.trusts now e.event e.outcome (unplaced e.reply) then
+    → Counts m.stands m.trusts m.failures now e.event e.outcome then
+    → IsEvent e.event → e.place ≡ length es + 1 → e.reply.place ≡ length es + 1 → length es + 1 + m.sessions then ≤ cap'
+    → Kept m start base then (es ++ e ∷ []) cap'
+kept_step m start base now then es cap cap' e kept steps counts event p q room = record {
   legal = λ s began premise.
-      let each = premises trusts es e premise in
+      let each = premises m.trusts es e premise in
       let before = kept.legal s began each.0 in
       let next = some_answer (step before.0 (Asked e.event) e.outcome) _ (steps before.0 before.2 each.1) in
       (next.0.after, leads_snoc s es before.0 e next.0 before.1 next.1 next.2.0, next.2.1);
   counted = λ s began premise.
-      let each = premises trusts es e premise in
+      let each = premises m.trusts es e premise in
       let before = kept.legal s began each.0 in
       let risen = rises_twice _ _ _ _ _ (kept.counted s began each.0) (counts before.0 before.2 each.1) in
-      subst (λ (n : ℕ). RiseBy n base (failures then)) (sym (failures_snoc es e)) risen;
+      subst (λ (n : ℕ). RiseBy n base (m.failures then)) (sym (failures_snoc es e)) risen;
   numbered = numbered_snoc 0 es e kept.numbered (omega arith) (omega arith);
   happened = happened_snoc es e kept.happened event;
   reserved = omega (arith, length-append es (e ∷ []));
 }
 
 -- an event that noted its entry keeps it
-pub kept_noted : {M : Type 0} (stands : M → State → Type 0) (trusts : Type 0) (told : M → Outcome) (has_called : Outcome → M → M → Type 0) (failures : M → ℕ × ℕ) (sessions : M → ℕ)
-    (start : State → Type 0) (base : ℕ × ℕ) (now then : M) (es es0 es' : List Entry) (cap cap' : ℕ) (event : Event) (outcome : Outcome) (reply : Reply)
-    → Kept stands trusts failures sessions start base now es cap
-    → Acts stands trusts told has_called failures now event reply then
-    → is_memory reply.detail ≡ false → reply.place ≡ 0 → IsEvent event → outcome ≡ told then
-    → es0 ≡ es → es' ≡ es0 ++ entry_of (length es0 + 1) event outcome reply ∷ [] → length es + 1 + sessions then ≤ cap'
-    → Kept stands trusts failures sessions start base then es' cap'
-kept_noted stands trusts told has_called failures sessions start base now then es es0 es' cap cap' event outcome reply kept acts served zero is_event tells same noted room =
-    let P : List Entry → Type 0 = λ xs. Kept stands trusts failures sessions start base then xs cap' in
+pub kept_noted : {M : Type 0} (m : Ghosts M) (start : State → Type 0) (base : ℕ × ℕ) (now then : M) (es es0 es' : List Entry) (cap cap' : ℕ)
+    (event : Event) (outcome : Outcome) (reply : Reply)
+    → Kept m start base now es cap
+    → Acts m.stands m.trusts m.told m.has_called m.failures now event reply then
+    → is_memory reply.detail ≡ false → reply.place ≡ 0 → IsEvent event → outcome ≡ m.told then
+    → es0 ≡ es → es' ≡ es0 ++ entry_of (length es0 + 1) event outcome reply ∷ [] → length es + 1 + m.sessions then ≤ cap'
+    → Kept m start base then es' cap'
+kept_noted m start base now then es es0 es' cap cap' event outcome reply kept acts served zero is_event tells same noted room =
+    let P : List Entry → Type 0 = λ xs. Kept m start base then xs cap' in
     let e = entry_of (length es + 1) event outcome reply in
     let longer : es' ≡ es ++ e ∷ [] = noted ∙ ap (λ (xs : List Entry). xs ++ entry_of (length xs + 1) event outcome reply ∷ []) same in
     let steps = not_memory _ _ _ served acts.answered in
     let counts = not_memory _ _ _ served acts.counted in
-    subst P (sym longer) (kept_step stands trusts failures sessions start base now then es cap cap' e kept
-    (subst (λ (r : Reply). StepsTo stands trusts now event outcome r then) (λ i. record reply { place = zero i })
-    (subst (λ (o : Outcome). StepsTo stands trusts now event o reply then) (sym tells) steps))
-    (subst (λ (o : Outcome). Counts stands trusts failures now event o then) (sym tells) counts)
+    subst P (sym longer) (kept_step m start base now then es cap cap' e kept
+    (subst (λ (r : Reply). StepsTo m.stands m.trusts now event outcome r then) (λ i. record reply { place = zero i })
+    (subst (λ (o : Outcome). StepsTo m.stands m.trusts now event o reply then) (sym tells) steps))
+    (subst (λ (o : Outcome). Counts m.stands m.trusts m.failures now event o then) (sym tells) counts)
     is_event refl refl room)
 
 -- what an event that noted its entry ensures
-pub adds_noted : {M : Type 0} (stands : M → State → Type 0) (trusts : Type 0) (told : M → Outcome) (has_called : Outcome → M → M → Type 0) (failures : M → ℕ × ℕ) (old new : Told M)
+pub adds_noted : {M : Type 0} (m : Ghosts M) (old new : Told M)
     (es0 : List Entry) (event : Event) (outcome : Outcome) (reply : Reply) (receipt : Receipt)
     → es0 ≡ old.entries
     → new.entries ≡ es0 ++ entry_of (length es0 + 1) event outcome reply ∷ []
     → receipt ≡ receipt_of (entry_of (length es0 + 1) event outcome reply)
-    → outcome ≡ told new.now
-    → Acts stands trusts told has_called failures old.now event reply new.now
+    → outcome ≡ m.told new.now
+    → Acts m.stands m.trusts m.told m.has_called m.failures old.now event reply new.now
     → is_memory reply.detail ≡ false → reply.place ≡ 0
-    → Adds stands trusts told has_called failures old new event receipt.reply receipt
-adds_noted stands trusts told has_called failures old new es0 event outcome reply receipt same noted is tells acts served zero =
+    → Adds m old new event receipt.reply receipt
+adds_noted m old new es0 event outcome reply receipt same noted is tells acts served zero =
     let place : receipt.reply.place ≡ length es0 + 1 = ap (λ (r : Receipt). r.reply.place) is in
     let said : receipt.reply ≡ record reply { place = receipt.reply.place } = ap (λ (r : Receipt). r.reply) is ∙ (λ i. record reply { place = sym place i }) in
-    let whole : entry_of (length es0 + 1) event outcome reply ≡ entry_of receipt.reply.place event (told new.now) receipt.reply =
-    (λ i. entry_of (sym place i) event (tells i) reply) ∙ (λ i. record { place = receipt.reply.place; event = event; outcome = told new.now; reply = record (sym said i) { place = receipt.reply.place } }) in
+    let whole : entry_of (length es0 + 1) event outcome reply ≡ entry_of receipt.reply.place event (m.told new.now) receipt.reply =
+    (λ i. entry_of (sym place i) event (tells i) reply) ∙ (λ i. record { place = receipt.reply.place; event = event; outcome = m.told new.now; reply = record (sym said i) { place = receipt.reply.place } }) in
     record {
       place = place ∙ ap (λ (xs : List Entry). length xs + 1) same;
       entries = noted ∙ (λ i. same i ++ whole i ∷ []);
       receipt_is = is ∙ (λ i. record { place = sym place i; event = event; reply = sym (ap (λ (r : Receipt). r.reply) is) i });
-      steps = subst (λ (r : Reply). StepsTo stands trusts old.now event (told new.now) r new.now) ((λ i. record reply { place = zero i }) ∙ ap unplaced (sym said)) (not_memory _ _ _ served acts.answered);
+      steps = subst (λ (r : Reply). StepsTo m.stands m.trusts old.now event (m.told new.now) r new.now) ((λ i. record reply { place = zero i }) ∙ ap unplaced (sym said)) (not_memory _ _ _ served acts.answered);
       called = acts.called served;
       counted = not_memory _ _ _ served acts.counted;
     }

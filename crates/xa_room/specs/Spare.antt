@@ -1,10 +1,12 @@
 -- Room for a copy of a reply.
 use Rattle.std.specs.Prelude.{◌≡◌, ◌≤◌, [], vec_capacity}
+use Rattle.xa_codes.specs.declared.write.TheConstants.{MOST_VALUE}
+use Rattle.xa_frame.specs.declared.xids.TheConstants.{MOST_XIDS}
 use Rattle.xa_room.specs.declared.spare.Spare.{Spare}
 
 -- for each reply within the limits
 pub record HasRoom (s : Spare) : Type 0 where
   pub value_empty : s.value.items ≡ []
-  pub value : 1024 ≤ vec_capacity s.value
+  pub value : MOST_VALUE ≤ vec_capacity s.value
   pub list_empty : s.list.items ≡ []
-  pub list : 256 ≤ vec_capacity s.list
+  pub list : MOST_XIDS ≤ vec_capacity s.list

@@ -1,5 +1,5 @@
 ghost use Rattle.std.specs.Prelude.{◌≡◌, ℕ, ◌-◌, ◌<◌, ◌≤◌, ◌==◌, ◌⊎◌, [], ◌∷◌, length, IfOk, IfSome, Err, Some, None, List, sum_by, slice_get, true, false};
-ghost use Rattle.xa_room.specs.Audit.{Audits, IsMisplaced, IsEntry, Judges};
+ghost use Rattle.xa_room.specs.Audit.{Audits, HasFault, IsSound, Judges};
 ghost use Rattle.xa_room.specs.Marks.{Marks};
 
 use crate::book::{Entry, Receipt};
@@ -18,9 +18,16 @@ pub enum AuditFault {
     /// The shares' counts don't add up to the number of entries.
     #[error("counts not the number of entries")]
     Count,
-    /// The place of the receipt of this index is 0 or above the last, or a receipt before it has it.
-    #[error("receipt {0} with a place that is none or another's")]
-    Place(usize),
+    /// This receipt's place is 0 or above the last. Receipts are counted from 0, places from 1.
+    #[error("receipt {receipt} with place {place}, not 1 to {last}")]
+    Place {
+        receipt: usize,
+        place: u64,
+        last: u64,
+    },
+    /// A receipt before the one of this index has its place.
+    #[error("receipt {0} with another's place")]
+    Repeats(usize),
     /// The receipt of this index isn't the entry at its place.
     #[error("receipt {0} not the entry at its place")]
     Differs(usize),
@@ -36,7 +43,8 @@ pub fn audit<M: Manages, S: Start, L: Ledger>(
     receipts: &[Receipt],
     shares: &[Share<L>],
 ) -> Result<(), AuditFault>
-    ensures { (result ≡ Err AuditFault.Memory) ⊎ Audits room.now.entries receipts.now (sum_by (λ s. s.count) shares.now) result }
+    ensures { (result ≡ Err AuditFault.Memory)
+        ⊎ Audits room.now.entries receipts.now (sum_by (λ s. s.count) shares.now) result }
 {
     let entries = room.entries();
     if !adds_up(shares, entries.len()) {
@@ -84,15 +92,22 @@ fn judge_one(
     requires { length met.old.items ≡ length entries.now }
     ensures len { length met.new.items ≡ length entries.now }
     ensures none { result ≡ None → (places : List ℕ) → Marks met.old.items places
-        → Marks met.new.items (receipt.now.place ∷ places) × ((IsMisplaced entries.now places receipt.now → ⊥) × IsEntry entries.now receipt.now) }
+        → Marks met.new.items (receipt.now.place ∷ places) × IsSound entries.now places receipt.now }
     ensures some { IfSome result (λ f. (places : List ℕ) → Marks met.old.items places
-        → (IsMisplaced entries.now places receipt.now × (f ≡ AuditFault.Place i))
-        ⊎ (((IsMisplaced entries.now places receipt.now → ⊥) × (IsEntry entries.now receipt.now → ⊥)) × (f ≡ AuditFault.Differs i))) }
+        → HasFault entries.now places i receipt.now f) }
 {
-    if is_misplaced(entries, met.as_slice(), receipt.place) {
-        return Some(AuditFault::Place(i));
+    let place = receipt.place;
+    if is_outside(entries, place) {
+        return Some(AuditFault::Place {
+            receipt: i,
+            place,
+            last: entries.len() as u64,
+        });
     }
-    let at = (receipt.place - 1) as usize;
+    if is_met(met.as_slice(), place) {
+        return Some(AuditFault::Repeats(i));
+    }
+    let at = (place - 1) as usize;
     if !is_receipt_of(receipt, &entries[at]) {
         return Some(AuditFault::Differs(i));
     }
@@ -106,13 +121,16 @@ fn marks(alloc: Global, count: usize) -> Result<Vec<bool>, AllocError>
     vec![in alloc; false; count]
 }
 
-fn is_misplaced(entries: &[Entry], met: &[bool], place: u64) -> bool
-    requires { length met.now ≡ length entries.now }
-    ensures yes { result ≡ true → (place ≡ 0) ⊎ ((length entries.now < place) ⊎ (slice_get met.now (place - 1) ≡ Some true)) }
-    ensures no { result ≡ false → (0 < place) × (place ≤ length entries.now) × (slice_get met.now (place - 1) ≡ Some false) }
+fn is_outside(entries: &[Entry], place: u64) -> bool
+    ensures yes { result ≡ true → (place ≡ 0) ⊎ (length entries.now < place) }
+    ensures no { result ≡ false → (0 < place) × (place ≤ length entries.now) }
 {
-    if place == 0 || place > entries.len() as u64 {
-        return true;
-    }
+    place == 0 || place > entries.len() as u64
+}
+
+fn is_met(met: &[bool], place: u64) -> bool
+    requires { (0 < place) × (place ≤ length met.now) }
+    ensures { slice_get met.now (place - 1) ≡ Some result }
+{
     met[(place - 1) as usize]
 }

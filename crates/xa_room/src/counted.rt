@@ -72,8 +72,10 @@ impl<M: Manages, S: Start, L: Ledger> Counted<M, S, L> {
         requires first { first ≡ request }
         requires second { second ≡ request }
         ensures recorded { MatchOption result.1
-            ((result.0 ≡ wanted_memory (Event.Call session request)) × (share.new ≡ share.old) × Leaves M.stands self.old self.new)
-            (λ r. (r.reply ≡ result.0) × Records share.old share.new (Event.Call session request) r × Adds M.stands M.trusts M.told M.has_called M.failures self.old self.new (Event.Call session request) r.reply r) }
+            ((result.0 ≡ wanted_memory (Event.Call session request)) × (share.new ≡ share.old)
+            × Leaves M.stands self.old self.new)
+            (λ r. (r.reply ≡ result.0) × Records share.old share.new (Event.Call session request) r
+            × Adds M.Manages self.old self.new (Event.Call session request) r.reply r) }
         ensures limits { IsReply result.0 }
     {
         let Counted { room, book } = self;
@@ -90,7 +92,8 @@ impl<M: Manages, S: Start, L: Ledger> Counted<M, S, L> {
     ) -> (Result<u64, ConnectFault>, Option<Receipt>)
         ensures { MatchOption result.1
             ((result.0 ≡ Err ConnectFault.Memory) × (share.new ≡ share.old) × Leaves M.stands self.old self.new)
-            (λ r. (r.reply ≡ placed r.place (connect_reply result.0)) × Records share.old share.new Event.Connect r × Adds M.stands M.trusts M.told M.has_called M.failures self.old self.new Event.Connect r.reply r) }
+            (λ r. (r.reply ≡ placed r.place (connect_reply result.0)) × Records share.old share.new Event.Connect r
+            × Adds M.Manages self.old self.new Event.Connect r.reply r) }
     {
         let Counted { room, book } = self;
         let (session, receipt) = room.connect();
@@ -103,8 +106,9 @@ impl<M: Manages, S: Start, L: Ledger> Counted<M, S, L> {
     pub(crate) fn hangup(&mut self, share: &mut Share<L>, session: u64) -> Option<Receipt>
         ensures recorded { MatchOption result
             ((M.has_session self.old.now session ≡ false) × (share.new ≡ share.old) × Leaves M.stands self.old self.new)
-            (λ r. (M.has_session self.old.now session ≡ true) × Records share.old share.new (Event.Hangup session) r × Adds M.stands M.trusts M.told M.has_called M.failures self.old self.new (Event.Hangup session) r.reply r) }
-        ensures gone { IfNone result (WasGone M.has_session M.stands M.trusts S.start session) }
+            (λ r. (M.has_session self.old.now session ≡ true) × Records share.old share.new (Event.Hangup session) r
+            × Adds M.Manages self.old self.new (Event.Hangup session) r.reply r) }
+        ensures gone { IfNone result (WasGone M.Manages S.start session) }
     {
         let Counted { room, book } = self;
         let receipt = room.hangup(session);

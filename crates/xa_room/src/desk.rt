@@ -21,8 +21,8 @@ use xa_assoc::ConnectFault;
 use xa_frame::{Reply, Request};
 use xa_manager::memory_reply;
 
-/// A room behind the one lock, which many threads share. Each call is one call of the room. It is recorded by the caller's
-/// share, whose count so tells how many of the entries are the caller's.
+/// A room behind the one lock, which many threads share. Each call is one call of the room. It is recorded by the
+/// caller's share, whose count so tells how many of the entries are the caller's.
 #[derive(Drop)]
 pub struct Desk<M: Manages, S: Start, L: Ledger> {
     lock: Mutex<Counted<M, S, L>>,
@@ -83,7 +83,7 @@ impl<M: Manages, S: Start, L: Ledger> Desk<M, S, L> {
         ensures recorded { MatchOption result
             (share.new ≡ share.old)
             (λ r. Records share.old share.new (Event.Hangup session) r) }
-        ensures gone { IfNone result (WasGone M.has_session M.stands M.trusts S.start session) }
+        ensures gone { IfNone result (WasGone M.Manages S.start session) }
     {
         take(rt, &self.lock).hangup(share, session)
     }
@@ -132,7 +132,7 @@ impl<M: Manages, S: Start, L: Ledger> Desk<M, S, L> {
         ensures recorded { MatchOption result.0
             (result.1 ≡ share)
             (λ r. Records share result.1 (Event.Hangup session) r) }
-        ensures gone { IfNone result.0 (WasGone M.has_session M.stands M.trusts S.start session) }
+        ensures gone { IfNone result.0 (WasGone M.Manages S.start session) }
     {
         let mut share = share;
         let receipt = self.hangup_by(rt, &mut share, session);

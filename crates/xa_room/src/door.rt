@@ -10,9 +10,9 @@ use xa_frame::{Reply, Request};
 impl<M: Manages, S: Start> Door for Room<M, S> {
     ghost use Rattle.xa_room.specs.Door.{Called, Left};
 
-    ghost called = { Called M.stands M.trusts M.told M.has_called M.failures };
+    ghost called = { Called M.Manages };
 
-    ghost left = { Left M.has_session M.stands M.trusts M.told M.has_called M.failures };
+    ghost left = { Left M.Manages };
 
     fn call(&mut self, session: u64, request: Request) -> Reply {
         let (reply, _receipt) = self.call(session, request);

@@ -1,5 +1,21 @@
-//! A room: a manager with the history of all that was asked of it. Behind a lock, with a ledger of its entries, it is the desk
-//! that sessions on many threads share. Whoever has the room again can audit it against the receipts that were given out.
+//! A room: a manager with the history of all that was asked of it. Behind a lock, with a ledger of its entries, it is
+//! the desk that sessions on many threads share. Whoever has the room again can audit it against the receipts that were
+//! given out.
+//!
+//! A room by itself:
+//!
+//! - `room`: `Room`, which asks its manager and notes each event; `start`: `Start`, where its history begins
+//! - `manages`: `Manages`, what a room asks of a manager; `manager`: that the manager over a log does it
+//! - `book`: `Entry`, one event of the history, and `Receipt`, what whoever asked is given of it
+//! - `notes`: room for entries, and an entry more; `copies`, `spare`, `replies`: the copies of a request and of a reply
+//!   that the entry and the receipt take, and a reply's place
+//! - `door`: a room as the door of a connection
+//!
+//! On many threads:
+//!
+//! - `desk`: `Desk`, a room behind the one lock (`taking`); `counted`: the room and the ledger's book under it
+//! - `share`: `Share`, some parts of the ledger, and how many events were recorded by it; `agree`
+//! - `auditing`: `audit`, whether receipts and shares fit the room, and `AuditFault`; `comparing`: a receipt and an entry
 #![tactic(auto)]
 
 mod auditing;

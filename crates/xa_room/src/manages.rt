@@ -2,8 +2,8 @@ use xa_assoc::ConnectFault;
 use xa_frame::{Reply, Request};
 use xa_model::Outcome;
 
-/// What a room asks of a manager. Each event is a step of the sequential resource manager, from whichever state the manager
-/// stood for, and where memory was wanted it stands for whatever it stood for.
+/// What a room asks of a manager. Each event is a step of the sequential resource manager, from whichever state the
+/// manager stood for, and where memory was wanted it stands for whatever it stood for.
 pub trait Manages {
     ghost use Rattle.std.specs.Prelude.{ℕ, ◌≡◌, ◌+◌, Bool, true, MatchResult, pos};
     ghost use Rattle.xa_frame.specs.Limits.{IsReply};
@@ -37,18 +37,22 @@ pub trait Manages {
     ghost sessions: { Self → ℕ };
 
     fn connect(&mut self) -> Result<u64, ConnectFault>
-        ensures acts { Acts stands trusts told has_called failures self.old Event.Connect (connect_reply result) self.new }
-        ensures sessions { MatchResult result (λ _. sessions self.new ≡ sessions self.old + 1) (λ _. sessions self.new ≡ sessions self.old) };
+        ensures acts { Acts stands trusts told has_called failures
+            self.old Event.Connect (connect_reply result) self.new }
+        ensures sessions { MatchResult result
+            (λ _. sessions self.new ≡ sessions self.old + 1) (λ _. sessions self.new ≡ sessions self.old) };
 
     fn call(&mut self, session: u64, request: Request) -> Reply
         requires { IsAsked request }
-        ensures acts { Acts stands trusts told has_called failures self.old (Event.Call session request) result self.new }
+        ensures acts { Acts stands trusts told has_called failures
+            self.old (Event.Call session request) result self.new }
         ensures limits { IsReply result }
         ensures place { result.place ≡ 0 }
         ensures sessions { sessions self.new ≡ sessions self.old };
 
     fn hangup(&mut self, session: u64)
-        ensures acts { Acts stands trusts told has_called failures self.old (Event.Hangup session) (plain (pos 0)) self.new }
+        ensures acts { Acts stands trusts told has_called failures
+            self.old (Event.Hangup session) (plain (pos 0)) self.new }
         ensures sessions { has_session self.old session ≡ true → sessions self.new + 1 ≡ sessions self.old };
 
     fn outcome(&self) -> Outcome

@@ -26,7 +26,8 @@ pub(crate) fn note(
     requires room { vec_len history.old < vec_capacity history.old }
     requires event { event_copy ≡ event }
     requires reply { reply_copy ≡ reply }
-    ensures entries { history.new.items ≡ history.old.items ++ entry_of (length history.old.items + 1) event outcome reply ∷ [] }
+    ensures entries { history.new.items
+        ≡ history.old.items ++ entry_of (length history.old.items + 1) event outcome reply ∷ [] }
     ensures receipt { result ≡ receipt_of (entry_of (length history.old.items + 1) event outcome reply) }
     ensures capacity { vec_capacity history.new ≡ vec_capacity history.old }
 {

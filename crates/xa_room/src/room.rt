@@ -24,10 +24,11 @@ use xa_frame::{Reply, Request};
 use xa_manager::{connect_reply, memory_reply, reached_promises};
 use xa_model::Event;
 
-/// A manager with the history of all that was asked of it. To a contract it is the manager as it is now, and the entries.
+/// A manager with the history of all that was asked of it. To a contract it is the manager as it is now, and the
+/// entries.
 ///
-/// Whichever state the manager stood for, of those that `S` picks, the entries are a legal history from there to a state that
-/// the manager stands for now.
+/// Whichever state the manager stood for, of those that `S` picks, the entries are a legal history from there to a
+/// state that the manager stands for now.
 #[derive(Drop)]
 pub struct Room<M: Manages, S: Start> {
     manager: M,
@@ -48,11 +49,12 @@ impl<M: Manages, S: Start> Model for Room<M, S> {
 
     ghost view = { λ r. record { now = r.manager; entries = r.history.items } };
 
-    ghost invariant = { λ r. Kept M.stands M.trusts M.failures M.sessions S.start S.base r.manager r.history.items (vec_capacity r.history) };
+    ghost invariant = { λ r. Kept M.Manages S.start S.base r.manager r.history.items (vec_capacity r.history) };
 }
 
 impl<M: Manages, S: Start> Room<M, S> {
-    /// A room with an empty history. Without memory for the hang-ups of the sessions that are connected the manager is gone.
+    /// A room with an empty history. Without memory for the hang-ups of the sessions that are connected the manager is
+    /// gone.
     pub fn new(alloc: Global, manager: M) -> Result<Room<M, S>, AllocError>
     where
         M: Drop,
@@ -72,13 +74,13 @@ impl<M: Manages, S: Start> Room<M, S> {
         })
     }
 
-    /// Answers a request of a session. The reply has its place, and is the receipt's, which is the new entry's; or memory was
-    /// wanted, and there is neither.
+    /// Answers a request of a session. The reply has its place, and is the receipt's, which is the new entry's; or
+    /// memory was wanted, and there is neither.
     pub fn call(&mut self, session: u64, request: Request) -> (Reply, Option<Receipt>)
         requires { IsRequest request }
         ensures recorded { MatchOption result.1
             ((result.0 ≡ wanted_memory (Event.Call session request)) × Leaves M.stands self.old self.new)
-            (λ r. (r.reply ≡ result.0) × Adds M.stands M.trusts M.told M.has_called M.failures self.old self.new (Event.Call session request) r.reply r) }
+            (λ r. (r.reply ≡ result.0) × Adds M.Manages self.old self.new (Event.Call session request) r.reply r) }
         ensures limits { IsReply result.0 }
     {
         request.hold();
@@ -102,7 +104,7 @@ impl<M: Manages, S: Start> Room<M, S> {
         requires second { second ≡ request }
         ensures recorded { MatchOption result.1
             ((result.0 ≡ wanted_memory (Event.Call session request)) × Leaves M.stands self.old self.new)
-            (λ r. (r.reply ≡ result.0) × Adds M.stands M.trusts M.told M.has_called M.failures self.old self.new (Event.Call session request) r.reply r) }
+            (λ r. (r.reply ≡ result.0) × Adds M.Manages self.old self.new (Event.Call session request) r.reply r) }
         ensures limits { IsReply result.0 }
     {
         let count = self.manager.connected() as usize + 1;
@@ -135,7 +137,8 @@ impl<M: Manages, S: Start> Room<M, S> {
     pub fn connect(&mut self) -> (Result<u64, ConnectFault>, Option<Receipt>)
         ensures { MatchOption result.1
             ((result.0 ≡ Err ConnectFault.Memory) × Leaves M.stands self.old self.new)
-            (λ r. (r.reply ≡ placed r.place (connect_reply result.0)) × Adds M.stands M.trusts M.told M.has_called M.failures self.old self.new Event.Connect r.reply r) }
+            (λ r. (r.reply ≡ placed r.place (connect_reply result.0))
+            × Adds M.Manages self.old self.new Event.Connect r.reply r) }
     {
         if !make_room(&mut self.history, self.manager.connected() as usize + 2) {
             return (Err(ConnectFault::Memory), None);
@@ -159,8 +162,9 @@ impl<M: Manages, S: Start> Room<M, S> {
     pub fn hangup(&mut self, session: u64) -> Option<Receipt>
         ensures recorded { MatchOption result
             ((M.has_session self.old.now session ≡ false) × Leaves M.stands self.old self.new)
-            (λ r. (M.has_session self.old.now session ≡ true) × Adds M.stands M.trusts M.told M.has_called M.failures self.old self.new (Event.Hangup session) r.reply r) }
-        ensures gone { IfNone result (WasGone M.has_session M.stands M.trusts S.start session) }
+            (λ r. (M.has_session self.old.now session ≡ true)
+            × Adds M.Manages self.old self.new (Event.Hangup session) r.reply r) }
+        ensures gone { IfNone result (WasGone M.Manages S.start session) }
     {
         if !self.manager.is_connected(session) {
             return None;
@@ -176,21 +180,22 @@ impl<M: Manages, S: Start> Room<M, S> {
         ))
     }
 
-    /// The entries so far, numbered from 1: a legal history, which tells of no more failures of the device than were counted.
+    /// The entries so far, numbered from 1: a legal history, which tells of no more failures of the device than were
+    /// counted.
     pub fn entries(&self) -> &[Entry]
         ensures entries { result.now ≡ self.now.entries }
-        ensures legal { IsLegal M.stands M.trusts S.start self.now.now self.now.entries }
-        ensures counted { IsCounted M.trusts S.start S.base (M.failures self.now.now) self.now.entries }
+        ensures legal { IsLegal M.Manages S.start self.now.now self.now.entries }
+        ensures counted { IsCounted M.Manages S.start S.base self.now.now self.now.entries }
         ensures numbered { AreNumbered 0 self.now.entries }
         ensures happened { HaveHappened (plain_entries self.now.entries) }
     {
         &self.history
     }
 
-    /// The committed branches read what they read as if each had been executed alone, in the order of timestamps; and what was
-    /// answered as prepared is listed by recovery until its completion is asked for. It does nothing.
+    /// The committed branches read what they read as if each had been executed alone, in the order of timestamps; and
+    /// what was answered as prepared is listed by recovery until its completion is asked for. It does nothing.
     pub fn promises(&self)
-        ensures { Promises M.stands M.trusts S.start self.now.now self.now.entries }
+        ensures { Promises M.Manages S.start self.now.now self.now.entries }
     {
         reached_promises();
         let _entries = self.entries();

@@ -1,21 +1,18 @@
 ghost use Rattle.std.specs.Prelude.{◌≡◌, ℕ, ◌≤◌, [], length, true, vec_capacity};
+ghost use Rattle.xa_codes.specs.declared.write.TheConstants.{MOST_VALUE};
+ghost use Rattle.xa_frame.specs.declared.xids.TheConstants.{MOST_XIDS};
 ghost use Rattle.xa_frame.specs.Limits.{IsReply};
 ghost use Rattle.xa_room.specs.Spare.{HasRoom};
 
 use std::alloc::{AllocError, Global};
 use std::mem;
-use xa_codes::Bytes;
-use xa_frame::{Body, Reply, Xids};
+use xa_codes::{Bytes, MOST_VALUE};
+use xa_frame::{Body, MOST_XIDS, Reply, Xids};
 use xa_xid::Xid;
 
-/// The longest value that a reply carries.
-const LONGEST: usize = 1024;
-
-/// The most XIDs that a reply carries.
-const MOST: usize = 256;
-
-/// Room for a copy of a reply. It is made before a call acts and stays, since the copy is made of memory of its own length
-/// where there is some: so what keeps the copies holds no more than they are long, and no call makes this room twice.
+/// Room for a copy of a reply: for the longest value, and for the most XIDs. It is made before a call acts and stays,
+/// since the copy is made of memory of its own length where there is some: so what keeps the copies holds no more than
+/// they are long, and no call makes this room twice.
 #[derive(Drop)]
 pub(crate) struct Spare {
     pub(crate) value: Vec<u8>,
@@ -37,7 +34,7 @@ impl Spare {
     {
         self.value.clear();
         self.list.clear();
-        self.value.reserve(LONGEST).is_ok() && self.list.reserve(MOST).is_ok()
+        self.value.reserve(MOST_VALUE).is_ok() && self.list.reserve(MOST_XIDS).is_ok()
     }
 
     /// A copy of a reply.
@@ -63,7 +60,7 @@ impl Spare {
 
     fn copied_value(&mut self, alloc: Global, value: &Bytes) -> Bytes
         requires room { HasRoom self.old }
-        requires short { length value.now ≤ 1024 }
+        requires short { length value.now ≤ MOST_VALUE }
         ensures { result ≡ value.now }
     {
         if let Ok(copy) = value.copied(alloc) {
@@ -76,7 +73,7 @@ impl Spare {
 
     fn copied_xids(&mut self, alloc: Global, xids: &Xids) -> Xids
         requires room { HasRoom self.old }
-        requires few { length xids.now ≤ 256 }
+        requires few { length xids.now ≤ MOST_XIDS }
         ensures { result ≡ xids.now }
     {
         let mut list = match Vec::with_capacity(alloc, xids.as_slice().len()) {

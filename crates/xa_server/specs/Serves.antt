@@ -4,6 +4,7 @@ use Rattle.xa_model.specs.State.{State}
 use Rattle.xa_room.specs.declared.auditing.AuditFault.{AuditFault}
 use Rattle.xa_room.specs.declared.book.Entry.{Entry}
 use Rattle.xa_room.specs.declared.book.Receipt.{Receipt}
+use Rattle.xa_room.specs.declared.manages.Manages.{Ghosts}
 use Rattle.xa_room.specs.Audit.{Audits}
 use Rattle.xa_room.specs.Kept.{IsLegal, IsCounted}
 use Rattle.xa_room.specs.Promises.{Promises}
@@ -15,14 +16,15 @@ pub record Tells (entries : List Entry) (receipts : List Receipt) (counted calls
   pub audits : Audits entries receipts counted answer
   pub found : is_whole ≡ is_ok answer
 
--- From each starting state the history is a legal one, with what that promises, and tells of no more failures than were counted.
--- It has so many entries, and the audit of some receipts found that.
-pub record Serves {M : Type 0} (stands : M → State → Type 0) (trusts : Type 0) (failures : M → ℕ × ℕ) (start : State → Type 0) (base : ℕ × ℕ) (calls : ℕ) (is_whole : Bool) : Type 0 where
+-- From each starting state the history is a legal one, with what that promises, and tells of no more failures than were
+-- counted. It has so many entries, and the audit of some receipts found that.
+pub record Serves {M : Type 0} (m : Ghosts M) (start : State → Type 0) (base : ℕ × ℕ) (calls : ℕ) (is_whole : Bool)
+    : Type 0 where
   pub now : M
   pub entries : List Entry
   pub receipts : List Receipt
   pub counted_by : ℕ
-  pub legal : IsLegal stands trusts start now entries
-  pub promises : Promises stands trusts start now entries
-  pub counted : IsCounted trusts start base (failures now) entries
+  pub legal : IsLegal m start now entries
+  pub promises : Promises m start now entries
+  pub counted : IsCounted m start base now entries
   pub tells : Tells entries receipts counted_by calls is_whole

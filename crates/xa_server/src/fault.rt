@@ -1,3 +1,4 @@
+use crate::serving::MOST_WORKERS;
 use std::alloc::AllocError;
 use thiserror::Error;
 use xa_workers::WorkFault;
@@ -8,9 +9,9 @@ pub enum ServerFault {
     /// There was no memory for the room, the workers or the audit.
     #[error("no memory")]
     Memory,
-    /// The number of workers isn't one from 1 to 64. Nobody was served.
-    #[error("workers not 1 to 64")]
-    Workers,
+    /// So many workers: not 1 to `MOST_WORKERS`. Nobody was served.
+    #[error("{0} workers, not 1 to {most}", most = MOST_WORKERS)]
+    Workers(u64),
 }
 
 impl From<AllocError> for ServerFault {

@@ -1,9 +1,9 @@
-//! A server: each connection of a listener is a session of one manager. `serve_manager` has workers serve them at one desk, and
-//! then audits the desk's history.
+//! A server: each connection of a listener is a session of one manager.
 //!
-//! - `serving`: `serve_manager`
-//! - `audited`: what it tells of the history, and the two lines that show it
-//! - `fault`: why it tells nothing
+//! - `serving`: `serve_manager`, which has workers serve them at one desk, and then audits the desk's history;
+//!   `MOST_WORKERS`
+//! - `audited`: `Audited`, what it tells of the history; `audited_lines`, the two lines that show it
+//! - `fault`: `ServerFault`, why it tells nothing
 #![tactic(auto)]
 
 mod audited;
@@ -12,4 +12,4 @@ mod serving;
 
 pub use audited::{Audited, audited_lines};
 pub use fault::ServerFault;
-pub use serving::serve_manager;
+pub use serving::{MOST_WORKERS, serve_manager};

@@ -1,5 +1,6 @@
 ghost use Rattle.std.specs.Prelude.{◌≡◌, ◌↔◌, ◌<◌, ◌⊎◌, IfErr, IfOk, IsErrOf, false};
 ghost use Rattle.xa_model.specs.State.{State};
+ghost use Rattle.xa_server.specs.declared.serving.TheConstants.{MOST_WORKERS};
 ghost use Rattle.xa_server.specs.Serves.{Serves, Tells};
 
 use crate::audited::Audited;
@@ -14,13 +15,13 @@ use xa_room::{AuditFault, Desk, Manages, Room, Start, audit};
 use xa_workers::{OpenGate, Report, run_workers};
 
 /// The most workers, and the parts of the ledger of which each takes some.
-const MOST_WORKERS: u64 = 64;
+pub const MOST_WORKERS: u64 = 64;
 
-/// Serves the sessions of a manager: by so many workers, 1 to 64, until so many connections were taken. A worker serves one
-/// connection at a time. Then it tells how many entries the history has, and what its audit found.
+/// Serves the sessions of a manager: by so many workers, 1 to `MOST_WORKERS`, until so many connections were taken. A
+/// worker serves one connection at a time. Then it tells how many entries the history has, and what its audit found.
 ///
-/// From whichever state the manager stood for, the history is a legal one of so many entries; its committed branches are one
-/// copy; and what was answered as prepared is listed until its completion is asked for.
+/// From whichever state the manager stood for, the history is a legal one of so many entries; its committed branches
+/// are one copy; and what was answered as prepared is listed until its completion is asked for.
 pub fn serve_manager<M: Manages + Send + Drop, R: AllocGlobal + Threads + Wait + Sync>(
     rt: &R,
     listener: &TcpListener,
@@ -28,8 +29,10 @@ pub fn serve_manager<M: Manages + Send + Drop, R: AllocGlobal + Threads + Wait +
     workers: u64,
     connections: u64,
 ) -> Result<Audited, ServerFault>
-    ensures served { IfOk result (λ told. Serves M.stands M.trusts M.failures (M.stands manager) (M.failures manager) told.calls told.is_whole) }
-    ensures workers { IsErrOf result ServerFault.Workers ↔ ((workers ≡ 0) ⊎ (64 < workers)) }
+    ensures served { IfOk result (λ told. Serves M.Manages (M.stands manager) (M.failures manager)
+        told.calls told.is_whole) }
+    ensures workers { IsErrOf result (ServerFault.Workers workers) ↔ ((workers ≡ 0) ⊎ (MOST_WORKERS < workers)) }
+    ensures fault { IfErr result (λ fault. (fault ≡ ServerFault.Memory) ⊎ (fault ≡ ServerFault.Workers workers)) }
 {
     let blank = Blank::new(MOST_WORKERS);
     serve_by::<M, Brand, Brand, R>(rt, listener, manager, blank, workers, connections)
@@ -52,12 +55,13 @@ fn serve_by<
     requires start { (s : State) → S.start s → M.stands manager s }
     requires base { M.failures manager ≡ S.base }
     requires name { blank.name ≡ L.name }
-    requires parts { (blank.parts ≡ L.parts) × (blank.parts ≡ 64) }
-    ensures served { IfOk result (λ told. Serves M.stands M.trusts M.failures S.start S.base told.calls told.is_whole) }
-    ensures workers { IsErrOf result ServerFault.Workers ↔ ((workers ≡ 0) ⊎ (64 < workers)) }
+    requires parts { (blank.parts ≡ L.parts) × (blank.parts ≡ MOST_WORKERS) }
+    ensures served { IfOk result (λ told. Serves M.Manages S.start S.base told.calls told.is_whole) }
+    ensures workers { IsErrOf result (ServerFault.Workers workers) ↔ ((workers ≡ 0) ⊎ (MOST_WORKERS < workers)) }
+    ensures fault { IfErr result (λ fault. (fault ≡ ServerFault.Memory) ⊎ (fault ≡ ServerFault.Workers workers)) }
 {
     if workers == 0 || workers > MOST_WORKERS {
-        return Err(ServerFault::Workers);
+        return Err(ServerFault::Workers(workers));
     }
     let room: Room<M, S> = Room::new(rt.alloc(), manager)?;
     let (desk, share) = Desk::<M, S, L>::new(room, blank);
@@ -81,8 +85,9 @@ fn audited<M: Manages, S: Start, L: Ledger>(
     room: &Room<M, S>,
     report: Report<L>,
 ) -> Result<Audited, ServerFault>
-    ensures served { IfOk result (λ told. Serves M.stands M.trusts M.failures S.start S.base told.calls told.is_whole) }
-    ensures told { IfOk result (λ told. Tells room.now.entries report.receipts.items report.share.count told.calls told.is_whole) }
+    ensures served { IfOk result (λ told. Serves M.Manages S.start S.base told.calls told.is_whole) }
+    ensures told { IfOk result (λ told. Tells room.now.entries report.receipts.items report.share.count
+        told.calls told.is_whole) }
     ensures fault { IfErr result (λ fault. fault ≡ ServerFault.Memory) }
 {
     room.promises();

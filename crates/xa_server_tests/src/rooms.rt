@@ -117,7 +117,7 @@ fn audited<M: Manages + Drop, S: Start, L: Ledger, R: Wait>(
     let wanted = [
         Ok(()),
         Err(AuditFault::Count),
-        Err(AuditFault::Place(4)),
+        Err(AuditFault::Repeats(4)),
         Err(AuditFault::Differs(2)),
     ];
     Some(is_right && found == wanted)

@@ -25,13 +25,14 @@ shown (Err fault) = Err fault
 
 -- over connections, with what was sent over one, and what can still be read from it
 module _ {C : Type 0} (sent left : C → Option (List ℕ)) where
-  -- A call of a number that has no connection is answered at once, as a session that isn't connected is. Else its request
-  -- goes over that connection, and what comes back is the reply.
+  -- A call of a number that has no connection is answered at once, as a session that isn't connected is. Else its
+  -- request goes over that connection, and what comes back is the reply.
   abbrev pub CallAnswered : ℕ → Request → Result Reply TalkFault → List (Option C) → List (Option C) → Type 0
   CallAnswered n request answer places places' =
       MatchOption (connection_at n places)
       ((answer ≡ Ok (plain XAER_PROTO)) × (places' ≡ places))
-      (λ c. (c' : C) × (places' ≡ with_at (place_of n) (Some c') places) × Exchanged request answer (sent c) (sent c') (left c) (left c'))
+      (λ c. (c' : C) × (places' ≡ with_at (place_of n) (Some c') places)
+      × Exchanged request answer (sent c) (sent c') (left c) (left c'))
 
   -- a connection more, which has the least free number; or none could be opened
   abbrev pub ConnectAnswered : Result Reply TalkFault → List (Option C) → List (Option C) → Type 0
@@ -45,7 +46,10 @@ module _ {C : Type 0} (sent left : C → Option (List ℕ)) where
   -- What a line is answered, if it is answered anything. Where it fails that is a fault of the connection or of memory.
   abbrev pub LineAnswered : Line → Result (Option Reply) TalkFault → List (Option C) → List (Option C) → Type 0
   LineAnswered Silent answer places places' = (answer ≡ Ok None) × (places' ≡ places)
-  LineAnswered Connect answer places places' = (reply : Result Reply TalkFault) × (answer ≡ shown reply) × ConnectAnswered reply places places'
-  LineAnswered (Hangup n) answer places places' = (answer ≡ Ok (Some (plain (pos 0)))) × (places' ≡ with_at (place_of n) None places)
-  LineAnswered (Call n request) answer places places' = (reply : Result Reply TalkFault) × (answer ≡ shown reply) × CallAnswered n request reply places places'
+  LineAnswered Connect answer places places' =
+      (reply : Result Reply TalkFault) × (answer ≡ shown reply) × ConnectAnswered reply places places'
+  LineAnswered (Hangup n) answer places places' =
+      (answer ≡ Ok (Some (plain (pos 0)))) × (places' ≡ with_at (place_of n) None places)
+  LineAnswered (Call n request) answer places places' =
+      (reply : Result Reply TalkFault) × (answer ≡ shown reply) × CallAnswered n request reply places places'
   LineAnswered said answer places places' = (answer ≡ Ok (Some refused)) × (places' ≡ places)

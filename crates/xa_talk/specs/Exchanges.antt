@@ -40,13 +40,15 @@ IsNoReply read =
 
 -- the frame of this reply is read, or what is no reply
 abbrev pub Receives : Result Reply TalkFault → Option (List ℕ) → Option (List ℕ) → Type 0
-Receives (Ok reply) input input' = (content : List ℕ) × SpellsReply content reply × Consumes input input' (frame content)
+Receives (Ok reply) input input' =
+    (content : List ℕ) × SpellsReply content reply × Consumes input input' (frame content)
 Receives (Err NoReply) input input' = (read : List ℕ) × IsNoReply read × Consumes input input' read
 Receives (Err fault) input input' = IsBroken fault
 
--- The request's frame is sent, and then the frame of this reply is read, or what is no reply. Where the connection broke or
--- memory ran out, some first bytes were sent, or all.
-abbrev pub Exchanged : Request → Result Reply TalkFault → Option (List ℕ) → Option (List ℕ) → Option (List ℕ) → Option (List ℕ) → Type 0
+-- The request's frame is sent, and then the frame of this reply is read, or what is no reply. Where the connection
+-- broke or memory ran out, some first bytes were sent, or all.
+abbrev pub Exchanged : Request → Result Reply TalkFault → Option (List ℕ) → Option (List ℕ) → Option (List ℕ)
+    → Option (List ℕ) → Type 0
 Exchanged request (Ok reply) output output' input input' =
     Appends output output' (request_frame request) × Receives (Ok reply) input input'
 Exchanged request (Err NoReply) output output' input input' =

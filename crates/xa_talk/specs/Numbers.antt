@@ -9,7 +9,9 @@ free_place (Some c ∷ places) = free_place places + 1
 
 -- a connection more, at the least free place
 abbrev pub with_new : {C : Type 0} → C → List (Option C) → List (Option C)
-with_new c places = if nat_lt (free_place places) (length places) then slice_set places (free_place places) (Some c) else places ++ Some c ∷ []
+with_new c places =
+    if nat_lt (free_place places) (length places) then slice_set places (free_place places) (Some c)
+    else places ++ Some c ∷ []
 
 -- the place of a number
 abbrev pub place_of : ℕ → Option ℕ

@@ -29,13 +29,16 @@ ShowsAnswer (Err fault) (Ok x) text = ⊥
 ShowsAnswer (Err fault) (Err told) text = (told ≡ fault) × (text ≡ [])
 
 -- A line is answered as its definition says, and the answer is shown; or there was no memory to read it.
-abbrev pub LineTalked : {C X : Type 0} → (C → Option (List ℕ)) → (C → Option (List ℕ)) → List ℕ → Result X TalkFault → List ℕ → List (Option C) → List (Option C) → Type 0
+abbrev pub LineTalked : {C X : Type 0} → (C → Option (List ℕ)) → (C → Option (List ℕ)) → List ℕ → Result X TalkFault
+    → List ℕ → List (Option C) → List (Option C) → Type 0
 LineTalked sent left line end text places places' =
     (IsErrOf end Memory × (text ≡ []) × (places' ≡ places))
     ⊎ ((answer : Result (Option Reply) TalkFault) × ShowsAnswer answer end text
-    × ((xid_of : List ℕ → Option Triple) → ReadsTexts xid_of → LineAnswered sent left (lines.line_of xid_of line) answer places places'))
+    × ((xid_of : List ℕ → Option Triple) → ReadsTexts xid_of
+    → LineAnswered sent left (lines.line_of xid_of line) answer places places'))
 
--- The next line is read, with the line feed that ends it, which the last one may lack. What is known of the input begins so.
+-- The next line is read, with the line feed that ends it, which the last one may lack. What is known of the input
+-- begins so.
 pub record ReadsLine (input : Option (List ℕ)) (line : List ℕ) (input' : Option (List ℕ)) : Type 0 where
   pub some : 0 < length line
   pub stops : StopsAt line 10
@@ -61,25 +64,28 @@ NextRead (Err fault) input line input' = IsReadFault fault × ReadsPart input in
 -- over connections, with what was sent over one, and what can still be read from it
 module _ {C : Type 0} (sent left : C → Option (List ℕ)) where
   -- Lines are read and talked, one behind the other: each is talked to its end before the next one is read.
-  abbrev pub LinesTalked : Option (List ℕ) → List (Option C) → List (List ℕ) → List ℕ → Option (List ℕ) → List (Option C) → Type 0
+  abbrev pub LinesTalked : Option (List ℕ) → List (Option C) → List (List ℕ) → List ℕ → Option (List ℕ)
+      → List (Option C) → Type 0
   LinesTalked input places [] text input' places' = (text ≡ []) × (input' ≡ input) × (places' ≡ places)
   LinesTalked input places (line ∷ lines) text input' places' =
       (behind : Option (List ℕ)) × (first : List ℕ) × (others : List ℕ) × (next : List (Option C))
       × ReadsLine input line behind × LineTalked {X = Unit {0}} sent left (strip_last 10 line) (Ok tt) first places next
       × (text ≡ first ++ others) × LinesTalked behind next lines others input' places'
 
-  -- By the end of a script, what became of the next line. Ok: there is none. A fault: it couldn't be read, or it was read, and
-  -- its talk ended so.
-  abbrev pub NextEnds : {X : Type 0} → Result X TalkFault → Option (List ℕ) → List (Option C) → List ℕ → Option (List ℕ) → Type 0
+  -- By the end of a script, what became of the next line. Ok: there is none. A fault: it couldn't be read, or it was
+  -- read, and its talk ended so.
+  abbrev pub NextEnds : {X : Type 0} → Result X TalkFault → Option (List ℕ) → List (Option C) → List ℕ
+      → Option (List ℕ) → Type 0
   NextEnds (Ok x) input places text input' = (text ≡ []) × IsAtEnd input × Keeps input input'
   NextEnds (Err fault) input places text input' =
       ((text ≡ []) × IsReadFault fault × ReadsPart input input')
       ⊎ ((line : List ℕ) × (places' : List (Option C)) × ReadsLine input line input'
       × LineTalked {X = Unit {0}} sent left (strip_last 10 line) (Err fault) text places places')
 
-  -- A script is talked, from no connections on: so many lines to their ends, and then the next one as the end says. What is
-  -- written is the text of each, in their order.
-  pub record Talks {X : Type 0} (end : Result X TalkFault) (input input' output output' : Option (List ℕ)) : Type 0 where
+  -- A script is talked, from no connections on: so many lines to their ends, and then the next one as the end says.
+  -- What is written is the text of each, in their order.
+  pub record Talks {X : Type 0} (end : Result X TalkFault) (input input' output output' : Option (List ℕ))
+      : Type 0 where
     pub lines : List (List ℕ)
     pub text : List ℕ
     pub behind : Option (List ℕ)

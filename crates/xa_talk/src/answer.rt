@@ -15,7 +15,7 @@ use xa_frame::{Body, Reply, Request};
 use xa_script::Line;
 
 /// The most connections: as many as a manager has sessions.
-const MOST_CONNECTIONS: usize = 1_024;
+pub const MOST_CONNECTIONS: usize = 1_024;
 
 /// What a line is answered, if it is answered anything.
 pub fn answer<R: Read + Drop, W: Write + Drop, D: Dial<R, W>>(
@@ -25,7 +25,8 @@ pub fn answer<R: Read + Drop, W: Write + Drop, D: Dial<R, W>>(
     said: Line,
 ) -> Result<Option<Reply>, TalkFault>
     requires { lines.IsWithinLimits said }
-    ensures { LineAnswered (λ c. W.contents c.writer) (λ c. R.remaining c.reader) said result connections.old.places.items connections.new.places.items }
+    ensures { LineAnswered (λ c. W.contents c.writer) (λ c. R.remaining c.reader) said result
+        connections.old.places.items connections.new.places.items }
 {
     match said {
         Line::Silent => Ok(None),
@@ -56,7 +57,8 @@ fn connect<R: Read + Drop, W: Write + Drop, D: Dial<R, W>>(
     dial: &mut D,
     connections: &mut Connections<R, W>,
 ) -> Result<Reply, TalkFault>
-    ensures { ConnectAnswered (λ c. W.contents c.writer) (λ c. R.remaining c.reader) result connections.old.places.items connections.new.places.items }
+    ensures { ConnectAnswered (λ c. W.contents c.writer) (λ c. R.remaining c.reader) result
+        connections.old.places.items connections.new.places.items }
 {
     let place = connections.free_place();
     if place >= MOST_CONNECTIONS {
@@ -79,7 +81,8 @@ fn call<R: Read + Drop, W: Write + Drop>(
     request: &Request,
 ) -> Result<Reply, TalkFault>
     requires { IsRequest request.now }
-    ensures { CallAnswered (λ c. W.contents c.writer) (λ c. R.remaining c.reader) number request.now result connections.old.places.items connections.new.places.items }
+    ensures { CallAnswered (λ c. W.contents c.writer) (λ c. R.remaining c.reader) number request.now result
+        connections.old.places.items connections.new.places.items }
 {
     let Some(place) = place_of(number) else {
         return Ok(Reply::plain(XAER_PROTO));

@@ -20,7 +20,9 @@ pub fn exchange<R: Read, W: Write>(
     request: &Request,
 ) -> Result<Reply, TalkFault>
     requires { IsRequest request.now }
-    ensures { Exchanged request.now result (W.contents connection.old.writer) (W.contents connection.new.writer) (R.remaining connection.old.reader) (R.remaining connection.new.reader) }
+    ensures { Exchanged request.now result
+        (W.contents connection.old.writer) (W.contents connection.new.writer)
+        (R.remaining connection.old.reader) (R.remaining connection.new.reader) }
 {
     send(alloc, &mut connection.writer, request)?;
     receive(alloc, &mut connection.reader)

@@ -1,12 +1,12 @@
-//! The lines of a script against a live server: `talk_run` sends each line's request over a connection, and writes the line of
-//! the reply.
+//! The lines of a script against a live server.
 //!
-//! - `talk`: a script is read line by line, and each reply is written as soon as it is there
-//! - `answer`: what one line is answered
+//! - `talk`: `talk_run`, which reads a script line by line, sends each line's request over a connection, and writes the
+//!   line of its reply as soon as it is there
+//! - `answer`: what one line is answered; `MOST_CONNECTIONS`
 //! - `connections`: the script's connections by their numbers
-//! - `exchanging`: a request goes over a connection, and its reply comes back
-//! - `dial`: the trait `Dial`, which opens connections
-//! - `fault`: why a script wasn't talked to its end
+//! - `exchanging`: `exchange`, a request that goes over a connection, and its reply that comes back
+//! - `dial`: `Dial`, what opens connections, and `Connection`
+//! - `fault`: `TalkFault`, why a script wasn't talked to its end
 #![tactic(auto)]
 
 mod answer;
@@ -16,6 +16,7 @@ mod exchanging;
 mod fault;
 mod talk;
 
+pub use answer::MOST_CONNECTIONS;
 pub use dial::{Connection, Dial};
 pub use exchanging::exchange;
 pub use fault::TalkFault;

@@ -18,16 +18,17 @@ use xa_script::{read_line, reply_line};
 
 /// Reads a script line by line. Each line is answered, and its reply written and flushed, before the next one is read.
 ///
-/// It ends with the input, or with the first fault: a line that couldn't be read, or beyond which none can be counted (`Read`); no
-/// memory; no connection where the line asks for one (`Connect`); one that broke (`Lost`), or brought what is no reply (`NoReply`),
-/// where the line's request goes over it; a reply that couldn't be written (`Write`).
+/// It ends with the input, or with the first fault: a line that couldn't be read, or beyond which none can be counted
+/// (`Read`); no memory; no connection where the line asks for one (`Connect`); one that broke (`Lost`), or brought what
+/// is no reply (`NoReply`), where the line's request goes over it; a reply that couldn't be written (`Write`).
 pub fn talk_run<I: BufRead + Drop, O: Write, R: Read + Drop, W: Write + Drop, D: Dial<R, W>>(
     alloc: Global,
     input: &mut I,
     output: &mut O,
     dial: &mut D,
 ) -> Result<(), TalkFault>
-    ensures { Talks {C = Connection R W} (λ c. W.contents c.writer) (λ c. R.remaining c.reader) result (I.remaining input.old) (I.remaining input.new) (O.contents output.old) (O.contents output.new) }
+    ensures { Talks {C = Connection R W} (λ c. W.contents c.writer) (λ c. R.remaining c.reader) result
+        (I.remaining input.old) (I.remaining input.new) (O.contents output.old) (O.contents output.new) }
 {
     let mut connections = Connections::new(alloc);
     let mut line = Vec::new(alloc);
@@ -67,7 +68,8 @@ fn talk_line<O: Write, R: Read + Drop, W: Write + Drop, D: Dial<R, W>>(
     line: &[u8],
 ) -> Result<(), TalkFault>
     ensures { (text : List ℕ) × Appends (O.contents output.old) (O.contents output.new) text
-        × LineTalked (λ c. W.contents c.writer) (λ c. R.remaining c.reader) line.now result text connections.old.places.items connections.new.places.items }
+        × LineTalked (λ c. W.contents c.writer) (λ c. R.remaining c.reader) line.now result text
+        connections.old.places.items connections.new.places.items }
 {
     let said = read_line(alloc, line)?;
     let Some(reply) = answer(alloc, dial, connections, said)? else {
@@ -78,7 +80,8 @@ fn talk_line<O: Write, R: Read + Drop, W: Write + Drop, D: Dial<R, W>>(
 
 /// Writes the line of a reply, and flushes it.
 fn write_reply<O: Write>(alloc: Global, output: &mut O, reply: &Reply) -> Result<(), TalkFault>
-    ensures { (text : List ℕ) × Appends (O.contents output.old) (O.contents output.new) text × Shows reply.now result text }
+    ensures { (text : List ℕ) × Appends (O.contents output.old) (O.contents output.new) text
+        × Shows reply.now result text }
 {
     let text = reply_line(alloc, reply)?;
     if !write_text(output, text.as_slice()) {

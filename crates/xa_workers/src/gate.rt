@@ -1,5 +1,5 @@
-/// Is told of each call before it takes the desk's lock, and after it gave it back. It may keep a call waiting. Connects and
-/// hang-ups pass no gate.
+/// Is told of each call before it takes the desk's lock, and after it gave it back. It may keep a call waiting.
+/// Connects and hang-ups pass no gate.
 pub trait Gate {
     ghost use Rattle.std.specs.Prelude.{◌<◌};
 

@@ -1,9 +1,13 @@
 //! Workers: threads that serve the connections of a listener. Each session's calls go to one desk, which they share.
 //!
-//! `workers` has `run_workers`: a share of the desk's ledger for each worker, and one report of all at the end. A worker (`work`)
-//! takes the next of the connections' numbers (`numbers`), accepts a connection, and serves it from its seat (`seat`), which
-//! is a door over the desk: each call passes the gate (`gate`) before it takes the desk's lock and after it gave it back. What
-//! the desk recorded stands in the worker's report (`report`).
+//! - `workers`: `run_workers`, a share of the desk's ledger for each worker (`split_all`), and one report of all at the
+//!   end; `WorkFault`, why there is none
+//! - `work`: a worker takes the next of the connections' numbers (`numbers`), accepts a connection, and serves it from its
+//!   seat
+//! - `seat`: `Seat`, a door over the desk, whose calls pass a gate
+//! - `gate`: `Gate`, which is told of each call before it takes the desk's lock and after it gave it back; `OpenGate`
+//! - `report`: `Report`, what the desk recorded by a share; with `keeping` (receipts that find memory are kept, and the
+//!   others counted)
 #![tactic(auto)]
 
 mod gate;

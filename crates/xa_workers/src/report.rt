@@ -8,8 +8,8 @@ use xa_assoc::ConnectFault;
 use xa_frame::{Reply, Request};
 use xa_room::{Desk, Manages, Receipt, Share, Start};
 
-/// What was recorded by a share since its report began: the receipts of its connects, calls and hang-ups in their order, and
-/// how many receipts more found no memory to be kept.
+/// What was recorded by a share since its report began: the receipts of its connects, calls and hang-ups in their
+/// order, and how many receipts more found no memory to be kept.
 #[derive(Drop)]
 pub struct Report<L: Ledger> {
     pub share: Share<L>,
@@ -93,7 +93,7 @@ impl<L: Ledger> Report<L> {
         desk: &Desk<M, S, L>,
         session: u64,
     )
-        ensures { HangsUp (WasGone M.has_session M.stands M.trusts S.start) session self.old self.new }
+        ensures { HangsUp (WasGone M.Manages S.start) session self.old self.new }
     {
         let Report {
             share,

@@ -30,7 +30,8 @@ impl<'a, M: Manages, S: Start, L: Ledger, G: Gate, R: Wait> Seat<'a, M, S, L, G,
         gate: &'a G,
         share: Share<L>,
     ) -> Seat<'a, M, S, L, G, R>
-        ensures report { (result.report.share ≡ share) × (result.report.receipts.items ≡ []) × (result.report.dropped ≡ 0) }
+        ensures report { (result.report.share ≡ share) × (result.report.receipts.items ≡ [])
+            × (result.report.dropped ≡ 0) }
         ensures calls { result.calls ≡ 0 }
     {
         Seat {
@@ -70,9 +71,10 @@ impl<M: Manages, S: Start, L: Ledger, G: Gate, R: Wait> Door for Seat<'_, M, S, 
     ghost use Rattle.xa_room.specs.Gone.{WasGone};
     ghost use Rattle.xa_workers.specs.Reports.{Calls, HangsUp, CountsOn};
 
-    ghost called = { λ session a request reply b. Calls session a.report request reply b.report × CountsOn a.calls b.calls };
+    ghost called = { λ session a request reply b.
+        Calls session a.report request reply b.report × CountsOn a.calls b.calls };
 
-    ghost left = { λ session a b. HangsUp (WasGone M.has_session M.stands M.trusts S.start) session a.report b.report };
+    ghost left = { λ session a b. HangsUp (WasGone M.Manages S.start) session a.report b.report };
 
     fn call(&mut self, session: u64, request: Request) -> Reply {
         self.calls = self.calls.saturating_add(1);

@@ -29,7 +29,7 @@ pub(crate) fn work<M: Manages, S: Start, L: Ledger, G: Gate, R: Wait>(
 ) -> Report<L>
     ensures parts { result.share.parts ≡ share.parts }
     ensures count { result.share.count ≡ share.count + told result }
-    ensures served { Works (WasGone M.has_session M.stands M.trusts S.start) share result }
+    ensures served { Works (WasGone M.Manages S.start) share result }
 {
     let mut seat = Seat::new(alloc, rt, desk, gate, share);
     for _ in 0..connections {
@@ -41,15 +41,15 @@ pub(crate) fn work<M: Manages, S: Start, L: Ledger, G: Gate, R: Wait>(
     seat.into_report()
 }
 
-// Accepts a connection, and serves a session on it. Where the accept fails, or there is no memory to read by, or no session
-// is connected, that was all.
+// Accepts a connection, and serves a session on it. Where the accept fails, or there is no memory to read by, or no
+// session is connected, that was all.
 fn serve_next<M: Manages, S: Start, L: Ledger, G: Gate, R: Wait>(
     alloc: Global,
     listener: &TcpListener,
     seat: &mut Seat<'_, M, S, L, G, R>,
 )
     ensures balances { Balances seat.old.report seat.new.report }
-    ensures served { Serves (WasGone M.has_session M.stands M.trusts S.start) seat.old.report seat.new.report }
+    ensures served { Serves (WasGone M.Manages S.start) seat.old.report seat.new.report }
 {
     let Ok((stream, _)) = listener.accept() else {
         return;

@@ -23,6 +23,17 @@ pub enum WorkFault {
     Memory = 1,
 }
 
+impl From<AllocError> for WorkFault {
+    ghost use Rattle.std.specs.Prelude.{◌≡◌};
+    ghost use Rattle.xa_workers.specs.declared.workers.WorkFault.TheVariants.{Memory};
+
+    ghost from_gives = { λ _ fault. fault ≡ Memory };
+
+    fn from(_: AllocError) -> WorkFault {
+        WorkFault::Memory
+    }
+}
+
 /// As many shares as are asked for, with one part each but the last, which has what is left.
 pub fn split_all<L: Ledger>(
     alloc: Global,
@@ -61,7 +72,7 @@ fn work_all<
     shares: Vec<Share<L>>,
 ) -> Result<Vec<Report<L>>, AllocError>
     ensures { IfOk result (λ v. (length v.items ≡ length shares.items)
-        × AreReports (WasGone M.has_session M.stands M.trusts S.start) shares.items v.items) }
+        × AreReports (WasGone M.Manages S.start) shares.items v.items) }
 {
     let numbers = Mutex::new(Numbers::new(connections));
     map_vec(
@@ -69,7 +80,7 @@ fn work_all<
         shares,
         &|share: Share<L>| -> Report<L>
             ensures { (result.share.parts ≡ share.parts) × (result.share.count ≡ share.count + told result)
-                × Works (WasGone M.has_session M.stands M.trusts S.start) share result }
+                × Works (WasGone M.Manages S.start) share result }
         {
             work(
                 rt,
@@ -107,12 +118,14 @@ fn gather<M: Manages, S: Start, L: Ledger, R: Wait>(
     all
 }
 
-/// Serves so many connections of the listener by n workers, each in a thread of its own, and joins them. Before each accept
-/// a worker takes the next of the numbers 1 to `connections`, and it ends when none is left. An accept that fails, and a
-/// connection whose session isn't connected or that finds no memory, use theirs up; such a connection is closed without a byte.
+/// Serves so many connections of the listener by n workers, each in a thread of its own, and joins them. Before each
+/// accept a worker takes the next of the numbers 1 to `connections`, and it ends when none is left. An accept that
+/// fails, and a connection whose session isn't connected or that finds no memory, use theirs up; such a connection is
+/// closed without a byte.
 ///
-/// The report has the workers' shares as one, and tells of all their connects, calls and hang-ups: each session that was
-/// connected was hung up behind its calls, or a room's manager had no such session. After a fault the share is gone, and the desk stays.
+/// The report has the workers' shares as one, and tells of all their connects, calls and hang-ups: each session that
+/// was connected was hung up behind its calls, or a room's manager had no such session. After a fault the share is
+/// gone, and the desk stays.
 pub fn run_workers<
     M: Manages + Send,
     S: Start + Send + Sync,
@@ -132,13 +145,9 @@ pub fn run_workers<
     requires { (0 < n) × (n ≤ share.parts) }
     ensures parts { IfOk result (λ r. r.share.parts ≡ share.parts) }
     ensures count { IfOk result (λ r. r.share.count ≡ share.count + (vec_len r.receipts + r.dropped)) }
-    ensures served { IfOk result (λ r. Runs (WasGone M.has_session M.stands M.trusts S.start) n r) }
+    ensures served { IfOk result (λ r. Runs (WasGone M.Manages S.start) n r) }
 {
-    let Ok(shares) = split_all(alloc, share, n) else {
-        return Err(WorkFault::Memory);
-    };
-    let Ok(reports) = work_all(rt, alloc, listener, desk, gate, connections, shares) else {
-        return Err(WorkFault::Memory);
-    };
+    let shares = split_all(alloc, share, n)?;
+    let reports = work_all(rt, alloc, listener, desk, gate, connections, shares)?;
     Ok(gather(rt, desk, reports))
 }

@@ -63,7 +63,7 @@ impl From<ServerFault> for ServeFault {
     fn from(fault: ServerFault) -> ServeFault {
         match fault {
             ServerFault::Memory => ServeFault::Memory,
-            ServerFault::Workers => ServeFault::Start,
+            ServerFault::Workers(_) => ServeFault::Start,
         }
     }
 }

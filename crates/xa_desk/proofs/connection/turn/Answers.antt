@@ -1,24 +1,33 @@
-use Rattle.std.proofs.Common.{arith, refl, inr}
-use Rattle.xa_desk.proofs.Talking.{talks-ended, talks-cut, talks-refused, talks-lacking, talks-answered}
+use Rattle.std.proofs.Common.{arith, refl}
+use Rattle.std.proofs.lemmas.Result.{err_from_is_err_and}
+use Rattle.xa_desk.proofs.Talking.{talks-unread, talks-refused, talks-unsent, talks-lacking, talks-answered}
 use Rattle.xa_desk.proofs.connection.turn.Goals as goal
 
-pub returns-in-End : goal.returns-in-End
-returns-in-End g c = let e = c.in-End.ensures.end refl in talks-ended _ _ _ _ _ e.0 e.1
+pub returns-in_err-length : goal.returns-in_err-length
+returns-in_err-length g c =
+    let p = err_from_is_err_and c.from_residual.result c.from_residual.ensures.1 in
+    rw (p.1, p.2) (talks-unread _ _ _ _ _ _ c.in_err-length.ensures)
 
-pub returns-in-Fault : goal.returns-in-Fault
-returns-in-Fault g c = let e = c.in-Fault.ensures.fault refl in talks-cut _ 1 _ _ _ _ e.0 e.1 (inr (omega arith)) e.2
+pub returns-in_err-send : goal.returns-in_err-send
+returns-in_err-send g c =
+    let p = err_from_is_err_and c.from_residual-in_err-send.result c.from_residual-in_err-send.ensures.1 in
+    rw (p.1, p.2)
+    (talks-unsent _ _ c.refusal.result _ _ _ _ _ c.in_ok-length.length c.refusal.ensures.reply
+    (c.if-is_too_long.ensures.long refl) (omega arith) c.in_ok-length.ensures c.in_err-send.ensures)
 
 pub returns-then-is_too_long : goal.returns-then-is_too_long
 returns-then-is_too_long g c =
-    talks-refused _ c.send.result c.unwrap_or.result c.refusal-reply.result _ _ _ _ _ c.in-Length.length c.unwrap_or.ensures c.refusal-reply.ensures.reply
-    (c.if-is_too_long.ensures.long refl) (omega arith) (c.in-Length.ensures.length c.in-Length.length refl) c.send.ensures
+    talks-refused _ c.refusal.result _ _ _ _ _ c.in_ok-length.length c.refusal.ensures.reply
+    (c.if-is_too_long.ensures.long refl) (omega arith) c.in_ok-length.ensures c.in_ok-send.ensures
 
-pub returns-in-Err : goal.returns-in-Err
-returns-in-Err g c =
-    talks-lacking _ c.in-Err.end _ _ _ _ _ c.in-Length.length (c.if-is_too_long.ensures.fits refl) (c.in-Length.ensures.length c.in-Length.length refl) c.in-Err.ensures.ends
+pub returns-in_err-content : goal.returns-in_err-content
+returns-in_err-content g c =
+    let p = err_from_is_err_and c.from_residual-in_err-content.result c.from_residual-in_err-content.ensures.1 in
+    rw (p.1, p.2)
+    (talks-lacking _ _ _ _ _ _ _ c.in_ok-length.length (c.if-is_too_long.ensures.fits refl) c.in_ok-length.ensures c.in_err-content.ensures.ends)
 
 pub returns : goal.returns
 returns g c =
-    talks-answered _ c.send-2.result _ _ _ _ _ _ _ c.in-Length.length c.in-Ok.content.items c.as_slice.result.now c.answer-reply.result
-    (c.if-is_too_long.ensures.fits refl) (c.in-Length.ensures.length c.in-Length.length refl) c.in-Ok.ensures.read.0 c.in-Ok.ensures.read.1
+    talks-answered _ c.send-2.result _ _ _ _ _ _ _ c.in_ok-length.length c.in_ok-content.content.items c.as_slice.result.now c.answer-reply.result
+    (c.if-is_too_long.ensures.fits refl) c.in_ok-length.ensures c.in_ok-content.ensures.read.0 c.in_ok-content.ensures.read.1
     c.as_slice.ensures.value c.answer-reply.ensures.answers c.send-2.ensures

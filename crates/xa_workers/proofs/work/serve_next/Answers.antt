@@ -20,7 +20,7 @@ returns-clause-balances g c =
     (λ a b c. balances_twice a.report b.report c.report) (λ a q r b h. calls_balance _ a.report q r b.report h.0)
     second talks.contents talks.replies third talks.answered
     in
-    let left = hangs_up_balances (WasGone g.M.Manages.has_session g.M.Manages.stands g.M.Manages.trusts g.S.Start.start) _ third.report last.report served.2 in
+    let left = hangs_up_balances (WasGone g.M.Manages g.S.Start.start) _ third.report last.report served.2 in
     let before = balances_twice first.report second.report third.report connected answered in
     balances_twice first.report third.report last.report before left
 

@@ -6,5 +6,5 @@ use Rattle.xa_workers.proofs.work.work.Given as goal
 abbrev pub invariant-loop : goal.invariant-loop
 invariant-loop g l = record {
   balances : Balances l.initial.seat.report l.seat.report;
-  served : Served (WasGone g.M.Manages.has_session g.M.Manages.stands g.M.Manages.trusts g.S.Start.start) l.initial.seat.report l.seat.report;
+  served : Served (WasGone g.M.Manages g.S.Start.start) l.initial.seat.report l.seat.report;
 }

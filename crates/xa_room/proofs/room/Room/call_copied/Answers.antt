@@ -20,7 +20,7 @@ invariant_of-self-2 g c =
     let first : c.args.first ≡ c.args.request = c.requires.first in
     let kept : c.copied-kept.result ≡ c.call-reply.result = c.copied-kept.ensures in
     let asked : IsAsked c.args.request = record { limits = c.requires.limits; held = c.requires.held } in
-    kept_noted m.stands m.trusts m.told m.has_called m.failures m.sessions g.S.Start.start g.S.Start.base room.manager c.call-reply.new.self
+    kept_noted m g.S.Start.start g.S.Start.base room.manager c.call-reply.new.self
     room.history.items _ _ _ _ (Call c.args.session c.args.first) _ c.copied-kept.result
     c.self.invariant
     (subst (λ (q : Request). Acts m.stands m.trusts m.told m.has_called m.failures room.manager (Call c.args.session q) c.copied-kept.result c.call-reply.new.self) (sym first)
@@ -41,9 +41,9 @@ returns-clause-recorded g c =
     let old : Told g.row.M.Denot = record { now = room.manager; entries = room.history.items } in
     let new : Told g.row.M.Denot = record { now = c.call-reply.new.self; entries = c.note-receipt.new.history.items } in (
       ap (λ (r : Receipt). r.reply) is ∙ (λ i. placed (sym (ap (λ (r : Receipt). r.place) is) i) (kept i)) ∙ sym c.placed.ensures,
-      subst (λ (o : Told g.row.M.Denot). Adds m.stands m.trusts m.told m.has_called m.failures o new (Call c.args.session c.args.request) c.note-receipt.result.reply c.note-receipt.result) c.self.view_is
-          (subst (λ (q : Request). Adds m.stands m.trusts m.told m.has_called m.failures old new (Call c.args.session q) c.note-receipt.result.reply c.note-receipt.result) first
-          (adds_noted m.stands m.trusts m.told m.has_called m.failures old new
+      subst (λ (o : Told g.row.M.Denot). Adds m o new (Call c.args.session c.args.request) c.note-receipt.result.reply c.note-receipt.result) c.self.view_is
+          (subst (λ (q : Request). Adds m old new (Call c.args.session q) c.note-receipt.result.reply c.note-receipt.result) first
+          (adds_noted m old new
           _ (Call c.args.session c.args.first) _ c.copied-kept.result c.note-receipt.result
           c.make_room.ensures.items c.note-receipt.ensures.entries is c.outcome.ensures
           (subst (λ (q : Request). Acts m.stands m.trusts m.told m.has_called m.failures room.manager (Call c.args.session q) c.copied-kept.result c.call-reply.new.self) (sym first)

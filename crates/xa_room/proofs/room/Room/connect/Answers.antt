@@ -12,7 +12,7 @@ invariant_of-self-2 g c =
     let room = c.self.inside in
     let connect = c.connect-session.ensures in
     let served : is_memory c.connect_reply.result.detail ≡ false = ap (λ (r : Reply). is_memory r.detail) c.connect_reply.ensures.value ∙ sym c.if-found_none.ensures.value in
-    kept_noted m.stands m.trusts m.told m.has_called m.failures m.sessions g.S.Start.start g.S.Start.base room.manager c.connect-session.new.self
+    kept_noted m g.S.Start.start g.S.Start.base room.manager c.connect-session.new.self
     room.history.items _ _ _ _ Connect _ _
     c.self.invariant
     (subst (λ (r : Reply). Acts m.stands m.trusts m.told m.has_called m.failures room.manager Connect r c.connect-session.new.self) (sym c.connect_reply.ensures.value) connect.acts)

@@ -13,7 +13,7 @@ invariant_of-self g c =
     let m = g.M.Manages in
     let room = c.self.inside in
     let acts = subst (λ (r : Reply). Acts m.stands m.trusts m.told m.has_called m.failures room.manager (Hangup c.args.session) r c.hangup.new.self) (sym c.plain.ensures) c.hangup.ensures.acts in
-    kept_noted m.stands m.trusts m.told m.has_called m.failures m.sessions g.S.Start.start g.S.Start.base room.manager c.hangup.new.self
+    kept_noted m g.S.Start.start g.S.Start.base room.manager c.hangup.new.self
     room.history.items _ _ _ _ (Hangup c.args.session) _ _
     c.self.invariant acts (ap (λ (r : Reply). is_memory r.detail) c.plain.ensures) (ap (λ (r : Reply). r.place) c.plain.ensures) tt c.outcome.ensures refl c.note.ensures.entries
     (omega (arith, c.self.invariant.reserved, c.hangup.ensures.sessions (sym c.if-not-is_connected.ensures), c.note.ensures.capacity))
@@ -25,9 +25,9 @@ returns-clause-recorded g c =
     let acts = subst (λ (r : Reply). Acts m.stands m.trusts m.told m.has_called m.failures room.manager (Hangup c.args.session) r c.hangup.new.self) (sym c.plain.ensures) c.hangup.ensures.acts in
     let old : Told g.row.M.Denot = record { now = room.manager; entries = room.history.items } in
     let new : Told g.row.M.Denot = record { now = c.hangup.new.self; entries = c.note.new.history.items } in
-    subst (λ (o : Told g.row.M.Denot). (m.has_session o.now c.args.session ≡ true) × Adds m.stands m.trusts m.told m.has_called m.failures o new (Hangup c.args.session) c.note.result.reply c.note.result) c.self.view_is (
+    subst (λ (o : Told g.row.M.Denot). (m.has_session o.now c.args.session ≡ true) × Adds m o new (Hangup c.args.session) c.note.result.reply c.note.result) c.self.view_is (
       sym c.if-not-is_connected.ensures,
-      adds_noted m.stands m.trusts m.told m.has_called m.failures old new
+      adds_noted m old new
           _ (Hangup c.args.session) _ _ c.note.result
           refl c.note.ensures.entries c.note.ensures.receipt c.outcome.ensures
           acts (ap (λ (r : Reply). is_memory r.detail) c.plain.ensures) (ap (λ (r : Reply). r.place) c.plain.ensures),
