@@ -4,7 +4,7 @@ use Rattle.std.specs.Prelude.{IfOk, IfErr, IsOk, ◌⊎◌}
 use Rattle.xa_frame.specs.declared.fault.FrameFault.{FrameFault}
 use Rattle.xa_frame.specs.declared.fault.FrameFault.TheVariants.{Memory}
 use Rattle.xa_frame.specs.Answers.{Answers, IsOrWants, IsFault}
-use Rattle.xa_frame.proofs.Digits.{ok_is}
+use Rattle.xa_fields.proofs.Results.{ok_is}
 use Rattle.xa_frame.proofs.Whole.{fault_of}
 
 pub found : {A : Type 0} (r read : Result A FrameFault) (P : A → Type 0) → Answers r read → ((x : A) → read ≡ Ok x → P x) → IfOk r P

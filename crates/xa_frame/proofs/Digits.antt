@@ -5,26 +5,14 @@ use Rattle.std.specs.Option.{ok_or}
 use Rattle.xa_bytes.specs.Numbers as numbers
 use Rattle.xa_bytes.proofs.Digits as digits
 use Rattle.xa_bytes.proofs.Digits.{IsBytes, IsWide, Takes}
+use Rattle.xa_fields.proofs.Results.{ok_is}
 use Rattle.xa_frame.specs.declared.fault.FrameFault.{FrameFault}
 use Rattle.xa_frame.specs.declared.fault.FrameFault.TheVariants.{Short}
-use Rattle.xa_frame.specs.Reading.{◌>>=◌, rest_of, number_at}
+use Rattle.xa_frame.specs.Reading.{rest_of, number_at}
 use Rattle.xa_frame.specs.Faults.{after_bytes}
-
--- the value of a step that did not fail
-pub bind_ok : {A B : Type 0} (r : Result A FrameFault) (f : A → Result B FrameFault) (y : B) → (r >>= f) ≡ Ok y → (x : A) × (r ≡ Ok x) × (f x ≡ Ok y)
-bind_ok (Ok x) f y e = (x, refl, e)
-bind_ok (Err d) f y e = absurd cc
-
--- a test that did not fail
-pub guard_ok : {A : Type 0} (b : Bool) (d : FrameFault) (r : Result A FrameFault) (y : A) → cond b (Err d) r ≡ Ok y → (b ≡ false) × (r ≡ Ok y)
-guard_ok true d r y e = absurd cc
-guard_ok false d r y e = (refl, e)
 
 abbrev pub done : {A : Type 0} → A → Result A FrameFault
 done x = Ok x
-
-pub ok_is : {A : Type 0} (x y : A) → done x ≡ done y → x ≡ y
-ok_is x y e = cc
 
 -- a field that is there
 some_of_ok : {A : Type 0} (o : Option A) (x : A) → ok_or o Short ≡ Ok x → o ≡ Some x

@@ -1,5 +1,6 @@
 pub mod Loop
 pub mod Digits
+pub mod FieldFaults
 pub mod Readers
 pub mod Whole
 pub mod Requests

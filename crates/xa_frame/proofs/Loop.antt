@@ -4,7 +4,8 @@ use Rattle.std.specs.Prelude.{IsOk}
 use Rattle.std.proofs.lemmas.List.{append-nil}
 use Rattle.xa_xid.specs.Triple.{Triple}
 use Rattle.xa_frame.specs.declared.fault.FrameFault.{FrameFault}
-use Rattle.xa_frame.specs.Reading.{◌>>=◌, made, rest_of, value_of_first, name_at, names_at}
+use Rattle.xa_fields.specs.Reading.{◌>>=◌}
+use Rattle.xa_frame.specs.Reading.{made, rest_of, value_of_first, name_at, names_at}
 
 -- what was read before, and what is still read
 abbrev pub with_front : List Triple → Result (List Triple × List ℕ) FrameFault → Result (List Triple × List ℕ) FrameFault

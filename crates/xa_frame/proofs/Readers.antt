@@ -1,5 +1,5 @@
 -- Each field: what is read is what was written, what was written is read again, and which fault it is.
-use Rattle.std.proofs.Common.{◌≡◌, ℕ, zero, suc, ◌^◌, ◌<◌, ◌≤◌, Bool, true, false, cond, ltb, eqb, ◌||◌, List, [], ◌∷◌, ◌++◌, length, take, drop, Option, Some, None, find, Result, Ok, Err, refl, sym, ap, subst, ◌∙◌, append_assoc, arith}
+use Rattle.std.proofs.Common.{◌≡◌, ℕ, zero, suc, ◌^◌, ◌<◌, ◌≤◌, Bool, true, false, cond, ltb, eqb, List, [], ◌∷◌, ◌++◌, length, take, drop, Option, Some, None, find, Result, Ok, Err, refl, sym, ap, subst, ◌∙◌, append_assoc, arith}
 use Rattle.std.specs.Int.{w16, w32, w64, from_be_bytes, to_be_bytes, cast_signed, cast_unsigned}
 use Rattle.std.specs.Option.{ok_or}
 use Rattle.std.specs.List.{flat_map, AllByRecursion}
@@ -7,25 +7,30 @@ use Rattle.std.specs.Prelude.{ℤ, pos, negsuc, FitsSigned}
 use Rattle.std.proofs.lemmas.Bool.{ltb-false, le-ltb}
 use Rattle.std.proofs.lemmas.Bool.Decides.{nat_tests}
 use Rattle.std.proofs.lemmas.Int.{to_z-of_z, of_z-to_z}
-use Rattle.std.proofs.lemmas.List.{take_at, drop_at, take-append-drop, length-append, length-take}
 use Rattle.std.proofs.lemmas.List.Concat.{flat_map-cons}
 use Rattle.std.proofs.Math.Facts.{sfits_to_z, Fits-of_lt}
 use Rattle.xa_codes.specs.declared.detail.Detail.{Detail}
 use Rattle.xa_codes.specs.declared.detail.Detail.TheVariants as detail
 use Rattle.xa_codes.specs.declared.direction.Direction.{Direction}
-use Rattle.xa_codes.specs.declared.direction.Direction.TheVariants.{Commit, Rollback}
 use Rattle.xa_xid.specs.Triple.{Triple, IsWithinLimits}
 use Rattle.xa_xid.specs.Spelling.{bytes_of}
-use Rattle.xa_xid.specs.Reading.{xid_at}
-use Rattle.xa_xid.proofs.Front.{xid_takes, xid_again}
+use Rattle.xa_bytes.proofs.Digits.{IsBytes, IsBytes-rest, Takes, Takes-then, wide16, wide32, wide64}
+use Rattle.xa_fields.specs.declared.fault.FieldFault.{FieldFault}
+use Rattle.xa_fields.specs.Spelling.{short_bytes, value_bytes, direction_bytes}
+use Rattle.xa_fields.specs.Reading as fields
+use Rattle.xa_fields.specs.Reading.{◌>>=◌, ReadsBack}
+use Rattle.xa_fields.proofs.Fields as back
+use Rattle.xa_fields.proofs.Fields.{takes, short}
+use Rattle.xa_fields.proofs.Results.{bind_ok, guard_ok, ok_is}
 use Rattle.xa_frame.specs.declared.fault.FrameFault.{FrameFault}
 use Rattle.xa_frame.specs.declared.fault.FrameFault.TheVariants.{Short, Field}
 use Rattle.xa_frame.specs.Limits.{IsKey, IsValue, IsInfo}
-use Rattle.xa_frame.specs.Spelling.{short_bytes, value_bytes, direction_byte, direction_bytes, xids_bytes, detail_byte, detail_bytes, details, detail_numbered}
-use Rattle.xa_frame.specs.Faults.{After, after_bytes, after_info, after_key, after_value, after_direction, after_detail, behind, after_xid, and_then, after_each, after_xids, if_some}
-use Rattle.xa_frame.specs.Reading.{◌>>=◌, Reads, rest_of, number_at, bytes_at, info_at, key_at, value_at, direction_at, named, name_at, names_at, xids_at, code_at, detailed, detail_at}
-use Rattle.xa_bytes.proofs.Digits.{IsBytes, IsBytes-drop, IsBytes-rest, Takes, Takes-then, wide16, wide32, wide64}
-use Rattle.xa_frame.proofs.Digits.{bind_ok, guard_ok, done, ok_is, number_takes, number_again, number_fault}
+use Rattle.xa_frame.specs.Spelling.{xids_bytes, detail_byte, detail_bytes, details, detail_numbered}
+use Rattle.xa_frame.specs.Faults.{After, after_bytes, after_info, after_key, after_value, after_direction, after_detail, after_xid, and_then, after_each, after_xids, if_some}
+use Rattle.xa_frame.specs.Fields.{of_field}
+use Rattle.xa_frame.specs.Reading.{Reads, rest_of, number_at, info_at, key_at, value_at, direction_at, name_at, names_at, xids_at, code_at, detailed, detail_at}
+use Rattle.xa_frame.proofs.Digits.{done, number_takes, number_again, number_fault}
+use Rattle.xa_frame.proofs.FieldFaults.{info_fault, key_fault, value_fault, direction_fault, name_fault}
 
 -- a reader, the spelling of what it reads, what it reads, and what stands behind it
 pub record IsField (A : Type 0) (at : Reads A) (spell : A → List ℕ) (fits : A → Type 0) (after : After) : Type 0 where
@@ -39,136 +44,42 @@ number32 = record { takes = number_takes w32 (2 ^ 32) wide32; again = number_aga
 pub number64 : IsField ℕ (number_at w64) (to_be_bytes w64) (λ n. n < 2 ^ 64) (after_bytes 8)
 number64 = record { takes = number_takes w64 (2 ^ 64) wide64; again = number_again w64 (2 ^ 64) wide64; fault = number_fault w64 }
 
--- ---- so many bytes
+-- ---- a field, in a content
 
-record IsFront (n : ℕ) (bytes text rest : List ℕ) : Type 0 where
-  parts : bytes ≡ text ++ rest
-  len : length text ≡ n
-  fits : IsBytes bytes → IsBytes rest
+ok_field : {A : Type 0} (r : Result A FieldFault) (x : A) → of_field r ≡ Ok x → r ≡ Ok x
+ok_field (Ok y) x e = ap (λ (z : _). Ok z) (ok_is y x e)
+ok_field (Err d) x e = absurd cc
 
-bytes_take : (n : ℕ) (bytes text rest : List ℕ) → bytes_at n bytes ≡ Ok (text, rest) → IsFront n bytes text rest
-bytes_take n bytes text rest e =
-    let g = guard_ok (ltb (length bytes) n) Short (Ok (take n bytes, drop n bytes)) (text, rest) e in
-    let long : n ≤ length bytes = ltb-false _ _ g.0 in
-    subst (λ (p : List ℕ × List ℕ). IsFront n bytes p.0 p.1) (ok_is (take n bytes, drop n bytes) (text, rest) g.1)
-    (record { parts = sym (take-append-drop n bytes); len = omega (arith, length-take n bytes); fits = IsBytes-drop n bytes })
+field : {A : Type 0} {at : fields.Reads A} {spell : A → List ℕ} {fits : A → Type 0} {after : After} → ReadsBack A at spell fits
+    → ((bytes : List ℕ) → rest_of (of_field (at bytes)) ≡ after bytes) → IsField A (λ bytes. of_field (at bytes)) spell fits after
+field {at = at} F fault = record {
+  takes = λ bytes x rest small e. takes F bytes x rest small (ok_field (at bytes) (x, rest) e);
+  again = λ x rest h. ap of_field (F.again x rest h);
+  fault = fault;
+}
 
-bytes_again : (text rest : List ℕ) → bytes_at (length text) (text ++ rest) ≡ Ok (text, rest)
-bytes_again text rest =
-    let long : ltb (length (text ++ rest)) (length text) ≡ false = le-ltb _ _ (omega (arith, length-append text rest)) in
-    rw (long, take_at text rest (length text) refl, drop_at text rest (length text) refl) refl
+pub info : IsField (List ℕ) info_at short_bytes IsInfo after_info
+info = field short info_fault
 
-rest-bytes : (b : Bool) (d : FrameFault) (x : List ℕ) (bytes : List ℕ) → rest_of (cond b (Err d) (Ok (x, bytes))) ≡ cond b (Err d) (Ok bytes)
-rest-bytes true d x bytes = refl
-rest-bytes false d x bytes = refl
+pub key : IsField (List ℕ) key_at short_bytes IsKey after_key
+key = field back.key key_fault
 
-bytes_fault : (n : ℕ) (bytes : List ℕ) → rest_of (bytes_at n bytes) ≡ after_bytes n bytes
-bytes_fault n bytes = rest-bytes (ltb (length bytes) n) Short (take n bytes) (drop n bytes)
+pub value : IsField (List ℕ) value_at value_bytes IsValue after_value
+value = field back.value value_fault
+
+pub direction : IsField Direction direction_at direction_bytes (λ d. Unit {0}) after_direction
+direction = field back.direction direction_fault
+
+pub name : IsField Triple name_at bytes_of IsWithinLimits after_xid
+name = field back.name name_fault
 
 rest-guard : {A : Type 0} (b : Bool) (d : FrameFault) (r : Result (A × List ℕ) FrameFault) (s : Result (List ℕ) FrameFault) → rest_of r ≡ s → rest_of (cond b (Err d) r) ≡ cond b (Err d) s
 rest-guard true d r s e = refl
 rest-guard false d r s e = e
 
--- ---- a length of one byte
-
-short_taken : (n : ℕ) (bytes text rest : List ℕ) → IsBytes (n ∷ bytes) → IsFront n bytes text rest → Takes (n ∷ bytes) (short_bytes text) rest
-short_taken n bytes text rest fits f = record {
-  parts = ap (λ (k : ℕ). k ∷ bytes) (sym f.len) ∙ ap (λ (t : List ℕ). length text ∷ t) f.parts;
-  rest_fits = f.fits (IsBytes-rest n bytes fits);
-}
-
-info_takes : (bytes text rest : List ℕ) → IsBytes bytes → info_at bytes ≡ Ok (text, rest) → Takes bytes (short_bytes text) rest × IsInfo text
-unfolding info_at
-info_takes [] text rest fits e = absurd cc
-info_takes (n ∷ bytes) text rest fits e =
-    let f = bytes_take n bytes text rest e in
-    (short_taken n bytes text rest fits f, omega (arith, f.len, fits 0))
-
-info_again : (text rest : List ℕ) → IsInfo text → info_at (short_bytes text ++ rest) ≡ Ok (text, rest)
-unfolding info_at
-info_again text rest h = bytes_again text rest
-
-info_fault : (bytes : List ℕ) → rest_of (info_at bytes) ≡ after_info bytes
-unfolding info_at
-info_fault [] = refl
-info_fault (n ∷ bytes) = bytes_fault n bytes
-
-pub info : IsField (List ℕ) info_at short_bytes IsInfo after_info
-info = record { takes = info_takes; again = info_again; fault = info_fault }
-
-or_false : (a b : Bool) → (a || b) ≡ false → (a ≡ false) × (b ≡ false)
-or_false true b e = absurd cc
-or_false false b e = (refl, e)
-
-both_false : (a b : Bool) → a ≡ false → b ≡ false → (a || b) ≡ false
-both_false true b e f = e
-both_false false b e f = f
-
-eqb_false : (n : ℕ) → 1 ≤ n → eqb n 0 ≡ false
-eqb_false n h = grind (arith, nat_tests)
-
-false_eqb : (n : ℕ) → eqb n 0 ≡ false → 1 ≤ n
-false_eqb n e = grind (arith, nat_tests)
-
-key_takes : (bytes text rest : List ℕ) → IsBytes bytes → key_at bytes ≡ Ok (text, rest) → Takes bytes (short_bytes text) rest × IsKey text
-unfolding key_at
-key_takes [] text rest fits e = absurd cc
-key_takes (n ∷ bytes) text rest fits e =
-    let g = guard_ok (eqb n 0 || ltb 64 n) Field (bytes_at n bytes) (text, rest) e in
-    let t = or_false (eqb n 0) (ltb 64 n) g.0 in
-    let f = bytes_take n bytes text rest g.1 in
-    let low : 1 ≤ n = false_eqb n t.0 in
-    let high : n ≤ 64 = ltb-false 64 n t.1 in
-    (short_taken n bytes text rest fits f, (omega (arith, f.len), omega (arith, f.len)))
-
-key_again : (text rest : List ℕ) → IsKey text → key_at (short_bytes text ++ rest) ≡ Ok (text, rest)
-unfolding key_at
-key_again text rest h =
-    let t : (eqb (length text) 0 || ltb 64 (length text)) ≡ false = both_false _ _ (eqb_false (length text) h.0) (le-ltb 64 (length text) h.1) in
-    rw t (bytes_again text rest)
-
-key_fault : (bytes : List ℕ) → rest_of (key_at bytes) ≡ after_key bytes
-unfolding key_at
-key_fault [] = refl
-key_fault (n ∷ bytes) = rest-guard (eqb n 0 || ltb 64 n) Field (bytes_at n bytes) (after_bytes n bytes) (bytes_fault n bytes)
-
-pub key : IsField (List ℕ) key_at short_bytes IsKey after_key
-key = record { takes = key_takes; again = key_again; fault = key_fault }
-
--- ---- a value
-
-value_takes : (bytes text rest : List ℕ) → IsBytes bytes → value_at bytes ≡ Ok (text, rest) → Takes bytes (value_bytes text) rest × IsValue text
-unfolding value_at
-value_takes bytes text rest fits e =
-    let b = bind_ok (number_at w16 bytes) (λ n. cond (ltb 1024 n.0) (Err Field) (bytes_at n.0 n.1)) (text, rest) e in
-    let t = number_takes w16 (2 ^ 16) wide16 bytes b.0.0 b.0.1 fits b.1 in
-    let g = guard_ok (ltb 1024 b.0.0) Field (bytes_at b.0.0 b.0.1) (text, rest) b.2 in
-    let f = bytes_take b.0.0 b.0.1 text rest g.1 in
-    let high : b.0.0 ≤ 1024 = ltb-false 1024 b.0.0 g.0 in
-    let second : Takes b.0.1 text rest = record { parts = f.parts; rest_fits = f.fits t.0.rest_fits } in
-    let both = Takes-then bytes (to_be_bytes w16 b.0.0) b.0.1 text rest t.0 second in
-    (subst (λ (k : ℕ). Takes bytes (to_be_bytes w16 k ++ text) rest) (sym f.len) both, omega (arith, f.len))
-
-value_again : (text rest : List ℕ) → IsValue text → value_at (value_bytes text ++ rest) ≡ Ok (text, rest)
-unfolding value_at
-value_again text rest h =
-    let high : ltb 1024 (length text) ≡ false = le-ltb 1024 (length text) h in
-    ap (λ (r : Result (ℕ × List ℕ) FrameFault). r >>= λ n. cond (ltb 1024 n.0) (Err Field) (bytes_at n.0 n.1)) (number_again w16 (2 ^ 16) wide16 (length text) (text ++ rest) (omega (arith, h)))
-    ∙ rw high (bytes_again text rest)
-
 rest-number : {A : Type 0} (b : Bool) (x : ℕ × List ℕ) (f : ℕ × List ℕ → Result (A × List ℕ) FrameFault) → rest_of (ok_or (cond b None (Some x)) Short >>= f) ≡ cond b (Err Short) (rest_of (f x))
 rest-number true x f = refl
 rest-number false x f = refl
-
-value_fault : (bytes : List ℕ) → rest_of (value_at bytes) ≡ after_value bytes
-unfolding value_at number_at
-value_fault bytes =
-    let n = from_be_bytes w16 (take 2 bytes) in
-    rest-number (ltb (length bytes) 2) (n, drop 2 bytes) (λ n. cond (ltb 1024 n.0) (Err Field) (bytes_at n.0 n.1))
-    ∙ ap (λ (r : Result (List ℕ) FrameFault). cond (ltb (length bytes) 2) (Err Short) r) (rest-guard (ltb 1024 n) Field (bytes_at n (drop 2 bytes)) (after_bytes n (drop 2 bytes)) (bytes_fault n (drop 2 bytes)))
-
-pub value : IsField (List ℕ) value_at value_bytes IsValue after_value
-value = record { takes = value_takes; again = value_again; fault = value_fault }
 
 -- ---- one byte
 
@@ -186,68 +97,7 @@ one_byte {A} spell b bytes x y rest is fits e =
     let made : Takes (b ∷ bytes) (spell x ∷ []) bytes = record { parts = ap (λ (k : ℕ). k ∷ bytes) is; rest_fits = fits } in
     subst (λ (s : List ℕ). Takes (b ∷ bytes) (spell y ∷ []) s) p.1 (subst (λ (z : A). Takes (b ∷ bytes) (spell z ∷ []) bytes) p.0 made)
 
-direction_chosen : (b : ℕ) (p q : Bool) (bytes : List ℕ) (d : Direction) (rest : List ℕ) → eqb b 1 ≡ p → eqb b 2 ≡ q → IsBytes bytes
-    → cond p (done {A = Direction × List ℕ} (Commit, bytes)) (cond q (done {A = Direction × List ℕ} (Rollback, bytes)) (Err Field)) ≡ Ok (d, rest) → Takes (b ∷ bytes) (direction_bytes d) rest
-direction_chosen b true q bytes d rest h k fits e = one_byte direction_byte b bytes Commit d rest (eqb_true b 1 h) fits e
-direction_chosen b false true bytes d rest h k fits e = one_byte direction_byte b bytes Rollback d rest (eqb_true b 2 k) fits e
-direction_chosen b false false bytes d rest h k fits e = absurd cc
-
-direction_takes : (bytes : List ℕ) (d : Direction) (rest : List ℕ) → IsBytes bytes → direction_at bytes ≡ Ok (d, rest) → Takes bytes (direction_bytes d) rest × Unit {0}
-unfolding direction_at
-direction_takes [] d rest fits e = absurd cc
-direction_takes (b ∷ bytes) d rest fits e = (direction_chosen b (eqb b 1) (eqb b 2) bytes d rest refl refl (IsBytes-rest b bytes fits) e, tt)
-
-direction_again : (d : Direction) (rest : List ℕ) → Unit {0} → direction_at (direction_bytes d ++ rest) ≡ Ok (d, rest)
-unfolding direction_at
-direction_again Commit rest h = refl
-direction_again Rollback rest h = refl
-
-direction_tested : (p q : Bool) (bytes : List ℕ) → rest_of (cond p (done {A = Direction × List ℕ} (Commit, bytes)) (cond q (done {A = Direction × List ℕ} (Rollback, bytes)) (Err Field))) ≡ cond (p || q) (Ok bytes) (Err Field)
-direction_tested true q bytes = refl
-direction_tested false true bytes = refl
-direction_tested false false bytes = refl
-
-direction_fault : (bytes : List ℕ) → rest_of (direction_at bytes) ≡ after_direction bytes
-unfolding direction_at
-direction_fault [] = refl
-direction_fault (b ∷ bytes) = direction_tested (eqb b 1) (eqb b 2) bytes
-
-pub direction : IsField Direction direction_at direction_bytes (λ d. Unit {0}) after_direction
-direction = record { takes = direction_takes; again = direction_again; fault = direction_fault }
-
 -- ---- XIDs
-
-name_found : (bytes : List ℕ) (o : Option (Triple × ℕ)) (x : Triple) (rest : List ℕ) → IsBytes bytes → xid_at bytes ≡ o → named bytes o ≡ Ok (x, rest) → Takes bytes (bytes_of x) rest × IsWithinLimits x
-name_found bytes None x rest fits h e = absurd cc
-name_found bytes (Some y) x rest fits h e =
-    let begins = xid_takes bytes y.0 y.1 fits h in
-    let p = pair_is y.0 x (drop y.1 bytes) rest e in
-    let takes : Takes bytes (bytes_of y.0) (drop y.1 bytes) = record {
-      parts = sym (take-append-drop y.1 bytes) ∙ ap (λ (t : List ℕ). t ++ drop y.1 bytes) begins.front;
-      rest_fits = IsBytes-drop y.1 bytes fits;
-    } in
-    subst (λ (r : List ℕ). Takes bytes (bytes_of x) r × IsWithinLimits x) p.1 (subst (λ (z : Triple). Takes bytes (bytes_of z) (drop y.1 bytes) × IsWithinLimits z) p.0 (takes, begins.limits))
-
-name_takes : (bytes : List ℕ) (x : Triple) (rest : List ℕ) → IsBytes bytes → name_at bytes ≡ Ok (x, rest) → Takes bytes (bytes_of x) rest × IsWithinLimits x
-unfolding name_at
-name_takes bytes x rest fits e = name_found bytes (xid_at bytes) x rest fits refl e
-
-name_again : (x : Triple) (rest : List ℕ) → IsWithinLimits x → name_at (bytes_of x ++ rest) ≡ Ok (x, rest)
-unfolding name_at
-name_again x rest h =
-    ap (λ (o : Option (Triple × ℕ)). named (bytes_of x ++ rest) o) (xid_again x rest h)
-    ∙ ap (λ (r : List ℕ). Ok (x, r)) (drop_at (bytes_of x) rest (length (bytes_of x)) refl)
-
-named_fault : (bytes : List ℕ) (o : Option (Triple × ℕ)) → rest_of (named bytes o) ≡ behind bytes o
-named_fault bytes None = refl
-named_fault bytes (Some x) = refl
-
-name_fault : (bytes : List ℕ) → rest_of (name_at bytes) ≡ after_xid bytes
-unfolding name_at
-name_fault bytes = named_fault bytes (xid_at bytes)
-
-pub name : IsField Triple name_at bytes_of IsWithinLimits after_xid
-name = record { takes = name_takes; again = name_again; fault = name_fault }
 
 names_take : (n : ℕ) (bytes : List ℕ) (xs : List Triple) (rest : List ℕ) → IsBytes bytes → names_at n bytes ≡ Ok (xs, rest)
     → Takes bytes (flat_map bytes_of xs) rest × (length xs ≡ n) × AllByRecursion IsWithinLimits xs
@@ -259,7 +109,7 @@ names_take zero bytes xs rest fits e =
 names_take (suc n) bytes xs rest fits e =
     let a = bind_ok (name_at bytes) (λ first. names_at n first.1 >>= λ others. Ok (first.0 ∷ others.0, others.1)) (xs, rest) e in
     let b = bind_ok (names_at n a.0.1) (λ others. Ok (a.0.0 ∷ others.0, others.1)) (xs, rest) a.2 in
-    let first = name_takes bytes a.0.0 a.0.1 fits a.1 in
+    let first = name.takes bytes a.0.0 a.0.1 fits a.1 in
     let second = names_take n a.0.1 b.0.0 b.0.1 first.0.rest_fits b.1 in
     let both = Takes-then bytes (bytes_of a.0.0) a.0.1 (flat_map bytes_of b.0.0) b.0.1 first.0 second.0 in
     let p = pair_is (a.0.0 ∷ b.0.0) xs b.0.1 rest b.2 in
@@ -272,7 +122,7 @@ names_again [] rest h = refl
 names_again (x ∷ xs) rest h =
     let regrouped : flat_map bytes_of (x ∷ xs) ++ rest ≡ bytes_of x ++ (flat_map bytes_of xs ++ rest) = ap (λ (t : List ℕ). t ++ rest) (flat_map-cons bytes_of x xs) ∙ append_assoc (bytes_of x) (flat_map bytes_of xs) rest in
     ap (names_at (suc (length xs))) regrouped
-    ∙ ap (λ (r : Result (Triple × List ℕ) FrameFault). r >>= λ first. names_at (length xs) first.1 >>= λ others. Ok (first.0 ∷ others.0, others.1)) (name_again x (flat_map bytes_of xs ++ rest) h.0)
+    ∙ ap (λ (r : Result (Triple × List ℕ) FrameFault). r >>= λ first. names_at (length xs) first.1 >>= λ others. Ok (first.0 ∷ others.0, others.1)) (name.again x (flat_map bytes_of xs ++ rest) h.0)
     ∙ ap (λ (r : Result (List Triple × List ℕ) FrameFault). r >>= λ others. Ok (x ∷ others.0, others.1)) (names_again xs rest h.1)
 
 rest-first : (x : Triple) (r : Result (List Triple × List ℕ) FrameFault) → rest_of (r >>= λ others. Ok (x ∷ others.0, others.1)) ≡ rest_of r
@@ -287,7 +137,7 @@ names_after n (Err d) s e h = ap (λ t. and_then t (after_each n)) e
 names_fault : (n : ℕ) (bytes : List ℕ) → rest_of (names_at n bytes) ≡ after_each n bytes
 unfolding names_at
 names_fault zero bytes = refl
-names_fault (suc n) bytes = names_after n (name_at bytes) (after_xid bytes) (name_fault bytes) (names_fault n)
+names_fault (suc n) bytes = names_after n (name_at bytes) (after_xid bytes) (name.fault bytes) (names_fault n)
 
 pub record AreNames (xs : List Triple) : Type 0 where
   pub few : length xs ≤ 256

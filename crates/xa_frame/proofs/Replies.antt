@@ -16,9 +16,10 @@ use Rattle.xa_frame.specs.declared.reply.Reply.{Reply}
 use Rattle.xa_frame.specs.Limits.{IsBody, IsReply, HoldsBody, HoldsReply}
 use Rattle.xa_frame.specs.Spelling.{xids_bytes, detail_bytes, body_bytes, bytes_of_reply, SpellsReply}
 use Rattle.xa_frame.specs.Faults.{After, after_bytes, after_value, after_detail, after_xids, after_body, go_on, fault_in, fault_of_reply}
-use Rattle.xa_frame.specs.Reading.{◌>>=◌, Reads, ended, one_of, made, number_at, value_at, xids_at, code_at, detail_at, body_at, answer_at, versioned_at, reply_at}
+use Rattle.xa_fields.specs.Reading.{◌>>=◌}
+use Rattle.xa_frame.specs.Reading.{Reads, ended, one_of, made, number_at, value_at, xids_at, code_at, detail_at, body_at, answer_at, versioned_at, reply_at}
 use Rattle.xa_bytes.proofs.Digits.{IsBytes, IsBytes-rest}
-use Rattle.xa_frame.proofs.Digits.{bind_ok, ok_is}
+use Rattle.xa_fields.proofs.Results.{bind_ok, ok_is}
 use Rattle.xa_frame.proofs.Readers.{IsField, number64, value, xids, AreNames, code, code_bytes, about, eqb_true}
 use Rattle.xa_frame.proofs.Whole.{fault_of, ended_is, ended_fault, step_fault, one_takes, one_again, one_fault, made_ok, made_fault}
 use Rattle.xa_frame.proofs.Requests.{versioned_is, versioned_again, versioned_fault, name_short}

@@ -12,11 +12,14 @@ use Rattle.xa_frame.specs.declared.fault.FrameFault.TheVariants.{Long, Version}
 use Rattle.xa_frame.specs.declared.request.Request.{Request}
 use Rattle.xa_frame.specs.declared.request.Request.TheVariants as request
 use Rattle.xa_frame.specs.Limits.{IsRequest, Holds}
-use Rattle.xa_frame.specs.Spelling.{short_bytes, value_bytes, direction_bytes, operation, calls, numbered, call_of, fields_bytes, bytes_of_request, SpellsRequest}
+use Rattle.xa_fields.specs.Spelling.{short_bytes, value_bytes, direction_bytes}
+use Rattle.xa_frame.specs.Spelling.{operation, calls, numbered, call_of, fields_bytes, bytes_of_request, SpellsRequest}
 use Rattle.xa_frame.specs.Faults.{After, fault_in, fields, fault_of_fields, fault_of_operation, fault_behind_version, fault_of_request}
-use Rattle.xa_frame.specs.Reading.{◌>>=◌, Reads, one_of, two_of, made, number_at, info_at, key_at, value_at, direction_at, name_at, fields_at, fields_of, operation_at, behind_version, versioned_at, request_at}
+use Rattle.xa_fields.specs.Reading.{◌>>=◌}
+use Rattle.xa_frame.specs.Reading.{Reads, one_of, two_of, made, number_at, info_at, key_at, value_at, direction_at, name_at, fields_at, fields_of, operation_at, behind_version, versioned_at, request_at}
 use Rattle.xa_bytes.proofs.Digits.{IsBytes, IsBytes-rest}
-use Rattle.xa_frame.proofs.Digits.{bind_ok, guard_ok, ok_is, done}
+use Rattle.xa_fields.proofs.Results.{bind_ok, guard_ok, ok_is}
+use Rattle.xa_frame.proofs.Digits.{done}
 use Rattle.xa_frame.proofs.Readers.{IsField, number32, info, key, value, direction, name, found_holds, eqb_true}
 use Rattle.xa_frame.proofs.Whole.{fault_of, ended_is, ended_fault, one_takes, one_again, one_fault, two_takes, two_again, two_fault, made_ok, made_fault}
 

@@ -4,9 +4,11 @@ use Rattle.std.proofs.lemmas.List.{append-nil, nil_from_length}
 use Rattle.xa_frame.specs.declared.fault.FrameFault.{FrameFault}
 use Rattle.xa_frame.specs.declared.fault.FrameFault.TheVariants.{Trailing}
 use Rattle.xa_frame.specs.Faults.{After, go_on, fault_in}
-use Rattle.xa_frame.specs.Reading.{◌>>=◌, Reads, rest_of, ended, one_of, two_of, made}
+use Rattle.xa_fields.specs.Reading.{◌>>=◌}
+use Rattle.xa_frame.specs.Reading.{Reads, rest_of, ended, one_of, two_of, made}
 use Rattle.xa_bytes.proofs.Digits.{IsBytes, Takes-then}
-use Rattle.xa_frame.proofs.Digits.{bind_ok, ok_is, done}
+use Rattle.xa_fields.proofs.Results.{bind_ok, ok_is}
+use Rattle.xa_frame.proofs.Digits.{done}
 use Rattle.xa_frame.proofs.Readers.{IsField, eqb_true}
 
 abbrev pub fault_of : {A : Type 0} → Result A FrameFault → Option FrameFault

@@ -3,12 +3,7 @@ use Rattle.std.specs.Prelude.{◌≡◌, ◌⊎◌, Option, Some, None, Result, 
 use Rattle.xa_frame.specs.declared.fault.FrameFault.{FrameFault}
 use Rattle.xa_frame.specs.declared.fault.FrameFault.TheVariants.{Memory}
 
--- what a function returned, seen by view, is what the definition reads
-abbrev pub Gives : {X Y : Type 0} → (X → Y) → Result X FrameFault → Result Y FrameFault → Type 0
-Gives view (Ok x) read = read ≡ Ok (view x)
-Gives view (Err e) read = read ≡ Err e
-
--- the same, but where memory was wanted for a value that is there
+-- what a function returned is what the definition reads, but where memory was wanted for a value that is there
 abbrev pub Answers : {A : Type 0} → Result A FrameFault → Result A FrameFault → Type 0
 Answers (Ok x) read = read ≡ Ok x
 Answers (Err e) read = (read ≡ Err e) ⊎ ((e ≡ Memory) × IsOk read)

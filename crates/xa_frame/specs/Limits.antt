@@ -1,8 +1,8 @@
 -- Which requests and replies some frame spells: those within the limits.
 use Rattle.std.specs.Prelude.{ℕ, ◌<◌, ◌≤◌, ◌^◌, List, length, All, FitsSigned}
 use Rattle.std.specs.Int.{w32}
-use Rattle.xa_codes.specs.declared.write.TheConstants.{MOST_KEY, MOST_VALUE}
 use Rattle.xa_xid.specs.Triple.{IsWithinLimits}
+pub use Rattle.xa_fields.specs.Limits.{IsKey, IsValue}
 use Rattle.xa_frame.specs.declared.request.Request.{Request}
 use Rattle.xa_frame.specs.declared.request.Request.TheVariants.{Open, Close, Start, End, Prepare, Commit, Rollback, Forget, Recover, Get, Put, Delete, Decide, Doom}
 use Rattle.xa_frame.specs.declared.body.Body.{Body}
@@ -10,12 +10,6 @@ use Rattle.xa_frame.specs.declared.body.Body.TheVariants.{Number, Value, Xids}
 use Rattle.xa_frame.specs.declared.reply.Reply.{Reply}
 use Rattle.xa_frame.specs.declared.request.TheConstants.{MOST_INFO}
 use Rattle.xa_frame.specs.declared.xids.TheConstants.{MOST_XIDS}
-
-abbrev pub IsKey : List ℕ → Type 0
-IsKey key = (1 ≤ length key) × (length key ≤ MOST_KEY)
-
-abbrev pub IsValue : List ℕ → Type 0
-IsValue value = length value ≤ MOST_VALUE
 
 abbrev pub IsInfo : List ℕ → Type 0
 IsInfo info = length info ≤ MOST_INFO

@@ -1,5 +1,5 @@
 -- Reading a content from left to right. A field is a value and the bytes after it.
-use Rattle.std.specs.Prelude.{ℕ, ℤ, zero, suc, List, [], ◌∷◌, length, take, drop, Option, Some, None, Result, Ok, Err, nat_lt, ◌==◌, ◌||◌, if◌then◌else◌}
+use Rattle.std.specs.Prelude.{ℕ, ℤ, zero, suc, List, [], ◌∷◌, length, Option, Some, None, Result, Ok, Err, nat_lt, ◌==◌, if◌then◌else◌}
 use Rattle.std.specs.Int.{Width, w16, w32, w64, cast_signed}
 use Rattle.std.specs.Option.{ok_or}
 use Rattle.xa_bytes.specs.Numbers as numbers
@@ -7,10 +7,9 @@ use Rattle.xa_codes.specs.declared.call.Call.{Call}
 use Rattle.xa_codes.specs.declared.call.Call.TheVariants as call
 use Rattle.xa_codes.specs.declared.detail.Detail.{Detail}
 use Rattle.xa_codes.specs.declared.direction.Direction.{Direction}
-use Rattle.xa_codes.specs.declared.direction.Direction.TheVariants.{Commit, Rollback}
-use Rattle.xa_codes.specs.declared.write.TheConstants.{MOST_KEY, MOST_VALUE}
 use Rattle.xa_xid.specs.Triple.{Triple}
-use Rattle.xa_xid.specs.Reading.{xid_at}
+use Rattle.xa_fields.specs.Reading as fields
+use Rattle.xa_fields.specs.Reading.{◌>>=◌}
 use Rattle.xa_frame.specs.declared.request.Request.{Request}
 use Rattle.xa_frame.specs.declared.request.Request.TheVariants as request
 use Rattle.xa_frame.specs.declared.body.Body.{Body}
@@ -20,12 +19,8 @@ use Rattle.xa_frame.specs.declared.fault.FrameFault.{FrameFault}
 use Rattle.xa_frame.specs.declared.fault.FrameFault.TheVariants.{Short, Long, Version, Operation, Field, Trailing}
 use Rattle.xa_frame.specs.declared.request_decoder.TheConstants.{MOST_CONTENT}
 use Rattle.xa_frame.specs.declared.xids.TheConstants.{MOST_XIDS}
+use Rattle.xa_frame.specs.Fields.{of_field}
 use Rattle.xa_frame.specs.Spelling.{numbered, detail_numbered}
-
-infixl 10 ◌>>=◌
-abbrev pub ◌>>=◌ : {A B : Type 0} → Result A FrameFault → (A → Result B FrameFault) → Result B FrameFault
-(Ok x) >>= f = f x
-(Err e) >>= f = Err e
 
 abbrev pub Reads : Type 0 → Type 0
 Reads A = List ℕ → Result (A × List ℕ) FrameFault
@@ -58,33 +53,20 @@ two_of f g bytes = do
 unfoldable pub number_at : Width → Reads ℕ
 number_at w bytes = ok_or (numbers.number_at w bytes) Short
 
--- so many bytes
-abbrev pub bytes_at : ℕ → Reads (List ℕ)
-bytes_at n bytes = if nat_lt (length bytes) n then Err Short else Ok (take n bytes, drop n bytes)
+abbrev pub info_at : Reads (List ℕ)
+info_at bytes = of_field (fields.short_at bytes)
 
-unfoldable pub info_at : Reads (List ℕ)
-info_at [] = Err Short
-info_at (n ∷ rest) = bytes_at n rest
+abbrev pub key_at : Reads (List ℕ)
+key_at bytes = of_field (fields.key_at bytes)
 
-unfoldable pub key_at : Reads (List ℕ)
-key_at [] = Err Short
-key_at (n ∷ rest) = if (n == 0) || nat_lt MOST_KEY n then Err Field else bytes_at n rest
+abbrev pub value_at : Reads (List ℕ)
+value_at bytes = of_field (fields.value_at bytes)
 
-unfoldable pub value_at : Reads (List ℕ)
-value_at bytes = do
-  n ← number_at w16 bytes
-  if nat_lt MOST_VALUE n.0 then Err Field else bytes_at n.0 n.1
+abbrev pub direction_at : Reads Direction
+direction_at bytes = of_field (fields.direction_at bytes)
 
-unfoldable pub direction_at : Reads Direction
-direction_at [] = Err Short
-direction_at (b ∷ rest) = if b == 1 then Ok (Commit, rest) else if b == 2 then Ok (Rollback, rest) else Err Field
-
-abbrev pub named : List ℕ → Option (Triple × ℕ) → Result (Triple × List ℕ) FrameFault
-named bytes None = Err Field
-named bytes (Some x) = Ok (x.0, drop x.1 bytes)
-
-unfoldable pub name_at : Reads Triple
-name_at bytes = named bytes (xid_at bytes)
+abbrev pub name_at : Reads Triple
+name_at bytes = of_field (fields.name_at bytes)
 
 -- so many XIDs
 unfoldable pub names_at : ℕ → Reads (List Triple)

@@ -5,11 +5,12 @@ use Rattle.xa_codes.specs.declared.codes.TheConstants.{XAER_INVAL}
 use Rattle.xa_codes.specs.declared.detail.Detail.TheVariants as detail
 use Rattle.xa_codes.specs.declared.direction.Direction.TheVariants as direction
 use Rattle.xa_xid.specs.Triple.{Triple}
+use Rattle.xa_fields.specs.Spelling.{direction_byte}
 use Rattle.xa_frame.specs.declared.request.Request.TheVariants.{Start}
 use Rattle.xa_frame.specs.declared.body.Body.TheVariants as body
 use Rattle.xa_frame.specs.declared.reply.Reply.{Reply}
 use Rattle.xa_frame.specs.declared.fault.FrameFault.TheVariants.{Short, Version, Operation, Field, Trailing}
-use Rattle.xa_frame.specs.Spelling.{operation, numbered, detail_byte, detail_numbered, direction_byte, bytes_of_request, bytes_of_reply}
+use Rattle.xa_frame.specs.Spelling.{operation, numbered, detail_byte, detail_numbered, bytes_of_request, bytes_of_reply}
 use Rattle.xa_frame.specs.Faults.{fault_of_request, fault_of_reply}
 
 -- the numbers of the operations, the details and the directions, and numbers that none has

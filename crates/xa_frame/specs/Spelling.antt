@@ -5,31 +5,15 @@ use Rattle.xa_codes.specs.declared.call.Call.{Call}
 use Rattle.xa_codes.specs.declared.call.Call.TheVariants as call
 use Rattle.xa_codes.specs.declared.detail.Detail.{Detail}
 use Rattle.xa_codes.specs.declared.detail.Detail.TheVariants as detail
-use Rattle.xa_codes.specs.declared.direction.Direction.{Direction}
-use Rattle.xa_codes.specs.declared.direction.Direction.TheVariants.{Commit, Rollback}
 use Rattle.xa_xid.specs.Triple.{Triple}
 use Rattle.xa_xid.specs.Spelling.{bytes_of}
+use Rattle.xa_fields.specs.Spelling.{short_bytes, value_bytes, direction_bytes}
 use Rattle.xa_frame.specs.declared.request.Request.{Request}
 use Rattle.xa_frame.specs.declared.request.Request.TheVariants as request
 use Rattle.xa_frame.specs.declared.body.Body.{Body}
 use Rattle.xa_frame.specs.declared.body.Body.TheVariants as body
 use Rattle.xa_frame.specs.declared.reply.Reply.{Reply}
 use Rattle.xa_frame.specs.Limits.{IsRequest, IsReply, Holds, HoldsReply}
-
--- a key or an open info, after its length in one byte
-abbrev pub short_bytes : List ℕ → List ℕ
-short_bytes bytes = length bytes ∷ bytes
-
--- a value, after its length in two bytes
-abbrev pub value_bytes : List ℕ → List ℕ
-value_bytes value = to_be_bytes w16 (length value) ++ value
-
-abbrev pub direction_byte : Direction → ℕ
-direction_byte Commit = 1
-direction_byte Rollback = 2
-
-abbrev pub direction_bytes : Direction → List ℕ
-direction_bytes direction = direction_byte direction ∷ []
 
 -- XIDs, after how many they are in two bytes
 abbrev pub xids_bytes : List Triple → List ℕ

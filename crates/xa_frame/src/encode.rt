@@ -1,8 +1,6 @@
-ghost use Rattle.std.specs.Prelude.{◌≡◌, ◌≤◌, ◌++◌, length, flat_map, All, IfOk, OnOk};
-ghost use Rattle.xa_codes.specs.declared.write.TheConstants.{MOST_VALUE};
-ghost use Rattle.xa_frame.specs.declared.request.TheConstants.{MOST_INFO};
+ghost use Rattle.std.specs.Prelude.{◌≡◌, ◌++◌, flat_map, All, IfOk, OnOk};
 ghost use Rattle.xa_frame.specs.Limits.{IsRequest, IsBody, IsReply, Holds, HoldsBody};
-ghost use Rattle.xa_frame.specs.Spelling.{short_bytes, value_bytes, xids_bytes, fields_bytes, body_bytes, SpellsRequest, SpellsReply};
+ghost use Rattle.xa_frame.specs.Spelling.{xids_bytes, fields_bytes, body_bytes, SpellsRequest, SpellsReply};
 ghost use Rattle.xa_xid.specs.Spelling.{bytes_of};
 ghost use Rattle.xa_xid.specs.Triple.{IsWithinLimits};
 
@@ -10,41 +8,15 @@ use crate::body::Body;
 use crate::numbers::{detail_number, operation_of};
 use crate::reply::Reply;
 use crate::request::Request;
-use arrayvec::ArrayVec;
 use std::alloc::{AllocError, Global};
-use xa_bytes::{put_u16, put_u32, put_u64};
+use xa_bytes::{put_u32, put_u64};
+use xa_fields::{put_direction, put_length, put_short, put_value, put_xid};
 use xa_xid::{MOST_BYTES, Xid};
 
 /// What each content begins with.
 const VERSION: u8 = 1;
 
-fn put_name(out: &mut Vec<u8>, xid: &Xid) -> Result<(), AllocError>
-    ensures bytes { OnOk result (out.new.items ≡ out.old.items ++ bytes_of xid.now) }
-    ensures limits { IsWithinLimits xid.now }
-{
-    let mut bytes: ArrayVec<u8, MOST_BYTES> = ArrayVec::new();
-    xid.put(&mut bytes);
-    out.extend_from_slice(bytes.as_slice())
-}
-
-fn put_short(out: &mut Vec<u8>, bytes: &[u8]) -> Result<(), AllocError>
-    requires { length bytes.now ≤ MOST_INFO }
-    ensures { OnOk result (out.new.items ≡ out.old.items ++ short_bytes bytes.now) }
-{
-    out.push(bytes.len() as u8)?;
-    out.extend_from_slice(bytes)
-}
-
-fn put_value(out: &mut Vec<u8>, value: &[u8]) -> Result<(), AllocError>
-    requires { length value.now ≤ MOST_VALUE }
-    ensures { OnOk result (out.new.items ≡ out.old.items ++ value_bytes value.now) }
-{
-    put_u16(out, value.len() as u16)?;
-    out.extend_from_slice(value)
-}
-
 fn put_fields(out: &mut Vec<u8>, request: &Request) -> Result<(), AllocError>
-    requires { IsRequest request.now }
     ensures bytes { OnOk result (out.new.items ≡ out.old.items ++ fields_bytes request.now) }
     ensures holds { OnOk result (Holds request.now) }
 {
@@ -61,7 +33,7 @@ fn put_fields(out: &mut Vec<u8>, request: &Request) -> Result<(), AllocError>
         | Request::Rollback { flags, xid }
         | Request::Forget { flags, xid } => {
             put_u32(out, *flags)?;
-            put_name(out, xid)
+            put_xid(out, xid)
         }
         Request::Recover { flags, count } => {
             put_u32(out, *flags)?;
@@ -73,10 +45,10 @@ fn put_fields(out: &mut Vec<u8>, request: &Request) -> Result<(), AllocError>
             put_value(out, value.as_slice())
         }
         Request::Decide { direction, xid } => {
-            out.push(*direction as u8)?;
-            put_name(out, xid)
+            put_direction(out, *direction)?;
+            put_xid(out, xid)
         }
-        Request::Doom { xid } => put_name(out, xid),
+        Request::Doom { xid } => put_xid(out, xid),
         Request::Restart => Ok(()),
     }
 }
@@ -111,13 +83,12 @@ fn put_names(out: &mut Vec<u8>, xids: &[Xid]) -> Result<(), AllocError>
     ensures limits { OnOk result (All IsWithinLimits xids.now) }
 {
     for xid in xids {
-        put_name(out, xid)?;
+        put_xid(out, xid)?;
     }
     Ok(())
 }
 
 fn put_body(out: &mut Vec<u8>, body: &Body) -> Result<(), AllocError>
-    requires { IsBody body.now }
     ensures bytes { OnOk result (out.new.items ≡ out.old.items ++ body_bytes body.now) }
     ensures holds { OnOk result (HoldsBody body.now) }
 {
@@ -135,7 +106,7 @@ fn put_body(out: &mut Vec<u8>, body: &Body) -> Result<(), AllocError>
         Body::Xids(xids) => {
             let xids = xids.as_slice();
             out.push(4)?;
-            put_u16(out, xids.len() as u16)?;
+            put_length(out, xids.len())?;
             put_names(out, xids)
         }
     }

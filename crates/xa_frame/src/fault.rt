@@ -1,8 +1,10 @@
 ghost use Rattle.std.specs.Prelude.{◌≡◌};
 ghost use Rattle.xa_frame.specs.declared.fault.FrameFault.TheVariants.{Memory};
+ghost use Rattle.xa_frame.specs.Fields.{fault_of_field};
 
 use std::alloc::{AllocError, AllocFailed};
 use thiserror::Error;
+use xa_fields::FieldFault;
 
 /// Why a content gave no value: the first fault, read from left to right.
 #[derive(Clone, Copy, Debug, PartialEq, Eq, Error)]
@@ -28,6 +30,17 @@ pub enum FrameFault {
     /// There is a value, but memory was wanted.
     #[error("no memory")]
     Memory = 7,
+}
+
+impl From<FieldFault> for FrameFault {
+    ghost from_gives = { λ e f. f ≡ fault_of_field e };
+
+    fn from(e: FieldFault) -> FrameFault {
+        match e {
+            FieldFault::Cut => FrameFault::Short,
+            FieldFault::Limit => FrameFault::Field,
+        }
+    }
 }
 
 impl From<AllocError> for FrameFault {

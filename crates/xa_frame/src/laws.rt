@@ -1,4 +1,5 @@
-ghost use Rattle.std.specs.Prelude.{◌≡◌, ◌≢◌, ◌≤◌, ◌<◌, ℕ, List, length, slice_index, Some, None};
+ghost use Rattle.std.specs.Prelude.{◌≡◌, ◌≢◌, ◌≤◌, ℕ, List, length, Some, None};
+ghost use Rattle.xa_bytes.specs.Numbers.{AreBytes};
 ghost use Rattle.xa_frame.specs.declared.fault.FrameFault.TheVariants.{Memory};
 ghost use Rattle.xa_frame.specs.declared.reply.Reply.{Reply};
 ghost use Rattle.xa_frame.specs.declared.request_decoder.TheConstants.{MOST_CONTENT};
@@ -13,7 +14,8 @@ pub fn one_request()
     ensures content { (a b : List ℕ) (r : Request) → SpellsRequest a r → SpellsRequest b r → a ≡ b }
     // Bytes have no fault exactly where they spell a request.
     ensures spelled { (bytes : List ℕ) (r : Request) → SpellsRequest bytes r → fault_of_request bytes ≡ None }
-    ensures faultless { (bytes : List ℕ) → ((i : ℕ) → slice_index bytes i < 256) → fault_of_request bytes ≡ None → (r : Request) × SpellsRequest bytes r }
+    ensures faultless { (bytes : List ℕ) → AreBytes bytes → fault_of_request bytes ≡ None
+        → (r : Request) × SpellsRequest bytes r }
     // Want of memory is no fault of bytes.
     ensures memory { (bytes : List ℕ) → fault_of_request bytes ≢ Some Memory }
 {}
@@ -24,7 +26,8 @@ pub fn one_reply()
     ensures content { (a b : List ℕ) (r : Reply) → SpellsReply a r → SpellsReply b r → a ≡ b }
     // Bytes have no fault exactly where they spell a reply.
     ensures spelled { (bytes : List ℕ) (r : Reply) → SpellsReply bytes r → fault_of_reply bytes ≡ None }
-    ensures faultless { (bytes : List ℕ) → ((i : ℕ) → slice_index bytes i < 256) → fault_of_reply bytes ≡ None → (r : Reply) × SpellsReply bytes r }
+    ensures faultless { (bytes : List ℕ) → AreBytes bytes → fault_of_reply bytes ≡ None
+        → (r : Reply) × SpellsReply bytes r }
     // Want of memory is no fault of bytes.
     ensures memory { (bytes : List ℕ) → fault_of_reply bytes ≢ Some Memory }
     ensures short { (bytes : List ℕ) (r : Reply) → SpellsReply bytes r → length bytes ≤ MOST_CONTENT }

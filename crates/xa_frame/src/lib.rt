@@ -11,7 +11,7 @@
 //!
 //! - `numbers`: the numbers that stand for calls and details; `Request::call`
 //! - `encode`: `encode_request` and `encode_reply`, of values within the limits
-//! - `fields`: what a content is made of, read from the front: numbers, byte strings, XIDs
+//! - `fields`: what a content is made of, read from the front: numbers, codes, details; keys, values and XIDs are `xa_fields`'
 //! - `request_decoder`: `decode_request`; `reply_decoder`: `decode_reply`
 //! - `fault`: `FrameFault`, the first fault of a content, read from left to right
 //! - `laws`: `one_request` and `one_reply`, one value and one content; `worked_contents`, worked rows

@@ -1,6 +1,7 @@
 ghost use Rattle.std.specs.Int.{w64};
 ghost use Rattle.std.specs.Prelude.{◌≡◌, IsOk, IfOk, IfErr, Err, None};
-ghost use Rattle.xa_frame.specs.Answers.{Gives, Answers, IsOrWants, IsFault};
+ghost use Rattle.xa_fields.specs.Answers.{Gives};
+ghost use Rattle.xa_frame.specs.Answers.{Answers, IsOrWants, IsFault};
 ghost use Rattle.xa_frame.specs.declared.fault.FrameFault.TheVariants.{Memory};
 ghost use Rattle.xa_frame.specs.declared.reply.Reply.{Reply};
 ghost use Rattle.xa_frame.specs.Spelling.{SpellsReply};
@@ -9,12 +10,13 @@ ghost use Rattle.xa_frame.specs.Reading.{made, one_of, rest_of, value_of_first, 
 
 use crate::body::Body;
 use crate::fault::FrameFault;
-use crate::fields::{code_of, detail_front, end, name_of, u16_at, u64_at, value_of};
+use crate::fields::{code_of, detail_front, end, u16_at, u64_at};
 use crate::reply::Reply;
 use crate::request_decoder::versioned;
 use crate::xids::{MOST_XIDS, Xids};
 use std::alloc::Global;
 use xa_codes::Bytes;
+use xa_fields::{take_value, take_xid};
 
 fn number_alone(bytes: &[u8]) -> Result<u64, FrameFault>
     ensures { result ≡ one_of (number_at w64) bytes.now }
@@ -27,7 +29,7 @@ fn number_alone(bytes: &[u8]) -> Result<u64, FrameFault>
 fn value_alone(bytes: &[u8]) -> Result<&[u8], FrameFault>
     ensures { Gives (λ x. x.now) result (one_of value_at bytes.now) }
 {
-    let (value, rest) = value_of(bytes)?;
+    let (value, rest) = take_value(bytes)?;
     end(rest)?;
     Ok(value)
 }
@@ -38,7 +40,7 @@ fn behind_names(count: u16, bytes: &[u8]) -> Result<&[u8], FrameFault>
 {
     let mut rest = bytes;
     for _ in 0..count {
-        let (_, after) = name_of(rest)?;
+        let (_, after) = take_xid(rest)?;
         rest = after;
     }
     Ok(rest)
@@ -52,7 +54,7 @@ fn names_of(alloc: Global, count: u16, bytes: &[u8]) -> Result<Xids, FrameFault>
     let mut xids = Vec::with_capacity(alloc, usize::from(count))?;
     let mut rest = bytes;
     for _ in 0..count {
-        let (xid, after) = name_of(rest)?;
+        let (xid, after) = take_xid(rest)?;
         xids.push(xid)?;
         rest = after;
     }

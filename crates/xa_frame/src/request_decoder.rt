@@ -1,18 +1,20 @@
 ghost use Rattle.std.specs.Int.{w32};
 ghost use Rattle.std.specs.Prelude.{◌≡◌, IfOk, IfErr, Err, None};
+ghost use Rattle.xa_fields.specs.Answers.{Gives};
 ghost use Rattle.xa_frame.specs.declared.fault.FrameFault.TheVariants.{Memory};
 ghost use Rattle.xa_frame.specs.declared.request.Request.{Request};
-ghost use Rattle.xa_frame.specs.Answers.{Gives, Answers, IsOrWants, IsFault};
+ghost use Rattle.xa_frame.specs.Answers.{Answers, IsOrWants, IsFault};
 ghost use Rattle.xa_frame.specs.Faults.{fault_of_request};
 ghost use Rattle.xa_frame.specs.Reading.{made, one_of, two_of, number_at, info_at, key_at, value_at, direction_at, name_at, fields_at, operation_at, versioned_at, request_at, branch_request};
 ghost use Rattle.xa_frame.specs.Spelling.{SpellsRequest};
 
 use crate::fault::FrameFault;
-use crate::fields::{direction_of, end, info_of, key_of, name_of, u32_at, value_of};
+use crate::fields::{end, u32_at};
 use crate::numbers::call_numbered;
 use crate::request::Request;
 use std::alloc::Global;
 use xa_codes::{Bytes, Call, Direction};
+use xa_fields::{take_direction, take_key, take_short, take_value, take_xid};
 use xa_xid::Xid;
 
 /// The most bytes of a frame's content.
@@ -30,7 +32,7 @@ fn flags_and_info(bytes: &[u8]) -> Result<(u32, &[u8]), FrameFault>
     ensures { Gives (λ x. (x.0, x.1.now)) result (two_of (number_at w32) info_at bytes.now) }
 {
     let (flags, rest) = u32_at(bytes)?;
-    let (info, rest) = info_of(rest)?;
+    let (info, rest) = take_short(rest)?;
     end(rest)?;
     Ok((flags, info))
 }
@@ -39,7 +41,7 @@ fn flags_and_xid(bytes: &[u8]) -> Result<(u32, Xid), FrameFault>
     ensures { result ≡ two_of (number_at w32) name_at bytes.now }
 {
     let (flags, rest) = u32_at(bytes)?;
-    let (xid, rest) = name_of(rest)?;
+    let (xid, rest) = take_xid(rest)?;
     end(rest)?;
     Ok((flags, xid))
 }
@@ -56,7 +58,7 @@ fn flags_and_count(bytes: &[u8]) -> Result<(u32, u32), FrameFault>
 fn key_alone(bytes: &[u8]) -> Result<&[u8], FrameFault>
     ensures { Gives (λ x. x.now) result (one_of key_at bytes.now) }
 {
-    let (key, rest) = key_of(bytes)?;
+    let (key, rest) = take_key(bytes)?;
     end(rest)?;
     Ok(key)
 }
@@ -64,8 +66,8 @@ fn key_alone(bytes: &[u8]) -> Result<&[u8], FrameFault>
 fn key_and_value(bytes: &[u8]) -> Result<(&[u8], &[u8]), FrameFault>
     ensures { Gives (λ x. (x.0.now, x.1.now)) result (two_of key_at value_at bytes.now) }
 {
-    let (key, rest) = key_of(bytes)?;
-    let (value, rest) = value_of(rest)?;
+    let (key, rest) = take_key(bytes)?;
+    let (value, rest) = take_value(rest)?;
     end(rest)?;
     Ok((key, value))
 }
@@ -73,8 +75,8 @@ fn key_and_value(bytes: &[u8]) -> Result<(&[u8], &[u8]), FrameFault>
 fn direction_and_xid(bytes: &[u8]) -> Result<(Direction, Xid), FrameFault>
     ensures { result ≡ two_of direction_at name_at bytes.now }
 {
-    let (direction, rest) = direction_of(bytes)?;
-    let (xid, rest) = name_of(rest)?;
+    let (direction, rest) = take_direction(bytes)?;
+    let (xid, rest) = take_xid(rest)?;
     end(rest)?;
     Ok((direction, xid))
 }
@@ -82,7 +84,7 @@ fn direction_and_xid(bytes: &[u8]) -> Result<(Direction, Xid), FrameFault>
 fn xid_alone(bytes: &[u8]) -> Result<Xid, FrameFault>
     ensures { result ≡ one_of name_at bytes.now }
 {
-    let (xid, rest) = name_of(bytes)?;
+    let (xid, rest) = take_xid(bytes)?;
     end(rest)?;
     Ok(xid)
 }

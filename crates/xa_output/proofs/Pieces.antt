@@ -2,7 +2,7 @@
 use Rattle.std.proofs.Common.{◌≡◌, ◌≢◌, ◌⊎◌, ℕ, zero, suc, ◌<◌, List, [], ◌++◌, take, drop, Option, Some, None, IfOk, OnErr, MatchOption, Result, Ok, Err, refl, sym, ap, subst, ◌∙◌, arith, inl, inr, append_assoc, append-nil}
 use Rattle.std.specs.Io.KnownBytes.{Appends, Keeps, WriteAppends}
 use Rattle.std.proofs.lemmas.List.{take-append-drop}
-use Rattle.xa_output.specs.Output.{IsPart}
+use Rattle.xa_output.specs.Output.{AppendsPart}
 
 pub nothing_appended : (known : Option (List ℕ)) → Appends known known []
 nothing_appended None = tt
@@ -48,7 +48,7 @@ more_written text rest left old mid new before now = (
 )
 
 pub part_written : (text rest : List ℕ) (old mid new : Option (List ℕ)) → Written text rest old mid → LeftOf rest None mid new → rest ≢ [] →
-    (part : List ℕ) × IsPart part text × Appends old new part
+    AppendsPart text old new
 part_written text rest old mid new before now more = (
   before.0,
   (rest, more, before.1),

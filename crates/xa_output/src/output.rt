@@ -1,8 +1,8 @@
 ghost use Rattle.std.specs.IoError.{error_kind};
 ghost use Rattle.std.specs.Io.KnownBytes.{Appends};
 ghost use Rattle.std.specs.Option.{option_copied};
-ghost use Rattle.std.specs.Prelude.{◌≡◌, ◌≢◌, ◌≤◌, ◌<◌, ◌⊎◌, IfErr, IfOk, List, None, OnErr, Some, drop, false, length, true, ℕ};
-ghost use Rattle.xa_output.specs.Output.{IsPart};
+ghost use Rattle.std.specs.Prelude.{◌≡◌, ◌≢◌, ◌≤◌, ◌<◌, ◌⊎◌, IfErr, IfOk, None, OnErr, Some, drop, false, length, true};
+ghost use Rattle.xa_output.specs.Output.{AppendsPart};
 
 use std::io::{self, ErrorKind, Write};
 
@@ -11,7 +11,7 @@ use std::io::{self, ErrorKind, Write};
 /// The loop is our own, since std's `write_all` doesn't say what it had written before it failed.
 pub fn write_text<W: Write>(writer: &mut W, text: &[u8]) -> bool
     ensures whole { result ≡ true → Appends (W.contents writer.old) (W.contents writer.new) text.now }
-    ensures part { result ≡ false → (part : List ℕ) × IsPart part text.now × Appends (W.contents writer.old) (W.contents writer.new) part }
+    ensures part { result ≡ false → AppendsPart text.now (W.contents writer.old) (W.contents writer.new) }
 {
     let mut rest = text;
     for _ in 0..u64::MAX {
@@ -34,7 +34,8 @@ fn left_of(written: io::Result<usize>, text: &[u8]) -> Option<&[u8]>
     ensures none_taken { IfOk written (λ count. count ≡ 0 → option_copied result ≡ None) }
     ensures erred { OnErr written ((option_copied result ≡ None) ⊎ (option_copied result ≡ Some text.now)) }
     ensures failed { IfErr written (λ error. error_kind error ≢ ErrorKind.Interrupted → option_copied result ≡ None) }
-    ensures interrupted { IfErr written (λ error. error_kind error ≡ ErrorKind.Interrupted → option_copied result ≡ Some text.now) }
+    ensures interrupted { IfErr written (λ error. error_kind error ≡ ErrorKind.Interrupted
+        → option_copied result ≡ Some text.now) }
 {
     match written {
         Ok(0) => None,

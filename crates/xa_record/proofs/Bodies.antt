@@ -2,7 +2,7 @@
 use Rattle.std.proofs.Common.{◌≡◌, ℕ, zero, suc, ◌^◌, ◌<◌, ◌≤◌, true, cond, ◌&&◌, eqb, leb, List, [], ◌∷◌, ◌++◌, length, Option, Some, None, option_map, Result, Ok, Err, refl, sym, ap, subst, ◌∙◌, append_assoc, arith}
 use Rattle.std.specs.declared.cmp.Ordering.TheVariants.{Less}
 use Rattle.std.specs.Cmp.Lexicographic.{slice_cmp}
-use Rattle.std.specs.Int.{w8, w16, w32, w64, to_be_bytes}
+use Rattle.std.specs.Int.{w16, w32, w64, to_be_bytes}
 use Rattle.std.specs.List.{AllByRecursion}
 use Rattle.std.specs.Ordering.{nat_cmp}
 use Rattle.std.specs.Prelude.{IfOk, IsSome, flat_map}
@@ -14,46 +14,42 @@ use Rattle.xa_codes.specs.declared.direction.Direction.{Direction}
 use Rattle.xa_codes.specs.declared.write.Write.{Write}
 use Rattle.xa_xid.specs.Triple.{Triple, IsWithinLimits}
 use Rattle.xa_xid.specs.Spelling.{bytes_of}
+use Rattle.xa_fields.specs.Spelling.{short_bytes, direction_bytes}
 use Rattle.xa_record.specs.declared.fault.RecordFault.{RecordFault}
 use Rattle.xa_record.specs.declared.fault.RecordFault.TheVariants.{Malformed, Memory}
 use Rattle.xa_record.specs.declared.record.Record.{Record}
 use Rattle.xa_record.specs.declared.record.Record.TheVariants.{Opened, Prepared, Committed, Completed, Decided, Forgotten, Base, Held, Known}
 use Rattle.xa_record.specs.Answers.{Answers, Gives}
 use Rattle.xa_record.specs.Limits.{IsWrite, AscendsFrom, IsStamped, IsBranch, IsRecord}
-use Rattle.xa_record.specs.Spelling.{value_bytes, write_bytes, stamped_bytes, branch_bytes, direction_byte, spelled}
-use Rattle.xa_record.specs.Reading.{◌>>=◌, ended, xid_front, direction_at, key_at, value_at, write_at, writes_at, head_at, stamped_at, opened_at, branch_at, directed_at, forgotten_at, record_at}
-use Rattle.xa_record.proofs.Fields.{bind_some, both_true, leb_true, true_leb, zero_from, ended_is, name_takes, name_again, direction_takes, direction_again, key_takes, key_again, value_takes, value_again}
+use Rattle.xa_record.specs.Spelling.{left_bytes, write_bytes, stamped_bytes, branch_bytes, spelled}
+use Rattle.xa_record.specs.Reading.{◌>>=◌, ended, xid_front, last_direction, next_key, left_at, write_at, writes_at, head_at, stamped_at, opened_at, branch_at, directed_at, forgotten_at, record_at}
+use Rattle.xa_record.proofs.Fields.{bind_some, mapped, both_true, leb_true, true_leb, zero_from, ended_is, name_takes, name_again, direction_takes, direction_again, key_takes, key_again, left_takes, left_again}
 
 -- ---- writes
-
-above_some : (previous key : List ℕ) → slice_cmp nat_cmp previous key ≡ Less → 1 ≤ length key
-above_some [] [] e = absurd cc
-above_some (x ∷ previous) [] e = absurd cc
-above_some previous (y ∷ key) e = omega arith
 
 write_takes : (previous bytes : List ℕ) (w : Write) (rest : List ℕ) → IsBytes bytes → write_at previous bytes ≡ Some (w, rest)
     → Takes bytes (write_bytes w) rest × IsWrite w × (slice_cmp nat_cmp previous w.key ≡ Less)
 unfolding write_at
 write_takes previous bytes w rest fits e =
-    let a = bind_some (key_at previous bytes) (λ key. value_at key.1 >>= λ value. Some (record { key = key.0; value = value.0 }, value.1)) (w, rest) e in
-    let b = bind_some (value_at a.0.1) (λ value. Some (record { key = a.0.0; value = value.0 }, value.1)) (w, rest) a.2 in
+    let a = bind_some (next_key previous bytes) (λ key. left_at key.1 >>= λ value. Some (record { key = key.0; value = value.0 }, value.1)) (w, rest) e in
+    let b = bind_some (left_at a.0.1) (λ value. Some (record { key = a.0.0; value = value.0 }, value.1)) (w, rest) a.2 in
     let k = key_takes previous bytes a.0.0 a.0.1 fits a.1 in
-    let v = value_takes a.0.1 b.0.0 b.0.1 k.0.rest_fits b.1 in
-    let both = Takes-then bytes (to_be_bytes w8 (length a.0.0) ++ a.0.0) a.0.1 (value_bytes b.0.0) b.0.1 k.0 v.0 in
+    let v = left_takes a.0.1 b.0.0 b.0.1 k.0.rest_fits b.1 in
+    let both = Takes-then bytes (short_bytes a.0.0) a.0.1 (left_bytes b.0.0) b.0.1 k.0 v.0 in
     let made : Write = record { key = a.0.0; value = b.0.0 } in
     let whole : Takes bytes (write_bytes made) b.0.1 = record { parts = both.parts; rest_fits = both.rest_fits } in
     let p = some_pair_parts made w b.0.1 rest b.2 in
     subst (λ (r : List ℕ). Takes bytes (write_bytes w) r × IsWrite w × (slice_cmp nat_cmp previous w.key ≡ Less)) p.1
     (subst (λ (y : Write). Takes bytes (write_bytes y) b.0.1 × IsWrite y × (slice_cmp nat_cmp previous y.key ≡ Less)) p.0
-    (whole, record { some = above_some previous a.0.0 k.2; short = k.1; value = v.1 }, k.2))
+    (whole, record { some = k.1.0; short = k.1.1; value = v.1 }, k.2))
 
 write_again : (previous : List ℕ) (w : Write) (rest : List ℕ) → IsWrite w → slice_cmp nat_cmp previous w.key ≡ Less → write_at previous (write_bytes w ++ rest) ≡ Some (w, rest)
 unfolding write_at
 write_again previous w rest h less =
-    let regrouped : write_bytes w ++ rest ≡ to_be_bytes w8 (length w.key) ++ (w.key ++ (value_bytes w.value ++ rest)) = ap (λ (t : List ℕ). to_be_bytes w8 (length w.key) ++ t) (append_assoc w.key (value_bytes w.value) rest) in
-    ap (λ (s : List ℕ). key_at previous s >>= λ key. value_at key.1 >>= λ value. Some (record { key = key.0; value = value.0 }, value.1)) regrouped
-    ∙ ap (λ (o : Option (List ℕ × List ℕ)). o >>= λ key. value_at key.1 >>= λ value. Some (record { key = key.0; value = value.0 }, value.1)) (key_again previous w.key (value_bytes w.value ++ rest) h.short less)
-    ∙ ap (λ (o : Option (Option (List ℕ) × List ℕ)). o >>= λ value. Some (record { key = w.key; value = value.0 }, value.1)) (value_again w.value rest h.value)
+    let regrouped : write_bytes w ++ rest ≡ short_bytes w.key ++ (left_bytes w.value ++ rest) = append_assoc (short_bytes w.key) (left_bytes w.value) rest in
+    ap (λ (s : List ℕ). next_key previous s >>= λ key. left_at key.1 >>= λ value. Some (record { key = key.0; value = value.0 }, value.1)) regrouped
+    ∙ ap (λ (o : Option (List ℕ × List ℕ)). o >>= λ key. left_at key.1 >>= λ value. Some (record { key = key.0; value = value.0 }, value.1)) (key_again previous w.key (left_bytes w.value ++ rest) (h.some, h.short) less)
+    ∙ ap (λ (o : Option (Option (List ℕ) × List ℕ)). o >>= λ value. Some (record { key = w.key; value = value.0 }, value.1)) (left_again w.value rest h.value)
 
 pub record ReadWrites (n : ℕ) (previous bytes : List ℕ) (ws : List Write) : Type 0 where
   pub parts : bytes ≡ flat_map write_bytes ws
@@ -197,20 +193,20 @@ opened_again boot some lt =
     ∙ ap (λ (o : Option (ℕ × List ℕ)). o >>= λ boot. cond (leb 1 boot.0 && eqb (length boot.1) 0) (Some (Opened boot.0)) None) (number_again w32 (2 ^ 32) wide32 boot [] lt)
     ∙ rw one refl
 
-directed_takes : (bytes : List ℕ) (d : Triple × Direction) → IsBytes bytes → directed_at bytes ≡ Some d → (bytes ≡ bytes_of d.0 ++ direction_byte d.1 ∷ []) × IsWithinLimits d.0
+directed_takes : (bytes : List ℕ) (d : Triple × Direction) → IsBytes bytes → directed_at bytes ≡ Some d → (bytes ≡ bytes_of d.0 ++ direction_bytes d.1) × IsWithinLimits d.0
 unfolding directed_at
 directed_takes bytes d fits e =
-    let a = bind_some (xid_front bytes) (λ x. direction_at x.1 >>= λ direction. Some (x.0, direction)) d e in
-    let b = bind_some (direction_at a.0.1) (λ direction. Some (a.0.0, direction)) d a.2 in
+    let a = bind_some (xid_front bytes) (λ x. last_direction x.1 >>= λ direction. Some (x.0, direction)) d e in
+    let b = bind_some (last_direction a.0.1) (λ direction. Some (a.0.0, direction)) d a.2 in
     let t = name_takes bytes a.0.0 a.0.1 fits a.1 in
     let made : Triple × Direction = (a.0.0, b.0) in
-    let whole : bytes ≡ bytes_of a.0.0 ++ direction_byte b.0 ∷ [] = t.0.parts ∙ ap (λ (r : List ℕ). bytes_of a.0.0 ++ r) (direction_takes a.0.1 b.0 b.1) in
-    subst (λ (c : Triple × Direction). (bytes ≡ bytes_of c.0 ++ direction_byte c.1 ∷ []) × IsWithinLimits c.0) (some_one made d b.2) (whole, t.1)
+    let whole : bytes ≡ bytes_of a.0.0 ++ direction_bytes b.0 = t.0.parts ∙ ap (λ (r : List ℕ). bytes_of a.0.0 ++ r) (direction_takes a.0.1 b.0 t.0.rest_fits b.1) in
+    subst (λ (c : Triple × Direction). (bytes ≡ bytes_of c.0 ++ direction_bytes c.1) × IsWithinLimits c.0) (some_one made d b.2) (whole, t.1)
 
-directed_again : (x : Triple) (d : Direction) → IsWithinLimits x → directed_at (bytes_of x ++ direction_byte d ∷ []) ≡ Some (x, d)
+directed_again : (x : Triple) (d : Direction) → IsWithinLimits x → directed_at (bytes_of x ++ direction_bytes d) ≡ Some (x, d)
 unfolding directed_at
 directed_again x d h =
-    ap (λ (o : Option (Triple × List ℕ)). o >>= λ x. direction_at x.1 >>= λ direction. Some (x.0, direction)) (name_again x (direction_byte d ∷ []) h)
+    ap (λ (o : Option (Triple × List ℕ)). o >>= λ x. last_direction x.1 >>= λ direction. Some (x.0, direction)) (name_again x (direction_bytes d) h)
     ∙ ap (λ (o : Option Direction). o >>= λ direction. Some (x, direction)) (direction_again d)
 
 forgotten_takes : (bytes : List ℕ) (x : Triple) → IsBytes bytes → forgotten_at bytes ≡ Some x → (bytes ≡ bytes_of x) × IsWithinLimits x
@@ -241,10 +237,6 @@ record_again (Forgotten x) h = ap (option_map (λ y. Forgotten y)) (forgotten_ag
 record_again (Base t ws) h = ap (option_map (λ s. Base s.0 s.1)) (stamped_again t ws h)
 record_again (Held x t ws) h = ap (option_map (λ b. Held b.0 b.1 b.2)) (branch_again x t ws h)
 record_again (Known x d) h = ap (option_map (λ p. Known p.0 p.1)) (directed_again x d h)
-
-mapped : {A B : Type 0} (f : A → B) (o : Option A) (y : B) → option_map f o ≡ Some y → (x : A) × (o ≡ Some x) × (f x ≡ y)
-mapped f None y e = absurd cc
-mapped f (Some x) y e = (x, refl, cc)
 
 pub record_takes : (bytes : List ℕ) (r : Record) → IsBytes bytes → record_at bytes ≡ Some r → IsRecord r × (bytes ≡ spelled r)
 unfolding record_at

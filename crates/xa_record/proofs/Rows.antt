@@ -3,10 +3,11 @@ use Rattle.std.proofs.Common.{◌≡◌, ℕ, pos, List, [], ◌∷◌, Some, No
 use Rattle.xa_codes.specs.declared.write.Write.{Write}
 use Rattle.xa_xid.specs.Triple.{Triple}
 use Rattle.xa_xid.specs.Reading.{parts_at, xid_at}
+use Rattle.xa_fields.specs.Reading.{key_at, value_at, direction_at, name_at}
 use Rattle.xa_record.specs.declared.record.Record.{Record}
 use Rattle.xa_record.specs.declared.record.Record.TheVariants.{Opened, Prepared, Base, Held, Known}
 use Rattle.xa_codes.specs.declared.direction.Direction.TheVariants.{Rollback}
-use Rattle.xa_record.specs.Reading.{xid_front, direction_at, key_at, value_at, write_at, writes_at, head_at, stamped_at, opened_at, branch_at, directed_at, record_at}
+use Rattle.xa_record.specs.Reading.{xid_front, last_direction, next_key, left_at, write_at, writes_at, head_at, stamped_at, opened_at, branch_at, directed_at, record_at}
 use Rattle.xa_record.specs.Spelling.{spelled}
 
 abbrev name : Triple
@@ -28,7 +29,7 @@ prepared_spelled : spelled prepared ≡ prepared_body
 prepared_spelled = refl
 
 prepared_read : record_at prepared_body ≡ Some prepared
-unfolding record_at branch_at stamped_at head_at writes_at write_at value_at key_at xid_front xid_at parts_at
+unfolding record_at branch_at stamped_at head_at writes_at write_at left_at value_at next_key key_at xid_front name_at xid_at parts_at
 prepared_read = refl
 
 opened_spelled : spelled (Opened 1) ≡ 1 ∷ 0 ∷ 0 ∷ 0 ∷ 1 ∷ []
@@ -50,21 +51,21 @@ base_spelled : spelled (Base 4294967297 written) ≡ 7 ∷ written_bytes
 base_spelled = refl
 
 base_read : record_at (7 ∷ written_bytes) ≡ Some (Base 4294967297 written)
-unfolding record_at stamped_at head_at writes_at write_at value_at key_at
+unfolding record_at stamped_at head_at writes_at write_at left_at value_at next_key key_at
 base_read = refl
 
 held_spelled : spelled (Held name 4294967297 written) ≡ held_body
 held_spelled = refl
 
 held_read : record_at held_body ≡ Some (Held name 4294967297 written)
-unfolding record_at branch_at stamped_at head_at writes_at write_at value_at key_at xid_front xid_at parts_at
+unfolding record_at branch_at stamped_at head_at writes_at write_at left_at value_at next_key key_at xid_front name_at xid_at parts_at
 held_read = refl
 
 known_spelled : spelled (Known name Rollback) ≡ known_body
 known_spelled = refl
 
 known_read : record_at known_body ≡ Some (Known name Rollback)
-unfolding record_at directed_at direction_at xid_front xid_at parts_at
+unfolding record_at directed_at last_direction direction_at xid_front name_at xid_at parts_at
 known_read = refl
 
 unknown_kind : (rest : List ℕ) → record_at (10 ∷ rest) ≡ None

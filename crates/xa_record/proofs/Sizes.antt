@@ -8,13 +8,14 @@ use Rattle.xa_codes.specs.declared.write.TheConstants.{MOST_VALUE}
 use Rattle.xa_codes.specs.declared.write.Write.{Write}
 use Rattle.xa_xid.specs.Triple.{Triple, IsWithinLimits}
 use Rattle.xa_xid.specs.Spelling.{bytes_of}
+use Rattle.xa_fields.specs.Spelling.{direction_bytes}
 use Rattle.xa_xid.specs.declared.bytes.TheConstants.{MOST_BYTES}
 use Rattle.xa_record.specs.declared.record.TheConstants.{MOST_BODY}
 use Rattle.xa_record.specs.declared.writing.TheConstants.{MOST_SMALL}
 use Rattle.xa_record.specs.declared.record.Record.{Record}
 use Rattle.xa_record.specs.declared.record.Record.TheVariants.{Opened, Prepared, Committed, Completed, Decided, Forgotten, Base, Held, Known}
 use Rattle.xa_record.specs.Limits.{IsWrite, IsStamped, IsBranch, IsRecord}
-use Rattle.xa_record.specs.Spelling.{value_bytes, write_bytes, stamped_bytes, branch_bytes, direction_byte, spelled}
+use Rattle.xa_record.specs.Spelling.{left_bytes, write_bytes, stamped_bytes, branch_bytes, spelled}
 
 name_short : (x : Triple) → IsWithinLimits x → length (bytes_of x) ≤ MOST_BYTES
 name_short x h = omega (arith, length-append x.gtrid x.bqual, h.lengths.2, h.lengths.3)
@@ -23,23 +24,23 @@ pub opened : (boot : ℕ) → length (spelled (Opened boot)) ≡ 5
 opened boot = refl
 
 pub completed : (x : Triple) (d : Direction) → IsWithinLimits x → length (spelled (Completed x d)) ≤ MOST_SMALL
-completed x d h = omega (arith, name_short x h, length-append (bytes_of x) (direction_byte d ∷ []))
+completed x d h = omega (arith, name_short x h, length-append (bytes_of x) (direction_bytes d))
 
 pub decided : (x : Triple) (d : Direction) → IsWithinLimits x → length (spelled (Decided x d)) ≤ MOST_SMALL
-decided x d h = omega (arith, name_short x h, length-append (bytes_of x) (direction_byte d ∷ []))
+decided x d h = omega (arith, name_short x h, length-append (bytes_of x) (direction_bytes d))
 
 pub forgotten : (x : Triple) → IsWithinLimits x → length (spelled (Forgotten x)) < MOST_SMALL
 forgotten x h = omega (arith, name_short x h)
 
 pub known : (x : Triple) (d : Direction) → IsWithinLimits x → length (spelled (Known x d)) ≤ MOST_SMALL
-known x d h = omega (arith, name_short x h, length-append (bytes_of x) (direction_byte d ∷ []))
+known x d h = omega (arith, name_short x h, length-append (bytes_of x) (direction_bytes d))
 
-value_short : (v : Option (List ℕ)) → IfSome v (λ s. length s ≤ MOST_VALUE) → length (value_bytes v) ≤ 1027
-value_short None h = omega arith
-value_short (Some s) h = omega (arith, h)
+left_short : (v : Option (List ℕ)) → IfSome v (λ s. length s ≤ MOST_VALUE) → length (left_bytes v) ≤ 1027
+left_short None h = omega arith
+left_short (Some s) h = omega (arith, h)
 
 write_short : (w : Write) → IsWrite w → length (write_bytes w) ≤ 1092
-write_short w h = omega (arith, h.short, value_short w.value h.value, length-append w.key (value_bytes w.value))
+write_short w h = omega (arith, h.short, left_short w.value h.value, length-append w.key (left_bytes w.value))
 
 writes_short : (ws : List Write) → AllByRecursion IsWrite ws → length (flat_map write_bytes ws) ≤ 1092 * length ws
 writes_short [] h = omega arith

@@ -1,15 +1,15 @@
 -- Reading a record's body from left to right. A field is a value and the bytes after it.
-use Rattle.std.specs.Prelude.{ℕ, zero, suc, List, [], ◌∷◌, length, take, drop, Option, Some, None, option_map, ◌&&◌, ◌==◌, nat_le, if◌then◌else◌}
+use Rattle.std.specs.Prelude.{ℕ, zero, suc, List, [], ◌∷◌, length, Option, Some, None, option_map, ◌&&◌, ◌==◌, nat_le, if◌then◌else◌}
 use Rattle.std.specs.Cmp.Lexicographic.{slice_cmp}
 use Rattle.std.specs.Int.{w16, w32, w64}
 use Rattle.std.specs.Ordering.{nat_cmp, is_lt}
+use Rattle.std.specs.Result.{result_ok}
 use Rattle.xa_bytes.specs.Numbers.{number_at}
 use Rattle.xa_codes.specs.declared.direction.Direction.{Direction}
-use Rattle.xa_codes.specs.declared.direction.Direction.TheVariants.{Commit, Rollback}
-use Rattle.xa_codes.specs.declared.write.TheConstants.{MOST_KEY, MOST_VALUE, MOST_WRITES}
+use Rattle.xa_codes.specs.declared.write.TheConstants.{MOST_WRITES}
 use Rattle.xa_codes.specs.declared.write.Write.{Write}
 use Rattle.xa_xid.specs.Triple.{Triple}
-use Rattle.xa_xid.specs.Reading.{xid_at}
+use Rattle.xa_fields.specs.Reading.{key_at, value_at, direction_at, name_at}
 use Rattle.xa_record.specs.declared.record.Record.{Record}
 use Rattle.xa_record.specs.declared.record.Record.TheVariants.{Opened, Prepared, Committed, Completed, Decided, Forgotten, Base, Held, Known}
 
@@ -23,35 +23,31 @@ abbrev pub ended : {A : Type 0} → A → List ℕ → Option A
 ended x bytes = if length bytes == 0 then Some x else None
 
 unfoldable pub xid_front : List ℕ → Option (Triple × List ℕ)
-xid_front bytes = do
-  x ← xid_at bytes
-  Some (x.0, drop x.1 bytes)
+xid_front bytes = result_ok (name_at bytes)
 
-unfoldable pub direction_at : List ℕ → Option Direction
-direction_at [] = None
-direction_at (zero ∷ rest) = None
-direction_at (suc zero ∷ rest) = ended Commit rest
-direction_at (suc (suc zero) ∷ rest) = ended Rollback rest
-direction_at (suc (suc (suc b)) ∷ rest) = None
+-- a direction that is all of the bytes
+unfoldable pub last_direction : List ℕ → Option Direction
+last_direction bytes = do
+  direction ← result_ok (direction_at bytes)
+  ended direction.0 direction.1
 
 -- a key above the one before
-unfoldable pub key_at : List ℕ → List ℕ → Option (List ℕ × List ℕ)
-key_at previous [] = None
-key_at previous (n ∷ rest) =
-    if nat_le n MOST_KEY && (nat_le n (length rest) && is_lt (slice_cmp nat_cmp previous (take n rest))) then Some (take n rest, drop n rest) else None
+unfoldable pub next_key : List ℕ → List ℕ → Option (List ℕ × List ℕ)
+next_key previous bytes = do
+  key ← result_ok (key_at bytes)
+  if is_lt (slice_cmp nat_cmp previous key.0) then Some key else None
 
-unfoldable pub value_at : List ℕ → Option (Option (List ℕ) × List ℕ)
-value_at [] = None
-value_at (zero ∷ rest) = Some (None, rest)
-value_at (suc zero ∷ rest) = do
-  n ← number_at w16 rest
-  if nat_le n.0 MOST_VALUE && nat_le n.0 (length n.1) then Some (Some (take n.0 n.1), drop n.0 n.1) else None
-value_at (suc (suc b) ∷ rest) = None
+-- what is left at a key
+unfoldable pub left_at : List ℕ → Option (Option (List ℕ) × List ℕ)
+left_at [] = None
+left_at (zero ∷ rest) = Some (None, rest)
+left_at (suc zero ∷ rest) = option_map (λ value. (Some value.0, value.1)) (result_ok (value_at rest))
+left_at (suc (suc b) ∷ rest) = None
 
 unfoldable pub write_at : List ℕ → List ℕ → Option (Write × List ℕ)
 write_at previous bytes = do
-  key ← key_at previous bytes
-  value ← value_at key.1
+  key ← next_key previous bytes
+  value ← left_at key.1
   Some (record { key = key.0; value = value.0 }, value.1)
 
 -- so many writes above this key, and nothing behind them
@@ -89,7 +85,7 @@ branch_at bytes = do
 unfoldable pub directed_at : List ℕ → Option (Triple × Direction)
 directed_at bytes = do
   x ← xid_front bytes
-  direction ← direction_at x.1
+  direction ← last_direction x.1
   Some (x.0, direction)
 
 unfoldable pub forgotten_at : List ℕ → Option Triple

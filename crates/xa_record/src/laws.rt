@@ -19,7 +19,8 @@ pub fn one_record()
 pub fn body_sizes()
     ensures any { (r : Record) → IsRecord r → (1 ≤ length (spelled r)) × (length (spelled r) ≤ MOST_BODY) }
     ensures opened { (boot : ℕ) → length (spelled (Opened boot)) ≡ 5 }
-    ensures completed { (x : Triple) (d : Direction) → IsWithinLimits x → length (spelled (Completed x d)) ≤ MOST_SMALL }
+    ensures completed { (x : Triple) (d : Direction) → IsWithinLimits x
+        → length (spelled (Completed x d)) ≤ MOST_SMALL }
     ensures decided { (x : Triple) (d : Direction) → IsWithinLimits x → length (spelled (Decided x d)) ≤ MOST_SMALL }
     ensures forgotten { (x : Triple) → IsWithinLimits x → length (spelled (Forgotten x)) < MOST_SMALL }
     ensures known { (x : Triple) (d : Direction) → IsWithinLimits x → length (spelled (Known x d)) ≤ MOST_SMALL }

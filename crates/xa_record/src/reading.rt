@@ -4,7 +4,7 @@ ghost use Rattle.xa_record.specs.declared.record.Record.{Record};
 ghost use Rattle.xa_record.specs.declared.record.Record.TheVariants.{Prepared, Committed, Base, Held};
 ghost use Rattle.xa_record.specs.Answers.{Answers, Gives};
 ghost use Rattle.xa_record.specs.Limits.{IsRecord};
-ghost use Rattle.xa_record.specs.Reading.{xid_front, direction_at, key_at, value_at, write_at, writes_at, head_at, stamped_at, opened_at, branch_at, directed_at, forgotten_at, record_at};
+ghost use Rattle.xa_record.specs.Reading.{xid_front, last_direction, next_key, left_at, write_at, writes_at, head_at, stamped_at, opened_at, branch_at, directed_at, forgotten_at, record_at};
 ghost use Rattle.xa_record.specs.Spelling.{spelled};
 
 use crate::fault::RecordFault;
@@ -12,40 +12,34 @@ use crate::record::Record;
 use crate::writes::Writes;
 use std::alloc::{AllocError, Global};
 use xa_bytes::{take_u16, take_u32, take_u64};
-use xa_codes::{Bytes, Direction, MOST_KEY, MOST_VALUE, MOST_WRITES, Write};
+use xa_codes::{Bytes, Direction, MOST_WRITES, Write};
+use xa_fields::{take_direction, take_key, take_value, take_xid};
 use xa_xid::Xid;
 
 #[tactic(auto, unfolding(crate::specs::Reading::xid_front))]
 fn xid_of(bytes: &[u8]) -> Option<(Xid, &[u8])>
     ensures { option_map (λ x. (x.0, x.1.now)) result ≡ xid_front bytes.now }
 {
-    let (xid, len) = Xid::take(bytes)?;
-    Some((xid, &bytes[len..]))
+    take_xid(bytes).ok()
 }
 
-#[tactic(auto, unfolding(crate::specs::Reading::direction_at))]
+#[tactic(auto, unfolding(crate::specs::Reading::last_direction))]
 fn direction_of(bytes: &[u8]) -> Option<Direction>
-    ensures { result ≡ direction_at bytes.now }
+    ensures { result ≡ last_direction bytes.now }
 {
-    match bytes {
-        [1] => Some(Direction::Commit),
-        [2] => Some(Direction::Rollback),
-        _ => None,
+    let (direction, rest) = take_direction(bytes).ok()?;
+    if rest.is_empty() {
+        Some(direction)
+    } else {
+        None
     }
 }
 
-#[tactic(auto, unfolding(crate::specs::Reading::key_at))]
+#[tactic(auto, unfolding(crate::specs::Reading::next_key))]
 fn key_of<'a>(previous: &[u8], bytes: &'a [u8]) -> Option<(&'a [u8], &'a [u8])>
-    ensures { option_map (λ x. (x.0.now, x.1.now)) result ≡ key_at previous.now bytes.now }
+    ensures { option_map (λ x. (x.0.now, x.1.now)) result ≡ next_key previous.now bytes.now }
 {
-    let [len, rest @ ..] = bytes else {
-        return None;
-    };
-    let len = usize::from(*len);
-    if len > MOST_KEY || len > rest.len() {
-        return None;
-    }
-    let (key, rest) = rest.split_at(len);
+    let (key, rest) = take_key(bytes).ok()?;
     if previous.cmp(key).is_lt() {
         Some((key, rest))
     } else {
@@ -53,19 +47,14 @@ fn key_of<'a>(previous: &[u8], bytes: &'a [u8]) -> Option<(&'a [u8], &'a [u8])>
     }
 }
 
-#[tactic(auto, unfolding(crate::specs::Reading::value_at))]
+#[tactic(auto, unfolding(crate::specs::Reading::left_at))]
 fn value_of(bytes: &[u8]) -> Option<(Option<&[u8]>, &[u8])>
-    ensures { option_map (λ x. (option_map (λ v. v.now) x.0, x.1.now)) result ≡ value_at bytes.now }
+    ensures { option_map (λ x. (option_map (λ v. v.now) x.0, x.1.now)) result ≡ left_at bytes.now }
 {
     match bytes {
         [0, rest @ ..] => Some((None, rest)),
         [1, rest @ ..] => {
-            let (len, rest) = take_u16(rest)?;
-            let len = usize::from(len);
-            if len > MOST_VALUE || len > rest.len() {
-                return None;
-            }
-            let (value, rest) = rest.split_at(len);
+            let (value, rest) = take_value(rest).ok()?;
             Some((Some(value), rest))
         }
         _ => None,
@@ -75,7 +64,8 @@ fn value_of(bytes: &[u8]) -> Option<(Option<&[u8]>, &[u8])>
 /// One write whose key is above the one before it, and the bytes after it.
 #[tactic(auto, unfolding(crate::specs::Reading::write_at))]
 fn write_of<'a>(previous: &[u8], bytes: &'a [u8]) -> Option<(&'a [u8], Option<&'a [u8]>, &'a [u8])>
-    ensures { option_map (λ x. (record { key = x.0.now; value = option_map (λ v. v.now) x.1 }, x.2.now)) result ≡ write_at previous.now bytes.now }
+    ensures { option_map (λ x. (record { key = x.0.now; value = option_map (λ v. v.now) x.1 }, x.2.now)) result
+        ≡ write_at previous.now bytes.now }
 {
     let (key, rest) = key_of(previous, bytes)?;
     let (value, rest) = value_of(rest)?;

@@ -1,7 +1,6 @@
 ghost use Rattle.arrayvec.specs.ArrayVec.{array_vec_len};
-ghost use Rattle.std.specs.Int.{w16, to_be_bytes};
 ghost use Rattle.std.specs.Prelude.{◌≡◌, ◌<◌, [], ◌∷◌, ◌++◌, flat_map, IfOk, OnOk};
-ghost use Rattle.xa_record.specs.Spelling.{spelled, branch_bytes, stamped_bytes, write_bytes, value_bytes};
+ghost use Rattle.xa_record.specs.Spelling.{spelled, branch_bytes, stamped_bytes, write_bytes, left_bytes};
 ghost use Rattle.xa_record.specs.Small.{IsSmall};
 ghost use Rattle.xa_record.specs.declared.writing.TheConstants.{MOST_SMALL};
 ghost use Rattle.xa_xid.specs.Spelling.{bytes_of};
@@ -10,8 +9,9 @@ use crate::record::Record;
 use crate::writes::Writes;
 use arrayvec::ArrayVec;
 use std::alloc::{AllocError, Global};
-use xa_bytes::{put_u16, put_u64};
+use xa_bytes::put_u64;
 use xa_codes::{Bytes, Write};
+use xa_fields::{put_length, put_short, put_value, put_xid};
 use xa_xid::{MOST_BYTES, Xid};
 
 /// The most bytes of a body without writes: its kind, an XID, a direction.
@@ -58,16 +58,16 @@ pub fn write_small(record: &Record, out: &mut ArrayVec<u8, MOST_SMALL>)
             let _ = out.try_extend_from_slice(&boot.to_be_bytes());
         }
         Record::Completed { xid, direction } => {
-            put_xid(out, 4, xid);
+            put_named(out, 4, xid);
             out.push(*direction as u8);
         }
         Record::Decided { xid, direction } => {
-            put_xid(out, 5, xid);
+            put_named(out, 5, xid);
             out.push(*direction as u8);
         }
-        Record::Forgotten { xid } => put_xid(out, 6, xid),
+        Record::Forgotten { xid } => put_named(out, 6, xid),
         Record::Known { xid, direction } => {
-            put_xid(out, 9, xid);
+            put_named(out, 9, xid);
             out.push(*direction as u8);
         }
         Record::Prepared { .. }
@@ -77,7 +77,7 @@ pub fn write_small(record: &Record, out: &mut ArrayVec<u8, MOST_SMALL>)
     }
 }
 
-fn put_xid(out: &mut ArrayVec<u8, MOST_SMALL>, kind: u8, xid: &Xid)
+fn put_named(out: &mut ArrayVec<u8, MOST_SMALL>, kind: u8, xid: &Xid)
     requires { out.old.items ≡ [] }
     ensures items { out.new.items ≡ kind ∷ bytes_of xid.now }
     ensures len { array_vec_len out.new < MOST_SMALL }
@@ -97,11 +97,9 @@ fn branch(
 ) -> Result<Vec<u8>, AllocError>
     ensures { IfOk result (λ v. v.items ≡ kind ∷ branch_bytes xid.now timestamp writes.now) }
 {
-    let mut bytes: ArrayVec<u8, MOST_BYTES> = ArrayVec::new();
-    xid.put(&mut bytes);
     let mut out = Vec::new(alloc);
     out.push(kind)?;
-    out.extend_from_slice(bytes.as_slice())?;
+    put_xid(&mut out, xid)?;
     put_stamped(&mut out, timestamp, writes)?;
     Ok(out)
 }
@@ -136,30 +134,18 @@ fn put_writes(out: &mut Vec<u8>, writes: &[Write]) -> Result<(), AllocError>
 fn put_write(out: &mut Vec<u8>, write: &Write) -> Result<(), AllocError>
     ensures { OnOk result (out.new.items ≡ out.old.items ++ write_bytes write.now) }
 {
-    let key = write.key.as_slice();
-    out.push((key.len() % 256) as u8)?;
-    out.extend_from_slice(key)?;
-    put_value(out, &write.value)
+    put_short(out, write.key.as_slice())?;
+    put_left(out, &write.value)
 }
 
-fn put_value(out: &mut Vec<u8>, value: &Option<Bytes>) -> Result<(), AllocError>
-    ensures { OnOk result (out.new.items ≡ out.old.items ++ value_bytes value.now) }
+fn put_left(out: &mut Vec<u8>, value: &Option<Bytes>) -> Result<(), AllocError>
+    ensures { OnOk result (out.new.items ≡ out.old.items ++ left_bytes value.now) }
 {
     match value {
-        None => out.push(0)?,
+        None => Ok(out.push(0)?),
         Some(value) => {
-            let value = value.as_slice();
             out.push(1)?;
-            put_length(out, value.len())?;
-            out.extend_from_slice(value)?;
+            put_value(out, value.as_slice())
         }
     }
-    Ok(())
-}
-
-/// The last two bytes of a length.
-fn put_length(out: &mut Vec<u8>, len: usize) -> Result<(), AllocError>
-    ensures { OnOk result (out.new.items ≡ out.old.items ++ to_be_bytes w16 len) }
-{
-    put_u16(out, (len % 65536) as u16)
 }

@@ -1,7 +1,7 @@
 -- What is printed of a log, by how its printing ended.
 use Rattle.std.specs.Prelude.{ℕ, ◌≡◌, ◌⊎◌, List, [], ◌++◌, Option, None, Result, Ok, Err}
 use Rattle.std.specs.Io.KnownBytes.{Appends}
-use Rattle.xa_output.specs.Output.{IsPart}
+use Rattle.xa_output.specs.Output.{IsFront, IsPart}
 use Rattle.xa_log.specs.Chain.{logged}
 use Rattle.xa_log.specs.Reading.{Explains, fault_of}
 use Rattle.xa_log.specs.declared.log.TheConstants.{MOST_LOG}
@@ -12,10 +12,6 @@ use Rattle.xa_scan.specs.Lines.{lines_from, scan_text, first_place}
 -- the most bytes that a log has
 abbrev pub most_bytes : ℕ
 most_bytes = MOST_LOG
-
--- the first bytes of a text, perhaps all
-abbrev pub IsFront : List ℕ → List ℕ → Type 0
-IsFront front text = (rest : List ℕ) × (text ≡ front ++ rest)
 
 -- the lines of some first records
 abbrev pub AreLines : List (List ℕ) → List ℕ → Type 0

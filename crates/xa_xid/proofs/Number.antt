@@ -11,13 +11,10 @@ use Rattle.std.proofs.lemmas.List.Elements.{All-cons, All-from_get_or}
 use Rattle.std.proofs.lemmas.List.{length_push, length-append, append_assoc, get_or-drop}
 use Rattle.std.proofs.lemmas.Bool.{cases_lt}
 use Rattle.std.proofs.lemmas.Str.{IsUtf8-from_ascii}
+use Rattle.xa_xid.specs.Spelling.{IsPlain}
 
 own : IsNumeralModel (AllDigits 10) (digits_value 10)
 own = numerals_by_value (AllDigits 10) tells_digits
-
--- 0, or digits of which the first isn't 0, with a minus sign or not
-abbrev pub IsPlain : List ℕ → Type 0
-IsPlain text = (text ≡ 48 ∷ []) ⊎ IsInRange 49 57 (get_or text 0 0) ⊎ ((get_or text 0 0 ≡ 45) × IsInRange 49 57 (get_or text 1 0))
 
 pub decimal_at : (n : ℕ) → n < 2 ^ 32 → 10 ≤ n → decimal n ≡ decimal (n / 10) ++ ((48 + n % 10) ∷ [])
 decimal_at n h k = decimal_step n k (omega arith)

@@ -7,15 +7,12 @@ use Rattle.std.specs.Result.{result_ok}
 use Rattle.xa_xid.specs.declared.xid.XidFault.{XidFault}
 use Rattle.xa_xid.specs.Triple.{Triple, IsWithinLimits}
 use Rattle.xa_xid.specs.Fault.{xid_of}
-use Rattle.xa_xid.specs.Spelling.{text_of, hex}
+use Rattle.xa_xid.specs.Spelling.{text_of, hex, HasNoColon}
 use Rattle.xa_xid.proofs.Colon.{one_cut, no_cut}
 use Rattle.xa_xid.proofs.Front.{xid_of_limits, limits_of_xid}
 use Rattle.xa_xid.proofs.Hex.{hex_no_colon, hex_one}
 use Rattle.xa_xid.proofs.Number.{signed_no_colon}
 use Rattle.xa_xid.proofs.Same.{same_parts}
-
-abbrev HasNoColon : List ℕ → Type 0
-HasNoColon text = All (λ b. b ≢ 58) text
 
 pub first_part : (text format rest : List ℕ) (x : Triple) → IsWithinLimits x → text ≡ text_of x → HasNoColon format × (text ≡ format ++ (58 ∷ rest)) → (format ≡ signed_decimal x.format) × (rest ≡ hex x.gtrid ++ (58 ∷ hex x.bqual))
 first_part text format rest x h e p = one_cut format (signed_decimal x.format) rest (hex x.gtrid ++ (58 ∷ hex x.bqual)) p.0 (signed_no_colon x.format h.format) (sym p.1 ∙ e)

@@ -1,6 +1,6 @@
 -- The bytes and the text of an XID.
-use Rattle.std.specs.Prelude.{◌≡◌, ℕ, ◌+◌, ◌/◌, ◌%◌, ◌≤◌, List, [], ◌∷◌, ◌++◌, length, take, flat_map, nat_lt, if◌then◌else◌}
-use Rattle.std.specs.Int.{w32, to_be_bytes, cast_unsigned}
+use Rattle.std.specs.Prelude.{◌≡◌, ◌≢◌, ◌⊎◌, ℕ, ◌+◌, ◌/◌, ◌%◌, ◌≤◌, List, [], ◌∷◌, ◌++◌, length, take, slice_index, flat_map, All, nat_lt, if◌then◌else◌}
+use Rattle.std.specs.Int.{w32, to_be_bytes, cast_unsigned, IsInRange}
 use Rattle.std.specs.Fmt.{signed_decimal}
 use Rattle.xa_xid.specs.Triple.{Triple, IsWithinLimits}
 
@@ -29,3 +29,11 @@ hex bytes = flat_map hex_byte bytes
 -- the format number in decimal and the parts in lower case hexadecimal, with colons between them
 abbrev pub text_of : Triple → List ℕ
 text_of x = signed_decimal x.format ++ (58 ∷ (hex x.gtrid ++ (58 ∷ hex x.bqual)))
+
+abbrev pub HasNoColon : List ℕ → Type 0
+HasNoColon text = All (λ b. b ≢ 58) text
+
+-- 0, or digits of which the first isn't 0, with a minus sign or not
+abbrev pub IsPlain : List ℕ → Type 0
+IsPlain text =
+    (text ≡ 48 ∷ []) ⊎ IsInRange 49 57 (slice_index text 0) ⊎ ((slice_index text 0 ≡ 45) × IsInRange 49 57 (slice_index text 1))

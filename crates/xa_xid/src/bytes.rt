@@ -33,7 +33,8 @@ impl Xid {
         // What is read is spelled so.
         ensures found { IfSome result (λ r. BeginsWith bytes.now r.0 r.1) }
         // What is spelled so is read.
-        ensures only { (x : Triple) (rest : List ℕ) → IsWithinLimits x → bytes.now ≡ bytes_of x ++ rest → result ≡ Some (x, length (bytes_of x)) }
+        ensures only { (x : Triple) (rest : List ℕ) → IsWithinLimits x → bytes.now ≡ bytes_of x ++ rest
+            → result ≡ Some (x, length (bytes_of x)) }
         ensures exact { result ≡ xid_at bytes.now }
     {
         front(bytes)

@@ -1,9 +1,9 @@
 ghost use Rattle.arrayvec.specs.ArrayVec.{array_vec_len};
 ghost use Rattle.std.specs.Fmt.{signed_decimal};
-ghost use Rattle.std.specs.Int.{w32, IsInRange};
-ghost use Rattle.std.specs.Prelude.{◌≡◌, ◌≢◌, ◌↔◌, ◌⊎◌, ◌<◌, ◌≤◌, ◌+◌, ◌*◌, ℕ, ℤ, List, [], ◌∷◌, ◌++◌, length, All, Some, IsTrue, IfSome, MatchOption, option_map, decimal, FitsSigned, slice_index};
+ghost use Rattle.std.specs.Int.{w32};
+ghost use Rattle.std.specs.Prelude.{◌≡◌, ◌≢◌, ◌↔◌, ◌<◌, ◌≤◌, ◌+◌, ◌*◌, ℕ, ℤ, List, [], ◌∷◌, ◌++◌, length, All, Some, IsTrue, IfSome, MatchOption, option_map, decimal, FitsSigned};
 ghost use Rattle.xa_xid.specs.Triple.{Triple, IsWithinLimits};
-ghost use Rattle.xa_xid.specs.Spelling.{text_of, hex, hex_byte, hex_digit};
+ghost use Rattle.xa_xid.specs.Spelling.{text_of, hex, hex_byte, hex_digit, HasNoColon, IsPlain};
 ghost use Rattle.xa_xid.specs.declared.text.TheConstants.{MOST_NUMBER, MOST_TEXT};
 ghost use Rattle.xa_xid.specs.declared.xid.TheConstants.{MOST_PART};
 
@@ -89,7 +89,7 @@ fn digit(n: u8) -> u8
 
 /// What stands before the first colon, and after it.
 fn cut(text: &[u8]) -> Option<(&[u8], &[u8])>
-    ensures { MatchOption result (All (λ b. b ≢ 58) text.now) (λ r. All (λ b. b ≢ 58) r.0.now × (text.now ≡ r.0.now ++ (58 ∷ r.1.now))) }
+    ensures { MatchOption result (HasNoColon text.now) (λ r. HasNoColon r.0.now × (text.now ≡ r.0.now ++ (58 ∷ r.1.now))) }
 {
     let colon = text.iter().position(|byte| *byte == b':')?;
     Some((&text[..colon], &text[colon + 1..]))
@@ -107,7 +107,7 @@ fn number(text: &[u8]) -> Option<i32>
 }
 
 fn is_plain(text: &[u8]) -> bool
-    ensures { IsTrue result ↔ ((text.now ≡ 48 ∷ []) ⊎ IsInRange 49 57 (slice_index text.now 0) ⊎ ((slice_index text.now 0 ≡ 45) × IsInRange 49 57 (slice_index text.now 1))) }
+    ensures { IsTrue result ↔ IsPlain text.now }
 {
     match text {
         [b'0'] => true,
@@ -118,7 +118,8 @@ fn is_plain(text: &[u8]) -> bool
 
 fn unhex(text: &[u8]) -> Option<ArrayVec<u8, MOST_PART>>
     ensures found { IfSome result (λ v. All (λ b. b < 256) v.items × (text.now ≡ hex v.items)) }
-    ensures only { (bytes : List ℕ) → All (λ b. b < 256) bytes → length bytes ≤ MOST_PART → text.now ≡ hex bytes → option_map (λ v. v.items) result ≡ Some bytes }
+    ensures only { (bytes : List ℕ) → All (λ b. b < 256) bytes → length bytes ≤ MOST_PART → text.now ≡ hex bytes
+        → option_map (λ v. v.items) result ≡ Some bytes }
 {
     let mut bytes: ArrayVec<u8, MOST_PART> = ArrayVec::new();
     let mut rest = text;
@@ -130,7 +131,8 @@ fn unhex(text: &[u8]) -> Option<ArrayVec<u8, MOST_PART>>
 }
 
 fn byte_of(high: u8, low: u8) -> Option<u8>
-    ensures { MatchOption result ((b : ℕ) → b < 256 → high ∷ low ∷ [] ≢ hex_byte b) (λ b. (b < 256) × (high ∷ low ∷ [] ≡ hex_byte b)) }
+    ensures { MatchOption result ((b : ℕ) → b < 256 → high ∷ low ∷ [] ≢ hex_byte b)
+        (λ b. (b < 256) × (high ∷ low ∷ [] ≡ hex_byte b)) }
 {
     Some(16 * value_of(high)? + value_of(low)?)
 }

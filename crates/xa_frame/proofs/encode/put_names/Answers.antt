@@ -18,8 +18,8 @@ loop-xid-preserved c =
     let xs = c.args.xids.now in
     let x = c.xid-item.result in
     record {
-      bytes = c.in_ok-put_name.ensures.bytes ∙ ap (λ (s : List ℕ). s ++ bytes_of x) c.loop-xid.invariant.bytes
+      bytes = c.in_ok-put_xid.ensures.bytes ∙ ap (λ (s : List ℕ). s ++ bytes_of x) c.loop-xid.invariant.bytes
           ∙ append_assoc c.args.out.now.items (flat_map bytes_of (take i xs)) (bytes_of x)
           ∙ ap (λ (s : List ℕ). c.args.out.now.items ++ s) (sym (one_more xs i x c.loop-xid-test.true c.xid-item.is));
-      limits = All-more IsWithinLimits xs i x c.loop-xid-test.true c.loop-xid.invariant.limits (subst IsWithinLimits c.xid-item.is c.put_name.ensures.limits);
+      limits = All-more IsWithinLimits xs i x c.loop-xid-test.true c.loop-xid.invariant.limits (subst IsWithinLimits c.xid-item.is c.put_xid.ensures.limits);
     }

@@ -1,6 +1,6 @@
 use Rattle.std.proofs.Common.{◌∙◌, ap, sym, arith, length}
 use Rattle.xa_frame.specs.Reading.{reply_at}
-use Rattle.xa_frame.proofs.Digits.{ok_is}
+use Rattle.xa_fields.proofs.Results.{ok_is}
 use Rattle.xa_frame.proofs.Whole.{fault_of}
 use Rattle.xa_frame.proofs.Decoded.{no_fault}
 use Rattle.xa_frame.proofs.Replies.{reply_short, reply_takes, reply_again, reply_fault}

@@ -1,6 +1,6 @@
 use Rattle.std.proofs.Common.{◌∙◌, ap, sym}
 use Rattle.xa_frame.specs.Reading.{request_at}
-use Rattle.xa_frame.proofs.Digits.{ok_is}
+use Rattle.xa_fields.proofs.Results.{ok_is}
 use Rattle.xa_frame.proofs.Whole.{fault_of}
 use Rattle.xa_frame.proofs.Decoded.{no_fault}
 use Rattle.xa_frame.proofs.Requests.{request_takes, request_again, request_fault}

@@ -2,7 +2,8 @@ use Rattle.std.proofs.Common.{◌≡◌, true, false, sym, ap, subst, ◌∙◌,
 use Rattle.std.specs.Result.{result_ok}
 use Rattle.std.specs.Str.Parse.{ParsesSigned}
 use Rattle.xa_xid.proofs.Exits.{none_from_err, some_from_ok, if_some}
-use Rattle.xa_xid.proofs.Number.{IsPlain, plain_signed, plain_reads, spelled_reads, spelled_utf8}
+use Rattle.xa_xid.specs.Spelling.{IsPlain}
+use Rattle.xa_xid.proofs.Number.{plain_signed, plain_reads, spelled_reads, spelled_utf8}
 use Rattle.xa_xid.proofs.text.number.Goals as goal
 
 pub returns-then-not-is_plain-clause-only : goal.returns-then-not-is_plain-clause-only

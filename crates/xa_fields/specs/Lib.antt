@@ -1,0 +1,4 @@
+pub mod Limits
+pub mod Spelling
+pub mod Answers
+pub mod Reading
