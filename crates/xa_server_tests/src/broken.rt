@@ -1,30 +1,15 @@
-ghost use Rattle.std.specs.Prelude.{◌≡◌};
-ghost use Rattle.xa_model.specs.State.{State};
-
-use crate::crews::opened;
+use crate::clients::{OPEN, OPENED, opened_at};
+use crate::desks::{Visit, at_new_desk};
 use crate::rows::none_wrong;
 use std::alloc::Global;
 use std::io;
 use std::io::{Read, Write};
-use std::marker::Brand;
+use std::sync::ledger::Ledger;
 use xa_desk::{Served, serve, serve_upto};
-use xa_disk::MemDisk;
-use xa_manager::Manager;
 use xa_model::Event;
-use xa_room::{Entry, Manages, Room, Start};
+use xa_room::{Desk, Entry, Manages, Room, Share, Start};
 
 // Connections to a room that break.
-
-/// The frame of an open, and of its reply where it is recorded at this place.
-const OPEN: [u8; 15] = [0, 0, 0, 11, 1, 1, 0, 0, 0, 0, 4, 0x78, 0x61, 0x72, 0x6d];
-
-const REPLY: usize = 19;
-
-fn put_reply(replies: &mut Vec<u8>, place: u8) -> Option<()> {
-    replies
-        .extend_from_slice(&[0, 0, 0, 15, 1, 0, 0, 0, 0, 0, 0, 0, 0, 0, 0, 0, 0, place, 0])
-        .ok()
-}
 
 /// Gives its bytes, of which one is in front of a read that fails, once.
 #[derive(Drop)]
@@ -119,9 +104,9 @@ fn opens(alloc: Global) -> Option<Vec<u8>> {
 
 fn replies(alloc: Global) -> Option<Vec<u8>> {
     let mut bytes = Vec::new(alloc);
-    put_reply(&mut bytes, 2)?;
-    put_reply(&mut bytes, 3)?;
-    put_reply(&mut bytes, 4)?;
+    bytes.extend_from_slice(&opened_at(2)).ok()?;
+    bytes.extend_from_slice(&opened_at(3)).ok()?;
+    bytes.extend_from_slice(&opened_at(4)).ok()?;
     Some(bytes)
 }
 
@@ -172,31 +157,34 @@ fn is_served<M: Manages, S: Start>(
     )
 }
 
-fn in_a_room<M: Manages + Drop, S: Start>(
-    alloc: Global,
-    manager: M,
+/// A first connection, how it breaks, and what is wanted of it.
+#[derive(Drop)]
+struct Connection {
     how: Break,
     wanted: Wanted,
-) -> Option<bool>
-    requires start { (s : State) → S.start s → M.stands manager s }
-    requires base { M.failures manager ≡ S.base }
-{
-    let mut room: Room<M, S> = Room::new(alloc, manager).ok()?;
-    is_served(alloc, &mut room, how, wanted)
 }
 
-/// A first connection that breaks so ends so.
-fn is_right(alloc: Global, how: Break, wanted: Wanted) -> bool {
-    match opened(alloc) {
-        Some(manager) => {
-            in_a_room::<Manager<MemDisk>, Brand>(alloc, manager, how, wanted) == Some(true)
-        }
-        None => false,
+impl<R: AllocGlobal> Visit<R> for Connection {
+    type Found = bool;
+
+    fn visit<M: Manages + Drop, S: Start, L: Ledger>(
+        self,
+        rt: &R,
+        desk: Desk<M, S, L>,
+        _share: Share<L>,
+    ) -> Option<bool> {
+        let (mut room, _book) = desk.into_room();
+        is_served(rt.alloc(), &mut room, self.how, self.wanted)
     }
 }
 
+/// A first connection that breaks so ends so.
+fn is_right<R: AllocGlobal>(rt: &R, how: Break, wanted: Wanted) -> bool {
+    at_new_desk(rt, Connection { how, wanted }) == Some(true)
+}
+
 /// The input is cut behind so many bytes.
-fn is_right_cut(alloc: Global, n: usize) -> bool {
+fn is_right_cut<R: AllocGlobal>(rt: &R, n: usize) -> bool {
     let end = if n % OPEN.len() == 0 {
         Served::Ended
     } else {
@@ -206,16 +194,16 @@ fn is_right_cut(alloc: Global, n: usize) -> bool {
     let how = Break { cut: n, ..WHOLE };
     let wanted = Wanted {
         end,
-        written: answered.saturating_mul(REPLY),
+        written: answered.saturating_mul(OPENED),
         answered,
         left: 0,
     };
-    is_right(alloc, how, wanted)
+    is_right(rt, how, wanted)
 }
 
-fn wrong_cut(alloc: Global) -> Option<usize> {
-    for n in 0..=FRAMES * 15 {
-        if !is_right_cut(alloc, n) {
+fn wrong_cut<R: AllocGlobal>(rt: &R) -> Option<usize> {
+    for n in 0..=FRAMES * OPEN.len() {
+        if !is_right_cut(rt, n) {
             return Some(n);
         }
     }
@@ -224,25 +212,25 @@ fn wrong_cut(alloc: Global) -> Option<usize> {
 
 #[test]
 fn inputs_that_are_cut(rt: HostRuntime) {
-    none_wrong(&rt, wrong_cut(rt.alloc()));
+    none_wrong(&rt, wrong_cut(&rt));
 }
 
 /// A read fails once, in front of this byte or of the end.
-fn is_right_read(alloc: Global, n: usize) -> bool {
+fn is_right_read<R: AllocGlobal>(rt: &R, n: usize) -> bool {
     let answered = n / OPEN.len();
     let how = Break { read: n, ..WHOLE };
     let wanted = Wanted {
         end: Served::ReadFault,
-        written: answered.saturating_mul(REPLY),
+        written: answered.saturating_mul(OPENED),
         answered,
         left: (FRAMES * OPEN.len()).saturating_sub(n),
     };
-    is_right(alloc, how, wanted)
+    is_right(rt, how, wanted)
 }
 
-fn wrong_read(alloc: Global) -> Option<usize> {
-    for n in 0..=FRAMES * 15 {
-        if !is_right_read(alloc, n) {
+fn wrong_read<R: AllocGlobal>(rt: &R) -> Option<usize> {
+    for n in 0..=FRAMES * OPEN.len() {
+        if !is_right_read(rt, n) {
             return Some(n);
         }
     }
@@ -251,12 +239,12 @@ fn wrong_read(alloc: Global) -> Option<usize> {
 
 #[test]
 fn reads_that_fail_once(rt: HostRuntime) {
-    none_wrong(&rt, wrong_read(rt.alloc()));
+    none_wrong(&rt, wrong_read(&rt));
 }
 
 /// A write fails once, in front of this byte.
-fn is_right_write(alloc: Global, n: usize) -> bool {
-    let answered = n / REPLY + 1;
+fn is_right_write<R: AllocGlobal>(rt: &R, n: usize) -> bool {
+    let answered = n / OPENED + 1;
     let how = Break { write: n, ..WHOLE };
     let wanted = Wanted {
         end: Served::WriteFault,
@@ -264,12 +252,12 @@ fn is_right_write(alloc: Global, n: usize) -> bool {
         answered,
         left: FRAMES.saturating_sub(answered) * OPEN.len(),
     };
-    is_right(alloc, how, wanted)
+    is_right(rt, how, wanted)
 }
 
-fn wrong_write(alloc: Global) -> Option<usize> {
-    for n in 0..FRAMES * REPLY {
-        if !is_right_write(alloc, n) {
+fn wrong_write<R: AllocGlobal>(rt: &R) -> Option<usize> {
+    for n in 0..FRAMES * OPENED {
+        if !is_right_write(rt, n) {
             return Some(n);
         }
     }
@@ -278,13 +266,13 @@ fn wrong_write(alloc: Global) -> Option<usize> {
 
 #[test]
 fn writes_that_fail_once(rt: HostRuntime) {
-    none_wrong(&rt, wrong_write(rt.alloc()));
+    none_wrong(&rt, wrong_write(&rt));
 }
 
 /// A connection may have so many frames.
-fn is_right_bound(alloc: Global, most: u32) -> bool {
+fn is_right_bound<R: AllocGlobal>(rt: &R, most: u32) -> bool {
     let answered = FRAMES.min(most as usize);
-    let end = if most > 3 {
+    let end = if most as usize > FRAMES {
         Served::Ended
     } else {
         Served::ReadFault
@@ -292,18 +280,18 @@ fn is_right_bound(alloc: Global, most: u32) -> bool {
     let how = Break { most, ..WHOLE };
     let wanted = Wanted {
         end,
-        written: answered.saturating_mul(REPLY),
+        written: answered.saturating_mul(OPENED),
         answered,
         left: (FRAMES - answered) * OPEN.len(),
     };
-    is_right(alloc, how, wanted)
+    is_right(rt, how, wanted)
 }
 
 /// Behind the last frame that it may have nothing is read, nor is it seen that the input ended.
 #[test]
 fn a_bound_of_frames(rt: HostRuntime) {
-    assert!(rt; is_right_bound(rt.alloc(), 0));
-    assert!(rt; is_right_bound(rt.alloc(), 2));
-    assert!(rt; is_right_bound(rt.alloc(), 3));
-    assert!(rt; is_right_bound(rt.alloc(), 4));
+    assert!(rt; is_right_bound(&rt, 0));
+    assert!(rt; is_right_bound(&rt, 2));
+    assert!(rt; is_right_bound(&rt, 3));
+    assert!(rt; is_right_bound(&rt, 4));
 }

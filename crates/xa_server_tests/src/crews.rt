@@ -2,6 +2,7 @@ ghost use Rattle.std.specs.Prelude.{◌≡◌, IfSome};
 ghost use Rattle.xa_frame.specs.Limits.{IsRequest};
 ghost use Rattle.xa_model.specs.State.{State};
 
+use crate::desks::{PARTS, desk_over, open_request, opened};
 use std::alloc::Global;
 use std::marker::Brand;
 use std::sync::Wait;
@@ -11,32 +12,18 @@ use xa_codes::{Bytes, TMNOFLAGS, TMONEPHASE, TMSUCCESS, XA_OK};
 use xa_desk::Door;
 use xa_disk::MemDisk;
 use xa_frame::{Body, Reply, Request};
-use xa_manager::{Manager, Settings};
-use xa_room::{Desk, Manages, Receipt, Room, Share, Start, audit};
+use xa_manager::Manager;
+use xa_room::{Desk, Manages, Receipt, Share, Start, audit};
 use xa_workers::{Gate, OpenGate, Report, Seat, split_all};
 use xa_xid::Xid;
 
-/// A manager on two empty disks in memory, with the name `xarm` and a log of so many bytes. None where memory was wanted.
-pub fn opened_over(alloc: Global, log_bytes: u64) -> Option<Manager<MemDisk>> {
-    let name = Bytes::from_slice(alloc, b"xarm").ok()?;
-    let settings = Settings { name, log_bytes };
-    Manager::open(alloc, MemDisk::new(alloc), MemDisk::new(alloc), settings).ok()
-}
+/// The rounds of a caller, and the calls of each.
+const ROUNDS: u8 = 5;
 
-/// The same, with the longest log.
-pub fn opened(alloc: Global) -> Option<Manager<MemDisk>> {
-    opened_over(alloc, 1 << 30)
-}
+const CALLS: u8 = 9;
 
-fn open_request(alloc: Global) -> Option<Request>
-    ensures { IfSome result IsRequest }
-{
-    let info = Bytes::from_slice(alloc, b"xarm").ok()?;
-    Some(Request::Open {
-        flags: TMNOFLAGS,
-        info,
-    })
-}
+/// What is recorded of a caller: a connect, an Open, its rounds, and a hang-up.
+const EVENTS: usize = 48;
 
 // The calls of one round: a branch writes the key, and when it is committed another reads it back.
 fn round_request(alloc: Global, key: u8, round: u8, place: u8) -> Option<Request>
@@ -90,7 +77,7 @@ fn is_right_round<M: Manages, S: Start, L: Ledger, G: Gate, R: Wait>(
     key: u8,
     round: u8,
 ) -> bool {
-    for place in 0..9u8 {
+    for place in 0..CALLS {
         let Some(request) = round_request(alloc, key, round, place) else {
             return false;
         };
@@ -102,8 +89,8 @@ fn is_right_round<M: Manages, S: Start, L: Ledger, G: Gate, R: Wait>(
     true
 }
 
-// A session of five rounds, on a key of its own.
-fn visit<M: Manages, S: Start, L: Ledger, G: Gate, R: Wait>(
+// A session of all rounds, on a key of its own.
+fn has_session<M: Manages, S: Start, L: Ledger, G: Gate, R: Wait>(
     alloc: Global,
     seat: &mut Seat<'_, M, S, L, G, R>,
 ) -> Option<bool> {
@@ -111,7 +98,7 @@ fn visit<M: Manages, S: Start, L: Ledger, G: Gate, R: Wait>(
     let key = u8::try_from(session).ok()?;
     let open = open_request(alloc)?;
     let mut is_right = seat.call(session, open).code == XA_OK;
-    for round in 0..5u8 {
+    for round in 0..ROUNDS {
         is_right = is_right && is_right_round(alloc, seat, session, key, round);
     }
     seat.hangup(session);
@@ -127,7 +114,7 @@ fn is_whole<L: Ledger>(report: &Report<L>) -> bool {
         }
         last = receipt.place;
     }
-    report.dropped == 0 && report.receipts.len() == 48
+    report.dropped == 0 && report.receipts.len() == EVENTS
 }
 
 /// What one of the callers did.
@@ -144,7 +131,7 @@ fn caller<M: Manages, S: Start, L: Ledger, R: Wait>(
     share: Share<L>,
 ) -> Done<L> {
     let mut seat = Seat::new(alloc, rt, desk, &OpenGate, share);
-    let was_right = visit(alloc, &mut seat) == Some(true);
+    let was_right = has_session(alloc, &mut seat) == Some(true);
     let report = seat.into_report();
     let is_right = was_right && is_whole(&report);
     Done { report, is_right }
@@ -173,6 +160,7 @@ fn gathered<L: Ledger>(
     Some((receipts, shares))
 }
 
+// As many callers at once as the ledger has parts.
 fn audited<
     M: Manages + Send + Drop,
     S: Start + Send + Sync,
@@ -184,14 +172,13 @@ fn audited<
     requires name { blank.name ≡ L.name }
     requires parts { (blank.parts ≡ L.parts) × (blank.parts ≡ 8) }
 {
-    let room: Room<M, S> = Room::new(alloc, manager).ok()?;
-    let (desk, share) = Desk::<M, S, L>::new(room, blank);
-    let shares = split_all(alloc, share, 8).ok()?;
+    let (desk, share) = desk_over::<M, S, L>(alloc, manager, blank)?;
+    let shares = split_all(alloc, share, PARTS).ok()?;
     let dones = map_vec(rt, shares, &|share| caller(rt, alloc, &desk, share)).ok()?;
     let (receipts, shares) = gathered(alloc, dones)?;
     let (room, _book) = desk.into_room();
     let is_sound = audit(alloc, &room, receipts.as_slice(), shares.as_slice()).is_ok();
-    Some(is_sound && room.entries().len() == 384)
+    Some(is_sound && room.entries().len() == 8 * EVENTS)
 }
 
 #[test]
@@ -201,7 +188,7 @@ fn desk_audit(rt: HostRuntime) {
         &rt,
         rt.alloc(),
         manager,
-        Blank::new(8),
+        Blank::new(PARTS),
     );
     assert_eq!(rt; found, Some(true));
 }

@@ -2,24 +2,29 @@ ghost use Rattle.std.specs.Prelude.{◌≡◌, true};
 ghost use Rattle.xa_frame.specs.Limits.{IsReply};
 ghost use Rattle.xa_model.specs.State.{State};
 
-use crate::crews::opened;
+use crate::clients::{self, CALLS, OPEN, client, listening};
+use crate::desks::{PARTS, desk_over, is_audited, opened};
 use std::alloc::Global;
-use std::io::{Read, Write};
 use std::marker::Brand;
-use std::net::{Net, Shutdown, SocketAddr, TcpListener, TcpStream};
+use std::net::{Net, TcpListener, TcpStream};
 use std::sync::Wait;
 use std::sync::atomic::{AtomicBool, Ordering};
 use std::sync::ledger::{Blank, Ledger};
 use std::thread;
 use std::thread::{Threads, join};
-use std::time::Duration;
-use xa_codes::XA_OK;
+use xa_codes::{MOST_VALUE, XA_OK};
 use xa_disk::MemDisk;
 use xa_frame::{Body, Reply, encode_reply};
 use xa_manager::Manager;
 use xa_model::Event;
-use xa_room::{Desk, Manages, Receipt, Room, Share, Start, audit};
+use xa_room::{Desk, Manages, Receipt, Share, Start};
 use xa_workers::{Gate, OpenGate, Report, WorkFault, run_workers};
+
+/// How often a call that is kept back looks whether another came through.
+const MOST_LOOKS: u32 = 10_000_000;
+
+/// The bytes of the replies to the six calls of a session.
+const REPLIES: usize = 125;
 
 /// Keeps the first call of session 1 back until a call of another session has come through.
 #[derive(Drop)]
@@ -33,7 +38,7 @@ impl Gate for Meeting {
         if session != 1 || number != 1 {
             return;
         }
-        for _ in 0..10_000_000u32 {
+        for _ in 0..MOST_LOOKS {
             if self.is_through.load(Ordering::SeqCst) {
                 self.has_met.store(true, Ordering::SeqCst);
                 return;
@@ -48,24 +53,6 @@ impl Gate for Meeting {
         }
     }
 }
-
-// Sends the bytes and no more, and gives what came back.
-fn client<R: Net<Stream = TcpStream>>(
-    rt: &R,
-    alloc: Global,
-    address: SocketAddr,
-    bytes: &[u8],
-) -> Option<Vec<u8>> {
-    let mut stream = TcpStream::connect(rt, address).ok()?;
-    stream.set_read_timeout(Some(Duration::from_secs(30))).ok()?;
-    stream.write_all(bytes).ok()?;
-    stream.shutdown(Shutdown::Write).ok()?;
-    let mut replies = Vec::new(alloc);
-    stream.read_to_end(&mut replies).ok()?;
-    Some(replies)
-}
-
-const OPEN: [u8; 15] = [0, 0, 0, 11, 1, 1, 0, 0, 0, 0, 4, 0x78, 0x61, 0x72, 0x6d];
 
 // The frame of a call with flags and the XID 1:k:bb.
 fn put_call(bytes: &mut Vec<u8>, operation: u8, flags: u8, k: u8) -> Option<()> {
@@ -95,7 +82,7 @@ fn is_short(reply: &Reply) -> bool
 {
     match &reply.body {
         Body::Nothing | Body::Number(_) | Body::Absent => true,
-        Body::Value(value) => value.as_slice().len() <= 1024,
+        Body::Value(value) => value.as_slice().len() <= MOST_VALUE,
         Body::Xids(_) => false,
     }
 }
@@ -130,24 +117,10 @@ fn are_answered(alloc: Global, receipts: &[Receipt], one: &[u8], other: &[u8]) -
     let second = frames_of(alloc, receipts, 2)?;
     let (first, second) = (first.as_slice(), second.as_slice());
     let in_order = one == first && other == second;
-    Some(one.len() == 125 && (in_order || (one == second && other == first)))
+    Some(one.len() == REPLIES && (in_order || (one == second && other == first)))
 }
 
-fn is_audited<M: Manages + Drop, S: Start, L: Ledger>(
-    alloc: Global,
-    desk: Desk<M, S, L>,
-    share: Share<L>,
-    receipts: &[Receipt],
-) -> Option<bool> {
-    let mut shares = Vec::new(alloc);
-    shares.push(share).ok()?;
-    let (room, _book) = desk.into_room();
-    Some(
-        audit(alloc, &room, receipts, shares.as_slice()).is_ok()
-            && room.entries().len() == receipts.len(),
-    )
-}
-
+// Two clients at once, each with a worker of its own.
 fn met<
     M: Manages + Send + Drop,
     S: Start + Send + Sync,
@@ -157,14 +130,12 @@ fn met<
     requires start { (s : State) → S.start s → M.stands manager s }
     requires base { M.failures manager ≡ S.base }
     requires name { blank.name ≡ L.name }
-    requires parts { (blank.parts ≡ L.parts) × (blank.parts ≡ 2) }
+    requires parts { (blank.parts ≡ L.parts) × (blank.parts ≡ 8) }
 {
-    let listener = TcpListener::bind(rt, "127.0.0.1:0").ok()?;
-    let address = listener.local_addr().ok()?;
+    let (listener, address) = listening(rt)?;
     let one = session_of(alloc, 0xaa)?;
     let other = session_of(alloc, 0xab)?;
-    let room: Room<M, S> = Room::new(alloc, manager).ok()?;
-    let (desk, share) = Desk::<M, S, L>::new(room, blank);
+    let (desk, share) = desk_over::<M, S, L>(alloc, manager, blank)?;
     let gate = Meeting {
         is_through: AtomicBool::new(false),
         has_met: AtomicBool::new(false),
@@ -172,7 +143,7 @@ fn met<
     let (report, (one, other)) = join(
         rt,
         || -> Result<Report<L>, WorkFault>
-            requires { share.parts ≡ 2 }
+            requires { share.parts ≡ 8 }
         { run_workers(rt, alloc, &listener, &desk, &gate, share, 2, 2) },
         || {
             join(
@@ -182,19 +153,16 @@ fn met<
             )
         },
     );
-    let Report {
-        share,
-        receipts,
-        dropped,
-    } = report.ok()?;
+    let report = report.ok()?;
     let are_answered = are_answered(
         alloc,
-        receipts.as_slice(),
+        report.receipts.as_slice(),
         one?.as_slice(),
         other?.as_slice(),
     )?;
-    let is_audited = is_audited(alloc, desk, share, receipts.as_slice())?;
-    let is_whole = dropped == 0 && receipts.len() == 16;
+    let is_whole = report.dropped == 0;
+    let (room, _book) = desk.into_room();
+    let is_audited = is_audited(alloc, &room, report, 16);
     Some(gate.has_met.load(Ordering::SeqCst) && are_answered && is_audited && is_whole)
 }
 
@@ -205,54 +173,44 @@ fn two_sessions_meet(rt: HostRuntime) {
         &rt,
         rt.alloc(),
         manager,
-        Blank::new(2),
+        Blank::new(PARTS),
     );
     assert_eq!(rt; found, Some(true));
 }
 
-// What the first connection gets for an open and the start of 1:aa:bb.
-fn first_replies<
+// A client that opens and starts a branch.
+fn answered<
     M: Manages + Send + Drop,
     S: Start + Send + Sync,
     L: Ledger + Send + Sync,
     R: Net<Listener = TcpListener, Stream = TcpStream> + Threads + Wait + Sync,
->(rt: &R, alloc: Global, manager: M, blank: Blank) -> Option<Vec<u8>>
+>(rt: &R, alloc: Global, manager: M, blank: Blank) -> Option<bool>
     requires start { (s : State) → S.start s → M.stands manager s }
     requires base { M.failures manager ≡ S.base }
     requires name { blank.name ≡ L.name }
-    requires parts { (blank.parts ≡ L.parts) × (blank.parts ≡ 1) }
+    requires parts { (blank.parts ≡ L.parts) × (blank.parts ≡ 8) }
 {
-    let listener = TcpListener::bind(rt, "127.0.0.1:0").ok()?;
-    let address = listener.local_addr().ok()?;
-    let mut bytes = Vec::new(alloc);
-    bytes.extend_from_slice(&OPEN).ok()?;
-    put_call(&mut bytes, 3, 0, 0xaa)?;
-    let room: Room<M, S> = Room::new(alloc, manager).ok()?;
-    let (desk, share) = Desk::<M, S, L>::new(room, blank);
+    let (listener, address) = listening(rt)?;
+    let (desk, share) = desk_over::<M, S, L>(alloc, manager, blank)?;
     let (report, replies) = join(
         rt,
         || -> Result<Report<L>, WorkFault>
-            requires { share.parts ≡ 1 }
+            requires { share.parts ≡ 8 }
         { run_workers(rt, alloc, &listener, &desk, &OpenGate, share, 1, 1) },
-        || client(rt, alloc, address, bytes.as_slice()),
+        || client(rt, alloc, address, &CALLS),
     );
     let _report = report.ok()?;
-    replies
+    Some(clients::are_answered(replies?.as_slice(), 2))
 }
-
-const FIRST_REPLIES: [u8; 46] = [
-    0, 0, 0, 0x0f, 1, 0, 0, 0, 0, 0, 0, 0, 0, 0, 0, 0, 0, 2, 0, //
-    0, 0, 0, 0x17, 1, 0, 0, 0, 0, 0, 0, 0, 0, 0, 0, 0, 0, 3, 1, 0, 0, 0, 1, 0, 0, 0, 1,
-];
 
 #[test]
 fn a_first_connection_is_answered(rt: HostRuntime) {
     let manager = opened(rt.alloc()).expect(&rt, "a manager");
-    let replies = first_replies::<Manager<MemDisk>, Brand, Brand, HostRuntime>(
+    let found = answered::<Manager<MemDisk>, Brand, Brand, HostRuntime>(
         &rt,
         rt.alloc(),
         manager,
-        Blank::new(1),
-    ).expect(&rt, "replies");
-    assert!(rt; replies.as_slice() == FIRST_REPLIES.as_slice());
+        Blank::new(PARTS),
+    );
+    assert_eq!(rt; found, Some(true));
 }

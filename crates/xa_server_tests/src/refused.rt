@@ -1,23 +1,21 @@
-ghost use Rattle.std.specs.Prelude.{◌≡◌};
 ghost use Rattle.xa_frame.specs.Limits.{IsRequest};
-ghost use Rattle.xa_model.specs.State.{State};
 
-use crate::crews::opened_over;
+use crate::desks::{Visit, at_new_desk, is_audited, opened_over};
 use crate::refused_rows::{FAILING, NO_ROOM, ROOM, ROWS};
+use crate::rooms::Audited;
 use crate::rows::none_wrong;
 use std::alloc::Global;
-use std::marker::Brand;
 use std::sync::Wait;
-use std::sync::ledger::{Blank, Ledger};
+use std::sync::ledger::Ledger;
 use xa_codes::{Detail, XA_OK};
 use xa_desk::Door;
 use xa_disk::{Effect, MemDisk};
 use xa_frame::{Reply, Request};
 use xa_manager::{Manager, connect_reply};
-use xa_room::{AuditFault, Desk, Manages, Room, Start, audit};
-use xa_rows::{Line, Play};
+use xa_room::{Desk, Manages, Share, Start};
+use xa_rows::{LOG_BYTES, Line, PREPARED_LOG_BYTES, Play};
 use xa_script::{CallEffect, LogFile, read_line, reply_line};
-use xa_workers::{Gate, OpenGate, Report, Seat};
+use xa_workers::{Gate, OpenGate, Seat};
 
 // Worked rows, that are right whichever one allocation is refused: what was answered that it wanted memory is asked again, and
 // all other replies are those with ample memory. A manager that isn't opened ends a row, and so does a disk in memory that
@@ -223,84 +221,54 @@ fn wrong_row(alloc: Global, log_bytes: u64, plays: &[Play]) -> Option<usize> {
 
 #[test]
 fn by_a_manager(rt: HostRuntime) {
-    none_wrong(&rt, wrong_row(rt.alloc(), 1 << 30, &ROWS));
-    none_wrong(&rt, wrong_row(rt.alloc(), 1 << 30, &FAILING));
-    none_wrong(&rt, wrong_row(rt.alloc(), 457, &ROOM));
-    none_wrong(&rt, wrong_row(rt.alloc(), 456, &NO_ROOM));
+    none_wrong(&rt, wrong_row(rt.alloc(), LOG_BYTES, &ROWS));
+    none_wrong(&rt, wrong_row(rt.alloc(), LOG_BYTES, &FAILING));
+    none_wrong(&rt, wrong_row(rt.alloc(), PREPARED_LOG_BYTES, &ROOM));
+    none_wrong(&rt, wrong_row(rt.alloc(), PREPARED_LOG_BYTES - 1, &NO_ROOM));
 }
 
 // The same rows at a desk. What wanted memory has no receipt.
 
-/// Whether the audit finds all that was answered, and nothing else. Where an allocation is refused in the audit, it answers Memory and
-/// no other fault, and the same is found when it is asked again.
-fn is_audited<M: Manages, S: Start, L: Ledger>(
-    alloc: Global,
-    room: &Room<M, S>,
-    report: Report<L>,
-    events: u64,
-) -> bool {
-    let Report {
-        share,
-        receipts,
-        dropped,
-    } = report;
-    let shares = [share];
-    let sound = match audit(alloc, room, &receipts, &shares) {
-        Err(AuditFault::Memory) => audit(alloc, room, &receipts, &shares),
-        found => found,
-    };
-    let kept = (receipts.len() as u64).saturating_add(dropped);
-    sound.is_ok() && kept == events && room.entries().len() as u64 == events
+#[derive(Drop)]
+struct Row {
+    play: Play,
 }
 
-fn by_desk<M: Manages + Drop, S: Start, L: Ledger, R: Wait>(
-    rt: &R,
-    alloc: Global,
-    manager: M,
-    blank: Blank,
-    play: Play,
-) -> End
-    requires start { (s : State) → S.start s → M.stands manager s }
-    requires base { M.failures manager ≡ S.base }
-    requires name { blank.name ≡ L.name }
-    requires parts { (blank.parts ≡ L.parts) × (blank.parts ≡ 1) }
-{
-    let room: Room<M, S> = match Room::new(alloc, manager) {
-        Ok(room) => room,
-        Err(_) => return End::Stopped,
-    };
-    let (desk, share) = Desk::<M, S, L>::new(room, blank);
-    let mut seat = Seat::new(alloc, rt, &desk, &OpenGate, share);
-    let mut events = 0;
-    let end = behind(alloc, &mut seat, play, &mut events);
-    let report = seat.into_report();
-    let (room, _book) = desk.into_room();
-    if is_audited(alloc, &room, report, events) {
-        end
-    } else {
-        End::Wrong
+impl<R: AllocGlobal + Wait> Visit<R> for Row {
+    type Found = End;
+
+    fn visit<M: Manages + Drop, S: Start, L: Ledger>(
+        self,
+        rt: &R,
+        desk: Desk<M, S, L>,
+        share: Share<L>,
+    ) -> Option<End> {
+        let alloc = rt.alloc();
+        let mut seat = Seat::new(alloc, rt, &desk, &OpenGate, share);
+        let mut events = 0;
+        let end = behind(alloc, &mut seat, self.play, &mut events);
+        let report = seat.into_report();
+        let (room, _book) = desk.into_room();
+        let is_whole = is_audited(alloc, &room, report, events);
+        Some(if is_whole { end } else { End::Wrong })
     }
 }
 
-fn by_new_desk<R: Wait>(rt: &R, alloc: Global, play: Play) -> End {
-    let Some(manager) = opened_over(alloc, 1 << 30) else {
-        return End::Stopped;
-    };
-    let blank = Blank::new(1);
-    by_desk::<Manager<MemDisk>, Brand, Brand, R>(rt, alloc, manager, blank, play)
+fn by_new_desk<R: AllocGlobal + Wait>(rt: &R, play: Play) -> End {
+    at_new_desk(rt, Row { play }).unwrap_or(End::Stopped)
 }
 
-fn is_right_by_desk<R: Wait>(rt: &R, alloc: Global, play: Play) -> bool {
-    match by_new_desk(rt, alloc, play) {
+fn is_right_by_desk<R: AllocGlobal + Wait>(rt: &R, play: Play) -> bool {
+    match by_new_desk(rt, play) {
         End::Whole => true,
-        End::Stopped => by_new_desk(rt, alloc, play) == End::Whole,
+        End::Stopped => by_new_desk(rt, play) == End::Whole,
         End::Wrong => false,
     }
 }
 
-fn wrong_by_desk<R: Wait>(rt: &R, alloc: Global, plays: &[Play]) -> Option<usize> {
+fn wrong_by_desk<R: AllocGlobal + Wait>(rt: &R, plays: &[Play]) -> Option<usize> {
     for (place, play) in plays.iter().enumerate() {
-        if !is_right_by_desk(rt, alloc, play) {
+        if !is_right_by_desk(rt, play) {
             return Some(place);
         }
     }
@@ -309,5 +277,16 @@ fn wrong_by_desk<R: Wait>(rt: &R, alloc: Global, plays: &[Play]) -> Option<usize
 
 #[test]
 fn by_a_desk(rt: HostRuntime) {
-    none_wrong(&rt, wrong_by_desk(&rt, rt.alloc(), &ROWS));
+    none_wrong(&rt, wrong_by_desk(&rt, &ROWS));
+}
+
+/// Audits of a room alone. One that finds no memory answers that and nothing else, and the room is as it was. Where there was no
+/// memory for the room or its receipts, it is made once more.
+#[test]
+fn by_an_audit(rt: HostRuntime) {
+    let found = match at_new_desk(&rt, Audited) {
+        Some(found) => Some(found),
+        None => at_new_desk(&rt, Audited),
+    };
+    assert_eq!(rt; found, Some(true));
 }

@@ -1,7 +1,7 @@
 ghost use Rattle.std.specs.Prelude.{IfSome};
 ghost use Rattle.xa_frame.specs.Limits.{IsRequest};
 
-use crate::crews::opened_over;
+use crate::desks::opened;
 use crate::refused::{Asks, End};
 use std::alloc::Global;
 use xa_codes::{
@@ -9,6 +9,7 @@ use xa_codes::{
     XAER_RMERR,
 };
 use xa_frame::Request;
+use xa_rows::{BRANCHES, LOOSE, SESSIONS, WRITES};
 use xa_xid::Xid;
 
 // The limits of sessions, branches, keys and loose associations, right whichever one allocation is refused, as the rows of
@@ -137,7 +138,7 @@ fn works<A: Asks>(alloc: Global, asked: &mut A) -> End {
 }
 
 fn puts<A: Asks>(alloc: Global, asked: &mut A) -> End {
-    for number in 0..256u16 {
+    for number in 0..WRITES {
         match behind(alloc, asked, What::Put(number), DONE) {
             End::Whole => {}
             end => return end,
@@ -157,7 +158,7 @@ fn keys<A: Asks>(alloc: Global, asked: &mut A) -> End {
         end => return end,
     }
     let last = [
-        (What::Put(256), (XAER_INVAL, Detail::Limit)),
+        (What::Put(WRITES), (XAER_INVAL, Detail::Limit)),
         (What::Put(7), DONE),
     ];
     behind_all(alloc, asked, &last)
@@ -165,7 +166,7 @@ fn keys<A: Asks>(alloc: Global, asked: &mut A) -> End {
 
 /// The 1,025th session.
 fn sessions<A: Asks>(asked: &mut A) -> End {
-    for _ in 0..1024u16 {
+    for _ in 0..SESSIONS {
         match behind_connect(asked, DONE) {
             End::Whole => {}
             end => return end,
@@ -175,7 +176,7 @@ fn sessions<A: Asks>(asked: &mut A) -> End {
 }
 
 fn starts<A: Asks>(alloc: Global, asked: &mut A) -> End {
-    for number in 0..4096u16 {
+    for number in 0..BRANCHES {
         let calls = [(What::Start(number), DONE), (What::End(number), DONE)];
         match behind_all(alloc, asked, &calls) {
             End::Whole => {}
@@ -192,13 +193,18 @@ fn branches<A: Asks>(alloc: Global, asked: &mut A) -> End {
         end => return end,
     }
     match starts(alloc, asked) {
-        End::Whole => behind(alloc, asked, What::Start(4096), (XAER_RMERR, Detail::Limit)),
+        End::Whole => behind(
+            alloc,
+            asked,
+            What::Start(BRANCHES),
+            (XAER_RMERR, Detail::Limit),
+        ),
         end => end,
     }
 }
 
 fn joins<A: Asks>(alloc: Global, asked: &mut A) -> End {
-    for _ in 0..63u16 {
+    for _ in 1..LOOSE {
         let calls = [(What::Suspend(0), DONE), (What::Join(0), DONE)];
         match behind_all(alloc, asked, &calls) {
             End::Whole => {}
@@ -237,7 +243,7 @@ enum Limit {
 }
 
 fn met_by(alloc: Global, limit: Limit) -> End {
-    let Some(mut manager) = opened_over(alloc, 1 << 30) else {
+    let Some(mut manager) = opened(alloc) else {
         return End::Stopped;
     };
     match limit {

@@ -1,32 +1,18 @@
-ghost use Rattle.std.specs.Prelude.{◌≡◌, ◌<◌, ◌≤◌, IfSome};
+ghost use Rattle.std.specs.Prelude.{IfSome};
 ghost use Rattle.xa_frame.specs.Limits.{IsRequest};
-ghost use Rattle.xa_model.specs.State.{State};
 
-use crate::crews::opened;
+use crate::desks::{Visit, at_new_desk, found_by, open_request};
 use std::alloc::Global;
-use std::marker::Brand;
 use std::sync::Wait;
-use std::sync::ledger::{Blank, Ledger};
-use xa_codes::{Bytes, Detail, TMNOFLAGS, XA_OK, XAER_PROTO};
+use std::sync::ledger::Ledger;
+use xa_codes::{Bytes, Code, Detail, XA_OK, XAER_PROTO};
 use xa_desk::Door;
-use xa_disk::MemDisk;
 use xa_frame::{Body, Reply, Request};
-use xa_manager::Manager;
 use xa_model::Event;
-use xa_room::{AuditFault, Desk, Manages, Receipt, Room, Share, Start, agree, audit};
-
-fn open_request(alloc: Global) -> Option<Request>
-    ensures { IfSome result IsRequest }
-{
-    let info = Bytes::from_slice(alloc, b"xarm").ok()?;
-    Some(Request::Open {
-        flags: TMNOFLAGS,
-        info,
-    })
-}
+use xa_room::{AuditFault, Desk, Manages, Receipt, Room, Share, Start, agree};
 
 // A connect and an Open of one session more.
-fn visit<M: Manages, S: Start, L: Ledger, R: Wait>(
+fn opens<M: Manages, S: Start, L: Ledger, R: Wait>(
     rt: &R,
     alloc: Global,
     desk: &Desk<M, S, L>,
@@ -74,65 +60,68 @@ fn first_receipt() -> Receipt {
     }
 }
 
-// What audits answer of the receipts and the share, of the receipts without the share, of the receipts with the first one again
-// behind them, and of the receipts with another code in the third.
+// Gives the third receipt a code.
+fn set_code(receipts: &mut [Receipt], code: Code) -> Option<()> {
+    receipts.get_mut(2)?.reply.code = code;
+    Some(())
+}
+
+// What audits find of the receipts and the share, of the receipts without the share, with another code in the third, and with the
+// first one again behind them; and of the receipts and the share again, since the room is as it was.
 fn audits<M: Manages, S: Start, L: Ledger>(
     alloc: Global,
     room: &Room<M, S>,
     mut receipts: Vec<Receipt>,
     shares: &[Share<L>],
-) -> Option<[Result<(), AuditFault>; 4]> {
-    let sound = audit(alloc, room, receipts.as_slice(), shares);
+) -> Option<[Result<(), AuditFault>; 5]> {
+    let sound = found_by(alloc, room, receipts.as_slice(), shares);
     let nobody: Vec<Share<L>> = Vec::new(alloc);
-    let uncounted = audit(alloc, room, receipts.as_slice(), nobody.as_slice());
+    let uncounted = found_by(alloc, room, receipts.as_slice(), nobody.as_slice());
+    set_code(&mut receipts, XAER_PROTO)?;
+    let changed = found_by(alloc, room, receipts.as_slice(), shares);
+    set_code(&mut receipts, XA_OK)?;
     receipts.push(first_receipt()).ok()?;
-    let repeated = audit(alloc, room, receipts.as_slice(), shares);
-    let third = receipts.get_mut(2)?;
-    third.reply.code = XAER_PROTO;
-    let changed = audit(alloc, room, receipts.as_slice(), shares);
-    Some([sound, uncounted, repeated, changed])
+    let repeated = found_by(alloc, room, receipts.as_slice(), shares);
+    let _again = receipts.pop();
+    let still_sound = found_by(alloc, room, receipts.as_slice(), shares);
+    Some([sound, uncounted, changed, repeated, still_sound])
 }
 
-fn audited<M: Manages + Drop, S: Start, L: Ledger, R: Wait>(
-    rt: &R,
-    alloc: Global,
-    manager: M,
-    blank: Blank,
-) -> Option<bool>
-    requires start { (s : State) → S.start s → M.stands manager s }
-    requires base { M.failures manager ≡ S.base }
-    requires name { blank.name ≡ L.name }
-    requires parts { (blank.parts ≡ L.parts) × (blank.parts ≡ 2) }
-{
-    let room: Room<M, S> = Room::new(alloc, manager).ok()?;
-    let (desk, share) = Desk::<M, S, L>::new(room, blank);
-    let mut receipts = Vec::new(alloc);
-    let share = visit(rt, alloc, &desk, share, &mut receipts)?;
-    let share = visit(rt, alloc, &desk, share, &mut receipts)?;
-    let (room, _book) = desk.into_room();
-    let is_right = share.count() == 4 && are_numbered(receipts.as_slice());
-    let mut shares = Vec::new(alloc);
-    shares.push(share).ok()?;
-    let found = audits(alloc, &room, receipts, shares.as_slice())?;
-    let wanted = [
-        Ok(()),
-        Err(AuditFault::Count),
-        Err(AuditFault::Repeats(4)),
-        Err(AuditFault::Differs(2)),
-    ];
-    Some(is_right && found == wanted)
+/// Two sessions connect and open, and then the room alone is audited.
+#[derive(Drop)]
+pub struct Audited;
+
+impl<R: AllocGlobal + Wait> Visit<R> for Audited {
+    type Found = bool;
+
+    fn visit<M: Manages + Drop, S: Start, L: Ledger>(
+        self,
+        rt: &R,
+        desk: Desk<M, S, L>,
+        share: Share<L>,
+    ) -> Option<bool> {
+        let alloc = rt.alloc();
+        let mut receipts = Vec::new(alloc);
+        let share = opens(rt, alloc, &desk, share, &mut receipts)?;
+        let share = opens(rt, alloc, &desk, share, &mut receipts)?;
+        let (room, _book) = desk.into_room();
+        let is_right = share.count() == 4 && are_numbered(receipts.as_slice());
+        let shares = [share];
+        let found = audits(alloc, &room, receipts, &shares)?;
+        let wanted = [
+            Ok(()),
+            Err(AuditFault::Count),
+            Err(AuditFault::Differs(2)),
+            Err(AuditFault::Repeats(4)),
+            Ok(()),
+        ];
+        Some(is_right && found == wanted)
+    }
 }
 
 #[test]
 fn an_audit_finds_each_fault(rt: HostRuntime) {
-    let manager = opened(rt.alloc()).expect(&rt, "a manager");
-    let found = audited::<Manager<MemDisk>, Brand, Brand, HostRuntime>(
-        &rt,
-        rt.alloc(),
-        manager,
-        Blank::new(2),
-    );
-    assert_eq!(rt; found, Some(true));
+    assert_eq!(rt; at_new_desk(&rt, Audited), Some(true));
 }
 
 fn is_at(receipt: Option<Receipt>, place: u64) -> bool {
@@ -176,53 +165,53 @@ fn request_of(request: Request) -> Option<Request>
     Some(request)
 }
 
-fn kept<M: Manages + Drop, S: Start>(alloc: Global, manager: M) -> Option<bool>
-    requires start { (s : State) → S.start s → M.stands manager s }
-    requires base { M.failures manager ≡ S.base }
-{
-    let mut room: Room<M, S> = Room::new(alloc, manager).ok()?;
-    is_kept(alloc, &mut room)
+#[derive(Drop)]
+struct Kept;
+
+impl<R: AllocGlobal> Visit<R> for Kept {
+    type Found = bool;
+
+    fn visit<M: Manages + Drop, S: Start, L: Ledger>(
+        self,
+        rt: &R,
+        desk: Desk<M, S, L>,
+        _share: Share<L>,
+    ) -> Option<bool> {
+        let (mut room, _book) = desk.into_room();
+        is_kept(rt.alloc(), &mut room)
+    }
 }
 
 #[test]
 fn a_room_keeps_each_event(rt: HostRuntime) {
-    let manager = opened(rt.alloc()).expect(&rt, "a manager");
-    let found = kept::<Manager<MemDisk>, Brand>(rt.alloc(), manager);
-    assert_eq!(rt; found, Some(true));
+    assert_eq!(rt; at_new_desk(&rt, Kept), Some(true));
 }
 
-// A share in two, an event by each, and the two merged: the desk's book agrees.
-fn agreed<M: Manages + Drop, S: Start, L: Ledger, R: Wait>(
-    rt: &R,
-    alloc: Global,
-    manager: M,
-    blank: Blank,
-) -> Option<bool>
-    requires start { (s : State) → S.start s → M.stands manager s }
-    requires base { M.failures manager ≡ S.base }
-    requires name { blank.name ≡ L.name }
-    requires parts { (blank.parts ≡ L.parts) × (blank.parts ≡ 2) }
-{
-    let room: Room<M, S> = Room::new(alloc, manager).ok()?;
-    let (desk, share) = Desk::<M, S, L>::new(room, blank);
-    let (one, other) = share.split(1);
-    let (session, first, one) = desk.connect(rt, one);
-    let (hung_up, other) = desk.hangup(rt, other, session.ok()?);
-    let counts = (one.count(), other.count());
-    let mut share = desk.merge(rt, one, other);
-    let (_room, mut book) = desk.into_room();
-    agree(&mut book, &mut share);
-    Some(counts == (1, 1) && share.count() == 2 && is_at(first, 1) && is_at(hung_up, 2))
+/// A share in two, an event by each, and the two merged: the desk's book agrees.
+#[derive(Drop)]
+struct Agreed;
+
+impl<R: Wait> Visit<R> for Agreed {
+    type Found = bool;
+
+    fn visit<M: Manages + Drop, S: Start, L: Ledger>(
+        self,
+        rt: &R,
+        desk: Desk<M, S, L>,
+        share: Share<L>,
+    ) -> Option<bool> {
+        let (one, other) = share.split(1);
+        let (session, first, one) = desk.connect(rt, one);
+        let (hung_up, other) = desk.hangup(rt, other, session.ok()?);
+        let counts = (one.count(), other.count());
+        let mut share = desk.merge(rt, one, other);
+        let (_room, mut book) = desk.into_room();
+        agree(&mut book, &mut share);
+        Some(counts == (1, 1) && share.count() == 2 && is_at(first, 1) && is_at(hung_up, 2))
+    }
 }
 
 #[test]
 fn shares_count_what_a_desk_records(rt: HostRuntime) {
-    let manager = opened(rt.alloc()).expect(&rt, "a manager");
-    let found = agreed::<Manager<MemDisk>, Brand, Brand, HostRuntime>(
-        &rt,
-        rt.alloc(),
-        manager,
-        Blank::new(2),
-    );
-    assert_eq!(rt; found, Some(true));
+    assert_eq!(rt; at_new_desk(&rt, Agreed), Some(true));
 }

@@ -1,17 +1,18 @@
-use crate::crews::opened;
+use crate::clients::{OPEN, OPENED, listening, reach, sender};
+use crate::desks::opened;
 use crate::meetings::session_of;
 use std::alloc::{AllocError, Global};
 use std::cell::RefCell;
 use std::io::{self, ErrorKind, Read, Write};
-use std::net::{Net, Shutdown, SocketAddr, TcpListener, TcpStream};
+use std::net::{Net, SocketAddr, TcpListener, TcpStream};
 use std::sync::Wait;
 use std::thread::{Threads, join};
-use std::time::Duration;
 use xa_codes::{Bytes, XA_OK};
 use xa_disk::MemDisk;
 use xa_frame::{Reply, decode_reply};
 use xa_manager::{Manager, Settings};
 use xa_play::play_run;
+use xa_rows::{LOG_BYTES, SESSIONS};
 use xa_script::{first_part, reply_line};
 use xa_server::{Audited, audited_lines, serve_manager};
 use xa_talk::{Connection, Dial, talk_run};
@@ -40,13 +41,6 @@ struct Caller<'a, R> {
     rt: &'a R,
     address: SocketAddr,
     came: &'a RefCell<Vec<u8>>,
-}
-
-// A server that doesn't answer fails the test, and doesn't keep it.
-fn reach<R: Net<Stream = TcpStream>>(rt: &R, address: SocketAddr) -> io::Result<TcpStream> {
-    let stream = TcpStream::connect(rt, address)?;
-    stream.set_read_timeout(Some(Duration::from_secs(30)))?;
-    Ok(stream)
 }
 
 impl<'a, R: Net<Stream = TcpStream>> Dial<Tap<'a>, TcpStream> for Caller<'a, R> {
@@ -138,7 +132,7 @@ fn script_of(alloc: Global, lines: &[&str]) -> Result<Vec<u8>, AllocError> {
 fn played(alloc: Global, script: &[u8]) -> Option<Vec<u8>> {
     let settings = Settings {
         name: Bytes::from_slice(alloc, b"xarm").ok()?,
-        log_bytes: 1 << 30,
+        log_bytes: LOG_BYTES,
     };
     let mut reader = script;
     let mut printed: Vec<u8> = Vec::new(alloc);
@@ -214,8 +208,7 @@ fn served<R: AllocGlobal + Net<Listener = TcpListener, Stream = TcpStream> + Thr
     script: &[u8],
 ) -> Option<(Audited, Vec<u8>, Vec<u8>)> {
     let alloc = rt.alloc();
-    let listener = TcpListener::bind(rt, "127.0.0.1:0").ok()?;
-    let address = listener.local_addr().ok()?;
+    let (listener, address) = listening(rt)?;
     let (told, talked) = join(
         rt,
         || serve_manager(rt, &listener, manager, 2, 2),
@@ -257,11 +250,8 @@ fn senders<R: Net<Stream = TcpStream>>(
 ) -> Option<Vec<TcpStream>> {
     let mut streams = Vec::new(alloc);
     for k in 0..5u8 {
-        let mut stream = reach(rt, address).ok()?;
         let bytes = session_of(alloc, k)?;
-        stream.write_all(bytes.as_slice()).ok()?;
-        stream.shutdown(Shutdown::Write).ok()?;
-        streams.push(stream).ok()?;
+        streams.push(sender(rt, address, bytes.as_slice())?).ok()?;
     }
     Some(streams)
 }
@@ -303,8 +293,7 @@ fn serves_a_crowd<
     R: AllocGlobal + Net<Listener = TcpListener, Stream = TcpStream> + Threads + Wait + Sync,
 >(rt: &R) -> Option<bool> {
     let alloc = rt.alloc();
-    let listener = TcpListener::bind(rt, "127.0.0.1:0").ok()?;
-    let address = listener.local_addr().ok()?;
+    let (listener, address) = listening(rt)?;
     let manager = opened(alloc)?;
     let (told, are_sessions) = join(
         rt,
@@ -322,18 +311,16 @@ fn more_clients_than_workers(rt: HostRuntime) {
 // A manager that has room for one session more.
 fn filled(alloc: Global) -> Option<Manager<MemDisk>> {
     let mut manager = opened(alloc)?;
-    for _ in 0..1_023u32 {
+    for _ in 1..SESSIONS {
         manager.connect().ok()?;
     }
     Some(manager)
 }
 
-const OPEN: [u8; 15] = [0, 0, 0, 11, 1, 1, 0, 0, 0, 0, 4, 0x78, 0x61, 0x72, 0x6d];
-
 // An Open over a stream, and whether it is answered 0.
 fn is_open(alloc: Global, stream: &mut TcpStream) -> Option<bool> {
     stream.write_all(&OPEN).ok()?;
-    let mut reply = [0u8; 19];
+    let mut reply = [0u8; OPENED];
     stream.read_exact(&mut reply).ok()?;
     Some(count_ok(alloc, &reply)? == 1)
 }
@@ -356,8 +343,7 @@ fn serves_the_last<
     R: AllocGlobal + Net<Listener = TcpListener, Stream = TcpStream> + Threads + Wait + Sync,
 >(rt: &R) -> Option<bool> {
     let alloc = rt.alloc();
-    let listener = TcpListener::bind(rt, "127.0.0.1:0").ok()?;
-    let address = listener.local_addr().ok()?;
+    let (listener, address) = listening(rt)?;
     let manager = filled(alloc)?;
     let (told, are_right) = join(
         rt,

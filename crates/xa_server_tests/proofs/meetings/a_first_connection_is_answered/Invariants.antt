@@ -3,8 +3,8 @@ use Rattle.xa_play.specs.Disks.{StandsFor}
 use Rattle.xa_server_tests.proofs.meetings.a_first_connection_is_answered.Given as goal
 
 -- every state that the manager stands for
-abbrev pub ghosts-first_replies-S-Start : goal.ghosts-first_replies-S-Start
-ghosts-first_replies-S-Start g a = record { start = λ s. StandsFor a.manager s; base = counted_by (λ d. d.failures) a.manager.log }
+abbrev pub ghosts-answered-S-Start : goal.ghosts-answered-S-Start
+ghosts-answered-S-Start g a = record { start = λ s. StandsFor a.manager s; base = counted_by (λ d. d.failures) a.manager.log }
 
-abbrev pub ghosts-first_replies-L-Ledger : goal.ghosts-first_replies-L-Ledger
-ghosts-first_replies-L-Ledger g a = record { name = a.blank.name; parts = a.blank.parts }
+abbrev pub ghosts-answered-L-Ledger : goal.ghosts-answered-L-Ledger
+ghosts-answered-L-Ledger g a = record { name = a.blank.name; parts = a.blank.parts }

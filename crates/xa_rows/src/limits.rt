@@ -1,0 +1,37 @@
+// The limits, as docs/PROTOCOL.md states them: what is asked at them doesn't go by the crates' own constants.
+
+/// The bytes of an Open's text, of each part of an XID, of a key and of a value.
+pub const INFO_BYTES: u8 = 255;
+
+pub const PART_BYTES: u8 = 64;
+
+pub const KEY_BYTES: u8 = 64;
+
+pub const VALUE_BYTES: u16 = 1_024;
+
+/// The bytes of a frame's content, and of a record's body.
+pub const CONTENT_BYTES: u16 = 65_535;
+
+pub const BODY_BYTES: usize = 524_288;
+
+/// The bytes of a log, at least and at most.
+pub const LEAST_LOG_BYTES: u64 = 64;
+
+pub const LOG_BYTES: u64 = 1 << 30;
+
+/// The keys that a branch writes, and the loose associations that it has.
+pub const WRITES: u16 = 256;
+
+pub const LOOSE: u16 = 64;
+
+/// The sessions, and the known branches.
+pub const SESSIONS: u16 = 1_024;
+
+pub const BRANCHES: u16 = 4_096;
+
+/// The XIDs of a reply.
+pub const XIDS: u16 = 256;
+
+/// The bytes of a log that has room for `WRITTEN` and `PREPARED`, and no byte more: the records of the first boot and of the
+/// branch up to 49 and 110, a closing length of 4 bytes, and 343 to complete the branch and to forget it.
+pub const PREPARED_LOG_BYTES: u64 = 457;

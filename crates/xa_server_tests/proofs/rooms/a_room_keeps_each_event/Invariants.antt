@@ -1,7 +1,0 @@
-use Rattle.xa_manager.specs.Counted.{counted_by}
-use Rattle.xa_play.specs.Disks.{StandsFor}
-use Rattle.xa_server_tests.proofs.rooms.a_room_keeps_each_event.Given as goal
-
--- every state that the manager stands for
-abbrev pub ghosts-kept : goal.ghosts-kept
-ghosts-kept g a = record { start = λ s. StandsFor a.manager s; base = counted_by (λ d. d.failures) a.manager.log }
