@@ -1,7 +1,7 @@
 use crate::folders::path_of;
 use crate::log_pairs::{
-    MOST, NEW, OLD, appends, are, bytes_on, checkpoint_of, checkpoints, crashed, file_of,
-    keeps_all, log_of,
+    NEW, OLD, appends, are, bytes_on, checkpoint_of, checkpoints, crashed, file_of, keeps_all,
+    log_of,
 };
 use crate::logs::{are_numbered, contains, filled};
 use crate::rows::none_wrong;
@@ -9,7 +9,7 @@ use std::alloc::Global;
 use std::fs;
 use xa_disk::{FileDisk, MemDisk};
 use xa_log::{Appended, Log, read_log};
-use xa_rows::first_wrong;
+use xa_rows::{BODY_BYTES, LOG_BYTES, first_wrong};
 
 // The records of a checkpoint of the second boot and a branch that it holds, as docs/LOG.md has them, the digests by
 // sha256sum.
@@ -41,8 +41,8 @@ fn two_byte_strings(alloc: Global) -> Option<(Vec<u8>, Vec<u8>)> {
 // Each file's own bodies, current or not.
 fn two_logs(alloc: Global) -> Option<(Vec<Vec<u8>>, Vec<Vec<u8>>)> {
     let (mut first, mut second) = two_files(alloc)?;
-    let old = read_log(alloc, &mut first, MOST).ok()?;
-    Some((old, read_log(alloc, &mut second, MOST).ok()?))
+    let old = read_log(alloc, &mut first, LOG_BYTES).ok()?;
+    Some((old, read_log(alloc, &mut second, LOG_BYTES).ok()?))
 }
 
 #[test]
@@ -62,7 +62,7 @@ fn two_disks(rt: &HostRuntime, path: &str, other: &str) -> Option<(FileDisk, Fil
 // The files are the log's alone until it is dropped.
 fn is_kept_in(rt: &HostRuntime, path: &str, other: &str) -> Option<bool> {
     let (first, second) = two_disks(rt, path, other)?;
-    let mut log = Log::create(rt.alloc(), first, second, MOST).ok()?;
+    let mut log = Log::create(rt.alloc(), first, second, LOG_BYTES).ok()?;
     let appended = keeps_all(&mut log, &OLD);
     let came = checkpoint_of(rt.alloc(), &mut log, &NEW)?;
     let kept = came == Appended::Kept && !log.on_first();
@@ -74,7 +74,7 @@ const THIRD: [&[u8]; 1] = [&[1, 0, 0, 0, 3]];
 
 fn is_kept_again_in(rt: &HostRuntime, path: &str, other: &str) -> Option<bool> {
     let (first, second) = two_disks(rt, path, other)?;
-    let (mut log, bodies) = Log::open(rt.alloc(), first, second, MOST).ok()?;
+    let (mut log, bodies) = Log::open(rt.alloc(), first, second, LOG_BYTES).ok()?;
     let right = are(&bodies, &NEW) && !log.on_first();
     let came = checkpoint_of(rt.alloc(), &mut log, &THIRD)?;
     Some(right && came == Appended::Kept && log.on_first())
@@ -82,7 +82,7 @@ fn is_kept_again_in(rt: &HostRuntime, path: &str, other: &str) -> Option<bool> {
 
 fn is_opened_in(rt: &HostRuntime, path: &str, other: &str) -> Option<bool> {
     let (first, second) = two_disks(rt, path, other)?;
-    let (log, bodies) = Log::open(rt.alloc(), first, second, MOST).ok()?;
+    let (log, bodies) = Log::open(rt.alloc(), first, second, LOG_BYTES).ok()?;
     Some(are(&bodies, &THIRD) && log.on_first())
 }
 
@@ -116,7 +116,7 @@ fn is_checkpointed(alloc: Global, records: usize, size: usize) -> Option<bool> {
     let mut log = log_of(alloc, &[])?;
     let came = checkpoints(&mut log, &many(alloc, records, size)?)?;
     let (first, second) = crashed(log)?;
-    let (log, bodies) = Log::open(alloc, first, second, MOST).ok()?;
+    let (log, bodies) = Log::open(alloc, first, second, LOG_BYTES).ok()?;
     let right = bodies.len() == records && are_numbered(&bodies, size);
     Some(came == Appended::Kept && right && !log.on_first())
 }
@@ -136,8 +136,8 @@ fn checkpoints_of_many_sizes(rt: HostRuntime) {
         (2, 1),
         (12, 100_000),
         (2_000, 5),
-        (1, 524_288),
-        (3, 524_288),
+        (1, BODY_BYTES),
+        (3, BODY_BYTES),
     ];
     none_wrong(&rt, wrong_size(rt.alloc(), &rows));
 }

@@ -1,12 +1,11 @@
 use crate::log_pairs::{
-    AGAIN, DECIDED, HELD, MOST, NEW, OLD, OPENED, appends, are, checkpoint_of, crashed, keeps_all,
-    log_of,
+    AGAIN, DECIDED, HELD, NEW, OLD, OPENED, appends, are, checkpoint_of, crashed, keeps_all, log_of,
 };
 use crate::rows::none_wrong;
 use std::alloc::Global;
 use xa_disk::{Disk, Effect, MemDisk};
 use xa_log::{Appended, Log, OpenFault, open_on};
-use xa_rows::first_wrong;
+use xa_rows::{LOG_BYTES, first_wrong};
 
 // A checkpoint of one body makes six calls: a write and a sync of the first 12 bytes, of the record, and of its length.
 const ONE: [&[u8]; 1] = [&AGAIN];
@@ -60,7 +59,9 @@ fn is_answered(alloc: Global, plans: &[(u64, Effect)], answer: Appended) -> Opti
     let came = checkpoint_of(alloc, &mut log, &ONE)?;
     let left = if answer == Appended::Kept { 53 } else { 114 };
     Some(
-        came == answer && log.on_first() == (answer != Appended::Kept) && log.free() == MOST - left,
+        came == answer
+            && log.on_first() == (answer != Appended::Kept)
+            && log.free() == LOG_BYTES - left,
     )
 }
 
@@ -236,7 +237,7 @@ fn with_faults(alloc: Global, pair: Pair, effect: Effect) -> Option<(Appended, L
 fn stands_after_crash(alloc: Global, pair: Pair, effect: Effect) -> Option<bool> {
     let (answer, log) = with_faults(alloc, pair, effect)?;
     let (first, second) = crashed(log)?;
-    let (log, bodies) = Log::open(alloc, first, second, MOST).ok()?;
+    let (log, bodies) = Log::open(alloc, first, second, LOG_BYTES).ok()?;
     Some(are_answered(answer, &bodies) && log.on_first() == are(&bodies, &OLD))
 }
 
@@ -304,7 +305,7 @@ fn are_appended(answer: Appended, bodies: &[Vec<u8>]) -> bool {
 fn is_appended(alloc: Global, k: u64, effect: Effect) -> Option<bool> {
     let (answer, log) = appended(alloc, k, effect)?;
     let (first, second) = crashed(log)?;
-    let (log, bodies) = Log::open(alloc, first, second, MOST).ok()?;
+    let (log, bodies) = Log::open(alloc, first, second, LOG_BYTES).ok()?;
     Some(are_appended(answer, &bodies) && !log.on_first())
 }
 
@@ -338,8 +339,8 @@ fn is_opened_again(alloc: Global, k: u64, first_fails: bool) -> Option<bool> {
     } else {
         second.fail(k, Effect::Lost).ok()?;
     }
-    let fault = open_on(alloc, &mut first, &mut second, MOST).err();
-    let opened = open_on(alloc, &mut first, &mut second, MOST).ok()?;
+    let fault = open_on(alloc, &mut first, &mut second, LOG_BYTES).err();
+    let opened = open_on(alloc, &mut first, &mut second, LOG_BYTES).ok()?;
     let (log, bodies) = Log::on(first, second, opened);
     // A sync, a length and a read of each.
     let want = if k < 4 { Some(OpenFault::Device) } else { None };

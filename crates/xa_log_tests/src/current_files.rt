@@ -3,7 +3,7 @@ use crate::rows::none_wrong;
 use std::alloc::Global;
 use xa_disk::{Disk, MemDisk};
 use xa_log::{Log, OpenFault, create_on};
-use xa_rows::first_wrong;
+use xa_rows::{LOG_BYTES, first_wrong};
 
 /// What stands in a file.
 #[derive(Clone, Copy)]
@@ -107,7 +107,7 @@ fn opened(alloc: Global, first: File, second: File, most: u64) -> Result<(bool, 
 fn wrong_row(alloc: Global, rows: &[Row]) -> Option<usize> {
     first_wrong(
         rows,
-        |(first, second, want)| opened(alloc, *first, *second, 1 << 30) == *want,
+        |(first, second, want)| opened(alloc, *first, *second, LOG_BYTES) == *want,
     )
 }
 

@@ -1,8 +1,6 @@
 ghost use Rattle.xa_frame.specs.Limits.{IsRequest};
 
-use crate::log_pairs::{
-    AGAIN, DECIDED, HELD, MOST, OPENED, PREPARED, are, bytes_on, disk_of, file_of,
-};
+use crate::log_pairs::{AGAIN, DECIDED, HELD, OPENED, PREPARED, are, bytes_on, disk_of, file_of};
 use crate::rows::none_wrong;
 use std::alloc::Global;
 use xa_codes::{Bytes, XA_OK};
@@ -10,6 +8,7 @@ use xa_disk::MemDisk;
 use xa_frame::{Request, encode_request};
 use xa_log::{Log, OpenFault, read_log};
 use xa_manager::{Manager, ManagerFault, Settings};
+use xa_rows::{LEAST_LOG_BYTES, LOG_BYTES, PREPARED_LOG_BYTES};
 use xa_script::{Line, read_line};
 
 fn open(
@@ -67,7 +66,7 @@ const BEGUN: [&str; 6] = [
 
 /// The two disks once these lines were done behind those that prepare a branch, and a crash.
 pub fn disks_behind(alloc: Global, lines: &[&str]) -> Option<(MemDisk, MemDisk)> {
-    let mut manager = open(alloc, MemDisk::new(alloc), MemDisk::new(alloc), MOST).ok()?;
+    let mut manager = open(alloc, MemDisk::new(alloc), MemDisk::new(alloc), LOG_BYTES).ok()?;
     if !are_done(alloc, &mut manager, &BEGUN) || !are_done(alloc, &mut manager, lines) {
         return None;
     }
@@ -175,7 +174,7 @@ fn is_closed(alloc: Global, disk: &mut MemDisk, end: u64) -> Option<bool> {
 fn is_row(alloc: Global, row: &Row) -> Option<bool> {
     let (lines, on_first, bodies, end) = row;
     let (first, second) = disks_behind(alloc, lines)?;
-    let (log, found) = Log::open(alloc, first, second, MOST).ok()?;
+    let (log, found) = Log::open(alloc, first, second, LOG_BYTES).ok()?;
     let right = log.on_first() == *on_first && log.end() == *end && are(&found, bodies);
     let (mut first, mut second) = log.into_disks();
     let current = if *on_first { &mut first } else { &mut second };
@@ -199,8 +198,8 @@ fn files_of_the_log(rt: HostRuntime) {
 // A restart leaves the file that was current as it was.
 fn keeps_the_old(alloc: Global) -> Option<bool> {
     let (mut first, mut second) = disks_behind(alloc, &["1 restart"])?;
-    let old = read_log(alloc, &mut first, MOST).ok()?;
-    let new = read_log(alloc, &mut second, MOST).ok()?;
+    let old = read_log(alloc, &mut first, LOG_BYTES).ok()?;
+    let new = read_log(alloc, &mut second, LOG_BYTES).ok()?;
     Some(are(&old, &[&OPENED, &PREPARED]) && are(&new, &[&AGAIN, &HELD]))
 }
 
@@ -219,33 +218,37 @@ const LAST: [u8; 5] = [1, 255, 255, 255, 255];
 const NEXT_TO_LAST: [u8; 5] = [1, 255, 255, 255, 254];
 
 const REFUSALS: [Refusal; 11] = [
-    (&[&OPENED, &PREPARED], 457, None),
-    (&[&OPENED, &PREPARED], 456, Some(ManagerFault::LogFull)),
+    (&[&OPENED, &PREPARED], PREPARED_LOG_BYTES, None),
+    (
+        &[&OPENED, &PREPARED],
+        PREPARED_LOG_BYTES - 1,
+        Some(ManagerFault::LogFull),
+    ),
     (
         &[&OPENED, &PREPARED],
         113,
         Some(ManagerFault::Log(OpenFault::TooLong)),
     ),
-    (&[&OPENED], 64, None),
-    (&[&OPENED], 63, Some(ManagerFault::Setting)),
-    (&[&OPENED], MOST + 1, Some(ManagerFault::Setting)),
+    (&[&OPENED], LEAST_LOG_BYTES, None),
+    (&[&OPENED], LEAST_LOG_BYTES - 1, Some(ManagerFault::Setting)),
+    (&[&OPENED], LOG_BYTES + 1, Some(ManagerFault::Setting)),
     (
         &[&OPENED, &NO_RECORD],
-        MOST,
+        LOG_BYTES,
         Some(ManagerFault::Malformed(1)),
     ),
     (
         &[&OPENED, &PREPARED, &PREPARED],
-        MOST,
+        LOG_BYTES,
         Some(ManagerFault::Order(2)),
     ),
     (
         &[&PREPARED, &OPENED, &NO_RECORD],
-        MOST,
+        LOG_BYTES,
         Some(ManagerFault::Malformed(2)),
     ),
-    (&[&LAST], MOST, Some(ManagerFault::Boots)),
-    (&[&NEXT_TO_LAST], MOST, None),
+    (&[&LAST], LOG_BYTES, Some(ManagerFault::Boots)),
+    (&[&NEXT_TO_LAST], LOG_BYTES, None),
 ];
 
 fn is_refused_so(alloc: Global, row: &Refusal) -> Option<bool> {
@@ -271,7 +274,13 @@ fn openings_of_logs(rt: HostRuntime) {
 
 // Why no manager is opened on these bytes and an empty file.
 fn fault_of(alloc: Global, bytes: &[u8]) -> Option<ManagerFault> {
-    open(alloc, disk_of(alloc, bytes)?, MemDisk::new(alloc), MOST).err()
+    open(
+        alloc,
+        disk_of(alloc, bytes)?,
+        MemDisk::new(alloc),
+        LOG_BYTES,
+    )
+    .err()
 }
 
 #[test]

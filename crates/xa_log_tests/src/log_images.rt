@@ -1,9 +1,10 @@
-use crate::log_pairs::{DECIDED, MOST, NEW, OLD, OPENED, PREPARED, are, disk_of, file_of};
+use crate::log_pairs::{DECIDED, NEW, OLD, OPENED, PREPARED, are, disk_of, file_of};
 use crate::logs::filled;
 use crate::rows::none_wrong;
 use std::alloc::Global;
 use xa_disk::{Disk, MemDisk};
 use xa_log::Log;
+use xa_rows::LOG_BYTES;
 
 // The third boot's log, and an older one that is longer.
 const NEXT: [&[u8]; 2] = [
@@ -13,8 +14,13 @@ const NEXT: [&[u8]; 2] = [
 
 const LONG: [&[u8]; 3] = [&OPENED, &PREPARED, &DECIDED];
 
-/// The current file, what stood in the other one, and what a checkpoint writes there: 12 bytes with a length 0, all from
-/// byte 12 on, and the first length, with which it is sealed.
+/// The bytes of a log's name, and of that with the length 0 behind it.
+const NAMED: usize = 8;
+
+const FRONT: usize = 12;
+
+/// The current file, what stood in the other one, and what a checkpoint writes there: its front with a length 0, all
+/// behind that, and the first length, with which it is sealed.
 #[derive(Drop)]
 struct Files {
     current: Vec<u8>,
@@ -33,11 +39,12 @@ fn cut_off(alloc: Global, files: &Files, cut: usize) -> Option<MemDisk> {
     let mut disk = disk_of(alloc, &files.old)?;
     let opening = b"XARMLOG1\0\0\0\0".as_slice();
     disk.write_at(0, front(opening, cut)).ok()?;
-    if cut > 12 {
-        disk.write_at(12, front(new.get(12..)?, cut - 12)).ok()?;
+    if cut > FRONT {
+        disk.write_at(FRONT as u64, front(new.get(FRONT..)?, cut - FRONT))
+            .ok()?;
     }
     if cut > new.len() {
-        disk.write_at(8, front(new.get(8..12)?, cut - new.len()))
+        disk.write_at(NAMED as u64, front(new.get(NAMED..FRONT)?, cut - new.len()))
             .ok()?;
     }
     Some(disk)
@@ -50,7 +57,7 @@ fn gives(
     on_first: bool,
     bodies: &[&[u8]],
 ) -> Option<bool> {
-    let (log, found) = Log::open(alloc, first, second, MOST).ok()?;
+    let (log, found) = Log::open(alloc, first, second, LOG_BYTES).ok()?;
     Some(log.on_first() == on_first && are(&found, bodies))
 }
 
@@ -174,22 +181,28 @@ fn over_a_stray(alloc: Global) -> Option<Files> {
 
 // Once the first 8 bytes are written, and no length 0 behind them yet, it is the log.
 fn is_stray(alloc: Global, files: &Files, cut: usize) -> Option<bool> {
-    let bodies = if cut < 8 {
+    let bodies = if cut < NAMED {
         NEW.as_slice()
     } else {
         STRAY.as_slice()
     };
     let current = disk_of(alloc, &files.current)?;
-    gives(alloc, current, cut_off(alloc, files, cut)?, cut < 8, bodies)
+    gives(
+        alloc,
+        current,
+        cut_off(alloc, files, cut)?,
+        cut < NAMED,
+        bodies,
+    )
 }
 
 fn wrong_stray(alloc: Global, files: &Files) -> Option<usize> {
-    for cut in 0..12usize {
+    for cut in 0..FRONT {
         if is_stray(alloc, files, cut) != Some(true) {
             return Some(cut);
         }
     }
-    wrong_cut(alloc, files, (12, 14), false, &NEXT)
+    wrong_cut(alloc, files, (FRONT, FRONT + 2), false, &NEXT)
 }
 
 #[test]

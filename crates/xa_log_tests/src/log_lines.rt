@@ -5,6 +5,7 @@ use std::alloc::Global;
 use std::io::{self, ErrorKind, Write};
 use xa_disk::{Disk, Effect, MemDisk};
 use xa_log::{Log, OpenFault};
+use xa_rows::LOG_BYTES;
 use xa_scan::{ScanFault, places_in_the_file, scan_run, worked_scans};
 
 /// How the printing of a disk's log ends, and what it printed.
@@ -95,7 +96,7 @@ fn lines_of_logs(rt: HostRuntime) {
 
 // A body that is no record's stands between others.
 fn has_malformed(alloc: Global) -> Option<bool> {
-    let mut log = Log::create(alloc, MemDisk::new(alloc), MemDisk::new(alloc), 1 << 30).ok()?;
+    let mut log = Log::create(alloc, MemDisk::new(alloc), MemDisk::new(alloc), LOG_BYTES).ok()?;
     if !keeps_all(&mut log, &[&OPENED, &[0, 7], &OPENED]) {
         return None;
     }

@@ -6,8 +6,7 @@ ghost use Rattle.xa_log.specs.Reading.{bodies_of};
 use std::alloc::Global;
 use xa_disk::{Disk, MemDisk};
 use xa_log::{Appended, Log};
-
-pub const MOST: u64 = 1 << 30;
+use xa_rows::{BODY_BYTES, LOG_BYTES};
 
 // The first boot's record.
 pub const OPENED: [u8; 5] = [1, 0, 0, 0, 1];
@@ -36,7 +35,7 @@ fn are_bodies(bodies: &[Vec<u8>]) -> bool
     ensures { result ≡ true → AllByRecursion IsBody (bodies_of bodies.now) }
 {
     for body in bodies {
-        if body.is_empty() || body.len() > 524288 {
+        if body.is_empty() || body.len() > BODY_BYTES {
             return false;
         }
     }
@@ -53,7 +52,7 @@ pub fn checkpoints<D: Disk>(log: &mut Log<D>, bodies: &[Vec<u8>]) -> Option<Appe
 
 /// What an append of this comes to, if it is a body.
 pub fn appends<D: Disk>(log: &mut Log<D>, body: &[u8]) -> Option<Appended> {
-    if body.is_empty() || body.len() > 524288 {
+    if body.is_empty() || body.len() > BODY_BYTES {
         return None;
     }
     Some(log.append(body))
@@ -98,7 +97,7 @@ pub fn are(bodies: &[Vec<u8>], rows: &[&[u8]]) -> bool {
 
 /// A log of these on the first of two disks in memory, of which the second is empty.
 pub fn log_of(alloc: Global, bodies: &[&[u8]]) -> Option<Log<MemDisk>> {
-    let mut log = Log::create(alloc, MemDisk::new(alloc), MemDisk::new(alloc), MOST).ok()?;
+    let mut log = Log::create(alloc, MemDisk::new(alloc), MemDisk::new(alloc), LOG_BYTES).ok()?;
     if keeps_all(&mut log, bodies) {
         Some(log)
     } else {

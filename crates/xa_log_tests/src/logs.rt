@@ -1,11 +1,11 @@
 use crate::folders::path_of;
-use crate::log_pairs::{MOST, OLD, OPENED, appends, crashed, disk_of, file_of, keeps_all, log_of};
+use crate::log_pairs::{OLD, OPENED, appends, crashed, disk_of, file_of, keeps_all, log_of};
 use crate::rows::none_wrong;
 use std::alloc::Global;
 use std::fs;
 use xa_disk::{Disk, Effect, FileDisk, MemDisk};
 use xa_log::{Appended, Log, OpenFault, open_on, read_log};
-use xa_rows::first_wrong;
+use xa_rows::{BODY_BYTES, LOG_BYTES, first_wrong};
 
 // SHA-256 of SHA-256 of "XARMLOG1", the length 00000005 and OPENED, by sha256sum:
 // (printf XARMLOG1 | sha256sum | cut -c-64 | xxd -r -p; echo 000000050100000001 | xxd -r -p) | sha256sum
@@ -22,7 +22,7 @@ fn two_records(alloc: Global) -> Option<Vec<u8>> {
 // How many bodies a disk of these bytes gives, beside an empty one.
 fn bodies_in(alloc: Global, bytes: &[u8]) -> Result<usize, OpenFault> {
     let disk = MemDisk::with_bytes(Vec::from_slice(alloc, bytes)?);
-    let (_log, bodies) = Log::open(alloc, disk, MemDisk::new(alloc), MOST)?;
+    let (_log, bodies) = Log::open(alloc, disk, MemDisk::new(alloc), LOG_BYTES)?;
     Ok(bodies.len())
 }
 
@@ -51,7 +51,7 @@ fn a_log_ends_where_its_last_record_is_cut(rt: HostRuntime) {
 // The bytes of a log of both, to which a third record is appended.
 fn with_third(alloc: Global) -> Option<MemDisk> {
     let disk = disk_of(alloc, &two_records(alloc)?)?;
-    let (mut log, _bodies) = Log::open(alloc, disk, MemDisk::new(alloc), MOST).ok()?;
+    let (mut log, _bodies) = Log::open(alloc, disk, MemDisk::new(alloc), LOG_BYTES).ok()?;
     if keeps_all(&mut log, &[&OPENED]) {
         Some(log.into_disks().0)
     } else {
@@ -60,7 +60,7 @@ fn with_third(alloc: Global) -> Option<MemDisk> {
 }
 
 fn count_on(alloc: Global, disk: &mut MemDisk) -> Result<usize, OpenFault> {
-    Ok(read_log(alloc, disk, MOST)?.len())
+    Ok(read_log(alloc, disk, LOG_BYTES)?.len())
 }
 
 // A third record behind the two, and one byte of the second's digest changed.
@@ -112,7 +112,7 @@ fn other_bytes_are_refused(rt: HostRuntime) {
 
 // A log of no body, whose next device calls fail so.
 fn with_plans(alloc: Global, plans: &[(u64, Effect)]) -> Result<Log<MemDisk>, OpenFault> {
-    let mut log = Log::create(alloc, MemDisk::new(alloc), MemDisk::new(alloc), MOST)?;
+    let mut log = Log::create(alloc, MemDisk::new(alloc), MemDisk::new(alloc), LOG_BYTES)?;
     for (k, effect) in plans {
         log.fail(*k, *effect)?;
     }
@@ -131,7 +131,7 @@ fn two_appends(log: &mut Log<MemDisk>) -> (Appended, Appended) {
 fn is_refused_once(alloc: Global) -> Option<bool> {
     let mut log = with_plans(alloc, &[(1, Effect::Lost)]).ok()?;
     let came = two_appends(&mut log);
-    Some(came == (Appended::Refused, Appended::Kept) && log.free() == MOST - 53)
+    Some(came == (Appended::Refused, Appended::Kept) && log.free() == LOG_BYTES - 53)
 }
 
 fn bodies_again(log: &mut Log<MemDisk>) -> Option<usize> {
@@ -202,7 +202,7 @@ fn ends_of_logs(rt: HostRuntime) {
 fn keeps_both_in(rt: &HostRuntime, path: &str, other: &str) -> Option<bool> {
     let first = FileDisk::at(rt, path).ok()?;
     let second = FileDisk::at(rt, other).ok()?;
-    let mut log = Log::create(rt.alloc(), first, second, MOST).ok()?;
+    let mut log = Log::create(rt.alloc(), first, second, LOG_BYTES).ok()?;
     let kept = keeps_all(&mut log, &OLD);
     Some(kept && FileDisk::at(rt, path).is_err() && FileDisk::at(rt, other).is_err())
 }
@@ -225,7 +225,7 @@ fn are_bodies(bodies: &[Vec<u8>], count: usize) -> bool {
 fn is_opened(rt: &HostRuntime, path: &str, other: &str, count: usize) -> Option<bool> {
     let first = FileDisk::at(rt, path).ok()?;
     let second = FileDisk::at(rt, other).ok()?;
-    let (_log, bodies) = Log::open(rt.alloc(), first, second, MOST).ok()?;
+    let (_log, bodies) = Log::open(rt.alloc(), first, second, LOG_BYTES).ok()?;
     Some(are_bodies(&bodies, count))
 }
 
@@ -285,7 +285,7 @@ fn log_of_filled(alloc: Global, records: usize, size: usize) -> Option<Log<MemDi
 // Whether a log of so many bodies, each filled with its number, is read after a crash as it was written.
 fn is_read_again(alloc: Global, records: usize, size: usize) -> Option<bool> {
     let (mut disk, _empty) = crashed(log_of_filled(alloc, records, size)?)?;
-    let bodies = read_log(alloc, &mut disk, MOST).ok()?;
+    let bodies = read_log(alloc, &mut disk, LOG_BYTES).ok()?;
     Some(bodies.len() == records && are_numbered(&bodies, size))
 }
 
@@ -304,8 +304,8 @@ fn logs_of_many_sizes(rt: HostRuntime) {
         (1, 1),
         (12, 100_000),
         (300, 5),
-        (1, 524_288),
-        (3, 524_288),
+        (1, BODY_BYTES),
+        (3, BODY_BYTES),
     ];
     none_wrong(&rt, wrong_size(rt.alloc(), &rows));
 }

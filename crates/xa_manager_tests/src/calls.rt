@@ -1,7 +1,7 @@
 use crate::plays::prints;
 use crate::rows::none_wrong;
 use std::alloc::{AllocError, Global};
-use xa_rows::first_wrong;
+use xa_rows::{BRANCHES, LOOSE, SESSIONS, first_wrong};
 
 // Scripts of several sessions, with what they print.
 const ROWS: [(&str, &str); 9] = [
@@ -99,14 +99,14 @@ const OPENED: &str = "connect\n1 open TMNOFLAGS xarm\n";
 
 /// More than may connect.
 fn connects(script: &mut String) -> Result<(), AllocError> {
-    for _ in 0..1025u32 {
+    for _ in 0..=SESSIONS {
         script.push_str("connect\n")?;
     }
     Ok(())
 }
 
 fn numbers(alloc: Global, want: &mut String) -> Result<(), AllocError> {
-    for number in 1..=1024u32 {
+    for number in 1..=SESSIONS {
         let line = format!(in alloc; "0 Nothing number {number}\n")?;
         want.push_str(line.as_str())?;
     }
@@ -116,7 +116,7 @@ fn numbers(alloc: Global, want: &mut String) -> Result<(), AllocError> {
 /// More branches than may be known.
 fn branches(alloc: Global, script: &mut String) -> Result<(), AllocError> {
     script.push_str(OPENED)?;
-    for number in 0..4096u32 {
+    for number in 0..BRANCHES {
         let lines = format!(in alloc;
             "1 start TMNOFLAGS 1:{number:04x}:\n1 end TMSUCCESS 1:{number:04x}:\n"
         );
@@ -138,7 +138,7 @@ fn timestamps(alloc: Global, want: &mut String) -> Result<(), AllocError> {
 fn migrations(script: &mut String) -> Result<(), AllocError> {
     script.push_str(OPENED)?;
     script.push_str("1 start TMNOFLAGS 1:aa:\n")?;
-    for _ in 0..64u32 {
+    for _ in 0..LOOSE {
         script.push_str("1 end TMSUSPEND|TMMIGRATE 1:aa:\n1 start TMJOIN 1:aa:\n")?;
     }
     script.push_str("1 end TMSUSPEND|TMMIGRATE 1:aa:\n1 end TMSUCCESS 1:aa:\n")
@@ -146,7 +146,7 @@ fn migrations(script: &mut String) -> Result<(), AllocError> {
 
 fn migrated(want: &mut String) -> Result<(), AllocError> {
     want.push_str("0 Nothing number 1\n0 Nothing\n0 Nothing number 4294967297\n")?;
-    for _ in 0..64u32 {
+    for _ in 0..LOOSE {
         want.push_str("0 Nothing\n0 Nothing number 4294967297\n")?;
     }
     want.push_str("-3 Limit\n0 Nothing\n")

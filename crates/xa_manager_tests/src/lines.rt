@@ -1,7 +1,7 @@
 use crate::plays::prints;
 use crate::rows::none_wrong;
 use std::alloc::{AllocError, Global};
-use xa_rows::first_wrong;
+use xa_rows::{KEY_BYTES, PART_BYTES, VALUE_BYTES, first_wrong};
 use xa_script::read_line;
 
 /// Lines that are no commands, each a script.
@@ -231,14 +231,34 @@ type Limit = (&'static str, usize, &'static str, &'static str);
 
 const LIMITS: [Limit; 11] = [
     // A session that isn't connected, so that the request itself is refused as such.
-    ("9 get ", 64, "", "-6 Nothing\n"),
-    ("9 get ", 65, "", "-5 Frame\n"),
-    ("9 put 61 ", 1024, "", "-6 Nothing\n"),
-    ("9 put 61 ", 1025, "", "-5 Frame\n"),
-    ("9 start TMNOFLAGS 1:", 64, ":", "-6 Nothing\n"),
-    ("9 start TMNOFLAGS 1:", 65, ":", "-5 Frame\n"),
-    ("9 start TMNOFLAGS 1:61:", 64, "", "-6 Nothing\n"),
-    ("9 start TMNOFLAGS 1:61:", 65, "", "-5 Frame\n"),
+    ("9 get ", KEY_BYTES as usize, "", "-6 Nothing\n"),
+    ("9 get ", KEY_BYTES as usize + 1, "", "-5 Frame\n"),
+    ("9 put 61 ", VALUE_BYTES as usize, "", "-6 Nothing\n"),
+    ("9 put 61 ", VALUE_BYTES as usize + 1, "", "-5 Frame\n"),
+    (
+        "9 start TMNOFLAGS 1:",
+        PART_BYTES as usize,
+        ":",
+        "-6 Nothing\n",
+    ),
+    (
+        "9 start TMNOFLAGS 1:",
+        PART_BYTES as usize + 1,
+        ":",
+        "-5 Frame\n",
+    ),
+    (
+        "9 start TMNOFLAGS 1:61:",
+        PART_BYTES as usize,
+        "",
+        "-6 Nothing\n",
+    ),
+    (
+        "9 start TMNOFLAGS 1:61:",
+        PART_BYTES as usize + 1,
+        "",
+        "-5 Frame\n",
+    ),
     ("9 open TMNOFLAGS a", 127, "", "-6 Nothing\n"),
     ("9 open TMNOFLAGS aa", 127, "", "-5 Frame\n"),
     ("18446744073709551615 get 61", 0, "", "-6 Nothing\n"),

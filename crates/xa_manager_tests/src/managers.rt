@@ -9,6 +9,7 @@ use xa_disk::MemDisk;
 use xa_frame::{Body, Reply, Request, encode_request};
 use xa_manager::{Manager, Settings};
 use xa_model::Event;
+use xa_rows::LOG_BYTES;
 use xa_xid::Xid;
 
 // Each test passes whichever one allocation fails, since it asks again where memory was wanted, or where a disk in memory
@@ -18,7 +19,7 @@ fn opened(alloc: Global) -> Option<Manager<MemDisk>> {
     let name = Bytes::from_slice(alloc, b"xarm").ok()?;
     let settings = Settings {
         name,
-        log_bytes: 1 << 30,
+        log_bytes: LOG_BYTES,
     };
     Manager::open(alloc, MemDisk::new(alloc), MemDisk::new(alloc), settings).ok()
 }

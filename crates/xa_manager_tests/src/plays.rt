@@ -5,7 +5,7 @@ use xa_codes::Bytes;
 use xa_log::OpenFault;
 use xa_manager::{ManagerFault, Settings};
 use xa_play::{PlayFault, play_run};
-use xa_rows::first_wrong;
+use xa_rows::{INFO_BYTES, LEAST_LOG_BYTES, LOG_BYTES, WRITES, first_wrong};
 
 fn settings(alloc: Global, log_bytes: u64) -> Result<Settings, AllocError> {
     Ok(Settings {
@@ -13,8 +13,6 @@ fn settings(alloc: Global, log_bytes: u64) -> Result<Settings, AllocError> {
         log_bytes,
     })
 }
-
-const MOST: u64 = 1_073_741_824;
 
 /// How a play between a reader and a writer under these settings ends.
 fn played<R: Read + Drop, W: Write>(
@@ -66,7 +64,7 @@ pub fn ends_as(alloc: Global, log_bytes: u64, script: &str, want: &str, text: &s
 
 /// Whether a script is played to its end, and prints that.
 pub fn prints(alloc: Global, script: &str, want: &str) -> bool {
-    ends_as(alloc, MOST, script, want, "")
+    ends_as(alloc, LOG_BYTES, script, want, "")
 }
 
 const OPENED: &str = "0 Nothing number 1\n0 Nothing\n";
@@ -128,14 +126,14 @@ fn worked_rows(rt: HostRuntime) {
 }
 
 fn put_keys(alloc: Global, script: &mut String) -> Result<(), AllocError> {
-    for key in 0..256u32 {
+    for key in 0..WRITES {
         let line = format!(in alloc; "1 put {key:04x} 76\n")?;
         script.push_str(line.as_str())?;
     }
     Ok(())
 }
 
-/// A branch writes 256 keys, and then so.
+/// A branch writes as many keys as it may, and then so.
 fn key_script(alloc: Global, end: &str) -> Result<String, AllocError> {
     let mut script = opened(alloc, "1 start TMNOFLAGS 1:aa:\n")?;
     put_keys(alloc, &mut script)?;
@@ -146,7 +144,7 @@ fn key_script(alloc: Global, end: &str) -> Result<String, AllocError> {
 fn key_replies(alloc: Global, end: &str) -> Result<String, AllocError> {
     let mut want = String::from_str(alloc, OPENED)?;
     want.push_str("0 Nothing number 4294967297\n")?;
-    for _ in 0..256 {
+    for _ in 0..WRITES {
         want.push_str("0 Nothing\n")?;
     }
     want.push_str(end)?;
@@ -192,7 +190,7 @@ fn zeros_played(
 ) -> Option<(Result<(), PlayFault>, usize)> {
     let mut output: Vec<u8> = Vec::new(alloc);
     let mut reader = Zeros { left, error };
-    let settings = settings(alloc, MOST).ok()?;
+    let settings = settings(alloc, LOG_BYTES).ok()?;
     let outcome = played(alloc, &mut reader, &mut output, settings);
     Some((outcome, output.len()))
 }
@@ -243,9 +241,9 @@ fn is_bad(alloc: Global, length: usize, log_bytes: u64) -> bool {
 
 #[test]
 fn settings_come_first(rt: HostRuntime) {
-    assert!(rt; is_bad(rt.alloc(), 256, 1_073_741_824));
-    assert!(rt; is_bad(rt.alloc(), 4, 63));
-    assert!(rt; is_bad(rt.alloc(), 4, 1_073_741_825));
+    assert!(rt; is_bad(rt.alloc(), INFO_BYTES as usize + 1, LOG_BYTES));
+    assert!(rt; is_bad(rt.alloc(), 4, LEAST_LOG_BYTES - 1));
+    assert!(rt; is_bad(rt.alloc(), 4, LOG_BYTES + 1));
 }
 
 /// Takes so many writes of one byte, and then fails or takes nothing.
@@ -273,7 +271,7 @@ impl Write for Narrow {
 fn narrow_played(alloc: Global, left: usize, fails: bool) -> Option<Result<(), PlayFault>> {
     let mut writer = Narrow { left, fails };
     let mut reader = b"connect".as_slice();
-    let settings = settings(alloc, MOST).ok()?;
+    let settings = settings(alloc, LOG_BYTES).ok()?;
     Some(played(alloc, &mut reader, &mut writer, settings))
 }
 
@@ -306,7 +304,7 @@ impl Write for Unflushed {
 
 fn is_unflushed(alloc: Global, script: &str) -> bool {
     let mut reader = script.as_bytes();
-    match settings(alloc, MOST) {
+    match settings(alloc, LOG_BYTES) {
         Ok(settings) => {
             played(alloc, &mut reader, &mut Unflushed, settings) == Err(PlayFault::Write)
         }

@@ -2,8 +2,8 @@ use crate::rows::none_wrong;
 use crate::scripted::{wrong_end, wrong_play};
 use std::alloc::Global;
 use xa_rows::{
-    COMMITTED, LISTED, LOSE_LATE, Line, OK, P1, P2, PREPARED, Play, READ_IN_SECOND, REOPEN,
-    RESTART, WRITTEN,
+    COMMITTED, LEAST_LOG_BYTES, LISTED, LOG_BYTES, LOSE_LATE, Line, OK, P1, P2, PREPARED,
+    PREPARED_LOG_BYTES, Play, READ_IN_SECOND, REOPEN, RESTART, WRITTEN,
 };
 
 // What is refused may be asked again, but a commit in one phase rolls its branch back.
@@ -279,19 +279,20 @@ const OPENED_AGAIN: [Play; 2] = [
 fn plays_that_open_again(rt: HostRuntime) {
     none_wrong(
         &rt,
-        wrong_end(rt.alloc(), 1 << 30, &DEVICE_FAULTS, "xarm: device fault"),
+        wrong_end(rt.alloc(), LOG_BYTES, &DEVICE_FAULTS, "xarm: device fault"),
     );
     none_wrong(&rt, wrong_play(rt.alloc(), &OPENED_AGAIN));
 }
 
-// A prepared branch needs its record, the closing length, and room to complete and to forget it: 49 + 61 + 4 + 343 bytes.
-// Where there is none it is rolled back.
+// Where there is no room for a prepared branch it is rolled back.
 const FULL: [Line; 2] = [
     ("1 prepare TMNOFLAGS 1:aa:bb", "104 LogFull"),
     ("1 rollback TMNOFLAGS 1:aa:bb", "-4 Nothing"),
 ];
 
 // A commit in one phase needs 49 + 61 + 4.
+const COMMITTED_LOG_BYTES: u64 = 114;
+
 const COMMITTED_AT_ONCE: [Line; 1] = [("1 commit TMONEPHASE 1:aa:bb", OK)];
 
 const FULL_AT_ONCE: [Line; 2] = [
@@ -316,19 +317,22 @@ const LEAST: [Line; 3] = [
 
 /// How many bytes a log has, and what is played.
 const ROOMS: [(u64, [Play; 1]); 7] = [
-    (457, [&[&P1, &WRITTEN, &PREPARED, &LISTED, &COMMITTED]]),
     (
-        457,
+        PREPARED_LOG_BYTES,
+        [&[&P1, &WRITTEN, &PREPARED, &LISTED, &COMMITTED]],
+    ),
+    (
+        PREPARED_LOG_BYTES,
         [&[&P1, &WRITTEN, &PREPARED, &REOPEN, &P1, &COMPLETED_IN_ROOM]],
     ),
-    (456, [&[&P1, &WRITTEN, &FULL]]),
+    (PREPARED_LOG_BYTES - 1, [&[&P1, &WRITTEN, &FULL]]),
     (
-        114,
+        COMMITTED_LOG_BYTES,
         [&[&P1, &WRITTEN, &COMMITTED_AT_ONCE, &RESTART, &READ_IN_SECOND]],
     ),
-    (113, [&[&P1, &WRITTEN, &FULL_AT_ONCE]]),
-    (64, [&[&P1, &LEAST, &REOPEN, &P1, &LEAST]]),
-    (64, [&[&P1, &WRITTEN, &FULL_AT_ONCE, &RESTART]]),
+    (COMMITTED_LOG_BYTES - 1, [&[&P1, &WRITTEN, &FULL_AT_ONCE]]),
+    (LEAST_LOG_BYTES, [&[&P1, &LEAST, &REOPEN, &P1, &LEAST]]),
+    (LEAST_LOG_BYTES, [&[&P1, &WRITTEN, &FULL_AT_ONCE, &RESTART]]),
 ];
 
 fn wrong_room(alloc: Global, rows: &[(u64, [Play; 1])]) -> Option<usize> {

@@ -1,6 +1,6 @@
 use crate::plays::ends_as;
 use std::alloc::{AllocError, Global};
-use xa_rows::{Line, Play};
+use xa_rows::{LOG_BYTES, Line, Play};
 
 fn push_line(text: &mut String, line: &str) -> Result<(), AllocError> {
     if line.is_empty() {
@@ -47,5 +47,5 @@ pub fn wrong_end(alloc: Global, log_bytes: u64, plays: &[Play], fault: &str) -> 
 
 /// The same of plays that are played to their ends, of a log of 2^30 bytes.
 pub fn wrong_play(alloc: Global, plays: &[Play]) -> Option<usize> {
-    wrong_end(alloc, 1 << 30, plays, "")
+    wrong_end(alloc, LOG_BYTES, plays, "")
 }

@@ -2,6 +2,7 @@ use crate::frames::{is_content, reply_again};
 use crate::rows::none_wrong;
 use std::alloc::{AllocError, Global};
 use xa_frame::{decode_request, encode_request};
+use xa_rows::{INFO_BYTES, KEY_BYTES, PART_BYTES, VALUE_BYTES, XIDS};
 
 /// The fields of the requests 1 to 15 and of the bodies of kind 0 to 4, a letter each.
 const REQUESTS: [&[u8]; 15] = [
@@ -15,13 +16,13 @@ const BODIES: [&[u8]; 5] = [b"", b"ff", b"v", b"", b"c"];
 fn limit(letter: u8, greatest: bool) -> (&'static [u8], usize) {
     match (letter, greatest) {
         (b'i', false) => (&[0], 0),
-        (b'i', true) => (&[255], 255),
+        (b'i', true) => (&[255], INFO_BYTES as usize),
         (b'k', false) => (&[1], 1),
-        (b'k', true) => (&[64], 64),
+        (b'k', true) => (&[64], KEY_BYTES as usize),
         (b'v', false) => (&[0, 0], 0),
-        (b'v', true) => (&[4, 0], 1_024),
+        (b'v', true) => (&[4, 0], VALUE_BYTES as usize),
         (b'x', false) => (&[128, 0, 0, 0, 1, 0], 1),
-        (b'x', true) => (&[127, 255, 255, 255, 64, 64], 128),
+        (b'x', true) => (&[127, 255, 255, 255, 64, 64], 2 * PART_BYTES as usize),
         (b'd', false) => (&[1], 0),
         (b'd', true) => (&[2], 0),
         // how many XIDs
@@ -75,7 +76,7 @@ fn limit_reply(
     let mut content = HEAD.to_vec(alloc)?;
     content.push(kind)?;
     put_fields(&mut content, letters, greatest)?;
-    let xids = if kind == 4 && greatest { 256 } else { 0 };
+    let xids = if kind == 4 && greatest { XIDS } else { 0 };
     for _ in 0..xids {
         put_fields(&mut content, b"x", greatest)?;
     }

@@ -4,7 +4,7 @@ use std::test::Fail;
 use xa_branch::State;
 use xa_codes::{Call, Code, Direction, XA_HEURCOM, XA_HEURRB, XA_RBOTHER, XAER_PROTO};
 use xa_heur::{answer_completed, decide, forget};
-use xa_record::{Record, write_small};
+use xa_record::{MOST_SMALL, Record, write_small};
 use xa_rows::first_wrong;
 use xa_xid::Xid;
 
@@ -48,7 +48,7 @@ fn is_kind(answer: Result<Record, Code>, kind: Result<u8, Code>) -> bool {
 fn is_spelled(record: &Record, kind: Result<u8, Code>) -> bool {
     match record {
         Record::Decided { .. } | Record::Forgotten { .. } => {
-            let mut body: ArrayVec<u8, 136> = ArrayVec::new();
+            let mut body: ArrayVec<u8, MOST_SMALL> = ArrayVec::new();
             write_small(record, &mut body);
             body.first().copied().ok_or(0) == kind
         }

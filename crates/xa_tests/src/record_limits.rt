@@ -2,6 +2,7 @@ use crate::records::{BASE, HELD, KNOWN, PREPARED};
 use crate::rows::none_wrong;
 use std::alloc::{AllocError, Global};
 use xa_record::{RecordFault, read, write};
+use xa_rows::{KEY_BYTES, PART_BYTES, VALUE_BYTES, WRITES};
 
 // 1:aa: at timestamp 1 deletes k
 const DELETED: [u8; 21] = [
@@ -30,27 +31,30 @@ const BODIES: [Body; 14] = [
     (&[7, 0, 0, 0, 0, 0, 0, 0, 0, 0, 1, 1, 0x6b, 0], false, &[]),
 ];
 
+/// The kinds of record that have writes.
+const KINDS: [u8; 4] = [2, 3, 7, 8];
+
 /// Writes at their limits: how many, the length of each key, and of each value, or a delete.
 type WritesAt = (u16, u8, Option<u16>);
 
-const WRITES: [WritesAt; 8] = [
+const AT_LIMITS: [WritesAt; 8] = [
     (1, 1, None),
     (1, 1, Some(0)),
-    (1, 64, Some(1_024)),
-    (2, 1, Some(1_024)),
-    (2, 64, Some(0)),
-    (256, 1, Some(0)),
-    (256, 64, None),
-    (256, 64, Some(1_024)),
+    (1, KEY_BYTES, Some(VALUE_BYTES)),
+    (2, 1, Some(VALUE_BYTES)),
+    (2, KEY_BYTES, Some(0)),
+    (WRITES, 1, Some(0)),
+    (WRITES, KEY_BYTES, None),
+    (WRITES, KEY_BYTES, Some(VALUE_BYTES)),
 ];
 
 /// A key and a value that are too long.
-const PAST: [WritesAt; 2] = [(1, 65, None), (1, 1, Some(1_025))];
+const PAST: [WritesAt; 2] = [(1, KEY_BYTES + 1, None), (1, 1, Some(VALUE_BYTES + 1))];
 
 fn put_xid(out: &mut Vec<u8>, greatest: bool) -> Result<(), AllocError> {
     if greatest {
         out.extend_from_slice(&[127, 255, 255, 255, 64, 64])?;
-        out.extend_from_slice(&[0xa5; 128])
+        out.extend_from_slice(&[0xa5; 2 * PART_BYTES as usize])
     } else {
         out.extend_from_slice(&[128, 0, 0, 0, 1, 0, 0xa5])
     }
@@ -161,9 +165,9 @@ fn wrong_writes(alloc: Global, rows: &[WritesAt], kind: u8, greatest: bool) -> O
 fn limits(rt: HostRuntime) {
     none_wrong(&rt, wrong_body(rt.alloc(), &BODIES, false));
     none_wrong(&rt, wrong_body(rt.alloc(), &BODIES, true));
-    for kind in [2, 3, 7, 8] {
-        none_wrong(&rt, wrong_writes(rt.alloc(), &WRITES, kind, false));
-        none_wrong(&rt, wrong_writes(rt.alloc(), &WRITES, kind, true));
+    for kind in KINDS {
+        none_wrong(&rt, wrong_writes(rt.alloc(), &AT_LIMITS, kind, false));
+        none_wrong(&rt, wrong_writes(rt.alloc(), &AT_LIMITS, kind, true));
     }
 }
 
@@ -190,8 +194,8 @@ fn wrong_past(alloc: Global, rows: &[WritesAt], kind: u8) -> Option<usize> {
 fn wrong_count(alloc: Global, kinds: &[u8]) -> Option<usize> {
     for (place, kind) in kinds.iter().enumerate() {
         let none = is_malformed_made(alloc, deletes(alloc, *kind, 0));
-        let most = is_again(alloc, deletes(alloc, *kind, 256));
-        let past = is_malformed_made(alloc, deletes(alloc, *kind, 257));
+        let most = is_again(alloc, deletes(alloc, *kind, WRITES));
+        let past = is_malformed_made(alloc, deletes(alloc, *kind, WRITES + 1));
         if !(none && most && past) {
             return Some(place);
         }
@@ -201,8 +205,8 @@ fn wrong_count(alloc: Global, kinds: &[u8]) -> Option<usize> {
 
 #[test]
 fn past_limits(rt: HostRuntime) {
-    none_wrong(&rt, wrong_count(rt.alloc(), &[2, 3, 7, 8]));
-    for kind in [2, 3, 7, 8] {
+    none_wrong(&rt, wrong_count(rt.alloc(), &KINDS));
+    for kind in KINDS {
         none_wrong(&rt, wrong_past(rt.alloc(), &PAST, kind));
     }
 }

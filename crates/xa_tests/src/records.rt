@@ -1,7 +1,7 @@
 use arrayvec::ArrayVec;
 use std::alloc::{AllocError, Global};
 use xa_codes::{Bytes, Direction, Write};
-use xa_record::{Record, Writes, read, write, write_small};
+use xa_record::{MOST_SMALL, Record, Writes, read, write, write_small};
 use xa_xid::Xid;
 
 // 1:aa:bb at timestamp 4294967297 writes 76 under 6b; a base is the same without the XID
@@ -71,7 +71,7 @@ fn prepared(rt: HostRuntime) {
 }
 
 fn writes_opened() -> bool {
-    let mut out: ArrayVec<u8, 136> = ArrayVec::new();
+    let mut out: ArrayVec<u8, MOST_SMALL> = ArrayVec::new();
     write_small(&Record::Opened { boot: 1 }, &mut out);
     out.as_slice() == [1, 0, 0, 0, 1].as_slice()
 }
@@ -152,7 +152,7 @@ fn writes_known(alloc: Global) -> Option<bool> {
         xid: Xid::take_text(b"1:aa:bb")?,
         direction: Direction::Rollback,
     };
-    let mut small: ArrayVec<u8, 136> = ArrayVec::new();
+    let mut small: ArrayVec<u8, MOST_SMALL> = ArrayVec::new();
     write_small(&record, &mut small);
     Some(small.as_slice() == KNOWN.as_slice() && is_written(alloc, &record, &KNOWN))
 }

@@ -2,6 +2,7 @@ use crate::doors::{Keeper, Sink, Source, is_answered, is_asked, new_keeper, play
 use crate::rows::none_wrong;
 use std::alloc::{AllocError, Global};
 use xa_desk::{Served, serve};
+use xa_rows::CONTENT_BYTES;
 
 const REFUSED: [u8; 19] = [
     0, 0, 0, 15, 1, 255, 255, 255, 251, 6, 0, 0, 0, 0, 0, 0, 0, 0, 0,
@@ -15,7 +16,7 @@ const BAD: [u8; 22] = [
 /// A content of 65,535 bytes that begins 010f, and then the bad ones.
 fn bad_frames(alloc: Global) -> Result<Vec<u8>, AllocError> {
     let mut input = [0, 0, 255, 255, 1, 15].to_vec(alloc)?;
-    for _ in 0..65_533 {
+    for _ in 2..CONTENT_BYTES {
         input.push(0)?;
     }
     input.extend_from_slice(&BAD)?;

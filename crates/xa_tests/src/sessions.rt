@@ -1,5 +1,6 @@
 use crate::rows::none_wrong;
 use xa_assoc::{ConnectFault, Sessions};
+use xa_rows::SESSIONS;
 use xa_xid::Xid;
 
 /// What is done with the table of sessions, in the way of one session with one branch.
@@ -149,7 +150,7 @@ fn is_gone(sessions: &mut Sessions, session: u64) -> bool {
 #[test]
 fn many_sessions(rt: HostRuntime) {
     let mut sessions = Sessions::new(rt.alloc());
-    assert_eq!(rt; wrong_number(&mut sessions, 1024), None);
+    assert_eq!(rt; wrong_number(&mut sessions, u64::from(SESSIONS)), None);
     assert!(rt; is_full(&mut sessions));
     assert!(rt; is_gone(&mut sessions, 700));
     assert!(rt; is_connected_as(&mut sessions, 700));

@@ -93,13 +93,16 @@ fn lasting_counts(rt: HostRuntime) -> Result<(), Fail> {
     Ok(())
 }
 
+// The timestamp that stands before all that the first boot gives.
+const FIRST_BOOT: u64 = 1 << 32;
+
 // The low water is the least timestamp of a branch at work or in doubt, or else the last that was given.
 #[test]
 fn low_water(rt: HostRuntime) -> Result<(), Fail> {
     let first = Xid::new(1, &[0xaa], &[0xbb]).ok().ok_or("an XID")?;
     let second = Xid::new(1, &[0xaa], &[0xbc]).ok().ok_or("an XID")?;
     let mut branches = Branches::new(rt.alloc(), 1, 1);
-    assert_eq!(rt; branches.low_water(), 4294967296);
+    assert_eq!(rt; branches.low_water(), FIRST_BOOT);
     assert_eq!(rt; branches.begin(&first), Ok(4294967297));
     assert_eq!(rt; branches.begin(&second), Ok(4294967298));
     branches.make_room(&first)?;

@@ -1,10 +1,11 @@
 use crate::rows::none_wrong;
 use arrayvec::ArrayVec;
 use std::cmp::Ordering;
-use xa_xid::{Xid, XidFault};
+use xa_rows::PART_BYTES;
+use xa_xid::{MOST_BYTES, MOST_TEXT, Xid, XidFault};
 
 fn is_put(xid: &Xid, bytes: &[u8]) -> bool {
-    let mut out: ArrayVec<u8, 134> = ArrayVec::new();
+    let mut out: ArrayVec<u8, MOST_BYTES> = ArrayVec::new();
     xid.put(&mut out);
     out.as_slice() == bytes
 }
@@ -41,7 +42,7 @@ const TEXTS: [&[u8]; 4] = [
 ];
 
 fn is_text(text: &[u8]) -> bool {
-    let mut out: ArrayVec<u8, 269> = ArrayVec::new();
+    let mut out: ArrayVec<u8, MOST_TEXT> = ArrayVec::new();
     match Xid::take_text(text) {
         Some(xid) => xid.put_text(&mut out),
         None => {}
@@ -102,6 +103,11 @@ fn refused_texts(rt: HostRuntime) {
     none_wrong(&rt, read_text(&REFUSED));
 }
 
+/// A part of the most bytes, and one of a byte more.
+const GREATEST: [u8; PART_BYTES as usize] = [0; PART_BYTES as usize];
+
+const PAST: [u8; PART_BYTES as usize + 1] = [0; PART_BYTES as usize + 1];
+
 fn fault(format: i32, gtrid: &[u8], bqual: &[u8]) -> Option<XidFault> {
     Xid::new(format, gtrid, bqual).err()
 }
@@ -109,10 +115,10 @@ fn fault(format: i32, gtrid: &[u8], bqual: &[u8]) -> Option<XidFault> {
 #[test]
 fn limits(rt: HostRuntime) {
     assert!(rt; matches!(fault(-1, &[], &[]), Some(XidFault::Null)));
-    assert!(rt; matches!(fault(1, &[], &[0; 65]), Some(XidFault::GtridLength)));
-    assert!(rt; matches!(fault(1, &[0; 65], &[]), Some(XidFault::GtridLength)));
-    assert!(rt; matches!(fault(1, &[0; 64], &[0; 65]), Some(XidFault::BqualLength)));
-    assert!(rt; fault(1, &[0; 64], &[0; 64]).is_none());
+    assert!(rt; matches!(fault(1, &[], &PAST), Some(XidFault::GtridLength)));
+    assert!(rt; matches!(fault(1, &PAST, &[]), Some(XidFault::GtridLength)));
+    assert!(rt; matches!(fault(1, &GREATEST, &PAST), Some(XidFault::BqualLength)));
+    assert!(rt; fault(1, &GREATEST, &GREATEST).is_none());
 }
 
 fn is_less(first: &Xid, second: &Xid) -> bool {
