@@ -39,7 +39,8 @@ module _ (name : List ℕ) (log_bytes : ℕ) where
   -- the manager was opened on what a crash left of its disks
   abbrev pub Crashed : Manager MemDisk → Manager MemDisk → Type 0
   Crashed m m' =
-      (first : List ℕ) × (second : List ℕ) × image_of (first_of m.log) first × image_of (second_of m.log) second × OpenedOn name log_bytes first second m'
+      (first : List ℕ) × (second : List ℕ) × image_of (first_of m.log) first × image_of (second_of m.log) second
+      × OpenedOn name log_bytes first second m'
 
   -- What one line is answered by a manager, and leaves of it.
   abbrev pub LineAnswered : Manager MemDisk → Line → Option Reply → Manager MemDisk → Type 0

@@ -1,5 +1,6 @@
 -- What a script prints: each line that asks something shows the reply of one step of the sequential resource manager.
-use Rattle.std.specs.Prelude.{ℕ, ◌≡◌, ◌≤◌, ◌⊎◌, ⊤, Bool, true, List, [], ◌∷◌, ◌++◌, length, map, pos, Option, Some, IfSome, Result, Ok, Err, MatchBool}
+use Rattle.std.specs.Prelude.{ℕ, ◌≡◌, ◌<◌, ◌≤◌, ◌⊎◌, ⊤, Bool, true, pos, MatchBool}
+use Rattle.std.specs.Prelude.{List, [], ◌∷◌, ◌++◌, length, map, Option, Some, IfSome, Result, Ok, Err}
 use Rattle.std.specs.Io.KnownBytes.{Appends}
 use Rattle.xa_codes.specs.declared.codes.TheConstants.{XAER_INVAL}
 use Rattle.xa_codes.specs.declared.detail.Detail.TheVariants as detail
@@ -29,6 +30,7 @@ use Rattle.xa_play.specs.Disks.{CrashLeaves}
 use Rattle.xa_play.specs.Runs.{Run, IsRun, at_start, behind}
 use Rattle.xa_play.specs.declared.fault.PlayFault.{PlayFault}
 use Rattle.xa_play.specs.declared.fault.PlayFault.TheVariants.{Memory, Write, Manager}
+use Rattle.xa_play.specs.declared.script.TheConstants.{MOST_SCRIPT}
 
 -- a happening is one step, with some outcome of the device's, and of the run with it this holds
 abbrev pub Steps : Run → Happening → Outcome → Reply → (Run → Type 0) → Type 0
@@ -126,12 +128,18 @@ WasRead (Ok x) = Unit {0}
 WasRead (Err Write) = Unit {0}
 WasRead (Err _) = ⊥
 
+-- more bytes than a script has
+abbrev pub IsTooLong : List ℕ → Type 0
+IsTooLong bytes = MOST_SCRIPT < length bytes
+
 -- A play, on a manager that was opened on two empty disks: its script, which is what the reader had where that is known, and
 -- the text that was written, which is what the end says. Of the run behind each line this holds.
-pub record Plays {X : Type 0} (Holds : Run → Type 0) (name : List ℕ) (log_bytes : ℕ) (end : Result X PlayFault) (input output output' : Option (List ℕ)) : Type 0 where
+pub record Plays {X : Type 0} (Holds : Run → Type 0) (name : List ℕ) (log_bytes : ℕ) (end : Result X PlayFault)
+    (input output output' : Option (List ℕ)) : Type 0 where
   pub script : List ℕ
   pub text : List ℕ
   pub given : IfSome input (λ bytes. script ≡ bytes)
-  pub short : WasRead end → length script ≤ 16_777_216
+  pub short : WasRead end → length script ≤ MOST_SCRIPT
   pub written : Appends output output' text
-  pub printed : (xid_of : List ℕ → Option Triple) → ReadsTexts xid_of → Prints name log_bytes Holds end (at_start (fresh name log_bytes)) (lines_of xid_of script) text
+  pub printed : (xid_of : List ℕ → Option Triple) → ReadsTexts xid_of
+      → Prints name log_bytes Holds end (at_start (fresh name log_bytes)) (lines_of xid_of script) text

@@ -26,7 +26,8 @@ pub fn answer(
 ) -> Result<(Manager<MemDisk>, Option<Reply>), PlayFault>
     requires limits { lines.IsWithinLimits said }
     requires settings { ¬ IsBadSetting settings.now.name settings.now.log_bytes }
-    ensures answered { IfOk result (λ pair. LineAnswered settings.now.name settings.now.log_bytes manager said pair.1 pair.0) }
+    ensures answered { IfOk result (λ pair. LineAnswered settings.now.name settings.now.log_bytes
+        manager said pair.1 pair.0) }
     ensures err { IfErr result (AnswerFails said) }
 {
     let mut manager = manager;

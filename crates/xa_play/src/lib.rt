@@ -1,9 +1,13 @@
 //! A script is played: each line that asks something is answered by a manager on two disks in memory, and its reply is
 //! written.
 //!
-//! `play` has `play_run`: the settings, the whole script (`script`), then line by line. `answer` is what one line does to the
-//! manager, `opening` opens it, at first and again. `fault` is why a script wasn't played to its end, `laws` what holds of
-//! every manager on disks in memory, and of every run of the sequential resource manager.
+//! - `play`: `play_run`, the settings, the whole script, then line by line
+//! - `script`: what a reader gives, of `MOST_SCRIPT` bytes at most
+//! - `answer`: what one line does to the manager; `opening`: the manager is opened, at first and again
+//! - `fault`: `PlayFault`, why a script wasn't played to its end
+//! - `laws`: what holds of every manager on disks in memory, and of every run of the sequential resource manager
+//!
+//! docs/SCRIPT.md has the lines of a script, and what each prints.
 #![tactic(auto)]
 
 mod answer;
@@ -15,3 +19,4 @@ mod script;
 
 pub use fault::PlayFault;
 pub use play::play_run;
+pub use script::MOST_SCRIPT;

@@ -38,7 +38,8 @@ pub fn reopen(
     settings: &Settings,
 ) -> Result<Manager<MemDisk>, PlayFault>
     requires { ¬ IsBadSetting settings.now.name settings.now.log_bytes }
-    ensures reopened { IfOk result (OpenedOn settings.now.name settings.now.log_bytes (first_seen manager) (second_seen manager)) }
+    ensures reopened { IfOk result (OpenedOn settings.now.name settings.now.log_bytes
+        (first_seen manager) (second_seen manager)) }
     ensures faults { IfErr result IsOpeningFault }
 {
     let settings = copied(alloc, settings)?;

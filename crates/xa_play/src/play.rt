@@ -1,9 +1,9 @@
 ghost use Rattle.std.specs.Io.KnownBytes.{Appends};
-ghost use Rattle.std.specs.Prelude.{◌≡◌, ◌↔◌, ◌<◌, ◌⊎◌, IfErr, IfSome, IsErrOf, List, length, true, ℕ};
+ghost use Rattle.std.specs.Prelude.{◌≡◌, ◌↔◌, ◌⊎◌, IfErr, IfSome, IsErrOf, List, true, ℕ};
 ghost use Rattle.xa_manager.specs.Opening.{IsBadSetting};
 ghost use Rattle.xa_play.specs.Faults.{end_of};
 ghost use Rattle.xa_play.specs.Played.{IsLinesFault, LineEnds, ScriptEnds};
-ghost use Rattle.xa_play.specs.Plays.{Plays, WasRead};
+ghost use Rattle.xa_play.specs.Plays.{IsTooLong, Plays, WasRead};
 ghost use Rattle.xa_play.specs.Runs.{IsLawful};
 
 use crate::answer::answer;
@@ -34,13 +34,16 @@ pub fn play_run<R: Read + Drop, W: Write>(
     writer: &mut W,
     settings: Settings,
 ) -> Result<(), PlayFault>
-    ensures played { Plays IsLawful settings.name settings.log_bytes result (R.remaining reader.old) (W.contents writer.old) (W.contents writer.new) }
+    ensures played { Plays IsLawful settings.name settings.log_bytes result (R.remaining reader.old)
+        (W.contents writer.old) (W.contents writer.new) }
     ensures setting { IsErrOf result PlayFault.Setting ↔ IsBadSetting settings.name settings.log_bytes }
     ensures unread { IsErrOf result PlayFault.Setting → (reader.new ≡ reader.old) × (writer.new ≡ writer.old) }
-    ensures too_long { IsErrOf result PlayFault.TooLong → IfSome (R.remaining reader.old) (λ bytes. 16_777_216 < length bytes) }
+    ensures too_long { IsErrOf result PlayFault.TooLong → IfSome (R.remaining reader.old) IsTooLong }
     // The reader of a longer script may fail before its end is reached, and then `Read` or `Memory` comes.
-    ensures longer { IfSome (R.remaining reader.old) (λ bytes. 16_777_216 < length bytes → (¬ WasRead result) × (writer.new ≡ writer.old)) }
-    ensures unwritten { IsErrOf result PlayFault.Read ⊎ IsErrOf result PlayFault.TooLong → writer.new ≡ writer.old }
+    ensures longer { IfSome (R.remaining reader.old) (λ bytes. IsTooLong bytes
+        → (¬ WasRead result) × (writer.new ≡ writer.old)) }
+    ensures unwritten { IsErrOf result PlayFault.Read ⊎ IsErrOf result PlayFault.TooLong
+        → writer.new ≡ writer.old }
 {
     let kept = copied(alloc, &settings);
     let manager = open_fresh(alloc, settings)?;

@@ -1,5 +1,6 @@
 -- The flags of a word: `TMNOFLAGS`, or names of flags joined by bars, each at most once, or hexadecimal digits behind 0x.
-use Rattle.std.specs.Prelude.{ℕ, ◌+◌, ◌*◌, ◌==◌, ◌&&◌, nat_le, List, [], ◌∷◌, length, drop, Option, Some, None, if◌then◌else◌, option_and_then, bit_and, bit_or, bytes_eq, codes, find, nat_eq}
+use Rattle.std.specs.Prelude.{ℕ, ◌+◌, ◌*◌, ◌==◌, ◌&&◌, nat_le, nat_eq, bit_and, bit_or, if◌then◌else◌, bytes_eq, codes}
+use Rattle.std.specs.Prelude.{List, [], ◌∷◌, length, drop, find, Option, Some, None, option_and_then}
 use Rattle.std.specs.Option.{option_map}
 use Rattle.std.specs.List.{starts_with}
 use Rattle.xa_script.specs.Parts.{parts}

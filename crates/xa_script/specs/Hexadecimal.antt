@@ -1,5 +1,6 @@
 -- Bytes in lower case hexadecimal, two digits a byte.
-use Rattle.std.specs.Prelude.{ℕ, ◌+◌, ◌-◌, ◌*◌, nat_le, ◌&&◌, List, [], ◌∷◌, Option, Some, None, if◌then◌else◌, option_and_then}
+use Rattle.std.specs.Prelude.{ℕ, ◌+◌, ◌-◌, ◌*◌, nat_le, ◌&&◌, if◌then◌else◌}
+use Rattle.std.specs.Prelude.{List, [], ◌∷◌, Option, Some, None, option_and_then}
 use Rattle.std.specs.Option.{option_map}
 
 -- the value of a digit, 0 to 9 or a to f

@@ -1,5 +1,6 @@
 -- What a line of a script says.
-use Rattle.std.specs.Prelude.{ℕ, ◌==◌, Bool, true, List, [], ◌∷◌, Option, Some, None, if◌then◌else◌, option_and_then, bytes_eq, codes, unwrap_or}
+use Rattle.std.specs.Prelude.{ℕ, ◌==◌, Bool, true, if◌then◌else◌, bytes_eq, codes}
+use Rattle.std.specs.Prelude.{List, [], ◌∷◌, Option, Some, None, option_and_then, unwrap_or}
 use Rattle.std.specs.Option.{option_map}
 use Rattle.xa_script.specs.Parts.{alone, two_of, words}
 use Rattle.xa_script.specs.Numbers.{call_number_of, number_of}
@@ -41,7 +42,9 @@ effect_of word =
 -- a device call of that file's disk, and its effect
 abbrev pub fail_of : LogFile → List (List ℕ) → Option Line
 fail_of file words =
-    option_and_then (λ w. option_and_then (λ call. option_map (λ effect. Fail file call effect) (effect_of w.1)) (call_number_of w.0)) (two_of words)
+    option_and_then
+    (λ w. option_and_then (λ call. option_map (λ effect. Fail file call effect) (effect_of w.1)) (call_number_of w.0))
+    (two_of words)
 
 -- what the words behind `fail` ask: of the current log file, or behind one word more of the other one
 abbrev pub fail_by : List (List ℕ) → Option Line

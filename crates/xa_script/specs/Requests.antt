@@ -1,5 +1,6 @@
 -- What a session asks for, by the words behind its number.
-use Rattle.std.specs.Prelude.{◌≡◌, ℕ, ◌*◌, ◌&&◌, nat_le, Bool, List, [], ◌∷◌, length, Option, Some, None, IfSome, if◌then◌else◌, option_and_then, bytes_eq, codes, find}
+use Rattle.std.specs.Prelude.{◌≡◌, ℕ, ◌*◌, ◌&&◌, nat_le, Bool, if◌then◌else◌, bytes_eq, codes}
+use Rattle.std.specs.Prelude.{List, [], ◌∷◌, length, find, Option, Some, None, IfSome, option_and_then}
 use Rattle.std.specs.Option.{option_map}
 use Rattle.std.specs.List.{list_all}
 use Rattle.xa_script.specs.Flags.{flags_of}
@@ -15,7 +16,8 @@ use Rattle.xa_xid.specs.Triple.{Triple, IsWithinLimits}
 use Rattle.xa_xid.specs.Spelling.{text_of}
 use Rattle.xa_frame.specs.declared.request.TheConstants.{MOST_INFO}
 use Rattle.xa_frame.specs.declared.request.Request.{Request}
-use Rattle.xa_frame.specs.declared.request.Request.TheVariants.{Open, Close, Start, End, Prepare, Commit, Rollback, Forget, Recover, Get, Put, Delete, Decide, Doom, Restart}
+use Rattle.xa_frame.specs.declared.request.Request.TheVariants.{Open, Close, Start, End, Prepare, Commit, Rollback, Forget}
+use Rattle.xa_frame.specs.declared.request.Request.TheVariants.{Recover, Get, Put, Delete, Decide, Doom, Restart}
 
 -- the words that name a request
 abbrev pub named_verbs : List (List ℕ × Verb)

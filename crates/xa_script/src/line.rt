@@ -132,7 +132,8 @@ fn read_call(alloc: Global, session: &[u8], call: &[u8]) -> Result<Line, AllocEr
 
 /// A hang-up, behind which no words stand.
 fn read_hangup(session: u64, words: Option<&[u8]>) -> Line
-    ensures { result ≡ unwrap_or (alone (Line.Hangup session) (words_behind (option_copied words.entry))) Line.Unknown }
+    ensures { result
+        ≡ unwrap_or (alone (Line.Hangup session) (words_behind (option_copied words.entry))) Line.Unknown }
 {
     match words {
         None => Line::Hangup(session),

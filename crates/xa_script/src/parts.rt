@@ -32,7 +32,8 @@ pub fn only_word(line: Option<&[u8]>) -> Option<&[u8]>
 
 /// The words of a line that has two.
 pub fn two_words(line: Option<&[u8]>) -> Option<(&[u8], &[u8])>
-    ensures { option_map (λ pair. (pair.0.now, pair.1.now)) result ≡ two_of (words_behind (option_copied line.entry)) }
+    ensures { option_map (λ pair. (pair.0.now, pair.1.now)) result
+        ≡ two_of (words_behind (option_copied line.entry)) }
 {
     let (first, rest) = first_part(line?, b' ');
     let second = only_word(rest)?;

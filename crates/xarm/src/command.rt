@@ -58,7 +58,8 @@ pub fn words<R: AllocGlobal + Env>(rt: &R) -> io::Result<Vec<String>> {
 /// Plays standard input.
 fn play<R: AllocGlobal + Input + Print>(rt: &R, name: &str, log_bytes: u64) -> Result<(), PlayFault>
     ensures setting { IsErrOf result PlayFault.Setting → IsBadSetting name.now log_bytes }
-    ensures bad { IsBadSetting name.now log_bytes → IsErrOf result PlayFault.Setting ⊎ IsErrOf result PlayFault.Memory }
+    ensures bad { IsBadSetting name.now log_bytes
+        → IsErrOf result PlayFault.Setting ⊎ IsErrOf result PlayFault.Memory }
     ensures played { IsErrOf result PlayFault.Memory ⊎ HasPlayed R.Reader.remaining name.now log_bytes result }
 {
     let settings = settings_of(rt.alloc(), name, log_bytes)?;
@@ -88,7 +89,9 @@ fn talk<R: AllocGlobal + Input + Print + Net<Stream = TcpStream>>(
     rt: &R,
     port: u16,
 ) -> Result<(), TalkFault>
-    ensures { HasTalked {C = Connection TcpStream TcpStream} R.Reader.remaining (λ c. ⟦<TcpStream as Write>⟧.contents c.writer) (λ c. ⟦<TcpStream as Read>⟧.remaining c.reader) result }
+    ensures { HasTalked {C = Connection TcpStream TcpStream} R.Reader.remaining
+        (λ c. ⟦<TcpStream as Write>⟧.contents c.writer)
+        (λ c. ⟦<TcpStream as Read>⟧.remaining c.reader) result }
 {
     let mut reader = rt.reader();
     let mut writer = io::writer(rt);
