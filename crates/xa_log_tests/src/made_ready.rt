@@ -1,10 +1,10 @@
-use crate::log_pairs::{MOST, appends};
+use crate::log_pairs::appends;
 use crate::logs::{are_numbered, filled};
 use crate::rows::none_wrong;
 use std::alloc::Global;
 use xa_disk::{Disk, MemDisk};
 use xa_log::{Appended, Log, read_log};
-use xa_rows::first_wrong;
+use xa_rows::{LOG_BYTES, first_wrong};
 
 // A log of at most so many bytes, of so many bodies of this size, each filled with its number.
 fn log_of_filled(alloc: Global, records: usize, size: usize, most: u64) -> Option<Log<MemDisk>> {
@@ -40,11 +40,11 @@ fn wrong_length(alloc: Global, rows: &[Row]) -> Option<usize> {
 
 // A log without records ends at 8, a record takes 36 bytes beside its body, and the closing length 4. Pieces have 262,144.
 const LENGTHS: [Row; 5] = [
-    (1, 100_000, MOST, 100_048),
-    (3, 100_000, MOST, 524_288),
+    (1, 100_000, LOG_BYTES, 100_048),
+    (3, 100_000, LOG_BYTES, 524_288),
     (3, 100_000, 400_000, 400_000),
-    (1, 262_095, MOST, 262_143),
-    (1, 262_096, MOST, 524_288),
+    (1, 262_095, LOG_BYTES, 262_143),
+    (1, 262_096, LOG_BYTES, 524_288),
 ];
 
 #[test]
