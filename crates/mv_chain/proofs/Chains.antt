@@ -7,32 +7,32 @@ use Rattle.std.specs.List.Sorted.{IsPartitionPoint, IsNonDecreasingBy}
 use Rattle.mv_chain.specs.declared.fate.Fate.{Fate}
 use Rattle.mv_chain.specs.declared.fate.Fate.TheVariants.{Committed, RolledBack}
 use Rattle.mv_chain.specs.declared.version.Version.{Version}
-use Rattle.mv_chain.specs.History.{Written, shown, newest, seen_of, stands, deciding, decided}
-use Rattle.mv_chain.specs.Chain.{as_written, shows_without, shows, is_marked, IsBefore, IsChain, IsPlace}
+use Rattle.mv_chain.specs.Accesses.{Written, shown, newest, seen_of, stands, deciding, decided}
+use Rattle.mv_chain.specs.Chain.{as_written, shows_without, shows, is_marked, IsBefore, IsChain, IsIndex}
 use Rattle.mv_chain.specs.Look.{IsBelow}
 use Rattle.mv_chain.proofs.Seen.{seen_behind, seen_swapped, and_gone, but_not, cleared, seen_rolled_back, seen_committed}
 
--- the place by indices
-pub is_place : (t i : ℕ) (vs : List Version) → i ≤ length vs → ((k : ℕ) (d : Version) → k < i → (get_or vs k d).timestamp ≤ t) → ((k : ℕ) (d : Version) → i ≤ k → k < length vs → t < (get_or vs k d).timestamp) → IsPlace t i vs
-is_place t zero [] le front back = tt
-is_place t (suc i) [] le front back = absurd (omega arith)
-is_place t zero (v ∷ vs) le front back = (back 0 v (omega arith) (omega arith), is_place t zero vs (omega arith) (λ k d h. absurd (omega arith)) (λ k d h lt. back (suc k) d (omega arith) (omega arith)))
-is_place t (suc i) (v ∷ vs) le front back = (front 0 v (omega arith), is_place t i vs (omega arith) (λ k d h. front (suc k) d (omega arith)) (λ k d h lt. back (suc k) d (omega arith) (omega arith)))
+-- the index by indices
+pub is_index : (t i : ℕ) (vs : List Version) → i ≤ length vs → ((k : ℕ) (d : Version) → k < i → (get_or vs k d).timestamp ≤ t) → ((k : ℕ) (d : Version) → i ≤ k → k < length vs → t < (get_or vs k d).timestamp) → IsIndex t i vs
+is_index t zero [] le front back = tt
+is_index t (suc i) [] le front back = absurd (omega arith)
+is_index t zero (v ∷ vs) le front back = (back 0 v (omega arith) (omega arith), is_index t zero vs (omega arith) (λ k d h. absurd (omega arith)) (λ k d h lt. back (suc k) d (omega arith) (omega arith)))
+is_index t (suc i) (v ∷ vs) le front back = (front 0 v (omega arith), is_index t i vs (omega arith) (λ k d h. front (suc k) d (omega arith)) (λ k d h lt. back (suc k) d (omega arith) (omega arith)))
 
 pub each_at : {X : Type 0} (P : X → Type 0) (xs : List X) (i : ℕ) (d : X) → i < length xs → Each P xs → P (get_or xs i d)
 each_at P [] i d lt h = absurd (omega arith)
 each_at P (x ∷ xs) zero d lt h = h.0
 each_at P (x ∷ xs) (suc i) d lt h = each_at P xs i d (omega arith) h.1
 
-pub place_within : (t i : ℕ) (vs : List Version) → IsPlace t (suc i) vs → i < length vs
-place_within t i [] h = absurd h
-place_within t zero (v ∷ vs) h = omega arith
-place_within t (suc i) (v ∷ vs) h = let rest = place_within t i vs h.1 in omega arith
+pub index_within : (t i : ℕ) (vs : List Version) → IsIndex t (suc i) vs → i < length vs
+index_within t i [] h = absurd h
+index_within t zero (v ∷ vs) h = omega arith
+index_within t (suc i) (v ∷ vs) h = let rest = index_within t i vs h.1 in omega arith
 
-pub place_at : (t i : ℕ) (vs : List Version) (d : Version) → IsPlace t (suc i) vs → (get_or vs i d).timestamp ≤ t
-place_at t i [] d h = absurd h
-place_at t zero (v ∷ vs) d h = h.0
-place_at t (suc i) (v ∷ vs) d h = place_at t i vs d h.1
+pub index_at : (t i : ℕ) (vs : List Version) (d : Version) → IsIndex t (suc i) vs → (get_or vs i d).timestamp ≤ t
+index_at t i [] d h = absurd h
+index_at t zero (v ∷ vs) d h = h.0
+index_at t (suc i) (v ∷ vs) d h = index_at t i vs d h.1
 
 -- a version is shown pending where it is
 pub pending_shown : (v : Version) → (shown (as_written v)).pending ≡ v.pending
@@ -43,16 +43,16 @@ pending_shown v = at v.pending
     at false = refl
 
 -- nothing is shown below the first version
-pub shows_none : (t : ℕ) (vs : List Version) → IsPlace t zero vs → shows t vs ≡ record { from = 0; value = None; pending = false }
+pub shows_none : (t : ℕ) (vs : List Version) → IsIndex t zero vs → shows t vs ≡ record { from = 0; value = None; pending = false }
 shows_none t [] h = refl
 shows_none t (v ∷ vs) h = grind (arith, nat_tests, shows_none t vs h.1)
 
 -- the last version up to t is shown
-pub shows_last : (t i : ℕ) (vs : List Version) (d : Version) → IsChain vs → IsPlace t (suc i) vs → shows t vs ≡ shown (as_written (get_or vs i d))
+pub shows_last : (t i : ℕ) (vs : List Version) (d : Version) → IsChain vs → IsIndex t (suc i) vs → shows t vs ≡ shown (as_written (get_or vs i d))
 shows_last t i [] d c h = absurd h
 shows_last t zero (v ∷ vs) d c h = grind (arith, nat_tests, shows_none t vs h.1)
 shows_last t (suc i) (v ∷ vs) d c h =
-    let above = each_at (IsBefore v) vs i d (place_within t i vs h.1) c.0 in
+    let above = each_at (IsBefore v) vs i d (index_within t i vs h.1) c.0 in
     grind (arith, nat_tests, shows_last t i vs d c.2 h.1, above.0)
 
 -- the mark of the last version below t decides
@@ -79,18 +79,18 @@ marked_last t (suc i) (v ∷ vs) d c h =
     grind (arith, nat_tests, marked_last t i vs d c.2 h.1, above.1)
 
 -- below t are all that are at most t, but for the one at t
-none_below : (t : ℕ) (vs : List Version) → IsPlace t zero vs → IsBelow t zero vs
+none_below : (t : ℕ) (vs : List Version) → IsIndex t zero vs → IsBelow t zero vs
 none_below t [] h = tt
 none_below t (v ∷ vs) h = (omega (arith, h.0), none_below t vs h.1)
 
-pub below_own : (t i : ℕ) (vs : List Version) (d : Version) → IsChain vs → IsPlace t (suc i) vs → (get_or vs i d).timestamp ≡ t → IsBelow t i vs
+pub below_own : (t i : ℕ) (vs : List Version) (d : Version) → IsChain vs → IsIndex t (suc i) vs → (get_or vs i d).timestamp ≡ t → IsBelow t i vs
 below_own t i [] d c h own = absurd h
 below_own t zero (v ∷ vs) d c h own = (omega (arith, own), none_below t vs h.1)
 below_own t (suc i) (v ∷ vs) d c h own =
-    let above = each_at (IsBefore v) vs i d (place_within t i vs h.1) c.0 in
+    let above = each_at (IsBefore v) vs i d (index_within t i vs h.1) c.0 in
     (omega (arith, above.0, own), below_own t i vs d c.2 h.1 own)
 
-pub below_new : (t i : ℕ) (vs : List Version) → IsPlace t i vs → Each (λ v. v.timestamp ≡ t → ⊥) vs → IsBelow t i vs
+pub below_new : (t i : ℕ) (vs : List Version) → IsIndex t i vs → Each (λ v. v.timestamp ≡ t → ⊥) vs → IsBelow t i vs
 below_new t zero vs h new = none_below t vs h
 below_new t (suc i) [] h new = absurd h
 below_new t (suc i) (v ∷ vs) h new = (strictly new.0, below_new t i vs h.1 new.1)
@@ -126,21 +126,21 @@ each_remove P [] (suc i) h = tt
 each_remove P (y ∷ ys) zero h = h.1
 each_remove P (y ∷ ys) (suc i) h = (h.0, each_remove P ys i h.1)
 
-pub place_after : (t : ℕ) (vs : List Version) → IsPlace t zero vs → Each (λ v. t < v.timestamp) vs
-place_after t [] h = tt
-place_after t (v ∷ vs) h = (h.0, place_after t vs h.1)
+pub index_after : (t : ℕ) (vs : List Version) → IsIndex t zero vs → Each (λ v. t < v.timestamp) vs
+index_after t [] h = tt
+index_after t (v ∷ vs) h = (h.0, index_after t vs h.1)
 
 -- the same timestamp, and a mark that no later version contradicts
-pub chain_set : (i r : ℕ) (vs : List Version) (w d : Version) → IsPlace r (suc i) vs → IsChain vs → w.timestamp ≡ (get_or vs i d).timestamp → w.mark ≤ max (get_or vs i d).mark r → (w.pending ≡ true → w.mark ≤ w.timestamp) → IsChain (set vs i w)
+pub chain_set : (i r : ℕ) (vs : List Version) (w d : Version) → IsIndex r (suc i) vs → IsChain vs → w.timestamp ≡ (get_or vs i d).timestamp → w.mark ≤ max (get_or vs i d).mark r → (w.pending ≡ true → w.mark ≤ w.timestamp) → IsChain (set vs i w)
 chain_set i r [] w d h c e m own = tt
 chain_set zero r (v ∷ vs) w d h c e m own =
-    (each_both vs c.0 (place_after r vs h.1), own, c.2)
+    (each_both vs c.0 (index_after r vs h.1), own, c.2)
   where
     each_both : (xs : List Version) → Each (IsBefore v) xs → Each (λ x. r < x.timestamp) xs → Each (IsBefore w) xs
     each_both [] a b = tt
     each_both (x ∷ xs) a b = ((omega arith, omega arith), each_both xs a.1 b.1)
 chain_set (suc i) r (v ∷ vs) w d h c e m own =
-    let above = each_at (IsBefore v) vs i d (place_within r i vs h.1) c.0 in
+    let above = each_at (IsBefore v) vs i d (index_within r i vs h.1) c.0 in
     (each_set (IsBefore v) vs i w (omega (arith, above.0), omega (arith, above.1)) c.0, c.1, chain_set i r vs w d h.1 c.2 e m own)
 
 pub writes_set : (i : ℕ) (vs : List Version) (w d : Version) → i < length vs → as_written w ≡ as_written (get_or vs i d) → map as_written (set vs i w) ≡ map as_written vs
@@ -165,21 +165,21 @@ chain_removed zero (v ∷ vs) c = c.2
 chain_removed (suc i) (v ∷ vs) c = (each_remove _ vs i c.0, c.1, chain_removed i vs c.2)
 
 -- a timestamp that isn't the last up to it is no version's
-pub place_new : (t i : ℕ) (vs : List Version) → IsChain vs → IsPlace t i vs → ((j : ℕ) (d : Version) → i ≡ suc j → (get_or vs j d).timestamp ≡ t → ⊥) → Each (λ v. v.timestamp ≡ t → ⊥) vs
-place_new t zero vs c h new = each_above vs (place_after t vs h)
+pub index_new : (t i : ℕ) (vs : List Version) → IsChain vs → IsIndex t i vs → ((j : ℕ) (d : Version) → i ≡ suc j → (get_or vs j d).timestamp ≡ t → ⊥) → Each (λ v. v.timestamp ≡ t → ⊥) vs
+index_new t zero vs c h new = each_above vs (index_after t vs h)
   where
     each_above : (xs : List Version) → Each (λ v. t < v.timestamp) xs → Each (λ v. v.timestamp ≡ t → ⊥) xs
     each_above [] a = tt
     each_above (x ∷ xs) a = ((λ e. omega (arith, a.0, e)), each_above xs a.1)
-place_new t (suc i) [] c h new = tt
-place_new t (suc zero) (v ∷ vs) c h new = (new 0 v refl, place_new t zero vs c.2 h.1 (λ j d e. absurd (omega arith)))
-place_new t (suc (suc i)) (v ∷ vs) c h new =
-    let above = each_at (IsBefore v) vs i v (place_within t i vs h.1) c.0 in
-    let under = place_at t i vs v h.1 in
-    ((λ e. omega (arith, above.0, e)), place_new t (suc i) vs c.2 h.1 (λ j d e. new (suc j) d (ap suc e)))
+index_new t (suc i) [] c h new = tt
+index_new t (suc zero) (v ∷ vs) c h new = (new 0 v refl, index_new t zero vs c.2 h.1 (λ j d e. absurd (omega arith)))
+index_new t (suc (suc i)) (v ∷ vs) c h new =
+    let above = each_at (IsBefore v) vs i v (index_within t i vs h.1) c.0 in
+    let under = index_at t i vs v h.1 in
+    ((λ e. omega (arith, above.0, e)), index_new t (suc i) vs c.2 h.1 (λ j d e. new (suc j) d (ap suc e)))
 
-pub chain_inserted : (t i : ℕ) (vs : List Version) (w : Version) → w.timestamp ≡ t → w.mark ≡ 0 → IsChain vs → IsPlace t i vs → Each (λ v. v.timestamp ≡ t → ⊥) vs → is_marked t vs ≡ false → IsChain (insert vs i w)
-chain_inserted t zero vs w e m c h new free = (each_above vs (place_after t vs h), λ p. omega arith, c)
+pub chain_inserted : (t i : ℕ) (vs : List Version) (w : Version) → w.timestamp ≡ t → w.mark ≡ 0 → IsChain vs → IsIndex t i vs → Each (λ v. v.timestamp ≡ t → ⊥) vs → is_marked t vs ≡ false → IsChain (insert vs i w)
+chain_inserted t zero vs w e m c h new free = (each_above vs (index_after t vs h), λ p. omega arith, c)
   where
     each_above : (xs : List Version) → Each (λ v. t < v.timestamp) xs → Each (IsBefore w) xs
     each_above [] a = tt
@@ -265,8 +265,8 @@ chain_ascends vs c = λ i j d le lt. up vs c i j d le lt
     up (v ∷ vs) c (suc i) zero d le lt = absurd (omega arith)
     up (v ∷ vs) c (suc i) (suc j) d le lt = up vs c.2 i j d (omega arith) (omega arith)
 
-pub is_place_at : (t i : ℕ) (vs : List Version) → i ≤ length vs → IsPartitionPoint (λ v. leb v.timestamp t ≡ true) (λ v. leb v.timestamp t ≡ false) vs i → IsPlace t i vs
-is_place_at t i vs le h = is_place t i vs le (λ k d lt. let test : leb (get_or vs k d).timestamp t ≡ true = h.0 k d (omega arith) lt in grind (arith, nat_tests)) (λ k d from lt. let test : leb (get_or vs k d).timestamp t ≡ false = h.1 k d from lt in grind (arith, nat_tests))
+pub is_index_at : (t i : ℕ) (vs : List Version) → i ≤ length vs → IsPartitionPoint (λ v. leb v.timestamp t ≡ true) (λ v. leb v.timestamp t ≡ false) vs i → IsIndex t i vs
+is_index_at t i vs le h = is_index t i vs le (λ k d lt. let test : leb (get_or vs k d).timestamp t ≡ true = h.0 k d (omega arith) lt in grind (arith, nat_tests)) (λ k d from lt. let test : leb (get_or vs k d).timestamp t ≡ false = h.1 k d from lt in grind (arith, nat_tests))
 
 pub read_any : (vs : List Version) (i : ℕ) (d e : Version) → i < length vs → get_or vs i d ≡ get_or vs i e
 read_any [] i d e lt = absurd (omega arith)

@@ -6,8 +6,8 @@ use Rattle.std.proofs.lemmas.Bool.Decides.{nat_tests}
 use Rattle.mv_chain.specs.declared.fate.Fate.{Fate}
 use Rattle.mv_chain.specs.declared.fate.Fate.TheVariants.{Committed, RolledBack}
 use Rattle.mv_chain.specs.declared.version.Version.{Version}
-use Rattle.mv_chain.specs.Chain.{IsBefore, IsChain, IsPlace, is_marked, shows, raised, marked, unread, placed, installed, committing, settled}
-use Rattle.mv_chain.proofs.Chains.{each_at, none_own, none_pending, place_within, place_after, shows_last}
+use Rattle.mv_chain.specs.Chain.{IsBefore, IsChain, IsIndex, is_marked, shows, raised, marked, unread, with_version, installed, committing, settled}
+use Rattle.mv_chain.proofs.Chains.{each_at, none_own, none_pending, index_within, index_after, shows_last}
 
 pub set_itself : (i : ℕ) (vs : List Version) (w d : Version) → i < length vs → w ≡ get_or vs i d → set vs i w ≡ vs
 set_itself i [] w d lt e = refl
@@ -34,19 +34,19 @@ map_set f (suc i) (v ∷ vs) w d lt c e same =
 raised_other : (from reader : ℕ) (v : Version) → (v.timestamp ≡ from → ⊥) → raised from reader v ≡ v
 raised_other from reader v ne = let q : (v.timestamp == from) ≡ false = grind (arith, nat_tests, ne) in rw q refl
 
-pub marked_some : (from reader i : ℕ) (vs : List Version) (d : Version) → IsChain vs → IsPlace reader (suc i) vs → set vs i (raised from reader (get_or vs i d)) ≡ marked from reader vs
+pub marked_some : (from reader i : ℕ) (vs : List Version) (d : Version) → IsChain vs → IsIndex reader (suc i) vs → set vs i (raised from reader (get_or vs i d)) ≡ marked from reader vs
 marked_some from reader i vs d c h = rw (shows_last reader i vs d c h) (at ((get_or vs i d).timestamp == from) refl)
   where
     at : (q : Bool) → ((get_or vs i d).timestamp == from) ≡ q → set vs i (raised from reader (get_or vs i d)) ≡ (if q then map (raised from reader) vs else vs)
-    at true e = let own : (get_or vs i d).timestamp ≡ from = grind (arith, nat_tests, e) in map_set (raised from reader) i vs _ d (place_within reader i vs h) c refl (λ v ne. raised_other from reader v (λ q. ne (q ∙ sym own)))
-    at false e = set_itself i vs _ d (place_within reader i vs h) (raised_other from reader (get_or vs i d) (λ q. grind (arith, nat_tests, e, q)))
+    at true e = let own : (get_or vs i d).timestamp ≡ from = grind (arith, nat_tests, e) in map_set (raised from reader) i vs _ d (index_within reader i vs h) c refl (λ v ne. raised_other from reader v (λ q. ne (q ∙ sym own)))
+    at false e = set_itself i vs _ d (index_within reader i vs h) (raised_other from reader (get_or vs i d) (λ q. grind (arith, nat_tests, e, q)))
 
-pub marked_nothing : (from reader : ℕ) (vs : List Version) → IsPlace reader zero vs → (shows reader vs).from ≡ 0 → vs ≡ marked from reader vs
+pub marked_nothing : (from reader : ℕ) (vs : List Version) → IsIndex reader zero vs → (shows reader vs).from ≡ 0 → vs ≡ marked from reader vs
 marked_nothing from reader vs h none = rw none (at (0 == from) refl)
   where
     at : (q : Bool) → (0 == from) ≡ q → vs ≡ (if q then map (raised from reader) vs else vs)
     at false e = refl
-    at true e = sym (map_same (raised from reader) vs (each vs (place_after reader vs h)))
+    at true e = sym (map_same (raised from reader) vs (each vs (index_after reader vs h)))
       where
         each : (xs : List Version) → Each (λ v. reader < v.timestamp) xs → Each (λ v. raised from reader v ≡ v) xs
         each [] a = tt
@@ -64,32 +64,32 @@ no_committed ts (suc i) (v ∷ vs) d lt c e p =
     let above = each_at (IsBefore v) vs i d (omega arith) c.0 in
     grind (arith, nat_tests, above.0, e, no_committed ts i vs d (omega arith) c.2 e p)
 
-placed_own : (ts i : ℕ) (value : Option (List ℕ)) (vs : List Version) (w d : Version) → i < length vs → IsChain vs → (get_or vs i d).timestamp ≡ ts → w ≡ record (get_or vs i d) { value = value } → set vs i w ≡ placed ts value vs
-placed_own ts i value [] w d lt c e same = absurd (omega arith)
-placed_own ts zero value (v ∷ vs) w d lt c e same =
+with_version_own : (ts i : ℕ) (value : Option (List ℕ)) (vs : List Version) (w d : Version) → i < length vs → IsChain vs → (get_or vs i d).timestamp ≡ ts → w ≡ record (get_or vs i d) { value = value } → set vs i w ≡ with_version ts value vs
+with_version_own ts i value [] w d lt c e same = absurd (omega arith)
+with_version_own ts zero value (v ∷ vs) w d lt c e same =
     let below : nat_lt ts v.timestamp ≡ false = grind (arith, nat_tests, e) in
     let own : (v.timestamp == ts) ≡ true = grind (arith, nat_tests, e) in
     rw (below, own, same) refl
-placed_own ts (suc i) value (v ∷ vs) w d lt c e same =
+with_version_own ts (suc i) value (v ∷ vs) w d lt c e same =
     let above = each_at (IsBefore v) vs i d (omega arith) c.0 in
     let below : nat_lt ts v.timestamp ≡ false = grind (arith, nat_tests, e, above.0) in
     let other : (v.timestamp == ts) ≡ false = grind (arith, nat_tests, e, above.0) in
-    rw (below, other) (ap (λ xs. v ∷ xs) (placed_own ts i value vs w d (omega arith) c.2 e same))
+    rw (below, other) (ap (λ xs. v ∷ xs) (with_version_own ts i value vs w d (omega arith) c.2 e same))
 
-placed_new : (ts i : ℕ) (value : Option (List ℕ)) (vs : List Version) → IsPlace ts i vs → Each (λ v. v.timestamp ≡ ts → ⊥) vs → insert vs i (unread ts value) ≡ placed ts value vs
-placed_new ts zero value [] h none = refl
-placed_new ts (suc i) value [] h none = absurd h
-placed_new ts zero value (v ∷ vs) h none = let above : nat_lt ts v.timestamp ≡ true = grind (arith, nat_tests, h.0) in rw above refl
-placed_new ts (suc i) value (v ∷ vs) h none =
+with_version_new : (ts i : ℕ) (value : Option (List ℕ)) (vs : List Version) → IsIndex ts i vs → Each (λ v. v.timestamp ≡ ts → ⊥) vs → insert vs i (unread ts value) ≡ with_version ts value vs
+with_version_new ts zero value [] h none = refl
+with_version_new ts (suc i) value [] h none = absurd h
+with_version_new ts zero value (v ∷ vs) h none = let above : nat_lt ts v.timestamp ≡ true = grind (arith, nat_tests, h.0) in rw above refl
+with_version_new ts (suc i) value (v ∷ vs) h none =
     let below : nat_lt ts v.timestamp ≡ false = grind (arith, nat_tests, h.0) in
     let other : (v.timestamp == ts) ≡ false = grind (arith, nat_tests, none.0) in
-    rw (below, other) (ap (λ xs. v ∷ xs) (placed_new ts i value vs h.1 none.1))
+    rw (below, other) (ap (λ xs. v ∷ xs) (with_version_new ts i value vs h.1 none.1))
 
 pub installed_own : (ts i : ℕ) (value : Option (List ℕ)) (vs : List Version) (w d : Version) → i < length vs → IsChain vs → is_marked ts vs ≡ false → (get_or vs i d).timestamp ≡ ts → (get_or vs i d).pending ≡ true → w ≡ record (get_or vs i d) { value = value } → set vs i w ≡ installed ts value vs
-installed_own ts i value vs w d lt c m e p same = rw (m, no_committed ts i vs d lt c e p) (placed_own ts i value vs w d lt c e same)
+installed_own ts i value vs w d lt c m e p same = rw (m, no_committed ts i vs d lt c e p) (with_version_own ts i value vs w d lt c e same)
 
-pub installed_new : (ts i : ℕ) (value : Option (List ℕ)) (vs : List Version) → is_marked ts vs ≡ false → IsPlace ts i vs → Each (λ v. v.timestamp ≡ ts → ⊥) vs → insert vs i (unread ts value) ≡ installed ts value vs
-installed_new ts i value vs m h none = rw (m, free vs none) (placed_new ts i value vs h none)
+pub installed_new : (ts i : ℕ) (value : Option (List ℕ)) (vs : List Version) → is_marked ts vs ≡ false → IsIndex ts i vs → Each (λ v. v.timestamp ≡ ts → ⊥) vs → insert vs i (unread ts value) ≡ installed ts value vs
+installed_new ts i value vs m h none = rw (m, free vs none) (with_version_new ts i value vs h none)
   where
     free : (xs : List Version) → Each (λ v. v.timestamp ≡ ts → ⊥) xs → list_any (λ v. (v.timestamp == ts) && not v.pending) xs ≡ false
     free [] a = refl

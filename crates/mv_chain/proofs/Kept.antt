@@ -5,17 +5,17 @@ use Rattle.std.specs.List.{AllByRecursion as Each}
 use Rattle.std.proofs.lemmas.Bool.Decides.{nat_tests}
 use Rattle.mv_chain.specs.declared.fate.Fate.TheVariants.{Committed}
 use Rattle.mv_chain.specs.declared.version.Version.{Version}
-use Rattle.mv_chain.specs.History.{Written, Answered, shown, seen, is_busy, nobody, decided, IsOpen}
-use Rattle.mv_chain.specs.Chain.{as_written, may_read, StandsFor, IsBefore, IsChain, IsPlace, raised}
-use Rattle.mv_chain.proofs.Chains.{each_at, pending_shown, none_own, none_pending, chain_set, place_within, shows_last}
+use Rattle.mv_chain.specs.Accesses.{Written, Answered, shown, seen, is_busy, nobody, decided, IsUndecided}
+use Rattle.mv_chain.specs.Chain.{as_written, may_read, StandsFor, IsBefore, IsChain, IsIndex, raised}
+use Rattle.mv_chain.proofs.Chains.{each_at, pending_shown, none_own, none_pending, chain_set, index_within, shows_last}
 use Rattle.mv_chain.proofs.Exact.{set_itself}
 use Rattle.mv_chain.proofs.Stands.{own_mark, stands_marked, stands_replaced, stands_committed}
 
-pub raised_chain : (vs : List Version) (i from reader : ℕ) (w d : Version) → IsChain vs → IsPlace reader (suc i) vs → w ≡ raised from reader (get_or vs i d) → IsChain (set vs i w)
+pub raised_chain : (vs : List Version) (i from reader : ℕ) (w d : Version) → IsChain vs → IsIndex reader (suc i) vs → w ≡ raised from reader (get_or vs i d) → IsChain (set vs i w)
 raised_chain vs i from reader w d c h e = at (may_read from reader (get_or vs i d)) refl
   where
     lt : i < length vs
-    lt = place_within reader i vs h
+    lt = index_within reader i vs h
 
     at : (q : Bool) → may_read from reader (get_or vs i d) ≡ q → IsChain (set vs i w)
     at false q = subst IsChain (sym (set_itself i vs w d lt (e ∙ rw q refl))) c
@@ -35,7 +35,7 @@ answered true true stamp from f reader e q g b = grind (arith, nat_tests, e, g, 
 answered true false stamp from f reader e q g b = absurd (cc)
 answered false p stamp from f reader e q g b = grind (arith, nat_tests, e)
 
-pub raised_stands : (vs : List Version) (i from reader : ℕ) (w d : Version) → IsChain vs → IsPlace reader (suc i) vs → w ≡ raised from reader (get_or vs i d) → (key : List ℕ) (low : ℕ) (ws : List Written) (rs : List Answered) → StandsFor key low ws rs vs → low ≤ reader → from ≡ (seen key reader ws).from → is_busy reader (seen key reader ws) ≡ false → StandsFor key low ws (record { reader = reader; key = key; from = from } ∷ rs) (set vs i w)
+pub raised_stands : (vs : List Version) (i from reader : ℕ) (w d : Version) → IsChain vs → IsIndex reader (suc i) vs → w ≡ raised from reader (get_or vs i d) → (key : List ℕ) (low : ℕ) (ws : List Written) (rs : List Answered) → StandsFor key low ws rs vs → low ≤ reader → from ≡ (seen key reader ws).from → is_busy reader (seen key reader ws) ≡ false → StandsFor key low ws (record { reader = reader; key = key; from = from } ∷ rs) (set vs i w)
 raised_stands vs i from reader w d c h e key low ws rs s le source free =
     subst (λ (f : ℕ). StandsFor key low ws (record { reader = reader; key = key; from = f } ∷ rs) (set vs i w)) stamp (stands_marked key low ws rs vs i reader w d c h (ap as_written is) (ap (λ v. v.pending) is) (ap (λ v. v.mark) is) s)
   where
@@ -58,23 +58,23 @@ raised_stands vs i from reader w d c h e key low ws rs s le source free =
     stamp = ap (λ v. v.timestamp) is ∙ from_is
 
 -- a write in place of the branch's own
-pub replaced_chain : (vs : List Version) (i ts : ℕ) (w d : Version) (value : Option (List ℕ)) → IsChain vs → IsPlace ts (suc i) vs → w ≡ record (get_or vs i d) { value = value } → IsChain (set vs i w)
+pub replaced_chain : (vs : List Version) (i ts : ℕ) (w d : Version) (value : Option (List ℕ)) → IsChain vs → IsIndex ts (suc i) vs → w ≡ record (get_or vs i d) { value = value } → IsChain (set vs i w)
 replaced_chain vs i ts w d value c h e =
-    chain_set i ts vs w d h c (ap (λ v. v.timestamp) e) (omega (arith, ap (λ v. v.mark) e)) (λ p. omega (arith, own_mark i vs d (place_within ts i vs h) c (sym (ap (λ v. v.pending) e) ∙ p), ap (λ v. v.mark) e, ap (λ v. v.timestamp) e))
+    chain_set i ts vs w d h c (ap (λ v. v.timestamp) e) (omega (arith, ap (λ v. v.mark) e)) (λ p. omega (arith, own_mark i vs d (index_within ts i vs h) c (sym (ap (λ v. v.pending) e) ∙ p), ap (λ v. v.mark) e, ap (λ v. v.timestamp) e))
 
-pub replaced_stands : (vs : List Version) (i ts : ℕ) (w d : Version) (value : Option (List ℕ)) → IsChain vs → IsPlace ts (suc i) vs → (get_or vs i d).timestamp ≡ ts → (get_or vs i d).pending ≡ true → w ≡ record (get_or vs i d) { value = value } → (key : List ℕ) (low : ℕ) (ws : List Written) (rs : List Answered) → StandsFor key low ws rs vs → low ≤ ts → StandsFor key low (record { timestamp = ts; key = key; value = value; fate = None } ∷ ws) rs (set vs i w)
+pub replaced_stands : (vs : List Version) (i ts : ℕ) (w d : Version) (value : Option (List ℕ)) → IsChain vs → IsIndex ts (suc i) vs → (get_or vs i d).timestamp ≡ ts → (get_or vs i d).pending ≡ true → w ≡ record (get_or vs i d) { value = value } → (key : List ℕ) (low : ℕ) (ws : List Written) (rs : List Answered) → StandsFor key low ws rs vs → low ≤ ts → StandsFor key low (record { timestamp = ts; key = key; value = value; fate = None } ∷ ws) rs (set vs i w)
 replaced_stands vs i ts w d value c h own p e key low ws rs s above =
-    let stands = stands_replaced key low ws rs vs i w d (place_within ts i vs h) c (sym (ap (λ v. v.timestamp) e)) p (ap (λ v. v.pending) e ∙ p) (ap (λ v. v.mark) e) (omega (arith, above, own, ap (λ v. v.timestamp) e)) s in
+    let stands = stands_replaced key low ws rs vs i w d (index_within ts i vs h) c (sym (ap (λ v. v.timestamp) e)) p (ap (λ v. v.pending) e ∙ p) (ap (λ v. v.mark) e) (omega (arith, above, own, ap (λ v. v.timestamp) e)) s in
     subst (λ (x : Written). StandsFor key low (x ∷ ws) rs (set vs i w)) (ap (λ (v : Version). record { timestamp = v.timestamp; key = key; value = v.value; fate = None }) e ∙ ap (λ (t : ℕ). record { timestamp = t; key = key; value = value; fate = None }) own) stands
 
 -- a branch's version once its branch has committed
-pub committed_chain : (vs : List Version) (i ts : ℕ) (w d : Version) → IsChain vs → IsPlace ts (suc i) vs → w ≡ record (get_or vs i d) { pending = false } → IsChain (set vs i w)
+pub committed_chain : (vs : List Version) (i ts : ℕ) (w d : Version) → IsChain vs → IsIndex ts (suc i) vs → w ≡ record (get_or vs i d) { pending = false } → IsChain (set vs i w)
 committed_chain vs i ts w d c h e =
     chain_set i ts vs w d h c (ap (λ v. v.timestamp) e) (omega (arith, ap (λ v. v.mark) e)) (λ p. absurd (cc (p, ap (λ (v : Version). v.pending) e)))
 
-pub committed_stands : (vs : List Version) (i ts : ℕ) (w d : Version) → IsChain vs → IsPlace ts (suc i) vs → (get_or vs i d).timestamp ≡ ts → (get_or vs i d).pending ≡ true → w ≡ record (get_or vs i d) { pending = false } → (key : List ℕ) (low : ℕ) (ws : List Written) (rs : List Answered) → StandsFor key low ws rs vs → IsOpen ts ws → StandsFor key low (decided ts Committed ws) rs (set vs i w)
-committed_stands vs i ts w d c h own p e key low ws rs s open_ =
-    stands_committed key low ts ws rs vs i w d (place_within ts i vs h) c open_ own p (ap (λ v. v.timestamp) e ∙ own) (ap (λ v. v.value) e) (ap (λ v. v.pending) e) (ap (λ v. v.mark) e) s
+pub committed_stands : (vs : List Version) (i ts : ℕ) (w d : Version) → IsChain vs → IsIndex ts (suc i) vs → (get_or vs i d).timestamp ≡ ts → (get_or vs i d).pending ≡ true → w ≡ record (get_or vs i d) { pending = false } → (key : List ℕ) (low : ℕ) (ws : List Written) (rs : List Answered) → StandsFor key low ws rs vs → IsUndecided ts ws → StandsFor key low (decided ts Committed ws) rs (set vs i w)
+committed_stands vs i ts w d c h own p e key low ws rs s all_undecided =
+    stands_committed key low ts ws rs vs i w d (index_within ts i vs h) c all_undecided own p (ap (λ v. v.timestamp) e ∙ own) (ap (λ v. v.value) e) (ap (λ v. v.pending) e) (ap (λ v. v.mark) e) s
 
 -- a branch without a pending version
 pub own_decided : (ts i : ℕ) (vs : List Version) (d : Version) → i < length vs → IsChain vs → (get_or vs i d).timestamp ≡ ts → (get_or vs i d).pending ≡ false → Each (λ v. v.timestamp ≡ ts → v.pending ≡ false) vs

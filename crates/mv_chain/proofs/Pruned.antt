@@ -4,9 +4,9 @@ use Rattle.std.specs.Prelude.{if◌then◌else◌, nat_le}
 use Rattle.std.specs.List.{AllByRecursion as Each, remove}
 use Rattle.std.proofs.lemmas.Bool.Decides.{nat_tests}
 use Rattle.mv_chain.specs.declared.version.Version.{Version}
-use Rattle.mv_chain.specs.History.{Written, Answered, stands, AreWhole}
-use Rattle.mv_chain.specs.Chain.{base, as_written, shows_without, is_marked, has_base, StandsFor, IsBefore, IsChain, IsPlace, pruned}
-use Rattle.mv_chain.proofs.Seen.{open_pending}
+use Rattle.mv_chain.specs.Accesses.{Written, Answered, stands, AreWhole}
+use Rattle.mv_chain.specs.Chain.{base, as_written, shows_without, is_marked, has_base, StandsFor, IsBefore, IsChain, IsIndex, pruned}
+use Rattle.mv_chain.proofs.Seen.{undecided_pending}
 use Rattle.mv_chain.proofs.Chains.{pending_shown}
 
 above_base : (gone : ℕ → Bool) (low t n m : ℕ) (vs : List Version) → low ≤ t → has_base low vs ≡ true → Each (λ w. (n < w.timestamp) × (m ≤ w.timestamp)) vs → (n < (shows_without gone t vs).from) × (m ≤ low)
@@ -109,13 +109,13 @@ stands_pruned key before low ws rs vs c whole s =
       seen = λ gone t up. shows_pruned gone low t vs (omega (arith, up)) c ∙ s.seen gone t (omega (arith, up));
       own = λ gone t g o.
           let same = s.own gone t g o in
-          own_pruned gone low t vs c (ap (λ r. r.pending) same ∙ (open_pending gone key t ws (whole t key o) g o).1) ∙ same;
+          own_pruned gone low t vs c (ap (λ r. r.pending) same ∙ (undecided_pending gone key t ws (whole t key o) g o).1) ∙ same;
       late = λ t up. marked_pruned low t vs (omega (arith, up)) c ∙ s.late t (omega (arith, up));
       based = base_left low (max before low) vs (omega arith) (base_up before (max before low) vs (omega arith) s.based);
     }
 
 -- above low nothing goes
-unpruned : (low : ℕ) (vs : List Version) → IsPlace low zero vs → (pruned low vs ≡ vs) × (has_base low vs ≡ false)
+unpruned : (low : ℕ) (vs : List Version) → IsIndex low zero vs → (pruned low vs ≡ vs) × (has_base low vs ≡ false)
 unpruned low [] h = (refl, refl)
 unpruned low (v ∷ vs) h =
     let rest = unpruned low vs h.1 in
@@ -125,23 +125,23 @@ unpruned low (v ∷ vs) h =
     kept true = refl
     kept false = refl
 
-place_dropped : (low i : ℕ) (vs : List Version) → IsPlace low i vs → IsPlace low zero (drop i vs)
-place_dropped low zero vs h = h
-place_dropped low (suc i) [] h = absurd h
-place_dropped low (suc i) (v ∷ vs) h = place_dropped low i vs h.1
+index_dropped : (low i : ℕ) (vs : List Version) → IsIndex low i vs → IsIndex low zero (drop i vs)
+index_dropped low zero vs h = h
+index_dropped low (suc i) [] h = absurd h
+index_dropped low (suc i) (v ∷ vs) h = index_dropped low i vs h.1
 
-place_below : (low i : ℕ) (vs : List Version) → IsPlace low i vs → (k : ℕ) → k < i → (get_or vs k base).timestamp ≤ low
-place_below low zero vs h k lt = absurd (omega arith)
-place_below low (suc i) [] h k lt = absurd h
-place_below low (suc i) (v ∷ vs) h zero lt = h.0
-place_below low (suc i) (v ∷ vs) h (suc k) lt = place_below low i vs h.1 k (omega arith)
+index_below : (low i : ℕ) (vs : List Version) → IsIndex low i vs → (k : ℕ) → k < i → (get_or vs k base).timestamp ≤ low
+index_below low zero vs h k lt = absurd (omega arith)
+index_below low (suc i) [] h k lt = absurd h
+index_below low (suc i) (v ∷ vs) h zero lt = h.0
+index_below low (suc i) (v ∷ vs) h (suc k) lt = index_below low i vs h.1 k (omega arith)
 
-place_length : (low i : ℕ) (vs : List Version) → IsPlace low i vs → i ≤ length vs
-place_length low zero vs h = omega arith
-place_length low (suc i) [] h = absurd h
-place_length low (suc i) (v ∷ vs) h = let rest = place_length low i vs h.1 in omega (arith, rest)
+index_length : (low i : ℕ) (vs : List Version) → IsIndex low i vs → i ≤ length vs
+index_length low zero vs h = omega arith
+index_length low (suc i) [] h = absurd h
+index_length low (suc i) (v ∷ vs) h = let rest = index_length low i vs h.1 in omega (arith, rest)
 
--- from this place on the versions are pruned
+-- from this index on the versions are pruned
 pub record IsPrunedTo (low left : ℕ) (based : Bool) (old cur : List Version) : Type 0 where
   pub within : left ≤ length old
   pub below : (k : ℕ) → k < left → (get_or old k base).timestamp ≤ low
@@ -153,12 +153,12 @@ split zero vs = refl
 split (suc i) [] = refl
 split (suc i) (v ∷ vs) = ap (λ xs. v ∷ xs) (split i vs)
 
-pub pruned_begins : (low i : ℕ) (vs : List Version) → IsPlace low i vs → IsPrunedTo low i false vs vs
+pub pruned_begins : (low i : ℕ) (vs : List Version) → IsIndex low i vs → IsPrunedTo low i false vs vs
 pruned_begins low i vs h =
-    let above = unpruned low (drop i vs) (place_dropped low i vs h) in
+    let above = unpruned low (drop i vs) (index_dropped low i vs h) in
     record {
-      within = place_length low i vs h;
-      below = place_below low i vs h;
+      within = index_length low i vs h;
+      below = index_below low i vs h;
       items = sym (split i vs) ∙ ap (λ xs. take i vs ++ xs) (sym above.0);
       told = sym above.1;
     }

@@ -5,7 +5,7 @@ use Rattle.std.specs.List.{AllByRecursion as Each}
 use Rattle.std.proofs.lemmas.Bool.Decides.{nat_tests}
 use Rattle.mv_chain.specs.declared.fate.Fate.{Fate}
 use Rattle.mv_chain.specs.declared.fate.Fate.TheVariants.{Committed, RolledBack}
-use Rattle.mv_chain.specs.History.{Written, Seen, shown, newest, seen_of, seen_without, stands, deciding, decided, has_open, seen, nobody, IsOpen}
+use Rattle.mv_chain.specs.Accesses.{Written, Seen, shown, newest, seen_of, seen_without, stands, deciding, decided, has_undecided, seen, nobody, IsUndecided}
 
 -- what stands behind a write matters by what it shows alone
 pub seen_behind : (p : Written → Bool) (w : Written) (xs ys : List Written) → newest p xs ≡ newest p ys → newest p (w ∷ xs) ≡ newest p (w ∷ ys)
@@ -59,11 +59,11 @@ seen_committed has gone t ts (w ∷ ws) h =
     rw (stands_committed gone ts w h.0, seen_committed has gone t ts ws h.1) (step_cleared (has w.key && (stands (but_not ts gone) w.timestamp w.fate && nat_le w.timestamp t)) ts w.timestamp (shown (deciding ts Committed w)) (shown w) (seen_of has (but_not ts gone) t ws) (shown_committed ts w h.0))
 
 -- a key that the branch didn't write shows what it showed
-pub seen_untouched : (gone : ℕ → Bool) (q : List ℕ) (t ts : ℕ) (f : Fate) (ws : List Written) → IsOpen ts ws → has_open q ts ws ≡ false → seen_without gone q t (decided ts f ws) ≡ seen_without gone q t ws
+pub seen_untouched : (gone : ℕ → Bool) (q : List ℕ) (t ts : ℕ) (f : Fate) (ws : List Written) → IsUndecided ts ws → has_undecided q ts ws ≡ false → seen_without gone q t (decided ts f ws) ≡ seen_without gone q t ws
 seen_untouched gone q t ts f [] o n = refl
 seen_untouched gone q t ts f (w ∷ ws) o n = at (bytes_eq q w.key) refl (w.timestamp == ts) refl (seen_untouched gone q t ts f ws o.1 (rest n))
   where
-    rest : has_open q ts (w ∷ ws) ≡ false → has_open q ts ws ≡ false
+    rest : has_undecided q ts (w ∷ ws) ≡ false → has_undecided q ts ws ≡ false
     rest e = grind (arith, e)
 
     at : (x : Bool) → bytes_eq q w.key ≡ x → (y : Bool) → (w.timestamp == ts) ≡ y → seen_without gone q t (decided ts f ws) ≡ seen_without gone q t ws → seen_without gone q t (decided ts f (w ∷ ws)) ≡ seen_without gone q t (w ∷ ws)
@@ -72,15 +72,15 @@ seen_untouched gone q t ts f (w ∷ ws) o n = at (bytes_eq q w.key) refl (w.time
     at true e true e2 ih = absurd (grind (arith, nat_tests, n, e, e2, o.0))
 
 -- what is open once a fate is decided
-pub open_decided : (q : List ℕ) (t ts : ℕ) (f : Fate) (ws : List Written) → has_open q t (decided ts f ws) ≡ (if t == ts then false else has_open q t ws)
-open_decided q t ts f [] = grind arith
-open_decided q t ts f (w ∷ ws) = grind (arith, nat_tests, open_decided q t ts f ws)
+pub undecided_decided : (q : List ℕ) (t ts : ℕ) (f : Fate) (ws : List Written) → has_undecided q t (decided ts f ws) ≡ (if t == ts then false else has_undecided q t ws)
+undecided_decided q t ts f [] = grind arith
+undecided_decided q t ts f (w ∷ ws) = grind (arith, nat_tests, undecided_decided q t ts f ws)
 
 -- what is still open then was open, and is another branch's
-pub still_open : (q : List ℕ) (t ts : ℕ) (f : Fate) (ws : List Written) → has_open q t (decided ts f ws) ≡ true → ((t == ts) ≡ false) × (has_open q t ws ≡ true)
-still_open q t ts f ws o = at (t == ts) refl (sym (open_decided q t ts f ws) ∙ o)
+pub still_undecided : (q : List ℕ) (t ts : ℕ) (f : Fate) (ws : List Written) → has_undecided q t (decided ts f ws) ≡ true → ((t == ts) ≡ false) × (has_undecided q t ws ≡ true)
+still_undecided q t ts f ws o = at (t == ts) refl (sym (undecided_decided q t ts f ws) ∙ o)
   where
-    at : (x : Bool) → (t == ts) ≡ x → (if x then false else has_open q t ws) ≡ true → ((t == ts) ≡ false) × (has_open q t ws ≡ true)
+    at : (x : Bool) → (t == ts) ≡ x → (if x then false else has_undecided q t ws) ≡ true → ((t == ts) ≡ false) × (has_undecided q t ws ≡ true)
     at true e h = absurd (cc h)
     at false e h = (e, h)
 
@@ -89,11 +89,11 @@ bound gone q t [] = omega arith
 bound gone q t (w ∷ ws) = grind (arith, nat_tests, bound gone q t ws)
 
 -- what an undecided branch has written is pending, and its own, unless it is thought away
-pub open_pending : (gone : ℕ → Bool) (q : List ℕ) (ts : ℕ) (ws : List Written) → IsOpen ts ws → gone ts ≡ false → has_open q ts ws ≡ true → ((seen_without gone q ts ws).from ≡ ts) × ((seen_without gone q ts ws).pending ≡ true)
-open_pending gone q ts [] o g h = absurd (grind (arith, h))
-open_pending gone q ts (w ∷ ws) o g h = at (bytes_eq q w.key) refl (w.timestamp == ts) refl (λ e. open_pending gone q ts ws o.1 g e)
+pub undecided_pending : (gone : ℕ → Bool) (q : List ℕ) (ts : ℕ) (ws : List Written) → IsUndecided ts ws → gone ts ≡ false → has_undecided q ts ws ≡ true → ((seen_without gone q ts ws).from ≡ ts) × ((seen_without gone q ts ws).pending ≡ true)
+undecided_pending gone q ts [] o g h = absurd (grind (arith, h))
+undecided_pending gone q ts (w ∷ ws) o g h = at (bytes_eq q w.key) refl (w.timestamp == ts) refl (λ e. undecided_pending gone q ts ws o.1 g e)
   where
-    at : (x : Bool) → bytes_eq q w.key ≡ x → (y : Bool) → (w.timestamp == ts) ≡ y → (has_open q ts ws ≡ true → ((seen_without gone q ts ws).from ≡ ts) × ((seen_without gone q ts ws).pending ≡ true))
+    at : (x : Bool) → bytes_eq q w.key ≡ x → (y : Bool) → (w.timestamp == ts) ≡ y → (has_undecided q ts ws ≡ true → ((seen_without gone q ts ws).from ≡ ts) × ((seen_without gone q ts ws).pending ≡ true))
         → ((seen_without gone q ts (w ∷ ws)).from ≡ ts) × ((seen_without gone q ts (w ∷ ws)).pending ≡ true)
     at false e y e2 ih = let r = ih (grind (arith, h, e)) in rw e (r.0, r.1)
     at true e false e2 ih =
@@ -107,15 +107,15 @@ open_pending gone q ts (w ∷ ws) o g h = at (bytes_eq q w.key) refl (w.timestam
         (grind (arith, nat_tests, e, own, f, b, counts), grind (arith, nat_tests, e, own, f, b, counts))
 
 -- an open write is what its branch sees
-pub open_seen : (q : List ℕ) (ts : ℕ) (ws : List Written) → IsOpen ts ws → has_open q ts ws ≡ true → ((seen q ts ws).from ≡ ts) × ((seen q ts ws).pending ≡ true)
-open_seen q ts ws o h = open_pending nobody q ts ws o refl h
+pub undecided_seen : (q : List ℕ) (ts : ℕ) (ws : List Written) → IsUndecided ts ws → has_undecided q ts ws ≡ true → ((seen q ts ws).from ≡ ts) × ((seen q ts ws).pending ≡ true)
+undecided_seen q ts ws o h = undecided_pending nobody q ts ws o refl h
 
 -- what a branch sees at its own timestamp is its own write
-pub seen_open : (q : List ℕ) (ts : ℕ) (ws : List Written) → 0 < ts → IsOpen ts ws → (seen q ts ws).from ≡ ts → has_open q ts ws ≡ true
-seen_open q ts [] pos o h = absurd (omega (arith, h))
-seen_open q ts (w ∷ ws) pos o h = at (bytes_eq q w.key) refl (w.timestamp == ts) refl (λ e. seen_open q ts ws pos o.1 e)
+pub seen_undecided : (q : List ℕ) (ts : ℕ) (ws : List Written) → 0 < ts → IsUndecided ts ws → (seen q ts ws).from ≡ ts → has_undecided q ts ws ≡ true
+seen_undecided q ts [] pos o h = absurd (omega (arith, h))
+seen_undecided q ts (w ∷ ws) pos o h = at (bytes_eq q w.key) refl (w.timestamp == ts) refl (λ e. seen_undecided q ts ws pos o.1 e)
   where
-    at : (x : Bool) → bytes_eq q w.key ≡ x → (y : Bool) → (w.timestamp == ts) ≡ y → ((seen q ts ws).from ≡ ts → has_open q ts ws ≡ true) → has_open q ts (w ∷ ws) ≡ true
-    at false e y e2 ih = let r : has_open q ts ws ≡ true = ih (rw e at h) in grind (arith, e, r)
+    at : (x : Bool) → bytes_eq q w.key ≡ x → (y : Bool) → (w.timestamp == ts) ≡ y → ((seen q ts ws).from ≡ ts → has_undecided q ts ws ≡ true) → has_undecided q ts (w ∷ ws) ≡ true
+    at false e y e2 ih = let r : has_undecided q ts ws ≡ true = ih (rw e at h) in grind (arith, e, r)
     at true e true e2 ih = let f : w.fate ≡ None = o.0 (grind (arith, nat_tests, e2)) in grind (arith, e, e2, f)
-    at true e false e2 ih = let r : has_open q ts ws ≡ true = ih (grind (arith, nat_tests, e, e2, h)) in grind (arith, e, e2, r)
+    at true e false e2 ih = let r : has_undecided q ts ws ≡ true = ih (grind (arith, nat_tests, e, e2, h)) in grind (arith, e, e2, r)

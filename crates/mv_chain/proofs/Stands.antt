@@ -6,10 +6,10 @@ use Rattle.std.proofs.lemmas.Bool.Decides.{nat_tests}
 use Rattle.mv_chain.specs.declared.fate.Fate.{Fate}
 use Rattle.mv_chain.specs.declared.fate.Fate.TheVariants.{Committed, RolledBack}
 use Rattle.mv_chain.specs.declared.version.Version.{Version}
-use Rattle.mv_chain.specs.History.{Written, Answered, shown, seen_of, seen_without, stands, nobody, deciding, decided, is_late, IsOpen, IsUnsettled, has_open, seen, absent}
-use Rattle.mv_chain.specs.Chain.{as_written, shows, shows_without, has_base, StandsFor, IsBefore, IsChain, IsPlace, may_install, fresh}
-use Rattle.mv_chain.proofs.Seen.{and_gone, but_not, cleared, seen_rolled_back, seen_committed, still_open, open_seen, seen_open}
-use Rattle.mv_chain.proofs.Chains.{place_within, shows_none, shows_inserted, marked_inserted, marked_set, writes_set, shows_replaced, shows_committed, shows_removed, marked_removed}
+use Rattle.mv_chain.specs.Accesses.{Written, Answered, shown, seen_of, seen_without, stands, nobody, deciding, decided, is_late, IsUndecided, IsUnsettled, has_undecided, seen, absent}
+use Rattle.mv_chain.specs.Chain.{as_written, shows, shows_without, has_base, StandsFor, IsBefore, IsChain, IsIndex, may_install, fresh}
+use Rattle.mv_chain.proofs.Seen.{and_gone, but_not, cleared, seen_rolled_back, seen_committed, still_undecided, undecided_seen, seen_undecided}
+use Rattle.mv_chain.proofs.Chains.{index_within, shows_none, shows_inserted, marked_inserted, marked_set, writes_set, shows_replaced, shows_committed, shows_removed, marked_removed}
 use Rattle.std.specs.Cmp.Lexicographic.{bytes_decides}
 
 pub key_itself : (key : List ℕ) → bytes_eq key key ≡ true
@@ -31,11 +31,11 @@ base_removed low zero (v ∷ vs) d lt p h = grind (arith, nat_tests)
 base_removed low (suc i) (v ∷ vs) d lt p h = grind (arith, nat_tests, base_removed low i vs d (omega arith) p)
 
 -- a chain with a base has a version up to each reader
-pub base_place : (low t : ℕ) (vs : List Version) → low ≤ t → IsPlace t zero vs → has_base low vs ≡ true → ⊥
-base_place low t [] le h b = absurd (cc)
-base_place low t (v ∷ vs) le h b = base_place low t vs le h.1 (grind (arith, nat_tests))
+pub base_index : (low t : ℕ) (vs : List Version) → low ≤ t → IsIndex t zero vs → has_base low vs ≡ true → ⊥
+base_index low t [] le h b = absurd (cc)
+base_index low t (v ∷ vs) le h b = base_index low t vs le h.1 (grind (arith, nat_tests))
 
-pub stands_marked : (key : List ℕ) (low : ℕ) (ws : List Written) (rs : List Answered) (vs : List Version) (i reader : ℕ) (w d : Version) → IsChain vs → IsPlace reader (suc i) vs → as_written w ≡ as_written (get_or vs i d) → w.pending ≡ (get_or vs i d).pending → w.mark ≡ max (get_or vs i d).mark reader → StandsFor key low ws rs vs → StandsFor key low ws (record { reader = reader; key = key; from = w.timestamp } ∷ rs) (set vs i w)
+pub stands_marked : (key : List ℕ) (low : ℕ) (ws : List Written) (rs : List Answered) (vs : List Version) (i reader : ℕ) (w d : Version) → IsChain vs → IsIndex reader (suc i) vs → as_written w ≡ as_written (get_or vs i d) → w.pending ≡ (get_or vs i d).pending → w.mark ≡ max (get_or vs i d).mark reader → StandsFor key low ws rs vs → StandsFor key low ws (record { reader = reader; key = key; from = w.timestamp } ∷ rs) (set vs i w)
 stands_marked key low ws rs vs i reader w d c h same p m s =
     record {
       seen = λ gone t le. ap (λ xs. seen_of (λ k. true) gone t xs) (writes_set i vs w d lt same) ∙ s.seen gone t le;
@@ -45,11 +45,11 @@ stands_marked key low ws rs vs i reader w d c h same p m s =
     }
   where
     lt : i < length vs
-    lt = place_within reader i vs h
+    lt = index_within reader i vs h
 
 -- a branch is shown what its key had before it wrote that again
 shown_before : (key : List ℕ) (low n : ℕ) (value : Option (List ℕ)) (ws : List Written) (rs : List Answered) (vs : List Version) (gone : ℕ → Bool) (t : ℕ) → StandsFor key low ws rs vs → low ≤ n → gone t ≡ false
-    → has_open key t (record { timestamp = n; key = key; value = value; fate = None } ∷ ws) ≡ true → shows_without gone t vs ≡ seen_without gone key t ws
+    → has_undecided key t (record { timestamp = n; key = key; value = value; fate = None } ∷ ws) ≡ true → shows_without gone t vs ≡ seen_without gone key t ws
 shown_before key low n value ws rs vs gone t s le g o = at (n == t) refl
   where
     at : (x : Bool) → (n == t) ≡ x → shows_without gone t vs ≡ seen_without gone key t ws
@@ -74,13 +74,13 @@ stands_replaced key low ws rs vs i w d lt c e p q m above s =
       based = base_set low i vs w d lt (sym e) (λ _. p) s.based;
     }
 
-pub stands_committed : (key : List ℕ) (low ts : ℕ) (ws : List Written) (rs : List Answered) (vs : List Version) (i : ℕ) (w d : Version) → i < length vs → IsChain vs → IsOpen ts ws → (get_or vs i d).timestamp ≡ ts → (get_or vs i d).pending ≡ true → w.timestamp ≡ ts → w.value ≡ (get_or vs i d).value → w.pending ≡ false → w.mark ≡ (get_or vs i d).mark → StandsFor key low ws rs vs → StandsFor key low (decided ts Committed ws) rs (set vs i w)
-stands_committed key low ts ws rs vs i w d lt c open_ e p e2 v q m s =
+pub stands_committed : (key : List ℕ) (low ts : ℕ) (ws : List Written) (rs : List Answered) (vs : List Version) (i : ℕ) (w d : Version) → i < length vs → IsChain vs → IsUndecided ts ws → (get_or vs i d).timestamp ≡ ts → (get_or vs i d).pending ≡ true → w.timestamp ≡ ts → w.value ≡ (get_or vs i d).value → w.pending ≡ false → w.mark ≡ (get_or vs i d).mark → StandsFor key low ws rs vs → StandsFor key low (decided ts Committed ws) rs (set vs i w)
+stands_committed key low ts ws rs vs i w d lt c all_undecided e p e2 v q m s =
     record {
-      seen = λ gone t le. shows_committed gone t ts i vs w d lt c e p same ∙ (ap (cleared ts) (s.seen (but_not ts gone) t le) ∙ sym (seen_committed (λ k. bytes_eq key k) gone t ts ws open_));
+      seen = λ gone t le. shows_committed gone t ts i vs w d lt c e p same ∙ (ap (cleared ts) (s.seen (but_not ts gone) t le) ∙ sym (seen_committed (λ k. bytes_eq key k) gone t ts ws all_undecided));
       own = λ gone t g o.
-          let k = still_open key t ts Committed ws o in
-          shows_committed gone t ts i vs w d lt c e p same ∙ (ap (cleared ts) (s.own (but_not ts gone) t (rw (k.0, g) refl) k.1) ∙ sym (seen_committed (λ k. bytes_eq key k) gone t ts ws open_));
+          let k = still_undecided key t ts Committed ws o in
+          shows_committed gone t ts i vs w d lt c e p same ∙ (ap (cleared ts) (s.own (but_not ts gone) t (rw (k.0, g) refl) k.1) ∙ sym (seen_committed (λ k. bytes_eq key k) gone t ts ws all_undecided));
       late = λ t le. marked_set t i 0 vs w d lt (e2 ∙ sym e) (omega arith) ∙ grind (arith, nat_tests, s.late t le);
       based = base_set low i vs w d lt (e2 ∙ sym e) (λ r. absurd (cc)) s.based;
     }
@@ -94,13 +94,13 @@ own_mark i [] d lt c p = absurd (omega arith)
 own_mark zero (v ∷ vs) d lt c p = c.1 p
 own_mark (suc i) (v ∷ vs) d lt c p = own_mark i vs d (omega arith) c.2 p
 
-pub stands_rolled_back : (key : List ℕ) (low ts : ℕ) (ws : List Written) (rs : List Answered) (vs : List Version) (i : ℕ) (d : Version) → i < length vs → IsChain vs → IsOpen ts ws → (get_or vs i d).timestamp ≡ ts → (get_or vs i d).pending ≡ true → StandsFor key low ws rs vs → StandsFor key low (decided ts RolledBack ws) rs (remove vs i)
-stands_rolled_back key low ts ws rs vs i d lt c open_ e p s =
+pub stands_rolled_back : (key : List ℕ) (low ts : ℕ) (ws : List Written) (rs : List Answered) (vs : List Version) (i : ℕ) (d : Version) → i < length vs → IsChain vs → IsUndecided ts ws → (get_or vs i d).timestamp ≡ ts → (get_or vs i d).pending ≡ true → StandsFor key low ws rs vs → StandsFor key low (decided ts RolledBack ws) rs (remove vs i)
+stands_rolled_back key low ts ws rs vs i d lt c all_undecided e p s =
     record {
-      seen = λ gone t le. shows_removed gone t ts i vs d lt c e p ∙ (s.seen (and_gone ts gone) t le ∙ sym (seen_rolled_back (λ k. bytes_eq key k) gone t ts ws open_));
+      seen = λ gone t le. shows_removed gone t ts i vs d lt c e p ∙ (s.seen (and_gone ts gone) t le ∙ sym (seen_rolled_back (λ k. bytes_eq key k) gone t ts ws all_undecided));
       own = λ gone t g o.
-          let k = still_open key t ts RolledBack ws o in
-          shows_removed gone t ts i vs d lt c e p ∙ (s.own (and_gone ts gone) t (rw (k.0, g) refl) k.1 ∙ sym (seen_rolled_back (λ k. bytes_eq key k) gone t ts ws open_));
+          let k = still_undecided key t ts RolledBack ws o in
+          shows_removed gone t ts i vs d lt c e p ∙ (s.own (and_gone ts gone) t (rw (k.0, g) refl) k.1 ∙ sym (seen_rolled_back (λ k. bytes_eq key k) gone t ts ws all_undecided));
       late = λ t le. marked_removed t i vs d lt (own_mark i vs d lt c p) ∙ s.late t le;
       based = base_removed low i vs d lt p s.based;
     }
@@ -129,28 +129,28 @@ untouched_cleared gone t ts (v ∷ vs) none = at ((stands gone v.timestamp (as_w
     at false rest = rest
 
 -- a branch that has no pending version here: its fate changes nothing
-pub stands_untouched : (key : List ℕ) (low ts : ℕ) (fate : Fate) (ws : List Written) (rs : List Answered) (vs : List Version) → Each (λ v. v.timestamp ≡ ts → v.pending ≡ false) vs → StandsFor key low ws rs vs → IsOpen ts ws → StandsFor key low (decided ts fate ws) rs vs
-stands_untouched key low ts Committed ws rs vs none s open_ =
+pub stands_untouched : (key : List ℕ) (low ts : ℕ) (fate : Fate) (ws : List Written) (rs : List Answered) (vs : List Version) → Each (λ v. v.timestamp ≡ ts → v.pending ≡ false) vs → StandsFor key low ws rs vs → IsUndecided ts ws → StandsFor key low (decided ts fate ws) rs vs
+stands_untouched key low ts Committed ws rs vs none s all_undecided =
     record {
       seen = λ gone t le.
           sym (untouched_cleared gone t ts vs none)
-          ∙ (ap (cleared ts) (untouched_alike gone (but_not ts gone) t ts vs (λ x e. rw e refl) none ∙ s.seen (but_not ts gone) t le) ∙ sym (seen_committed (λ k. bytes_eq key k) gone t ts ws open_));
+          ∙ (ap (cleared ts) (untouched_alike gone (but_not ts gone) t ts vs (λ x e. rw e refl) none ∙ s.seen (but_not ts gone) t le) ∙ sym (seen_committed (λ k. bytes_eq key k) gone t ts ws all_undecided));
       own = λ gone t g o.
-          let k = still_open key t ts Committed ws o in
+          let k = still_undecided key t ts Committed ws o in
           sym (untouched_cleared gone t ts vs none)
-          ∙ (ap (cleared ts) (untouched_alike gone (but_not ts gone) t ts vs (λ x e. rw e refl) none ∙ s.own (but_not ts gone) t (rw (k.0, g) refl) k.1) ∙ sym (seen_committed (λ k. bytes_eq key k) gone t ts ws open_));
+          ∙ (ap (cleared ts) (untouched_alike gone (but_not ts gone) t ts vs (λ x e. rw e refl) none ∙ s.own (but_not ts gone) t (rw (k.0, g) refl) k.1) ∙ sym (seen_committed (λ k. bytes_eq key k) gone t ts ws all_undecided));
       late = s.late;
       based = s.based;
     }
-stands_untouched key low ts RolledBack ws rs vs none s open_ =
+stands_untouched key low ts RolledBack ws rs vs none s all_undecided =
     record {
       seen = λ gone t le.
           untouched_alike gone (and_gone ts gone) t ts vs (λ x e. rw e refl) none
-          ∙ (s.seen (and_gone ts gone) t le ∙ sym (seen_rolled_back (λ k. bytes_eq key k) gone t ts ws open_));
+          ∙ (s.seen (and_gone ts gone) t le ∙ sym (seen_rolled_back (λ k. bytes_eq key k) gone t ts ws all_undecided));
       own = λ gone t g o.
-          let k = still_open key t ts RolledBack ws o in
+          let k = still_undecided key t ts RolledBack ws o in
           untouched_alike gone (and_gone ts gone) t ts vs (λ x e. rw e refl) none
-          ∙ (s.own (and_gone ts gone) t (rw (k.0, g) refl) k.1 ∙ sym (seen_rolled_back (λ k. bytes_eq key k) gone t ts ws open_));
+          ∙ (s.own (and_gone ts gone) t (rw (k.0, g) refl) k.1 ∙ sym (seen_rolled_back (λ k. bytes_eq key k) gone t ts ws all_undecided));
       late = s.late;
       based = s.based;
     }
@@ -159,7 +159,7 @@ stands_untouched key low ts RolledBack ws rs vs none s open_ =
 pub stands_free : (key : List ℕ) (low ts : ℕ) (ws : List Written) (rs : List Answered) (vs : List Version) → IsChain vs → StandsFor key low ws rs vs → IsUnsettled ts low ws → is_late key ts rs ≡ false → may_install ts vs ≡ true
 stands_free key low ts ws rs vs c s u l = rw (s.late ts u.above, l) (at (list_any (λ v. (v.timestamp == ts) && not v.pending) vs) refl)
   where
-    above : (v : Version) (xs : List Version) → v.timestamp ≡ ts → Each (IsBefore v) xs → IsPlace ts zero xs
+    above : (v : Version) (xs : List Version) → v.timestamp ≡ ts → Each (IsBefore v) xs → IsIndex ts zero xs
     above v [] e h = tt
     above v (x ∷ xs) e h = (omega (arith, h.0.0, e), above v xs e h.1)
 
@@ -190,7 +190,7 @@ stands_free key low ts ws rs vs c s u l = rw (s.late ts u.above, l) (at (list_an
     at true e =
         let here = decided_here vs c e in
         let same : shows ts vs ≡ seen key ts ws = s.seen nobody ts u.above in
-        let own = open_seen key ts ws u.open_ (seen_open key ts ws u.positive u.open_ (sym (ap (λ r. r.from) same) ∙ here.0)) in
+        let own = undecided_seen key ts ws u.all_undecided (seen_undecided key ts ws u.positive u.all_undecided (sym (ap (λ r. r.from) same) ∙ here.0)) in
         absurd (cc (here.1, same, own.1))
 
 -- a key that nobody wrote or read

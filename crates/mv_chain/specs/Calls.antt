@@ -6,8 +6,8 @@ use Rattle.mv_chain.specs.declared.version.Version.{Version}
 use Rattle.mv_chain.specs.declared.look.Look.{Look}
 use Rattle.mv_chain.specs.declared.pool.Pool.{Pool}
 use Rattle.mv_chain.specs.declared.chain.Chain.{Chain}
-use Rattle.mv_chain.specs.History.{Written, Answered, Seen, wrote, read_by, seen, is_busy, is_late, decided}
-use Rattle.mv_chain.specs.History.{AreWhole, IsOpen, IsUnsettled}
+use Rattle.mv_chain.specs.Accesses.{Written, Answered, Seen, wrote, read_by, seen, is_busy, is_late, decided}
+use Rattle.mv_chain.specs.Accesses.{AreWhole, IsUndecided, IsUnsettled}
 use Rattle.mv_chain.specs.Chain.{StandsFor, shows}
 use Rattle.mv_chain.specs.Look.{looked}
 use Rattle.mv_chain.specs.Pool.{shown_at, IsKeptAt, versions_of, IsKept}
@@ -79,7 +79,7 @@ abbrev pub Decides : ℕ → Fate → Pool → Chain → Pool → Chain → Type
 Decides t fate old mine new left =
     (key : List ℕ) (low : ℕ) (writes : List Written) (reads : List Answered)
     → IsKept old mine → StandsFor key low writes reads (versions_of old mine)
-    → IsOpen t writes → StandsFor key low (decided t fate writes) reads (versions_of new left)
+    → IsUndecided t writes → StandsFor key low (decided t fate writes) reads (versions_of new left)
 
 -- each history that the chain stood for goes on from the low water, where that is above its own
 abbrev pub Raises : ℕ → Pool → Chain → Pool → Chain → Type 0

@@ -5,7 +5,7 @@ use Rattle.std.specs.List.{list_any, AllByRecursion as Each}
 use Rattle.mv_chain.specs.declared.fate.Fate.{Fate}
 use Rattle.mv_chain.specs.declared.fate.Fate.TheVariants.{Committed, RolledBack}
 use Rattle.mv_chain.specs.declared.version.Version.{Version}
-use Rattle.mv_chain.specs.History.{Written, Answered, Seen, seen_of, seen_without, nobody, is_late, has_open}
+use Rattle.mv_chain.specs.Accesses.{Written, Answered, Seen, seen_of, seen_without, nobody, is_late, has_undecided}
 
 -- what a key has that nobody wrote: a committed version at 0, absent
 abbrev pub base : Version
@@ -58,15 +58,15 @@ abbrev pub unread : ℕ → Option (List ℕ) → Version
 unread t value = record { timestamp = t; value = value; pending = true; mark = 0 }
 
 -- the version of timestamp t has this value; where there is none yet, it is put in its order
-abbrev pub placed : ℕ → Option (List ℕ) → List Version → List Version
-placed t value [] = unread t value ∷ []
-placed t value (v ∷ later) =
+abbrev pub with_version : ℕ → Option (List ℕ) → List Version → List Version
+with_version t value [] = unread t value ∷ []
+with_version t value (v ∷ later) =
     if nat_lt t v.timestamp then unread t value ∷ v ∷ later
     else if v.timestamp == t then record v { value = value } ∷ later
-    else v ∷ placed t value later
+    else v ∷ with_version t value later
 
 abbrev pub installed : ℕ → Option (List ℕ) → List Version → List Version
-installed t value versions = if may_install t versions then placed t value versions else versions
+installed t value versions = if may_install t versions then with_version t value versions else versions
 
 abbrev pub committing : ℕ → Version → Version
 committing t v = record v { pending = v.pending && not (v.timestamp == t) }
@@ -90,7 +90,7 @@ pruned low (v ∷ later) = if not v.pending && has_base low later then pruned lo
 pub record StandsFor (key : List ℕ) (low : ℕ) (writes : List Written) (reads : List Answered) (versions : List Version)
     : Type 0 where
   pub seen : (gone : ℕ → Bool) (t : ℕ) → low ≤ t → shows_without gone t versions ≡ seen_without gone key t writes
-  pub own : (gone : ℕ → Bool) (t : ℕ) → gone t ≡ false → has_open key t writes ≡ true
+  pub own : (gone : ℕ → Bool) (t : ℕ) → gone t ≡ false → has_undecided key t writes ≡ true
       → shows_without gone t versions ≡ seen_without gone key t writes
   pub late : (t : ℕ) → low ≤ t → is_marked t versions ≡ is_late key t reads
   pub based : has_base low versions ≡ true
@@ -106,8 +106,8 @@ IsChain [] = Unit {0}
 IsChain (v ∷ later) = Each (IsBefore v) later × (v.pending ≡ true → v.mark ≤ v.timestamp) × IsChain later
 
 -- the first i versions have a timestamp of at most t, and the others a greater one
-abbrev pub IsPlace : ℕ → ℕ → List Version → Type 0
-IsPlace t zero [] = Unit {0}
-IsPlace t (suc i) [] = ⊥
-IsPlace t zero (v ∷ later) = (t < v.timestamp) × IsPlace t zero later
-IsPlace t (suc i) (v ∷ later) = (v.timestamp ≤ t) × IsPlace t i later
+abbrev pub IsIndex : ℕ → ℕ → List Version → Type 0
+IsIndex t zero [] = Unit {0}
+IsIndex t (suc i) [] = ⊥
+IsIndex t zero (v ∷ later) = (t < v.timestamp) × IsIndex t zero later
+IsIndex t (suc i) (v ∷ later) = (v.timestamp ≤ t) × IsIndex t i later

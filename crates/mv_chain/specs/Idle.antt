@@ -1,7 +1,7 @@
 -- A key that was only read, and whose reads lie below the low water.
 use Rattle.std.specs.Prelude.{◌≡◌, ℕ, ◌≤◌, Bool, true, false, ◌&&◌, not, ◌==◌, nat_le, List, [], ◌∷◌, is_some}
 use Rattle.mv_chain.specs.declared.version.Version.{Version}
-use Rattle.mv_chain.specs.History.{Written, Answered}
+use Rattle.mv_chain.specs.Accesses.{Written, Answered}
 use Rattle.mv_chain.specs.Chain.{StandsFor, fresh}
 
 -- the version at 0, committed and absent, with a mark of at most low

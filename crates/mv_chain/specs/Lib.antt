@@ -1,4 +1,4 @@
-pub mod History
+pub mod Accesses
 pub mod Chain
 pub mod Rows
 pub mod Look
@@ -6,5 +6,5 @@ pub mod Idle
 pub mod Pool
 pub mod Calls
 pub mod Slots
-pub mod Slot
+pub mod Target
 pub mod Within

@@ -1,7 +1,7 @@
 -- Worked rows: what is seen and what is late. Three branches begin in the first boot; the key is `k`.
 use Rattle.std.specs.Prelude.{◌≡◌, ℕ, true, false, List, [], ◌∷◌, None, Some}
 use Rattle.mv_chain.specs.declared.fate.Fate.TheVariants.{Committed, RolledBack}
-use Rattle.mv_chain.specs.History.{Written, Seen, wrote, read_by, seen, is_busy, is_late, decided, absent}
+use Rattle.mv_chain.specs.Accesses.{Written, Seen, wrote, read_by, seen, is_busy, is_late, decided, absent}
 
 abbrev pub key : List ℕ
 key = 0x6b ∷ []

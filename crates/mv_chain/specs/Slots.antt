@@ -7,12 +7,12 @@ use Rattle.mv_chain.specs.declared.pool.Pool.{Pool}
 use Rattle.mv_chain.specs.Chain.{base}
 use Rattle.mv_chain.specs.Pool.{at}
 
--- the version stands at a slot that had none, and the slot at this place of the chain
+-- the version stands at a slot that had none, and the slot at this index of the chain
 abbrev pub IsPutIn : ℕ → Version → Pool → List ℕ → Pool → List ℕ → Type 0
 IsPutIn i version old slots new left =
     (slot : ℕ) × (left ≡ insert slots i slot) × (at old slot ≡ None) × Updates old.slab new.slab slot (Some version)
 
--- the version at this place is committed
+-- the version at this index is committed
 abbrev pub is_committed_at : ℕ → List Version → Bool
 is_committed_at k versions = not (slice_index_or versions k base).pending
 

@@ -4,13 +4,13 @@ ghost use Rattle.mv_chain.specs.Look.{looked};
 
 use crate::changes::{install_in, mark_in, settle_in};
 use crate::fate::Fate;
+use crate::finding::look_in;
 use crate::found::Found;
 use crate::look::Look;
-use crate::places::look_in;
 use crate::pool::Pool;
 use crate::pruning::{clear_in, prune_in};
 use crate::slots::{is_idle_at, put_in, value_at};
-use crate::version::{Version, content_of};
+use crate::version::{Version, value_bytes};
 use std::alloc::AllocError;
 
 /// The versions of one key, ascending by timestamp, each with one read mark. They stand in the pool that the chain was
@@ -135,7 +135,7 @@ impl Chain {
 
     /// Adds a branch's write at the timestamp that was looked at, or replaces its own: `None` deletes the key.
     /// Where the write is late, or its branch has committed, nothing changes. A write below other versions moves
-    /// their places.
+    /// their indices.
     ///
     /// # Errors
     /// Want of memory, and nothing changes.
@@ -154,11 +154,11 @@ impl Chain {
         ensures count { IsKept pool.old self.old → Counts pool.old self.old pool.new self.new }
         ensures within { (n : ℕ) → IsWithin n pool.old → IsShort n (bytes_of value) → IsWithin n pool.new }
     {
-        install_in(pool, &mut self.slots, look, content_of(value))
+        install_in(pool, &mut self.slots, look, value_bytes(value))
     }
 
     /// Adds a branch's write, or replaces its own: `None` deletes the key. Where the write is late, or its
-    /// branch has committed, nothing changes. A write below other versions moves their places.
+    /// branch has committed, nothing changes. A write below other versions moves their indices.
     ///
     /// # Errors
     /// Want of memory, and nothing changes.
@@ -214,7 +214,7 @@ impl Chain {
         self.slots.len() == 1 && is_idle_at(pool, self.slots[0], low)
     }
 
-    /// Takes all versions out, and gives their places back to the pool. Takes no memory.
+    /// Takes all versions out, and gives their slots back to the pool. Takes no memory.
     pub fn clear(&mut self, pool: &mut Pool)
         ensures versions { versions_of pool.new self.new ≡ [] }
         ensures others { LeavesOthers pool.old self.old pool.new self.new }

@@ -1,19 +1,19 @@
 ghost use Rattle.std.specs.Prelude.{◌≡◌, ℕ, ◌<◌, ◌≤◌, List, length, IfSome, OnOk, OnErr};
 ghost use Rattle.mv_chain.specs.declared.version.Version.{Version};
-ghost use Rattle.mv_chain.specs.declared.changes.Slot.{Slot};
+ghost use Rattle.mv_chain.specs.declared.changes.Target.{Target};
 ghost use Rattle.mv_chain.specs.Calls.{IfLookedAt, LeavesAt, LeavesLookedAt};
 ghost use Rattle.mv_chain.specs.Chain.{IsChain, marked_at, installed, settled};
 ghost use Rattle.mv_chain.specs.Look.{looked};
 ghost use Rattle.mv_chain.specs.Pool.{shown_at, IsKeptAt, CountsAt, LeavesOthersAt};
-ghost use Rattle.mv_chain.specs.Slot.{IsOwnPlace, IsSlot};
+ghost use Rattle.mv_chain.specs.Target.{IsOwnIndex, IsTarget};
 ghost use Rattle.mv_chain.specs.Within.{IsShort, IsWithin, KeepsWithin};
 
 use crate::fate::Fate;
+use crate::finding::look_in;
 use crate::look::Look;
-use crate::places::look_in;
 use crate::pool::Pool;
 use crate::slots::{commit, put_in, raise, replace, take_out};
-use crate::version::{Content, Version};
+use crate::version::{ValueBytes, Version};
 use std::alloc::AllocError;
 
 /// Notes an answered read, where its source was looked for.
@@ -31,7 +31,7 @@ pub(crate) fn mark_in(pool: &mut Pool, slots: &[usize], look: &Look)
 
 /// Where a write at a timestamp goes.
 #[derive(Clone, Copy)]
-enum Slot {
+enum Target {
     /// Nowhere: it is late, or its branch has committed.
     Refused,
     /// To the branch's own version, which stands there.
@@ -41,11 +41,11 @@ enum Slot {
 }
 
 /// Where a write goes, among so many versions.
-fn slot_of(look: &Look, versions: usize) -> Slot
+fn target_of(look: &Look, versions: usize) -> Target
     ensures slot { (ts : ℕ) (shown : List Version) → IsChain shown → versions ≡ length shown
-        → look.now ≡ looked ts shown → IsSlot ts shown result }
-    ensures own { (i : ℕ) → result ≡ Slot.Own i → i < versions }
-    ensures new { (i : ℕ) → result ≡ Slot.New i → i ≤ versions }
+        → look.now ≡ looked ts shown → IsTarget ts shown result }
+    ensures own { (i : ℕ) → result ≡ Target.Own i → i < versions }
+    ensures new { (i : ℕ) → result ≡ Target.New i → i ≤ versions }
 {
     let Look {
         at,
@@ -55,24 +55,24 @@ fn slot_of(look: &Look, versions: usize) -> Slot
         count,
     } = *look;
     if late || count > versions {
-        return Slot::Refused;
+        return Target::Refused;
     }
     if count == 0 || from != at {
-        return Slot::New(count);
+        return Target::New(count);
     }
     if pending {
-        Slot::Own(count - 1)
+        Target::Own(count - 1)
     } else {
-        Slot::Refused
+        Target::Refused
     }
 }
 
-/// Adds a write, or replaces the branch's own, where its place was looked for.
+/// Adds a write, or replaces the branch's own, where its index was looked for.
 pub(crate) fn install_in(
     pool: &mut Pool,
     slots: &mut Vec<usize>,
     look: &Look,
-    value: Option<Content>,
+    value: Option<ValueBytes>,
 ) -> Result<(), AllocError>
     ensures versions { OnOk result
         (LeavesLookedAt (λ ts. installed ts value) look.now pool.old slots.old.items pool.new slots.new.items) }
@@ -82,13 +82,13 @@ pub(crate) fn install_in(
     ensures count { CountsAt pool.old slots.old.items pool.new slots.new.items }
     ensures within { (n : ℕ) → IsWithin n pool.old → IsShort n value → IsWithin n pool.new }
 {
-    match slot_of(look, slots.len()) {
-        Slot::Refused => Ok(()),
-        Slot::Own(i) => {
+    match target_of(look, slots.len()) {
+        Target::Refused => Ok(()),
+        Target::Own(i) => {
             replace(pool, slots[i], value);
             Ok(())
         }
-        Slot::New(i) => {
+        Target::New(i) => {
             let version = Version {
                 timestamp: look.at,
                 value,
@@ -101,8 +101,8 @@ pub(crate) fn install_in(
 }
 
 /// The pending version of this timestamp.
-fn own_place(pool: &Pool, slots: &[usize], ts: u64) -> Option<usize>
-    ensures found { IsChain (shown_at pool.now slots.now) → IsOwnPlace ts (shown_at pool.now slots.now) result }
+fn own_index(pool: &Pool, slots: &[usize], ts: u64) -> Option<usize>
+    ensures found { IsChain (shown_at pool.now slots.now) → IsOwnIndex ts (shown_at pool.now slots.now) result }
     ensures within { IfSome result (λ i. i < length slots.now) }
 {
     let look = look_in(pool, slots, ts);
@@ -120,7 +120,7 @@ pub(crate) fn settle_in(pool: &mut Pool, slots: &mut Vec<usize>, ts: u64, fate: 
     ensures count { IsKeptAt pool.old slots.old.items → CountsAt pool.old slots.old.items pool.new slots.new.items }
     ensures within { KeepsWithin pool.old pool.new }
 {
-    let Some(i) = own_place(pool, slots, ts) else {
+    let Some(i) = own_index(pool, slots, ts) else {
         return;
     };
     match fate {

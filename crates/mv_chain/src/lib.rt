@@ -15,24 +15,24 @@
 //!
 //! - `chain`: `Chain`, with every call on it
 //! - `look`: `Look`, what a search found; `found`: `Found`, the source of a read; `fate`: `Fate`, how a branch ended
-//! - `pool`: `Pool`; `version`: `Version`, what one branch left at a key, and `Content`, its bytes
-//! - `places`: the search; `changes`: how a read is marked, a write installed and settled; `pruning`: how versions are
-//!   dropped; `slots`: the one version at a place of the pool
+//! - `pool`: `Pool`; `version`: `Version`, what one branch left at a key, and `ValueBytes`, its bytes
+//! - `finding`: the search; `changes`: how a read is marked, a write installed and settled; `pruning`: how versions are
+//!   dropped; `slots`: the one version at a slot of the pool
 //! - `laws`: `others_stay`, that other chains stay; `idle_stands`, when a key may be forgotten; `worked_histories`,
 //!   worked rows
 //!
-//! The definitions, in an order to read: `History`, what a read sees and when a write is late; `Chain`, the versions,
+//! The definitions, in an order to read: `Accesses`, what a read sees and when a write is late; `Chain`, the versions,
 //! what changes them and `StandsFor`; `Look`; `Pool`; `Calls`, what a call leaves; `Idle`, `Within`; `Rows`, worked
-//! rows. `Slot` and `Slots` are of the private steps.
+//! rows. `Target` and `Slots` are of the private steps.
 #![tactic(auto)]
 
 mod chain;
 mod changes;
 mod fate;
+mod finding;
 mod found;
 mod laws;
 mod look;
-mod places;
 mod pool;
 mod pruning;
 mod slots;
@@ -44,4 +44,4 @@ pub use found::Found;
 pub use laws::{idle_stands, others_stay, worked_histories};
 pub use look::Look;
 pub use pool::Pool;
-pub use version::{Content, Version};
+pub use version::{ValueBytes, Version};

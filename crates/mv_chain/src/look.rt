@@ -18,7 +18,7 @@ pub struct Look {
 }
 
 impl Look {
-    /// The place of the version that a read sees, among so many versions.
+    /// The index of the version that a read sees, among so many versions.
     pub(crate) fn last(&self, versions: usize) -> Option<usize>
         ensures { MatchOption result ((self.now.count ≡ 0) ⊎ (versions < self.now.count))
             (λ i. (self.now.count ≡ suc i) × (i < versions)) }

@@ -5,7 +5,7 @@ ghost use Rattle.mv_chain.specs.Pool.{shown_at, IsHeld, IsKeptAt, CountsAt, Leav
 ghost use Rattle.mv_chain.specs.Slots.{is_committed_at, pruned_at};
 ghost use Rattle.mv_chain.specs.Within.{KeepsWithin};
 
-use crate::places::place;
+use crate::finding::find;
 use crate::pool::Pool;
 use crate::slots::{pending_at, take_out};
 
@@ -40,7 +40,7 @@ pub(crate) fn prune_in(pool: &mut Pool, slots: &mut Vec<usize>, low: u64)
     ensures count { IsHeld pool.old slots.old.items → CountsAt pool.old slots.old.items pool.new slots.new.items }
     ensures within { KeepsWithin pool.old pool.new }
 {
-    let mut left = place(pool, slots, low);
+    let mut left = find(pool, slots, low);
     let mut based = false;
     while left > 0 {
         left -= 1;

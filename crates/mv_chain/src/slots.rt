@@ -9,7 +9,7 @@ ghost use Rattle.mv_chain.specs.Pool.{at, version_at, ChangesAt};
 ghost use Rattle.mv_chain.specs.Slots.{IsPutIn};
 
 use crate::pool::Pool;
-use crate::version::{Content, Version};
+use crate::version::{ValueBytes, Version};
 use std::alloc::AllocError;
 
 /// The timestamp of the version at a slot.
@@ -82,7 +82,7 @@ pub(crate) fn raise(pool: &mut Pool, slot: usize, from: u64, reader: u64)
 }
 
 /// Replaces the value of a version.
-pub(crate) fn replace(pool: &mut Pool, slot: usize, value: Option<Content>)
+pub(crate) fn replace(pool: &mut Pool, slot: usize, value: Option<ValueBytes>)
     ensures { ChangesAt (λ (v : Version). record v { value = value }) slot pool.old pool.new }
 {
     if let Some(version) = pool.slab.get_mut(slot) {
@@ -99,7 +99,7 @@ pub(crate) fn commit(pool: &mut Pool, slot: usize)
     }
 }
 
-/// Puts a version in at a place of the chain.
+/// Puts a version in at an index of the chain.
 pub(crate) fn put_in(
     pool: &mut Pool,
     slots: &mut Vec<usize>,

@@ -4,11 +4,11 @@ use std::marker::Model;
 
 /// The bytes of a value, which contracts see as a list.
 #[derive(Debug, Drop)]
-pub struct Content {
+pub struct ValueBytes {
     bytes: Vec<u8>,
 }
 
-impl Model for Content {
+impl Model for ValueBytes {
     ghost use Rattle.std.specs.Prelude.{List, ℕ};
 
     ghost Value = { List ℕ };
@@ -16,7 +16,7 @@ impl Model for Content {
     ghost view = { λ c. c.bytes.items };
 }
 
-impl Content {
+impl ValueBytes {
     pub(crate) fn as_slice(&self) -> &[u8]
         ensures { result.now ≡ self.now }
     {
@@ -25,11 +25,11 @@ impl Content {
 }
 
 /// The bytes of a value, or of none where the key is absent.
-pub(crate) fn content_of(value: Option<Vec<u8>>) -> Option<Content>
+pub(crate) fn value_bytes(value: Option<Vec<u8>>) -> Option<ValueBytes>
     ensures { result ≡ option_map (λ v. v.items) value }
 {
     match value {
-        Some(bytes) => Some(Content { bytes }),
+        Some(bytes) => Some(ValueBytes { bytes }),
         None => None,
     }
 }
@@ -40,7 +40,7 @@ pub struct Version {
     /// The branch's timestamp.
     pub timestamp: u64,
     /// What the key has, or `None` where the branch deleted it.
-    pub value: Option<Content>,
+    pub value: Option<ValueBytes>,
     /// Whether the branch is still undecided.
     pub pending: bool,
     /// The greatest timestamp that has read this version, or 0.

@@ -5,14 +5,14 @@ use Rattle.std.proofs.lemmas.Bool.Decides.{nat_tests}
 use Rattle.std.proofs.lemmas.List.{map-append}
 use Rattle.mv_chain.specs.declared.fate.Fate.{Fate}
 use Rattle.mv_chain.specs.declared.fate.Fate.TheVariants.{Committed as kept, RolledBack as gone}
-use Rattle.mv_chain.specs.History.{Written, deciding, decided}
+use Rattle.mv_chain.specs.Accesses.{Written, deciding, decided}
 use Rattle.xa_xid.specs.Triple.{Triple}
 use Rattle.xa_model.specs.State.{Branch, Operation, Got, Wrote, is_known_as, known_of, change, without}
 use Rattle.xa_model.specs.Branches.{as_committed}
 use Rattle.xa_model.specs.Records.{having_done}
 use Rattle.xa_model.specs.Sound.{Descends}
 use Rattle.xa_model.proofs.Times.{known_below}
-use Rattle.mv_rules.specs.History.{wrote}
+use Rattle.mv_rules.specs.Accesses.{wrote}
 use Rattle.mv_rules.specs.Ties.{fate_of, writes_by, writes_one, writes_in}
 use Rattle.mv_rules.proofs.Moved.{IsSameWrites, same_itself, same_then, same_after, same_past, same_without}
 

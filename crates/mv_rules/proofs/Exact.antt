@@ -10,14 +10,14 @@ use Rattle.std.proofs.lemmas.Slice.Eq.{bytes_eq-Decides}
 use Rattle.xa_codes.specs.declared.write.Write.{Write}
 use Rattle.mv_chain.specs.declared.fate.Fate.{Fate}
 use Rattle.mv_chain.specs.declared.version.Version.{Version}
-use Rattle.mv_chain.specs.History.{decided, IsOpen, IsUnsettled}
+use Rattle.mv_chain.specs.Accesses.{decided, IsUndecided, IsUnsettled}
 use Rattle.mv_chain.specs.Chain.{fresh, shows, installed, settled}
 use Rattle.mv_rules.specs.declared.records.Records.{Records}
 use Rattle.mv_rules.specs.declared.own.Own.{Own}
 use Rattle.mv_rules.specs.declared.own.Notes.{Notes}
-use Rattle.mv_rules.specs.History.{History}
+use Rattle.mv_rules.specs.Accesses.{Accesses}
 use Rattle.mv_rules.specs.Own.{own_in, decided_in, read_in, is_listed}
-use Rattle.mv_rules.specs.Records.{StandsFor, place_of, chain_at, own_of}
+use Rattle.mv_rules.specs.Records.{StandsFor, index_of, chain_at, own_of}
 use Rattle.mv_rules.specs.Steps.{SettlesListed}
 use Rattle.mv_rules.specs.Tidy.{kept_of, names}
 use Rattle.mv_rules.specs.Noted.{NotesAt, or_fresh, read_by, NotesRead, Reads, Puts, PutsAll, Settles}
@@ -25,33 +25,33 @@ use Rattle.mv_rules.proofs.Tidied.{same_key, absent_kept}
 use Rattle.mv_rules.proofs.Settled.{stands_settled}
 use Rattle.mv_rules.proofs.Written.{finds}
 
--- a key is named in the branch's list where its place is listed
-listed_names : (r : Records) (q : List ℕ) (i : ℕ) (own : List Own) → place_of q r ≡ Some i → ((a b : List ℕ) (j : ℕ) → place_of a r ≡ Some j → place_of b r ≡ Some j → a ≡ b) → Each (λ o. place_of o.key r ≡ Some o.place) own → names q own ≡ is_listed i own
+-- a key is named in the branch's list where its index is listed
+listed_names : (r : Records) (q : List ℕ) (i : ℕ) (own : List Own) → index_of q r ≡ Some i → ((a b : List ℕ) (j : ℕ) → index_of a r ≡ Some j → index_of b r ≡ Some j → a ≡ b) → Each (λ o. index_of o.key r ≡ Some o.index) own → names q own ≡ is_listed i own
 listed_names r q i [] here apart named = refl
-listed_names r q i (o ∷ own) here apart named = one (bytes_eq q o.key) refl (i == o.place) refl (listed_names r q i own here apart named.1)
+listed_names r q i (o ∷ own) here apart named = one (bytes_eq q o.key) refl (i == o.index) refl (listed_names r q i own here apart named.1)
   where
-    one : (x : Bool) → bytes_eq q o.key ≡ x → (y : Bool) → (i == o.place) ≡ y → names q own ≡ is_listed i own → (x || names q own) ≡ (y || is_listed i own)
+    one : (x : Bool) → bytes_eq q o.key ≡ x → (y : Bool) → (i == o.index) ≡ y → names q own ≡ is_listed i own → (x || names q own) ≡ (y || is_listed i own)
     one true e true f rest = refl
     one false e false f rest = rest
     one true e false f rest =
-        let same : Some i ≡ Some o.place = sym here ∙ (ap (λ k. place_of k r) (same_key q o.key e) ∙ named.0) in
-        let is : i ≡ o.place = cc same in
+        let same : Some i ≡ Some o.index = sym here ∙ (ap (λ k. index_of k r) (same_key q o.key e) ∙ named.0) in
+        let is : i ≡ o.index = cc same in
         absurd (grind (arith, nat_tests, f, is))
     one false e true f rest =
-        let is : i ≡ o.place = grind (arith, nat_tests, f) in
+        let is : i ≡ o.index = grind (arith, nat_tests, f) in
         let same : q ≡ o.key = apart q o.key i here (named.0 ∙ ap Some (sym is)) in
         let hit : bytes_eq q o.key ≡ true = (bytes_eq-Decides q o.key).1 same in
         absurd (cc (hit, e))
 
 -- what is kept of each key once the branch's keys are settled
-pub kept_settled : (h : History) (r r2 : Records) (ts : ℕ) (fate : Fate) → ((q : List ℕ) → place_of q r2 ≡ place_of q r) → SettlesListed ts fate (own_of ts r) r.pool r.chains r2.pool r2.chains → StandsFor h r
+pub kept_settled : (h : Accesses) (r r2 : Records) (ts : ℕ) (fate : Fate) → ((q : List ℕ) → index_of q r2 ≡ index_of q r) → SettlesListed ts fate (own_of ts r) r.pool r.chains r2.pool r2.chains → StandsFor h r
     → (q : List ℕ) → kept_of q r2 ≡ (if names q (own_of ts r) then option_map (settled ts fate) (kept_of q r) else kept_of q r)
-kept_settled h r r2 ts fate places settles s q = ap (λ o. kept_at o r2) (places q) ∙ at (place_of q r) refl
+kept_settled h r r2 ts fate indices settles s q = ap (λ o. kept_at o r2) (indices q) ∙ at (index_of q r) refl
   where
     kept_at : Option ℕ → Records → Option (List Version)
     kept_at o x = option_map (λ i. chain_at i x) o
 
-    at : (o : Option ℕ) → place_of q r ≡ o → kept_at o r2 ≡ (if names q (own_of ts r) then option_map (settled ts fate) (kept_at o r) else kept_at o r)
+    at : (o : Option ℕ) → index_of q r ≡ o → kept_at o r2 ≡ (if names q (own_of ts r) then option_map (settled ts fate) (kept_at o r) else kept_at o r)
     at None e = none (names q (own_of ts r))
       where
         none : (x : Bool) → None ≡ (if x then option_map (settled ts fate) None else None)
@@ -64,7 +64,7 @@ kept_settled h r r2 ts fate places settles s q = ap (λ o. kept_at o r2) (places
         there false l = ap Some (settles.others i l)
 
 -- a branch that has written nothing
-pub nothing_settled : (h : History) (r : Records) (ts : ℕ) (fate : Fate) → own_of ts r ≡ [] → IsOpen ts h.writes → StandsFor h r → StandsFor (record h { writes = decided ts fate h.writes }) r
+pub nothing_settled : (h : Accesses) (r : Records) (ts : ℕ) (fate : Fate) → own_of ts r ≡ [] → IsUndecided ts h.writes → StandsFor h r → StandsFor (record h { writes = decided ts fate h.writes }) r
 nothing_settled h r ts fate none u s = stands_settled h r r ts fate u (λ q. refl) done (λ t. at t (t == ts) refl) s
   where
     done : SettlesListed ts fate (own_of ts r) r.pool r.chains r.pool r.chains
@@ -133,7 +133,7 @@ module _ (key : List ℕ) (r made : Records) (none : kept_of key r ≡ None) (be
   puts_made ts value r2 same puts = record {
     kept = kept_made (installed ts value) r2 puts.kept;
     again = subst (λ (n : BTreeMap ℕ Notes). names key (own_in ts n) ≡ true → r2.notes ≡ n) same puts.again;
-    first = subst (λ (n : BTreeMap ℕ Notes). names key (own_in ts n) ≡ false → (i : ℕ) × (place_of key r2 ≡ Some i) × NotesAt ts (own_in ts n ++ (record { key = key; place = i }) ∷ []) (decided_in ts n) (read_in ts n) n r2.notes) same puts.first;
+    first = subst (λ (n : BTreeMap ℕ Notes). names key (own_in ts n) ≡ false → (i : ℕ) × (index_of key r2 ≡ Some i) × NotesAt ts (own_in ts n ++ (record { key = key; index = i }) ∷ []) (decided_in ts n) (read_in ts n) n r2.notes) same puts.first;
   }
 
 -- an answered read
@@ -145,7 +145,7 @@ reads_there ts key r r2 versions here is notes = record {
 }
 
 -- an accepted write
-module _ (h : History) (r r2 : Records) (key : List ℕ) (i ts : ℕ) (vs : List Version) (value : Option (List ℕ)) (u : IsUnsettled ts h.low h.writes) (s : StandsFor h r) (here : place_of key r ≡ Some i) (at : vs ≡ chain_at i r)
+module _ (h : Accesses) (r r2 : Records) (key : List ℕ) (i ts : ℕ) (vs : List Version) (value : Option (List ℕ)) (u : IsUnsettled ts h.low h.writes) (s : StandsFor h r) (here : index_of key r ≡ Some i) (at : vs ≡ chain_at i r)
     (is : (q : List ℕ) → kept_of q r2 ≡ (if bytes_eq q key then option_map (installed ts value) (kept_of q r) else kept_of q r)) where
   named : names key (own_of ts r) ≡ ((shows ts vs).from == ts)
   named =
@@ -162,20 +162,20 @@ module _ (h : History) (r r2 : Records) (key : List ℕ) (i ts : ℕ) (vs : List
     first = λ no. absurd (cc (no, named, own));
   }
 
-  pub puts_first : ((shows ts vs).from == ts) ≡ false → place_of key r2 ≡ place_of key r
-      → NotesAt ts (own_of ts r ++ (record { key = key; place = i }) ∷ []) (decided_in ts r.notes) (read_in ts r.notes) r.notes r2.notes → Puts ts key value r r2
-  puts_first other placed notes = record {
+  pub puts_first : ((shows ts vs).from == ts) ≡ false → index_of key r2 ≡ index_of key r
+      → NotesAt ts (own_of ts r ++ (record { key = key; index = i }) ∷ []) (decided_in ts r.notes) (read_in ts r.notes) r.notes r2.notes → Puts ts key value r r2
+  puts_first other indexed notes = record {
     kept = kept;
     again = λ written. absurd (cc (written, named, other));
-    first = λ _. (i, placed ∙ here, notes);
+    first = λ _. (i, indexed ∙ here, notes);
   }
 
 -- where the chain was made if there was none
-pub puts_placed : (key : List ℕ) (r made r2 : Records) (ts : ℕ) (value : Option (List ℕ)) → (IsSome (place_of key r) → made ≡ r) → (place_of key r ≡ None → (q : List ℕ) → kept_of q made ≡ (if bytes_eq q key then Some fresh else kept_of q r)) → made.notes ≡ r.notes
+pub puts_indexed : (key : List ℕ) (r made r2 : Records) (ts : ℕ) (value : Option (List ℕ)) → (IsSome (index_of key r) → made ≡ r) → (index_of key r ≡ None → (q : List ℕ) → kept_of q made ≡ (if bytes_eq q key then Some fresh else kept_of q r)) → made.notes ≡ r.notes
     → Puts ts key value made r2 → Puts ts key value r r2
-puts_placed key r made r2 ts value known begun same puts = at (place_of key r) refl
+puts_indexed key r made r2 ts value known begun same puts = at (index_of key r) refl
   where
-    at : (o : Option ℕ) → place_of key r ≡ o → Puts ts key value r r2
+    at : (o : Option ℕ) → index_of key r ≡ o → Puts ts key value r r2
     at None e = puts_made key r made (absent_kept r key e) (begun e) ts value r2 same puts
     at (Some i) e = subst (λ (x : Records). Puts ts key value x r2) (known (ap is_some e)) puts
 

@@ -10,18 +10,18 @@ use Rattle.std.proofs.lemmas.Map.Text.{is_eq-slice_cmp}
 use Rattle.std.proofs.lemmas.Bool.Decides.{nat_tests}
 use Rattle.std.proofs.lemmas.Slice.Eq.{bytes_eq-Decides}
 use Rattle.mv_chain.specs.declared.version.Version.{Version}
-use Rattle.mv_chain.specs.History.{Written, Answered, nobody, seen_of, has_open}
+use Rattle.mv_chain.specs.Accesses.{Written, Answered, nobody, seen_of, has_undecided}
 use Rattle.mv_chain.specs.Chain.{base, fresh, as_written, shows, shows_without, is_marked, StandsFor as ChainStandsFor}
 use Rattle.mv_chain.specs.Idle.{is_unused, is_idle}
-use Rattle.mv_chain.proofs.Seen.{open_seen}
+use Rattle.mv_chain.proofs.Seen.{undecided_seen}
 use Rattle.mv_rules.specs.declared.records.Records.{Records}
 use Rattle.mv_rules.specs.declared.own.Own.{Own}
-use Rattle.mv_rules.specs.History.{History, IsWholeAt}
+use Rattle.mv_rules.specs.Accesses.{Accesses, IsWholeAt}
 use Rattle.mv_rules.specs.Held.{Changes}
 use Rattle.mv_rules.specs.Own.{is_listed}
-use Rattle.mv_rules.specs.Records.{StandsFor, place_of, chain_at, chain_of_place, own_of}
+use Rattle.mv_rules.specs.Records.{StandsFor, index_of, chain_at, chain_of_index, own_of}
 use Rattle.mv_rules.proofs.Frames.{shown_elsewhere, held_changed}
-use Rattle.mv_rules.proofs.Places.{found_at, found_inserted}
+use Rattle.mv_rules.proofs.Indices.{found_at, found_inserted}
 
 -- what an idle chain shows
 
@@ -68,18 +68,18 @@ fresh_decided : (t : ℕ) → (shows t fresh).pending ≡ false
 fresh_decided t = grind (arith, nat_tests)
 
 -- no branch has an undecided write of an idle key
-none_open : (key : List ℕ) (low before : ℕ) (ws : List Written) (rs : List Answered) (vs : List Version) → is_idle low vs ≡ true → IsWholeAt key ws → ChainStandsFor key before ws rs vs → (t : ℕ) → has_open key t ws ≡ false
-none_open key low before ws rs vs e whole s t = at (has_open key t ws) refl
+none_undecided : (key : List ℕ) (low before : ℕ) (ws : List Written) (rs : List Answered) (vs : List Version) → is_idle low vs ≡ true → IsWholeAt key ws → ChainStandsFor key before ws rs vs → (t : ℕ) → has_undecided key t ws ≡ false
+none_undecided key low before ws rs vs e whole s t = at (has_undecided key t ws) refl
   where
-    at : (x : Bool) → has_open key t ws ≡ x → has_open key t ws ≡ false
+    at : (x : Bool) → has_undecided key t ws ≡ x → has_undecided key t ws ≡ false
     at false o = o
     at true o =
-        let pending = (open_seen key t ws (whole t o) o).1 in
+        let pending = (undecided_seen key t ws (whole t o) o).1 in
         let same = s.own nobody t refl o in
         let not_pending : (shows t fresh).pending ≡ true = ap (λ r. r.pending) (sym (shows_as_fresh low vs e nobody t) ∙ same) ∙ pending in
         absurd (cc (fresh_decided t, not_pending))
 
--- a key's place once a key is taken out
+-- a key's index once a key is taken out
 same_key : (a b : List ℕ) → bytes_eq a b ≡ true → a ≡ b
 same_key a b e = (bytes_eq-Decides a b).0 e
 
@@ -105,8 +105,8 @@ found_back q key k v es es2 es3 put taken same none gone_ = at (bytes_eq q key) 
         let other : bytes_eq q k.items ≡ false = ap (bytes_eq q) same ∙ e in
         ap (found_at q) taken ∙ (found_removed q key es2 e ∙ (ap (found_at q) put ∙ (found_inserted q k v es ∙ rw other refl)))
 
-pub stands_forgotten : (h : History) (r r2 : Records) (key : List ℕ) (i low : ℕ) → place_of key r ≡ Some i → is_idle low (chain_at i r) ≡ true → low ≤ h.low → IsWholeAt key h.writes
-    → place_of key r2 ≡ None → ((q : List ℕ) → bytes_eq q key ≡ false → place_of q r2 ≡ place_of q r) → Changes i r.pool r.chains r2.pool r2.chains → ((t : ℕ) → own_of t r2 ≡ own_of t r) → StandsFor h r → StandsFor h r2
+pub stands_forgotten : (h : Accesses) (r r2 : Records) (key : List ℕ) (i low : ℕ) → index_of key r ≡ Some i → is_idle low (chain_at i r) ≡ true → low ≤ h.low → IsWholeAt key h.writes
+    → index_of key r2 ≡ None → ((q : List ℕ) → bytes_eq q key ≡ false → index_of q r2 ≡ index_of q r) → Changes i r.pool r.chains r2.pool r2.chains → ((t : ℕ) → own_of t r2 ≡ own_of t r) → StandsFor h r → StandsFor h r2
 stands_forgotten h r r2 key i low here idle le whole gone_ same change lists s =
     record {
       chains = record {
@@ -117,7 +117,7 @@ stands_forgotten h r r2 key i low here idle le whole gone_ same change lists s =
       };
       lists = record {
         listed = λ t q j e. ap (is_listed j) (lists t) ∙ s.lists.listed t q j (other q j e (bytes_eq q key) refl).0;
-        unplaced = λ t q e. unplaced t q e (bytes_eq q key) refl;
+        unindexed = λ t q e. unindexed t q e (bytes_eq q key) refl;
         named = λ t. rw lists (named (own_of t r) (s.lists.listed t key i here ∙ closed t) (s.lists.named t));
         count = λ t. ap length (lists t) ∙ s.lists.count t;
       };
@@ -126,8 +126,8 @@ stands_forgotten h r r2 key i low here idle le whole gone_ same change lists s =
     own_chain : ChainStandsFor key h.low h.writes h.reads (chain_at i r)
     own_chain = rw here at (s.chains.chains key)
 
-    closed : (t : ℕ) → has_open key t h.writes ≡ false
-    closed t = none_open key low h.low h.writes h.reads (chain_at i r) idle whole own_chain t
+    closed : (t : ℕ) → has_undecided key t h.writes ≡ false
+    closed t = none_undecided key low h.low h.writes h.reads (chain_at i r) idle whole own_chain t
 
     itself : (q : List ℕ) → bytes_eq q key ≡ true → q ≡ key
     itself q e = same_key q key e
@@ -135,33 +135,33 @@ stands_forgotten h r r2 key i low here idle le whole gone_ same change lists s =
     differ : (q : List ℕ) → bytes_eq q key ≡ false → q ≡ key → ⊥
     differ q d e = let t : bytes_eq q key ≡ true = (bytes_eq-Decides q key).1 e in absurd (cc (t, d))
 
-    -- what is still placed is another key, at another place
-    other : (q : List ℕ) (j : ℕ) → place_of q r2 ≡ Some j → (x : Bool) → bytes_eq q key ≡ x → (place_of q r ≡ Some j) × (j ≢ i)
-    other q j e true f = let none : place_of q r2 ≡ None = ap (λ k. place_of k r2) (itself q f) ∙ gone_ in let bad : None ≡ Some j = sym none ∙ e in absurd (cc bad)
+    -- what is still placed is another key, at another index
+    other : (q : List ℕ) (j : ℕ) → index_of q r2 ≡ Some j → (x : Bool) → bytes_eq q key ≡ x → (index_of q r ≡ Some j) × (j ≢ i)
+    other q j e true f = let none : index_of q r2 ≡ None = ap (λ k. index_of k r2) (itself q f) ∙ gone_ in let bad : None ≡ Some j = sym none ∙ e in absurd (cc bad)
     other q j e false f =
-        let was : place_of q r ≡ Some j = sym (same q f) ∙ e in
+        let was : index_of q r ≡ Some j = sym (same q f) ∙ e in
         (was, λ n. differ q f (s.chains.apart q key i (was ∙ ap Some n) here))
 
-    place : (q : List ℕ) (o : Option ℕ) → place_of q r ≡ o → bytes_eq q key ≡ false → chain_of_place o r2 ≡ chain_of_place o r
-    place q None e d = refl
-    place q (Some j) e d = shown_elsewhere i j r.pool r2.pool r.chains r2.chains change s.chains.held (λ n. differ q d (s.chains.apart q key i (e ∙ ap Some n) here))
+    index : (q : List ℕ) (o : Option ℕ) → index_of q r ≡ o → bytes_eq q key ≡ false → chain_of_index o r2 ≡ chain_of_index o r
+    index q None e d = refl
+    index q (Some j) e d = shown_elsewhere i j r.pool r2.pool r.chains r2.chains change s.chains.held (λ n. differ q d (s.chains.apart q key i (e ∙ ap Some n) here))
 
-    chain : (q : List ℕ) (x : Bool) → bytes_eq q key ≡ x → ChainStandsFor q h.low h.writes h.reads (chain_of_place (place_of q r2) r2)
+    chain : (q : List ℕ) (x : Bool) → bytes_eq q key ≡ x → ChainStandsFor q h.low h.writes h.reads (chain_of_index (index_of q r2) r2)
     chain q true e = rw (itself q e, gone_) (idle_fresh key low h.low h.writes h.reads (chain_at i r) idle le own_chain)
-    chain q false e = rw (same q e, place q (place_of q r) refl e) (s.chains.chains q)
+    chain q false e = rw (same q e, index q (index_of q r) refl e) (s.chains.chains q)
 
-    unplaced : (t : ℕ) (q : List ℕ) → place_of q r2 ≡ None → (x : Bool) → bytes_eq q key ≡ x → has_open q t h.writes ≡ false
-    unplaced t q e true f = ap (λ k. has_open k t h.writes) (itself q f) ∙ closed t
-    unplaced t q e false f = s.lists.unplaced t q (sym (same q f) ∙ e)
+    unindexed : (t : ℕ) (q : List ℕ) → index_of q r2 ≡ None → (x : Bool) → bytes_eq q key ≡ x → has_undecided q t h.writes ≡ false
+    unindexed t q e true f = ap (λ k. has_undecided k t h.writes) (itself q f) ∙ closed t
+    unindexed t q e false f = s.lists.unindexed t q (sym (same q f) ∙ e)
 
-    named : (own : List Own) → is_listed i own ≡ false → Each (λ o. place_of o.key r ≡ Some o.place) own → Each (λ o. place_of o.key r2 ≡ Some o.place) own
+    named : (own : List Own) → is_listed i own ≡ false → Each (λ o. index_of o.key r ≡ Some o.index) own → Each (λ o. index_of o.key r2 ≡ Some o.index) own
     named [] l n = tt
     named (o ∷ own) l n = (one (bytes_eq o.key key) refl, named own (grind (arith, l)) n.1)
       where
-        one : (x : Bool) → bytes_eq o.key key ≡ x → place_of o.key r2 ≡ Some o.place
+        one : (x : Bool) → bytes_eq o.key key ≡ x → index_of o.key r2 ≡ Some o.index
         one false e = same o.key e ∙ n.0
         one true e =
-            let here_too : Some i ≡ Some o.place = sym here ∙ (ap (λ k. place_of k r) (sym (itself o.key e)) ∙ n.0) in
-            let place_is : i ≡ o.place = cc here_too in
-            let hit : (i == o.place) ≡ true = grind (arith, nat_tests, place_is) in
+            let here_too : Some i ≡ Some o.index = sym here ∙ (ap (λ k. index_of k r) (sym (itself o.key e)) ∙ n.0) in
+            let index_is : i ≡ o.index = cc here_too in
+            let hit : (i == o.index) ≡ true = grind (arith, nat_tests, index_is) in
             absurd (grind (arith, l, hit))

@@ -1,4 +1,4 @@
--- What a change at one place leaves of the chains of the others.
+-- What a change at one index leaves of the chains of the others.
 use Rattle.std.proofs.Common.{◌≡◌, ◌≢◌, ℕ, zero, suc, Bool, true, false, List, [], ◌∷◌, get_or, set, Option, None, Some, refl, sym, ap, ◌∙◌, subst, arith}
 use Rattle.std.specs.Prelude.{IsSome, is_some, ◌==◌}
 use Rattle.std.specs.List.{AllByRecursion as Each}
@@ -57,7 +57,7 @@ pub out_of_none : (xs : List ℕ) → AreOutside xs []
 out_of_none [] = tt
 out_of_none (x ∷ xs) = (tt, out_of_none xs)
 
--- another place
+-- another index
 pub out_of : (i j : ℕ) (pool : Pool) (chains : Slab Chain) (d : Chain) → IsHeld pool chains → j ≢ i → chain_in chains j ≡ Some d → AreOutside d.slots.items (slots_in (chain_in chains i))
 out_of i j pool chains d h ne e = by (chain_in chains i) refl
   where

@@ -1,5 +1,5 @@
 pub mod Frames
-pub mod Places
+pub mod Indices
 pub mod Forgotten
 pub mod Changed
 pub mod Listed
@@ -8,7 +8,7 @@ pub mod Written
 pub mod Ties
 pub mod Moved
 pub mod Branches
-pub mod Open
+pub mod Undecided
 pub mod Gathered
 pub mod PutBack
 pub mod Rebuilt

@@ -5,10 +5,10 @@ use Rattle.std.specs.List.{AllByRecursion as Each}
 use Rattle.std.proofs.lemmas.Bool.Decides.{nat_tests}
 use Rattle.mv_chain.specs.declared.fate.Fate.{Fate}
 use Rattle.mv_chain.specs.declared.fate.Fate.TheVariants.{Committed as kept, RolledBack as gone}
-use Rattle.mv_chain.specs.History.{Written, Answered, newest, stands, seen_without, is_undecided, has_open}
+use Rattle.mv_chain.specs.Accesses.{Written, Answered, newest, stands, seen_without, is_undecided, has_undecided}
 use Rattle.mv_chain.proofs.Seen.{seen_behind, seen_swapped, seen_alike}
 use Rattle.mv_rules.specs.declared.records.Records.{Records}
-use Rattle.mv_rules.specs.History.{open_keys}
+use Rattle.mv_rules.specs.Accesses.{undecided_keys}
 use Rattle.mv_rules.specs.Records.{StandsFor}
 
 -- a write that was rolled back passes no test
@@ -23,8 +23,8 @@ counts_at has w = counts_by (has w) w.fate
 -- lists of writes in which the same is seen, and each branch has the same open keys
 pub record IsSameWrites (ws vs : List Written) : Type 0 where
   pub seen : (has : Written → Bool) → newest (counts_at has) ws ≡ newest (counts_at has) vs
-  pub held : (key : List ℕ) (t : ℕ) → has_open key t ws ≡ has_open key t vs
-  pub count : (t : ℕ) → open_keys t ws ≡ open_keys t vs
+  pub held : (key : List ℕ) (t : ℕ) → has_undecided key t ws ≡ has_undecided key t vs
+  pub count : (t : ℕ) → undecided_keys t ws ≡ undecided_keys t vs
 
 pub same_itself : (ws : List Written) → IsSameWrites ws ws
 same_itself ws = record { seen = λ has. refl; held = λ key t. refl; count = λ t. refl }
@@ -57,7 +57,7 @@ and_no true = refl
 and_no false = refl
 
 -- the open keys of two writes of different timestamps
-swapped_count : (t : ℕ) (a b : Written) (ws : List Written) (x y : Bool) → (a.timestamp == t) ≡ x → (b.timestamp == t) ≡ y → (a.timestamp ≡ b.timestamp → ⊥) → open_keys t (a ∷ b ∷ ws) ≡ open_keys t (b ∷ a ∷ ws)
+swapped_count : (t : ℕ) (a b : Written) (ws : List Written) (x y : Bool) → (a.timestamp == t) ≡ x → (b.timestamp == t) ≡ y → (a.timestamp ≡ b.timestamp → ⊥) → undecided_keys t (a ∷ b ∷ ws) ≡ undecided_keys t (b ∷ a ∷ ws)
 swapped_count t a b ws true true ex ey ne = absurd (ne (grind (arith, nat_tests)))
 swapped_count t a b ws true false ex ey ne = let none : (bytes_eq a.key b.key && false) ≡ false = and_no (bytes_eq a.key b.key) in simp (ex, ey, none)
 swapped_count t a b ws false true ex ey ne = let none : (bytes_eq b.key a.key && false) ≡ false = and_no (bytes_eq b.key a.key) in simp (ex, ey, none)
@@ -67,7 +67,7 @@ pub same_swapped : (a b : Written) (ws : List Written) → (a.timestamp ≡ b.ti
 same_swapped a b ws ne = record {
   seen = λ has. seen_swapped (counts_at has) a b ws ne;
   held = λ key t.
-      or_swap (bytes_eq key a.key && ((a.timestamp == t) && is_undecided a.fate)) (bytes_eq key b.key && ((b.timestamp == t) && is_undecided b.fate)) (has_open key t ws);
+      or_swap (bytes_eq key a.key && ((a.timestamp == t) && is_undecided a.fate)) (bytes_eq key b.key && ((b.timestamp == t) && is_undecided b.fate)) (has_undecided key t ws);
   count = λ t. swapped_count t a b ws (a.timestamp == t) (b.timestamp == t) refl refl ne;
 }
 
@@ -81,7 +81,7 @@ same_past w (u ∷ us) ws h =
 pub same_without : (w : Written) (ws : List Written) → w.fate ≡ Some gone → IsSameWrites (w ∷ ws) ws
 same_without w ws e = record {
   seen = λ has. rw e refl;
-  held = λ key t. left_out (bytes_eq key w.key) (w.timestamp == t) (is_undecided w.fate) (has_open key t ws) (rw e refl);
+  held = λ key t. left_out (bytes_eq key w.key) (w.timestamp == t) (is_undecided w.fate) (has_undecided key t ws) (rw e refl);
   count = λ t. let no : is_undecided w.fate ≡ false = rw e refl in simp (no, and_no (w.timestamp == t));
 }
   where
@@ -119,7 +119,7 @@ stands_same low ws vs reads r same st = record {
   };
   lists = record {
     listed = λ t key i at. st.lists.listed t key i at ∙ same.held key t;
-    unplaced = λ t key none. sym (same.held key t) ∙ st.lists.unplaced t key none;
+    unindexed = λ t key none. sym (same.held key t) ∙ st.lists.unindexed t key none;
     named = st.lists.named;
     count = λ t. st.lists.count t ∙ same.count t;
   };

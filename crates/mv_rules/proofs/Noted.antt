@@ -229,11 +229,11 @@ unread_idle : (m : ℕ) → is_idle m fresh ≡ true
 unread_idle m = grind (arith, nat_tests)
 
 module _ (low ts : ℕ) (key : List ℕ) (r read : Records) (strange : IsStrange low r (ts, key)) (reads : Reads ts key r read) where
-  noted : NotesAt ts (own_in ts r.notes) (decided_in ts r.notes) (read_in ts r.notes ++ (record { key = key; place = 0 }) ∷ []) r.notes read.notes
+  noted : NotesAt ts (own_in ts r.notes) (decided_in ts r.notes) (read_in ts r.notes ++ (record { key = key; index = 0 }) ∷ []) r.notes read.notes
   noted = reads.notes.unknown (ap (λ o. is_idle (ts - 1) (or_fresh o)) strange.unknown ∙ unread_idle (ts - 1))
 
   own_stays : (t : ℕ) → own_of t read ≡ own_of t r
-  own_stays t = own_noted t ts (own_in ts r.notes) (decided_in ts r.notes) (read_in ts r.notes ++ (record { key = key; place = 0 }) ∷ []) r.notes read.notes noted ∙ told (t == ts) refl
+  own_stays t = own_noted t ts (own_in ts r.notes) (decided_in ts r.notes) (read_in ts r.notes ++ (record { key = key; index = 0 }) ∷ []) r.notes read.notes noted ∙ told (t == ts) refl
     where
       told : (x : Bool) → (t == ts) ≡ x → (if x then own_in ts r.notes else own_in t r.notes) ≡ own_in t r.notes
       told true e = let is : t ≡ ts = grind (arith, nat_tests, e) in ap (λ (u : ℕ). own_in u r.notes) (sym is)
@@ -256,7 +256,7 @@ module _ (low ts : ℕ) (key : List ℕ) (r read : Records) (strange : IsStrange
   }
     where
       more_due : ((q : List ℕ) → names q (due low (insert_entry nat_cmp r.notes.entries ts noted.noted)) ≡ (bytes_eq q key || names q (due low r.notes.entries))) × (not_due low (insert_entry nat_cmp r.notes.entries ts noted.noted) ≡ not_due low r.notes.entries)
-      more_due = due_noted low ts noted.noted (record { key = key; place = 0 }) strange.passed (noted.written_is ∙ strange.decided ts (omega arith)) r.notes.entries noted.ordered (clear ts r.notes.entries noted.ordered strange.decided) noted.decided_is noted.read_is
+      more_due = due_noted low ts noted.noted (record { key = key; index = 0 }) strange.passed (noted.written_is ∙ strange.decided ts (omega arith)) r.notes.entries noted.ordered (clear ts r.notes.entries noted.ordered strange.decided) noted.decided_is noted.read_is
 
       is_named : (q : List ℕ) → names q (due low read.notes.entries) ≡ (bytes_eq q key || names q (due low r.notes.entries))
       is_named q = ap (λ es. names q (due low es)) noted.entries ∙ more_due.0 q

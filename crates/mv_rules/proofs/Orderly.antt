@@ -7,7 +7,7 @@ use Rattle.std.proofs.lemmas.List.Sums.{fold-append}
 use Rattle.xa_codes.specs.declared.write.Write.{Write}
 use Rattle.mv_chain.specs.declared.fate.Fate.{Fate}
 use Rattle.mv_chain.specs.declared.fate.Fate.TheVariants.{Committed as kept}
-use Rattle.mv_chain.specs.History.{Written}
+use Rattle.mv_chain.specs.Accesses.{Written}
 use Rattle.mv_chain.proofs.Chains.{each_at}
 use Rattle.xa_model.specs.Durable.{Durable, CommittedBranch, PreparedBranch, Pairwise, commits_before, prepares_before, is_past, IsDurable}
 use Rattle.xa_model.proofs.Inserts.{all_imply}

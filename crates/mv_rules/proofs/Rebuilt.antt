@@ -6,19 +6,19 @@ use Rattle.std.proofs.lemmas.Bool.Decides.{nat_tests}
 use Rattle.std.proofs.lemmas.List.Sums.{fold-append}
 use Rattle.xa_codes.specs.declared.write.Write.{Write}
 use Rattle.mv_chain.specs.declared.fate.Fate.{Fate}
-use Rattle.mv_chain.specs.History.{Written, is_late, decided, IsOpen, IsUnsettled}
+use Rattle.mv_chain.specs.Accesses.{Written, is_late, decided, IsUndecided, IsUnsettled}
 use Rattle.mv_rules.specs.declared.records.Records.{Records}
-use Rattle.mv_rules.specs.History.{History, wrote}
+use Rattle.mv_rules.specs.Accesses.{Accesses, wrote}
 use Rattle.mv_rules.specs.Records.{StandsFor}
 use Rattle.mv_rules.specs.Restoring.{with_write, with_branch, IsRestorable}
 
-open_none : (t : ℕ) (ws : List Written) → Each (λ w. w.timestamp ≡ t → ⊥) ws → IsOpen t ws
-open_none t [] h = tt
-open_none t (w ∷ ws) h = (λ e. absurd (h.0 e), open_none t ws h.1)
+undecided_none : (t : ℕ) (ws : List Written) → Each (λ w. w.timestamp ≡ t → ⊥) ws → IsUndecided t ws
+undecided_none t [] h = tt
+undecided_none t (w ∷ ws) h = (λ e. absurd (h.0 e), undecided_none t ws h.1)
 
-open_branch : (t : ℕ) (ws : List Write) (older : List Written) → IsOpen t older → IsOpen t (with_branch t None ws older)
-open_branch t [] older h = h
-open_branch t (w ∷ ws) older h = open_branch t ws (with_write t None older w) (λ e. refl, h)
+undecided_branch : (t : ℕ) (ws : List Write) (older : List Written) → IsUndecided t older → IsUndecided t (with_branch t None ws older)
+undecided_branch t [] older h = h
+undecided_branch t (w ∷ ws) older h = undecided_branch t ws (with_write t None older w) (λ e. refl, h)
 
 decided_none : (t : ℕ) (f : Fate) (ws : List Written) → Each (λ w. w.timestamp ≡ t → ⊥) ws → decided t f ws ≡ ws
 decided_none t f [] h = refl
@@ -38,16 +38,16 @@ decided_branch t f (w ∷ ws) older =
 pub branch_more : (t : ℕ) (fate : Option Fate) (ws : List Write) (w : Write) (older : List Written) → with_branch t fate (ws ++ w ∷ []) older ≡ with_write t fate (with_branch t fate ws older) w
 branch_more t fate ws w older = fold-append (with_write t fate) older ws (w ∷ [])
 
-pub restorable_unsettled : (t : ℕ) (h : History) (ws : List Write) → IsRestorable t h → IsUnsettled t h.low (with_branch t None ws h.writes)
-restorable_unsettled t h ws e = record { positive = e.positive; above = e.above; open_ = open_branch t ws h.writes (open_none t h.writes e.unwritten) }
+pub restorable_unsettled : (t : ℕ) (h : Accesses) (ws : List Write) → IsRestorable t h → IsUnsettled t h.low (with_branch t None ws h.writes)
+restorable_unsettled t h ws e = record { positive = e.positive; above = e.above; all_undecided = undecided_branch t ws h.writes (undecided_none t h.writes e.unwritten) }
 
-pub restorable_timely : (t : ℕ) (h : History) (key : List ℕ) → IsRestorable t h → is_late key t h.reads ≡ false
+pub restorable_timely : (t : ℕ) (h : Accesses) (key : List ℕ) → IsRestorable t h → is_late key t h.reads ≡ false
 restorable_timely t h key e = rw e.unread refl
 
-pub branch_decided : (t : ℕ) (h : History) (ws : List Write) (f : Fate) → IsRestorable t h → decided t f (with_branch t None ws h.writes) ≡ with_branch t (Some f) ws h.writes
+pub branch_decided : (t : ℕ) (h : Accesses) (ws : List Write) (f : Fate) → IsRestorable t h → decided t f (with_branch t None ws h.writes) ≡ with_branch t (Some f) ws h.writes
 branch_decided t h ws f e = decided_branch t f ws h.writes ∙ ap (with_branch t (Some f) ws) (decided_none t f h.writes e.unwritten)
 
 -- one more write of the branch is added
-pub branch_grown : (t : ℕ) (h : History) (r : Records) (ws : List Write) (w : Write) (key : List ℕ) (value : Option (List ℕ)) → key ≡ w.key → value ≡ w.value → StandsFor (record h { writes = wrote t key value ∷ with_branch t None ws h.writes }) r
+pub branch_grown : (t : ℕ) (h : Accesses) (r : Records) (ws : List Write) (w : Write) (key : List ℕ) (value : Option (List ℕ)) → key ≡ w.key → value ≡ w.value → StandsFor (record h { writes = wrote t key value ∷ with_branch t None ws h.writes }) r
     → StandsFor (record h { writes = with_branch t None (ws ++ w ∷ []) h.writes }) r
 branch_grown t h r ws w key value k v s = rw (branch_more t None ws w h.writes, ← k, ← v) s

@@ -8,7 +8,7 @@ use Rattle.std.proofs.lemmas.List.Sums.{fold-append}
 use Rattle.xa_codes.specs.declared.write.Write.{Write}
 use Rattle.mv_chain.specs.declared.fate.Fate.TheVariants.{Committed as kept}
 use Rattle.mv_chain.specs.declared.version.Version.{Version as ChainVersion}
-use Rattle.mv_chain.specs.History.{Written, Answered, Seen, seen_without, has_open, stands}
+use Rattle.mv_chain.specs.Accesses.{Written, Answered, Seen, seen_without, has_undecided, stands}
 use Rattle.mv_chain.specs.Chain.{has_base, StandsFor as ChainStandsFor}
 use Rattle.mv_chain.specs.declared.fate.Fate.{Fate}
 use Rattle.xa_model.specs.State.{Branch, Phase, Working, Prepared, Committed, timestamp_of}
@@ -22,11 +22,11 @@ use Rattle.xa_model.proofs.LastOfKeys.{writes_of_law}
 use Rattle.xa_model.proofs.LastWrites.{last_all, last_pairwise}
 use Rattle.xa_model.proofs.Remains.{left, left_timed, held_of, held_timed, time, time_of}
 use Rattle.mv_rules.specs.declared.records.Records.{Records}
-use Rattle.mv_rules.specs.History.{open_keys}
+use Rattle.mv_rules.specs.Accesses.{undecided_keys}
 use Rattle.mv_rules.specs.Records.{StandsFor}
 use Rattle.mv_rules.specs.Ties.{low_of, read_as, fate_of, writes_by, writes_in}
 use Rattle.mv_rules.specs.Restoring.{with_branch, with_committed, with_prepared, restored_by, restored, LowRises, StandsRestored}
-use Rattle.mv_rules.proofs.Open.{held_below, count_below, count_own, count_other}
+use Rattle.mv_rules.proofs.Undecided.{held_below, count_below, count_own, count_other}
 use Rattle.mv_rules.proofs.Ties.{seen_one, seen_group}
 use Rattle.mv_rules.proofs.Shown.{branch_shown, last_seen, committed_shown, last_more, unseen_prepared, seen_below}
 use Rattle.mv_rules.proofs.Counted.{held_left, held_decided, group_decided, count_decided, count_group_decided, count_branch_other, count_branch, left_length, held_group}
@@ -53,7 +53,7 @@ low_rises h r low s le = record {
     apart = s.chains.apart;
     held = s.chains.held;
   };
-  lists = record { listed = s.lists.listed; unplaced = s.lists.unplaced; named = s.lists.named; count = s.lists.count };
+  lists = record { listed = s.lists.listed; unindexed = s.lists.unindexed; named = s.lists.named; count = s.lists.count };
 }
 
 -- no branch is at work
@@ -106,48 +106,48 @@ same_seen gone key u limit (b ∷ bs) base h le idle e =
 
 -- which keys are open, and how many
 
-held_by : (key : List ℕ) (t : ℕ) (b : Branch) (bs : List Branch) (base : List Written) (phase : Phase) → is_working phase ≡ false → has_open key t (fold with_prepared base (parts held_of bs)) ≡ has_open key t (writes_in bs)
-    → has_open key t (fold with_prepared base (add (prepared_part b.timestamp (writes_of b.operations) phase) (parts held_of bs))) ≡ has_open key t (writes_by b.timestamp (fate_of phase) b.operations ++ writes_in bs)
+held_by : (key : List ℕ) (t : ℕ) (b : Branch) (bs : List Branch) (base : List Written) (phase : Phase) → is_working phase ≡ false → has_undecided key t (fold with_prepared base (parts held_of bs)) ≡ has_undecided key t (writes_in bs)
+    → has_undecided key t (fold with_prepared base (add (prepared_part b.timestamp (writes_of b.operations) phase) (parts held_of bs))) ≡ has_undecided key t (writes_by b.timestamp (fate_of phase) b.operations ++ writes_in bs)
 held_by key t b bs base (Working xid mark) idle ih = absurd (cc idle)
 held_by key t b bs base (Prepared xid) idle ih =
-    ap (has_open key t) (fold-append with_prepared base (parts held_of bs) ((record { xid = xid; timestamp = b.timestamp; writes = writes_of b.operations }) ∷ []))
+    ap (has_undecided key t) (fold-append with_prepared base (parts held_of bs) ((record { xid = xid; timestamp = b.timestamp; writes = writes_of b.operations }) ∷ []))
     ∙ held_left key t b.timestamp None b.operations (fold with_prepared base (parts held_of bs)) (writes_in bs) ih
 held_by key t b bs base Committed idle ih = ih ∙ sym (group_decided key t b.timestamp kept b.operations (writes_in bs))
 
-pub same_held : (key : List ℕ) (t : ℕ) (bs : List Branch) (base : List Written) → AreIdle bs → has_open key t base ≡ false → has_open key t (fold with_prepared base (parts held_of bs)) ≡ has_open key t (writes_in bs)
+pub same_held : (key : List ℕ) (t : ℕ) (bs : List Branch) (base : List Written) → AreIdle bs → has_undecided key t base ≡ false → has_undecided key t (fold with_prepared base (parts held_of bs)) ≡ has_undecided key t (writes_in bs)
 same_held key t [] base idle e = e
 same_held key t (b ∷ bs) base idle e =
-    ap (λ ps. has_open key t (fold with_prepared base ps)) (parts-cons held_of b bs) ∙ held_by key t b bs base b.phase idle.0 (same_held key t bs base idle.1 e)
+    ap (λ ps. has_undecided key t (fold with_prepared base ps)) (parts-cons held_of b bs) ∙ held_by key t b bs base b.phase idle.0 (same_held key t bs base idle.1 e)
 
-none_open : (t : ℕ) (ws : List Write) (rest : List Written) → ((key : List ℕ) → has_open key t rest ≡ false) → Each (λ w. has_open w.key t rest ≡ false) ws
-none_open t [] rest h = tt
-none_open t (w ∷ ws) rest h = (h w.key, none_open t ws rest h)
+none_undecided : (t : ℕ) (ws : List Write) (rest : List Written) → ((key : List ℕ) → has_undecided key t rest ≡ false) → Each (λ w. has_undecided w.key t rest ≡ false) ws
+none_undecided t [] rest h = tt
+none_undecided t (w ∷ ws) rest h = (h w.key, none_undecided t ws rest h)
 
-count_left : (t : ℕ) (b : Branch) (bs : List Branch) (rest : List Written) (c : Bool) → (b.timestamp == t) ≡ c → Descends b.timestamp bs → ((key : List ℕ) → has_open key t rest ≡ has_open key t (writes_in bs)) → open_keys t rest ≡ open_keys t (writes_in bs)
-    → open_keys t (with_branch b.timestamp None (writes_of b.operations) rest) ≡ open_keys t (writes_by b.timestamp None b.operations ++ writes_in bs)
+count_left : (t : ℕ) (b : Branch) (bs : List Branch) (rest : List Written) (c : Bool) → (b.timestamp == t) ≡ c → Descends b.timestamp bs → ((key : List ℕ) → has_undecided key t rest ≡ has_undecided key t (writes_in bs)) → undecided_keys t rest ≡ undecided_keys t (writes_in bs)
+    → undecided_keys t (with_branch b.timestamp None (writes_of b.operations) rest) ≡ undecided_keys t (writes_by b.timestamp None b.operations ++ writes_in bs)
 count_left t b bs rest false ne h held ih = count_branch_other t b.timestamp None (writes_of b.operations) rest ne ∙ ih ∙ sym (count_other t b.timestamp None b.operations (writes_in bs) ne)
 count_left t b bs rest true e h held ih =
     let own : b.timestamp ≡ t = grind (arith, nat_tests, e) in
-    let none : open_keys b.timestamp (writes_in bs) ≡ 0 = count_below b.timestamp b.timestamp bs h (omega arith) in
-    let alike : open_keys b.timestamp rest ≡ open_keys b.timestamp (writes_in bs) = subst (λ (u : ℕ). open_keys u rest ≡ open_keys u (writes_in bs)) (sym own) ih in
-    let ours : open_keys b.timestamp (with_branch b.timestamp None (writes_of b.operations) rest) ≡ open_keys b.timestamp rest + length (writes_of b.operations) =
-    count_branch b.timestamp (writes_of b.operations) rest (writes_of_law b.operations).0 (none_open b.timestamp (writes_of b.operations) rest (λ key. subst (λ (u : ℕ). has_open key u rest ≡ has_open key u (writes_in bs)) (sym own) (held key) ∙ held_below key b.timestamp b.timestamp bs h (omega arith))) in
-    let theirs : open_keys b.timestamp (writes_by b.timestamp None b.operations ++ writes_in bs) ≡ written_keys b.operations = count_own b.timestamp b.operations (writes_in bs) (λ key. held_below key b.timestamp b.timestamp bs h (omega arith)) none in
-    subst (λ (u : ℕ). open_keys u (with_branch b.timestamp None (writes_of b.operations) rest) ≡ open_keys u (writes_by b.timestamp None b.operations ++ writes_in bs)) own (omega (arith, ours, theirs, none, alike, left_length b.operations))
+    let none : undecided_keys b.timestamp (writes_in bs) ≡ 0 = count_below b.timestamp b.timestamp bs h (omega arith) in
+    let alike : undecided_keys b.timestamp rest ≡ undecided_keys b.timestamp (writes_in bs) = subst (λ (u : ℕ). undecided_keys u rest ≡ undecided_keys u (writes_in bs)) (sym own) ih in
+    let ours : undecided_keys b.timestamp (with_branch b.timestamp None (writes_of b.operations) rest) ≡ undecided_keys b.timestamp rest + length (writes_of b.operations) =
+    count_branch b.timestamp (writes_of b.operations) rest (writes_of_law b.operations).0 (none_undecided b.timestamp (writes_of b.operations) rest (λ key. subst (λ (u : ℕ). has_undecided key u rest ≡ has_undecided key u (writes_in bs)) (sym own) (held key) ∙ held_below key b.timestamp b.timestamp bs h (omega arith))) in
+    let theirs : undecided_keys b.timestamp (writes_by b.timestamp None b.operations ++ writes_in bs) ≡ written_keys b.operations = count_own b.timestamp b.operations (writes_in bs) (λ key. held_below key b.timestamp b.timestamp bs h (omega arith)) none in
+    subst (λ (u : ℕ). undecided_keys u (with_branch b.timestamp None (writes_of b.operations) rest) ≡ undecided_keys u (writes_by b.timestamp None b.operations ++ writes_in bs)) own (omega (arith, ours, theirs, none, alike, left_length b.operations))
 
-count_by : (t : ℕ) (b : Branch) (bs : List Branch) (base : List Written) (phase : Phase) → is_working phase ≡ false → Descends b.timestamp bs → ((key : List ℕ) → has_open key t (fold with_prepared base (parts held_of bs)) ≡ has_open key t (writes_in bs))
-    → open_keys t (fold with_prepared base (parts held_of bs)) ≡ open_keys t (writes_in bs)
-    → open_keys t (fold with_prepared base (add (prepared_part b.timestamp (writes_of b.operations) phase) (parts held_of bs))) ≡ open_keys t (writes_by b.timestamp (fate_of phase) b.operations ++ writes_in bs)
+count_by : (t : ℕ) (b : Branch) (bs : List Branch) (base : List Written) (phase : Phase) → is_working phase ≡ false → Descends b.timestamp bs → ((key : List ℕ) → has_undecided key t (fold with_prepared base (parts held_of bs)) ≡ has_undecided key t (writes_in bs))
+    → undecided_keys t (fold with_prepared base (parts held_of bs)) ≡ undecided_keys t (writes_in bs)
+    → undecided_keys t (fold with_prepared base (add (prepared_part b.timestamp (writes_of b.operations) phase) (parts held_of bs))) ≡ undecided_keys t (writes_by b.timestamp (fate_of phase) b.operations ++ writes_in bs)
 count_by t b bs base (Working xid mark) idle h held ih = absurd (cc idle)
 count_by t b bs base (Prepared xid) idle h held ih =
-    ap (open_keys t) (fold-append with_prepared base (parts held_of bs) ((record { xid = xid; timestamp = b.timestamp; writes = writes_of b.operations }) ∷ []))
+    ap (undecided_keys t) (fold-append with_prepared base (parts held_of bs) ((record { xid = xid; timestamp = b.timestamp; writes = writes_of b.operations }) ∷ []))
     ∙ count_left t b bs (fold with_prepared base (parts held_of bs)) (b.timestamp == t) refl h held ih
 count_by t b bs base Committed idle h held ih = ih ∙ sym (count_group_decided t b.timestamp kept b.operations (writes_in bs))
 
-pub same_count : (t limit : ℕ) (bs : List Branch) (base : List Written) → Descends limit bs → AreIdle bs → ((key : List ℕ) → has_open key t base ≡ false) → open_keys t base ≡ 0 → open_keys t (fold with_prepared base (parts held_of bs)) ≡ open_keys t (writes_in bs)
+pub same_count : (t limit : ℕ) (bs : List Branch) (base : List Written) → Descends limit bs → AreIdle bs → ((key : List ℕ) → has_undecided key t base ≡ false) → undecided_keys t base ≡ 0 → undecided_keys t (fold with_prepared base (parts held_of bs)) ≡ undecided_keys t (writes_in bs)
 same_count t limit [] base h idle held e = e
 same_count t limit (b ∷ bs) base h idle held e =
-    ap (λ ps. open_keys t (fold with_prepared base ps)) (parts-cons held_of b bs)
+    ap (λ ps. undecided_keys t (fold with_prepared base ps)) (parts-cons held_of b bs)
     ∙ count_by t b bs base b.phase idle.0 h.2 (λ key. same_held key t bs base idle.1 (held key)) (same_count t b.timestamp bs base h.2 idle.1 held e)
 
 -- what a branch in doubt sees at its own timestamp
@@ -173,16 +173,16 @@ or_left true y e h = refl
 or_left false y e h = absurd (cc (e, h))
 
 -- what is open is not below the branches that it stands among
-above : (key : List ℕ) (t : ℕ) (b : Branch) (bs : List Branch) → Descends b.timestamp bs → has_open key t (writes_in bs) ≡ true → nat_le b.timestamp t ≡ false
+above : (key : List ℕ) (t : ℕ) (b : Branch) (bs : List Branch) → Descends b.timestamp bs → has_undecided key t (writes_in bs) ≡ true → nat_le b.timestamp t ≡ false
 above key t b bs h there = at (nat_le b.timestamp t) refl
   where
     at : (x : Bool) → nat_le b.timestamp t ≡ x → nat_le b.timestamp t ≡ false
     at false e = e
-    at true e = let none : has_open key t (writes_in bs) ≡ false = held_below key t b.timestamp bs h (grind (arith, nat_tests, e)) in absurd (cc (none, there))
+    at true e = let none : has_undecided key t (writes_in bs) ≡ false = held_below key t b.timestamp bs h (grind (arith, nat_tests, e)) in absurd (cc (none, there))
 
 own_by : (gone : ℕ → Bool) (key : List ℕ) (t : ℕ) (b : Branch) (bs : List Branch) (base : List Written) (phase : Phase) (c : Bool) → (b.timestamp == t) ≡ c → is_working phase ≡ false → Descends b.timestamp bs → gone t ≡ false
-    → has_open key t (writes_by b.timestamp (fate_of phase) b.operations ++ writes_in bs) ≡ true
-    → (has_open key t (writes_in bs) ≡ true → seen_without gone key t (fold with_prepared base (parts held_of bs)) ≡ seen_without gone key t (writes_in bs))
+    → has_undecided key t (writes_by b.timestamp (fate_of phase) b.operations ++ writes_in bs) ≡ true
+    → (has_undecided key t (writes_in bs) ≡ true → seen_without gone key t (fold with_prepared base (parts held_of bs)) ≡ seen_without gone key t (writes_in bs))
     → seen_without gone key t (fold with_prepared base (add (prepared_part b.timestamp (writes_of b.operations) phase) (parts held_of bs))) ≡ seen_without gone key t (writes_by b.timestamp (fate_of phase) b.operations ++ writes_in bs)
 own_by gone key t b bs base (Working xid mark) c e idle h g o ih = absurd (cc idle)
 own_by gone key t b bs base (Prepared xid) c e idle h g o ih =
@@ -192,20 +192,20 @@ own_by gone key t b bs base (Prepared xid) c e idle h g o ih =
     rest : List Written
     rest = fold with_prepared base (parts held_of bs)
 
-    open_ : (x : Bool) → (b.timestamp == t) ≡ x → (((x && true) && is_some (write_of key b.operations)) || has_open key t (writes_in bs)) ≡ true
-    open_ x f = rw f at (sym (held_group key t b.timestamp None b.operations (writes_in bs)) ∙ o)
+    all_undecided : (x : Bool) → (b.timestamp == t) ≡ x → (((x && true) && is_some (write_of key b.operations)) || has_undecided key t (writes_in bs)) ≡ true
+    all_undecided x f = rw f at (sym (held_group key t b.timestamp None b.operations (writes_in bs)) ∙ o)
 
     at : (x : Bool) → (b.timestamp == t) ≡ x → seen_without gone key t (with_branch b.timestamp None (writes_of b.operations) rest) ≡ seen_without gone key t (writes_by b.timestamp None b.operations ++ writes_in bs)
     at true f =
         let own : b.timestamp ≡ t = grind (arith, nat_tests, f) in
-        let none : has_open key t (writes_in bs) ≡ false = held_below key t b.timestamp bs h (omega (arith, own)) in
-        let some : is_some (write_of key b.operations) ≡ true = or_left (is_some (write_of key b.operations)) (has_open key t (writes_in bs)) none (open_ true f) in
+        let none : has_undecided key t (writes_in bs) ≡ false = held_below key t b.timestamp bs h (omega (arith, own)) in
+        let some : is_some (write_of key b.operations) ≡ true = or_left (is_some (write_of key b.operations)) (has_undecided key t (writes_in bs)) none (all_undecided true f) in
         branch_shown gone key t b.timestamp None (writes_of b.operations) rest (writes_of_law b.operations).0 (omega (arith, own, upto gone key t rest))
         ∙ ap (λ w. seen_one gone t b.timestamp None w (seen_without gone key t rest)) (value_left key b)
         ∙ seen_own gone t b.timestamp (write_of key b.operations) (seen_without gone key t rest) (seen_without gone key t (writes_in bs)) own g some
         ∙ sym (seen_group gone key t b.timestamp None b.operations (writes_in bs) (omega (arith, own, upto gone key t (writes_in bs))))
     at false f =
-        let there : has_open key t (writes_in bs) ≡ true = open_ false f in
+        let there : has_undecided key t (writes_in bs) ≡ true = all_undecided false f in
         let no : nat_le b.timestamp t ≡ false = above key t b bs h there in
         let under : t ≤ b.timestamp = grind (arith, nat_tests, no) in
         branch_shown gone key t b.timestamp None (writes_of b.operations) rest (writes_of_law b.operations).0 (omega (arith, under, upto gone key t rest))
@@ -214,14 +214,14 @@ own_by gone key t b bs base (Prepared xid) c e idle h g o ih =
         ∙ sym (unseen_one gone t b.timestamp None (write_of key b.operations) (seen_without gone key t (writes_in bs)) no)
         ∙ sym (seen_group gone key t b.timestamp None b.operations (writes_in bs) (omega (arith, under, upto gone key t (writes_in bs))))
 own_by gone key t b bs base Committed c e idle h g o ih =
-    let there : has_open key t (writes_in bs) ≡ true = sym (group_decided key t b.timestamp kept b.operations (writes_in bs)) ∙ o in
+    let there : has_undecided key t (writes_in bs) ≡ true = sym (group_decided key t b.timestamp kept b.operations (writes_in bs)) ∙ o in
     let no : nat_le b.timestamp t ≡ false = above key t b bs h there in
     let under : t ≤ b.timestamp = grind (arith, nat_tests, no) in
     ih there
     ∙ sym (unseen_one gone t b.timestamp (Some kept) (write_of key b.operations) (seen_without gone key t (writes_in bs)) no)
     ∙ sym (seen_group gone key t b.timestamp (Some kept) b.operations (writes_in bs) (omega (arith, under, upto gone key t (writes_in bs))))
 
-pub own_seen : (gone : ℕ → Bool) (key : List ℕ) (t limit : ℕ) (bs : List Branch) (base : List Written) → Descends limit bs → AreIdle bs → gone t ≡ false → has_open key t (writes_in bs) ≡ true
+pub own_seen : (gone : ℕ → Bool) (key : List ℕ) (t limit : ℕ) (bs : List Branch) (base : List Written) → Descends limit bs → AreIdle bs → gone t ≡ false → has_undecided key t (writes_in bs) ≡ true
     → seen_without gone key t (fold with_prepared base (parts held_of bs)) ≡ seen_without gone key t (writes_in bs)
 own_seen gone key t limit [] base h idle g o = absurd (cc o)
 own_seen gone key t limit (b ∷ bs) base h idle g o =
@@ -230,11 +230,11 @@ own_seen gone key t limit (b ∷ bs) base h idle g o =
 
 -- committed branches
 
-committed_held : (key : List ℕ) (t : ℕ) (cs : List CommittedBranch) (base : List Written) → has_open key t (fold with_committed base cs) ≡ has_open key t base
+committed_held : (key : List ℕ) (t : ℕ) (cs : List CommittedBranch) (base : List Written) → has_undecided key t (fold with_committed base cs) ≡ has_undecided key t base
 committed_held key t [] base = refl
 committed_held key t (c ∷ cs) base = committed_held key t cs (with_committed base c) ∙ held_decided key t c.timestamp kept c.writes base
 
-committed_count : (t : ℕ) (cs : List CommittedBranch) (base : List Written) → open_keys t (fold with_committed base cs) ≡ open_keys t base
+committed_count : (t : ℕ) (cs : List CommittedBranch) (base : List Written) → undecided_keys t (fold with_committed base cs) ≡ undecided_keys t base
 committed_count t [] base = refl
 committed_count t (c ∷ cs) base = committed_count t cs (with_committed base c) ∙ count_decided t c.timestamp kept c.writes base
 
@@ -297,10 +297,10 @@ module _ (limit : ℕ) (bs : List Branch) (h : Descends (limit + 1) bs) (idle : 
   abbrev remade : List Written
   remade = fold with_prepared (committed_writes bs) (parts held_of bs)
 
-  remade_held : (key : List ℕ) (t : ℕ) → has_open key t remade ≡ has_open key t (writes_in bs)
+  remade_held : (key : List ℕ) (t : ℕ) → has_undecided key t remade ≡ has_undecided key t (writes_in bs)
   remade_held key t = same_held key t bs (committed_writes bs) idle (committed_held key t (last_writes (parts left bs)) [])
 
-  remade_count : (t : ℕ) → open_keys t remade ≡ open_keys t (writes_in bs)
+  remade_count : (t : ℕ) → undecided_keys t remade ≡ undecided_keys t (writes_in bs)
   remade_count t = same_count t (limit + 1) bs (committed_writes bs) h idle (λ key. committed_held key t (last_writes (parts left bs)) []) (committed_count t (last_writes (parts left bs)) [])
 
   remade_seen : (gone : ℕ → Bool) (key : List ℕ) (u : ℕ) → limit ≤ u → seen_without gone key u remade ≡ seen_without gone key u (writes_in bs)
@@ -321,7 +321,7 @@ module _ (limit : ℕ) (bs : List Branch) (h : Descends (limit + 1) bs) (idle : 
     };
     lists = record {
       listed = λ t key i at. s.lists.listed t key i at ∙ remade_held key t;
-      unplaced = λ t key none. sym (remade_held key t) ∙ s.lists.unplaced t key none;
+      unindexed = λ t key none. sym (remade_held key t) ∙ s.lists.unindexed t key none;
       named = s.lists.named;
       count = λ t. s.lists.count t ∙ remade_count t;
     };

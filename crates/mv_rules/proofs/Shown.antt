@@ -13,7 +13,7 @@ use Rattle.std.proofs.lemmas.Slice.Eq.{bytes_eq-Decides}
 use Rattle.xa_codes.specs.declared.write.Write.{Write}
 use Rattle.mv_chain.specs.declared.fate.Fate.{Fate}
 use Rattle.mv_chain.specs.declared.fate.Fate.TheVariants.{Committed as kept}
-use Rattle.mv_chain.specs.History.{Written, Seen, seen_without, stands, shown}
+use Rattle.mv_chain.specs.Accesses.{Written, Seen, seen_without, stands, shown}
 use Rattle.xa_model.specs.State.{Branch}
 use Rattle.xa_model.specs.Source.{write_of}
 use Rattle.xa_model.specs.Sound.{Descends}

@@ -8,16 +8,16 @@ use Rattle.mv_chain.specs.declared.version.Version.{Version}
 use Rattle.mv_chain.specs.declared.pool.Pool.{Pool}
 use Rattle.mv_chain.specs.declared.chain.Chain.{Chain}
 use Rattle.mv_chain.specs.Chain.{fresh, shows, has_base, pruned, StandsFor as ChainStandsFor}
-use Rattle.mv_chain.specs.History.{absent, nobody, seen}
+use Rattle.mv_chain.specs.Accesses.{absent, nobody, seen}
 use Rattle.mv_chain.specs.Idle.{is_idle}
 use Rattle.mv_chain.specs.Pool.{versions_of, IsKept, LeavesOthers, LeavesOthersAt}
 use Rattle.mv_rules.specs.declared.records.Records.{Records}
 use Rattle.mv_rules.specs.declared.own.Own.{Own}
 use Rattle.mv_rules.specs.declared.own.Notes.{Notes}
 use Rattle.mv_rules.specs.declared.answers.Got.{Got}
-use Rattle.mv_rules.specs.History.{History, answer_of}
+use Rattle.mv_rules.specs.Accesses.{Accesses, answer_of}
 use Rattle.mv_rules.specs.Held.{IsHeld, Changes}
-use Rattle.mv_rules.specs.Records.{StandsFor, ChainsStandFor, place_of, chain_at}
+use Rattle.mv_rules.specs.Records.{StandsFor, ChainsStandFor, index_of, chain_at}
 use Rattle.mv_rules.specs.Tidy.{kept_of, names, is_due, due, not_due, forgotten, tidied, tidied_if, KeepsAll, has_read}
 use Rattle.mv_rules.proofs.Frames.{shown_elsewhere, shown_grown}
 use Rattle.mv_rules.proofs.Changed.{with_chain, changes_at, before_at, after_at}
@@ -32,10 +32,10 @@ differ : (q key : List ℕ) → bytes_eq q key ≡ false → q ≡ key → ⊥
 differ q key d e = let t : bytes_eq q key ≡ true = (bytes_eq-Decides q key).1 e in absurd (cc (t, d))
 
 -- the others stay
-elsewhere : (h : History) (r r2 : Records) (key q : List ℕ) (i : ℕ) → place_of key r ≡ Some i → bytes_eq q key ≡ false → place_of q r2 ≡ place_of q r → Changes i r.pool r.chains r2.pool r2.chains → ChainsStandFor h r → kept_of q r2 ≡ kept_of q r
-elsewhere h r r2 key q i here d same change s = ap (λ o. kept_at o r2) same ∙ at (place_of q r) refl
+elsewhere : (h : Accesses) (r r2 : Records) (key q : List ℕ) (i : ℕ) → index_of key r ≡ Some i → bytes_eq q key ≡ false → index_of q r2 ≡ index_of q r → Changes i r.pool r.chains r2.pool r2.chains → ChainsStandFor h r → kept_of q r2 ≡ kept_of q r
+elsewhere h r r2 key q i here d same change s = ap (λ o. kept_at o r2) same ∙ at (index_of q r) refl
   where
-    at : (o : Option ℕ) → place_of q r ≡ o → kept_at o r2 ≡ kept_at o r
+    at : (o : Option ℕ) → index_of q r ≡ o → kept_at o r2 ≡ kept_at o r
     at None e = refl
     at (Some j) e = ap Some (shown_elsewhere i j r.pool r2.pool r.chains r2.chains change s.held (λ n. differ q key d (s.apart q key i (e ∙ ap Some n) here)))
 
@@ -56,13 +56,13 @@ prunes_nothing r key low none q = at (bytes_eq q key) refl
         let here : kept_of q r ≡ None = ap (λ k. kept_of k r) (same_key q key e) ∙ none in
         here ∙ sym (ap (option_map (pruned low)) here)
 
-pub not_idle : (r : Records) (key : List ℕ) (i low : ℕ) → place_of key r ≡ Some i → is_idle low (chain_at i r) ≡ false → forgotten low (kept_of key r) ≡ kept_of key r
+pub not_idle : (r : Records) (key : List ℕ) (i low : ℕ) → index_of key r ≡ Some i → is_idle low (chain_at i r) ≡ false → forgotten low (kept_of key r) ≡ kept_of key r
 not_idle r key i low here busy =
     let is : kept_of key r ≡ Some (chain_at i r) = ap (λ o. kept_at o r) here in
     ap (forgotten low) is ∙ (rw busy refl ∙ sym is)
 
 -- a key is forgotten
-pub kept_forgotten : (h : History) (r r2 : Records) (key : List ℕ) (i low : ℕ) → place_of key r ≡ Some i → is_idle low (chain_at i r) ≡ true → place_of key r2 ≡ None → ((q : List ℕ) → bytes_eq q key ≡ false → place_of q r2 ≡ place_of q r) → Changes i r.pool r.chains r2.pool r2.chains → ChainsStandFor h r
+pub kept_forgotten : (h : Accesses) (r r2 : Records) (key : List ℕ) (i low : ℕ) → index_of key r ≡ Some i → is_idle low (chain_at i r) ≡ true → index_of key r2 ≡ None → ((q : List ℕ) → bytes_eq q key ≡ false → index_of q r2 ≡ index_of q r) → Changes i r.pool r.chains r2.pool r2.chains → ChainsStandFor h r
     → (q : List ℕ) → kept_of q r2 ≡ (if bytes_eq q key then forgotten low (kept_of q r) else kept_of q r)
 kept_forgotten h r r2 key i low here idle gone_ same change s q = at (bytes_eq q key) refl
   where
@@ -70,12 +70,12 @@ kept_forgotten h r r2 key i low here idle gone_ same change s q = at (bytes_eq q
     at false e = elsewhere h r r2 key q i here e (same q e) change s
     at true e =
         let is : q ≡ key = same_key q key e in
-        let after : kept_of q r2 ≡ None = ap (λ o. kept_at o r2) (ap (λ k. place_of k r2) is ∙ gone_) in
-        let before : kept_of q r ≡ Some (chain_at i r) = ap (λ o. kept_at o r) (ap (λ k. place_of k r) is ∙ here) in
+        let after : kept_of q r2 ≡ None = ap (λ o. kept_at o r2) (ap (λ k. index_of k r2) is ∙ gone_) in
+        let before : kept_of q r ≡ Some (chain_at i r) = ap (λ o. kept_at o r) (ap (λ k. index_of k r) is ∙ here) in
         after ∙ sym (ap (forgotten low) before ∙ rw idle refl)
 
 -- one chain changes
-pub kept_changed : (h : History) (r r2 : Records) (key : List ℕ) (i : ℕ) (f : List Version → List Version) → place_of key r ≡ Some i → ((q : List ℕ) → place_of q r2 ≡ place_of q r) → Changes i r.pool r.chains r2.pool r2.chains → chain_at i r2 ≡ f (chain_at i r) → ChainsStandFor h r
+pub kept_changed : (h : Accesses) (r r2 : Records) (key : List ℕ) (i : ℕ) (f : List Version → List Version) → index_of key r ≡ Some i → ((q : List ℕ) → index_of q r2 ≡ index_of q r) → Changes i r.pool r.chains r2.pool r2.chains → chain_at i r2 ≡ f (chain_at i r) → ChainsStandFor h r
     → (q : List ℕ) → kept_of q r2 ≡ (if bytes_eq q key then option_map f (kept_of q r) else kept_of q r)
 kept_changed h r r2 key i f here same change there s q = at (bytes_eq q key) refl
   where
@@ -83,12 +83,12 @@ kept_changed h r r2 key i f here same change there s q = at (bytes_eq q key) ref
     at false e = elsewhere h r r2 key q i here e (same q) change s
     at true e =
         let is : q ≡ key = same_key q key e in
-        let was : place_of q r ≡ Some i = ap (λ k. place_of k r) is ∙ here in
+        let was : index_of q r ≡ Some i = ap (λ k. index_of k r) is ∙ here in
         let after : kept_of q r2 ≡ Some (chain_at i r2) = ap (λ o. kept_at o r2) (same q ∙ was) in
         let before : kept_of q r ≡ Some (chain_at i r) = ap (λ o. kept_at o r) was in
         after ∙ (ap Some there ∙ sym (ap (option_map f) before))
 
-module _ (h : History) (r : Records) (key : List ℕ) (i : ℕ) (a b : Chain) (p2 : Pool) (notes : BTreeMap ℕ Notes) (s : StandsFor h r) (here : place_of key r ≡ Some i) (there : chain_in r.chains i ≡ Some a) (leaves : LeavesOthers r.pool a p2 b) (keeps : IsKept r.pool a → IsKept p2 b) where
+module _ (h : Accesses) (r : Records) (key : List ℕ) (i : ℕ) (a b : Chain) (p2 : Pool) (notes : BTreeMap ℕ Notes) (s : StandsFor h r) (here : index_of key r ≡ Some i) (there : chain_in r.chains i ≡ Some a) (leaves : LeavesOthers r.pool a p2 b) (keeps : IsKept r.pool a → IsKept p2 b) where
   pub kept_with : (f : List Version → List Version) → (IsKept r.pool a → versions_of p2 b ≡ f (versions_of r.pool a)) → (q : List ℕ) → kept_of q (with_chain r i p2 b notes) ≡ (if bytes_eq q key then option_map f (kept_of q r) else kept_of q r)
   kept_with f is =
       kept_changed h r (with_chain r i p2 b notes) key i f here (λ q. refl) (changes_at h r key i a b p2 notes s here there leaves keeps)
@@ -196,32 +196,32 @@ none_left low (e ∷ es) = at (is_due low e) refl (none_left low es)
     at false d rest = rw d refl
 
 -- where the code leaves every chain as it was
-pub keeps_alike : (r r2 : Records) → ((q : List ℕ) → place_of q r2 ≡ place_of q r) → SameValues r.chains r2.chains → LeavesOthersAt r.pool [] r2.pool [] → IsHeld r.pool r.chains → KeepsAll r r2
-keeps_alike r r2 places same leaves held q = ap (λ o. kept_at o r2) (places q) ∙ at (place_of q r)
+pub keeps_alike : (r r2 : Records) → ((q : List ℕ) → index_of q r2 ≡ index_of q r) → SameValues r.chains r2.chains → LeavesOthersAt r.pool [] r2.pool [] → IsHeld r.pool r.chains → KeepsAll r r2
+keeps_alike r r2 indices same leaves held q = ap (λ o. kept_at o r2) (indices q) ∙ at (index_of q r)
   where
     at : (o : Option ℕ) → kept_at o r2 ≡ kept_at o r
     at None = refl
     at (Some i) = ap Some (shown_grown r.pool r2.pool r.chains r2.chains i same leaves held)
 
 -- a key is added
-pub kept_added : (h : History) (r r2 : Records) (key : List ℕ) (new : ℕ) → place_of key r ≡ None → chain_in r.chains new ≡ None → Changes new r.pool r.chains r2.pool r2.chains → chain_at new r2 ≡ fresh → ((q : List ℕ) → place_of q r2 ≡ (if bytes_eq q key then Some new else place_of q r)) → ChainsStandFor h r
+pub kept_added : (h : Accesses) (r r2 : Records) (key : List ℕ) (new : ℕ) → index_of key r ≡ None → chain_in r.chains new ≡ None → Changes new r.pool r.chains r2.pool r2.chains → chain_at new r2 ≡ fresh → ((q : List ℕ) → index_of q r2 ≡ (if bytes_eq q key then Some new else index_of q r)) → ChainsStandFor h r
     → (q : List ℕ) → kept_of q r2 ≡ (if bytes_eq q key then Some fresh else kept_of q r)
 kept_added h r r2 key new none vacant change at_new found s q = at (bytes_eq q key) refl
   where
-    other : (j : ℕ) → place_of q r ≡ Some j → j ≢ new
+    other : (j : ℕ) → index_of q r ≡ Some j → j ≢ new
     other j e same = absurd (cc (s.within q j e, ap (λ k. is_some (chain_in r.chains k)) same, ap is_some vacant))
 
-    stays : (o : Option ℕ) → place_of q r ≡ o → kept_at o r2 ≡ kept_at o r
+    stays : (o : Option ℕ) → index_of q r ≡ o → kept_at o r2 ≡ kept_at o r
     stays None e = refl
     stays (Some j) e = ap Some (shown_elsewhere new j r.pool r2.pool r.chains r2.chains change s.held (other j e))
 
     at : (x : Bool) → bytes_eq q key ≡ x → kept_of q r2 ≡ (if x then Some fresh else kept_of q r)
     at true e =
-        let here : place_of q r2 ≡ Some new = found q ∙ rw e refl in
+        let here : index_of q r2 ≡ Some new = found q ∙ rw e refl in
         ap (λ o. kept_at o r2) here ∙ ap Some at_new
     at false e =
-        let here : place_of q r2 ≡ place_of q r = found q ∙ rw e refl in
-        ap (λ o. kept_at o r2) here ∙ stays (place_of q r) refl
+        let here : index_of q r2 ≡ index_of q r = found q ∙ rw e refl in
+        ap (λ o. kept_at o r2) here ∙ stays (index_of q r) refl
 
 -- one chain is as it was
 pub same_kept : (r r2 : Records) (key : List ℕ) → ((q : List ℕ) → kept_of q r2 ≡ (if bytes_eq q key then option_map (λ vs. vs) (kept_of q r) else kept_of q r)) → KeepsAll r r2
@@ -240,7 +240,7 @@ unmade r made used left key none begun same over q = over q ∙ (rw same (at (by
     at true e b = ap (forgotten 0) b ∙ sym (ap (λ k. kept_of k r) (same_key q key e) ∙ none)
     at false e b = b
 
-pub absent_kept : (r : Records) (key : List ℕ) → place_of key r ≡ None → kept_of key r ≡ None
+pub absent_kept : (r : Records) (key : List ℕ) → index_of key r ≡ None → kept_of key r ≡ None
 absent_kept r key none = ap (λ o. kept_at o r) none
 
 -- a key that nobody wrote is read
@@ -251,7 +251,7 @@ fresh_shows t = at (nat_le 0 t)
     at true = refl
     at false = refl
 
-pub reads_unwritten : (h : History) (r : Records) (key : List ℕ) (t : ℕ) (got : Got) → StandsFor h r → place_of key r ≡ None → h.low ≤ t → has_read got ≡ false → got ≡ answer_of t (seen key t h.writes) → ⊥
+pub reads_unwritten : (h : Accesses) (r : Records) (key : List ℕ) (t : ℕ) (got : Got) → StandsFor h r → index_of key r ≡ None → h.low ≤ t → has_read got ≡ false → got ≡ answer_of t (seen key t h.writes) → ⊥
 reads_unwritten h r key t got s none le unread answer =
     let here : ChainStandsFor key h.low h.writes h.reads fresh = rw none at (s.chains.chains key) in
     let shown : absent ≡ seen key t h.writes = sym (fresh_shows t) ∙ here.seen nobody t le in

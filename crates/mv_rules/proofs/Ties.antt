@@ -5,7 +5,7 @@ use Rattle.std.specs.List.{cons_option, AllByRecursion as Each}
 use Rattle.std.proofs.lemmas.Bool.Decides.{nat_tests}
 use Rattle.std.proofs.lemmas.Slice.Eq.{bytes_eq-Decides}
 use Rattle.mv_chain.specs.declared.fate.Fate.{Fate}
-use Rattle.mv_chain.specs.History.{Written, Seen, seen, seen_without, stands, nobody, is_undecided, is_late}
+use Rattle.mv_chain.specs.Accesses.{Written, Seen, seen, seen_without, stands, nobody, is_undecided, is_late}
 use Rattle.xa_model.specs.State.{Branch, Operation, Got, Wrote, Phase, Working, Prepared, Committed, Read, is_committed}
 use Rattle.xa_model.specs.Source.{Version, write_of, version_by, versions_of, absent, later, newest, source, passes_over, is_late as is_late_among}
 use Rattle.xa_model.specs.Sound.{Descends}

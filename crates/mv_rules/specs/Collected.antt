@@ -13,7 +13,7 @@ as_write e = record { key = e.0; value = e.1 }
 
 -- what the branch sees at its key o, if that is the key asked for
 abbrev pub collecting : ℕ → Pool → Slab Chain → List ℕ → Option (Option (List ℕ)) → Own → Option (Option (List ℕ))
-collecting t pool chains key best o = if bytes_eq o.key key then Some (shows t (shown_in pool (chain_in chains o.place))).value else best
+collecting t pool chains key best o = if bytes_eq o.key key then Some (shows t (shown_in pool (chain_in chains o.index))).value else best
 
 -- what the branch sees at the key, if it is in the list
 abbrev pub collected : ℕ → Pool → Slab Chain → List ℕ → List Own → Option (Option (List ℕ))

@@ -1,4 +1,4 @@
-pub mod History
+pub mod Accesses
 pub mod Own
 pub mod Held
 pub mod Records

@@ -13,7 +13,7 @@ use Rattle.mv_rules.specs.declared.records.Records.{Records}
 use Rattle.mv_rules.specs.declared.own.Own.{Own}
 use Rattle.mv_rules.specs.declared.own.Notes.{Notes}
 use Rattle.mv_rules.specs.Own.{own_in, decided_in, read_in}
-use Rattle.mv_rules.specs.Records.{own_of, place_of}
+use Rattle.mv_rules.specs.Records.{own_of, index_of}
 use Rattle.mv_rules.specs.Tidy.{kept_of, names, Tidies, IsDrained, KeepsAll}
 
 -- at one timestamp these keys are noted, and all else is as it was
@@ -36,7 +36,7 @@ read_by ts versions = marked (shows ts versions).from ts versions
 
 -- a key is noted that nobody wrote, and nobody read at this timestamp or a later one
 pub record NotesRead (ts : ℕ) (key : List ℕ) (versions : List Version) (old new : BTreeMap ℕ Notes) : Type 0 where
-  pub unknown : is_idle (ts - 1) versions ≡ true → NotesAt ts (own_in ts old) (decided_in ts old) (read_in ts old ++ (record { key = key; place = 0 }) ∷ []) old new
+  pub unknown : is_idle (ts - 1) versions ≡ true → NotesAt ts (own_in ts old) (decided_in ts old) (read_in ts old ++ (record { key = key; index = 0 }) ∷ []) old new
   pub known : is_idle (ts - 1) versions ≡ false → new ≡ old
 
 -- what an answered get leaves
@@ -48,7 +48,7 @@ pub record Reads (ts : ℕ) (key : List ℕ) (old new : Records) : Type 0 where
 pub record Puts (ts : ℕ) (key : List ℕ) (value : Option (List ℕ)) (old new : Records) : Type 0 where
   pub kept : (q : List ℕ) → kept_of q new ≡ (if bytes_eq q key then Some (installed ts value (or_fresh (kept_of key old))) else kept_of q old)
   pub again : names key (own_of ts old) ≡ true → new.notes ≡ old.notes
-  pub first : names key (own_of ts old) ≡ false → (i : ℕ) × (place_of key new ≡ Some i) × NotesAt ts (own_of ts old ++ (record { key = key; place = i }) ∷ []) (decided_in ts old.notes) (read_in ts old.notes) old.notes new.notes
+  pub first : names key (own_of ts old) ≡ false → (i : ℕ) × (index_of key new ≡ Some i) × NotesAt ts (own_of ts old ++ (record { key = key; index = i }) ∷ []) (decided_in ts old.notes) (read_in ts old.notes) old.notes new.notes
 
 -- what accepted puts leave, one after another
 abbrev pub PutsAll : ℕ → List Write → Records → Records → Type 0

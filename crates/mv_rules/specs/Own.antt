@@ -7,7 +7,7 @@ use Rattle.std.specs.Ordering.{nat_cmp}
 use Rattle.mv_rules.specs.declared.own.Own.{Own}
 use Rattle.mv_rules.specs.declared.own.Notes.{Notes}
 
--- the keys that the undecided branch has written, each with its place
+-- the keys that the undecided branch has written, each with its index
 abbrev pub own_in : ℕ → BTreeMap ℕ Notes → List Own
 own_in t notes = option_map_or (λ n. n.written.items) (get_by (nat_cmp t) notes) []
 
@@ -20,4 +20,4 @@ abbrev pub read_in : ℕ → BTreeMap ℕ Notes → List Own
 read_in t notes = option_map_or (λ n. n.read.items) (get_by (nat_cmp t) notes) []
 
 abbrev pub is_listed : ℕ → List Own → Bool
-is_listed i own = list_any (λ o. i == o.place) own
+is_listed i own = list_any (λ o. i == o.index) own

@@ -4,12 +4,12 @@ use Rattle.std.specs.List.{AllByRecursion as Each}
 use Rattle.xa_codes.specs.declared.write.Write.{Write}
 use Rattle.mv_chain.specs.declared.fate.Fate.{Fate}
 use Rattle.mv_chain.specs.declared.fate.Fate.TheVariants.{Committed as kept}
-use Rattle.mv_chain.specs.History.{Written}
+use Rattle.mv_chain.specs.Accesses.{Written}
 use Rattle.xa_model.specs.State.{State, timestamp_of}
 use Rattle.xa_model.specs.Durable.{Durable, CommittedBranch, PreparedBranch, IsDurable}
 use Rattle.xa_model.specs.Restored.{IsRestored}
 use Rattle.mv_rules.specs.declared.records.Records.{Records}
-use Rattle.mv_rules.specs.History.{History}
+use Rattle.mv_rules.specs.Accesses.{Accesses}
 use Rattle.mv_rules.specs.Records.{StandsFor}
 use Rattle.mv_rules.specs.Ties.{history_of}
 
@@ -35,7 +35,7 @@ abbrev pub restored : Durable → List Written
 restored d = restored_by d.committed d.prepared
 
 -- a branch that lasted may be added: nobody has read, and nothing was written at its timestamp
-pub record IsRestorable (t : ℕ) (h : History) : Type 0 where
+pub record IsRestorable (t : ℕ) (h : Accesses) : Type 0 where
   pub positive : 0 < t
   pub above : h.low ≤ t
   pub unread : h.reads ≡ []
@@ -43,7 +43,7 @@ pub record IsRestorable (t : ℕ) (h : History) : Type 0 where
 
 -- the low water may rise
 abbrev pub LowRises : Type 0
-LowRises = (h : History) (r : Records) (low : ℕ) → StandsFor h r → h.low ≤ low → StandsFor (record h { low = low }) r
+LowRises = (h : Accesses) (r : Records) (low : ℕ) → StandsFor h r → h.low ≤ low → StandsFor (record h { low = low }) r
 
 -- what stands for the branches that lasted stands for each state that they are restored to
 abbrev pub StandsRestored : Type 0

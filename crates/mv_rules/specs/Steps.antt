@@ -5,16 +5,16 @@ use Rattle.mv_chain.specs.declared.pool.Pool.{Pool}
 use Rattle.mv_chain.specs.declared.chain.Chain.{Chain}
 use Rattle.mv_chain.specs.declared.fate.Fate.{Fate}
 use Rattle.mv_chain.specs.declared.version.Version.{Version}
-use Rattle.mv_chain.specs.History.{Written, Answered, is_late, decided, IsOpen, IsUnsettled}
+use Rattle.mv_chain.specs.Accesses.{Written, Answered, is_late, decided, IsUndecided, IsUnsettled}
 use Rattle.mv_chain.specs.Chain.{settled, StandsFor}
 use Rattle.mv_rules.specs.declared.own.Own.{Own}
-use Rattle.mv_rules.specs.History.{wrote}
+use Rattle.mv_rules.specs.Accesses.{wrote}
 use Rattle.mv_rules.specs.Held.{shown_in, IsHeld}
 use Rattle.mv_rules.specs.Own.{is_listed}
 
 -- every history that it stood for, with the branch's fate decided
 abbrev pub IsSettled : ℕ → Fate → List Version → List Version → Type 0
-IsSettled t fate old new = (key : List ℕ) (low : ℕ) (writes : List Written) (reads : List Answered) → StandsFor key low writes reads old → IsOpen t writes → StandsFor key low (decided t fate writes) reads new
+IsSettled t fate old new = (key : List ℕ) (low : ℕ) (writes : List Written) (reads : List Answered) → StandsFor key low writes reads old → IsUndecided t writes → StandsFor key low (decided t fate writes) reads new
 
 -- every history that it stood for, with one more write, unless that is late
 abbrev pub IsWritten : ℕ → Option (List ℕ) → List Version → List Version → Type 0

@@ -10,11 +10,11 @@ use Rattle.mv_rules.specs.declared.own.Own.{Own}
 use Rattle.mv_rules.specs.declared.own.Notes.{Notes}
 use Rattle.mv_rules.specs.declared.answers.Got.{Got}
 use Rattle.mv_rules.specs.declared.answers.Got.TheVariants.{Value, Absent, Busy, Memory}
-use Rattle.mv_rules.specs.Records.{place_of, chain_at}
+use Rattle.mv_rules.specs.Records.{index_of, chain_at}
 
 -- the versions that are kept of a key; None where nothing is kept of it
 abbrev pub kept_of : List ℕ → Records → Option (List Version)
-kept_of key r = option_map (λ i. chain_at i r) (place_of key r)
+kept_of key r = option_map (λ i. chain_at i r) (index_of key r)
 
 abbrev pub names : List ℕ → List Own → Bool
 names key own = list_any (λ o. bytes_eq key o.key) own

@@ -4,12 +4,12 @@
 use Rattle.std.specs.Prelude.{◌≡◌, ℕ, max, not, List, [], ◌∷◌, ◌++◌, Option, Some, None, map}
 use Rattle.mv_chain.specs.declared.fate.Fate.{Fate}
 use Rattle.mv_chain.specs.declared.fate.Fate.TheVariants.{Committed as kept}
-use Rattle.mv_chain.specs.History.{Written, Answered, Seen, seen, is_late}
+use Rattle.mv_chain.specs.Accesses.{Written, Answered, Seen, seen, is_late}
 use Rattle.xa_model.specs.State.{State, Branch, Operation, Got, Wrote, Phase, Working, Prepared, Committed, Read, timestamp_of}
 use Rattle.xa_model.specs.LowWater.{low_water}
 use Rattle.xa_model.specs.Source.{Version, source, is_late as is_late_among}
 use Rattle.xa_model.specs.Sound.{Descends}
-use Rattle.mv_rules.specs.History.{History}
+use Rattle.mv_rules.specs.Accesses.{Accesses}
 
 abbrev pub fate_of : Phase → Option Fate
 fate_of (Working xid mark) = None
@@ -37,7 +37,7 @@ read_as r = record { reader = r.reader; key = r.key; from = r.source }
 abbrev pub low_of : State → ℕ
 low_of s = max (timestamp_of s.boot 0) (low_water s)
 
-abbrev pub history_of : State → History
+abbrev pub history_of : State → Accesses
 history_of s = record { low = low_of s; writes = writes_in s.branches; reads = map read_as s.reads }
 
 abbrev pub seen_as : Version → Seen

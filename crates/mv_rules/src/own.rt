@@ -8,11 +8,11 @@ use std::collections::BTreeMap;
 use std::mem;
 use xa_codes::Bytes;
 
-/// A key that a branch has written, and the place of its chain.
+/// A key that a branch has written, and the index of its chain.
 #[derive(Debug, Drop)]
 pub struct Own {
     pub key: Bytes,
-    pub place: usize,
+    pub index: usize,
 }
 
 /// What is kept of a branch until the low water has passed it.

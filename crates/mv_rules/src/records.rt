@@ -1,7 +1,7 @@
 ghost use Rattle.std.specs.Prelude.{◌≡◌, ◌≢◌, ℕ, ◌≤◌, max, List, [], ◌∷◌, Some, None, false, true, IsSome, IfOk, OnOk, OnErr, option_map, bytes_eq, if◌then◌else◌};
 ghost use Rattle.mv_chain.specs.Chain.{fresh, pruned};
 ghost use Rattle.mv_chain.specs.Within.{IsShort};
-ghost use Rattle.mv_chain.specs.History.{seen, is_late, has_open, decided, AreWhole, IsOpen, IsUnsettled};
+ghost use Rattle.mv_chain.specs.Accesses.{seen, is_late, has_undecided, decided, AreWhole, IsUndecided, IsUnsettled};
 
 use crate::answers::{Got, Put};
 use crate::own::{Notes, Own, count, keep_decided, next_due};
@@ -22,7 +22,7 @@ use xa_codes::{Bytes, Write};
 pub struct Records {
     alloc: Global,
     /// Where each key's chain stands.
-    places: BTreeMap<Vec<u8>, usize>,
+    indices: BTreeMap<Vec<u8>, usize>,
     chains: Slab<Chain>,
     /// The versions of all chains.
     pool: Pool,
@@ -31,9 +31,9 @@ pub struct Records {
 }
 
 impl Records {
-    ghost use Rattle.mv_rules.specs.History.{History, answer_of, reads_after, open_keys, put_of, after_put, wrote, IsWritesOf, IsWholeAt};
+    ghost use Rattle.mv_rules.specs.Accesses.{Accesses, answer_of, reads_after, undecided_keys, put_of, after_put, wrote, IsWritesOf, IsWholeAt};
     ghost use Rattle.mv_rules.specs.Noted.{Reads, Puts, Settles, Restores};
-    ghost use Rattle.mv_rules.specs.Records.{StandsFor, place_of, versions_in};
+    ghost use Rattle.mv_rules.specs.Records.{StandsFor, index_of, versions_in};
     ghost use Rattle.mv_rules.specs.Restoring.{with_branch, IsRestorable};
     ghost use Rattle.mv_rules.specs.Tidy.{kept_of, names, forgotten, tidied_if, Tidies, IsDrained, KeepsAll, has_read};
     ghost use Rattle.mv_rules.specs.Within.{IsWithin, KeepsWithin, IsShortAnswer, AreShort};
@@ -45,7 +45,7 @@ impl Records {
     {
         Records {
             alloc,
-            places: BTreeMap::new(alloc),
+            indices: BTreeMap::new(alloc),
             chains: Slab::new(alloc),
             pool: Pool::new(alloc),
             notes: BTreeMap::new(alloc),
@@ -54,11 +54,11 @@ impl Records {
 
     /// Makes the chain of a key that has none.
     fn make(&mut self, key: &[u8]) -> Result<usize, AllocError>
-        ensures place { IfOk result (λ i. place_of key.now self.new ≡ Some i) }
-        ensures stands { (h : History) → StandsFor h self.old → place_of key.now self.old ≡ None → StandsFor h self.new }
-        ensures made { OnOk result ((h : History) → StandsFor h self.old → place_of key.now self.old ≡ None → (q : List ℕ)
+        ensures index { IfOk result (λ i. index_of key.now self.new ≡ Some i) }
+        ensures stands { (h : Accesses) → StandsFor h self.old → index_of key.now self.old ≡ None → StandsFor h self.new }
+        ensures made { OnOk result ((h : Accesses) → StandsFor h self.old → index_of key.now self.old ≡ None → (q : List ℕ)
             → kept_of q self.new ≡ (if bytes_eq q key.now then Some fresh else kept_of q self.old)) }
-        ensures same { OnErr result ((h : History) → StandsFor h self.old → place_of key.now self.old ≡ None
+        ensures same { OnErr result ((h : Accesses) → StandsFor h self.old → index_of key.now self.old ≡ None
             → KeepsAll self.old self.new) }
         ensures notes { self.new.notes ≡ self.old.notes }
         ensures within { KeepsWithin self.old self.new }
@@ -66,11 +66,11 @@ impl Records {
         let copy = key.to_vec(self.alloc)?;
         self.chains.reserve(1)?;
         let i = self.chains.vacant_key();
-        self.places.insert(copy, i)?;
+        self.indices.insert(copy, i)?;
         match Chain::new(&mut self.pool) {
             Ok(chain) => Ok(self.chains.insert_reserved(chain)),
             Err(refused) => {
-                self.places.remove(key);
+                self.indices.remove(key);
                 Err(refused)
             }
         }
@@ -78,13 +78,13 @@ impl Records {
 
     /// Forgets a key that nobody has written, and whose reads lie below `low`. Takes no memory.
     fn forget(&mut self, key: &[u8], low: u64)
-        ensures stands { (h : History) → StandsFor h self.old → IsWholeAt key.now h.writes → low ≤ h.low → StandsFor h self.new }
-        ensures kept { (h : History) → StandsFor h self.old → (q : List ℕ)
+        ensures stands { (h : Accesses) → StandsFor h self.old → IsWholeAt key.now h.writes → low ≤ h.low → StandsFor h self.new }
+        ensures kept { (h : Accesses) → StandsFor h self.old → (q : List ℕ)
             → kept_of q self.new ≡ (if bytes_eq q key.now then forgotten low (kept_of q self.old) else kept_of q self.old) }
         ensures notes { self.new.notes ≡ self.old.notes }
         ensures within { KeepsWithin self.old self.new }
     {
-        let Some(i) = self.places.get(key) else {
+        let Some(i) = self.indices.get(key) else {
             return;
         };
         let i = *i;
@@ -94,7 +94,7 @@ impl Records {
         if !chain.is_idle(&self.pool, low) {
             return;
         }
-        self.places.remove(key);
+        self.indices.remove(key);
         if let Some(mut chain) = self.chains.try_remove(i) {
             chain.clear(&mut self.pool);
         }
@@ -102,11 +102,11 @@ impl Records {
 
     /// What a branch of timestamp `ts` reads at the key, whose chain stands at `i`.
     fn get_at(&mut self, i: usize, ts: u64, key: &[u8]) -> Got
-        ensures answer { (h : History) → StandsFor h self.old → place_of key.now self.old ≡ Some i → h.low ≤ ts → result ≢ Got.Memory → result ≡ answer_of ts (seen key.now ts h.writes) }
-        ensures stands { (h : History) → StandsFor h self.old → place_of key.now self.old ≡ Some i → h.low ≤ ts → StandsFor (record h { reads = reads_after result ts key.now (seen key.now ts h.writes).from h.reads }) self.new }
-        ensures same { has_read result ≡ false → (h : History) → StandsFor h self.old → place_of key.now self.old ≡ Some i
+        ensures answer { (h : Accesses) → StandsFor h self.old → index_of key.now self.old ≡ Some i → h.low ≤ ts → result ≢ Got.Memory → result ≡ answer_of ts (seen key.now ts h.writes) }
+        ensures stands { (h : Accesses) → StandsFor h self.old → index_of key.now self.old ≡ Some i → h.low ≤ ts → StandsFor (record h { reads = reads_after result ts key.now (seen key.now ts h.writes).from h.reads }) self.new }
+        ensures same { has_read result ≡ false → (h : Accesses) → StandsFor h self.old → index_of key.now self.old ≡ Some i
             → KeepsAll self.old self.new }
-        ensures reads { has_read result ≡ true → (h : History) → StandsFor h self.old → place_of key.now self.old ≡ Some i
+        ensures reads { has_read result ≡ true → (h : Accesses) → StandsFor h self.old → index_of key.now self.old ≡ Some i
             → Reads ts key.now self.old self.new }
         ensures short { (n : ℕ) → IsWithin n self.old → IsShortAnswer n result }
         ensures within { KeepsWithin self.old self.new }
@@ -120,15 +120,15 @@ impl Records {
     /// What a branch of timestamp `ts` reads at the key. An answered read is noted; Busy and want of memory
     /// change nothing.
     pub fn get(&mut self, ts: u64, key: &[u8]) -> Got
-        ensures answer { (h : History) → StandsFor h self.old → h.low ≤ ts → result ≢ Got.Memory → result ≡ answer_of ts (seen key.now ts h.writes) }
-        ensures stands { (h : History) → StandsFor h self.old → h.low ≤ ts → StandsFor (record h { reads = reads_after result ts key.now (seen key.now ts h.writes).from h.reads }) self.new }
-        ensures same { has_read result ≡ false → (h : History) → StandsFor h self.old → h.low ≤ ts
+        ensures answer { (h : Accesses) → StandsFor h self.old → h.low ≤ ts → result ≢ Got.Memory → result ≡ answer_of ts (seen key.now ts h.writes) }
+        ensures stands { (h : Accesses) → StandsFor h self.old → h.low ≤ ts → StandsFor (record h { reads = reads_after result ts key.now (seen key.now ts h.writes).from h.reads }) self.new }
+        ensures same { has_read result ≡ false → (h : Accesses) → StandsFor h self.old → h.low ≤ ts
             → KeepsAll self.old self.new }
-        ensures reads { has_read result ≡ true → (h : History) → StandsFor h self.old → Reads ts key.now self.old self.new }
+        ensures reads { has_read result ≡ true → (h : Accesses) → StandsFor h self.old → Reads ts key.now self.old self.new }
         ensures short { (n : ℕ) → IsWithin n self.old → IsShortAnswer n result }
         ensures within { KeepsWithin self.old self.new }
     {
-        if let Some(i) = self.places.get(key) {
+        if let Some(i) = self.indices.get(key) {
             let i = *i;
             return self.get_at(i, ts, key);
         }
@@ -145,11 +145,11 @@ impl Records {
 
     /// Adds a branch's write of the key, whose chain stands at `i`.
     fn put_at(&mut self, i: usize, ts: u64, key: &[u8], value: Option<Vec<u8>>) -> Put
-        ensures answer { (h : History) → StandsFor h self.old → place_of key.now self.old ≡ Some i → IsUnsettled ts h.low h.writes → result ≢ Put.Memory → result ≡ put_of (has_open key.now ts h.writes) (open_keys ts h.writes) (is_late key.now ts h.reads) }
-        ensures stands { (h : History) → StandsFor h self.old → place_of key.now self.old ≡ Some i → IsUnsettled ts h.low h.writes → StandsFor (after_put result ts key.now (option_map (λ v. v.items) value) h) self.new }
-        ensures same { result ≢ Put.Done → (h : History) → StandsFor h self.old → place_of key.now self.old ≡ Some i
+        ensures answer { (h : Accesses) → StandsFor h self.old → index_of key.now self.old ≡ Some i → IsUnsettled ts h.low h.writes → result ≢ Put.Memory → result ≡ put_of (has_undecided key.now ts h.writes) (undecided_keys ts h.writes) (is_late key.now ts h.reads) }
+        ensures stands { (h : Accesses) → StandsFor h self.old → index_of key.now self.old ≡ Some i → IsUnsettled ts h.low h.writes → StandsFor (after_put result ts key.now (option_map (λ v. v.items) value) h) self.new }
+        ensures same { result ≢ Put.Done → (h : Accesses) → StandsFor h self.old → index_of key.now self.old ≡ Some i
             → KeepsAll self.old self.new }
-        ensures puts { result ≡ Put.Done → (h : History) → StandsFor h self.old → place_of key.now self.old ≡ Some i
+        ensures puts { result ≡ Put.Done → (h : Accesses) → StandsFor h self.old → index_of key.now self.old ≡ Some i
             → IsUnsettled ts h.low h.writes → Puts ts key.now (option_map (λ v. v.items) value) self.old self.new }
         ensures within { (n : ℕ) → IsWithin n self.old → IsShort n (option_map (λ v. v.items) value) → IsWithin n self.new }
     {
@@ -170,7 +170,7 @@ impl Records {
                 };
                 let own = Own {
                     key: copy,
-                    place: i,
+                    index: i,
                 };
                 match add(
                     self.alloc,
@@ -191,15 +191,15 @@ impl Records {
     /// Adds a branch's write, or replaces its own: `None` deletes the key. A branch writes at most `MOST_WRITES` keys.
     /// Limit, Late and want of memory change nothing.
     pub fn put(&mut self, ts: u64, key: &[u8], value: Option<Vec<u8>>) -> Put
-        ensures answer { (h : History) → StandsFor h self.old → IsUnsettled ts h.low h.writes → result ≢ Put.Memory → result ≡ put_of (has_open key.now ts h.writes) (open_keys ts h.writes) (is_late key.now ts h.reads) }
-        ensures stands { (h : History) → StandsFor h self.old → IsUnsettled ts h.low h.writes → StandsFor (after_put result ts key.now (option_map (λ v. v.items) value) h) self.new }
-        ensures same { result ≢ Put.Done → (h : History) → StandsFor h self.old → IsUnsettled ts h.low h.writes
+        ensures answer { (h : Accesses) → StandsFor h self.old → IsUnsettled ts h.low h.writes → result ≢ Put.Memory → result ≡ put_of (has_undecided key.now ts h.writes) (undecided_keys ts h.writes) (is_late key.now ts h.reads) }
+        ensures stands { (h : Accesses) → StandsFor h self.old → IsUnsettled ts h.low h.writes → StandsFor (after_put result ts key.now (option_map (λ v. v.items) value) h) self.new }
+        ensures same { result ≢ Put.Done → (h : Accesses) → StandsFor h self.old → IsUnsettled ts h.low h.writes
             → KeepsAll self.old self.new }
-        ensures puts { result ≡ Put.Done → (h : History) → StandsFor h self.old → IsUnsettled ts h.low h.writes
+        ensures puts { result ≡ Put.Done → (h : Accesses) → StandsFor h self.old → IsUnsettled ts h.low h.writes
             → Puts ts key.now (option_map (λ v. v.items) value) self.old self.new }
         ensures within { (n : ℕ) → IsWithin n self.old → IsShort n (option_map (λ v. v.items) value) → IsWithin n self.new }
     {
-        if let Some(i) = self.places.get(key) {
+        if let Some(i) = self.indices.get(key) {
             let i = *i;
             return self.put_at(i, ts, key, value);
         }
@@ -216,8 +216,8 @@ impl Records {
 
     /// Decides the fate of a branch, also of one below the low water: its writes stay, or go. Takes no memory.
     pub fn settle(&mut self, ts: u64, fate: Fate)
-        ensures stands { (h : History) → StandsFor h self.old → IsOpen ts h.writes → StandsFor (record h { writes = decided ts fate h.writes }) self.new }
-        ensures settles { (h : History) → StandsFor h self.old → Settles ts fate self.old self.new }
+        ensures stands { (h : Accesses) → StandsFor h self.old → IsUndecided ts h.writes → StandsFor (record h { writes = decided ts fate h.writes }) self.new }
+        ensures settles { (h : Accesses) → StandsFor h self.old → Settles ts fate self.old self.new }
         ensures within { KeepsWithin self.old self.new }
     {
         let Some(noted) = self.notes.get(&ts) else {
@@ -233,13 +233,13 @@ impl Records {
 
     /// Prunes the chain of a key. Takes no memory.
     fn prune(&mut self, key: &[u8], low: u64)
-        ensures stands { (h : History) → StandsFor h self.old → AreWhole h.writes → low ≤ h.low → StandsFor h self.new }
-        ensures kept { (h : History) → StandsFor h self.old → (q : List ℕ)
+        ensures stands { (h : Accesses) → StandsFor h self.old → AreWhole h.writes → low ≤ h.low → StandsFor h self.new }
+        ensures kept { (h : Accesses) → StandsFor h self.old → (q : List ℕ)
             → kept_of q self.new ≡ (if bytes_eq q key.now then option_map (pruned low) (kept_of q self.old) else kept_of q self.old) }
         ensures notes { self.new.notes ≡ self.old.notes }
         ensures within { KeepsWithin self.old self.new }
     {
-        let Some(i) = self.places.get(key) else {
+        let Some(i) = self.indices.get(key) else {
             return;
         };
         if let Some(chain) = self.chains.get_mut(*i) {
@@ -249,8 +249,8 @@ impl Records {
 
     /// Drops what is no longer read from `low` on of these keys. Takes no memory.
     fn drain(&mut self, due: &[Own], low: u64)
-        ensures stands { (h : History) → StandsFor h self.old → AreWhole h.writes → low ≤ h.low → StandsFor h self.new }
-        ensures kept { (h : History) → StandsFor h self.old → AreWhole h.writes → low ≤ h.low → (q : List ℕ)
+        ensures stands { (h : Accesses) → StandsFor h self.old → AreWhole h.writes → low ≤ h.low → StandsFor h self.new }
+        ensures kept { (h : Accesses) → StandsFor h self.old → AreWhole h.writes → low ≤ h.low → (q : List ℕ)
             → kept_of q self.new ≡ tidied_if low (names q due.now) (kept_of q self.old) }
         ensures notes { self.new.notes ≡ self.old.notes }
         ensures within { KeepsWithin self.old self.new }
@@ -264,8 +264,8 @@ impl Records {
     /// No branch below `low` reads or writes any more, except one that is undecided, which sees its own writes: drops
     /// what is no longer read. It costs what it drops, and takes no memory.
     pub fn low_water(&mut self, low: u64)
-        ensures stands { (h : History) → StandsFor h self.old → AreWhole h.writes → StandsFor (record h { low = max h.low low }) self.new }
-        ensures tidies { (h : History) → StandsFor h self.old → AreWhole h.writes → Tidies low self.old self.new }
+        ensures stands { (h : Accesses) → StandsFor h self.old → AreWhole h.writes → StandsFor (record h { low = max h.low low }) self.new }
+        ensures tidies { (h : Accesses) → StandsFor h self.old → AreWhole h.writes → Tidies low self.old self.new }
         ensures drained { IsDrained low self.new }
         ensures within { KeepsWithin self.old self.new }
     {
@@ -282,17 +282,17 @@ impl Records {
         self.pool.versions() as u64
     }
 
-    /// The place of the key's chain, which is made if there is none.
-    fn place(&mut self, key: &[u8]) -> Result<usize, AllocError>
-        ensures place { IfOk result (λ i. place_of key.now self.new ≡ Some i) }
-        ensures stands { (h : History) → StandsFor h self.old → StandsFor h self.new }
-        ensures known { IsSome (place_of key.now self.old) → self.new ≡ self.old }
-        ensures made { OnOk result ((h : History) → StandsFor h self.old → place_of key.now self.old ≡ None → (q : List ℕ)
+    /// The index of the key's chain, which is made if there is none.
+    fn find_or_make(&mut self, key: &[u8]) -> Result<usize, AllocError>
+        ensures index { IfOk result (λ i. index_of key.now self.new ≡ Some i) }
+        ensures stands { (h : Accesses) → StandsFor h self.old → StandsFor h self.new }
+        ensures known { IsSome (index_of key.now self.old) → self.new ≡ self.old }
+        ensures made { OnOk result ((h : Accesses) → StandsFor h self.old → index_of key.now self.old ≡ None → (q : List ℕ)
             → kept_of q self.new ≡ (if bytes_eq q key.now then Some fresh else kept_of q self.old)) }
         ensures notes { self.new.notes ≡ self.old.notes }
         ensures within { KeepsWithin self.old self.new }
     {
-        if let Some(i) = self.places.get(key) {
+        if let Some(i) = self.indices.get(key) {
             return Ok(*i);
         }
         self.make(key)
@@ -300,12 +300,12 @@ impl Records {
 
     /// Adds a branch's write, however many keys it has written.
     fn put_back(&mut self, ts: u64, key: &[u8], value: Option<Vec<u8>>) -> Result<(), AllocError>
-        ensures stands { OnOk result ((h : History) → StandsFor h self.old → IsUnsettled ts h.low h.writes → is_late key.now ts h.reads ≡ false → StandsFor (record h { writes = wrote ts key.now (option_map (λ v. v.items) value) ∷ h.writes }) self.new) }
-        ensures puts { OnOk result ((h : History) → StandsFor h self.old → IsUnsettled ts h.low h.writes
+        ensures stands { OnOk result ((h : Accesses) → StandsFor h self.old → IsUnsettled ts h.low h.writes → is_late key.now ts h.reads ≡ false → StandsFor (record h { writes = wrote ts key.now (option_map (λ v. v.items) value) ∷ h.writes }) self.new) }
+        ensures puts { OnOk result ((h : Accesses) → StandsFor h self.old → IsUnsettled ts h.low h.writes
             → Puts ts key.now (option_map (λ v. v.items) value) self.old self.new) }
         ensures within { (n : ℕ) → IsWithin n self.old → IsShort n (option_map (λ v. v.items) value) → IsWithin n self.new }
     {
-        let i = self.place(key)?;
+        let i = self.find_or_make(key)?;
         let Some(chain) = self.chains.get_mut(i) else {
             return Err(AllocError);
         };
@@ -315,7 +315,7 @@ impl Records {
         }
         let own = Own {
             key: Bytes::from_slice(self.alloc, key)?,
-            place: i,
+            index: i,
         };
         add(
             self.alloc,
@@ -339,8 +339,8 @@ impl Records {
         writes: &[Write],
         fate: Option<Fate>,
     ) -> Result<(), AllocError>
-        ensures stands { OnOk result ((h : History) → StandsFor h self.old → IsRestorable ts h → StandsFor (record h { writes = with_branch ts fate writes.now h.writes }) self.new) }
-        ensures restores { OnOk result ((h : History) → StandsFor h self.old → IsRestorable ts h → Restores ts writes.now fate self.old self.new) }
+        ensures stands { OnOk result ((h : Accesses) → StandsFor h self.old → IsRestorable ts h → StandsFor (record h { writes = with_branch ts fate writes.now h.writes }) self.new) }
+        ensures restores { OnOk result ((h : Accesses) → StandsFor h self.old → IsRestorable ts h → Restores ts writes.now fate self.old self.new) }
         ensures within { (n : ℕ) → IsWithin n self.old → AreShort n writes.now → IsWithin n self.new }
     {
         for write in writes {
@@ -359,7 +359,7 @@ impl Records {
     /// # Errors
     /// Want of memory.
     pub fn writes_of(&self, ts: u64) -> Result<Vec<Write>, AllocError>
-        ensures writes { IfOk result (λ v. (h : History) → StandsFor h self.now → IsOpen ts h.writes → IsWritesOf ts h.writes v.items) }
+        ensures writes { IfOk result (λ v. (h : Accesses) → StandsFor h self.now → IsUndecided ts h.writes → IsWritesOf ts h.writes v.items) }
         ensures short { IfOk result (λ v. (n : ℕ) → IsWithin n self.now → AreShort n v.items) }
     {
         match self.notes.get(&ts) {

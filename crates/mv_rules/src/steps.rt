@@ -1,10 +1,10 @@
 ghost use Rattle.std.specs.Prelude.{◌≡◌, ◌≢◌, ℕ, ◌≤◌, List, [], ◌∷◌, ◌++◌, ◌==◌, if◌then◌else◌, false, true, OnOk, OnErr, option_map};
-ghost use Rattle.mv_chain.specs.History.{Written, Answered};
+ghost use Rattle.mv_chain.specs.Accesses.{Written, Answered};
 ghost use Rattle.mv_chain.specs.Chain.{shows, installed, StandsFor};
 ghost use Rattle.mv_chain.specs.Look.{looked};
 ghost use Rattle.mv_chain.specs.Pool.{versions_of, IsKept, LeavesOthers};
 ghost use Rattle.mv_chain.specs.Within.{IsShort, IsWithin, KeepsWithin};
-ghost use Rattle.mv_rules.specs.History.{reads_after, answer_of};
+ghost use Rattle.mv_rules.specs.Accesses.{reads_after, answer_of};
 ghost use Rattle.mv_rules.specs.Held.{IsHeld};
 ghost use Rattle.mv_rules.specs.Noted.{NotesAt, read_by, NotesRead};
 ghost use Rattle.mv_rules.specs.Own.{own_in, decided_in, read_in};
@@ -38,7 +38,7 @@ fn note_unwritten(
     }
     let own = Own {
         key: Bytes::from_slice(alloc, key)?,
-        place: 0,
+        index: 0,
     };
     note_read(alloc, notes, ts, own)
 }
@@ -123,7 +123,7 @@ pub(crate) fn settle_all(
     ensures within { KeepsWithin pool.old pool.new }
 {
     for written in own {
-        if let Some(chain) = chains.get_mut(written.place) {
+        if let Some(chain) = chains.get_mut(written.index) {
             chain.settle(pool, ts, fate);
         }
     }

@@ -26,18 +26,18 @@ pub(crate) fn copied(alloc: Global, value: &Option<Bytes>) -> Result<Option<Vec<
     }
 }
 
-/// What a read at `ts` sees in the chain at this place.
+/// What a read at `ts` sees in the chain at this index.
 fn value_at(
     alloc: Global,
     pool: &Pool,
     chains: &Slab<Chain>,
-    place: usize,
+    index: usize,
     ts: u64,
 ) -> Result<Option<Bytes>, AllocError>
-    ensures value { IfOk result (λ v. IsHeld pool.now chains.now → v ≡ (shows ts (shown_in pool.now (chain_in chains.now place))).value) }
+    ensures value { IfOk result (λ v. IsHeld pool.now chains.now → v ≡ (shows ts (shown_in pool.now (chain_in chains.now index))).value) }
     ensures short { IfOk result (λ v. (n : ℕ) → IsWithin n pool.now → IsShort n v) }
 {
-    let Some(chain) = chains.get(place) else {
+    let Some(chain) = chains.get(index) else {
         return Ok(None);
     };
     match chain.value(pool, ts) {
@@ -61,7 +61,7 @@ pub(crate) fn collect(
     let mut values = BTreeMap::new(alloc);
     for written in own {
         let key = written.key.copied(alloc)?;
-        let value = value_at(alloc, pool, chains, written.place, ts)?;
+        let value = value_at(alloc, pool, chains, written.index, ts)?;
         values.insert(key, value)?;
     }
     Ok(values)

@@ -120,8 +120,8 @@ least_number xs t free taken = by_order (nat_lt (free_number xs) (t + 1)) (nat_l
     by_order true d e h =
         let low = lower xs (length xs) 1 in
         let below : free_number xs < t + 1 = grind (arith, nat_tests) in
-        let place : (free_number xs - 1) + 1 ≡ free_number xs = omega (arith, low) in
-        let there : is_some (session_of xs (free_number xs)) ≡ true = subst (λ (i : ℕ). is_some (session_of xs i) ≡ true) place (taken (free_number xs - 1) (omega (arith, low))) in
+        let index : (free_number xs - 1) + 1 ≡ free_number xs = omega (arith, low) in
+        let there : is_some (session_of xs (free_number xs)) ≡ true = subst (λ (i : ℕ). is_some (session_of xs i) ≡ true) index (taken (free_number xs - 1) (omega (arith, low))) in
         absurd (cc (at_free, there))
     by_order false true e h =
         let above : t + 1 < free_number xs = grind (arith, nat_tests) in
@@ -134,7 +134,7 @@ pub never_full : (xs : List Session) (limit : ℕ) → length xs < limit → ((j
 never_full xs limit fewer taken =
     let low = lower xs (length xs) 1 in
     let high = upper xs (length xs) 1 in
-    let place : (free_number xs - 1) + 1 ≡ free_number xs = omega (arith, low) in
-    let there : is_some (session_of xs (free_number xs)) ≡ true = subst (λ (i : ℕ). is_some (session_of xs i) ≡ true) place (taken (free_number xs - 1) (omega (arith, low, high))) in
+    let index : (free_number xs - 1) + 1 ≡ free_number xs = omega (arith, low) in
+    let there : is_some (session_of xs (free_number xs)) ≡ true = subst (λ (i : ℕ). is_some (session_of xs i) ≡ true) index (taken (free_number xs - 1) (omega (arith, low, high))) in
     let here : is_some (session_of xs (free_number xs)) ≡ false = rw (free_number_free xs) refl in
     absurd (cc (here, there))

@@ -6,28 +6,28 @@ use Rattle.std.proofs.lemmas.Nat.Bits.{bit_at_ones}
 use Rattle.std.specs.List.{AllByRecursion}
 use Rattle.xa_assoc.specs.Free.{is_free}
 
--- the lowest bit that is set in the first word that isn't 0 is the first place that is free
+-- the lowest bit that is set in the first word that isn't 0 is the first index that is free
 first_in_word : (words : List ℕ) (i w t k : ℕ) → get_or words i 0 ≡ w → ((j : ℕ) → j < t → bit_at w j ≡ 0) → 64 * i ≤ k → k < 64 * i + t → t < 64 → is_free words k ≡ false
 first_in_word words i w t k at below low high small =
     let word : k / 64 ≡ i = omega arith in
     let bit : k % 64 < t = omega arith in
     rw (word, at, below (k % 64) bit) refl
 
-pub place_free : (words : List ℕ) (i w t : ℕ) → get_or words i 0 ≡ w → t < 64 → bit_at w t ≡ 1 → is_free words (64 * i + t) ≡ true
-place_free words i w t at small is =
+pub index_free : (words : List ℕ) (i w t : ℕ) → get_or words i 0 ≡ w → t < 64 → bit_at w t ≡ 1 → is_free words (64 * i + t) ≡ true
+index_free words i w t at small is =
     let word : (64 * i + t) / 64 ≡ i = omega arith in
     let bit : (64 * i + t) % 64 ≡ t = omega arith in
     rw (word, bit, at, is) refl
 
-pub place_first : (words : List ℕ) (i w t : ℕ) → get_or words i 0 ≡ w → t < 64 → ((j : ℕ) → j < t → bit_at w j ≡ 0) → ((k : ℕ) → k < 64 * i → is_free words k ≡ false)
+pub index_first : (words : List ℕ) (i w t : ℕ) → get_or words i 0 ≡ w → t < 64 → ((j : ℕ) → j < t → bit_at w j ≡ 0) → ((k : ℕ) → k < 64 * i → is_free words k ≡ false)
     → (k : ℕ) → k < 64 * i + t → is_free words k ≡ false
-place_first words i w t at small below before k high = by_side (nat_lt k (64 * i)) refl
+index_first words i w t at small below before k high = by_side (nat_lt k (64 * i)) refl
   where
     by_side : (c : Bool) → nat_lt k (64 * i) ≡ c → is_free words k ≡ false
     by_side true e = before k (grind (arith, nat_tests))
     by_side false e = let low : 64 * i ≤ k = grind (arith, nat_tests) in first_in_word words i w t k at below low high small
 
--- where all words are full, all places are free
+-- where all words are full, all indices are free
 all_same : (xs : List ℕ) (v i : ℕ) → AllByRecursion (λ x. x ≡ v) xs → i < length xs → get_or xs i 0 ≡ v
 all_same [] v i all within = absurd (omega arith)
 all_same (x ∷ xs) v zero all within = all.0

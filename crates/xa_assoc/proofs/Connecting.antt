@@ -33,7 +33,7 @@ taken_is : (m : Sessions) (s : State) (k : ℕ) → SessionsStandFor m s → k <
 taken_is m s k st below =
     sym (opened_some (session_of s.sessions (k + 1))) ∙ ap (λ (o : Option Bool). is_some o) (sym (st.opened (k + 1))) ∙ not_flips (is_free m.free k) (is_some (opened_at m (k + 1))) (st.free k below)
 
--- the first place that is free
+-- the first index that is free
 pub record IsFirst (m : Sessions) (t : ℕ) : Type 0 where
   pub within : t < 1024
   pub free : is_free m.free t ≡ true

@@ -5,7 +5,7 @@ use Rattle.xa_xid.specs.Triple.{Triple}
 use Rattle.xa_frame.specs.declared.reply.Reply.{Reply}
 use Rattle.xa_model.specs.State.{State, active_of, owns, suspends, is_with, is_loose_with, known_as, known_in}
 use Rattle.xa_model.specs.Answer.{Answer, answer}
-use Rattle.xa_model.specs.Associations.{is_taken, is_unknown, is_settled, can_end, start_refusal, join_refusal, resume_refusal, end_refusal}
+use Rattle.xa_model.specs.Associations.{is_taken, is_unknown, is_lasting, can_end, start_refusal, join_refusal, resume_refusal, end_refusal}
 use Rattle.xa_model.specs.Sound.{IsSound}
 use Rattle.xa_model.specs.Step.{opened_of}
 use Rattle.xa_model.specs.Recovering.{scan_of}
@@ -94,8 +94,8 @@ TellsTaken s xid taken = is_taken (known_as s xid) ≡ taken
 abbrev pub TellsUnknown : State → Triple → Bool → Type 0
 TellsUnknown s xid unknown = is_unknown (known_as s xid) ≡ unknown
 
-abbrev pub TellsSettled : State → Triple → Bool → Type 0
-TellsSettled s xid settled = is_settled (known_as s xid) ≡ settled
+abbrev pub TellsLasting : State → Triple → Bool → Type 0
+TellsLasting s xid settled = is_lasting (known_as s xid) ≡ settled
 
 abbrev pub TellsLoose : State → Triple → Bool → Type 0
 TellsLoose s xid has_loose = list_any (is_loose_with xid) s.associations ≡ has_loose

@@ -13,10 +13,10 @@ use xa_xid::Xid;
 
 /// Who is connected and opened.
 impl Sessions {
-    /// The session at a free place, whose number is one more, is connected.
-    pub(crate) fn add_seat(&mut self, place: u64) -> Result<(), AllocError>
-        requires { place < 1024 }
-        ensures ok { OnOk result (Comes self.old (place + 1) self.new) }
+    /// The session at a free index, whose number is one more, is connected.
+    pub(crate) fn add_seat(&mut self, index: u64) -> Result<(), AllocError>
+        requires { index < 1024 }
+        ensures ok { OnOk result (Comes self.old (index + 1) self.new) }
         ensures err { OnErr result (Stays self.old self.new) }
         ensures same { OnErr result (company_of self.new ≡ company_of self.old) }
     {
@@ -26,8 +26,8 @@ impl Sessions {
             own: BTreeSet::new(self.alloc),
             scan: None,
         };
-        self.seats.insert(place + 1, seat)?;
-        make_taken(&mut self.free, place);
+        self.seats.insert(index + 1, seat)?;
+        make_taken(&mut self.free, index);
         Ok(())
     }
 

@@ -30,17 +30,17 @@ impl Sessions {
         if connect_refusal(self.seats.len()).is_some() {
             return Err(ConnectFault::Full);
         }
-        let Some(place) = first_free(&self.free) else {
+        let Some(index) = first_free(&self.free) else {
             return Err(ConnectFault::Full);
         };
         // No number is given twice, whatever the bits say.
-        if self.is_connected(place + 1) {
+        if self.is_connected(index + 1) {
             return Err(ConnectFault::Full);
         }
-        if self.add_seat(place).is_err() {
+        if self.add_seat(index).is_err() {
             return Err(ConnectFault::Memory);
         }
-        Ok(place + 1)
+        Ok(index + 1)
     }
 
     /// Takes the session's seat away, if it is connected, and gives it back: its associations are no more.

@@ -2,7 +2,7 @@ ghost use Rattle.std.specs.Prelude.{◌≡◌, ◌≢◌, ℕ, ◌<◌, ◌==◌
 ghost use Rattle.std.specs.Int.{bit_at};
 ghost use Rattle.xa_assoc.specs.Free.{is_free};
 
-/// The least of the 1,024 places that is free.
+/// The least of the 1,024 indices that is free.
 pub fn first_free(free: &[u64; 16]) -> Option<u64>
     ensures none { IfNone result ((k : ℕ) → k < 1024 → is_free free.now k ≡ false) }
     ensures within { IfSome result (λ n. n < 1024) }
@@ -19,22 +19,22 @@ pub fn first_free(free: &[u64; 16]) -> Option<u64>
     None
 }
 
-/// Makes a place free.
-pub fn make_free(free: &mut [u64; 16], place: u64)
-    requires { place < 1024 }
-    ensures { (k : ℕ) → is_free free.new k ≡ cond (place == k) true (is_free free.old k) }
+/// Makes an index free.
+pub fn make_free(free: &mut [u64; 16], index: u64)
+    requires { index < 1024 }
+    ensures { (k : ℕ) → is_free free.new k ≡ cond (index == k) true (is_free free.old k) }
 {
-    let at = (place / 64) as usize;
-    free[at] = with_bit(free[at], place % 64);
+    let at = (index / 64) as usize;
+    free[at] = with_bit(free[at], index % 64);
 }
 
-/// Takes a place.
-pub fn make_taken(free: &mut [u64; 16], place: u64)
-    requires { place < 1024 }
-    ensures { (k : ℕ) → is_free free.new k ≡ cond (place == k) false (is_free free.old k) }
+/// Takes an index.
+pub fn make_taken(free: &mut [u64; 16], index: u64)
+    requires { index < 1024 }
+    ensures { (k : ℕ) → is_free free.new k ≡ cond (index == k) false (is_free free.old k) }
 {
-    let at = (place / 64) as usize;
-    free[at] = without_bit(free[at], place % 64);
+    let at = (index / 64) as usize;
+    free[at] = without_bit(free[at], index % 64);
 }
 
 fn with_bit(word: u64, bit: u64) -> u64

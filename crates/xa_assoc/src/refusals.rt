@@ -1,6 +1,6 @@
 ghost use Rattle.std.specs.Prelude.{◌≡◌, ℕ, IfSome, false};
 ghost use Rattle.xa_model.specs.State.{Known};
-ghost use Rattle.xa_model.specs.Associations.{connect_refusal, close_refusal, start_refusal, join_refusal, resume_refusal, end_refusal, loose_refusal, is_unknown, is_settled};
+ghost use Rattle.xa_model.specs.Associations.{connect_refusal, close_refusal, start_refusal, join_refusal, resume_refusal, end_refusal, loose_refusal, is_unknown, is_lasting};
 ghost use Rattle.xa_assoc.specs.Refusals.{is_memory, IsBare};
 
 use xa_codes::{Detail, XAER_DUPID, XAER_NOTA, XAER_PROTO, XAER_RMERR};
@@ -54,7 +54,7 @@ pub fn join_refusal(
     unknown: bool,
     settled: bool,
 ) -> Option<Reply>
-    ensures value { (known : Known) → is_unknown known ≡ unknown → is_settled known ≡ settled
+    ensures value { (known : Known) → is_unknown known ≡ unknown → is_lasting known ≡ settled
         → result ≡ join_refusal is_at_work has_suspended known }
     ensures served { IfSome result (λ r. is_memory r.detail ≡ false) }
     ensures bare { IfSome result IsBare }

@@ -2,7 +2,7 @@ ghost use Rattle.std.specs.Prelude.{◌≡◌, IfSome, false};
 ghost use Rattle.xa_xid.specs.Triple.{Triple};
 ghost use Rattle.xa_model.specs.State.{State, known_in};
 ghost use Rattle.xa_assoc.specs.Refusals.{is_memory, IsBare};
-ghost use Rattle.xa_assoc.specs.Sessions.{SessionsStandFor, InEach, InSound, TellsTaken, TellsUnknown, TellsSettled, TellsLoose};
+ghost use Rattle.xa_assoc.specs.Sessions.{SessionsStandFor, InEach, InSound, TellsTaken, TellsUnknown, TellsLasting, TellsLoose};
 ghost use Rattle.xa_assoc.specs.Sessions.{begin_refusal_of, join_refusal_of, resume_refusal_of, suspend_refusal_of, leave_refusal_of};
 
 use crate::refusals::{end_refusal, join_refusal, resume_refusal, start_refusal};
@@ -36,7 +36,7 @@ impl Sessions {
         unknown: bool,
         settled: bool,
     ) -> Option<Reply>
-        ensures value { InSound self.now (λ s. TellsUnknown s xid.now unknown → TellsSettled s xid.now settled
+        ensures value { InSound self.now (λ s. TellsUnknown s xid.now unknown → TellsLasting s xid.now settled
             → result ≡ join_refusal_of s session xid.now) }
         ensures served { IfSome result (λ r. is_memory r.detail ≡ false) }
         ensures bare { IfSome result IsBare }

@@ -127,7 +127,7 @@ fn read_content<R: Read>(alloc: Global, reader: &mut R, count: usize) -> Result<
 }
 
 // Reads a frame and answers it. An end, or Ok where it goes on.
-fn turn<D: Door, R: Read, W: Write>(
+fn exchange<D: Door, R: Read, W: Write>(
     alloc: Global,
     door: &mut D,
     reader: &mut R,
@@ -174,7 +174,7 @@ fn converse<D: Door, R: Read, W: Write>(
         door.old door.new }
 {
     for _ in 0..most {
-        turn(alloc, door, reader, writer, session)?;
+        exchange(alloc, door, reader, writer, session)?;
     }
     Ok(())
 }

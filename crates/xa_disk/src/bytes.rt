@@ -35,7 +35,7 @@ pub(crate) fn put_bytes(bytes: &mut Vec<u8>, at: u64, from: &[u8]) -> Result<(),
     Ok(())
 }
 
-// Fills `into` from a place on, where there are so many bytes, and tells whether there are.
+// Fills `into` from an offset on, where there are so many bytes, and tells whether there are.
 pub(crate) fn read_bytes(bytes: &[u8], at: u64, into: &mut [u8]) -> bool
     ensures within { IsTrue result ↔ at + length into.old ≤ length bytes.now }
     ensures value { IsTrue result → Reads bytes.now at into.new }

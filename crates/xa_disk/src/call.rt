@@ -9,7 +9,7 @@ use std::alloc::{AllocError, Global};
 /// A device call that had an effect.
 #[derive(Debug, Drop)]
 pub enum Call {
-    /// These bytes were written at this place.
+    /// These bytes were written at this offset.
     Write(u64, Vec<u8>),
     Sync,
 }

@@ -35,7 +35,7 @@ pub trait Disk {
     /// What a crash at some moment from that one on may have left.
     ghost left_since: { Self → ℕ → List ℕ → Type 0 };
 
-    /// What a write of these bytes at this place that fails may leave to a read, from what a read gave before.
+    /// What a write of these bytes at this offset that fails may leave to a read, from what a read gave before.
     ghost tears: { List ℕ → ℕ → List ℕ → List ℕ → Type 0 };
 
     /// How many calls have failed. Each fault adds one, and nothing else does; at 2^64 - 1 it stays.
@@ -53,7 +53,7 @@ pub trait Disk {
         ensures calls { counts self.new ≡ with_length (counts self.old) }
         ensures count { CountsFault result (failures self.old) (failures self.new) };
 
-    /// Fills `into` with the bytes from a place on. A read past the length is a fault.
+    /// Fills `into` with the bytes from an offset on. A read past the length is a fault.
     fn read_at(&mut self, at: u64, into: &mut [u8]) -> Result<(), DiskFault>
         ensures value { honest → OnOk result (Reads (seen self.old) at into.new) }
         ensures same { honest → seen self.new ≡ seen self.old }
@@ -62,7 +62,7 @@ pub trait Disk {
         ensures calls { counts self.new ≡ with_read (length into.old) (counts self.old) }
         ensures count { CountsFault result (failures self.old) (failures self.new) };
 
-    /// Writes over what is there, and past the end; a gap before the place is filled with zeros. Until a sync, a
+    /// Writes over what is there, and past the end; a gap before the offset is filled with zeros. Until a sync, a
     /// crash may leave any bytes in the range and past the old end.
     fn write_at(&mut self, at: u64, from: &[u8]) -> Result<(), DiskFault>
         ensures written { honest → OnOk result (seen self.new ≡ put (seen self.old) at from.now) }

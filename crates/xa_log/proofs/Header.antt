@@ -3,33 +3,33 @@ use Rattle.std.proofs.Common.{◌≡◌, ℕ, ◌+◌, false, List, ◌∷◌, �
 use Rattle.xa_disk.specs.Disk.{put}
 use Rattle.xa_log.specs.declared.format.Format.{Format}
 use Rattle.xa_log.specs.declared.format.Format.TheVariants.{One}
-use Rattle.xa_log.specs.Chain.{magic, opening}
+use Rattle.xa_log.specs.Chain.{magic, preamble}
 use Rattle.xa_log.specs.Reading.{is_newer}
 use Rattle.xa_log.proofs.Torn.{put_within}
 
-pub length-opening : (format : Format) → length (opening format) ≡ 12
-length-opening One = refl
+pub length-preamble : (format : Format) → length (preamble format) ≡ 12
+length-preamble One = refl
 
-pub header_magic : (format : Format) (rest : List ℕ) → take 8 (opening format ++ rest) ≡ magic format
+pub header_magic : (format : Format) (rest : List ℕ) → take 8 (preamble format ++ rest) ≡ magic format
 header_magic One rest = refl
 
-pub header_closed : (format : Format) (rest : List ℕ) → drop 8 (opening format ++ rest) ≡ 0 ∷ 0 ∷ 0 ∷ 0 ∷ rest
+pub header_closed : (format : Format) (rest : List ℕ) → drop 8 (preamble format ++ rest) ≡ 0 ∷ 0 ∷ 0 ∷ 0 ∷ rest
 header_closed One rest = refl
 
-pub header_whole : (format : Format) (rest : List ℕ) → take 12 (opening format ++ rest) ≡ opening format
+pub header_whole : (format : Format) (rest : List ℕ) → take 12 (preamble format ++ rest) ≡ preamble format
 header_whole One rest = refl
 
-pub header_rest : (format : Format) (rest : List ℕ) → drop 12 (opening format ++ rest) ≡ rest
+pub header_rest : (format : Format) (rest : List ℕ) → drop 12 (preamble format ++ rest) ≡ rest
 header_rest One rest = refl
 
-pub header_split : (format : Format) (c : List ℕ) → take 12 c ≡ opening format → c ≡ opening format ++ drop 12 c
+pub header_split : (format : Format) (c : List ℕ) → take 12 c ≡ preamble format → c ≡ preamble format ++ drop 12 c
 header_split format c front = sym (take-append-drop 12 c) ∙ ap (λ (l : List ℕ). l ++ drop 12 c) front
 
 -- no format of ours is a later one
 pub magic_known : (format : Format) → is_newer (magic format) ≡ false
 magic_known One = refl
 
-pub put_header : (format : Format) (old : List ℕ) → put old 0 (opening format) ≡ opening format ++ drop 12 old
+pub put_header : (format : Format) (old : List ℕ) → put old 0 (preamble format) ≡ preamble format ++ drop 12 old
 put_header format old =
-    let n : 0 + length (opening format) ≡ 12 = omega (arith, length-opening format) in
-    put_within old 0 (opening format) (omega arith) ∙ ap (λ (k : ℕ). opening format ++ drop k old) n
+    let n : 0 + length (preamble format) ≡ 12 = omega (arith, length-preamble format) in
+    put_within old 0 (preamble format) (omega arith) ∙ ap (λ (k : ℕ). preamble format ++ drop k old) n

@@ -6,7 +6,7 @@ use Rattle.std.proofs.lemmas.List.{drop-drop, length-take-le, ext_get_or, get_or
 use Rattle.xa_disk.specs.Disk.{Torn, AllOrNone}
 use Rattle.xa_log.specs.declared.fault.OpenFault.TheVariants.{NotALog}
 use Rattle.xa_log.specs.declared.format.Format.{Format}
-use Rattle.xa_log.specs.Chain.{start, opening, format_in, size_at, body_at, rest_at, digest_at, is_record, bodies_from, logged}
+use Rattle.xa_log.specs.Chain.{start, preamble, format_in, size_at, body_at, rest_at, digest_at, is_record, bodies_from, logged}
 use Rattle.xa_log.specs.Reading.{is_newer}
 use Rattle.xa_log.specs.Pair.{generation, beats, has_log, on_first, logged_of, fault_pair, IsCalm, Behind, AllOrNoBodies, CalmTears}
 use Rattle.xa_log.proofs.Records.{one_format, record_to, bodies_closed, closed_zeros}
@@ -159,7 +159,7 @@ beats_read first bodies stood file wins (inl is) = ap (λ (l : List (List ℕ)).
 beats_read first bodies stood file wins (inr none) = ap (λ (l : List (List ℕ)). beats first bodies l) none ∙ beats_nil first bodies
 
 -- behind a whole header and a length 0 nothing chains
-pub calm_front : (format : Format) (stood : List (List ℕ)) (file rest : List ℕ) → file ≡ opening format ++ rest → IsCalm stood file
+pub calm_front : (format : Format) (stood : List (List ℕ)) (file rest : List ℕ) → file ≡ preamble format ++ rest → IsCalm stood file
 calm_front format stood file rest is =
     let prev = start (format_in file) in
     let closed : is_record prev (drop 8 file) ≡ false =

@@ -6,7 +6,7 @@ use Rattle.xa_disk.specs.Disk.{put, Torn, Only, AllOrNone}
 use Rattle.xa_disk.specs.Time.{TimePasses, LeavesOnly}
 use Rattle.xa_disk.specs.declared.disk.Disk.{Ghosts}
 use Rattle.xa_log.specs.declared.format.Format.{Format}
-use Rattle.xa_log.specs.Chain.{magic, start, opening, format_of, format_in, records, IsBody, Rests, logged, is_record, body_at, rest_at, digest_at, bodies_from}
+use Rattle.xa_log.specs.Chain.{magic, start, preamble, format_of, format_in, records, IsBody, Rests, logged, is_record, body_at, rest_at, digest_at, bodies_from}
 use Rattle.xa_log.specs.Reading.{is_newer}
 use Rattle.xa_log.specs.Answers.{Fell, Went}
 use Rattle.xa_log.specs.declared.appending.Appended.{Appended}
@@ -16,7 +16,7 @@ use Rattle.xa_log.specs.Checkpoint.{behind_front, first_length, IsReady, IsOther
 use Rattle.std.proofs.lemmas.List.{take_at}
 use Rattle.xa_log.proofs.Records.{length-magic, record_to, bodies_closed, closed_zeros, rests_logged}
 use Rattle.xa_log.proofs.Torn.{torn_same, torn_front, put_within, put_torn}
-use Rattle.xa_log.proofs.Header.{length-opening, header_magic, header_split, header_closed, header_whole, magic_known}
+use Rattle.xa_log.proofs.Header.{length-preamble, header_magic, header_split, header_closed, header_whole, magic_known}
 use Rattle.xa_log.proofs.Again.{format_magic}
 use Rattle.xa_log.proofs.Pair.{calm_front}
 use Rattle.xa_log.proofs.Ready.{leaves_by, sealed_rests, seal_leaves, seal_cleared}
@@ -42,10 +42,10 @@ leaves_more disks a b P R f p = record {
 
 -- ---- behind a whole header and a length 0
 
-pub none_calm : (format : Format) (stood : List (List ℕ)) (c : List ℕ) → take 12 c ≡ opening format → IsCalm stood c
+pub none_calm : (format : Format) (stood : List (List ℕ)) (c : List ℕ) → take 12 c ≡ preamble format → IsCalm stood c
 none_calm format stood c front = calm_front format stood c (drop 12 c) (header_split format c front)
 
-none_logged : (format : Format) (c : List ℕ) → take 12 c ≡ opening format → logged c ≡ []
+none_logged : (format : Format) (c : List ℕ) → take 12 c ≡ preamble format → logged c ≡ []
 none_logged format c front =
     let prev = start (format_in c) in
     let closed : is_record prev (drop 8 c) ≡ false =
@@ -58,7 +58,7 @@ pub none_of : (format : Format) (most : ℕ) (stood : List (List ℕ)) (c : List
 none_of format most stood c none = record { fits = none.fits; reads = λ calm. inr (none_logged format c none.front) }
 
 pub none_long : (format : Format) (most : ℕ) (c : List ℕ) → LeavesNone most format c → 12 ≤ length c
-none_long format most c none = omega (arith, ap (λ (l : List ℕ). length l) (header_split format c none.front), length-append (opening format) (drop 12 c), length-opening format)
+none_long format most c none = omega (arith, ap (λ (l : List ℕ). length l) (header_split format c none.front), length-append (preamble format) (drop 12 c), length-preamble format)
 
 pub none_torn : (format : Format) (most n : ℕ) (d c : List ℕ) → 12 + n ≤ most → LeavesNone most format d → Torn 12 n d c → LeavesNone most format c
 none_torn format most n d c room none torn = record {
@@ -102,15 +102,15 @@ others_none format disks most disk none each = (
 )
 
 -- the first part's result
-pub opened_none : (format : Format) (most : ℕ) (old new : List ℕ) → 12 ≤ most → length old ≤ most → new ≡ opening format ++ drop 12 old
+pub opened_none : (format : Format) (most : ℕ) (old new : List ℕ) → 12 ≤ most → length old ≤ most → new ≡ preamble format ++ drop 12 old
     → LeavesNone most format new
 opened_none format most old new room fits is = record {
-  fits = omega (arith, ap (λ (l : List ℕ). length l) is, length-append (opening format) (drop 12 old), length-opening format, length-drop 12 old);
+  fits = omega (arith, ap (λ (l : List ℕ). length l) is, length-append (preamble format) (drop 12 old), length-preamble format, length-drop 12 old);
   front = ap (λ (l : List ℕ). take 12 l) is ∙ header_whole format (drop 12 old);
 }
 
 -- the second's
-pub records_ready : (format : Format) (bodies : List (List ℕ)) (mid new : List ℕ) → take 12 mid ≡ opening format → 12 ≤ length mid
+pub records_ready : (format : Format) (bodies : List (List ℕ)) (mid new : List ℕ) → take 12 mid ≡ preamble format → 12 ≤ length mid
     → AllByRecursion IsBody bodies → 1 ≤ length bodies → new ≡ put mid 12 (behind_front format bodies) → IsReady format bodies new
 records_ready format bodies mid new front long sizes some is =
     let tail : List ℕ = drop (12 + length (behind_front format bodies)) mid in
@@ -118,12 +118,12 @@ records_ready format bodies mid new front long sizes some is =
       rest = tail;
       split = is ∙ put_within mid 12 (behind_front format bodies) long
           ∙ ap (λ (l : List ℕ). l ++ behind_front format bodies ++ tail) front
-          ∙ append_assoc (opening format) (behind_front format bodies) tail;
+          ∙ append_assoc (preamble format) (behind_front format bodies) tail;
       sizes = sizes;
       some = some;
     }
 
-ready_front : (format : Format) (bodies : List (List ℕ)) (file : List ℕ) → IsReady format bodies file → take 12 file ≡ opening format
+ready_front : (format : Format) (bodies : List (List ℕ)) (file : List ℕ) → IsReady format bodies file → take 12 file ≡ preamble format
 ready_front format bodies file ready = ap (λ (l : List ℕ). take 12 l) ready.split ∙ header_whole format (behind_front format bodies ++ ready.rest)
 
 -- ---- a log's own bytes are no chance
@@ -176,7 +176,7 @@ module _ {D : Type 0} (format : Format) (disks : Ghosts D)
   seal = to_be_bytes w32 (first_length bodies)
 
   long : 12 ≤ length (disks.seen mid)
-  long = omega (arith, ap (λ (l : List ℕ). length l) ready.split, length-append (opening format) (behind_front format bodies ++ ready.rest), length-opening format)
+  long = omega (arith, ap (λ (l : List ℕ). length l) ready.split, length-append (preamble format) (behind_front format bodies ++ ready.rest), length-preamble format)
 
   -- a torn seal leaves the header
   torn_log : (c : List ℕ) → Torn 8 4 (disks.seen mid) c → has_log c ≡ true

@@ -6,13 +6,13 @@ use Rattle.xa_disk.specs.Disk.{put, Torn}
 use Rattle.xa_disk.specs.Time.{TimePasses, LeavesOnly}
 use Rattle.xa_disk.specs.declared.disk.Disk.{Ghosts}
 use Rattle.xa_log.specs.declared.format.Format.{Format}
-use Rattle.xa_log.specs.Chain.{magic, start, opening, last, text, records, headed, Rests}
+use Rattle.xa_log.specs.Chain.{magic, start, preamble, last, text, records, headed, Rests}
 use Rattle.xa_log.specs.Answers.{Fell}
 use Rattle.xa_log.specs.Pair.{IsCalm, Behind, CalmTears}
 use Rattle.xa_log.specs.Checkpoint.{behind_front, first_length, IsReady, IsOther, LeavesOf}
 use Rattle.xa_log.proofs.Records.{closed_zeros, rests_logged}
 use Rattle.xa_log.proofs.Torn.{torn_front, put_within, put_torn}
-use Rattle.xa_log.proofs.Header.{length-opening, header_magic, header_rest, put_header}
+use Rattle.xa_log.proofs.Header.{length-preamble, header_magic, header_rest, put_header}
 use Rattle.xa_log.proofs.Pair.{calm_front, calm_logged, behind_torn}
 
 pub map_ok : {T E : Type 0} (P Q : Type 0) (r : Result T E) → (P → Q) → OnOk r P → OnOk r Q
@@ -38,7 +38,7 @@ leaves_by disks old new step P only_now same good time = record {
 -- ---- the first part
 
 pub fell_calm : (tears : List ℕ → ℕ → List ℕ → List ℕ → Type 0) (format : Format) (stood : List (List ℕ)) (old new : List ℕ) → CalmTears tears
-    → IsCalm stood old → Fell tears old 0 (opening format) new → IsCalm stood new
+    → IsCalm stood old → Fell tears old 0 (preamble format) new → IsCalm stood new
 fell_calm tears format stood old new lucky calm (inl is) = calm_front format stood new (drop 12 old) (is ∙ put_header format old)
 fell_calm tears format stood old new lucky calm (inr torn) = lucky format stood old new calm torn
 
@@ -84,7 +84,7 @@ module _ (format : Format) (bodies : List (List ℕ)) (file : List ℕ) (ready :
   behind = behind_front format bodies ++ ready.rest
 
   long : 12 ≤ length file
-  long = omega (arith, ap length ready.split, length-append (opening format) behind, length-opening format)
+  long = omega (arith, ap length ready.split, length-append (preamble format) behind, length-preamble format)
 
   sealed_is : sealed ≡ text format bodies ++ (0 ∷ 0 ∷ 0 ∷ 0 ∷ ready.rest)
   sealed_is =

@@ -139,7 +139,7 @@ next format bodies i body at is here =
 pub record Item (format : Format) (bodies : List (List ℕ)) (i : ℕ) (body : List ℕ) (at : ℕ) : Type 0 where
   pub is : take (i + 1) bodies ≡ take i bodies ++ body ∷ []
   pub ok : IsBody body
-  pub place : Next format bodies (take i bodies) body at
+  pub offset : Next format bodies (take i bodies) body at
 
 pub item : (format : Format) (bodies : List (Vec ℕ Global)) (i : ℕ) (v : Vec ℕ Global) (body : List ℕ) (at : ℕ) → i < length bodies
     → v ≡ get_or bodies i v → body ≡ v.items → AllByRecursion IsBody (bodies_of bodies) → at ≡ length (text format (take i (bodies_of bodies)))
@@ -147,7 +147,7 @@ pub item : (format : Format) (bodies : List (Vec ℕ Global)) (i : ℕ) (v : Vec
 item format bodies i v body at lt is same all here =
     let n : take (i + 1) (bodies_of bodies) ≡ take i (bodies_of bodies) ++ body ∷ [] =
     next_body bodies i v lt is ∙ ap (λ (l : List ℕ). take i (bodies_of bodies) ++ l ∷ []) (sym same) in
-    record { is = n; ok = subst IsBody (sym same) (body_ok bodies i v lt is all); place = next format (bodies_of bodies) i body at n here }
+    record { is = n; ok = subst IsBody (sym same) (body_ok bodies i v lt is all); offset = next format (bodies_of bodies) i body at n here }
 
 pub item_in : (format : Format) (bodies : List (Vec ℕ Global)) (n i : ℕ) (v : Vec ℕ Global) (body : List ℕ) (at : ℕ) → i < length (take n bodies)
     → v ≡ get_or (take n bodies) i v → body ≡ v.items → AllByRecursion IsBody (bodies_of bodies)
@@ -172,7 +172,7 @@ module _ (format : Format) (bodies : List (List ℕ)) (i : ℕ) (body : List ℕ
   inside : (a b : List ℕ) → Writes a b → Torn 12 (records_bytes format bodies) a b
   inside a b t =
       wider (at + (12 - at)) (36 + length body + zeros - (12 - at)) 12 (records_bytes format bodies) a b
-      (omega (arith, it.place.from)) (omega (arith, it.place.within, it.place.from, few)) t
+      (omega (arith, it.offset.from)) (omega (arith, it.offset.within, it.offset.from, few)) t
 
   pub torn_step : (old a b : List ℕ) → Torn 12 (records_bytes format bodies) old a → Writes a b → Torn 12 (records_bytes format bodies) old b
   torn_step old a b so t = torn_then 12 (records_bytes format bodies) old a b so (inside a b t)
@@ -203,7 +203,7 @@ digest_step format bodies i body d at it digest_is =
 
 pub end_step : (format : Format) (bodies : List (List ℕ)) (i : ℕ) (body : List ℕ) (at : ℕ) (it : Item format bodies i body at)
     → at + (36 + length body) ≡ length (text format (take (i + 1) bodies))
-end_step format bodies i body at it = it.place.more ∙ ap (λ (l : List (List ℕ)). length (text format l)) (sym it.is)
+end_step format bodies i body at it = it.offset.more ∙ ap (λ (l : List (List ℕ)). length (text format l)) (sym it.is)
 
 -- the last of them
 pub last_all : (bodies : List (Vec ℕ Global)) (i : ℕ) → 1 ≤ length bodies → length (take (length bodies - 1) bodies) ≤ i

@@ -15,7 +15,7 @@ abbrev pub with_reads : ℕ → ℕ → Counts → Counts
 with_reads zero bytes c = c
 with_reads (suc more) bytes c = record c { reads = plus c.reads (suc more); read_bytes = plus c.read_bytes bytes }
 
--- The first bytes of a file of this length were read up to a place, each once, in pieces of at most WINDOW bytes; a
+-- The first bytes of a file of this length were read up to an offset, each once, in pieces of at most WINDOW bytes; a
 -- piece of less than LEAST_READ bytes reached the file's end.
 pub record Fetched (len upto : ℕ) (first now : Counts) : Type 0 where
   pub reads : ℕ

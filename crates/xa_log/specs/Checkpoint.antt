@@ -8,35 +8,35 @@ use Rattle.xa_log.specs.declared.appending.Appended.{Appended}
 use Rattle.xa_log.specs.declared.appending.Appended.TheVariants.{Kept, Refused, Lost, Full}
 use Rattle.xa_log.specs.Answers.{Fell}
 use Rattle.xa_log.specs.declared.format.Format.{Format}
-use Rattle.xa_log.specs.declared.format.TheConstants.{FIRST_PLACE, OPENING_BYTES}
+use Rattle.xa_log.specs.declared.format.TheConstants.{FIRST_OFFSET, PREAMBLE_BYTES}
 use Rattle.xa_log.specs.declared.record.TheConstants.{LENGTH_BYTES, AROUND_BODY}
-use Rattle.xa_log.specs.Chain.{start, closing, opening, record_of, records, IsBody, Rests}
+use Rattle.xa_log.specs.Chain.{start, closing, preamble, record_of, records, IsBody, Rests}
 use Rattle.xa_log.specs.Pair.{has_log, IsCalm, Behind, AllOrNoBodies, CalmTears}
 
 -- a record, and so many bytes of a closing length
 abbrev pub tailed : List ℕ → List ℕ → ℕ → List ℕ
 tailed prev body zeros = record_of prev body ++ take zeros closing
 
--- where the writing of a record at this place begins: an opening's bytes are left out
-abbrev pub behind_opening : ℕ → ℕ
-behind_opening at = at + (OPENING_BYTES - at)
+-- where the writing of a record at this offset begins: the preamble are left out
+abbrev pub behind_preamble : ℕ → ℕ
+behind_preamble at = at + (PREAMBLE_BYTES - at)
 
 -- how many bytes of a body's record are then written, with so many of a closing length
 abbrev pub bytes_behind : ℕ → List ℕ → ℕ → ℕ
-bytes_behind at body zeros = AROUND_BODY + length body + zeros - (OPENING_BYTES - at)
+bytes_behind at body zeros = AROUND_BODY + length body + zeros - (PREAMBLE_BYTES - at)
 
--- how many bytes the records of these bodies have: as many as stand behind an opening, with a closing length
+-- how many bytes the records of these bodies have: as many as stand behind the preamble, with a closing length
 abbrev pub records_bytes : Format → List (List ℕ) → ℕ
 records_bytes format bodies = length (records (start format) bodies)
 
--- what stands behind an opening: the records without the first length, and a closing length
+-- what stands behind the preamble: the records without the first length, and a closing length
 abbrev pub behind_front : Format → List (List ℕ) → List ℕ
 behind_front format bodies = drop LENGTH_BYTES (records (start format) bodies) ++ closing
 
 -- a log of these bodies that lacks its first length
 pub record IsReady (format : Format) (bodies : List (List ℕ)) (file : List ℕ) : Type 0 where
   pub rest : List ℕ
-  pub split : file ≡ opening format ++ (behind_front format bodies ++ rest)
+  pub split : file ≡ preamble format ++ (behind_front format bodies ++ rest)
   pub sizes : AllByRecursion IsBody bodies
   pub some : 1 ≤ length bodies
 
@@ -44,7 +44,7 @@ abbrev pub first_length : List (List ℕ) → ℕ
 first_length [] = 0
 first_length (body ∷ bodies) = length body
 
--- Of the other file: no longer than a log may be, and behind an opening's bytes as the log that stood there, if one
+-- Of the other file: no longer than a log may be, and behind the preamble as the log that stood there, if one
 -- did. So is each image that a crash may leave of it.
 pub record IsOther {D : Type 0} (disks : Ghosts D) (most : ℕ) (stood : List (List ℕ)) (disk : D) : Type 0 where
   pub fits : length (disks.seen disk) ≤ most
@@ -66,7 +66,7 @@ pub record LeavesOf (most : ℕ) (bodies : List (List ℕ)) (c : List ℕ) : Typ
 -- an image of a file with a whole header and a length 0
 pub record LeavesNone (most : ℕ) (format : Format) (c : List ℕ) : Type 0 where
   pub fits : length c ≤ most
-  pub front : take OPENING_BYTES c ≡ opening format
+  pub front : take PREAMBLE_BYTES c ≡ preamble format
 
 -- An image of a file at any moment of a checkpoint: until the header is synced it has without chance what stood there
 -- or nothing, until the seal nothing, whatever was left, and from the seal on without chance these bodies or nothing.
@@ -76,7 +76,7 @@ LeavesAny most format stood bodies c = LeavesOf most stood c ⊎ LeavesNone most
 -- The premise on a disk's failed writes: a seal that was lost leaves nothing by chance to a read.
 abbrev pub SealTears : (List ℕ → ℕ → List ℕ → List ℕ → Type 0) → Type 0
 SealTears tears = (format : Format) (bodies : List (List ℕ)) (old mid new : List ℕ) → IsReady format bodies old
-    → Fell tears old FIRST_PLACE (to_be_bytes w32 (first_length bodies)) mid → Fell tears mid FIRST_PLACE closing new
+    → Fell tears old FIRST_OFFSET (to_be_bytes w32 (first_length bodies)) mid → Fell tears mid FIRST_OFFSET closing new
     → IsCalm bodies new
 
 -- what a checkpoint left of the file that it wrote

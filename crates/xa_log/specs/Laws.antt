@@ -1,7 +1,7 @@
 -- Which log two files have, from what an image of each is.
 use Rattle.std.specs.Prelude.{◌≡◌, ◌⊎◌, ℕ, ◌≤◌, ◌<◌, Bool, true, false, List, [], ◌∷◌, ◌++◌, length, None}
 use Rattle.xa_log.specs.declared.format.Format.{Format}
-use Rattle.xa_log.specs.declared.format.TheConstants.{OPENING_BYTES}
+use Rattle.xa_log.specs.declared.format.TheConstants.{PREAMBLE_BYTES}
 use Rattle.xa_disk.specs.Disk.{Torn}
 use Rattle.xa_disk.specs.declared.disk.Disk.{Ghosts}
 use Rattle.xa_log.specs.Chain.{Rests, IsPlain, logged}
@@ -64,4 +64,4 @@ OpenedLaw {D} disks = (bodies : List (List ℕ)) (log : Log D)
 -- where a file isn't a log, that none chain there which would come before the other file's log is a premise of its own.
 abbrev pub StrayLaw : Type 0
 StrayLaw = (format : Format) (bodies : List (List ℕ)) (file : List ℕ) → Rests format bodies file
-    → (old : List ℕ) × (has_log old ≡ false) × Torn 0 OPENING_BYTES old file × (logged file ≡ bodies)
+    → (old : List ℕ) × (has_log old ≡ false) × Torn 0 PREAMBLE_BYTES old file × (logged file ≡ bodies)

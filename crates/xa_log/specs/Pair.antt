@@ -6,9 +6,9 @@ use Rattle.xa_disk.specs.Disk.{Torn}
 use Rattle.xa_log.specs.declared.fault.OpenFault.{OpenFault}
 use Rattle.xa_log.specs.declared.fault.OpenFault.TheVariants.{NotALog, TooNew, TooLong}
 use Rattle.xa_log.specs.declared.format.Format.{Format}
-use Rattle.xa_log.specs.declared.format.TheConstants.{FORMAT_BYTES, OPENING_BYTES}
+use Rattle.xa_log.specs.declared.format.TheConstants.{FORMAT_BYTES, PREAMBLE_BYTES}
 use Rattle.xa_log.specs.declared.looking.TheConstants.{NUMBER_PLACE, NUMBER_END}
-use Rattle.xa_log.specs.Chain.{start, opening, format_of, format_in, body_at, is_record, logged}
+use Rattle.xa_log.specs.Chain.{start, preamble, format_of, format_in, body_at, is_record, logged}
 use Rattle.xa_log.specs.Reading.{is_newer}
 
 -- the number in bytes 1 to 4 of a body, 0 in a shorter one
@@ -69,7 +69,7 @@ pub record IsCalm (stood : List (List ℕ)) (file : List ℕ) : Type 0 where
 
 -- what stands behind the first 12 bytes is what stood behind them in a log of these bodies, or they are none
 abbrev pub Behind : List (List ℕ) → List ℕ → Type 0
-Behind stood file = (stood ≡ []) ⊎ ((base : List ℕ) × (logged base ≡ stood) × Torn 0 OPENING_BYTES base file)
+Behind stood file = (stood ≡ []) ⊎ ((base : List ℕ) × (logged base ≡ stood) × Torn 0 PREAMBLE_BYTES base file)
 
 -- it has these bodies, or none
 abbrev pub AllOrNoBodies : List (List ℕ) → List ℕ → Type 0
@@ -78,4 +78,4 @@ AllOrNoBodies bodies file = (logged file ≡ bodies) ⊎ (logged file ≡ [])
 -- The premise on a disk's failed writes: a header that was lost leaves nothing by chance to a read.
 abbrev pub CalmTears : (List ℕ → ℕ → List ℕ → List ℕ → Type 0) → Type 0
 CalmTears tears = (format : Format) (stood : List (List ℕ)) (old new : List ℕ)
-    → IsCalm stood old → tears old 0 (opening format) new → IsCalm stood new
+    → IsCalm stood old → tears old 0 (preamble format) new → IsCalm stood new

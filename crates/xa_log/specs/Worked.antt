@@ -3,7 +3,7 @@
 use Rattle.std.specs.Prelude.{◌≡◌, List, [], ◌∷◌, ◌++◌, ℕ, true, false, Some, None, slice_set}
 use Rattle.xa_log.specs.declared.fault.OpenFault.TheVariants.{NotALog, TooNew, TooLong}
 use Rattle.xa_log.specs.declared.format.Format.TheVariants.{One}
-use Rattle.xa_log.specs.Chain.{magic, opening}
+use Rattle.xa_log.specs.Chain.{magic, preamble}
 use Rattle.xa_log.specs.Pair.{beats, on_first, logged_pair, pair_fault}
 
 abbrev pub opened : List ℕ
@@ -87,12 +87,12 @@ abbrev pub Ties : Type 0
 Ties =
     (beats true (prepared ∷ []) (opened ∷ []) ≡ true) × (beats false (prepared ∷ []) (opened ∷ []) ≡ false)
     × (beats false ((1 ∷ 0 ∷ 0 ∷ 9 ∷ []) ∷ []) [] ≡ true) × (beats true [] ((1 ∷ 0 ∷ 0 ∷ 9 ∷ []) ∷ []) ≡ false)
-    × (on_first (opening One) (opening One) ≡ true) × (on_first (opening One) (magic One) ≡ true)
+    × (on_first (preamble One) (preamble One) ≡ true) × (on_first (preamble One) (magic One) ≡ true)
 
 -- where one of them is no log, the other one
 abbrev pub OneLog : Type 0
 OneLog =
-    (on_first [] (opening One) ≡ false) × (on_first (opening One) [] ≡ true)
+    (on_first [] (preamble One) ≡ false) × (on_first (preamble One) [] ≡ true)
     × (logged_pair first_file [] ≡ opened ∷ prepared ∷ []) × (logged_pair [] first_file ≡ opened ∷ prepared ∷ [])
 
 -- TooLong of either comes before TooNew of either, and that before none being a log

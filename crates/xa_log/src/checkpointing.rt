@@ -6,15 +6,15 @@ ghost use Rattle.xa_disk.specs.Disk.{put, Torn, Only, CountsFault};
 ghost use Rattle.xa_disk.specs.Time.{TimePasses, LeavesOnly};
 ghost use Rattle.xa_disk.specs.Counts.{with_write};
 ghost use Rattle.xa_log.specs.declared.format.Format.{Format};
-ghost use Rattle.xa_log.specs.Chain.{start, opening, last, digest, text, IsBody};
+ghost use Rattle.xa_log.specs.Chain.{start, preamble, last, digest, text, IsBody};
 ghost use Rattle.xa_log.specs.Reading.{bodies_of};
 ghost use Rattle.xa_log.specs.Answers.{Went, Fell, HasCause};
 ghost use Rattle.xa_log.specs.Calls.{PutCalls, RecordsCalls, AppendCalls, CheckpointCalls};
 ghost use Rattle.xa_log.specs.Pair.{IsCalm, CalmTears};
-ghost use Rattle.xa_log.specs.Checkpoint.{behind_opening, bytes_behind, tailed, records_bytes, behind_front, first_length, IsReady, IsOther, LeavesOf, LeavesNone, LeavesAny, Checkpointed};
+ghost use Rattle.xa_log.specs.Checkpoint.{behind_preamble, bytes_behind, tailed, records_bytes, behind_front, first_length, IsReady, IsOther, LeavesOf, LeavesNone, LeavesAny, Checkpointed};
 
 use crate::appending::{Appended, put_or_clear, put_synced};
-use crate::format::{FIRST_PLACE, Format, OPENING_BYTES};
+use crate::format::{FIRST_OFFSET, Format, PREAMBLE_BYTES};
 use crate::record::{AROUND_BODY, AROUND_CLOSED, DIGEST_BYTES, LENGTH_BYTES, MOST_BODY, encode};
 use xa_disk::{Disk, DiskFault};
 
@@ -22,22 +22,22 @@ use xa_disk::{Disk, DiskFault};
 // new one is written. A fault is not repaired: the older log may be there still, which comes behind the current one as
 // before.
 pub(crate) fn put_front<D: Disk>(disk: &mut D, format: Format) -> Result<(), DiskFault>
-    ensures made { D.honest → OnOk result (D.seen disk.new ≡ opening format ++ drop OPENING_BYTES (D.seen disk.old)) }
+    ensures made { D.honest → OnOk result (D.seen disk.new ≡ preamble format ++ drop PREAMBLE_BYTES (D.seen disk.old)) }
     ensures durable { D.honest → OnOk result (Only (D.seen disk.new) (D.may_leave disk.new)) }
-    ensures stays { D.honest → (most : ℕ) (stood : List (List ℕ)) → OPENING_BYTES ≤ most
+    ensures stays { D.honest → (most : ℕ) (stood : List (List ℕ)) → PREAMBLE_BYTES ≤ most
         → IsOther D.Disk most stood disk.old → OnErr result (IsOther D.Disk most stood disk.new) }
     ensures calm { D.honest → CalmTears D.tears → (stood : List (List ℕ)) → IsCalm stood (D.seen disk.old)
         → OnErr result (IsCalm stood (D.seen disk.new)) }
     // Whichever image is left: without chance what stood there, or nothing.
-    ensures any_moment { D.honest → (most : ℕ) (stood : List (List ℕ)) → OPENING_BYTES ≤ most
+    ensures any_moment { D.honest → (most : ℕ) (stood : List (List ℕ)) → PREAMBLE_BYTES ≤ most
         → IsOther D.Disk most stood disk.old → LeavesOnly D.Disk disk.old disk.new (LeavesOf most stood) }
     ensures count { CountsFault result (D.failures disk.old) (D.failures disk.new) }
     ensures calls { PutCalls result (D.counts disk.old) (D.counts disk.new) }
 {
-    put_synced(disk, 0, format.opening().as_slice())
+    put_synced(disk, 0, format.preamble().as_slice())
 }
 
-// Writes a body's record and so many zero bytes behind it, but nothing before the end of an opening. Gives its
+// Writes a body's record and so many zero bytes behind it, but nothing before the end of the preamble. Gives its
 // digest.
 fn put_record<D: Disk>(
     disk: &mut D,
@@ -49,27 +49,27 @@ fn put_record<D: Disk>(
 ) -> Result<[u8; DIGEST_BYTES], DiskFault>
     requires room { AROUND_CLOSED + length body.now ≤ length buffer.old }
     requires body { IsBody body.now }
-    requires from { FIRST_PLACE ≤ at }
+    requires from { FIRST_OFFSET ≤ at }
     requires zeros { zeros ≤ LENGTH_BYTES }
     ensures digest { IfOk result (λ d. d ≡ digest prev.now body.now) }
     ensures written { D.honest
-        → OnOk result (D.seen disk.new ≡ put (D.seen disk.old) (behind_opening at)
-        (drop (OPENING_BYTES - at) (tailed prev.now body.now zeros))) }
+        → OnOk result (D.seen disk.new ≡ put (D.seen disk.old) (behind_preamble at)
+        (drop (PREAMBLE_BYTES - at) (tailed prev.now body.now zeros))) }
     ensures torn { D.honest
-        → Torn (behind_opening at) (bytes_behind at body.now zeros) (D.seen disk.old) (D.seen disk.new) }
+        → Torn (behind_preamble at) (bytes_behind at body.now zeros) (D.seen disk.old) (D.seen disk.new) }
     ensures time { D.honest
-        → TimePasses D.Disk (Torn (behind_opening at) (bytes_behind at body.now zeros)) disk.old disk.new }
+        → TimePasses D.Disk (Torn (behind_preamble at) (bytes_behind at body.now zeros)) disk.old disk.new }
     ensures count { CountsFault result (D.failures disk.old) (D.failures disk.new) }
     ensures calls { D.counts disk.new ≡ with_write (D.counts disk.old) }
 {
     let digest = encode(buffer, prev, body);
-    let skip = (OPENING_BYTES as u64).saturating_sub(at);
+    let skip = (PREAMBLE_BYTES as u64).saturating_sub(at);
     let end = AROUND_BODY + body.len() + zeros;
-    disk.write_at(at.max(OPENING_BYTES as u64), &buffer[skip as usize..end])?;
+    disk.write_at(at.max(PREAMBLE_BYTES as u64), &buffer[skip as usize..end])?;
     Ok(digest)
 }
 
-// The second part: writes the records behind an opening's bytes, each in one write, a closing length behind the last,
+// The second part: writes the records behind the preamble, each in one write, a closing length behind the last,
 // and syncs. Gives the last record's digest. A fault is not repaired: the first length is still 0, and stable, so whatever was
 // written here, the file has no record. The sync makes the records stable before the seal makes them count.
 pub(crate) fn put_records<D: Disk>(
@@ -81,25 +81,25 @@ pub(crate) fn put_records<D: Disk>(
     requires room { AROUND_CLOSED + MOST_BODY ≤ length buffer.old }
     requires some { 1 ≤ length bodies.now }
     requires sizes { AllByRecursion IsBody (bodies_of bodies.now) }
-    requires fits { OPENING_BYTES + records_bytes format (bodies_of bodies.now) < 2 ^ 64 }
+    requires fits { PREAMBLE_BYTES + records_bytes format (bodies_of bodies.now) < 2 ^ 64 }
     ensures digest { IfOk result (λ d. d ≡ last (start format) (bodies_of bodies.now)) }
-    ensures written { D.honest → OPENING_BYTES ≤ length (D.seen disk.old)
+    ensures written { D.honest → PREAMBLE_BYTES ≤ length (D.seen disk.old)
         → OnOk result
-        (D.seen disk.new ≡ put (D.seen disk.old) OPENING_BYTES (behind_front format (bodies_of bodies.now))) }
+        (D.seen disk.new ≡ put (D.seen disk.old) PREAMBLE_BYTES (behind_front format (bodies_of bodies.now))) }
     ensures durable { D.honest → OnOk result (Only (D.seen disk.new) (D.may_leave disk.new)) }
     ensures torn { D.honest
-        → Torn OPENING_BYTES (records_bytes format (bodies_of bodies.now)) (D.seen disk.old) (D.seen disk.new) }
+        → Torn PREAMBLE_BYTES (records_bytes format (bodies_of bodies.now)) (D.seen disk.old) (D.seen disk.new) }
     // Whichever image is left: nothing.
-    ensures any_moment { D.honest → (most : ℕ) → OPENING_BYTES + records_bytes format (bodies_of bodies.now) ≤ most
+    ensures any_moment { D.honest → (most : ℕ) → PREAMBLE_BYTES + records_bytes format (bodies_of bodies.now) ≤ most
         → LeavesNone most format (D.seen disk.old) → Only (D.seen disk.old) (D.may_leave disk.old)
         → LeavesOnly D.Disk disk.old disk.new (LeavesNone most format) }
     ensures time { D.honest
-        → TimePasses D.Disk (Torn OPENING_BYTES (records_bytes format (bodies_of bodies.now))) disk.old disk.new }
+        → TimePasses D.Disk (Torn PREAMBLE_BYTES (records_bytes format (bodies_of bodies.now))) disk.old disk.new }
     ensures count { CountsFault result (D.failures disk.old) (D.failures disk.new) }
     ensures calls { RecordsCalls result (length bodies.now) (D.counts disk.old) (D.counts disk.new) }
 {
     let most = bodies.len() - 1;
-    let mut end = FIRST_PLACE;
+    let mut end = FIRST_OFFSET;
     let mut digest = format.first_digest();
     for body in &bodies[..most] {
         digest = put_record(disk, end, &digest, buffer, body, 0)?;
@@ -115,20 +115,20 @@ pub(crate) fn put_records<D: Disk>(
 // there can make this file the current one.
 pub(crate) fn put_seal<D: Disk>(disk: &mut D, size: u32) -> Appended
     ensures went { D.honest
-        → Went D.tears result FIRST_PLACE (to_be_bytes w32 size)
+        → Went D.tears result FIRST_OFFSET (to_be_bytes w32 size)
         (D.seen disk.old) (D.seen disk.new) (D.may_leave disk.new) }
     ensures any_moment { D.honest → (most : ℕ) (format : Format) (bodies : List (List ℕ))
         → IsReady format bodies (D.seen disk.old)
         → size ≡ first_length bodies → length (D.seen disk.old) ≤ most → Only (D.seen disk.old) (D.may_leave disk.old)
         → LeavesOnly D.Disk disk.old disk.new (LeavesOf most bodies) }
     ensures time { D.honest
-        → TimePasses D.Disk (Torn FIRST_PLACE LENGTH_BYTES) disk.old disk.new }
+        → TimePasses D.Disk (Torn FIRST_OFFSET LENGTH_BYTES) disk.old disk.new }
     ensures cause { HasCause result (D.failures disk.old) (D.failures disk.new) }
     ensures calls { AppendCalls result (D.counts disk.old) (D.counts disk.new) }
     ensures not_full { result ≢ Appended.Full }
 {
     let mut bytes = size.to_be_bytes();
-    put_or_clear(disk, FIRST_PLACE, &mut bytes)
+    put_or_clear(disk, FIRST_OFFSET, &mut bytes)
 }
 
 // The three parts. Gives the last record's digest, if the checkpoint is kept.
@@ -141,14 +141,14 @@ pub(crate) fn checkpoint_on<D: Disk>(
     requires room { AROUND_CLOSED + MOST_BODY ≤ length buffer.old }
     requires some { 1 ≤ length bodies.now }
     requires sizes { AllByRecursion IsBody (bodies_of bodies.now) }
-    requires fits { OPENING_BYTES + records_bytes format (bodies_of bodies.now) < 2 ^ 64 }
+    requires fits { PREAMBLE_BYTES + records_bytes format (bodies_of bodies.now) < 2 ^ 64 }
     ensures digest { result.0 ≡ Appended.Kept → result.1 ≡ last (start format) (bodies_of bodies.now) }
     ensures answer { D.honest → (most : ℕ) (stood : List (List ℕ))
-        → OPENING_BYTES + records_bytes format (bodies_of bodies.now) ≤ most
+        → PREAMBLE_BYTES + records_bytes format (bodies_of bodies.now) ≤ most
         → IsOther D.Disk most stood disk.old
         → Checkpointed D.Disk result.0 most format stood (bodies_of bodies.now) disk.old disk.new }
     ensures any_moment { D.honest → (most : ℕ) (stood : List (List ℕ))
-        → OPENING_BYTES + records_bytes format (bodies_of bodies.now) ≤ most
+        → PREAMBLE_BYTES + records_bytes format (bodies_of bodies.now) ≤ most
         → IsOther D.Disk most stood disk.old
         → LeavesOnly D.Disk disk.old disk.new (LeavesAny most format stood (bodies_of bodies.now)) }
     ensures cause { HasCause result.0 (D.failures disk.old) (D.failures disk.new) }
@@ -176,7 +176,7 @@ pub fn end_of(format: Format, bodies: &[Vec<u8>], most: u64) -> Option<u64>
         (λ end. (end ≡ length (text format (bodies_of bodies.now))) × (end + LENGTH_BYTES ≤ most)) }
     ensures none { IfNone result (most < length (text format (bodies_of bodies.now)) + LENGTH_BYTES) }
 {
-    let mut left = most.checked_sub(format.opening().len() as u64)?;
+    let mut left = most.checked_sub(format.preamble().len() as u64)?;
     for body in bodies {
         left = left.checked_sub(AROUND_BODY as u64 + body.len() as u64)?;
     }

@@ -1,5 +1,5 @@
 ghost use Rattle.std.specs.Prelude.{◌≡◌, length, MatchResult, Some};
-ghost use Rattle.xa_log.specs.Chain.{magic, newest, start, opening, format_of};
+ghost use Rattle.xa_log.specs.Chain.{magic, newest, start, preamble, format_of};
 ghost use Rattle.xa_log.specs.Reading.{front_fault};
 
 use crate::OpenFault;
@@ -9,14 +9,14 @@ use sha2::{Digest, Sha256};
 /// The bytes of a format's name, with which a log's file begins.
 pub const FORMAT_BYTES: usize = 8;
 
-// The place of the name's last byte, which is a digit and tells the formats apart.
+// The offset of the name's last byte, which is a digit and tells the formats apart.
 const DIGIT: usize = FORMAT_BYTES - 1;
 
 /// Where the first record of a log begins.
-pub const FIRST_PLACE: u64 = FORMAT_BYTES as u64;
+pub const FIRST_OFFSET: u64 = FORMAT_BYTES as u64;
 
 /// The bytes of a log of no records: its format's name, and a closing length.
-pub const OPENING_BYTES: usize = FORMAT_BYTES + LENGTH_BYTES;
+pub const PREAMBLE_BYTES: usize = FORMAT_BYTES + LENGTH_BYTES;
 
 /// A format of a log's file, which the file's first eight bytes name.
 #[derive(Clone, Copy, Debug, PartialEq, Eq)]
@@ -51,8 +51,8 @@ impl Format {
     }
 
     // A log of no records: the first eight bytes and a closing length.
-    pub(crate) fn opening(self) -> [u8; OPENING_BYTES]
-        ensures { result ≡ opening self }
+    pub(crate) fn preamble(self) -> [u8; PREAMBLE_BYTES]
+        ensures { result ≡ preamble self }
     {
         match self {
             Format::One => *b"XARMLOG1\0\0\0\0",

@@ -39,7 +39,7 @@ pub use ahead::READY_BYTES;
 pub use appending::Appended;
 pub use checkpointing::end_of;
 pub use fault::OpenFault;
-pub use format::{FIRST_PLACE, FORMAT_BYTES, Format, OPENING_BYTES};
+pub use format::{FIRST_OFFSET, FORMAT_BYTES, Format, PREAMBLE_BYTES};
 pub use laws::{
     memory_without_chance, memory_without_chance_beside, opened_is_pair, pair_is_current,
     pair_is_current_or_new, plain_by_body, stray_is_possible,

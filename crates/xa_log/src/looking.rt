@@ -11,7 +11,7 @@ ghost use Rattle.xa_log.specs.Looking.{AreShort, IsFront, HasFront, either_newer
 ghost use Rattle.xa_log.specs.Window.{Caches};
 
 use crate::OpenFault;
-use crate::format::{FORMAT_BYTES, Format, OPENING_BYTES};
+use crate::format::{FORMAT_BYTES, Format, PREAMBLE_BYTES};
 use crate::reading::{Scan, read_front, read_records, synced_length};
 use crate::record::{AROUND_BODY, DIGEST_BYTES, MOST_BODY, chained, size_of};
 use crate::window::{Span, WINDOW};
@@ -130,7 +130,7 @@ fn first_number(window: &[u8], span: Span, len: u64, prev: &[u8; DIGEST_BYTES]) 
     if len < around {
         return None;
     }
-    let size = size_of(&window[FORMAT_BYTES..OPENING_BYTES]);
+    let size = size_of(&window[FORMAT_BYTES..PREAMBLE_BYTES]);
     if size == 0 || size > MOST_BODY || len < around + size as u64 {
         return None;
     }
@@ -139,7 +139,7 @@ fn first_number(window: &[u8], span: Span, len: u64, prev: &[u8; DIGEST_BYTES]) 
         size,
         prev,
     ) {
-        Some(_digest) => Some(number_of(&window[OPENING_BYTES..OPENING_BYTES + size])),
+        Some(_digest) => Some(number_of(&window[PREAMBLE_BYTES..PREAMBLE_BYTES + size])),
         None => None,
     }
 }
@@ -361,7 +361,7 @@ pub(crate) fn read_again<D: Disk>(
 }
 
 // Has the two, of which the first was the current one or not, change places, or not.
-pub(crate) fn place<D>(disk: &mut D, other: &mut D, on_first: bool, is_first: bool)
+pub(crate) fn arrange<D>(disk: &mut D, other: &mut D, on_first: bool, is_first: bool)
     ensures first { (if is_first then disk.new else other.new) ≡ (if on_first then disk.old else other.old) }
     ensures second { (if is_first then other.new else disk.new) ≡ (if on_first then other.old else disk.old) }
 {

@@ -10,7 +10,7 @@ ghost use Rattle.xa_log.specs.Opened.{IsOpened};
 ghost use Rattle.xa_log.specs.Pair.{pair_fault, logged_pair};
 ghost use Rattle.xa_log.specs.Reading.{bodies_of, TellsFault, ExplainsNew};
 ghost use Rattle.xa_log.specs.TwoFiles.{Pair, IsOpenPair, first_of, second_of};
-ghost use Rattle.xa_log.specs.declared.format.TheConstants.{OPENING_BYTES};
+ghost use Rattle.xa_log.specs.declared.format.TheConstants.{PREAMBLE_BYTES};
 
 use crate::looking::in_order;
 use crate::opened::Opened;
@@ -29,7 +29,7 @@ impl<D: Disk + Drop> Log<D> {
     ) -> Result<Log<D>, OpenFault>
         ensures log { D.honest → IfOk result (λ log. Pair D.Disk [] [] log × IsQuiet D.Disk [] log.other) }
         ensures empty { D.honest → OnOk result ((D.seen first ≡ []) × (D.seen second ≡ [])) }
-        ensures room { OnOk result (OPENING_BYTES ≤ log_bytes) }
+        ensures room { OnOk result (PREAMBLE_BYTES ≤ log_bytes) }
         ensures settings { IfOk result (λ log. (log.log_bytes ≡ log_bytes) × (log.on_first ≡ true)) }
         ensures count { IfOk result (λ log. (D.failures (first_of log) ≡ D.failures first)
             × (D.failures (second_of log) ≡ D.failures second)) }
@@ -37,7 +37,7 @@ impl<D: Disk + Drop> Log<D> {
             (λ log. D.counts (first_of log) ≡ with_sync (with_write (with_length (D.counts first)))) }
         ensures calls_second { IfOk result
             (λ log. D.counts (second_of log) ≡ with_sync (with_length (D.counts second))) }
-        ensures too_long { IsErrOf result OpenFault.TooLong ↔ (log_bytes < OPENING_BYTES) }
+        ensures too_long { IsErrOf result OpenFault.TooLong ↔ (log_bytes < PREAMBLE_BYTES) }
         ensures fault { D.honest → IfErr result (λ e. ExplainsNew e log_bytes (D.seen first) (D.seen second)) }
     {
         let opened = create_on(alloc, &mut first, &mut second, log_bytes)?;

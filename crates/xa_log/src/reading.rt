@@ -11,7 +11,7 @@ ghost use Rattle.xa_log.specs.Reading.{Finds, Fits, IsScan, bodies_of, fault_of,
 ghost use Rattle.xa_log.specs.Window.{Caches, Covers};
 
 use crate::OpenFault;
-use crate::format::{FIRST_PLACE, FORMAT_BYTES, Format};
+use crate::format::{FIRST_OFFSET, FORMAT_BYTES, Format};
 use crate::record::{AROUND_BODY, DIGEST_BYTES, LENGTH_BYTES, MOST_BODY, chained, size_of};
 use crate::window::{Span, WINDOW, fill};
 use std::alloc::{AllocError, Global};
@@ -34,7 +34,7 @@ pub struct Scan {
     pub digest: [u8; DIGEST_BYTES],
 }
 
-// The record that stands at a place, if one does that chains.
+// The record that stands at an offset, if one does that chains.
 fn next_record<D: Disk>(
     disk: &mut D,
     window: &mut [u8],
@@ -84,7 +84,7 @@ fn push_body(bodies: &mut Vec<Vec<u8>>, alloc: Global, body: &[u8]) -> Result<()
     Ok(())
 }
 
-// The records from the first one's place on, where a window has the file's first bytes.
+// The records from the first one's offset on, where a window has the file's first bytes.
 pub(crate) fn read_records<D: Disk>(
     alloc: Global,
     disk: &mut D,
@@ -96,8 +96,8 @@ pub(crate) fn read_records<D: Disk>(
     requires room { length window.old ≡ WINDOW }
     requires within { FORMAT_BYTES ≤ len }
     requires held { first.have ≤ length window.old }
-    requires begins { first.from ≤ FIRST_PLACE }
-    requires reaches { FIRST_PLACE ≤ first.from + first.have }
+    requires begins { first.from ≤ FIRST_OFFSET }
+    requires reaches { FIRST_OFFSET ≤ first.from + first.have }
     requires inside { first.from + first.have ≤ len }
     ensures value { D.honest → Caches (D.seen disk.old) window.old first → len ≡ length (D.seen disk.old)
         → take FORMAT_BYTES (D.seen disk.old) ≡ magic format → IfOk result (IsScan (D.seen disk.old)) }
@@ -114,7 +114,7 @@ pub(crate) fn read_records<D: Disk>(
         → FetchedSome len start (D.counts disk.new) }
 {
     let mut bodies = Vec::new(alloc);
-    let mut end = FIRST_PLACE;
+    let mut end = FIRST_OFFSET;
     let mut digest = format.first_digest();
     let mut span = first;
     'records: loop {

@@ -11,7 +11,7 @@ ghost use Rattle.xa_log.specs.Reading.{bodies_of, TellsFault};
 ghost use Rattle.xa_log.specs.Stands.{Stands, MayStand, Leaves, LeavesLog, Untouched};
 ghost use Rattle.xa_log.specs.TwoFiles.{Pair, MayStandPair, MaySeal, IsOpenPair, IsReadPair, KeepsAll, first_of, second_of, disk_after, other_after};
 
-use crate::looking::{in_order, place, read_again};
+use crate::looking::{arrange, in_order, read_again};
 use crate::opening::new_buffer;
 use crate::{Log, OpenFault};
 use xa_disk::Disk;
@@ -118,7 +118,7 @@ impl<D: Disk> Log<D> {
             &mut other_window,
             self.log_bytes,
         )?;
-        place(&mut self.disk, &mut self.other, self.on_first, on_first);
+        arrange(&mut self.disk, &mut self.other, self.on_first, on_first);
         let digest = scan.digest;
         self.on_first = on_first;
         self.format = scan.format;

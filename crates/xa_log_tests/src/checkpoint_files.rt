@@ -104,8 +104,8 @@ fn a_checkpoint_in_two_files(rt: HostRuntime) {
 
 fn many(alloc: Global, records: usize, size: usize) -> Option<Vec<Vec<u8>>> {
     let mut bodies = Vec::new(alloc);
-    for place in 0..records {
-        bodies.push(filled(alloc, place, size)?).ok()?;
+    for index in 0..records {
+        bodies.push(filled(alloc, index, size)?).ok()?;
     }
     Some(bodies)
 }

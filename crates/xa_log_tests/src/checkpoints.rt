@@ -261,10 +261,10 @@ fn stands_after_rescan(alloc: Global, pair: Pair, effect: Effect) -> Option<bool
 }
 
 fn wrong_pair(alloc: Global, rows: &[Pair], effect: Effect) -> Option<usize> {
-    for (place, pair) in rows.iter().enumerate() {
+    for (index, pair) in rows.iter().enumerate() {
         let crash = stands_after_crash(alloc, *pair, effect);
         if crash != Some(true) || stands_after_rescan(alloc, *pair, effect) != Some(true) {
-            return Some(place);
+            return Some(index);
         }
     }
     None

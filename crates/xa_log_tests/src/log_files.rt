@@ -182,9 +182,9 @@ fn is_row(alloc: Global, row: &Row) -> Option<bool> {
 }
 
 fn wrong_row(alloc: Global, rows: &[Row]) -> Option<usize> {
-    for (place, row) in rows.iter().enumerate() {
+    for (index, row) in rows.iter().enumerate() {
         if is_row(alloc, row) != Some(true) {
-            return Some(place);
+            return Some(index);
         }
     }
     None
@@ -259,9 +259,9 @@ fn is_refused_so(alloc: Global, row: &Refusal) -> Option<bool> {
 }
 
 fn wrong_refusal(alloc: Global, rows: &[Refusal]) -> Option<usize> {
-    for (place, row) in rows.iter().enumerate() {
+    for (index, row) in rows.iter().enumerate() {
         if is_refused_so(alloc, row) != Some(true) {
-            return Some(place);
+            return Some(index);
         }
     }
     None

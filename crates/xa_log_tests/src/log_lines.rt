@@ -6,7 +6,7 @@ use std::io::{self, ErrorKind, Write};
 use xa_disk::{Disk, Effect, MemDisk};
 use xa_log::{Log, OpenFault};
 use xa_rows::LOG_BYTES;
-use xa_scan::{ScanFault, places_in_the_file, scan_run, worked_scans};
+use xa_scan::{ScanFault, offsets_in_the_file, scan_run, worked_scans};
 
 /// How the printing of a disk's log ends, and what it printed.
 fn scanned(alloc: Global, disk: &mut MemDisk) -> (Result<(), ScanFault>, Vec<u8>) {
@@ -79,9 +79,9 @@ fn is_row(alloc: Global, row: &Row) -> Option<bool> {
 }
 
 fn wrong_row(alloc: Global, rows: &[Row]) -> Option<usize> {
-    for (place, row) in rows.iter().enumerate() {
+    for (index, row) in rows.iter().enumerate() {
         if is_row(alloc, row) != Some(true) {
-            return Some(place);
+            return Some(index);
         }
     }
     None
@@ -90,7 +90,7 @@ fn wrong_row(alloc: Global, rows: &[Row]) -> Option<usize> {
 #[test]
 fn lines_of_logs(rt: HostRuntime) {
     worked_scans();
-    places_in_the_file();
+    offsets_in_the_file();
     none_wrong(&rt, wrong_row(rt.alloc(), &ROWS));
 }
 

@@ -264,18 +264,18 @@ pub fn are_numbered(bodies: &[Vec<u8>], size: usize) -> bool {
 }
 
 /// A body of this size, filled with its number.
-pub fn filled(alloc: Global, place: usize, size: usize) -> Option<Vec<u8>> {
-    vec![in alloc; (place % 256) as u8; size].ok()
+pub fn filled(alloc: Global, index: usize, size: usize) -> Option<Vec<u8>> {
+    vec![in alloc; (index % 256) as u8; size].ok()
 }
 
-fn keeps_filled(alloc: Global, log: &mut Log<MemDisk>, place: usize, size: usize) -> Option<bool> {
-    Some(appends(log, &filled(alloc, place, size)?)? == Appended::Kept)
+fn keeps_filled(alloc: Global, log: &mut Log<MemDisk>, index: usize, size: usize) -> Option<bool> {
+    Some(appends(log, &filled(alloc, index, size)?)? == Appended::Kept)
 }
 
 fn log_of_filled(alloc: Global, records: usize, size: usize) -> Option<Log<MemDisk>> {
     let mut log = log_of(alloc, &[])?;
-    for place in 0..records {
-        if keeps_filled(alloc, &mut log, place, size) != Some(true) {
+    for index in 0..records {
+        if keeps_filled(alloc, &mut log, index, size) != Some(true) {
             return None;
         }
     }

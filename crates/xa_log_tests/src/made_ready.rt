@@ -9,8 +9,8 @@ use xa_rows::{LOG_BYTES, first_wrong};
 // A log of at most so many bytes, of so many bodies of this size, each filled with its number.
 fn log_of_filled(alloc: Global, records: usize, size: usize, most: u64) -> Option<Log<MemDisk>> {
     let mut log = Log::create(alloc, MemDisk::new(alloc), MemDisk::new(alloc), most).ok()?;
-    for place in 0..records {
-        if appends(&mut log, &filled(alloc, place, size)?) != Some(Appended::Kept) {
+    for index in 0..records {
+        if appends(&mut log, &filled(alloc, index, size)?) != Some(Appended::Kept) {
             return None;
         }
     }

@@ -152,9 +152,9 @@ const LOG_FAULTS: [(&[&[u8]], LogFault); 8] = [
 ];
 
 fn wrong_log_fault(alloc: Global, rows: &[(&[&[u8]], LogFault)]) -> Option<usize> {
-    for (place, (bodies, fault)) in rows.iter().enumerate() {
+    for (index, (bodies, fault)) in rows.iter().enumerate() {
         if log_fault_of(alloc, bodies) != Some(*fault) {
-            return Some(place);
+            return Some(index);
         }
     }
     None

@@ -12,7 +12,7 @@ use Rattle.xa_assoc.specs.declared.sessions.Sessions.{Sessions}
 use Rattle.xa_assoc.specs.Seats.{opened_at}
 use Rattle.xa_assoc.specs.Sessions.{SessionsStandFor, Follows, begin_refusal_of}
 use Rattle.xa_assoc.proofs.Follows.{unmoved}
-use Rattle.xa_manager.specs.Kept.{Kept}
+use Rattle.xa_manager.specs.View.{View}
 use Rattle.xa_manager.specs.Stands.{StandsFor}
 use Rattle.xa_manager.proofs.Rows.{passed_is}
 
@@ -21,10 +21,10 @@ seated_by None h = absurd (cc h)
 seated_by (Some x) h = refl
 
 -- a session that the table has is connected
-pub seated : (m : Kept) (s : State) (n : ℕ) → StandsFor m s → IsSome (opened_at m.sessions n) → is_some (session_of s.sessions n) ≡ true
+pub seated : (m : View) (s : State) (n : ℕ) → StandsFor m s → IsSome (opened_at m.sessions n) → is_some (session_of s.sessions n) ≡ true
 seated m s n st h = seated_by (session_of s.sessions n) (subst (λ (o : Option Bool). IsSome o) (st.sessions.opened n) h)
 
-pub begun_sound : (m : Kept) (s : State) (n : ℕ) (xid : Triple) → StandsFor m s → IsSome (opened_at m.sessions n) → begin_refusal_of s n xid ≡ None → IsSound (begun s n xid).after
+pub begun_sound : (m : View) (s : State) (n : ℕ) (xid : Triple) → StandsFor m s → IsSome (opened_at m.sessions n) → begin_refusal_of s n xid ≡ None → IsSound (begun s n xid).after
 begun_sound m s n xid st here free =
     subst (λ (a : Answer). IsSound a.after) (passed_is (begin_refusal_of s n xid) s (begun s n xid) free) (begin_sound s n xid st.recoverable.sound (seated m s n st here))
 

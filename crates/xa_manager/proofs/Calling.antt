@@ -31,15 +31,15 @@ use Rattle.xa_manager.specs.declared.manager.Manager.{Manager}
 use Rattle.xa_manager.specs.declared.done.Done.{Done}
 use Rattle.xa_manager.specs.LogStands.{Trusts}
 use Rattle.xa_manager.specs.Answered.{FullyAnswered, HasCalled, StaysFor, NoneRises, connect_reply, may_want, memory_code}
-use Rattle.xa_manager.specs.Kept.{Kept}
-use Rattle.xa_manager.specs.Managed.{kept, ManagerStandsFor, AnswersAs}
+use Rattle.xa_manager.specs.View.{View}
+use Rattle.xa_manager.specs.Managed.{view, ManagerStandsFor, AnswersAs}
 use Rattle.xa_manager.specs.Stands.{TablesStandFor, Follows, FollowsDown, Stays, StaysDown}
 use Rattle.xa_manager.specs.Turns.{Takes, TakesTurn, HasDone}
 use Rattle.xa_manager.proofs.OnePhase.{refused_turn, passed_turn}
 use Rattle.xa_manager.proofs.Stepping.{asked_by, has_done}
 use Rattle.xa_manager.proofs.Taking.{takes_row}
 
-early_by : (b : Bool) (k : Kept) (s : State) (n : ℕ) (request : Request) → TablesStandFor b k s → early_refusal (is_up s.standing) s.name (opened_of s n) request ≡ early_refusal b k.name (opened_at k.sessions n) request
+early_by : (b : Bool) (k : View) (s : State) (n : ℕ) (request : Request) → TablesStandFor b k s → early_refusal (is_up s.standing) s.name (opened_of s n) request ≡ early_refusal b k.name (opened_at k.sessions n) request
 early_by true k s n request st =
     ap (λ (standing : Standing). early_refusal (is_up standing) s.name (opened_of s n) request) st.up
     ∙ ap (λ (name : List ℕ). early_refusal true name (opened_of s n) request) (sym st.name)
@@ -53,12 +53,12 @@ never : (b : Bool) (A : Type 0) → b ≡ false → b ≡ true → A
 never true A e h = absurd (cc e)
 never false A e h = absurd (cc h)
 
-either_tables : (b : Bool) (k k' : Kept) (s : State) (act : State → Answer) (reply : Reply) → Follows k act reply k' → FollowsDown k act reply k' → TablesStandFor b k s
+either_tables : (b : Bool) (k k' : View) (s : State) (act : State → Answer) (reply : Reply) → Follows k act reply k' → FollowsDown k act reply k' → TablesStandFor b k s
     → ((act s).reply ≡ reply) × (IsRecoverable (act s).after → TablesStandFor b k' (act s).after)
 either_tables true k k' s act reply f d st = (f.answers s st, λ r. f.stands s st r)
 either_tables false k k' s act reply f d st = (d.answers s st, λ r. d.stands s st r)
 
-either_stays : (b : Bool) (k k' : Kept) (s : State) → Stays k k' → StaysDown k k' → TablesStandFor b k s → TablesStandFor b k' s
+either_stays : (b : Bool) (k k' : View) (s : State) → Stays k k' → StaysDown k k' → TablesStandFor b k s → TablesStandFor b k' s
 either_stays true k k' s f d st = f s st
 either_stays false k k' s f d st = d s st
 
@@ -98,28 +98,28 @@ code_kept request.Restart = refl
 
 module _ {D : Type 0} (disks : Ghosts D) where
   answers_by : (m : Manager D) (s : State) (n : ℕ) (request : Request) → ManagerStandsFor disks m s → step s (Asked (Call n request)) ≡ taken (respond s (Call n request))
-  answers_by m s n request st = ap taken (asked_by m.up (kept m) s (respond s (Call n request)) st.tables)
+  answers_by m s n request st = ap taken (asked_by m.up (view m) s (respond s (Call n request)) st.tables)
 
   early_same : (m : Manager D) (s : State) (n : ℕ) (request : Request) → ManagerStandsFor disks m s
-      → early_refusal (is_up s.standing) s.name (opened_of s n) request ≡ early_refusal m.up (kept m).name (opened_at (kept m).sessions n) request
-  early_same m s n request st = early_by m.up (kept m) s n request st.tables
+      → early_refusal (is_up s.standing) s.name (opened_of s n) request ≡ early_refusal m.up (view m).name (opened_at (view m).sessions n) request
+  early_same m s n request st = early_by m.up (view m) s n request st.tables
 
-  pub refused_done : (m : Manager D) (n : ℕ) (request : Request) (reply : Reply) → Some reply ≡ early_refusal m.up (kept m).name (opened_at (kept m).sessions n) request → is_memory reply.detail ≡ false
+  pub refused_done : (m : Manager D) (n : ℕ) (request : Request) (reply : Reply) → Some reply ≡ early_refusal m.up (view m).name (opened_at (view m).sessions n) request → is_memory reply.detail ≡ false
       → HasDone disks m (Call n request) reply Quiet m
   refused_done m n request reply h served = record {
     steps = λ s st premises.
         let is : respond s (Call n request) ≡ Now (answer reply s) = refused_turn (early_refusal (is_up s.standing) s.name (opened_of s n) request) s (row s n request) reply (h ∙ sym (early_same m s n request st)) in
-        let steps : step s (Asked (Call n request)) Quiet ≡ Some (answer reply s) = ap (λ (t : Turn). taken t Quiet) (asked_by m.up (kept m) s (respond s (Call n request)) st.tables ∙ is) in
+        let steps : step s (Asked (Call n request)) Quiet ≡ Some (answer reply s) = ap (λ (t : Turn). taken t Quiet) (asked_by m.up (view m) s (respond s (Call n request)) st.tables ∙ is) in
         subst (λ (o : Option Answer). IsSomeAnd o (λ a. (a.reply ≡ reply) × ManagerStandsFor disks m a.after)) (sym steps) (refl, st);
     called = λ s st premises. refl;
     served = served;
   }
 
-  passed_row : (m : Manager D) (s : State) (n : ℕ) (request : Request) → None ≡ early_refusal m.up (kept m).name (opened_at (kept m).sessions n) request → ManagerStandsFor disks m s
+  passed_row : (m : Manager D) (s : State) (n : ℕ) (request : Request) → None ≡ early_refusal m.up (view m).name (opened_at (view m).sessions n) request → ManagerStandsFor disks m s
       → respond s (Call n request) ≡ row s n request
   passed_row m s n request h st = passed_turn (early_refusal (is_up s.standing) s.name (opened_of s n) request) s (row s n request) (h ∙ sym (early_same m s n request st))
 
-  pub row_done : (m m' : Manager D) (n : ℕ) (request : Request) (reply : Reply) (outcome : Outcome) → IsAsked request → asks_restart request ≡ false → None ≡ early_refusal m.up (kept m).name (opened_at (kept m).sessions n) request
+  pub row_done : (m m' : Manager D) (n : ℕ) (request : Request) (reply : Reply) (outcome : Outcome) → IsAsked request → asks_restart request ≡ false → None ≡ early_refusal m.up (view m).name (opened_at (view m).sessions n) request
       → is_memory reply.detail ≡ false → ((s : State) → ManagerStandsFor disks m s → Takes disks m (row s n request) reply outcome m')
       → HasDone disks m (Call n request) reply outcome m'
   row_done m m' n request reply outcome event other h served takes =
@@ -128,29 +128,29 @@ module _ {D : Type 0} (disks : Ghosts D) where
 
   -- a row that is answered also while the manager is down
   pub takes_either : (m m' : Manager D) (act : State → Answer) (reply : Reply) (outcome : Outcome) → outcome ≡ Quiet → m'.log ≡ m.log → m'.up ≡ m.up → m'.doubt ≡ m.doubt
-      → Follows (kept m) act reply (kept m') → FollowsDown (kept m) act reply (kept m') → (s : State) → ManagerStandsFor disks m s
+      → Follows (view m) act reply (view m') → FollowsDown (view m) act reply (view m') → (s : State) → ManagerStandsFor disks m s
       → Takes disks m (Now (act s)) reply outcome m'
   takes_either m m' act reply outcome quiet log up doubt f d s st =
-      let x = either_tables m.up (kept m) (kept m') s act reply f d st.tables in
+      let x = either_tables m.up (view m) (view m') s act reply f d st.tables in
       record {
         reply_is = x.0;
         outcome_is = quiet;
         log = log;
         up = up;
         doubt = doubt;
-        tables = λ r. subst (λ (b : Bool). TablesStandFor b (kept m') (act s).after) (sym up) (x.1 r);
+        tables = λ r. subst (λ (b : Bool). TablesStandFor b (view m') (act s).after) (sym up) (x.1 r);
       }
 
   pub both_done : (m m' : Manager D) (n : ℕ) (request : Request) (act : State → Answer) (reply : Reply) → IsAsked request → asks_restart request ≡ false
-      → None ≡ early_refusal m.up (kept m).name (opened_at (kept m).sessions n) request → ((s : State) → row s n request ≡ Now (act s)) → m'.log ≡ m.log → m'.up ≡ m.up → m'.doubt ≡ m.doubt
-      → Follows (kept m) act reply (kept m') → FollowsDown (kept m) act reply (kept m') → HasDone disks m (Call n request) reply Quiet m'
+      → None ≡ early_refusal m.up (view m).name (opened_at (view m).sessions n) request → ((s : State) → row s n request ≡ Now (act s)) → m'.log ≡ m.log → m'.up ≡ m.up → m'.doubt ≡ m.doubt
+      → Follows (view m) act reply (view m') → FollowsDown (view m) act reply (view m') → HasDone disks m (Call n request) reply Quiet m'
   both_done m m' n request act reply event other h is log up doubt f d =
       row_done m m' n request reply Quiet event other h f.served
       (λ s st. subst (λ (t : Turn). Takes disks m t reply Quiet m') (sym (is s)) (takes_either m m' act reply Quiet refl log up doubt f d s st))
 
   -- the row of a request that a manager which is down refuses
   pub turn_done : (m m' : Manager D) (n : ℕ) (request handed : Request) (o : Option Reply) (turn : State → Turn) (reply : Reply) (outcome : Outcome) → IsAsked request → request ≡ handed
-      → asks_restart handed ≡ false → passes_down (call_of handed) ≡ false → o ≡ None → o ≡ early_refusal m.up (kept m).name (opened_at (kept m).sessions n) request
+      → asks_restart handed ≡ false → passes_down (call_of handed) ≡ false → o ≡ None → o ≡ early_refusal m.up (view m).name (opened_at (view m).sessions n) request
       → (o ≡ None → m.up ≡ false → passes_down (call_of request) ≡ true) → ((s : State) → row s n handed ≡ turn s) → TakesTurn disks m turn reply outcome m'
       → HasDone disks m (Call n request) reply outcome m'
   turn_done m m' n request handed o turn reply outcome event same other stops none h passes is x =
@@ -159,7 +159,7 @@ module _ {D : Type 0} (disks : Ghosts D) where
       (λ s st. subst (λ (t : Turn). Takes disks m t reply outcome m') (sym (ap (row s n) same ∙ is s)) (x.takes s st is_up))
 
   pub turns_done : (m m' : Manager D) (n : ℕ) (request handed : Request) (o : Option Reply) (turn : State → Turn) (r : Result Done AllocError) → IsAsked request → request ≡ handed
-      → asks_restart handed ≡ false → passes_down (call_of handed) ≡ false → o ≡ None → o ≡ early_refusal m.up (kept m).name (opened_at (kept m).sessions n) request
+      → asks_restart handed ≡ false → passes_down (call_of handed) ≡ false → o ≡ None → o ≡ early_refusal m.up (view m).name (opened_at (view m).sessions n) request
       → (o ≡ None → m.up ≡ false → passes_down (call_of request) ≡ true) → ((s : State) → row s n handed ≡ turn s) → IfOk r (λ d. TakesTurn disks m turn d.reply d.outcome m')
       → IfOk r (λ d. HasDone disks m (Call n request) d.reply d.outcome m')
   turns_done m m' n request handed o turn (Ok d) event same other stops none h passes is x = turn_done m m' n request handed o turn d.reply d.outcome event same other stops none h passes is x
@@ -167,40 +167,40 @@ module _ {D : Type 0} (disks : Ghosts D) where
 
   -- the same of a row of the tables
   pub follows_done : (m m' : Manager D) (n : ℕ) (request handed : Request) (o : Option Reply) (act : State → Answer) (reply : Reply) → IsAsked request → request ≡ handed
-      → asks_restart handed ≡ false → passes_down (call_of handed) ≡ false → o ≡ None → o ≡ early_refusal m.up (kept m).name (opened_at (kept m).sessions n) request
+      → asks_restart handed ≡ false → passes_down (call_of handed) ≡ false → o ≡ None → o ≡ early_refusal m.up (view m).name (opened_at (view m).sessions n) request
       → (o ≡ None → m.up ≡ false → passes_down (call_of request) ≡ true) → ((s : State) → row s n handed ≡ Now (act s)) → m'.log ≡ m.log → m'.up ≡ m.up → m'.doubt ≡ m.doubt
-      → Follows (kept m) act reply (kept m') → HasDone disks m (Call n request) reply Quiet m'
+      → Follows (view m) act reply (view m') → HasDone disks m (Call n request) reply Quiet m'
   follows_done m m' n request handed o act reply event same other stops none h passes is log up doubt f =
       turn_done m m' n request handed o (λ s. Now (act s)) reply Quiet event same other stops none h passes is (takes_row disks m m' act reply Quiet refl log up doubt f)
 
   -- a restart, of whichever state the manager stood for, up or down
-  restarted_done : (m m' : Manager D) (n : ℕ) (reply : Reply) (outcome : Outcome) → None ≡ early_refusal m.up (kept m).name (opened_at (kept m).sessions n) Restart
+  restarted_done : (m m' : Manager D) (n : ℕ) (reply : Reply) (outcome : Outcome) → None ≡ early_refusal m.up (view m).name (opened_at (view m).sessions n) Restart
       → ((s : State) → ManagerStandsFor disks m s → Trusts disks → AnswersAs disks (taken (restart_turn s) outcome) reply m') → HasCalled disks outcome m.log m'.log → is_memory reply.detail ≡ false
       → HasDone disks m (Call n Restart) reply outcome m'
   restarted_done m m' n reply outcome h turn called served = record {
     steps = λ s st premises.
         let steps : step s (Asked (Call n Restart)) outcome ≡ taken (restart_turn s) outcome =
-        ap (λ (t : Turn). taken t outcome) (asked_by m.up (kept m) s (respond s (Call n Restart)) st.tables ∙ passed_row m s n Restart h st) in
+        ap (λ (t : Turn). taken t outcome) (asked_by m.up (view m) s (respond s (Call n Restart)) st.tables ∙ passed_row m s n Restart h st) in
         subst (λ (o : Option Answer). IsSomeAnd o (λ a. (a.reply ≡ reply) × ManagerStandsFor disks m' a.after)) (sym steps)
         (⊎_elim (λ trusts. turn s st trusts) (λ no. absurd (cc no)) premises);
     called = λ s st premises. called;
     served = served;
   }
 
-  restart_by : (m m' : Manager D) (n : ℕ) (r : Result Done AllocError) → None ≡ early_refusal m.up (kept m).name (opened_at (kept m).sessions n) Restart
+  restart_by : (m m' : Manager D) (n : ℕ) (r : Result Done AllocError) → None ≡ early_refusal m.up (view m).name (opened_at (view m).sessions n) Restart
       → IfOk r (λ d. (s : State) → ManagerStandsFor disks m s → Trusts disks → AnswersAs disks (taken (restart_turn s) d.outcome) d.reply m')
       → IfOk r (λ d. HasCalled disks d.outcome m.log m'.log) → IfOk r (λ d. is_memory d.reply.detail ≡ false)
       → IfOk r (λ d. HasDone disks m (Call n Restart) d.reply d.outcome m')
   restart_by m m' n (Ok d) h turn called served = restarted_done m m' n d.reply d.outcome h turn called served
   restart_by m m' n (Err e) h turn called served = tt
 
-  pub restart_done : (m m' : Manager D) (n : ℕ) (request : Request) (r : Result Done AllocError) → request ≡ Restart → None ≡ early_refusal m.up (kept m).name (opened_at (kept m).sessions n) request
+  pub restart_done : (m m' : Manager D) (n : ℕ) (request : Request) (r : Result Done AllocError) → request ≡ Restart → None ≡ early_refusal m.up (view m).name (opened_at (view m).sessions n) request
       → IfOk r (λ d. (s : State) → ManagerStandsFor disks m s → Trusts disks → AnswersAs disks (taken (restart_turn s) d.outcome) d.reply m')
       → IfOk r (λ d. HasCalled disks d.outcome m.log m'.log) → IfOk r (λ d. is_memory d.reply.detail ≡ false)
       → IfOk r (λ d. HasDone disks m (Call n request) d.reply d.outcome m')
   restart_done m m' n request r same h turn called served =
       subst (λ (q : Request). IfOk r (λ d. HasDone disks m (Call n q) d.reply d.outcome m')) (sym same)
-      (restart_by m m' n r (subst (λ (q : Request). None ≡ early_refusal m.up (kept m).name (opened_at (kept m).sessions n) q) same h) turn called served)
+      (restart_by m m' n r (subst (λ (q : Request). None ≡ early_refusal m.up (view m).name (opened_at (view m).sessions n) q) same h) turn called served)
 
   -- the outcome is no part of what a manager stands for
   told : (m : Manager D) (o : Outcome) (s : State) → ManagerStandsFor disks m s → ManagerStandsFor disks (record m { outcome = o }) s
@@ -229,9 +229,9 @@ module _ {D : Type 0} (disks : Ghosts D) where
       → FullyAnswered disks m (Call n request) reply m'
   wanted_answered m m' n request reply is stays outcome quiet may = rw is (record { answered = (stays, outcome); pinned = λ w. (may, refl); called = λ served. absurd (cc served); quiet = λ w. quiet })
 
-  pub either_stays_for : (m m' : Manager D) → m'.up ≡ m.up → m'.log ≡ m.log → m'.doubt ≡ m.doubt → Stays (kept m) (kept m') → StaysDown (kept m) (kept m') → StaysFor disks m m'
+  pub either_stays_for : (m m' : Manager D) → m'.up ≡ m.up → m'.log ≡ m.log → m'.doubt ≡ m.doubt → Stays (view m) (view m') → StaysDown (view m) (view m') → StaysFor disks m m'
   either_stays_for m m' up log doubt stays down s st = record {
-    tables = subst (λ (b : Bool). TablesStandFor b (kept m') s) (sym up) (either_stays m.up (kept m) (kept m') s stays down st.tables);
+    tables = subst (λ (b : Bool). TablesStandFor b (view m') s) (sym up) (either_stays m.up (view m) (view m') s stays down st.tables);
     roomy = st.roomy;
     end = λ e. ap (λ (l : Log D). l.end) log ∙ st.end (sym up ∙ e);
     alive = λ e. ap (λ (l : Log D). l.lost) log ∙ st.alive (sym up ∙ e);
@@ -242,7 +242,7 @@ module _ {D : Type 0} (disks : Ghosts D) where
 
   -- an event without a request
   pub event_answered : (m m' : Manager D) (e : Event) (act : State → Answer) (reply : Reply) → IsEvent e → is_restart e ≡ false → ((s : State) → respond s e ≡ Now (act s)) → m'.log ≡ m.log → m'.up ≡ m.up → m'.doubt ≡ m.doubt
-      → Follows (kept m) act reply (kept m') → FollowsDown (kept m) act reply (kept m') → FullyAnswered disks m e reply (record m' { outcome = Quiet })
+      → Follows (view m) act reply (view m') → FollowsDown (view m) act reply (view m') → FullyAnswered disks m e reply (record m' { outcome = Quiet })
   event_answered m m' e act reply event other is log up doubt f d =
       done_answered m m' e reply Quiet
       (has_done disks m m' e reply Quiet event other f.served

@@ -3,9 +3,9 @@ use Rattle.std.proofs.Common.{◌≡◌, ℕ, ◌+◌, Bool, true, false, cond, 
 use Rattle.std.specs.Prelude.{IsSome, find}
 use Rattle.mv_chain.specs.declared.fate.Fate.{Fate}
 use Rattle.mv_chain.specs.declared.fate.Fate.TheVariants.{Committed as kept, RolledBack as gone}
-use Rattle.mv_chain.specs.History.{Written, decided, IsOpen}
+use Rattle.mv_chain.specs.Accesses.{Written, decided, IsUndecided}
 use Rattle.mv_rules.specs.declared.records.Records.{Records}
-use Rattle.mv_rules.specs.History.{History}
+use Rattle.mv_rules.specs.Accesses.{Accesses}
 use Rattle.mv_rules.specs.Records.{StandsFor as RecordsStandFor}
 use Rattle.mv_rules.specs.Ties.{history_of, low_of, writes_in, fate_of, read_as}
 use Rattle.mv_rules.proofs.Moved.{stands_same}
@@ -22,7 +22,7 @@ use Rattle.xa_model.specs.Loggable.{IsRecoverable}
 use Rattle.xa_assoc.specs.declared.sessions.Sessions.{Sessions}
 use Rattle.xa_assoc.specs.Sessions.{SessionsStandFor}
 use Rattle.xa_assoc.proofs.Follows.{unmoved}
-use Rattle.xa_manager.specs.Kept.{Kept}
+use Rattle.xa_manager.specs.View.{View}
 use Rattle.xa_manager.specs.Changes.{fate_of as direction_fate}
 use Rattle.xa_manager.specs.Stands.{StandsFor, ending}
 use Rattle.xa_manager.proofs.Lows.{rises_with}
@@ -58,15 +58,15 @@ here_by s xid (Some b) e h = record { branch = b; at = e; open_ = named_open xid
 
 -- what settling its writes comes to
 abbrev pub Settles : ℕ → Fate → Records → Records → Type 0
-Settles t fate r r' = (h : History) → RecordsStandFor h r → IsOpen t h.writes → RecordsStandFor (record h { writes = decided t fate h.writes }) r'
+Settles t fate r r' = (h : Accesses) → RecordsStandFor h r → IsUndecided t h.writes → RecordsStandFor (record h { writes = decided t fate h.writes }) r'
 
 decided_at : (s : State) (xid : Triple) (t : ℕ) (fate : Fate) (r r' : Records) → IsSound s → (x : IsHere s xid) → t ≡ timestamp_in s xid → RecordsStandFor (history_of s) r → Settles t fate r r'
     → RecordsStandFor (record { low = low_of s; writes = decided x.branch.timestamp fate (writes_in s.branches); reads = map read_as s.reads }) r'
 decided_at s xid t fate r r' sound x time st settles =
     let b = x.branch in
     let is : t ≡ b.timestamp = time ∙ ap timestamp_by x.at in
-    let open_ : IsOpen b.timestamp (writes_in s.branches) = (at_work xid b (timestamp_of s.boot s.given + 1) s.branches sound.descends x.at x.open_).open_ in
-    let here : IsOpen t (writes_in s.branches) = subst (λ (u : ℕ). IsOpen u (writes_in s.branches)) (sym is) open_ in
+    let open_ : IsUndecided b.timestamp (writes_in s.branches) = (at_work xid b (timestamp_of s.boot s.given + 1) s.branches sound.descends x.at x.open_).open_ in
+    let here : IsUndecided t (writes_in s.branches) = subst (λ (u : ℕ). IsUndecided u (writes_in s.branches)) (sym is) open_ in
     subst (λ (u : ℕ). RecordsStandFor (record { low = low_of s; writes = decided u fate (writes_in s.branches); reads = map read_as s.reads }) r') is (settles (history_of s) st here)
 
 pub committed_records : (s : State) (xid : Triple) (t : ℕ) (r r' : Records) → IsSound s → IsSome (known_of s.branches xid) → t ≡ timestamp_in s xid → RecordsStandFor (history_of s) r → Settles t kept r r'
@@ -114,7 +114,7 @@ pub decided_sessions : (m : Sessions) (s : State) (xid : Triple) (direction : Di
 decided_sessions m s xid Commit end st = unmoved m s (ending (decided_by s Commit xid) end) refl refl st
 decided_sessions m s xid Rollback end st = unmoved m s (ending (decided_by s Rollback xid) end) refl refl st
 
-pub decided_stands : (m m' : Kept) (s : State) (xid : Triple) (direction : Direction) (end t : ℕ) → StandsFor m s → known_as s xid ≡ InDoubt → t ≡ timestamp_in s xid
+pub decided_stands : (m m' : View) (s : State) (xid : Triple) (direction : Direction) (end t : ℕ) → StandsFor m s → known_as s xid ≡ InDoubt → t ≡ timestamp_in s xid
     → m'.name ≡ m.name → m'.log_bytes ≡ m.log_bytes → m'.sessions ≡ m.sessions → BranchesStandFor m'.branches (decided_by s direction xid) → Settles t (direction_fate direction) m.records m'.records
     → IsRecoverable (ending (decided_by s direction xid) end) → StandsFor m' (ending (decided_by s direction xid) end)
 decided_stands m m' s xid Commit end t st doubt time name bytes sessions branches settles recoverable = record {

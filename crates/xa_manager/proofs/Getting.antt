@@ -5,10 +5,10 @@ use Rattle.xa_codes.specs.declared.detail.Detail.TheVariants as detail
 use Rattle.xa_xid.specs.Triple.{Triple}
 use Rattle.xa_frame.specs.declared.body.Body.TheVariants as body
 use Rattle.xa_frame.specs.declared.reply.Reply.{Reply}
-use Rattle.mv_chain.specs.History.{Written, Answered, seen}
+use Rattle.mv_chain.specs.Accesses.{Written, Answered, seen}
 use Rattle.mv_rules.specs.declared.answers.Got.{Got}
 use Rattle.mv_rules.specs.declared.answers.Got.TheVariants as got_as
-use Rattle.mv_rules.specs.History.{answer_by, answer_of, reads_after}
+use Rattle.mv_rules.specs.Accesses.{answer_by, answer_of, reads_after}
 use Rattle.mv_rules.specs.Records.{StandsFor as RecordsStandFor}
 use Rattle.mv_rules.specs.Ties.{history_of, low_of, writes_in, read_as, seen_as}
 use Rattle.mv_rules.proofs.Ties.{one_source}
@@ -21,17 +21,17 @@ use Rattle.xa_model.specs.Loggable.{IsRecoverable}
 use Rattle.xa_branch.specs.declared.working.Working.{Working as Kept_branch}
 use Rattle.xa_branch.specs.Branches.{working_at}
 use Rattle.xa_branch.proofs.Looks.{IsWorking}
-use Rattle.xa_manager.specs.Kept.{Kept, own_at}
+use Rattle.xa_manager.specs.View.{View, own_at}
 use Rattle.xa_manager.specs.Stands.{StandsFor, Follows, Stays}
 use Rattle.xa_manager.proofs.Looks.{finds, own_works, own_is, no_own, own_mark, time_of, above_low}
 use Rattle.xa_manager.proofs.Changed.{Gets, done_stands, stays_by}
 use Rattle.xa_manager.proofs.Rows.{follows_by}
 
 -- what the records see is the source
-sees : (m : Kept) (s : State) (key : List ℕ) (t : ℕ) → StandsFor m s → seen key t (writes_in s.branches) ≡ seen_as (source key t s.branches)
+sees : (m : View) (s : State) (key : List ℕ) (t : ℕ) → StandsFor m s → seen key t (writes_in s.branches) ≡ seen_as (source key t s.branches)
 sees m s key t st = one_source key t (timestamp_of s.boot s.given + 1) s.branches st.recoverable.sound.descends
 
-answered : (m m' : Kept) (s : State) (xid : Triple) (w : Kept_branch) (key : List ℕ) (g : Got) → StandsFor m s → (x : IsWorking s xid w) → Gets m w.timestamp key g m' → g ≢ got_as.Memory
+answered : (m m' : View) (s : State) (xid : Triple) (w : Kept_branch) (key : List ℕ) (g : Got) → StandsFor m s → (x : IsWorking s xid w) → Gets m w.timestamp key g m' → g ≢ got_as.Memory
     → g ≡ answer_by (is_busy x.branch.timestamp (source key x.branch.timestamp s.branches)) (source key x.branch.timestamp s.branches).timestamp (source key x.branch.timestamp s.branches).value
 answered m m' s xid w key g st x c some =
     c.answer (history_of s) st.records (above_low m s xid w st x) some
@@ -65,21 +65,21 @@ busy_refuses t v h = rw h refl
 busy_passes : (t : ℕ) (v : Version) → is_busy t v ≡ false → busy_refusal t v ≡ None
 busy_passes t v h = rw h refl
 
-busy_stands : (m m' : Kept) (s : State) (xid : Triple) (w : Kept_branch) (key : List ℕ) (by : ℕ) → StandsFor m s → (x : IsWorking s xid w) → Gets m w.timestamp key (got_as.Busy by) m' → StandsFor m' s
+busy_stands : (m m' : View) (s : State) (xid : Triple) (w : Kept_branch) (key : List ℕ) (by : ℕ) → StandsFor m s → (x : IsWorking s xid w) → Gets m w.timestamp key (got_as.Busy by) m' → StandsFor m' s
 busy_stands m m' s xid w key by st x c = stays_by m m' s st c.same (c.records (history_of s) st.records (above_low m s xid w st x))
 
 -- an unmarked branch gets
-get_unmarked : (m : Kept) (s : State) (n : ℕ) (key : List ℕ) (xid : Triple) (w : Kept_branch) → StandsFor m s → own_at m n ≡ Some (xid, w) → w.mark ≡ None → (x : IsWorking s xid w)
+get_unmarked : (m : View) (s : State) (n : ℕ) (key : List ℕ) (xid : Triple) (w : Kept_branch) → StandsFor m s → own_at m n ≡ Some (xid, w) → w.mark ≡ None → (x : IsWorking s xid w)
     → get_by s key (own_branch s n) ≡ get_from s key xid x.branch (source key x.branch.timestamp s.branches)
 get_unmarked m s n key xid w st h e x =
     ap (get_by s key) (own_is m s n xid w st h x)
     ∙ ap (λ (o : Option ℤ). marked o s (get_from s key xid x.branch (source key x.branch.timestamp s.branches))) (own_mark s xid w None x e)
 
-pub get_alone : (m : Kept) (n : ℕ) (key : List ℕ) → own_at m n ≡ None → Follows m (λ s. get_by s key (own_branch s n)) (plain XAER_PROTO) m
+pub get_alone : (m : View) (n : ℕ) (key : List ℕ) → own_at m n ≡ None → Follows m (λ s. get_by s key (own_branch s n)) (plain XAER_PROTO) m
 get_alone m n key h =
     follows_by m m (λ s. get_by s key (own_branch s n)) (plain XAER_PROTO) refl (λ s st. (answer (plain XAER_PROTO) s, ap (get_by s key) (no_own m s n st h), refl, λ recoverable. st))
 
-pub get_marked : (m : Kept) (n : ℕ) (key : List ℕ) (xid : Triple) (w : Kept_branch) (code : ℤ) → own_at m n ≡ Some (xid, w) → w.mark ≡ Some code → Follows m (λ s. get_by s key (own_branch s n)) (plain code) m
+pub get_marked : (m : View) (n : ℕ) (key : List ℕ) (xid : Triple) (w : Kept_branch) (code : ℤ) → own_at m n ≡ Some (xid, w) → w.mark ≡ Some code → Follows m (λ s. get_by s key (own_branch s n)) (plain code) m
 get_marked m n key xid w code h e =
     follows_by m m (λ s. get_by s key (own_branch s n)) (plain code) refl
     (λ s st.
@@ -91,7 +91,7 @@ get_marked m n key xid w code h e =
       λ recoverable. st,
     ))
 
-pub get_busy : (m m' : Kept) (n : ℕ) (key : List ℕ) (xid : Triple) (w : Kept_branch) (by : ℕ) → own_at m n ≡ Some (xid, w) → w.mark ≡ None → Gets m w.timestamp key (got_as.Busy by) m'
+pub get_busy : (m m' : View) (n : ℕ) (key : List ℕ) (xid : Triple) (w : Kept_branch) (by : ℕ) → own_at m n ≡ Some (xid, w) → w.mark ≡ None → Gets m w.timestamp key (got_as.Busy by) m'
     → Follows m (λ s. get_by s key (own_branch s n)) (detailed XA_RETRY detail.Busy) m'
 get_busy m m' n key xid w by h e c =
     follows_by m m' (λ s. get_by s key (own_branch s n)) (detailed XA_RETRY detail.Busy) refl
@@ -109,7 +109,7 @@ get_busy m m' n key xid w by h e c =
 abbrev IsAnswered : Got → Type 0
 IsAnswered g = (t from : ℕ) (key : List ℕ) (reads : List Answered) → reads_after g t key from reads ≡ record { reader = t; key = key; from = from } ∷ reads
 
-got_stands : (m m' : Kept) (s : State) (xid : Triple) (w : Kept_branch) (key : List ℕ) (g : Got) → StandsFor m s → working_at m.branches xid ≡ Some w → (x : IsWorking s xid w) → Gets m w.timestamp key g m' → IsAnswered g
+got_stands : (m m' : View) (s : State) (xid : Triple) (w : Kept_branch) (key : List ℕ) (g : Got) → StandsFor m s → working_at m.branches xid ≡ Some w → (x : IsWorking s xid w) → Gets m w.timestamp key g m' → IsAnswered g
     → IsRecoverable (got s key xid x.branch (source key x.branch.timestamp s.branches)).after → StandsFor m' (got s key xid x.branch (source key x.branch.timestamp s.branches)).after
 got_stands m m' s xid w key g st h x c is recoverable =
     let b = x.branch in
@@ -130,7 +130,7 @@ got_stands m m' s xid w key g st h x c is recoverable =
     subst (λ (ws : List Written). RecordsStandFor (record { low = low_of s; writes = ws; reads = map read_as reads }) m'.records) (sym same) moved in
     done_stands m m' s xid op reads st c.same records recoverable
 
-get_follows : (m m' : Kept) (n : ℕ) (key : List ℕ) (xid : Triple) (w : Kept_branch) (g : Got) (o : Option (List ℕ)) → own_at m n ≡ Some (xid, w) → w.mark ≡ None → Gets m w.timestamp key g m' → IsAnswered g → g ≢ got_as.Memory
+get_follows : (m m' : View) (n : ℕ) (key : List ℕ) (xid : Triple) (w : Kept_branch) (g : Got) (o : Option (List ℕ)) → own_at m n ≡ Some (xid, w) → w.mark ≡ None → Gets m w.timestamp key g m' → IsAnswered g → g ≢ got_as.Memory
     → ((b : Bool) (from : ℕ) (w : Option (List ℕ)) → g ≡ answer_by b from w → (b ≡ false) × (w ≡ o))
     → Follows m (λ s. get_by s key (own_branch s n)) (carrying (value_body o)) m'
 get_follows m m' n key xid w g o h e c is some says =
@@ -145,15 +145,15 @@ get_follows m m' n key xid w g o h e c is some says =
       λ recoverable. got_stands m m' s xid w key g st (own_works m n xid w h).1 x c is recoverable,
     ))
 
-pub get_value : (m m' : Kept) (n : ℕ) (key : List ℕ) (xid : Triple) (w : Kept_branch) (value : List ℕ) → own_at m n ≡ Some (xid, w) → w.mark ≡ None → Gets m w.timestamp key (got_as.Value value) m'
+pub get_value : (m m' : View) (n : ℕ) (key : List ℕ) (xid : Triple) (w : Kept_branch) (value : List ℕ) → own_at m n ≡ Some (xid, w) → w.mark ≡ None → Gets m w.timestamp key (got_as.Value value) m'
     → Follows m (λ s. get_by s key (own_branch s n)) (carrying (body.Value value)) m'
 get_value m m' n key xid w value h e c =
     get_follows m m' n key xid w (got_as.Value value) (Some value) h e c (λ t from k reads. refl) (λ q. cc q) (λ b from w q. value_of b from w value q)
 
-pub get_absent : (m m' : Kept) (n : ℕ) (key : List ℕ) (xid : Triple) (w : Kept_branch) → own_at m n ≡ Some (xid, w) → w.mark ≡ None → Gets m w.timestamp key got_as.Absent m'
+pub get_absent : (m m' : View) (n : ℕ) (key : List ℕ) (xid : Triple) (w : Kept_branch) → own_at m n ≡ Some (xid, w) → w.mark ≡ None → Gets m w.timestamp key got_as.Absent m'
     → Follows m (λ s. get_by s key (own_branch s n)) (carrying body.Absent) m'
 get_absent m m' n key xid w h e c = get_follows m m' n key xid w got_as.Absent None h e c (λ t from k reads. refl) (λ q. cc q) (λ b from w q. absent_of b from w q)
 
-pub get_stays : (m m' : Kept) (n : ℕ) (key : List ℕ) (xid : Triple) (w : Kept_branch) → own_at m n ≡ Some (xid, w) → Gets m w.timestamp key got_as.Memory m' → Stays m m'
+pub get_stays : (m m' : View) (n : ℕ) (key : List ℕ) (xid : Triple) (w : Kept_branch) → own_at m n ≡ Some (xid, w) → Gets m w.timestamp key got_as.Memory m' → Stays m m'
 get_stays m m' n key xid w h c s st =
     let x = finds m s xid w st (own_works m n xid w h).1 in stays_by m m' s st c.same (c.records (history_of s) st.records (above_low m s xid w st x))

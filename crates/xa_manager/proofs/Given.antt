@@ -1,8 +1,8 @@
 -- Records that were given the low water stand for what they stood for.
 use Rattle.std.proofs.Common.{◌≡◌, ℕ, ◌+◌, max, subst, map, arith}
-use Rattle.mv_chain.specs.History.{AreWhole}
+use Rattle.mv_chain.specs.Accesses.{AreWhole}
 use Rattle.mv_rules.specs.declared.records.Records.{Records}
-use Rattle.mv_rules.specs.History.{History}
+use Rattle.mv_rules.specs.Accesses.{Accesses}
 use Rattle.mv_rules.specs.Records.{StandsFor as RecordsStandFor}
 use Rattle.mv_rules.specs.Ties.{history_of, writes_in, read_as}
 use Rattle.mv_rules.proofs.Open.{are_whole}
@@ -15,7 +15,7 @@ no_higher : (first low given : ℕ) → given ≡ low → max (max first low) gi
 no_higher first low given e = omega (arith, e)
 
 pub given_stands : (s : State) (r r' : Records) (given : ℕ) → given ≡ low_water s → IsSound s
-    → ((h : History) → RecordsStandFor h r → AreWhole h.writes → RecordsStandFor (record h { low = max h.low given }) r')
+    → ((h : Accesses) → RecordsStandFor h r → AreWhole h.writes → RecordsStandFor (record h { low = max h.low given }) r')
     → RecordsStandFor (history_of s) r → RecordsStandFor (history_of s) r'
 given_stands s r r' given e sound gives st =
     subst (λ (low : ℕ). RecordsStandFor (record { low = low; writes = writes_in s.branches; reads = map read_as s.reads }) r') (no_higher (timestamp_of s.boot 0) (low_water s) given e)

@@ -9,14 +9,14 @@ use Rattle.xa_assoc.specs.declared.seat.Seat.{Seat}
 use Rattle.xa_assoc.specs.Seats.{seat_at, holds}
 use Rattle.xa_branch.specs.Branches.{BranchesStandFor}
 use Rattle.xa_branch.proofs.HangingUp.{hung_up_stands}
-use Rattle.xa_manager.specs.Kept.{Kept}
+use Rattle.xa_manager.specs.View.{View}
 use Rattle.xa_manager.specs.Stands.{StandsFor}
 
 -- no branch was its
 abbrev none_own : BTreeSet Triple
 none_own = record { keys = [] }
 
-pub nobody_stands : (m : Kept) (s : State) (n : ℕ) → StandsFor m s → seat_at m.sessions n ≡ None → BranchesStandFor m.branches (hang_up_by s n).after
+pub nobody_stands : (m : View) (s : State) (n : ℕ) → StandsFor m s → seat_at m.sessions n ≡ None → BranchesStandFor m.branches (hang_up_by s n).after
 nobody_stands m s n st none =
     hung_up_stands m.branches m.branches.working s n none_own None st.recoverable.sound (λ q. ap (holds q) (sym none) ∙ st.sessions.own n q)
     (ap (λ (o : Option Seat). option_and_then (λ x. x.active) o) (sym none) ∙ st.sessions.active n) st.branches (record { at = λ q. refl; number = refl })

@@ -17,7 +17,7 @@ use Rattle.xa_assoc.proofs.Held.{works_somewhere, works_nowhere}
 use Rattle.xa_branch.specs.declared.kind.Kind.{Kind}
 use Rattle.xa_branch.specs.declared.kind.Kind.TheVariants as kind
 use Rattle.xa_branch.specs.Kinds.{resumed_kind, ended_kind}
-use Rattle.xa_manager.specs.Kept.{Kept}
+use Rattle.xa_manager.specs.View.{View}
 use Rattle.xa_manager.specs.Stands.{StandsFor}
 
 any_by : (c b : Bool) (n : ℕ) → b ≡ nat_lt 0 n → (c || b) ≡ nat_lt 0 (cond c 1 0 + n)
@@ -52,13 +52,13 @@ not_false false e = absurd (cc e)
 
 -- Start with TMRESUME
 
-suspends_told : (m : Kept) (s : State) (n : ℕ) (xid : Triple) (b : Bool) → StandsFor m s → suspends_at m.sessions n xid ≡ b → list_any (suspends n xid) s.associations ≡ b
+suspends_told : (m : View) (s : State) (n : ℕ) (xid : Triple) (b : Bool) → StandsFor m s → suspends_at m.sessions n xid ≡ b → list_any (suspends n xid) s.associations ≡ b
 suspends_told m s n xid b st e = sym (suspends_is m.sessions s n xid st.recoverable.sound st.sessions) ∙ e
 
-pub resumes_own : (m : Kept) (s : State) (n : ℕ) (xid : Triple) → StandsFor m s → suspends_at m.sessions n xid ≡ true → resumed_kind s.associations n xid ≡ Some kind.Suspended
+pub resumes_own : (m : View) (s : State) (n : ℕ) (xid : Triple) → StandsFor m s → suspends_at m.sessions n xid ≡ true → resumed_kind s.associations n xid ≡ Some kind.Suspended
 resumes_own m s n xid st e = of_first (list_any (suspends n xid) s.associations) kind.Suspended _ (suspends_told m s n xid true st e)
 
-pub resumes_loose : (m : Kept) (s : State) (n : ℕ) (xid : Triple) → StandsFor m s → suspends_at m.sessions n xid ≡ false → resume_refusal_of s n xid ≡ None
+pub resumes_loose : (m : View) (s : State) (n : ℕ) (xid : Triple) → StandsFor m s → suspends_at m.sessions n xid ≡ false → resume_refusal_of s n xid ≡ None
     → resumed_kind s.associations n xid ≡ Some kind.Loose
 resumes_loose m s n xid st e free =
     let none = suspends_told m s n xid false st e in
@@ -67,19 +67,19 @@ resumes_loose m s n xid st e free =
 
 -- End
 
-works_told : (m : Kept) (s : State) (n : ℕ) (xid : Triple) (b : Bool) → StandsFor m s → is_with xid (active_at m.sessions n) ≡ b → is_with xid (active_of s.associations n) ≡ b
+works_told : (m : View) (s : State) (n : ℕ) (xid : Triple) (b : Bool) → StandsFor m s → is_with xid (active_at m.sessions n) ≡ b → is_with xid (active_of s.associations n) ≡ b
 works_told m s n xid b st e = ap (is_with xid) (sym (st.sessions.active n)) ∙ e
 
-pub leaves_active : (m : Kept) (s : State) (n : ℕ) (xid : Triple) → StandsFor m s → is_with xid (active_at m.sessions n) ≡ true → ended_kind s.associations n xid ≡ Some kind.Active
+pub leaves_active : (m : View) (s : State) (n : ℕ) (xid : Triple) → StandsFor m s → is_with xid (active_at m.sessions n) ≡ true → ended_kind s.associations n xid ≡ Some kind.Active
 leaves_active m s n xid st e = of_first (list_any (works_in n xid) s.associations) kind.Active _ (works_somewhere n xid s.associations (works_told m s n xid true st e))
 
-idle : (m : Kept) (s : State) (n : ℕ) (xid : Triple) → StandsFor m s → is_with xid (active_at m.sessions n) ≡ false → list_any (works_in n xid) s.associations ≡ false
+idle : (m : View) (s : State) (n : ℕ) (xid : Triple) → StandsFor m s → is_with xid (active_at m.sessions n) ≡ false → list_any (works_in n xid) s.associations ≡ false
 idle m s n xid st e = works_nowhere n xid s.associations (works_told m s n xid false st e) (st.recoverable.sound.active n)
 
 suspends_by : (owned at : Bool) → owned ≡ true → at ≡ false → (owned && not at) ≡ true
 suspends_by owned at e h = rw (e, h) refl
 
-pub leaves_suspended : (m : Kept) (s : State) (n : ℕ) (xid : Triple) → StandsFor m s → is_with xid (active_at m.sessions n) ≡ false → owns_at m.sessions n xid ≡ true
+pub leaves_suspended : (m : View) (s : State) (n : ℕ) (xid : Triple) → StandsFor m s → is_with xid (active_at m.sessions n) ≡ false → owns_at m.sessions n xid ≡ true
     → ended_kind s.associations n xid ≡ Some kind.Suspended
 leaves_suspended m s n xid st e own =
     of_second (list_any (works_in n xid) s.associations) (list_any (suspends n xid) s.associations) kind.Active kind.Suspended _ (idle m s n xid st e)
@@ -93,7 +93,7 @@ can_end_where s n xid free =
 no_own : (b c : Bool) → b ≡ false → (b && c) ≡ false
 no_own b c e = rw e refl
 
-pub leaves_loose : (m : Kept) (s : State) (n : ℕ) (xid : Triple) → StandsFor m s → is_with xid (active_at m.sessions n) ≡ false → owns_at m.sessions n xid ≡ false → leave_refusal_of s n xid ≡ None
+pub leaves_loose : (m : View) (s : State) (n : ℕ) (xid : Triple) → StandsFor m s → is_with xid (active_at m.sessions n) ≡ false → owns_at m.sessions n xid ≡ false → leave_refusal_of s n xid ≡ None
     → ended_kind s.associations n xid ≡ Some kind.Loose
 leaves_loose m s n xid st e own free =
     of_third (list_any (works_in n xid) s.associations) (list_any (suspends n xid) s.associations) (list_any (is_loose_with xid) s.associations) kind.Active kind.Suspended kind.Loose (idle m s n xid st e)

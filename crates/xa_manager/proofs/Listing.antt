@@ -12,12 +12,12 @@ use Rattle.xa_model.specs.Recovering.{listing, recovered, recover_by, scanning, 
 use Rattle.xa_assoc.specs.Sessions.{SessionsStandFor}
 use Rattle.xa_branch.proofs.Elsewhere.{stands_elsewhere}
 use Rattle.xa_assoc.specs.Refusals.{is_memory}
-use Rattle.xa_manager.specs.Kept.{Kept}
+use Rattle.xa_manager.specs.View.{View}
 use Rattle.xa_manager.specs.Stands.{StandsFor, Follows}
 use Rattle.xa_manager.proofs.Rows.{follows_by}
 
 -- the sessions' scans moved, and nothing else
-pub record Moves (m : Kept) (n flags : ℕ) (cursor : Option Triple) (xids : List Triple) (m' : Kept) : Type 0 where
+pub record Moves (m : View) (n flags : ℕ) (cursor : Option Triple) (xids : List Triple) (m' : View) : Type 0 where
   pub name : m'.name ≡ m.name
   pub log_bytes : m'.log_bytes ≡ m.log_bytes
   pub branches : m'.branches ≡ m.branches
@@ -29,7 +29,7 @@ few_listed all count xids same few =
     let short : length xids ≡ min count (length all) = ap length same ∙ length-take count all in
     omega arith
 
-pub recover_follows : (m m' : Kept) (n flags count : ℕ) (cursor : Option Triple) (xids : List Triple) (reply : Reply) → count ≤ MOST_XIDS
+pub recover_follows : (m m' : View) (n flags count : ℕ) (cursor : Option Triple) (xids : List Triple) (reply : Reply) → count ≤ MOST_XIDS
     → ((s : State) → SessionsStandFor m.sessions s → recover_by s n flags count ≡ recovered s n flags count cursor)
     → ((s : State) → StandsFor m s → xids ≡ list_after cursor count (durable s)) → (length xids ≤ MOST_XIDS → reply ≡ listing xids) → Moves m n flags cursor xids m' → is_memory reply.detail ≡ false
     → Follows m (λ s. recover_by s n flags count) reply m'

@@ -20,7 +20,7 @@ use Rattle.xa_branch.specs.Branches.{BranchesStandFor}
 use Rattle.mv_rules.specs.Records.{StandsFor as RecordsStandFor}
 use Rattle.mv_rules.specs.Ties.{history_of}
 use Rattle.xa_manager.specs.declared.manager.Manager.{Manager}
-use Rattle.xa_manager.specs.Managed.{kept, ManagerStandsFor}
+use Rattle.xa_manager.specs.Managed.{view, ManagerStandsFor}
 use Rattle.xa_manager.specs.Opening.{HasBodies, has_boot_room}
 use Rattle.xa_manager.specs.Stands.{TablesStandFor}
 use Rattle.xa_manager.proofs.LogLengths.{text_size}
@@ -58,15 +58,15 @@ restored_room d next log_bytes s it bytes room =
     rw (bytes, restored_end d next s it, p, c) room
 
 pub new_stands : {D : Type 0} (disks : Ghosts D) (m : Manager D) (d : Durable) (next : ℕ) (name : List ℕ) (log_bytes : ℕ)
-    → m.up ≡ true → m.doubt ≡ None → (kept m).name ≡ name → (kept m).log_bytes ≡ log_bytes → m.log.log_bytes ≡ log_bytes
-    → ((s : State) → s.sessions ≡ [] → s.associations ≡ [] → SessionsStandFor (kept m).sessions s)
-    → ((s : State) → IsRestored d next s → BranchesStandFor (kept m).branches s)
-    → ((s : State) → IsRestored d next s → RecordsStandFor (history_of s) (kept m).records)
+    → m.up ≡ true → m.doubt ≡ None → (view m).name ≡ name → (view m).log_bytes ≡ log_bytes → m.log.log_bytes ≡ log_bytes
+    → ((s : State) → s.sessions ≡ [] → s.associations ≡ [] → SessionsStandFor (view m).sessions s)
+    → ((s : State) → IsRestored d next s → BranchesStandFor (view m).branches s)
+    → ((s : State) → IsRestored d next s → RecordsStandFor (history_of s) (view m).records)
     → HasBodies disks (map spelled (snapshot d next)) m.log
     → AllByRecursion IsRecord (snapshot d next) → IsDurable d → d.boot < next → has_boot_room log_bytes d next ≡ true
     → (s : State) → IsRestored d next s → s.name ≡ name → s.log_bytes ≡ log_bytes → s.sessions ≡ [] → ManagerStandsFor disks m s
 new_stands disks m d next name log_bytes up doubt named sized bytes sessions branches records has limits form less room s it name_is bytes_is none = record {
-  tables = subst (λ (b : Bool). TablesStandFor b (kept m) s) (sym up) (record {
+  tables = subst (λ (b : Bool). TablesStandFor b (view m) s) (sym up) (record {
     name = named ∙ sym name_is;
     log_bytes = sized ∙ sym bytes_is;
     up = it.standing;

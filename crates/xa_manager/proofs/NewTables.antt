@@ -7,9 +7,9 @@ use Rattle.xa_codes.specs.declared.write.Write.{Write}
 use Rattle.xa_xid.specs.Triple.{Triple, xid_eq}
 use Rattle.mv_chain.specs.declared.fate.Fate.{Fate}
 use Rattle.mv_chain.specs.declared.fate.Fate.TheVariants.{Committed as kept}
-use Rattle.mv_chain.specs.History.{Written}
+use Rattle.mv_chain.specs.Accesses.{Written}
 use Rattle.mv_rules.specs.declared.records.Records.{Records}
-use Rattle.mv_rules.specs.History.{History}
+use Rattle.mv_rules.specs.Accesses.{Accesses}
 use Rattle.mv_rules.specs.Records.{StandsFor as RecordsStandFor}
 use Rattle.mv_rules.proofs.Remade.{stands_restored}
 use Rattle.mv_rules.specs.Ties.{history_of}
@@ -38,11 +38,11 @@ still_new t fate ws (u ∷ us) older apart h = (h.0, h.1, branch_apart u t fate 
 -- one branch more is added
 pub added_more : {B : Type 0} (add : List Written → B → List Written) (time : B → ℕ) (older : List Written) (all rest left : List B) (b : B) (fate : Option Fate) (ws : List Write) (m m' : Records)
     → left ≡ b ∷ rest → ((written : List Written) → add written b ≡ with_branch (time b) fate ws written)
-    → ((h : History) → RecordsStandFor h m → IsRestorable (time b) h → RecordsStandFor (record h { writes = with_branch (time b) fate ws h.writes }) m')
+    → ((h : Accesses) → RecordsStandFor h m → IsRestorable (time b) h → RecordsStandFor (record h { writes = with_branch (time b) fate ws h.writes }) m')
     → AddedUpto add time older all left m → AddedUpto add time older all rest m'
 added_more {B} add time older all rest left b fate ws m m' is adds restores upto =
     let new : AreNew (map time (b ∷ rest)) upto.writes = subst (λ (bs : List B). AreNew (map time bs) upto.writes) is upto.new in
-    let h : History = record { low = 0; writes = upto.writes; reads = [] } in
+    let h : Accesses = record { low = 0; writes = upto.writes; reads = [] } in
     record {
       writes = with_branch (time b) fate ws upto.writes;
       leads = ap (λ (ws : List Written). fold add ws rest) (sym (adds upto.writes)) ∙ (sym (ap (λ (bs : List B). fold add upto.writes bs) is) ∙ upto.leads);

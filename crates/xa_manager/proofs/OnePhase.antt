@@ -2,8 +2,8 @@
 use Rattle.std.proofs.Common.{◌≡◌, ℕ, ℤ, ◌+◌, ◌≤◌, ◌<◌, ◌^◌, ◌||◌, Bool, true, false, cond, List, length, Option, Some, None, refl, ap, sym, ◌∙◌, subst, arith}
 use Rattle.std.specs.Prelude.{IsSome}
 use Rattle.std.proofs.lemmas.Bool.Decides.{nat_tests}
-use Rattle.mv_chain.specs.History.{IsOpen}
-use Rattle.mv_rules.specs.History.{History, IsWritesOf}
+use Rattle.mv_chain.specs.Accesses.{IsUndecided}
+use Rattle.mv_rules.specs.Accesses.{Accesses, IsWritesOf}
 use Rattle.mv_rules.specs.Records.{StandsFor as RecordsStandFor}
 use Rattle.mv_rules.specs.Ties.{history_of, writes_in as writes_among}
 use Rattle.mv_rules.proofs.Open.{at_work as among}
@@ -20,7 +20,7 @@ use Rattle.xa_record.specs.declared.record.Record.TheVariants as logged
 use Rattle.xa_record.proofs.Sizes.{any}
 use Rattle.xa_model.specs.State.{State, Branch, is_known_as, known_of, known_as, timestamp_of}
 use Rattle.xa_model.specs.Answer.{Answer, plain, detailed, answer}
-use Rattle.xa_model.specs.Associations.{is_unknown, is_settled, mark_in, timestamp_in, timestamp_by}
+use Rattle.xa_model.specs.Associations.{is_unknown, is_lasting, mark_in, timestamp_in, timestamp_by}
 use Rattle.xa_model.specs.Branches.{rolled_back, one_phase_refusal, is_associated}
 use Rattle.xa_model.specs.Durable.{writes_of}
 use Rattle.xa_model.specs.Fold.{is_empty, size_of}
@@ -33,9 +33,9 @@ use Rattle.xa_model.proofs.Rows.{passed, neither, at_work}
 use Rattle.xa_model.proofs.Times.{known_below}
 use Rattle.xa_model.proofs.ShortWrites.{are_writes}
 use Rattle.xa_model.specs.declared.outcome.Appending.{Appending}
-use Rattle.xa_model.specs.declared.outcome.Appending.TheVariants.{Kept as WasKept, Refused, Lost}
+use Rattle.xa_model.specs.declared.outcome.Appending.TheVariants.{View as WasKept, Refused, Lost}
 use Rattle.xa_manager.specs.Turns.{reply_to}
-use Rattle.xa_manager.specs.Kept.{Kept}
+use Rattle.xa_manager.specs.View.{View}
 use Rattle.xa_manager.specs.Stands.{StandsFor, StandsDown}
 use Rattle.xa_manager.proofs.Finishing.{IsHere, here_by}
 use Rattle.xa_manager.proofs.Taking.{AnswersNow, AnswersAppending, by_answer, logs_answers}
@@ -67,7 +67,7 @@ first_turn b t u e = rw e refl
 pub second_turn : (b : Bool) (t u : Turn) → b ≡ false → cond b t u ≡ u
 second_turn b t u e = rw e refl
 
-pub now_refused : (m : Kept) (s : State) (xid : Triple) (empty : Answer) (written : Turn) (reply : Reply) → StandsFor m s → Some reply ≡ one_phase_refusal (known_as s xid) (is_associated s xid)
+pub now_refused : (m : View) (s : State) (xid : Triple) (empty : Answer) (written : Turn) (reply : Reply) → StandsFor m s → Some reply ≡ one_phase_refusal (known_as s xid) (is_associated s xid)
     → AnswersNow s (one_phase_turn s xid empty written) reply m
 now_refused m s xid empty written reply st refused = record {
   answer = answer reply s;
@@ -76,7 +76,7 @@ now_refused m s xid empty written reply st refused = record {
   tables = λ recoverable. st;
 }
 
-pub now_marked : (m' : Kept) (s : State) (xid : Triple) (empty : Answer) (written : Turn) (code : ℤ) → None ≡ one_phase_refusal (known_as s xid) (is_associated s xid) → mark_in (known_as s xid) ≡ Some code
+pub now_marked : (m' : View) (s : State) (xid : Triple) (empty : Answer) (written : Turn) (code : ℤ) → None ≡ one_phase_refusal (known_as s xid) (is_associated s xid) → mark_in (known_as s xid) ≡ Some code
     → (IsRecoverable (rolled_back s xid) → StandsFor m' (rolled_back s xid)) → AnswersNow s (one_phase_turn s xid empty written) (plain code) m'
 now_marked m' s xid empty written code free marked stands = record {
   answer = answer (plain code) (rolled_back s xid);
@@ -93,7 +93,7 @@ goes_on s xid empty written free unmarked =
     passed_turn (one_phase_refusal (known_as s xid) (is_associated s xid)) s (marked_now (mark_in (known_as s xid)) (rolled_back s xid) (cond (is_empty (writes_in s xid)) (Now empty) written)) free
     ∙ unmarked_turn (mark_in (known_as s xid)) (rolled_back s xid) (cond (is_empty (writes_in s xid)) (Now empty) written) unmarked
 
-pub now_empty : (m' : Kept) (s : State) (xid : Triple) (empty : Answer) (written : Turn) → None ≡ one_phase_refusal (known_as s xid) (is_associated s xid) → mark_in (known_as s xid) ≡ None → is_empty (writes_in s xid) ≡ true
+pub now_empty : (m' : View) (s : State) (xid : Triple) (empty : Answer) (written : Turn) → None ≡ one_phase_refusal (known_as s xid) (is_associated s xid) → mark_in (known_as s xid) ≡ None → is_empty (writes_in s xid) ≡ true
     → (IsRecoverable empty.after → StandsFor m' empty.after) → AnswersNow s (one_phase_turn s xid empty written) empty.reply m'
 now_empty m' s xid empty written free unmarked none stands = record {
   answer = empty;
@@ -106,7 +106,7 @@ pub goes_written : (s : State) (xid : Triple) (empty : Answer) (written : Turn) 
     → one_phase_turn s xid empty written ≡ written
 goes_written s xid empty written free unmarked some = goes_on s xid empty written free unmarked ∙ second_turn (is_empty (writes_in s xid)) (Now empty) written some
 
-pub now_full : (m' : Kept) (s : State) (xid : Triple) (empty : Answer) (room : Bool) (written : Turn) → None ≡ one_phase_refusal (known_as s xid) (is_associated s xid) → mark_in (known_as s xid) ≡ None
+pub now_full : (m' : View) (s : State) (xid : Triple) (empty : Answer) (room : Bool) (written : Turn) → None ≡ one_phase_refusal (known_as s xid) (is_associated s xid) → mark_in (known_as s xid) ≡ None
     → is_empty (writes_in s xid) ≡ false → room ≡ false → (IsRecoverable (rolled_back s xid) → StandsFor m' (rolled_back s xid))
     → AnswersNow s (one_phase_turn s xid empty (cond room written (Now (log_full s xid)))) (detailed XA_RBOTHER detail.LogFull) m'
 now_full m' s xid empty room written free unmarked some none stands = record {
@@ -121,8 +121,8 @@ now_full m' s xid empty room written free unmarked some none stands = record {
 pub worked : (s : State) (xid : Triple) → None ≡ one_phase_refusal (known_as s xid) (is_associated s xid) → is_at_work (known_of s.branches xid) ≡ true
 worked s xid free =
     let known = passed (is_unknown (known_as s xid)) (plain XAER_NOTA) _ (sym free) in
-    let idle = passed (is_associated s xid || is_settled (known_as s xid)) (plain XAER_PROTO) _ known.1 in
-    at_work s xid known.0 (neither (is_associated s xid) (is_settled (known_as s xid)) idle.0).1
+    let idle = passed (is_associated s xid || is_lasting (known_as s xid)) (plain XAER_PROTO) _ known.1 in
+    at_work s xid known.0 (neither (is_associated s xid) (is_lasting (known_as s xid)) idle.0).1
 
 known_by : (o : Option Branch) → is_at_work o ≡ true → IsSome o
 known_by None h = absurd (cc h)
@@ -132,16 +132,16 @@ pub worked_known : (s : State) (xid : Triple) → None ≡ one_phase_refusal (kn
 worked_known s xid free = known_by (known_of s.branches xid) (worked s xid free)
 
 -- its writes, as the records list them
-pub told_writes : (m : Kept) (s : State) (xid : Triple) (t : ℕ) (ws : List Write) → StandsFor m s → IsSome (known_of s.branches xid) → t ≡ timestamp_in s xid
-    → ((h : History) → RecordsStandFor h m.records → IsOpen t h.writes → IsWritesOf t h.writes ws) → ws ≡ writes_in s xid
+pub told_writes : (m : View) (s : State) (xid : Triple) (t : ℕ) (ws : List Write) → StandsFor m s → IsSome (known_of s.branches xid) → t ≡ timestamp_in s xid
+    → ((h : Accesses) → RecordsStandFor h m.records → IsUndecided t h.writes → IsWritesOf t h.writes ws) → ws ≡ writes_in s xid
 told_writes m s xid t ws st known time told =
     let x : IsHere s xid = here_by s xid (known_of s.branches xid) refl known in
     let b = x.branch in
     let limit = timestamp_of s.boot s.given + 1 in
     let is : t ≡ b.timestamp = time ∙ ap timestamp_by x.at in
-    let open_ : IsOpen b.timestamp (writes_among s.branches) = (among xid b limit s.branches st.recoverable.sound.descends x.at x.open_).open_ in
+    let open_ : IsUndecided b.timestamp (writes_among s.branches) = (among xid b limit s.branches st.recoverable.sound.descends x.at x.open_).open_ in
     let listed : IsWritesOf b.timestamp (writes_among s.branches) ws =
-    subst (λ (u : ℕ). IsWritesOf u (writes_among s.branches) ws) is (told (history_of s) st.records (subst (λ (u : ℕ). IsOpen u (writes_among s.branches)) (sym is) open_)) in
+    subst (λ (u : ℕ). IsWritesOf u (writes_among s.branches) ws) is (told (history_of s) st.records (subst (λ (u : ℕ). IsUndecided u (writes_among s.branches)) (sym is) open_)) in
     listed_writes xid b limit s.branches ws st.recoverable.sound.descends x.at listed ∙ ap writes_by (sym x.at)
 
 -- timestamps have 64 bits
@@ -188,18 +188,18 @@ pub record HasRecord (s : State) (xid : Triple) (r : Record) (more : ℕ) (body 
   pub room_is : has_room s r more ≡ room
 
 -- as the tables and the log told
-pub record WasTold (m : Kept) (xid : Triple) (t : ℕ) (ws : List Write) : Type 0 where
+pub record WasTold (m : View) (xid : Triple) (t : ℕ) (ws : List Write) : Type 0 where
   pub name : IsWithinLimits xid
   pub some : is_empty ws ≡ false
   pub free : (s : State) → StandsFor m s → None ≡ one_phase_refusal (known_as s xid) (is_associated s xid)
   pub unmarked : (s : State) → StandsFor m s → mark_in (known_as s xid) ≡ None
   pub time : (s : State) → StandsFor m s → t ≡ timestamp_in s xid
-  pub writes : (h : History) → RecordsStandFor h m.records → IsOpen t h.writes → IsWritesOf t h.writes ws
+  pub writes : (h : Accesses) → RecordsStandFor h m.records → IsUndecided t h.writes → IsWritesOf t h.writes ws
 
 abbrev IsRoom : State → ℕ → ℕ → Bool → Type 0
 IsRoom s n more room = n ≤ MOST_BODY → more ≤ 1 → room ≡ log_room s.log_bytes (s.end + (n + 36)) (prepared_count s + more) (length s.decided)
 
-has_record : (m : Kept) (s : State) (xid : Triple) (t : ℕ) (ws : List Write) (record_of : Triple → ℕ → List Write → Record) (more n : ℕ) (body : List ℕ) (room : Bool) → StandsFor m s → WasTold m xid t ws
+has_record : (m : View) (s : State) (xid : Triple) (t : ℕ) (ws : List Write) (record_of : Triple → ℕ → List Write → Record) (more n : ℕ) (body : List ℕ) (room : Bool) → StandsFor m s → WasTold m xid t ws
     → ((t : ℕ) (ws : List Write) → IsBranch xid t ws → length (spelled (record_of xid t ws)) ≤ MOST_BODY) → body ≡ spelled (record_of xid t ws) → n ≡ length body → more ≤ 1 → IsRoom s n more room
     → HasRecord s xid (record_of xid (timestamp_in s xid) (writes_in s xid)) more body room
 has_record m s xid t ws record_of more n body room st w short spells size few is_room =
@@ -220,18 +220,18 @@ has_record m s xid t ws record_of more n body room st w short spells size few is
       room_is = room_of s (record_of xid (timestamp_in s xid) (writes_in s xid)) n more room (ap length e ∙ sym size) (is_room long few);
     }
 
-pub has_prepared : (m : Kept) (s : State) (xid : Triple) (t : ℕ) (ws : List Write) (n : ℕ) (body : List ℕ) (room : Bool) → StandsFor m s → WasTold m xid t ws → body ≡ spelled (logged.Prepared xid t ws) → n ≡ length body
+pub has_prepared : (m : View) (s : State) (xid : Triple) (t : ℕ) (ws : List Write) (n : ℕ) (body : List ℕ) (room : Bool) → StandsFor m s → WasTold m xid t ws → body ≡ spelled (logged.Prepared xid t ws) → n ≡ length body
     → IsRoom s n 1 room → HasRecord s xid (logged.Prepared xid (timestamp_in s xid) (writes_in s xid)) 1 body room
 has_prepared m s xid t ws n body room st w spells size is_room =
     has_record m s xid t ws (λ x u us. logged.Prepared x u us) 1 n body room st w (λ u us h. (any (logged.Prepared xid u us) h).1) spells size (omega arith) is_room
 
-pub has_committed : (m : Kept) (s : State) (xid : Triple) (t : ℕ) (ws : List Write) (n : ℕ) (body : List ℕ) (room : Bool) → StandsFor m s → WasTold m xid t ws → body ≡ spelled (logged.Committed xid t ws) → n ≡ length body
+pub has_committed : (m : View) (s : State) (xid : Triple) (t : ℕ) (ws : List Write) (n : ℕ) (body : List ℕ) (room : Bool) → StandsFor m s → WasTold m xid t ws → body ≡ spelled (logged.Committed xid t ws) → n ≡ length body
     → IsRoom s n 0 room → HasRecord s xid (logged.Committed xid (timestamp_in s xid) (writes_in s xid)) 0 body room
 has_committed m s xid t ws n body room st w spells size is_room =
     has_record m s xid t ws (λ x u us. logged.Committed x u us) 0 n body room st w (λ u us h. (any (logged.Committed xid u us) h).1) spells size (omega arith) is_room
 
 -- Where there is room, it is appended.
-pub written_appends : (m' : Kept) (s : State) (xid : Triple) (r : Record) (more : ℕ) (code : ℤ) (left : State) (empty : Answer) (body : List ℕ) (a : Appending) → HasRecord s xid r more body true
+pub written_appends : (m' : View) (s : State) (xid : Triple) (r : Record) (more : ℕ) (code : ℤ) (left : State) (empty : Answer) (body : List ℕ) (a : Appending) → HasRecord s xid r more body true
     → (a ≡ WasKept → IsRecoverable (applied r s) → StandsFor m' (applied r s)) → (a ≡ Refused → IsRecoverable left → StandsFor m' left) → (a ≡ Lost → IsRecoverable (lost s r).after → StandsDown m' (lost s r).after)
     → AnswersAppending s (one_phase_turn s xid empty (cond (has_room s r more) (logs s r code left) (Now (log_full s xid)))) body a (reply_to code a) m'
 written_appends m' s xid r more code left empty body a h kept_ refused lost_ =

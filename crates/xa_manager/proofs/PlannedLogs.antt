@@ -11,22 +11,22 @@ use Rattle.xa_model.specs.State.{State}
 use Rattle.xa_model.specs.Loggable.{IsRecoverable}
 use Rattle.xa_model.specs.Backing.{settled}
 use Rattle.xa_manager.specs.declared.manager.Manager.{Manager}
-use Rattle.xa_manager.specs.Kept.{Kept}
+use Rattle.xa_manager.specs.View.{View}
 use Rattle.xa_manager.specs.Stands.{TablesStandFor}
 use Rattle.xa_manager.specs.LogStands.{HasRecords, MayHaveRecord, HasRecordsOf, LogStandsFor}
-use Rattle.xa_manager.specs.Managed.{kept}
+use Rattle.xa_manager.specs.Managed.{view}
 use Rattle.xa_manager.specs.Answered.{StaysFor}
 use Rattle.xa_manager.specs.CrashLaws.{ReadStands}
 use Rattle.xa_manager.proofs.CrashFiles.{read_leaves}
 
-pub tables_recoverable : (up : Bool) (m : Kept) (s : State) → TablesStandFor up m s → IsRecoverable s
+pub tables_recoverable : (up : Bool) (m : View) (s : State) → TablesStandFor up m s → IsRecoverable s
 tables_recoverable true m s t = t.recoverable
 tables_recoverable false m s t = t.recoverable
 
 pub read_stands : {D : Type 0} (disks : Ghosts D)
     → ReadStands disks
 read_stands disks m s t stands =
-    let h = tables_recoverable m.up (kept m) s stands.tables in (read_leaves disks m.log s t h (stands.log t), h)
+    let h = tables_recoverable m.up (view m) s stands.tables in (read_leaves disks m.log s t h (stands.log t), h)
 
 module _ {D : Type 0} (disks : Ghosts D) (old new : Log D) (k : KeepsAll disks old new) where
   keeps_records : (rs : List Record) → HasRecords disks rs old → HasRecords disks rs new

@@ -33,26 +33,26 @@ use Rattle.xa_manager.specs.declared.doubt.Doubt.{Doubt}
 use Rattle.xa_manager.specs.declared.doubt.Doubt.TheVariants.{Boot, Record as LastRecord}
 use Rattle.xa_manager.specs.declared.manager.Manager.{Manager}
 use Rattle.xa_manager.specs.declared.tables.Tables.{Tables}
-use Rattle.xa_manager.specs.Kept.{Kept, kept_of}
+use Rattle.xa_manager.specs.View.{View, view_of}
 use Rattle.xa_manager.specs.Stands.{StandsFor, StandsDown, TablesStandFor}
 use Rattle.xa_manager.specs.LogStands.{Trusts, HasRecords, HasRecordsOf, LogStandsFor}
-use Rattle.xa_manager.specs.Managed.{kept, Doubts, ManagerStandsFor}
+use Rattle.xa_manager.specs.Managed.{view, Doubts, ManagerStandsFor}
 use Rattle.xa_manager.specs.Rereading.{IsFate, Found}
 use Rattle.xa_manager.proofs.Fates.{fate_same, fate_settled, fate_recoverable, fate_room, down_backed, lost_room, begun_backed, begun_room}
 
 -- what the tables say whether or not the manager is up
-pub record IsOutside (k : Kept) (s : State) : Type 0 where
+pub record IsOutside (k : View) (s : State) : Type 0 where
   pub name : k.name ≡ s.name
   pub log_bytes : k.log_bytes ≡ s.log_bytes
   pub sessions : SessionsStandFor k.sessions s
   pub recoverable : IsRecoverable s
   pub standing : s.standing ≢ Ended
 
-pub outside : (up : Bool) (k : Kept) (s : State) → TablesStandFor up k s → IsOutside k s
+pub outside : (up : Bool) (k : View) (s : State) → TablesStandFor up k s → IsOutside k s
 outside true k s h = record { name = h.name; log_bytes = h.log_bytes; sessions = h.sessions; recoverable = h.recoverable; standing = λ e. absurd (cc (e, h.up)) }
 outside false k s h = record { name = h.name; log_bytes = h.log_bytes; sessions = h.sessions; recoverable = h.recoverable; standing = λ e. absurd (cc (e, h.down)) }
 
-pub is_up : (up : Bool) (k : Kept) (s : State) → TablesStandFor up k s → up ≡ true → s.standing ≡ Up
+pub is_up : (up : Bool) (k : View) (s : State) → TablesStandFor up k s → up ≡ true → s.standing ≡ Up
 is_up true k s h e = h.up
 is_up false k s h e = absurd (cc e)
 
@@ -61,7 +61,7 @@ pub still_stands : {D : Type 0} (disks : Ghosts D) (m m' : Manager D) (s : State
     → m'.tables ≡ m.tables → m'.up ≡ m.up → m'.doubt ≡ m.doubt → (m.up ≡ true → m'.log.end ≡ s.end) → (m.up ≡ true → m'.log.lost ≡ false) → m'.log.log_bytes ≡ m.log.log_bytes
     → (Trusts disks → LogStandsFor disks m'.log s) → ManagerStandsFor disks m s → ManagerStandsFor disks m' s
 still_stands disks m m' s tables up doubt end alive bytes log st = record {
-  tables = subst (λ (b : Bool). TablesStandFor b (kept m') s) (sym up) (subst (λ (t : Tables). TablesStandFor m.up (kept_of t) s) (sym tables) st.tables);
+  tables = subst (λ (b : Bool). TablesStandFor b (view m') s) (sym up) (subst (λ (t : Tables). TablesStandFor m.up (view_of t) s) (sym tables) st.tables);
   roomy = st.roomy;
   end = λ is. end (sym up ∙ is);
   alive = λ is. alive (sym up ∙ is);
@@ -84,7 +84,7 @@ down_recoverable t o h last = record {
 none_of : (o : Option Record) (P : Record → Type 0) → o ≡ None → IfSome o P
 none_of o P e = subst (λ (q : Option Record). IfSome q P) (sym e) tt
 
-pub tables_down : (k : Kept) (s t : State) (o : Option Record) (b : Bool) → IsOutside k s → IsFate b s t → IfSome o (MayBeLast (record (down t) { open_record = o }))
+pub tables_down : (k : View) (s t : State) (o : Option Record) (b : Bool) → IsOutside k s → IsFate b s t → IfSome o (MayBeLast (record (down t) { open_record = o }))
     → StandsDown k (record (down t) { open_record = o })
 tables_down k s t o b h fate last =
     let same = fate_same b s t fate in record {
@@ -99,10 +99,10 @@ pub down_stands : {D : Type 0} (disks : Ghosts D) (m m' : Manager D) (s t : Stat
     → m'.tables ≡ m.tables → m'.up ≡ false → m'.doubt ≡ None → m'.log.log_bytes ≡ m.log.log_bytes → ManagerStandsFor disks m s → IsFate b s t → Backs rs t
     → HasRecords disks rs m'.log → ManagerStandsFor disks m' (down t)
 down_stands disks m m' s t b rs tables up doubt bytes st fate backs has =
-    let h = outside m.up (kept m) s st.tables in
+    let h = outside m.up (view m) s st.tables in
     let none = fate_settled b s t fate in
     let room = fate_room b s t (st.roomy h.standing) fate in record {
-      tables = subst (λ (b : Bool). TablesStandFor b (kept m') (down t)) (sym up) (subst (λ (k : Tables). StandsDown (kept_of k) (down t)) (sym tables) (tables_down (kept m) s t t.open_record b h fate (none_of t.open_record _ none)));
+      tables = subst (λ (b : Bool). TablesStandFor b (view m') (down t)) (sym up) (subst (λ (k : Tables). StandsDown (view_of k) (down t)) (sym tables) (tables_down (view m) s t t.open_record b h fate (none_of t.open_record _ none)));
       roomy = λ standing. record { room = room; found = none_of t.open_record _ none };
       end = λ is. absurd (cc (is, up));
       alive = λ is. absurd (cc (is, up));
@@ -117,13 +117,13 @@ pub lost_stands : {D : Type 0} (disks : Ghosts D) (m m' : Manager D) (s t : Stat
     → t.logged_boot < most_boots → MaySeal disks (map spelled rs) (map spelled (snapshot (durable t) (t.logged_boot + 1))) m'.log
     → ManagerStandsFor disks m' (record (down t) { open_record = Some (logged.Opened (t.logged_boot + 1)) })
 lost_stands disks m m' s t b rs tables up doubt bytes st fate backs less seal =
-    let h = outside m.up (kept m) s st.tables in
+    let h = outside m.up (view m) s st.tables in
     let recoverable = fate_recoverable b s t h.recoverable fate in
     let room = fate_room b s t (st.roomy h.standing) fate in
     let boot : ℕ = t.logged_boot + 1 in
     let after : State = record (down t) { open_record = Some (logged.Opened boot) } in
     let last : MayBeLast after (logged.Opened boot) = record { may = omega arith; limits = (omega arith, omega arith); current = λ is. absurd (cc is) } in record {
-      tables = subst (λ (b : Bool). TablesStandFor b (kept m') after) (sym up) (subst (λ (k : Tables). StandsDown (kept_of k) after) (sym tables) (tables_down (kept m) s t (Some (logged.Opened boot)) b h fate last));
+      tables = subst (λ (b : Bool). TablesStandFor b (view m') after) (sym up) (subst (λ (k : Tables). StandsDown (view_of k) after) (sym tables) (tables_down (view m) s t (Some (logged.Opened boot)) b h fate last));
       roomy = λ standing. lost_room rs t boot recoverable backs room;
       end = λ is. absurd (cc (is, up));
       alive = λ is. absurd (cc (is, up));
@@ -151,7 +151,7 @@ pub begun_stands : {D : Type 0} (disks : Ghosts D) (m m' : Manager D) (s t : Sta
     → m'.log.end ≡ 8 + sizes (snapshot (durable t) (t.logged_boot + 1)) → m'.log.lost ≡ false → HasRecords disks (snapshot (durable t) (t.logged_boot + 1)) m'.log
     → ManagerStandsFor disks m' (restarted t (t.logged_boot + 1))
 begun_stands disks m m' s t b rs name log_bytes up doubt bytes st fate backs less sessions branches records end alive has =
-    let h = outside m.up (kept m) s st.tables in
+    let h = outside m.up (view m) s st.tables in
     let same = fate_same b s t fate in
     let none = fate_settled b s t fate in
     let recoverable = fate_recoverable b s t h.recoverable fate in
@@ -159,7 +159,7 @@ begun_stands disks m m' s t b rs name log_bytes up doubt bytes st fate backs les
     let boot : ℕ = t.logged_boot + 1 in
     let after : State = restarted t boot in
     let restored = restarts_restored t recoverable none (ltb-true t.logged_boot most_boots less) in
-    let stands : StandsFor (kept m') after = record {
+    let stands : StandsFor (view m') after = record {
       name = name ∙ (h.name ∙ sym same.name);
       log_bytes = log_bytes ∙ (h.log_bytes ∙ sym same.log_bytes);
       up = refl;
@@ -168,7 +168,7 @@ begun_stands disks m m' s t b rs name log_bytes up doubt bytes st fate backs les
       records = records after restored;
       recoverable = restored.recoverable;
     } in record {
-      tables = subst (λ (b : Bool). TablesStandFor b (kept m') after) (sym up) stands;
+      tables = subst (λ (b : Bool). TablesStandFor b (view m') after) (sym up) stands;
       roomy = λ standing. record { room = begun_room rs t boot recoverable backs room; found = none_of t.open_record _ none };
       end = λ is. end;
       alive = λ is. alive;
@@ -181,7 +181,7 @@ begun_stands disks m m' s t b rs name log_bytes up doubt bytes st fate backs les
 pub never_full : {D : Type 0} (disks : Ghosts D) (m : Manager D) (s t : State) (b : Bool) (rs : List Record)
     → ManagerStandsFor disks m s → IsFate b s t → Backs rs t → m.log.log_bytes < 8 + sizes (snapshot (durable t) (t.logged_boot + 1)) + 4 → ⊥
 never_full disks m s t b rs st fate backs full =
-    let h = outside m.up (kept m) s st.tables in
+    let h = outside m.up (view m) s st.tables in
     let short : snapshot_end t (t.logged_boot + 1) ≤ t.end = recoverable_snapshot_ends rs t (t.logged_boot + 1) (fate_recoverable b s t h.recoverable fate) backs in
     let room = room_is t.log_bytes t.end (prepared_count t) (length t.decided) (fate_room b s t (st.roomy h.standing) fate) in
     let bytes : m.log.log_bytes ≡ t.log_bytes = st.log_bytes ∙ sym (fate_same b s t fate).log_bytes in
@@ -243,7 +243,7 @@ room_down s (Some (logged.Known xid d)) h = h
 pub failed_stands : {D : Type 0} (disks : Ghosts D) (m m' : Manager D) (s : State)
     → m' ≡ record m { up = false } → ManagerStandsFor disks m s → ManagerStandsFor disks m' (down s)
 failed_stands {D} disks m m' s is st =
-    let h = outside m.up (kept m) s st.tables in
+    let h = outside m.up (view m) s st.tables in
     let room = st.roomy h.standing in
     subst (λ (x : Manager D). ManagerStandsFor disks x (down s)) (sym is) (record {
       tables = record {

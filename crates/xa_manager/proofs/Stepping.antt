@@ -11,7 +11,7 @@ use Rattle.xa_log.specs.declared.log.Log.{Log}
 use Rattle.xa_model.specs.declared.event.Event.{Event}
 use Rattle.xa_model.specs.declared.outcome.Outcome.{Outcome}
 use Rattle.xa_model.specs.declared.outcome.Appending.{Appending}
-use Rattle.xa_model.specs.declared.outcome.Appending.TheVariants.{Kept, Refused, Lost}
+use Rattle.xa_model.specs.declared.outcome.Appending.TheVariants.{View, Refused, Lost}
 use Rattle.xa_model.specs.State.{State, Standing, Up}
 use Rattle.xa_model.specs.Answer.{Answer, ok}
 use Rattle.xa_model.specs.Turn.{Turn, Nobody, Now, Appends, Rereads, Asked, taken}
@@ -38,9 +38,9 @@ use Rattle.xa_manager.specs.declared.doubt.Doubt.{Doubt}
 use Rattle.xa_manager.specs.declared.doubt.Doubt.TheVariants as doubt
 use Rattle.xa_manager.specs.declared.manager.Manager.{Manager}
 use Rattle.xa_manager.specs.Answered.{HasCalled}
-use Rattle.xa_manager.specs.Kept.{Kept as Tables}
+use Rattle.xa_manager.specs.View.{View as Tables}
 use Rattle.xa_manager.specs.LogStands.{HasRecords, MayHaveRecord, HasRecordsOf, LogStandsFor}
-use Rattle.xa_manager.specs.Managed.{kept, Doubts, ManagerStandsFor}
+use Rattle.xa_manager.specs.Managed.{view, Doubts, ManagerStandsFor}
 use Rattle.xa_manager.specs.Stands.{StandsFor, TablesStandFor}
 use Rattle.xa_manager.specs.Turns.{HasDone, HasAppended, TakesNow, TakesAppending, Takes, up_after, doubt_after}
 
@@ -115,10 +115,10 @@ module _ {D : Type 0} (disks : Ghosts D) where
 
   -- the log behind the state, after an append
   log_after : (log log' : Log D) (s t : State) (r : Record) (a : Appending) → s.open_record ≡ None → is_boot r ≡ false → HasAppended disks (spelled r) a log log' → disks.honest
-      → (a ≡ Kept → t.open_record ≡ None) → (a ≡ Refused → t.open_record ≡ None) → (a ≡ Lost → t.open_record ≡ Some r)
-      → (a ≡ Kept → (rs : List Record) → Backs rs s → Backs (rs ++ r ∷ []) t) → (a ≡ Refused → (rs : List Record) → Backs rs s → Backs rs t) → (a ≡ Lost → (rs : List Record) → Backs rs s → Backs rs t)
+      → (a ≡ View → t.open_record ≡ None) → (a ≡ Refused → t.open_record ≡ None) → (a ≡ Lost → t.open_record ≡ Some r)
+      → (a ≡ View → (rs : List Record) → Backs rs s → Backs (rs ++ r ∷ []) t) → (a ≡ Refused → (rs : List Record) → Backs rs s → Backs rs t) → (a ≡ Lost → (rs : List Record) → Backs rs s → Backs rs t)
       → LogStandsFor disks log s → LogStandsFor disks log' t
-  log_after log log' s t r Kept none boot h disk ok_ refused_ lost_ backs bref blost l =
+  log_after log log' s t r View none boot h disk ok_ refused_ lost_ backs bref blost l =
       let here : HasRecords disks l.records log = subst (λ (o : Option Record). HasRecordsOf disks l.records s o log) none l.has in
       let there : Pair disks (map spelled l.records ++ spelled r ∷ []) here.0 log' = h.pair disk (map spelled l.records) here.0 here.1 in
       record {
@@ -180,14 +180,14 @@ module _ {D : Type 0} (disks : Ghosts D) where
     pub stands : ManagerStandsFor disks m' answer.after
 
   turn_is : (m : Manager D) (s : State) (e : Event) (t : Turn) → ManagerStandsFor disks m s → respond s e ≡ t → asked s.standing (respond s e) ≡ t
-  turn_is m s e t st is = asked_by m.up (kept m) s (respond s e) st.tables ∙ is
+  turn_is m s e t st is = asked_by m.up (view m) s (respond s e) st.tables ∙ is
 
   now_steps : (m m' : Manager D) (s : State) (e : Event) (a : Answer) (reply : Reply) (outcome : Outcome) → IsEvent e → is_restart e ≡ false → ManagerStandsFor disks m s → respond s e ≡ Now a
       → TakesNow m a reply outcome m' → IsStep m' s e reply outcome
   now_steps m m' s e a reply outcome event other st is x =
       let t = turn_is m s e (Now a) st is in
       let steps : step s (Asked e) outcome ≡ Some a = ap (λ (u : Turn). taken u outcome) t ∙ ap (taken (Now a)) x.outcome_is in
-      let before = recoverable_by m.up (kept m) s st.tables in
+      let before = recoverable_by m.up (view m) s st.tables in
       let recoverable = keeps_recoverable s (Asked e) outcome a event before steps in
       let k : KeepsLog s a.after = subst (LogsWhatLasts s) is (events_log_what_lasts s e before.sound other) in
       let bytes : a.after.log_bytes ≡ s.log_bytes = subst (AsksRoom s) is (events_ask_room s e other) in
@@ -210,32 +210,32 @@ module _ {D : Type 0} (disks : Ghosts D) where
   -- the manager after an append
 
   end_after : (log log' : Log D) (s t : State) (r : Record) (a : Appending) → log.end ≡ s.end → HasAppended disks (spelled r) a log log'
-      → (a ≡ Kept → t.end ≡ s.end + (36 + length (spelled r))) → (a ≡ Refused → t.end ≡ s.end) → up_after a ≡ true → log'.end ≡ t.end
-  end_after log log' s t r Kept same h ok_ refused_ up = h.moves.0 ∙ ap (λ (n : ℕ). n + (36 + length (spelled r))) same ∙ sym (ok_ refl)
+      → (a ≡ View → t.end ≡ s.end + (36 + length (spelled r))) → (a ≡ Refused → t.end ≡ s.end) → up_after a ≡ true → log'.end ≡ t.end
+  end_after log log' s t r View same h ok_ refused_ up = h.moves.0 ∙ ap (λ (n : ℕ). n + (36 + length (spelled r))) same ∙ sym (ok_ refl)
   end_after log log' s t r Refused same h ok_ refused_ up = h.moves.0 ∙ same ∙ sym (refused_ refl)
   end_after log log' s t r Lost same h ok_ refused_ up = absurd (cc up)
 
   alive_after : (log log' : Log D) (r : Record) (a : Appending) → log.lost ≡ false → HasAppended disks (spelled r) a log log' → up_after a ≡ true → log'.lost ≡ false
-  alive_after log log' r Kept same h up = h.moves.2 ∙ same
+  alive_after log log' r View same h up = h.moves.2 ∙ same
   alive_after log log' r Refused same h up = h.moves.3 ∙ same
   alive_after log log' r Lost same h up = absurd (cc up)
 
-  doubt_stands : (s t : State) (r : Record) (a : Appending) (end : ℕ) → is_boot r ≡ false → end ≡ s.end → (a ≡ Kept → t.open_record ≡ None) → (a ≡ Refused → t.open_record ≡ None) → (a ≡ Lost → t.open_record ≡ Some r)
+  doubt_stands : (s t : State) (r : Record) (a : Appending) (end : ℕ) → is_boot r ≡ false → end ≡ s.end → (a ≡ View → t.open_record ≡ None) → (a ≡ Refused → t.open_record ≡ None) → (a ≡ Lost → t.open_record ≡ Some r)
       → (a ≡ Lost → t.end ≡ s.end) → Doubts (doubt_after a end) t
-  doubt_stands s t r Kept end boot same ok_ refused_ lost_ ends = ok_ refl
+  doubt_stands s t r View end boot same ok_ refused_ lost_ ends = ok_ refl
   doubt_stands s t r Refused end boot same ok_ refused_ lost_ ends = refused_ refl
   doubt_stands s t r Lost end boot same ok_ refused_ lost_ ends = (r, lost_ refl, boot, same ∙ sym (ends refl))
 
-  bytes_after : (s : State) (r : Record) (after : Appending → Answer) (a : Appending) → (after Kept ≡ ok (applied r s)) → ((after Refused).after.log_bytes ≡ s.log_bytes) → (after Lost ≡ lost s r) → (after a).after.log_bytes ≡ s.log_bytes
-  bytes_after s r after Kept k f l = ap (λ (x : Answer). x.after.log_bytes) k ∙ applied_bytes s r
+  bytes_after : (s : State) (r : Record) (after : Appending → Answer) (a : Appending) → (after View ≡ ok (applied r s)) → ((after Refused).after.log_bytes ≡ s.log_bytes) → (after Lost ≡ lost s r) → (after a).after.log_bytes ≡ s.log_bytes
+  bytes_after s r after View k f l = ap (λ (x : Answer). x.after.log_bytes) k ∙ applied_bytes s r
   bytes_after s r after Refused k f l = f
   bytes_after s r after Lost k f l = ap (λ (x : Answer). x.after.log_bytes) l
 
   settled_up : (m' : Tables) (s : State) → StandsFor m' s → s.open_record ≡ None
   settled_up m' s st = st.recoverable.settled st.up
 
-  tables_at : (m' : Tables) (s : State) (a : Appending) → TablesStandFor (up_after a) m' s → (a ≡ Kept → s.open_record ≡ None) × (a ≡ Refused → s.open_record ≡ None)
-  tables_at m' s Kept st = (λ e. settled_up m' s st, λ e. settled_up m' s st)
+  tables_at : (m' : Tables) (s : State) (a : Appending) → TablesStandFor (up_after a) m' s → (a ≡ View → s.open_record ≡ None) × (a ≡ Refused → s.open_record ≡ None)
+  tables_at m' s View st = (λ e. settled_up m' s st, λ e. settled_up m' s st)
   tables_at m' s Refused st = (λ e. settled_up m' s st, λ e. settled_up m' s st)
   tables_at m' s Lost st = (λ e. absurd (cc e), λ e. absurd (cc e))
 
@@ -249,16 +249,16 @@ module _ {D : Type 0} (disks : Ghosts D) where
       let a = x.answer in
       let next = (after a).after in
       let steps : step s (Asked e) outcome ≡ Some (after a) = ap (λ (u : Turn). taken u outcome) t ∙ ap (taken (Appends r after)) x.outcome_is in
-      let before = recoverable_by m.up (kept m) s st.tables in
+      let before = recoverable_by m.up (view m) s st.tables in
       let recoverable = keeps_recoverable s (Asked e) outcome (after a) event before steps in
       let logs : LogsWhatLasts s (Appends r after) = subst (LogsWhatLasts s) is (events_log_what_lasts s e before.sound other) in
       let asks : AsksRoom s (Appends r after) = subst (AsksRoom s) is (events_ask_room s e other) in
       let last : LogsLast s (Appends r after) = subst (LogsLast s) t (turn_logs_last s (Asked e) event before) in
       let tables = x.tables recoverable in
-      let standing = subst (λ (b : Bool). TablesStandFor b (kept m') next) x.up tables in
-      let opens = tables_at (kept m') next a standing in
+      let standing = subst (λ (b : Bool). TablesStandFor b (view m') next) x.up tables in
+      let opens = tables_at (view m') next a standing in
       let lost_ : a ≡ Lost → next ≡ (lost s r).after = λ q. ap (λ (b : Appending). (after b).after) q ∙ ap (λ (y : Answer). y.after) logs.3 in
-      let kept_ : a ≡ Kept → next ≡ applied r s = λ q. ap (λ (b : Appending). (after b).after) q ∙ ap (λ (y : Answer). y.after) logs.1 in
+      let kept_ : a ≡ View → next ≡ applied r s = λ q. ap (λ (b : Appending). (after b).after) q ∙ ap (λ (y : Answer). y.after) logs.1 in
       let none : s.open_record ≡ None = before.settled last.2 in
       record {
         answer = after a;
@@ -276,7 +276,7 @@ module _ {D : Type 0} (disks : Ghosts D) where
           log = λ trusts.
               let backed = λ (rs : List Record) (b : Backs rs s). subst (BacksTurn rs s) t (keeps_backed rs s (Asked e) event before b) in
               log_after m.log m'.log s next r a none last.1 x.log trusts.disk opens.0 opens.1 (λ q. ap (λ (u : State). u.open_record) (lost_ q))
-              (λ q rs b. of_answer after (λ y. Backs (rs ++ r ∷ []) y.after) a Kept q (backed rs b).0) (λ q rs b. of_answer after (λ y. Backs rs y.after) a Refused q (backed rs b).1)
+              (λ q rs b. of_answer after (λ y. Backs (rs ++ r ∷ []) y.after) a View q (backed rs b).0) (λ q rs b. of_answer after (λ y. Backs rs y.after) a Refused q (backed rs b).1)
               (λ q rs b. of_answer after (λ y. Backs rs y.after) a Lost q (backed rs b).2) (st.log trusts);
         };
       }
@@ -287,9 +287,9 @@ module _ {D : Type 0} (disks : Ghosts D) where
   takes_steps m m' s e (Now a) reply outcome event other st is x = now_steps m m' s e a reply outcome event other st is x
   takes_steps m m' s e (Appends r after) reply outcome event other st is x =
       let t = turn_is m s e (Appends r after) st is in
-      let before = recoverable_by m.up (kept m) s st.tables in
+      let before = recoverable_by m.up (view m) s st.tables in
       let last : LogsLast s (Appends r after) = subst (LogsLast s) t (turn_logs_last s (Asked e) event before) in
-      appending_steps m m' s e r after reply outcome event other st is (is_up_by m.up (kept m) s st.tables last.2) x
+      appending_steps m m' s e r after reply outcome event other st is (is_up_by m.up (view m) s st.tables last.2) x
   takes_steps m m' s e (Rereads failed found missing) reply outcome event other st is x = absurd x
 
   takes_called : (m m' : Manager D) (t : Turn) (reply : Reply) (outcome : Outcome) → Takes disks m t reply outcome m' → HasCalled disks outcome m.log m'.log

@@ -9,7 +9,7 @@ use Rattle.xa_log.specs.declared.log.Log.{Log}
 use Rattle.xa_model.specs.declared.outcome.Outcome.{Outcome}
 use Rattle.xa_model.specs.declared.outcome.Outcome.TheVariants.{Quiet, Appended}
 use Rattle.xa_model.specs.declared.outcome.Appending.{Appending}
-use Rattle.xa_model.specs.declared.outcome.Appending.TheVariants.{Kept as WasKept, Refused, Lost}
+use Rattle.xa_model.specs.declared.outcome.Appending.TheVariants.{View as WasKept, Refused, Lost}
 use Rattle.xa_model.specs.State.{State}
 use Rattle.xa_model.specs.Answer.{Answer}
 use Rattle.xa_model.specs.Turn.{Turn, Now, Appends}
@@ -19,20 +19,20 @@ use Rattle.xa_assoc.specs.Refusals.{is_memory}
 use Rattle.xa_assoc.proofs.Follows.{unmoved}
 use Rattle.xa_manager.specs.declared.manager.Manager.{Manager}
 use Rattle.xa_manager.specs.Answered.{StaysFor}
-use Rattle.xa_manager.specs.Kept.{Kept}
+use Rattle.xa_manager.specs.View.{View}
 use Rattle.xa_manager.specs.Stands.{StandsFor, StandsDown, TablesStandFor, Follows, Stays}
-use Rattle.xa_manager.specs.Managed.{kept, ManagerStandsFor}
+use Rattle.xa_manager.specs.Managed.{view, ManagerStandsFor}
 use Rattle.xa_manager.specs.Turns.{HasAppended, HasJournaled, Takes, TakesTurn, up_after, doubt_after, reply_to}
 
 -- what is answered at once of a state, and leaves these tables
-pub record AnswersNow (s : State) (turn : Turn) (reply : Reply) (m' : Kept) : Type 0 where
+pub record AnswersNow (s : State) (turn : Turn) (reply : Reply) (m' : View) : Type 0 where
   pub answer : Answer
   pub turn_is : turn ≡ Now answer
   pub reply_is : answer.reply ≡ reply
   pub tables : IsRecoverable answer.after → StandsFor m' answer.after
 
 -- a record of this body is appended, and the device's answer leaves these tables
-pub record AnswersAppending (s : State) (turn : Turn) (body : List ℕ) (a : Appending) (reply : Reply) (m' : Kept) : Type 0 where
+pub record AnswersAppending (s : State) (turn : Turn) (body : List ℕ) (a : Appending) (reply : Reply) (m' : View) : Type 0 where
   pub appended : Record
   pub after : Appending → Answer
   pub turn_is : turn ≡ Appends appended after
@@ -48,7 +48,7 @@ reply_by s r code left Refused = refl
 reply_by s r code left Lost = refl
 
 -- where the record is lost the manager is down
-pub lost_stands : (m m' : Kept) (s : State) (r : Record) → StandsFor m s → m'.name ≡ m.name → m'.log_bytes ≡ m.log_bytes → m'.sessions ≡ m.sessions → IsRecoverable (lost s r).after → StandsDown m' (lost s r).after
+pub lost_stands : (m m' : View) (s : State) (r : Record) → StandsFor m s → m'.name ≡ m.name → m'.log_bytes ≡ m.log_bytes → m'.sessions ≡ m.sessions → IsRecoverable (lost s r).after → StandsDown m' (lost s r).after
 lost_stands m m' s r st name bytes sessions recoverable = record {
   name = name ∙ st.name;
   log_bytes = bytes ∙ st.log_bytes;
@@ -57,7 +57,7 @@ lost_stands m m' s r st name bytes sessions recoverable = record {
   recoverable = recoverable;
 }
 
-pub down_after : (m' : Kept) (s : State) (r : Record) → StandsFor m' s → IsRecoverable (lost s r).after → StandsDown m' (lost s r).after
+pub down_after : (m' : View) (s : State) (r : Record) → StandsFor m' s → IsRecoverable (lost s r).after → StandsDown m' (lost s r).after
 down_after m' s r st recoverable = lost_stands m' m' s r st refl refl refl recoverable
 
 -- what an append is answered doesn't say that memory was wanted
@@ -73,14 +73,14 @@ pub lost_is : (a : Appending) → a ≡ Lost → a ≢ WasKept
 lost_is a e f = cc (e, f)
 
 -- by the three answers
-pub by_answer : (m' : Kept) (s : State) (r : Record) (code : ℤ) (left : State) (a : Appending) → (a ≡ WasKept → IsRecoverable (applied r s) → StandsFor m' (applied r s))
+pub by_answer : (m' : View) (s : State) (r : Record) (code : ℤ) (left : State) (a : Appending) → (a ≡ WasKept → IsRecoverable (applied r s) → StandsFor m' (applied r s))
     → (a ≡ Refused → IsRecoverable left → StandsFor m' left) → (a ≡ Lost → IsRecoverable (lost s r).after → StandsDown m' (lost s r).after)
     → IsRecoverable (append_became s r code left a).after → TablesStandFor (up_after a) m' (append_became s r code left a).after
 by_answer m' s r code left WasKept kept_ refused lost_ recoverable = kept_ refl recoverable
 by_answer m' s r code left Refused kept_ refused lost_ recoverable = refused refl recoverable
 by_answer m' s r code left Lost kept_ refused lost_ recoverable = lost_ refl recoverable
 
-pub logs_answers : (s : State) (turn : Turn) (r : Record) (code : ℤ) (left : State) (body : List ℕ) (a : Appending) (m' : Kept) → turn ≡ logs s r code left → spelled r ≡ body
+pub logs_answers : (s : State) (turn : Turn) (r : Record) (code : ℤ) (left : State) (body : List ℕ) (a : Appending) (m' : View) → turn ≡ logs s r code left → spelled r ≡ body
     → (IsRecoverable (append_became s r code left a).after → TablesStandFor (up_after a) m' (append_became s r code left a).after) → s.end + 40 + length body ≤ s.log_bytes
     → AnswersAppending s turn body a (reply_to code a) m'
 logs_answers s turn r code left body a m' is body_is tables fits = record {
@@ -100,13 +100,13 @@ on_err (Err e) X h = h
 
 module _ {D : Type 0} (disks : Ghosts D) where
   -- the tables of a manager that is up
-  pub tables_up : (m : Manager D) (s : State) → m.up ≡ true → ManagerStandsFor disks m s → StandsFor (kept m) s
-  tables_up m s up st = subst (λ (b : Bool). TablesStandFor b (kept m) s) up st.tables
+  pub tables_up : (m : Manager D) (s : State) → m.up ≡ true → ManagerStandsFor disks m s → StandsFor (view m) s
+  tables_up m s up st = subst (λ (b : Bool). TablesStandFor b (view m) s) up st.tables
 
   -- the same manager, but for tables that stand for what they stood for
-  pub stays_up : (m m' : Manager D) → m.up ≡ true → m'.up ≡ m.up → m'.log ≡ m.log → m'.doubt ≡ m.doubt → Stays (kept m) (kept m') → StaysFor disks m m'
+  pub stays_up : (m m' : Manager D) → m.up ≡ true → m'.up ≡ m.up → m'.log ≡ m.log → m'.doubt ≡ m.doubt → Stays (view m) (view m') → StaysFor disks m m'
   stays_up m m' is_up up log doubt stays s st = record {
-    tables = subst (λ (b : Bool). TablesStandFor b (kept m') s) (sym (up ∙ is_up)) (stays s (tables_up m s is_up st));
+    tables = subst (λ (b : Bool). TablesStandFor b (view m') s) (sym (up ∙ is_up)) (stays s (tables_up m s is_up st));
     roomy = st.roomy;
     end = λ e. ap (λ (l : Log D). l.end) log ∙ st.end is_up;
     alive = λ e. ap (λ (l : Log D). l.lost) log ∙ st.alive is_up;
@@ -116,7 +116,7 @@ module _ {D : Type 0} (disks : Ghosts D) where
   }
 
   pub takes_now : (m m' : Manager D) (act : State → Turn) (reply : Reply) (outcome : Outcome) → is_memory reply.detail ≡ false → outcome ≡ Quiet → m'.log ≡ m.log → m'.up ≡ m.up → m'.doubt ≡ m.doubt
-      → ((s : State) → ManagerStandsFor disks m s → m.up ≡ true → StandsFor (kept m) s → AnswersNow s (act s) reply (kept m')) → TakesTurn disks m act reply outcome m'
+      → ((s : State) → ManagerStandsFor disks m s → m.up ≡ true → StandsFor (view m) s → AnswersNow s (act s) reply (view m')) → TakesTurn disks m act reply outcome m'
   takes_now m m' act reply outcome served quiet log up doubt h = record {
     takes = λ s st is_up.
         let x = h s st is_up (tables_up m s is_up st) in
@@ -127,21 +127,21 @@ module _ {D : Type 0} (disks : Ghosts D) where
           log = log;
           up = up;
           doubt = doubt;
-          tables = λ recoverable. subst (λ (b : Bool). TablesStandFor b (kept m') x.answer.after) (sym (up ∙ is_up)) (x.tables recoverable);
+          tables = λ recoverable. subst (λ (b : Bool). TablesStandFor b (view m') x.answer.after) (sym (up ∙ is_up)) (x.tables recoverable);
         });
     served = served;
   }
 
   -- a row of the tables
   pub takes_row : (m m' : Manager D) (act : State → Answer) (reply : Reply) (outcome : Outcome) → outcome ≡ Quiet → m'.log ≡ m.log → m'.up ≡ m.up → m'.doubt ≡ m.doubt
-      → Follows (kept m) act reply (kept m') → TakesTurn disks m (λ s. Now (act s)) reply outcome m'
+      → Follows (view m) act reply (view m') → TakesTurn disks m (λ s. Now (act s)) reply outcome m'
   takes_row m m' act reply outcome quiet log up doubt f =
       takes_now m m' (λ s. Now (act s)) reply outcome f.served quiet log up doubt (λ s whole is_up st. record { answer = act s; turn_is = refl; reply_is = f.answers s st; tables = λ recoverable. f.stands s st recoverable })
 
   -- a record was journaled on the same log, and the tables may have changed before and after
   pub takes_appending : (m mid mid' m' : Manager D) (act : State → Turn) (body : List ℕ) (a : Appending) (reply : Reply) (outcome : Outcome) → is_memory reply.detail ≡ false → outcome ≡ Appended a
       → mid.log ≡ m.log → mid.up ≡ m.up → HasJournaled disks body a mid mid' → m'.log ≡ mid'.log → m'.up ≡ mid'.up → m'.doubt ≡ mid'.doubt
-      → ((s : State) → ManagerStandsFor disks m s → m.up ≡ true → AnswersAppending s (act s) body a reply (kept m')) → TakesTurn disks m act reply outcome m'
+      → ((s : State) → ManagerStandsFor disks m s → m.up ≡ true → AnswersAppending s (act s) body a reply (view m')) → TakesTurn disks m act reply outcome m'
   takes_appending m mid mid' m' act body a reply outcome served is log up j log' up' doubt' h = record {
     takes = λ s st is_up.
         let x = h s st is_up in
@@ -157,7 +157,7 @@ module _ {D : Type 0} (disks : Ghosts D) where
           log = subst (λ (b : List ℕ). HasAppended disks b a m.log m'.log) (sym x.body_is) there;
           up = is_up';
           doubt = doubt' ∙ j.doubt ∙ ap (λ (l : Log D). doubt_after a l.end) log;
-          tables = λ recoverable. subst (λ (b : Bool). TablesStandFor b (kept m') (x.after a).after) (sym is_up') (x.tables recoverable);
+          tables = λ recoverable. subst (λ (b : Bool). TablesStandFor b (view m') (x.after a).after) (sym is_up') (x.tables recoverable);
         });
     served = served;
   }

@@ -9,8 +9,8 @@ use Rattle.std.proofs.lemmas.Bool.Decides.{nat_tests}
 use Rattle.std.proofs.lemmas.Slice.Eq.{bytes_eq-Decides}
 use Rattle.xa_codes.specs.declared.write.Write.{Write}
 use Rattle.mv_chain.specs.declared.fate.Fate.{Fate}
-use Rattle.mv_chain.specs.History.{Written}
-use Rattle.mv_rules.specs.History.{last_write, listed_value, IsAscending, IsWritesOf}
+use Rattle.mv_chain.specs.Accesses.{Written}
+use Rattle.mv_rules.specs.Accesses.{last_write, listed_value, IsAscending, IsWritesOf}
 use Rattle.mv_rules.specs.Ties.{fate_of, writes_by, writes_in}
 use Rattle.mv_rules.proofs.Ties.{bytes_eq_swapped}
 use Rattle.xa_xid.specs.Triple.{Triple}

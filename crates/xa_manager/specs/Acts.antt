@@ -11,7 +11,7 @@ use Rattle.xa_branch.specs.Kinds.{ended_kind, resumed_kind}
 use Rattle.xa_branch.specs.declared.kind.Kind.{Kind}
 use Rattle.xa_branch.specs.declared.kind.Kind.TheVariants.{Active}
 use Rattle.xa_manager.specs.declared.tables.Tables.{Tables}
-use Rattle.xa_manager.specs.Kept.{kept_of}
+use Rattle.xa_manager.specs.View.{view_of}
 use Rattle.xa_manager.specs.Stands.{StandsFor, StandsWithRoom, BecomesAt, ending}
 
 -- a start with TMRESUME isn't refused, and takes an association of this kind
@@ -31,27 +31,27 @@ Ends n xid kind s = ended_kind s.associations n xid ≡ Some kind
 
 -- the branch with this XID, which is at work or in doubt, is completed so, wherever the log ends then
 abbrev pub BranchBecomes : Tables → Triple → (State → Triple → State) → Tables → Type 0
-BranchBecomes t xid act t' = BecomesAt (kept_of t) (λ s. IsSome (known_of s.branches xid)) (λ s. act s xid) (kept_of t')
+BranchBecomes t xid act t' = BecomesAt (view_of t) (λ s. IsSome (known_of s.branches xid)) (λ s. act s xid) (view_of t')
 
 -- it is in doubt, and the operator completes it
 abbrev pub Decides : Tables → Direction → Triple → Tables → Type 0
 Decides t direction xid t' =
-    BecomesAt (kept_of t) (λ s. known_as s xid ≡ InDoubt) (λ s. decided_by s direction xid) (kept_of t')
+    BecomesAt (view_of t) (λ s. known_as s xid ≡ InDoubt) (λ s. decided_by s direction xid) (view_of t')
 
 -- what the operator completed is forgotten
 abbrev pub Forgets : Tables → Triple → Tables → Type 0
-Forgets t xid t' = BecomesAt (kept_of t) (λ s. is_completed (known_as s xid) ≡ true) (λ s. forgotten s xid) (kept_of t')
+Forgets t xid t' = BecomesAt (view_of t) (λ s. is_completed (known_as s xid) ≡ true) (λ s. forgotten s xid) (view_of t')
 
 -- what will be kept of the branch once it is prepared gets its room
 abbrev pub MakesRoom : Tables → Triple → Tables → Type 0
-MakesRoom t xid t' = (s : State) → StandsFor (kept_of t) s → StandsWithRoom xid (kept_of t') s
+MakesRoom t xid t' = (s : State) → StandsFor (view_of t) s → StandsWithRoom xid (view_of t') s
 
 -- the branch takes it: its record stands, wherever the log ends then
 abbrev pub TakesPrepared : Tables → Triple → Tables → Type 0
 TakesPrepared t xid t' =
-    (s : State) (end : ℕ) → StandsWithRoom xid (kept_of t) s → IsRecoverable (ending (prepared s xid) end)
-    → StandsFor (kept_of t') (ending (prepared s xid) end)
+    (s : State) (end : ℕ) → StandsWithRoom xid (view_of t) s → IsRecoverable (ending (prepared s xid) end)
+    → StandsFor (view_of t') (ending (prepared s xid) end)
 
 -- or gives it back
 abbrev pub GivesRoomBack : Tables → Triple → Tables → Type 0
-GivesRoomBack t xid t' = (s : State) → StandsWithRoom xid (kept_of t) s → StandsFor (kept_of t') s
+GivesRoomBack t xid t' = (s : State) → StandsWithRoom xid (view_of t) s → StandsFor (view_of t') s

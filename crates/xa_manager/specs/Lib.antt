@@ -1,4 +1,4 @@
-pub mod Kept
+pub mod View
 pub mod Stands
 pub mod Tables
 pub mod Acts

@@ -11,12 +11,12 @@ use Rattle.xa_model.specs.Room.{IsRoomy}
 use Rattle.xa_manager.specs.declared.doubt.Doubt.{Doubt}
 use Rattle.xa_manager.specs.declared.doubt.Doubt.TheVariants.{Boot, Record as LastRecord}
 use Rattle.xa_manager.specs.declared.manager.Manager.{Manager}
-use Rattle.xa_manager.specs.Kept.{Kept, kept_of}
+use Rattle.xa_manager.specs.View.{View, view_of}
 use Rattle.xa_manager.specs.Stands.{TablesStandFor}
 use Rattle.xa_manager.specs.LogStands.{Trusts, LogStandsFor}
 
-abbrev pub kept : {D : Type 0} → Manager D → Kept
-kept m = kept_of m.tables
+abbrev pub view : {D : Type 0} → Manager D → View
+view m = view_of m.tables
 
 -- the record whose fate is unknown: a boot's, or one behind the log's end
 abbrev pub Doubts : Option Doubt → State → Type 0
@@ -26,7 +26,7 @@ Doubts (Some (LastRecord end)) s = (r : Record) × (s.open_record ≡ Some r) ×
 
 -- The log is said to stand behind the state under the premises on the type of disks; all else is without them.
 pub record ManagerStandsFor {D : Type 0} (disks : Ghosts D) (m : Manager D) (s : State) : Type 0 where
-  pub tables : TablesStandFor m.up (kept m) s
+  pub tables : TablesStandFor m.up (view m) s
   pub roomy : IsRoomy s
   pub end : m.up ≡ true → m.log.end ≡ s.end
   pub alive : m.up ≡ true → m.log.lost ≡ false

@@ -1,7 +1,7 @@
 -- What the tables of a new boot are made of, branch by branch.
 use Rattle.std.specs.Prelude.{◌≡◌, ◌<◌, ◌++◌, ℕ, List, [], ◌∷◌, map, fold}
 use Rattle.std.specs.List.{AllByRecursion}
-use Rattle.mv_chain.specs.History.{Written}
+use Rattle.mv_chain.specs.Accesses.{Written}
 use Rattle.mv_rules.specs.declared.records.Records.{Records}
 use Rattle.mv_rules.specs.Records.{StandsFor as RecordsStandFor}
 use Rattle.mv_rules.specs.Within.{AreShort}

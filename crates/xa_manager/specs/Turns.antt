@@ -28,7 +28,7 @@ use Rattle.xa_manager.specs.declared.doubt.Doubt.TheVariants as doubt
 use Rattle.xa_manager.specs.declared.manager.Manager.{Manager}
 use Rattle.xa_manager.specs.Answered.{as_appended, HasCalled}
 use Rattle.xa_manager.specs.LogStands.{Trusts}
-use Rattle.xa_manager.specs.Managed.{kept, ManagerStandsFor, AnswersAs}
+use Rattle.xa_manager.specs.Managed.{view, ManagerStandsFor, AnswersAs}
 use Rattle.xa_manager.specs.Stands.{TablesStandFor}
 
 -- what an append of a body leaves of the log, by the device's answer
@@ -73,7 +73,7 @@ pub record TakesNow {D : Type 0} (m : Manager D) (a : Answer) (reply : Reply) (o
   pub log : m'.log ≡ m.log
   pub up : m'.up ≡ m.up
   pub doubt : m'.doubt ≡ m.doubt
-  pub tables : IsRecoverable a.after → TablesStandFor m'.up (kept m') a.after
+  pub tables : IsRecoverable a.after → TablesStandFor m'.up (view m') a.after
 
 -- a record was appended
 pub record TakesAppending {D : Type 0} (disks : Ghosts D) (m : Manager D) (r : Record) (after : Appending → Answer)
@@ -84,7 +84,7 @@ pub record TakesAppending {D : Type 0} (disks : Ghosts D) (m : Manager D) (r : R
   pub log : HasAppended disks (spelled r) answer m.log m'.log
   pub up : m'.up ≡ up_after answer
   pub doubt : m'.doubt ≡ doubt_after answer m.log.end
-  pub tables : IsRecoverable (after answer).after → TablesStandFor m'.up (kept m') (after answer).after
+  pub tables : IsRecoverable (after answer).after → TablesStandFor m'.up (view m') (after answer).after
 
 abbrev pub Takes : {D : Type 0} → Ghosts D → Manager D → Turn → Reply → Outcome → Manager D → Type 0
 Takes disks m Nobody reply outcome m' = ⊥

@@ -160,7 +160,7 @@ impl<D: Disk> Manager<D> {
         if let Some(reply) = self.tables.heuristic_refusal(Call::Rollback, xid) {
             return Done::now(reply);
         }
-        if !self.tables.is_settled(xid) {
+        if !self.tables.is_lasting(xid) {
             let mark = self.tables.mark_of(xid);
             self.tables.finish_branch(xid, Fate::RolledBack);
             return Done::now(Reply::plain(mark.unwrap_or(XA_OK)));

@@ -1,10 +1,10 @@
 ghost use Rattle.std.specs.Prelude.{◌≡◌, Some, None};
 ghost use Rattle.std.specs.List.{list_any};
 ghost use Rattle.xa_model.specs.State.{known_as, is_loose_with};
-ghost use Rattle.xa_model.specs.Associations.{is_unknown, is_settled, is_taken, mark_in};
+ghost use Rattle.xa_model.specs.Associations.{is_unknown, is_lasting, is_taken, mark_in};
 ghost use Rattle.xa_assoc.specs.Sessions.{resume_refusal_of, leave_refusal_of};
 ghost use Rattle.xa_branch.specs.Kinds.{resumed_kind, ended_kind};
-ghost use Rattle.xa_manager.specs.Kept.{kept_of, own_at};
+ghost use Rattle.xa_manager.specs.View.{view_of, own_at};
 ghost use Rattle.xa_manager.specs.Tables.{TablesSay};
 
 use crate::tables::Tables;
@@ -35,8 +35,8 @@ impl Tables {
     }
 
     /// Whether the branch is prepared, or was completed by the operator.
-    pub fn is_settled(&self, xid: &Xid) -> bool
-        ensures { TablesSay self.now (λ s. is_settled (known_as s xid.now) ≡ result) }
+    pub fn is_lasting(&self, xid: &Xid) -> bool
+        ensures { TablesSay self.now (λ s. is_lasting (known_as s xid.now) ≡ result) }
     {
         match self.branches.known(xid) {
             Known::InDoubt | Known::Completed(_) => true,
@@ -89,7 +89,7 @@ impl Tables {
 
     /// The branch that the session is at work for.
     pub fn own_branch(&self, session: u64) -> Option<(Xid, Working)>
-        ensures { result ≡ own_at (kept_of self.now) session }
+        ensures { result ≡ own_at (view_of self.now) session }
     {
         let xid = self.sessions.current(session)?;
         let working = self.branches.working_of(xid)?;

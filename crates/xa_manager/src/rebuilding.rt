@@ -1,6 +1,6 @@
 ghost use Rattle.std.specs.Prelude.{◌≡◌, ℕ, List, [], false, map, fold, OnOk, IfOk};
 ghost use Rattle.std.specs.List.{AllByRecursion};
-ghost use Rattle.mv_chain.specs.History.{Written};
+ghost use Rattle.mv_chain.specs.Accesses.{Written};
 ghost use Rattle.mv_rules.specs.Records.{StandsFor as RecordsStandFor};
 ghost use Rattle.mv_rules.specs.Restoring.{with_committed, with_prepared};
 ghost use Rattle.mv_rules.specs.Ties.{history_of};

@@ -38,7 +38,7 @@ impl Tables {
         ensures bare { IfSome result IsBare }
     {
         let unknown = self.is_unknown(xid);
-        let settled = self.is_settled(xid);
+        let settled = self.is_lasting(xid);
         self.sessions.join_refusal(session, xid, unknown, settled)
     }
 

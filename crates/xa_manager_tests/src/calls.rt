@@ -155,11 +155,11 @@ fn migrated(want: &mut String) -> Result<(), AllocError> {
 /// What is asked at a limit, and what is then printed.
 fn put_limit(
     alloc: Global,
-    place: usize,
+    index: usize,
     script: &mut String,
     want: &mut String,
 ) -> Result<(), AllocError> {
-    match place {
+    match index {
         0 => {
             connects(script)?;
             numbers(alloc, want)
@@ -175,17 +175,17 @@ fn put_limit(
     }
 }
 
-fn holds_limit(alloc: Global, place: usize) -> Result<bool, AllocError> {
+fn holds_limit(alloc: Global, index: usize) -> Result<bool, AllocError> {
     let mut script = String::new(alloc);
     let mut want = String::new(alloc);
-    put_limit(alloc, place, &mut script, &mut want)?;
+    put_limit(alloc, index, &mut script, &mut want)?;
     Ok(prints(alloc, script.as_str(), want.as_str()))
 }
 
 fn wrong_limit(alloc: Global) -> Option<usize> {
-    for place in 0..3usize {
-        if holds_limit(alloc, place) != Ok(true) {
-            return Some(place);
+    for index in 0..3usize {
+        if holds_limit(alloc, index) != Ok(true) {
+            return Some(index);
         }
     }
     None

@@ -208,9 +208,9 @@ fn asked_lines(rt: HostRuntime) {
 }
 
 fn wrong_script(alloc: Global, scripts: &[&str], want: &str) -> Option<usize> {
-    for (place, script) in scripts.iter().enumerate() {
+    for (index, script) in scripts.iter().enumerate() {
         if !prints(alloc, script, want) {
-            return Some(place);
+            return Some(index);
         }
     }
     None

@@ -39,10 +39,10 @@ pub fn connected(manager: &mut Manager<MemDisk>) -> Option<u64> {
 }
 
 // The calls of a session that reads back what it wrote.
-fn request(alloc: Global, first: &Xid, second: &Xid, place: usize) -> Result<Request, AllocError>
+fn request(alloc: Global, first: &Xid, second: &Xid, index: usize) -> Result<Request, AllocError>
     ensures { IfOk result IsRequest }
 {
-    Ok(match place {
+    Ok(match index {
         0 => Request::Open {
             flags: TMNOFLAGS,
             info: Bytes::from_slice(alloc, b"xarm")?,
@@ -98,9 +98,9 @@ fn called(
     alloc: Global,
     first: &Xid,
     second: &Xid,
-    place: usize,
+    index: usize,
 ) -> Option<Reply> {
-    let request = request(alloc, first, second, place).ok()?;
+    let request = request(alloc, first, second, index).ok()?;
     answer(manager, alloc, 1, request)
 }
 
@@ -109,11 +109,11 @@ fn asked(
     alloc: Global,
     first: &Xid,
     second: &Xid,
-    place: usize,
+    index: usize,
 ) -> Option<Reply> {
-    match called(manager, alloc, first, second, place) {
+    match called(manager, alloc, first, second, index) {
         Some(reply) if reply.detail == Detail::Nothing => Some(reply),
-        _ => called(manager, alloc, first, second, place),
+        _ => called(manager, alloc, first, second, index),
     }
 }
 
@@ -140,9 +140,9 @@ fn wrong_reply(
     second: &Xid,
     bodies: &[u64],
 ) -> Option<usize> {
-    for (place, body) in bodies.iter().enumerate() {
-        if !is_reply(asked(manager, alloc, first, second, place), *body) {
-            return Some(place);
+    for (index, body) in bodies.iter().enumerate() {
+        if !is_reply(asked(manager, alloc, first, second, index), *body) {
+            return Some(index);
         }
     }
     None

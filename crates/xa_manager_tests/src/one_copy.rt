@@ -157,8 +157,8 @@ impl Script {
     }
 
     fn sit(&mut self, session: u64, seat: Seat) {
-        if let Some(place) = self.seats.get_mut(session as usize) {
-            *place = seat;
+        if let Some(mine) = self.seats.get_mut(session as usize) {
+            *mine = seat;
         }
     }
 

@@ -152,11 +152,11 @@ fn is_checked(alloc: Global, rows: &[Row], want: bool) -> bool {
     checked(alloc, rows) == Ok(want) || checked(alloc, rows) == Ok(want)
 }
 
-/// The place of the first of these lists that is taken for what it isn't.
+/// The index of the first of these lists that is taken for what it isn't.
 pub fn wrong_check(alloc: Global) -> Option<usize> {
-    for (place, (rows, want)) in ROWS.iter().enumerate() {
+    for (index, (rows, want)) in ROWS.iter().enumerate() {
         if !is_checked(alloc, rows, *want) {
-            return Some(place);
+            return Some(index);
         }
     }
     None

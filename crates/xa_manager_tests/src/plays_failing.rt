@@ -336,9 +336,9 @@ const ROOMS: [(u64, [Play; 1]); 7] = [
 ];
 
 fn wrong_room(alloc: Global, rows: &[(u64, [Play; 1])]) -> Option<usize> {
-    for (place, (log_bytes, plays)) in rows.iter().enumerate() {
+    for (index, (log_bytes, plays)) in rows.iter().enumerate() {
         if wrong_end(alloc, *log_bytes, plays, "").is_some() {
-            return Some(place);
+            return Some(index);
         }
     }
     None

@@ -35,11 +35,11 @@ fn is_played(alloc: Global, log_bytes: u64, play: &[&[Line]], fault: &str) -> bo
     }
 }
 
-/// The place of the first play, of a log of so many bytes, that doesn't print what stands in it, or doesn't end so.
+/// The index of the first play, of a log of so many bytes, that doesn't print what stands in it, or doesn't end so.
 pub fn wrong_end(alloc: Global, log_bytes: u64, plays: &[Play], fault: &str) -> Option<usize> {
-    for (place, play) in plays.iter().enumerate() {
+    for (index, play) in plays.iter().enumerate() {
         if !is_played(alloc, log_bytes, play, fault) {
-            return Some(place);
+            return Some(index);
         }
     }
     None

@@ -12,7 +12,7 @@ use Rattle.xa_record.specs.declared.record.Record.TheVariants as logged
 use Rattle.xa_xid.specs.Triple.{Triple}
 use Rattle.xa_model.specs.State.{State, Known, Unknown, AtWork, InDoubt, Completed, known_as, holders_of}
 use Rattle.xa_model.specs.Answer.{plain, answer, ok}
-use Rattle.xa_model.specs.Associations.{is_unknown, is_settled, mark_in, timestamp_in}
+use Rattle.xa_model.specs.Associations.{is_unknown, is_lasting, mark_in, timestamp_in}
 use Rattle.xa_model.specs.Branches.{is_associated, one_phase_refusal, two_phase_refusal, rollback_refusal, heuristic_refusal, rolled_back, committed}
 use Rattle.xa_model.specs.Sound.{IsSound}
 use Rattle.xa_model.specs.Durable.{durable}
@@ -51,7 +51,7 @@ itself s h = record { sound = h; lasts = refl; end = refl; boot = refl; logged_b
 
 -- an idle branch
 
-pub idle_of : (s : State) (xid : Triple) → is_unknown (known_as s xid) ≡ false → is_associated s xid ≡ false → is_settled (known_as s xid) ≡ false → IsIdle s xid (timestamp_in s xid) (writes_in s xid)
+pub idle_of : (s : State) (xid : Triple) → is_unknown (known_as s xid) ≡ false → is_associated s xid ≡ false → is_lasting (known_as s xid) ≡ false → IsIdle s xid (timestamp_in s xid) (writes_in s xid)
 idle_of s xid known free unsettled = record { free = unheld s xid free; working = at_work s xid known unsettled; timestamp = refl; writes = refl }
   where
     unheld : (s : State) (xid : Triple) → is_associated s xid ≡ false → holders_of s.associations xid ≡ 0
@@ -142,7 +142,7 @@ rolls_back_known : (s : State) (xid : Triple) (k : Known) → known_as s xid ≡
     → LogsWhatLasts s (roll_back_turn s xid k)
 rolls_back_known s xid Unknown e known free none h = absurd (cc known)
 rolls_back_known s xid (AtWork mark) e known free none h =
-    marked_keeps mark s (rolled_back s xid) (gone_keeps s xid h (idle_of s xid (ap is_unknown e) free (ap is_settled e)))
+    marked_keeps mark s (rolled_back s xid) (gone_keeps s xid h (idle_of s xid (ap is_unknown e) free (ap is_lasting e)))
 rolls_back_known s xid InDoubt e known free none h = logs_lasts s (logged.Completed xid direction.Rollback) XAER_RMERR s e (itself s h)
 rolls_back_known s xid (Completed direction) e known free none h = absurd (cc none)
 

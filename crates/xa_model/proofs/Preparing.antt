@@ -16,7 +16,7 @@ use Rattle.xa_model.specs.declared.outcome.Appending.TheVariants.{Kept, Refused,
 use Rattle.xa_model.specs.State.{State, Branch, Phase, Working, Prepared, Committed, Standing, Up, Down, Ended, Known, is_known_as, known_of, known_by, known_among, known_as, decided_of, mark_of}
 use Rattle.xa_model.specs.Answer.{Answer, plain, answer, first}
 use Rattle.xa_model.specs.Early.{early_refusal, passes_down, call_of, needs_open, is_opened, is_async, flags_of, is_invalid}
-use Rattle.xa_model.specs.Associations.{is_unknown, is_settled, mark_in, timestamp_in}
+use Rattle.xa_model.specs.Associations.{is_unknown, is_lasting, mark_in, timestamp_in}
 use Rattle.xa_model.specs.Branches.{rolled_back, committed, one_phase_refusal, is_associated}
 use Rattle.xa_model.specs.Durable.{Durable, durable}
 use Rattle.xa_model.specs.Fold.{is_empty, apply}
@@ -88,7 +88,7 @@ refused (check ∷ checks) reply h e ok = refused_by check.0 check.1 reply (firs
 
 one_phase_bad : (k : Known) (held : Bool) (reply : Reply) → one_phase_refusal k held ≡ Some reply → reply.code ≡ XA_OK → ⊥
 one_phase_bad k held reply e ok =
-    refused ((is_unknown k, plain XAER_NOTA) ∷ (held || is_settled k, plain XAER_PROTO) ∷ []) reply ((λ ok. cc ok), ((λ ok. cc ok), tt)) e ok
+    refused ((is_unknown k, plain XAER_NOTA) ∷ (held || is_lasting k, plain XAER_PROTO) ∷ []) reply ((λ ok. cc ok), ((λ ok. cc ok), tt)) e ok
 
 early_bad : (up : Bool) (name : List ℕ) (session : Option Bool) (request : Request) (reply : Reply)
     → early_refusal up name session request ≡ Some reply → reply.code ≡ XA_OK → ⊥

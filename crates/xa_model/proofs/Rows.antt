@@ -7,7 +7,7 @@ use Rattle.xa_frame.specs.declared.reply.Reply.{Reply}
 use Rattle.xa_xid.specs.Triple.{Triple, xid_eq}
 use Rattle.xa_model.specs.State.{State, Branch, Phase, Working, Prepared, Committed, Decided, Association, count, is_known_as, known_of, decided_of, known_by, known_among, known_as, active_of, is_active}
 use Rattle.xa_model.specs.Answer.{Answer, unless, marked}
-use Rattle.xa_model.specs.Associations.{is_taken, is_unknown, is_settled}
+use Rattle.xa_model.specs.Associations.{is_taken, is_unknown, is_lasting}
 use Rattle.xa_model.specs.Sound.{IsSound, is_working, is_at_work, named}
 use Rattle.xa_model.proofs.Counts.{count_none}
 use Rattle.xa_model.proofs.Lists.{found_passes}
@@ -73,15 +73,15 @@ new_named s xid free =
 
 -- an XID that is known and not settled is of a branch at work
 
-at_work_by : (o : Option Branch) (d : Option Direction) → is_unknown (known_among o d) ≡ false → is_settled (known_among o d) ≡ false → is_at_work o ≡ true
+at_work_by : (o : Option Branch) (d : Option Direction) → is_unknown (known_among o d) ≡ false → is_lasting (known_among o d) ≡ false → is_at_work o ≡ true
 at_work_by (Some b) d known unsettled = by_phase b.phase known unsettled
   where
-    by_phase : (p : Phase) → is_unknown (known_by p) ≡ false → is_settled (known_by p) ≡ false → is_working p ≡ true
+    by_phase : (p : Phase) → is_unknown (known_by p) ≡ false → is_lasting (known_by p) ≡ false → is_working p ≡ true
     by_phase (Working x mark) known unsettled = refl
     by_phase (Prepared x) known unsettled = absurd (cc unsettled)
     by_phase Committed known unsettled = absurd (cc known)
 at_work_by None (Some direction) known unsettled = absurd (cc unsettled)
 at_work_by None None known unsettled = absurd (cc known)
 
-pub at_work : (s : State) (xid : Triple) → is_unknown (known_as s xid) ≡ false → is_settled (known_as s xid) ≡ false → is_at_work (known_of s.branches xid) ≡ true
+pub at_work : (s : State) (xid : Triple) → is_unknown (known_as s xid) ≡ false → is_lasting (known_as s xid) ≡ false → is_at_work (known_of s.branches xid) ≡ true
 at_work s xid known unsettled = at_work_by (known_of s.branches xid) (decided_of s.decided xid) known unsettled

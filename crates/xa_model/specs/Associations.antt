@@ -135,10 +135,10 @@ is_unknown Unknown = true
 is_unknown _ = false
 
 -- prepared or completed
-abbrev pub is_settled : Known → Bool
-is_settled InDoubt = true
-is_settled (Completed direction) = true
-is_settled _ = false
+abbrev pub is_lasting : Known → Bool
+is_lasting InDoubt = true
+is_lasting (Completed direction) = true
+is_lasting _ = false
 
 abbrev pub mark_in : Known → Option ℤ
 mark_in (AtWork mark) = mark
@@ -159,7 +159,7 @@ join_refusal is_at_work has_suspended known =
     first (
     (is_at_work || has_suspended, plain XAER_PROTO)
     ∷ (is_unknown known, plain XAER_NOTA)
-    ∷ (is_settled known, plain XAER_PROTO)
+    ∷ (is_lasting known, plain XAER_PROTO)
     ∷ [])
 
 abbrev pub joined : State → ℕ → Triple → Answer

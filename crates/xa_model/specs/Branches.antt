@@ -8,7 +8,7 @@ use Rattle.xa_frame.specs.declared.reply.Reply.{Reply}
 use Rattle.xa_model.specs.State.{State, Branch, Decided, Phase, Working, Prepared, Committed, Known, Completed}
 use Rattle.xa_model.specs.State.{known_as, holders_of, is_known_as, without, change}
 use Rattle.xa_model.specs.Answer.{Answer, plain, ok, first, unless}
-use Rattle.xa_model.specs.Associations.{is_unknown, is_settled, with_mark}
+use Rattle.xa_model.specs.Associations.{is_unknown, is_lasting, with_mark}
 
 -- the branch is rolled back, and gone; the reads that it was answered stay
 abbrev pub rolled_back : State → Triple → State
@@ -38,12 +38,12 @@ heuristic_refusal _ = None
 
 abbrev pub one_phase_refusal : Known → Bool → Option Reply
 one_phase_refusal known is_associated =
-    first ((is_unknown known, plain XAER_NOTA) ∷ (is_associated || is_settled known, plain XAER_PROTO) ∷ [])
+    first ((is_unknown known, plain XAER_NOTA) ∷ (is_associated || is_lasting known, plain XAER_PROTO) ∷ [])
 
 -- Commit in two phases: a branch that is neither prepared nor completed is not committed so
 
 abbrev pub two_phase_refusal : Known → Option Reply
-two_phase_refusal known = first ((is_unknown known, plain XAER_NOTA) ∷ (not (is_settled known), plain XAER_PROTO) ∷ [])
+two_phase_refusal known = first ((is_unknown known, plain XAER_NOTA) ∷ (not (is_lasting known), plain XAER_PROTO) ∷ [])
 
 -- Rollback, by any session: of a branch without associations
 
@@ -54,7 +54,7 @@ rollback_refusal known is_associated =
 -- Doom, the operator's mark, also of a branch at which sessions work
 
 abbrev pub doom_refusal : Known → Option Reply
-doom_refusal known = first ((is_unknown known, plain XAER_NOTA) ∷ (is_settled known, plain XAER_PROTO) ∷ [])
+doom_refusal known = first ((is_unknown known, plain XAER_NOTA) ∷ (is_lasting known, plain XAER_PROTO) ∷ [])
 
 abbrev pub doomed : State → Triple → State
 doomed s xid = record s { branches = change (is_known_as xid) (with_mark XA_RBOTHER) s.branches }

@@ -11,9 +11,9 @@ use Rattle.xa_model.specs.Fold.{fold, snapshot, size_of}
 use Rattle.xa_model.specs.Worked.{byte, xid}
 
 -- where each record begins in a log, and where the next would
-abbrev pub places : ℕ → List Record → List ℕ
-places at [] = at ∷ []
-places at (r ∷ rs) = at ∷ places (at + size_of r) rs
+abbrev pub offsets : ℕ → List Record → List ℕ
+offsets at [] = at ∷ []
+offsets at (r ∷ rs) = at ∷ offsets (at + size_of r) rs
 
 -- what a restart with this boot writes into the other file
 abbrev pub with_boot : ℕ → Result Durable ℕ → Result (List Record) ℕ
@@ -46,12 +46,12 @@ HeldAndCommitted =
     let second : List Record = Opened 2 ∷ Held xid_1 4294967297 put_1 ∷ [] in
     let committed : List Record = Opened 2 ∷ Held xid_1 4294967297 put_1 ∷ Completed xid_1 Commit ∷ [] in
     let third : List Record = Opened 3 ∷ Base 4294967297 put_1 ∷ [] in
-    (places 8 first ≡ 8 ∷ 49 ∷ 110 ∷ [])
+    (offsets 8 first ≡ 8 ∷ 49 ∷ 110 ∷ [])
     × (restarted 2 first ≡ Ok second)
-    × (places 8 second ≡ 8 ∷ 49 ∷ 110 ∷ [])
-    × (places 8 committed ≡ 8 ∷ 49 ∷ 110 ∷ 156 ∷ [])
+    × (offsets 8 second ≡ 8 ∷ 49 ∷ 110 ∷ [])
+    × (offsets 8 committed ≡ 8 ∷ 49 ∷ 110 ∷ 156 ∷ [])
     × (restarted 3 committed ≡ Ok third)
-    × (places 8 third ≡ 8 ∷ 49 ∷ 102 ∷ [])
+    × (offsets 8 third ≡ 8 ∷ 49 ∷ 102 ∷ [])
     × (restarted 4 third ≡ Ok (Opened 4 ∷ Base 4294967297 put_1 ∷ []))
 
 -- What the operator decided is known over a restart, until it is forgotten.
@@ -60,7 +60,7 @@ DecidedAndForgotten =
     let first : List Record = Opened 1 ∷ Prepared xid_1 4294967297 put_1 ∷ Decided xid_1 Commit ∷ [] in
     let second : List Record = Opened 2 ∷ Base 4294967297 put_1 ∷ Known xid_1 Commit ∷ [] in
     (restarted 2 first ≡ Ok second)
-    × (places 8 second ≡ 8 ∷ 49 ∷ 102 ∷ 148 ∷ [])
+    × (offsets 8 second ≡ 8 ∷ 49 ∷ 102 ∷ 148 ∷ [])
     × (restarted 3 (Opened 2 ∷ Base 4294967297 put_1 ∷ Known xid_1 Commit ∷ Forgotten xid_1 ∷ [])
     ≡ Ok (Opened 3 ∷ Base 4294967297 put_1 ∷ []))
     × (restarted 2 (Opened 1 ∷ Prepared xid_1 4294967297 put_1 ∷ Decided xid_1 Rollback ∷ [])

@@ -20,7 +20,7 @@ use Rattle.xa_room.specs.declared.book.Receipt.{Receipt}
 use Rattle.xa_room.specs.declared.manages.Manages.{Ghosts}
 use Rattle.xa_room.specs.Book.{AreNumbered, HasNoRestart, entry_of, plain_entries, receipt_of, unplaced}
 use Rattle.xa_room.specs.Manages.{Acts, Counts, StepsTo}
-use Rattle.xa_room.specs.Kept.{Adds, Kept}
+use Rattle.xa_room.specs.Upholds.{Adds, Upholds}
 use Rattle.xa_room.specs.Told.{Told}
 
 pub not_memory : (A B : Type 0) (b : Bool) → b ≡ false → MatchBool b A B → B
@@ -71,11 +71,11 @@ rises_twice m n a b c p q = λ first second.
 
 -- a step more keeps what a room keeps
 kept_step : {M : Type 0} (m : Ghosts M) (start : State → Type 0) (base : ℕ × ℕ) (now then : M) (es : List Entry) (cap cap' : ℕ) (e : Entry)
-    → Kept m start base now es cap
+    → Upholds m start base now es cap
     → StepsTo m.stands m.trusts now e.event e.outcome (unplaced e.reply) then
     → Counts m.stands m.trusts m.failures now e.event e.outcome then
     → IsEvent e.event → e.place ≡ length es + 1 → e.reply.place ≡ length es + 1 → length es + 1 + m.sessions then ≤ cap'
-    → Kept m start base then (es ++ e ∷ []) cap'
+    → Upholds m start base then (es ++ e ∷ []) cap'
 kept_step m start base now then es cap cap' e kept steps counts event p q room = record {
   legal = λ s began premise.
       let each = premises m.trusts es e premise in
@@ -95,13 +95,13 @@ kept_step m start base now then es cap cap' e kept steps counts event p q room =
 -- an event that noted its entry keeps it
 pub kept_noted : {M : Type 0} (m : Ghosts M) (start : State → Type 0) (base : ℕ × ℕ) (now then : M) (es es0 es' : List Entry) (cap cap' : ℕ)
     (event : Event) (outcome : Outcome) (reply : Reply)
-    → Kept m start base now es cap
+    → Upholds m start base now es cap
     → Acts m.stands m.trusts m.told m.has_called m.failures now event reply then
     → is_memory reply.detail ≡ false → reply.place ≡ 0 → IsEvent event → outcome ≡ m.told then
     → es0 ≡ es → es' ≡ es0 ++ entry_of (length es0 + 1) event outcome reply ∷ [] → length es + 1 + m.sessions then ≤ cap'
-    → Kept m start base then es' cap'
+    → Upholds m start base then es' cap'
 kept_noted m start base now then es es0 es' cap cap' event outcome reply kept acts served zero is_event tells same noted room =
-    let P : List Entry → Type 0 = λ xs. Kept m start base then xs cap' in
+    let P : List Entry → Type 0 = λ xs. Upholds m start base then xs cap' in
     let e = entry_of (length es + 1) event outcome reply in
     let longer : es' ≡ es ++ e ∷ [] = noted ∙ ap (λ (xs : List Entry). xs ++ entry_of (length xs + 1) event outcome reply ∷ []) same in
     let steps = not_memory _ _ _ served acts.answered in

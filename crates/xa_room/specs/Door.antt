@@ -6,7 +6,7 @@ use Rattle.xa_manager.specs.Answered.{wanted_memory}
 use Rattle.xa_model.specs.declared.event.Event.TheVariants.{Hangup, Call}
 use Rattle.xa_room.specs.declared.book.Receipt.{Receipt}
 use Rattle.xa_room.specs.declared.manages.Manages.{Ghosts}
-use Rattle.xa_room.specs.Kept.{Adds, Leaves}
+use Rattle.xa_room.specs.Upholds.{Adds, Leaves}
 use Rattle.xa_room.specs.Told.{Told}
 
 -- the call is the new entry, which has the reply; or memory was wanted, and there is none

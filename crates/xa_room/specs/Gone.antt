@@ -2,7 +2,7 @@
 use Rattle.std.specs.Prelude.{ℕ, ◌≡◌, false}
 use Rattle.xa_model.specs.State.{State}
 use Rattle.xa_room.specs.declared.manages.Manages.{Ghosts}
-use Rattle.xa_room.specs.Kept.{IsLegal}
+use Rattle.xa_room.specs.Upholds.{IsLegal}
 use Rattle.xa_room.specs.Told.{Told}
 
 -- There is a room whose manager has no such session, with a book that is a legal history from each starting state.

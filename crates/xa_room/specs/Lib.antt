@@ -1,11 +1,11 @@
 pub mod Manages
 pub mod Book
 pub mod Told
-pub mod Kept
+pub mod Upholds
 pub mod Gone
 pub mod Promises
 pub mod Share
 pub mod Audit
-pub mod Marks
+pub mod HasMet
 pub mod Spare
 pub mod Door

@@ -1,6 +1,6 @@
 ghost use Rattle.std.specs.Prelude.{◌≡◌, ℕ, ◌-◌, ◌<◌, ◌≤◌, ◌==◌, ◌⊎◌, [], ◌∷◌, length, IfOk, IfSome, Err, Some, None, List, sum_by, slice_get, true, false};
 ghost use Rattle.xa_room.specs.Audit.{Audits, HasFault, IsSound, Judges};
-ghost use Rattle.xa_room.specs.Marks.{Marks};
+ghost use Rattle.xa_room.specs.HasMet.{HasMet};
 
 use crate::book::{Entry, Receipt};
 use crate::comparing::is_receipt_of;
@@ -70,7 +70,7 @@ fn adds_up<L: Ledger>(shares: &[Share<L>], wanted: usize) -> bool
 fn judge(alloc: Global, entries: &[Entry], receipts: &[Receipt]) -> Result<(), AuditFault>
     ensures { (result ≡ Err AuditFault.Memory) ⊎ Judges entries.now [] 0 receipts.now result }
 {
-    let Ok(mut met) = marks(alloc, entries.len()) else {
+    let Ok(mut met) = none_met(alloc, entries.len()) else {
         return Err(AuditFault::Memory);
     };
     for i in 0..receipts.len() {
@@ -91,9 +91,9 @@ fn judge_one(
 ) -> Option<AuditFault>
     requires { length met.old.items ≡ length entries.now }
     ensures len { length met.new.items ≡ length entries.now }
-    ensures none { result ≡ None → (places : List ℕ) → Marks met.old.items places
-        → Marks met.new.items (receipt.now.place ∷ places) × IsSound entries.now places receipt.now }
-    ensures some { IfSome result (λ f. (places : List ℕ) → Marks met.old.items places
+    ensures none { result ≡ None → (places : List ℕ) → HasMet met.old.items places
+        → HasMet met.new.items (receipt.now.place ∷ places) × IsSound entries.now places receipt.now }
+    ensures some { IfSome result (λ f. (places : List ℕ) → HasMet met.old.items places
         → HasFault entries.now places i receipt.now f) }
 {
     let place = receipt.place;
@@ -115,8 +115,8 @@ fn judge_one(
     None
 }
 
-fn marks(alloc: Global, count: usize) -> Result<Vec<bool>, AllocError>
-    ensures { IfOk result (λ v. (length v.items ≡ count) × Marks v.items []) }
+fn none_met(alloc: Global, count: usize) -> Result<Vec<bool>, AllocError>
+    ensures { IfOk result (λ v. (length v.items ≡ count) × HasMet v.items []) }
 {
     vec![in alloc; false; count]
 }

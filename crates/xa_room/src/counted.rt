@@ -4,7 +4,7 @@ ghost use Rattle.xa_manager.specs.Answered.{connect_reply, wanted_memory};
 ghost use Rattle.xa_model.specs.declared.event.Event.{Event};
 ghost use Rattle.xa_room.specs.Book.{placed};
 ghost use Rattle.xa_room.specs.Gone.{WasGone};
-ghost use Rattle.xa_room.specs.Kept.{Adds, Leaves};
+ghost use Rattle.xa_room.specs.Upholds.{Adds, Leaves};
 ghost use Rattle.xa_room.specs.Share.{Records};
 
 use crate::book::Receipt;

@@ -6,7 +6,7 @@ ghost use Rattle.xa_model.specs.State.{State};
 ghost use Rattle.xa_model.specs.Events.{HaveHappened};
 ghost use Rattle.xa_room.specs.Book.{AreNumbered, placed, plain_entries};
 ghost use Rattle.xa_room.specs.Gone.{WasGone};
-ghost use Rattle.xa_room.specs.Kept.{IsLegal, IsCounted, Adds, Leaves};
+ghost use Rattle.xa_room.specs.Upholds.{IsLegal, IsCounted, Adds, Leaves};
 ghost use Rattle.xa_room.specs.Promises.{Promises};
 
 use crate::book::{Entry, Receipt};
@@ -42,14 +42,14 @@ pub struct Room<M: Manages, S: Start> {
 
 impl<M: Manages, S: Start> Model for Room<M, S> {
     ghost use Rattle.std.specs.Prelude.{vec_capacity};
-    ghost use Rattle.xa_room.specs.Kept.{Kept};
+    ghost use Rattle.xa_room.specs.Upholds.{Upholds};
     ghost use Rattle.xa_room.specs.Told.{Told};
 
     ghost Value = { Told M };
 
     ghost view = { λ r. record { now = r.manager; entries = r.history.items } };
 
-    ghost invariant = { λ r. Kept M.Manages S.start S.base r.manager r.history.items (vec_capacity r.history) };
+    ghost invariant = { λ r. Upholds M.Manages S.start S.base r.manager r.history.items (vec_capacity r.history) };
 }
 
 impl<M: Manages, S: Start> Room<M, S> {

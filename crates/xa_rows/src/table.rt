@@ -3,12 +3,12 @@ ghost use Rattle.std.specs.List.{AllWithin, HoldsAt};
 ghost use Rattle.std.specs.Option.{MatchOption};
 ghost use Rattle.std.specs.Prelude.{◌<◌, false, length, true};
 
-/// The place of the first row that isn't right, by a check of one row: none where all are.
+/// The index of the first row that isn't right, by a check of one row: none where all are.
 pub fn first_wrong<T, F: Fn(&T) -> bool>(rows: &[T], is_right: F) -> Option<usize>
     requires { F.IsAlwaysCallable is_right }
     ensures { MatchOption result (AllWithin (λ row. FnReturnsAt F.Fn is_right row true) rows.now 0 (length rows.now))
-        (λ place. (place < length rows.now) × HoldsAt (λ row. FnReturnsAt F.Fn is_right row false) rows.now place
-        × AllWithin (λ row. FnReturnsAt F.Fn is_right row true) rows.now 0 place) }
+        (λ index. (index < length rows.now) × HoldsAt (λ row. FnReturnsAt F.Fn is_right row false) rows.now index
+        × AllWithin (λ row. FnReturnsAt F.Fn is_right row true) rows.now 0 index) }
 {
     rows.iter().position(|row| !is_right(row))
 }

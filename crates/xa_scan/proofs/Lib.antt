@@ -1,3 +1,3 @@
 pub mod Rows
-pub mod Places
+pub mod Offsets
 pub mod Printing

@@ -1,12 +1,12 @@
 -- What a fault of a log is to its printing, and how a printing ends.
 use Rattle.std.specs.Prelude.{Result, Ok, Err}
 use Rattle.xa_log.specs.declared.fault.OpenFault.{OpenFault}
-use Rattle.xa_log.specs.declared.fault.OpenFault.TheVariants as opening
+use Rattle.xa_log.specs.declared.fault.OpenFault.TheVariants as preamble
 use Rattle.xa_scan.specs.declared.fault.ScanFault.{ScanFault}
 use Rattle.xa_scan.specs.declared.fault.ScanFault.TheVariants.{Memory, Write, Log}
 
 abbrev pub fault_of : OpenFault → ScanFault
-fault_of opening.Memory = Memory
+fault_of preamble.Memory = Memory
 fault_of fault = Log fault
 
 -- A printing whose lines failed ends so, whatever the flush behind them was answered. Else the flush decides.

@@ -3,7 +3,7 @@ use Rattle.std.specs.Prelude.{ℕ, ◌+◌, List, [], ◌∷◌, ◌++◌, lengt
 use Rattle.std.specs.Fmt.{decimal}
 use Rattle.xa_record.specs.declared.record.Record.{Record}
 use Rattle.xa_record.specs.Reading.{record_at}
-use Rattle.xa_log.specs.declared.format.TheConstants.{FIRST_PLACE}
+use Rattle.xa_log.specs.declared.format.TheConstants.{FIRST_OFFSET}
 use Rattle.xa_log.specs.declared.record.TheConstants.{AROUND_BODY}
 use Rattle.xa_scan.specs.Records.{record_text}
 
@@ -15,28 +15,28 @@ read_text None = codes "malformed"
 abbrev pub body_text : List ℕ → List ℕ
 body_text body = read_text (record_at body)
 
--- a record's place, a blank and its text
+-- a record's offset, a blank and its text
 abbrev pub line_at : ℕ → List ℕ → List ℕ
-line_at place body = decimal place ++ 32 ∷ body_text body ++ 10 ∷ []
+line_at offset body = decimal offset ++ 32 ∷ body_text body ++ 10 ∷ []
 
 -- A record has its body, a length and a digest, and the next one stands behind it.
 abbrev pub behind : ℕ → List (List ℕ) → ℕ
-behind place [] = place
-behind place (body ∷ bodies) = behind (place + (AROUND_BODY + length body)) bodies
+behind offset [] = offset
+behind offset (body ∷ bodies) = behind (offset + (AROUND_BODY + length body)) bodies
 
--- a line for each record, the first one's at this place
+-- a line for each record, the first one's at this offset
 abbrev pub lines_from : ℕ → List (List ℕ) → List ℕ
-lines_from place [] = []
-lines_from place (body ∷ bodies) = line_at place body ++ lines_from (place + (AROUND_BODY + length body)) bodies
+lines_from offset [] = []
+lines_from offset (body ∷ bodies) = line_at offset body ++ lines_from (offset + (AROUND_BODY + length body)) bodies
 
 -- where the next record would begin
 abbrev pub end_line : ℕ → List ℕ
-end_line place = codes "end " ++ decimal place ++ 10 ∷ []
+end_line offset = codes "end " ++ decimal offset ++ 10 ∷ []
 
--- the place of the first record, behind the format that every log begins with
-abbrev pub first_place : ℕ
-first_place = FIRST_PLACE
+-- the offset of the first record, behind the format that every log begins with
+abbrev pub first_offset : ℕ
+first_offset = FIRST_OFFSET
 
 -- the lines of a log that has these bodies
 abbrev pub scan_text : List (List ℕ) → List ℕ
-scan_text bodies = lines_from first_place bodies ++ end_line (behind first_place bodies)
+scan_text bodies = lines_from first_offset bodies ++ end_line (behind first_offset bodies)

@@ -7,7 +7,7 @@ use Rattle.xa_log.specs.Reading.{Explains, fault_of}
 use Rattle.xa_log.specs.declared.log.TheConstants.{MOST_LOG}
 use Rattle.xa_scan.specs.declared.fault.ScanFault.{ScanFault}
 use Rattle.xa_scan.specs.declared.fault.ScanFault.TheVariants.{Memory, Write, Log}
-use Rattle.xa_scan.specs.Lines.{lines_from, scan_text, first_place}
+use Rattle.xa_scan.specs.Lines.{lines_from, scan_text, first_offset}
 
 -- the most bytes that a log has
 abbrev pub most_bytes : ℕ
@@ -17,7 +17,7 @@ most_bytes = MOST_LOG
 abbrev pub AreLines : List (List ℕ) → List ℕ → Type 0
 AreLines bodies text =
     (printed : List (List ℕ)) × (others : List (List ℕ))
-    × (bodies ≡ printed ++ others) × (text ≡ lines_from first_place printed)
+    × (bodies ≡ printed ++ others) × (text ≡ lines_from first_offset printed)
 
 -- By the end, what was printed of a log that has these bodies: all; the lines of some records, where memory ran out;
 -- some first bytes, where they couldn't be written.

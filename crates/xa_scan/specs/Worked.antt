@@ -3,7 +3,7 @@ use Rattle.std.specs.Prelude.{◌≡◌, ℕ, List, [], ◌∷◌, ◌++◌, len
 use Rattle.xa_log.specs.declared.format.Format.{Format}
 use Rattle.xa_log.specs.Chain.{text}
 use Rattle.xa_log.specs.Worked.{opened, prepared, again, held}
-use Rattle.xa_scan.specs.Lines.{behind, first_place, scan_text}
+use Rattle.xa_scan.specs.Lines.{behind, first_offset, scan_text}
 
 -- a line and its end
 abbrev pub ended : List ℕ → List ℕ
@@ -62,6 +62,6 @@ Others =
 abbrev pub Empty : Type 0
 Empty = scan_text [] ≡ ended (codes "end 8")
 
--- The place behind some records is the length of the file that has them, in each format.
-abbrev pub PlacesInTheFile : Type 0
-PlacesInTheFile = (format : Format) (bodies : List (List ℕ)) → behind first_place bodies ≡ length (text format bodies)
+-- The offset behind some records is the length of the file that has them, in each format.
+abbrev pub OffsetsInTheFile : Type 0
+OffsetsInTheFile = (format : Format) (bodies : List (List ℕ)) → behind first_offset bodies ≡ length (text format bodies)

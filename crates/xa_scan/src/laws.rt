@@ -1,5 +1,5 @@
 //! What can be said of the lines apart from the code.
-ghost use Rattle.xa_scan.specs.Worked.{Based, Empty, Held, Known, Others, PlacesInTheFile, Prepared};
+ghost use Rattle.xa_scan.specs.Worked.{Based, Empty, Held, Known, Others, OffsetsInTheFile, Prepared};
 
 /// Worked rows, computed on the definitions alone: a first boot with a prepared branch; snapshots with a branch that is
 /// held, with what was committed, and with what the operator completed; the other kinds of records; a log without
@@ -13,7 +13,7 @@ pub fn worked_scans()
     ensures empty { Empty }
 {}
 
-/// The place that is printed of a record is where it begins in the file, and the end is where the next one would begin.
-pub fn places_in_the_file()
-    ensures { PlacesInTheFile }
+/// The offset that is printed of a record is where it begins in the file, and the end is where the next one would begin.
+pub fn offsets_in_the_file()
+    ensures { OffsetsInTheFile }
 {}

@@ -4,7 +4,7 @@
 //! - `lines`: the line of a record, and the line behind the last one
 //! - `records`: the text of a record
 //! - `fault`: why a log wasn't printed to its end
-//! - `laws`: worked rows, and that a line's place is where its record begins
+//! - `laws`: worked rows, and that a line's offset is where its record begins
 #![tactic(auto)]
 
 mod fault;
@@ -14,5 +14,5 @@ mod records;
 mod scan;
 
 pub use fault::ScanFault;
-pub use laws::{places_in_the_file, worked_scans};
+pub use laws::{offsets_in_the_file, worked_scans};
 pub use scan::scan_run;

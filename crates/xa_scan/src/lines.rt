@@ -6,11 +6,11 @@ use crate::records::push_record;
 use std::alloc::{AllocError, Global};
 use xa_record::{RecordFault, read};
 
-/// The line of a record that has this body and begins at this place.
-pub fn body_line(alloc: Global, place: u64, body: &[u8]) -> Result<Vec<u8>, AllocError>
-    ensures { IfOk result (λ line. line.items ≡ line_at place body.now) }
+/// The line of a record that has this body and begins at this offset.
+pub fn body_line(alloc: Global, offset: u64, body: &[u8]) -> Result<Vec<u8>, AllocError>
+    ensures { IfOk result (λ line. line.items ≡ line_at offset body.now) }
 {
-    let mut line = format!(in alloc; "{place} ")?.into_bytes();
+    let mut line = format!(in alloc; "{offset} ")?.into_bytes();
     push_body(alloc, &mut line, body)?;
     line.push(b'\n')?;
     Ok(line)
@@ -28,8 +28,8 @@ fn push_body(alloc: Global, line: &mut Vec<u8>, body: &[u8]) -> Result<(), Alloc
 }
 
 /// The line that tells where the next record would begin.
-pub fn last_line(alloc: Global, place: u64) -> Result<Vec<u8>, AllocError>
-    ensures { IfOk result (λ line. line.items ≡ end_line place) }
+pub fn last_line(alloc: Global, offset: u64) -> Result<Vec<u8>, AllocError>
+    ensures { IfOk result (λ line. line.items ≡ end_line offset) }
 {
-    Ok(format!(in alloc; "end {place}\n")?.into_bytes())
+    Ok(format!(in alloc; "end {offset}\n")?.into_bytes())
 }

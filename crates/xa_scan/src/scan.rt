@@ -2,7 +2,7 @@
 ghost use Rattle.std.specs.Prelude.{◌≡◌, ◌≤◌, ◌<◌, ◌+◌, ◌^◌, IfErr, IfOk, IfSome, List, None, ℕ};
 ghost use Rattle.xa_log.specs.Reading.{bodies_of};
 ghost use Rattle.xa_scan.specs.Faults.{ended};
-ghost use Rattle.xa_scan.specs.Lines.{behind, end_line, first_place, line_at};
+ghost use Rattle.xa_scan.specs.Lines.{behind, end_line, first_offset, line_at};
 ghost use Rattle.xa_scan.specs.Scans.{AddsLine, AddsLines, Scans, most_bytes};
 
 use crate::fault::ScanFault;
@@ -10,11 +10,11 @@ use crate::lines::{body_line, last_line};
 use std::alloc::Global;
 use std::io::{self, Write};
 use xa_disk::Disk;
-use xa_log::{AROUND_BODY, FIRST_PLACE, MOST_LOG, OpenFault, read_log};
+use xa_log::{AROUND_BODY, FIRST_OFFSET, MOST_LOG, OpenFault, read_log};
 use xa_output::write_text;
 
 /// Reads the log that a disk is, of `MOST_LOG` bytes at most, and writes a line for each of its records, in order: its
-/// place and its text. Behind them stands the line of the log's end.
+/// offset and its text. Behind them stands the line of the log's end.
 ///
 /// The log is read before anything is written. What is read of the disk and which calls it is asked are those of
 /// `read_log`.
@@ -43,28 +43,28 @@ fn ended(written: Result<(), ScanFault>, flushed: io::Result<()>) -> Result<(), 
 /// Where the next record of a log of these bodies would begin. No log of at most `MOST_LOG` bytes has bodies whose end
 /// isn't a number of 64 bits.
 fn end_of(bodies: &[Vec<u8>]) -> Result<u64, OpenFault>
-    ensures value { IfOk result (λ end. end ≡ behind first_place (bodies_of bodies.now)) }
+    ensures value { IfOk result (λ end. end ≡ behind first_offset (bodies_of bodies.now)) }
     ensures fault { IfErr result
-        (λ fault. (fault ≡ OpenFault.TooLong) × (most_bytes < behind first_place (bodies_of bodies.now))) }
+        (λ fault. (fault ≡ OpenFault.TooLong) × (most_bytes < behind first_offset (bodies_of bodies.now))) }
 {
-    let mut place = FIRST_PLACE;
+    let mut offset = FIRST_OFFSET;
     let mut rest = bodies;
     while let Some((body, others)) = rest.split_first() {
-        let Some(next) = next_place(place, body.as_slice().len()) else {
+        let Some(next) = next_offset(offset, body.as_slice().len()) else {
             return Err(OpenFault::TooLong);
         };
-        place = next;
+        offset = next;
         rest = others;
     }
-    Ok(place)
+    Ok(offset)
 }
 
-/// Where a record ends that begins at this place and whose body has this length.
-fn next_place(place: u64, length: usize) -> Option<u64>
-    ensures value { IfSome result (λ next. next ≡ place + (AROUND_BODY + length)) }
-    ensures none { result ≡ None → 2 ^ 64 ≤ place + (AROUND_BODY + length) }
+/// Where a record ends that begins at this offset and whose body has this length.
+fn next_offset(offset: u64, length: usize) -> Option<u64>
+    ensures value { IfSome result (λ next. next ≡ offset + (AROUND_BODY + length)) }
+    ensures none { result ≡ None → 2 ^ 64 ≤ offset + (AROUND_BODY + length) }
 {
-    place
+    offset
         .checked_add(AROUND_BODY as u64)?
         .checked_add(length as u64)
 }
@@ -76,15 +76,15 @@ fn write_lines<W: Write>(
     bodies: &[Vec<u8>],
     end: u64,
 ) -> Result<(), ScanFault>
-    requires { end ≡ behind first_place (bodies_of bodies.now) }
+    requires { end ≡ behind first_offset (bodies_of bodies.now) }
     ensures { AddsLines result (bodies_of bodies.now) (W.contents writer.old) (W.contents writer.new) }
 {
-    let mut place = FIRST_PLACE;
+    let mut offset = FIRST_OFFSET;
     let mut rest = bodies;
     while let Some((body, others)) = rest.split_first() {
         let body = body.as_slice();
-        write_body(alloc, writer, place, body)?;
-        place += AROUND_BODY as u64 + body.len() as u64;
+        write_body(alloc, writer, offset, body)?;
+        offset += AROUND_BODY as u64 + body.len() as u64;
         rest = others;
     }
     write_end(alloc, writer, end)
@@ -94,20 +94,20 @@ fn write_lines<W: Write>(
 fn write_body<W: Write>(
     alloc: Global,
     writer: &mut W,
-    place: u64,
+    offset: u64,
     body: &[u8],
 ) -> Result<(), ScanFault>
-    ensures { AddsLine result (line_at place body.now) (W.contents writer.old) (W.contents writer.new) }
+    ensures { AddsLine result (line_at offset body.now) (W.contents writer.old) (W.contents writer.new) }
 {
-    let line = body_line(alloc, place, body)?;
+    let line = body_line(alloc, offset, body)?;
     write_line(writer, line.as_slice())
 }
 
 /// Writes the line of the end.
-fn write_end<W: Write>(alloc: Global, writer: &mut W, place: u64) -> Result<(), ScanFault>
-    ensures { AddsLine result (end_line place) (W.contents writer.old) (W.contents writer.new) }
+fn write_end<W: Write>(alloc: Global, writer: &mut W, offset: u64) -> Result<(), ScanFault>
+    ensures { AddsLine result (end_line offset) (W.contents writer.old) (W.contents writer.new) }
 {
-    let line = last_line(alloc, place)?;
+    let line = last_line(alloc, offset)?;
     write_line(writer, line.as_slice())
 }
 

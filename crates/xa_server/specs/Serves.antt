@@ -6,7 +6,7 @@ use Rattle.xa_room.specs.declared.book.Entry.{Entry}
 use Rattle.xa_room.specs.declared.book.Receipt.{Receipt}
 use Rattle.xa_room.specs.declared.manages.Manages.{Ghosts}
 use Rattle.xa_room.specs.Audit.{Audits}
-use Rattle.xa_room.specs.Kept.{IsLegal, IsCounted}
+use Rattle.xa_room.specs.Upholds.{IsLegal, IsCounted}
 use Rattle.xa_room.specs.Promises.{Promises}
 
 -- how many entries there are, and whether the audit of these receipts and this count found no fault

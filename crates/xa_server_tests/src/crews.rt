@@ -14,7 +14,7 @@ use xa_disk::MemDisk;
 use xa_frame::{Body, Reply, Request};
 use xa_manager::Manager;
 use xa_room::{Desk, Manages, Receipt, Share, Start, audit};
-use xa_workers::{Gate, OpenGate, Report, Seat, split_all};
+use xa_workers::{Gate, OpenGate, Post, Report, split_all};
 use xa_xid::Xid;
 
 /// The rounds of a caller, and the calls of each.
@@ -29,9 +29,9 @@ const EVENTS: usize = 48;
 fn round_request(alloc: Global, key: u8, round: u8, place: u8) -> Option<Request>
     ensures { IfSome result IsRequest }
 {
-    let branch = if place < 5 { 0 } else { 1 };
+    let branch = if index < 5 { 0 } else { 1 };
     let xid = Xid::new(1, &[key], &[round, branch]).ok()?;
-    Some(match place {
+    Some(match index {
         0 | 5 => Request::Start {
             flags: TMNOFLAGS,
             xid,
@@ -72,17 +72,17 @@ fn has_value(reply: &Reply, wanted: u8) -> bool {
 // One round of calls. All answer 0, and the get reads what was committed.
 fn is_right_round<M: Manages, S: Start, L: Ledger, G: Gate, R: Wait>(
     alloc: Global,
-    seat: &mut Seat<'_, M, S, L, G, R>,
+    post: &mut Post<'_, M, S, L, G, R>,
     session: u64,
     key: u8,
     round: u8,
 ) -> bool {
-    for place in 0..CALLS {
-        let Some(request) = round_request(alloc, key, round, place) else {
+    for index in 0..CALLS {
+        let Some(request) = round_request(alloc, key, round, index) else {
             return false;
         };
-        let reply = seat.call(session, request);
-        if reply.code != XA_OK || (place == 6 && !has_value(&reply, round)) {
+        let reply = post.call(session, request);
+        if reply.code != XA_OK || (index == 6 && !has_value(&reply, round)) {
             return false;
         }
     }
@@ -92,16 +92,16 @@ fn is_right_round<M: Manages, S: Start, L: Ledger, G: Gate, R: Wait>(
 // A session of all rounds, on a key of its own.
 fn has_session<M: Manages, S: Start, L: Ledger, G: Gate, R: Wait>(
     alloc: Global,
-    seat: &mut Seat<'_, M, S, L, G, R>,
+    post: &mut Post<'_, M, S, L, G, R>,
 ) -> Option<bool> {
-    let session = seat.connect().ok()?;
+    let session = post.connect().ok()?;
     let key = u8::try_from(session).ok()?;
     let open = open_request(alloc)?;
-    let mut is_right = seat.call(session, open).code == XA_OK;
+    let mut is_right = post.call(session, open).code == XA_OK;
     for round in 0..ROUNDS {
-        is_right = is_right && is_right_round(alloc, seat, session, key, round);
+        is_right = is_right && is_right_round(alloc, post, session, key, round);
     }
-    seat.hangup(session);
+    post.hangup(session);
     Some(is_right)
 }
 
@@ -130,9 +130,9 @@ fn caller<M: Manages, S: Start, L: Ledger, R: Wait>(
     desk: &Desk<M, S, L>,
     share: Share<L>,
 ) -> Done<L> {
-    let mut seat = Seat::new(alloc, rt, desk, &OpenGate, share);
-    let was_right = has_session(alloc, &mut seat) == Some(true);
-    let report = seat.into_report();
+    let mut post = Post::new(alloc, rt, desk, &OpenGate, share);
+    let was_right = has_session(alloc, &mut post) == Some(true);
+    let report = post.into_report();
     let is_right = was_right && is_whole(&report);
     Done { report, is_right }
 }

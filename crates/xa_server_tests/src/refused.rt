@@ -15,7 +15,7 @@ use xa_manager::{Manager, connect_reply};
 use xa_room::{Desk, Manages, Share, Start};
 use xa_rows::{LOG_BYTES, Line, PREPARED_LOG_BYTES, Play};
 use xa_script::{CallEffect, LogFile, read_line, reply_line};
-use xa_workers::{Gate, OpenGate, Seat};
+use xa_workers::{Gate, OpenGate, Post};
 
 // Worked rows, that are right whichever one allocation is refused: what was answered that it wanted memory is asked again, and
 // all other replies are those with ample memory. A manager that isn't opened ends a row, and so does a disk in memory that
@@ -71,7 +71,7 @@ impl Asks for Manager<MemDisk> {
 }
 
 /// A desk's device calls can't be planned to fail.
-impl<M: Manages, S: Start, L: Ledger, G: Gate, R: Wait> Asks for Seat<'_, M, S, L, G, R> {
+impl<M: Manages, S: Start, L: Ledger, G: Gate, R: Wait> Asks for Post<'_, M, S, L, G, R> {
     fn connect(&mut self) -> Reply {
         connect_reply(self.connect())
     }
@@ -211,9 +211,9 @@ fn is_right(alloc: Global, log_bytes: u64, play: Play) -> bool {
 }
 
 fn wrong_row(alloc: Global, log_bytes: u64, plays: &[Play]) -> Option<usize> {
-    for (place, play) in plays.iter().enumerate() {
+    for (index, play) in plays.iter().enumerate() {
         if !is_right(alloc, log_bytes, play) {
-            return Some(place);
+            return Some(index);
         }
     }
     None
@@ -244,10 +244,10 @@ impl<R: AllocGlobal + Wait> Visit<R> for Row {
         share: Share<L>,
     ) -> Option<End> {
         let alloc = rt.alloc();
-        let mut seat = Seat::new(alloc, rt, &desk, &OpenGate, share);
+        let mut post = Post::new(alloc, rt, &desk, &OpenGate, share);
         let mut events = 0;
-        let end = behind(alloc, &mut seat, self.play, &mut events);
-        let report = seat.into_report();
+        let end = behind(alloc, &mut post, self.play, &mut events);
+        let report = post.into_report();
         let (room, _book) = desk.into_room();
         let is_whole = is_audited(alloc, &room, report, events);
         Some(if is_whole { end } else { End::Wrong })
@@ -267,9 +267,9 @@ fn is_right_by_desk<R: AllocGlobal + Wait>(rt: &R, play: Play) -> bool {
 }
 
 fn wrong_by_desk<R: AllocGlobal + Wait>(rt: &R, plays: &[Play]) -> Option<usize> {
-    for (place, play) in plays.iter().enumerate() {
+    for (index, play) in plays.iter().enumerate() {
         if !is_right_by_desk(rt, play) {
-            return Some(place);
+            return Some(index);
         }
     }
     None

@@ -8,25 +8,25 @@ use Rattle.xa_frame.specs.declared.request.Request.{Request}
 use Rattle.xa_talk.specs.declared.fault.TalkFault.{TalkFault}
 use Rattle.xa_talk.specs.Answers.{CallAnswered}
 use Rattle.xa_talk.specs.Exchanges.{Exchanged}
-use Rattle.xa_talk.specs.Numbers.{connection_at, place_of, there, with_at}
+use Rattle.xa_talk.specs.Numbers.{connection_at, index_of, there, with_at}
 
-pub there_at : {C : Type 0} (places : List (Option C)) (place : ℕ) (x d : Option C) → place < length places → slice_index_or places place d ≡ x → there places place ≡ x
-there_at [] place x d lt is = absurd (omega (arith, lt))
-there_at (y ∷ places) zero x d lt is = is
-there_at (y ∷ places) (suc place) x d lt is = there_at places place x d (omega (arith, lt)) is
+pub there_at : {C : Type 0} (numbered : List (Option C)) (index : ℕ) (x d : Option C) → index < length numbered → slice_index_or numbered index d ≡ x → there numbered index ≡ x
+there_at [] index x d lt is = absurd (omega (arith, lt))
+there_at (y ∷ numbered) zero x d lt is = is
+there_at (y ∷ numbered) (suc index) x d lt is = there_at numbered index x d (omega (arith, lt)) is
 
-pub kept_at : {C : Type 0} (places : List (Option C)) (place : ℕ) (x d : Option C) → place < length places → slice_index_or places place d ≡ x → slice_set places place x ≡ places
-kept_at [] place x d lt is = absurd (omega (arith, lt))
-kept_at (y ∷ places) zero x d lt is = ap (λ z. z ∷ places) (sym is)
-kept_at (y ∷ places) (suc place) x d lt is = ap (λ l. y ∷ l) (kept_at places place x d (omega (arith, lt)) is)
+pub kept_at : {C : Type 0} (numbered : List (Option C)) (index : ℕ) (x d : Option C) → index < length numbered → slice_index_or numbered index d ≡ x → slice_set numbered index x ≡ numbered
+kept_at [] index x d lt is = absurd (omega (arith, lt))
+kept_at (y ∷ numbered) zero x d lt is = ap (λ z. z ∷ numbered) (sym is)
+kept_at (y ∷ numbered) (suc index) x d lt is = ap (λ l. y ∷ l) (kept_at numbered index x d (omega (arith, lt)) is)
 
-module _ {C : Type 0} (sent left : C → Option (List ℕ)) (n place : ℕ) (request : Request) (answer : Result Reply TalkFault) (places : List (Option C)) (is : place_of n ≡ Some place) where
-  found : (x : Option C) → there places place ≡ x → connection_at n places ≡ x
-  found x at = ap (λ (o : Option ℕ). option_and_then (λ p. there places p) o) is ∙ at
+module _ {C : Type 0} (sent left : C → Option (List ℕ)) (n index : ℕ) (request : Request) (answer : Result Reply TalkFault) (numbered : List (Option C)) (is : index_of n ≡ Some index) where
+  found : (x : Option C) → there numbered index ≡ x → connection_at n numbered ≡ x
+  found x at = ap (λ (o : Option ℕ). option_and_then (λ p. there numbered p) o) is ∙ at
 
-  pub call_over : (c c' : C) → there places place ≡ Some c → Exchanged request answer (sent c) (sent c') (left c) (left c') →
-      CallAnswered sent left n request answer places (slice_set places place (Some c'))
-  call_over c c' at done = rw (found (Some c) at) (c', sym (ap (λ (o : Option ℕ). with_at o (Some c') places) is), done)
+  pub call_over : (c c' : C) → there numbered index ≡ Some c → Exchanged request answer (sent c) (sent c') (left c) (left c') →
+      CallAnswered sent left n request answer numbered (slice_set numbered index (Some c'))
+  call_over c c' at done = rw (found (Some c) at) (c', sym (ap (λ (o : Option ℕ). with_at o (Some c') numbered) is), done)
 
-  pub call_none : (places' : List (Option C)) → there places place ≡ None → answer ≡ Ok (plain XAER_PROTO) → places' ≡ places → CallAnswered sent left n request answer places places'
-  call_none places' at refused same = rw (found None at) (refused, same)
+  pub call_none : (numbered' : List (Option C)) → there numbered index ≡ None → answer ≡ Ok (plain XAER_PROTO) → numbered' ≡ numbered → CallAnswered sent left n request answer numbered numbered'
+  call_none numbered' at refused same = rw (found None at) (refused, same)

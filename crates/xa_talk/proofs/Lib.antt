@@ -1,4 +1,4 @@
-pub mod Places
+pub mod Numbered
 pub mod Calls
 pub mod Lines
 pub mod Reading

@@ -9,8 +9,8 @@ use Rattle.xa_talk.specs.declared.fault.TalkFault.{TalkFault}
 use Rattle.xa_talk.specs.Answers.{LineAnswered}
 use Rattle.xa_talk.specs.Talks.{LineTalked, ShowsAnswer}
 
-pub told : {C X : Type 0} (sent left : C → Option (List ℕ)) (line : List ℕ) (said : Line) (answer : Result (Option Reply) TalkFault) (end : Result X TalkFault) (text : List ℕ) (places places' : List (Option C)) →
-    ((xid_of : List ℕ → Option Triple) → ReadsTexts xid_of → said ≡ lines.line_of xid_of line) → LineAnswered sent left said answer places places' → ShowsAnswer answer end text →
-    LineTalked sent left line end text places places'
-told sent left line said answer end text places places' read answered shows =
-    inr (answer, shows, λ xid_of reads. subst (λ (s : Line). LineAnswered sent left s answer places places') (read xid_of reads) answered)
+pub told : {C X : Type 0} (sent left : C → Option (List ℕ)) (line : List ℕ) (said : Line) (answer : Result (Option Reply) TalkFault) (end : Result X TalkFault) (text : List ℕ) (numbered numbered' : List (Option C)) →
+    ((xid_of : List ℕ → Option Triple) → ReadsTexts xid_of → said ≡ lines.line_of xid_of line) → LineAnswered sent left said answer numbered numbered' → ShowsAnswer answer end text →
+    LineTalked sent left line end text numbered numbered'
+told sent left line said answer end text numbered numbered' read answered shows =
+    inr (answer, shows, λ xid_of reads. subst (λ (s : Line). LineAnswered sent left s answer numbered numbered') (read xid_of reads) answered)

@@ -19,21 +19,21 @@ nothing_consumed None = tt
 nothing_consumed (Some xs) = refl
 
 -- one line more is talked
-pub line_more : {C : Type 0} (sent left : C → Option (List ℕ)) (input behind input' : Option (List ℕ)) (places next places' : List (Option C)) (lines : List (List ℕ)) (line text first : List ℕ)
-    → LinesTalked sent left input places lines text behind next → ReadsLine behind line input'
-    → LineTalked {X = Unit {0}} sent left (strip_last 10 line) (Ok tt) first next places'
-    → LinesTalked sent left input places (lines ++ line ∷ []) (text ++ first) input' places'
-line_more {C} sent left input behind input' places next places' [] line text first (none, same, stay) reads talks = (
+pub line_more : {C : Type 0} (sent left : C → Option (List ℕ)) (input behind input' : Option (List ℕ)) (numbered next numbered' : List (Option C)) (lines : List (List ℕ)) (line text first : List ℕ)
+    → LinesTalked sent left input numbered lines text behind next → ReadsLine behind line input'
+    → LineTalked {X = Unit {0}} sent left (strip_last 10 line) (Ok tt) first next numbered'
+    → LinesTalked sent left input numbered (lines ++ line ∷ []) (text ++ first) input' numbered'
+line_more {C} sent left input behind input' numbered next numbered' [] line text first (none, same, stay) reads talks = (
   input',
   first,
   [],
-  places',
+  numbered',
   subst (λ (i : Option (List ℕ)). ReadsLine i line input') same reads,
-  subst (λ (p : List (Option C)). LineTalked {X = Unit {0}} sent left (strip_last 10 line) (Ok tt) first p places') stay talks,
+  subst (λ (p : List (Option C)). LineTalked {X = Unit {0}} sent left (strip_last 10 line) (Ok tt) first p numbered') stay talks,
   ap (λ (l : List ℕ). l ++ first) none ∙ sym (append-nil first),
   (refl, refl, refl),
 )
-line_more sent left input behind input' places next places' (l ∷ ls) line text first (mid, one, others, between, read, talked, is, rest) reads talks = (
+line_more sent left input behind input' numbered next numbered' (l ∷ ls) line text first (mid, one, others, between, read, talked, is, rest) reads talks = (
   mid,
   one,
   others ++ first,
@@ -41,18 +41,18 @@ line_more sent left input behind input' places next places' (l ∷ ls) line text
   read,
   talked,
   ap (λ (t : List ℕ). t ++ first) is ∙ append_assoc one others first,
-  line_more sent left mid behind input' between next places' ls line others first rest reads talks,
+  line_more sent left mid behind input' between next numbered' ls line others first rest reads talks,
 )
 
 -- the script ends behind these lines, and nothing more was written
-pub stopped : {C X : Type 0} (sent left : C → Option (List ℕ)) (end : Result X TalkFault) (input behind input' output output' : Option (List ℕ)) (places : List (Option C)) (lines : List (List ℕ)) (text : List ℕ)
-    → LinesTalked sent left input [] lines text behind places → NextEnds sent left end behind places [] input' → Appends output output' text
+pub stopped : {C X : Type 0} (sent left : C → Option (List ℕ)) (end : Result X TalkFault) (input behind input' output output' : Option (List ℕ)) (numbered : List (Option C)) (lines : List (List ℕ)) (text : List ℕ)
+    → LinesTalked sent left input [] lines text behind numbered → NextEnds sent left end behind numbered [] input' → Appends output output' text
     → Talks sent left end input input' output output'
-stopped sent left end input behind input' output output' places lines text talked ended written = record {
+stopped sent left end input behind input' output output' numbered lines text talked ended written = record {
   lines = lines;
   text = text;
   behind = behind;
-  places = places;
+  numbered = numbered;
   talked = talked;
   last = [];
   ended = ended;

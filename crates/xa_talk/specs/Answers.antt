@@ -12,7 +12,7 @@ use Rattle.xa_talk.specs.declared.answer.TheConstants.{MOST_CONNECTIONS}
 use Rattle.xa_talk.specs.declared.fault.TalkFault.{TalkFault}
 use Rattle.xa_talk.specs.declared.fault.TalkFault.TheVariants as faults
 use Rattle.xa_talk.specs.Exchanges.{Exchanged}
-use Rattle.xa_talk.specs.Numbers.{connection_at, free_place, place_of, with_at, with_new}
+use Rattle.xa_talk.specs.Numbers.{connection_at, free_index, index_of, with_at, with_new}
 
 -- the line isn't in the grammar, or speaks of what only disks in memory have
 abbrev pub refused : Reply
@@ -28,28 +28,28 @@ module _ {C : Type 0} (sent left : C → Option (List ℕ)) where
   -- A call of a number that has no connection is answered at once, as a session that isn't connected is. Else its
   -- request goes over that connection, and what comes back is the reply.
   abbrev pub CallAnswered : ℕ → Request → Result Reply TalkFault → List (Option C) → List (Option C) → Type 0
-  CallAnswered n request answer places places' =
-      MatchOption (connection_at n places)
-      ((answer ≡ Ok (plain XAER_PROTO)) × (places' ≡ places))
-      (λ c. (c' : C) × (places' ≡ with_at (place_of n) (Some c') places)
+  CallAnswered n request answer numbered numbered' =
+      MatchOption (connection_at n numbered)
+      ((answer ≡ Ok (plain XAER_PROTO)) × (numbered' ≡ numbered))
+      (λ c. (c' : C) × (numbered' ≡ with_at (index_of n) (Some c') numbered)
       × Exchanged request answer (sent c) (sent c') (left c) (left c'))
 
   -- a connection more, which has the least free number; or none could be opened
   abbrev pub ConnectAnswered : Result Reply TalkFault → List (Option C) → List (Option C) → Type 0
-  ConnectAnswered answer places places' =
-      MatchBool (nat_lt (free_place places) MOST_CONNECTIONS)
+  ConnectAnswered answer numbered numbered' =
+      MatchBool (nat_lt (free_index numbered) MOST_CONNECTIONS)
       (MatchResult answer
-      (λ reply. (c : C) × (reply ≡ carrying (body.Number (free_place places + 1))) × (places' ≡ with_new c places))
+      (λ reply. (c : C) × (reply ≡ carrying (body.Number (free_index numbered + 1))) × (numbered' ≡ with_new c numbered))
       (λ fault. (fault ≡ faults.Connect) ⊎ (fault ≡ faults.Memory)))
-      ((answer ≡ Ok (detailed XAER_RMERR detail.Limit)) × (places' ≡ places))
+      ((answer ≡ Ok (detailed XAER_RMERR detail.Limit)) × (numbered' ≡ numbered))
 
   -- What a line is answered, if it is answered anything. Where it fails that is a fault of the connection or of memory.
   abbrev pub LineAnswered : Line → Result (Option Reply) TalkFault → List (Option C) → List (Option C) → Type 0
-  LineAnswered Silent answer places places' = (answer ≡ Ok None) × (places' ≡ places)
-  LineAnswered Connect answer places places' =
-      (reply : Result Reply TalkFault) × (answer ≡ shown reply) × ConnectAnswered reply places places'
-  LineAnswered (Hangup n) answer places places' =
-      (answer ≡ Ok (Some (plain (pos 0)))) × (places' ≡ with_at (place_of n) None places)
-  LineAnswered (Call n request) answer places places' =
-      (reply : Result Reply TalkFault) × (answer ≡ shown reply) × CallAnswered n request reply places places'
-  LineAnswered said answer places places' = (answer ≡ Ok (Some refused)) × (places' ≡ places)
+  LineAnswered Silent answer numbered numbered' = (answer ≡ Ok None) × (numbered' ≡ numbered)
+  LineAnswered Connect answer numbered numbered' =
+      (reply : Result Reply TalkFault) × (answer ≡ shown reply) × ConnectAnswered reply numbered numbered'
+  LineAnswered (Hangup n) answer numbered numbered' =
+      (answer ≡ Ok (Some (plain (pos 0)))) × (numbered' ≡ with_at (index_of n) None numbered)
+  LineAnswered (Call n request) answer numbered numbered' =
+      (reply : Result Reply TalkFault) × (answer ≡ shown reply) × CallAnswered n request reply numbered numbered'
+  LineAnswered said answer numbered numbered' = (answer ≡ Ok (Some refused)) × (numbered' ≡ numbered)

@@ -8,7 +8,7 @@ use Rattle.xa_frame.specs.declared.request.Request.{Request}
 use Rattle.xa_frame.specs.declared.request_decoder.TheConstants.{MOST_CONTENT}
 use Rattle.xa_frame.specs.Spelling.{SpellsReply, bytes_of_request}
 use Rattle.xa_talk.specs.declared.fault.TalkFault.{TalkFault}
-use Rattle.xa_talk.specs.declared.fault.TalkFault.TheVariants.{Lost, Memory, NoReply}
+use Rattle.xa_talk.specs.declared.fault.TalkFault.TheVariants.{Broken, Memory, NoReply}
 
 abbrev pub request_frame : Request → List ℕ
 request_frame request = frame (bytes_of_request request)
@@ -23,7 +23,7 @@ SendsPart request output output' = (sent : List ℕ) × IsFront sent (request_fr
 
 -- the connection ended or failed, or memory ran out
 abbrev pub IsBroken : TalkFault → Type 0
-IsBroken Lost = Unit {0}
+IsBroken Broken = Unit {0}
 IsBroken Memory = Unit {0}
 IsBroken _ = ⊥
 

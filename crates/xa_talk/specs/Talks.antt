@@ -31,11 +31,11 @@ ShowsAnswer (Err fault) (Err told) text = (told ≡ fault) × (text ≡ [])
 -- A line is answered as its definition says, and the answer is shown; or there was no memory to read it.
 abbrev pub LineTalked : {C X : Type 0} → (C → Option (List ℕ)) → (C → Option (List ℕ)) → List ℕ → Result X TalkFault
     → List ℕ → List (Option C) → List (Option C) → Type 0
-LineTalked sent left line end text places places' =
-    (IsErrOf end Memory × (text ≡ []) × (places' ≡ places))
+LineTalked sent left line end text numbered numbered' =
+    (IsErrOf end Memory × (text ≡ []) × (numbered' ≡ numbered))
     ⊎ ((answer : Result (Option Reply) TalkFault) × ShowsAnswer answer end text
     × ((xid_of : List ℕ → Option Triple) → ReadsTexts xid_of
-    → LineAnswered sent left (lines.line_of xid_of line) answer places places'))
+    → LineAnswered sent left (lines.line_of xid_of line) answer numbered numbered'))
 
 -- The next line is read, with the line feed that ends it, which the last one may lack. What is known of the input
 -- begins so.
@@ -66,21 +66,21 @@ module _ {C : Type 0} (sent left : C → Option (List ℕ)) where
   -- Lines are read and talked, one behind the other: each is talked to its end before the next one is read.
   abbrev pub LinesTalked : Option (List ℕ) → List (Option C) → List (List ℕ) → List ℕ → Option (List ℕ)
       → List (Option C) → Type 0
-  LinesTalked input places [] text input' places' = (text ≡ []) × (input' ≡ input) × (places' ≡ places)
-  LinesTalked input places (line ∷ lines) text input' places' =
+  LinesTalked input numbered [] text input' numbered' = (text ≡ []) × (input' ≡ input) × (numbered' ≡ numbered)
+  LinesTalked input numbered (line ∷ lines) text input' numbered' =
       (behind : Option (List ℕ)) × (first : List ℕ) × (others : List ℕ) × (next : List (Option C))
-      × ReadsLine input line behind × LineTalked {X = Unit {0}} sent left (strip_last 10 line) (Ok tt) first places next
-      × (text ≡ first ++ others) × LinesTalked behind next lines others input' places'
+      × ReadsLine input line behind × LineTalked {X = Unit {0}} sent left (strip_last 10 line) (Ok tt) first numbered next
+      × (text ≡ first ++ others) × LinesTalked behind next lines others input' numbered'
 
   -- By the end of a script, what became of the next line. Ok: there is none. A fault: it couldn't be read, or it was
   -- read, and its talk ended so.
   abbrev pub NextEnds : {X : Type 0} → Result X TalkFault → Option (List ℕ) → List (Option C) → List ℕ
       → Option (List ℕ) → Type 0
-  NextEnds (Ok x) input places text input' = (text ≡ []) × IsAtEnd input × Keeps input input'
-  NextEnds (Err fault) input places text input' =
+  NextEnds (Ok x) input numbered text input' = (text ≡ []) × IsAtEnd input × Keeps input input'
+  NextEnds (Err fault) input numbered text input' =
       ((text ≡ []) × IsReadFault fault × ReadsPart input input')
-      ⊎ ((line : List ℕ) × (places' : List (Option C)) × ReadsLine input line input'
-      × LineTalked {X = Unit {0}} sent left (strip_last 10 line) (Err fault) text places places')
+      ⊎ ((line : List ℕ) × (numbered' : List (Option C)) × ReadsLine input line input'
+      × LineTalked {X = Unit {0}} sent left (strip_last 10 line) (Err fault) text numbered numbered')
 
   -- A script is talked, from no connections on: so many lines to their ends, and then the next one as the end says.
   -- What is written is the text of each, in their order.
@@ -89,8 +89,8 @@ module _ {C : Type 0} (sent left : C → Option (List ℕ)) where
     pub lines : List (List ℕ)
     pub text : List ℕ
     pub behind : Option (List ℕ)
-    pub places : List (Option C)
-    pub talked : LinesTalked input [] lines text behind places
+    pub numbered : List (Option C)
+    pub talked : LinesTalked input [] lines text behind numbered
     pub last : List ℕ
-    pub ended : NextEnds end behind places last input'
+    pub ended : NextEnds end behind numbered last input'
     pub written : Appends output output' (text ++ last)

@@ -4,7 +4,7 @@ ghost use Rattle.xa_frame.specs.Limits.{IsRequest};
 ghost use Rattle.xa_script.specs.Lines as lines;
 ghost use Rattle.xa_talk.specs.Answers.{CallAnswered, ConnectAnswered, LineAnswered, shown};
 
-use crate::connections::{Connections, place_of};
+use crate::connections::{Connections, index_of};
 use crate::dial::Dial;
 use crate::exchanging::exchange;
 use crate::fault::TalkFault;
@@ -26,7 +26,7 @@ pub fn answer<R: Read + Drop, W: Write + Drop, D: Dial<R, W>>(
 ) -> Result<Option<Reply>, TalkFault>
     requires { lines.IsWithinLimits said }
     ensures { LineAnswered (λ c. W.contents c.writer) (λ c. R.remaining c.reader) said result
-        connections.old.places.items connections.new.places.items }
+        connections.old.numbered.items connections.new.numbered.items }
 {
     match said {
         Line::Silent => Ok(None),
@@ -58,16 +58,16 @@ fn connect<R: Read + Drop, W: Write + Drop, D: Dial<R, W>>(
     connections: &mut Connections<R, W>,
 ) -> Result<Reply, TalkFault>
     ensures { ConnectAnswered (λ c. W.contents c.writer) (λ c. R.remaining c.reader) result
-        connections.old.places.items connections.new.places.items }
+        connections.old.numbered.items connections.new.numbered.items }
 {
-    let place = connections.free_place();
-    if place >= MOST_CONNECTIONS {
+    let index = connections.free_index();
+    if index >= MOST_CONNECTIONS {
         return Ok(Reply::detailed(XAER_RMERR, Detail::Limit));
     }
     match dial.dial() {
         Ok(connection) => {
             connections.add(connection)?;
-            Ok(Reply::carrying(Body::Number(place as u64 + 1)))
+            Ok(Reply::carrying(Body::Number(index as u64 + 1)))
         }
         Err(_) => Err(TalkFault::Connect),
     }
@@ -82,15 +82,15 @@ fn call<R: Read + Drop, W: Write + Drop>(
 ) -> Result<Reply, TalkFault>
     requires { IsRequest request.now }
     ensures { CallAnswered (λ c. W.contents c.writer) (λ c. R.remaining c.reader) number request.now result
-        connections.old.places.items connections.new.places.items }
+        connections.old.numbered.items connections.new.numbered.items }
 {
-    let Some(place) = place_of(number) else {
+    let Some(index) = index_of(number) else {
         return Ok(Reply::plain(XAER_PROTO));
     };
-    if place >= connections.places.len() {
+    if index >= connections.numbered.len() {
         return Ok(Reply::plain(XAER_PROTO));
     }
-    match &mut connections.places[place] {
+    match &mut connections.numbered[index] {
         Some(connection) => exchange(alloc, connection, request),
         None => Ok(Reply::plain(XAER_PROTO)),
     }

@@ -37,7 +37,7 @@ fn send<W: Write>(alloc: Global, writer: &mut W, request: &Request) -> Result<()
     if write_text(writer, frame.as_slice()) {
         Ok(())
     } else {
-        Err(TalkFault::Lost)
+        Err(TalkFault::Broken)
     }
 }
 
@@ -73,7 +73,7 @@ fn read_content<R: Read>(alloc: Global, reader: &mut R) -> Result<Vec<u8>, TalkF
 {
     let mut front = [0u8; 4];
     if reader.read_exact(&mut front).is_err() {
-        return Err(TalkFault::Lost);
+        return Err(TalkFault::Broken);
     }
     let length = number_of(front[0], front[1], front[2], front[3]);
     if length as usize > MOST_CONTENT {
@@ -82,6 +82,6 @@ fn read_content<R: Read>(alloc: Global, reader: &mut R) -> Result<Vec<u8>, TalkF
     let mut content = vec![in alloc; 0u8; length as usize]?;
     match reader.read_exact(content.as_mut_slice()) {
         Ok(()) => Ok(content),
-        Err(_) => Err(TalkFault::Lost),
+        Err(_) => Err(TalkFault::Broken),
     }
 }

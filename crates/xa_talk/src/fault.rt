@@ -15,7 +15,7 @@ pub enum TalkFault {
     Connect,
     /// The connection ended or failed before the whole reply was there.
     #[error("connection lost")]
-    Lost,
+    Broken,
     /// What came isn't the frame of a reply.
     #[error("no reply")]
     NoReply,

@@ -162,9 +162,9 @@ fn wrong_answer(
     chain: &mut Chain,
     row: &[(u64, Ask, Told)],
 ) -> Option<usize> {
-    for (place, (ts, ask, want)) in row.iter().enumerate() {
+    for (index, (ts, ask, want)) in row.iter().enumerate() {
         if answered(alloc, pool, chain, *ts, *ask) != Ok(*want) {
-            return Some(place);
+            return Some(index);
         }
     }
     None
@@ -224,7 +224,7 @@ fn write(alloc: Global, pool: &mut Pool, chain: &mut Chain, byte: u8) -> Result<
     chain.install_at(pool, &look, Some([byte].to_vec(alloc)?))
 }
 
-/// One key is cleared and another made: its places are used again, and a third key shows what it showed.
+/// One key is cleared and another made: its slots are used again, and a third key shows what it showed.
 fn used_again(alloc: Global) -> Result<bool, AllocError> {
     let mut pool = Pool::new(alloc);
     let mut gone = Chain::new(&mut pool)?;
@@ -244,6 +244,6 @@ fn used_again(alloc: Global) -> Result<bool, AllocError> {
 fn cleared(rt: HostRuntime) {
     assert!(rt;
         used_again(rt.alloc()) == Ok(true),
-        "the pool's places are used again"
+        "the pool's slots are used again"
     );
 }

@@ -62,9 +62,9 @@ fn is_whole(alloc: Global, talk: &Talk, given: usize, taken: usize) -> bool {
 }
 
 fn wrong_pieces(alloc: Global, talk: &Talk, rows: &[(usize, usize)]) -> Option<usize> {
-    for (place, (given, taken)) in rows.iter().enumerate() {
+    for (index, (given, taken)) in rows.iter().enumerate() {
         if !is_whole(alloc, talk, *given, *taken) {
-            return Some(place);
+            return Some(index);
         }
     }
     None

@@ -98,18 +98,18 @@ fn is_limit_reply(alloc: Global, kind: u8, letters: &[u8], greatest: bool) -> bo
 }
 
 fn wrong_request(alloc: Global, rows: &[&[u8]], greatest: bool) -> Option<usize> {
-    for (place, (operation, letters)) in (1..=15).zip(rows).enumerate() {
+    for (index, (operation, letters)) in (1..=15).zip(rows).enumerate() {
         if !is_limit_request(alloc, operation, letters, greatest) {
-            return Some(place);
+            return Some(index);
         }
     }
     None
 }
 
 fn wrong_reply(alloc: Global, rows: &[&[u8]], greatest: bool) -> Option<usize> {
-    for (place, (kind, letters)) in (0..=4).zip(rows).enumerate() {
+    for (index, (kind, letters)) in (0..=4).zip(rows).enumerate() {
         if !is_limit_reply(alloc, kind, letters, greatest) {
-            return Some(place);
+            return Some(index);
         }
     }
     None

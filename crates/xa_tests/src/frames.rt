@@ -312,9 +312,9 @@ fn are_operations(alloc: Global, content: &[u8], letters: &[u8]) -> bool {
 }
 
 fn wrong_operation(alloc: Global, rows: &[Content], operations: &[&[u8]]) -> Option<usize> {
-    for (place, ((content, _, _), letters)) in rows.iter().zip(operations).enumerate() {
+    for (index, ((content, _, _), letters)) in rows.iter().zip(operations).enumerate() {
         if !are_operations(alloc, content, letters) {
-            return Some(place);
+            return Some(index);
         }
     }
     None

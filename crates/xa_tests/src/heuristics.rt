@@ -66,12 +66,12 @@ const RECORDS: [(State, Result<u8, Code>, Result<u8, Code>); 5] = [
 ];
 
 fn wrong_record(xid: &Xid, rows: &[(State, Result<u8, Code>, Result<u8, Code>)]) -> Option<usize> {
-    for (place, (state, decided, forgotten)) in rows.iter().enumerate() {
+    for (index, (state, decided, forgotten)) in rows.iter().enumerate() {
         if !is_kind(decide(*state, xid, Direction::Commit), *decided) {
-            return Some(place);
+            return Some(index);
         }
         if !is_kind(forget(*state, xid), *forgotten) {
-            return Some(place);
+            return Some(index);
         }
     }
     None

@@ -98,8 +98,8 @@ fn with_writes(
     (count, key, value): WritesAt,
 ) -> Result<Vec<u8>, AllocError> {
     let mut out = head(alloc, kind, greatest, count)?;
-    for place in 0..count {
-        let [_, first] = place.to_be_bytes();
+    for index in 0..count {
+        let [_, first] = index.to_be_bytes();
         put_write(&mut out, first, key, value)?;
     }
     Ok(out)
@@ -108,9 +108,9 @@ fn with_writes(
 /// Deletes of ascending keys of two bytes.
 fn deletes(alloc: Global, kind: u8, count: u16) -> Result<Vec<u8>, AllocError> {
     let mut out = head(alloc, kind, false, count)?;
-    for place in 0..count {
+    for index in 0..count {
         out.push(2)?;
-        out.extend_from_slice(&place.to_be_bytes())?;
+        out.extend_from_slice(&index.to_be_bytes())?;
         out.push(0)?;
     }
     Ok(out)
@@ -144,18 +144,18 @@ fn body(alloc: Global, row: &Body, greatest: bool) -> Result<Vec<u8>, AllocError
 }
 
 fn wrong_body(alloc: Global, rows: &[Body], greatest: bool) -> Option<usize> {
-    for (place, row) in rows.iter().enumerate() {
+    for (index, row) in rows.iter().enumerate() {
         if !is_again(alloc, body(alloc, row, greatest)) {
-            return Some(place);
+            return Some(index);
         }
     }
     None
 }
 
 fn wrong_writes(alloc: Global, rows: &[WritesAt], kind: u8, greatest: bool) -> Option<usize> {
-    for (place, row) in rows.iter().enumerate() {
+    for (index, row) in rows.iter().enumerate() {
         if !is_again(alloc, with_writes(alloc, kind, greatest, *row)) {
-            return Some(place);
+            return Some(index);
         }
     }
     None
@@ -183,21 +183,21 @@ fn is_malformed_made(alloc: Global, body: Result<Vec<u8>, AllocError>) -> bool {
 }
 
 fn wrong_past(alloc: Global, rows: &[WritesAt], kind: u8) -> Option<usize> {
-    for (place, row) in rows.iter().enumerate() {
+    for (index, row) in rows.iter().enumerate() {
         if !is_malformed_made(alloc, with_writes(alloc, kind, false, *row)) {
-            return Some(place);
+            return Some(index);
         }
     }
     None
 }
 
 fn wrong_count(alloc: Global, kinds: &[u8]) -> Option<usize> {
-    for (place, kind) in kinds.iter().enumerate() {
+    for (index, kind) in kinds.iter().enumerate() {
         let none = is_malformed_made(alloc, deletes(alloc, *kind, 0));
         let most = is_again(alloc, deletes(alloc, *kind, WRITES));
         let past = is_malformed_made(alloc, deletes(alloc, *kind, WRITES + 1));
         if !(none && most && past) {
-            return Some(place);
+            return Some(index);
         }
     }
     None
@@ -241,9 +241,9 @@ const MALFORMED: [&[u8]; 18] = [
 ];
 
 fn wrong_malformed(alloc: Global, bodies: &[&[u8]]) -> Option<usize> {
-    for (place, body) in bodies.iter().enumerate() {
+    for (index, body) in bodies.iter().enumerate() {
         if !is_malformed(alloc, body) {
-            return Some(place);
+            return Some(index);
         }
     }
     None
@@ -267,10 +267,10 @@ fn longer(alloc: Global, body: &[u8]) -> Result<Vec<u8>, AllocError> {
 }
 
 fn wrong_end(alloc: Global, bodies: &[&[u8]]) -> Option<usize> {
-    for (place, body) in bodies.iter().enumerate() {
+    for (index, body) in bodies.iter().enumerate() {
         let cut = is_every_cut_malformed(alloc, body);
         if !(cut && is_malformed_made(alloc, longer(alloc, body))) {
-            return Some(place);
+            return Some(index);
         }
     }
     None

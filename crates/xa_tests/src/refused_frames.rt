@@ -52,9 +52,9 @@ fn is_refused(alloc: Global, bytes: &[u8], replies: &[u8], refusal: Refusal) -> 
 }
 
 fn wrong_refusal(alloc: Global, bytes: &[u8], replies: &[u8], rows: &[Refusal]) -> Option<usize> {
-    for (place, row) in rows.iter().enumerate() {
+    for (index, row) in rows.iter().enumerate() {
         if !is_refused(alloc, bytes, replies, *row) {
-            return Some(place);
+            return Some(index);
         }
     }
     None

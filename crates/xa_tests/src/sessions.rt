@@ -90,15 +90,15 @@ fn held(sessions: &Sessions, session: u64, xid: &Xid) -> Holds {
 }
 
 fn is_row(sessions: &mut Sessions, row: &Row, first: &Xid, second: &Xid) -> bool {
-    let (session, act, place, holds) = *row;
-    let xid = if place == 0 { first } else { second };
+    let (session, act, index, holds) = *row;
+    let xid = if index == 0 { first } else { second };
     does(sessions, session, act, xid) && held(sessions, session, xid) == holds
 }
 
 fn wrong_row(sessions: &mut Sessions, rows: &[Row], first: &Xid, second: &Xid) -> Option<usize> {
-    for (place, row) in rows.iter().enumerate() {
+    for (index, row) in rows.iter().enumerate() {
         if !is_row(sessions, row, first, second) {
-            return Some(place);
+            return Some(index);
         }
     }
     None

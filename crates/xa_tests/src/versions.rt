@@ -188,9 +188,9 @@ fn answered(alloc: Global, records: &mut Records, ts: u64, ask: Ask) -> Result<T
 }
 
 fn wrong_answer(alloc: Global, records: &mut Records, row: &[(u64, Ask, Told)]) -> Option<usize> {
-    for (place, (ts, ask, want)) in row.iter().enumerate() {
+    for (index, (ts, ask, want)) in row.iter().enumerate() {
         if answered(alloc, records, *ts, *ask) != Ok(*want) {
-            return Some(place);
+            return Some(index);
         }
     }
     None
@@ -230,9 +230,9 @@ fn put_byte(records: &mut Records, alloc: Global, key: &[u8], byte: Option<u8>) 
 }
 
 fn wrong_put(records: &mut Records, alloc: Global, rows: &[KeyWrite]) -> Option<usize> {
-    for (place, (key, byte)) in rows.iter().enumerate() {
+    for (index, (key, byte)) in rows.iter().enumerate() {
         if put_byte(records, alloc, key, *byte) != Told::Done {
-            return Some(place);
+            return Some(index);
         }
     }
     None

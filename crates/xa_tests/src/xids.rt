@@ -51,9 +51,9 @@ fn is_text(text: &[u8]) -> bool {
 }
 
 fn wrong_text(texts: &[&[u8]]) -> Option<usize> {
-    for (place, text) in texts.iter().enumerate() {
+    for (index, text) in texts.iter().enumerate() {
         if !is_text(text) {
-            return Some(place);
+            return Some(index);
         }
     }
     None
@@ -90,9 +90,9 @@ const REFUSED: [&[u8]; 13] = [
 ];
 
 fn read_text(texts: &[&[u8]]) -> Option<usize> {
-    for (place, text) in texts.iter().enumerate() {
+    for (index, text) in texts.iter().enumerate() {
         if Xid::take_text(text).is_some() {
-            return Some(place);
+            return Some(index);
         }
     }
     None

@@ -4,7 +4,7 @@
 //!   end; `WorkFault`, why there is none
 //! - `work`: a worker takes the next of the connections' numbers (`numbers`), accepts a connection, and serves it from its
 //!   seat
-//! - `seat`: `Seat`, a door over the desk, whose calls pass a gate
+//! - `post`: `Post`, a door over the desk, whose calls pass a gate
 //! - `gate`: `Gate`, which is told of each call before it takes the desk's lock and after it gave it back; `OpenGate`
 //! - `report`: `Report`, what the desk recorded by a share; with `keeping` (receipts that find memory are kept, and the
 //!   others counted)
@@ -13,12 +13,12 @@
 mod gate;
 mod keeping;
 mod numbers;
+mod post;
 mod report;
-mod seat;
 mod work;
 mod workers;
 
 pub use gate::{Gate, OpenGate};
+pub use post::Post;
 pub use report::Report;
-pub use seat::Seat;
 pub use workers::{WorkFault, run_workers, split_all};

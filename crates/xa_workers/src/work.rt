@@ -5,8 +5,8 @@ ghost use Rattle.xa_workers.specs.Reports.{told, Balances};
 
 use crate::gate::Gate;
 use crate::numbers::{Numbers, take_next};
+use crate::post::Post;
 use crate::report::Report;
-use crate::seat::Seat;
 use std::alloc::Global;
 use std::io::BufReader;
 use std::net::TcpListener;
@@ -31,14 +31,14 @@ pub(crate) fn work<M: Manages, S: Start, L: Ledger, G: Gate, R: Wait>(
     ensures count { result.share.count ≡ share.count + told result }
     ensures served { Works (WasGone M.Manages S.start) share result }
 {
-    let mut seat = Seat::new(alloc, rt, desk, gate, share);
+    let mut post = Post::new(alloc, rt, desk, gate, share);
     for _ in 0..connections {
         if !take_next(rt, numbers) {
             break;
         }
-        serve_next(alloc, listener, &mut seat);
+        serve_next(alloc, listener, &mut post);
     }
-    seat.into_report()
+    post.into_report()
 }
 
 // Accepts a connection, and serves a session on it. Where the accept fails, or there is no memory to read by, or no
@@ -46,10 +46,10 @@ pub(crate) fn work<M: Manages, S: Start, L: Ledger, G: Gate, R: Wait>(
 fn serve_next<M: Manages, S: Start, L: Ledger, G: Gate, R: Wait>(
     alloc: Global,
     listener: &TcpListener,
-    seat: &mut Seat<'_, M, S, L, G, R>,
+    post: &mut Post<'_, M, S, L, G, R>,
 )
-    ensures balances { Balances seat.old.report seat.new.report }
-    ensures served { Serves (WasGone M.Manages S.start) seat.old.report seat.new.report }
+    ensures balances { Balances post.old.report post.new.report }
+    ensures served { Serves (WasGone M.Manages S.start) post.old.report post.new.report }
 {
     let Ok((stream, _)) = listener.accept() else {
         return;
@@ -59,8 +59,8 @@ fn serve_next<M: Manages, S: Start, L: Ledger, G: Gate, R: Wait>(
     let Ok(mut reader) = BufReader::new(alloc, &stream) else {
         return;
     };
-    let Ok(session) = seat.connect() else {
+    let Ok(session) = post.connect() else {
         return;
     };
-    let _served = serve(alloc, seat, &mut reader, &mut &stream, session);
+    let _served = serve(alloc, post, &mut reader, &mut &stream, session);
 }

@@ -323,9 +323,9 @@ fn is_said(text: &[u8], front: &[u8]) -> bool {
 }
 
 fn wrong_run(alloc: Global, rows: &[Run]) -> Option<usize> {
-    for (place, row) in rows.iter().enumerate() {
+    for (index, row) in rows.iter().enumerate() {
         if !is_run(alloc, row) {
-            return Some(place);
+            return Some(index);
         }
     }
     None

@@ -38,7 +38,7 @@ returns-in-New-clause-versions c =
     let vs = shown_at c.args.pool.now c.args.slots.now.items in
     let n = c.in-New.ensures.slot ts vs k.chain (omega (arith, c.len.ensures, c.args.slots.now.ok.0, shown_length c.args.pool.now c.args.slots.now.items)) e in
     put_in_shown c.in-New.i (unread c.args.look.now.at c.args.value) c.args.pool.now c.put_in.new.pool c.args.slots.now.items c.put_in.new.slots.items k.held p
-    ∙ rw (ap (λ l. l.at) e) (installed_new ts c.in-New.i c.args.value vs n.in_time n.place n.none))
+    ∙ rw (ap (λ l. l.at) e) (installed_new ts c.in-New.i c.args.value vs n.in_time n.index n.none))
 
 pub returns-in-New-clause-kept : goal.returns-in-New-clause-kept
 returns-in-New-clause-kept c = λ ts k e.
@@ -48,7 +48,7 @@ returns-in-New-clause-kept c = λ ts k e.
     (λ p. record {
       held = put_in_held c.in-New.i (unread c.args.look.now.at c.args.value) c.args.pool.now c.put_in.new.pool c.args.slots.now.items c.put_in.new.slots.items k.held p;
       chain = subst IsChain (sym (put_in_shown c.in-New.i (unread c.args.look.now.at c.args.value) c.args.pool.now c.put_in.new.pool c.args.slots.now.items c.put_in.new.slots.items k.held p
-          ∙ rw (ap (λ l. l.at) e) (installed_new ts c.in-New.i c.args.value vs n.in_time n.place n.none))) (chain_installed ts c.args.value vs k.chain);
+          ∙ rw (ap (λ l. l.at) e) (installed_new ts c.in-New.i c.args.value vs n.in_time n.index n.none))) (chain_installed ts c.args.value vs k.chain);
     })
     (λ same err. rw err (record {
       held = grown_held c.args.pool.now c.put_in.new.pool c.args.slots.now.items same k.held;

@@ -4,7 +4,7 @@ use Rattle.mv_chain.specs.Chain.{base, IsChain}
 use Rattle.mv_chain.specs.Pool.{shown_at}
 use Rattle.mv_chain.proofs.Exact.{committed_own, rolled_back_own, settled_nothing}
 use Rattle.mv_chain.proofs.Anywhere.{chain_settled}
-use Rattle.mv_chain.proofs.Chains.{place_within, chain_removed}
+use Rattle.mv_chain.proofs.Chains.{index_within, chain_removed}
 use Rattle.mv_chain.specs.declared.fate.Fate.TheVariants.{Committed}
 use Rattle.mv_chain.proofs.Frames.{changed_shown, changed_held, taken_out_shown, taken_out_held, taken_out_leaves}
 use Rattle.mv_chain.proofs.Counted.{changed_counts, taken_out_counts}
@@ -21,7 +21,7 @@ returns-in-Committed-clause-versions c = λ k.
     let found = (rw c.deref.ensures.value at c.in-Some.ensures.found) k.chain in
     let within = rw c.deref.ensures.value at c.in-Some.ensures.within in
     rw c.in-Committed.is (changed_shown (λ (v : Version). record v { pending = false }) c.args.pool.now c.commit.new.pool c.args.slots.now.items c.in-Some.i c.index.result.now base within k.held (rw c.index.ensures at c.commit.ensures)
-    ∙ committed_own c.args.ts c.in-Some.i vs _ base (place_within c.args.ts c.in-Some.i vs found.0) k.chain (found.1 base).0 refl)
+    ∙ committed_own c.args.ts c.in-Some.i vs _ base (index_within c.args.ts c.in-Some.i vs found.0) k.chain (found.1 base).0 refl)
 
 pub returns-in-Committed-clause-kept : goal.returns-in-Committed-clause-kept
 returns-in-Committed-clause-kept c = λ k.
@@ -29,7 +29,7 @@ returns-in-Committed-clause-kept c = λ k.
     let found = (rw c.deref.ensures.value at c.in-Some.ensures.found) k.chain in
     let within = rw c.deref.ensures.value at c.in-Some.ensures.within in
     let same = changed_shown (λ (v : Version). record v { pending = false }) c.args.pool.now c.commit.new.pool c.args.slots.now.items c.in-Some.i c.index.result.now base within k.held (rw c.index.ensures at c.commit.ensures)
-    ∙ committed_own c.args.ts c.in-Some.i vs _ base (place_within c.args.ts c.in-Some.i vs found.0) k.chain (found.1 base).0 refl in
+    ∙ committed_own c.args.ts c.in-Some.i vs _ base (index_within c.args.ts c.in-Some.i vs found.0) k.chain (found.1 base).0 refl in
     record {
       held = changed_held (λ (v : Version). record v { pending = false }) c.args.pool.now c.commit.new.pool c.args.slots.now.items _ c.commit.ensures k.held;
       chain = subst IsChain (sym same) (chain_settled c.args.ts Committed vs k.chain);
@@ -42,7 +42,7 @@ returns-in-RolledBack-clause-versions c = λ k.
     let within = rw c.deref.ensures.value at c.in-Some.ensures.within in
     rw (c.in-RolledBack.is, c.take_out.ensures.slots)
     (taken_out_shown c.args.pool.now c.take_out.new.pool c.args.slots.now.items c.in-Some.i 0 within k.held (c.take_out.ensures.updates 0)
-    ∙ rolled_back_own c.args.ts c.in-Some.i vs base (place_within c.args.ts c.in-Some.i vs found.0) k.chain (found.1 base).0 (found.1 base).1)
+    ∙ rolled_back_own c.args.ts c.in-Some.i vs base (index_within c.args.ts c.in-Some.i vs found.0) k.chain (found.1 base).0 (found.1 base).1)
 
 pub returns-in-RolledBack-clause-kept : goal.returns-in-RolledBack-clause-kept
 returns-in-RolledBack-clause-kept c = λ k.

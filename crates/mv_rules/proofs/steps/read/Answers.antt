@@ -1,9 +1,9 @@
 use Rattle.std.proofs.Common.{◌≡◌, ◌∙◌, ap}
 use Rattle.mv_chain.specs.declared.look.Look.{Look}
-use Rattle.mv_chain.specs.History.{nobody, seen}
+use Rattle.mv_chain.specs.Accesses.{nobody, seen}
 use Rattle.mv_chain.specs.Chain.{shows}
 use Rattle.mv_chain.specs.Pool.{versions_of}
-use Rattle.mv_rules.proofs.Places.{answered_free}
+use Rattle.mv_rules.proofs.Indices.{answered_free}
 use Rattle.mv_rules.specs.Tidy.{has_read}
 use Rattle.mv_rules.proofs.steps.read.Goals as goal
 use Rattle.mv_rules.proofs.steps.read.Goals.{in-None, in-Some+in-Ok}

@@ -19,7 +19,7 @@ loop-written-preserved c =
     let step : take (c.loop-written.written-index + 1) own ≡ take c.loop-written.written-index own ++ o ∷ [] = take_more own c.loop-written.written-index o c.loop-written-test.true ∙ ap (λ x. take c.loop-written.written-index own ++ x ∷ []) (sym c.written-item.is) in
     elim c.match-get_mut.branch [
       | in-Some w ↦
-          let here : chain_in c.loop-written.chains o.place ≡ Some w.in-Some.chain.now = sym w.in-Some.ensures.value in
+          let here : chain_in c.loop-written.chains o.index ≡ Some w.in-Some.chain.now = sym w.in-Some.ensures.value in
           rw (w.pool-is, w.chains-is) (record {
             settled = λ held. rw step (settled_one c.args.ts c.args.fate (take c.loop-written.written-index own) o c.args.pool.now c.loop-written.pool w.settle.new.pool c.args.chains.now c.loop-written.chains w.in-Some.chain.now w.settle.new.self here w.settle.ensures.others w.settle.ensures.kept w.settle.ensures.versions (λ k key low ws rs st u. w.settle.ensures.stands key low ws rs k st u) (c.loop-written.invariant.settled held));
             within = λ n h. w.settle.ensures.within n (c.loop-written.invariant.within n h);

@@ -10,13 +10,13 @@ pub returns-clause-written : goal.returns-clause-written
 returns-clause-written g c h =
     let at = c.args.at in
     let skip : c.saturating_sub-skip.result ≡ 12 - at = omega (arith, c.saturating_sub-skip.ensures) in
-    let place : c.max.result ≡ at + (12 - at) = omega (arith, c.max.ensures) in
+    let offset : c.max.result ≡ at + (12 - at) = omega (arith, c.max.ensures) in
     let m : ℕ = 36 + length c.args.body.now + c.args.zeros - (12 - at) in
     let whole : (12 - at) + m ≡ 36 + length c.args.body.now + c.args.zeros = omega arith in
     let bytes : take m (drop (12 - at) c.encode-digest.new.buffer) ≡ drop (12 - at) (tailed c.args.prev.now c.args.body.now c.args.zeros) =
     tail_slice c.args.prev.now c.args.body.now c.encode-digest.new.buffer c.args.zeros (12 - at) m c.encode-digest.ensures.text c.requires.zeros whole in
     c.in_ok-write_at.ensures.written h
-    ∙ (λ i. put (g.D.Disk.seen c.args.disk.now) (place i) (take (36 + length c.args.body.now + c.args.zeros - skip i) (drop (skip i) c.encode-digest.new.buffer)))
+    ∙ (λ i. put (g.D.Disk.seen c.args.disk.now) (offset i) (take (36 + length c.args.body.now + c.args.zeros - skip i) (drop (skip i) c.encode-digest.new.buffer)))
     ∙ ap (λ (l : List ℕ). put (g.D.Disk.seen c.args.disk.now) (at + (12 - at)) l) bytes
 
 pub returns-clause-torn : goal.returns-clause-torn
@@ -27,7 +27,7 @@ returns-clause-torn g c h =
     let room : 36 + length c.args.body.now + c.args.zeros ≤ length c.encode-digest.new.buffer =
     omega (arith, long, c.requires.room, c.requires.zeros) in
     let skip : c.saturating_sub-skip.result ≡ 12 - at = omega (arith, c.saturating_sub-skip.ensures) in
-    let place : c.max.result ≡ at + (12 - at) = omega (arith, c.max.ensures) in
+    let offset : c.max.result ≡ at + (12 - at) = omega (arith, c.max.ensures) in
     let bytes : List ℕ =
     take (36 + length c.args.body.now + c.args.zeros - c.saturating_sub-skip.result) (drop c.saturating_sub-skip.result c.encode-digest.new.buffer) in
     let size : length bytes ≡ n =
@@ -40,6 +40,6 @@ returns-clause-torn g c h =
       length-drop c.saturating_sub-skip.result c.encode-digest.new.buffer,
     ) in
     subst (λ f. Torn (at + (12 - at)) n (g.D.Disk.seen c.args.disk.now) f) (sym (c.in_ok-write_at.ensures.written h))
-    (subst (λ p. Torn p n (g.D.Disk.seen c.args.disk.now) (put (g.D.Disk.seen c.args.disk.now) c.max.result bytes)) place
+    (subst (λ p. Torn p n (g.D.Disk.seen c.args.disk.now) (put (g.D.Disk.seen c.args.disk.now) c.max.result bytes)) offset
     (subst (λ k. Torn c.max.result k (g.D.Disk.seen c.args.disk.now) (put (g.D.Disk.seen c.args.disk.now) c.max.result bytes)) size
     (put_torn (g.D.Disk.seen c.args.disk.now) c.max.result bytes)))

@@ -64,7 +64,7 @@ overflow_add-end-in-loop-body g c =
     item_in format c.args.bodies.now _ l.body-index c.body-item.result body l.end
     c.loop-body-test.true c.body-item.is c.deref.ensures.value c.requires.sizes l.invariant.end in
     let size : c.len.result ≡ length c.deref.result.now = omega (arith, c.len.ensures, c.deref.ensures.len, c.deref.ensures.value) in
-    let fits : c.loop-body.end + (36 + c.len.result) < 2 ^ 64 = omega (arith, size, it.place.within, c.requires.fits) in
+    let fits : c.loop-body.end + (36 + c.len.result) < 2 ^ 64 = omega (arith, size, it.offset.within, c.requires.fits) in
     search rules
 
 pub returns-in_err-digest-clause-torn : goal.returns-in_err-digest-clause-torn

@@ -2,11 +2,11 @@ use Rattle.std.proofs.Common.{◌≡◌, ℕ, List, [], length, drop}
 use Rattle.std.specs.Prelude.{Result}
 use Rattle.xa_room.specs.declared.auditing.AuditFault.{AuditFault}
 use Rattle.xa_room.specs.Audit.{Judges}
-use Rattle.xa_room.specs.Marks.{Marks}
+use Rattle.xa_room.specs.HasMet.{HasMet}
 use Rattle.xa_room.proofs.auditing.judge.Given as goal
 
 abbrev pub invariant-loop-i : goal.invariant-loop-i
 invariant-loop-i l = record {
   size : length l.met.items ≡ length l.entries;
-  so_far : (met : List ℕ) × Marks l.met.items met × ((answer : Result (Unit {0}) AuditFault) → Judges l.entries met l.i (drop l.i l.receipts) answer → Judges l.entries [] 0 l.receipts answer);
+  so_far : (met : List ℕ) × HasMet l.met.items met × ((answer : Result (Unit {0}) AuditFault) → Judges l.entries met l.i (drop l.i l.receipts) answer → Judges l.entries [] 0 l.receipts answer);
 }

@@ -1,24 +1,24 @@
 use Rattle.std.proofs.Common.{◌≡◌, refl, ◌<◌, ◌∙◌, arith, length, sym, None, Some, Ok}
 use Rattle.xa_talk.proofs.Calls.{call_none, call_over, kept_at, there_at}
-use Rattle.xa_talk.specs.Numbers.{place_of}
+use Rattle.xa_talk.specs.Numbers.{index_of}
 use Rattle.xa_talk.proofs.answer.call.Goals as goal
 
 pub returns-in-Some-index_mut : goal.returns-in-Some-index_mut
 returns-in-Some-index_mut g c =
-    let places = c.args.connections.now.places.items in
-    let is : place_of c.args.number ≡ Some c.in-Some.place = sym c.place_of.ensures ∙ c.in-Some.is in
-    let within : c.in-Some.place < length places = omega (arith, c.if-place-len.false, c.len.ensures, c.args.connections.now.places.ok) in
-    call_over (λ k. g.W.Write.contents k.writer) (λ k. g.R.Read.remaining k.reader) c.args.number c.in-Some.place c.args.request.now c.exchange.result places is
+    let numbered = c.args.connections.now.numbered.items in
+    let is : index_of c.args.number ≡ Some c.in-Some.index = sym c.index_of.ensures ∙ c.in-Some.is in
+    let within : c.in-Some.index < length numbered = omega (arith, c.if-index-len.false, c.len.ensures, c.args.connections.now.numbered.ok) in
+    call_over (λ k. g.W.Write.contents k.writer) (λ k. g.R.Read.remaining k.reader) c.args.number c.in-Some.index c.args.request.now c.exchange.result numbered is
     c.in-Some-index_mut.connection c.exchange.new.connection
-    (there_at places c.in-Some.place (Some c.in-Some-index_mut.connection) c.index_mut.result.now within (sym c.index_mut.ensures.value ∙ c.in-Some-index_mut.is)) c.exchange.ensures
+    (there_at numbered c.in-Some.index (Some c.in-Some-index_mut.connection) c.index_mut.result.now within (sym c.index_mut.ensures.value ∙ c.in-Some-index_mut.is)) c.exchange.ensures
 
 pub returns-in-None : goal.returns-in-None
 returns-in-None g c =
-    let places = c.args.connections.now.places.items in
-    let is : place_of c.args.number ≡ Some c.in-Some.place = sym c.place_of.ensures ∙ c.in-Some.is in
-    let within : c.in-Some.place < length places = omega (arith, c.if-place-len.false, c.len.ensures, c.args.connections.now.places.ok) in
+    let numbered = c.args.connections.now.numbered.items in
+    let is : index_of c.args.number ≡ Some c.in-Some.index = sym c.index_of.ensures ∙ c.in-Some.is in
+    let within : c.in-Some.index < length numbered = omega (arith, c.if-index-len.false, c.len.ensures, c.args.connections.now.numbered.ok) in
     let value = sym c.index_mut.ensures.value in
     rw c.plain-in-None.ensures
-    (call_none (λ k. g.W.Write.contents k.writer) (λ k. g.R.Read.remaining k.reader) c.args.number c.in-Some.place c.args.request.now (Ok _) places is
-    _ (there_at places c.in-Some.place None c.index_mut.result.now within (value ∙ c.in-None.is)) refl
-    (kept_at places c.in-Some.place c.index_mut.result.now c.index_mut.result.now within value))
+    (call_none (λ k. g.W.Write.contents k.writer) (λ k. g.R.Read.remaining k.reader) c.args.number c.in-Some.index c.args.request.now (Ok _) numbered is
+    _ (there_at numbered c.in-Some.index None c.index_mut.result.now within (value ∙ c.in-None.is)) refl
+    (kept_at numbered c.in-Some.index c.index_mut.result.now c.index_mut.result.now within value))

@@ -25,14 +25,14 @@ returns-in_err-talk_line g c =
       lines = before.0;
       text = before.1;
       behind = g.I.Read.remaining c.loop.input;
-      places = c.loop.connections.places.items;
+      numbered = c.loop.connections.numbered.items;
       talked = before.3;
       last = now.0;
       ended = inr (
         c.read_next.new.line.items,
-        c.talk_line.new.connections.places.items,
+        c.talk_line.new.connections.numbered.items,
         read,
-        subst (λ (l : List ℕ). LineTalked {C = Connection g.row.R.Denot g.row.W.Denot} {X = Unit {0}} (λ k. g.W.Write.contents k.writer) (λ k. g.R.Read.remaining k.reader) l (Err c.in_err-talk_line.field-0.0) now.0 c.loop.connections.places.items c.talk_line.new.connections.places.items) line now.2,
+        subst (λ (l : List ℕ). LineTalked {C = Connection g.row.R.Denot g.row.W.Denot} {X = Unit {0}} (λ k. g.W.Write.contents k.writer) (λ k. g.R.Read.remaining k.reader) l (Err c.in_err-talk_line.field-0.0) now.0 c.loop.connections.numbered.items c.talk_line.new.connections.numbered.items) line now.2,
       );
       written = appends_both _ _ _ before.1 now.0 before.2 now.1;
     }
@@ -43,11 +43,11 @@ loop-preserved g c =
     let read = subst (λ (b : Bool). NextRead (Ok b) (g.I.Read.remaining c.loop.input) c.read_next.new.line.items (g.I.Read.remaining c.read_next.new.input)) c.if-not-branch.false c.in_ok-read_next.ensures in
     let line : c.without_end.result.now ≡ strip_last 10 c.read_next.new.line.items = c.without_end.ensures ∙ ap (λ (l : List ℕ). strip_last 10 l) c.as_slice.ensures.value in
     let now = c.in_ok-talk_line.ensures in
-    let talks = subst (λ (l : List ℕ). LineTalked {C = Connection g.row.R.Denot g.row.W.Denot} {X = Unit {0}} (λ k. g.W.Write.contents k.writer) (λ k. g.R.Read.remaining k.reader) l (Ok tt) now.0 c.loop.connections.places.items c.talk_line.new.connections.places.items) line now.2 in (
+    let talks = subst (λ (l : List ℕ). LineTalked {C = Connection g.row.R.Denot g.row.W.Denot} {X = Unit {0}} (λ k. g.W.Write.contents k.writer) (λ k. g.R.Read.remaining k.reader) l (Ok tt) now.0 c.loop.connections.numbered.items c.talk_line.new.connections.numbered.items) line now.2 in (
       before.0 ++ c.read_next.new.line.items ∷ [],
       before.1 ++ now.0,
       appends_both _ _ _ before.1 now.0 before.2 now.1,
-      line_more _ _ _ (g.I.Read.remaining c.loop.input) (g.I.Read.remaining c.read_next.new.input) [] c.loop.connections.places.items c.talk_line.new.connections.places.items before.0 c.read_next.new.line.items before.1 now.0
+      line_more _ _ _ (g.I.Read.remaining c.loop.input) (g.I.Read.remaining c.read_next.new.input) [] c.loop.connections.numbered.items c.talk_line.new.connections.numbered.items before.0 c.read_next.new.line.items before.1 now.0
           before.3 read talks,
     )
 

@@ -8,7 +8,7 @@ use Rattle.xa_workers.proofs.work.serve_next.Goals as goal
 
 pub returns-clause-balances : goal.returns-clause-balances
 returns-clause-balances g c =
-    let first = c.args.seat.now in
+    let first = c.args.post.now in
     let second = c.connect.new.self in
     let served = c.serve-served.ensures in
     let third = served.0 in

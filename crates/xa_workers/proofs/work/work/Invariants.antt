@@ -5,6 +5,6 @@ use Rattle.xa_workers.proofs.work.work.Given as goal
 
 abbrev pub invariant-loop : goal.invariant-loop
 invariant-loop g l = record {
-  balances : Balances l.initial.seat.report l.seat.report;
-  served : Served (WasGone g.M.Manages g.S.Start.start) l.initial.seat.report l.seat.report;
+  balances : Balances l.initial.post.report l.post.report;
+  served : Served (WasGone g.M.Manages g.S.Start.start) l.initial.post.report l.post.report;
 }

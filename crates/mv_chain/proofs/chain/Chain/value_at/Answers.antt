@@ -1,7 +1,7 @@
 use Rattle.std.proofs.Common.{◌∙◌, ap, sym, arith}
 use Rattle.mv_chain.specs.Pool.{version_at, versions_of}
 use Rattle.mv_chain.proofs.Frames.{shown_length}
-use Rattle.mv_chain.proofs.Looked.{look_place, look_value_none}
+use Rattle.mv_chain.proofs.Looked.{look_index, look_value_none}
 use Rattle.mv_chain.proofs.Sought.{sees}
 use Rattle.mv_chain.proofs.chain.Chain.value_at.Goals as goal
 
@@ -13,5 +13,5 @@ returns-in-None-clause-value c = λ ts k e.
 pub returns-in-Some-clause-value : goal.returns-in-Some-clause-value
 returns-in-Some-clause-value c = λ ts k e.
     let vs = versions_of c.args.pool.now c.args.self.now in
-    let place = look_place ts vs k.chain c.args.look.now e c.in-Some.i c.in-Some.ensures.0 in
-    c.value_at.ensures ∙ (ap (λ s. (version_at c.args.pool.now s).value) c.index.ensures ∙ sym (ap (λ s. s.value) (sees c.args.pool.now c.args.self.now.slots.items k.chain ts c.in-Some.i c.index.result.now (omega (arith, c.in-Some.ensures.1, c.len.ensures)) place)))
+    let index = look_index ts vs k.chain c.args.look.now e c.in-Some.i c.in-Some.ensures.0 in
+    c.value_at.ensures ∙ (ap (λ s. (version_at c.args.pool.now s).value) c.index.ensures ∙ sym (ap (λ s. s.value) (sees c.args.pool.now c.args.self.now.slots.items k.chain ts c.in-Some.i c.index.result.now (omega (arith, c.in-Some.ensures.1, c.len.ensures)) index)))

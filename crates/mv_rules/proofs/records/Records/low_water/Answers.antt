@@ -1,6 +1,6 @@
 use Rattle.std.proofs.Common.{◌≡◌, ◌∙◌, ℕ, List, refl, sym, ap, arith, ◌≤◌}
 use Rattle.std.specs.Prelude.{max}
-use Rattle.mv_rules.specs.History.{History}
+use Rattle.mv_rules.specs.Accesses.{Accesses}
 use Rattle.std.specs.BTreeMap.{BTreeMap}
 use Rattle.mv_rules.specs.declared.own.Own.{Own}
 use Rattle.mv_rules.specs.declared.own.Notes.{Notes}
@@ -9,7 +9,7 @@ use Rattle.mv_rules.specs.Records.{StandsFor}
 use Rattle.mv_rules.specs.Tidy.{kept_of, names, due, not_due, tidied_if}
 use Rattle.mv_rules.proofs.Tidied.{tidied_three, none_left}
 use Rattle.mv_rules.proofs.Frames.{nothing_left}
-use Rattle.mv_rules.proofs.Places.{stands_alike}
+use Rattle.mv_rules.proofs.Indices.{stands_alike}
 use Rattle.mv_rules.proofs.Remade.{low_rises}
 use Rattle.mv_rules.proofs.records.Records.low_water.Goals as goal
 
@@ -37,7 +37,7 @@ returns-clause-stands c =
     λ h s whole.
     let before : h.low ≤ max h.low c.args.low = omega arith in
     let low : c.args.low ≤ max h.low c.args.low = omega arith in
-    let risen : History = record h { low = max h.low c.args.low } in
+    let risen : Accesses = record h { low = max h.low c.args.low } in
     stands_alike risen c.loop-noted.self _ (λ q. refl) (λ k. refl) (nothing_left c.loop-noted.self.pool) c.next_due.ensures.same (c.loop-noted.invariant.stands risen (low_rises h c.args.self.now (max h.low c.args.low) s before) whole low)
 
 pub returns-clause-tidies : goal.returns-clause-tidies
@@ -45,7 +45,7 @@ returns-clause-tidies c =
     λ h s whole.
     let before : h.low ≤ max h.low c.args.low = omega arith in
     let low : c.args.low ≤ max h.low c.args.low = omega arith in
-    let risen : History = record h { low = max h.low c.args.low } in
+    let risen : Accesses = record h { low = max h.low c.args.low } in
     let stood = low_rises h c.args.self.now (max h.low c.args.low) s before in
     record {
       kept = λ q. rw c.in_default.ensures.none at (c.loop-noted.invariant.kept risen stood whole low q);

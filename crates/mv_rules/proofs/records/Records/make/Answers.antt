@@ -4,9 +4,9 @@ use Rattle.slab.specs.Slab.{get as chain_in, Updates, SameValues}
 use Rattle.mv_chain.specs.Chain.{fresh}
 use Rattle.mv_rules.specs.declared.records.Records.{Records}
 use Rattle.mv_rules.specs.Held.{shown_in, Changes}
-use Rattle.mv_rules.specs.Records.{place_of, chain_at}
+use Rattle.mv_rules.specs.Records.{index_of, chain_at}
 use Rattle.mv_rules.proofs.Frames.{added_there, reserved_same, updates_before, nothing_left}
-use Rattle.mv_rules.proofs.Places.{found_at, found_inserted, stands_added, lists_added, stands_alike}
+use Rattle.mv_rules.proofs.Indices.{found_at, found_inserted, stands_added, lists_added, stands_alike}
 use Rattle.mv_rules.proofs.Forgotten.{found_back}
 use Rattle.mv_rules.proofs.Tidied.{then_err, keeps_alike, kept_added}
 use Rattle.mv_rules.proofs.records.Records.make.Goals as goal
@@ -24,14 +24,14 @@ returns-in-Ok-clause-stands c =
     λ h s none.
     let old : Records = c.args.self.now in
     let i : ℕ = c.insert_reserved.result in
-    let new : Records = record { alloc = c.args.self.now.alloc; places = c.insert.new.self; chains = c.insert_reserved.new.self; pool = c.new.new.pool; notes = c.args.self.now.notes } in
+    let new : Records = record { alloc = c.args.self.now.alloc; indices = c.insert.new.self; chains = c.insert_reserved.new.self; pool = c.new.new.pool; notes = c.args.self.now.notes } in
     let copied : c.in_ok-copy.copy.items ≡ c.args.key.now = search rules in
     let same : SameValues c.args.self.now.chains c.reserve.new.self = reserved_same c.args.self.now.chains c.reserve.new.self _ c.reserve.ensures.rest_kept in
     let vacant : chain_in c.args.self.now.chains c.insert_reserved.result ≡ None = sym (same c.insert_reserved.result) ∙ c.insert_reserved.ensures.was_vacant in
     let updates : Updates c.args.self.now.chains c.insert_reserved.new.self c.insert_reserved.result (Some c.in-Ok.chain) = updates_before c.args.self.now.chains c.reserve.new.self c.insert_reserved.new.self c.insert_reserved.result (Some c.in-Ok.chain) same c.insert_reserved.ensures.updates in
-    let place : c.vacant_key-i.result ≡ c.insert_reserved.result = c.vacant_key-i.ensures.value ∙ sym c.insert_reserved.ensures.key in
-    let found : (q : List ℕ) → place_of q new ≡ (if bytes_eq q c.args.key.now then Some c.insert_reserved.result else place_of q c.args.self.now) =
-    λ q. rw (← copied) (ap (λ es. found_at q es) c.in_ok-insert.ensures.entries ∙ (found_inserted q c.in_ok-copy.copy c.vacant_key-i.result c.args.self.now.places.entries ∙ rw place refl)) in
+    let index : c.vacant_key-i.result ≡ c.insert_reserved.result = c.vacant_key-i.ensures.value ∙ sym c.insert_reserved.ensures.key in
+    let found : (q : List ℕ) → index_of q new ≡ (if bytes_eq q c.args.key.now then Some c.insert_reserved.result else index_of q c.args.self.now) =
+    λ q. rw (← copied) (ap (λ es. found_at q es) c.in_ok-insert.ensures.entries ∙ (found_inserted q c.in_ok-copy.copy c.vacant_key-i.result c.args.self.now.indices.entries ∙ rw index refl)) in
     let change : Changes c.insert_reserved.result c.args.self.now.pool c.args.self.now.chains c.new.new.pool c.insert_reserved.new.self = added_there c.args.self.now.pool c.new.new.pool c.args.self.now.chains c.insert_reserved.new.self c.insert_reserved.result c.in-Ok.chain vacant updates c.in-Ok.ensures.others c.in-Ok.ensures.kept in
     let at_new : chain_at c.insert_reserved.result new ≡ fresh = ap (shown_in c.new.new.pool) updates.changed ∙ c.in-Ok.ensures.base in
     record {
@@ -43,7 +43,7 @@ pub returns-in-Err-clause-stands : goal.returns-in-Err-clause-stands
 returns-in-Err-clause-stands c =
     λ h s none.
     let copied : c.in_ok-copy.copy.items ≡ c.args.key.now = search rules in
-    stands_alike h c.args.self.now _ (λ q. found_back q c.args.key.now c.in_ok-copy.copy c.vacant_key-i.result c.args.self.now.places.entries c.insert.new.self.entries c.remove.new.self.entries c.in_ok-insert.ensures.entries c.remove.ensures.entries copied none c.remove.ensures.updates.1)
+    stands_alike h c.args.self.now _ (λ q. found_back q c.args.key.now c.in_ok-copy.copy c.vacant_key-i.result c.args.self.now.indices.entries c.insert.new.self.entries c.remove.new.self.entries c.in_ok-insert.ensures.entries c.remove.ensures.entries copied none c.remove.ensures.updates.1)
     (reserved_same c.args.self.now.chains c.reserve.new.self _ c.reserve.ensures.rest_kept) c.in-Err.ensures.err (λ t. refl) s
 
 pub returns-in_err-reserve-clause-same : goal.returns-in_err-reserve-clause-same
@@ -52,19 +52,19 @@ returns-in_err-reserve-clause-same c =
 
 pub returns-in_err-insert-clause-same : goal.returns-in_err-insert-clause-same
 returns-in_err-insert-clause-same c =
-    then_err c.from_residual-in_err-insert.result (λ h s none. keeps_alike c.args.self.now (record c.args.self.now { places = c.insert.new.self; chains = c.reserve.new.self }) (λ q. ap (λ es. found_at q es) c.in_err-insert.ensures.err) (reserved_same c.args.self.now.chains c.reserve.new.self _ c.reserve.ensures.rest_kept) (nothing_left c.args.self.now.pool) s.chains.held)
+    then_err c.from_residual-in_err-insert.result (λ h s none. keeps_alike c.args.self.now (record c.args.self.now { indices = c.insert.new.self; chains = c.reserve.new.self }) (λ q. ap (λ es. found_at q es) c.in_err-insert.ensures.err) (reserved_same c.args.self.now.chains c.reserve.new.self _ c.reserve.ensures.rest_kept) (nothing_left c.args.self.now.pool) s.chains.held)
 
 pub returns-in-Ok-clause-made : goal.returns-in-Ok-clause-made
 returns-in-Ok-clause-made c =
     λ h s none.
-    let new : Records = record { alloc = c.args.self.now.alloc; places = c.insert.new.self; chains = c.insert_reserved.new.self; pool = c.new.new.pool; notes = c.args.self.now.notes } in
+    let new : Records = record { alloc = c.args.self.now.alloc; indices = c.insert.new.self; chains = c.insert_reserved.new.self; pool = c.new.new.pool; notes = c.args.self.now.notes } in
     let copied : c.in_ok-copy.copy.items ≡ c.args.key.now = search rules in
     let same : SameValues c.args.self.now.chains c.reserve.new.self = reserved_same c.args.self.now.chains c.reserve.new.self _ c.reserve.ensures.rest_kept in
     let vacant : chain_in c.args.self.now.chains c.insert_reserved.result ≡ None = sym (same c.insert_reserved.result) ∙ c.insert_reserved.ensures.was_vacant in
     let updates : Updates c.args.self.now.chains c.insert_reserved.new.self c.insert_reserved.result (Some c.in-Ok.chain) = updates_before c.args.self.now.chains c.reserve.new.self c.insert_reserved.new.self c.insert_reserved.result (Some c.in-Ok.chain) same c.insert_reserved.ensures.updates in
-    let place : c.vacant_key-i.result ≡ c.insert_reserved.result = c.vacant_key-i.ensures.value ∙ sym c.insert_reserved.ensures.key in
-    let found : (q : List ℕ) → place_of q new ≡ (if bytes_eq q c.args.key.now then Some c.insert_reserved.result else place_of q c.args.self.now) =
-    λ q. rw (← copied) (ap (λ es. found_at q es) c.in_ok-insert.ensures.entries ∙ (found_inserted q c.in_ok-copy.copy c.vacant_key-i.result c.args.self.now.places.entries ∙ rw place refl)) in
+    let index : c.vacant_key-i.result ≡ c.insert_reserved.result = c.vacant_key-i.ensures.value ∙ sym c.insert_reserved.ensures.key in
+    let found : (q : List ℕ) → index_of q new ≡ (if bytes_eq q c.args.key.now then Some c.insert_reserved.result else index_of q c.args.self.now) =
+    λ q. rw (← copied) (ap (λ es. found_at q es) c.in_ok-insert.ensures.entries ∙ (found_inserted q c.in_ok-copy.copy c.vacant_key-i.result c.args.self.now.indices.entries ∙ rw index refl)) in
     let change : Changes c.insert_reserved.result c.args.self.now.pool c.args.self.now.chains c.new.new.pool c.insert_reserved.new.self = added_there c.args.self.now.pool c.new.new.pool c.args.self.now.chains c.insert_reserved.new.self c.insert_reserved.result c.in-Ok.chain vacant updates c.in-Ok.ensures.others c.in-Ok.ensures.kept in
     let at_new : chain_at c.insert_reserved.result new ≡ fresh = ap (shown_in c.new.new.pool) updates.changed ∙ c.in-Ok.ensures.base in
     kept_added h c.args.self.now new c.args.key.now c.insert_reserved.result none vacant change at_new found s.chains
@@ -73,5 +73,5 @@ pub returns-in-Err-clause-same : goal.returns-in-Err-clause-same
 returns-in-Err-clause-same c =
     λ h s none.
     let copied : c.in_ok-copy.copy.items ≡ c.args.key.now = search rules in
-    keeps_alike c.args.self.now (record c.args.self.now { places = c.remove.new.self; chains = c.reserve.new.self; pool = c.new.new.pool }) (λ q. found_back q c.args.key.now c.in_ok-copy.copy c.vacant_key-i.result c.args.self.now.places.entries c.insert.new.self.entries c.remove.new.self.entries c.in_ok-insert.ensures.entries c.remove.ensures.entries copied none c.remove.ensures.updates.1)
+    keeps_alike c.args.self.now (record c.args.self.now { indices = c.remove.new.self; chains = c.reserve.new.self; pool = c.new.new.pool }) (λ q. found_back q c.args.key.now c.in_ok-copy.copy c.vacant_key-i.result c.args.self.now.indices.entries c.insert.new.self.entries c.remove.new.self.entries c.in_ok-insert.ensures.entries c.remove.ensures.entries copied none c.remove.ensures.updates.1)
     (reserved_same c.args.self.now.chains c.reserve.new.self _ c.reserve.ensures.rest_kept) c.in-Err.ensures.err s.chains.held

@@ -1,7 +1,7 @@
 use Rattle.std.proofs.Common.{◌≡◌, ℕ, List, Option, sym, subst, None, arith}
 use Rattle.std.specs.Prelude.{option_map}
-use Rattle.mv_rules.specs.History.{History, after_put}
-use Rattle.mv_rules.specs.Records.{StandsFor, place_of}
+use Rattle.mv_rules.specs.Accesses.{Accesses, after_put}
+use Rattle.mv_rules.specs.Records.{StandsFor, index_of}
 use Rattle.mv_rules.proofs.Written.{refused_same}
 use Rattle.mv_rules.proofs.Tidied.{unmade, absent_kept}
 use Rattle.mv_rules.proofs.records.Records.put.Goals as goal
@@ -11,17 +11,17 @@ returns-in_default-make-clause-stands c = λ h s u. c.make.ensures.stands h s (s
 
 pub returns : goal.returns
 returns c =
-    let none : place_of c.args.key.now c.args.self.now ≡ None = sym c.in_default.ensures.value in
+    let none : index_of c.args.key.now c.args.self.now ≡ None = sym c.in_default.ensures.value in
     record {
-      answer = λ h s u m. c.put_at-answer.ensures.answer h (c.make.ensures.stands h s none) c.in-Ok.ensures.place u m;
+      answer = λ h s u m. c.put_at-answer.ensures.answer h (c.make.ensures.stands h s none) c.in-Ok.ensures.index u m;
       stands = λ h s u.
           let value : Option (List ℕ) = option_map (λ v. v.items) c.args.value in
           let same : after_put c.put_at-answer.result c.args.ts c.args.key.now value h ≡ h = refused_same c.put_at-answer.result c.args.ts c.args.key.now value h c.in_default-answer.not-Done in
-          let after : StandsFor h c.put_at-answer.new.self = subst (λ (x : History). StandsFor x c.put_at-answer.new.self) same (c.put_at-answer.ensures.stands h (c.make.ensures.stands h s none) c.in-Ok.ensures.place u) in
-          subst (λ (x : History). StandsFor x c.forget.new.self) (sym same) (c.forget.ensures.stands h after (λ t e. absurd (cc (e, s.lists.unplaced t c.args.key.now none))) (omega arith));
+          let after : StandsFor h c.put_at-answer.new.self = subst (λ (x : Accesses). StandsFor x c.put_at-answer.new.self) same (c.put_at-answer.ensures.stands h (c.make.ensures.stands h s none) c.in-Ok.ensures.index u) in
+          subst (λ (x : Accesses). StandsFor x c.forget.new.self) (sym same) (c.forget.ensures.stands h after (λ t e. absurd (cc (e, s.lists.unindexed t c.args.key.now none))) (omega arith));
       same = λ refused h s u.
           unmade c.args.self.now c.make.new.self c.put_at-answer.new.self c.forget.new.self c.args.key.now (absent_kept c.args.self.now c.args.key.now none) (c.in-Ok.ensures.made h s none)
-          (c.put_at-answer.ensures.same c.in_default-answer.not-Done h (c.make.ensures.stands h s none) c.in-Ok.ensures.place) (c.forget.ensures.kept _ (c.put_at-answer.ensures.stands h (c.make.ensures.stands h s none) c.in-Ok.ensures.place u));
+          (c.put_at-answer.ensures.same c.in_default-answer.not-Done h (c.make.ensures.stands h s none) c.in-Ok.ensures.index) (c.forget.ensures.kept _ (c.put_at-answer.ensures.stands h (c.make.ensures.stands h s none) c.in-Ok.ensures.index u));
       puts = λ done. absurd (c.in_default-answer.not-Done done);
       within = λ n h short. c.forget.ensures.within n (c.put_at-answer.ensures.within n (c.make.ensures.within n h) short);
     }

@@ -1,7 +1,7 @@
 use Rattle.std.proofs.Common.{◌≡◌, ◌∙◌, ap, sym, ◌+◌, ◌++◌, ◌∷◌, [], take, List, None}
 use Rattle.std.proofs.lemmas.List.{take_more, take_all}
 use Rattle.xa_codes.specs.declared.write.Write.{Write}
-use Rattle.mv_rules.specs.History.{History}
+use Rattle.mv_rules.specs.Accesses.{Accesses}
 use Rattle.mv_rules.specs.Restoring.{with_branch}
 use Rattle.mv_rules.proofs.Exact.{puts_more}
 use Rattle.mv_rules.proofs.Within.{write_short}
@@ -16,11 +16,11 @@ loop-write-preserved c =
     let step : take (c.loop-write.write-index + 1) ws ≡ done ++ w ∷ [] = take_more ws c.loop-write.write-index w c.loop-write-test.true ∙ ap (λ x. done ++ x ∷ []) (sym c.write-item.is) in
     record {
       stands = λ h s e.
-          let before : History = record h { writes = with_branch c.args.ts None done h.writes } in
+          let before : Accesses = record h { writes = with_branch c.args.ts None done h.writes } in
           let after = c.in_ok-put_back.ensures.stands before (c.loop-write.invariant.stands h s e) (restorable_unsettled c.args.ts h done e) (restorable_timely c.args.ts h _ e) in
           rw step (branch_grown c.args.ts h _ done w _ _ c.as_slice.ensures c.in_ok-value.ensures after);
       puts = λ h s e.
-          let before : History = record h { writes = with_branch c.args.ts None done h.writes } in
+          let before : Accesses = record h { writes = with_branch c.args.ts None done h.writes } in
           let one = c.in_ok-put_back.ensures.puts before (c.loop-write.invariant.stands h s e) (restorable_unsettled c.args.ts h done e) in
           rw step (puts_more c.args.ts done w c.args.self.now c.loop-write.self c.put_back.new.self (c.loop-write.invariant.puts h s e) (rw (c.as_slice.ensures, c.in_ok-value.ensures) at one));
       within = λ n h short.
@@ -32,8 +32,8 @@ returns-in-Some-clause-stands c =
     let ws = c.args.writes.now in
     λ h s e.
     let all : take c.loop-write.write-index ws ≡ ws = take_all c.loop-write.write-index ws c.loop-write-test.false in
-    let before : History = record h { writes = with_branch c.args.ts None ws h.writes } in
-    let after = c.settle.ensures.stands before (rw all at (c.loop-write.invariant.stands h s e)) (restorable_unsettled c.args.ts h ws e).open_ in
+    let before : Accesses = record h { writes = with_branch c.args.ts None ws h.writes } in
+    let after = c.settle.ensures.stands before (rw all at (c.loop-write.invariant.stands h s e)) (restorable_unsettled c.args.ts h ws e).all_undecided in
     rw (c.in-Some.is, ← branch_decided c.args.ts h ws c.in-Some.decided e) after
 
 pub returns-in_err-put_back-clause-within : goal.returns-in_err-put_back-clause-within
@@ -50,5 +50,5 @@ returns-in-Some-clause-restores c =
     let ws = c.args.writes.now in
     λ h s e.
     let all : take c.loop-write.write-index ws ≡ ws = take_all c.loop-write.write-index ws c.loop-write-test.false in
-    let before : History = record h { writes = with_branch c.args.ts None ws h.writes } in
+    let before : Accesses = record h { writes = with_branch c.args.ts None ws h.writes } in
     rw c.in-Some.is (c.loop-write.self, rw all at (c.loop-write.invariant.puts h s e), c.settle.ensures.settles before (rw all at (c.loop-write.invariant.stands h s e)))

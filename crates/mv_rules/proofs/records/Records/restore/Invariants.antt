@@ -1,5 +1,5 @@
 use Rattle.std.proofs.Common.{ℕ, take}
-use Rattle.mv_rules.specs.History.{History}
+use Rattle.mv_rules.specs.Accesses.{Accesses}
 use Rattle.mv_rules.specs.Records.{StandsFor}
 use Rattle.mv_rules.specs.Restoring.{with_branch, IsRestorable}
 use Rattle.mv_rules.specs.Noted.{PutsAll}
@@ -9,7 +9,7 @@ use Rattle.mv_rules.proofs.records.Records.restore.Given as goal
 
 abbrev pub invariant-loop-write : goal.invariant-loop-write
 invariant-loop-write l = record {
-  stands : (h : History) → StandsFor h l.fn.self → IsRestorable l.ts h → StandsFor (record h { writes = with_branch l.ts None (take l.write-index l.writes) h.writes }) l.self;
-  puts : (h : History) → StandsFor h l.fn.self → IsRestorable l.ts h → PutsAll l.ts (take l.write-index l.writes) l.fn.self l.self;
+  stands : (h : Accesses) → StandsFor h l.fn.self → IsRestorable l.ts h → StandsFor (record h { writes = with_branch l.ts None (take l.write-index l.writes) h.writes }) l.self;
+  puts : (h : Accesses) → StandsFor h l.fn.self → IsRestorable l.ts h → PutsAll l.ts (take l.write-index l.writes) l.fn.self l.self;
   within : (n : ℕ) → IsWithin n l.fn.self → AreShort n l.writes → IsWithin n l.self;
 }

@@ -43,7 +43,7 @@ returns-clause-settles c =
     let same : c.deref.result.now ≡ own_of c.args.ts r = c.deref.ensures.value ∙ sym there in
     let done : SettlesListed c.args.ts c.args.fate (own_of c.args.ts r) r.pool r.chains c.settle_all.new.pool c.settle_all.new.chains =
     subst (λ (own : List Own). SettlesListed c.args.ts c.args.fate own r.pool r.chains c.settle_all.new.pool c.settle_all.new.chains) same (c.settle_all.ensures.settled s.chains.held) in
-    let left : Records = record { alloc = r.alloc; places = r.places; chains = c.settle_all.new.chains; pool = c.settle_all.new.pool; notes = c.keep_decided.new.notes } in
+    let left : Records = record { alloc = r.alloc; indices = r.indices; chains = c.settle_all.new.chains; pool = c.settle_all.new.pool; notes = c.keep_decided.new.notes } in
     record {
       kept = kept_settled h r left c.args.ts c.args.fate (λ q. refl) done s;
       some = λ more. c.keep_decided.ensures.noted more;

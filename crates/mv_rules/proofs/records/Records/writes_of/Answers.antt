@@ -2,8 +2,8 @@ use Rattle.std.proofs.Common.{◌≡◌, ◌∙◌, ap, rules, ℕ, List, [], Op
 use Rattle.std.specs.Option.{option_map_or}
 use Rattle.mv_rules.specs.declared.own.Notes.{Notes}
 use Rattle.xa_codes.specs.declared.write.Write.{Write}
-use Rattle.mv_chain.specs.History.{IsOpen}
-use Rattle.mv_rules.specs.History.{History, IsWritesOf}
+use Rattle.mv_chain.specs.Accesses.{IsUndecided}
+use Rattle.mv_rules.specs.Accesses.{Accesses, IsWritesOf}
 use Rattle.mv_rules.specs.Records.{StandsFor, own_of}
 use Rattle.mv_rules.specs.Within.{IsWithin, AreShort}
 use Rattle.mv_rules.proofs.Gathered.{ascending_entries, listed_entries, collected_is, writes_result}
@@ -12,7 +12,7 @@ use Rattle.mv_rules.proofs.records.Records.writes_of.Goals as goal
 pub returns-in_ok-values-in-Some-clause-writes : goal.returns-in_ok-values-in-Some-clause-writes
 returns-in_ok-values-in-Some-clause-writes c =
     let own : c.deref.result.now ≡ own_of c.args.ts c.args.self.now = c.deref.ensures.value ∙ ap (λ (o : Option Notes). option_map_or (λ (n : Notes). n.written.items) o []) c.in-Some.ensures.value in
-    writes_result c.listed.result c.in_ok-values-in-Some.values.entries (λ (ws : List Write). (h : History) → StandsFor h c.args.self.now → IsOpen c.args.ts h.writes → IsWritesOf c.args.ts h.writes ws) c.listed.ensures
+    writes_result c.listed.result c.in_ok-values-in-Some.values.entries (λ (ws : List Write). (h : Accesses) → StandsFor h c.args.self.now → IsUndecided c.args.ts h.writes → IsWritesOf c.args.ts h.writes ws) c.listed.ensures
     (λ h s u. record {
       ascending = ascending_entries c.in_ok-values-in-Some.values.entries c.in_ok-values-in-Some.ensures.ordered;
       last = λ q. listed_entries q c.in_ok-values-in-Some.values.entries ∙ (c.in_ok-values-in-Some.ensures.values s.chains.held q ∙ (rw own (collected_is h c.args.self.now c.args.ts q s u)));

@@ -31,7 +31,7 @@ returns-in_err-on_first-clause-any_moment g c h bodies s =
 
 pub returns-clause-any_moment : goal.returns-clause-any_moment
 returns-clause-any_moment g c h bodies s =
-    look g.D.Disk g.met.D.Disk.only_now c.args.self.now.disk c.read_again.new.disk _ (c.read_again.ensures.time h) (came_back c.args.self.now.on_first _ _ c.read_again.new.disk c.read_again.new.other c.place.ensures.first c.place.ensures.second).0 _ (left_log g.D.Disk c.args.self.now bodies s)
+    look g.D.Disk g.met.D.Disk.only_now c.args.self.now.disk c.read_again.new.disk _ (c.read_again.ensures.time h) (came_back c.args.self.now.on_first _ _ c.read_again.new.disk c.read_again.new.other c.arrange.ensures.first c.arrange.ensures.second).0 _ (left_log g.D.Disk c.args.self.now bodies s)
 
 pub returns-in_err-other_window-clause-any_moment_other : goal.returns-in_err-other_window-clause-any_moment_other
 returns-in_err-other_window-clause-any_moment_other g c h stood s =
@@ -43,7 +43,7 @@ returns-in_err-on_first-clause-any_moment_other g c h stood s =
 
 pub returns-clause-any_moment_other : goal.returns-clause-any_moment_other
 returns-clause-any_moment_other g c h stood s =
-    look g.D.Disk g.met.D.Disk.only_now c.args.self.now.other c.read_again.new.other _ (c.read_again.ensures.time_other h) (came_back c.args.self.now.on_first _ _ c.read_again.new.disk c.read_again.new.other c.place.ensures.first c.place.ensures.second).1 _ (left_other g.D.Disk c.args.self.now stood s)
+    look g.D.Disk g.met.D.Disk.only_now c.args.self.now.other c.read_again.new.other _ (c.read_again.ensures.time_other h) (came_back c.args.self.now.on_first _ _ c.read_again.new.disk c.read_again.new.other c.arrange.ensures.first c.arrange.ensures.second).1 _ (left_other g.D.Disk c.args.self.now stood s)
 
 pub returns-in_err-other_window-clause-any_moment_lost : goal.returns-in_err-other_window-clause-any_moment_lost
 returns-in_err-other_window-clause-any_moment_lost g c h bodies body s =
@@ -55,7 +55,7 @@ returns-in_err-on_first-clause-any_moment_lost g c h bodies body s =
 
 pub returns-clause-any_moment_lost : goal.returns-clause-any_moment_lost
 returns-clause-any_moment_lost g c h bodies body s =
-    look g.D.Disk g.met.D.Disk.only_now c.args.self.now.disk c.read_again.new.disk _ (c.read_again.ensures.time h) (came_back c.args.self.now.on_first _ _ c.read_again.new.disk c.read_again.new.other c.place.ensures.first c.place.ensures.second).0 _ s.left_is
+    look g.D.Disk g.met.D.Disk.only_now c.args.self.now.disk c.read_again.new.disk _ (c.read_again.ensures.time h) (came_back c.args.self.now.on_first _ _ c.read_again.new.disk c.read_again.new.other c.arrange.ensures.first c.arrange.ensures.second).0 _ s.left_is
 
 pub returns-in_err-other_window-clause-any_moment_sealed : goal.returns-in_err-other_window-clause-any_moment_sealed
 returns-in_err-other_window-clause-any_moment_sealed g c h bodies fresh s =
@@ -67,7 +67,7 @@ returns-in_err-on_first-clause-any_moment_sealed g c h bodies fresh s =
 
 pub returns-clause-any_moment_sealed : goal.returns-clause-any_moment_sealed
 returns-clause-any_moment_sealed g c h bodies fresh s =
-    look g.D.Disk g.met.D.Disk.only_now c.args.self.now.disk c.read_again.new.disk _ (c.read_again.ensures.time h) (came_back c.args.self.now.on_first _ _ c.read_again.new.disk c.read_again.new.other c.place.ensures.first c.place.ensures.second).0 _ (left_sealed g.D.Disk c.args.self.now bodies fresh s)
+    look g.D.Disk g.met.D.Disk.only_now c.args.self.now.disk c.read_again.new.disk _ (c.read_again.ensures.time h) (came_back c.args.self.now.on_first _ _ c.read_again.new.disk c.read_again.new.other c.arrange.ensures.first c.arrange.ensures.second).0 _ (left_sealed g.D.Disk c.args.self.now bodies fresh s)
 
 pub returns-in_err-other_window-clause-any_moment_sealed_other : goal.returns-in_err-other_window-clause-any_moment_sealed_other
 returns-in_err-other_window-clause-any_moment_sealed_other g c h bodies fresh s =
@@ -79,7 +79,7 @@ returns-in_err-on_first-clause-any_moment_sealed_other g c h bodies fresh s =
 
 pub returns-clause-any_moment_sealed_other : goal.returns-clause-any_moment_sealed_other
 returns-clause-any_moment_sealed_other g c h bodies fresh s =
-    look g.D.Disk g.met.D.Disk.only_now c.args.self.now.other c.read_again.new.other _ (c.read_again.ensures.time_other h) (came_back c.args.self.now.on_first _ _ c.read_again.new.disk c.read_again.new.other c.place.ensures.first c.place.ensures.second).1 _ s.left
+    look g.D.Disk g.met.D.Disk.only_now c.args.self.now.other c.read_again.new.other _ (c.read_again.ensures.time_other h) (came_back c.args.self.now.on_first _ _ c.read_again.new.disk c.read_again.new.other c.arrange.ensures.first c.arrange.ensures.second).1 _ s.left
 
 pub returns-in_err-on_first-clause-readable : goal.returns-in_err-on_first-clause-readable
 returns-in_err-on_first-clause-readable g c h bodies stood p calm =
@@ -98,11 +98,11 @@ returns-in_err-on_first-clause-readable_sealed g c h bodies fresh p calm =
 
 pub returns-clause-time : goal.returns-clause-time
 returns-clause-time g c h =
-    (in_turn (λ x y. TimePasses g.D.Disk Same x y) c.args.self.now.on_first c.args.self.now.disk c.args.self.now.other c.read_again.new.disk c.read_again.new.other _ _ c.place.ensures.first c.place.ensures.second (c.read_again.ensures.time h) (c.read_again.ensures.time_other h)).0
+    (in_turn (λ x y. TimePasses g.D.Disk Same x y) c.args.self.now.on_first c.args.self.now.disk c.args.self.now.other c.read_again.new.disk c.read_again.new.other _ _ c.arrange.ensures.first c.arrange.ensures.second (c.read_again.ensures.time h) (c.read_again.ensures.time_other h)).0
 
 pub returns-clause-time_second : goal.returns-clause-time_second
 returns-clause-time_second g c h =
-    (in_turn (λ x y. TimePasses g.D.Disk Same x y) c.args.self.now.on_first c.args.self.now.disk c.args.self.now.other c.read_again.new.disk c.read_again.new.other _ _ c.place.ensures.first c.place.ensures.second (c.read_again.ensures.time h) (c.read_again.ensures.time_other h)).1
+    (in_turn (λ x y. TimePasses g.D.Disk Same x y) c.args.self.now.on_first c.args.self.now.disk c.args.self.now.other c.read_again.new.disk c.read_again.new.other _ _ c.arrange.ensures.first c.arrange.ensures.second (c.read_again.ensures.time h) (c.read_again.ensures.time_other h)).1
 
 pub returns-clause-logged : goal.returns-clause-logged
 returns-clause-logged g c h =
@@ -111,22 +111,22 @@ returns-clause-logged g c h =
 pub returns-clause-log : goal.returns-clause-log
 returns-clause-log g c h =
     let value = c.in_ok-on_first.ensures.value h in
-    let only = of_both (λ d. Only (g.D.Disk.seen d) (g.D.Disk.may_leave d)) c.in_ok-on_first.on_first c.args.self.now.on_first _ _ c.read_again.new.disk c.read_again.new.other c.place.ensures.first c.place.ensures.second (c.in_ok-on_first.ensures.durable h) (c.in_ok-on_first.ensures.durable_other h) in
-    let same = in_turn (λ x y. g.D.Disk.seen y ≡ g.D.Disk.seen x) c.args.self.now.on_first c.args.self.now.disk c.args.self.now.other c.read_again.new.disk c.read_again.new.other _ _ c.place.ensures.first c.place.ensures.second (c.read_again.ensures.same h) (c.read_again.ensures.same_other h) in
+    let only = of_both (λ d. Only (g.D.Disk.seen d) (g.D.Disk.may_leave d)) c.in_ok-on_first.on_first c.args.self.now.on_first _ _ c.read_again.new.disk c.read_again.new.other c.arrange.ensures.first c.arrange.ensures.second (c.in_ok-on_first.ensures.durable h) (c.in_ok-on_first.ensures.durable_other h) in
+    let same = in_turn (λ x y. g.D.Disk.seen y ≡ g.D.Disk.seen x) c.args.self.now.on_first c.args.self.now.disk c.args.self.now.other c.read_again.new.disk c.read_again.new.other _ _ c.arrange.ensures.first c.arrange.ensures.second (c.read_again.ensures.same h) (c.read_again.ensures.same_other h) in
     opens g.D.Disk _ _ _ c.in_ok-on_first.scan (sound c.args.self.now.log_bytes _ _ (fault_order g.D.Disk.seen c.args.self.now.log_bytes c.args.self.now.on_first c.args.self.now.disk c.args.self.now.other ∙ value.0)) only.0 only.1 refl refl refl refl
     c.in_ok-on_first.on_first refl same.0 same.1 value.1
 
 pub returns-clause-anew : goal.returns-clause-anew
 returns-clause-anew g c h =
-    let same = in_turn (λ x y. g.D.Disk.seen y ≡ g.D.Disk.seen x) c.args.self.now.on_first c.args.self.now.disk c.args.self.now.other c.read_again.new.disk c.read_again.new.other _ _ c.place.ensures.first c.place.ensures.second (c.read_again.ensures.same h) (c.read_again.ensures.same_other h) in
+    let same = in_turn (λ x y. g.D.Disk.seen y ≡ g.D.Disk.seen x) c.args.self.now.on_first c.args.self.now.disk c.args.self.now.other c.read_again.new.disk c.read_again.new.other _ _ c.arrange.ensures.first c.arrange.ensures.second (c.read_again.ensures.same h) (c.read_again.ensures.same_other h) in
     pair_anew g.D.Disk c.args.self.now _ _ same.0 same.1 (returns-clause-log g c h) (returns-clause-logged g c h)
 
 pub returns-clause-anew_lost : goal.returns-clause-anew_lost
 returns-clause-anew_lost g c h =
-    let same = in_turn (λ x y. g.D.Disk.seen y ≡ g.D.Disk.seen x) c.args.self.now.on_first c.args.self.now.disk c.args.self.now.other c.read_again.new.disk c.read_again.new.other _ _ c.place.ensures.first c.place.ensures.second (c.read_again.ensures.same h) (c.read_again.ensures.same_other h) in
+    let same = in_turn (λ x y. g.D.Disk.seen y ≡ g.D.Disk.seen x) c.args.self.now.on_first c.args.self.now.disk c.args.self.now.other c.read_again.new.disk c.read_again.new.other _ _ c.arrange.ensures.first c.arrange.ensures.second (c.read_again.ensures.same h) (c.read_again.ensures.same_other h) in
     may_stand_anew g.D.Disk c.args.self.now _ _ same.0 same.1 (returns-clause-log g c h) (returns-clause-logged g c h)
 
 pub returns-clause-anew_sealed : goal.returns-clause-anew_sealed
 returns-clause-anew_sealed g c h =
-    let same = in_turn (λ x y. g.D.Disk.seen y ≡ g.D.Disk.seen x) c.args.self.now.on_first c.args.self.now.disk c.args.self.now.other c.read_again.new.disk c.read_again.new.other _ _ c.place.ensures.first c.place.ensures.second (c.read_again.ensures.same h) (c.read_again.ensures.same_other h) in
+    let same = in_turn (λ x y. g.D.Disk.seen y ≡ g.D.Disk.seen x) c.args.self.now.on_first c.args.self.now.disk c.args.self.now.other c.read_again.new.disk c.read_again.new.other _ _ c.arrange.ensures.first c.arrange.ensures.second (c.read_again.ensures.same h) (c.read_again.ensures.same_other h) in
     may_seal_anew g.D.Disk c.args.self.now _ _ same.0 same.1 (returns-clause-log g c h) (returns-clause-logged g c h)

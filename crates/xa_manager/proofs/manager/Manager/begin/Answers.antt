@@ -9,7 +9,7 @@ use Rattle.xa_model.specs.declared.outcome.Outcome.{Outcome}
 use Rattle.xa_codes.specs.declared.codes.TheConstants.{XAER_RMFAIL}
 use Rattle.xa_codes.specs.declared.detail.Detail.TheVariants as detail
 use Rattle.xa_manager.specs.LogStands.{HasRecords}
-use Rattle.xa_manager.specs.Managed.{kept}
+use Rattle.xa_manager.specs.Managed.{view}
 use Rattle.xa_manager.specs.Rereading.{IsReady}
 use Rattle.xa_manager.proofs.Beginnings.{next_sizes, next_short, next_is, none_next}
 use Rattle.xa_manager.proofs.Fates.{is_answer, turn_stops}
@@ -26,7 +26,7 @@ log_boot-requires-clause-short g c = next_short c.args.planned.durable c.args.pl
 pub returns-in-Some-clause-turn : goal.returns-in-Some-clause-turn
 returns-in-Some-clause-turn g c =
     λ s bodies st trusts f rebuilt.
-    let h = (outside c.args.self.now.up (kept c.args.self.now) s st.tables).recoverable in
+    let h = (outside c.args.self.now.up (view c.args.self.now) s st.tables).recoverable in
     let is : c.args.planned.durable ≡ durable f.state = rebuilt_is bodies f.records c.args.planned.durable (durable f.state) rebuilt f.spelled_as f.backs.records f.backs.lasts in
     let boot : c.boot.result ≡ f.state.logged_boot = c.boot.ensures ∙ ap (λ (d : Durable). d.boot) is in
     let fate = c.has_survived-survived.ensures s bodies f st.doubt h boot in
@@ -38,7 +38,7 @@ returns-in-Some-clause-turn g c =
 pub returns-clause-turn : goal.returns-clause-turn
 returns-clause-turn g c =
     λ s bodies st trusts f rebuilt.
-    let h = (outside c.args.self.now.up (kept c.args.self.now) s st.tables).recoverable in
+    let h = (outside c.args.self.now.up (view c.args.self.now) s st.tables).recoverable in
     let is : c.args.planned.durable ≡ durable f.state = rebuilt_is bodies f.records c.args.planned.durable (durable f.state) rebuilt f.spelled_as f.backs.records f.backs.lasts in
     let boot : c.boot.result ≡ f.state.logged_boot = c.boot.ensures ∙ ap (λ (d : Durable). d.boot) is in
     let fate = c.has_survived-survived.ensures s bodies f st.doubt h boot in

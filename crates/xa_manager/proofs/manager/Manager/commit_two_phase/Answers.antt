@@ -9,8 +9,8 @@ use Rattle.xa_model.specs.Branches.{two_phase_refusal, heuristic_refusal}
 use Rattle.xa_model.specs.Completions.{commit_two_phase_turn}
 use Rattle.xa_model.specs.Fold.{size_of}
 use Rattle.xa_model.specs.Logging.{logs}
-use Rattle.xa_manager.specs.Kept.{kept_of}
-use Rattle.xa_manager.specs.Managed.{kept}
+use Rattle.xa_manager.specs.View.{view_of}
+use Rattle.xa_manager.specs.Managed.{view}
 use Rattle.xa_manager.specs.Stands.{StandsFor}
 use Rattle.xa_manager.specs.declared.tables.Tables.{Tables}
 use Rattle.xa_manager.proofs.Finishing.{doubtful_known}
@@ -37,6 +37,6 @@ returns-clause-turn g c =
     let through = sym none ∙ c.heuristic_refusal.ensures.value s st in
     let doubt : known_as s xid ≡ InDoubt = two_doubtful s xid passes through in
     let r = logged.Completed xid Commit in
-    small_appends (kept m) (kept m') s (commit_two_phase_turn s xid) r XA_RETRY body a st (passes_both s (two_phase_refusal (known_as s xid)) (heuristic_refusal (known_as s xid)) (logs s r XA_RETRY s) passes through) (ap (λ x. spelled (logged.Completed x Commit)) (sym c.copied.ensures)) (doubtful_fits s xid (length (spelled r)) st.up whole.roomy doubt (completed xid Commit c.requires.name))
-    (λ e recoverable. c.take_completed.ensures.kept e s (s.end + size_of r) (subst (λ (k : Tables). StandsFor (kept_of k) s) (sym same) st) (doubtful_known s xid doubt) recoverable)
-    (λ e. ap kept_of (c.take_completed.ensures.left e ∙ same))))
+    small_appends (view m) (view m') s (commit_two_phase_turn s xid) r XA_RETRY body a st (passes_both s (two_phase_refusal (known_as s xid)) (heuristic_refusal (known_as s xid)) (logs s r XA_RETRY s) passes through) (ap (λ x. spelled (logged.Completed x Commit)) (sym c.copied.ensures)) (doubtful_fits s xid (length (spelled r)) st.up whole.roomy doubt (completed xid Commit c.requires.name))
+    (λ e recoverable. c.take_completed.ensures.kept e s (s.end + size_of r) (subst (λ (k : Tables). StandsFor (view_of k) s) (sym same) st) (doubtful_known s xid doubt) recoverable)
+    (λ e. ap view_of (c.take_completed.ensures.left e ∙ same))))

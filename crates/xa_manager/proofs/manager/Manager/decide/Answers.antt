@@ -8,8 +8,8 @@ use Rattle.xa_model.specs.Branches.{decided_by}
 use Rattle.xa_model.specs.Completions.{decide_turn, decide_refusal}
 use Rattle.xa_model.specs.Fold.{size_of}
 use Rattle.xa_model.specs.Logging.{logs}
-use Rattle.xa_manager.specs.Kept.{kept_of}
-use Rattle.xa_manager.specs.Managed.{kept}
+use Rattle.xa_manager.specs.View.{view_of}
+use Rattle.xa_manager.specs.Managed.{view}
 use Rattle.xa_manager.specs.Stands.{StandsFor}
 use Rattle.xa_manager.specs.declared.tables.Tables.{Tables}
 use Rattle.xa_manager.proofs.Taking.{takes_appending, tables_up, served_by}
@@ -33,6 +33,6 @@ returns-clause-turn g c =
     let passes : None ≡ decide_refusal (known_as s xid) = c.in-Ok.ensures.refusal s st in
     let doubt : known_as s xid ≡ InDoubt = decided_doubtful s xid passes in
     let r = logged.Decided xid c.args.direction in
-    small_appends (kept m) (kept m') s (decide_turn s c.args.direction xid) r XAER_RMERR body a st (passed_turn (decide_refusal (known_as s xid)) s (logs s r XAER_RMERR s) passes) (ap spelled (sym c.in-Ok.ensures.logs)) (doubtful_fits s xid (length (spelled r)) st.up whole.roomy doubt (decided xid c.args.direction c.requires.name))
-    (λ e recoverable. c.take_decided.ensures.kept e s ((decided_by s c.args.direction xid).end + size_of r) (subst (λ (k : Tables). StandsFor (kept_of k) s) (sym same) st) doubt recoverable)
-    (λ e. ap kept_of (c.take_decided.ensures.left e ∙ same))))
+    small_appends (view m) (view m') s (decide_turn s c.args.direction xid) r XAER_RMERR body a st (passed_turn (decide_refusal (known_as s xid)) s (logs s r XAER_RMERR s) passes) (ap spelled (sym c.in-Ok.ensures.logs)) (doubtful_fits s xid (length (spelled r)) st.up whole.roomy doubt (decided xid c.args.direction c.requires.name))
+    (λ e recoverable. c.take_decided.ensures.kept e s ((decided_by s c.args.direction xid).end + size_of r) (subst (λ (k : Tables). StandsFor (view_of k) s) (sym same) st) doubt recoverable)
+    (λ e. ap view_of (c.take_decided.ensures.left e ∙ same))))

@@ -7,8 +7,8 @@ use Rattle.xa_model.specs.State.{State, known_as}
 use Rattle.xa_model.specs.Completions.{forget_turn, forget_refusal}
 use Rattle.xa_model.specs.Fold.{size_of}
 use Rattle.xa_model.specs.Logging.{logs}
-use Rattle.xa_manager.specs.Kept.{kept_of}
-use Rattle.xa_manager.specs.Managed.{kept}
+use Rattle.xa_manager.specs.View.{view_of}
+use Rattle.xa_manager.specs.Managed.{view}
 use Rattle.xa_manager.specs.Stands.{StandsFor}
 use Rattle.xa_manager.specs.declared.tables.Tables.{Tables}
 use Rattle.xa_manager.proofs.Taking.{takes_appending, tables_up, served_by}
@@ -33,6 +33,6 @@ returns-clause-turn g c =
     let done = forgets_completed s xid passes in
     let r = logged.Forgotten xid in
     let small : length (spelled r) ≤ 135 = omega (arith, forgotten xid c.requires.name) in
-    small_appends (kept m) (kept m') s (forget_turn s xid) r XAER_RMERR body a st (passed_turn (forget_refusal (known_as s xid)) s (logs s r XAER_RMERR s) passes) (ap spelled (sym c.in-Ok.ensures.logs)) (forgotten_fits s xid (length (spelled r)) st.up whole.roomy done small)
-    (λ e recoverable. c.take_forgotten.ensures.kept e s (s.end + size_of r) (subst (λ (k : Tables). StandsFor (kept_of k) s) (sym same) st) done recoverable)
-    (λ e. ap kept_of (c.take_forgotten.ensures.left e ∙ same))))
+    small_appends (view m) (view m') s (forget_turn s xid) r XAER_RMERR body a st (passed_turn (forget_refusal (known_as s xid)) s (logs s r XAER_RMERR s) passes) (ap spelled (sym c.in-Ok.ensures.logs)) (forgotten_fits s xid (length (spelled r)) st.up whole.roomy done small)
+    (λ e recoverable. c.take_forgotten.ensures.kept e s (s.end + size_of r) (subst (λ (k : Tables). StandsFor (view_of k) s) (sym same) st) done recoverable)
+    (λ e. ap view_of (c.take_forgotten.ensures.left e ∙ same))))

@@ -1,7 +1,7 @@
 use Rattle.std.proofs.Common.{inl, refl, sym, ◌∙◌}
 use Rattle.xa_log.specs.Chain.{logged}
 use Rattle.xa_log.specs.Reading.{bodies_of}
-use Rattle.xa_manager.specs.Managed.{kept}
+use Rattle.xa_manager.specs.Managed.{view}
 use Rattle.xa_manager.proofs.Results.{on_err, on_ok, if_ok, if_err, at_err, at_ok, in_ok, in_err}
 use Rattle.xa_manager.proofs.Rescanned.{Finds, stands_kept, stands_found, found_state, has_gives}
 use Rattle.xa_manager.proofs.Standing.{still_stands, outside, is_up, found_end}
@@ -37,12 +37,12 @@ returns-clause-found g c = λ trusts. if_ok c.rescan.result _ (λ v is s st.
       append = λ bodies body stood p. let f = in_ok _ c.rescan.result v is (c.rescan.ensures.anew_lost trusts.disk bodies body stood p trusts.appends (inl trusts.headers)) in (f.0, f.1.0);
       seal = λ bodies fresh p. let f = in_ok _ c.rescan.result v is (c.rescan.ensures.anew_sealed trusts.disk bodies fresh p (inl trusts.seals)) in (f.0, f.1.0);
     } in
-    found_state g.D.Disk (bodies_of v.items) c.args.self.now.log c.rescan.new.self s finds (outside c.args.self.now.up (kept c.args.self.now) s st.tables).recoverable (st.log trusts))
+    found_state g.D.Disk (bodies_of v.items) c.args.self.now.log c.rescan.new.self s finds (outside c.args.self.now.up (view c.args.self.now) s st.tables).recoverable (st.log trusts))
 
 pub returns-clause-ends : goal.returns-clause-ends
 returns-clause-ends g c = λ trusts. on_ok c.rescan.result _ (λ v is s st up.
     let found = in_ok _ c.rescan.result v is (returns-clause-found g c trusts) s st in
-    found_end g.D.Disk (bodies_of v.items) c.rescan.new.self s (outside c.args.self.now.up (kept c.args.self.now) s st.tables).recoverable (is_up c.args.self.now.up (kept c.args.self.now) s st.tables up) found ∙ sym (st.end up))
+    found_end g.D.Disk (bodies_of v.items) c.rescan.new.self s (outside c.args.self.now.up (view c.args.self.now) s st.tables).recoverable (is_up c.args.self.now.up (view c.args.self.now) s st.tables up) found ∙ sym (st.end up))
 
 pub returns-clause-readable : goal.returns-clause-readable
 returns-clause-readable g c = λ trusts. if_err c.rescan.result _ (λ e is s st.

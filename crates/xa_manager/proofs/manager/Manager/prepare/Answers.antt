@@ -10,8 +10,8 @@ use Rattle.xa_model.specs.Branches.{committed}
 use Rattle.xa_model.specs.Completions.{prepare_turn, prepare_written}
 use Rattle.xa_model.specs.Fold.{is_empty, size_of}
 use Rattle.xa_model.specs.Logging.{writes_in, has_room, logs}
-use Rattle.xa_manager.specs.Kept.{kept_of}
-use Rattle.xa_manager.specs.Managed.{kept}
+use Rattle.xa_manager.specs.View.{view_of}
+use Rattle.xa_manager.specs.Managed.{view}
 use Rattle.xa_manager.specs.Stands.{StandsWithRoom}
 use Rattle.xa_manager.specs.declared.tables.Tables.{Tables}
 use Rattle.xa_manager.proofs.Taking.{takes_now, takes_appending, tables_up, stays_up, on_err, served_by, refused_is, lost_is, down_after}
@@ -31,8 +31,8 @@ returns-then-is_empty-clause-ok g c =
     (λ s whole is_up st.
     let passes = sym free ∙ c.one_phase_refusal.ensures.value s st in
     let known = worked_known s xid passes in
-    let writes = told_writes (kept m) s xid c.timestamp-timestamp.result c.in_ok-writes.writes.items st known (c.timestamp-timestamp.ensures s st.branches) c.in_ok-writes.ensures.writes in
-    now_empty (kept m') s xid (answer (plain XA_RDONLY) (committed s xid)) (prepare_written s xid) passes (c.mark_of.ensures s st ∙ unmarked) (ap is_empty (sym writes) ∙ no_writes c.in_ok-writes.writes.items none)
+    let writes = told_writes (view m) s xid c.timestamp-timestamp.result c.in_ok-writes.writes.items st known (c.timestamp-timestamp.ensures s st.branches) c.in_ok-writes.ensures.writes in
+    now_empty (view m') s xid (answer (plain XA_RDONLY) (committed s xid)) (prepare_written s xid) passes (c.mark_of.ensures s st ∙ unmarked) (ap is_empty (sym writes) ∙ no_writes c.in_ok-writes.writes.items none)
     (λ recoverable. c.finish_branch-then-is_empty.ensures.committed refl s s.end st known recoverable)))
 
 pub returns-in_err-make_room-clause-err : goal.returns-in_err-make_room-clause-err
@@ -49,7 +49,7 @@ returns-then-not-has_room-clause-ok g c =
     let free : c.one_phase_refusal.result ≡ None = search rules in
     let unmarked : c.mark_of.result ≡ None = search rules in
     let some : 1 ≤ length ws = grind (arith, nat_tests, c.is_empty.ensures, c.if-is_empty.false) in
-    let told : WasTold (kept m) xid t ws = record {
+    let told : WasTold (view m) xid t ws = record {
       name = c.requires.name;
       some = some_writes ws some;
       free = λ s st. sym free ∙ c.one_phase_refusal.ensures.value s st;
@@ -65,8 +65,8 @@ returns-then-not-has_room-clause-ok g c =
     (takes_now _ m m' (λ (s : State). prepare_turn s xid) _ _ refl refl refl refl refl
     (λ s whole is_up st.
     let r = logged.Prepared xid (timestamp_in s xid) (writes_in s xid) in
-    let h = has_prepared (kept m) s xid t ws c.len.result c.in_ok-body.body.items c.has_room.result st told spells size (λ short few. c.has_room.ensures.room s whole is_up short few) in
-    now_full (kept m') s xid (answer (plain XA_RDONLY) (committed s xid)) (has_room s r 1) (logs s r XAER_RMERR s) h.free h.unmarked h.some (h.room_is ∙ full)
+    let h = has_prepared (view m) s xid t ws c.len.result c.in_ok-body.body.items c.has_room.result st told spells size (λ short few. c.has_room.ensures.room s whole is_up short few) in
+    now_full (view m') s xid (answer (plain XA_RDONLY) (committed s xid)) (has_room s r 1) (logs s r XAER_RMERR s) h.free h.unmarked h.some (h.room_is ∙ full)
     (λ recoverable. c.log_full.ensures.tables s s.end st (worked_known s xid h.free) recoverable)))
 
 pub returns-clause-ok : goal.returns-clause-ok
@@ -82,7 +82,7 @@ returns-clause-ok g c =
     let free : c.one_phase_refusal.result ≡ None = search rules in
     let unmarked : c.mark_of.result ≡ None = search rules in
     let some : 1 ≤ length ws = grind (arith, nat_tests, c.is_empty.ensures, c.if-is_empty.false) in
-    let told : WasTold (kept m) xid t ws = record {
+    let told : WasTold (view m) xid t ws = record {
       name = c.requires.name;
       some = some_writes ws some;
       free = λ s st. sym free ∙ c.one_phase_refusal.ensures.value s st;
@@ -100,11 +100,11 @@ returns-clause-ok g c =
     (λ s whole is_up.
     let st = tables_up _ m s is_up whole in
     let r = logged.Prepared xid (timestamp_in s xid) (writes_in s xid) in
-    let h = has_prepared (kept m) s xid t ws c.len.result c.in_ok-body.body.items c.has_room.result st told spells size (λ short few. c.has_room.ensures.room s whole is_up short few) in
+    let h = has_prepared (view m) s xid t ws c.len.result c.in_ok-body.body.items c.has_room.result st told spells size (λ short few. c.has_room.ensures.room s whole is_up short few) in
     let there : HasRecord s xid r 1 c.deref.result.now true =
     record { free = h.free; unmarked = h.unmarked; some = h.some; body_is = h.body_is ∙ sym c.deref.ensures.value; room_is = h.room_is ∙ fits } in
-    written_appends (kept m') s xid r 1 XAER_RMERR s (answer (plain XA_RDONLY) (committed s xid)) c.deref.result.now a there
-    (λ e recoverable. c.take_prepared.ensures.kept e s (s.end + size_of r) (subst (λ (k : Tables). StandsWithRoom xid (kept_of k) s) (sym same) (c.in_ok-make_room.ensures.ok s st)) recoverable)
-    (λ e recoverable. c.take_prepared.ensures.left (refused_is a e) s (subst (λ (k : Tables). StandsWithRoom xid (kept_of k) s) (sym same) (c.in_ok-make_room.ensures.ok s st)))
+    written_appends (view m') s xid r 1 XAER_RMERR s (answer (plain XA_RDONLY) (committed s xid)) c.deref.result.now a there
+    (λ e recoverable. c.take_prepared.ensures.kept e s (s.end + size_of r) (subst (λ (k : Tables). StandsWithRoom xid (view_of k) s) (sym same) (c.in_ok-make_room.ensures.ok s st)) recoverable)
+    (λ e recoverable. c.take_prepared.ensures.left (refused_is a e) s (subst (λ (k : Tables). StandsWithRoom xid (view_of k) s) (sym same) (c.in_ok-make_room.ensures.ok s st)))
     (λ e recoverable.
-    down_after (kept m') s r (c.take_prepared.ensures.left (lost_is a e) s (subst (λ (k : Tables). StandsWithRoom xid (kept_of k) s) (sym same) (c.in_ok-make_room.ensures.ok s st))) recoverable)))
+    down_after (view m') s r (c.take_prepared.ensures.left (lost_is a e) s (subst (λ (k : Tables). StandsWithRoom xid (view_of k) s) (sym same) (c.in_ok-make_room.ensures.ok s st))) recoverable)))

@@ -8,8 +8,8 @@ use Rattle.xa_model.specs.State.{State, InDoubt, known_as}
 use Rattle.xa_model.specs.Branches.{rollback_refusal, heuristic_refusal, is_associated}
 use Rattle.xa_model.specs.Completions.{rollback_turn, roll_back_turn}
 use Rattle.xa_model.specs.Fold.{size_of}
-use Rattle.xa_manager.specs.Kept.{kept_of}
-use Rattle.xa_manager.specs.Managed.{kept}
+use Rattle.xa_manager.specs.View.{view_of}
+use Rattle.xa_manager.specs.Managed.{view}
 use Rattle.xa_manager.specs.Stands.{StandsFor}
 use Rattle.xa_manager.specs.declared.tables.Tables.{Tables}
 use Rattle.xa_manager.proofs.Finishing.{doubtful_known}
@@ -26,7 +26,7 @@ returns-clause-turn g c =
     let a = c.journal_small-answer.result in
     let free : c.rollback_refusal.result ≡ None = search rules in
     let none : c.heuristic_refusal.result ≡ None = search rules in
-    let settled_ : c.is_settled.result ≡ true = search rules in
+    let settled_ : c.is_lasting.result ≡ true = search rules in
     let body = spelled (logged.Completed c.copied.result Rollback) in
     let same : c.journal_small-answer.new.self.tables ≡ m.tables = c.journal_small-answer.ensures.tables in
     rw c.appended.ensures
@@ -35,9 +35,9 @@ returns-clause-turn g c =
     let st = tables_up _ m s is_up whole in
     let passes = sym free ∙ c.rollback_refusal.ensures.value s st in
     let through = sym none ∙ c.heuristic_refusal.ensures.value s st in
-    let settled = c.is_settled.ensures s st ∙ settled_ in
+    let settled = c.is_lasting.ensures s st ∙ settled_ in
     let doubt : known_as s xid ≡ InDoubt = settled_doubtful s xid settled through in
     let r = logged.Completed xid Rollback in
-    small_appends (kept m) (kept m') s (rollback_turn s xid) r XAER_RMERR body a st (passes_both s (rollback_refusal (known_as s xid) (is_associated s xid)) (heuristic_refusal (known_as s xid)) (roll_back_turn s xid (known_as s xid)) passes through ∙ doubt_rolls s xid (known_as s xid) doubt) (ap (λ x. spelled (logged.Completed x Rollback)) (sym c.copied.ensures)) (doubtful_fits s xid (length (spelled r)) st.up whole.roomy doubt (completed xid Rollback c.requires.name))
-    (λ e recoverable. c.take_completed.ensures.kept e s (s.end + size_of r) (subst (λ (k : Tables). StandsFor (kept_of k) s) (sym same) st) (doubtful_known s xid doubt) recoverable)
-    (λ e. ap kept_of (c.take_completed.ensures.left e ∙ same))))
+    small_appends (view m) (view m') s (rollback_turn s xid) r XAER_RMERR body a st (passes_both s (rollback_refusal (known_as s xid) (is_associated s xid)) (heuristic_refusal (known_as s xid)) (roll_back_turn s xid (known_as s xid)) passes through ∙ doubt_rolls s xid (known_as s xid) doubt) (ap (λ x. spelled (logged.Completed x Rollback)) (sym c.copied.ensures)) (doubtful_fits s xid (length (spelled r)) st.up whole.roomy doubt (completed xid Rollback c.requires.name))
+    (λ e recoverable. c.take_completed.ensures.kept e s (s.end + size_of r) (subst (λ (k : Tables). StandsFor (view_of k) s) (sym same) st) (doubtful_known s xid doubt) recoverable)
+    (λ e. ap view_of (c.take_completed.ensures.left e ∙ same))))

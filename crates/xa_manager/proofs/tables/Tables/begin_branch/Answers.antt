@@ -3,7 +3,7 @@ use Rattle.xa_xid.specs.Triple.{Triple}
 use Rattle.xa_assoc.specs.Sessions.{SessionsStandFor}
 use Rattle.xa_model.specs.Associations.{begun}
 use Rattle.xa_model.proofs.ChangedWaters.{begun_water}
-use Rattle.xa_manager.specs.Kept.{kept_of}
+use Rattle.xa_manager.specs.View.{view_of}
 use Rattle.mv_rules.specs.Ties.{history_of, low_of}
 use Rattle.mv_rules.proofs.Remade.{low_rises}
 use Rattle.xa_manager.proofs.Beginning.{begun_sound, undone_follows}
@@ -27,7 +27,7 @@ pub returns-in-Err-clause-err : goal.returns-in-Err-clause-err
 returns-in-Err-clause-err c = λ s st.
     let n = c.args.session in
     let there = subst (λ (x : Triple). SessionsStandFor c.begin.new.self (begun s n x).after) c.copied.ensures (c.in_ok-begin.ensures.ok s st.recoverable.sound st.sessions) in
-    let sound = begun_sound (kept_of c.args.self.now) s n c.args.xid.now st c.requires.connected (c.requires.free s st) in record {
+    let sound = begun_sound (view_of c.args.self.now) s n c.args.xid.now st c.requires.connected (c.requires.free s st) in record {
       name = st.name;
       log_bytes = st.log_bytes;
       up = st.up;

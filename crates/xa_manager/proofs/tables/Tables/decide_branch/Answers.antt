@@ -1,14 +1,14 @@
 use Rattle.std.proofs.Common.{refl, subst}
 use Rattle.xa_codes.specs.declared.write.TheConstants.{MOST_VALUE}
 use Rattle.mv_chain.specs.declared.fate.Fate.{Fate}
-use Rattle.xa_manager.specs.Kept.{kept_of}
+use Rattle.xa_manager.specs.View.{view_of}
 use Rattle.xa_manager.proofs.Finishing.{Settles, decided_stands}
 use Rattle.xa_manager.proofs.tables.Tables.decide_branch.Goals as goal
 
 pub returns-clause-becomes : goal.returns-clause-becomes
 returns-clause-becomes c = λ s end st doubt recoverable.
     let t = c.timestamp-timestamp.result in
-    decided_stands (kept_of c.args.self.now) (record (kept_of c.args.self.now) { branches = c.decide.new.self; records = c.settle.new.self }) s c.args.xid.now c.args.direction end t st doubt
+    decided_stands (view_of c.args.self.now) (record (view_of c.args.self.now) { branches = c.decide.new.self; records = c.settle.new.self }) s c.args.xid.now c.args.direction end t st doubt
     (c.timestamp-timestamp.ensures s st.branches) refl refl refl (c.decide.ensures.decided s st.recoverable.sound st.branches doubt)
     (subst (λ (fate : Fate). Settles t fate c.args.self.now.records c.settle.new.self) c.fate_of.ensures c.settle.ensures.stands) recoverable
 

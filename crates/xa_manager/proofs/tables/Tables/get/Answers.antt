@@ -1,7 +1,7 @@
 use Rattle.std.proofs.Common.{◌≡◌, ℕ, List, Some, None, subst, arith, rules}
 use Rattle.xa_codes.specs.declared.write.TheConstants.{MOST_VALUE}
 use Rattle.mv_rules.specs.declared.answers.Got.TheVariants as got_as
-use Rattle.xa_manager.specs.Kept.{kept_of, own_at}
+use Rattle.xa_manager.specs.View.{view_of, own_at}
 use Rattle.xa_manager.proofs.Changed.{Gets, same_beside}
 use Rattle.xa_manager.proofs.Getting.{get_value, get_absent, get_busy, get_alone, get_stays}
 use Rattle.xa_manager.proofs.Replying.{value_fresh}
@@ -12,7 +12,7 @@ invariant_of-self c = record { short = c.get.ensures.within MOST_VALUE c.args.se
 
 pub returns-in-Value-clause-ok : goal.returns-in-Value-clause-ok
 returns-in-Value-clause-ok c =
-    let m = kept_of c.args.self.now in
+    let m = view_of c.args.self.now in
     let own : own_at m c.args.session ≡ Some (c.in-Some.field-0-0, c.in-Some.working) = grind (arith, c.in-Some.ensures) in
     let free : c.in-Some.working.mark ≡ None = search rules in
     rw c.carrying.ensures
@@ -25,7 +25,7 @@ returns-in-Value-clause-fresh c = value_fresh _ c.in-Value.value (c.in-Value.ens
 
 pub returns-in-Absent-clause-ok : goal.returns-in-Absent-clause-ok
 returns-in-Absent-clause-ok c =
-    let m = kept_of c.args.self.now in
+    let m = view_of c.args.self.now in
     let own : own_at m c.args.session ≡ Some (c.in-Some.field-0-0, c.in-Some.working) = grind (arith, c.in-Some.ensures) in
     let free : c.in-Some.working.mark ≡ None = search rules in
     rw c.carrying-in-Absent.ensures
@@ -35,7 +35,7 @@ returns-in-Absent-clause-ok c =
 
 pub returns-in-Busy-clause-ok : goal.returns-in-Busy-clause-ok
 returns-in-Busy-clause-ok c =
-    let m = kept_of c.args.self.now in
+    let m = view_of c.args.self.now in
     let own : own_at m c.args.session ≡ Some (c.in-Some.field-0-0, c.in-Some.working) = grind (arith, c.in-Some.ensures) in
     let free : c.in-Some.working.mark ≡ None = search rules in
     rw c.detailed.ensures
@@ -45,13 +45,13 @@ returns-in-Busy-clause-ok c =
 
 pub returns-in_default-clause-ok : goal.returns-in_default-clause-ok
 returns-in_default-clause-ok c =
-    let m = kept_of c.args.self.now in
+    let m = view_of c.args.self.now in
     let none : own_at m c.args.session ≡ None = grind (arith, c.in_default.ensures) in
     rw c.plain.ensures (get_alone m c.args.session c.args.key.now none)
 
 pub returns-in-Memory-clause-err : goal.returns-in-Memory-clause-err
 returns-in-Memory-clause-err c =
-    let m = kept_of c.args.self.now in
+    let m = view_of c.args.self.now in
     let own : own_at m c.args.session ≡ Some (c.in-Some.field-0-0, c.in-Some.working) = grind (arith, c.in-Some.ensures) in
     get_stays m (record m { records = c.get.new.self }) c.args.session c.args.key.now c.in-Some.field-0-0 c.in-Some.working own
     (subst (λ (k : List ℕ). Gets m c.in-Some.working.timestamp k got_as.Memory (record m { records = c.get.new.self })) c.as_slice.ensures

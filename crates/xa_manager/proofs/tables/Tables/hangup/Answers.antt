@@ -2,7 +2,7 @@ use Rattle.std.proofs.Common.{◌≡◌, Option, None, refl, ap, ◌∙◌, rule
 use Rattle.std.specs.Prelude.{option_and_then, option_copied}
 use Rattle.xa_assoc.specs.declared.seat.Seat.{Seat}
 use Rattle.xa_assoc.specs.Seats.{seat_at, holds}
-use Rattle.xa_manager.specs.Kept.{kept_of}
+use Rattle.xa_manager.specs.View.{view_of}
 use Rattle.xa_manager.proofs.Histories.{left_records}
 use Rattle.xa_manager.proofs.HangingUp.{nobody_stands}
 use Rattle.xa_manager.proofs.tables.Tables.hangup.Goals as goal
@@ -51,7 +51,7 @@ returns-in_default c = record {
           log_bytes = st.log_bytes;
           up = st.up;
           sessions = c.hangup.ensures.after s st.recoverable.sound st.sessions;
-          branches = nobody_stands (kept_of c.args.self.now) s n st none;
+          branches = nobody_stands (view_of c.args.self.now) s n st none;
           records = left_records n s c.args.self.now.records st.records;
           recoverable = recoverable;
         };

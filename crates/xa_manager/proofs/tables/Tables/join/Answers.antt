@@ -4,7 +4,7 @@ use Rattle.xa_model.specs.State.{State, known_as}
 use Rattle.xa_model.specs.Answer.{plain, carrying, marked}
 use Rattle.xa_model.specs.Associations.{mark_in, joined}
 use Rattle.xa_assoc.specs.Sessions.{join_refusal_of}
-use Rattle.xa_manager.specs.Kept.{kept_of}
+use Rattle.xa_manager.specs.View.{view_of}
 use Rattle.xa_manager.proofs.Rows.{follows_refused, follows_marked, follows_unmarked}
 use Rattle.xa_manager.proofs.tables.Tables.join.Goals as goal
 
@@ -12,11 +12,11 @@ pub returns-in-Some-clause-ok : goal.returns-in-Some-clause-ok
 returns-in-Some-clause-ok c =
     let n = c.args.session in
     let xid = c.args.xid.now in
-    follows_refused (kept_of c.args.self.now) (λ (s : State). join_refusal_of s n xid) (λ (s : State). marked (mark_in (known_as s xid)) s (joined s n xid)) c.in-Some.reply c.in-Some.ensures.served c.in-Some.ensures.value
+    follows_refused (view_of c.args.self.now) (λ (s : State). join_refusal_of s n xid) (λ (s : State). marked (mark_in (known_as s xid)) s (joined s n xid)) c.in-Some.reply c.in-Some.ensures.served c.in-Some.ensures.value
 
 pub returns-in-Some-mark_of-clause-ok : goal.returns-in-Some-mark_of-clause-ok
 returns-in-Some-mark_of-clause-ok c =
-    let m = kept_of c.args.self.now in
+    let m = view_of c.args.self.now in
     let n = c.args.session in
     let xid = c.args.xid.now in
     let free : c.join_refusal.result ≡ None = search rules in
@@ -33,6 +33,6 @@ returns-clause-ok c =
     let free : c.join_refusal.result ≡ None = search rules in
     let unmarked : c.mark_of.result ≡ None = search rules in
     rw c.carrying.ensures
-    (follows_unmarked (kept_of c.args.self.now) (kept_of c.join_branch.new.self) (λ (s : State). join_refusal_of s n xid) (λ (s : State). mark_in (known_as s xid)) (λ (s : State). s) (λ (s : State). joined s n xid)
+    (follows_unmarked (view_of c.args.self.now) (view_of c.join_branch.new.self) (λ (s : State). join_refusal_of s n xid) (λ (s : State). mark_in (known_as s xid)) (λ (s : State). s) (λ (s : State). joined s n xid)
     (carrying (body.Number t)) refl (λ s st. sym free ∙ c.join_refusal.ensures.value s st) (λ s st. c.mark_of.ensures s st ∙ unmarked)
     (λ s st passes. (ap (λ (k : ℕ). carrying (body.Number k)) (sym (c.timestamp-timestamp.ensures s st.branches)), λ recoverable. c.in_ok-join_branch.ensures.ok s st recoverable)))

@@ -4,7 +4,7 @@ use Rattle.xa_model.specs.State.{State, known_as}
 use Rattle.xa_model.specs.Answer.{plain, carrying, marked}
 use Rattle.xa_model.specs.Associations.{mark_in, resumed, not_resumed}
 use Rattle.xa_assoc.specs.Sessions.{resume_refusal_of}
-use Rattle.xa_manager.specs.Kept.{kept_of}
+use Rattle.xa_manager.specs.View.{view_of}
 use Rattle.xa_manager.proofs.Rows.{follows_refused, follows_marked, follows_unmarked}
 use Rattle.xa_manager.proofs.tables.Tables.resume.Goals as goal
 
@@ -12,7 +12,7 @@ pub returns-in-Some-clause-ok : goal.returns-in-Some-clause-ok
 returns-in-Some-clause-ok c =
     let n = c.args.session in
     let xid = c.args.xid.now in
-    follows_refused (kept_of c.args.self.now) (λ (s : State). resume_refusal_of s n xid) (λ (s : State). marked (mark_in (known_as s xid)) (not_resumed s n xid) (resumed s n xid)) c.in-Some.reply
+    follows_refused (view_of c.args.self.now) (λ (s : State). resume_refusal_of s n xid) (λ (s : State). marked (mark_in (known_as s xid)) (not_resumed s n xid) (resumed s n xid)) c.in-Some.reply
     c.in-Some.ensures.served c.in-Some.ensures.value
 
 pub returns-in-Some-mark_of-clause-ok : goal.returns-in-Some-mark_of-clause-ok
@@ -22,7 +22,7 @@ returns-in-Some-mark_of-clause-ok c =
     let free : c.resume_refusal.result ≡ None = search rules in
     let said : c.plain.result ≡ plain c.in-Some-mark_of.code = search rules in
     rw said
-    (follows_marked (kept_of c.args.self.now) (kept_of c.leave_branch.new.self) (λ (s : State). resume_refusal_of s n xid) (λ (s : State). mark_in (known_as s xid)) (λ (s : State). not_resumed s n xid)
+    (follows_marked (view_of c.args.self.now) (view_of c.leave_branch.new.self) (λ (s : State). resume_refusal_of s n xid) (λ (s : State). mark_in (known_as s xid)) (λ (s : State). not_resumed s n xid)
     (λ (s : State). resumed s n xid) c.in-Some-mark_of.code (λ s st. sym free ∙ c.resume_refusal.ensures.value s st) c.in-Some-mark_of.ensures
     (λ s st passes recoverable. c.leave_branch.ensures.not_resumed s st (passes, c.resumed_kind-from.ensures s st passes) recoverable))
 
@@ -34,7 +34,7 @@ returns-clause-ok c =
     let free : c.resume_refusal.result ≡ None = search rules in
     let unmarked : c.mark_of.result ≡ None = search rules in
     rw c.carrying.ensures
-    (follows_unmarked (kept_of c.args.self.now) (kept_of c.resume_branch.new.self) (λ (s : State). resume_refusal_of s n xid) (λ (s : State). mark_in (known_as s xid)) (λ (s : State). not_resumed s n xid)
+    (follows_unmarked (view_of c.args.self.now) (view_of c.resume_branch.new.self) (λ (s : State). resume_refusal_of s n xid) (λ (s : State). mark_in (known_as s xid)) (λ (s : State). not_resumed s n xid)
     (λ (s : State). resumed s n xid) (carrying (body.Number t)) refl (λ s st. sym free ∙ c.resume_refusal.ensures.value s st) (λ s st. c.mark_of.ensures s st ∙ unmarked)
     (λ s st passes. (
       ap (λ (k : ℕ). carrying (body.Number k)) (sym (c.timestamp-timestamp.ensures s st.branches)),

@@ -3,7 +3,7 @@ use Rattle.xa_model.specs.State.{State, known_as, loose_of}
 use Rattle.xa_model.specs.Answer.{ok, unless, marked, plain}
 use Rattle.xa_model.specs.Associations.{mark_in, loose_refusal, suspended, not_suspended}
 use Rattle.xa_assoc.specs.Sessions.{suspend_refusal_of}
-use Rattle.xa_manager.specs.Kept.{kept_of}
+use Rattle.xa_manager.specs.View.{view_of}
 use Rattle.xa_manager.proofs.Rows.{follows_refused, follows_marked, follows_unmarked, turned_away, let_on}
 use Rattle.xa_manager.proofs.tables.Tables.suspend.Goals as goal
 
@@ -11,7 +11,7 @@ pub returns-in-Some-clause-follows : goal.returns-in-Some-clause-follows
 returns-in-Some-clause-follows c =
     let n = c.args.session in
     let xid = c.args.xid.now in
-    follows_refused (kept_of c.args.self.now) (λ (s : State). suspend_refusal_of s n xid)
+    follows_refused (view_of c.args.self.now) (λ (s : State). suspend_refusal_of s n xid)
     (λ (s : State). marked (mark_in (known_as s xid)) (not_suspended s n xid) (unless (loose_refusal c.args.migrates (loose_of s.associations xid)) s (ok (suspended s n c.args.migrates xid))))
     c.in-Some.reply c.in-Some.ensures.served c.in-Some.ensures.value
 
@@ -22,13 +22,13 @@ returns-in-Some-mark_of-clause-follows c =
     let free : c.suspend_refusal.result ≡ None = search rules in
     let said : c.plain.result ≡ plain c.in-Some-mark_of.code = search rules in
     rw said
-    (follows_marked (kept_of c.args.self.now) (kept_of c.leave_branch.new.self) (λ (s : State). suspend_refusal_of s n xid) (λ (s : State). mark_in (known_as s xid)) (λ (s : State). not_suspended s n xid)
+    (follows_marked (view_of c.args.self.now) (view_of c.leave_branch.new.self) (λ (s : State). suspend_refusal_of s n xid) (λ (s : State). mark_in (known_as s xid)) (λ (s : State). not_suspended s n xid)
     (λ (s : State). unless (loose_refusal c.args.migrates (loose_of s.associations xid)) s (ok (suspended s n c.args.migrates xid))) c.in-Some-mark_of.code
     (λ s st. sym free ∙ c.suspend_refusal.ensures.value s st) c.in-Some-mark_of.ensures (λ s st passes recoverable. c.leave_branch.ensures.not_suspended s st (passes, refl) recoverable))
 
 pub returns-in-Some-loose_refusal-clause-follows : goal.returns-in-Some-loose_refusal-clause-follows
 returns-in-Some-loose_refusal-clause-follows c =
-    let m = kept_of c.args.self.now in
+    let m = view_of c.args.self.now in
     let n = c.args.session in
     let xid = c.args.xid.now in
     let free : c.suspend_refusal.result ≡ None = search rules in
@@ -41,14 +41,14 @@ returns-in-Some-loose_refusal-clause-follows c =
 
 pub returns-clause-follows : goal.returns-clause-follows
 returns-clause-follows c =
-    let m' = kept_of c.suspend_branch.new.self in
+    let m' = view_of c.suspend_branch.new.self in
     let n = c.args.session in
     let xid = c.args.xid.now in
     let free : c.suspend_refusal.result ≡ None = search rules in
     let unmarked : c.mark_of.result ≡ None = search rules in
     let room : c.loose_refusal.result ≡ None = search rules in
     rw c.plain-2.ensures
-    (follows_unmarked (kept_of c.args.self.now) m' (λ (s : State). suspend_refusal_of s n xid) (λ (s : State). mark_in (known_as s xid)) (λ (s : State). not_suspended s n xid)
+    (follows_unmarked (view_of c.args.self.now) m' (λ (s : State). suspend_refusal_of s n xid) (λ (s : State). mark_in (known_as s xid)) (λ (s : State). not_suspended s n xid)
     (λ (s : State). unless (loose_refusal c.args.migrates (loose_of s.associations xid)) s (ok (suspended s n c.args.migrates xid))) (plain (pos 0)) refl
     (λ s st. sym free ∙ c.suspend_refusal.ensures.value s st) (λ s st. c.mark_of.ensures s st ∙ unmarked)
     (λ s st passes.

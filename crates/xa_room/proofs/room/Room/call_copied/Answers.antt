@@ -6,7 +6,7 @@ use Rattle.xa_model.specs.declared.event.Event.TheVariants.{Call}
 use Rattle.xa_model.specs.Events.{IsAsked}
 use Rattle.xa_room.specs.declared.book.Receipt.{Receipt}
 use Rattle.xa_room.specs.Book.{placed}
-use Rattle.xa_room.specs.Kept.{Adds}
+use Rattle.xa_room.specs.Upholds.{Adds}
 use Rattle.xa_room.specs.Manages.{Acts}
 use Rattle.xa_room.specs.Told.{Told}
 use Rattle.xa_room.proofs.Longer.{kept_noted, adds_noted}

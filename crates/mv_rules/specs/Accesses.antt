@@ -6,14 +6,14 @@ use Rattle.std.specs.Ordering.{nat_cmp}
 use Rattle.std.specs.declared.cmp.Ordering.TheVariants.{Less}
 use Rattle.xa_codes.specs.declared.write.TheConstants.{MOST_WRITES}
 use Rattle.xa_codes.specs.declared.write.Write.{Write}
-use Rattle.mv_chain.specs.History.{Written, Answered, Seen, is_busy, is_undecided, has_open, IsOpen}
+use Rattle.mv_chain.specs.Accesses.{Written, Answered, Seen, is_busy, is_undecided, has_undecided, IsUndecided}
 use Rattle.mv_rules.specs.declared.answers.Got.{Got}
 use Rattle.mv_rules.specs.declared.answers.Got.TheVariants.{Value, Absent, Busy, Memory}
 use Rattle.mv_rules.specs.declared.answers.Put.{Put}
 use Rattle.mv_rules.specs.declared.answers.Put.TheVariants.{Done, Late, Limit}
 
 -- the writes of all keys with their fates and the answered reads, newest first; reads and writes below the low water are over
-pub record History : Type 0 where
+pub record Accesses : Type 0 where
   pub low : ℕ
   pub writes : List Written
   pub reads : List Answered
@@ -35,9 +35,9 @@ reads_after (Busy by) t key from reads = reads
 reads_after Memory t key from reads = reads
 
 -- how many keys the undecided branch has written
-abbrev pub open_keys : ℕ → List Written → ℕ
-open_keys t [] = 0
-open_keys t (w ∷ older) = if (w.timestamp == t) && (is_undecided w.fate && not (has_open w.key t older)) then open_keys t older + 1 else open_keys t older
+abbrev pub undecided_keys : ℕ → List Written → ℕ
+undecided_keys t [] = 0
+undecided_keys t (w ∷ older) = if (w.timestamp == t) && (is_undecided w.fate && not (has_undecided w.key t older)) then undecided_keys t older + 1 else undecided_keys t older
 
 -- the answer to a write: own says whether the branch wrote the key before, count how many keys it wrote
 abbrev pub put_by : Bool → Bool → Put
@@ -53,7 +53,7 @@ abbrev pub wrote : ℕ → List ℕ → Option (List ℕ) → Written
 wrote t key value = record { timestamp = t; key = key; value = value; fate = None }
 
 -- an accepted write is added to the writes
-abbrev pub after_put : Put → ℕ → List ℕ → Option (List ℕ) → History → History
+abbrev pub after_put : Put → ℕ → List ℕ → Option (List ℕ) → Accesses → Accesses
 after_put Done t key value h = record h { writes = wrote t key value ∷ h.writes }
 after_put Late t key value h = h
 after_put Limit t key value h = h
@@ -81,4 +81,4 @@ pub record IsWritesOf (t : ℕ) (writes : List Written) (listed : List Write) : 
 
 -- a branch with an undecided write of the key has no write that is decided
 abbrev pub IsWholeAt : List ℕ → List Written → Type 0
-IsWholeAt key writes = (t : ℕ) → has_open key t writes ≡ true → IsOpen t writes
+IsWholeAt key writes = (t : ℕ) → has_undecided key t writes ≡ true → IsUndecided t writes

@@ -1,8 +1,8 @@
 use Rattle.std.proofs.Common.{arith}
 use Rattle.std.proofs.lemmas.Bool.Decides.{nat_tests}
 use Rattle.mv_chain.proofs.Sought.{own_there, none_there, new_there}
-use Rattle.mv_chain.proofs.places.late_at.Goals as goal
-use Rattle.mv_chain.proofs.places.late_at.Goals.{else-count-gt0-via-then-count-gt0+else-timestamp_at-ts, else-count-gt0-via-else-count-gt0}
+use Rattle.mv_chain.proofs.finding.late_at.Goals as goal
+use Rattle.mv_chain.proofs.finding.late_at.Goals.{else-count-gt0-via-then-count-gt0+else-timestamp_at-ts, else-count-gt0-via-else-count-gt0}
 
 pub returns-then-timestamp_at-ts : goal.returns-then-timestamp_at-ts
 returns-then-timestamp_at-ts c = λ h p.

@@ -3,7 +3,7 @@ use Rattle.mv_chain.specs.Look.{IsBelow}
 use Rattle.mv_chain.specs.Pool.{shown_at}
 use Rattle.mv_chain.proofs.Chains.{marked_none}
 use Rattle.mv_chain.proofs.Sought.{sees_late}
-use Rattle.mv_chain.proofs.places.read_above.Goals as goal
+use Rattle.mv_chain.proofs.finding.read_above.Goals as goal
 
 pub returns-then-below-eq0 : goal.returns-then-below-eq0
 returns-then-below-eq0 c = λ h b.

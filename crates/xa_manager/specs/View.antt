@@ -10,20 +10,20 @@ use Rattle.xa_branch.specs.Branches.{working_at}
 use Rattle.xa_manager.specs.declared.tables.Tables.{Tables}
 
 -- its settings, the tables of sessions and of branches, and the versions of all keys
-pub record Kept : Type 0 where
+pub record View : Type 0 where
   pub name : List ℕ
   pub log_bytes : ℕ
   pub sessions : Sessions
   pub branches : Branches
   pub records : Records
 
-abbrev pub kept_of : Tables → Kept
-kept_of t =
+abbrev pub view_of : Tables → View
+view_of t =
     record { name = t.name; log_bytes = t.log_bytes; sessions = t.sessions; branches = t.branches; records = t.records }
 
 -- the branch that a session is at work for
-abbrev pub with_working : Kept → Triple → Option (Triple × Working)
+abbrev pub with_working : View → Triple → Option (Triple × Working)
 with_working m xid = option_map (λ w. (xid, w)) (working_at m.branches xid)
 
-abbrev pub own_at : Kept → ℕ → Option (Triple × Working)
+abbrev pub own_at : View → ℕ → Option (Triple × Working)
 own_at m n = option_and_then (with_working m) (active_at m.sessions n)

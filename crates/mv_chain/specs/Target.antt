@@ -2,9 +2,9 @@
 use Rattle.std.specs.Prelude.{◌≡◌, ℕ, suc, ◌<◌, ◌≤◌, true, false, List, length, Option, MatchOption, slice_index_or}
 use Rattle.std.specs.List.{AllByRecursion as Each}
 use Rattle.mv_chain.specs.declared.version.Version.{Version}
-use Rattle.mv_chain.specs.declared.changes.Slot.{Slot}
-use Rattle.mv_chain.specs.declared.changes.Slot.TheVariants.{Refused, Own, New}
-use Rattle.mv_chain.specs.Chain.{IsPlace, is_marked, may_install}
+use Rattle.mv_chain.specs.declared.changes.Target.{Target}
+use Rattle.mv_chain.specs.declared.changes.Target.TheVariants.{Refused, Own, New}
+use Rattle.mv_chain.specs.Chain.{IsIndex, is_marked, may_install}
 
 -- the version at i is t's, and pending
 abbrev pub IsPendingAt : ℕ → ℕ → List Version → Type 0
@@ -14,24 +14,24 @@ IsPendingAt t i versions =
 -- the branch's own version is pending and stands there
 pub record IsOwn (t i : ℕ) (versions : List Version) : Type 0 where
   pub within : i < length versions
-  pub place : IsPlace t (suc i) versions
+  pub index : IsIndex t (suc i) versions
   pub own : IsPendingAt t i versions
   pub in_time : is_marked t versions ≡ false
 
--- the place of the branch's pending version, where it has one
-abbrev pub IsOwnPlace : ℕ → List Version → Option ℕ → Type 0
-IsOwnPlace t versions found =
+-- the index of the branch's pending version, where it has one
+abbrev pub IsOwnIndex : ℕ → List Version → Option ℕ → Type 0
+IsOwnIndex t versions found =
     MatchOption found (Each (λ v. v.timestamp ≡ t → v.pending ≡ false) versions)
-    (λ i. IsPlace t (suc i) versions × IsPendingAt t i versions)
+    (λ i. IsIndex t (suc i) versions × IsPendingAt t i versions)
 
 -- the branch has no version, and one would stand there
 pub record IsNew (t i : ℕ) (versions : List Version) : Type 0 where
   pub within : i ≤ length versions
-  pub place : IsPlace t i versions
+  pub index : IsIndex t i versions
   pub none : Each (λ v. v.timestamp ≡ t → ⊥) versions
   pub in_time : is_marked t versions ≡ false
 
-abbrev pub IsSlot : ℕ → List Version → Slot → Type 0
-IsSlot t versions Refused = may_install t versions ≡ false
-IsSlot t versions (Own i) = IsOwn t i versions
-IsSlot t versions (New i) = IsNew t i versions
+abbrev pub IsTarget : ℕ → List Version → Target → Type 0
+IsTarget t versions Refused = may_install t versions ≡ false
+IsTarget t versions (Own i) = IsOwn t i versions
+IsTarget t versions (New i) = IsNew t i versions

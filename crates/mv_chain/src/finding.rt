@@ -1,5 +1,5 @@
 ghost use Rattle.std.specs.Prelude.{◌≡◌, ◌≤◌, length};
-ghost use Rattle.mv_chain.specs.Chain.{IsChain, IsPlace, is_marked};
+ghost use Rattle.mv_chain.specs.Chain.{IsChain, IsIndex, is_marked};
 ghost use Rattle.mv_chain.specs.Look.{looked, IsBelow};
 ghost use Rattle.mv_chain.specs.Pool.{shown_at};
 
@@ -8,9 +8,9 @@ use crate::pool::Pool;
 use crate::slots::{mark_at, pending_at, timestamp_at};
 
 /// How many versions have a timestamp of at most `ts`.
-pub(crate) fn place(pool: &Pool, slots: &[usize], ts: u64) -> usize
+pub(crate) fn find(pool: &Pool, slots: &[usize], ts: u64) -> usize
     ensures within { result ≤ length slots.now }
-    ensures place { IsChain (shown_at pool.now slots.now) → IsPlace ts result (shown_at pool.now slots.now) }
+    ensures index { IsChain (shown_at pool.now slots.now) → IsIndex ts result (shown_at pool.now slots.now) }
 {
     slots.partition_point(|slot| timestamp_at(pool, *slot) <= ts)
 }
@@ -30,7 +30,7 @@ fn read_above(pool: &Pool, slots: &[usize], below: usize, ts: u64) -> bool
 /// Whether a version below `ts` was read above `ts`, where `count` versions are at most `ts`.
 fn late_at(pool: &Pool, slots: &[usize], count: usize, ts: u64) -> bool
     requires { count ≤ length slots.now }
-    ensures { IsChain (shown_at pool.now slots.now) → IsPlace ts count (shown_at pool.now slots.now)
+    ensures { IsChain (shown_at pool.now slots.now) → IsIndex ts count (shown_at pool.now slots.now)
         → result ≡ is_marked ts (shown_at pool.now slots.now) }
 {
     if count > 0 && timestamp_at(pool, slots[count - 1]) == ts {
@@ -43,7 +43,7 @@ fn late_at(pool: &Pool, slots: &[usize], count: usize, ts: u64) -> bool
 pub(crate) fn look_in(pool: &Pool, slots: &[usize], ts: u64) -> Look
     ensures { IsChain (shown_at pool.now slots.now) → result ≡ looked ts (shown_at pool.now slots.now) }
 {
-    let count = place(pool, slots, ts);
+    let count = find(pool, slots, ts);
     let late = late_at(pool, slots, count, ts);
     if count == 0 {
         return Look {

@@ -14,16 +14,16 @@ use Rattle.std.proofs.lemmas.Slice.Eq.{bytes_eq-Decides}
 use Rattle.slab.specs.Slab.{get as chain_in, SameValues}
 use Rattle.mv_chain.specs.Pool.{LeavesOthersAt}
 use Rattle.mv_chain.specs.declared.version.Version.{Version}
-use Rattle.mv_chain.specs.History.{Written, Answered, Seen, nobody, seen, is_busy, has_open}
+use Rattle.mv_chain.specs.Accesses.{Written, Answered, Seen, nobody, seen, is_busy, has_undecided}
 use Rattle.mv_chain.specs.Chain.{fresh, shows, StandsFor as ChainStandsFor}
 use Rattle.mv_rules.specs.declared.records.Records.{Records}
 use Rattle.mv_rules.specs.declared.own.Own.{Own}
 use Rattle.mv_rules.specs.declared.answers.Got.{Got}
 use Rattle.mv_rules.specs.declared.answers.Got.TheVariants.{Value, Absent, Busy, Memory}
-use Rattle.mv_rules.specs.History.{History, reads_after}
+use Rattle.mv_rules.specs.Accesses.{Accesses, reads_after}
 use Rattle.mv_rules.specs.Held.{Changes}
 use Rattle.mv_rules.specs.Own.{is_listed}
-use Rattle.mv_rules.specs.Records.{StandsFor, ChainsStandFor, place_of, chain_at, chain_of_place, ListsStandFor, own_of}
+use Rattle.mv_rules.specs.Records.{StandsFor, ChainsStandFor, index_of, chain_at, chain_of_index, ListsStandFor, own_of}
 use Rattle.mv_rules.proofs.Frames.{shown_elsewhere, held_changed, shown_grown, held_grown}
 
 abbrev pub found_at : {Y : Type 0} → List ℕ → List (Vec ℕ Y × ℕ) → Option ℕ
@@ -69,7 +69,7 @@ differ_back a b e = at (bytes_eq b a) refl
     at true h = let t : bytes_eq a b ≡ true = (bytes_eq-Decides a b).1 (sym (same_key b a h)) in absurd (grind (arith, t, e))
 
 -- a key that is added has a fresh chain
-pub stands_added : (h : History) (r r2 : Records) (key : List ℕ) (new : ℕ) → place_of key r ≡ None → chain_in r.chains new ≡ None → Changes new r.pool r.chains r2.pool r2.chains → IsSome (chain_in r2.chains new) → chain_at new r2 ≡ fresh → ((q : List ℕ) → place_of q r2 ≡ (if bytes_eq q key then Some new else place_of q r)) → ChainsStandFor h r → ChainsStandFor h r2
+pub stands_added : (h : Accesses) (r r2 : Records) (key : List ℕ) (new : ℕ) → index_of key r ≡ None → chain_in r.chains new ≡ None → Changes new r.pool r.chains r2.pool r2.chains → IsSome (chain_in r2.chains new) → chain_at new r2 ≡ fresh → ((q : List ℕ) → index_of q r2 ≡ (if bytes_eq q key then Some new else index_of q r)) → ChainsStandFor h r → ChainsStandFor h r2
 stands_added h r r2 key new none vacant change stands at_new found s =
     record {
       chains = λ q. chain q (bytes_eq q key) refl;
@@ -78,27 +78,27 @@ stands_added h r r2 key new none vacant change stands at_new found s =
       held = held_changed new r.pool r2.pool r.chains r2.chains change s.held;
     }
   where
-    other : (q : List ℕ) (i : ℕ) → place_of q r ≡ Some i → i ≢ new
+    other : (q : List ℕ) (i : ℕ) → index_of q r ≡ Some i → i ≢ new
     other q i e same = absurd (cc (s.within q i e, ap (λ k. is_some (chain_in r.chains k)) same, ap is_some vacant))
 
-    old_of : (q : List ℕ) (o : Option ℕ) → place_of q r ≡ o → chain_of_place o r2 ≡ chain_of_place o r
+    old_of : (q : List ℕ) (o : Option ℕ) → index_of q r ≡ o → chain_of_index o r2 ≡ chain_of_index o r
     old_of q None e = refl
     old_of q (Some i) e = shown_elsewhere new i r.pool r2.pool r.chains r2.chains change s.held (other q i e)
 
-    chain : (q : List ℕ) (x : Bool) → bytes_eq q key ≡ x → ChainStandsFor q h.low h.writes h.reads (chain_of_place (place_of q r2) r2)
+    chain : (q : List ℕ) (x : Bool) → bytes_eq q key ≡ x → ChainStandsFor q h.low h.writes h.reads (chain_of_index (index_of q r2) r2)
     chain q true e =
-        let here : place_of q r2 ≡ Some new = found q ∙ rw e refl in
-        let was : place_of q r ≡ None = ap (λ k. place_of k r) (same_key q key e) ∙ none in
+        let here : index_of q r2 ≡ Some new = found q ∙ rw e refl in
+        let was : index_of q r ≡ None = ap (λ k. index_of k r) (same_key q key e) ∙ none in
         rw (here, at_new) (rw was at (s.chains q))
     chain q false e =
-        let here : place_of q r2 ≡ place_of q r = found q ∙ rw e refl in
-        rw (here, old_of q (place_of q r) refl) (s.chains q)
+        let here : index_of q r2 ≡ index_of q r = found q ∙ rw e refl in
+        rw (here, old_of q (index_of q r) refl) (s.chains q)
 
-    inside : (q : List ℕ) (i : ℕ) → place_of q r2 ≡ Some i → (x : Bool) → bytes_eq q key ≡ x → IsSome (chain_in r2.chains i)
+    inside : (q : List ℕ) (i : ℕ) → index_of q r2 ≡ Some i → (x : Bool) → bytes_eq q key ≡ x → IsSome (chain_in r2.chains i)
     inside q i e true f = let here : Some new ≡ Some i = sym (found q ∙ rw f refl) ∙ e in let n : new ≡ i = cc in subst (λ (k : ℕ). IsSome (chain_in r2.chains k)) n stands
-    inside q i e false f = let was : place_of q r ≡ Some i = sym (found q ∙ rw f refl) ∙ e in ap is_some (change.others i (other q i was)) ∙ s.within q i was
+    inside q i e false f = let was : index_of q r ≡ Some i = sym (found q ∙ rw f refl) ∙ e in ap is_some (change.others i (other q i was)) ∙ s.within q i was
 
-    alone : (a b : List ℕ) (i : ℕ) → place_of a r2 ≡ Some i → place_of b r2 ≡ Some i → (x : Bool) → bytes_eq a key ≡ x → (y : Bool) → bytes_eq b key ≡ y → a ≡ b
+    alone : (a b : List ℕ) (i : ℕ) → index_of a r2 ≡ Some i → index_of b r2 ≡ Some i → (x : Bool) → bytes_eq a key ≡ x → (y : Bool) → bytes_eq b key ≡ y → a ≡ b
     alone a b i e f true p true q = same_key a key p ∙ sym (same_key b key q)
     alone a b i e f false p false q = s.apart a b i (sym (found a ∙ rw p refl) ∙ e) (sym (found b ∙ rw q refl) ∙ f)
     alone a b i e f true p false q =
@@ -111,7 +111,7 @@ stands_added h r r2 key new none vacant change stands at_new found s =
         absurd (other a i (sym (found a ∙ rw p refl) ∙ e) (sym n))
 
 -- one chain changes, and the history changes for its key alone
-pub stands_at : (h h2 : History) (r r2 : Records) (key : List ℕ) (i : ℕ) → place_of key r ≡ Some i → ((q : List ℕ) → place_of q r2 ≡ place_of q r) → Changes i r.pool r.chains r2.pool r2.chains → IsSome (chain_in r2.chains i) → ChainStandsFor key h2.low h2.writes h2.reads (chain_at i r2) → ((q : List ℕ) (xs : List Version) → bytes_eq q key ≡ false → ChainStandsFor q h.low h.writes h.reads xs → ChainStandsFor q h2.low h2.writes h2.reads xs) → ChainsStandFor h r → ChainsStandFor h2 r2
+pub stands_at : (h h2 : Accesses) (r r2 : Records) (key : List ℕ) (i : ℕ) → index_of key r ≡ Some i → ((q : List ℕ) → index_of q r2 ≡ index_of q r) → Changes i r.pool r.chains r2.pool r2.chains → IsSome (chain_in r2.chains i) → ChainStandsFor key h2.low h2.writes h2.reads (chain_at i r2) → ((q : List ℕ) (xs : List Version) → bytes_eq q key ≡ false → ChainStandsFor q h.low h.writes h.reads xs → ChainStandsFor q h2.low h2.writes h2.reads xs) → ChainsStandFor h r → ChainsStandFor h2 r2
 stands_at h h2 r r2 key i here same change stands own others s =
     record {
       chains = λ q. chain q (bytes_eq q key) refl;
@@ -120,22 +120,22 @@ stands_at h h2 r r2 key i here same change stands own others s =
       held = held_changed i r.pool r2.pool r.chains r2.chains change s.held;
     }
   where
-    inside : (q : List ℕ) (j : ℕ) → place_of q r ≡ Some j → (x : Bool) → (j == i) ≡ x → IsSome (chain_in r2.chains j)
+    inside : (q : List ℕ) (j : ℕ) → index_of q r ≡ Some j → (x : Bool) → (j == i) ≡ x → IsSome (chain_in r2.chains j)
     inside q j e true f = let n : i ≡ j = grind (arith, nat_tests, f) in subst (λ (k : ℕ). IsSome (chain_in r2.chains k)) n stands
     inside q j e false f = ap is_some (change.others j (λ n. grind (arith, nat_tests, f, n))) ∙ s.within q j e
 
-    other_of : (q : List ℕ) (o : Option ℕ) → place_of q r ≡ o → bytes_eq q key ≡ false → chain_of_place o r2 ≡ chain_of_place o r
+    other_of : (q : List ℕ) (o : Option ℕ) → index_of q r ≡ o → bytes_eq q key ≡ false → chain_of_index o r2 ≡ chain_of_index o r
     other_of q None e d = refl
     other_of q (Some j) e d = shown_elsewhere i j r.pool r2.pool r.chains r2.chains change s.held not_same
       where
         not_same : j ≡ i → ⊥
         not_same n = let k : q ≡ key = s.apart q key i (e ∙ ap Some n) here in let t : bytes_eq q key ≡ true = (bytes_eq-Decides q key).1 k in grind (arith, t, d)
 
-    chain : (q : List ℕ) (x : Bool) → bytes_eq q key ≡ x → ChainStandsFor q h2.low h2.writes h2.reads (chain_of_place (place_of q r2) r2)
+    chain : (q : List ℕ) (x : Bool) → bytes_eq q key ≡ x → ChainStandsFor q h2.low h2.writes h2.reads (chain_of_index (index_of q r2) r2)
     chain q true e =
         let k : q ≡ key = same_key q key e in
         rw (k, same key, here) own
-    chain q false e = rw (same q, other_of q (place_of q r) refl e) (others q _ e (s.chains q))
+    chain q false e = rw (same q, other_of q (index_of q r) refl e) (others q _ e (s.chains q))
 
 -- a read of another key is nothing to this one
 pub read_elsewhere : (key q : List ℕ) (low t from : ℕ) (ws : List Written) (rs : List Answered) (vs : List Version) → bytes_eq q key ≡ false → ChainStandsFor q low ws rs vs → ChainStandsFor q low ws (record { reader = t; key = key; from = from } ∷ rs) vs
@@ -150,7 +150,7 @@ reads_elsewhere (Busy by) key q low t from ws rs vs d s = s
 reads_elsewhere Memory key q low t from ws rs vs d s = s
 
 -- a get at the chain of its key
-pub stands_get : (h : History) (r r2 : Records) (key : List ℕ) (i ts : ℕ) (res : Got) → h.low ≤ ts → ChainsStandFor h r → place_of key r ≡ Some i → ((q : List ℕ) → place_of q r2 ≡ place_of q r) → Changes i r.pool r.chains r2.pool r2.chains → IsSome (chain_in r2.chains i)
+pub stands_get : (h : Accesses) (r r2 : Records) (key : List ℕ) (i ts : ℕ) (res : Got) → h.low ≤ ts → ChainsStandFor h r → index_of key r ≡ Some i → ((q : List ℕ) → index_of q r2 ≡ index_of q r) → Changes i r.pool r.chains r2.pool r2.chains → IsSome (chain_in r2.chains i)
     → ((k : List ℕ) (low : ℕ) (ws : List Written) (rs : List Answered) → ChainStandsFor k low ws rs (chain_at i r) → low ≤ ts → ChainStandsFor k low ws (reads_after res ts k (shows ts (chain_at i r)).from rs) (chain_at i r2))
     → ChainsStandFor (record h { reads = reads_after res ts key (seen key ts h.writes).from h.reads }) r2
 stands_get h r r2 key i ts res le s here same change stands reads =
@@ -159,23 +159,23 @@ stands_get h r r2 key i ts res le s here same change stands reads =
     let from : shows ts (chain_at i r) ≡ seen key ts h.writes = own.seen nobody ts le in
     stands_at h _ r r2 key i here same change stands (rw from at after) (λ q xs d t. reads_elsewhere res key q h.low ts _ h.writes h.reads xs d t) s
 
--- a place that no key has is listed nowhere
-unlisted : (r : Records) (i : ℕ) (own : List Own) → ((key : List ℕ) → place_of key r ≡ Some i → ⊥) → Each (λ o. place_of o.key r ≡ Some o.place) own → is_listed i own ≡ false
+-- an index that no key has is listed nowhere
+unlisted : (r : Records) (i : ℕ) (own : List Own) → ((key : List ℕ) → index_of key r ≡ Some i → ⊥) → Each (λ o. index_of o.key r ≡ Some o.index) own → is_listed i own ≡ false
 unlisted r i [] none named = refl
 unlisted r i (o ∷ own) none named =
-    let apart : (i == o.place) ≡ false = differ (i == o.place) refl in
+    let apart : (i == o.index) ≡ false = differ (i == o.index) refl in
     rw apart (unlisted r i own none named.1)
   where
-    differ : (x : Bool) → (i == o.place) ≡ x → (i == o.place) ≡ false
+    differ : (x : Bool) → (i == o.index) ≡ x → (i == o.index) ≡ false
     differ false e = e
-    differ true e = let same : o.place ≡ i = grind (arith, nat_tests, e) in absurd (none o.key (named.0 ∙ ap Some same))
+    differ true e = let same : o.index ≡ i = grind (arith, nat_tests, e) in absurd (none o.key (named.0 ∙ ap Some same))
 
 -- the lists, where a key is added
-pub lists_added : (h : History) (r r2 : Records) (key : List ℕ) (new : ℕ) → place_of key r ≡ None → chain_in r.chains new ≡ None → ((q : List ℕ) → place_of q r2 ≡ (if bytes_eq q key then Some new else place_of q r)) → ((t : ℕ) → own_of t r2 ≡ own_of t r) → ChainsStandFor h r → ListsStandFor h r → ListsStandFor h r2
+pub lists_added : (h : Accesses) (r r2 : Records) (key : List ℕ) (new : ℕ) → index_of key r ≡ None → chain_in r.chains new ≡ None → ((q : List ℕ) → index_of q r2 ≡ (if bytes_eq q key then Some new else index_of q r)) → ((t : ℕ) → own_of t r2 ≡ own_of t r) → ChainsStandFor h r → ListsStandFor h r → ListsStandFor h r2
 lists_added h r r2 key new none vacant found same s l =
     record {
       listed = λ t q i e. listed t q i e (bytes_eq q key) refl;
-      unplaced = λ t q e. unplaced t q e (bytes_eq q key) refl;
+      unindexed = λ t q e. unindexed t q e (bytes_eq q key) refl;
       named = λ t. rw same (named (own_of t r) (l.named t));
       count = λ t. ap length (same t) ∙ l.count t;
     }
@@ -183,54 +183,54 @@ lists_added h r r2 key new none vacant found same s l =
     beyond : (t : ℕ) → is_listed new (own_of t r) ≡ false
     beyond t = unlisted r new (own_of t r) (λ q e. absurd (cc (s.within q new e, ap is_some vacant))) (l.named t)
 
-    listed : (t : ℕ) (q : List ℕ) (i : ℕ) → place_of q r2 ≡ Some i → (x : Bool) → bytes_eq q key ≡ x → is_listed i (own_of t r2) ≡ has_open q t h.writes
+    listed : (t : ℕ) (q : List ℕ) (i : ℕ) → index_of q r2 ≡ Some i → (x : Bool) → bytes_eq q key ≡ x → is_listed i (own_of t r2) ≡ has_undecided q t h.writes
     listed t q i e true f =
         let here : Some new ≡ Some i = sym (found q ∙ rw f refl) ∙ e in
         let n : new ≡ i = cc in
-        let none_open : has_open q t h.writes ≡ false = l.unplaced t q (ap (λ k. place_of k r) (same_key q key f) ∙ none) in
-        rw (same t, ← n) (beyond t ∙ sym none_open)
+        let none_undecided : has_undecided q t h.writes ≡ false = l.unindexed t q (ap (λ k. index_of k r) (same_key q key f) ∙ none) in
+        rw (same t, ← n) (beyond t ∙ sym none_undecided)
     listed t q i e false f = ap (is_listed i) (same t) ∙ l.listed t q i (sym (found q ∙ rw f refl) ∙ e)
 
-    unplaced : (t : ℕ) (q : List ℕ) → place_of q r2 ≡ None → (x : Bool) → bytes_eq q key ≡ x → has_open q t h.writes ≡ false
-    unplaced t q e true f = let here : Some new ≡ None = sym (found q ∙ rw f refl) ∙ e in absurd (cc)
-    unplaced t q e false f = l.unplaced t q (sym (found q ∙ rw f refl) ∙ e)
+    unindexed : (t : ℕ) (q : List ℕ) → index_of q r2 ≡ None → (x : Bool) → bytes_eq q key ≡ x → has_undecided q t h.writes ≡ false
+    unindexed t q e true f = let here : Some new ≡ None = sym (found q ∙ rw f refl) ∙ e in absurd (cc)
+    unindexed t q e false f = l.unindexed t q (sym (found q ∙ rw f refl) ∙ e)
 
-    named : (own : List Own) → Each (λ o. place_of o.key r ≡ Some o.place) own → Each (λ o. place_of o.key r2 ≡ Some o.place) own
+    named : (own : List Own) → Each (λ o. index_of o.key r ≡ Some o.index) own → Each (λ o. index_of o.key r2 ≡ Some o.index) own
     named [] n = tt
     named (o ∷ own) n = (found o.key ∙ rw (apart (bytes_eq o.key key) refl) n.0, named own n.1)
       where
         apart : (x : Bool) → bytes_eq o.key key ≡ x → bytes_eq o.key key ≡ false
         apart false f = f
-        apart true f = let here : None ≡ Some o.place = sym (ap (λ x. place_of x r) (same_key o.key key f) ∙ none) ∙ n.0 in absurd (cc)
+        apart true f = let here : None ≡ Some o.index = sym (ap (λ x. index_of x r) (same_key o.key key f) ∙ none) ∙ n.0 in absurd (cc)
 
-pub named_moved : (r r2 : Records) (own : List Own) → ((q : List ℕ) → place_of q r2 ≡ place_of q r) → Each (λ o. place_of o.key r ≡ Some o.place) own → Each (λ o. place_of o.key r2 ≡ Some o.place) own
-named_moved r r2 [] places n = tt
-named_moved r r2 (o ∷ own) places n = (places o.key ∙ n.0, named_moved r r2 own places n.1)
+pub named_moved : (r r2 : Records) (own : List Own) → ((q : List ℕ) → index_of q r2 ≡ index_of q r) → Each (λ o. index_of o.key r ≡ Some o.index) own → Each (λ o. index_of o.key r2 ≡ Some o.index) own
+named_moved r r2 [] indices n = tt
+named_moved r r2 (o ∷ own) indices n = (indices o.key ∙ n.0, named_moved r r2 own indices n.1)
 
--- where neither lists nor places change
-pub lists_same : (h h2 : History) (r r2 : Records) → h2.writes ≡ h.writes → ((q : List ℕ) → place_of q r2 ≡ place_of q r) → ((t : ℕ) → own_of t r2 ≡ own_of t r) → ListsStandFor h r → ListsStandFor h2 r2
-lists_same h h2 r r2 writes places lists l =
+-- where neither lists nor indices change
+pub lists_same : (h h2 : Accesses) (r r2 : Records) → h2.writes ≡ h.writes → ((q : List ℕ) → index_of q r2 ≡ index_of q r) → ((t : ℕ) → own_of t r2 ≡ own_of t r) → ListsStandFor h r → ListsStandFor h2 r2
+lists_same h h2 r r2 writes indices lists l =
     record {
-      listed = λ t q i e. rw (lists t, writes) (l.listed t q i (sym (places q) ∙ e));
-      unplaced = λ t q e. rw writes (l.unplaced t q (sym (places q) ∙ e));
-      named = λ t. rw lists (named_moved r r2 (own_of t r) places (l.named t));
+      listed = λ t q i e. rw (lists t, writes) (l.listed t q i (sym (indices q) ∙ e));
+      unindexed = λ t q e. rw writes (l.unindexed t q (sym (indices q) ∙ e));
+      named = λ t. rw lists (named_moved r r2 (own_of t r) indices (l.named t));
       count = λ t. rw (lists t, writes) (l.count t);
     }
 
 -- where the code leaves everything as it was
-pub stands_alike : (h : History) (r r2 : Records) → ((q : List ℕ) → place_of q r2 ≡ place_of q r) → SameValues r.chains r2.chains → LeavesOthersAt r.pool [] r2.pool [] → ((t : ℕ) → own_of t r2 ≡ own_of t r) → StandsFor h r → StandsFor h r2
-stands_alike h r r2 places same leaves lists s =
+pub stands_alike : (h : Accesses) (r r2 : Records) → ((q : List ℕ) → index_of q r2 ≡ index_of q r) → SameValues r.chains r2.chains → LeavesOthersAt r.pool [] r2.pool [] → ((t : ℕ) → own_of t r2 ≡ own_of t r) → StandsFor h r → StandsFor h r2
+stands_alike h r r2 indices same leaves lists s =
     record {
       chains = record {
-        chains = λ q. rw (places q, there (place_of q r)) (s.chains.chains q);
-        within = λ q i e. ap is_some (same i) ∙ s.chains.within q i (sym (places q) ∙ e);
-        apart = λ a b i e f. s.chains.apart a b i (sym (places a) ∙ e) (sym (places b) ∙ f);
+        chains = λ q. rw (indices q, there (index_of q r)) (s.chains.chains q);
+        within = λ q i e. ap is_some (same i) ∙ s.chains.within q i (sym (indices q) ∙ e);
+        apart = λ a b i e f. s.chains.apart a b i (sym (indices a) ∙ e) (sym (indices b) ∙ f);
         held = held_grown r.pool r2.pool r.chains r2.chains same leaves s.chains.held;
       };
-      lists = lists_same h h r r2 refl places lists s.lists;
+      lists = lists_same h h r r2 refl indices lists s.lists;
     }
   where
-    there : (o : Option ℕ) → chain_of_place o r2 ≡ chain_of_place o r
+    there : (o : Option ℕ) → chain_of_index o r2 ≡ chain_of_index o r
     there None = refl
     there (Some i) = shown_grown r.pool r2.pool r.chains r2.chains i same leaves s.chains.held
 

@@ -80,8 +80,8 @@ abbrev pub is_late : List ℕ → ℕ → List Answered → Bool
 is_late key t reads = list_any (λ r. bytes_eq r.key key && (nat_lt r.from t && nat_lt t r.reader)) reads
 
 -- the branch has an undecided write of the key
-abbrev pub has_open : List ℕ → ℕ → List Written → Bool
-has_open key t writes = list_any (λ w. bytes_eq key w.key && ((w.timestamp == t) && is_undecided w.fate)) writes
+abbrev pub has_undecided : List ℕ → ℕ → List Written → Bool
+has_undecided key t writes = list_any (λ w. bytes_eq key w.key && ((w.timestamp == t) && is_undecided w.fate)) writes
 
 -- the fate of a branch is decided
 abbrev pub deciding : ℕ → Fate → Written → Written
@@ -91,15 +91,15 @@ abbrev pub decided : ℕ → Fate → List Written → List Written
 decided t fate writes = map (deciding t fate) writes
 
 -- each write of the branch is still undecided
-abbrev pub IsOpen : ℕ → List Written → Type 0
-IsOpen t writes = Each (λ w. w.timestamp ≡ t → w.fate ≡ None) writes
+abbrev pub IsUndecided : ℕ → List Written → Type 0
+IsUndecided t writes = Each (λ w. w.timestamp ≡ t → w.fate ≡ None) writes
 
 -- a branch with an undecided write has no write that is decided
 abbrev pub AreWhole : List Written → Type 0
-AreWhole writes = (t : ℕ) (key : List ℕ) → has_open key t writes ≡ true → IsOpen t writes
+AreWhole writes = (t : ℕ) (key : List ℕ) → has_undecided key t writes ≡ true → IsUndecided t writes
 
 -- a timestamp that a branch may write and be settled at: above 0, not below the low water, and not settled yet
 pub record IsUnsettled (t low : ℕ) (writes : List Written) : Type 0 where
   pub positive : 0 < t
   pub above : low ≤ t
-  pub open_ : IsOpen t writes
+  pub all_undecided : IsUndecided t writes

@@ -8,8 +8,8 @@ use xa_desk::Door;
 use xa_frame::{Reply, Request};
 use xa_room::{Desk, Manages, Share, Start};
 
-/// A worker's place at a desk: a door whose calls pass a gate and are the desk's, with a report of what was recorded.
-pub struct Seat<'a, M: Manages, S: Start, L: Ledger, G, R> {
+/// A worker's post at a desk: a door whose calls pass a gate and are the desk's, with a report of what was recorded.
+pub struct Post<'a, M: Manages, S: Start, L: Ledger, G, R> {
     rt: &'a R,
     desk: &'a Desk<M, S, L>,
     gate: &'a G,
@@ -18,23 +18,23 @@ pub struct Seat<'a, M: Manages, S: Start, L: Ledger, G, R> {
     pub calls: u64,
 }
 
-impl<'a, M: Manages, S: Start, L: Ledger, G: Gate, R: Wait> Seat<'a, M, S, L, G, R> {
+impl<'a, M: Manages, S: Start, L: Ledger, G: Gate, R: Wait> Post<'a, M, S, L, G, R> {
     ghost use Rattle.std.specs.Prelude.{◌≡◌, []};
     ghost use Rattle.xa_workers.specs.Reports.{Connects};
 
-    /// A place where nothing was recorded.
+    /// A post where nothing was recorded.
     pub fn new(
         alloc: Global,
         rt: &'a R,
         desk: &'a Desk<M, S, L>,
         gate: &'a G,
         share: Share<L>,
-    ) -> Seat<'a, M, S, L, G, R>
+    ) -> Post<'a, M, S, L, G, R>
         ensures report { (result.report.share ≡ share) × (result.report.receipts.items ≡ [])
             × (result.report.dropped ≡ 0) }
         ensures calls { result.calls ≡ 0 }
     {
-        Seat {
+        Post {
             rt,
             desk,
             gate,
@@ -56,7 +56,7 @@ impl<'a, M: Manages, S: Start, L: Ledger, G: Gate, R: Wait> Seat<'a, M, S, L, G,
     pub fn into_report(self) -> Report<L>
         ensures { result ≡ self.entry.report }
     {
-        let Seat {
+        let Post {
             rt: _,
             desk: _,
             gate: _,
@@ -67,7 +67,7 @@ impl<'a, M: Manages, S: Start, L: Ledger, G: Gate, R: Wait> Seat<'a, M, S, L, G,
     }
 }
 
-impl<M: Manages, S: Start, L: Ledger, G: Gate, R: Wait> Door for Seat<'_, M, S, L, G, R> {
+impl<M: Manages, S: Start, L: Ledger, G: Gate, R: Wait> Door for Post<'_, M, S, L, G, R> {
     ghost use Rattle.xa_room.specs.Gone.{WasGone};
     ghost use Rattle.xa_workers.specs.Reports.{Calls, HangsUp, CountsOn};
 

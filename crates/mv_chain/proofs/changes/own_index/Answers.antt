@@ -3,8 +3,8 @@ use Rattle.std.proofs.lemmas.Bool.Decides.{nat_tests}
 use Rattle.mv_chain.specs.Pool.{shown_at}
 use Rattle.mv_chain.proofs.Frames.{shown_length}
 use Rattle.mv_chain.proofs.Looked.{look_undecided, look_own}
-use Rattle.mv_chain.proofs.changes.own_place.Goals as goal
-use Rattle.mv_chain.proofs.changes.own_place.Goals.{then-not-look-via-then-not-look, then-not-look-via-else-not-look+then-look-ts}
+use Rattle.mv_chain.proofs.changes.own_index.Goals as goal
+use Rattle.mv_chain.proofs.changes.own_index.Goals.{then-not-look-via-then-not-look, then-not-look-via-else-not-look+then-look-ts}
 
 pub returns-then-not-look-clause-found : goal.returns-then-not-look-clause-found
 returns-then-not-look-clause-found c = λ h.

@@ -27,7 +27,7 @@ IsCounted m start base now entries =
     → RiseBy (failures_of (plain_entries entries)) base (m.failures now)
 
 -- a room whose history began at these states, with these failures counted
-pub record Kept {M : Type 0} (m : Ghosts M) (start : State → Type 0) (base : ℕ × ℕ)
+pub record Upholds {M : Type 0} (m : Ghosts M) (start : State → Type 0) (base : ℕ × ℕ)
     (now : M) (entries : List Entry) (capacity : ℕ) : Type 0 where
   pub legal : IsLegal m start now entries
   pub counted : IsCounted m start base now entries

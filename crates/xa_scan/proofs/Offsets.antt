@@ -1,0 +1,38 @@
+-- Where lines stand, and the lines of lists that are joined.
+use Rattle.std.proofs.Common.{◌≡◌, ℕ, ◌+◌, ◌≤◌, List, [], ◌∷◌, ◌++◌, length, refl, sym, ap, ◌∙◌, arith, append_assoc, append-nil, length-append}
+use Rattle.xa_log.specs.declared.format.Format.TheVariants.{One}
+use Rattle.xa_log.specs.Chain.{digest, magic, record_of, records, start}
+use Rattle.xa_log.proofs.Records.{length-record_of}
+use Rattle.xa_scan.specs.Lines.{behind, first_offset, line_at, lines_from}
+use Rattle.xa_scan.specs.Worked.{OffsetsInTheFile}
+
+pub behind_both : (offset : ℕ) (xs ys : List (List ℕ)) → behind offset (xs ++ ys) ≡ behind (behind offset xs) ys
+behind_both offset [] ys = refl
+behind_both offset (x ∷ xs) ys = behind_both (offset + (36 + length x)) xs ys
+
+pub lines_both : (offset : ℕ) (xs ys : List (List ℕ)) → lines_from offset (xs ++ ys) ≡ lines_from offset xs ++ lines_from (behind offset xs) ys
+lines_both offset [] ys = refl
+lines_both offset (x ∷ xs) ys =
+    ap (λ (l : List ℕ). line_at offset x ++ l) (lines_both (offset + (36 + length x)) xs ys)
+    ∙ sym (append_assoc (line_at offset x) (lines_from (offset + (36 + length x)) xs) (lines_from (behind (offset + (36 + length x)) xs) ys))
+
+pub behind_grows : (offset : ℕ) (bodies : List (List ℕ)) → offset ≤ behind offset bodies
+behind_grows offset [] = omega arith
+behind_grows offset (body ∷ bodies) = omega (arith, behind_grows (offset + (36 + length body)) bodies)
+
+pub lines_one : (offset : ℕ) (body : List ℕ) → lines_from offset (body ∷ []) ≡ line_at offset body
+lines_one offset body = append-nil (line_at offset body)
+
+behind_records : (offset : ℕ) (prev : List ℕ) (bodies : List (List ℕ)) → behind offset bodies ≡ offset + length (records prev bodies)
+behind_records offset prev [] = omega arith
+behind_records offset prev (body ∷ bodies) =
+    omega (
+      arith,
+      behind_records (offset + (36 + length body)) (digest prev body) bodies,
+      length-append (record_of prev body) (records (digest prev body) bodies),
+      length-record_of prev body,
+    )
+
+pub offsets_in_the_file : OffsetsInTheFile
+offsets_in_the_file One bodies =
+    omega (arith, behind_records first_offset (start One) bodies, length-append (magic One) (records (start One) bodies))
