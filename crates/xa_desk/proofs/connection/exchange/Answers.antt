@@ -1,7 +1,7 @@
 use Rattle.std.proofs.Common.{arith, refl}
 use Rattle.std.proofs.lemmas.Result.{err_from_is_err_and}
 use Rattle.xa_desk.proofs.Talking.{talks-unread, talks-refused, talks-unsent, talks-lacking, talks-answered}
-use Rattle.xa_desk.proofs.connection.turn.Goals as goal
+use Rattle.xa_desk.proofs.connection.exchange.Goals as goal
 
 pub returns-in_err-length : goal.returns-in_err-length
 returns-in_err-length g c =
