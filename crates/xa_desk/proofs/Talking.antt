@@ -1,4 +1,4 @@
--- One turn, and a turn behind others.
+-- One exchange, and one behind others.
 use Rattle.std.proofs.Common.{◌≡◌, ◌⊎◌, ℕ, ◌+◌, ◌<◌, ◌≤◌, ◌^◌, List, [], ◌∷◌, ◌++◌, length, Option, Some, None, refl, sym, ap, ◌∙◌, inl, inr, append_assoc, append-nil, arith, subst, unwrap_or, Result, Ok, Err}
 use Rattle.std.specs.Result.{result_err}
 use Rattle.std.specs.List.{flat_map}
@@ -60,7 +60,7 @@ ends-behind (Some Memory) rs qs read written h = (
 fewer : (cs ds : List (List ℕ)) (most more all : ℕ) → length cs ≤ most → most + more ≤ all → length ds < more → length (cs ++ ds) < all
 fewer cs ds most more all few within less = omega (arith, length-append cs ds, few, within, less)
 
--- a turn behind others
+-- an exchange behind others
 pub talks-behind : {D : Type 0} (called : D → Request → Reply → D → Type 0) (most more all : ℕ) (end : Option Served) (i j k o p q : Option (List ℕ)) (d m e : D)
     → most + more ≤ all → Talks called most None i j o p d m → Talks called more end j k p q m e → Talks called all end i k o q d e
 talks-behind called most more all end i j k o p q d m e within s t =

@@ -1,4 +1,4 @@
--- The steps of a turn: a buffer is filled, the bytes of a reply are written.
+-- The steps of an exchange: a buffer is filled, the bytes of a reply are written.
 use Rattle.std.specs.Prelude.{ℕ, ◌<◌, List, [], length, take, Option, Some, None, Result, Ok, Err}
 use Rattle.std.specs.Int.{to_be_bytes, w32}
 use Rattle.std.specs.Io.KnownBytes.{Consumes, Appends, IsAtEnd}
