@@ -9,12 +9,13 @@ use Rattle.std.proofs.lemmas.List.{length-append}
 use Rattle.std.proofs.lemmas.List.Elements.{All-append, All-nil, All-cons}
 use Rattle.xa_frame.specs.declared.request.Request.{Request}
 use Rattle.xa_frame.specs.declared.reply.Reply.{Reply}
+use Rattle.xa_output.proofs.Pieces.{appends_both, nothing_appended}
 use Rattle.xa_desk.specs.declared.served.Served.{Served}
 use Rattle.xa_desk.specs.declared.served.Served.TheVariants.{Ended, ReadFault, WriteFault, TooLong, Memory}
 use Rattle.xa_desk.specs.Frames.{frame, reply_frame, refused}
 use Rattle.xa_desk.specs.Serving.{Answers, AnswersAll, IsShort, frames_of, Owes, Ends, Talks}
-use Rattle.xa_desk.specs.Steps.{Lacks, ReadsLength, Sends, Writes, end_of}
-use Rattle.xa_desk.proofs.Known.{consumes-none, appends-none, consumes-twice, appends-twice}
+use Rattle.xa_desk.specs.Steps.{Lacks, ReadsLength, Sends, end_of}
+use Rattle.xa_desk.proofs.Known.{consumes-none, consumes-twice}
 
 answers-append : {D : Type 0} (called : D → Request → Reply → D → Type 0) (d m e : D) (cs ds : List (List ℕ)) (rs qs : List Reply)
     → AnswersAll called d cs rs m → AnswersAll called m ds qs e → AnswersAll called d (cs ++ ds) (rs ++ qs) e
@@ -79,7 +80,7 @@ talks-behind called most more all end i j k o p q d m e within s t =
       consumed = subst R (sym (append_assoc (flat_map frame s.contents) (flat_map frame t.contents) t.read) ∙ ap (λ (bs : List ℕ). bs ++ t.read) (sym (flat_map-append frame s.contents t.contents)))
           (consumes-twice i j k (flat_map frame s.contents) (flat_map frame t.contents ++ t.read) before t.consumed);
       answered = answers-append called d m e s.contents t.contents s.replies t.replies s.answered t.answered;
-      appended = appends-twice o p q (frames_of s.replies) t.written sent t.appended;
+      appended = appends_both o p q (frames_of s.replies) t.written sent t.appended;
       ends = ends-behind end s.replies t.replies t.read t.written t.ends;
       beyond = elim t.beyond [ inl h ↦ inl h | inr h ↦ inr (fewer s.contents t.contents most more all s.few within h) ];
       at_end = λ is. let h = t.at_end is in (h.0, fewer s.contents t.contents most more all s.few within h.1);
@@ -96,7 +97,7 @@ talks-none called i o d = record {
   few = omega arith;
   consumed = consumes-none i;
   answered = refl;
-  appended = appends-none o;
+  appended = nothing_appended o;
   ends = (refl, refl);
   beyond = inl refl;
   at_end = λ is. cc;
@@ -123,7 +124,7 @@ alone called most end i j o p d read written h k ends beyond at_end = record {
 -- a length is cut
 talks-cut : {D : Type 0} (called : D → Request → Reply → D → Type 0) (most : ℕ) (i j o : Option (List ℕ)) (d : D) (part : List ℕ)
     → length part < 4 → (part ≡ []) ⊎ (0 < most) → Consumes i j part → Talks called most (Some ReadFault) i j o o d d
-talks-cut called most i j o d part less beyond h = alone called most ReadFault i j o o d part [] h (appends-none o) (inl less, refl) beyond (λ is. cc)
+talks-cut called most i j o d part less beyond h = alone called most ReadFault i j o o d part [] h (nothing_appended o) (inl less, refl) beyond (λ is. cc)
 
 -- by the end of a conversation: behind as many frames as it may have it ends too
 pub talks-bound : {D : Type 0} (called : D → Request → Reply → D → Type 0) (most : ℕ) (end : Result (Unit {0}) Served) (i j o p : Option (List ℕ)) (d e : D)
@@ -131,14 +132,6 @@ pub talks-bound : {D : Type 0} (called : D → Request → Reply → D → Type 
 talks-bound called most (Ok x) i j o p d e s =
     talks-behind called most 0 most (Some ReadFault) i j j o p p d e e (omega arith) s (talks-cut called 0 j j p e [] (omega arith) (inl refl) (consumes-none j))
 talks-bound called most (Err end) i j o p d e s = s
-
-pub writes-sends : {X : Type 0} (sent : Result X Served) (bytes : List ℕ) (o p : Option (List ℕ)) → Writes sent bytes o p → Sends sent bytes o p
-writes-sends (Ok x) bytes o p h = h
-writes-sends (Err WriteFault) bytes o p h = h
-writes-sends (Err Memory) bytes o p h = absurd h
-writes-sends (Err Ended) bytes o p h = absurd h
-writes-sends (Err ReadFault) bytes o p h = absurd h
-writes-sends (Err TooLong) bytes o p h = absurd h
 
 -- a length is too great, and the refusal was written
 pub talks-refused : {D : Type 0} (called : D → Request → Reply → D → Type 0) (reply : Reply) (i j o p : Option (List ℕ)) (d : D) (n : ℕ)
@@ -167,7 +160,7 @@ talks-unsent called end reply i j o p d n is more bound h k =
 -- no length was read
 pub talks-unread : {D : Type 0} (called : D → Request → Reply → D → Type 0) (end : Served) (i j o : Option (List ℕ)) (d : D)
     → ReadsLength (Err end) i j → Talks called 1 (Some end) i j o o d d
-talks-unread called Ended i j o d h = alone called 1 Ended i j o o d [] [] h.0 (appends-none o) (refl, refl) (inl refl) (λ is. (h.1, omega arith))
+talks-unread called Ended i j o d h = alone called 1 Ended i j o o d [] [] h.0 (nothing_appended o) (refl, refl) (inl refl) (λ is. (h.1, omega arith))
 talks-unread called ReadFault i j o d h = talks-cut called 1 i j o d h.0 h.1 (inr (omega arith)) h.2
 talks-unread called WriteFault i j o d h = absurd h
 talks-unread called TooLong i j o d h = absurd h
@@ -179,9 +172,9 @@ pub talks-lacking : {D : Type 0} (called : D → Request → Reply → D → Typ
 talks-lacking called Memory i j k o d n few h l =
     let P : List ℕ → Type 0 = λ bs. Consumes i k bs in
     let whole : Consumes i k (to_be_bytes w32 n) = subst P (append-nil (to_be_bytes w32 n)) (consumes-twice i j k (to_be_bytes w32 n) [] h l) in
-    alone called 1 Memory i k o o d (to_be_bytes w32 n) [] whole (appends-none o) ([], refl, inl ((n, few, refl), refl)) (inr (omega arith)) (λ is. cc)
+    alone called 1 Memory i k o o d (to_be_bytes w32 n) [] whole (nothing_appended o) ([], refl, inl ((n, few, refl), refl)) (inr (omega arith)) (λ is. cc)
 talks-lacking called ReadFault i j k o d n few h l =
-    alone called 1 ReadFault i k o o d (to_be_bytes w32 n ++ l.0) [] (consumes-twice i j k (to_be_bytes w32 n) l.0 h l.2) (appends-none o) (inr (n, l.0, few, l.1, refl), refl) (inr (omega arith)) (λ is. cc)
+    alone called 1 ReadFault i k o o d (to_be_bytes w32 n ++ l.0) [] (consumes-twice i j k (to_be_bytes w32 n) l.0 h l.2) (nothing_appended o) (inr (n, l.0, few, l.1, refl), refl) (inr (omega arith)) (λ is. cc)
 talks-lacking called Ended i j k o d n few h l = absurd l
 talks-lacking called WriteFault i j k o d n few h l = absurd l
 talks-lacking called TooLong i j k o d n few h l = absurd l

@@ -10,6 +10,7 @@ use Rattle.xa_frame.specs.declared.reply.Reply.{Reply}
 use Rattle.xa_frame.specs.declared.request_decoder.TheConstants.{MOST_CONTENT}
 use Rattle.xa_frame.specs.Faults.{fault_of_request}
 use Rattle.xa_frame.specs.Spelling.{SpellsRequest}
+use Rattle.xa_output.specs.Output.{IsPart}
 use Rattle.xa_desk.specs.declared.served.Served.{Served}
 use Rattle.xa_desk.specs.declared.served.Served.TheVariants.{Ended, ReadFault, WriteFault, TooLong, Memory}
 use Rattle.xa_desk.specs.Frames.{frame, reply_frame, refused, without_memory}
@@ -53,10 +54,6 @@ abbrev pub IsCut : List ℕ → Type 0
 IsCut bytes =
     (length bytes < 4)
     ⊎ ((n : ℕ) × (part : List ℕ) × (n ≤ MOST_CONTENT) × (length part < n) × (bytes ≡ to_be_bytes w32 n ++ part))
-
--- these bytes begin with the part, and go on
-abbrev pub IsPart : List ℕ → List ℕ → Type 0
-IsPart part bytes = (rest : List ℕ) × (rest ≢ []) × (bytes ≡ part ++ rest)
 
 abbrev pub frames_of : List Reply → List ℕ
 frames_of replies = flat_map reply_frame replies
