@@ -9,10 +9,11 @@ use Rattle.std.proofs.lemmas.List.{length-append}
 use Rattle.std.proofs.lemmas.List.Elements.{All-append, All-nil, All-cons}
 use Rattle.xa_frame.specs.declared.request.Request.{Request}
 use Rattle.xa_frame.specs.declared.reply.Reply.{Reply}
+use Rattle.xa_frame.specs.Made.{bad_frame}
 use Rattle.xa_output.proofs.Pieces.{appends_both, nothing_appended}
 use Rattle.xa_desk.specs.declared.served.Served.{Served}
 use Rattle.xa_desk.specs.declared.served.Served.TheVariants.{Ended, ReadFault, WriteFault, TooLong, Memory}
-use Rattle.xa_desk.specs.Frames.{frame, reply_frame, refused}
+use Rattle.xa_desk.specs.Frames.{frame, reply_frame}
 use Rattle.xa_desk.specs.Serving.{Answers, AnswersAll, IsShort, frames_of, Owes, Ends, Talks}
 use Rattle.xa_desk.specs.Steps.{Lacks, ReadsLength, Sends, end_of}
 use Rattle.xa_desk.proofs.Known.{consumes-none, consumes-twice}
@@ -30,7 +31,7 @@ frames-behind rs qs written h = ap (λ (bs : List ℕ). frames_of rs ++ bs) h �
 
 owes-behind : (rs qs : List Reply) (read : List ℕ) (owed : List Reply) → Owes qs read owed → Owes (rs ++ qs) read (rs ++ owed)
 owes-behind rs qs read owed (inl h) = inl (h.0, ap (λ (xs : List Reply). rs ++ xs) h.1)
-owes-behind rs qs read owed (inr h) = inr (h.0, ap (λ (xs : List Reply). rs ++ xs) h.1 ∙ sym (append_assoc rs qs (refused ∷ [])))
+owes-behind rs qs read owed (inr h) = inr (h.0, ap (λ (xs : List Reply). rs ++ xs) h.1 ∙ sym (append_assoc rs qs (bad_frame ∷ [])))
 
 -- the same, for a last reply
 owes-last : (rs qs sent : List Reply) (reply : Reply) (read : List ℕ) → Owes qs read (sent ++ reply ∷ []) → Owes (rs ++ qs) read ((rs ++ sent) ++ reply ∷ [])
@@ -42,7 +43,7 @@ ends-behind None rs qs read written h = (h.0, frames-behind rs qs written h.1)
 ends-behind (Some Ended) rs qs read written h = (h.0, frames-behind rs qs written h.1)
 ends-behind (Some ReadFault) rs qs read written h = (h.0, frames-behind rs qs written h.1)
 ends-behind (Some TooLong) rs qs read written h =
-    (h.0, frames-behind rs (qs ++ refused ∷ []) written h.1 ∙ ap frames_of (sym (append_assoc rs qs (refused ∷ []))))
+    (h.0, frames-behind rs (qs ++ bad_frame ∷ []) written h.1 ∙ ap frames_of (sym (append_assoc rs qs (bad_frame ∷ []))))
 ends-behind (Some WriteFault) rs qs read written h = (
   rs ++ h.0,
   h.1,
@@ -133,26 +134,26 @@ talks-bound called most (Ok x) i j o p d e s =
     talks-behind called most 0 most (Some ReadFault) i j j o p p d e e (omega arith) s (talks-cut called 0 j j p e [] (omega arith) (inl refl) (consumes-none j))
 talks-bound called most (Err end) i j o p d e s = s
 
--- a length is too great, and the refusal was written
-pub talks-refused : {D : Type 0} (called : D → Request → Reply → D → Type 0) (reply : Reply) (i j o p : Option (List ℕ)) (d : D) (n : ℕ)
-    → reply ≡ refused → 65535 < n → n < 2 ^ 32 → Consumes i j (to_be_bytes w32 n) → Appends o p (reply_frame reply) → Talks called 1 (Some TooLong) i j o p d d
-talks-refused called reply i j o p d n is more bound h k =
+-- a length is too great, and the reply to it was written
+pub talks-too-long : {D : Type 0} (called : D → Request → Reply → D → Type 0) (reply : Reply) (i j o p : Option (List ℕ)) (d : D) (n : ℕ)
+    → reply ≡ bad_frame → 65535 < n → n < 2 ^ 32 → Consumes i j (to_be_bytes w32 n) → Appends o p (reply_frame reply) → Talks called 1 (Some TooLong) i j o p d d
+talks-too-long called reply i j o p d n is more bound h k =
     let P : Reply → Type 0 = λ x. Appends o p (reply_frame x) in
-    alone called 1 TooLong i j o p d (to_be_bytes w32 n) (reply_frame refused) h (subst P is k) ((n, more, bound, refl), sym (append-nil (reply_frame refused))) (inr (omega arith)) (λ is. cc)
+    alone called 1 TooLong i j o p d (to_be_bytes w32 n) (reply_frame bad_frame) h (subst P is k) ((n, more, bound, refl), sym (append-nil (reply_frame bad_frame))) (inr (omega arith)) (λ is. cc)
 
 -- the same, and it was not, or not all of it
 unsent : {D : Type 0} (called : D → Request → Reply → D → Type 0) (end : Served) (i j o p : Option (List ℕ)) (d : D) (n : ℕ)
-    → 65535 < n → n < 2 ^ 32 → Consumes i j (to_be_bytes w32 n) → Sends {X = Unit {0}} (Err end) (reply_frame refused) o p → Talks called 1 (Some end) i j o p d d
+    → 65535 < n → n < 2 ^ 32 → Consumes i j (to_be_bytes w32 n) → Sends {X = Unit {0}} (Err end) (reply_frame bad_frame) o p → Talks called 1 (Some end) i j o p d d
 unsent called WriteFault i j o p d n more bound h k =
-    alone called 1 WriteFault i j o p d (to_be_bytes w32 n) k.0 h k.2 ([], refused, k.0, inr ((n, more, bound, refl), refl), k.1, refl) (inr (omega arith)) (λ is. cc)
+    alone called 1 WriteFault i j o p d (to_be_bytes w32 n) k.0 h k.2 ([], bad_frame, k.0, inr ((n, more, bound, refl), refl), k.1, refl) (inr (omega arith)) (λ is. cc)
 unsent called Memory i j o p d n more bound h k =
-    alone called 1 Memory i j o p d (to_be_bytes w32 n) [] h k ([], refl, inr (refused, inr ((n, more, bound, refl), refl))) (inr (omega arith)) (λ is. cc)
+    alone called 1 Memory i j o p d (to_be_bytes w32 n) [] h k ([], refl, inr (bad_frame, inr ((n, more, bound, refl), refl))) (inr (omega arith)) (λ is. cc)
 unsent called Ended i j o p d n more bound h k = absurd k
 unsent called ReadFault i j o p d n more bound h k = absurd k
 unsent called TooLong i j o p d n more bound h k = absurd k
 
 pub talks-unsent : {D : Type 0} (called : D → Request → Reply → D → Type 0) (end : Served) (reply : Reply) (i j o p : Option (List ℕ)) (d : D) (n : ℕ)
-    → reply ≡ refused → 65535 < n → n < 2 ^ 32 → Consumes i j (to_be_bytes w32 n) → Sends {X = Unit {0}} (Err end) (reply_frame reply) o p → Talks called 1 (Some end) i j o p d d
+    → reply ≡ bad_frame → 65535 < n → n < 2 ^ 32 → Consumes i j (to_be_bytes w32 n) → Sends {X = Unit {0}} (Err end) (reply_frame reply) o p → Talks called 1 (Some end) i j o p d d
 talks-unsent called end reply i j o p d n is more bound h k =
     let Q : Reply → Type 0 = λ x. Sends {X = Unit {0}} (Err end) (reply_frame x) o p in
     unsent called end i j o p d n more bound h (subst Q is k)

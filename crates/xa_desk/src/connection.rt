@@ -3,7 +3,7 @@ ghost use Rattle.std.specs.Io.KnownBytes.{Consumes};
 ghost use Rattle.xa_frame.specs.declared.request_decoder.TheConstants.{MOST_CONTENT};
 ghost use Rattle.xa_frame.specs.Limits.{IsReply};
 ghost use Rattle.xa_desk.specs.declared.connection.TheConstants.{MOST_FRAMES};
-ghost use Rattle.xa_desk.specs.Frames.{reply_frame, refused, without_memory};
+ghost use Rattle.xa_desk.specs.Frames.{reply_frame, without_memory};
 ghost use Rattle.xa_desk.specs.Serving.{Answers, Talks};
 ghost use Rattle.xa_desk.specs.Steps.{Fills, Lacks, ReadsLength, Sends, end_of};
 
@@ -12,7 +12,7 @@ use crate::served::Served;
 use std::alloc::{AllocError, Global};
 use std::io::{Read, Write};
 use xa_bytes::{number_of, put_u32};
-use xa_codes::{Detail, XAER_INVAL, XAER_RMFAIL};
+use xa_codes::{Detail, XAER_RMFAIL};
 use xa_frame::{FrameFault, MOST_CONTENT, Reply, decode_request, encode_reply, one_reply};
 use xa_output::write_text;
 
@@ -63,16 +63,8 @@ fn is_too_long(length: u32) -> bool
     length as usize > MOST_CONTENT
 }
 
-/// The reply to a length that is too great, and to a content that doesn't decode.
-fn refusal() -> Reply
-    ensures reply { result ≡ refused }
-    ensures limits { IsReply result }
-{
-    Reply::detailed(XAER_INVAL, Detail::Frame)
-}
-
 /// The reply where decoding found no memory.
-fn no_memory() -> Reply
+fn without_memory() -> Reply
     ensures reply { result ≡ without_memory }
     ensures limits { IsReply result }
 {
@@ -131,7 +123,7 @@ fn exchange<D: Door, R: Read, W: Write>(
 {
     let length = read_length(reader)?;
     if is_too_long(length) {
-        send(alloc, writer, &refusal())?;
+        send(alloc, writer, &Reply::bad_frame())?;
         return Err(Served::TooLong);
     }
     let content = read_content(alloc, reader, length as usize)?;
@@ -146,8 +138,8 @@ fn answer<D: Door>(alloc: Global, door: &mut D, session: u64, content: &[u8]) ->
 {
     match decode_request(alloc, content) {
         Ok(request) => door.call(session, request),
-        Err(FrameFault::Memory) => no_memory(),
-        Err(_) => refusal(),
+        Err(FrameFault::Memory) => without_memory(),
+        Err(_) => Reply::bad_frame(),
     }
 }
 
