@@ -30,13 +30,11 @@ impl Sessions {
         if connect_refusal(self.seats.len()).is_some() {
             return Err(ConnectFault::Full);
         }
-        let Some(index) = first_free(&self.free) else {
-            return Err(ConnectFault::Full);
+        let index = match first_free(&self.free) {
+            Some(index) if !self.is_connected(index + 1) => index,
+            // Fewer than 1,024 are connected, so one is free; and no number is given twice, whatever the bits say.
+            _ => return Err(ConnectFault::Full),
         };
-        // No number is given twice, whatever the bits say.
-        if self.is_connected(index + 1) {
-            return Err(ConnectFault::Full);
-        }
         if self.add_seat(index).is_err() {
             return Err(ConnectFault::Memory);
         }

@@ -1,6 +1,7 @@
 ghost use Rattle.std.specs.Prelude.{◌≡◌, ◌≢◌, IfSome};
 ghost use Rattle.xa_model.specs.Branches.{one_phase_refusal, two_phase_refusal, rollback_refusal, doom_refusal};
-ghost use Rattle.xa_branch.specs.Facts.{fact_of, IsBare};
+ghost use Rattle.xa_frame.specs.Made.{IsBare};
+ghost use Rattle.xa_branch.specs.Facts.{fact_of};
 ghost use Rattle.xa_codes.specs.declared.detail.Detail.{Detail};
 
 use crate::known::Known;

@@ -1,4 +1,4 @@
--- One turn, and a turn behind others.
+-- One exchange, and one behind others.
 use Rattle.std.proofs.Common.{◌≡◌, ◌⊎◌, ℕ, ◌+◌, ◌<◌, ◌≤◌, ◌^◌, List, [], ◌∷◌, ◌++◌, length, Option, Some, None, refl, sym, ap, ◌∙◌, inl, inr, append_assoc, append-nil, arith, subst, unwrap_or, Result, Ok, Err}
 use Rattle.std.specs.Result.{result_err}
 use Rattle.std.specs.List.{flat_map}
@@ -9,12 +9,14 @@ use Rattle.std.proofs.lemmas.List.{length-append}
 use Rattle.std.proofs.lemmas.List.Elements.{All-append, All-nil, All-cons}
 use Rattle.xa_frame.specs.declared.request.Request.{Request}
 use Rattle.xa_frame.specs.declared.reply.Reply.{Reply}
+use Rattle.xa_frame.specs.Made.{bad_frame}
+use Rattle.xa_output.proofs.Pieces.{appends_both, nothing_appended}
 use Rattle.xa_desk.specs.declared.served.Served.{Served}
 use Rattle.xa_desk.specs.declared.served.Served.TheVariants.{Ended, ReadFault, WriteFault, TooLong, Memory}
-use Rattle.xa_desk.specs.Frames.{frame, reply_frame, refused}
+use Rattle.xa_desk.specs.Frames.{frame, reply_frame}
 use Rattle.xa_desk.specs.Serving.{Answers, AnswersAll, IsShort, frames_of, Owes, Ends, Talks}
-use Rattle.xa_desk.specs.Steps.{Lacks, ReadsLength, Sends, Writes, end_of}
-use Rattle.xa_desk.proofs.Known.{consumes-none, appends-none, consumes-twice, appends-twice}
+use Rattle.xa_desk.specs.Steps.{Lacks, ReadsLength, Sends, end_of}
+use Rattle.xa_desk.proofs.Known.{consumes-none, consumes-twice}
 
 answers-append : {D : Type 0} (called : D → Request → Reply → D → Type 0) (d m e : D) (cs ds : List (List ℕ)) (rs qs : List Reply)
     → AnswersAll called d cs rs m → AnswersAll called m ds qs e → AnswersAll called d (cs ++ ds) (rs ++ qs) e
@@ -29,7 +31,7 @@ frames-behind rs qs written h = ap (λ (bs : List ℕ). frames_of rs ++ bs) h �
 
 owes-behind : (rs qs : List Reply) (read : List ℕ) (owed : List Reply) → Owes qs read owed → Owes (rs ++ qs) read (rs ++ owed)
 owes-behind rs qs read owed (inl h) = inl (h.0, ap (λ (xs : List Reply). rs ++ xs) h.1)
-owes-behind rs qs read owed (inr h) = inr (h.0, ap (λ (xs : List Reply). rs ++ xs) h.1 ∙ sym (append_assoc rs qs (refused ∷ [])))
+owes-behind rs qs read owed (inr h) = inr (h.0, ap (λ (xs : List Reply). rs ++ xs) h.1 ∙ sym (append_assoc rs qs (bad_frame ∷ [])))
 
 -- the same, for a last reply
 owes-last : (rs qs sent : List Reply) (reply : Reply) (read : List ℕ) → Owes qs read (sent ++ reply ∷ []) → Owes (rs ++ qs) read ((rs ++ sent) ++ reply ∷ [])
@@ -41,7 +43,7 @@ ends-behind None rs qs read written h = (h.0, frames-behind rs qs written h.1)
 ends-behind (Some Ended) rs qs read written h = (h.0, frames-behind rs qs written h.1)
 ends-behind (Some ReadFault) rs qs read written h = (h.0, frames-behind rs qs written h.1)
 ends-behind (Some TooLong) rs qs read written h =
-    (h.0, frames-behind rs (qs ++ refused ∷ []) written h.1 ∙ ap frames_of (sym (append_assoc rs qs (refused ∷ []))))
+    (h.0, frames-behind rs (qs ++ bad_frame ∷ []) written h.1 ∙ ap frames_of (sym (append_assoc rs qs (bad_frame ∷ []))))
 ends-behind (Some WriteFault) rs qs read written h = (
   rs ++ h.0,
   h.1,
@@ -60,7 +62,7 @@ ends-behind (Some Memory) rs qs read written h = (
 fewer : (cs ds : List (List ℕ)) (most more all : ℕ) → length cs ≤ most → most + more ≤ all → length ds < more → length (cs ++ ds) < all
 fewer cs ds most more all few within less = omega (arith, length-append cs ds, few, within, less)
 
--- a turn behind others
+-- an exchange behind others
 pub talks-behind : {D : Type 0} (called : D → Request → Reply → D → Type 0) (most more all : ℕ) (end : Option Served) (i j k o p q : Option (List ℕ)) (d m e : D)
     → most + more ≤ all → Talks called most None i j o p d m → Talks called more end j k p q m e → Talks called all end i k o q d e
 talks-behind called most more all end i j k o p q d m e within s t =
@@ -79,7 +81,7 @@ talks-behind called most more all end i j k o p q d m e within s t =
       consumed = subst R (sym (append_assoc (flat_map frame s.contents) (flat_map frame t.contents) t.read) ∙ ap (λ (bs : List ℕ). bs ++ t.read) (sym (flat_map-append frame s.contents t.contents)))
           (consumes-twice i j k (flat_map frame s.contents) (flat_map frame t.contents ++ t.read) before t.consumed);
       answered = answers-append called d m e s.contents t.contents s.replies t.replies s.answered t.answered;
-      appended = appends-twice o p q (frames_of s.replies) t.written sent t.appended;
+      appended = appends_both o p q (frames_of s.replies) t.written sent t.appended;
       ends = ends-behind end s.replies t.replies t.read t.written t.ends;
       beyond = elim t.beyond [ inl h ↦ inl h | inr h ↦ inr (fewer s.contents t.contents most more all s.few within h) ];
       at_end = λ is. let h = t.at_end is in (h.0, fewer s.contents t.contents most more all s.few within h.1);
@@ -96,7 +98,7 @@ talks-none called i o d = record {
   few = omega arith;
   consumed = consumes-none i;
   answered = refl;
-  appended = appends-none o;
+  appended = nothing_appended o;
   ends = (refl, refl);
   beyond = inl refl;
   at_end = λ is. cc;
@@ -123,7 +125,7 @@ alone called most end i j o p d read written h k ends beyond at_end = record {
 -- a length is cut
 talks-cut : {D : Type 0} (called : D → Request → Reply → D → Type 0) (most : ℕ) (i j o : Option (List ℕ)) (d : D) (part : List ℕ)
     → length part < 4 → (part ≡ []) ⊎ (0 < most) → Consumes i j part → Talks called most (Some ReadFault) i j o o d d
-talks-cut called most i j o d part less beyond h = alone called most ReadFault i j o o d part [] h (appends-none o) (inl less, refl) beyond (λ is. cc)
+talks-cut called most i j o d part less beyond h = alone called most ReadFault i j o o d part [] h (nothing_appended o) (inl less, refl) beyond (λ is. cc)
 
 -- by the end of a conversation: behind as many frames as it may have it ends too
 pub talks-bound : {D : Type 0} (called : D → Request → Reply → D → Type 0) (most : ℕ) (end : Result (Unit {0}) Served) (i j o p : Option (List ℕ)) (d e : D)
@@ -132,34 +134,26 @@ talks-bound called most (Ok x) i j o p d e s =
     talks-behind called most 0 most (Some ReadFault) i j j o p p d e e (omega arith) s (talks-cut called 0 j j p e [] (omega arith) (inl refl) (consumes-none j))
 talks-bound called most (Err end) i j o p d e s = s
 
-pub writes-sends : {X : Type 0} (sent : Result X Served) (bytes : List ℕ) (o p : Option (List ℕ)) → Writes sent bytes o p → Sends sent bytes o p
-writes-sends (Ok x) bytes o p h = h
-writes-sends (Err WriteFault) bytes o p h = h
-writes-sends (Err Memory) bytes o p h = absurd h
-writes-sends (Err Ended) bytes o p h = absurd h
-writes-sends (Err ReadFault) bytes o p h = absurd h
-writes-sends (Err TooLong) bytes o p h = absurd h
-
--- a length is too great, and the refusal was written
-pub talks-refused : {D : Type 0} (called : D → Request → Reply → D → Type 0) (reply : Reply) (i j o p : Option (List ℕ)) (d : D) (n : ℕ)
-    → reply ≡ refused → 65535 < n → n < 2 ^ 32 → Consumes i j (to_be_bytes w32 n) → Appends o p (reply_frame reply) → Talks called 1 (Some TooLong) i j o p d d
-talks-refused called reply i j o p d n is more bound h k =
+-- a length is too great, and the reply to it was written
+pub talks-too-long : {D : Type 0} (called : D → Request → Reply → D → Type 0) (reply : Reply) (i j o p : Option (List ℕ)) (d : D) (n : ℕ)
+    → reply ≡ bad_frame → 65535 < n → n < 2 ^ 32 → Consumes i j (to_be_bytes w32 n) → Appends o p (reply_frame reply) → Talks called 1 (Some TooLong) i j o p d d
+talks-too-long called reply i j o p d n is more bound h k =
     let P : Reply → Type 0 = λ x. Appends o p (reply_frame x) in
-    alone called 1 TooLong i j o p d (to_be_bytes w32 n) (reply_frame refused) h (subst P is k) ((n, more, bound, refl), sym (append-nil (reply_frame refused))) (inr (omega arith)) (λ is. cc)
+    alone called 1 TooLong i j o p d (to_be_bytes w32 n) (reply_frame bad_frame) h (subst P is k) ((n, more, bound, refl), sym (append-nil (reply_frame bad_frame))) (inr (omega arith)) (λ is. cc)
 
 -- the same, and it was not, or not all of it
 unsent : {D : Type 0} (called : D → Request → Reply → D → Type 0) (end : Served) (i j o p : Option (List ℕ)) (d : D) (n : ℕ)
-    → 65535 < n → n < 2 ^ 32 → Consumes i j (to_be_bytes w32 n) → Sends {X = Unit {0}} (Err end) (reply_frame refused) o p → Talks called 1 (Some end) i j o p d d
+    → 65535 < n → n < 2 ^ 32 → Consumes i j (to_be_bytes w32 n) → Sends {X = Unit {0}} (Err end) (reply_frame bad_frame) o p → Talks called 1 (Some end) i j o p d d
 unsent called WriteFault i j o p d n more bound h k =
-    alone called 1 WriteFault i j o p d (to_be_bytes w32 n) k.0 h k.2 ([], refused, k.0, inr ((n, more, bound, refl), refl), k.1, refl) (inr (omega arith)) (λ is. cc)
+    alone called 1 WriteFault i j o p d (to_be_bytes w32 n) k.0 h k.2 ([], bad_frame, k.0, inr ((n, more, bound, refl), refl), k.1, refl) (inr (omega arith)) (λ is. cc)
 unsent called Memory i j o p d n more bound h k =
-    alone called 1 Memory i j o p d (to_be_bytes w32 n) [] h k ([], refl, inr (refused, inr ((n, more, bound, refl), refl))) (inr (omega arith)) (λ is. cc)
+    alone called 1 Memory i j o p d (to_be_bytes w32 n) [] h k ([], refl, inr (bad_frame, inr ((n, more, bound, refl), refl))) (inr (omega arith)) (λ is. cc)
 unsent called Ended i j o p d n more bound h k = absurd k
 unsent called ReadFault i j o p d n more bound h k = absurd k
 unsent called TooLong i j o p d n more bound h k = absurd k
 
 pub talks-unsent : {D : Type 0} (called : D → Request → Reply → D → Type 0) (end : Served) (reply : Reply) (i j o p : Option (List ℕ)) (d : D) (n : ℕ)
-    → reply ≡ refused → 65535 < n → n < 2 ^ 32 → Consumes i j (to_be_bytes w32 n) → Sends {X = Unit {0}} (Err end) (reply_frame reply) o p → Talks called 1 (Some end) i j o p d d
+    → reply ≡ bad_frame → 65535 < n → n < 2 ^ 32 → Consumes i j (to_be_bytes w32 n) → Sends {X = Unit {0}} (Err end) (reply_frame reply) o p → Talks called 1 (Some end) i j o p d d
 talks-unsent called end reply i j o p d n is more bound h k =
     let Q : Reply → Type 0 = λ x. Sends {X = Unit {0}} (Err end) (reply_frame x) o p in
     unsent called end i j o p d n more bound h (subst Q is k)
@@ -167,7 +161,7 @@ talks-unsent called end reply i j o p d n is more bound h k =
 -- no length was read
 pub talks-unread : {D : Type 0} (called : D → Request → Reply → D → Type 0) (end : Served) (i j o : Option (List ℕ)) (d : D)
     → ReadsLength (Err end) i j → Talks called 1 (Some end) i j o o d d
-talks-unread called Ended i j o d h = alone called 1 Ended i j o o d [] [] h.0 (appends-none o) (refl, refl) (inl refl) (λ is. (h.1, omega arith))
+talks-unread called Ended i j o d h = alone called 1 Ended i j o o d [] [] h.0 (nothing_appended o) (refl, refl) (inl refl) (λ is. (h.1, omega arith))
 talks-unread called ReadFault i j o d h = talks-cut called 1 i j o d h.0 h.1 (inr (omega arith)) h.2
 talks-unread called WriteFault i j o d h = absurd h
 talks-unread called TooLong i j o d h = absurd h
@@ -179,9 +173,9 @@ pub talks-lacking : {D : Type 0} (called : D → Request → Reply → D → Typ
 talks-lacking called Memory i j k o d n few h l =
     let P : List ℕ → Type 0 = λ bs. Consumes i k bs in
     let whole : Consumes i k (to_be_bytes w32 n) = subst P (append-nil (to_be_bytes w32 n)) (consumes-twice i j k (to_be_bytes w32 n) [] h l) in
-    alone called 1 Memory i k o o d (to_be_bytes w32 n) [] whole (appends-none o) ([], refl, inl ((n, few, refl), refl)) (inr (omega arith)) (λ is. cc)
+    alone called 1 Memory i k o o d (to_be_bytes w32 n) [] whole (nothing_appended o) ([], refl, inl ((n, few, refl), refl)) (inr (omega arith)) (λ is. cc)
 talks-lacking called ReadFault i j k o d n few h l =
-    alone called 1 ReadFault i k o o d (to_be_bytes w32 n ++ l.0) [] (consumes-twice i j k (to_be_bytes w32 n) l.0 h l.2) (appends-none o) (inr (n, l.0, few, l.1, refl), refl) (inr (omega arith)) (λ is. cc)
+    alone called 1 ReadFault i k o o d (to_be_bytes w32 n ++ l.0) [] (consumes-twice i j k (to_be_bytes w32 n) l.0 h l.2) (nothing_appended o) (inr (n, l.0, few, l.1, refl), refl) (inr (omega arith)) (λ is. cc)
 talks-lacking called Ended i j k o d n few h l = absurd l
 talks-lacking called WriteFault i j k o d n few h l = absurd l
 talks-lacking called TooLong i j k o d n few h l = absurd l

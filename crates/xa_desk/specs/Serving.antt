@@ -9,19 +9,21 @@ use Rattle.xa_frame.specs.declared.request.Request.{Request}
 use Rattle.xa_frame.specs.declared.reply.Reply.{Reply}
 use Rattle.xa_frame.specs.declared.request_decoder.TheConstants.{MOST_CONTENT}
 use Rattle.xa_frame.specs.Faults.{fault_of_request}
+use Rattle.xa_frame.specs.Made.{bad_frame}
 use Rattle.xa_frame.specs.Spelling.{SpellsRequest}
+use Rattle.xa_output.specs.Output.{IsPart}
 use Rattle.xa_desk.specs.declared.served.Served.{Served}
 use Rattle.xa_desk.specs.declared.served.Served.TheVariants.{Ended, ReadFault, WriteFault, TooLong, Memory}
-use Rattle.xa_desk.specs.Frames.{frame, reply_frame, refused, without_memory}
+use Rattle.xa_desk.specs.Frames.{frame, reply_frame, without_memory}
 
 -- the door answered the request that the content spells
 abbrev pub Called : {D : Type 0} → (D → Request → Reply → D → Type 0) → D → List ℕ → Reply → D → Type 0
 Called called d content reply e = (q : Request) × SpellsRequest content q × called d q reply e
 
 -- the content has a fault, and reached no door
-abbrev pub Refused : {D : Type 0} → D → List ℕ → Reply → D → Type 0
-Refused d content reply e =
-    (f : FrameFault) × (f ≢ faults.Memory) × (fault_of_request content ≡ Some f) × (e ≡ d) × (reply ≡ refused)
+abbrev pub Faulty : {D : Type 0} → D → List ℕ → Reply → D → Type 0
+Faulty d content reply e =
+    (f : FrameFault) × (f ≢ faults.Memory) × (fault_of_request content ≡ Some f) × (e ≡ d) × (reply ≡ bad_frame)
 
 -- the content has no fault, but decoding found no memory, and no door was reached
 abbrev pub Wanted : {D : Type 0} → D → List ℕ → Reply → D → Type 0
@@ -30,7 +32,7 @@ Wanted d content reply e = (fault_of_request content ≡ None) × (e ≡ d) × (
 -- one content and its reply
 abbrev pub Answers : {D : Type 0} → (D → Request → Reply → D → Type 0) → D → List ℕ → Reply → D → Type 0
 Answers called d content reply e =
-    Called called d content reply e ⊎ (Refused d content reply e ⊎ Wanted d content reply e)
+    Called called d content reply e ⊎ (Faulty d content reply e ⊎ Wanted d content reply e)
 
 -- contents and their replies, in order
 abbrev pub AnswersAll : {D : Type 0} → (D → Request → Reply → D → Type 0) → D → List (List ℕ) → List Reply → D → Type 0
@@ -54,23 +56,19 @@ IsCut bytes =
     (length bytes < 4)
     ⊎ ((n : ℕ) × (part : List ℕ) × (n ≤ MOST_CONTENT) × (length part < n) × (bytes ≡ to_be_bytes w32 n ++ part))
 
--- these bytes begin with the part, and go on
-abbrev pub IsPart : List ℕ → List ℕ → Type 0
-IsPart part bytes = (rest : List ℕ) × (rest ≢ []) × (bytes ≡ part ++ rest)
-
 abbrev pub frames_of : List Reply → List ℕ
 frames_of replies = flat_map reply_frame replies
 
 -- the replies that are owed: one to each content, and one to a length that is too great
 abbrev pub Owes : List Reply → List ℕ → List Reply → Type 0
-Owes replies read owed = ((read ≡ []) × (owed ≡ replies)) ⊎ (IsTooLong read × (owed ≡ replies ++ refused ∷ []))
+Owes replies read owed = ((read ≡ []) × (owed ≡ replies)) ⊎ (IsTooLong read × (owed ≡ replies ++ bad_frame ∷ []))
 
 -- By the end, or None where it goes on: what was read behind the whole frames, and what was written.
 abbrev pub Ends : Option Served → List Reply → List ℕ → List ℕ → Type 0
 Ends None replies read written = (read ≡ []) × (written ≡ frames_of replies)
 Ends (Some Ended) replies read written = (read ≡ []) × (written ≡ frames_of replies)
 Ends (Some ReadFault) replies read written = IsCut read × (written ≡ frames_of replies)
-Ends (Some TooLong) replies read written = IsTooLong read × (written ≡ frames_of (replies ++ refused ∷ []))
+Ends (Some TooLong) replies read written = IsTooLong read × (written ≡ frames_of (replies ++ bad_frame ∷ []))
 -- one reply is not written, or in part
 Ends (Some WriteFault) replies read written =
     (sent : List Reply) × (reply : Reply) × (part : List ℕ)

@@ -1,12 +1,12 @@
--- The steps of a turn: a buffer is filled, the bytes of a reply are written.
+-- The steps of an exchange: a buffer is filled, the bytes of a reply are written.
 use Rattle.std.specs.Prelude.{ℕ, ◌<◌, List, [], length, take, Option, Some, None, Result, Ok, Err}
 use Rattle.std.specs.Int.{to_be_bytes, w32}
 use Rattle.std.specs.Io.KnownBytes.{Consumes, Appends, IsAtEnd}
+use Rattle.xa_output.specs.Output.{AppendsPart}
 use Rattle.xa_desk.specs.declared.connection.Filled.{Filled}
 use Rattle.xa_desk.specs.declared.connection.Filled.TheVariants as filled
 use Rattle.xa_desk.specs.declared.served.Served.{Served}
 use Rattle.xa_desk.specs.declared.served.Served.TheVariants.{Ended, ReadFault, WriteFault, Memory}
-use Rattle.xa_desk.specs.Serving.{IsPart}
 
 -- the end that a step came to, or None where it goes on
 abbrev pub end_of : {X : Type 0} → Result X Served → Option Served
@@ -32,15 +32,9 @@ Lacks Memory count input input' = Consumes input input' []
 Lacks ReadFault count input input' = (part : List ℕ) × (length part < count) × Consumes input input' part
 Lacks _ count input input' = ⊥
 
--- all of the bytes were written, or a part
-abbrev pub Writes : {X : Type 0} → Result X Served → List ℕ → Option (List ℕ) → Option (List ℕ) → Type 0
-Writes (Ok x) bytes output output' = Appends output output' bytes
-Writes (Err WriteFault) bytes output output' = (part : List ℕ) × IsPart part bytes × Appends output output' part
-Writes (Err end) bytes output output' = ⊥
-
 -- all of a reply's bytes were written, or a part, or there was no memory for them
 abbrev pub Sends : {X : Type 0} → Result X Served → List ℕ → Option (List ℕ) → Option (List ℕ) → Type 0
 Sends (Ok x) bytes output output' = Appends output output' bytes
-Sends (Err WriteFault) bytes output output' = (part : List ℕ) × IsPart part bytes × Appends output output' part
+Sends (Err WriteFault) bytes output output' = AppendsPart bytes output output'
 Sends (Err Memory) bytes output output' = Appends output output' []
 Sends (Err end) bytes output output' = ⊥

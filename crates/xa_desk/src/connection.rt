@@ -3,17 +3,18 @@ ghost use Rattle.std.specs.Io.KnownBytes.{Consumes};
 ghost use Rattle.xa_frame.specs.declared.request_decoder.TheConstants.{MOST_CONTENT};
 ghost use Rattle.xa_frame.specs.Limits.{IsReply};
 ghost use Rattle.xa_desk.specs.declared.connection.TheConstants.{MOST_FRAMES};
-ghost use Rattle.xa_desk.specs.Frames.{reply_frame, refused, without_memory};
+ghost use Rattle.xa_desk.specs.Frames.{reply_frame, without_memory};
 ghost use Rattle.xa_desk.specs.Serving.{Answers, Talks};
-ghost use Rattle.xa_desk.specs.Steps.{Fills, Lacks, ReadsLength, Sends, Writes, end_of};
+ghost use Rattle.xa_desk.specs.Steps.{Fills, Lacks, ReadsLength, Sends, end_of};
 
 use crate::door::Door;
 use crate::served::Served;
 use std::alloc::{AllocError, Global};
 use std::io::{Read, Write};
 use xa_bytes::{number_of, put_u32};
-use xa_codes::{Detail, XAER_INVAL, XAER_RMFAIL};
+use xa_codes::{Detail, XAER_RMFAIL};
 use xa_frame::{FrameFault, MOST_CONTENT, Reply, decode_request, encode_reply, one_reply};
+use xa_output::write_text;
 
 /// The most frames of a connection.
 pub const MOST_FRAMES: u32 = 4_294_967_295;
@@ -62,30 +63,8 @@ fn is_too_long(length: u32) -> bool
     length as usize > MOST_CONTENT
 }
 
-// Writes all the bytes, in whatever pieces the writer takes. An end is a write that failed.
-fn write_bytes<W: Write>(writer: &mut W, bytes: &[u8]) -> Result<(), Served>
-    ensures { Writes result bytes.now (W.contents writer.old) (W.contents writer.new) }
-{
-    let mut rest = bytes;
-    while !rest.is_empty() {
-        match writer.write(rest) {
-            Ok(0) | Err(_) => return Err(Served::WriteFault),
-            Ok(n) => rest = rest.split_at(n).1,
-        }
-    }
-    Ok(())
-}
-
-/// The reply to a length that is too great, and to a content that doesn't decode.
-fn refusal() -> Reply
-    ensures reply { result ≡ refused }
-    ensures limits { IsReply result }
-{
-    Reply::detailed(XAER_INVAL, Detail::Frame)
-}
-
 /// The reply where decoding found no memory.
-fn no_memory() -> Reply
+fn without_memory() -> Reply
     ensures reply { result ≡ without_memory }
     ensures limits { IsReply result }
 {
@@ -109,8 +88,12 @@ fn send<W: Write>(alloc: Global, writer: &mut W, reply: &Reply) -> Result<(), Se
     requires { IsReply reply.now }
     ensures { Sends result (reply_frame reply.now) (W.contents writer.old) (W.contents writer.new) }
 {
-    let bytes = frame_of(alloc, reply)?;
-    write_bytes(writer, &bytes)
+    let frame = frame_of(alloc, reply)?;
+    if write_text(writer, frame.as_slice()) {
+        Ok(())
+    } else {
+        Err(Served::WriteFault)
+    }
 }
 
 // The content of a frame. An end is want of memory or a content that is cut.
@@ -140,7 +123,7 @@ fn exchange<D: Door, R: Read, W: Write>(
 {
     let length = read_length(reader)?;
     if is_too_long(length) {
-        send(alloc, writer, &refusal())?;
+        send(alloc, writer, &Reply::bad_frame())?;
         return Err(Served::TooLong);
     }
     let content = read_content(alloc, reader, length as usize)?;
@@ -155,8 +138,8 @@ fn answer<D: Door>(alloc: Global, door: &mut D, session: u64, content: &[u8]) ->
 {
     match decode_request(alloc, content) {
         Ok(request) => door.call(session, request),
-        Err(FrameFault::Memory) => no_memory(),
-        Err(_) => refusal(),
+        Err(FrameFault::Memory) => without_memory(),
+        Err(_) => Reply::bad_frame(),
     }
 }
 
@@ -185,7 +168,8 @@ fn converse<D: Door, R: Read, W: Write>(
 /// Of each frame it reads the length and then the content, each by one read where the reader gives all that is asked,
 /// and nothing beyond: what stands behind the last frame or behind a length above `MOST_CONTENT` is left in the reader.
 /// So the caller may hand in a reader with a buffer. The frame of each reply is handed to the writer whole, and again
-/// only where the writer took a part. A read or a write that fails ends the connection, whatever its error.
+/// only where the writer took a part. A read that fails ends the connection, whatever its error, and so does a write
+/// that fails, unless it was interrupted: then it is asked again.
 pub fn serve_upto<D: Door, R: Read, W: Write>(
     alloc: Global,
     door: &mut D,

@@ -1,7 +1,6 @@
 -- Worked contents: the numbers in them, how some requests and replies are spelled, and which fault some bytes have.
 use Rattle.std.specs.Prelude.{◌≡◌, ℕ, pos, List, [], ◌∷◌, map, Some, None}
 use Rattle.xa_codes.specs.declared.call.Call.TheVariants as call
-use Rattle.xa_codes.specs.declared.codes.TheConstants.{XAER_INVAL}
 use Rattle.xa_codes.specs.declared.detail.Detail.TheVariants as detail
 use Rattle.xa_codes.specs.declared.direction.Direction.TheVariants as direction
 use Rattle.xa_xid.specs.Triple.{Triple}
@@ -12,6 +11,7 @@ use Rattle.xa_frame.specs.declared.reply.Reply.{Reply}
 use Rattle.xa_frame.specs.declared.fault.FrameFault.TheVariants.{Short, Version, Operation, Field, Trailing}
 use Rattle.xa_frame.specs.Spelling.{operation, numbered, detail_byte, detail_numbered, bytes_of_request, bytes_of_reply}
 use Rattle.xa_frame.specs.Faults.{fault_of_request, fault_of_reply}
+use Rattle.xa_frame.specs.Made.{bad_frame}
 
 -- the numbers of the operations, the details and the directions, and numbers that none has
 abbrev pub HasNumbers : Type 0
@@ -34,21 +34,20 @@ branch = record { format = pos 1; gtrid = 170 ∷ []; bqual = 187 ∷ [] }
 abbrev pub begun : Reply
 begun = record { code = pos 0; detail = detail.Nothing; place = 3; body = body.Number 4294967297 }
 
--- the request didn't decode
-abbrev pub refused : Reply
-refused = record { code = XAER_INVAL; detail = detail.Frame; place = 0; body = body.Nothing }
-
 abbrev pub start_bytes : List ℕ
 start_bytes = 1 ∷ 3 ∷ 0 ∷ 0 ∷ 0 ∷ 0 ∷ 0 ∷ 0 ∷ 0 ∷ 1 ∷ 1 ∷ 1 ∷ 170 ∷ 187 ∷ []
 
 abbrev pub begun_bytes : List ℕ
 begun_bytes = 1 ∷ 0 ∷ 0 ∷ 0 ∷ 0 ∷ 0 ∷ 0 ∷ 0 ∷ 0 ∷ 0 ∷ 0 ∷ 0 ∷ 0 ∷ 3 ∷ 1 ∷ 0 ∷ 0 ∷ 0 ∷ 1 ∷ 0 ∷ 0 ∷ 0 ∷ 1 ∷ []
 
-abbrev pub refused_bytes : List ℕ
-refused_bytes = 1 ∷ 255 ∷ 255 ∷ 255 ∷ 251 ∷ 6 ∷ 0 ∷ 0 ∷ 0 ∷ 0 ∷ 0 ∷ 0 ∷ 0 ∷ 0 ∷ 0 ∷ []
+abbrev pub bad_frame_bytes : List ℕ
+bad_frame_bytes = 1 ∷ 255 ∷ 255 ∷ 255 ∷ 251 ∷ 6 ∷ 0 ∷ 0 ∷ 0 ∷ 0 ∷ 0 ∷ 0 ∷ 0 ∷ 0 ∷ 0 ∷ []
 
 abbrev pub SpelledSo : Type 0
-SpelledSo = (bytes_of_request (Start 0 branch) ≡ start_bytes) × (bytes_of_reply begun ≡ begun_bytes) × (bytes_of_reply refused ≡ refused_bytes)
+SpelledSo =
+    (bytes_of_request (Start 0 branch) ≡ start_bytes)
+    × (bytes_of_reply begun ≡ begun_bytes)
+    × (bytes_of_reply bad_frame ≡ bad_frame_bytes)
 
 abbrev pub FaultyRequests : Type 0
 FaultyRequests =

@@ -5,7 +5,8 @@
 //!
 //! - `request`: `Request`, with what each call is given
 //! - `reply`: `Reply`; `body`: `Body`, what a reply carries; `xids`: `Xids`, that contracts see as a list
-//! - `making`: `Reply::plain`, `detailed` and `carrying`; `copying`: `Request::copied`, and `hold`, what its parts hold
+//! - `making`: `Reply::plain`, `detailed`, `carrying` and `bad_frame`; `copying`: `Request::copied`, and `hold`, what its
+//!   parts hold
 //!
 //! Their bytes:
 //!

@@ -1,9 +1,9 @@
 ghost use Rattle.std.specs.Prelude.{◌≡◌};
-ghost use Rattle.xa_frame.specs.Made.{plain, detailed, carrying};
+ghost use Rattle.xa_frame.specs.Made.{plain, detailed, carrying, bad_frame};
 
 use crate::body::Body;
 use crate::reply::Reply;
-use xa_codes::{Code, Detail, XA_OK};
+use xa_codes::{Code, Detail, XA_OK, XAER_INVAL};
 
 /// Replies with place 0. None takes memory.
 impl Reply {
@@ -36,5 +36,12 @@ impl Reply {
             place: 0,
             body,
         }
+    }
+
+    /// No request was read: a frame's content doesn't decode or is too long, or a line isn't in the grammar.
+    pub fn bad_frame() -> Reply
+        ensures { result ≡ bad_frame }
+    {
+        Reply::detailed(XAER_INVAL, Detail::Frame)
     }
 }

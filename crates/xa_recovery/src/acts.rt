@@ -89,6 +89,7 @@ impl Rebuilding {
         ensures { InRead self.old (λ x. is_prepared xid.now x.durable.prepared ≡ true
             → OnOk result (StandsFor self.new (record x { durable = complete xid.now direction x.durable }))) }
     {
+        // A record that fits is of a branch in doubt, so both are always found.
         let Some(timestamp) = self.names.remove(xid) else {
             return Ok(());
         };

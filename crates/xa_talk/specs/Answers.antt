@@ -1,8 +1,8 @@
 -- What one line is answered, and what it leaves of the script's connections.
 use Rattle.std.specs.Prelude.{ℕ, ◌≡◌, ◌⊎◌, ◌+◌, pos, List, nat_lt, Option, Some, None, Result, Ok, Err, MatchBool, MatchOption, MatchResult}
-use Rattle.xa_codes.specs.declared.codes.TheConstants.{XAER_INVAL, XAER_PROTO, XAER_RMERR}
+use Rattle.xa_codes.specs.declared.codes.TheConstants.{XAER_PROTO, XAER_RMERR}
 use Rattle.xa_codes.specs.declared.detail.Detail.TheVariants as detail
-use Rattle.xa_frame.specs.Made.{plain, detailed, carrying}
+use Rattle.xa_frame.specs.Made.{plain, detailed, carrying, bad_frame}
 use Rattle.xa_frame.specs.declared.body.Body.TheVariants as body
 use Rattle.xa_frame.specs.declared.reply.Reply.{Reply}
 use Rattle.xa_frame.specs.declared.request.Request.{Request}
@@ -13,10 +13,6 @@ use Rattle.xa_talk.specs.declared.fault.TalkFault.{TalkFault}
 use Rattle.xa_talk.specs.declared.fault.TalkFault.TheVariants as faults
 use Rattle.xa_talk.specs.Exchanges.{Exchanged}
 use Rattle.xa_talk.specs.Numbers.{connection_at, free_index, index_of, with_at, with_new}
-
--- the line isn't in the grammar, or speaks of what only disks in memory have
-abbrev pub refused : Reply
-refused = detailed XAER_INVAL detail.Frame
 
 -- a reply is shown, a fault isn't
 abbrev pub shown : Result Reply TalkFault → Result (Option Reply) TalkFault
@@ -52,4 +48,5 @@ module _ {C : Type 0} (sent left : C → Option (List ℕ)) where
       (answer ≡ Ok (Some (plain (pos 0)))) × (numbered' ≡ with_at (index_of n) None numbered)
   LineAnswered (Call n request) answer numbered numbered' =
       (reply : Result Reply TalkFault) × (answer ≡ shown reply) × CallAnswered n request reply numbered numbered'
-  LineAnswered said answer numbered numbered' = (answer ≡ Ok (Some refused)) × (numbered' ≡ numbered)
+  -- it isn't in the grammar, or speaks of what only disks in memory have
+  LineAnswered said answer numbered numbered' = (answer ≡ Ok (Some bad_frame)) × (numbered' ≡ numbered)

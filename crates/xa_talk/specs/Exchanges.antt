@@ -1,21 +1,18 @@
 -- A request over a connection, and its reply.
 use Rattle.std.specs.Int.{to_be_bytes, w32}
-use Rattle.std.specs.Prelude.{ℕ, ◌≡◌, ◌<◌, ◌⊎◌, ◌++◌, List, Option, Result, Ok, Err}
+use Rattle.std.specs.Prelude.{ℕ, ◌≡◌, ◌<◌, ◌⊎◌, List, Option, Result, Ok, Err}
 use Rattle.std.specs.Io.KnownBytes.{Appends, Consumes}
 use Rattle.xa_desk.specs.Frames.{frame}
 use Rattle.xa_frame.specs.declared.reply.Reply.{Reply}
 use Rattle.xa_frame.specs.declared.request.Request.{Request}
 use Rattle.xa_frame.specs.declared.request_decoder.TheConstants.{MOST_CONTENT}
 use Rattle.xa_frame.specs.Spelling.{SpellsReply, bytes_of_request}
+use Rattle.xa_output.specs.Output.{IsFront}
 use Rattle.xa_talk.specs.declared.fault.TalkFault.{TalkFault}
 use Rattle.xa_talk.specs.declared.fault.TalkFault.TheVariants.{Broken, Memory, NoReply}
 
 abbrev pub request_frame : Request → List ℕ
 request_frame request = frame (bytes_of_request request)
-
--- the first bytes of a text: none, a part, or all
-abbrev pub IsFront : List ℕ → List ℕ → Type 0
-IsFront front text = (rest : List ℕ) × (text ≡ front ++ rest)
 
 -- some first bytes of a request's frame are sent, or all
 abbrev pub SendsPart : Request → Option (List ℕ) → Option (List ℕ) → Type 0

@@ -4,6 +4,7 @@ use Rattle.std.specs.Io.BufRead.{strip_last, take_through}
 use Rattle.std.specs.Io.KnownBytes.{Appends, Consumes, IsAtEnd, Keeps}
 use Rattle.std.specs.Prelude.{ℕ, ◌≡◌, ◌<◌, ◌⊎◌, Bool, true, false, List, [], ◌∷◌, ◌++◌, length, Option, Some, None, IfSome, Result, Ok, Err, IsErrOf}
 use Rattle.xa_frame.specs.declared.reply.Reply.{Reply}
+use Rattle.xa_output.specs.Output.{IsFront}
 use Rattle.xa_script.specs.Lines as lines
 use Rattle.xa_script.specs.Replies as replies
 use Rattle.xa_script.specs.Requests.{ReadsTexts}
@@ -11,7 +12,6 @@ use Rattle.xa_xid.specs.Triple.{Triple}
 use Rattle.xa_talk.specs.declared.fault.TalkFault.{TalkFault}
 use Rattle.xa_talk.specs.declared.fault.TalkFault.TheVariants.{Memory, Read, Write}
 use Rattle.xa_talk.specs.Answers.{LineAnswered}
-use Rattle.xa_talk.specs.Exchanges.{IsFront}
 
 -- The line of a reply is written. Where it failed, nothing, without memory, or some first bytes.
 abbrev pub Shows : {X : Type 0} → Reply → Result X TalkFault → List ℕ → Type 0

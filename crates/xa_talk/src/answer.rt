@@ -10,7 +10,7 @@ use crate::exchanging::exchange;
 use crate::fault::TalkFault;
 use std::alloc::Global;
 use std::io::{Read, Write};
-use xa_codes::{Detail, XA_OK, XAER_INVAL, XAER_PROTO, XAER_RMERR};
+use xa_codes::{Detail, XA_OK, XAER_PROTO, XAER_RMERR};
 use xa_frame::{Body, Reply, Request};
 use xa_script::Line;
 
@@ -37,7 +37,7 @@ pub fn answer<R: Read + Drop, W: Write + Drop, D: Dial<R, W>>(
         }
         Line::Call(number, request) => shown(call(alloc, connections, number, &request)),
         Line::Unknown | Line::Fail { .. } | Line::Reopen | Line::Crash => {
-            Ok(Some(Reply::detailed(XAER_INVAL, Detail::Frame)))
+            Ok(Some(Reply::bad_frame()))
         }
     }
 }
