@@ -1,4 +1,5 @@
--- The facts of an XID, as the sequential resource manager names them, and what contracts say of a refusal beside its value.
+-- The facts of an XID, as the sequential resource manager names them, and what contracts say of a refusal beside its
+-- value.
 use Rattle.std.specs.Prelude.{◌≡◌}
 use Rattle.xa_frame.specs.declared.reply.Reply.{Reply}
 use Rattle.xa_frame.specs.declared.body.Body.TheVariants.{Nothing}
