@@ -10,7 +10,7 @@ use Rattle.mv_rules.specs.Records.{StandsFor as RecordsStandFor}
 use Rattle.mv_rules.specs.Ties.{history_of, low_of, writes_in, fate_of, read_as}
 use Rattle.mv_rules.proofs.Moved.{stands_same}
 use Rattle.mv_rules.proofs.Branches.{committed_writes, gone_writes}
-use Rattle.mv_rules.proofs.Open.{at_work}
+use Rattle.mv_rules.proofs.Undecided.{at_work}
 use Rattle.mv_rules.proofs.Remade.{low_rises}
 use Rattle.xa_xid.specs.Triple.{Triple}
 use Rattle.xa_branch.specs.declared.branches.Branches.{Branches}

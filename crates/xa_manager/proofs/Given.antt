@@ -5,7 +5,7 @@ use Rattle.mv_rules.specs.declared.records.Records.{Records}
 use Rattle.mv_rules.specs.Accesses.{Accesses}
 use Rattle.mv_rules.specs.Records.{StandsFor as RecordsStandFor}
 use Rattle.mv_rules.specs.Ties.{history_of, writes_in, read_as}
-use Rattle.mv_rules.proofs.Open.{are_whole}
+use Rattle.mv_rules.proofs.Undecided.{are_whole}
 use Rattle.xa_model.specs.LowWater.{low_water}
 use Rattle.xa_model.specs.Sound.{IsSound}
 use Rattle.xa_model.specs.State.{State, timestamp_of}

@@ -6,7 +6,7 @@ use Rattle.mv_chain.specs.Accesses.{IsUndecided}
 use Rattle.mv_rules.specs.Accesses.{Accesses, IsWritesOf}
 use Rattle.mv_rules.specs.Records.{StandsFor as RecordsStandFor}
 use Rattle.mv_rules.specs.Ties.{history_of, writes_in as writes_among}
-use Rattle.mv_rules.proofs.Open.{at_work as among}
+use Rattle.mv_rules.proofs.Undecided.{at_work as among}
 use Rattle.xa_codes.specs.declared.codes.TheConstants.{XAER_NOTA, XAER_PROTO, XA_RBOTHER}
 use Rattle.xa_codes.specs.declared.detail.Detail.TheVariants as detail
 use Rattle.xa_codes.specs.declared.write.Write.{Write}

@@ -15,7 +15,7 @@ use Rattle.mv_rules.specs.Ties.{history_of, low_of, writes_in, read_as}
 use Rattle.mv_rules.proofs.Ties.{one_lateness}
 use Rattle.mv_rules.proofs.Moved.{stands_same}
 use Rattle.mv_rules.proofs.Branches.{wrote_first}
-use Rattle.mv_rules.proofs.Open.{at_work, unsettled}
+use Rattle.mv_rules.proofs.Undecided.{at_work, unsettled}
 use Rattle.xa_model.specs.State.{State, Operation, Wrote, is_known_as, own_branch, change, timestamp_of}
 use Rattle.xa_model.specs.Source.{write_of, written_keys, is_late as is_late_among}
 use Rattle.xa_model.specs.Answer.{Answer, plain, detailed, answer, unless, marked}
