@@ -14,8 +14,8 @@ use Rattle.xa_assoc.specs.Seats.{connected_in, opened_at, active_at, owns_at, sc
 use Rattle.xa_assoc.specs.Free.{is_free}
 
 -- The same sessions are connected and opened, and each is at work for the same branch and has the same associations of
--- its own. What it has and isn't at work in is suspended. Each session's recovery scan stands at the same cursor. Of the
--- numbers from 1 to 1,024 the array tells which are free.
+-- its own. What it has and isn't at work in is suspended. Each session's recovery scan stands at the same cursor. Of
+-- the numbers from 1 to 1,024 the array tells which are free.
 pub record SessionsStandFor (m : Sessions) (s : State) : Type 0 where
   pub opened : (n : ℕ) → opened_at m n ≡ opened_of s n
   pub active : (n : ℕ) → active_at m n ≡ active_of s.associations n
@@ -85,8 +85,8 @@ CanResume n xid s = resume_refusal_of s n xid ≡ None
 abbrev pub CanSuspend : ℕ → Triple → State → Type 0
 CanSuspend n xid s = suspend_refusal_of s n xid ≡ None
 
--- What the table of branches tells of an XID: whether it is taken or unknown, whether its branch is prepared or completed,
--- and whether an association with it is loose.
+-- What the table of branches tells of an XID: whether it is taken or unknown, whether its branch is prepared or
+-- completed, and whether an association with it is loose.
 
 abbrev pub TellsTaken : State → Triple → Bool → Type 0
 TellsTaken s xid taken = is_taken (known_as s xid) ≡ taken

@@ -1,13 +1,14 @@
-//! The session's part of the association table (X/Open C193): which sessions are connected and opened, the branches that
-//! they are associated with, and where their recovery scans stand. What is known of the branches is `xa_branch`'s; where
-//! both are asked, its facts are handed in.
+//! The session's part of the association table (X/Open C193): which sessions are connected and opened, the branches
+//! that they are associated with, and where their recovery scans stand. What is known of the branches is `xa_branch`'s;
+//! where both are asked, its facts are handed in.
 //!
 //! - `sessions`: `Sessions`, the table, and what is asked of it; `seat`: `Seat`, what it keeps of one session
 //! - `refusing`: how a start and an end are refused, by the table and the facts of the branch
 //! - `refusals`: the same by facts alone, as `connect_refusal`, `close_refusal`, `start_refusal`, `join_refusal`,
 //!   `resume_refusal`, `end_refusal` and `loose_refusal`
 //! - what changes, once nothing is refused: `coming`, how sessions come and go, with `ConnectFault` of `fault`; `work`,
-//!   how they come to work for branches and leave them; `scans`, their recovery scans; `restarts`, what a restart leaves
+//!   how they come to work for branches and leave them; `scans`, their recovery scans; `restarts`, what a restart
+//!   leaves
 //! - below these: `acts`, a seat changes; `free`, the numbers that no session has, a bit each
 #![tactic(auto)]
 

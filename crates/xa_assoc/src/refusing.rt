@@ -10,7 +10,8 @@ use crate::sessions::Sessions;
 use xa_frame::Reply;
 use xa_xid::Xid;
 
-/// How a start and an end are refused, from what the sessions' table knows and the facts of the branch that are handed in.
+/// How a start and an end are refused, from what the sessions' table knows and the facts of the branch that are handed
+/// in.
 impl Sessions {
     /// Of the start of a new branch. The XID is taken, or so many branches are known and so many timestamps given.
     pub fn begin_refusal(

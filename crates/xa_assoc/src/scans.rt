@@ -23,8 +23,8 @@ impl Sessions {
         }
     }
 
-    /// The cursor that a recovery with these flags goes on from: TMSTARTRSCAN opens a scan before all XIDs, and without it
-    /// one has to be open.
+    /// The cursor that a recovery with these flags goes on from: TMSTARTRSCAN opens a scan before all XIDs, and without
+    /// it one has to be open.
     pub fn recover_from(&self, session: u64, flags: u32) -> Result<Option<Xid>, Reply>
         ensures cursor { IfOk result (λ cursor.
             InEach self.now (λ s. scan_from flags (scan_of s.sessions session) ≡ Some cursor)) }
@@ -51,8 +51,8 @@ impl Sessions {
         self.put_scan(session, scan);
     }
 
-    /// Once a recovery with these flags went on from the cursor and listed these XIDs: the session's scan stands at the last
-    /// of them, and with TMENDRSCAN it is over.
+    /// Once a recovery with these flags went on from the cursor and listed these XIDs: the session's scan stands at the
+    /// last of them, and with TMENDRSCAN it is over.
     pub fn move_scan(&mut self, session: u64, flags: u32, cursor: Option<Xid>, xids: &[Xid])
         ensures after { FollowsAlways self.old (λ s. scanning s session (scan_after flags cursor xids.now)) self.new }
         ensures company { company_of self.new ≡ company_of self.old }

@@ -8,9 +8,9 @@ use std::alloc::AllocError;
 use std::collections::BTreeSet;
 use xa_xid::Xid;
 
-/// What is kept of a connected session: whether it is opened, the branch that it is at work for, and all branches that it
-/// is associated with. Those that it isn't at work for are suspended. `scan` is the cursor of its recovery scan: no scan is
-/// open, or it stands before all XIDs (None), or at one.
+/// What is kept of a connected session: whether it is opened, the branch that it is at work for, and all branches that
+/// it is associated with. Those that it isn't at work for are suspended. `scan` is the cursor of its recovery scan: no
+/// scan is open, or it stands before all XIDs (None), or at one.
 #[derive(Debug, Drop)]
 pub struct Seat {
     pub opened: bool,

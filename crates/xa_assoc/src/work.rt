@@ -9,8 +9,8 @@ use crate::sessions::Sessions;
 use std::alloc::AllocError;
 use xa_xid::Xid;
 
-/// How a connected session comes to work for branches, and leaves them, once nothing is refused. For a marked branch the
-/// caller answers the mark: nothing is joined, and what was to be resumed or suspended is left.
+/// How a connected session comes to work for branches, and leaves them, once nothing is refused. For a marked branch
+/// the caller answers the mark: nothing is joined, and what was to be resumed or suspended is left.
 impl Sessions {
     /// Start of a new branch.
     pub fn begin(&mut self, session: u64, xid: Xid) -> Result<(), AllocError>

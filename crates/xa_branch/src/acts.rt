@@ -17,8 +17,8 @@ pub(crate) const BOOT: u64 = 4294967296;
 
 /// How branches begin, and are marked.
 impl Branches {
-    /// A branch begins, with one active association, and is given the boot's next timestamp: the boot's number times 2^32,
-    /// and how many timestamps the boot has given with this one. No number is given twice.
+    /// A branch begins, with one active association, and is given the boot's next timestamp: the boot's number times
+    /// 2^32, and how many timestamps the boot has given with this one. No number is given twice.
     pub fn begin(&mut self, xid: &Xid) -> Result<u64, BeginFault>
         ensures refused { InEach self.old (λ s. fault_of result ≡ begin_fault_of s xid.now) }
         ensures timestamp { InEach self.old (λ s. IfOk result (λ t. t ≡ timestamp_of s.boot (s.given + 1))) }

@@ -24,8 +24,8 @@ impl Branches {
         }
     }
 
-    /// A session resumes its work for the branch: an association of the kind `from`, the session's own suspended one or a
-    /// loose one, becomes active.
+    /// A session resumes its work for the branch: an association of the kind `from`, the session's own suspended one or
+    /// a loose one, becomes active.
     pub fn resume(&mut self, xid: &Xid, from: Kind)
         ensures { InSoundOf self.old (λ s n. resumed_kind s.associations n xid.now ≡ Some from
             → BranchesStandFor self.new (resumed s n xid.now).after) }
@@ -39,7 +39,8 @@ impl Branches {
         }
     }
 
-    /// A session suspends its work for the branch: an active association is suspended, or becomes loose where it migrates.
+    /// A session suspends its work for the branch: an active association is suspended, or becomes loose where it
+    /// migrates.
     pub fn suspend(&mut self, xid: &Xid, migrates: bool)
         ensures { InSoundOf self.old (λ s n. list_any (works_in n xid.now) s.associations ≡ true
             → BranchesStandFor self.new (suspended s n migrates xid.now)) }

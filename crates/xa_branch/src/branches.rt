@@ -13,13 +13,14 @@ use std::collections::{BTreeMap, BTreeSet};
 use xa_codes::{Code, Direction, XAER_NOTA, XAER_PROTO};
 use xa_xid::Xid;
 
-/// The known branches, by their XIDs, and how many timestamps this boot gave. What lasts over a restart stands by itself:
-/// the prepared branches, and the XIDs whose branches the operator completed, with how many there are of each. The timestamps
-/// of the branches at work and of the prepared ones stand in order, for the least of them.
+/// The known branches, by their XIDs, and how many timestamps this boot gave. What lasts over a restart stands by
+/// itself: the prepared branches, and the XIDs whose branches the operator completed, with how many there are of each.
+/// The timestamps of the branches at work and of the prepared ones stand in order, for the least of them.
 ///
 /// What a call promises holds for every state of the sequential resource manager that the branches stood for. Each call
 /// takes time that grows with the logarithm of the number of branches, `hang_up` that for each branch that the session
-/// leaves behind, and `list_after` also time for each XID that it lists. Only calls that can fail for want of memory take it.
+/// leaves behind, and `list_after` also time for each XID that it lists. Only calls that can fail for want of memory
+/// take it.
 #[derive(Debug, Drop)]
 pub struct Branches {
     pub(crate) boot: u32,
@@ -39,8 +40,8 @@ impl Branches {
     ghost use Rattle.xa_branch.specs.Restored.{HasRestored};
     ghost use Rattle.xa_branch.specs.State.{state_of};
 
-    /// No branch is known in this boot, and `next` is the number of the boot's next timestamp: 1 where it gave none, else
-    /// one more than how many it gave. 0 counts as 1. Takes no memory.
+    /// No branch is known in this boot, and `next` is the number of the boot's next timestamp: 1 where it gave none,
+    /// else one more than how many it gave. 0 counts as 1. Takes no memory.
     pub fn new(alloc: Global, boot: u32, next: u64) -> Branches
         ensures fresh { (s : ModelState) → s.boot ≡ boot → s.given + 1 ≡ next → known_in s ≡ 0
             → BranchesStandFor result s }
@@ -161,8 +162,8 @@ impl Branches {
         }
     }
 
-    /// Whether the branch may be prepared, or else the code that answers: XAER_NOTA where it isn't known, XAER_PROTO where
-    /// it is associated, prepared or completed, or its mark.
+    /// Whether the branch may be prepared, or else the code that answers: XAER_NOTA where it isn't known, XAER_PROTO
+    /// where it is associated, prepared or completed, or its mark.
     pub fn ready_to_prepare(&self, xid: &Xid) -> Result<(), Code>
         ensures { InEach self.now (λ s.
             MatchResult result (λ _. readiness_of s xid.now ≡ None) (λ code. readiness_of s xid.now ≡ Some code)) }

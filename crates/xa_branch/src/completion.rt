@@ -74,7 +74,8 @@ impl Branches {
         }
     }
 
-    /// A branch at work or a prepared one is committed or rolled back, and known no more. Of another XID nothing changes.
+    /// A branch at work or a prepared one is committed or rolled back, and known no more. Of another XID nothing
+    /// changes.
     pub fn finish(&mut self, xid: &Xid)
         ensures rolled_back { Follows self.old (λ s. rolled_back s xid.now) self.new }
         ensures committed { Follows self.old (λ s. committed s xid.now) self.new }

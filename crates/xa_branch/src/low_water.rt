@@ -7,9 +7,9 @@ use crate::branches::Branches;
 
 /// Which timestamps nobody works below.
 impl Branches {
-    /// The least timestamp of the branches that are at work or prepared; where there are none, the last that this boot gave, or
-    /// before its first the boot's number times 2^32. Branches that the operator completed don't count. No later branch has a
-    /// timestamp that is less, and as branches are completed this only rises. Takes no memory.
+    /// The least timestamp of the branches that are at work or prepared; where there are none, the last that this boot
+    /// gave, or before its first the boot's number times 2^32. Branches that the operator completed don't count. No
+    /// later branch has a timestamp that is less, and as branches are completed this only rises. Takes no memory.
     pub fn low_water(&self) -> u64
         ensures { InSound self.now (λ s. result ≡ low_water s) }
     {

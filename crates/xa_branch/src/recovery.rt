@@ -24,8 +24,8 @@ fn above(after: Option<&Xid>) -> Bound<&Xid>
 
 /// What recovery lists.
 impl Branches {
-    /// The first `count` of the XIDs above the given one, or of all, whose branches are prepared or were completed by the
-    /// operator, ascending. Others are not gone over. Memory is taken once, for no more XIDs than `count`.
+    /// The first `count` of the XIDs above the given one, or of all, whose branches are prepared or were completed by
+    /// the operator, ascending. Others are not gone over. Memory is taken once, for no more XIDs than `count`.
     pub fn list_after(
         &self,
         alloc: Global,

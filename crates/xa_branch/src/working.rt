@@ -7,7 +7,8 @@ use crate::kind::Kind;
 use crate::state::State;
 use xa_codes::Code;
 
-/// A branch at work: its timestamp, the mark that it may have, and how many active, suspended and loose associations it has.
+/// A branch at work: its timestamp, the mark that it may have, and how many active, suspended and loose associations it
+/// has.
 #[derive(Clone, Copy, Debug, PartialEq, Eq)]
 pub struct Working {
     pub timestamp: u64,

@@ -1,8 +1,8 @@
 //! One connection: a peer's frames go to a door, and the frames of its replies back.
 //!
 //! - `door`: the trait `Door`, what a connection's requests and its hang-up go to
-//! - `connection`: `serve`, which reads frames, asks the door and writes the replies until the connection ends, and hangs
-//!   the session up; `serve_upto`, the same for so many frames; `MOST_FRAMES`
+//! - `connection`: `serve`, which reads frames, asks the door and writes the replies until the connection ends, and
+//!   hangs the session up; `serve_upto`, the same for so many frames; `MOST_FRAMES`
 //! - `served`: `Served`, how a connection ended
 //!
 //! docs/PROTOCOL.md has the format of frames and what ends a connection.

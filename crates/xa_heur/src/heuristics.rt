@@ -9,8 +9,8 @@ use xa_codes::{Call, Code, Direction, XA_HEURCOM, XA_HEURRB, XAER_PROTO};
 use xa_record::Record;
 use xa_xid::Xid;
 
-/// The record of an operator's decision. Only a branch that is in doubt is decided: of another one, also of one that was decided
-/// before, XAER_PROTO.
+/// The record of an operator's decision. Only a branch that is in doubt is decided: of another one, also of one that
+/// was decided before, XAER_PROTO.
 pub fn decide(state: State, xid: &Xid, direction: Direction) -> Result<Record, Code>
     ensures refusal { (known : Known) → IsStateOf state known → refused result ≡ decide_refusal known }
     ensures logs { IfOk result (λ r. r ≡ logged.Decided xid.now direction) }
@@ -29,8 +29,9 @@ pub fn decide(state: State, xid: &Xid, direction: Direction) -> Result<Record, C
     }
 }
 
-/// What a commit in two phases or a rollback is answered where the operator completed the branch: XA_HEURCOM where he committed
-/// it, XA_HEURRB where he rolled it back, whichever of the two is asked. Of other calls and other branches nothing.
+/// What a commit in two phases or a rollback is answered where the operator completed the branch: XA_HEURCOM where he
+/// committed it, XA_HEURRB where he rolled it back, whichever of the two is asked. Of other calls and other branches
+/// nothing.
 pub fn answer_completed(state: State, call: Call) -> Option<Code>
     ensures { (known : Known) → IsStateOf state known → answered result ≡ completion_refusal call known }
 {

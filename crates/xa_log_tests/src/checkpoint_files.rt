@@ -110,8 +110,8 @@ fn many(alloc: Global, records: usize, size: usize) -> Option<Vec<Vec<u8>>> {
     Some(bodies)
 }
 
-// Whether a checkpoint of so many bodies, each filled with its number, is read after a crash as it was written. Beside a
-// log of no record it is taken whatever its first bytes are.
+// Whether a checkpoint of so many bodies, each filled with its number, is read after a crash as it was written. Beside
+// a log of no record it is taken whatever its first bytes are.
 fn is_checkpointed(alloc: Global, records: usize, size: usize) -> Option<bool> {
     let mut log = log_of(alloc, &[])?;
     let came = checkpoints(&mut log, &many(alloc, records, size)?)?;

@@ -156,7 +156,8 @@ fn a_file_too_long_of_two(rt: HostRuntime) {
     none_wrong(&rt, wrong_limit(rt.alloc(), &LIMITS));
 }
 
-// Why no log is made on two disks that are lent. Where one is, its twelve bytes stand in the first, and none in the second.
+// Why no log is made on two disks that are lent. Where one is, its twelve bytes stand in the first, and none in the
+// second.
 fn made(alloc: Global, first: File, second: File, most: u64) -> Option<Option<OpenFault>> {
     let mut first = disk(alloc, first)?;
     let mut second = disk(alloc, second)?;

@@ -1,9 +1,10 @@
-//! Tests of what no clause says, of disks and logs: what stands in the files, what is found there behind a crash or a cut
-//! at each byte, what the manager logs, and what `xarm scan` prints of it.
+//! Tests of what no clause says, of disks and logs: what stands in the files, what is found there behind a crash or a
+//! cut at each byte, what the manager logs, and what `xarm scan` prints of it.
 //!
 //! - `disks`: what a crash and a failing call leave, real files; `folders`: where those stand
 //! - `logs`: appends, and logs that are cut; `log_pairs`: the records and files that several of these tests have
-//! - `checkpoints`: those whose calls fail; `checkpoint_files`: what stands in both files; `log_images`: those that are cut
+//! - `checkpoints`: those whose calls fail; `checkpoint_files`: what stands in both files; `log_images`: those that are
+//!   cut
 //! - `current_files`: which of two files is the current one
 //! - `log_files`: the records of a manager; `log_lines`: the lines of a log; `recoveries`: what a log comes to
 //! - `rows`: `none_wrong`

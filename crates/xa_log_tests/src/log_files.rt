@@ -23,7 +23,8 @@ fn open(
     Manager::open(alloc, first, second, Settings { name, log_bytes })
 }
 
-// Whether a request is answered with XA_OK. That its numbers are within their types' limits is known once it is encoded.
+// Whether a request is answered with XA_OK. That its numbers are within their types' limits is known once it is
+// encoded.
 fn is_ok(alloc: Global, manager: &mut Manager<MemDisk>, session: u64, request: Request) -> bool
     requires { IsRequest request }
 {
@@ -76,7 +77,8 @@ pub fn disks_behind(alloc: Global, lines: &[&str]) -> Option<(MemDisk, MemDisk)>
     Some((first, second))
 }
 
-// The third boot's record, what the branch wrote once it is committed, and that the operator committed it, or rolled it back.
+// The third boot's record, what the branch wrote once it is committed, and that the operator committed it, or rolled it
+// back.
 const THIRD: [u8; 5] = [1, 0, 0, 0, 3];
 
 const BASE: [u8; 17] = [7, 0, 0, 0, 1, 0, 0, 0, 1, 0, 1, 1, 0x6b, 1, 0, 1, 0x76];

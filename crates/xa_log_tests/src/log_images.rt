@@ -61,7 +61,8 @@ fn gives(
     Some(log.on_first() == on_first && are(&found, bodies))
 }
 
-// The current file's bodies until the other one is sealed, and then those, where the other one is the first or the second.
+// The current file's bodies until the other one is sealed, and then those, where the other one is the first or the
+// second.
 fn is_right(
     alloc: Global,
     files: &Files,

@@ -38,7 +38,8 @@ fn wrong_length(alloc: Global, rows: &[Row]) -> Option<usize> {
     )
 }
 
-// A log without records ends at 8, a record takes 36 bytes beside its body, and the closing length 4. Pieces have 262,144.
+// A log without records ends at 8, a record takes 36 bytes beside its body, and the closing length 4. Pieces have
+// 262,144.
 const LENGTHS: [Row; 5] = [
     (1, 100_000, LOG_BYTES, 100_048),
     (3, 100_000, LOG_BYTES, 524_288),

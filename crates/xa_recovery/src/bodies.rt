@@ -31,8 +31,8 @@ fn add_body(
     }
 }
 
-/// The fault of bodies of which those before the index `from` are records', where the record with the index `first` is the
-/// first out of order: a body that is malformed goes before it.
+/// The fault of bodies of which those before the index `from` are records', where the record with the index `first` is
+/// the first out of order: a body that is malformed goes before it.
 fn fault_behind(alloc: Global, bodies: &[Vec<u8>], first: usize, from: usize) -> LogFault
     ensures { LogRebuilt (take from (bytes_of bodies.now)) (Err (Order first))
         → LogRebuilt (bytes_of bodies.now) (Err result) }
@@ -47,12 +47,12 @@ fn fault_behind(alloc: Global, bodies: &[Vec<u8>], first: usize, from: usize) ->
     LogFault::Order(first)
 }
 
-/// What the bodies of a log come to. Each is read once, and one record at a time is kept beside them. All are read before
-/// an order is refused, so that a malformed body anywhere goes before a record out of order anywhere.
+/// What the bodies of a log come to. Each is read once, and one record at a time is kept beside them. All are read
+/// before an order is refused, so that a malformed body anywhere goes before a record out of order anywhere.
 ///
 /// # Errors
-/// The index of the first body that is no record's; where each is one's, that of the first record out of order; or want of
-/// memory.
+/// The index of the first body that is no record's; where each is one's, that of the first record out of order; or want
+/// of memory.
 pub fn rebuild_log(alloc: Global, bodies: &[Vec<u8>]) -> Result<Durable, LogFault>
     ensures { LogRebuilt (bytes_of bodies.now) result }
 {

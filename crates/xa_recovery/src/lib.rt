@@ -2,13 +2,13 @@
 //! records that a new file begins with, and the XIDs that recovery lists. In an order to read:
 //!
 //! - `durable`: `Durable`, what lasts, with `InDoubt`, a branch of it; and `next_boot`
-//! - `rebuilding`: `Rebuilding`, what was read so far, to which one record more is added. `order` says whether it may stand
-//!   there, `acts` does what it says, and `last` keeps of the committed branches the last writes of keys; `fault` has
-//!   `AddFault` and `RebuildFault`
+//! - `rebuilding`: `Rebuilding`, what was read so far, to which one record more is added. `order` says whether it may
+//!   stand there, `acts` does what it says, and `last` keeps of the committed branches the last writes of keys; `fault`
+//!   has `AddFault` and `RebuildFault`
 //! - `bodies`: `rebuild_log`, of the bodies of a log, with `LogFault` of `log_fault`; `records`: `rebuild`, of records
 //! - `snapshots`: `snapshot`, the bodies that a new file begins with; `copies`: records and writes are copied
-//! - `listing`: `list_after`, the XIDs that recovery lists of what lasts. A manager that is up asks its branches for them
-//!   (`xa_branch`)
+//! - `listing`: `list_after`, the XIDs that recovery lists of what lasts. A manager that is up asks its branches for
+//!   them (`xa_branch`)
 //! - `laws`: `begins_with_boot`
 //!
 //! docs/LOG.md, "A boot", says when each of these is asked.

@@ -105,8 +105,8 @@ fn put_decided(
 
 /// The bodies of the records that a new file begins with, in the boot of this number: the boot, the committed branches,
 /// those in doubt, and what the operator completed. The boot stands first: its number is the file's generation, and the
-/// manager's step knows it as the one record that a restart appends. Of a log with a record they take no more room than its
-/// own records, so a restart has the room.
+/// manager's step knows it as the one record that a restart appends. Of a log with a record they take no more room than
+/// its own records, so a restart has the room.
 ///
 /// # Errors
 /// Want of memory.

@@ -15,7 +15,8 @@
 //!
 //! - `desk`: `Desk`, a room behind the one lock (`taking`); `counted`: the room and the ledger's book under it
 //! - `share`: `Share`, some parts of the ledger, and how many events were recorded by it; `agree`
-//! - `auditing`: `audit`, whether receipts and shares fit the room, and `AuditFault`; `comparing`: a receipt and an entry
+//! - `auditing`: `audit`, whether receipts and shares fit the room, and `AuditFault`; `comparing`: a receipt and an
+//!   entry
 #![tactic(auto)]
 
 mod auditing;

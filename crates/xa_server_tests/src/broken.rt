@@ -63,8 +63,8 @@ impl Write for Full {
     }
 }
 
-/// How a connection breaks: its input is cut, or a read or a write fails in front of that byte; and how many frames it may
-/// have.
+/// How a connection breaks: its input is cut, or a read or a write fails in front of that byte; and how many frames it
+/// may have.
 #[derive(Clone, Copy)]
 struct Break {
     cut: usize,
@@ -81,8 +81,8 @@ const WHOLE: Break = Break {
     most: u32::MAX,
 };
 
-/// What is wanted of it: its end, how many bytes of the replies were written, how many frames were answered, and how many
-/// bytes were not read.
+/// What is wanted of it: its end, how many bytes of the replies were written, how many frames were answered, and how
+/// many bytes were not read.
 #[derive(Clone, Copy)]
 struct Wanted {
     end: Served,

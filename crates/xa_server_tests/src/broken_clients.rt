@@ -19,8 +19,8 @@ use xa_workers::{OpenGate, Report, WorkFault, run_workers};
 /// How many of them break off: inside the start, behind none of its bytes, one, and so on.
 const BROKEN: u8 = 16;
 
-/// The k-th client breaks off inside its second frame. It has the reply to its first one, and no more. A connect, an open and a
-/// hang-up are recorded of each client before it.
+/// The k-th client breaks off inside its second frame. It has the reply to its first one, and no more. A connect, an
+/// open and a hang-up are recorded of each client before it.
 fn is_cut_off<R: Net<Stream = TcpStream>>(
     rt: &R,
     alloc: Global,

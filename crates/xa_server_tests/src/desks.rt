@@ -13,8 +13,8 @@ use xa_room::{AuditFault, Desk, Manages, Receipt, Room, Share, Start, audit};
 use xa_rows::LOG_BYTES;
 use xa_workers::Report;
 
-// What these tests begin with, a manager on two disks in memory and the desk of a new room over it, and what they end with, an
-// audit.
+// What these tests begin with, a manager on two disks in memory and the desk of a new room over it, and what they end
+// with, an audit.
 
 /// The resource manager's name, which an Open gives.
 const NAME: &[u8] = b"xarm";

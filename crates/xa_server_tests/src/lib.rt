@@ -1,12 +1,12 @@
-//! Tests of what no clause says, of rooms, desks, workers and servers: what many sessions are answered, what an audit finds,
-//! connections that break, and worked rows with each allocation refused.
+//! Tests of what no clause says, of rooms, desks, workers and servers: what many sessions are answered, what an audit
+//! finds, connections that break, and worked rows with each allocation refused.
 //!
 //! - `desks`: what these tests begin with, a desk of a new room; `clients`: frames, and who sends them
 //! - `rooms`: receipts, shares and audits; `crews`: callers at once; `meetings`: sessions at once, over connections
 //! - `broken`: a connection that breaks; `broken_clients`: clients that break off
 //! - `servers`: a manager behind a port answers as a play
-//! - `refused`: worked rows, with the lines in `refused_rows`, and audits; `refused_limits`: limits; all whichever one allocation
-//!   is refused
+//! - `refused`: worked rows, with the lines in `refused_rows`, and audits; `refused_limits`: limits; all whichever one
+//!   allocation is refused
 //! - `rows`: `none_wrong`
 #![tactic(auto)]
 

@@ -17,10 +17,10 @@ use xa_rows::{LOG_BYTES, Line, PREPARED_LOG_BYTES, Play};
 use xa_script::{CallEffect, LogFile, read_line, reply_line};
 use xa_workers::{Gate, OpenGate, Post};
 
-// Worked rows, that are right whichever one allocation is refused: what was answered that it wanted memory is asked again, and
-// all other replies are those with ample memory. A manager that isn't opened ends a row, and so does a disk in memory that
-// found none, whose call is answered with detail Device. Such a row is played once more. `.ci/refused` refuses each allocation
-// in turn; without it these tests show the rows with ample memory.
+// Worked rows, that are right whichever one allocation is refused: what was answered that it wanted memory is asked
+// again, and all other replies are those with ample memory. A manager that isn't opened ends a row, and so does a disk
+// in memory that found none, whose call is answered with detail Device. Such a row is played once more. `.ci/refused`
+// refuses each allocation in turn; without it these tests show the rows with ample memory.
 
 /// How a row ended.
 #[derive(Clone, Copy, Debug, PartialEq, Eq)]
@@ -280,8 +280,8 @@ fn by_a_desk(rt: HostRuntime) {
     none_wrong(&rt, wrong_by_desk(&rt, &ROWS));
 }
 
-/// Audits of a room alone. One that finds no memory answers that and nothing else, and the room is as it was. Where there was no
-/// memory for the room or its receipts, it is made once more.
+/// Audits of a room alone. One that finds no memory answers that and nothing else, and the room is as it was. Where
+/// there was no memory for the room or its receipts, it is made once more.
 #[test]
 fn by_an_audit(rt: HostRuntime) {
     let found = match at_new_desk(&rt, Audited) {

@@ -12,8 +12,8 @@ use xa_frame::Request;
 use xa_rows::{BRANCHES, LOOSE, SESSIONS, WRITES};
 use xa_xid::Xid;
 
-// The limits of sessions, branches, keys and loose associations, right whichever one allocation is refused, as the rows of
-// `refused`.
+// The limits of sessions, branches, keys and loose associations, right whichever one allocation is refused, as the rows
+// of `refused`.
 
 /// What is asked of session 1.
 #[derive(Clone, Copy)]

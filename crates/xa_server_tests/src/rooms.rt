@@ -66,8 +66,8 @@ fn set_code(receipts: &mut [Receipt], code: Code) -> Option<()> {
     Some(())
 }
 
-// What audits find of the receipts and the share, of the receipts without the share, with another code in the third, and with the
-// first one again behind them; and of the receipts and the share again, since the room is as it was.
+// What audits find of the receipts and the share, of the receipts without the share, with another code in the third,
+// and with the first one again behind them; and of the receipts and the share again, since the room is as it was.
 fn audits<M: Manages, S: Start, L: Ledger>(
     alloc: Global,
     room: &Room<M, S>,

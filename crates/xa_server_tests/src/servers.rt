@@ -57,8 +57,8 @@ impl<'a, R: Net<Stream = TcpStream>> Dial<Tap<'a>, TcpStream> for Caller<'a, R> 
     }
 }
 
-// Each call of a session, and each way of those that have several. Each line is the event of its own number: a connection's
-// first call is answered before the next connection is opened.
+// Each call of a session, and each way of those that have several. Each line is the event of its own number: a
+// connection's first call is answered before the next connection is opened.
 const CALLS: [&str; 55] = [
     "connect",
     "1 open TMNOFLAGS xarm",

@@ -56,7 +56,8 @@ fn is_spelled(record: &Record, kind: Result<u8, Code>) -> bool {
     }
 }
 
-// Of a branch in each state: the kind of the record that decides it, and of the one that forgets it (docs/LOG.md), or the refusal.
+// Of a branch in each state: the kind of the record that decides it, and of the one that forgets it (docs/LOG.md), or
+// the refusal.
 const RECORDS: [(State, Result<u8, Code>, Result<u8, Code>); 5] = [
     (State::Prepared, Ok(5), Err(XAER_PROTO)),
     (State::HeurCommitted, Err(XAER_PROTO), Ok(6)),

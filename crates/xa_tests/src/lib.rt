@@ -1,12 +1,16 @@
-//! Tests of what no clause says, of the crates below the manager: codes, XIDs, frames, records, versions, sessions, branches,
-//! one connection, and talks. Worked rows, outside vectors, printed texts, and each call once with ample memory.
+//! Tests of what no clause says, of the crates below the manager: codes, XIDs, frames, records, versions, sessions,
+//! branches, one connection, and talks. Worked rows, outside vectors, printed texts, and each call once with ample
+//! memory.
 //!
 //! - `codes`: names of codes and flags, strings of bytes; `xids`: bytes, texts and order of XIDs
-//! - `frames`: contents of requests and replies; `frame_limits`: those at their limits; `refused_frames`: those with a fault
+//! - `frames`: contents of requests and replies; `frame_limits`: those at their limits; `refused_frames`: those with a
+//!   fault
 //! - `records`: bodies of records; `record_limits`: those at their limits
 //! - `chains`, `versions`: one key's versions, and all keys'
-//! - `sessions`, `tables`: the tables of sessions and of branches; `scans`: recovery scans; `heuristics`: the operator's decisions
-//! - `connections`: one connection in pieces, and broken; `doors`: what it is served by; `talks`: scripts over connections
+//! - `sessions`, `tables`: the tables of sessions and of branches; `scans`: recovery scans; `heuristics`: the
+//!   operator's decisions
+//! - `connections`: one connection in pieces, and broken; `doors`: what it is served by; `talks`: scripts over
+//!   connections
 //! - `rows`: `none_wrong`
 #![tactic(auto)]
 

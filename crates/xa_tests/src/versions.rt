@@ -341,8 +341,8 @@ fn written_over(rt: HostRuntime) {
     assert!(rt; written_in_turn(rt.alloc(), false) == Some(301));
 }
 
-// How many versions are left where one branch after another reads a key of its own that nobody wrote. Some tenths of a second;
-// `rt try`, which looks at each address, takes minutes.
+// How many versions are left where one branch after another reads a key of its own that nobody wrote. Some tenths of a
+// second; `rt try`, which looks at each address, takes minutes.
 fn read_in_turn(alloc: Global) -> Option<u64> {
     let mut records = Records::new(alloc);
     for count in 0..1_000_000u32 {

@@ -2,8 +2,8 @@
 //!
 //! - `workers`: `run_workers`, a share of the desk's ledger for each worker (`split_all`), and one report of all at the
 //!   end; `WorkFault`, why there is none
-//! - `work`: a worker takes the next of the connections' numbers (`numbers`), accepts a connection, and serves it from its
-//!   seat
+//! - `work`: a worker takes the next of the connections' numbers (`numbers`), accepts a connection, and serves it from
+//!   its post
 //! - `post`: `Post`, a door over the desk, whose calls pass a gate
 //! - `gate`: `Gate`, which is told of each call before it takes the desk's lock and after it gave it back; `OpenGate`
 //! - `report`: `Report`, what the desk recorded by a share; with `keeping` (receipts that find memory are kept, and the

@@ -15,4 +15,5 @@ parts_at format g b bytes =
 unfoldable pub xid_at : List ℕ → Option (Triple × ℕ)
 xid_at bytes =
     if nat_lt (length bytes) 6 then None
-    else parts_at (cast_signed w32 (from_be_bytes w32 (take 4 bytes))) (slice_index bytes 4) (slice_index bytes 5) (drop 6 bytes)
+    else parts_at (cast_signed w32 (from_be_bytes w32 (take 4 bytes))) (slice_index bytes 4) (slice_index bytes 5)
+    (drop 6 bytes)

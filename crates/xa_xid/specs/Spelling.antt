@@ -36,4 +36,6 @@ HasNoColon text = All (λ b. b ≢ 58) text
 -- 0, or digits of which the first isn't 0, with a minus sign or not
 abbrev pub IsPlain : List ℕ → Type 0
 IsPlain text =
-    (text ≡ 48 ∷ []) ⊎ IsInRange 49 57 (slice_index text 0) ⊎ ((slice_index text 0 ≡ 45) × IsInRange 49 57 (slice_index text 1))
+    (text ≡ 48 ∷ [])
+    ⊎ IsInRange 49 57 (slice_index text 0)
+    ⊎ ((slice_index text 0 ≡ 45) × IsInRange 49 57 (slice_index text 1))

@@ -10,8 +10,8 @@ use arrayvec::ArrayVec;
 /// The most bytes of an XID: the format number, two lengths and two parts.
 pub const MOST_BYTES: usize = 6 + 2 * MOST_PART;
 
-/// The bytes of an XID: the format number in 4 bytes, big-endian, a byte each for the lengths of gtrid and bqual, gtrid,
-/// bqual.
+/// The bytes of an XID: the format number in 4 bytes, big-endian, a byte each for the lengths of gtrid and bqual,
+/// gtrid, bqual.
 impl Xid {
     /// Replaces what the vector holds by the XID's bytes. Takes no memory.
     pub fn put(&self, out: &mut ArrayVec<u8, MOST_BYTES>)

@@ -3,7 +3,8 @@ ghost use Rattle.std.specs.declared.cmp.Ordering.TheVariants.{Equal};
 ghost use Rattle.xa_xid.specs.Spelling.{bytes_of, text_of};
 ghost use Rattle.xa_xid.specs.Triple.{Triple, IsWithinLimits, xid_eq, xid_cmp};
 
-/// The bytes determine the XID, whatever follows them: no XID's bytes begin those of another. The text determines it too.
+/// The bytes determine the XID, whatever follows them: no XID's bytes begin those of another. The text determines it
+/// too.
 pub fn one_spelling()
     ensures bytes { (x y : Triple) (s t : List ℕ) → IsWithinLimits x → IsWithinLimits y
         → bytes_of x ++ s ≡ bytes_of y ++ t → (x ≡ y) × (s ≡ t) }

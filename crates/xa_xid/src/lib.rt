@@ -1,8 +1,8 @@
 //! XIDs: the names of transaction branches (X/Open C193), their order, their bytes and their text. Nothing here takes
 //! memory.
 //!
-//! - `xid`: `Xid`, at most `MOST_BYTES` bytes of its own, which contracts see as three parts; its order; and `XidFault`, why parts
-//!   are no XID
+//! - `xid`: `Xid`, at most `MOST_BYTES` bytes of its own, which contracts see as three parts; its order; and
+//!   `XidFault`, why parts are no XID
 //! - `bytes`: `Xid::put` and `Xid::take`, for the bytes that stand in frames and records
 //! - `text`: `Xid::put_text` and `Xid::take_text`, for the text that stands in scripts and in the lines of a log
 //! - `laws`: `one_spelling`, bytes and text determine the XID; `equal_is_same`, XIDs are equal where their parts are

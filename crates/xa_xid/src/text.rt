@@ -89,7 +89,8 @@ fn digit(n: u8) -> u8
 
 /// What stands before the first colon, and after it.
 fn cut(text: &[u8]) -> Option<(&[u8], &[u8])>
-    ensures { MatchOption result (HasNoColon text.now) (λ r. HasNoColon r.0.now × (text.now ≡ r.0.now ++ (58 ∷ r.1.now))) }
+    ensures { MatchOption result (HasNoColon text.now)
+        (λ r. HasNoColon r.0.now × (text.now ≡ r.0.now ++ (58 ∷ r.1.now))) }
 {
     let colon = text.iter().position(|byte| *byte == b':')?;
     Some((&text[..colon], &text[colon + 1..]))

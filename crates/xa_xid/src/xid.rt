@@ -47,8 +47,8 @@ pub enum XidFault {
 }
 
 impl Xid {
-    /// An XID of these parts, or the first fault: the null format number -1, a gtrid that hasn't 1 to `MOST_PART` bytes, a bqual
-    /// of more than `MOST_PART`. C193 has 1 to 64 for both; here a bqual may be empty. Takes no memory.
+    /// An XID of these parts, or the first fault: the null format number -1, a gtrid that hasn't 1 to `MOST_PART`
+    /// bytes, a bqual of more than `MOST_PART`. C193 has 1 to 64 for both; here a bqual may be empty. Takes no memory.
     pub fn new(format: i32, gtrid: &[u8], bqual: &[u8]) -> Result<Xid, XidFault>
         ensures exact { result ≡ xid_of format gtrid.now bqual.now }
         ensures xid { IfOk result (λ x. x ≡ record { format = format; gtrid = gtrid.now; bqual = bqual.now }) }
@@ -170,7 +170,8 @@ impl PartialOrd for Xid {
 
     ghost partial_cmp = { as_partial_cmp xid_cmp };
 
-    ghost laws = { partial_order_from_own_ties (Prim.search (comparing, rules) depth 9) (Prim.search (comparing, rules) depth 9) };
+    ghost laws = { partial_order_from_own_ties
+        (Prim.search (comparing, rules) depth 9) (Prim.search (comparing, rules) depth 9) };
 
     fn partial_cmp(&self, other: &Xid) -> Option<Ordering> {
         Some(self.cmp(other))
