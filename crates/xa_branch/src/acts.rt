@@ -9,11 +9,8 @@ use crate::changes::{add, add_time, set, take};
 use crate::fault::BeginFault;
 use crate::working::Working;
 use xa_codes::Code;
-use xa_model::{MOST_BRANCHES, MOST_GIVEN};
+use xa_model::{BOOT_TIMESTAMPS, MOST_BRANCHES, MOST_GIVEN};
 use xa_xid::Xid;
-
-/// How many timestamps a boot's number makes room for.
-pub(crate) const BOOT: u64 = 4294967296;
 
 /// How branches begin, and are marked.
 impl Branches {
@@ -34,7 +31,7 @@ impl Branches {
         if self.given >= MOST_GIVEN {
             return Err(BeginFault::Spent);
         }
-        let timestamp = u64::from(self.boot) * BOOT + self.given + 1;
+        let timestamp = u64::from(self.boot) * BOOT_TIMESTAMPS + self.given + 1;
         match add(&mut self.working, xid.copied(), Working::new(timestamp)) {
             Err(_) => Err(BeginFault::Memory),
             Ok(()) => match add_time(&mut self.times, timestamp) {

@@ -2,8 +2,8 @@ ghost use Rattle.std.specs.Prelude.{◌≡◌};
 ghost use Rattle.xa_model.specs.LowWater.{low_water};
 ghost use Rattle.xa_branch.specs.Follows.{InSound};
 
-use crate::acts::BOOT;
 use crate::branches::Branches;
+use xa_model::BOOT_TIMESTAMPS;
 
 /// Which timestamps nobody works below.
 impl Branches {
@@ -15,7 +15,7 @@ impl Branches {
     {
         match self.times.first() {
             Some(least) => *least,
-            None => (u64::from(self.boot) * BOOT).saturating_add(self.given),
+            None => (u64::from(self.boot) * BOOT_TIMESTAMPS).saturating_add(self.given),
         }
     }
 }

@@ -4,6 +4,7 @@ use Rattle.std.specs.List.{AllByRecursion}
 use Rattle.xa_record.specs.Limits.{IsRecord}
 use Rattle.xa_record.specs.declared.record.Record.{Record}
 use Rattle.xa_record.specs.declared.record.Record.TheVariants as logged
+use Rattle.xa_model.specs.declared.limits.TheConstants.{FIRST_OFFSET}
 use Rattle.xa_model.specs.declared.outcome.Appending.TheVariants.{Kept, Refused, Lost}
 use Rattle.xa_model.specs.State.{State, timestamp_of}
 use Rattle.xa_model.specs.Sound.{is_working}
@@ -22,7 +23,7 @@ pub record IsNew (s : State) (timestamps : List ℕ) : Type 0 where
 pub record Backs (rs : List Record) (s : State) : Type 0 where
   pub records : AllByRecursion IsRecord rs
   pub lasts : fold rs ≡ Ok (durable s)
-  pub end : s.end ≡ 8 + sizes rs
+  pub end : s.end ≡ FIRST_OFFSET + sizes rs
   pub new : s.logged_boot ≡ s.boot → IsNew s (reading unread rs).timestamps
 
 -- the records of a log whose last record's fate is settled: it stands

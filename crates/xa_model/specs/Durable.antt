@@ -1,5 +1,5 @@
 -- What lasts over a crash: what the log's records come to, and what a state would leave.
-use Rattle.std.specs.Prelude.{◌≡◌, ℕ, ◌+◌, ◌≤◌, ◌/◌, ◌%◌, ◌^◌, ◌==◌, nat_lt, nat_le, Bool, true, false, not, ◌&&◌}
+use Rattle.std.specs.Prelude.{◌≡◌, ℕ, ◌+◌, ◌≤◌, ◌/◌, ◌%◌, ◌==◌, nat_lt, nat_le, Bool, true, false, not, ◌&&◌}
 use Rattle.std.specs.Prelude.{Option, Some, None, List, [], ◌∷◌, length, reverse, find, filter, filter_map, option_map}
 use Rattle.std.specs.Prelude.{bytes_eq, if◌then◌else◌}
 use Rattle.std.specs.Option.{option_or}
@@ -8,6 +8,7 @@ use Rattle.std.specs.Cmp.Lexicographic.{slice_cmp}
 use Rattle.std.specs.Ordering.{nat_cmp, is_lt}
 use Rattle.xa_codes.specs.declared.write.Write.{Write}
 use Rattle.xa_xid.specs.Triple.{Triple, xid_eq, xid_cmp}
+use Rattle.xa_model.specs.declared.limits.TheConstants.{BOOT_TIMESTAMPS}
 use Rattle.xa_model.specs.State.{State, Operation, Got, Wrote, Phase, Working, Prepared, Committed, Decided}
 
 -- A committed branch, with those of its writes that are the last of their keys (a delete is a write without a value).
@@ -137,10 +138,10 @@ durable s = record {
 
 -- of which boot a timestamp is, and which of its boot
 abbrev pub boot_of : ℕ → ℕ
-boot_of t = t / 2 ^ 32
+boot_of t = t / BOOT_TIMESTAMPS
 
 abbrev pub number_of : ℕ → ℕ
-number_of t = t % 2 ^ 32
+number_of t = t % BOOT_TIMESTAMPS
 
 -- a timestamp that a boot below this one gave
 abbrev pub is_past : ℕ → ℕ → Bool

@@ -11,6 +11,7 @@ use Rattle.xa_record.specs.Spelling.{spelled}
 use Rattle.xa_record.specs.declared.record.Record.{Record}
 use Rattle.xa_record.specs.declared.record.Record.TheVariants.{Opened, Prepared, Committed, Completed, Decided}
 use Rattle.xa_record.specs.declared.record.Record.TheVariants.{Forgotten, Base, Held, Known}
+use Rattle.xa_model.specs.declared.limits.TheConstants.{AROUND_BODY}
 use Rattle.xa_model.specs.State.{without}
 use Rattle.xa_model.specs.State.{Decided as Decision}
 use Rattle.xa_model.specs.Durable.{Durable, CommittedBranch, PreparedBranch, insert, commit, prepares_before}
@@ -158,9 +159,9 @@ snapshot d boot = Opened boot ∷ (map base d.committed ++ (map held d.prepared 
 
 -- Sizes
 
--- the bytes of a record in the log: four of length, the body, and 32 of digest
+-- the bytes of a record in the log: a length, the body, and a digest
 abbrev pub size_of : Record → ℕ
-size_of r = length (spelled r) + 36
+size_of r = length (spelled r) + AROUND_BODY
 
 abbrev pub sizes : List Record → ℕ
 sizes [] = 0

@@ -6,6 +6,7 @@ use Rattle.xa_codes.specs.declared.write.Write.{Write}
 use Rattle.xa_xid.specs.Triple.{Triple}
 use Rattle.xa_record.specs.declared.record.Record.{Record}
 use Rattle.xa_record.specs.declared.record.Record.TheVariants as logged
+use Rattle.xa_model.specs.declared.limits.TheConstants.{FIRST_OFFSET, LENGTH_BYTES, DECIDED_ROOM, PREPARED_ROOM}
 use Rattle.xa_model.specs.declared.outcome.Appending.{Appending}
 use Rattle.xa_model.specs.declared.outcome.Appending.TheVariants.{Kept, Refused, Lost}
 use Rattle.xa_model.specs.State.{State, Branch, Phase, Working, Prepared, Committed, Down, count, known_of}
@@ -19,14 +20,14 @@ use Rattle.xa_model.specs.Turn.{Turn, Appends}
 
 -- the most bytes of a completion and of its forgetting, and of the forgetting alone
 abbrev pub prepared_room : ℕ
-prepared_room = 343
+prepared_room = PREPARED_ROOM
 
 abbrev pub decided_room : ℕ
-decided_room = 171
+decided_room = DECIDED_ROOM
 
 -- the length of zero behind the last record
 abbrev pub closing : ℕ
-closing = 4
+closing = LENGTH_BYTES
 
 -- whether a log of so many bytes that ends there keeps the room of so many prepared branches and completed XIDs
 abbrev pub log_room : ℕ → ℕ → ℕ → ℕ → Bool
@@ -51,9 +52,9 @@ log_full s xid = answer (detailed XA_RBOTHER detail.LogFull) (rolled_back s xid)
 
 -- What a record does to a state
 
--- where the log ends that begins with the snapshot of what lasts, behind its first 8 bytes
+-- where the log ends that begins with the snapshot of what lasts, behind its format's name
 abbrev pub snapshot_end : State → ℕ → ℕ
-snapshot_end s boot = 8 + sizes (snapshot (durable s) boot)
+snapshot_end s boot = FIRST_OFFSET + sizes (snapshot (durable s) boot)
 
 -- the record stands at the log's end
 abbrev pub appended : Record → State → State

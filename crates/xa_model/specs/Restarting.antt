@@ -6,7 +6,7 @@ use Rattle.xa_codes.specs.declared.detail.Detail.TheVariants as detail
 use Rattle.xa_codes.specs.declared.write.Write.{Write}
 use Rattle.xa_record.specs.declared.record.Record.{Record}
 use Rattle.xa_record.specs.declared.record.Record.TheVariants as logged
-use Rattle.xa_model.specs.declared.limits.TheConstants.{MOST_BOOTS}
+use Rattle.xa_model.specs.declared.limits.TheConstants.{MOST_BOOTS, FIRST_OFFSET}
 use Rattle.xa_model.specs.declared.outcome.Appending.{Appending}
 use Rattle.xa_model.specs.declared.outcome.Appending.TheVariants.{Kept, Refused, Lost}
 use Rattle.xa_model.specs.State.{State, Session, Branch, Operation, Wrote, Prepared, Committed, Up, Ended}
@@ -140,6 +140,6 @@ opening d name log_bytes boot = record {
   decided = d.decided;
   reads = [];
   standing = Up;
-  end = 8 + sizes (snapshot d boot);
+  end = FIRST_OFFSET + sizes (snapshot d boot);
   open_record = None;
 }

@@ -1,9 +1,10 @@
 -- The state of the sequential resource manager.
-use Rattle.std.specs.Prelude.{ℕ, zero, suc, ◌+◌, ◌*◌, ◌^◌, ◌==◌, ℤ, Bool, true, false, ◌&&◌, Option, Some, None, List}
+use Rattle.std.specs.Prelude.{ℕ, zero, suc, ◌+◌, ◌*◌, ◌==◌, ℤ, Bool, true, false, ◌&&◌, Option, Some, None, List}
 use Rattle.std.specs.Prelude.{[], ◌∷◌, find, filter, length, option_map, option_and_then, is_some, if◌then◌else◌}
 use Rattle.xa_codes.specs.declared.direction.Direction.{Direction}
 use Rattle.xa_xid.specs.Triple.{Triple, xid_eq}
 use Rattle.xa_record.specs.declared.record.Record.{Record}
+use Rattle.xa_model.specs.declared.limits.TheConstants.{BOOT_TIMESTAMPS}
 
 -- What a branch did: a get, with its answer and the timestamp of the answer's source (0 where the key was absent
 -- before all branches), or a put or delete that was accepted. A deleted key has no value.
@@ -79,7 +80,7 @@ pub record State : Type 0 where
 
 -- the n-th timestamp of a boot
 abbrev pub timestamp_of : ℕ → ℕ → ℕ
-timestamp_of boot n = boot * 2 ^ 32 + n
+timestamp_of boot n = boot * BOOT_TIMESTAMPS + n
 
 -- how many members of a list pass
 abbrev pub count : {A : Type 0} → (A → Bool) → List A → ℕ

@@ -17,11 +17,12 @@
 //! The modules:
 //!
 //! - `event`: `Event`, what is asked; `outcome`: `Outcome` and `Appending`, what the device did; `limits`: how many
-//!   sessions, branches, timestamps, loose associations and boots there may be, from `MOST_SESSIONS` to `MOST_BOOTS`
-//! - `laws`: functions that do nothing, and whose contracts are theorems on the definitions. Of histories
-//!   `one_history`, `total`, `sound`, `recoverable`, `low_water`, `one_copy` and `listed_until_asked`; of what lasts
-//!   `lasting`, `sound_lasting`, `logged_lasts`, `backed`, `restored` and `roomy`. Those that begin with `worked_` are
-//!   worked rows: replies that the definitions compute
+//!   sessions, branches, timestamps, loose associations and boots there may be, from `MOST_SESSIONS` to `MOST_BOOTS`,
+//!   and the sizes of a log, by which room is reckoned, from `FIRST_OFFSET` to `PREPARED_ROOM`
+//! - `laws`: functions that do nothing, and whose contracts are theorems on the definitions. Of histories `one_history`,
+//!   `total`, `sound`, `recoverable`, `low_water`, `one_copy` and `listed_until_asked`; of what lasts `lasting`,
+//!   `sound_lasting`, `logged_lasts`, `backed`, `restored` and `roomy`. Those that begin with `worked_` are worked rows:
+//!   replies that the definitions compute
 #![tactic(auto)]
 
 mod event;
@@ -36,5 +37,8 @@ pub use laws::{
     worked_limits, worked_logs, worked_low_water, worked_marks, worked_recovery, worked_refusals,
     worked_rows, worked_turns, worked_versions,
 };
-pub use limits::{MOST_BOOTS, MOST_BRANCHES, MOST_GIVEN, MOST_LOOSE, MOST_SESSIONS};
+pub use limits::{
+    AROUND_BODY, BOOT_TIMESTAMPS, DECIDED_ROOM, DIGEST_BYTES, FIRST_OFFSET, LENGTH_BYTES,
+    MOST_BOOTS, MOST_BRANCHES, MOST_GIVEN, MOST_LOOSE, MOST_SESSIONS, PREPARED_ROOM,
+};
 pub use outcome::{Appending, Outcome};
