@@ -6,7 +6,7 @@ use Rattle.std.specs.List.{AllByRecursion as Each, insert, remove}
 use Rattle.slab.specs.Slab.{Updates, SameValues}
 use Rattle.mv_chain.specs.declared.version.Version.{Version}
 use Rattle.mv_chain.specs.declared.pool.Pool.{Pool}
-use Rattle.mv_chain.specs.Pool.{at, stored, version_at, shown_at, IsOutside, IsOnce, IsHeld, LeavesOthersAt, ChangesAt, versions_of, IsKept, AreApart, LeavesOthers, IsAsBefore}
+use Rattle.mv_chain.specs.Pool.{at, stored, version_at, shown_at, IsOutside, IsOnce, IsHeld, IsKeptAt, LeavesOthersAt, ChangesAt, IsKept, AreApart, LeavesOthers, IsAsBefore}
 use Rattle.mv_chain.specs.declared.chain.Chain.{Chain}
 use Rattle.mv_chain.specs.Chain.{IsChain}
 use Rattle.mv_chain.specs.Slots.{IsPutIn}
@@ -185,14 +185,29 @@ pub by_result : {X E : Type 0} {P Q R G : Type 0} (r : Result X E) → OnOk r P 
 by_result (Ok x) done q s f g = f done
 by_result (Err e) done q s f g = g q s
 
+-- slots that are none of mine
+abbrev pub AreOutside : List ℕ → List ℕ → Type 0
+AreOutside slots mine = Each (λ slot. IsOutside slot mine) slots
+
+-- what the slots of another chain have after a call
+pub record Stays (old new : Pool) (slots left : List ℕ) : Type 0 where
+  pub shown : shown_at new slots ≡ shown_at old slots
+  pub kept : IsKeptAt new slots
+  pub apart : AreOutside slots left
+
 -- another chain stays as it was
-pub other_stays : (old new : Pool) (mine left other : Chain) → LeavesOthers old mine new left → IsKept old other → AreApart other mine → IsAsBefore old other new left
-other_stays old new mine left other l k apart =
+pub stays_at : (old new : Pool) (mine left slots : List ℕ) → LeavesOthersAt old mine new left → IsKeptAt old slots → AreOutside slots mine → Stays old new slots left
+stays_at old new mine left slots l k apart =
     record {
-      versions = same;
-      kept = record { held = record { present = both other.slots.items (λ s some out. still old new s some (l.stays s some out)) k.held.present apart; once = k.held.once }; chain = subst IsChain (sym same) k.chain };
-      apart = both other.slots.items (λ s some out. l.apart s some out) k.held.present apart;
+      shown = same;
+      kept = record { held = record { present = both slots (λ s some out. still old new s some (l.stays s some out)) k.held.present apart; once = k.held.once }; chain = subst IsChain (sym same) k.chain };
+      apart = both slots (λ s some out. l.apart s some out) k.held.present apart;
     }
   where
-    same : versions_of new other ≡ versions_of old other
-    same = shown_same old new other.slots.items (both other.slots.items (λ s some out. l.stays s some out) k.held.present apart)
+    same : shown_at new slots ≡ shown_at old slots
+    same = shown_same old new slots (both slots (λ s some out. l.stays s some out) k.held.present apart)
+
+pub other_stays : (old new : Pool) (mine left other : Chain) → LeavesOthers old mine new left → IsKept old other → AreApart other mine → IsAsBefore old other new left
+other_stays old new mine left other l k apart =
+    let s = stays_at old new mine.slots.items left.slots.items other.slots.items l k apart in
+    record { versions = s.shown; kept = s.kept; apart = s.apart }

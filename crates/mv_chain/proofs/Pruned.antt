@@ -37,7 +37,7 @@ marked_pruned low t (v ∷ vs) le c = at (not v.pending && has_base low vs) refl
         grind (arith, nat_tests, above.1, e, rest)
     at false e rest = grind (arith, nat_tests, e, rest)
 
-base_pruned : (low : ℕ) (vs : List Version) → has_base low (pruned low vs) ≡ has_base low vs
+pub base_pruned : (low : ℕ) (vs : List Version) → has_base low (pruned low vs) ≡ has_base low vs
 base_pruned low [] = refl
 base_pruned low (v ∷ vs) = grind (arith, nat_tests, base_pruned low vs)
 

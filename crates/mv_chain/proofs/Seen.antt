@@ -84,9 +84,10 @@ still_undecided q t ts f ws o = at (t == ts) refl (sym (undecided_decided q t ts
     at true e h = absurd (cc h)
     at false e h = (e, h)
 
-bound : (gone : ℕ → Bool) (q : List ℕ) (t : ℕ) (ws : List Written) → (seen_without gone q t ws).from ≤ t
-bound gone q t [] = omega arith
-bound gone q t (w ∷ ws) = grind (arith, nat_tests, bound gone q t ws)
+-- what is seen at t is of t at most
+pub seen_upto : (gone : ℕ → Bool) (q : List ℕ) (t : ℕ) (ws : List Written) → (seen_without gone q t ws).from ≤ t
+seen_upto gone q t [] = omega arith
+seen_upto gone q t (w ∷ ws) = grind (arith, nat_tests, seen_upto gone q t ws)
 
 -- what an undecided branch has written is pending, and its own, unless it is thought away
 pub undecided_pending : (gone : ℕ → Bool) (q : List ℕ) (ts : ℕ) (ws : List Written) → IsUndecided ts ws → gone ts ≡ false → has_undecided q ts ws ≡ true → ((seen_without gone q ts ws).from ≡ ts) × ((seen_without gone q ts ws).pending ≡ true)
@@ -102,11 +103,11 @@ undecided_pending gone q ts (w ∷ ws) o g h = at (bytes_eq q w.key) refl (w.tim
     at true e true e2 ih =
         let own : w.timestamp ≡ ts = grind (arith, nat_tests, e2) in
         let f : w.fate ≡ None = o.0 own in
-        let b = bound gone q ts ws in
+        let b = seen_upto gone q ts ws in
         let counts : gone w.timestamp ≡ false = ap gone own ∙ g in
         (grind (arith, nat_tests, e, own, f, b, counts), grind (arith, nat_tests, e, own, f, b, counts))
 
--- an open write is what its branch sees
+-- an undecided write is what its branch sees
 pub undecided_seen : (q : List ℕ) (ts : ℕ) (ws : List Written) → IsUndecided ts ws → has_undecided q ts ws ≡ true → ((seen q ts ws).from ≡ ts) × ((seen q ts ws).pending ≡ true)
 undecided_seen q ts ws o h = undecided_pending nobody q ts ws o refl h
 
