@@ -19,10 +19,10 @@
 //! - `event`: `Event`, what is asked; `outcome`: `Outcome` and `Appending`, what the device did; `limits`: how many
 //!   sessions, branches, timestamps, loose associations and boots there may be, from `MOST_SESSIONS` to `MOST_BOOTS`,
 //!   and the sizes of a log, by which room is reckoned, from `FIRST_OFFSET` to `PREPARED_ROOM`
-//! - `laws`: functions that do nothing, and whose contracts are theorems on the definitions. Of histories `one_history`,
-//!   `total`, `sound`, `recoverable`, `low_water`, `one_copy` and `listed_until_asked`; of what lasts `lasting`,
-//!   `sound_lasting`, `logged_lasts`, `backed`, `restored` and `roomy`. Those that begin with `worked_` are worked rows:
-//!   replies that the definitions compute
+//! - `laws`: functions that do nothing, and whose contracts are theorems on the definitions. Of histories
+//!   `one_history`, `total`, `sound`, `recoverable`, `low_water`, `one_copy` and `listed_until_asked`; of what lasts
+//!   `lasting`, `sound_lasting`, `logged_lasts`, `backed`, `restored` and `roomy`. Those that begin with `worked_` are
+//!   worked rows: replies that the definitions compute
 #![tactic(auto)]
 
 mod event;
