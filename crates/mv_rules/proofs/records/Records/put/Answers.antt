@@ -34,3 +34,10 @@ returns-in_default-make-clause-same c = λ refused h s u. c.in_default-make.ensu
 
 pub returns-in-Some-clause-puts : goal.returns-in-Some-clause-puts
 returns-in-Some-clause-puts c = λ done h s u. c.put_at.ensures.puts done h s (sym c.in-Some.ensures.value) u
+
+pub returns-in-Some-clause-stands : goal.returns-in-Some-clause-stands
+returns-in-Some-clause-stands c = λ h s u. c.put_at.ensures.stands h s (sym c.in-Some.ensures.value) u
+
+pub returns-in-Done-clause-stands : goal.returns-in-Done-clause-stands
+returns-in-Done-clause-stands c =
+    λ h s u. c.in-Done.ensures.stands h (c.make.ensures.stands h s (sym c.in_default.ensures.value)) c.in-Ok.ensures.index u

@@ -9,7 +9,8 @@ use Rattle.mv_rules.specs.Held.{shown_in}
 use Rattle.mv_rules.proofs.Changed.{with_chain}
 use Rattle.mv_rules.proofs.Tidied.{kept_with}
 use Rattle.mv_rules.proofs.Exact.{puts_again, puts_first, puts_indexed}
-use Rattle.mv_rules.proofs.PutBack.{then_ok, both_ok}
+use Rattle.mv_chain.proofs.Frames.{then_ok}
+use Rattle.mv_rules.proofs.PutBack.{both_ok}
 use Rattle.mv_rules.proofs.records.Records.put_back.Goals as goal
 
 pub returns-then-look-ts-clause-stands : goal.returns-then-look-ts-clause-stands
