@@ -1,5 +1,6 @@
 ghost use Rattle.std.specs.Prelude.{◌≡◌, ◌≢◌, ℕ, ◌≤◌, max, List, [], ◌∷◌, Some, false, true, IsSome};
-ghost use Rattle.std.specs.Prelude.{IfOk, OnOk, OnErr, option_map};
+ghost use Rattle.std.specs.Prelude.{None, IfSome, IfNone, IfOk, OnOk, OnErr, option_map};
+ghost use Rattle.slab.specs.Slab.{get as chain_in};
 ghost use Rattle.mv_chain.specs.Accesses.{wrote, is_late, decided, AreWhole, IsUndecided, IsUnsettled};
 ghost use Rattle.mv_chain.specs.Calls.{bytes_of};
 ghost use Rattle.mv_chain.specs.Chain.{fresh, pruned};
@@ -34,7 +35,7 @@ pub struct Records {
 }
 
 impl Records {
-    ghost use Rattle.mv_rules.specs.Accesses.{Accesses, after_get, AnswersGet, after_put, AnswersPut};
+    ghost use Rattle.mv_rules.specs.Accesses.{after_get, AnswersGet, after_put, AnswersPut};
     ghost use Rattle.mv_rules.specs.Accesses.{IsWritesOf, IsWholeAt};
     ghost use Rattle.mv_rules.specs.Calls.{IfStood, IfIndexed, IfUnindexed, IfUnsettled};
     ghost use Rattle.mv_rules.specs.Noted.{Reads, Puts, Settles, Restores};
@@ -58,9 +59,24 @@ impl Records {
         }
     }
 
+    /// The index of the key's chain, if it has one.
+    fn find(&self, key: &[u8]) -> Option<usize>
+        ensures index { IfSome result (λ i. index_of key.now self.now ≡ Some i) }
+        ensures there { IfSome result (λ i. IsSome (chain_in self.now.chains i)) }
+        ensures none { IfNone result (IfStood self.now (λ h. index_of key.now self.now ≡ None)) }
+    {
+        let i = *self.indices.get(key)?;
+        if self.chains.contains(i) {
+            Some(i)
+        } else {
+            None
+        }
+    }
+
     /// Makes the chain of a key that has none.
     fn make(&mut self, key: &[u8]) -> Result<usize, AllocError>
         ensures index { IfOk result (λ i. index_of key.now self.new ≡ Some i) }
+        ensures there { IfOk result (λ i. IsSome (chain_in self.new.chains i)) }
         ensures stands { IfUnindexed key.now self.old (λ h. StandsFor h self.new) }
         ensures made { OnOk result
             (IfUnindexed key.now self.old (λ h. KeepsBut key.now (λ _. Some fresh) self.old self.new)) }
@@ -106,6 +122,7 @@ impl Records {
 
     /// What a branch of timestamp `ts` reads at the key, whose chain stands at `i`.
     fn get_at(&mut self, i: usize, ts: u64, key: &[u8]) -> Got
+        requires there { IsSome (chain_in self.old.chains i) }
         ensures answer { IfIndexed key.now i self.old (λ h. h.low ≤ ts → AnswersGet result ts key.now h) }
         ensures stands { IfIndexed key.now i self.old
             (λ h. h.low ≤ ts → StandsFor (after_get result ts key.now h) self.new) }
@@ -115,10 +132,8 @@ impl Records {
         ensures short { (n : ℕ) → IsWithin n self.old → IsShortAnswer n result }
         ensures within { KeepsWithin self.old self.new }
     {
-        match self.chains.get_mut(i) {
-            Some(chain) => read(self.alloc, &mut self.pool, chain, &mut self.notes, ts, key),
-            None => Got::Memory,
-        }
+        let chain = &mut self.chains[i];
+        read(self.alloc, &mut self.pool, chain, &mut self.notes, ts, key)
     }
 
     /// What a branch of timestamp `ts` reads at the key. An answered read is noted; Busy and want of memory
@@ -131,8 +146,7 @@ impl Records {
         ensures short { (n : ℕ) → IsWithin n self.old → IsShortAnswer n result }
         ensures within { KeepsWithin self.old self.new }
     {
-        if let Some(i) = self.indices.get(key) {
-            let i = *i;
+        if let Some(i) = self.find(key) {
             return self.get_at(i, ts, key);
         }
         let Ok(i) = self.make(key) else {
@@ -148,6 +162,7 @@ impl Records {
 
     /// Adds a branch's write of the key, whose chain stands at `i`.
     fn put_at(&mut self, i: usize, ts: u64, key: &[u8], value: Option<Vec<u8>>) -> Put
+        requires there { IsSome (chain_in self.old.chains i) }
         ensures answer { IfIndexed key.now i self.old
             (λ h. IsUnsettled ts h.low h.writes → AnswersPut result ts key.now h) }
         ensures stands { IfIndexed key.now i self.old
@@ -158,9 +173,7 @@ impl Records {
         ensures within { (n : ℕ) → IsWithin n self.old → IsShort n (bytes_of value) → IsWithin n self.new }
     {
         let count = count(&self.notes, ts);
-        let Some(chain) = self.chains.get_mut(i) else {
-            return Put::Memory;
-        };
+        let chain = &mut self.chains[i];
         let look = chain.look(&self.pool, ts);
         match judge(&look, count) {
             Verdict::Refused(answer) => answer,
@@ -203,8 +216,7 @@ impl Records {
             → IfUnsettled ts self.old (λ h. Puts ts key.now (bytes_of value) self.old self.new) }
         ensures within { (n : ℕ) → IsWithin n self.old → IsShort n (bytes_of value) → IsWithin n self.new }
     {
-        if let Some(i) = self.indices.get(key) {
-            let i = *i;
+        if let Some(i) = self.find(key) {
             return self.put_at(i, ts, key, value);
         }
         let Ok(i) = self.make(key) else {
@@ -290,15 +302,16 @@ impl Records {
     /// The index of the key's chain, which is made if there is none.
     fn find_or_make(&mut self, key: &[u8]) -> Result<usize, AllocError>
         ensures index { IfOk result (λ i. index_of key.now self.new ≡ Some i) }
+        ensures there { IfOk result (λ i. IsSome (chain_in self.new.chains i)) }
         ensures stands { IfStood self.old (λ h. StandsFor h self.new) }
-        ensures known { IsSome (index_of key.now self.old) → self.new ≡ self.old }
+        ensures known { IfStood self.old (λ h. IsSome (index_of key.now self.old) → self.new ≡ self.old) }
         ensures made { OnOk result
             (IfUnindexed key.now self.old (λ h. KeepsBut key.now (λ _. Some fresh) self.old self.new)) }
         ensures notes { self.new.notes ≡ self.old.notes }
         ensures within { KeepsWithin self.old self.new }
     {
-        if let Some(i) = self.indices.get(key) {
-            return Ok(*i);
+        if let Some(i) = self.find(key) {
+            return Ok(i);
         }
         self.make(key)
     }
@@ -312,9 +325,7 @@ impl Records {
         ensures within { (n : ℕ) → IsWithin n self.old → IsShort n (bytes_of value) → IsWithin n self.new }
     {
         let i = self.find_or_make(key)?;
-        let Some(chain) = self.chains.get_mut(i) else {
-            return Err(AllocError);
-        };
+        let chain = &mut self.chains[i];
         let look = chain.look(&self.pool, ts);
         if look.from == ts {
             return chain.install_at(&mut self.pool, &look, value);
