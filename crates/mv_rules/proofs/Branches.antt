@@ -1,7 +1,6 @@
 -- The flat list of the branches' writes, after a change of one known branch.
 use Rattle.std.proofs.Common.{◌≡◌, ℕ, ◌<◌, ◌≤◌, Bool, true, false, cond, ◌==◌, List, [], ◌∷◌, ◌++◌, Option, Some, None, refl, ap, sym, ◌∙◌, subst, arith}
 use Rattle.std.specs.List.{AllByRecursion as Each}
-use Rattle.std.proofs.lemmas.Bool.Decides.{nat_tests}
 use Rattle.std.proofs.lemmas.List.{map-append}
 use Rattle.mv_chain.specs.declared.fate.Fate.{Fate}
 use Rattle.mv_chain.specs.declared.fate.Fate.TheVariants.{Committed as kept, RolledBack as gone}
@@ -15,6 +14,7 @@ use Rattle.xa_model.proofs.Times.{known_below}
 use Rattle.mv_rules.specs.Accesses.{wrote}
 use Rattle.mv_rules.specs.Ties.{fate_of, writes_by, writes_one, writes_in}
 use Rattle.mv_rules.proofs.Moved.{IsSameWrites, same_itself, same_then, same_after, same_past, same_without}
+use Rattle.mv_rules.proofs.Tests.{time_itself, not_same, not_same_below}
 
 -- a change that writes nothing
 unwritten_by : (f : Branch → Branch) (b : Branch) (bs rest : List Branch) (c : Bool) → writes_one (f b) ≡ writes_one b → writes_in rest ≡ writes_in bs → writes_in (cond c (f b ∷ bs) (b ∷ rest)) ≡ writes_in (b ∷ bs)
@@ -72,15 +72,6 @@ decided_own t f fate [] e = refl
 decided_own t f fate (Got key answer from ∷ older) e = decided_own t f fate older e
 decided_own t f fate (Wrote key value ∷ older) e = rw e (ap (λ (ws : List Written). record { timestamp = t; key = key; value = value; fate = Some f } ∷ ws) (decided_own t f fate older e))
 
-not_same : (t u : ℕ) → t < u → (u == t) ≡ false
-not_same t u lt = grind (arith, nat_tests)
-
-not_same_below : (t u : ℕ) → u < t → (u == t) ≡ false
-not_same_below t u lt = grind (arith, nat_tests)
-
-itself : (t : ℕ) → (t == t) ≡ true
-itself t = grind (arith, nat_tests)
-
 decided_below : (t limit : ℕ) (f : Fate) (bs : List Branch) → Descends limit bs → limit ≤ t → decided t f (writes_in bs) ≡ writes_in bs
 decided_below t limit f [] h le = refl
 decided_below t limit f (b ∷ bs) h le =
@@ -95,7 +86,7 @@ committed_by xid b c bs true is found h under ih =
     let same : c ≡ b = cc found in
     subst (λ (x : Branch). decided x.timestamp kept (writes_in (c ∷ bs)) ≡ writes_in (as_committed c ∷ bs)) same
     (map-append (deciding c.timestamp kept) (writes_one c) (writes_in bs)
-    ∙ ap (λ (ws : List Written). ws ++ decided c.timestamp kept (writes_in bs)) (decided_own c.timestamp kept (fate_of c.phase) c.operations (itself c.timestamp))
+    ∙ ap (λ (ws : List Written). ws ++ decided c.timestamp kept (writes_in bs)) (decided_own c.timestamp kept (fate_of c.phase) c.operations (time_itself c.timestamp))
     ∙ ap (λ (ws : List Written). writes_by c.timestamp (Some kept) c.operations ++ ws) (decided_below c.timestamp c.timestamp kept bs h (omega arith)))
 committed_by xid b c bs false is found h under ih =
     map-append (deciding b.timestamp kept) (writes_one c) (writes_in bs)
@@ -123,7 +114,7 @@ gone_by xid b c bs true is found h under ih =
     let same : c ≡ b = cc found in
     let e : decided c.timestamp gone (writes_in (c ∷ bs)) ≡ writes_by c.timestamp (Some gone) c.operations ++ writes_in bs =
     map-append (deciding c.timestamp gone) (writes_one c) (writes_in bs)
-    ∙ ap (λ (ws : List Written). ws ++ decided c.timestamp gone (writes_in bs)) (decided_own c.timestamp gone (fate_of c.phase) c.operations (itself c.timestamp))
+    ∙ ap (λ (ws : List Written). ws ++ decided c.timestamp gone (writes_in bs)) (decided_own c.timestamp gone (fate_of c.phase) c.operations (time_itself c.timestamp))
     ∙ ap (λ (ws : List Written). writes_by c.timestamp (Some gone) c.operations ++ ws) (decided_below c.timestamp c.timestamp gone bs h (omega arith)) in
     subst (λ (x : Branch). IsSameWrites (decided x.timestamp gone (writes_in (c ∷ bs))) (writes_in bs)) same
     (subst (λ (ws : List Written). IsSameWrites ws (writes_in bs)) (sym e) (all_gone c.timestamp c.operations (writes_in bs)))

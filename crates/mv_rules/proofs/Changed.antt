@@ -18,7 +18,7 @@ use Rattle.mv_rules.specs.Accesses.{Accesses, reads_after, undecided_keys, put_o
 use Rattle.mv_rules.specs.Held.{shown_in, Changes}
 use Rattle.mv_rules.specs.Own.{own_in}
 use Rattle.mv_rules.specs.Records.{StandsFor, index_of, chain_at, own_of}
-use Rattle.mv_rules.specs.Steps.{IsWritten}
+use Rattle.mv_rules.specs.Steps.{IsRead, IsWritten}
 use Rattle.mv_rules.specs.Verdict.{verdict_of}
 use Rattle.mv_rules.proofs.Frames.{written_there, written_back}
 use Rattle.mv_rules.proofs.Written.{put_again, put_first}
@@ -27,10 +27,6 @@ use Rattle.mv_rules.proofs.Indices.{stands_at, stands_get, lists_same}
 
 abbrev pub with_chain : Records → ℕ → Pool → Chain → BTreeMap ℕ Notes → Records
 with_chain r i pool c notes = record { alloc = r.alloc; indices = r.indices; chains = with_value r.chains i c; pool = pool; notes = notes }
-
--- every history that the first versions stood for, with the answered read
-abbrev pub IsRead : Got → ℕ → List Version → List Version → Type 0
-IsRead res ts old new = (k : List ℕ) (low : ℕ) (ws : List Written) (rs : List Answered) → ChainStandsFor k low ws rs old → low ≤ ts → ChainStandsFor k low ws (reads_after res ts k (shows ts old).from rs) new
 
 module _ (h : Accesses) (r : Records) (key : List ℕ) (i : ℕ) (a b : Chain) (p2 : Pool) (notes : BTreeMap ℕ Notes) (s : StandsFor h r) (here : index_of key r ≡ Some i) (there : chain_in r.chains i ≡ Some a) (leaves : LeavesOthers r.pool a p2 b) (keeps : IsKept r.pool a → IsKept p2 b) where
   pub kept_at : IsKept r.pool a

@@ -1,22 +1,20 @@
 -- Which keys the branches in doubt have written, among the branches that lasted and among the state's.
-use Rattle.std.proofs.Common.{◌≡◌, ℕ, ◌+◌, Bool, true, false, cond, ◌&&◌, ◌||◌, ◌==◌, List, [], ◌∷◌, ◌++◌, length, Option, Some, None, refl, ap, sym, ◌∙◌, arith}
+use Rattle.std.proofs.Common.{◌≡◌, ℕ, ◌+◌, Bool, true, false, ◌&&◌, ◌||◌, ◌==◌, List, [], ◌∷◌, ◌++◌, length, Option, Some, None, refl, ap, sym, ◌∙◌, arith}
 use Rattle.std.specs.Prelude.{if◌then◌else◌, bytes_eq, is_some}
-use Rattle.std.specs.Cmp.Lexicographic.{slice_cmp}
-use Rattle.std.specs.Ordering.{nat_cmp, is_lt}
 use Rattle.std.specs.List.{AllByRecursion as Each}
-use Rattle.std.proofs.lemmas.Bool.Decides.{nat_tests}
 use Rattle.xa_codes.specs.declared.write.Write.{Write}
 use Rattle.mv_chain.specs.declared.fate.Fate.{Fate}
 use Rattle.mv_chain.specs.Accesses.{Written, has_undecided, is_undecided}
 use Rattle.xa_model.specs.State.{Operation, Got, Wrote}
-use Rattle.xa_model.specs.Source.{write_of, written_keys}
-use Rattle.xa_model.specs.Durable.{Pairwise, keys_before, value_in, put_write, writes_of}
+use Rattle.xa_model.specs.Source.{write_of}
+use Rattle.xa_model.specs.Durable.{Pairwise, keys_before, value_in, writes_of}
 use Rattle.xa_model.proofs.LastOfKeys.{writes_of_law}
 use Rattle.mv_rules.specs.Accesses.{undecided_keys}
 use Rattle.mv_rules.specs.Ties.{writes_by}
 use Rattle.mv_rules.specs.Restoring.{with_write, with_branch}
 use Rattle.mv_rules.proofs.Ties.{bytes_eq_swapped}
-use Rattle.mv_rules.proofs.Shown.{keys_apart, no_value}
+use Rattle.xa_model.proofs.Keys.{key_below}
+use Rattle.mv_rules.proofs.Tests.{time_itself, and_no}
 
 -- which keys
 
@@ -64,10 +62,6 @@ held_group key t u fate (Wrote k value ∷ older) rest =
 pub held_left : (key : List ℕ) (t u : ℕ) (fate : Option Fate) (ops : List Operation) (xs ys : List Written) → has_undecided key t xs ≡ has_undecided key t ys → has_undecided key t (with_branch u fate (writes_of ops) xs) ≡ has_undecided key t (writes_by u fate ops ++ ys)
 held_left key t u fate ops xs ys e = held_branch key t u fate (writes_of ops) xs ∙ rw ((writes_of_law ops).1 key, e) (sym (held_group key t u fate ops ys))
 
-and_no : (b : Bool) → (b && false) ≡ false
-and_no true = refl
-and_no false = refl
-
 pub held_decided : (key : List ℕ) (t u : ℕ) (f : Fate) (ws : List Write) (rest : List Written) → has_undecided key t (with_branch u (Some f) ws rest) ≡ has_undecided key t rest
 held_decided key t u f ws rest = held_branch key t u (Some f) ws rest ∙ rw (and_no (u == t)) refl
 
@@ -89,42 +83,15 @@ pub count_branch_other : (t u : ℕ) (fate : Option Fate) (ws : List Write) (res
 count_branch_other t u fate [] rest ne = refl
 count_branch_other t u fate (w ∷ ws) rest ne = count_branch_other t u fate ws (with_write u fate rest w) ne ∙ rw ne refl
 
-itself : (t : ℕ) → (t == t) ≡ true
-itself t = grind (arith, nat_tests)
-
 pub count_branch : (t : ℕ) (ws : List Write) (rest : List Written) → Pairwise keys_before ws → Each (λ w. has_undecided w.key t rest ≡ false) ws → undecided_keys t (with_branch t None ws rest) ≡ undecided_keys t rest + length ws
 count_branch t [] rest h none = omega arith
 count_branch t (w ∷ ws) rest h none =
-    let one : undecided_keys t (with_write t None rest w) ≡ undecided_keys t rest + 1 = rw (itself t, none.0) refl in
+    let one : undecided_keys t (with_write t None rest w) ≡ undecided_keys t rest + 1 = rw (time_itself t, none.0) refl in
     let more = count_branch t ws (with_write t None rest w) h.1 (others ws h.0 none.1) in
     omega (arith, one, more)
   where
     others : (xs : List Write) → Each (λ x. keys_before w x ≡ true) xs → Each (λ x. has_undecided x.key t rest ≡ false) xs → Each (λ x. has_undecided x.key t (with_write t None rest w) ≡ false) xs
     others [] k n = tt
     others (x ∷ xs) k n =
-        let apart : bytes_eq x.key w.key ≡ false = bytes_eq_swapped x.key w.key ∙ keys_apart w x k.0 in
+        let apart : bytes_eq x.key w.key ≡ false = bytes_eq_swapped x.key w.key ∙ key_below w x k.0 in
         (rw (apart, n.0) refl, others xs k.1 n.1)
-
--- the writes that a branch leaves are as many as the keys that it wrote
-
-put_length_by : (w v : Write) (vs : List Write) (c d : Bool) → bytes_eq v.key w.key ≡ c → Pairwise keys_before (cond c (w ∷ vs) (cond d (v ∷ put_write w vs) (w ∷ v ∷ vs)))
-    → (Pairwise keys_before (put_write w vs) → length (put_write w vs) ≡ (if is_some (value_in w.key vs) then length vs else length vs + 1))
-    → length (cond c (w ∷ vs) (cond d (v ∷ put_write w vs) (w ∷ v ∷ vs))) ≡ (if is_some (if c then Some v.value else value_in w.key vs) then length (v ∷ vs) else length (v ∷ vs) + 1)
-put_length_by w v vs true d e h ih = omega arith
-put_length_by w v vs false true e h ih = at (is_some (value_in w.key vs)) (ih h.1)
-  where
-    at : (x : Bool) → length (put_write w vs) ≡ (if x then length vs else length vs + 1) → length (v ∷ put_write w vs) ≡ (if x then length (v ∷ vs) else length (v ∷ vs) + 1)
-    at true k = omega (arith, k)
-    at false k = omega (arith, k)
-put_length_by w v vs false false e h ih = let none : value_in w.key vs ≡ None = no_value w vs h.0.1 in rw none (omega arith)
-
-put_length : (w : Write) (vs : List Write) → Pairwise keys_before (put_write w vs) → length (put_write w vs) ≡ (if is_some (value_in w.key vs) then length vs else length vs + 1)
-put_length w [] h = omega arith
-put_length w (v ∷ vs) h = put_length_by w v vs (bytes_eq v.key w.key) (is_lt (slice_cmp nat_cmp v.key w.key)) refl h (put_length w vs)
-
-pub left_length : (ops : List Operation) → length (writes_of ops) ≡ written_keys ops
-left_length [] = refl
-left_length (Got k answer from ∷ older) = left_length older
-left_length (Wrote k value ∷ older) =
-    put_length (record { key = k; value = value }) (writes_of older) (writes_of_law (Wrote k value ∷ older)).0
-    ∙ rw ((writes_of_law older).1 k, left_length older) refl

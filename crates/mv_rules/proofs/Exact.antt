@@ -20,10 +20,13 @@ use Rattle.mv_rules.specs.Own.{own_in, decided_in, read_in, is_listed}
 use Rattle.mv_rules.specs.Records.{StandsFor, index_of, chain_at, own_of}
 use Rattle.mv_rules.specs.Steps.{SettlesListed}
 use Rattle.mv_rules.specs.Tidy.{kept_of, names}
-use Rattle.mv_rules.specs.Noted.{NotesAt, or_fresh, read_by, NotesRead, Reads, Puts, PutsAll, Settles}
-use Rattle.mv_rules.proofs.Tidied.{same_key, absent_kept}
+use Rattle.mv_rules.specs.Noted.{NotesAt, or_fresh, NotesRead, Reads, Puts, PutsAll, Settles}
+use Rattle.mv_rules.proofs.Tests.{same_key}
+use Rattle.mv_rules.proofs.Tidied.{absent_kept}
 use Rattle.mv_rules.proofs.Settled.{stands_settled}
 use Rattle.mv_rules.proofs.Written.{finds}
+use Rattle.mv_chain.proofs.Stands.{key_itself}
+use Rattle.mv_chain.specs.Chain.{marked_at}
 
 -- a key is named in the branch's list where its index is listed
 listed_names : (r : Records) (q : List ℕ) (i : ℕ) (own : List Own) → index_of q r ≡ Some i → ((a b : List ℕ) (j : ℕ) → index_of a r ≡ Some j → index_of b r ≡ Some j → a ≡ b) → Each (λ o. index_of o.key r ≡ Some o.index) own → names q own ≡ is_listed i own
@@ -109,11 +112,8 @@ kept_there f key r r2 versions here is q = is q ∙ at (bytes_eq q key) refl
 
 -- the chain was made first
 module _ (key : List ℕ) (r made : Records) (none : kept_of key r ≡ None) (begun : (q : List ℕ) → kept_of q made ≡ (if bytes_eq q key then Some fresh else kept_of q r)) where
-  itself : bytes_eq key key ≡ true
-  itself = (bytes_eq-Decides key key).1 refl
-
   alike : or_fresh (kept_of key made) ≡ or_fresh (kept_of key r)
-  alike = let there : kept_of key made ≡ Some fresh = rw itself at (begun key) in ap or_fresh there ∙ sym (ap or_fresh none)
+  alike = let there : kept_of key made ≡ Some fresh = rw (key_itself key) at (begun key) in ap or_fresh there ∙ sym (ap or_fresh none)
 
   kept_made : (f : List Version → List Version) (r2 : Records) → ((q : List ℕ) → kept_of q r2 ≡ (if bytes_eq q key then Some (f (or_fresh (kept_of key made))) else kept_of q made))
       → (q : List ℕ) → kept_of q r2 ≡ (if bytes_eq q key then Some (f (or_fresh (kept_of key r))) else kept_of q r)
@@ -125,7 +125,7 @@ module _ (key : List ℕ) (r made : Records) (none : kept_of key r ≡ None) (be
 
   pub reads_made : (ts : ℕ) (r2 : Records) → made.notes ≡ r.notes → Reads ts key made r2 → Reads ts key r r2
   reads_made ts r2 same reads = record {
-    kept = kept_made (read_by ts) r2 reads.kept;
+    kept = kept_made (marked_at ts) r2 reads.kept;
     notes = subst (λ (n : BTreeMap ℕ Notes). NotesRead ts key (or_fresh (kept_of key r)) n r2.notes) same (subst (λ (vs : List Version). NotesRead ts key vs made.notes r2.notes) alike reads.notes);
   }
 
@@ -137,10 +137,10 @@ module _ (key : List ℕ) (r made : Records) (none : kept_of key r ≡ None) (be
   }
 
 -- an answered read
-pub reads_there : (ts : ℕ) (key : List ℕ) (r r2 : Records) (versions : List Version) → kept_of key r ≡ Some versions → ((q : List ℕ) → kept_of q r2 ≡ (if bytes_eq q key then option_map (read_by ts) (kept_of q r) else kept_of q r))
+pub reads_there : (ts : ℕ) (key : List ℕ) (r r2 : Records) (versions : List Version) → kept_of key r ≡ Some versions → ((q : List ℕ) → kept_of q r2 ≡ (if bytes_eq q key then option_map (marked_at ts) (kept_of q r) else kept_of q r))
     → NotesRead ts key versions r.notes r2.notes → Reads ts key r r2
 reads_there ts key r r2 versions here is notes = record {
-  kept = kept_there (read_by ts) key r r2 versions here is;
+  kept = kept_there (marked_at ts) key r r2 versions here is;
   notes = subst (λ (o : Option (List Version)). NotesRead ts key (or_fresh o) r.notes r2.notes) (sym here) notes;
 }
 

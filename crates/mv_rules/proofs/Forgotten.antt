@@ -8,7 +8,6 @@ use Rattle.std.specs.Cmp.Lexicographic.{slice_cmp}
 use Rattle.std.specs.Ordering.{nat_cmp, is_eq}
 use Rattle.std.proofs.lemmas.Map.Text.{is_eq-slice_cmp}
 use Rattle.std.proofs.lemmas.Bool.Decides.{nat_tests}
-use Rattle.std.proofs.lemmas.Slice.Eq.{bytes_eq-Decides}
 use Rattle.mv_chain.specs.declared.version.Version.{Version}
 use Rattle.mv_chain.specs.Accesses.{Written, Answered, nobody, seen_of, has_undecided}
 use Rattle.mv_chain.specs.Chain.{base, fresh, as_written, shows, shows_without, is_marked, StandsFor as ChainStandsFor}
@@ -22,6 +21,7 @@ use Rattle.mv_rules.specs.Own.{is_listed}
 use Rattle.mv_rules.specs.Records.{StandsFor, index_of, chain_at, chain_of_index, own_of}
 use Rattle.mv_rules.proofs.Frames.{shown_elsewhere, held_changed}
 use Rattle.mv_rules.proofs.Indices.{found_at, found_inserted}
+use Rattle.mv_rules.proofs.Tests.{same_key, keys_differ}
 
 -- what an idle chain shows
 
@@ -80,9 +80,6 @@ none_undecided key low before ws rs vs e whole s t = at (has_undecided key t ws)
         absurd (cc (fresh_decided t, not_pending))
 
 -- a key's index once a key is taken out
-same_key : (a b : List ℕ) → bytes_eq a b ≡ true → a ≡ b
-same_key a b e = (bytes_eq-Decides a b).0 e
-
 pub found_removed : {Y : Type 0} (q k : List ℕ) (es : List (Vec ℕ Y × ℕ)) → bytes_eq q k ≡ false → found_at q (remove_entry (is_at (λ x. slice_cmp nat_cmp k x.items)) es) ≡ found_at q es
 found_removed q k [] d = refl
 found_removed q k (e ∷ es) d = at (is_eq (slice_cmp nat_cmp k e.0.items)) refl (found_removed q k es d)
@@ -129,29 +126,23 @@ stands_forgotten h r r2 key i low here idle le whole gone_ same change lists s =
     closed : (t : ℕ) → has_undecided key t h.writes ≡ false
     closed t = none_undecided key low h.low h.writes h.reads (chain_at i r) idle whole own_chain t
 
-    itself : (q : List ℕ) → bytes_eq q key ≡ true → q ≡ key
-    itself q e = same_key q key e
-
-    differ : (q : List ℕ) → bytes_eq q key ≡ false → q ≡ key → ⊥
-    differ q d e = let t : bytes_eq q key ≡ true = (bytes_eq-Decides q key).1 e in absurd (cc (t, d))
-
     -- what is still placed is another key, at another index
     other : (q : List ℕ) (j : ℕ) → index_of q r2 ≡ Some j → (x : Bool) → bytes_eq q key ≡ x → (index_of q r ≡ Some j) × (j ≢ i)
-    other q j e true f = let none : index_of q r2 ≡ None = ap (λ k. index_of k r2) (itself q f) ∙ gone_ in let bad : None ≡ Some j = sym none ∙ e in absurd (cc bad)
+    other q j e true f = let none : index_of q r2 ≡ None = ap (λ k. index_of k r2) (same_key q key f) ∙ gone_ in let bad : None ≡ Some j = sym none ∙ e in absurd (cc bad)
     other q j e false f =
         let was : index_of q r ≡ Some j = sym (same q f) ∙ e in
-        (was, λ n. differ q f (s.chains.apart q key i (was ∙ ap Some n) here))
+        (was, λ n. keys_differ q key f (s.chains.apart q key i (was ∙ ap Some n) here))
 
     index : (q : List ℕ) (o : Option ℕ) → index_of q r ≡ o → bytes_eq q key ≡ false → chain_of_index o r2 ≡ chain_of_index o r
     index q None e d = refl
-    index q (Some j) e d = shown_elsewhere i j r.pool r2.pool r.chains r2.chains change s.chains.held (λ n. differ q d (s.chains.apart q key i (e ∙ ap Some n) here))
+    index q (Some j) e d = shown_elsewhere i j r.pool r2.pool r.chains r2.chains change s.chains.held (λ n. keys_differ q key d (s.chains.apart q key i (e ∙ ap Some n) here))
 
     chain : (q : List ℕ) (x : Bool) → bytes_eq q key ≡ x → ChainStandsFor q h.low h.writes h.reads (chain_of_index (index_of q r2) r2)
-    chain q true e = rw (itself q e, gone_) (idle_fresh key low h.low h.writes h.reads (chain_at i r) idle le own_chain)
+    chain q true e = rw (same_key q key e, gone_) (idle_fresh key low h.low h.writes h.reads (chain_at i r) idle le own_chain)
     chain q false e = rw (same q e, index q (index_of q r) refl e) (s.chains.chains q)
 
     unindexed : (t : ℕ) (q : List ℕ) → index_of q r2 ≡ None → (x : Bool) → bytes_eq q key ≡ x → has_undecided q t h.writes ≡ false
-    unindexed t q e true f = ap (λ k. has_undecided k t h.writes) (itself q f) ∙ closed t
+    unindexed t q e true f = ap (λ k. has_undecided k t h.writes) (same_key q key f) ∙ closed t
     unindexed t q e false f = s.lists.unindexed t q (sym (same q f) ∙ e)
 
     named : (own : List Own) → is_listed i own ≡ false → Each (λ o. index_of o.key r ≡ Some o.index) own → Each (λ o. index_of o.key r2 ≡ Some o.index) own
@@ -161,7 +152,7 @@ stands_forgotten h r r2 key i low here idle le whole gone_ same change lists s =
         one : (x : Bool) → bytes_eq o.key key ≡ x → index_of o.key r2 ≡ Some o.index
         one false e = same o.key e ∙ n.0
         one true e =
-            let here_too : Some i ≡ Some o.index = sym here ∙ (ap (λ k. index_of k r) (sym (itself o.key e)) ∙ n.0) in
+            let here_too : Some i ≡ Some o.index = sym here ∙ (ap (λ k. index_of k r) (sym (same_key o.key key e)) ∙ n.0) in
             let index_is : i ≡ o.index = cc here_too in
             let hit : (i == o.index) ≡ true = grind (arith, nat_tests, index_is) in
             absurd (grind (arith, l, hit))

@@ -1,44 +1,14 @@
 -- What a change at one index leaves of the chains of the others.
 use Rattle.std.proofs.Common.{◌≡◌, ◌≢◌, ℕ, zero, suc, Bool, true, false, List, [], ◌∷◌, get_or, set, Option, None, Some, refl, sym, ap, ◌∙◌, subst, arith}
-use Rattle.std.specs.Prelude.{IsSome, is_some, ◌==◌}
-use Rattle.std.specs.List.{AllByRecursion as Each}
+use Rattle.std.specs.Prelude.{◌==◌}
 use Rattle.std.proofs.lemmas.Bool.Decides.{nat_tests}
 use Rattle.std.proofs.lemmas.List.{get_or-set_other}
 use Rattle.slab.specs.Slab.{Slab, get as chain_in, with_value, Updates, SameValues}
 use Rattle.mv_chain.specs.declared.pool.Pool.{Pool}
 use Rattle.mv_chain.specs.declared.chain.Chain.{Chain}
-use Rattle.mv_chain.specs.Chain.{IsChain}
-use Rattle.mv_chain.specs.Pool.{at, shown_at, IsOutside, IsKeptAt, IsKept, AreApart, LeavesOthers, LeavesOthersAt}
-use Rattle.mv_chain.proofs.Frames.{shown_same}
+use Rattle.mv_chain.specs.Pool.{IsOutside, IsKept, AreApart, LeavesOthers, LeavesOthersAt}
+use Rattle.mv_chain.proofs.Frames.{AreOutside, Stays, stays_at}
 use Rattle.mv_rules.specs.Held.{shown_in, slots_in, IsHeld, Changes}
-
--- slots that are none of mine
-abbrev pub AreOutside : List ℕ → List ℕ → Type 0
-AreOutside xs mine = Each (λ s. IsOutside s mine) xs
-
-both : {P Q R : ℕ → Type 0} (xs : List ℕ) → ((x : ℕ) → P x → Q x → R x) → Each P xs → Each Q xs → Each R xs
-both [] f g h = tt
-both (x ∷ xs) f g h = (f x g.0 h.0, both xs f g.1 h.1)
-
-still : (old new : Pool) (s : ℕ) → IsSome (at old s) → at new s ≡ at old s → IsSome (at new s)
-still old new s some same = ap is_some same ∙ some
-
--- what another chain's slots have after a step
-pub record Stays (old new : Pool) (xs left : List ℕ) : Type 0 where
-  pub shown : shown_at new xs ≡ shown_at old xs
-  pub kept : IsKeptAt new xs
-  pub apart : AreOutside xs left
-
-pub stays_at : (old new : Pool) (mine left xs : List ℕ) → LeavesOthersAt old mine new left → IsKeptAt old xs → AreOutside xs mine → Stays old new xs left
-stays_at old new mine left xs l k out =
-    record {
-      shown = same;
-      kept = record { held = record { present = both xs (λ s some o. still old new s some (l.stays s some o)) k.held.present out; once = k.held.once }; chain = subst IsChain (sym same) k.chain };
-      apart = both xs (λ s some o. l.apart s some o) k.held.present out;
-    }
-  where
-    same : shown_at new xs ≡ shown_at old xs
-    same = shown_same old new xs (both xs (λ s some o. l.stays s some o) k.held.present out)
 
 -- to be apart goes both ways
 first_out : (x : ℕ) (xs ys : List ℕ) → AreOutside ys (x ∷ xs) → IsOutside x ys

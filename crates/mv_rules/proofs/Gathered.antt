@@ -1,5 +1,5 @@
 -- The branch's last write of each key is what it sees there.
-use Rattle.std.proofs.Common.{◌≡◌, ℕ, ◌≤◌, Bool, true, false, ◌&&◌, List, [], ◌∷◌, ◌++◌, map, Option, None, Some, refl, sym, ap, ◌∙◌, subst, arith}
+use Rattle.std.proofs.Common.{◌≡◌, ℕ, Bool, true, false, ◌&&◌, List, [], ◌∷◌, ◌++◌, map, Option, None, Some, refl, sym, ap, ◌∙◌, subst, arith}
 use Rattle.std.specs.Prelude.{if◌then◌else◌, ◌==◌, bytes_eq, nat_le, fold, Vec, Result, Ok, Err, IfOk}
 use Rattle.std.specs.List.{AllByRecursion as Each}
 use Rattle.std.specs.List.Sorted.{IsStrictlySortedBy}
@@ -27,7 +27,8 @@ use Rattle.mv_rules.specs.Held.{shown_in}
 use Rattle.mv_rules.specs.Own.{is_listed}
 use Rattle.mv_rules.specs.Records.{StandsFor, index_of, chain_at, own_of}
 use Rattle.mv_rules.specs.Collected.{as_write, collecting, collected}
-use Rattle.mv_rules.proofs.Settled.{undecided_seen}
+use Rattle.mv_chain.proofs.Seen.{seen_upto, undecided_seen}
+use Rattle.mv_rules.proofs.Tests.{same_key}
 
 -- the entries of a map in order are writes in order
 pub ascending_entries : (es : List (List ℕ × Option (List ℕ))) → IsStrictlySortedBy (slice_cmp nat_cmp) (keys_of es) → IsAscending (map as_write es)
@@ -53,10 +54,6 @@ last_unwritten q ts (w ∷ ws) o h = at (bytes_eq q w.key) refl (w.timestamp == 
     at true e false f ih = rw (e, f) ih
     at true e true f ih = absurd (grind (arith, nat_tests, h, e, f, o.0))
 
-bound : (q : List ℕ) (ts : ℕ) (ws : List Written) → (seen q ts ws).from ≤ ts
-bound q ts [] = omega arith
-bound q ts (w ∷ ws) = grind (arith, nat_tests, bound q ts ws)
-
 last_written : (q : List ℕ) (ts : ℕ) (ws : List Written) → IsUndecided ts ws → has_undecided q ts ws ≡ true → last_write q ts ws ≡ Some (seen q ts ws).value
 last_written q ts [] o h = absurd (cc)
 last_written q ts (w ∷ ws) o h = at (bytes_eq q w.key) refl (w.timestamp == ts) refl (λ e. last_written q ts ws o.1 e)
@@ -77,12 +74,9 @@ last_written q ts (w ∷ ws) o h = at (bytes_eq q w.key) refl (w.timestamp == ts
     at true e true f ih =
         let own : w.timestamp ≡ ts = grind (arith, nat_tests, f) in
         let fate = o.0 own in
-        let b = bound q ts ws in
+        let b = seen_upto nobody q ts ws in
         let counts : ((stands nobody w.timestamp w.fate && nat_le w.timestamp ts) && nat_le (seen q ts ws).from w.timestamp) ≡ true = grind (arith, nat_tests, own, fate, b) in
         rw (e, f) (ap Some (ap (λ (x : Bool). (if x then shown w else seen q ts ws).value) (sym counts)))
-
-same_key : (a b : List ℕ) → bytes_eq a b ≡ true → a ≡ b
-same_key a b e = (bytes_eq-Decides a b).0 e
 
 -- where no key of the list is asked for, and where one is
 collected_none : (r : Records) (ts : ℕ) (q : List ℕ) (own : List Own) (best : Option (Option (List ℕ))) → index_of q r ≡ None → Each (λ o. index_of o.key r ≡ Some o.index) own → fold (collecting ts r.pool r.chains q) best own ≡ best

@@ -25,17 +25,13 @@ use Rattle.mv_rules.specs.Held.{Changes}
 use Rattle.mv_rules.specs.Own.{is_listed}
 use Rattle.mv_rules.specs.Records.{StandsFor, ChainsStandFor, index_of, chain_at, chain_of_index, ListsStandFor, own_of}
 use Rattle.mv_rules.proofs.Frames.{shown_elsewhere, held_changed, shown_grown, held_grown}
+use Rattle.mv_rules.proofs.Tests.{same_key}
+use Rattle.mv_rules.proofs.Ties.{bytes_eq_swapped}
 
 abbrev pub found_at : {Y : Type 0} → List ℕ → List (Vec ℕ Y × ℕ) → Option ℕ
 found_at key es = lookup (is_at (λ k. slice_cmp nat_cmp key k.items)) es
 
 -- two keys that compare `Equal` are the same
-same_key : (a b : List ℕ) → bytes_eq a b ≡ true → a ≡ b
-same_key a b e = (bytes_eq-Decides a b).0 e
-
-itself : (a : List ℕ) → bytes_eq a a ≡ true
-itself a = (bytes_eq-Decides a a).1 refl
-
 by_compare : (a b : List ℕ) (o : Ordering) → slice_cmp nat_cmp a b ≡ o → bytes_eq a b ≡ is_eq o
 by_compare a b o e = sym (is_eq-slice_cmp a b) ∙ ap is_eq e
 
@@ -60,13 +56,6 @@ found_inserted q k v (e ∷ es) = at (slice_cmp nat_cmp k.items e.0.items) refl 
         apart true false a b d = refl
         apart false true a b d = refl
         apart false false a b d = refl
-
-differ_back : (a b : List ℕ) → bytes_eq a b ≡ false → bytes_eq b a ≡ false
-differ_back a b e = at (bytes_eq b a) refl
-  where
-    at : (x : Bool) → bytes_eq b a ≡ x → bytes_eq b a ≡ false
-    at false h = h
-    at true h = let t : bytes_eq a b ≡ true = (bytes_eq-Decides a b).1 (sym (same_key b a h)) in absurd (grind (arith, t, e))
 
 -- a key that is added has a fresh chain
 pub stands_added : (h : Accesses) (r r2 : Records) (key : List ℕ) (new : ℕ) → index_of key r ≡ None → chain_in r.chains new ≡ None → Changes new r.pool r.chains r2.pool r2.chains → IsSome (chain_in r2.chains new) → chain_at new r2 ≡ fresh → ((q : List ℕ) → index_of q r2 ≡ (if bytes_eq q key then Some new else index_of q r)) → ChainsStandFor h r → ChainsStandFor h r2
@@ -140,7 +129,7 @@ stands_at h h2 r r2 key i here same change stands own others s =
 -- a read of another key is nothing to this one
 pub read_elsewhere : (key q : List ℕ) (low t from : ℕ) (ws : List Written) (rs : List Answered) (vs : List Version) → bytes_eq q key ≡ false → ChainStandsFor q low ws rs vs → ChainStandsFor q low ws (record { reader = t; key = key; from = from } ∷ rs) vs
 read_elsewhere key q low t from ws rs vs d s =
-    let back : bytes_eq key q ≡ false = differ_back q key d in
+    let back : bytes_eq key q ≡ false = bytes_eq_swapped key q ∙ d in
     record { seen = s.seen; own = s.own; late = λ u le. rw (back, s.late u le) refl; based = s.based }
 
 pub reads_elsewhere : (res : Got) (key q : List ℕ) (low t from : ℕ) (ws : List Written) (rs : List Answered) (vs : List Version) → bytes_eq q key ≡ false → ChainStandsFor q low ws rs vs → ChainStandsFor q low ws (reads_after res t key from rs) vs

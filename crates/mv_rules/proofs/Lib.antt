@@ -5,6 +5,7 @@ pub mod Changed
 pub mod Listed
 pub mod Settled
 pub mod Written
+pub mod Tests
 pub mod Ties
 pub mod Moved
 pub mod Branches

@@ -10,6 +10,7 @@ use Rattle.mv_chain.proofs.Seen.{seen_behind, seen_swapped, seen_alike}
 use Rattle.mv_rules.specs.declared.records.Records.{Records}
 use Rattle.mv_rules.specs.Accesses.{undecided_keys}
 use Rattle.mv_rules.specs.Records.{StandsFor}
+use Rattle.mv_rules.proofs.Tests.{and_no}
 
 -- a write that was rolled back passes no test
 abbrev pub counts_by : Bool → Option Fate → Bool
@@ -51,10 +52,6 @@ or_swap : (a b c : Bool) → (a || (b || c)) ≡ (b || (a || c))
 or_swap true true c = refl
 or_swap true false c = refl
 or_swap false b c = refl
-
-and_no : (b : Bool) → (b && false) ≡ false
-and_no true = refl
-and_no false = refl
 
 -- the open keys of two writes of different timestamps
 swapped_count : (t : ℕ) (a b : Written) (ws : List Written) (x y : Bool) → (a.timestamp == t) ≡ x → (b.timestamp == t) ≡ y → (a.timestamp ≡ b.timestamp → ⊥) → undecided_keys t (a ∷ b ∷ ws) ≡ undecided_keys t (b ∷ a ∷ ws)

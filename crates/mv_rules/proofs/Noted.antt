@@ -20,8 +20,10 @@ use Rattle.mv_rules.specs.declared.own.Notes.{Notes}
 use Rattle.mv_rules.specs.Own.{own_in, decided_in, read_in}
 use Rattle.mv_rules.specs.Records.{own_of}
 use Rattle.mv_rules.specs.Tidy.{kept_of, names, is_due, due, not_due, tidied, tidied_if, Tidies, IsDrained, KeepsAll}
-use Rattle.mv_rules.specs.Noted.{NotesAt, or_fresh, read_by, Reads, Settles, ReadAlone, IsStrange, AreDistinct}
-use Rattle.mv_rules.proofs.Tidied.{names_both, fresh_shows, same_key}
+use Rattle.mv_rules.specs.Noted.{NotesAt, or_fresh, Reads, Settles, ReadAlone, IsStrange, AreDistinct}
+use Rattle.mv_rules.proofs.Tests.{same_key}
+use Rattle.mv_rules.proofs.Tidied.{names_both, fresh_shows}
+use Rattle.mv_chain.specs.Chain.{marked_at}
 
 abbrev found : ℕ → List (ℕ × Notes) → Option Notes
 found t es = lookup (is_at (nat_cmp t)) es
@@ -218,7 +220,7 @@ module _ (low ts : ℕ) (n : Notes) (own : Own) (le : ts ≤ low) (idle : n.writ
           )
 
 -- a key that nobody wrote, and whose only read the low water has passed, is given back
-given_back : (low ts : ℕ) → ts ≤ low → tidied low (Some (read_by ts fresh)) ≡ None
+given_back : (low ts : ℕ) → ts ≤ low → tidied low (Some (marked_at ts fresh)) ≡ None
 given_back low ts le = rw (fresh_shows ts) (grind (arith, nat_tests, le))
 
 nothing_tidied : (low : ℕ) (x : Bool) → tidied_if low x None ≡ None
@@ -264,8 +266,8 @@ module _ (low ts : ℕ) (key : List ℕ) (r read : Records) (strange : IsStrange
       at : (q : List ℕ) (x : Bool) → bytes_eq q key ≡ x → tidied_if low (x || names q (due low r.notes.entries)) (kept_of q read) ≡ tidied_if low (names q (due low r.notes.entries)) (kept_of q r)
       at q true e =
           let is : q ≡ key = same_key q key e in
-          let to : kept_of q read ≡ Some (read_by ts (or_fresh (kept_of key r))) = rw e at (reads.kept q) in
-          let now : kept_of q read ≡ Some (read_by ts fresh) = to ∙ ap (λ o. Some (read_by ts (or_fresh o))) strange.unknown in
+          let to : kept_of q read ≡ Some (marked_at ts (or_fresh (kept_of key r))) = rw e at (reads.kept q) in
+          let now : kept_of q read ≡ Some (marked_at ts fresh) = to ∙ ap (λ o. Some (marked_at ts (or_fresh o))) strange.unknown in
           let was : kept_of q r ≡ None = ap (λ k. kept_of k r) is ∙ strange.unknown in
           ap (tidied low) now ∙ (given_back low ts strange.passed ∙ sym (ap (tidied_if low (names q (due low r.notes.entries))) was ∙ nothing_tidied low (names q (due low r.notes.entries))))
       at q false e = let to : kept_of q read ≡ kept_of q r = rw e at (reads.kept q) in ap (tidied_if low (names q (due low r.notes.entries))) to

@@ -12,10 +12,6 @@ use Rattle.mv_rules.specs.Held.{Changes}
 use Rattle.mv_rules.specs.Steps.{IsWritten}
 use Rattle.mv_rules.proofs.Written.{finds, stands_written}
 
-pub then_ok : {T E : Type 0} {A B : Type 0} (r : Result T E) → OnOk r A → (A → B) → OnOk r B
-then_ok (Ok x) a f = f a
-then_ok (Err e) a f = tt
-
 pub both_ok : {T E : Type 0} {A B C : Type 0} (r : Result T E) → OnOk r A → OnOk r B → (A → B → C) → OnOk r C
 both_ok (Ok x) a b f = f a b
 both_ok (Err e) a b f = tt

@@ -1,5 +1,5 @@
 -- What the records stand for once the writes of a branch that lasted were added.
-use Rattle.std.proofs.Common.{◌≡◌, ℕ, Bool, true, false, cond, List, [], ◌∷◌, ◌++◌, Option, Some, None, refl, ap, ◌∙◌, arith}
+use Rattle.std.proofs.Common.{◌≡◌, ℕ, Bool, false, cond, List, [], ◌∷◌, ◌++◌, Option, Some, None, refl, ap, ◌∙◌, arith}
 use Rattle.std.specs.Prelude.{◌==◌}
 use Rattle.std.specs.List.{AllByRecursion as Each}
 use Rattle.std.proofs.lemmas.Bool.Decides.{nat_tests}
@@ -11,6 +11,7 @@ use Rattle.mv_rules.specs.declared.records.Records.{Records}
 use Rattle.mv_rules.specs.Accesses.{Accesses, wrote}
 use Rattle.mv_rules.specs.Records.{StandsFor}
 use Rattle.mv_rules.specs.Restoring.{with_write, with_branch, IsRestorable}
+use Rattle.mv_rules.proofs.Tests.{time_itself}
 
 undecided_none : (t : ℕ) (ws : List Written) → Each (λ w. w.timestamp ≡ t → ⊥) ws → IsUndecided t ws
 undecided_none t [] h = tt
@@ -26,14 +27,11 @@ decided_none t f (w ∷ ws) h =
     let other : (w.timestamp == t) ≡ false = grind (arith, nat_tests, h.0) in
     rw other (ap (λ (rest : List Written). w ∷ rest) (decided_none t f ws h.1))
 
-itself : (t : ℕ) → (t == t) ≡ true
-itself t = grind (arith, nat_tests)
-
 decided_branch : (t : ℕ) (f : Fate) (ws : List Write) (older : List Written) → decided t f (with_branch t None ws older) ≡ with_branch t (Some f) ws (decided t f older)
 decided_branch t f [] older = refl
 decided_branch t f (w ∷ ws) older =
     decided_branch t f ws (with_write t None older w)
-    ∙ ap (λ (b : Bool). with_branch t (Some f) ws (record { timestamp = t; key = w.key; value = w.value; fate = cond b (Some f) None } ∷ decided t f older)) (itself t)
+    ∙ ap (λ (b : Bool). with_branch t (Some f) ws (record { timestamp = t; key = w.key; value = w.value; fate = cond b (Some f) None } ∷ decided t f older)) (time_itself t)
 
 pub branch_more : (t : ℕ) (fate : Option Fate) (ws : List Write) (w : Write) (older : List Written) → with_branch t fate (ws ++ w ∷ []) older ≡ with_write t fate (with_branch t fate ws older) w
 branch_more t fate ws w older = fold-append (with_write t fate) older ws (w ∷ [])

@@ -29,7 +29,9 @@ use Rattle.mv_rules.specs.Restoring.{with_branch, with_committed, with_prepared,
 use Rattle.mv_rules.proofs.Undecided.{held_below, count_below, count_own, count_other}
 use Rattle.mv_rules.proofs.Ties.{seen_one, seen_group}
 use Rattle.mv_rules.proofs.Shown.{branch_shown, last_seen, committed_shown, last_more, unseen_prepared, seen_below}
-use Rattle.mv_rules.proofs.Counted.{held_left, held_decided, group_decided, count_decided, count_group_decided, count_branch_other, count_branch, left_length, held_group}
+use Rattle.mv_rules.proofs.Counted.{held_left, held_decided, group_decided, count_decided, count_group_decided, count_branch_other, count_branch, held_group}
+use Rattle.mv_rules.proofs.Tests.{and_no, or_left}
+use Rattle.xa_model.proofs.ShortWrites.{writes_count}
 
 -- the low water may rise
 
@@ -133,7 +135,7 @@ count_left t b bs rest true e h held ih =
     let ours : undecided_keys b.timestamp (with_branch b.timestamp None (writes_of b.operations) rest) ≡ undecided_keys b.timestamp rest + length (writes_of b.operations) =
     count_branch b.timestamp (writes_of b.operations) rest (writes_of_law b.operations).0 (none_undecided b.timestamp (writes_of b.operations) rest (λ key. subst (λ (u : ℕ). has_undecided key u rest ≡ has_undecided key u (writes_in bs)) (sym own) (held key) ∙ held_below key b.timestamp b.timestamp bs h (omega arith))) in
     let theirs : undecided_keys b.timestamp (writes_by b.timestamp None b.operations ++ writes_in bs) ≡ written_keys b.operations = count_own b.timestamp b.operations (writes_in bs) (λ key. held_below key b.timestamp b.timestamp bs h (omega arith)) none in
-    subst (λ (u : ℕ). undecided_keys u (with_branch b.timestamp None (writes_of b.operations) rest) ≡ undecided_keys u (writes_by b.timestamp None b.operations ++ writes_in bs)) own (omega (arith, ours, theirs, none, alike, left_length b.operations))
+    subst (λ (u : ℕ). undecided_keys u (with_branch b.timestamp None (writes_of b.operations) rest) ≡ undecided_keys u (writes_by b.timestamp None b.operations ++ writes_in bs)) own (omega (arith, ours, theirs, none, alike, writes_count b.operations))
 
 count_by : (t : ℕ) (b : Branch) (bs : List Branch) (base : List Written) (phase : Phase) → is_working phase ≡ false → Descends b.timestamp bs → ((key : List ℕ) → has_undecided key t (fold with_prepared base (parts held_of bs)) ≡ has_undecided key t (writes_in bs))
     → undecided_keys t (fold with_prepared base (parts held_of bs)) ≡ undecided_keys t (writes_in bs)
@@ -156,10 +158,6 @@ upto : (gone : ℕ → Bool) (key : List ℕ) (u : ℕ) (ws : List Written) → 
 upto gone key u [] = omega arith
 upto gone key u (w ∷ ws) = grind (arith, nat_tests, upto gone key u ws)
 
-and_no : (b : Bool) → (b && false) ≡ false
-and_no true = refl
-and_no false = refl
-
 unseen_one : (gone : ℕ → Bool) (u t : ℕ) (fate : Option Fate) (o : Option (Option (List ℕ))) (rest : Seen) → nat_le t u ≡ false → seen_one gone u t fate o rest ≡ rest
 unseen_one gone u t fate None rest e = refl
 unseen_one gone u t fate (Some v) rest e = rw (e, and_no (stands gone t fate)) refl
@@ -167,10 +165,6 @@ unseen_one gone u t fate (Some v) rest e = rw (e, and_no (stands gone t fate)) r
 seen_own : (gone : ℕ → Bool) (t u : ℕ) (o : Option (Option (List ℕ))) (x y : Seen) → u ≡ t → gone t ≡ false → is_some o ≡ true → seen_one gone t u None o x ≡ seen_one gone t u None o y
 seen_own gone t u None x y e g some = absurd (cc some)
 seen_own gone t u (Some v) x y e g some = let yes : nat_le t t ≡ true = grind (arith, nat_tests) in rw (e, g, yes) refl
-
-or_left : (x y : Bool) → y ≡ false → (x || y) ≡ true → x ≡ true
-or_left true y e h = refl
-or_left false y e h = absurd (cc (e, h))
 
 -- what is open is not below the branches that it stands among
 above : (key : List ℕ) (t : ℕ) (b : Branch) (bs : List Branch) → Descends b.timestamp bs → has_undecided key t (writes_in bs) ≡ true → nat_le b.timestamp t ≡ false

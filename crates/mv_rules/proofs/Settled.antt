@@ -1,11 +1,11 @@
 -- What the records stand for once a branch's fate is decided.
-use Rattle.std.proofs.Common.{◌≡◌, ℕ, ◌≤◌, Bool, true, false, List, [], ◌∷◌, length, Option, None, Some, refl, sym, ◌∙◌, arith}
-use Rattle.std.specs.Prelude.{if◌then◌else◌, ◌==◌, bytes_eq}
+use Rattle.std.proofs.Common.{◌≡◌, ℕ, Bool, true, false, List, [], ◌∷◌, length, Option, None, Some, refl, sym, ◌∙◌, arith}
+use Rattle.std.specs.Prelude.{if◌then◌else◌, ◌==◌}
 use Rattle.std.specs.List.{AllByRecursion as Each}
 use Rattle.std.proofs.lemmas.Bool.Decides.{nat_tests}
 use Rattle.mv_chain.specs.declared.version.Version.{Version}
 use Rattle.mv_chain.specs.declared.fate.Fate.{Fate}
-use Rattle.mv_chain.specs.Accesses.{Written, seen, decided, has_undecided, IsUndecided}
+use Rattle.mv_chain.specs.Accesses.{Written, decided, has_undecided, IsUndecided}
 use Rattle.mv_chain.specs.Chain.{fresh, StandsFor as ChainStandsFor}
 use Rattle.mv_chain.proofs.Seen.{seen_untouched, undecided_decided, still_undecided}
 use Rattle.mv_rules.specs.declared.records.Records.{Records}
@@ -14,26 +14,6 @@ use Rattle.mv_rules.specs.Own.{is_listed}
 use Rattle.mv_rules.specs.Records.{StandsFor, index_of, chain_at, chain_of_index, own_of}
 use Rattle.mv_rules.specs.Steps.{SettlesListed}
 use Rattle.mv_rules.proofs.Indices.{named_moved}
-
-bound : (q : List ℕ) (ts : ℕ) (ws : List Written) → (seen q ts ws).from ≤ ts
-bound q ts [] = omega arith
-bound q ts (w ∷ ws) = grind (arith, nat_tests, bound q ts ws)
-
--- an open write is what its branch sees
-pub undecided_seen : (q : List ℕ) (ts : ℕ) (ws : List Written) → IsUndecided ts ws → has_undecided q ts ws ≡ true → ((seen q ts ws).from ≡ ts) × ((seen q ts ws).pending ≡ true)
-undecided_seen q ts [] o h = absurd (grind (arith, h))
-undecided_seen q ts (w ∷ ws) o h = at (bytes_eq q w.key) refl (w.timestamp == ts) refl (λ e. undecided_seen q ts ws o.1 e)
-  where
-    at : (x : Bool) → bytes_eq q w.key ≡ x → (y : Bool) → (w.timestamp == ts) ≡ y → (has_undecided q ts ws ≡ true → ((seen q ts ws).from ≡ ts) × ((seen q ts ws).pending ≡ true)) → ((seen q ts (w ∷ ws)).from ≡ ts) × ((seen q ts (w ∷ ws)).pending ≡ true)
-    at false e y e2 ih = let r = ih (grind (arith, h, e)) in rw e (r.0, r.1)
-    at true e false e2 ih =
-        let r = ih (grind (arith, h, e, e2)) in
-        (grind (arith, nat_tests, e2, r.0), grind (arith, nat_tests, e2, r.0, r.1))
-    at true e true e2 ih =
-        let own : w.timestamp ≡ ts = grind (arith, nat_tests, e2) in
-        let f : w.fate ≡ None = o.0 own in
-        let b = bound q ts ws in
-        (grind (arith, nat_tests, e, own, f, b), grind (arith, nat_tests, e, own, f, b))
 
 keys_decided : (t ts : ℕ) (f : Fate) (ws : List Written) → undecided_keys t (decided ts f ws) ≡ (if t == ts then 0 else undecided_keys t ws)
 keys_decided t ts f [] = grind arith

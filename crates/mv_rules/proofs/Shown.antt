@@ -2,14 +2,8 @@
 use Rattle.std.proofs.Common.{◌≡◌, ℕ, ◌<◌, ◌≤◌, Bool, true, false, cond, ◌&&◌, List, [], ◌∷◌, ◌++◌, Option, Some, None, refl, ap, sym, ◌∙◌, arith}
 use Rattle.std.specs.Prelude.{if◌then◌else◌, bytes_eq, nat_le, nat_lt, fold, option_map}
 use Rattle.std.specs.Option.{option_or}
-use Rattle.std.specs.Cmp.Lexicographic.{slice_cmp}
-use Rattle.std.specs.Ordering.{nat_cmp, is_lt, is_eq}
-use Rattle.std.specs.declared.cmp.Ordering.{Ordering}
-use Rattle.std.specs.declared.cmp.Ordering.TheVariants.{Less, Equal, Greater}
 use Rattle.std.specs.List.{AllByRecursion as Each}
 use Rattle.std.proofs.lemmas.Bool.Decides.{nat_tests}
-use Rattle.std.proofs.lemmas.Map.Text.{is_eq-slice_cmp}
-use Rattle.std.proofs.lemmas.Slice.Eq.{bytes_eq-Decides}
 use Rattle.xa_codes.specs.declared.write.Write.{Write}
 use Rattle.mv_chain.specs.declared.fate.Fate.{Fate}
 use Rattle.mv_chain.specs.declared.fate.Fate.TheVariants.{Committed as kept}
@@ -21,24 +15,14 @@ use Rattle.xa_model.specs.Durable.{CommittedBranch, PreparedBranch, Pairwise, ke
 use Rattle.mv_rules.specs.Ties.{fate_of, writes_in}
 use Rattle.mv_rules.specs.Restoring.{with_write, with_branch, with_committed, with_prepared}
 use Rattle.mv_rules.proofs.Ties.{bytes_eq_swapped, seen_one, one_under, seen_group}
+use Rattle.mv_rules.proofs.Tests.{same_key}
+use Rattle.xa_model.proofs.Keys.{key_below}
 
--- keys that ascend differ
-
-apart_by : (a b : List ℕ) (o : Ordering) → slice_cmp nat_cmp a b ≡ o → is_lt o ≡ true → bytes_eq a b ≡ false
-apart_by a b Less e h = sym (is_eq-slice_cmp a b) ∙ ap is_eq e
-apart_by a b Equal e h = absurd (cc h)
-apart_by a b Greater e h = absurd (cc h)
-
-pub keys_apart : (v w : Write) → keys_before v w ≡ true → bytes_eq v.key w.key ≡ false
-keys_apart v w h = apart_by v.key w.key (slice_cmp nat_cmp v.key w.key) refl h
-
-same_key : (a b : List ℕ) → bytes_eq a b ≡ true → a ≡ b
-same_key a b e = (bytes_eq-Decides a b).0 e
-
+-- a key that is below the others has no value there
 pub no_value : (v : Write) (ws : List Write) → Each (λ w. keys_before v w ≡ true) ws → value_in v.key ws ≡ None
 no_value v [] h = refl
 no_value v (w ∷ ws) h =
-    let other : bytes_eq w.key v.key ≡ false = bytes_eq_swapped w.key v.key ∙ keys_apart v w h.0 in
+    let other : bytes_eq w.key v.key ≡ false = bytes_eq_swapped w.key v.key ∙ key_below v w h.0 in
     rw other (no_value v ws h.1)
 
 -- a branch's writes, each the only one of its key

@@ -1,8 +1,7 @@
 -- What is kept of each key once one chain is pruned or forgotten, and that to tidy a key twice is to tidy it once.
 use Rattle.std.proofs.Common.{◌≡◌, ◌≢◌, ℕ, ◌<◌, ◌≤◌, ◌⊎◌, inl, inr, Bool, true, false, ◌||◌, ◌&&◌, not, ◌==◌, List, [], ◌∷◌, ◌++◌, length, Option, Some, None, refl, sym, ap, ◌∙◌, subst, arith}
-use Rattle.std.specs.Prelude.{is_some, nat_le, option_map, bytes_eq, slice_get, if◌then◌else◌, Result, Ok, Err, OnErr}
+use Rattle.std.specs.Prelude.{is_some, nat_le, option_map, bytes_eq, slice_get, if◌then◌else◌}
 use Rattle.std.specs.BTreeMap.{BTreeMap}
-use Rattle.std.proofs.lemmas.Slice.Eq.{bytes_eq-Decides}
 use Rattle.slab.specs.Slab.{get as chain_in, SameValues}
 use Rattle.mv_chain.specs.declared.version.Version.{Version}
 use Rattle.mv_chain.specs.declared.pool.Pool.{Pool}
@@ -21,15 +20,11 @@ use Rattle.mv_rules.specs.Records.{StandsFor, ChainsStandFor, index_of, chain_at
 use Rattle.mv_rules.specs.Tidy.{kept_of, names, is_due, due, not_due, forgotten, tidied, tidied_if, KeepsAll, has_read}
 use Rattle.mv_rules.proofs.Frames.{shown_elsewhere, shown_grown}
 use Rattle.mv_rules.proofs.Changed.{with_chain, changes_at, before_at, after_at}
+use Rattle.mv_chain.proofs.Pruned.{base_pruned}
+use Rattle.mv_rules.proofs.Tests.{same_key, keys_differ}
 
 abbrev kept_at : Option ℕ → Records → Option (List Version)
 kept_at o r = option_map (λ i. chain_at i r) o
-
-pub same_key : (q key : List ℕ) → bytes_eq q key ≡ true → q ≡ key
-same_key q key e = (bytes_eq-Decides q key).0 e
-
-differ : (q key : List ℕ) → bytes_eq q key ≡ false → q ≡ key → ⊥
-differ q key d e = let t : bytes_eq q key ≡ true = (bytes_eq-Decides q key).1 e in absurd (cc (t, d))
 
 -- the others stay
 elsewhere : (h : Accesses) (r r2 : Records) (key q : List ℕ) (i : ℕ) → index_of key r ≡ Some i → bytes_eq q key ≡ false → index_of q r2 ≡ index_of q r → Changes i r.pool r.chains r2.pool r2.chains → ChainsStandFor h r → kept_of q r2 ≡ kept_of q r
@@ -37,7 +32,7 @@ elsewhere h r r2 key q i here d same change s = ap (λ o. kept_at o r2) same ∙
   where
     at : (o : Option ℕ) → index_of q r ≡ o → kept_at o r2 ≡ kept_at o r
     at None e = refl
-    at (Some j) e = ap Some (shown_elsewhere i j r.pool r2.pool r.chains r2.chains change s.held (λ n. differ q key d (s.apart q key i (e ∙ ap Some n) here)))
+    at (Some j) e = ap Some (shown_elsewhere i j r.pool r2.pool r.chains r2.chains change s.held (λ n. keys_differ q key d (s.apart q key i (e ∙ ap Some n) here)))
 
 -- nothing changes
 pub forgets_nothing : (r : Records) (key : List ℕ) (low : ℕ) → forgotten low (kept_of key r) ≡ kept_of key r → (q : List ℕ) → kept_of q r ≡ (if bytes_eq q key then forgotten low (kept_of q r) else kept_of q r)
@@ -95,18 +90,6 @@ module _ (h : Accesses) (r : Records) (key : List ℕ) (i : ℕ) (a b : Chain) (
       (after_at h r key i a b p2 notes s here there leaves keeps ∙ (is (s.chains.held.kept i a there) ∙ ap f (sym (before_at h r key i a b p2 notes s here there leaves keeps)))) s.chains
 
 -- to prune twice is to prune once
-base_pruned : (low : ℕ) (vs : List Version) → has_base low (pruned low vs) ≡ has_base low vs
-base_pruned low [] = refl
-base_pruned low (v ∷ vs) = at (not v.pending && has_base low vs) refl (base_pruned low vs)
-  where
-    at : (x : Bool) → (not v.pending && has_base low vs) ≡ x → has_base low (pruned low vs) ≡ has_base low vs → has_base low (if x then pruned low vs else v ∷ pruned low vs) ≡ has_base low (v ∷ vs)
-    at true e rest = let based : has_base low vs ≡ true = grind (arith, e) in rest ∙ (based ∙ sym (here (nat_le v.timestamp low && not v.pending) based))
-      where
-        here : (y : Bool) → has_base low vs ≡ true → (y || has_base low vs) ≡ true
-        here true b = refl
-        here false b = b
-    at false e rest = ap (λ y. (nat_le v.timestamp low && not v.pending) || y) rest
-
 pub pruned_twice : (low : ℕ) (vs : List Version) → pruned low (pruned low vs) ≡ pruned low vs
 pruned_twice low [] = refl
 pruned_twice low (v ∷ vs) = at (not v.pending && has_base low vs) refl (pruned_twice low vs)
@@ -257,7 +240,3 @@ reads_unwritten h r key t got s none le unread answer =
     let shown : absent ≡ seen key t h.writes = sym (fresh_shows t) ∙ here.seen nobody t le in
     let is : got ≡ answer_of t absent = answer ∙ ap (answer_of t) (sym shown) in
     absurd (cc (unread, ap has_read is))
-
-pub then_err : {T E : Type 0} {A : Type 0} (r : Result T E) → A → OnErr r A
-then_err (Ok x) a = tt
-then_err (Err e) a = a

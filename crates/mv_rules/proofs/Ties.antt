@@ -11,6 +11,7 @@ use Rattle.xa_model.specs.Source.{Version, write_of, version_by, versions_of, ab
 use Rattle.xa_model.specs.Sound.{Descends}
 use Rattle.xa_model.proofs.Times.{version_time}
 use Rattle.mv_rules.specs.Ties.{fate_of, writes_by, writes_in, read_as, seen_as}
+use Rattle.mv_rules.proofs.Tests.{and_no}
 
 same_bytes_by : (a b : List ℕ) (x y : Bool) → bytes_eq a b ≡ x → bytes_eq b a ≡ y → x ≡ y
 same_bytes_by a b true true e h = refl
@@ -80,10 +81,6 @@ version_seen key u b rest false (Some v) eo ed = simp (eo, ed, phase_stands b.ti
 -- the first of versions that descend is the newest
 abbrev Under : ℕ → List Version → Type 0
 Under limit vs = Each (λ (v : Version). v.timestamp < limit) vs
-
-and_no : (b : Bool) → (b && false) ≡ false
-and_no true = refl
-and_no false = refl
 
 fold_keep_by : (u : ℕ) (best v : Version) (c : Bool) → nat_le v.timestamp u ≡ c → v.timestamp ≤ best.timestamp → later u best v ≡ best
 fold_keep_by u best v c e le = let no : nat_lt best.timestamp v.timestamp ≡ false = grind (arith, nat_tests) in simp (no, and_no (nat_le v.timestamp u))

@@ -14,19 +14,11 @@ use Rattle.xa_model.proofs.Times.{known_below}
 use Rattle.mv_rules.specs.Accesses.{undecided_keys}
 use Rattle.mv_rules.specs.Ties.{fate_of, writes_by, writes_one, writes_in}
 use Rattle.mv_rules.proofs.Ties.{bytes_eq_swapped}
+use Rattle.mv_rules.proofs.Tests.{time_itself, not_same, not_same_below, or_false, or_left}
 
 each_append : (P : Written → Type 0) (xs ys : List Written) → Each P xs → Each P ys → Each P (xs ++ ys)
 each_append P [] ys h k = k
 each_append P (x ∷ xs) ys h k = (h.0, each_append P xs ys h.1 k)
-
-not_same : (t u : ℕ) → t < u → (u == t) ≡ false
-not_same t u lt = grind (arith, nat_tests)
-
-not_same_below : (t u : ℕ) → u < t → (u == t) ≡ false
-not_same_below t u lt = grind (arith, nat_tests)
-
-itself : (t : ℕ) → (t == t) ≡ true
-itself t = grind (arith, nat_tests)
 
 -- a branch of another timestamp
 undecided_other : (t u : ℕ) (fate : Option Fate) (ops : List Operation) → (u == t) ≡ false → IsUndecided t (writes_by u fate ops)
@@ -83,11 +75,7 @@ held_by key k value t older false e self ih = let here : bytes_eq key k ≡ fals
 held_own : (key : List ℕ) (t : ℕ) (ops : List Operation) → has_undecided key t (writes_by t None ops) ≡ is_some (write_of key ops)
 held_own key t [] = refl
 held_own key t (Got k answer from ∷ older) = held_own key t older
-held_own key t (Wrote k value ∷ older) = held_by key k value t older (bytes_eq k key) refl (itself t) (held_own key t older)
-
-or_false : (b : Bool) → (b || false) ≡ b
-or_false true = refl
-or_false false = refl
+held_own key t (Wrote k value ∷ older) = held_by key k value t older (bytes_eq k key) refl (time_itself t) (held_own key t older)
 
 held_both : (key : List ℕ) (t : ℕ) (ops : List Operation) (ws : List Written) → has_undecided key t ws ≡ false → has_undecided key t (writes_by t None ops ++ ws) ≡ is_some (write_of key ops)
 held_both key t ops ws none =
@@ -101,7 +89,7 @@ pub count_own : (t : ℕ) (ops : List Operation) (ws : List Written) → ((key :
 count_own t [] ws none zero_ = zero_
 count_own t (Got k answer from ∷ older) ws none zero_ = count_own t older ws none zero_
 count_own t (Wrote k value ∷ older) ws none zero_ =
-    rw (itself t, held_both k t older ws (none k)) (count_by t (undecided_keys t (writes_by t None older ++ ws)) (written_keys older) (is_some (write_of k older)) (count_own t older ws none zero_))
+    rw (time_itself t, held_both k t older ws (none k)) (count_by t (undecided_keys t (writes_by t None older ++ ws)) (written_keys older) (is_some (write_of k older)) (count_own t older ws none zero_))
 
 -- a known branch at work, among all branches
 pub record IsAtWork (b : Branch) (bs : List Branch) : Type 0 where
@@ -181,10 +169,6 @@ undecided_group key t u (Some f) ops same h = absurd (cc (held_decided key t u f
 or_right : (a b : Bool) → a ≡ false → (a || b) ≡ true → b ≡ true
 or_right true b e h = absurd (cc e)
 or_right false b e h = h
-
-or_left : (a b : Bool) → b ≡ false → (a || b) ≡ true → a ≡ true
-or_left true b e h = refl
-or_left false b e h = absurd (cc (e, h))
 
 pub are_whole : (limit : ℕ) (bs : List Branch) → Descends limit bs → AreWhole (writes_in bs)
 are_whole limit [] h t key all_undecided = tt

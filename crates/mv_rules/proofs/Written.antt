@@ -1,5 +1,5 @@
 -- What the records stand for once a write is added.
-use Rattle.std.proofs.Common.{◌≡◌, ℕ, ◌<◌, Bool, true, false, not, ◌||◌, ◌&&◌, List, [], ◌∷◌, ◌++◌, length, Option, None, Some, refl, sym, ap, ◌∙◌, subst, inl, inr, ◌⊎◌, arith}
+use Rattle.std.proofs.Common.{◌≡◌, ℕ, Bool, true, false, not, ◌||◌, ◌&&◌, List, [], ◌∷◌, ◌++◌, length, Option, None, Some, refl, sym, ap, ◌∙◌, subst, inl, inr, ◌⊎◌, arith}
 use Rattle.std.specs.Prelude.{if◌then◌else◌, ◌==◌, bytes_eq, nat_le, IsSome}
 use Rattle.std.specs.List.{AllByRecursion as Each}
 use Rattle.std.proofs.lemmas.Bool.Decides.{nat_tests}
@@ -7,7 +7,7 @@ use Rattle.std.proofs.lemmas.Slice.Eq.{bytes_eq-Decides}
 use Rattle.std.proofs.Math.ListN.{length-append}
 use Rattle.slab.specs.Slab.{get as chain_in}
 use Rattle.mv_chain.specs.declared.version.Version.{Version}
-use Rattle.mv_chain.specs.Accesses.{Written, Answered, nobody, seen, is_late, has_undecided, IsUndecided, IsUnsettled}
+use Rattle.mv_chain.specs.Accesses.{Written, Answered, nobody, seen, is_late, has_undecided, IsUnsettled}
 use Rattle.mv_chain.specs.Chain.{shows, is_marked, StandsFor as ChainStandsFor}
 use Rattle.mv_chain.specs.declared.look.Look.{Look}
 use Rattle.mv_chain.specs.Look.{looked}
@@ -25,20 +25,8 @@ use Rattle.mv_rules.specs.Steps.{IsWritten}
 use Rattle.mv_rules.specs.Verdict.{verdict_by, verdict_of}
 use Rattle.mv_rules.proofs.Indices.{stands_at, named_moved}
 use Rattle.mv_rules.proofs.Listed.{listed_append}
-use Rattle.mv_rules.proofs.Settled.{undecided_seen}
-
--- what a branch sees at its own timestamp is its own write
-pub seen_undecided : (q : List ℕ) (ts : ℕ) (ws : List Written) → 0 < ts → IsUndecided ts ws → (seen q ts ws).from ≡ ts → has_undecided q ts ws ≡ true
-seen_undecided q ts [] pos o h = absurd (omega (arith, h))
-seen_undecided q ts (w ∷ ws) pos o h = at (bytes_eq q w.key) refl (w.timestamp == ts) refl (λ e. seen_undecided q ts ws pos o.1 e)
-  where
-    at : (x : Bool) → bytes_eq q w.key ≡ x → (y : Bool) → (w.timestamp == ts) ≡ y → ((seen q ts ws).from ≡ ts → has_undecided q ts ws ≡ true) → has_undecided q ts (w ∷ ws) ≡ true
-    at false e y e2 ih = let r : has_undecided q ts ws ≡ true = ih (rw e at h) in grind (arith, e, r)
-    at true e true e2 ih = let f : w.fate ≡ None = o.0 (grind (arith, nat_tests, e2)) in grind (arith, e, e2, f)
-    at true e false e2 ih = let r : has_undecided q ts ws ≡ true = ih (grind (arith, nat_tests, e, e2, h)) in grind (arith, e, e2, r)
-
-itself : (a : List ℕ) → bytes_eq a a ≡ true
-itself a = (bytes_eq-Decides a a).1 refl
+use Rattle.mv_chain.proofs.Seen.{undecided_seen, seen_undecided}
+use Rattle.mv_rules.proofs.Tests.{same_key, or_false}
 
 write_elsewhere : (key q : List ℕ) (ts : ℕ) (value : Option (List ℕ)) (low : ℕ) (ws : List Written) (rs : List Answered) (vs : List Version) → bytes_eq q key ≡ false → ChainStandsFor q low ws rs vs → ChainStandsFor q low (wrote ts key value ∷ ws) rs vs
 write_elsewhere key q ts value low ws rs vs d s = record { seen = λ gone t le. rw (d, s.seen gone t le) refl; own = λ gone t g o. rw (d, s.own gone t g (grind (arith, o, d))) refl; late = s.late; based = s.based }
@@ -58,13 +46,6 @@ stands_written h r r2 key i ts value u late here indices changed there written l
       };
     }
   where
-    same_key : (q : List ℕ) → bytes_eq q key ≡ true → q ≡ key
-    same_key q e = (bytes_eq-Decides q key).0 e
-
-    or_false : (x : Bool) → (x || false) ≡ x
-    or_false true = refl
-    or_false false = refl
-
     or_true : (x : Bool) → (x || true) ≡ true
     or_true true = refl
     or_true false = refl
@@ -80,11 +61,11 @@ stands_written h r r2 key i ts value u late here indices changed there written l
     listed t q j e true f true g true d =
         let same : ts ≡ t = grind (arith, nat_tests, f) in
         let own : (ts == t) ≡ true = grind (arith, nat_tests, same) in
-        let all_undecided : has_undecided q t h.writes ≡ true = ap (λ k. has_undecided k t h.writes) (same_key q d) ∙ (ap (λ u. has_undecided key u h.writes) (sym same) ∙ g) in
+        let all_undecided : has_undecided q t h.writes ≡ true = ap (λ k. has_undecided k t h.writes) (same_key q key d) ∙ (ap (λ u. has_undecided key u h.writes) (sym same) ∙ g) in
         s.lists.listed t q j e ∙ rw (all_undecided, d, own) refl
     listed t q j e true f false g true d =
         let same : t ≡ ts = grind (arith, nat_tests, f) in
-        let one : Some j ≡ Some i = sym e ∙ (ap (λ k. index_of k r) (same_key q d) ∙ here) in
+        let one : Some j ≡ Some i = sym e ∙ (ap (λ k. index_of k r) (same_key q key d) ∙ here) in
         let index : j ≡ i = cc in
         let itself_too : (j == i) ≡ true = grind (arith, nat_tests, index) in
         let own : (ts == ts) ≡ true = grind (arith, nat_tests) in
@@ -92,7 +73,7 @@ stands_written h r r2 key i ts value u late here indices changed there written l
 
     unindexed : (t : ℕ) (q : List ℕ) → index_of q r ≡ None → (z : Bool) → bytes_eq q key ≡ z → has_undecided q t (wrote ts key value ∷ h.writes) ≡ false
     unindexed t q e false d = rw (d, s.lists.unindexed t q e) refl
-    unindexed t q e true d = let k : None ≡ Some i = sym e ∙ (ap (λ k. index_of k r) (same_key q d) ∙ here) in absurd (cc)
+    unindexed t q e true d = let k : None ≡ Some i = sym e ∙ (ap (λ k. index_of k r) (same_key q key d) ∙ here) in absurd (cc)
 
     appended : (own : List Own) → Each (λ o. index_of o.key r2 ≡ Some o.index) own → Each (λ o. index_of o.key r2 ≡ Some o.index) (own ++ (record { key = key; index = i }) ∷ [])
     appended [] n = (indices key ∙ here, tt)

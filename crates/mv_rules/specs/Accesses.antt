@@ -1,18 +1,22 @@
 -- What each call on all keys answers, and what it adds to the history.
-use Rattle.std.specs.Prelude.{◌≡◌, ℕ, ◌+◌, Bool, true, false, not, ◌==◌, ◌&&◌, List, [], ◌∷◌, Option, Some, None, bytes_eq, nat_le, if◌then◌else◌}
+use Rattle.std.specs.Prelude.{◌≡◌, ◌≢◌, ℕ, ◌+◌, Bool, true, false, not, ◌==◌, ◌&&◌, nat_le}
+use Rattle.std.specs.Prelude.{List, [], ◌∷◌, Option, Some, None, bytes_eq, if◌then◌else◌}
 use Rattle.std.specs.List.{AllByRecursion as Each}
 use Rattle.std.specs.Cmp.Lexicographic.{slice_cmp}
 use Rattle.std.specs.Ordering.{nat_cmp}
 use Rattle.std.specs.declared.cmp.Ordering.TheVariants.{Less}
 use Rattle.xa_codes.specs.declared.write.TheConstants.{MOST_WRITES}
 use Rattle.xa_codes.specs.declared.write.Write.{Write}
-use Rattle.mv_chain.specs.Accesses.{Written, Answered, Seen, is_busy, is_undecided, has_undecided, IsUndecided}
+use Rattle.mv_chain.specs.Accesses.{Written, Answered, Seen, read_by, seen, is_busy, is_late}
+use Rattle.mv_chain.specs.Accesses.{is_undecided, has_undecided, IsUndecided}
+pub use Rattle.mv_chain.specs.Accesses.{wrote}
 use Rattle.mv_rules.specs.declared.answers.Got.{Got}
 use Rattle.mv_rules.specs.declared.answers.Got.TheVariants.{Value, Absent, Busy, Memory}
 use Rattle.mv_rules.specs.declared.answers.Put.{Put}
 use Rattle.mv_rules.specs.declared.answers.Put.TheVariants.{Done, Late, Limit}
 
--- the writes of all keys with their fates and the answered reads, newest first; reads and writes below the low water are over
+-- the writes of all keys with their fates and the answered reads, newest first; reads and writes below the low water
+-- are over
 pub record Accesses : Type 0 where
   pub low : ℕ
   pub writes : List Written
@@ -29,15 +33,25 @@ answer_of t s = answer_by (is_busy t s) s.from s.value
 
 -- an answered read is added to the reads
 abbrev pub reads_after : Got → ℕ → List ℕ → ℕ → List Answered → List Answered
-reads_after (Value v) t key from reads = record { reader = t; key = key; from = from } ∷ reads
-reads_after Absent t key from reads = record { reader = t; key = key; from = from } ∷ reads
+reads_after (Value v) t key from reads = read_by t key from ∷ reads
+reads_after Absent t key from reads = read_by t key from ∷ reads
 reads_after (Busy by) t key from reads = reads
 reads_after Memory t key from reads = reads
+
+-- the history that a get leaves
+abbrev pub after_get : Got → ℕ → List ℕ → Accesses → Accesses
+after_get got t key h = record h { reads = reads_after got t key (seen key t h.writes).from h.reads }
+
+-- a get answers by what it sees, unless it wants memory
+abbrev pub AnswersGet : Got → ℕ → List ℕ → Accesses → Type 0
+AnswersGet got t key h = got ≢ Got.Memory → got ≡ answer_of t (seen key t h.writes)
 
 -- how many keys the undecided branch has written
 abbrev pub undecided_keys : ℕ → List Written → ℕ
 undecided_keys t [] = 0
-undecided_keys t (w ∷ older) = if (w.timestamp == t) && (is_undecided w.fate && not (has_undecided w.key t older)) then undecided_keys t older + 1 else undecided_keys t older
+undecided_keys t (w ∷ older) =
+    if (w.timestamp == t) && (is_undecided w.fate && not (has_undecided w.key t older)) then undecided_keys t older + 1
+    else undecided_keys t older
 
 -- the answer to a write: own says whether the branch wrote the key before, count how many keys it wrote
 abbrev pub put_by : Bool → Bool → Put
@@ -48,16 +62,18 @@ put_by false false = Done
 abbrev pub put_of : Bool → ℕ → Bool → Put
 put_of own count late = put_by (not own && nat_le MOST_WRITES count) late
 
--- a write whose branch is undecided
-abbrev pub wrote : ℕ → List ℕ → Option (List ℕ) → Written
-wrote t key value = record { timestamp = t; key = key; value = value; fate = None }
-
 -- an accepted write is added to the writes
 abbrev pub after_put : Put → ℕ → List ℕ → Option (List ℕ) → Accesses → Accesses
 after_put Done t key value h = record h { writes = wrote t key value ∷ h.writes }
 after_put Late t key value h = h
 after_put Limit t key value h = h
 after_put Put.Memory t key value h = h
+
+-- a put answers by the keys that the branch has written and by the answered reads, unless it wants memory
+abbrev pub AnswersPut : Put → ℕ → List ℕ → Accesses → Type 0
+AnswersPut put t key h =
+    put ≢ Put.Memory
+    → put ≡ put_of (has_undecided key t h.writes) (undecided_keys t h.writes) (is_late key t h.reads)
 
 -- the value of the branch's last write of the key; None where it wrote none
 abbrev pub last_write : List ℕ → ℕ → List Written → Option (Option (List ℕ))

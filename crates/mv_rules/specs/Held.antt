@@ -12,6 +12,10 @@ abbrev pub shown_in : Pool → Option Chain → List Version
 shown_in pool None = fresh
 shown_in pool (Some c) = versions_of pool c
 
+-- those of the chain at an index
+abbrev pub versions_at : ℕ → Pool → Slab Chain → List Version
+versions_at i pool chains = shown_in pool (chain_in chains i)
+
 abbrev pub slots_in : Option Chain → List ℕ
 slots_in None = []
 slots_in (Some c) = c.slots.items

@@ -2,6 +2,7 @@ pub mod Accesses
 pub mod Own
 pub mod Held
 pub mod Records
+pub mod Calls
 pub mod Tidy
 pub mod Noted
 pub mod Steps

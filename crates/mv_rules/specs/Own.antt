@@ -1,5 +1,5 @@
 -- The keys that each branch has written or read, as far as they are noted.
-use Rattle.std.specs.Prelude.{ℕ, Bool, ◌==◌, List, []}
+use Rattle.std.specs.Prelude.{◌≡◌, ℕ, Bool, ◌==◌, List, [], if◌then◌else◌}
 use Rattle.std.specs.List.{list_any}
 use Rattle.std.specs.Option.{option_map_or}
 use Rattle.std.specs.BTreeMap.{BTreeMap, get_by}
@@ -18,6 +18,14 @@ decided_in t notes = option_map_or (λ n. n.decided.items) (get_by (nat_cmp t) n
 -- the keys that nobody had written when it read them
 abbrev pub read_in : ℕ → BTreeMap ℕ Notes → List Own
 read_in t notes = option_map_or (λ n. n.read.items) (get_by (nat_cmp t) notes) []
+
+-- every undecided branch has written what it had
+abbrev pub OwnStays : BTreeMap ℕ Notes → BTreeMap ℕ Notes → Type 0
+OwnStays old new = (t : ℕ) → own_in t new ≡ own_in t old
+
+-- one branch has written these keys, every other one what it had
+abbrev pub OwnBecomes : ℕ → List Own → BTreeMap ℕ Notes → BTreeMap ℕ Notes → Type 0
+OwnBecomes ts own old new = (t : ℕ) → own_in t new ≡ (if t == ts then own else own_in t old)
 
 abbrev pub is_listed : ℕ → List Own → Bool
 is_listed i own = list_any (λ o. i == o.index) own

@@ -11,7 +11,7 @@ use Rattle.mv_chain.specs.Accesses.{has_undecided}
 use Rattle.mv_chain.specs.Chain.{fresh, StandsFor as ChainStandsFor}
 use Rattle.mv_rules.specs.declared.records.Records.{Records}
 use Rattle.mv_rules.specs.declared.own.Own.{Own}
-use Rattle.mv_rules.specs.Held.{shown_in, IsHeld}
+use Rattle.mv_rules.specs.Held.{versions_at, IsHeld}
 use Rattle.mv_rules.specs.Own.{own_in, is_listed}
 use Rattle.mv_rules.specs.Accesses.{Accesses, undecided_keys}
 
@@ -23,7 +23,7 @@ abbrev pub index_of : List ℕ → Records → Option ℕ
 index_of key r = index_in key r.indices
 
 abbrev pub chain_at : ℕ → Records → List Version
-chain_at i r = shown_in r.pool (chain_in r.chains i)
+chain_at i r = versions_at i r.pool r.chains
 
 abbrev pub chain_of_index : Option ℕ → Records → List Version
 chain_of_index None r = fresh
@@ -46,7 +46,8 @@ pub record ChainsStandFor (h : Accesses) (r : Records) : Type 0 where
 
 -- each undecided branch's list has exactly the keys that it wrote
 pub record ListsStandFor (h : Accesses) (r : Records) : Type 0 where
-  pub listed : (t : ℕ) (key : List ℕ) (i : ℕ) → index_of key r ≡ Some i → is_listed i (own_of t r) ≡ has_undecided key t h.writes
+  pub listed : (t : ℕ) (key : List ℕ) (i : ℕ)
+      → index_of key r ≡ Some i → is_listed i (own_of t r) ≡ has_undecided key t h.writes
   pub unindexed : (t : ℕ) (key : List ℕ) → index_of key r ≡ None → has_undecided key t h.writes ≡ false
   pub named : (t : ℕ) → Each (λ o. index_of o.key r ≡ Some o.index) (own_of t r)
   pub count : (t : ℕ) → length (own_of t r) ≡ undecided_keys t h.writes

@@ -1,6 +1,7 @@
--- What is kept of each key, and what a low water gives back of it: the versions that no read from there on sees, and the
--- key itself where nothing is left but that it was absent.
-use Rattle.std.specs.Prelude.{◌≡◌, ℕ, Bool, true, false, ◌&&◌, ◌==◌, nat_le, List, [], ◌∷◌, ◌++◌, length, Option, Some, None, option_map, bytes_eq, if◌then◌else◌}
+-- What is kept of each key, and what a low water gives back of it: the versions that no read from there on sees, and
+-- the key itself where nothing is left but that it was absent.
+use Rattle.std.specs.Prelude.{◌≡◌, ℕ, Bool, true, false, ◌&&◌, ◌==◌, nat_le, List, [], ◌∷◌, ◌++◌, length}
+use Rattle.std.specs.Prelude.{Option, Some, None, option_map, bytes_eq, if◌then◌else◌}
 use Rattle.std.specs.List.{list_any}
 use Rattle.mv_chain.specs.declared.version.Version.{Version}
 use Rattle.mv_chain.specs.Chain.{pruned}
@@ -23,8 +24,8 @@ names key own = list_any (λ o. bytes_eq key o.key) own
 abbrev pub is_due : ℕ → (ℕ × Notes) → Bool
 is_due low e = nat_le e.0 low && (length e.1.written.items == 0)
 
--- The keys that are noted for the branches up to the first that isn't due, by timestamp. Behind an undecided branch nothing
--- is due, since that branch sees what it saw.
+-- The keys that are noted for the branches up to the first that isn't due, by timestamp. Behind an undecided branch
+-- nothing is due, since that branch sees what it saw.
 abbrev pub due : ℕ → List (ℕ × Notes) → List Own
 due low [] = []
 due low (e ∷ later) = if is_due low e then e.1.decided.items ++ e.1.read.items ++ due low later else []
@@ -62,6 +63,11 @@ pub record Tidies (low : ℕ) (old new : Records) : Type 0 where
 -- every key is as it was
 abbrev pub KeepsAll : Records → Records → Type 0
 KeepsAll old new = (key : List ℕ) → kept_of key new ≡ kept_of key old
+
+-- every key is as it was but this one, of which what is kept is changed so
+abbrev pub KeepsBut : List ℕ → (Option (List Version) → Option (List Version)) → Records → Records → Type 0
+KeepsBut key change old new =
+    (q : List ℕ) → kept_of q new ≡ (if bytes_eq q key then change (kept_of q old) else kept_of q old)
 
 -- whether a get has read: Busy and want of memory haven't
 abbrev pub has_read : Got → Bool

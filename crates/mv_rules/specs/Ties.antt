@@ -5,7 +5,8 @@ use Rattle.std.specs.Prelude.{◌≡◌, ℕ, max, not, List, [], ◌∷◌, ◌
 use Rattle.mv_chain.specs.declared.fate.Fate.{Fate}
 use Rattle.mv_chain.specs.declared.fate.Fate.TheVariants.{Committed as kept}
 use Rattle.mv_chain.specs.Accesses.{Written, Answered, Seen, seen, is_late}
-use Rattle.xa_model.specs.State.{State, Branch, Operation, Got, Wrote, Phase, Working, Prepared, Committed, Read, timestamp_of}
+use Rattle.xa_model.specs.State.{State, Branch, Operation, Got, Wrote, Phase, Working, Prepared, Committed}
+use Rattle.xa_model.specs.State.{Read, timestamp_of}
 use Rattle.xa_model.specs.LowWater.{low_water}
 use Rattle.xa_model.specs.Source.{Version, source, is_late as is_late_among}
 use Rattle.xa_model.specs.Sound.{Descends}
@@ -20,7 +21,8 @@ fate_of Committed = Some kept
 abbrev pub writes_by : ℕ → Option Fate → List Operation → List Written
 writes_by t fate [] = []
 writes_by t fate (Got key answer from ∷ older) = writes_by t fate older
-writes_by t fate (Wrote key value ∷ older) = record { timestamp = t; key = key; value = value; fate = fate } ∷ writes_by t fate older
+writes_by t fate (Wrote key value ∷ older) =
+    record { timestamp = t; key = key; value = value; fate = fate } ∷ writes_by t fate older
 
 abbrev pub writes_one : Branch → List Written
 writes_one b = writes_by b.timestamp (fate_of b.phase) b.operations
@@ -32,8 +34,9 @@ writes_in (b ∷ bs) = writes_one b ++ writes_in bs
 abbrev pub read_as : Read → Answered
 read_as r = record { reader = r.reader; key = r.key; from = r.source }
 
--- From here on the history counts: who reads or writes from now on has its timestamp from this boot, and not below the low
--- water. What was written over before this boot isn't in the log, so records of a new boot don't show it, whatever is in doubt.
+-- From here on the history counts: who reads or writes from now on has its timestamp from this boot, and not below the
+-- low water. What was written over before this boot isn't in the log, so records of a new boot don't show it, whatever
+-- is in doubt.
 abbrev pub low_of : State → ℕ
 low_of s = max (timestamp_of s.boot 0) (low_water s)
 
@@ -44,7 +47,9 @@ abbrev pub seen_as : Version → Seen
 seen_as v = record { from = v.timestamp; value = v.value; pending = not v.committed }
 
 abbrev pub OneSource : Type 0
-OneSource = (key : List ℕ) (t limit : ℕ) (bs : List Branch) → Descends limit bs → seen key t (writes_in bs) ≡ seen_as (source key t bs)
+OneSource =
+    (key : List ℕ) (t limit : ℕ) (bs : List Branch)
+    → Descends limit bs → seen key t (writes_in bs) ≡ seen_as (source key t bs)
 
 abbrev pub OneLateness : Type 0
 OneLateness = (key : List ℕ) (t : ℕ) (reads : List Read) → is_late key t (map read_as reads) ≡ is_late_among key t reads

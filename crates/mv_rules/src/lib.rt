@@ -5,8 +5,8 @@
 //! Contracts speak of a history: a list of writes with their fates and a list of answered reads. `StandsFor`
 //! says which histories a [`Records`] stands for, and each call's clauses hold for every one of them.
 //!
-//! - `records`: `Records`, with every call on it: get, put, settle, restore, and the low water, which gives back what no
-//!   read will see
+//! - `records`: `Records`, with every call on it: get, put, settle, restore, and the low water, which gives back what
+//!   no read will see
 //! - `answers`: `Got` and `Put`, what a get and a put answer
 //! - `own`: `Own`, a key of a branch, and the notes of what each branch has written and read; `writes`: what a branch
 //!   leaves, key by key

@@ -1,6 +1,6 @@
-ghost use Rattle.std.specs.Prelude.{◌≡◌, ℕ, [], ◌∷◌, ◌++◌, ◌==◌, ◌-◌, ◌<◌, if◌then◌else◌, take, length, IfSome, IfNone, OnOk, OnErr};
-ghost use Rattle.mv_rules.specs.Noted.{NotesAt};
-ghost use Rattle.mv_rules.specs.Own.{own_in, decided_in, read_in};
+ghost use Rattle.std.specs.Prelude.{◌≡◌, [], ◌∷◌, ◌++◌, ◌-◌, ◌<◌, take, length, IfSome, IfNone, OnOk, OnErr};
+ghost use Rattle.mv_rules.specs.Noted.{AddsWritten, AddsRead, MovesDecided};
+ghost use Rattle.mv_rules.specs.Own.{own_in, OwnStays, OwnBecomes};
 ghost use Rattle.mv_rules.specs.Tidy.{due, not_due};
 
 use std::alloc::{AllocError, Global};
@@ -33,9 +33,9 @@ pub(crate) fn note(
     ts: u64,
     own: Own,
 ) -> Result<(), AllocError>
-    ensures ok { OnOk result ((t : ℕ) → own_in t notes.new ≡ (if t == ts then own_in ts notes.old ++ own ∷ [] else own_in t notes.old)) }
-    ensures noted { OnOk result (NotesAt ts (own_in ts notes.old ++ own ∷ []) (decided_in ts notes.old) (read_in ts notes.old) notes.old notes.new) }
-    ensures err { OnErr result ((t : ℕ) → own_in t notes.new ≡ own_in t notes.old) }
+    ensures ok { OnOk result (OwnBecomes ts (own_in ts notes.old ++ own ∷ []) notes.old notes.new) }
+    ensures noted { OnOk result (AddsWritten ts own notes.old notes.new) }
+    ensures err { OnErr result (OwnStays notes.old notes.new) }
 {
     if let Some(noted) = notes.get_mut(&ts) {
         noted.written.push(own)?;
@@ -59,8 +59,8 @@ pub(crate) fn note_read(
     ts: u64,
     own: Own,
 ) -> Result<(), AllocError>
-    ensures same { (t : ℕ) → own_in t notes.new ≡ own_in t notes.old }
-    ensures noted { OnOk result (NotesAt ts (own_in ts notes.old) (decided_in ts notes.old) (read_in ts notes.old ++ own ∷ []) notes.old notes.new) }
+    ensures same { OwnStays notes.old notes.new }
+    ensures noted { OnOk result (AddsRead ts own notes.old notes.new) }
 {
     if let Some(noted) = notes.get_mut(&ts) {
         noted.read.push(own)?;
@@ -79,7 +79,7 @@ pub(crate) fn note_read(
 
 /// Takes the branch's last note back.
 pub(crate) fn unnote(notes: &mut BTreeMap<u64, Notes>, ts: u64)
-    ensures { (t : ℕ) → own_in t notes.new ≡ (if t == ts then take (length (own_in ts notes.old) - 1) (own_in ts notes.old) else own_in t notes.old) }
+    ensures { OwnBecomes ts (take (length (own_in ts notes.old) - 1) (own_in ts notes.old)) notes.old notes.new }
 {
     if let Some(noted) = notes.get_mut(&ts) {
         noted.written.pop();
@@ -98,8 +98,8 @@ pub(crate) fn count(notes: &BTreeMap<u64, Notes>, ts: u64) -> usize
 
 /// The branch is decided: the keys that it has written are kept until the low water has passed it.
 pub(crate) fn keep_decided(alloc: Global, notes: &mut BTreeMap<u64, Notes>, ts: u64)
-    ensures others { (t : ℕ) → own_in t notes.new ≡ (if t == ts then [] else own_in t notes.old) }
-    ensures noted { 0 < length (own_in ts notes.old) → NotesAt ts [] (own_in ts notes.old) (read_in ts notes.old) notes.old notes.new }
+    ensures others { OwnBecomes ts [] notes.old notes.new }
+    ensures noted { 0 < length (own_in ts notes.old) → MovesDecided ts notes.old notes.new }
 {
     if let Some(noted) = notes.get_mut(&ts) {
         noted.decided = mem::replace(&mut noted.written, Vec::new(alloc));
@@ -108,9 +108,10 @@ pub(crate) fn keep_decided(alloc: Global, notes: &mut BTreeMap<u64, Notes>, ts: 
 
 /// Takes out what is kept of the branch with the least timestamp, if the low water has passed it and it is decided.
 pub(crate) fn next_due(notes: &mut BTreeMap<u64, Notes>, low: u64) -> Option<Notes>
-    ensures same { (t : ℕ) → own_in t notes.new ≡ own_in t notes.old }
+    ensures same { OwnStays notes.old notes.new }
     ensures fewer { IfSome result (λ _. length notes.new.entries < length notes.old.entries) }
-    ensures due { IfSome result (λ n. due low notes.old.entries ≡ n.decided.items ++ n.read.items ++ due low notes.new.entries) }
+    ensures due { IfSome result (λ n. due low notes.old.entries
+        ≡ n.decided.items ++ n.read.items ++ due low notes.new.entries) }
     ensures later { IfSome result (λ _. not_due low notes.old.entries ≡ not_due low notes.new.entries) }
     ensures none { IfNone result (due low notes.old.entries ≡ []) }
     ensures left { IfNone result (notes.new.entries ≡ not_due low notes.old.entries) }

@@ -1,7 +1,10 @@
-ghost use Rattle.std.specs.Prelude.{◌≡◌, ◌≢◌, ℕ, ◌≤◌, max, List, [], ◌∷◌, Some, None, false, true, IsSome, IfOk, OnOk, OnErr, option_map, bytes_eq, if◌then◌else◌};
+ghost use Rattle.std.specs.Prelude.{◌≡◌, ◌≢◌, ℕ, ◌≤◌, max, List, [], ◌∷◌, Some, false, true, IsSome};
+ghost use Rattle.std.specs.Prelude.{None, IfSome, IfNone, IfOk, OnOk, OnErr, option_map};
+ghost use Rattle.slab.specs.Slab.{get as chain_in};
+ghost use Rattle.mv_chain.specs.Accesses.{wrote, is_late, decided, AreWhole, IsUndecided, IsUnsettled};
+ghost use Rattle.mv_chain.specs.Calls.{bytes_of};
 ghost use Rattle.mv_chain.specs.Chain.{fresh, pruned};
 ghost use Rattle.mv_chain.specs.Within.{IsShort};
-ghost use Rattle.mv_chain.specs.Accesses.{seen, is_late, has_undecided, decided, AreWhole, IsUndecided, IsUnsettled};
 
 use crate::answers::{Got, Put};
 use crate::own::{Notes, Own, count, keep_decided, next_due};
@@ -14,7 +17,8 @@ use std::alloc::{AllocError, Global};
 use std::collections::BTreeMap;
 use xa_codes::{Bytes, Write};
 
-/// The versions of all keys, and by timestamp the keys that a branch has written or read, until the low water has passed it.
+/// The versions of all keys, and by timestamp the keys that a branch has written or read, until the low water has
+/// passed it.
 ///
 /// Every call is total. What a call promises holds for every history that the records stood for. Timestamps
 /// of branches are above 0, and none is used again once it is settled.
@@ -31,11 +35,14 @@ pub struct Records {
 }
 
 impl Records {
-    ghost use Rattle.mv_rules.specs.Accesses.{Accesses, answer_of, reads_after, undecided_keys, put_of, after_put, wrote, IsWritesOf, IsWholeAt};
+    ghost use Rattle.mv_rules.specs.Accesses.{after_get, AnswersGet, after_put, AnswersPut};
+    ghost use Rattle.mv_rules.specs.Accesses.{IsWritesOf, IsWholeAt};
+    ghost use Rattle.mv_rules.specs.Calls.{IfStood, IfIndexed, IfUnindexed, IfUnsettled};
     ghost use Rattle.mv_rules.specs.Noted.{Reads, Puts, Settles, Restores};
     ghost use Rattle.mv_rules.specs.Records.{StandsFor, index_of, versions_in};
     ghost use Rattle.mv_rules.specs.Restoring.{with_branch, IsRestorable};
-    ghost use Rattle.mv_rules.specs.Tidy.{kept_of, names, forgotten, tidied_if, Tidies, IsDrained, KeepsAll, has_read};
+    ghost use Rattle.mv_rules.specs.Tidy.{kept_of, names, forgotten, tidied_if, has_read};
+    ghost use Rattle.mv_rules.specs.Tidy.{Tidies, IsDrained, KeepsAll, KeepsBut};
     ghost use Rattle.mv_rules.specs.Within.{IsWithin, KeepsWithin, IsShortAnswer, AreShort};
 
     /// No key was written or read. Takes no memory.
@@ -52,14 +59,28 @@ impl Records {
         }
     }
 
+    /// The index of the key's chain, if it has one.
+    fn find(&self, key: &[u8]) -> Option<usize>
+        ensures index { IfSome result (λ i. index_of key.now self.now ≡ Some i) }
+        ensures there { IfSome result (λ i. IsSome (chain_in self.now.chains i)) }
+        ensures none { IfNone result (IfStood self.now (λ h. index_of key.now self.now ≡ None)) }
+    {
+        let i = *self.indices.get(key)?;
+        if self.chains.contains(i) {
+            Some(i)
+        } else {
+            None
+        }
+    }
+
     /// Makes the chain of a key that has none.
     fn make(&mut self, key: &[u8]) -> Result<usize, AllocError>
         ensures index { IfOk result (λ i. index_of key.now self.new ≡ Some i) }
-        ensures stands { (h : Accesses) → StandsFor h self.old → index_of key.now self.old ≡ None → StandsFor h self.new }
-        ensures made { OnOk result ((h : Accesses) → StandsFor h self.old → index_of key.now self.old ≡ None → (q : List ℕ)
-            → kept_of q self.new ≡ (if bytes_eq q key.now then Some fresh else kept_of q self.old)) }
-        ensures same { OnErr result ((h : Accesses) → StandsFor h self.old → index_of key.now self.old ≡ None
-            → KeepsAll self.old self.new) }
+        ensures there { IfOk result (λ i. IsSome (chain_in self.new.chains i)) }
+        ensures stands { IfUnindexed key.now self.old (λ h. StandsFor h self.new) }
+        ensures made { OnOk result
+            (IfUnindexed key.now self.old (λ h. KeepsBut key.now (λ _. Some fresh) self.old self.new)) }
+        ensures same { OnErr result (IfUnindexed key.now self.old (λ h. KeepsAll self.old self.new)) }
         ensures notes { self.new.notes ≡ self.old.notes }
         ensures within { KeepsWithin self.old self.new }
     {
@@ -78,9 +99,8 @@ impl Records {
 
     /// Forgets a key that nobody has written, and whose reads lie below `low`. Takes no memory.
     fn forget(&mut self, key: &[u8], low: u64)
-        ensures stands { (h : Accesses) → StandsFor h self.old → IsWholeAt key.now h.writes → low ≤ h.low → StandsFor h self.new }
-        ensures kept { (h : Accesses) → StandsFor h self.old → (q : List ℕ)
-            → kept_of q self.new ≡ (if bytes_eq q key.now then forgotten low (kept_of q self.old) else kept_of q self.old) }
+        ensures stands { IfStood self.old (λ h. IsWholeAt key.now h.writes → low ≤ h.low → StandsFor h self.new) }
+        ensures kept { IfStood self.old (λ h. KeepsBut key.now (forgotten low) self.old self.new) }
         ensures notes { self.new.notes ≡ self.old.notes }
         ensures within { KeepsWithin self.old self.new }
     {
@@ -102,34 +122,31 @@ impl Records {
 
     /// What a branch of timestamp `ts` reads at the key, whose chain stands at `i`.
     fn get_at(&mut self, i: usize, ts: u64, key: &[u8]) -> Got
-        ensures answer { (h : Accesses) → StandsFor h self.old → index_of key.now self.old ≡ Some i → h.low ≤ ts → result ≢ Got.Memory → result ≡ answer_of ts (seen key.now ts h.writes) }
-        ensures stands { (h : Accesses) → StandsFor h self.old → index_of key.now self.old ≡ Some i → h.low ≤ ts → StandsFor (record h { reads = reads_after result ts key.now (seen key.now ts h.writes).from h.reads }) self.new }
-        ensures same { has_read result ≡ false → (h : Accesses) → StandsFor h self.old → index_of key.now self.old ≡ Some i
-            → KeepsAll self.old self.new }
-        ensures reads { has_read result ≡ true → (h : Accesses) → StandsFor h self.old → index_of key.now self.old ≡ Some i
-            → Reads ts key.now self.old self.new }
+        requires there { IsSome (chain_in self.old.chains i) }
+        ensures answer { IfIndexed key.now i self.old (λ h. h.low ≤ ts → AnswersGet result ts key.now h) }
+        ensures stands { IfIndexed key.now i self.old
+            (λ h. h.low ≤ ts → StandsFor (after_get result ts key.now h) self.new) }
+        ensures same { has_read result ≡ false → IfIndexed key.now i self.old (λ h. KeepsAll self.old self.new) }
+        ensures reads { has_read result ≡ true
+            → IfIndexed key.now i self.old (λ h. Reads ts key.now self.old self.new) }
         ensures short { (n : ℕ) → IsWithin n self.old → IsShortAnswer n result }
         ensures within { KeepsWithin self.old self.new }
     {
-        match self.chains.get_mut(i) {
-            Some(chain) => read(self.alloc, &mut self.pool, chain, &mut self.notes, ts, key),
-            None => Got::Memory,
-        }
+        let chain = &mut self.chains[i];
+        read(self.alloc, &mut self.pool, chain, &mut self.notes, ts, key)
     }
 
     /// What a branch of timestamp `ts` reads at the key. An answered read is noted; Busy and want of memory
     /// change nothing.
     pub fn get(&mut self, ts: u64, key: &[u8]) -> Got
-        ensures answer { (h : Accesses) → StandsFor h self.old → h.low ≤ ts → result ≢ Got.Memory → result ≡ answer_of ts (seen key.now ts h.writes) }
-        ensures stands { (h : Accesses) → StandsFor h self.old → h.low ≤ ts → StandsFor (record h { reads = reads_after result ts key.now (seen key.now ts h.writes).from h.reads }) self.new }
-        ensures same { has_read result ≡ false → (h : Accesses) → StandsFor h self.old → h.low ≤ ts
-            → KeepsAll self.old self.new }
-        ensures reads { has_read result ≡ true → (h : Accesses) → StandsFor h self.old → Reads ts key.now self.old self.new }
+        ensures answer { IfStood self.old (λ h. h.low ≤ ts → AnswersGet result ts key.now h) }
+        ensures stands { IfStood self.old (λ h. h.low ≤ ts → StandsFor (after_get result ts key.now h) self.new) }
+        ensures same { has_read result ≡ false → IfStood self.old (λ h. h.low ≤ ts → KeepsAll self.old self.new) }
+        ensures reads { has_read result ≡ true → IfStood self.old (λ h. Reads ts key.now self.old self.new) }
         ensures short { (n : ℕ) → IsWithin n self.old → IsShortAnswer n result }
         ensures within { KeepsWithin self.old self.new }
     {
-        if let Some(i) = self.indices.get(key) {
-            let i = *i;
+        if let Some(i) = self.find(key) {
             return self.get_at(i, ts, key);
         }
         let Ok(i) = self.make(key) else {
@@ -145,18 +162,18 @@ impl Records {
 
     /// Adds a branch's write of the key, whose chain stands at `i`.
     fn put_at(&mut self, i: usize, ts: u64, key: &[u8], value: Option<Vec<u8>>) -> Put
-        ensures answer { (h : Accesses) → StandsFor h self.old → index_of key.now self.old ≡ Some i → IsUnsettled ts h.low h.writes → result ≢ Put.Memory → result ≡ put_of (has_undecided key.now ts h.writes) (undecided_keys ts h.writes) (is_late key.now ts h.reads) }
-        ensures stands { (h : Accesses) → StandsFor h self.old → index_of key.now self.old ≡ Some i → IsUnsettled ts h.low h.writes → StandsFor (after_put result ts key.now (option_map (λ v. v.items) value) h) self.new }
-        ensures same { result ≢ Put.Done → (h : Accesses) → StandsFor h self.old → index_of key.now self.old ≡ Some i
-            → KeepsAll self.old self.new }
-        ensures puts { result ≡ Put.Done → (h : Accesses) → StandsFor h self.old → index_of key.now self.old ≡ Some i
-            → IsUnsettled ts h.low h.writes → Puts ts key.now (option_map (λ v. v.items) value) self.old self.new }
-        ensures within { (n : ℕ) → IsWithin n self.old → IsShort n (option_map (λ v. v.items) value) → IsWithin n self.new }
+        requires there { IsSome (chain_in self.old.chains i) }
+        ensures answer { IfIndexed key.now i self.old
+            (λ h. IsUnsettled ts h.low h.writes → AnswersPut result ts key.now h) }
+        ensures stands { IfIndexed key.now i self.old
+            (λ h. IsUnsettled ts h.low h.writes → StandsFor (after_put result ts key.now (bytes_of value) h) self.new) }
+        ensures same { result ≢ Put.Done → IfIndexed key.now i self.old (λ h. KeepsAll self.old self.new) }
+        ensures puts { result ≡ Put.Done → IfIndexed key.now i self.old
+            (λ h. IsUnsettled ts h.low h.writes → Puts ts key.now (bytes_of value) self.old self.new) }
+        ensures within { (n : ℕ) → IsWithin n self.old → IsShort n (bytes_of value) → IsWithin n self.new }
     {
         let count = count(&self.notes, ts);
-        let Some(chain) = self.chains.get_mut(i) else {
-            return Put::Memory;
-        };
+        let chain = &mut self.chains[i];
         let look = chain.look(&self.pool, ts);
         match judge(&look, count) {
             Verdict::Refused(answer) => answer,
@@ -191,16 +208,15 @@ impl Records {
     /// Adds a branch's write, or replaces its own: `None` deletes the key. A branch writes at most `MOST_WRITES` keys.
     /// Limit, Late and want of memory change nothing.
     pub fn put(&mut self, ts: u64, key: &[u8], value: Option<Vec<u8>>) -> Put
-        ensures answer { (h : Accesses) → StandsFor h self.old → IsUnsettled ts h.low h.writes → result ≢ Put.Memory → result ≡ put_of (has_undecided key.now ts h.writes) (undecided_keys ts h.writes) (is_late key.now ts h.reads) }
-        ensures stands { (h : Accesses) → StandsFor h self.old → IsUnsettled ts h.low h.writes → StandsFor (after_put result ts key.now (option_map (λ v. v.items) value) h) self.new }
-        ensures same { result ≢ Put.Done → (h : Accesses) → StandsFor h self.old → IsUnsettled ts h.low h.writes
-            → KeepsAll self.old self.new }
-        ensures puts { result ≡ Put.Done → (h : Accesses) → StandsFor h self.old → IsUnsettled ts h.low h.writes
-            → Puts ts key.now (option_map (λ v. v.items) value) self.old self.new }
-        ensures within { (n : ℕ) → IsWithin n self.old → IsShort n (option_map (λ v. v.items) value) → IsWithin n self.new }
+        ensures answer { IfUnsettled ts self.old (AnswersPut result ts key.now) }
+        ensures stands { IfUnsettled ts self.old
+            (λ h. StandsFor (after_put result ts key.now (bytes_of value) h) self.new) }
+        ensures same { result ≢ Put.Done → IfUnsettled ts self.old (λ h. KeepsAll self.old self.new) }
+        ensures puts { result ≡ Put.Done
+            → IfUnsettled ts self.old (λ h. Puts ts key.now (bytes_of value) self.old self.new) }
+        ensures within { (n : ℕ) → IsWithin n self.old → IsShort n (bytes_of value) → IsWithin n self.new }
     {
-        if let Some(i) = self.indices.get(key) {
-            let i = *i;
+        if let Some(i) = self.find(key) {
             return self.put_at(i, ts, key, value);
         }
         let Ok(i) = self.make(key) else {
@@ -216,8 +232,9 @@ impl Records {
 
     /// Decides the fate of a branch, also of one below the low water: its writes stay, or go. Takes no memory.
     pub fn settle(&mut self, ts: u64, fate: Fate)
-        ensures stands { (h : Accesses) → StandsFor h self.old → IsUndecided ts h.writes → StandsFor (record h { writes = decided ts fate h.writes }) self.new }
-        ensures settles { (h : Accesses) → StandsFor h self.old → Settles ts fate self.old self.new }
+        ensures stands { IfStood self.old (λ h. IsUndecided ts h.writes
+            → StandsFor (record h { writes = decided ts fate h.writes }) self.new) }
+        ensures settles { IfStood self.old (λ h. Settles ts fate self.old self.new) }
         ensures within { KeepsWithin self.old self.new }
     {
         let Some(noted) = self.notes.get(&ts) else {
@@ -233,9 +250,8 @@ impl Records {
 
     /// Prunes the chain of a key. Takes no memory.
     fn prune(&mut self, key: &[u8], low: u64)
-        ensures stands { (h : Accesses) → StandsFor h self.old → AreWhole h.writes → low ≤ h.low → StandsFor h self.new }
-        ensures kept { (h : Accesses) → StandsFor h self.old → (q : List ℕ)
-            → kept_of q self.new ≡ (if bytes_eq q key.now then option_map (pruned low) (kept_of q self.old) else kept_of q self.old) }
+        ensures stands { IfStood self.old (λ h. AreWhole h.writes → low ≤ h.low → StandsFor h self.new) }
+        ensures kept { IfStood self.old (λ h. KeepsBut key.now (option_map (pruned low)) self.old self.new) }
         ensures notes { self.new.notes ≡ self.old.notes }
         ensures within { KeepsWithin self.old self.new }
     {
@@ -249,9 +265,9 @@ impl Records {
 
     /// Drops what is no longer read from `low` on of these keys. Takes no memory.
     fn drain(&mut self, due: &[Own], low: u64)
-        ensures stands { (h : Accesses) → StandsFor h self.old → AreWhole h.writes → low ≤ h.low → StandsFor h self.new }
-        ensures kept { (h : Accesses) → StandsFor h self.old → AreWhole h.writes → low ≤ h.low → (q : List ℕ)
-            → kept_of q self.new ≡ tidied_if low (names q due.now) (kept_of q self.old) }
+        ensures stands { IfStood self.old (λ h. AreWhole h.writes → low ≤ h.low → StandsFor h self.new) }
+        ensures kept { IfStood self.old (λ h. AreWhole h.writes → low ≤ h.low → (q : List ℕ)
+            → kept_of q self.new ≡ tidied_if low (names q due.now) (kept_of q self.old)) }
         ensures notes { self.new.notes ≡ self.old.notes }
         ensures within { KeepsWithin self.old self.new }
     {
@@ -264,8 +280,9 @@ impl Records {
     /// No branch below `low` reads or writes any more, except one that is undecided, which sees its own writes: drops
     /// what is no longer read. It costs what it drops, and takes no memory.
     pub fn low_water(&mut self, low: u64)
-        ensures stands { (h : Accesses) → StandsFor h self.old → AreWhole h.writes → StandsFor (record h { low = max h.low low }) self.new }
-        ensures tidies { (h : Accesses) → StandsFor h self.old → AreWhole h.writes → Tidies low self.old self.new }
+        ensures stands { IfStood self.old (λ h. AreWhole h.writes
+            → StandsFor (record h { low = max h.low low }) self.new) }
+        ensures tidies { IfStood self.old (λ h. AreWhole h.writes → Tidies low self.old self.new) }
         ensures drained { IsDrained low self.new }
         ensures within { KeepsWithin self.old self.new }
     {
@@ -285,30 +302,30 @@ impl Records {
     /// The index of the key's chain, which is made if there is none.
     fn find_or_make(&mut self, key: &[u8]) -> Result<usize, AllocError>
         ensures index { IfOk result (λ i. index_of key.now self.new ≡ Some i) }
-        ensures stands { (h : Accesses) → StandsFor h self.old → StandsFor h self.new }
-        ensures known { IsSome (index_of key.now self.old) → self.new ≡ self.old }
-        ensures made { OnOk result ((h : Accesses) → StandsFor h self.old → index_of key.now self.old ≡ None → (q : List ℕ)
-            → kept_of q self.new ≡ (if bytes_eq q key.now then Some fresh else kept_of q self.old)) }
+        ensures there { IfOk result (λ i. IsSome (chain_in self.new.chains i)) }
+        ensures stands { IfStood self.old (λ h. StandsFor h self.new) }
+        ensures known { IfStood self.old (λ h. IsSome (index_of key.now self.old) → self.new ≡ self.old) }
+        ensures made { OnOk result
+            (IfUnindexed key.now self.old (λ h. KeepsBut key.now (λ _. Some fresh) self.old self.new)) }
         ensures notes { self.new.notes ≡ self.old.notes }
         ensures within { KeepsWithin self.old self.new }
     {
-        if let Some(i) = self.indices.get(key) {
-            return Ok(*i);
+        if let Some(i) = self.find(key) {
+            return Ok(i);
         }
         self.make(key)
     }
 
     /// Adds a branch's write, however many keys it has written.
     fn put_back(&mut self, ts: u64, key: &[u8], value: Option<Vec<u8>>) -> Result<(), AllocError>
-        ensures stands { OnOk result ((h : Accesses) → StandsFor h self.old → IsUnsettled ts h.low h.writes → is_late key.now ts h.reads ≡ false → StandsFor (record h { writes = wrote ts key.now (option_map (λ v. v.items) value) ∷ h.writes }) self.new) }
-        ensures puts { OnOk result ((h : Accesses) → StandsFor h self.old → IsUnsettled ts h.low h.writes
-            → Puts ts key.now (option_map (λ v. v.items) value) self.old self.new) }
-        ensures within { (n : ℕ) → IsWithin n self.old → IsShort n (option_map (λ v. v.items) value) → IsWithin n self.new }
+        ensures stands { OnOk result (IfUnsettled ts self.old (λ h. is_late key.now ts h.reads ≡ false
+            → StandsFor (record h { writes = wrote ts key.now (bytes_of value) ∷ h.writes }) self.new)) }
+        ensures puts { OnOk result
+            (IfUnsettled ts self.old (λ h. Puts ts key.now (bytes_of value) self.old self.new)) }
+        ensures within { (n : ℕ) → IsWithin n self.old → IsShort n (bytes_of value) → IsWithin n self.new }
     {
         let i = self.find_or_make(key)?;
-        let Some(chain) = self.chains.get_mut(i) else {
-            return Err(AllocError);
-        };
+        let chain = &mut self.chains[i];
         let look = chain.look(&self.pool, ts);
         if look.from == ts {
             return chain.install_at(&mut self.pool, &look, value);
@@ -339,8 +356,10 @@ impl Records {
         writes: &[Write],
         fate: Option<Fate>,
     ) -> Result<(), AllocError>
-        ensures stands { OnOk result ((h : Accesses) → StandsFor h self.old → IsRestorable ts h → StandsFor (record h { writes = with_branch ts fate writes.now h.writes }) self.new) }
-        ensures restores { OnOk result ((h : Accesses) → StandsFor h self.old → IsRestorable ts h → Restores ts writes.now fate self.old self.new) }
+        ensures stands { OnOk result (IfStood self.old (λ h. IsRestorable ts h
+            → StandsFor (record h { writes = with_branch ts fate writes.now h.writes }) self.new)) }
+        ensures restores { OnOk result (IfStood self.old (λ h. IsRestorable ts h
+            → Restores ts writes.now fate self.old self.new)) }
         ensures within { (n : ℕ) → IsWithin n self.old → AreShort n writes.now → IsWithin n self.new }
     {
         for write in writes {
@@ -359,7 +378,8 @@ impl Records {
     /// # Errors
     /// Want of memory.
     pub fn writes_of(&self, ts: u64) -> Result<Vec<Write>, AllocError>
-        ensures writes { IfOk result (λ v. (h : Accesses) → StandsFor h self.now → IsUndecided ts h.writes → IsWritesOf ts h.writes v.items) }
+        ensures writes { IfOk result (λ v. IfStood self.now (λ h. IsUndecided ts h.writes
+            → IsWritesOf ts h.writes v.items)) }
         ensures short { IfOk result (λ v. (n : ℕ) → IsWithin n self.now → AreShort n v.items) }
     {
         match self.notes.get(&ts) {

@@ -1,14 +1,13 @@
-ghost use Rattle.std.specs.Prelude.{◌≡◌, ◌≢◌, ℕ, ◌≤◌, List, [], ◌∷◌, ◌++◌, ◌==◌, if◌then◌else◌, false, true, OnOk, OnErr, option_map};
-ghost use Rattle.mv_chain.specs.Accesses.{Written, Answered};
-ghost use Rattle.mv_chain.specs.Chain.{shows, installed, StandsFor};
-ghost use Rattle.mv_chain.specs.Look.{looked};
+ghost use Rattle.std.specs.Prelude.{◌≡◌, ◌≢◌, ℕ, [], ◌∷◌, ◌++◌, false, true, OnOk, OnErr};
+ghost use Rattle.mv_chain.specs.Calls.{sees, bytes_of, IfLooked, Leaves, LeavesLooked};
+ghost use Rattle.mv_chain.specs.Chain.{marked_at, installed};
 ghost use Rattle.mv_chain.specs.Pool.{versions_of, IsKept, LeavesOthers};
 ghost use Rattle.mv_chain.specs.Within.{IsShort, IsWithin, KeepsWithin};
-ghost use Rattle.mv_rules.specs.Accesses.{reads_after, answer_of};
+ghost use Rattle.mv_rules.specs.Accesses.{answer_of};
 ghost use Rattle.mv_rules.specs.Held.{IsHeld};
-ghost use Rattle.mv_rules.specs.Noted.{NotesAt, read_by, NotesRead};
-ghost use Rattle.mv_rules.specs.Own.{own_in, decided_in, read_in};
-ghost use Rattle.mv_rules.specs.Steps.{SettlesListed, IsWritten};
+ghost use Rattle.mv_rules.specs.Noted.{AddsWritten, NotesRead};
+ghost use Rattle.mv_rules.specs.Own.{own_in, OwnStays, OwnBecomes};
+ghost use Rattle.mv_rules.specs.Steps.{IsRead, IsWritten, SettlesListed};
 ghost use Rattle.mv_rules.specs.Tidy.{has_read};
 ghost use Rattle.mv_rules.specs.Within.{IsShortAnswer};
 
@@ -30,7 +29,7 @@ fn note_unwritten(
     ts: u64,
     key: &[u8],
 ) -> Result<(), AllocError>
-    ensures same { (t : ℕ) → own_in t notes.new ≡ own_in t notes.old }
+    ensures same { OwnStays notes.old notes.new }
     ensures noted { OnOk result (NotesRead ts key.now (versions_of pool.now chain.now) notes.old notes.new) }
 {
     if !chain.is_idle(pool, ts.saturating_sub(1)) {
@@ -52,13 +51,15 @@ pub(crate) fn read(
     ts: u64,
     key: &[u8],
 ) -> Got
-    ensures answer { IsKept pool.old chain.old → result ≢ Got.Memory → result ≡ answer_of ts (shows ts (versions_of pool.old chain.old)) }
-    ensures stands { (k : List ℕ) (low : ℕ) (writes : List Written) (reads : List Answered) → IsKept pool.old chain.old → StandsFor k low writes reads (versions_of pool.old chain.old) → low ≤ ts → StandsFor k low writes (reads_after result ts k (shows ts (versions_of pool.old chain.old)).from reads) (versions_of pool.new chain.new) }
+    ensures answer { IsKept pool.old chain.old → result ≢ Got.Memory
+        → result ≡ answer_of ts (sees ts pool.old chain.old) }
+    ensures stands { IsKept pool.old chain.old
+        → IsRead result ts (versions_of pool.old chain.old) (versions_of pool.new chain.new) }
     ensures same { has_read result ≡ false → versions_of pool.new chain.new ≡ versions_of pool.old chain.old }
     ensures kept { IsKept pool.old chain.old → IsKept pool.new chain.new }
     ensures others { LeavesOthers pool.old chain.old pool.new chain.new }
-    ensures versions { has_read result ≡ true → IsKept pool.old chain.old → versions_of pool.new chain.new ≡ read_by ts (versions_of pool.old chain.old) }
-    ensures notes { (t : ℕ) → own_in t notes.new ≡ own_in t notes.old }
+    ensures versions { has_read result ≡ true → Leaves (marked_at ts) pool.old chain.old pool.new chain.new }
+    ensures notes { OwnStays notes.old notes.new }
     ensures noted { has_read result ≡ true → NotesRead ts key.now (versions_of pool.old chain.old) notes.old notes.new }
     ensures short { (n : ℕ) → IsWithin n pool.old → IsShortAnswer n result }
     ensures within { KeepsWithin pool.old pool.new }
@@ -91,15 +92,18 @@ pub(crate) fn add(
     own: Own,
     value: Option<Vec<u8>>,
 ) -> Result<(), AllocError>
-    ensures ok { OnOk result ((ts : ℕ) → IsKept pool.old chain.old → look.now ≡ looked ts (versions_of pool.old chain.old) → IsWritten ts (option_map (λ v. v.items) value) (versions_of pool.old chain.old) (versions_of pool.new chain.new)) }
-    ensures versions { OnOk result ((ts : ℕ) → IsKept pool.old chain.old → look.now ≡ looked ts (versions_of pool.old chain.old) → versions_of pool.new chain.new ≡ installed ts (option_map (λ v. v.items) value) (versions_of pool.old chain.old)) }
-    ensures lists { OnOk result (NotesAt look.now.at (own_in look.now.at notes.old ++ own ∷ []) (decided_in look.now.at notes.old) (read_in look.now.at notes.old) notes.old notes.new) }
-    ensures noted { OnOk result ((t : ℕ) → own_in t notes.new ≡ (if t == look.now.at then own_in look.now.at notes.old ++ own ∷ [] else own_in t notes.old)) }
-    ensures err { OnErr result (IsKept pool.old chain.old → versions_of pool.new chain.new ≡ versions_of pool.old chain.old) }
-    ensures unnoted { OnErr result ((t : ℕ) → own_in t notes.new ≡ own_in t notes.old) }
-    ensures kept { (ts : ℕ) → IsKept pool.old chain.old → look.now ≡ looked ts (versions_of pool.old chain.old) → IsKept pool.new chain.new }
+    ensures ok { OnOk result (IfLooked look.now pool.old chain.old
+        (λ ts. IsWritten ts (bytes_of value) (versions_of pool.old chain.old) (versions_of pool.new chain.new))) }
+    ensures versions { OnOk result
+        (LeavesLooked (λ ts. installed ts (bytes_of value)) look.now pool.old chain.old pool.new chain.new) }
+    ensures lists { OnOk result (AddsWritten look.now.at own notes.old notes.new) }
+    ensures noted { OnOk result
+        (OwnBecomes look.now.at (own_in look.now.at notes.old ++ own ∷ []) notes.old notes.new) }
+    ensures err { OnErr result (Leaves (λ versions. versions) pool.old chain.old pool.new chain.new) }
+    ensures unnoted { OnErr result (OwnStays notes.old notes.new) }
+    ensures kept { IfLooked look.now pool.old chain.old (λ ts. IsKept pool.new chain.new) }
     ensures others { LeavesOthers pool.old chain.old pool.new chain.new }
-    ensures within { (n : ℕ) → IsWithin n pool.old → IsShort n (option_map (λ v. v.items) value) → IsWithin n pool.new }
+    ensures within { (n : ℕ) → IsWithin n pool.old → IsShort n (bytes_of value) → IsWithin n pool.new }
 {
     note(alloc, notes, look.at, own)?;
     match chain.install_at(pool, look, value) {
@@ -119,7 +123,8 @@ pub(crate) fn settle_all(
     ts: u64,
     fate: Fate,
 )
-    ensures settled { IsHeld pool.old chains.old → SettlesListed ts fate own.now pool.old chains.old pool.new chains.new }
+    ensures settled { IsHeld pool.old chains.old
+        → SettlesListed ts fate own.now pool.old chains.old pool.new chains.new }
     ensures within { KeepsWithin pool.old pool.new }
 {
     for written in own {

@@ -2,11 +2,10 @@ ghost use Rattle.std.specs.Prelude.{◌≡◌, ℕ, List, map, IfOk, option_map}
 ghost use Rattle.std.specs.BTreeMap.{get, IsOrdered};
 ghost use Rattle.std.specs.Cmp.Lexicographic.{slice_cmp};
 ghost use Rattle.std.specs.Ordering.{nat_cmp};
-ghost use Rattle.slab.specs.Slab.{get as chain_in};
 ghost use Rattle.mv_chain.specs.Chain.{shows};
 ghost use Rattle.mv_chain.specs.Within.{IsShort, IsWithin};
 ghost use Rattle.mv_rules.specs.Collected.{as_write, collected};
-ghost use Rattle.mv_rules.specs.Held.{shown_in, IsHeld};
+ghost use Rattle.mv_rules.specs.Held.{versions_at, IsHeld};
 ghost use Rattle.mv_rules.specs.Within.{AreShort};
 
 use crate::own::Own;
@@ -34,7 +33,8 @@ fn value_at(
     index: usize,
     ts: u64,
 ) -> Result<Option<Bytes>, AllocError>
-    ensures value { IfOk result (λ v. IsHeld pool.now chains.now → v ≡ (shows ts (shown_in pool.now (chain_in chains.now index))).value) }
+    ensures value { IfOk result (λ v. IsHeld pool.now chains.now
+        → v ≡ (shows ts (versions_at index pool.now chains.now)).value) }
     ensures short { IfOk result (λ v. (n : ℕ) → IsWithin n pool.now → IsShort n v) }
 {
     let Some(chain) = chains.get(index) else {
@@ -54,7 +54,8 @@ pub(crate) fn collect(
     own: &[Own],
     ts: u64,
 ) -> Result<BTreeMap<Bytes, Option<Bytes>>, AllocError>
-    ensures values { IfOk result (λ m. IsHeld pool.now chains.now → (key : List ℕ) → get (slice_cmp nat_cmp) m key ≡ collected ts pool.now chains.now key own.now) }
+    ensures values { IfOk result (λ m. IsHeld pool.now chains.now → (key : List ℕ)
+        → get (slice_cmp nat_cmp) m key ≡ collected ts pool.now chains.now key own.now) }
     ensures ordered { IfOk result (λ m. IsOrdered (slice_cmp nat_cmp) m) }
     ensures short { IfOk result (λ m. (n : ℕ) → IsWithin n pool.now → AreShort n (map as_write m.entries)) }
 {

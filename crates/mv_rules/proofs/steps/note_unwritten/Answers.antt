@@ -2,7 +2,7 @@ use Rattle.std.proofs.Common.{◌≡◌, ◌∙◌, true, sym, ap}
 use Rattle.std.specs.Prelude.{◌-◌}
 use Rattle.mv_chain.specs.Idle.{is_idle}
 use Rattle.mv_chain.specs.Pool.{versions_of}
-use Rattle.mv_rules.proofs.PutBack.{then_ok}
+use Rattle.mv_chain.proofs.Frames.{then_ok}
 use Rattle.mv_rules.proofs.steps.note_unwritten.Goals as goal
 
 pub returns-clause-noted : goal.returns-clause-noted

@@ -10,7 +10,7 @@ use Rattle.mv_rules.proofs.steps.read.Goals.{in-None, in-Some+in-Ok}
 
 pub returns-clause-stands : goal.returns-clause-stands
 returns-clause-stands c =
-    λ key low writes reads k s le.
+    λ k key low writes reads s le.
     let is = c.look-look.ensures k in
     let same = s.seen nobody c.args.ts le in
     let from : (shows c.args.ts (versions_of c.args.pool.now c.args.chain.now)).from ≡ (seen key c.args.ts writes).from = ap (λ r. r.from) same in

@@ -8,7 +8,8 @@ use Rattle.mv_rules.specs.Records.{index_of, chain_at}
 use Rattle.mv_rules.proofs.Frames.{added_there, reserved_same, updates_before, nothing_left}
 use Rattle.mv_rules.proofs.Indices.{found_at, found_inserted, stands_added, lists_added, stands_alike}
 use Rattle.mv_rules.proofs.Forgotten.{found_back}
-use Rattle.mv_rules.proofs.Tidied.{then_err, keeps_alike, kept_added}
+use Rattle.mv_chain.proofs.Frames.{on_err}
+use Rattle.mv_rules.proofs.Tidied.{keeps_alike, kept_added}
 use Rattle.mv_rules.proofs.records.Records.make.Goals as goal
 
 pub returns-in_err-reserve-clause-stands : goal.returns-in_err-reserve-clause-stands
@@ -48,11 +49,11 @@ returns-in-Err-clause-stands c =
 
 pub returns-in_err-reserve-clause-same : goal.returns-in_err-reserve-clause-same
 returns-in_err-reserve-clause-same c =
-    then_err c.from_residual-in_err-reserve.result (λ h s none. keeps_alike c.args.self.now (record c.args.self.now { chains = c.reserve.new.self }) (λ q. refl) (reserved_same c.args.self.now.chains c.reserve.new.self _ c.reserve.ensures.rest_kept) (nothing_left c.args.self.now.pool) s.chains.held)
+    on_err c.from_residual-in_err-reserve.result (λ h s none. keeps_alike c.args.self.now (record c.args.self.now { chains = c.reserve.new.self }) (λ q. refl) (reserved_same c.args.self.now.chains c.reserve.new.self _ c.reserve.ensures.rest_kept) (nothing_left c.args.self.now.pool) s.chains.held)
 
 pub returns-in_err-insert-clause-same : goal.returns-in_err-insert-clause-same
 returns-in_err-insert-clause-same c =
-    then_err c.from_residual-in_err-insert.result (λ h s none. keeps_alike c.args.self.now (record c.args.self.now { indices = c.insert.new.self; chains = c.reserve.new.self }) (λ q. ap (λ es. found_at q es) c.in_err-insert.ensures.err) (reserved_same c.args.self.now.chains c.reserve.new.self _ c.reserve.ensures.rest_kept) (nothing_left c.args.self.now.pool) s.chains.held)
+    on_err c.from_residual-in_err-insert.result (λ h s none. keeps_alike c.args.self.now (record c.args.self.now { indices = c.insert.new.self; chains = c.reserve.new.self }) (λ q. ap (λ es. found_at q es) c.in_err-insert.ensures.err) (reserved_same c.args.self.now.chains c.reserve.new.self _ c.reserve.ensures.rest_kept) (nothing_left c.args.self.now.pool) s.chains.held)
 
 pub returns-in-Ok-clause-made : goal.returns-in-Ok-clause-made
 returns-in-Ok-clause-made c =

@@ -1,36 +1,43 @@
-use Rattle.std.proofs.Common.{◌≡◌, ℕ, List, Option, sym, subst, None, arith}
+use Rattle.std.proofs.Common.{◌≡◌, ℕ, List, Option, sym, subst, arith}
 use Rattle.std.specs.Prelude.{option_map}
 use Rattle.mv_rules.specs.Accesses.{Accesses, after_put}
-use Rattle.mv_rules.specs.Records.{StandsFor, index_of}
+use Rattle.mv_rules.specs.Records.{StandsFor}
 use Rattle.mv_rules.proofs.Written.{refused_same}
 use Rattle.mv_rules.proofs.Tidied.{unmade, absent_kept}
 use Rattle.mv_rules.proofs.records.Records.put.Goals as goal
 
 pub returns-in_default-make-clause-stands : goal.returns-in_default-make-clause-stands
-returns-in_default-make-clause-stands c = λ h s u. c.make.ensures.stands h s (sym c.in_default.ensures.value)
+returns-in_default-make-clause-stands c = λ h s u. c.make.ensures.stands h s (c.in_default.ensures.none h s)
 
 pub returns : goal.returns
 returns c =
-    let none : index_of c.args.key.now c.args.self.now ≡ None = sym c.in_default.ensures.value in
+    let none = c.in_default.ensures.none in
     record {
-      answer = λ h s u m. c.put_at-answer.ensures.answer h (c.make.ensures.stands h s none) c.in-Ok.ensures.index u m;
+      answer = λ h s u m. c.put_at-answer.ensures.answer h (c.make.ensures.stands h s (none h s)) c.in-Ok.ensures.index u m;
       stands = λ h s u.
           let value : Option (List ℕ) = option_map (λ v. v.items) c.args.value in
           let same : after_put c.put_at-answer.result c.args.ts c.args.key.now value h ≡ h = refused_same c.put_at-answer.result c.args.ts c.args.key.now value h c.in_default-answer.not-Done in
-          let after : StandsFor h c.put_at-answer.new.self = subst (λ (x : Accesses). StandsFor x c.put_at-answer.new.self) same (c.put_at-answer.ensures.stands h (c.make.ensures.stands h s none) c.in-Ok.ensures.index u) in
-          subst (λ (x : Accesses). StandsFor x c.forget.new.self) (sym same) (c.forget.ensures.stands h after (λ t e. absurd (cc (e, s.lists.unindexed t c.args.key.now none))) (omega arith));
+          let after : StandsFor h c.put_at-answer.new.self = subst (λ (x : Accesses). StandsFor x c.put_at-answer.new.self) same (c.put_at-answer.ensures.stands h (c.make.ensures.stands h s (none h s)) c.in-Ok.ensures.index u) in
+          subst (λ (x : Accesses). StandsFor x c.forget.new.self) (sym same) (c.forget.ensures.stands h after (λ t e. absurd (cc (e, s.lists.unindexed t c.args.key.now (none h s)))) (omega arith));
       same = λ refused h s u.
-          unmade c.args.self.now c.make.new.self c.put_at-answer.new.self c.forget.new.self c.args.key.now (absent_kept c.args.self.now c.args.key.now none) (c.in-Ok.ensures.made h s none)
-          (c.put_at-answer.ensures.same c.in_default-answer.not-Done h (c.make.ensures.stands h s none) c.in-Ok.ensures.index) (c.forget.ensures.kept _ (c.put_at-answer.ensures.stands h (c.make.ensures.stands h s none) c.in-Ok.ensures.index u));
+          unmade c.args.self.now c.make.new.self c.put_at-answer.new.self c.forget.new.self c.args.key.now (absent_kept c.args.self.now c.args.key.now (none h s)) (c.in-Ok.ensures.made h s (none h s))
+          (c.put_at-answer.ensures.same c.in_default-answer.not-Done h (c.make.ensures.stands h s (none h s)) c.in-Ok.ensures.index) (c.forget.ensures.kept _ (c.put_at-answer.ensures.stands h (c.make.ensures.stands h s (none h s)) c.in-Ok.ensures.index u));
       puts = λ done. absurd (c.in_default-answer.not-Done done);
       within = λ n h short. c.forget.ensures.within n (c.put_at-answer.ensures.within n (c.make.ensures.within n h) short);
     }
 
 pub returns-in-Some-clause-same : goal.returns-in-Some-clause-same
-returns-in-Some-clause-same c = λ refused h s u. c.put_at.ensures.same refused h s (sym c.in-Some.ensures.value)
+returns-in-Some-clause-same c = λ refused h s u. c.put_at.ensures.same refused h s c.in-Some.ensures.index
 
 pub returns-in_default-make-clause-same : goal.returns-in_default-make-clause-same
-returns-in_default-make-clause-same c = λ refused h s u. c.in_default-make.ensures.same h s (sym c.in_default.ensures.value)
+returns-in_default-make-clause-same c = λ refused h s u. c.in_default-make.ensures.same h s (c.in_default.ensures.none h s)
 
 pub returns-in-Some-clause-puts : goal.returns-in-Some-clause-puts
-returns-in-Some-clause-puts c = λ done h s u. c.put_at.ensures.puts done h s (sym c.in-Some.ensures.value) u
+returns-in-Some-clause-puts c = λ done h s u. c.put_at.ensures.puts done h s c.in-Some.ensures.index u
+
+pub returns-in-Some-clause-stands : goal.returns-in-Some-clause-stands
+returns-in-Some-clause-stands c = λ h s u. c.put_at.ensures.stands h s c.in-Some.ensures.index u
+
+pub returns-in-Done-clause-stands : goal.returns-in-Done-clause-stands
+returns-in-Done-clause-stands c =
+    λ h s u. c.in-Done.ensures.stands h (c.make.ensures.stands h s (c.in_default.ensures.none h s)) c.in-Ok.ensures.index u

@@ -12,108 +12,108 @@ use Rattle.mv_rules.proofs.Changed.{with_chain}
 use Rattle.mv_rules.proofs.Tidied.{kept_with, same_kept}
 use Rattle.mv_rules.proofs.records.Records.put_at.Goals as goal
 
-pub returns-in_default-from_slice-clause-stands : goal.returns-in_default-from_slice-clause-stands
-returns-in_default-from_slice-clause-stands c =
+pub returns-in_default-clause-stands : goal.returns-in_default-clause-stands
+returns-in_default-clause-stands c =
     λ h s here u.
-    let chain = c.in-Some.chain.now in
-    alike_at h c.args.self.now c.args.key.now c.args.i chain chain c.args.self.now.pool c.args.self.now.notes s here (sym c.in-Some.ensures.value) (nothing_leaves c.args.self.now.pool chain.slots.items) (λ k. k) refl (λ t. refl)
+    let chain = c.index_mut-chain.result.now in
+    alike_at h c.args.self.now c.args.key.now c.args.i chain chain c.args.self.now.pool c.args.self.now.notes s here c.index_mut-chain.ensures.value (nothing_leaves c.args.self.now.pool chain.slots.items) (λ k. k) refl (λ t. refl)
 
 pub returns-in-Refused-clause-answer : goal.returns-in-Refused-clause-answer
 returns-in-Refused-clause-answer c =
     λ h s here u m.
     let value : Option (List ℕ) = option_map (λ v. v.items) c.args.value in
-    let k = s.chains.held.kept c.args.i c.in-Some.chain.now (sym c.in-Some.ensures.value) in
+    let k = s.chains.held.kept c.args.i c.index_mut-chain.result.now c.index_mut-chain.ensures.value in
     let verdict = looked_at _ c.look-look.result c.args.ts c.count-count.result _ (c.look-look.ensures k) c.in-Refused.ensures in
-    (put_refused h c.args.self.now c.args.key.now c.args.i c.args.ts c.count-count.result (versions_of c.args.self.now.pool c.in-Some.chain.now) u s here (ap (shown_in c.args.self.now.pool) c.in-Some.ensures.value) c.count-count.ensures c.in-Refused.answer value verdict).0
+    (put_refused h c.args.self.now c.args.key.now c.args.i c.args.ts c.count-count.result (versions_of c.args.self.now.pool c.index_mut-chain.result.now) u s here (ap (shown_in c.args.self.now.pool) (sym c.index_mut-chain.ensures.value)) c.count-count.ensures c.in-Refused.answer value verdict).0
 
 pub returns-in-Refused-clause-stands : goal.returns-in-Refused-clause-stands
 returns-in-Refused-clause-stands c =
     λ h s here u.
-    let chain = c.in-Some.chain.now in
+    let chain = c.index_mut-chain.result.now in
     let value : Option (List ℕ) = option_map (λ v. v.items) c.args.value in
-    let k = s.chains.held.kept c.args.i c.in-Some.chain.now (sym c.in-Some.ensures.value) in
+    let k = s.chains.held.kept c.args.i c.index_mut-chain.result.now c.index_mut-chain.ensures.value in
     let verdict = looked_at _ c.look-look.result c.args.ts c.count-count.result _ (c.look-look.ensures k) c.in-Refused.ensures in
-    let left = (put_refused h c.args.self.now c.args.key.now c.args.i c.args.ts c.count-count.result (versions_of c.args.self.now.pool c.in-Some.chain.now) u s here (ap (shown_in c.args.self.now.pool) c.in-Some.ensures.value) c.count-count.ensures c.in-Refused.answer value verdict).1 in
-    alike_at _ c.args.self.now c.args.key.now c.args.i chain chain c.args.self.now.pool c.args.self.now.notes left here (sym c.in-Some.ensures.value) (nothing_leaves c.args.self.now.pool chain.slots.items) (λ k. k) refl (λ t. refl)
+    let left = (put_refused h c.args.self.now c.args.key.now c.args.i c.args.ts c.count-count.result (versions_of c.args.self.now.pool c.index_mut-chain.result.now) u s here (ap (shown_in c.args.self.now.pool) (sym c.index_mut-chain.ensures.value)) c.count-count.ensures c.in-Refused.answer value verdict).1 in
+    alike_at _ c.args.self.now c.args.key.now c.args.i chain chain c.args.self.now.pool c.args.self.now.notes left here c.index_mut-chain.ensures.value (nothing_leaves c.args.self.now.pool chain.slots.items) (λ k. k) refl (λ t. refl)
 
 pub returns-in-Ok-clause-answer : goal.returns-in-Ok-clause-answer
 returns-in-Ok-clause-answer c =
     λ h s here u m.
     let value : Option (List ℕ) = option_map (λ v. v.items) c.args.value in
-    let k = s.chains.held.kept c.args.i c.in-Some.chain.now (sym c.in-Some.ensures.value) in
+    let k = s.chains.held.kept c.args.i c.index_mut-chain.result.now c.index_mut-chain.ensures.value in
     let verdict = looked_at _ c.look-look.result c.args.ts c.count-count.result _ (c.look-look.ensures k) c.in-Again.ensures in
-    (again_at h c.args.self.now c.args.key.now c.args.i c.in-Some.chain.now c.install_at.new.self c.install_at.new.pool c.args.self.now.notes s here (sym c.in-Some.ensures.value) c.install_at.ensures.others (λ kk. c.install_at.ensures.kept c.args.ts kk (c.look-look.ensures kk)) c.args.ts c.count-count.result value u c.count-count.ensures verdict
+    (again_at h c.args.self.now c.args.key.now c.args.i c.index_mut-chain.result.now c.install_at.new.self c.install_at.new.pool c.args.self.now.notes s here c.index_mut-chain.ensures.value c.install_at.ensures.others (λ kk. c.install_at.ensures.kept c.args.ts kk (c.look-look.ensures kk)) c.args.ts c.count-count.result value u c.count-count.ensures verdict
     (λ key low ws rs st un late. c.in-Ok.ensures.stands c.args.ts key low ws rs k (c.look-look.ensures k) st un late) (λ t. refl)).0
 
 pub returns-in-Ok-clause-stands : goal.returns-in-Ok-clause-stands
 returns-in-Ok-clause-stands c =
     λ h s here u.
     let value : Option (List ℕ) = option_map (λ v. v.items) c.args.value in
-    let k = s.chains.held.kept c.args.i c.in-Some.chain.now (sym c.in-Some.ensures.value) in
+    let k = s.chains.held.kept c.args.i c.index_mut-chain.result.now c.index_mut-chain.ensures.value in
     let verdict = looked_at _ c.look-look.result c.args.ts c.count-count.result _ (c.look-look.ensures k) c.in-Again.ensures in
-    (again_at h c.args.self.now c.args.key.now c.args.i c.in-Some.chain.now c.install_at.new.self c.install_at.new.pool c.args.self.now.notes s here (sym c.in-Some.ensures.value) c.install_at.ensures.others (λ kk. c.install_at.ensures.kept c.args.ts kk (c.look-look.ensures kk)) c.args.ts c.count-count.result value u c.count-count.ensures verdict
+    (again_at h c.args.self.now c.args.key.now c.args.i c.index_mut-chain.result.now c.install_at.new.self c.install_at.new.pool c.args.self.now.notes s here c.index_mut-chain.ensures.value c.install_at.ensures.others (λ kk. c.install_at.ensures.kept c.args.ts kk (c.look-look.ensures kk)) c.args.ts c.count-count.result value u c.count-count.ensures verdict
     (λ key low ws rs st un late. c.in-Ok.ensures.stands c.args.ts key low ws rs k (c.look-look.ensures k) st un late) (λ t. refl)).1
 
 pub returns-in-Err-clause-stands : goal.returns-in-Err-clause-stands
 returns-in-Err-clause-stands c =
     λ h s here u.
-    let k = s.chains.held.kept c.args.i c.in-Some.chain.now (sym c.in-Some.ensures.value) in
-    alike_at h c.args.self.now c.args.key.now c.args.i c.in-Some.chain.now c.install_at.new.self c.install_at.new.pool c.args.self.now.notes s here (sym c.in-Some.ensures.value) c.install_at.ensures.others (λ kk. c.install_at.ensures.kept c.args.ts kk (c.look-look.ensures kk)) (c.in-Err.ensures.err k) (λ t. refl)
+    let k = s.chains.held.kept c.args.i c.index_mut-chain.result.now c.index_mut-chain.ensures.value in
+    alike_at h c.args.self.now c.args.key.now c.args.i c.index_mut-chain.result.now c.install_at.new.self c.install_at.new.pool c.args.self.now.notes s here c.index_mut-chain.ensures.value c.install_at.ensures.others (λ kk. c.install_at.ensures.kept c.args.ts kk (c.look-look.ensures kk)) (c.in-Err.ensures.err k) (λ t. refl)
 
 pub returns-in-Ok-add-clause-stands : goal.returns-in-Ok-add-clause-stands
 returns-in-Ok-add-clause-stands c =
     λ h s here u.
     let value : Option (List ℕ) = option_map (λ v. v.items) c.args.value in
-    let k = s.chains.held.kept c.args.i c.in-Some.chain.now (sym c.in-Some.ensures.value) in
+    let k = s.chains.held.kept c.args.i c.index_mut-chain.result.now c.index_mut-chain.ensures.value in
     let verdict = looked_at _ c.look-look.result c.args.ts c.count-count.result _ (c.look-look.ensures k) c.in-First.ensures in
     let at_ts : c.look-look.result.at ≡ c.args.ts = ap (λ (l : Look). l.at) (c.look-look.ensures k) in
     let noted = rw (c.in-Ok-from_slice.ensures, at_ts) at c.in-Ok-add.ensures.noted in
-    (first_at h c.args.self.now c.args.key.now c.args.i c.in-Some.chain.now c.add.new.chain c.add.new.pool c.add.new.notes s here (sym c.in-Some.ensures.value) c.add.ensures.others (λ kk. c.add.ensures.kept c.args.ts kk (c.look-look.ensures kk)) c.args.ts c.count-count.result value u c.count-count.ensures verdict
+    (first_at h c.args.self.now c.args.key.now c.args.i c.index_mut-chain.result.now c.add.new.chain c.add.new.pool c.add.new.notes s here c.index_mut-chain.ensures.value c.add.ensures.others (λ kk. c.add.ensures.kept c.args.ts kk (c.look-look.ensures kk)) c.args.ts c.count-count.result value u c.count-count.ensures verdict
     (c.in-Ok-add.ensures.ok c.args.ts k (c.look-look.ensures k)) noted).1
 
 pub returns-in-Err-add-clause-stands : goal.returns-in-Err-add-clause-stands
 returns-in-Err-add-clause-stands c =
     λ h s here u.
-    let k = s.chains.held.kept c.args.i c.in-Some.chain.now (sym c.in-Some.ensures.value) in
-    alike_at h c.args.self.now c.args.key.now c.args.i c.in-Some.chain.now c.add.new.chain c.add.new.pool c.add.new.notes s here (sym c.in-Some.ensures.value) c.add.ensures.others (λ kk. c.add.ensures.kept c.args.ts kk (c.look-look.ensures kk)) (c.in-Err-add.ensures.err k) c.in-Err-add.ensures.unnoted
+    let k = s.chains.held.kept c.args.i c.index_mut-chain.result.now c.index_mut-chain.ensures.value in
+    alike_at h c.args.self.now c.args.key.now c.args.i c.index_mut-chain.result.now c.add.new.chain c.add.new.pool c.add.new.notes s here c.index_mut-chain.ensures.value c.add.ensures.others (λ kk. c.add.ensures.kept c.args.ts kk (c.look-look.ensures kk)) (c.in-Err-add.ensures.err k) c.in-Err-add.ensures.unnoted
 
-pub returns-in_default-from_slice-clause-same : goal.returns-in_default-from_slice-clause-same
-returns-in_default-from_slice-clause-same c =
+pub returns-in_default-clause-same : goal.returns-in_default-clause-same
+returns-in_default-clause-same c =
     λ n h s here.
-    let chain = c.in-Some.chain.now in
+    let chain = c.index_mut-chain.result.now in
     same_kept c.args.self.now (with_chain c.args.self.now c.args.i c.args.self.now.pool chain c.args.self.now.notes) c.args.key.now
-    (kept_with h c.args.self.now c.args.key.now c.args.i chain chain c.args.self.now.pool c.args.self.now.notes s here (sym c.in-Some.ensures.value) (nothing_leaves c.args.self.now.pool chain.slots.items) (λ k. k) (λ vs. vs) (λ k. refl))
+    (kept_with h c.args.self.now c.args.key.now c.args.i chain chain c.args.self.now.pool c.args.self.now.notes s here c.index_mut-chain.ensures.value (nothing_leaves c.args.self.now.pool chain.slots.items) (λ k. k) (λ vs. vs) (λ k. refl))
 
 pub returns-in-Refused-clause-same : goal.returns-in-Refused-clause-same
 returns-in-Refused-clause-same c =
     λ n h s here.
-    let chain = c.in-Some.chain.now in
+    let chain = c.index_mut-chain.result.now in
     same_kept c.args.self.now (with_chain c.args.self.now c.args.i c.args.self.now.pool chain c.args.self.now.notes) c.args.key.now
-    (kept_with h c.args.self.now c.args.key.now c.args.i chain chain c.args.self.now.pool c.args.self.now.notes s here (sym c.in-Some.ensures.value) (nothing_leaves c.args.self.now.pool chain.slots.items) (λ k. k) (λ vs. vs) (λ k. refl))
+    (kept_with h c.args.self.now c.args.key.now c.args.i chain chain c.args.self.now.pool c.args.self.now.notes s here c.index_mut-chain.ensures.value (nothing_leaves c.args.self.now.pool chain.slots.items) (λ k. k) (λ vs. vs) (λ k. refl))
 
 pub returns-in-Err-clause-same : goal.returns-in-Err-clause-same
 returns-in-Err-clause-same c =
     λ n h s here.
     same_kept c.args.self.now (with_chain c.args.self.now c.args.i c.install_at.new.pool c.install_at.new.self c.args.self.now.notes) c.args.key.now
-    (kept_with h c.args.self.now c.args.key.now c.args.i c.in-Some.chain.now c.install_at.new.self c.install_at.new.pool c.args.self.now.notes s here (sym c.in-Some.ensures.value) c.install_at.ensures.others (λ kk. c.install_at.ensures.kept c.args.ts kk (c.look-look.ensures kk)) (λ vs. vs) c.in-Err.ensures.err)
+    (kept_with h c.args.self.now c.args.key.now c.args.i c.index_mut-chain.result.now c.install_at.new.self c.install_at.new.pool c.args.self.now.notes s here c.index_mut-chain.ensures.value c.install_at.ensures.others (λ kk. c.install_at.ensures.kept c.args.ts kk (c.look-look.ensures kk)) (λ vs. vs) c.in-Err.ensures.err)
 
 pub returns-in-Err-add-clause-same : goal.returns-in-Err-add-clause-same
 returns-in-Err-add-clause-same c =
     λ n h s here.
     same_kept c.args.self.now (with_chain c.args.self.now c.args.i c.add.new.pool c.add.new.chain c.add.new.notes) c.args.key.now
-    (kept_with h c.args.self.now c.args.key.now c.args.i c.in-Some.chain.now c.add.new.chain c.add.new.pool c.add.new.notes s here (sym c.in-Some.ensures.value) c.add.ensures.others (λ kk. c.add.ensures.kept c.args.ts kk (c.look-look.ensures kk)) (λ vs. vs) c.in-Err-add.ensures.err)
+    (kept_with h c.args.self.now c.args.key.now c.args.i c.index_mut-chain.result.now c.add.new.chain c.add.new.pool c.add.new.notes s here c.index_mut-chain.ensures.value c.add.ensures.others (λ kk. c.add.ensures.kept c.args.ts kk (c.look-look.ensures kk)) (λ vs. vs) c.in-Err-add.ensures.err)
 
 pub returns-in-Ok-clause-puts : goal.returns-in-Ok-clause-puts
 returns-in-Ok-clause-puts c =
     λ done h s here u.
     let r = c.args.self.now in
-    let a = c.in-Some.chain.now in
+    let a = c.index_mut-chain.result.now in
     let value : Option (List ℕ) = option_map (λ v. v.items) c.args.value in
-    let k = s.chains.held.kept c.args.i a (sym c.in-Some.ensures.value) in
+    let k = s.chains.held.kept c.args.i a c.index_mut-chain.ensures.value in
     let vs = versions_of r.pool a in
     let verdict = looked_at _ c.look-look.result c.args.ts c.count-count.result _ (c.look-look.ensures k) c.in-Again.ensures in
-    puts_again h r (with_chain r c.args.i c.install_at.new.pool c.install_at.new.self r.notes) c.args.key.now c.args.i c.args.ts vs value u s here (ap (shown_in r.pool) c.in-Some.ensures.value)
-    (kept_with h r c.args.key.now c.args.i a c.install_at.new.self c.install_at.new.pool r.notes s here (sym c.in-Some.ensures.value) c.install_at.ensures.others (λ kk. c.install_at.ensures.kept c.args.ts kk (c.look-look.ensures kk))
+    puts_again h r (with_chain r c.args.i c.install_at.new.pool c.install_at.new.self r.notes) c.args.key.now c.args.i c.args.ts vs value u s here (ap (shown_in r.pool) (sym c.index_mut-chain.ensures.value))
+    (kept_with h r c.args.key.now c.args.i a c.install_at.new.self c.install_at.new.pool r.notes s here c.index_mut-chain.ensures.value c.install_at.ensures.others (λ kk. c.install_at.ensures.kept c.args.ts kk (c.look-look.ensures kk))
     (installed c.args.ts value) (λ kk. c.in-Ok.ensures.versions c.args.ts kk (c.look-look.ensures kk)))
     (again_is ((shows c.args.ts vs).from == c.args.ts) c.count-count.result (is_marked c.args.ts vs) verdict).1 refl
 
@@ -121,14 +121,14 @@ pub returns-in-Ok-add-clause-puts : goal.returns-in-Ok-add-clause-puts
 returns-in-Ok-add-clause-puts c =
     λ done h s here u.
     let r = c.args.self.now in
-    let a = c.in-Some.chain.now in
+    let a = c.index_mut-chain.result.now in
     let value : Option (List ℕ) = option_map (λ v. v.items) c.args.value in
-    let k = s.chains.held.kept c.args.i a (sym c.in-Some.ensures.value) in
+    let k = s.chains.held.kept c.args.i a c.index_mut-chain.ensures.value in
     let vs = versions_of r.pool a in
     let verdict = looked_at _ c.look-look.result c.args.ts c.count-count.result _ (c.look-look.ensures k) c.in-First.ensures in
     let at_ts : c.look-look.result.at ≡ c.args.ts = ap (λ (l : Look). l.at) (c.look-look.ensures k) in
     let lists = rw (c.in-Ok-from_slice.ensures, at_ts) at c.in-Ok-add.ensures.lists in
-    puts_first h r (with_chain r c.args.i c.add.new.pool c.add.new.chain c.add.new.notes) c.args.key.now c.args.i c.args.ts vs value u s here (ap (shown_in r.pool) c.in-Some.ensures.value)
-    (kept_with h r c.args.key.now c.args.i a c.add.new.chain c.add.new.pool c.add.new.notes s here (sym c.in-Some.ensures.value) c.add.ensures.others (λ kk. c.add.ensures.kept c.args.ts kk (c.look-look.ensures kk))
+    puts_first h r (with_chain r c.args.i c.add.new.pool c.add.new.chain c.add.new.notes) c.args.key.now c.args.i c.args.ts vs value u s here (ap (shown_in r.pool) (sym c.index_mut-chain.ensures.value))
+    (kept_with h r c.args.key.now c.args.i a c.add.new.chain c.add.new.pool c.add.new.notes s here c.index_mut-chain.ensures.value c.add.ensures.others (λ kk. c.add.ensures.kept c.args.ts kk (c.look-look.ensures kk))
     (installed c.args.ts value) (λ kk. c.in-Ok-add.ensures.versions c.args.ts kk (c.look-look.ensures kk)))
     (first_is ((shows c.args.ts vs).from == c.args.ts) c.count-count.result (is_marked c.args.ts vs) verdict).1 refl lists
