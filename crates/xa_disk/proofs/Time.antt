@@ -7,15 +7,12 @@ use Rattle.xa_disk.specs.declared.call.Call.{Call}
 use Rattle.xa_disk.specs.declared.call.Call.TheVariants.{Write, Sync}
 use Rattle.xa_disk.specs.declared.memory.MemDisk.{MemDisk}
 use Rattle.xa_disk.specs.Replay.{Now, after, replay, replay_more, at_first, IsImage, LeftSince}
-use Rattle.xa_disk.specs.Images.{seen_may_stay}
+use Rattle.xa_disk.specs.Images.{seen_may_stay, torn_same}
 use Rattle.xa_disk.specs.Memory.{start_of, Keeps, Wrote, Synced}
 
 abbrev Elapsed : (List ℕ → List ℕ → Type 0) → List ℕ → List Call → List ℕ → List Call → Type 0
 Elapsed step first calls first' calls' =
     Passes step (length calls) (length calls') (LeftSince first calls) (LeftSince first' calls') (IsImage (replay first calls)) (IsImage (replay first' calls'))
-
-pub torn_same : (at n : ℕ) (c : List ℕ) → Torn at n c c
-torn_same at n c = record { no_shorter = omega arith; no_longer = omega arith; below = λ i l b. refl; above = λ i l b. refl }
 
 none : (step : List ℕ → List ℕ → Type 0) → ((c : List ℕ) → step c c) → (first : List ℕ) (calls : List Call) → Elapsed step first calls first calls
 none step same first calls = record {

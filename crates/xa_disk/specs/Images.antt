@@ -1,5 +1,5 @@
--- Laws of the images that a crash of a disk in memory may leave, for the members of its trait. All of them are proved
--- here.
+-- Laws of the images that a crash of a disk in memory may leave, for the members of its trait, and of torn writes. All
+-- of them are proved here.
 use Rattle.std.specs.Prelude.{◌≡◌, ◌≤◌, ℕ, List, [], ◌∷◌, length, refl}
 use Rattle.std.proofs.Common.{arith, sym, subst}
 use Rattle.std.proofs.lemmas.List.{take_all, places}
@@ -10,7 +10,12 @@ use Rattle.xa_disk.specs.declared.call.Call.{Call}
 use Rattle.xa_disk.specs.declared.call.Call.TheVariants.{Write, Sync}
 use Rattle.xa_disk.specs.Replay.{Now, after, replay_from, at_first, replay, Reaches, IsImage, LeftSince}
 
--- a write has the effect that a torn one may have
+-- what a torn write may leave: all as it was
+pub torn_same : (at n : ℕ) (c : List ℕ) → Torn at n c c
+torn_same at n c =
+    record { no_shorter = omega arith; no_longer = omega arith; below = λ i l b. refl; above = λ i l b. refl }
+
+-- or all of the write's effect
 pub put_torn : (old : List ℕ) (at : ℕ) (bytes : List ℕ) → Torn at (length bytes) old (put old at bytes)
 put_torn old at bytes = record {
   no_shorter = search (rules, places);
@@ -42,10 +47,6 @@ only_now first calls c left = subst (λ l. IsImage (replay first l) c) (take_all
 pub stays_of : (first : List ℕ) (calls : List Call) (bytes : List ℕ)
     → bytes ≡ (replay first calls).seen → IsImage (replay first calls) bytes
 stays_of first calls bytes is = subst (λ b. IsImage (replay first calls) b) (sym is) (seen_may_stay first calls)
-
-torn_same : (at n : ℕ) (c : List ℕ) → Torn at n c c
-torn_same at n c =
-    record { no_shorter = omega arith; no_longer = omega arith; below = λ i l b. refl; above = λ i l b. refl }
 
 pub torn_by_nothing : (old : List ℕ) (at : ℕ) (bytes new : List ℕ) → new ≡ old → Torn at (length bytes) old new
 torn_by_nothing old at bytes new is =

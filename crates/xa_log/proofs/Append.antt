@@ -4,6 +4,7 @@ use Rattle.std.proofs.lemmas.List.{take_at, drop_at, take-take, take-replicate, 
 use Rattle.xa_disk.specs.Disk.{put, Torn, Only}
 use Rattle.xa_disk.specs.Time.{TimePasses, LeavesOnly}
 use Rattle.xa_disk.specs.declared.disk.Disk.{Ghosts}
+use Rattle.xa_disk.specs.Images.{torn_same, put_torn}
 use Rattle.xa_log.specs.Chain.{start, last, text, IsBody, digest, record_of, closed_by, closed_record, Rests, IsBeforeOrAfter}
 use Rattle.xa_log.specs.declared.format.Format.{Format}
 use Rattle.xa_log.specs.Ahead.{ready, appended}
@@ -14,7 +15,7 @@ use Rattle.xa_log.specs.declared.appending.Appended.TheVariants.{Kept, Refused, 
 use Rattle.xa_log.specs.declared.log.Log.{Log}
 use Rattle.xa_log.proofs.Records.{length-record_of, text_more, last_more, rests_more, closed_zeros, plain_front}
 use Rattle.xa_log.proofs.Again.{no_fault}
-use Rattle.xa_log.proofs.Torn.{torn_same, torn_then, torn_front, put_torn, put_within}
+use Rattle.xa_log.proofs.Torn.{torn_then, torn_front, put_within}
 
 pub length-closed_by : (more : ℕ) (prev body : List ℕ) → length (closed_by more prev body) ≡ 4 + (36 + length body + more)
 length-closed_by more prev body = omega (arith, length-append (record_of prev body ++ 0 ∷ 0 ∷ 0 ∷ 0 ∷ []) (replicate {A = ℕ} more 0), length-append (record_of prev body) (0 ∷ 0 ∷ 0 ∷ 0 ∷ []), length-record_of prev body, length-replicate {A = ℕ} more 0)

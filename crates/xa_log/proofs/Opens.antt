@@ -4,6 +4,7 @@ use Rattle.std.proofs.lemmas.Bool.{cases_Bool, and_parts, and_from, or_left, or_
 use Rattle.std.proofs.lemmas.Bool.Decides.{nat_tests}
 use Rattle.xa_disk.specs.Disk.{Only}
 use Rattle.xa_disk.specs.declared.disk.Disk.{Ghosts}
+use Rattle.xa_disk.specs.Images.{torn_same}
 use Rattle.xa_log.specs.declared.fault.OpenFault.TheVariants.{NotALog, TooNew, TooLong}
 use Rattle.xa_log.specs.declared.log.Log.{Log}
 use Rattle.xa_log.specs.declared.reading.Scan.{Scan}
@@ -17,7 +18,6 @@ use Rattle.xa_log.specs.TwoFiles.{Pair, IsOpenPair, NoStray}
 use Rattle.xa_log.specs.Laws.{OpenedLaw}
 use Rattle.xa_log.proofs.Records.{record_to, rests_logged}
 use Rattle.xa_log.proofs.Pair.{beats_nil}
-use Rattle.xa_log.proofs.Torn.{torn_same}
 
 -- of two files without a fault
 pub record Sound (most : ℕ) (a b : List ℕ) : Type 0 where

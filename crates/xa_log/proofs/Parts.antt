@@ -5,6 +5,7 @@ use Rattle.std.specs.Int.{w32, to_be_bytes}
 use Rattle.xa_disk.specs.Disk.{put, Torn, Only, AllOrNone}
 use Rattle.xa_disk.specs.Time.{TimePasses, LeavesOnly}
 use Rattle.xa_disk.specs.declared.disk.Disk.{Ghosts}
+use Rattle.xa_disk.specs.Images.{torn_same, put_torn}
 use Rattle.xa_log.specs.declared.format.Format.{Format}
 use Rattle.xa_log.specs.Chain.{magic, start, preamble, format_of, format_in, records, IsBody, Rests, logged, is_record, body_at, rest_at, digest_at, bodies_from}
 use Rattle.xa_log.specs.Reading.{is_newer}
@@ -15,7 +16,7 @@ use Rattle.xa_log.specs.Pair.{has_log, IsCalm, Behind}
 use Rattle.xa_log.specs.Checkpoint.{behind_front, first_length, IsReady, IsOther, IsQuiet, LeavesOf, LeavesNone, LeavesAny, SealTears, Checkpointed}
 use Rattle.std.proofs.lemmas.List.{take_at}
 use Rattle.xa_log.proofs.Records.{length-magic, record_to, bodies_closed, closed_zeros, rests_logged}
-use Rattle.xa_log.proofs.Torn.{torn_same, torn_front, put_within, put_torn}
+use Rattle.xa_log.proofs.Torn.{torn_front, put_within}
 use Rattle.xa_log.proofs.Header.{length-preamble, header_magic, header_split, header_closed, header_whole, magic_known}
 use Rattle.xa_log.proofs.Again.{format_magic}
 use Rattle.xa_log.proofs.Pair.{calm_front}

@@ -5,13 +5,14 @@ use Rattle.std.proofs.lemmas.List.{ext_get_or, get_or-drop}
 use Rattle.xa_disk.specs.Disk.{put, Torn}
 use Rattle.xa_disk.specs.Time.{TimePasses, LeavesOnly}
 use Rattle.xa_disk.specs.declared.disk.Disk.{Ghosts}
+use Rattle.xa_disk.specs.Images.{put_torn}
 use Rattle.xa_log.specs.declared.format.Format.{Format}
 use Rattle.xa_log.specs.Chain.{magic, start, preamble, last, text, records, headed, Rests}
 use Rattle.xa_log.specs.Answers.{Fell}
 use Rattle.xa_log.specs.Pair.{IsCalm, Behind, CalmTears}
 use Rattle.xa_log.specs.Checkpoint.{behind_front, first_length, IsReady, IsOther, LeavesOf}
 use Rattle.xa_log.proofs.Records.{closed_zeros, rests_logged}
-use Rattle.xa_log.proofs.Torn.{torn_front, put_within, put_torn}
+use Rattle.xa_log.proofs.Torn.{torn_front, put_within}
 use Rattle.xa_log.proofs.Header.{length-preamble, header_magic, header_rest, put_header}
 use Rattle.xa_log.proofs.Pair.{calm_front, calm_logged, behind_torn}
 

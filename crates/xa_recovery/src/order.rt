@@ -7,18 +7,16 @@ ghost use Rattle.xa_model.specs.Fold.{fits, is_new, is_unknown, is_used, is_empt
 ghost use Rattle.xa_recovery.specs.Rebuilding.{InEach};
 
 use crate::rebuilding::Rebuilding;
+use xa_model::BOOT_TIMESTAMPS;
 use xa_record::Record;
 use xa_xid::Xid;
-
-/// How many timestamps a boot's number makes room for.
-const BOOT: u64 = 4294967296;
 
 /// Whether the timestamp is one that a boot below this one gave.
 fn is_past(boot: u32, timestamp: u64) -> bool
     ensures { result ≡ is_past boot timestamp }
 {
-    let of = timestamp / BOOT;
-    1 <= of && of < u64::from(boot) && timestamp % BOOT != 0
+    let of = timestamp / BOOT_TIMESTAMPS;
+    1 <= of && of < u64::from(boot) && timestamp % BOOT_TIMESTAMPS != 0
 }
 
 /// The order in which records may stand.
@@ -45,8 +43,8 @@ impl Rebuilding {
         ensures { InEach self.now (λ x. result ≡ is_new xid.now timestamp x) }
     {
         1 <= self.boot
-            && timestamp / BOOT == u64::from(self.boot)
-            && timestamp % BOOT != 0
+            && timestamp / BOOT_TIMESTAMPS == u64::from(self.boot)
+            && timestamp % BOOT_TIMESTAMPS != 0
             && !self.is_used(timestamp)
             && self.is_unknown(xid)
     }

@@ -1,9 +1,9 @@
 use Rattle.std.proofs.Common.{◌≡◌, List, ℕ, length, subst, ap, ◌∙◌}
 use Rattle.xa_disk.specs.Disk.{put, Torn}
 use Rattle.xa_disk.specs.Time.{TimePasses}
+use Rattle.xa_disk.specs.Images.{torn_same}
 use Rattle.xa_log.specs.Chain.{preamble}
 use Rattle.xa_log.specs.Answers.{Fell}
-use Rattle.xa_log.proofs.Torn.{torn_same}
 use Rattle.xa_log.proofs.Header.{length-preamble, put_header}
 use Rattle.xa_log.proofs.Ready.{map_ok, map_err, leaves_by, fell_calm, other_torn, front_leaves}
 use Rattle.xa_log.proofs.checkpointing.put_front.Goals as goal

@@ -1,10 +1,11 @@
 use Rattle.std.proofs.Common.{rules, ◌≡◌, ◌+◌, ◌-◌, ◌<◌, ◌^◌, ◌++◌, ◌∷◌, [], List, ℕ, length, take, drop, sym, ◌∙◌, ap, subst, arith}
 use Rattle.std.proofs.lemmas.List.{append-nil, length-take}
 use Rattle.xa_disk.specs.Disk.{put, Torn}
+use Rattle.xa_disk.specs.Images.{torn_same}
 use Rattle.xa_log.specs.Chain.{start, last, records}
 use Rattle.xa_log.specs.Checkpoint.{records_bytes}
 use Rattle.xa_log.specs.Reading.{bodies_of}
-use Rattle.xa_log.proofs.Torn.{torn_same, torn_then, then, stays}
+use Rattle.xa_log.proofs.Torn.{torn_then, then, stays}
 use Rattle.xa_log.proofs.Steps.{Item, item_in, item_last, last_all, torn_step, time_step, seen_step, digest_step, end_step}
 use Rattle.xa_log.proofs.Counted.{one_more, failed_write, failed_sync, all_synced}
 use Rattle.xa_log.proofs.Parts.{during}

@@ -1,6 +1,6 @@
 use Rattle.std.proofs.Common.{◌≡◌, List, ℕ, length, subst, ap}
 use Rattle.xa_disk.specs.Disk.{Torn, Passes}
-use Rattle.xa_log.proofs.Torn.{torn_same}
+use Rattle.xa_disk.specs.Images.{torn_same}
 use Rattle.xa_log.proofs.Ready.{leaves_by, seal_leaves}
 use Rattle.xa_log.proofs.checkpointing.put_seal.Goals as goal
 
