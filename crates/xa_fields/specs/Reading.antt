@@ -50,5 +50,6 @@ name_at bytes = named bytes (xid_at bytes)
 
 -- what is read is spelled there and within the limits; what is within them and spelled is read
 pub record ReadsBack (A : Type 0) (at : Reads A) (spell : A → List ℕ) (fits : A → Type 0) : Type 0 where
-  pub found : (bytes : List ℕ) (x : A) (rest : List ℕ) → AreBytes bytes → at bytes ≡ Ok (x, rest) → (bytes ≡ spell x ++ rest) × fits x
+  pub found : (bytes : List ℕ) (x : A) (rest : List ℕ) → AreBytes bytes → at bytes ≡ Ok (x, rest)
+      → (bytes ≡ spell x ++ rest) × fits x
   pub again : (x : A) (rest : List ℕ) → fits x → at (spell x ++ rest) ≡ Ok (x, rest)

@@ -6,7 +6,8 @@ ghost use Rattle.xa_fields.specs.Spelling.{short_bytes, value_bytes, direction_b
 ghost use Rattle.xa_xid.specs.Spelling.{bytes_of};
 ghost use Rattle.xa_xid.specs.Triple.{Triple, IsWithinLimits};
 
-/// A field that is read is spelled there and within its limits, and one within them that is spelled is read. It does nothing.
+/// A field that is read is spelled there and within its limits, and one within them that is spelled is read. It does
+/// nothing.
 pub fn one_field()
     ensures short { ReadsBack (List ℕ) short_at short_bytes IsShort }
     ensures key { ReadsBack (List ℕ) key_at short_bytes IsKey }

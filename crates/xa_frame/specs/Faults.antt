@@ -134,4 +134,5 @@ fault_of_request bytes = fault_unless_long fault_of_operation bytes
 
 -- the fault of a reply's content, or none: code, detail, place, body
 abbrev pub fault_of_reply : List ℕ → Option FrameFault
-fault_of_reply bytes = fault_unless_long (fault_in (after_bytes 4 ∷ after_detail ∷ after_bytes 8 ∷ after_body ∷ [])) bytes
+fault_of_reply bytes =
+    fault_unless_long (fault_in (after_bytes 4 ∷ after_detail ∷ after_bytes 8 ∷ after_body ∷ [])) bytes

@@ -16,12 +16,15 @@ use Rattle.xa_frame.specs.Made.{bad_frame}
 -- the numbers of the operations, the details and the directions, and numbers that none has
 abbrev pub HasNumbers : Type 0
 HasNumbers =
-    (map operation (call.Open ∷ call.Close ∷ call.Start ∷ call.End ∷ call.Prepare ∷ call.Commit ∷ call.Rollback ∷ call.Recover ∷ [])
+    (map operation
+    (call.Open ∷ call.Close ∷ call.Start ∷ call.End ∷ call.Prepare ∷ call.Commit ∷ call.Rollback ∷ call.Recover ∷ [])
     ≡ 1 ∷ 2 ∷ 3 ∷ 4 ∷ 5 ∷ 6 ∷ 7 ∷ 8 ∷ [])
     × (map operation (call.Forget ∷ call.Get ∷ call.Put ∷ call.Delete ∷ call.Decide ∷ call.Doom ∷ call.Restart ∷ [])
     ≡ 9 ∷ 10 ∷ 11 ∷ 12 ∷ 13 ∷ 14 ∷ 15 ∷ [])
     × (map numbered (0 ∷ 1 ∷ 15 ∷ 16 ∷ []) ≡ None ∷ Some call.Open ∷ Some call.Restart ∷ None ∷ [])
-    × (map detail_byte (detail.Nothing ∷ detail.Memory ∷ detail.Device ∷ detail.Busy ∷ detail.Late ∷ detail.Limit ∷ detail.Frame ∷ detail.LogFull ∷ [])
+    × (map detail_byte
+    (detail.Nothing ∷ detail.Memory ∷ detail.Device ∷ detail.Busy ∷ detail.Late ∷ detail.Limit ∷ detail.Frame
+    ∷ detail.LogFull ∷ [])
     ≡ 0 ∷ 1 ∷ 2 ∷ 3 ∷ 4 ∷ 5 ∷ 6 ∷ 7 ∷ [])
     × (map detail_numbered (0 ∷ 7 ∷ 8 ∷ []) ≡ Some detail.Nothing ∷ Some detail.LogFull ∷ None ∷ [])
     × (map direction_byte (direction.Commit ∷ direction.Rollback ∷ []) ≡ 1 ∷ 2 ∷ [])

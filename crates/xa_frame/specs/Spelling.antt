@@ -39,8 +39,8 @@ operation call.Restart = 15
 
 abbrev pub calls : List Call
 calls =
-    call.Open ∷ call.Close ∷ call.Start ∷ call.End ∷ call.Prepare ∷ call.Commit ∷ call.Rollback ∷ call.Recover ∷ call.Forget
-    ∷ call.Get ∷ call.Put ∷ call.Delete ∷ call.Decide ∷ call.Doom ∷ call.Restart ∷ []
+    call.Open ∷ call.Close ∷ call.Start ∷ call.End ∷ call.Prepare ∷ call.Commit ∷ call.Rollback ∷ call.Recover
+    ∷ call.Forget ∷ call.Get ∷ call.Put ∷ call.Delete ∷ call.Decide ∷ call.Doom ∷ call.Restart ∷ []
 
 -- the call with this number
 abbrev pub numbered : ℕ → Option Call
@@ -96,7 +96,8 @@ detail_byte detail.LogFull = 7
 
 abbrev pub details : List Detail
 details =
-    detail.Nothing ∷ detail.Memory ∷ detail.Device ∷ detail.Busy ∷ detail.Late ∷ detail.Limit ∷ detail.Frame ∷ detail.LogFull ∷ []
+    detail.Nothing ∷ detail.Memory ∷ detail.Device ∷ detail.Busy ∷ detail.Late ∷ detail.Limit ∷ detail.Frame
+    ∷ detail.LogFull ∷ []
 
 -- the detail with this number
 abbrev pub detail_numbered : ℕ → Option Detail
@@ -116,7 +117,8 @@ body_bytes (body.Xids xids) = 4 ∷ xids_bytes xids
 -- the version, the code in two's complement, the detail, the place, the body
 abbrev pub bytes_of_reply : Reply → List ℕ
 bytes_of_reply r =
-    1 ∷ (to_be_bytes w32 (cast_unsigned w32 r.code) ++ (detail_bytes r.detail ++ (to_be_bytes w64 r.place ++ body_bytes r.body)))
+    1 ∷ (to_be_bytes w32 (cast_unsigned w32 r.code)
+    ++ (detail_bytes r.detail ++ (to_be_bytes w64 r.place ++ body_bytes r.body)))
 
 -- these bytes are the content of this request
 pub record SpellsRequest (bytes : List ℕ) (r : Request) : Type 0 where

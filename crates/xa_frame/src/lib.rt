@@ -12,13 +12,14 @@
 //!
 //! - `numbers`: the numbers that stand for calls and details; `Request::call`
 //! - `encode`: `encode_request` and `encode_reply`, of values within the limits
-//! - `fields`: what a content is made of, read from the front: numbers, codes, details; keys, values and XIDs are `xa_fields`'
+//! - `fields`: what a content is made of, read from the front: numbers, codes, details; keys, values and XIDs are
+//!   `xa_fields`'
 //! - `request_decoder`: `decode_request`; `reply_decoder`: `decode_reply`
 //! - `fault`: `FrameFault`, the first fault of a content, read from left to right
 //! - `laws`: `one_request` and `one_reply`, one value and one content; `worked_contents`, worked rows
 //!
-//! A content is what stands in a frame behind its length; that one is `xa_desk`'s. docs/PROTOCOL.md has the format, from
-//! "Frames" on.
+//! A content is what stands in a frame behind its length; that one is `xa_desk`'s. docs/PROTOCOL.md has the format,
+//! from "Frames" on.
 #![tactic(auto)]
 
 mod body;

@@ -1,4 +1,5 @@
--- The flags of a word: `TMNOFLAGS`, or names of flags joined by bars, each at most once, or hexadecimal digits behind 0x.
+-- The flags of a word: `TMNOFLAGS`, or names of flags joined by bars, each at most once, or hexadecimal digits behind
+-- 0x.
 use Rattle.std.specs.Prelude.{ℕ, ◌+◌, ◌*◌, ◌==◌, ◌&&◌, nat_le, nat_eq, bit_and, bit_or, if◌then◌else◌, bytes_eq, codes}
 use Rattle.std.specs.Prelude.{List, [], ◌∷◌, length, drop, find, Option, Some, None, option_and_then}
 use Rattle.std.specs.Option.{option_map}
@@ -30,7 +31,9 @@ flag_of name = option_map (λ entry. entry.1) (find (λ entry. bytes_eq entry.0 
 abbrev pub joined_from : ℕ → List (List ℕ) → Option ℕ
 joined_from flags [] = Some flags
 joined_from flags (name ∷ names) =
-    option_and_then (λ flag. if bit_and flags flag == 0 then joined_from (bit_or flags flag) names else None) (flag_of name)
+    option_and_then
+    (λ flag. if bit_and flags flag == 0 then joined_from (bit_or flags flag) names else None)
+    (flag_of name)
 
 -- a number with more digits behind it
 abbrev pub bits_from : ℕ → List ℕ → Option ℕ

@@ -18,4 +18,5 @@ byte_of high low = option_and_then (λ h. option_map (λ l. 16 * h + l) (digit_o
 abbrev pub bytes_of : List ℕ → Option (List ℕ)
 bytes_of [] = Some []
 bytes_of (high ∷ []) = None
-bytes_of (high ∷ low ∷ digits) = option_and_then (λ byte. option_map (λ bytes. byte ∷ bytes) (bytes_of digits)) (byte_of high low)
+bytes_of (high ∷ low ∷ digits) =
+    option_and_then (λ byte. option_map (λ bytes. byte ∷ bytes) (bytes_of digits)) (byte_of high low)

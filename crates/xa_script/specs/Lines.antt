@@ -2,7 +2,7 @@
 use Rattle.std.specs.Prelude.{ℕ, ◌==◌, Bool, true, if◌then◌else◌, bytes_eq, codes}
 use Rattle.std.specs.Prelude.{List, [], ◌∷◌, Option, Some, None, option_and_then, unwrap_or}
 use Rattle.std.specs.Option.{option_map}
-use Rattle.xa_script.specs.Parts.{alone, two_of, words}
+use Rattle.xa_script.specs.Parts.{alone, by_two, words}
 use Rattle.xa_script.specs.Numbers.{call_number_of, number_of}
 use Rattle.xa_script.specs.Requests.{verb_of, request_of}
 use Rattle.xa_script.specs.declared.call_effect.CallEffect.{CallEffect}
@@ -41,10 +41,7 @@ effect_of word =
 
 -- a device call of that file's disk, and its effect
 abbrev pub fail_of : LogFile → List (List ℕ) → Option Line
-fail_of file words =
-    option_and_then
-    (λ w. option_and_then (λ call. option_map (λ effect. Fail file call effect) (effect_of w.1)) (call_number_of w.0))
-    (two_of words)
+fail_of file words = by_two call_number_of effect_of (λ call effect. Fail file call effect) words
 
 -- what the words behind `fail` ask: of the current log file, or behind one word more of the other one
 abbrev pub fail_by : List (List ℕ) → Option Line
@@ -54,19 +51,26 @@ fail_by (word ∷ words) = if bytes_eq word (codes "other") then fail_of Other w
 -- over what reads the texts of XIDs
 module _ (xid_of : List ℕ → Option Triple) where
   abbrev pub call_of : ℕ → List ℕ → List (List ℕ) → Option Line
-  call_of n name arguments = option_and_then (λ v. option_map (λ request. Call n request) (request_of xid_of v arguments)) (verb_of name)
+  call_of n name arguments =
+      option_and_then
+      (λ v. option_map (λ request. Call n request) (request_of xid_of v arguments))
+      (verb_of name)
 
   -- what a session's number says, and the words behind it
   abbrev pub asked_of : List ℕ → List (List ℕ) → Option Line
   asked_of session [] = None
   asked_of session (name ∷ arguments) =
-      option_and_then (λ n. if bytes_eq name (codes "hangup") then alone (Hangup n) arguments else call_of n name arguments) (number_of session)
+      option_and_then
+      (λ n. if bytes_eq name (codes "hangup") then alone (Hangup n) arguments else call_of n name arguments)
+      (number_of session)
 
   abbrev pub by_words : List (List ℕ) → Line
   by_words [] = Unknown
   by_words (word ∷ []) = sole_of word
   by_words (first ∷ second ∷ others) =
-      unwrap_or (if bytes_eq first (codes "fail") then fail_by (second ∷ others) else asked_of first (second ∷ others)) Unknown
+      unwrap_or
+      (if bytes_eq first (codes "fail") then fail_by (second ∷ others) else asked_of first (second ∷ others))
+      Unknown
 
   abbrev pub line_of : List ℕ → Line
   line_of line = if is_silent line then Silent else by_words (words line)

@@ -1,6 +1,7 @@
 -- The parts of a text between its separators.
-use Rattle.std.specs.Prelude.{ℕ, ◌==◌, List, [], ◌∷◌, Option, Some, None}
+use Rattle.std.specs.Prelude.{ℕ, ◌==◌, List, [], ◌∷◌, Option, Some, None, option_and_then}
 use Rattle.std.specs.List.{slice_split}
+use Rattle.std.specs.Option.{option_map}
 
 -- the parts of a text, of which the separators are cut away
 abbrev pub parts : ℕ → List ℕ → List (List ℕ)
@@ -32,3 +33,11 @@ one_of _ = None
 abbrev pub two_of : List (List ℕ) → Option (List ℕ × List ℕ)
 two_of (first ∷ second ∷ []) = Some (first, second)
 two_of _ = None
+
+-- what is asked by two words, each of which is read by itself
+abbrev pub by_two : {A B X : Type 0} → (List ℕ → Option A) → (List ℕ → Option B) → (A → B → X) → List (List ℕ)
+    → Option X
+by_two first_read second_read asked words =
+    option_and_then
+    (λ w. option_and_then (λ a. option_map (λ b. asked a b) (second_read w.1)) (first_read w.0))
+    (two_of words)

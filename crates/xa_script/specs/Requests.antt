@@ -6,7 +6,7 @@ use Rattle.std.specs.List.{list_all}
 use Rattle.xa_script.specs.Flags.{flags_of}
 use Rattle.xa_script.specs.Hexadecimal.{bytes_of}
 use Rattle.xa_script.specs.Numbers.{count_of}
-use Rattle.xa_script.specs.Parts.{alone, one_of, two_of}
+use Rattle.xa_script.specs.Parts.{alone, one_of, two_of, by_two}
 use Rattle.xa_script.specs.declared.verb.Verb.{Verb}
 use Rattle.xa_script.specs.declared.verb.Verb.TheVariants as verb
 use Rattle.xa_codes.specs.declared.direction.Direction.{Direction}
@@ -63,7 +63,9 @@ value_of word =
 -- what the words behind `open` ask
 abbrev pub open_by : List (List ℕ) → Option Request
 open_by words =
-    option_and_then (λ w. if is_name w.1 then option_map (λ flags. Open flags w.1) (flags_of w.0) else None) (two_of words)
+    option_and_then
+    (λ w. if is_name w.1 then option_map (λ flags. Open flags w.1) (flags_of w.0) else None)
+    (two_of words)
 
 -- what the words behind `close` ask
 abbrev pub close_by : List (List ℕ) → Option Request
@@ -71,8 +73,7 @@ close_by words = option_map (λ flags. Close flags) (option_and_then flags_of (o
 
 -- what the words behind `recover` ask
 abbrev pub recover_by : List (List ℕ) → Option Request
-recover_by words =
-    option_and_then (λ w. option_and_then (λ flags. option_map (λ count. Recover flags count) (count_of w.1)) (flags_of w.0)) (two_of words)
+recover_by words = by_two flags_of count_of (λ flags count. Recover flags count) words
 
 -- what the words behind `get` ask
 abbrev pub get_by : List (List ℕ) → Option Request
@@ -84,8 +85,7 @@ delete_by words = option_map (λ key. Delete key) (option_and_then key_of (one_o
 
 -- what the words behind `put` ask
 abbrev pub put_by : List (List ℕ) → Option Request
-put_by words =
-    option_and_then (λ w. option_and_then (λ key. option_map (λ value. Put key value) (value_of w.1)) (key_of w.0)) (two_of words)
+put_by words = by_two key_of value_of (λ key value. Put key value) words
 
 abbrev pub direction_of : List ℕ → Option Direction
 direction_of word =
@@ -102,13 +102,11 @@ pub record ReadsTexts (xid_of : List ℕ → Option Triple) : Type 0 where
 module _ (xid_of : List ℕ → Option Triple) where
   -- flags and an XID
   abbrev pub branch_pair : List (List ℕ) → Option (ℕ × Triple)
-  branch_pair words =
-      option_and_then (λ w. option_and_then (λ flags. option_map (λ xid. (flags, xid)) (xid_of w.1)) (flags_of w.0)) (two_of words)
+  branch_pair words = by_two flags_of xid_of (λ flags xid. (flags, xid)) words
 
   -- what the words behind `decide` ask
   abbrev pub decide_by : List (List ℕ) → Option Request
-  decide_by words =
-      option_and_then (λ w. option_and_then (λ d. option_map (λ xid. Decide d xid) (xid_of w.1)) (direction_of w.0)) (two_of words)
+  decide_by words = by_two direction_of xid_of (λ direction xid. Decide direction xid) words
 
   -- what the words behind `doom` ask
   abbrev pub doom_by : List (List ℕ) → Option Request
