@@ -8,8 +8,8 @@ use Rattle.xa_assoc.proofs.Companies.{come_company}
 use Rattle.xa_assoc.proofs.Connecting.{IsFirst, done, connect_number, connect_follows, none_is_full, fewer}
 use Rattle.xa_assoc.proofs.sessions.Sessions.connect.Goals as goal
 
-pub returns-in_default-clause-full : goal.returns-in_default-clause-full
-returns-in_default-clause-full c = λ is s st.
+pub returns-in_default-2-clause-full : goal.returns-in_default-2-clause-full
+returns-in_default-2-clause-full c = λ is s st.
     let free : connect_refusal (length c.args.self.now.seats.entries) ≡ None = grind (arith, c.connect_refusal.ensures.value, c.len.ensures.len, nothing c.connect_refusal.result) in
     absurd (none_is_full c.args.self.now s st (fewer (length c.args.self.now.seats.entries) free) c.in_default.ensures.none)
 
