@@ -45,7 +45,7 @@ found_passes q (x ∷ bs) b h = passes_by q x b (find q bs) (q x) refl h (found_
 pub record IsHere (s : State) (xid : Triple) : Type 0 where
   pub branch : Branch
   pub at : known_of s.branches xid ≡ Some branch
-  pub open_ : fate_of branch.phase ≡ None
+  pub undecided : fate_of branch.phase ≡ None
 
 named_open : (xid : Triple) (p : Phase) → is_with xid (name_of p) ≡ true → fate_of p ≡ None
 named_open xid (Working x mark) e = refl
@@ -54,7 +54,7 @@ named_open xid Committed e = absurd (cc e)
 
 pub here_by : (s : State) (xid : Triple) (o : Option Branch) → known_of s.branches xid ≡ o → IsSome o → IsHere s xid
 here_by s xid None e h = absurd (cc h)
-here_by s xid (Some b) e h = record { branch = b; at = e; open_ = named_open xid b.phase (found_passes (is_known_as xid) s.branches b e) }
+here_by s xid (Some b) e h = record { branch = b; at = e; undecided = named_open xid b.phase (found_passes (is_known_as xid) s.branches b e) }
 
 -- what settling its writes comes to
 abbrev pub Settles : ℕ → Fate → Records → Records → Type 0
@@ -65,8 +65,8 @@ decided_at : (s : State) (xid : Triple) (t : ℕ) (fate : Fate) (r r' : Records)
 decided_at s xid t fate r r' sound x time st settles =
     let b = x.branch in
     let is : t ≡ b.timestamp = time ∙ ap timestamp_by x.at in
-    let open_ : IsUndecided b.timestamp (writes_in s.branches) = (at_work xid b (timestamp_of s.boot s.given + 1) s.branches sound.descends x.at x.open_).open_ in
-    let here : IsUndecided t (writes_in s.branches) = subst (λ (u : ℕ). IsUndecided u (writes_in s.branches)) (sym is) open_ in
+    let undecided : IsUndecided b.timestamp (writes_in s.branches) = (at_work xid b (timestamp_of s.boot s.given + 1) s.branches sound.descends x.at x.undecided).all_undecided in
+    let here : IsUndecided t (writes_in s.branches) = subst (λ (u : ℕ). IsUndecided u (writes_in s.branches)) (sym is) undecided in
     subst (λ (u : ℕ). RecordsStandFor (record { low = low_of s; writes = decided u fate (writes_in s.branches); reads = map read_as s.reads }) r') is (settles (history_of s) st here)
 
 pub committed_records : (s : State) (xid : Triple) (t : ℕ) (r r' : Records) → IsSound s → IsSome (known_of s.branches xid) → t ≡ timestamp_in s xid → RecordsStandFor (history_of s) r → Settles t kept r r'

@@ -139,9 +139,9 @@ told_writes m s xid t ws st known time told =
     let b = x.branch in
     let limit = timestamp_of s.boot s.given + 1 in
     let is : t ≡ b.timestamp = time ∙ ap timestamp_by x.at in
-    let open_ : IsUndecided b.timestamp (writes_among s.branches) = (among xid b limit s.branches st.recoverable.sound.descends x.at x.open_).open_ in
+    let undecided : IsUndecided b.timestamp (writes_among s.branches) = (among xid b limit s.branches st.recoverable.sound.descends x.at x.undecided).all_undecided in
     let listed : IsWritesOf b.timestamp (writes_among s.branches) ws =
-    subst (λ (u : ℕ). IsWritesOf u (writes_among s.branches) ws) is (told (history_of s) st.records (subst (λ (u : ℕ). IsUndecided u (writes_among s.branches)) (sym is) open_)) in
+    subst (λ (u : ℕ). IsWritesOf u (writes_among s.branches) ws) is (told (history_of s) st.records (subst (λ (u : ℕ). IsUndecided u (writes_among s.branches)) (sym is) undecided)) in
     listed_writes xid b limit s.branches ws st.recoverable.sound.descends x.at listed ∙ ap writes_by (sym x.at)
 
 -- timestamps have 64 bits
