@@ -8,7 +8,7 @@ use Rattle.xa_xid.specs.Triple.{Triple}
 use Rattle.xa_record.specs.Spelling.{spelled}
 use Rattle.xa_record.specs.declared.record.Record.{Record}
 use Rattle.xa_model.specs.declared.outcome.Appending.{Appending}
-use Rattle.xa_model.specs.declared.outcome.Appending.TheVariants.{View as WasKept}
+use Rattle.xa_model.specs.declared.outcome.Appending.TheVariants.{Kept as WasKept}
 use Rattle.xa_model.specs.State.{State, Branch, Decided, Phase, Working, Prepared, Committed, Up, Known, Unknown, AtWork, InDoubt, Completed, count, known_of, known_as, known_by, known_among, or_completed, decided_of, is_known_as}
 use Rattle.xa_model.specs.Answer.{plain, answer}
 use Rattle.xa_model.specs.Associations.{is_unknown, is_lasting, mark_in}

@@ -33,7 +33,7 @@ use Rattle.xa_model.proofs.Rows.{passed, neither, at_work}
 use Rattle.xa_model.proofs.Times.{known_below}
 use Rattle.xa_model.proofs.ShortWrites.{are_writes}
 use Rattle.xa_model.specs.declared.outcome.Appending.{Appending}
-use Rattle.xa_model.specs.declared.outcome.Appending.TheVariants.{View as WasKept, Refused, Lost}
+use Rattle.xa_model.specs.declared.outcome.Appending.TheVariants.{Kept as WasKept, Refused, Lost}
 use Rattle.xa_manager.specs.Turns.{reply_to}
 use Rattle.xa_manager.specs.View.{View}
 use Rattle.xa_manager.specs.Stands.{StandsFor, StandsDown}

@@ -11,7 +11,7 @@ use Rattle.xa_log.specs.declared.log.Log.{Log}
 use Rattle.xa_model.specs.declared.event.Event.{Event}
 use Rattle.xa_model.specs.declared.outcome.Outcome.{Outcome}
 use Rattle.xa_model.specs.declared.outcome.Appending.{Appending}
-use Rattle.xa_model.specs.declared.outcome.Appending.TheVariants.{View, Refused, Lost}
+use Rattle.xa_model.specs.declared.outcome.Appending.TheVariants.{Kept, Refused, Lost}
 use Rattle.xa_model.specs.State.{State, Standing, Up}
 use Rattle.xa_model.specs.Answer.{Answer, ok}
 use Rattle.xa_model.specs.Turn.{Turn, Nobody, Now, Appends, Rereads, Asked, taken}
@@ -115,10 +115,10 @@ module _ {D : Type 0} (disks : Ghosts D) where
 
   -- the log behind the state, after an append
   log_after : (log log' : Log D) (s t : State) (r : Record) (a : Appending) → s.open_record ≡ None → is_boot r ≡ false → HasAppended disks (spelled r) a log log' → disks.honest
-      → (a ≡ View → t.open_record ≡ None) → (a ≡ Refused → t.open_record ≡ None) → (a ≡ Lost → t.open_record ≡ Some r)
-      → (a ≡ View → (rs : List Record) → Backs rs s → Backs (rs ++ r ∷ []) t) → (a ≡ Refused → (rs : List Record) → Backs rs s → Backs rs t) → (a ≡ Lost → (rs : List Record) → Backs rs s → Backs rs t)
+      → (a ≡ Kept → t.open_record ≡ None) → (a ≡ Refused → t.open_record ≡ None) → (a ≡ Lost → t.open_record ≡ Some r)
+      → (a ≡ Kept → (rs : List Record) → Backs rs s → Backs (rs ++ r ∷ []) t) → (a ≡ Refused → (rs : List Record) → Backs rs s → Backs rs t) → (a ≡ Lost → (rs : List Record) → Backs rs s → Backs rs t)
       → LogStandsFor disks log s → LogStandsFor disks log' t
-  log_after log log' s t r View none boot h disk ok_ refused_ lost_ backs bref blost l =
+  log_after log log' s t r Kept none boot h disk ok_ refused_ lost_ backs bref blost l =
       let here : HasRecords disks l.records log = subst (λ (o : Option Record). HasRecordsOf disks l.records s o log) none l.has in
       let there : Pair disks (map spelled l.records ++ spelled r ∷ []) here.0 log' = h.pair disk (map spelled l.records) here.0 here.1 in
       record {
@@ -210,32 +210,32 @@ module _ {D : Type 0} (disks : Ghosts D) where
   -- the manager after an append
 
   end_after : (log log' : Log D) (s t : State) (r : Record) (a : Appending) → log.end ≡ s.end → HasAppended disks (spelled r) a log log'
-      → (a ≡ View → t.end ≡ s.end + (36 + length (spelled r))) → (a ≡ Refused → t.end ≡ s.end) → up_after a ≡ true → log'.end ≡ t.end
-  end_after log log' s t r View same h ok_ refused_ up = h.moves.0 ∙ ap (λ (n : ℕ). n + (36 + length (spelled r))) same ∙ sym (ok_ refl)
+      → (a ≡ Kept → t.end ≡ s.end + (36 + length (spelled r))) → (a ≡ Refused → t.end ≡ s.end) → up_after a ≡ true → log'.end ≡ t.end
+  end_after log log' s t r Kept same h ok_ refused_ up = h.moves.0 ∙ ap (λ (n : ℕ). n + (36 + length (spelled r))) same ∙ sym (ok_ refl)
   end_after log log' s t r Refused same h ok_ refused_ up = h.moves.0 ∙ same ∙ sym (refused_ refl)
   end_after log log' s t r Lost same h ok_ refused_ up = absurd (cc up)
 
   alive_after : (log log' : Log D) (r : Record) (a : Appending) → log.lost ≡ false → HasAppended disks (spelled r) a log log' → up_after a ≡ true → log'.lost ≡ false
-  alive_after log log' r View same h up = h.moves.2 ∙ same
+  alive_after log log' r Kept same h up = h.moves.2 ∙ same
   alive_after log log' r Refused same h up = h.moves.3 ∙ same
   alive_after log log' r Lost same h up = absurd (cc up)
 
-  doubt_stands : (s t : State) (r : Record) (a : Appending) (end : ℕ) → is_boot r ≡ false → end ≡ s.end → (a ≡ View → t.open_record ≡ None) → (a ≡ Refused → t.open_record ≡ None) → (a ≡ Lost → t.open_record ≡ Some r)
+  doubt_stands : (s t : State) (r : Record) (a : Appending) (end : ℕ) → is_boot r ≡ false → end ≡ s.end → (a ≡ Kept → t.open_record ≡ None) → (a ≡ Refused → t.open_record ≡ None) → (a ≡ Lost → t.open_record ≡ Some r)
       → (a ≡ Lost → t.end ≡ s.end) → Doubts (doubt_after a end) t
-  doubt_stands s t r View end boot same ok_ refused_ lost_ ends = ok_ refl
+  doubt_stands s t r Kept end boot same ok_ refused_ lost_ ends = ok_ refl
   doubt_stands s t r Refused end boot same ok_ refused_ lost_ ends = refused_ refl
   doubt_stands s t r Lost end boot same ok_ refused_ lost_ ends = (r, lost_ refl, boot, same ∙ sym (ends refl))
 
-  bytes_after : (s : State) (r : Record) (after : Appending → Answer) (a : Appending) → (after View ≡ ok (applied r s)) → ((after Refused).after.log_bytes ≡ s.log_bytes) → (after Lost ≡ lost s r) → (after a).after.log_bytes ≡ s.log_bytes
-  bytes_after s r after View k f l = ap (λ (x : Answer). x.after.log_bytes) k ∙ applied_bytes s r
+  bytes_after : (s : State) (r : Record) (after : Appending → Answer) (a : Appending) → (after Kept ≡ ok (applied r s)) → ((after Refused).after.log_bytes ≡ s.log_bytes) → (after Lost ≡ lost s r) → (after a).after.log_bytes ≡ s.log_bytes
+  bytes_after s r after Kept k f l = ap (λ (x : Answer). x.after.log_bytes) k ∙ applied_bytes s r
   bytes_after s r after Refused k f l = f
   bytes_after s r after Lost k f l = ap (λ (x : Answer). x.after.log_bytes) l
 
   settled_up : (m' : Tables) (s : State) → StandsFor m' s → s.open_record ≡ None
   settled_up m' s st = st.recoverable.settled st.up
 
-  tables_at : (m' : Tables) (s : State) (a : Appending) → TablesStandFor (up_after a) m' s → (a ≡ View → s.open_record ≡ None) × (a ≡ Refused → s.open_record ≡ None)
-  tables_at m' s View st = (λ e. settled_up m' s st, λ e. settled_up m' s st)
+  tables_at : (m' : Tables) (s : State) (a : Appending) → TablesStandFor (up_after a) m' s → (a ≡ Kept → s.open_record ≡ None) × (a ≡ Refused → s.open_record ≡ None)
+  tables_at m' s Kept st = (λ e. settled_up m' s st, λ e. settled_up m' s st)
   tables_at m' s Refused st = (λ e. settled_up m' s st, λ e. settled_up m' s st)
   tables_at m' s Lost st = (λ e. absurd (cc e), λ e. absurd (cc e))
 
@@ -258,7 +258,7 @@ module _ {D : Type 0} (disks : Ghosts D) where
       let standing = subst (λ (b : Bool). TablesStandFor b (view m') next) x.up tables in
       let opens = tables_at (view m') next a standing in
       let lost_ : a ≡ Lost → next ≡ (lost s r).after = λ q. ap (λ (b : Appending). (after b).after) q ∙ ap (λ (y : Answer). y.after) logs.3 in
-      let kept_ : a ≡ View → next ≡ applied r s = λ q. ap (λ (b : Appending). (after b).after) q ∙ ap (λ (y : Answer). y.after) logs.1 in
+      let kept_ : a ≡ Kept → next ≡ applied r s = λ q. ap (λ (b : Appending). (after b).after) q ∙ ap (λ (y : Answer). y.after) logs.1 in
       let none : s.open_record ≡ None = before.settled last.2 in
       record {
         answer = after a;
@@ -276,7 +276,7 @@ module _ {D : Type 0} (disks : Ghosts D) where
           log = λ trusts.
               let backed = λ (rs : List Record) (b : Backs rs s). subst (BacksTurn rs s) t (keeps_backed rs s (Asked e) event before b) in
               log_after m.log m'.log s next r a none last.1 x.log trusts.disk opens.0 opens.1 (λ q. ap (λ (u : State). u.open_record) (lost_ q))
-              (λ q rs b. of_answer after (λ y. Backs (rs ++ r ∷ []) y.after) a View q (backed rs b).0) (λ q rs b. of_answer after (λ y. Backs rs y.after) a Refused q (backed rs b).1)
+              (λ q rs b. of_answer after (λ y. Backs (rs ++ r ∷ []) y.after) a Kept q (backed rs b).0) (λ q rs b. of_answer after (λ y. Backs rs y.after) a Refused q (backed rs b).1)
               (λ q rs b. of_answer after (λ y. Backs rs y.after) a Lost q (backed rs b).2) (st.log trusts);
         };
       }
