@@ -40,3 +40,9 @@ now_bare d r o e h = now_fresh d r o e (bare_fresh r h)
 pub done_bare : (result : Result Done AllocError) → IfOk result (λ d. IsBare d.reply) → IfOk result (λ d. IsFresh d.reply)
 done_bare (Ok d) h = bare_fresh d.reply h
 done_bare (Err e) h = tt
+
+-- of what a get answers
+pub ruleset get_replies = (bare_fresh, value_fresh, absent_fresh)
+
+-- of what a request comes to: a refusal before its row, or the row
+pub ruleset request_replies = (now_bare, now_fresh, done_bare)

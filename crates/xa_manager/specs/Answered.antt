@@ -38,8 +38,8 @@ use Rattle.xa_manager.specs.Managed.{ManagerStandsFor, AnswersAs}
 abbrev pub StaysFor : {D : Type 0} → Ghosts D → Manager D → Manager D → Type 0
 StaysFor disks m m' = (s : State) → ManagerStandsFor disks m s → ManagerStandsFor disks m' s
 
--- The answer is the step's, with the outcome that the manager tells, and it stands for the step's new state. What a restart
--- finds in its files is said under the premises on the type of disks.
+-- The answer is the step's, with the outcome that the manager tells, and it stands for the step's new state. What a
+-- restart finds in its files is said under the premises on the type of disks.
 abbrev pub StepsAs : {D : Type 0} → Ghosts D → Manager D → Event → Reply → Manager D → Type 0
 StepsAs disks m event reply m' =
     (s : State) → ManagerStandsFor disks m s → Trusts disks ⊎ (is_restart event ≡ false)
@@ -61,11 +61,15 @@ as_appended Lost = appended.Lost
 -- a device call of one of the two files failed, and none of the other; or none of both
 abbrev pub OneRises : {D : Type 0} → (D → ℕ) → Log D → Log D → Type 0
 OneRises failures old new =
-    (HasRisen (failures (first_of old)) (failures (first_of new)) × (failures (second_of new) ≡ failures (second_of old)))
-    ⊎ ((failures (first_of new) ≡ failures (first_of old)) × HasRisen (failures (second_of old)) (failures (second_of new)))
+    (HasRisen (failures (first_of old)) (failures (first_of new))
+    × (failures (second_of new) ≡ failures (second_of old)))
+    ⊎ ((failures (first_of new) ≡ failures (first_of old))
+    × HasRisen (failures (second_of old)) (failures (second_of new)))
 
 abbrev pub NoneRises : {D : Type 0} → (D → ℕ) → Log D → Log D → Type 0
-NoneRises failures old new = (failures (first_of new) ≡ failures (first_of old)) × (failures (second_of new) ≡ failures (second_of old))
+NoneRises failures old new =
+    (failures (first_of new) ≡ failures (first_of old))
+    × (failures (second_of new) ≡ failures (second_of old))
 
 abbrev pub RisesBy : {D : Type 0} → (D → ℕ) → Option Appending → Log D → Log D → Type 0
 RisesBy failures None old new = NoneRises failures old new
@@ -82,8 +86,15 @@ HasCalled disks (outcome.Appended appending) old new =
 HasCalled disks outcome.Failed old new = OneRises disks.failures old new
 HasCalled disks (outcome.Reread survived appended) old new = RisesBy disks.failures appended old new
 
--- Which events may want memory: a request to end what stands never does, but that a commit in one phase has to write what
--- it commits.
+-- The device was called as the outcome tells. A restart that found its log unreadable tells that it failed: only with
+-- the premises that is the device's doing.
+abbrev pub CallsAs : {D : Type 0} → Ghosts D → Manager D → Event → Outcome → Manager D → Type 0
+CallsAs disks m event outcome m' =
+    (s : State) → ManagerStandsFor disks m s → Trusts disks ⊎ (is_restart event ≡ false)
+    → HasCalled disks outcome m.log m'.log
+
+-- Which events may want memory: a request to end what stands never does, but that a commit in one phase has to write
+-- what it commits.
 abbrev pub may_want : Request → Bool
 may_want (Start flags xid) = true
 may_want (Prepare flags xid) = true
@@ -115,12 +126,11 @@ abbrev pub IsPinned : Event → Reply → Type 0
 IsPinned event reply = is_memory reply.detail ≡ true → (may_want_memory event ≡ true) × (reply ≡ wanted_memory event)
 
 -- what is said of every call
-pub record FullyAnswered {D : Type 0} (disks : Ghosts D) (m : Manager D) (event : Event) (reply : Reply) (m' : Manager D) : Type 0 where
+pub record FullyAnswered {D : Type 0} (disks : Ghosts D) (m : Manager D) (event : Event) (reply : Reply)
+    (m' : Manager D) : Type 0 where
   pub answered : Answered disks m event reply m'
   pub pinned : IsPinned event reply
-  -- a restart that found its log unreadable tells that it failed: only with the premises that is the device's doing
-  pub called : is_memory reply.detail ≡ false → (s : State) → ManagerStandsFor disks m s → Trusts disks ⊎ (is_restart event ≡ false)
-      → HasCalled disks m'.outcome m.log m'.log
+  pub called : is_memory reply.detail ≡ false → CallsAs disks m event m'.outcome m'
   -- where memory was wanted, no device call failed
   pub quiet : is_memory reply.detail ≡ true → NoneRises disks.failures m.log m'.log
 
@@ -143,8 +153,8 @@ abbrev pub no_restart : List Event → Bool
 no_restart [] = true
 no_restart (event ∷ events) = if is_restart event then false else no_restart events
 
--- With some outcomes, one for each event, the events and their replies are a legal history. Without a restart among them
--- nothing is asked of the type of disks.
+-- With some outcomes, one for each event, the events and their replies are a legal history. Without a restart among
+-- them nothing is asked of the type of disks.
 abbrev pub AnswersAll : {D : Type 0} → Ghosts D → Manager D → List Event → List Reply → Manager D → Type 0
 AnswersAll disks m events replies m' =
     (s : State) → ManagerStandsFor disks m s → Trusts disks ⊎ (no_restart events ≡ true)

@@ -39,7 +39,8 @@ failures_of (e ∷ es) = failures_in e.outcome + failures_of es
 -- Two counts went up by so many together, at least. A count stays at the top of a u64, and then nothing is said.
 abbrev pub RiseBy : ℕ → ℕ × ℕ → ℕ × ℕ → Type 0
 RiseBy n old new =
-    new.0 < 2 ^ 64 - 1 → new.1 < 2 ^ 64 - 1 → (old.0 < 2 ^ 64 - 1) × (old.1 < 2 ^ 64 - 1) × (old.0 + old.1 + n ≤ new.0 + new.1)
+    new.0 < 2 ^ 64 - 1 → new.1 < 2 ^ 64 - 1
+    → (old.0 < 2 ^ 64 - 1) × (old.1 < 2 ^ 64 - 1) × (old.0 + old.1 + n ≤ new.0 + new.1)
 
 -- the counts of the two files' disks
 abbrev pub counted_by : {D : Type 0} → (D → ℕ) → Log D → ℕ × ℕ
@@ -51,4 +52,5 @@ CountsAll disks m events replies m' =
     (s : State) → ManagerStandsFor disks m s → Trusts disks ⊎ (no_restart events ≡ true)
     → (outcomes : List Outcome) × (s' : State) × (length outcomes ≡ length events)
     × Leads s (recorded events outcomes replies) s' × ManagerStandsFor disks m' s'
-    × RiseBy (failures_of (recorded events outcomes replies)) (counted_by disks.failures m.log) (counted_by disks.failures m'.log)
+    × RiseBy (failures_of (recorded events outcomes replies)) (counted_by disks.failures m.log)
+    (counted_by disks.failures m'.log)

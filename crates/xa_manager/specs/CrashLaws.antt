@@ -10,12 +10,12 @@ use Rattle.xa_log.specs.TwoFiles.{Pair, MayStandPair, MaySeal, first_of, second_
 use Rattle.xa_log.specs.declared.log.Log.{Log}
 use Rattle.xa_model.specs.State.{State}
 use Rattle.xa_model.specs.Durable.{Durable, durable}
-use Rattle.xa_model.specs.Fold.{fold, snapshot}
+use Rattle.xa_model.specs.Fold.{fold}
 use Rattle.xa_model.specs.Backing.{Backs, settled}
 use Rattle.xa_model.specs.Loggable.{IsRecoverable}
 use Rattle.xa_model.specs.Restarting.{fates}
 use Rattle.xa_manager.specs.declared.manager.Manager.{Manager}
-use Rattle.xa_manager.specs.LogStands.{Trusts, LogStandsFor}
+use Rattle.xa_manager.specs.LogStands.{Trusts, LogStandsFor, snapshot_bodies}
 use Rattle.xa_manager.specs.Managed.{ManagerStandsFor}
 use Rattle.xa_manager.specs.Files.{FilesStandFor}
 
@@ -25,22 +25,26 @@ use Rattle.xa_manager.specs.Files.{FilesStandFor}
 abbrev pub HasCalmRecords : {D : Type 0} → Ghosts D → List Record → Log D → List ℕ → Type 0
 HasCalmRecords disks rs log other = (stood : List (List ℕ)) × Pair disks (map spelled rs) stood log × IsCalm stood other
 
--- Behind the current file's records chains the one that was lost, or none. In front of the other file stands, where a checkpoint
--- was lost, the first record of its snapshot, or none that chains.
+-- Behind the current file's records chains the one that was lost, or none. In front of the other file stands, where a
+-- checkpoint was lost, the first record of its snapshot, or none that chains.
 abbrev pub MayHaveCalmRecord : {D : Type 0} → Ghosts D → List Record → State → Record → Log D → List ℕ → List ℕ → Type 0
 MayHaveCalmRecord disks rs s (logged.Opened boot) log current other =
-    MaySeal disks (map spelled rs) (map spelled (snapshot (durable s) boot)) log × IsCalm (map spelled (snapshot (durable s) boot)) other
+    MaySeal disks (map spelled rs) (snapshot_bodies s boot) log × IsCalm (snapshot_bodies s boot) other
 MayHaveCalmRecord disks rs s r log current other =
     (stood : List (List ℕ)) × MayStandPair disks (map spelled rs) (spelled r) stood log
     × IsPlain log.format (map spelled rs) (spelled r) current × IsCalm stood other
 
-abbrev pub HasCalmRecordsOf : {D : Type 0} → Ghosts D → List Record → State → Option Record → Log D → List ℕ → List ℕ → Type 0
+abbrev pub HasCalmRecordsOf : {D : Type 0} → Ghosts D → List Record → State → Option Record → Log D → List ℕ → List ℕ
+    → Type 0
 HasCalmRecordsOf disks rs s None log current other = HasCalmRecords disks rs log other
 HasCalmRecordsOf disks rs s (Some r) log current other =
-    MayHaveCalmRecord disks rs s r log current other ⊎ HasCalmRecords disks rs log other ⊎ HasCalmRecords disks (settled rs s r) log other
+    MayHaveCalmRecord disks rs s r log current other
+    ⊎ HasCalmRecords disks rs log other
+    ⊎ HasCalmRecords disks (settled rs s r) log other
 
 -- the same of images of the first and of the second file, and the records stand behind the state
-pub record StandsWithoutChance {D : Type 0} (disks : Ghosts D) (log : Log D) (s : State) (first second : List ℕ) : Type 0 where
+pub record StandsWithoutChance {D : Type 0} (disks : Ghosts D) (log : Log D) (s : State)
+    (first second : List ℕ) : Type 0 where
   pub records : List Record
   pub backs : Backs records s
   pub has : HasCalmRecordsOf disks records s s.open_record log
@@ -71,9 +75,11 @@ FilesLast =
 abbrev pub FilesLastAsFated : Type 0
 FilesLastAsFated =
     (most : ℕ) (first second : List ℕ) (s : State) → FilesStandFor most first second s
-    → (rs : List Record) × (d : Durable) × (logged_pair first second ≡ map spelled rs) × (fold rs ≡ Ok d) × Contains (fates s) d
+    → (rs : List Record) × (d : Durable) × (logged_pair first second ≡ map spelled rs) × (fold rs ≡ Ok d)
+    × Contains (fates s) d
 
--- of a manager: what a read gives is a log of the records of each state that it stands for, from which a restart may begin
+-- of a manager: what a read gives is a log of the records of each state that it stands for, from which a restart may
+-- begin
 abbrev pub ReadStands : {D : Type 0} → Ghosts D → Type 0
 ReadStands {D} disks =
     (m : Manager D) (s : State) → Trusts disks → ManagerStandsFor disks m s

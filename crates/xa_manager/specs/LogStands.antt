@@ -14,8 +14,8 @@ use Rattle.xa_model.specs.Durable.{durable}
 use Rattle.xa_model.specs.Fold.{snapshot}
 use Rattle.xa_model.specs.Backing.{Backs, settled}
 
--- The premises on a type of disks: it does what the trait says, and what a failed write leaves to a read is without chance.
--- Those in memory meet them.
+-- The premises on a type of disks: it does what the trait says, and what a failed write leaves to a read is without
+-- chance. Those in memory meet them.
 pub record Trusts {D : Type 0} (disks : Ghosts D) : Type 0 where
   pub disk : disks.honest
   pub appends : NoChance disks.tears
@@ -26,9 +26,15 @@ pub record Trusts {D : Type 0} (disks : Ghosts D) : Type 0 where
 abbrev pub HasRecords : {D : Type 0} → Ghosts D → List Record → Log D → Type 0
 HasRecords disks rs log = (stood : List (List ℕ)) × Pair disks (map spelled rs) stood log
 
--- a record was lost, and the files weren't read since; an opened record stands first in a snapshot, which a checkpoint lost
+-- the bodies of a snapshot of what lasts of the state, that begins the boot of this number
+abbrev pub snapshot_bodies : State → ℕ → List (List ℕ)
+snapshot_bodies s boot = map spelled (snapshot (durable s) boot)
+
+-- a record was lost, and the files weren't read since; an opened record stands first in a snapshot, which a checkpoint
+-- lost
 abbrev pub MayHaveRecord : {D : Type 0} → Ghosts D → List Record → State → Record → Log D → Type 0
-MayHaveRecord disks rs s (logged.Opened boot) log = MaySeal disks (map spelled rs) (map spelled (snapshot (durable s) boot)) log
+MayHaveRecord disks rs s (logged.Opened boot) log =
+    MaySeal disks (map spelled rs) (snapshot_bodies s boot) log
 MayHaveRecord disks rs s r log = (stood : List (List ℕ)) × MayStandPair disks (map spelled rs) (spelled r) stood log
 
 -- a restart that wanted memory may have read the files, and so have settled the fate of the record that was lost

@@ -42,11 +42,12 @@ pub record IsReached (first : State) (entries : List Entry) (s : State) : Type 0
 -- recovery lists each branch that was answered as prepared, and whose completion wasn't asked for since then
 abbrev pub ListsPrepared : List Entry → State → Type 0
 ListsPrepared entries s =
-    (before later : List Entry) (prepare : Entry) (xid : Triple) → entries ≡ before ++ prepare ∷ later → HasPrepared xid prepare
-    → AllByRecursion (λ e. AsksCompletion xid e → ⊥) later → IsListed xid s
+    (before later : List Entry) (prepare : Entry) (xid : Triple) → entries ≡ before ++ prepare ∷ later
+    → HasPrepared xid prepare → AllByRecursion (λ e. AsksCompletion xid e → ⊥) later → IsListed xid s
 
--- The history goes on with the events and their replies, with these outcomes, and the manager stands for the state that it then
--- leads to. That state's committed branches are one copy, and it lists what was prepared, in these replies or before.
+-- The history goes on with the events and their replies, with these outcomes, and the manager stands for the state that
+-- it then leads to. That state's committed branches are one copy, and it lists what was prepared, in these replies or
+-- before.
 pub record KeepsPromises {D : Type 0} (disks : Ghosts D) (before : List Entry) (s : State) (events : List Event)
     (replies : List Reply) (m' : Manager D) : Type 0 where
   pub outcomes : List Outcome
@@ -67,7 +68,9 @@ PromisesAll disks m events replies m' =
 
 -- at the end of every history of an opening state
 abbrev pub ReachedPromises : Type 0
-ReachedPromises = (first s : State) (entries : List Entry) → IsReached first entries s → HasOneCopy s × ListsPrepared entries s
+ReachedPromises =
+    (first s : State) (entries : List Entry) → IsReached first entries s
+    → HasOneCopy s × ListsPrepared entries s
 
 -- of one event, answered as every call is
 abbrev pub OnePromises : {D : Type 0} → Ghosts D → Type 0
@@ -78,6 +81,7 @@ OnePromises {D} disks =
 -- a manager that was opened stands for an opening state, if no more branches are known by the log than may be
 abbrev pub BegunIsReached : {D : Type 0} → Ghosts D → Type 0
 BegunIsReached {D} disks =
-    (m : Manager D) (bodies : List (List ℕ)) (name : List ℕ) (log_bytes : ℕ) (begun : HasBegun disks bodies name log_bytes m)
+    (m : Manager D) (bodies : List (List ℕ)) (name : List ℕ) (log_bytes : ℕ)
+    (begun : HasBegun disks bodies name log_bytes m)
     → length begun.durable.prepared + length begun.durable.decided ≤ most_branches
     → (first : State) × IsReached first [] first × ManagerStandsFor disks m first

@@ -13,9 +13,9 @@ use Rattle.xa_branch.specs.Room.{HasRoom}
 use Rattle.xa_xid.specs.Triple.{Triple}
 use Rattle.xa_manager.specs.View.{View}
 
--- Each table stands for its part of the state of a manager that is up. The manager keeps neither the operations of a branch
--- nor the reads of the state, but records that stand for the history of those writes and reads, from this boot's first
--- timestamp on: for every key they give the source and its value, and what is late.
+-- Each table stands for its part of the state of a manager that is up. The manager keeps neither the operations of a
+-- branch nor the reads of the state, but records that stand for the history of those writes and reads, from this boot's
+-- first timestamp on: for every key they give the source and its value, and what is late.
 pub record StandsFor (m : View) (s : State) : Type 0 where
   pub name : m.name ≡ s.name
   pub log_bytes : m.log_bytes ≡ s.log_bytes
@@ -35,8 +35,8 @@ pub record StandsWithRoom (xid : Triple) (m : View) (s : State) : Type 0 where
   pub records : RecordsStandFor (history_of s) m.records
   pub recoverable : IsRecoverable s
 
--- Of a manager that is down only the sessions count: nothing is answered of branches and records, and the next restart makes
--- them anew from the log.
+-- Of a manager that is down only the sessions count: nothing is answered of branches and records, and the next restart
+-- makes them anew from the log.
 pub record StandsDown (m : View) (s : State) : Type 0 where
   pub name : m.name ≡ s.name
   pub log_bytes : m.log_bytes ≡ s.log_bytes
@@ -48,8 +48,8 @@ abbrev pub TablesStandFor : Bool → View → State → Type 0
 TablesStandFor true m s = StandsFor m s
 TablesStandFor false m s = StandsDown m s
 
--- whichever state the tables stood for, they answer as this step does, and stand for the step's state, which a restart may
--- begin with, as every step's
+-- whichever state the tables stood for, they answer as this step does, and stand for the step's state, which a restart
+-- may begin with, as every step's
 pub record Follows (m : View) (act : State → Answer) (reply : Reply) (m' : View) : Type 0 where
   pub answers : (s : State) → StandsFor m s → (act s).reply ≡ reply
   pub stands : (s : State) → StandsFor m s → IsRecoverable (act s).after → StandsFor m' (act s).after

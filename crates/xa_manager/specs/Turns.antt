@@ -26,7 +26,7 @@ use Rattle.xa_assoc.specs.Refusals.{is_memory}
 use Rattle.xa_manager.specs.declared.doubt.Doubt.{Doubt}
 use Rattle.xa_manager.specs.declared.doubt.Doubt.TheVariants as doubt
 use Rattle.xa_manager.specs.declared.manager.Manager.{Manager}
-use Rattle.xa_manager.specs.Answered.{as_appended, HasCalled}
+use Rattle.xa_manager.specs.Answered.{as_appended, CallsAs}
 use Rattle.xa_manager.specs.LogStands.{Trusts}
 use Rattle.xa_manager.specs.Managed.{view, ManagerStandsFor, AnswersAs}
 use Rattle.xa_manager.specs.Stands.{TablesStandFor}
@@ -53,8 +53,10 @@ doubt_after Refused end = None
 doubt_after Lost end = Some (doubt.Record end)
 
 -- A body was journaled: where the log is alive and has the room, so much was appended.
-pub record HasJournaled {D : Type 0} (disks : Ghosts D) (body : List ℕ) (a : Appending) (m m' : Manager D) : Type 0 where
-  pub appended : m.log.lost ≡ false → m.log.end + 40 + length body ≤ m.log.log_bytes → HasAppended disks body a m.log m'.log
+pub record HasJournaled {D : Type 0} (disks : Ghosts D) (body : List ℕ) (a : Appending)
+    (m m' : Manager D) : Type 0 where
+  pub appended : m.log.lost ≡ false → m.log.end + 40 + length body ≤ m.log.log_bytes
+      → HasAppended disks body a m.log m'.log
   pub up : m.up ≡ true → m'.up ≡ up_after a
   pub doubt : m'.doubt ≡ doubt_after a m.log.end
   pub tables : m'.tables ≡ m.tables
@@ -67,7 +69,8 @@ reply_to code Refused = detailed code detail.Device
 reply_to code Lost = detailed XAER_RMFAIL detail.Device
 
 -- answered at once: no device call was made
-pub record TakesNow {D : Type 0} (m : Manager D) (a : Answer) (reply : Reply) (outcome : Outcome) (m' : Manager D) : Type 0 where
+pub record TakesNow {D : Type 0} (m : Manager D) (a : Answer) (reply : Reply) (outcome : Outcome)
+    (m' : Manager D) : Type 0 where
   pub reply_is : a.reply ≡ reply
   pub outcome_is : outcome ≡ Quiet
   pub log : m'.log ≡ m.log
@@ -92,17 +95,19 @@ Takes disks m (Now a) reply outcome m' = TakesNow m a reply outcome m'
 Takes disks m (Appends r after) reply outcome m' = TakesAppending disks m r after reply outcome m'
 Takes disks m (Rereads failed found missing) reply outcome m' = ⊥
 
--- Whichever state the manager stood for, it takes this turn of it, of a request whose limits hold. Its own outcome is set when the call ends.
+-- Whichever state the manager stood for, it takes this turn of it, of a request whose limits hold. Its own outcome is
+-- set when the call ends.
 pub record TakesTurn {D : Type 0} (disks : Ghosts D) (m : Manager D) (act : State → Turn) (reply : Reply)
     (outcome : Outcome) (m' : Manager D) : Type 0 where
   pub takes : (s : State) → ManagerStandsFor disks m s → m.up ≡ true → Takes disks m (act s) reply outcome m'
   pub served : is_memory reply.detail ≡ false
 
--- What a call has done of an event, also while the manager is down: the answer is the step's with this outcome, and the manager
--- stands for the step's new state. What a restart finds in its files is said under the premises on the type of disks.
+-- What a call has done of an event, also while the manager is down: the answer is the step's with this outcome, and the
+-- manager stands for the step's new state. What a restart finds in its files is said under the premises on the type of
+-- disks.
 pub record HasDone {D : Type 0} (disks : Ghosts D) (m : Manager D) (event : Event) (reply : Reply)
     (outcome : Outcome) (m' : Manager D) : Type 0 where
   pub steps : (s : State) → ManagerStandsFor disks m s → Trusts disks ⊎ (is_restart event ≡ false)
       → AnswersAs disks (step s (Asked event) outcome) reply m'
-  pub called : (s : State) → ManagerStandsFor disks m s → Trusts disks ⊎ (is_restart event ≡ false) → HasCalled disks outcome m.log m'.log
+  pub called : CallsAs disks m event outcome m'
   pub served : is_memory reply.detail ≡ false

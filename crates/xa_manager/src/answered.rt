@@ -49,7 +49,8 @@ impl Tables {
     }
 }
 
-/// What becomes of a branch, once it is known whether the record that completes it stands. Of one that was lost nothing is told.
+/// What becomes of a branch, once it is known whether the record that completes it stands. Of one that was lost nothing
+/// is told.
 impl Tables {
     pub fn take_committed(&mut self, xid: &Xid, answer: Appending)
         ensures kept { answer ≡ Appending.Kept → BranchBecomes self.old xid.now committed self.new }

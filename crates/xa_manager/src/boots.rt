@@ -49,8 +49,8 @@ fn ready(alloc: Global, durable: &Durable, boot: u32) -> Result<NextBoot, AllocE
     })
 }
 
-/// What the bodies of a log come to, with the next boot made ready. All memory of a restart and of an opening is taken here,
-/// once the log was read.
+/// What the bodies of a log come to, with the next boot made ready. All memory of a restart and of an opening is taken
+/// here, once the log was read.
 pub(crate) fn plan(alloc: Global, bodies: &[Vec<u8>]) -> Result<Planned, LogFault>
     ensures { Plans (map (λ b. b.items) bodies.now) result }
 {

@@ -32,9 +32,9 @@ impl<D: Disk> Manager<D> {
         early_refusal(self.up, &self.tables.name, opened, request)
     }
 
-    /// Answers a request of a session: the refusals that come before its row, then the row. A manager that is down comes to
-    /// the first three alone.
-    #[tactic(auto, using(crate::proofs::Replying::now_bare, crate::proofs::Replying::now_fresh, crate::proofs::Replying::done_bare))]
+    /// Answers a request of a session: the refusals that come before its row, then the row. A manager that is down
+    /// comes to the first three alone.
+    #[tactic(auto, using(crate::proofs::Replying::request_replies))]
     pub(crate) fn answer(&mut self, session: u64, request: Request) -> Result<Done, AllocError>
         requires { IsAsked request }
         ensures ok { IfOk result

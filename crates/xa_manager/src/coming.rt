@@ -11,7 +11,8 @@ use xa_assoc::ConnectFault;
 use xa_codes::XA_OK;
 use xa_frame::Reply;
 
-/// How sessions come and go: the rows of the association table without a branch, which a manager answers also while it is down.
+/// How sessions come and go: the rows of the association table without a branch, which a manager answers also while it
+/// is down.
 impl Tables {
     /// The number of a new session, the least that is free.
     pub fn connect(&mut self) -> Result<u64, ConnectFault>

@@ -24,8 +24,8 @@ use xa_xid::Xid;
 
 /// The rows of the branch table that log: how branches are prepared and completed.
 impl<D: Disk> Manager<D> {
-    /// A branch without writes isn't logged: it counts as committed. One that would leave too little room in the log is rolled back.
-    /// All memory is taken before the record is appended.
+    /// A branch without writes isn't logged: it counts as committed. One that would leave too little room in the log is
+    /// rolled back. All memory is taken before the record is appended.
     pub(crate) fn prepare(&mut self, xid: &Xid) -> Result<Done, AllocError>
         requires up { self.old.up ≡ true }
         requires name { IsWithinLimits xid.now }

@@ -17,7 +17,7 @@ use xa_frame::{Body, Reply};
 
 /// The rows of gets and puts, of the branch that the session is at work for.
 impl Tables {
-    #[tactic(auto, using(crate::proofs::Replying::bare_fresh, crate::proofs::Replying::value_fresh, crate::proofs::Replying::absent_fresh))]
+    #[tactic(auto, using(crate::proofs::Replying::get_replies))]
     pub fn get(&mut self, session: u64, key: &Bytes) -> Result<Reply, AllocError>
         ensures ok { IfOk result
             (λ r. TablesFollow self.old (λ s. get_by s key.now (own_branch s session)) r self.new) }

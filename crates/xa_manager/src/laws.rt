@@ -20,7 +20,8 @@ pub fn crash_leaves<D: Disk>()
     ensures { CrashLeaves D.Disk }
 {}
 
-/// The records of such files come to what lasts of the state: where the fate of a record is unknown, with it or without it.
+/// The records of such files come to what lasts of the state: where the fate of a record is unknown, with it or without
+/// it.
 pub fn files_last()
     ensures settled { FilesLast }
     ensures fated { FilesLastAsFated }
@@ -31,8 +32,8 @@ pub fn memory_is_trusted()
     ensures { Trusts ⟦<MemDisk as Disk>⟧ }
 {}
 
-/// Whatever state a legal history of an opening state leads to: its committed branches are one copy, and each branch that was
-/// answered as prepared is listed, unless its completion was asked for since then.
+/// Whatever state a legal history of an opening state leads to: its committed branches are one copy, and each branch
+/// that was answered as prepared is listed, unless its completion was asked for since then.
 pub fn reached_promises()
     ensures { ReachedPromises }
 {}

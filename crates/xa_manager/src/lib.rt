@@ -2,15 +2,16 @@
 //!
 //! The modules:
 //!
-//! - `manager`: `Manager`, its calls; `calls`, the way of a request; `early`, the refusals before its row; `replies`, those to
-//!   a connect and to want of memory
-//! - the rows, by table: of sessions in `coming`, of associations in `work`, of branches in `completion`, of the operator in
-//!   `operator`, of gets and puts in `data`, of recovery scans in `recovery`
+//! - `manager`: `Manager`, its calls; `calls`, the way of a request; `early`, the refusals before its row; `replies`,
+//!   those to a connect and to want of memory
+//! - the rows, by table: of sessions in `coming`, of associations in `work`, of branches in `completion`, of the
+//!   operator in `operator`, of gets and puts in `data`, of recovery scans in `recovery`
 //! - `tables`: what a manager keeps; `facts` and `refusals`, what rows ask of it, `acts`, what they change
-//! - `journal`: how a record comes into the log; `room`, the room that the log keeps free; `doubt`: `Doubt`, what is kept of a
-//!   record that was lost; `answered`, what rows do by the device's answer; `done`, what a call comes to
-//! - a boot: `settings`, `Settings` and their limits; `opening` or `restarting`, how it begins; `boots`, what is made ready for
-//!   it, and `rebuilding` its tables; `first_records`, how an opening logs it; `fault`: `ManagerFault`, why there is no manager
+//! - `journal`: how a record comes into the log; `room`, the room that the log keeps free; `doubt`: `Doubt`, what is
+//!   kept of a record that was lost; `answered`, what rows do by the device's answer; `done`, what a call comes to
+//! - a boot: `settings`, `Settings` and their limits; `opening` or `restarting`, how it begins; `boots`, what is made
+//!   ready for it, and `rebuilding` its tables; `first_records`, how an opening logs it; `fault`: `ManagerFault`, why
+//!   there is no manager
 //! - `laws`: what a crash leaves, and what is promised of histories; `planning`: planned faults in memory
 #![tactic(auto)]
 

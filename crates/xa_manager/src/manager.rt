@@ -39,8 +39,8 @@ pub struct Manager<D> {
 }
 
 impl<D: Disk> Manager<D> {
-    /// Connects a session, whose number is the least from 1 that is free. `Full` comes where 1,024 are connected, `Memory`
-    /// where there was no memory; neither changes what the manager stands for.
+    /// Connects a session, whose number is the least from 1 that is free. `Full` comes where 1,024 are connected,
+    /// `Memory` where there was no memory; neither changes what the manager stands for.
     pub fn connect(&mut self) -> Result<u64, ConnectFault>
         ensures answered { FullyAnswered D.Disk self.old Event.Connect (connect_reply result) self.new }
         ensures came { IfOk result (λ n. Gains (connected_to self.old) n (connected_to self.new)) }
@@ -62,8 +62,8 @@ impl<D: Disk> Manager<D> {
 
     /// Answers a request of a session, by its number, with a code of C193. The reply has place 0. Its detail is Memory
     /// where there was no memory: then the code is XAER_RMFAIL, but XA_RETRY for a commit in two phases, and nothing
-    /// changed. Open, Close, End, a commit in two phases, Rollback, Forget, Decide and Doom take no memory. Behind each call
-    /// the records have given back what the low water lets go.
+    /// changed. Open, Close, End, a commit in two phases, Rollback, Forget, Decide and Doom take no memory. Behind each
+    /// call the records have given back what the low water lets go.
     #[tactic(auto, using(crate::proofs::Replying::bare_fresh))]
     pub fn call(&mut self, session: u64, request: Request) -> Reply
         requires { IsAsked request }
@@ -85,8 +85,8 @@ impl<D: Disk> Manager<D> {
         }
     }
 
-    /// Hangs a session up: each association of its own ends, and the branch is marked XA_RBCOMMFAIL unless it is marked.
-    /// The session's number is free again. Of a session that isn't connected nothing changes. Takes no memory.
+    /// Hangs a session up: each association of its own ends, and the branch is marked XA_RBCOMMFAIL unless it is
+    /// marked. The session's number is free again. Of a session that isn't connected nothing changes. Takes no memory.
     pub fn hangup(&mut self, session: u64)
         ensures answered { FullyAnswered D.Disk self.old (Event.Hangup session) (plain (pos 0)) self.new }
         ensures gone { Loses (connected_to self.old) session (connected_to self.new) }
@@ -116,8 +116,8 @@ impl<D: Disk> Manager<D> {
         self.tables.sessions.connected() as u64
     }
 
-    /// How many versions of all keys are kept, with one for the absence of each key that a branch found absent or was the first
-    /// to write. Those that nobody can read any more are dropped as the calls go on.
+    /// How many versions of all keys are kept, with one for the absence of each key that a branch found absent or was
+    /// the first to write. Those that nobody can read any more are dropped as the calls go on.
     pub fn versions(&self) -> u64
         ensures { result ≡ versions_in self.now.tables.records }
     {
@@ -138,8 +138,8 @@ impl<D: Disk> Manager<D> {
         self.log.into_disks()
     }
 
-    /// Gives the records the low water, once a request is answered: the tables' change, said of a manager that is up or down.
-    /// Connects and hang-ups leave the low water as it is.
+    /// Gives the records the low water, once a request is answered: the tables' change, said of a manager that is up or
+    /// down. Connects and hang-ups leave the low water as it is.
     fn give_low_water(&mut self)
         ensures stays { StaysFor D.Disk self.old self.new }
         ensures log { self.new.log ≡ self.old.log }
@@ -165,9 +165,10 @@ impl<D: Disk> Manager<D> {
         }
     }
 
-    /// Answers events in order. Those that found their memory are a legal history with their replies. If what went before is a
-    /// legal history too, from an opening on, then the committed branches, by timestamp, read what they would read one at a time
-    /// on one copy of the records; and each branch that was answered as prepared is listed until its completion is asked for.
+    /// Answers events in order. Those that found their memory are a legal history with their replies. If what went
+    /// before is a legal history too, from an opening on, then the committed branches, by timestamp, read what they
+    /// would read one at a time on one copy of the records; and each branch that was answered as prepared is listed
+    /// until its completion is asked for.
     ///
     /// A connect answers 0 with its number, XAER_RMERR with detail Limit where no more may connect, or XAER_RMFAIL with
     /// detail Memory. A hang-up answers 0. Room for the replies is made first, and its want changes nothing.

@@ -29,9 +29,9 @@ use xa_log::{Appended, Log, OpenFault};
 use xa_model::Outcome;
 
 impl<D: Disk + Drop> Manager<D> {
-    /// Opens a manager on two disks: where both are empty it makes a log, and else it reads the log that they have. A new boot
-    /// begins with what lasts of it. A fault gives no disk back. Faults are looked for in this order: `Setting`, the log's own,
-    /// `Memory`, `Malformed`, `Order`, `Boots`, `LogFull`, `Device`.
+    /// Opens a manager on two disks: where both are empty it makes a log, and else it reads the log that they have. A
+    /// new boot begins with what lasts of it. A fault gives no disk back. Faults are looked for in this order:
+    /// `Setting`, the log's own, `Memory`, `Malformed`, `Order`, `Boots`, `LogFull`, `Device`.
     pub fn open(
         alloc: Global,
         first: D,
@@ -111,8 +111,8 @@ fn begin<D: Disk + Drop>(
     })
 }
 
-/// The log of two disks with its bodies: makes one where both disks are empty, and else opens the one that they have. Both
-/// lengths are asked first.
+/// The log of two disks with its bodies: makes one where both disks are empty, and else opens the one that they have.
+/// Both lengths are asked first.
 pub(crate) fn open_log<D: Disk + Drop>(
     alloc: Global,
     mut first: D,

@@ -38,7 +38,8 @@ use xa_model::{Appending, Outcome};
 use xa_recovery::LogFault;
 
 impl<D: Disk> Manager<D> {
-    /// Reads the log again. Whatever the manager stood for it still stands for, unless it was up and the log isn't what it was.
+    /// Reads the log again. Whatever the manager stood for it still stands for, unless it was up and the log isn't what
+    /// it was.
     fn look(&mut self) -> Result<Vec<Vec<u8>>, OpenFault>
         ensures err { OnErr result (StaysFor D.Disk self.old self.new) }
         ensures stays { OnOk result ((self.old.up ≡ true → self.new.log.end ≡ self.old.log.end)
@@ -223,9 +224,9 @@ impl<D: Disk> Manager<D> {
         }
     }
 
-    /// What the request Restart does, for whoever asks it without a session: the log is read again, and a new boot begins with what
-    /// lasts of it. Sessions stay connected, and opened as they were; branches at work, associations, scans and read marks are
-    /// gone. Where it fails the manager is down. Behind want of memory it stands for what it
+    /// What the request Restart does, for whoever asks it without a session: the log is read again, and a new boot
+    /// begins with what lasts of it. Sessions stay connected, and opened as they were; branches at work, associations,
+    /// scans and read marks are gone. Where it fails the manager is down. Behind want of memory it stands for what it
     /// stood for.
     pub fn restart(&mut self) -> Reply
         ensures answered { MatchBool (is_memory result.detail)

@@ -8,8 +8,8 @@ pub const LEAST_LOG: u64 = 64;
 /// The greatest size of a log, in bytes.
 pub const MOST_LOG: u64 = 1_073_741_824;
 
-/// How a manager is set up: its name, of at most `MOST_NAME` bytes, which an Open has to give, and the size that its log may
-/// reach, of `LEAST_LOG` to `MOST_LOG` bytes.
+/// How a manager is set up: its name, of at most `MOST_NAME` bytes, which an Open has to give, and the size that its
+/// log may reach, of `LEAST_LOG` to `MOST_LOG` bytes.
 #[derive(Debug, Drop)]
 pub struct Settings {
     pub name: Bytes,
