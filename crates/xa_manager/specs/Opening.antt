@@ -6,7 +6,9 @@ use Rattle.xa_log.specs.Pair.{pair_fault, logged_pair}
 use Rattle.xa_log.specs.TwoFiles.{Pair}
 use Rattle.xa_log.specs.declared.fault.OpenFault.{OpenFault}
 use Rattle.xa_log.specs.declared.fault.OpenFault.TheVariants as log
+use Rattle.xa_log.specs.declared.format.TheConstants.{PREAMBLE_BYTES}
 use Rattle.xa_log.specs.declared.log.Log.{Log}
+use Rattle.xa_model.specs.declared.limits.TheConstants.{FIRST_OFFSET}
 use Rattle.xa_model.specs.State.{State}
 use Rattle.xa_model.specs.Durable.{Durable}
 use Rattle.xa_model.specs.Fold.{fold, snapshot, sizes}
@@ -33,7 +35,8 @@ HasBodies disks bodies log = (stood : List (List ℕ)) × Pair disks bodies stoo
 abbrev pub LogRefused : OpenFault → ℕ → List ℕ → List ℕ → Type 0
 LogRefused log.Device most first second = Unit {0}
 LogRefused log.Memory most first second = Unit {0}
-LogRefused e most first second = (most < 12) ⊎ (((first ≢ []) ⊎ (second ≢ [])) × (pair_fault most first second ≡ Some e))
+LogRefused e most first second =
+    (most < PREAMBLE_BYTES) ⊎ (((first ≢ []) ⊎ (second ≢ [])) × (pair_fault most first second ≡ Some e))
 
 -- the bodies are records that come to this
 pub record ComeTo (bodies : List (List ℕ)) (d : Durable) : Type 0 where
@@ -43,7 +46,8 @@ pub record ComeTo (bodies : List (List ℕ)) (d : Durable) : Type 0 where
 
 -- whether a log of so many bytes has room for the boot of this number, with what lasts
 abbrev pub has_boot_room : ℕ → Durable → ℕ → Bool
-has_boot_room log_bytes d boot = log_room log_bytes (8 + sizes (snapshot d boot)) (length d.prepared) (length d.decided)
+has_boot_room log_bytes d boot =
+    log_room log_bytes (FIRST_OFFSET + sizes (snapshot d boot)) (length d.prepared) (length d.decided)
 
 -- A boot began with what these bodies come to. The manager stands for every state that a restart or an opening leads to from
 -- there, with these settings and without sessions: committed branches of it may have reads, and writes that later ones wrote

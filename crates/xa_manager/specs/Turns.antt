@@ -11,6 +11,7 @@ use Rattle.xa_log.specs.Calls.{AppendCalls}
 use Rattle.xa_log.specs.Stands.{Moves}
 use Rattle.xa_log.specs.TwoFiles.{Pair, AppendsTo}
 use Rattle.xa_log.specs.declared.log.Log.{Log}
+use Rattle.xa_log.specs.declared.record.TheConstants.{AROUND_CLOSED}
 use Rattle.xa_model.specs.declared.outcome.Outcome.{Outcome}
 use Rattle.xa_model.specs.declared.outcome.Outcome.TheVariants.{Quiet, Appended}
 use Rattle.xa_model.specs.declared.outcome.Appending.{Appending}
@@ -55,7 +56,7 @@ doubt_after Lost end = Some (doubt.Record end)
 -- A body was journaled: where the log is alive and has the room, so much was appended.
 pub record HasJournaled {D : Type 0} (disks : Ghosts D) (body : List ℕ) (a : Appending)
     (m m' : Manager D) : Type 0 where
-  pub appended : m.log.lost ≡ false → m.log.end + 40 + length body ≤ m.log.log_bytes
+  pub appended : m.log.lost ≡ false → m.log.end + AROUND_CLOSED + length body ≤ m.log.log_bytes
       → HasAppended disks body a m.log m'.log
   pub up : m.up ≡ true → m'.up ≡ up_after a
   pub doubt : m'.doubt ≡ doubt_after a m.log.end

@@ -3,6 +3,7 @@ ghost use Rattle.std.specs.List.{AllByRecursion};
 ghost use Rattle.xa_log.specs.Chain.{IsBody, newest, text};
 ghost use Rattle.xa_log.specs.Pair.{generation};
 ghost use Rattle.xa_log.specs.Reading.{bodies_of};
+ghost use Rattle.xa_log.specs.declared.record.TheConstants.{LENGTH_BYTES};
 ghost use Rattle.xa_manager.specs.Opening.{HasBodies};
 
 use xa_disk::Disk;
@@ -17,7 +18,7 @@ pub(crate) fn log_first<D: Disk>(log: &mut Log<D>, is_empty: bool, bodies: &[Vec
         → HasBodies D.Disk old log.old → HasBodies D.Disk (bodies_of bodies.now) log.new }
     ensures full { D.honest → result ≡ Appended.Full → (old : List (List ℕ)) → (is_empty ≡ true → old ≡ [])
         → HasBodies D.Disk old log.old
-        → log.old.log_bytes < length (text newest (bodies_of bodies.now)) + 4 }
+        → log.old.log_bytes < length (text newest (bodies_of bodies.now)) + LENGTH_BYTES }
     ensures settings { log.new.log_bytes ≡ log.old.log_bytes }
 {
     if is_empty && bodies.len() == 1 {

@@ -3,18 +3,18 @@ ghost use Rattle.xa_record.specs.declared.record.TheConstants.{MOST_BODY};
 ghost use Rattle.xa_record.specs.Small.{IsSmall};
 ghost use Rattle.xa_record.specs.Spelling.{spelled};
 ghost use Rattle.xa_log.specs.Chain.{IsBody};
+ghost use Rattle.xa_log.specs.declared.record.TheConstants.{AROUND_BODY};
 ghost use Rattle.xa_model.specs.State.{State};
 ghost use Rattle.xa_model.specs.Logging.{log_room, prepared_count};
-ghost use Rattle.xa_manager.specs.declared.room.TheConstants.{AROUND_BODY};
 ghost use Rattle.xa_manager.specs.Managed.{ManagerStandsFor};
 ghost use Rattle.xa_manager.specs.Turns.{HasJournaled};
 
 use crate::doubt::Doubt;
 use crate::manager::Manager;
-use crate::room::{AROUND_BODY, leaves_room};
+use crate::room::leaves_room;
 use arrayvec::ArrayVec;
 use xa_disk::Disk;
-use xa_log::Appended;
+use xa_log::{AROUND_BODY, Appended};
 use xa_model::Appending;
 use xa_record::{MOST_BODY, MOST_SMALL, Record, write_small};
 
@@ -31,7 +31,10 @@ impl<D: Disk> Manager<D> {
         if len > MOST_BODY {
             return false;
         }
-        let end = self.log.end().saturating_add(len as u64 + AROUND_BODY);
+        let end = self
+            .log
+            .end()
+            .saturating_add(len as u64 + AROUND_BODY as u64);
         let prepared = (self.tables.branches.prepared() as u64).saturating_add(more);
         let completed = self.tables.branches.completed() as u64;
         leaves_room(end, prepared, completed, self.tables.log_bytes)

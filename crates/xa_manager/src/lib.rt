@@ -12,7 +12,7 @@
 //! - a boot: `settings`, `Settings` and their limits; `opening` or `restarting`, how it begins; `boots`, what is made
 //!   ready for it, and `rebuilding` its tables; `first_records`, how an opening logs it; `fault`: `ManagerFault`, why
 //!   there is no manager
-//! - `laws`: what a crash leaves, and what is promised of histories; `planning`: planned faults in memory
+//! - `laws`: what a crash leaves, what is promised of histories, that sizes agree; `planning`: planned faults in memory
 #![tactic(auto)]
 
 mod acts;
@@ -48,9 +48,9 @@ pub use doubt::Doubt;
 pub use fault::ManagerFault;
 pub use laws::{
     begun_is_reached, crash_leaves, files_last, memory_is_trusted, one_promises, reached_promises,
-    read_leaves, read_stands,
+    read_leaves, read_stands, sizes_agree,
 };
 pub use manager::Manager;
 pub use replies::{connect_reply, memory_reply};
-pub use room::{DECIDED_ROOM, PREPARED_ROOM};
 pub use settings::{LEAST_LOG, MOST_LOG, MOST_NAME, Settings};
+pub use xa_model::{DECIDED_ROOM, PREPARED_ROOM};

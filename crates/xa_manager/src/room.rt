@@ -4,18 +4,8 @@ ghost use Rattle.xa_log.specs.Chain.{IsBody, newest, text};
 ghost use Rattle.xa_log.specs.Reading.{bodies_of};
 ghost use Rattle.xa_model.specs.Logging.{log_room, prepared_room, decided_room};
 
-use xa_log::{Format, end_of};
-use xa_record::MOST_SMALL;
-use xa_xid::MOST_BYTES;
-
-/// How many bytes a record takes in the log beside its body, a length and a digest.
-pub(crate) const AROUND_BODY: u64 = 36;
-/// The log's closing length.
-const CLOSING: u64 = 4;
-/// The most bytes of what forgets a branch, a kind and an XID.
-pub const DECIDED_ROOM: u64 = AROUND_BODY + 1 + MOST_BYTES as u64;
-/// The most bytes of what completes a prepared branch and of what forgets it.
-pub const PREPARED_ROOM: u64 = AROUND_BODY + MOST_SMALL as u64 + DECIDED_ROOM;
+use xa_log::{Format, LENGTH_BYTES, end_of};
+use xa_model::{DECIDED_ROOM, PREPARED_ROOM};
 
 /// The room that a log keeps for so many prepared branches and completed XIDs. None where it is over 2^64 - 1 bytes.
 fn kept_room(prepared: u64, completed: u64) -> Option<u64>
@@ -30,7 +20,10 @@ fn kept_room(prepared: u64, completed: u64) -> Option<u64>
 pub(crate) fn leaves_room(end: u64, prepared: u64, completed: u64, log_bytes: u64) -> bool
     ensures { result ≡ log_room log_bytes end prepared completed }
 {
-    match (end.checked_add(CLOSING), kept_room(prepared, completed)) {
+    match (
+        end.checked_add(LENGTH_BYTES as u64),
+        kept_room(prepared, completed),
+    ) {
         (Some(end), Some(kept)) => match end.checked_add(kept) {
             Some(needed) => needed <= log_bytes,
             None => false,

@@ -6,7 +6,7 @@ pub const MOST_NAME: usize = MOST_INFO;
 /// The least size of a log, in bytes.
 pub const LEAST_LOG: u64 = 64;
 /// The greatest size of a log, in bytes.
-pub const MOST_LOG: u64 = 1_073_741_824;
+pub const MOST_LOG: u64 = xa_log::MOST_LOG;
 
 /// How a manager is set up: its name, of at most `MOST_NAME` bytes, which an Open has to give, and the size that its
 /// log may reach, of `LEAST_LOG` to `MOST_LOG` bytes.
