@@ -7,7 +7,7 @@ use Rattle.xa_log.specs.declared.fault.OpenFault.{OpenFault}
 use Rattle.xa_log.specs.declared.fault.OpenFault.TheVariants.{NotALog, TooNew, TooLong}
 use Rattle.xa_log.specs.declared.format.Format.{Format}
 use Rattle.xa_log.specs.declared.format.TheConstants.{FORMAT_BYTES, PREAMBLE_BYTES}
-use Rattle.xa_log.specs.declared.looking.TheConstants.{NUMBER_PLACE, NUMBER_END}
+use Rattle.xa_log.specs.declared.looking.TheConstants.{NUMBER_OFFSET, NUMBER_END}
 use Rattle.xa_log.specs.Chain.{start, preamble, format_of, format_in, body_at, is_record, logged}
 use Rattle.xa_log.specs.Reading.{is_newer}
 
@@ -15,7 +15,7 @@ use Rattle.xa_log.specs.Reading.{is_newer}
 unfoldable pub number_in : List ℕ → ℕ
 number_in body =
     if nat_le NUMBER_END (length body)
-    then from_be_bytes w32 (take (NUMBER_END - NUMBER_PLACE) (drop NUMBER_PLACE body)) else 0
+    then from_be_bytes w32 (take (NUMBER_END - NUMBER_OFFSET) (drop NUMBER_OFFSET body)) else 0
 
 -- a log's generation: the number in its first body, 0 where it has none
 abbrev pub generation : List (List ℕ) → ℕ

@@ -45,7 +45,7 @@ pub use laws::{
     pair_is_current_or_new, plain_by_body, stray_is_possible,
 };
 pub use log::{Log, MOST_LOG};
-pub use looking::{NUMBER_END, NUMBER_PLACE};
+pub use looking::{NUMBER_END, NUMBER_OFFSET};
 pub use opened::Opened;
 pub use opening::{create_on, open_on, read_log};
 pub use record::{AROUND_BODY, AROUND_CLOSED, DIGEST_BYTES, LENGTH_BYTES, MOST_BODY, MOST_RECORD};

@@ -20,7 +20,7 @@ use std::mem;
 use xa_disk::{Disk, DiskFault};
 
 /// Where in a body its number stands, which in the first body is the log's generation.
-pub const NUMBER_PLACE: usize = 1;
+pub const NUMBER_OFFSET: usize = 1;
 
 /// Where that number ends. A shorter body has the number 0.
 pub const NUMBER_END: usize = 5;
@@ -114,7 +114,7 @@ fn number_of(body: &[u8]) -> usize
     if body.len() < NUMBER_END {
         return 0;
     }
-    size_of(&body[NUMBER_PLACE..NUMBER_END])
+    size_of(&body[NUMBER_OFFSET..NUMBER_END])
 }
 
 // The number of the record behind a log's format, if one stands there that chains. The window has the file's
