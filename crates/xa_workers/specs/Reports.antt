@@ -24,7 +24,8 @@ KeepsAll receipts receipts' others missing =
 -- the receipt is the last one now, or it found no memory and was counted
 abbrev pub Keeps : List Receipt → List Receipt → ℕ → ℕ → Receipt → Type 0
 Keeps receipts receipts' dropped dropped' receipt =
-    ((receipts' ≡ receipts ++ receipt ∷ []) × (dropped' ≡ dropped)) ⊎ ((receipts' ≡ receipts) × (dropped' ≡ dropped + 1))
+    ((receipts' ≡ receipts ++ receipt ∷ []) × (dropped' ≡ dropped))
+    ⊎ ((receipts' ≡ receipts) × (dropped' ≡ dropped + 1))
 
 -- the others' receipts came behind, or found no memory and were counted
 abbrev pub Joins : {L : Type 0} → Report L → Report L → Report L → Type 0
