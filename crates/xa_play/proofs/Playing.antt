@@ -95,8 +95,8 @@ shows trusted n m m' asked (Some reply) run h event stands =
 
 planned_stays : (result : Result (Unit {0}) AllocError) (file : LogFile) (call : ℕ) (effect : CallEffect) (m m' : Manager MemDisk) →
     Planned result file call effect m m' → Stays m m'
-planned_stays result Current call effect m m' h = h.2
-planned_stays result Other call effect m m' h = h.2
+planned_stays result Current call effect m m' h = h.2.0
+planned_stays result Other call effect m m' h = h.2.0
 
 -- the manager was opened again, on files to which the state of a run comes
 reopens : (name : List ℕ) (n : ℕ) (m' : Manager MemDisk) (run : Run) → IsRun run

@@ -49,13 +49,18 @@ abbrev pub as_effect : CallEffect → Effect
 as_effect script.Kept = planned.Kept
 as_effect script.Lost = planned.Lost
 
--- It is planned, of the file that the line names, that this device call fails with this effect. Nothing else changes: neither
--- the other file's disk, nor what the manager stands for, nor the outcome that it tells.
-abbrev pub Planned : Result (Unit {0}) AllocError → LogFile → ℕ → CallEffect → Manager MemDisk → Manager MemDisk → Type 0
+-- neither what the manager stands for changes, nor the outcome that it tells
+abbrev pub StaysAndTells : Manager MemDisk → Manager MemDisk → Type 0
+StaysAndTells m m' = Stays m m' × (m'.outcome ≡ m.outcome)
+
+-- It is planned, of the file that the line names, that this device call fails with this effect. Nothing else changes:
+-- neither the other file's disk, nor what the manager stands for, nor the outcome that it tells.
+abbrev pub Planned : Result (Unit {0}) AllocError → LogFile → ℕ → CallEffect → Manager MemDisk → Manager MemDisk
+    → Type 0
 Planned result Current call effect m m' =
-    Plans result call (as_effect effect) m.log.disk m'.log.disk × (m'.log.other ≡ m.log.other) × Stays m m' × (m'.outcome ≡ m.outcome)
+    Plans result call (as_effect effect) m.log.disk m'.log.disk × (m'.log.other ≡ m.log.other) × StaysAndTells m m'
 Planned result Other call effect m m' =
-    Plans result call (as_effect effect) m.log.other m'.log.other × (m'.log.disk ≡ m.log.disk) × Stays m m' × (m'.outcome ≡ m.outcome)
+    Plans result call (as_effect effect) m.log.other m'.log.other × (m'.log.disk ≡ m.log.disk) × StaysAndTells m m'
 
 -- what a read gives of the two files
 abbrev pub first_seen : Manager MemDisk → List ℕ
@@ -66,13 +71,16 @@ second_seen m = seen (second_of m.log)
 
 -- the files of a manager's log stand for whichever state it stands for
 abbrev pub FilesStand : Type 0
-FilesStand = (m : Manager MemDisk) (s : State) → StandsFor m s → FilesStandFor s.log_bytes (first_seen m) (second_seen m) s × IsRecoverable s
+FilesStand =
+    (m : Manager MemDisk) (s : State) → StandsFor m s
+    → FilesStandFor s.log_bytes (first_seen m) (second_seen m) s × IsRecoverable s
 
 -- a manager that was opened on two files stands for what opening leads to, from whichever state they stand for
 abbrev pub OpenedOn : List ℕ → ℕ → List ℕ → List ℕ → Manager MemDisk → Type 0
 OpenedOn name log_bytes first second m =
     (t : State) → IsRecoverable t → FilesStandFor log_bytes first second t
-    → (survived : Bool) × IsSomeAnd (step t (Reopened name log_bytes) (Reread survived (Some Kept))) (λ a. StandsFor m a.after)
+    → (survived : Bool)
+    × IsSomeAnd (step t (Reopened name log_bytes) (Reread survived (Some Kept))) (λ a. StandsFor m a.after)
 
 -- these are what a crash may leave of the two files of a log that stands behind the state
 pub record CrashLeaves (s : State) (first second : List ℕ) : Type 0 where

@@ -22,9 +22,13 @@ use Rattle.xa_play.specs.Plays.{PlaysLine, CutsLine, IsOpening, Prints, lines_of
 use Rattle.xa_play.specs.declared.fault.PlayFault.{PlayFault}
 use Rattle.xa_play.specs.declared.fault.PlayFault.TheVariants as faults
 
+-- an opening was refused
+abbrev pub IsRefusal : PlayFault → Type 0
+IsRefusal fault = (refused : ManagerFault) × (fault ≡ faults.Manager refused)
+
 -- an opening found no memory, or it was refused
 abbrev pub IsOpeningFault : PlayFault → Type 0
-IsOpeningFault fault = (fault ≡ faults.Memory) ⊎ ((refused : ManagerFault) × (fault ≡ faults.Manager refused))
+IsOpeningFault fault = (fault ≡ faults.Memory) ⊎ IsRefusal fault
 
 -- the faults that end a play in its lines
 abbrev pub IsLinesFault : PlayFault → Type 0
@@ -32,7 +36,7 @@ IsLinesFault fault = (fault ≡ faults.Write) ⊎ IsOpeningFault fault
 
 -- a line found no memory, or it opens the manager again, and that was refused
 abbrev pub AnswerFails : Line → PlayFault → Type 0
-AnswerFails said fault = (fault ≡ faults.Memory) ⊎ (IsOpening said × ((refused : ManagerFault) × (fault ≡ faults.Manager refused)))
+AnswerFails said fault = (fault ≡ faults.Memory) ⊎ (IsOpening said × IsRefusal fault)
 
 -- over the settings
 module _ (name : List ℕ) (log_bytes : ℕ) where
@@ -48,9 +52,11 @@ module _ (name : List ℕ) (log_bytes : ℕ) where
   LineAnswered m Unknown answer m' = (answer ≡ Some (detailed XAER_INVAL detail.Frame)) × (m' ≡ m)
   LineAnswered m Connect answer m' = IsSomeAnd answer (λ reply. Answered m event.Connect reply m')
   LineAnswered m (Hangup n) answer m' = IsSomeAnd answer (λ reply. Answered m (event.Hangup n) reply m')
-  LineAnswered m (Call n request) answer m' = IsAsked request × IsSomeAnd answer (λ reply. Answered m (event.Call n request) reply m')
+  LineAnswered m (Call n request) answer m' =
+      IsAsked request × IsSomeAnd answer (λ reply. Answered m (event.Call n request) reply m')
   LineAnswered m (Fail file call effect) answer m' = (answer ≡ None) × Planned (Ok tt) file call effect m m'
-  LineAnswered m Reopen answer m' = (answer ≡ Some (plain (pos 0))) × OpenedOn name log_bytes (first_seen m) (second_seen m) m'
+  LineAnswered m Reopen answer m' =
+      (answer ≡ Some (plain (pos 0))) × OpenedOn name log_bytes (first_seen m) (second_seen m) m'
   LineAnswered m Crash answer m' = (answer ≡ Some (plain (pos 0))) × Crashed m m'
 
   -- the manager stands for the state that a run led to, which has the size of log that was set
@@ -70,7 +76,8 @@ module _ (name : List ℕ) (log_bytes : ℕ) where
   -- what the line says is answered by the manager, and leaves this of it
   abbrev pub LineIsAnswered : Manager MemDisk → List ℕ → Manager MemDisk → Type 0
   LineIsAnswered m line m' =
-      (said : Line) × (answer : Option Reply) × ((xid_of : List ℕ → Option Triple) → ReadsTexts xid_of → said ≡ lines.line_of xid_of line)
+      (said : Line) × (answer : Option Reply)
+      × ((xid_of : List ℕ → Option Triple) → ReadsTexts xid_of → said ≡ lines.line_of xid_of line)
       × LineAnswered m said answer m'
 
   -- By its end, what a line printed: no memory is found before anything of it is written, and so is a refused opening.

@@ -38,7 +38,8 @@ Steps run happening outcome reply Then =
     (after : State) × (step run.now happening outcome ≡ Some (record { reply = reply; after = after }))
     × Then (behind run (record { happening = happening; outcome = outcome; reply = reply }) after)
 
--- An event is answered, and its reply shown: it is a step, or memory was wanted, where it may be, and then it is no entry.
+-- An event is answered, and its reply shown: it is a step, or memory was wanted, where it may be, and then it is no
+-- entry.
 abbrev pub Shows : Run → Event → List ℕ → (Run → Type 0) → Type 0
 Shows run asked text Then =
     (reply : Reply) × (text ≡ replies.line_of reply)
@@ -59,11 +60,12 @@ IsOpening _ = ⊥
 module _ (name : List ℕ) (log_bytes : ℕ) where
   -- The state is opened again: the record whose fate was unknown is found there, or not, and a new boot is logged.
   abbrev pub Reopens : Run → (Run → Type 0) → Type 0
-  Reopens run Then = (survived : Bool) × Steps run (Reopened name log_bytes) (Reread survived (Some Kept)) (plain (pos 0)) Then
+  Reopens run Then =
+      (survived : Bool) × Steps run (Reopened name log_bytes) (Reread survived (Some Kept)) (plain (pos 0)) Then
 
-  -- What a line prints, and that this holds of the run with it. Of a crash that is said of every run to whose state the two
-  -- files come that it left: it goes on with that run, opened again. Where they come to the state before the crash, as they do
-  -- where nothing is left to chance, that is the run so far.
+  -- What a line prints, and that this holds of the run with it. Of a crash that is said of every run to whose state the
+  -- two files come that it left: it goes on with that run, opened again. Where they come to the state before the crash,
+  -- as they do where nothing is left to chance, that is the run so far.
   abbrev pub PlaysLine : Run → Line → List ℕ → (Run → Type 0) → Type 0
   PlaysLine run Silent text Then = (text ≡ []) × Then run
   PlaysLine run Unknown text Then = (text ≡ replies.line_of (detailed XAER_INVAL detail.Frame)) × Then run
@@ -76,8 +78,8 @@ module _ (name : List ℕ) (log_bytes : ℕ) where
       (text ≡ opened_line) × (first : List ℕ) × (second : List ℕ) × CrashLeaves run.now first second
       × ((left : Run) → IsRun left → FilesStandFor log_bytes first second left.now → Reopens left Then)
 
-  -- Some first lines are played, one after another, and of the run behind each of them the first holds. Of the run behind them
-  -- all, of the lines that are left and of the text behind theirs the second holds.
+  -- Some first lines are played, one after another, and of the run behind each of them the first holds. Of the run
+  -- behind them all, of the lines that are left and of the text behind theirs the second holds.
   abbrev pub PlaysTo : (Run → Type 0) → (Run → List Line → List ℕ → Type 0) → Run → List Line → List ℕ → Type 0
   PlaysTo Holds Ends run [] text = Ends run [] text
   PlaysTo Holds Ends run (line ∷ lines) text =
@@ -108,9 +110,9 @@ module _ (name : List ℕ) (log_bytes : ℕ) where
   Refuses run [] text = ⊥
   Refuses run (line ∷ lines) text = IsOpening line × (text ≡ [])
 
-  -- By the end of a play, what was printed. No memory: all that some first lines print. A write or the flush failed: what
-  -- the lines up to one of them print, but for a last part of it, or what all lines print. The manager couldn't be opened:
-  -- nothing at the start, or all that the lines before an opening print. Before that nothing was printed.
+  -- By the end of a play, what was printed. No memory: all that some first lines print. A write or the flush failed:
+  -- what the lines up to one of them print, but for a last part of it, or what all lines print. The manager couldn't be
+  -- opened: nothing at the start, or all that the lines before an opening print. Before that nothing was printed.
   abbrev pub Prints : {X : Type 0} → (Run → Type 0) → Result X PlayFault → Run → List Line → List ℕ → Type 0
   Prints Holds (Ok x) run lines text = PlaysTo Holds Done run lines text
   Prints Holds (Err Memory) run lines text = PlaysTo Holds Stops run lines text
@@ -132,8 +134,8 @@ WasRead (Err _) = ⊥
 abbrev pub IsTooLong : List ℕ → Type 0
 IsTooLong bytes = MOST_SCRIPT < length bytes
 
--- A play, on a manager that was opened on two empty disks: its script, which is what the reader had where that is known, and
--- the text that was written, which is what the end says. Of the run behind each line this holds.
+-- A play, on a manager that was opened on two empty disks: its script, which is what the reader had where that is
+-- known, and the text that was written, which is what the end says. Of the run behind each line this holds.
 pub record Plays {X : Type 0} (Holds : Run → Type 0) (name : List ℕ) (log_bytes : ℕ) (end : Result X PlayFault)
     (input output output' : Option (List ℕ)) : Type 0 where
   pub script : List ℕ

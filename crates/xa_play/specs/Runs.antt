@@ -42,9 +42,10 @@ pub record Prepares (xid : Triple) (entries : List Entry) : Type 0 where
   pub prepared : HasPrepared xid prepare
   pub unasked : AllByRecursion (λ e. AsksCompletion xid e → ⊥) later
 
--- One copy: the committed branches read what they read if they are executed one at a time, in the order of their timestamps.
--- A vote to commit is kept: what was prepared is listed until somebody asks for its completion. Both hold of every run that
--- begins with a new manager, and of each other one that begins without reads, and without branches that are marked with success.
+-- One copy: the committed branches read what they read if they are executed one at a time, in the order of their
+-- timestamps. A vote to commit is kept: what was prepared is listed until somebody asks for its completion. Both hold
+-- of every run that begins with a new manager, and of each other one that begins without reads, and without branches
+-- that are marked with success.
 pub record IsLawful (run : Run) : Type 0 where
   pub legal : IsRun run
   pub recoverable : IsRecoverable run.now

@@ -18,16 +18,17 @@ use xa_manager::{Manager, Settings, memory_is_trusted};
 use xa_output::write_text;
 use xa_script::{first_part, read_line, reply_line};
 
-/// Opens a manager on two empty disks in memory, reads the whole script, and then runs it: each line that asks something is
-/// answered by one line.
+/// Opens a manager on two empty disks in memory, reads the whole script, and then runs it: each line that asks
+/// something is answered by one line.
 ///
 /// Settings out of their limits are found before anything is read, a script that can't be read and one that is too long
 /// before anything is written. What was answered before a later fault is written. What is printed is a legal run of the
-/// sequential resource manager, with some outcomes of the disks. Behind a line `crash` that is said of every run to whose
-/// state the files come that the crash left: then the lines behind it go on with that run, opened again.
+/// sequential resource manager, with some outcomes of the disks. Behind a line `crash` that is said of every run to
+/// whose state the files come that the crash left: then the lines behind it go on with that run, opened again.
 ///
-/// Of the run behind each line: the committed branches read what they would read if they were executed one at a time, in the
-/// order of their timestamps; and each XID whose prepare was answered XA_OK is listed, unless its completion was asked for.
+/// Of the run behind each line: the committed branches read what they would read if they were executed one at a time,
+/// in the order of their timestamps; and each XID whose prepare was answered XA_OK is listed, unless its completion was
+/// asked for.
 pub fn play_run<R: Read + Drop, W: Write>(
     alloc: Global,
     reader: &mut R,
