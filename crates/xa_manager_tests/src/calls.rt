@@ -197,11 +197,13 @@ fn limits_of_sessions_and_branches(rt: HostRuntime) {
     none_wrong(&rt, wrong_limit(rt.alloc()));
 }
 
-/// The record that says that `1:aa:bb` is prepared, as a value: the record of the first boot stands before it in the log.
+/// The record that says that `1:aa:bb` is prepared, as a value: the record of the first boot stands before it in the
+/// log.
 const A_RECORD: &str = "connect
 1 open TMNOFLAGS xarm
 1 start TMNOFLAGS 1:aa:bb
-1 put 6b 0000001902000000010101aabb00000001000000010001016b01000176320f6b1c6c31d6472f4b1ad251e712f2fb4a018db35e9ff78146319158704223
+1 put 6b 0000001902000000010101aabb00000001000000010001016b01000176\
+    320f6b1c6c31d6472f4b1ad251e712f2fb4a018db35e9ff78146319158704223
 1 end TMSUCCESS 1:aa:bb
 1 commit TMONEPHASE 1:aa:bb
 reopen
@@ -223,7 +225,8 @@ const READ_BACK: &str = "0 Nothing number 1
 0 Nothing
 0 Nothing xids
 0 Nothing number 8589934593
-0 Nothing value 0000001902000000010101aabb00000001000000010001016b01000176320f6b1c6c31d6472f4b1ad251e712f2fb4a018db35e9ff78146319158704223
+0 Nothing value 0000001902000000010101aabb00000001000000010001016b01000176\
+    320f6b1c6c31d6472f4b1ad251e712f2fb4a018db35e9ff78146319158704223
 ";
 
 #[test]

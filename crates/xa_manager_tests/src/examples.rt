@@ -2,8 +2,8 @@ use crate::rows::none_wrong;
 use crate::scripted::{wrong_end, wrong_play};
 use xa_rows::{Line, OK, Play};
 
-// The scripts of examples/, each line with what it prints. Comments are left out: they ask nothing. `.ci/examples` says whether
-// they stand here as they stand there.
+// The scripts of examples/, each line with what it prints. Comments are left out: they ask nothing. `.ci/examples` says
+// whether they stand here as they stand there.
 
 const BUSY_READ: [Line; 14] = [
     ("connect", "0 Nothing number 1"),

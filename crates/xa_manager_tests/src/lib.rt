@@ -1,11 +1,13 @@
-//! Tests of what no clause says, of a manager: its answers, how many versions it keeps, that its runs are those of one copy,
-//! and scripts that are played, with what they print.
+//! Tests of what no clause says, of a manager: its answers, how many versions it keeps, that its runs are those of one
+//! copy, and scripts that are played, with what they print.
 //!
 //! - `managers`: calls of a manager, whichever one allocation is refused; `versions_kept`: how many versions it keeps
 //! - `lines`: what the lines of a script ask; `calls`: scripts of many calls, and those at limits
-//! - `plays`: ends of a play; `plays_calls`, `plays_failing`, `plays_lost`, `plays_recovered`: worked rows, by what befalls a branch
+//! - `plays`: ends of a play; `plays_calls`, `plays_failing`, `plays_lost`, `plays_recovered`: worked rows, by what
+//!   befalls a branch
 //! - `examples`: the scripts of examples/; `scripted`: how a table of lines and replies is played
-//! - `one_copy`: runs by chance, whose branches are executed one at a time; `one_copy_branches`, `one_copy_scripts`: what those need
+//! - `one_copy`: runs by chance, whose branches are executed one at a time; `one_copy_branches`, `one_copy_scripts`:
+//!   what those need
 //! - `rows`: `none_wrong`
 #![tactic(auto)]
 

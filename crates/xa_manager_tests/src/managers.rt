@@ -12,8 +12,8 @@ use xa_model::Event;
 use xa_rows::LOG_BYTES;
 use xa_xid::Xid;
 
-// Each test passes whichever one allocation fails, since it asks again where memory was wanted, or where a disk in memory
-// found none and failed: `rt try --test --fail-alloc N` makes the N-th fail.
+// Each test passes whichever one allocation fails, since it asks again where memory was wanted, or where a disk in
+// memory found none and failed: `rt try --test --fail-alloc N` makes the N-th fail.
 
 fn opened(alloc: Global) -> Option<Manager<MemDisk>> {
     let name = Bytes::from_slice(alloc, b"xarm").ok()?;
@@ -77,7 +77,8 @@ fn request(alloc: Global, first: &Xid, second: &Xid, index: usize) -> Result<Req
     })
 }
 
-/// What a request of a session is answered. That its numbers are within their types' limits is known once it is encoded.
+/// What a request of a session is answered. That its numbers are within their types' limits is known once it is
+/// encoded.
 pub fn answer(
     manager: &mut Manager<MemDisk>,
     alloc: Global,

@@ -11,16 +11,17 @@ use xa_disk::MemDisk;
 use xa_frame::{Body, Reply, Request};
 use xa_manager::Manager;
 
-// Scripts of four sessions that read and write three keys in each other's way, with restarts in between. What was committed is
-// executed again, branch by branch and by timestamp, on a map of std: each get is to find what it was answered.
+// Scripts of four sessions that read and write three keys in each other's way, with restarts in between. What was
+// committed is executed again, branch by branch and by timestamp, on a map of std: each get is to find what it was
+// answered.
 
 const SCRIPTS: u64 = 100;
 
 /// The events of a script. Its first eight connect the sessions, and open the resource manager for them.
 const EVENTS: u64 = 1000;
 
-/// A session's branch: the number that its XID is made of, its timestamp, and how far the session came with it; and whether a
-/// restart came since it was prepared.
+/// A session's branch: the number that its XID is made of, its timestamp, and how far the session came with it; and
+/// whether a restart came since it was prepared.
 #[derive(Clone, Copy)]
 struct Seat {
     phase: Phase,

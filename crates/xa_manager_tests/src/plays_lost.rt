@@ -211,12 +211,13 @@ fn lost_records(rt: HostRuntime) {
     none_wrong(&rt, wrong_play(rt.alloc(), &CRASHED));
 }
 
-// A value that is a record of the log, with its length and the digest that stood in the log before it: the 61 bytes behind
-// the first boot's record once 1:aa:bb is prepared.
+// A value that is a record of the log, with its length and the digest that stood in the log before it: the 61 bytes
+// behind the first boot's record once 1:aa:bb is prepared.
 const SPELT: [Line; 11] = [
     ("1 start TMNOFLAGS 1:aa:", "0 Nothing number 4294967297"),
     (
-        "1 put 6b 0000001902000000010101aabb00000001000000010001016b01000176320f6b1c6c31d6472f4b1ad251e712f2fb4a018db35e9ff78146319158704223",
+        "1 put 6b 0000001902000000010101aabb00000001000000010001016b01000176\
+         320f6b1c6c31d6472f4b1ad251e712f2fb4a018db35e9ff78146319158704223",
         OK,
     ),
     ("1 end TMSUCCESS 1:aa:", OK),
@@ -227,7 +228,8 @@ const SPELT: [Line; 11] = [
     ("1 start TMNOFLAGS 1:cc:", "0 Nothing number 8589934593"),
     (
         "1 get 6b",
-        "0 Nothing value 0000001902000000010101aabb00000001000000010001016b01000176320f6b1c6c31d6472f4b1ad251e712f2fb4a018db35e9ff78146319158704223",
+        "0 Nothing value 0000001902000000010101aabb00000001000000010001016b01000176\
+         320f6b1c6c31d6472f4b1ad251e712f2fb4a018db35e9ff78146319158704223",
     ),
     ("1 end TMSUCCESS 1:cc:", OK),
     ("1 recover TMSTARTRSCAN|TMENDRSCAN 10", "0 Nothing xids"),
