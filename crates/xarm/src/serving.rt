@@ -10,11 +10,11 @@ use std::thread::Threads;
 use thiserror::Error;
 use xa_codes::Bytes;
 use xa_disk::FileDisk;
-use xa_manager::{Manager, ManagerFault, Settings};
+use xa_manager::{MOST_LOG, Manager, ManagerFault, Settings};
 use xa_server::{ServerFault, audited_lines, serve_manager};
 
-/// How many bytes each of the log's two files may have.
-const LOG_BYTES: u64 = 1_073_741_824;
+/// The most connections until a server ends.
+pub const MOST_SERVED: u64 = 1_000_000;
 
 /// What is to be served.
 #[derive(Clone, Copy, Debug, Drop)]
@@ -23,8 +23,9 @@ pub struct Service<'a> {
     pub path: &'a str,
     pub name: &'a str,
     pub port: u16,
-    /// 1 to 64.
+    /// 1 to `MOST_WORKERS`.
     pub workers: u64,
+    /// 1 to `MOST_SERVED`.
     pub connections: u64,
 }
 
@@ -84,7 +85,7 @@ pub fn serve<
 >(rt: &R, service: &Service) -> Result<bool, ServeFault> {
     let settings = Settings {
         name: Bytes::from_slice(rt.alloc(), service.name.as_bytes())?,
-        log_bytes: LOG_BYTES,
+        log_bytes: MOST_LOG,
     };
     let (first, second) = open_files(rt, service.path)?;
     let Ok(listener) = TcpListener::bind(rt, ("127.0.0.1", service.port)) else {

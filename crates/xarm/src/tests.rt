@@ -1,11 +1,16 @@
 use crate::command::{Ran, run, words as words_of};
 use crate::host::{Given, Host};
+use crate::serving::MOST_SERVED;
 use crate::words::{Asked, read_words};
 use std::alloc::Global;
 use std::cell::RefCell;
 use std::io::ErrorKind;
 use std::process::ExitCode;
 use std::test::Fail;
+use xa_manager::{LEAST_LOG, MOST_LOG, MOST_NAME};
+use xa_play::MOST_SCRIPT;
+use xa_server::MOST_WORKERS;
+use xa_talk::MOST_CONNECTIONS;
 
 /// Words of a command line.
 fn words(alloc: Global, line: &str) -> Result<Vec<String>, Fail> {
@@ -85,6 +90,63 @@ fn command_lines_that_are_refused(rt: HostRuntime) -> Result<(), Fail> {
         assert_eq!(rt; error.exit_code(), 2);
         let shown = format!(in rt.alloc(); "{error}")?;
         assert!(rt; shown.starts_with(text), "{shown}");
+    }
+    Ok(())
+}
+
+/// Whether what is printed for a command line that asks for help has this part.
+fn is_in_help(alloc: Global, line: &str, part: &str) -> Result<bool, Fail> {
+    let words = words(alloc, line)?;
+    let Err(help) = read_words(alloc, words.as_slice()) else {
+        return Ok(false);
+    };
+    let shown = format!(in alloc; "{help}")?;
+    Ok(shown.as_str().contains(part))
+}
+
+#[test]
+fn help_names_the_limits(rt: HostRuntime) -> Result<(), Fail> {
+    let alloc = rt.alloc();
+    for (line, part) in [
+        (
+            "xarm play --help",
+            format!(in alloc; "gives it: 0 to {MOST_NAME} bytes")?,
+        ),
+        (
+            "xarm play --help",
+            format!(in alloc; "may have: {LEAST_LOG} to {MOST_LOG} [default: {MOST_LOG}]")?,
+        ),
+        (
+            "xarm play --help",
+            format!(in alloc; "A script has at most {MOST_SCRIPT} bytes.")?,
+        ),
+        (
+            "xarm scan --help",
+            format!(in alloc; "two files, of at most {MOST_LOG} bytes;")?,
+        ),
+        (
+            "xarm talk --help",
+            format!(in alloc; "a connection, of at most {MOST_CONNECTIONS}.")?,
+        ),
+        (
+            "xarm talk --help",
+            format!(in alloc; "127.0.0.1: 1 to {}\n", u16::MAX)?,
+        ),
+        (
+            "xarm serve --help",
+            format!(in alloc; "gives it: 0 to {MOST_NAME} bytes")?,
+        ),
+        (
+            "xarm serve --help",
+            format!(in alloc; "at a time: 1 to {MOST_WORKERS}\n")?,
+        ),
+        (
+            "xarm serve --help",
+            format!(in alloc; "it ends: 1 to {MOST_SERVED} [default: {MOST_SERVED}]")?,
+        ),
+    ] {
+        let is_named = is_in_help(alloc, line, part.as_str())?;
+        assert!(rt; is_named, "{line}: {part}");
     }
     Ok(())
 }

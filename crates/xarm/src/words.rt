@@ -1,8 +1,11 @@
-//! The words of a command line.
-use crate::serving::Service;
+//! The words of a command line. The help names limits in texts of its own, and a test compares these with the
+//! constants: a text that is made of a number would have to live as long as the words, since `clap` lends both alike.
+use crate::serving::{MOST_SERVED, Service};
 use clap::builder::ValueParser;
 use clap::{Arg, ArgAction, ArgMatches, Command, Error};
 use std::alloc::{AllocError, Global};
+use xa_manager::MOST_LOG;
+use xa_server::MOST_WORKERS;
 
 /// What a command line asks for.
 #[derive(Debug, Drop)]
@@ -53,11 +56,11 @@ fn read_matches<'a>(matches: &ArgMatches<'a>) -> Asked<'a> {
         },
         Some((_, play)) => Asked::Play {
             name: text_of(play, "name", "xarm"),
-            log_bytes: log_bytes_of(text_of(play, "log-bytes", "1073741824")),
+            log_bytes: log_bytes_of(play),
         },
         None => Asked::Play {
             name: "xarm",
-            log_bytes: 1_073_741_824,
+            log_bytes: MOST_LOG,
         },
     }
 }
@@ -66,9 +69,12 @@ fn text_of<'a>(matches: &ArgMatches<'a>, name: &str, absent: &'a str) -> &'a str
     matches.get_str(name).unwrap_or(absent)
 }
 
-/// The number that a word spells. A word that spells none is out of the limits, as 0 is.
-fn log_bytes_of(word: &str) -> u64 {
-    word.parse::<u64>().unwrap_or(0)
+/// How many bytes a file of the log may have. A word that spells no number is out of the limits, as 0 is.
+fn log_bytes_of(play: &ArgMatches) -> u64 {
+    match play.get_str("log-bytes") {
+        Some(word) => word.parse::<u64>().unwrap_or(0),
+        None => MOST_LOG,
+    }
 }
 
 fn play_command<'a>(alloc: Global) -> Result<Command<'a>, AllocError> {
@@ -134,13 +140,13 @@ fn serve_command<'a>(alloc: Global) -> Result<Command<'a>, AllocError> {
         .value_name("N")
         .help("How many connections are served at a time: 1 to 64")
         .required(true)
-        .value_parser(ValueParser::unsigned(1, 64))
+        .value_parser(ValueParser::unsigned(1, MOST_WORKERS))
         .action(ArgAction::Set);
     let connections = Arg::new(alloc, "connections")
         .long("connections")
         .value_name("C")
         .help("After how many connections it ends: 1 to 1000000")
-        .value_parser(ValueParser::unsigned(1, 1_000_000))
+        .value_parser(ValueParser::unsigned(1, MOST_SERVED))
         .action(ArgAction::Set)
         .default_value("1000000");
     Command::new(alloc, "serve")
@@ -159,6 +165,6 @@ fn port<'a>(alloc: Global) -> Arg<'a> {
         .value_name("P")
         .help("The port on 127.0.0.1: 1 to 65535")
         .required(true)
-        .value_parser(ValueParser::unsigned(1, 65_535))
+        .value_parser(ValueParser::unsigned(1, u64::from(u16::MAX)))
         .action(ArgAction::Set)
 }
