@@ -94,7 +94,7 @@ const ROWS: [Row; 6] = [
         sent: &[
             0, 0, 0, 11, 1, 1, 0, 0, 0, 0, 4, 0x78, 0x61, 0x72, 0x6d, 0, 0, 0, 4, 1, 10, 1, 0x6b,
         ],
-        end: Err(TalkFault::Lost),
+        end: Err(TalkFault::Broken),
     },
     // Nobody is reached.
     Row {
@@ -110,7 +110,7 @@ const ROWS: [Row; 6] = [
         answers: &[&[0, 0, 0, 15, 1, 0]],
         printed: "0 Nothing number 1\n",
         sent: &OPEN,
-        end: Err(TalkFault::Lost),
+        end: Err(TalkFault::Broken),
     },
     // What comes is no reply.
     Row {
@@ -157,6 +157,6 @@ fn has_text(alloc: Global, fault: TalkFault, text: &str) -> bool {
 fn texts_of_faults(rt: HostRuntime) {
     let alloc = rt.alloc();
     assert!(rt; has_text(alloc, TalkFault::Connect, "xarm: cannot connect"));
-    assert!(rt; has_text(alloc, TalkFault::Lost, "xarm: connection lost"));
+    assert!(rt; has_text(alloc, TalkFault::Broken, "xarm: connection lost"));
     assert!(rt; has_text(alloc, TalkFault::NoReply, "xarm: no reply"));
 }
