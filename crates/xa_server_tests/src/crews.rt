@@ -26,7 +26,7 @@ const CALLS: u8 = 9;
 const EVENTS: usize = 48;
 
 // The calls of one round: a branch writes the key, and when it is committed another reads it back.
-fn round_request(alloc: Global, key: u8, round: u8, place: u8) -> Option<Request>
+fn round_request(alloc: Global, key: u8, round: u8, index: u8) -> Option<Request>
     ensures { IfSome result IsRequest }
 {
     let branch = if index < 5 { 0 } else { 1 };
