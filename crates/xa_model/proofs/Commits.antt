@@ -10,7 +10,7 @@ use Rattle.xa_model.proofs.LastWrites.{last_written, last_are_last, last_same, l
 use Rattle.xa_model.proofs.Splits.{insert_front}
 
 -- which keys are written with one more
-swapped : (a b c : Bool) → (a || (b || c)) ≡ (b || (a || c))
+pub swapped : (a b c : Bool) → (a || (b || c)) ≡ (b || (a || c))
 swapped true true c = refl
 swapped true false c = refl
 swapped false true c = refl

@@ -34,7 +34,8 @@ abbrev pub heuristic_refusal : Known → Option Reply
 heuristic_refusal (Completed direction) = Some (plain (heuristic_code direction))
 heuristic_refusal _ = None
 
--- Commit with TMONEPHASE: a branch that is associated, prepared or completed is not committed in one phase
+-- Prepare, and Commit with TMONEPHASE: a branch that is associated, prepared or completed is neither prepared nor
+-- committed in one phase
 
 abbrev pub one_phase_refusal : Known → Bool → Option Reply
 one_phase_refusal known is_associated =
