@@ -13,6 +13,7 @@ use Rattle.mv_chain.specs.Accesses.{Written, Answered, nobody, seen_of, has_unde
 use Rattle.mv_chain.specs.Chain.{base, fresh, as_written, shows, shows_without, is_marked, StandsFor as ChainStandsFor}
 use Rattle.mv_chain.specs.Idle.{is_unused, is_idle}
 use Rattle.mv_chain.proofs.Seen.{undecided_seen}
+use Rattle.xa_model.proofs.Rows.{nothing}
 use Rattle.mv_rules.specs.declared.records.Records.{Records}
 use Rattle.mv_rules.specs.declared.own.Own.{Own}
 use Rattle.mv_rules.specs.Accesses.{Accesses, IsWholeAt}
@@ -25,10 +26,6 @@ use Rattle.mv_rules.proofs.Tests.{same_key, keys_differ}
 
 -- what an idle chain shows
 
-no_value : {A : Type 0} (o : Option A) → is_some o ≡ false → o ≡ None
-no_value None e = refl
-no_value (Some x) e = absurd (cc e)
-
 pub record IsUnused (low : ℕ) (v : Version) : Type 0 where
   pub timestamp : v.timestamp ≡ 0
   pub value : v.value ≡ None
@@ -38,7 +35,7 @@ pub record IsUnused (low : ℕ) (v : Version) : Type 0 where
 unused : (low : ℕ) (v : Version) → is_unused low v ≡ true → IsUnused low v
 unused low v e = record {
   timestamp = grind (arith, nat_tests, e);
-  value = no_value v.value (grind (arith, e));
+  value = nothing v.value (grind (arith, e));
   pending = grind (arith, e);
   mark = grind (arith, nat_tests, e);
 }

@@ -7,6 +7,7 @@ use Rattle.mv_chain.specs.declared.fate.Fate.{Fate}
 use Rattle.mv_chain.specs.declared.fate.Fate.TheVariants.{Committed as kept, RolledBack as gone}
 use Rattle.mv_chain.specs.Accesses.{Written, Answered, newest, stands, seen_without, is_undecided, has_undecided}
 use Rattle.mv_chain.proofs.Seen.{seen_behind, seen_swapped, seen_alike}
+use Rattle.xa_model.proofs.Commits.{swapped}
 use Rattle.mv_rules.specs.declared.records.Records.{Records}
 use Rattle.mv_rules.specs.Accesses.{undecided_keys}
 use Rattle.mv_rules.specs.Records.{StandsFor}
@@ -48,11 +49,6 @@ pub same_after : (us ws vs : List Written) → IsSameWrites ws vs → IsSameWrit
 same_after [] ws vs h = h
 same_after (u ∷ us) ws vs h = same_behind u (us ++ ws) (us ++ vs) (same_after us ws vs h)
 
-or_swap : (a b c : Bool) → (a || (b || c)) ≡ (b || (a || c))
-or_swap true true c = refl
-or_swap true false c = refl
-or_swap false b c = refl
-
 -- the open keys of two writes of different timestamps
 swapped_count : (t : ℕ) (a b : Written) (ws : List Written) (x y : Bool) → (a.timestamp == t) ≡ x → (b.timestamp == t) ≡ y → (a.timestamp ≡ b.timestamp → ⊥) → undecided_keys t (a ∷ b ∷ ws) ≡ undecided_keys t (b ∷ a ∷ ws)
 swapped_count t a b ws true true ex ey ne = absurd (ne (grind (arith, nat_tests)))
@@ -64,7 +60,7 @@ pub same_swapped : (a b : Written) (ws : List Written) → (a.timestamp ≡ b.ti
 same_swapped a b ws ne = record {
   seen = λ has. seen_swapped (counts_at has) a b ws ne;
   held = λ key t.
-      or_swap (bytes_eq key a.key && ((a.timestamp == t) && is_undecided a.fate)) (bytes_eq key b.key && ((b.timestamp == t) && is_undecided b.fate)) (has_undecided key t ws);
+      swapped (bytes_eq key a.key && ((a.timestamp == t) && is_undecided a.fate)) (bytes_eq key b.key && ((b.timestamp == t) && is_undecided b.fate)) (has_undecided key t ws);
   count = λ t. swapped_count t a b ws (a.timestamp == t) (b.timestamp == t) refl refl ne;
 }
 

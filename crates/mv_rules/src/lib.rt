@@ -11,7 +11,8 @@
 //! - `own`: `Own`, a key of a branch, and the notes of what each branch has written and read; `writes`: what a branch
 //!   leaves, key by key
 //! - `verdict`: what a put is to do; `steps`: what a read, a write and a settling do to one chain
-//! - `laws`: `one_history`, that the histories of `xa_model` say the same; `restoring`, what is built anew of a log
+//! - `laws`: `one_history`, that the histories of `xa_model` say the same; `restoring`, what is built anew of a log;
+//!   `reads_leave_nothing`, that branches which only read absent keys leave nothing
 #![tactic(auto)]
 
 mod answers;

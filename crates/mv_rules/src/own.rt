@@ -8,7 +8,7 @@ use std::collections::BTreeMap;
 use std::mem;
 use xa_codes::Bytes;
 
-/// A key that a branch has written, and the index of its chain.
+/// A key that a branch has written, and the index of its chain; or one that it has read, with 0.
 #[derive(Debug, Drop)]
 pub struct Own {
     pub key: Bytes,

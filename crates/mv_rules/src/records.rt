@@ -97,7 +97,7 @@ impl Records {
         }
     }
 
-    /// Forgets a key that nobody has written, and whose reads lie below `low`. Takes no memory.
+    /// Forgets a key that nobody has written, and that nobody has read above `low`. Takes no memory.
     fn forget(&mut self, key: &[u8], low: u64)
         ensures stands { IfStood self.old (λ h. IsWholeAt key.now h.writes → low ≤ h.low → StandsFor h self.new) }
         ensures kept { IfStood self.old (λ h. KeepsBut key.now (forgotten low) self.old self.new) }
