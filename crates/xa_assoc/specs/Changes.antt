@@ -3,6 +3,7 @@
 use Rattle.std.specs.Prelude.{ℕ, ◌≡◌, ◌+◌, ◌<◌, ◌==◌, Bool, true, false, not, ◌&&◌, ◌||◌, Option, Some, None, cond, option_map, option_and_then, is_some, if◌then◌else◌}
 use Rattle.xa_xid.specs.Triple.{Triple, xid_eq}
 use Rattle.xa_model.specs.State.{is_with}
+use Rattle.xa_model.specs.declared.limits.TheConstants.{MOST_SESSIONS}
 use Rattle.xa_assoc.specs.declared.sessions.Sessions.{Sessions}
 use Rattle.xa_assoc.specs.Free.{is_free}
 use Rattle.xa_assoc.specs.Seats.{connected_in, opened_at, active_at, owns_at, scan_at}
@@ -62,7 +63,7 @@ pub record Comes (m : Sessions) (n : ℕ) (m' : Sessions) : Type 0 where
   pub own : (k : ℕ) (q : Triple) → owns_at m' k q ≡ cond (n == k) false (owns_at m k q)
   pub scan : (k : ℕ) → scan_at m' k ≡ cond (n == k) None (scan_at m k)
   pub connected : opened_at m n ≡ None → connected_in m' ≡ connected_in m + 1
-  pub free : (k : ℕ) → k < 1024 → is_free m'.free k ≡ cond (n == k + 1) false (is_free m.free k)
+  pub free : (k : ℕ) → k < MOST_SESSIONS → is_free m'.free k ≡ cond (n == k + 1) false (is_free m.free k)
 
 -- a session is connected no more
 pub record Goes (m : Sessions) (n : ℕ) (m' : Sessions) : Type 0 where
@@ -71,7 +72,7 @@ pub record Goes (m : Sessions) (n : ℕ) (m' : Sessions) : Type 0 where
   pub own : (k : ℕ) (q : Triple) → owns_at m' k q ≡ cond (n == k) false (owns_at m k q)
   pub scan : (k : ℕ) → scan_at m' k ≡ cond (n == k) None (scan_at m k)
   pub connected : connected_in m' + (if is_some (opened_at m n) then 1 else 0) ≡ connected_in m
-  pub free : (k : ℕ) → k < 1024 → is_free m'.free k ≡ cond (n == k + 1) true (is_free m.free k)
+  pub free : (k : ℕ) → k < MOST_SESSIONS → is_free m'.free k ≡ cond (n == k + 1) true (is_free m.free k)
 
 -- the same sessions are connected and opened, and nothing else is left of them
 pub record Clears (m m' : Sessions) : Type 0 where

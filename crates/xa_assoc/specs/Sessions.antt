@@ -8,6 +8,7 @@ use Rattle.xa_model.specs.Answer.{Answer, answer}
 use Rattle.xa_model.specs.Associations.{is_taken, is_unknown, is_lasting, can_end, start_refusal, join_refusal, resume_refusal, end_refusal}
 use Rattle.xa_model.specs.Sound.{IsSound}
 use Rattle.xa_model.specs.Step.{opened_of}
+use Rattle.xa_model.specs.declared.limits.TheConstants.{MOST_SESSIONS}
 use Rattle.xa_model.specs.Recovering.{scan_of}
 use Rattle.xa_assoc.specs.declared.sessions.Sessions.{Sessions}
 use Rattle.xa_assoc.specs.Seats.{connected_in, opened_at, active_at, owns_at, scan_at}
@@ -15,14 +16,14 @@ use Rattle.xa_assoc.specs.Free.{is_free}
 
 -- The same sessions are connected and opened, and each is at work for the same branch and has the same associations of
 -- its own. What it has and isn't at work in is suspended. Each session's recovery scan stands at the same cursor. Of
--- the numbers from 1 to 1,024 the array tells which are free.
+-- the numbers from 1 to `MOST_SESSIONS` the array tells which are free.
 pub record SessionsStandFor (m : Sessions) (s : State) : Type 0 where
   pub opened : (n : ℕ) → opened_at m n ≡ opened_of s n
   pub active : (n : ℕ) → active_at m n ≡ active_of s.associations n
   pub own : (n : ℕ) (xid : Triple) → owns_at m n xid ≡ list_any (owns n xid) s.associations
   pub scan : (n : ℕ) → scan_at m n ≡ scan_of s.sessions n
   pub connected : connected_in m ≡ length s.sessions
-  pub free : (k : ℕ) → k < 1024 → is_free m.free k ≡ not (is_some (opened_at m (k + 1)))
+  pub free : (k : ℕ) → k < MOST_SESSIONS → is_free m.free k ≡ not (is_some (opened_at m (k + 1)))
 
 -- whichever sound state the one stood for, the other stands for what becomes of it
 abbrev pub Follows : Sessions → (State → State) → Sessions → Type 0
@@ -95,7 +96,7 @@ abbrev pub TellsUnknown : State → Triple → Bool → Type 0
 TellsUnknown s xid unknown = is_unknown (known_as s xid) ≡ unknown
 
 abbrev pub TellsLasting : State → Triple → Bool → Type 0
-TellsLasting s xid settled = is_lasting (known_as s xid) ≡ settled
+TellsLasting s xid lasting = is_lasting (known_as s xid) ≡ lasting
 
 abbrev pub TellsLoose : State → Triple → Bool → Type 0
 TellsLoose s xid has_loose = list_any (is_loose_with xid) s.associations ≡ has_loose

@@ -3,19 +3,21 @@ ghost use Rattle.xa_assoc.specs.Seats.{seat_at, owns_at};
 ghost use Rattle.xa_assoc.specs.Changes.{Comes, Goes, Sets, Clears, ComesToWork, ComesToRest, LosesOwn, IsSameRoom};
 ghost use Rattle.xa_assoc.specs.Company.{company_of};
 ghost use Rattle.xa_assoc.specs.Sessions.{Stays};
+ghost use Rattle.xa_model.specs.declared.limits.TheConstants.{MOST_SESSIONS};
 
 use crate::free::{make_free, make_taken};
 use crate::seat::Seat;
 use crate::sessions::Sessions;
 use std::alloc::AllocError;
 use std::collections::BTreeSet;
+use xa_model::MOST_SESSIONS;
 use xa_xid::Xid;
 
 /// Who is connected and opened.
 impl Sessions {
     /// The session at a free index, whose number is one more, is connected.
     pub(crate) fn add_seat(&mut self, index: u64) -> Result<(), AllocError>
-        requires { index < 1024 }
+        requires { index < MOST_SESSIONS }
         ensures ok { OnOk result (Comes self.old (index + 1) self.new) }
         ensures err { OnErr result (Stays self.old self.new) }
         ensures same { OnErr result (company_of self.new ≡ company_of self.old) }
@@ -36,7 +38,7 @@ impl Sessions {
         ensures goes { Goes self.old session self.new }
     {
         let seat = self.seats.remove(&session);
-        if session > 0 && session <= 1024 {
+        if session > 0 && session <= MOST_SESSIONS as u64 {
             make_free(&mut self.free, session - 1);
         }
         seat

@@ -1,11 +1,17 @@
 ghost use Rattle.std.specs.Prelude.{◌≡◌, ◌≢◌, ℕ, ◌<◌, ◌==◌, cond, true, false, IfNone, IfSome};
 ghost use Rattle.std.specs.Int.{bit_at};
 ghost use Rattle.xa_assoc.specs.Free.{is_free};
+ghost use Rattle.xa_model.specs.declared.limits.TheConstants.{MOST_SESSIONS};
 
-/// The least of the 1,024 indices that is free.
-pub fn first_free(free: &[u64; 16]) -> Option<u64>
-    ensures none { IfNone result ((k : ℕ) → k < 1024 → is_free free.now k ≡ false) }
-    ensures within { IfSome result (λ n. n < 1024) }
+use xa_model::MOST_SESSIONS;
+
+/// The words whose bits say which of `MOST_SESSIONS` indices are free.
+pub const WORDS: usize = MOST_SESSIONS / 64;
+
+/// The least index that is free.
+pub fn first_free(free: &[u64; WORDS]) -> Option<u64>
+    ensures none { IfNone result ((k : ℕ) → k < MOST_SESSIONS → is_free free.now k ≡ false) }
+    ensures within { IfSome result (λ n. n < MOST_SESSIONS) }
     ensures free { IfSome result (λ n. is_free free.now n ≡ true) }
     ensures least { IfSome result (λ n. (k : ℕ) → k < n → is_free free.now k ≡ false) }
 {
@@ -20,8 +26,8 @@ pub fn first_free(free: &[u64; 16]) -> Option<u64>
 }
 
 /// Makes an index free.
-pub fn make_free(free: &mut [u64; 16], index: u64)
-    requires { index < 1024 }
+pub fn make_free(free: &mut [u64; WORDS], index: u64)
+    requires { index < MOST_SESSIONS }
     ensures { (k : ℕ) → is_free free.new k ≡ cond (index == k) true (is_free free.old k) }
 {
     let at = (index / 64) as usize;
@@ -29,8 +35,8 @@ pub fn make_free(free: &mut [u64; 16], index: u64)
 }
 
 /// Takes an index.
-pub fn make_taken(free: &mut [u64; 16], index: u64)
-    requires { index < 1024 }
+pub fn make_taken(free: &mut [u64; WORDS], index: u64)
+    requires { index < MOST_SESSIONS }
     ensures { (k : ℕ) → is_free free.new k ≡ cond (index == k) false (is_free free.old k) }
 {
     let at = (index / 64) as usize;

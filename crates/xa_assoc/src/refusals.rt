@@ -20,8 +20,6 @@ pub fn connect_refusal(connected: usize) -> Option<Reply>
 /// Of a close, where the session has an association or none.
 pub fn close_refusal(holds: bool) -> Option<Reply>
     ensures value { result ≡ close_refusal holds }
-    ensures served { IfSome result (λ r. is_memory r.detail ≡ false) }
-    ensures bare { IfSome result IsBare }
 {
     if holds {
         return Some(Reply::plain(XAER_PROTO));
@@ -32,8 +30,6 @@ pub fn close_refusal(holds: bool) -> Option<Reply>
 /// Of the start of a new branch, where so many branches are known and so many timestamps are given.
 pub fn start_refusal(is_at_work: bool, is_taken: bool, known: usize, given: u64) -> Option<Reply>
     ensures value { result ≡ start_refusal is_at_work is_taken known given }
-    ensures served { IfSome result (λ r. is_memory r.detail ≡ false) }
-    ensures bare { IfSome result IsBare }
 {
     if is_at_work {
         return Some(Reply::plain(XAER_PROTO));
@@ -47,14 +43,14 @@ pub fn start_refusal(is_at_work: bool, is_taken: bool, known: usize, given: u64)
     None
 }
 
-/// Of a start with TMJOIN. A branch is settled if it is prepared or completed.
+/// Of a start with TMJOIN. A branch is lasting once it is prepared or completed.
 pub fn join_refusal(
     is_at_work: bool,
     has_suspended: bool,
     unknown: bool,
-    settled: bool,
+    lasting: bool,
 ) -> Option<Reply>
-    ensures value { (known : Known) → is_unknown known ≡ unknown → is_lasting known ≡ settled
+    ensures value { (known : Known) → is_unknown known ≡ unknown → is_lasting known ≡ lasting
         → result ≡ join_refusal is_at_work has_suspended known }
     ensures served { IfSome result (λ r. is_memory r.detail ≡ false) }
     ensures bare { IfSome result IsBare }
@@ -65,7 +61,7 @@ pub fn join_refusal(
     if unknown {
         return Some(Reply::plain(XAER_NOTA));
     }
-    if settled {
+    if lasting {
         return Some(Reply::plain(XAER_PROTO));
     }
     None
@@ -113,8 +109,6 @@ pub fn end_refusal(unknown: bool, holds: bool) -> Option<Reply>
 /// Of an end with TMSUSPEND of a branch with so many loose associations: one more is nobody's with TMMIGRATE.
 pub fn loose_refusal(migrates: bool, loose: u64) -> Option<Reply>
     ensures value { result ≡ loose_refusal migrates loose }
-    ensures served { IfSome result (λ r. is_memory r.detail ≡ false) }
-    ensures bare { IfSome result IsBare }
 {
     if migrates && loose >= MOST_LOOSE {
         return Some(Reply::detailed(XAER_RMERR, Detail::Limit));

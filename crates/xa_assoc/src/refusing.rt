@@ -35,9 +35,9 @@ impl Sessions {
         session: u64,
         xid: &Xid,
         unknown: bool,
-        settled: bool,
+        lasting: bool,
     ) -> Option<Reply>
-        ensures value { InSound self.now (λ s. TellsUnknown s xid.now unknown → TellsLasting s xid.now settled
+        ensures value { InSound self.now (λ s. TellsUnknown s xid.now unknown → TellsLasting s xid.now lasting
             → result ≡ join_refusal_of s session xid.now) }
         ensures served { IfSome result (λ r. is_memory r.detail ≡ false) }
         ensures bare { IfSome result IsBare }
@@ -47,7 +47,7 @@ impl Sessions {
             self.current(session).is_some(),
             has_suspended,
             unknown,
-            settled,
+            lasting,
         )
     }
 

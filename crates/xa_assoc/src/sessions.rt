@@ -4,17 +4,18 @@ ghost use Rattle.xa_assoc.specs.Company.{company_of};
 ghost use Rattle.xa_assoc.specs.Seats.{connected_in, opened_at, active_at, owns_at, suspends_at, holds_any_at};
 ghost use Rattle.xa_assoc.specs.Sessions.{SessionsStandFor};
 
+use crate::free::WORDS;
 use crate::seat::Seat;
 use std::alloc::Global;
 use std::collections::BTreeMap;
 use xa_xid::Xid;
 
-/// The connected sessions by their numbers, and the numbers from 1 to 1,024 that are free, a bit each.
+/// The connected sessions by their numbers, and the numbers from 1 to `MOST_SESSIONS` that are free, a bit each.
 #[derive(Debug, Drop)]
 pub struct Sessions {
     pub(crate) alloc: Global,
     pub(crate) seats: BTreeMap<u64, Seat>,
-    pub(crate) free: [u64; 16],
+    pub(crate) free: [u64; WORDS],
 }
 
 impl Sessions {
@@ -25,7 +26,7 @@ impl Sessions {
         Sessions {
             alloc,
             seats: BTreeMap::new(alloc),
-            free: [u64::MAX; 16],
+            free: [u64::MAX; WORDS],
         }
     }
 
