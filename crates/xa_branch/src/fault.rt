@@ -1,4 +1,5 @@
 use thiserror::Error;
+use xa_model::{MOST_BRANCHES, MOST_GIVEN};
 
 /// Why a branch doesn't begin. Nothing changes.
 #[derive(Clone, Copy, Debug, PartialEq, Eq, Error)]
@@ -6,11 +7,11 @@ pub enum BeginFault {
     /// The XID is known.
     #[error("XID known")]
     Duplicate = 1,
-    /// 4,096 branches are known.
-    #[error("4,096 branches known")]
+    /// `MOST_BRANCHES` are known.
+    #[error("{most} branches known", most = MOST_BRANCHES)]
     Full = 2,
-    /// The boot has given its 4,294,967,295 timestamps.
-    #[error("4,294,967,295 timestamps given")]
+    /// The boot has given `MOST_GIVEN` timestamps, all of its own.
+    #[error("{most} timestamps given", most = MOST_GIVEN)]
     Spent = 3,
     /// There was no memory.
     #[error("no memory")]

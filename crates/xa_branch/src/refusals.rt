@@ -1,18 +1,15 @@
-ghost use Rattle.std.specs.Prelude.{◌≡◌, ◌≢◌, IfSome};
+ghost use Rattle.std.specs.Prelude.{◌≡◌};
 ghost use Rattle.xa_model.specs.Branches.{one_phase_refusal, two_phase_refusal, rollback_refusal, doom_refusal};
-ghost use Rattle.xa_frame.specs.Made.{IsBare};
 ghost use Rattle.xa_branch.specs.Facts.{fact_of};
-ghost use Rattle.xa_codes.specs.declared.detail.Detail.{Detail};
 
 use crate::known::Known;
 use xa_codes::{XAER_NOTA, XAER_PROTO};
 use xa_frame::Reply;
 
-/// Why a branch can't be committed in one phase: its XID isn't known, it is associated, or it is prepared or completed.
+/// Why a branch can be neither prepared nor committed in one phase: its XID isn't known, it is associated, or it is
+/// prepared or completed.
 pub fn one_phase_refusal(known: Known, is_associated: bool) -> Option<Reply>
     ensures value { result ≡ one_phase_refusal (fact_of known) is_associated }
-    ensures served { IfSome result (λ r. r.detail ≢ Detail.Memory) }
-    ensures bare { IfSome result IsBare }
 {
     match known {
         Known::Unknown => Some(Reply::plain(XAER_NOTA)),
@@ -24,8 +21,6 @@ pub fn one_phase_refusal(known: Known, is_associated: bool) -> Option<Reply>
 /// Why a branch can't be committed in two phases: its XID isn't known, or it is neither prepared nor completed.
 pub fn two_phase_refusal(known: Known) -> Option<Reply>
     ensures value { result ≡ two_phase_refusal (fact_of known) }
-    ensures served { IfSome result (λ r. r.detail ≢ Detail.Memory) }
-    ensures bare { IfSome result IsBare }
 {
     match known {
         Known::Unknown => Some(Reply::plain(XAER_NOTA)),
@@ -37,8 +32,6 @@ pub fn two_phase_refusal(known: Known) -> Option<Reply>
 /// Why a branch can't be rolled back: its XID isn't known, or it is associated.
 pub fn rollback_refusal(known: Known, is_associated: bool) -> Option<Reply>
     ensures value { result ≡ rollback_refusal (fact_of known) is_associated }
-    ensures served { IfSome result (λ r. r.detail ≢ Detail.Memory) }
-    ensures bare { IfSome result IsBare }
 {
     match known {
         Known::Unknown => Some(Reply::plain(XAER_NOTA)),
@@ -50,8 +43,6 @@ pub fn rollback_refusal(known: Known, is_associated: bool) -> Option<Reply>
 /// Why the operator can't doom a branch: its XID isn't known, or it is prepared or completed.
 pub fn doom_refusal(known: Known) -> Option<Reply>
     ensures value { result ≡ doom_refusal (fact_of known) }
-    ensures served { IfSome result (λ r. r.detail ≢ Detail.Memory) }
-    ensures bare { IfSome result IsBare }
 {
     match known {
         Known::Unknown => Some(Reply::plain(XAER_NOTA)),

@@ -42,7 +42,7 @@ impl Working {
         }
     }
 
-    /// One association more. A branch has at most 1,024 of sessions and 64 loose ones.
+    /// One association more. A branch has at most `MOST_SESSIONS` of sessions and `MOST_LOOSE` loose ones.
     pub(crate) fn with_one(self, kind: Kind) -> Working
         ensures { result ≡ with_one kind self }
     {
