@@ -14,7 +14,7 @@ use xa_fields::{put_direction, put_length, put_short, put_value, put_xid};
 use xa_xid::{MOST_BYTES, Xid};
 
 /// What each content begins with.
-const VERSION: u8 = 1;
+pub(crate) const VERSION: u8 = 1;
 
 fn put_fields(out: &mut Vec<u8>, request: &Request) -> Result<(), AllocError>
     ensures bytes { OnOk result (out.new.items ≡ out.old.items ++ fields_bytes request.now) }

@@ -2,6 +2,7 @@ ghost use Rattle.std.specs.Prelude.{◌≡◌};
 ghost use Rattle.xa_frame.specs.declared.fault.FrameFault.TheVariants.{Memory};
 ghost use Rattle.xa_frame.specs.Fields.{fault_of_field};
 
+use crate::request_decoder::MOST_CONTENT;
 use std::alloc::{AllocError, AllocFailed};
 use thiserror::Error;
 use xa_fields::FieldFault;
@@ -13,7 +14,7 @@ pub enum FrameFault {
     #[error("content cut short")]
     Short = 1,
     /// There are more than `MOST_CONTENT` bytes.
-    #[error("content above 65,535 bytes")]
+    #[error("content above {most} bytes", most = MOST_CONTENT)]
     Long = 2,
     /// The first byte isn't 1.
     #[error("version not 1")]

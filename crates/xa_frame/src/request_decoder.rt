@@ -8,6 +8,7 @@ ghost use Rattle.xa_frame.specs.Faults.{fault_of_request};
 ghost use Rattle.xa_frame.specs.Reading.{made, one_of, two_of, number_at, info_at, key_at, value_at, direction_at, name_at, fields_at, operation_at, versioned_at, request_at, branch_request};
 ghost use Rattle.xa_frame.specs.Spelling.{SpellsRequest};
 
+use crate::encode::VERSION;
 use crate::fault::FrameFault;
 use crate::fields::{end, u32_at};
 use crate::numbers::call_numbered;
@@ -178,7 +179,7 @@ pub(crate) fn versioned(bytes: &[u8]) -> Result<&[u8], FrameFault>
     }
     match bytes {
         [] => Err(FrameFault::Short),
-        [1, rest @ ..] => Ok(rest),
+        [VERSION, rest @ ..] => Ok(rest),
         [_, ..] => Err(FrameFault::Version),
     }
 }
