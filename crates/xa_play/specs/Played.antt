@@ -1,14 +1,13 @@
 -- What one line is answered by a manager in memory, and what lines print from whichever state it stands for.
 use Rattle.std.specs.Prelude.{ℕ, ◌≡◌, ◌⊎◌, List, [], pos, Option, Some, None, Result, Ok, Err, IsSomeAnd}
-use Rattle.xa_codes.specs.declared.codes.TheConstants.{XAER_INVAL}
-use Rattle.xa_codes.specs.declared.detail.Detail.TheVariants as detail
 use Rattle.xa_disk.specs.Memory.{image_of}
 use Rattle.xa_disk.specs.declared.memory.MemDisk.{MemDisk}
+use Rattle.xa_frame.specs.Made.{bad_frame}
 use Rattle.xa_frame.specs.declared.reply.Reply.{Reply}
 use Rattle.xa_log.specs.TwoFiles.{first_of, second_of}
 use Rattle.xa_model.specs.declared.event.Event.TheVariants as event
 use Rattle.xa_model.specs.Events.{IsAsked}
-use Rattle.xa_model.specs.Answer.{plain, detailed}
+use Rattle.xa_model.specs.Answer.{plain}
 use Rattle.xa_manager.specs.declared.fault.ManagerFault.{ManagerFault}
 use Rattle.xa_manager.specs.declared.manager.Manager.{Manager}
 use Rattle.xa_xid.specs.Triple.{Triple}
@@ -49,7 +48,7 @@ module _ (name : List ℕ) (log_bytes : ℕ) where
   -- What one line is answered by a manager, and leaves of it.
   abbrev pub LineAnswered : Manager MemDisk → Line → Option Reply → Manager MemDisk → Type 0
   LineAnswered m Silent answer m' = (answer ≡ None) × (m' ≡ m)
-  LineAnswered m Unknown answer m' = (answer ≡ Some (detailed XAER_INVAL detail.Frame)) × (m' ≡ m)
+  LineAnswered m Unknown answer m' = (answer ≡ Some bad_frame) × (m' ≡ m)
   LineAnswered m Connect answer m' = IsSomeAnd answer (λ reply. Answered m event.Connect reply m')
   LineAnswered m (Hangup n) answer m' = IsSomeAnd answer (λ reply. Answered m (event.Hangup n) reply m')
   LineAnswered m (Call n request) answer m' =

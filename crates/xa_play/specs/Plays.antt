@@ -2,8 +2,7 @@
 use Rattle.std.specs.Prelude.{ℕ, ◌≡◌, ◌<◌, ◌≤◌, ◌⊎◌, ⊤, Bool, true, pos, MatchBool}
 use Rattle.std.specs.Prelude.{List, [], ◌∷◌, ◌++◌, length, map, Option, Some, IfSome, Result, Ok, Err}
 use Rattle.std.specs.Io.KnownBytes.{Appends}
-use Rattle.xa_codes.specs.declared.codes.TheConstants.{XAER_INVAL}
-use Rattle.xa_codes.specs.declared.detail.Detail.TheVariants as detail
+use Rattle.xa_frame.specs.Made.{bad_frame}
 use Rattle.xa_frame.specs.declared.reply.Reply.{Reply}
 use Rattle.xa_model.specs.declared.event.Event.{Event}
 use Rattle.xa_model.specs.declared.event.Event.TheVariants as event
@@ -11,7 +10,7 @@ use Rattle.xa_model.specs.declared.outcome.Outcome.{Outcome}
 use Rattle.xa_model.specs.declared.outcome.Outcome.TheVariants.{Reread}
 use Rattle.xa_model.specs.declared.outcome.Appending.TheVariants.{Kept}
 use Rattle.xa_model.specs.State.{State}
-use Rattle.xa_model.specs.Answer.{plain, detailed}
+use Rattle.xa_model.specs.Answer.{plain}
 use Rattle.xa_model.specs.Turn.{Happening, Asked, Reopened}
 use Rattle.xa_model.specs.Step.{step}
 use Rattle.xa_model.specs.History.{fresh}
@@ -68,7 +67,7 @@ module _ (name : List ℕ) (log_bytes : ℕ) where
   -- as they do where nothing is left to chance, that is the run so far.
   abbrev pub PlaysLine : Run → Line → List ℕ → (Run → Type 0) → Type 0
   PlaysLine run Silent text Then = (text ≡ []) × Then run
-  PlaysLine run Unknown text Then = (text ≡ replies.line_of (detailed XAER_INVAL detail.Frame)) × Then run
+  PlaysLine run Unknown text Then = (text ≡ replies.line_of bad_frame) × Then run
   PlaysLine run Connect text Then = Shows run event.Connect text Then
   PlaysLine run (Hangup n) text Then = Shows run (event.Hangup n) text Then
   PlaysLine run (Call n request) text Then = Shows run (event.Call n request) text Then

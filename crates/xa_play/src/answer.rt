@@ -10,7 +10,7 @@ ghost use Rattle.xa_play.specs.Played.{AnswerFails, LineAnswered};
 use crate::fault::PlayFault;
 use crate::opening::{crash, reopen};
 use std::alloc::{AllocError, Global};
-use xa_codes::{Detail, XA_OK, XAER_INVAL};
+use xa_codes::XA_OK;
 use xa_disk::{Effect, MemDisk};
 use xa_frame::{Reply, Request};
 use xa_manager::{Manager, Settings, connect_reply};
@@ -33,7 +33,7 @@ pub fn answer(
     let mut manager = manager;
     match said {
         Line::Silent => Ok((manager, None)),
-        Line::Unknown => Ok((manager, Some(Reply::detailed(XAER_INVAL, Detail::Frame)))),
+        Line::Unknown => Ok((manager, Some(Reply::bad_frame()))),
         Line::Connect => {
             let reply = connect(&mut manager);
             Ok((manager, Some(reply)))
