@@ -49,9 +49,9 @@ abbrev pub has_boot_room : ℕ → Durable → ℕ → Bool
 has_boot_room log_bytes d boot =
     log_room log_bytes (FIRST_OFFSET + sizes (snapshot d boot)) (length d.prepared) (length d.decided)
 
--- A boot began with what these bodies come to. The manager stands for every state that a restart or an opening leads to from
--- there, with these settings and without sessions: committed branches of it may have reads, and writes that later ones wrote
--- over.
+-- A boot began with what these bodies come to. The manager stands for every state that a restart or an opening leads to
+-- from there, with these settings and without sessions: committed branches of it may have reads, and writes that later
+-- ones wrote over.
 pub record HasBegun {D : Type 0} (disks : Ghosts D) (bodies : List (List ℕ)) (name : List ℕ)
     (log_bytes : ℕ) (m : Manager D) : Type 0 where
   pub durable : Durable
@@ -73,8 +73,8 @@ BootRefused fault.Memory bodies log_bytes = Unit {0}
 BootRefused fault.Device bodies log_bytes = Unit {0}
 BootRefused _ bodies log_bytes = ⊥
 
--- Why two files gave no manager. The faults are looked for in their order: what is said of the records is said of files that
--- are a log, or are empty.
+-- Why two files gave no manager. The faults are looked for in their order: what is said of the records is said of files
+-- that are a log, or are empty.
 abbrev pub OpenRefused : ManagerFault → List ℕ → ℕ → List ℕ → List ℕ → Type 0
 OpenRefused fault.Setting name log_bytes first second = IsBadSetting name log_bytes
 OpenRefused (fault.Log e) name log_bytes first second = LogRefused e log_bytes first second

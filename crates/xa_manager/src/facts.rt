@@ -14,7 +14,7 @@ use xa_xid::Xid;
 
 /// What rows ask of the tables.
 impl Tables {
-    /// Whether nothing is known of the XID.
+    /// Whether the XID isn't known.
     pub fn is_unknown(&self, xid: &Xid) -> bool
         ensures { TablesSay self.now (λ s. is_unknown (known_as s xid.now) ≡ result) }
     {
@@ -24,7 +24,7 @@ impl Tables {
         }
     }
 
-    /// Whether a branch or a decision has the XID.
+    /// Whether the XID is known, so that no branch begins with it.
     pub fn is_taken(&self, xid: &Xid) -> bool
         ensures { TablesSay self.now (λ s. is_taken (known_as s xid.now) ≡ result) }
     {

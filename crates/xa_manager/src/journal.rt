@@ -51,6 +51,7 @@ impl<D: Disk> Manager<D> {
                 self.doubt = None;
                 Appending::Kept
             }
+            // a record that doesn't fit isn't asked for: `has_room`, and the room that is kept for small ones
             Appended::Refused | Appended::Full => {
                 self.doubt = None;
                 Appending::Refused

@@ -2,8 +2,8 @@
 //!
 //! The modules:
 //!
-//! - `manager`: `Manager`, its calls; `calls`, the way of a request; `early`, the refusals before its row; `replies`,
-//!   those to a connect and to want of memory
+//! - `manager`: `Manager`, its calls; `calls`, the way of a request; `early`, the refusals before its row; `replies`:
+//!   `connect_reply` and `memory_reply`, those to a connect and to want of memory
 //! - the rows, by table: of sessions in `coming`, of associations in `work`, of branches in `completion`, of the
 //!   operator in `operator`, of gets and puts in `data`, of recovery scans in `recovery`
 //! - `tables`: what a manager keeps; `facts` and `refusals`, what rows ask of it, `acts`, what they change
@@ -12,7 +12,10 @@
 //! - a boot: `settings`, `Settings` and their limits; `opening` or `restarting`, how it begins; `boots`, what is made
 //!   ready for it, and `rebuilding` its tables; `first_records`, how an opening logs it; `fault`: `ManagerFault`, why
 //!   there is no manager
-//! - `laws`: what a crash leaves, what is promised of histories, that sizes agree; `planning`: planned faults in memory
+//! - `laws`: `read_leaves`, `read_stands` and `crash_leaves`, that a read and a crash leave the records of the state;
+//!   `files_last`, what these come to; `reached_promises`, `one_promises` and `begun_is_reached`, what is promised of
+//!   histories; `memory_is_trusted`, that disks in memory meet the premises; `sizes_agree`
+//! - `planning`: planned faults in memory
 #![tactic(auto)]
 
 mod acts;

@@ -38,8 +38,8 @@ impl Tables {
         ensures bare { IfSome result IsBare }
     {
         let unknown = self.is_unknown(xid);
-        let settled = self.is_lasting(xid);
-        self.sessions.join_refusal(session, xid, unknown, settled)
+        let lasting = self.is_lasting(xid);
+        self.sessions.join_refusal(session, xid, unknown, lasting)
     }
 
     /// Of a start with TMRESUME.
