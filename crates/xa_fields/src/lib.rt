@@ -2,7 +2,7 @@
 //! Each is spelled once here, and read once; numbers alone are `xa_bytes`'.
 //!
 //! - `reading`: `take_short`, `take_key`, `take_value`, `take_direction` and `take_xid`, the field at the front of some
-//!   bytes, and the bytes after it
+//!   bytes, and the bytes after it; `MOST_SHORT`, the longest byte string with a length of one byte
 //! - `fault`: `FieldFault`, why none stands there
 //! - `writing`: `put_short`, `put_value`, `put_direction` and `put_xid`, a field behind what a vector holds;
 //!   `put_length`, a length of two bytes

@@ -7,10 +7,11 @@ use Rattle.xa_log.specs.declared.ahead.TheConstants.{READY_BYTES}
 use Rattle.xa_log.specs.declared.log.Log.{Log}
 use Rattle.xa_log.specs.declared.record.TheConstants.{AROUND_CLOSED}
 
--- How many zeros go behind what is written from one offset up to another: those up to the end of the piece that it reaches
--- into, within the limit; none where it stays in the piece in which it begins.
+-- How many zeros go behind what is written from one offset up to another: those up to the end of the piece that it
+-- reaches into, within the limit; none where it stays in the piece in which it begins.
 abbrev pub ready : ℕ → ℕ → ℕ → ℕ
-ready from to most = if from / READY_BYTES == to / READY_BYTES then 0 else min (READY_BYTES - to % READY_BYTES) (most - to)
+ready from to most =
+    if from / READY_BYTES == to / READY_BYTES then 0 else min (READY_BYTES - to % READY_BYTES) (most - to)
 
 -- what is written of an append of this body: its record, the closing length, and these zeros
 abbrev pub appended : {D : Type 0} → Log D → List ℕ → List ℕ

@@ -8,8 +8,9 @@ ghost use Rattle.xa_log.specs.declared.ahead.TheConstants.{READY_BYTES};
 /// one. What stands behind a log's closing length is no part of it.
 pub const READY_BYTES: u64 = 262_144;
 
-// How many zeros go behind a record that is written from `from` up to `to`, closing length included: those up to the end
-// of the piece that it reaches into, within `most` bytes of file; none where it stays in the piece in which it begins.
+// How many zeros go behind a record that is written from `from` up to `to`, closing length included: those up to the
+// end of the piece that it reaches into, within `most` bytes of file; none where it stays in the piece in which it
+// begins.
 pub(crate) fn ready_behind(from: u64, to: u64, most: u64) -> usize
     requires { to ≤ most }
     ensures exact { result ≡ ready from to most }

@@ -16,7 +16,8 @@ pub enum Appended {
     Kept,
     /// A device call failed, and what was begun is cleared or doesn't count: the log is as before.
     Refused,
-    /// A device call failed, and the repair too: it stands or doesn't, as a rescan will show.
+    /// A device call failed, and the repair too: it stands or doesn't, as a rescan that succeeds will show, or an
+    /// opening.
     Lost,
     /// It doesn't fit. Nothing changed.
     Full,
@@ -59,9 +60,9 @@ pub(crate) fn put_or_clear<D: Disk>(disk: &mut D, at: u64, bytes: &mut [u8]) -> 
     }
 }
 
-// Writes a body's record, as `put_or_clear` does, and gives its digest. The closing length goes in the same write, and so
-// do the zeros that make the file ready: an append is one write and one sync, and what stands behind it isn't read as a
-// record.
+// Writes a body's record, as `put_or_clear` does, and gives its digest. The closing length goes in the same write, and
+// so do the zeros that make the file ready: an append is one write and one sync, and what stands behind it isn't read
+// as a record.
 pub(crate) fn append_at<D: Disk>(
     disk: &mut D,
     at: u64,

@@ -70,8 +70,9 @@ fn put_record<D: Disk>(
 }
 
 // The second part: writes the records behind the preamble, each in one write, a closing length behind the last,
-// and syncs. Gives the last record's digest. A fault is not repaired: the first length is still 0, and stable, so whatever was
-// written here, the file has no record. The sync makes the records stable before the seal makes them count.
+// and syncs. Gives the last record's digest. A fault is not repaired: the first length is still 0, and stable, so
+// whatever was written here, the file has no record. The sync makes the records stable before the seal makes them
+// count.
 pub(crate) fn put_records<D: Disk>(
     disk: &mut D,
     format: Format,

@@ -12,7 +12,10 @@
 //! - `reading`, `window`: reading a file record by record, and in pieces
 //! - `format`: `Format`, a file's first bytes; `record`: the bytes of a record
 //! - `fault`: `OpenFault`, why a file's bytes aren't taken as a log
-//! - `laws`: which log two files have, and what is without chance; `worked`: worked rows
+//! - `laws`: `pair_is_current`, `pair_is_current_or_new` and `opened_is_pair`, which log two files have;
+//!   `memory_without_chance`, `memory_without_chance_beside` and `plain_by_body`, what is without chance;
+//!   `stray_is_possible`, what isn't
+//! - `worked`: `worked_pairs`, worked rows
 //!
 //! docs/LOG.md has the format and what each device fault leaves.
 #![tactic(auto)]

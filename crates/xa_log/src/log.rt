@@ -1,4 +1,4 @@
-//! The log on its disk.
+//! The log on its two disks.
 ghost use Rattle.std.specs.Prelude.{◌≡◌, ◌+◌, ◌-◌, ◌≤◌, ◌<◌, ◌↔◌, List, ℕ, true, false, length};
 ghost use Rattle.xa_disk.specs.Counts.{top};
 ghost use Rattle.xa_disk.specs.Time.{LeavesOnly};
@@ -125,11 +125,11 @@ impl<D: Disk> Log<D> {
 
     /// Writes a log of these bodies, each of 1 to `MOST_BODY` bytes, to the other file, in the newest format. `Kept`:
     /// that file is the current one from then on. An opening takes it if its generation, the number in the first body
-    /// from byte `NUMBER_OFFSET` on, is above the old one's: nothing else is written to say which is current, and the old
-    /// log stays where it is. `Refused`: the current file stays in use. `Full`: they don't fit, with a closing length.
-    /// Where nothing fails: a write and a sync, a write a record and a sync, a write and a sync. Takes no memory.
-    /// After `Lost`, its own or an append's, every checkpoint answers so, and asks nothing of the disks, until a rescan
-    /// succeeds.
+    /// from byte `NUMBER_OFFSET` on, is above the old one's: nothing else is written to say which is current, and the
+    /// old log stays where it is. `Refused`: the current file stays in use. `Full`: they don't fit, with a closing
+    /// length. Where nothing fails: a write and a sync, a write a record and a sync, a write and a sync. Takes no
+    /// memory. After `Lost`, its own or an append's, every checkpoint answers so, and asks nothing of the disks, until
+    /// a rescan succeeds.
     pub fn checkpoint(&mut self, bodies: &[Vec<u8>]) -> Appended
         requires some { 1 ≤ length bodies.now }
         requires sizes { AllByRecursion IsBody (bodies_of bodies.now) }

@@ -2,7 +2,8 @@
 //! cut at each byte, what the manager logs, and what `xarm scan` prints of it.
 //!
 //! - `disks`: what a crash and a failing call leave, real files; `folders`: where those stand
-//! - `logs`: appends, and logs that are cut; `log_pairs`: the records and files that several of these tests have
+//! - `logs`: appends, and logs that are cut; `made_ready`: files that grow by pieces; `log_pairs`: the records and
+//!   files that several of these tests have
 //! - `checkpoints`: those whose calls fail; `checkpoint_files`: what stands in both files; `log_images`: those that are
 //!   cut
 //! - `current_files`: which of two files is the current one

@@ -104,6 +104,8 @@ record_at (suc (suc (suc (suc zero))) ∷ rest) = option_map (λ d. Completed d.
 record_at (suc (suc (suc (suc (suc zero)))) ∷ rest) = option_map (λ d. Decided d.0 d.1) (directed_at rest)
 record_at (suc (suc (suc (suc (suc (suc zero))))) ∷ rest) = option_map (λ x. Forgotten x) (forgotten_at rest)
 record_at (suc (suc (suc (suc (suc (suc (suc zero)))))) ∷ rest) = option_map (λ s. Base s.0 s.1) (stamped_at rest)
-record_at (suc (suc (suc (suc (suc (suc (suc (suc zero))))))) ∷ rest) = option_map (λ b. Held b.0 b.1 b.2) (branch_at rest)
-record_at (suc (suc (suc (suc (suc (suc (suc (suc (suc zero)))))))) ∷ rest) = option_map (λ d. Known d.0 d.1) (directed_at rest)
+record_at (suc (suc (suc (suc (suc (suc (suc (suc zero))))))) ∷ rest) =
+    option_map (λ b. Held b.0 b.1 b.2) (branch_at rest)
+record_at (suc (suc (suc (suc (suc (suc (suc (suc (suc zero)))))))) ∷ rest) =
+    option_map (λ d. Known d.0 d.1) (directed_at rest)
 record_at (suc (suc (suc (suc (suc (suc (suc (suc (suc (suc kind))))))))) ∷ rest) = None

@@ -1,11 +1,13 @@
 //! The records of the log: what one says, and the bytes of its body. A log takes any bodies (`xa_log`); these are the
 //! resource manager's.
 //!
-//! - `record`: `Record`, of nine kinds: six say what happened, three make up a snapshot
+//! - `record`: `Record`, of nine kinds: six say what happened, three make up a snapshot; `MOST_BODY`, the longest body
 //! - `writes`: `Writes`, that contracts see as a list
-//! - `writing`: `write`, a record's body; `write_small`, that of a record without writes, which takes no memory
+//! - `writing`: `write`, a record's body; `write_small`, that of a record without writes, which takes no memory, and
+//!   `MOST_SMALL`, the longest of these
 //! - `reading`: `read`, the record whose body some bytes are; `fault`: `RecordFault`, why they gave none
-//! - `laws`: `one_record`, a body is one record's at most, and is read as it was written; `body_sizes`, how long bodies are
+//! - `laws`: `one_record`, a body is one record's at most, and is read as it was written; `body_sizes`, how long bodies
+//!   are
 //!
 //! Reading looks at one body alone. Whether a record may stand behind others is for `xa_recovery`. docs/LOG.md, "The
 //! bodies", has the format.

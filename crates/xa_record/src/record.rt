@@ -25,7 +25,7 @@ pub enum Record {
         timestamp: u64,
         writes: Writes,
     },
-    /// A prepared branch was completed.
+    /// A prepared branch was completed, otherwise than by the operator.
     Completed {
         xid: Xid,
         direction: Direction,

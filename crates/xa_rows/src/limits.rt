@@ -32,6 +32,6 @@ pub const BRANCHES: u16 = 4_096;
 /// The XIDs of a reply.
 pub const XIDS: u16 = 256;
 
-/// The bytes of a log that has room for `WRITTEN` and `PREPARED`, and no byte more: the records of the first boot and of the
-/// branch up to 49 and 110, a closing length of 4 bytes, and 343 to complete the branch and to forget it.
+/// The bytes of a log that has room for `WRITTEN` and `PREPARED`, and no byte more: the records of the first boot and
+/// of the branch up to 49 and 110, a closing length of 4 bytes, and 343 to complete the branch and to forget it.
 pub const PREPARED_LOG_BYTES: u64 = 457;

@@ -13,7 +13,8 @@ pub fn worked_scans()
     ensures empty { Empty }
 {}
 
-/// The offset that is printed of a record is where it begins in the file, and the end is where the next one would begin.
+/// The offset that is printed of a record is where it begins in the file, and the end is where the next one would
+/// begin.
 pub fn offsets_in_the_file()
     ensures { OffsetsInTheFile }
 {}

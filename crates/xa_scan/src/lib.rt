@@ -3,8 +3,8 @@
 //! - `scan`: a log is read, and its lines are written
 //! - `lines`: the line of a record, and the line behind the last one
 //! - `records`: the text of a record
-//! - `fault`: why a log wasn't printed to its end
-//! - `laws`: worked rows, and that a line's offset is where its record begins
+//! - `fault`: `ScanFault`, why a log wasn't printed to its end
+//! - `laws`: `worked_scans`, worked rows; `offsets_in_the_file`, that a line's offset is where its record begins
 #![tactic(auto)]
 
 mod fault;
