@@ -16,7 +16,8 @@ end_of (Err end) = Some end
 -- a buffer is full, or has so many bytes where the input ended or a read failed
 abbrev pub Fills : Filled → Option (List ℕ) → Option (List ℕ) → List ℕ → Type 0
 Fills filled.Whole input input' buffer = Consumes input input' buffer
-Fills (filled.Ended n) input input' buffer = (n < length buffer) × Consumes input input' (take n buffer) × IsAtEnd input'
+Fills (filled.Ended n) input input' buffer =
+    (n < length buffer) × Consumes input input' (take n buffer) × IsAtEnd input'
 Fills (filled.Fault n) input input' buffer = (n < length buffer) × Consumes input input' (take n buffer)
 
 -- the length of a frame was read; or the input ended before it, or it is cut

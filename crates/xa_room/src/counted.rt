@@ -58,7 +58,8 @@ impl<M: Manages, S: Start, L: Ledger> Counted<M, S, L> {
         (room, book)
     }
 
-    /// By two copies of the request.
+    /// Answers a request of a session, and counts its entry for the share. One copy of the request goes to the entry,
+    /// the other to the receipt.
     pub(crate) fn call(
         &mut self,
         share: &mut Share<L>,

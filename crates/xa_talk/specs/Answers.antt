@@ -35,7 +35,8 @@ module _ {C : Type 0} (sent left : C → Option (List ℕ)) where
   ConnectAnswered answer numbered numbered' =
       MatchBool (nat_lt (free_index numbered) MOST_CONNECTIONS)
       (MatchResult answer
-      (λ reply. (c : C) × (reply ≡ carrying (body.Number (free_index numbered + 1))) × (numbered' ≡ with_new c numbered))
+      (λ reply. (c : C) × (reply ≡ carrying (body.Number (free_index numbered + 1)))
+      × (numbered' ≡ with_new c numbered))
       (λ fault. (fault ≡ faults.Connect) ⊎ (fault ≡ faults.Memory)))
       ((answer ≡ Ok (detailed XAER_RMERR detail.Limit)) × (numbered' ≡ numbered))
 

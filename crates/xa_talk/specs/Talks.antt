@@ -69,7 +69,8 @@ module _ {C : Type 0} (sent left : C → Option (List ℕ)) where
   LinesTalked input numbered [] text input' numbered' = (text ≡ []) × (input' ≡ input) × (numbered' ≡ numbered)
   LinesTalked input numbered (line ∷ lines) text input' numbered' =
       (behind : Option (List ℕ)) × (first : List ℕ) × (others : List ℕ) × (next : List (Option C))
-      × ReadsLine input line behind × LineTalked {X = Unit {0}} sent left (strip_last 10 line) (Ok tt) first numbered next
+      × ReadsLine input line behind
+      × LineTalked {X = Unit {0}} sent left (strip_last 10 line) (Ok tt) first numbered next
       × (text ≡ first ++ others) × LinesTalked behind next lines others input' numbered'
 
   -- By the end of a script, what became of the next line. Ok: there is none. A fault: it couldn't be read, or it was

@@ -19,8 +19,8 @@ use xa_script::{read_line, reply_line};
 /// Reads a script line by line. Each line is answered, and its reply written and flushed, before the next one is read.
 ///
 /// It ends with the input, or with the first fault: a line that couldn't be read, or beyond which none can be counted
-/// (`Read`); no memory; no connection where the line asks for one (`Connect`); one that broke (`Broken`), or brought what
-/// is no reply (`NoReply`), where the line's request goes over it; a reply that couldn't be written (`Write`).
+/// (`Read`); no memory; no connection where the line asks for one (`Connect`); one that broke (`Broken`), or brought
+/// what is no reply (`NoReply`), where the line's request goes over it; a reply that couldn't be written (`Write`).
 pub fn talk_run<I: BufRead + Drop, O: Write, R: Read + Drop, W: Write + Drop, D: Dial<R, W>>(
     alloc: Global,
     input: &mut I,

@@ -31,8 +31,8 @@ pub enum Ran<'a> {
     Serves(Service<'a>),
 }
 
-/// Does what the command line says, but that it serves. Status 0: done. 1: a fault, its line on standard error. 2: the command line was
-/// refused.
+/// Does what the command line says, but that it serves. Status 0: done. 1: a fault, its line on standard error. 2: the
+/// command line was refused.
 pub fn run<'a, R: AllocGlobal + Input + Print + Eprint + Opens + Net<Stream = TcpStream>>(
     rt: &R,
     words: &'a io::Result<Vec<String>>,
@@ -84,7 +84,8 @@ fn scan<R: AllocGlobal + Print + Opens>(rt: &R, path: &str) -> Result<(), ScanFa
     scan_run(rt.alloc(), &mut disk, &mut writer)
 }
 
-/// Sends the calls of standard input to a server. Its replies are printed one by one, so that nothing waits in a buffer.
+/// Sends the calls of standard input to a server. Its replies are printed one by one, so that nothing waits in a
+/// buffer.
 fn talk<R: AllocGlobal + Input + Print + Net<Stream = TcpStream>>(
     rt: &R,
     port: u16,

@@ -6,7 +6,7 @@
 //! - `scan` prints the records of a log
 //!
 //! `words` reads the command line, `command` does what it says; `disks` opens files, `talking` connections, and
-//! `serving` is the server.
+//! `serving` is the server. Of the tests, `tests` has those of the program alone, and `host` what they run it on.
 #![tactic(auto)]
 
 mod command;

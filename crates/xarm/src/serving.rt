@@ -64,16 +64,17 @@ impl From<ServerFault> for ServeFault {
     fn from(fault: ServerFault) -> ServeFault {
         match fault {
             ServerFault::Memory => ServeFault::Memory,
+            // the command line takes no such number
             ServerFault::Workers(_) => ServeFault::Start,
         }
     }
 }
 
-/// Opens the log's two files, listens, and opens the manager; then it serves so many connections, and audits the history. Whether
-/// the audit found it whole.
+/// Opens the log's two files, listens, and opens the manager; then it serves so many connections, and audits the
+/// history. Whether the audit found it whole.
 ///
-/// Nobody is answered before the manager is open, and where the port can't be had the manager isn't opened, so that nothing is
-/// written to the log.
+/// Nobody is answered before the manager is open, and where the port can't be had the manager isn't opened, so that
+/// nothing is written to the log.
 pub fn serve<
     R: AllocGlobal
         + Print
@@ -103,7 +104,7 @@ pub fn serve<
     }
 }
 
-/// The log's two files, the first one at this path.
+/// The log's two files, the first one at this path. One that can't be opened or locked is told as a device that failed.
 fn open_files<R: AllocGlobal + Opens>(rt: &R, path: &str) -> Result<(R::Disk, R::Disk), ServeFault>
     ensures { IfOk result (λ disks. R.opened disks.0 path.now × R.opened disks.1 (path.now ++ codes ".2")) }
 {

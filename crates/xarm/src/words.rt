@@ -117,7 +117,8 @@ fn talk_command<'a>(alloc: Global) -> Result<Command<'a>, AllocError> {
     Command::new(alloc, "talk")
         .about("Sends the calls of a script from standard input to a server and prints the replies")
         .after_help(
-            "Example: xarm talk --port 4100\nA connect opens a connection, of at most 1024. Each line is answered before the next one is read.",
+            "Example: xarm talk --port 4100\nA connect opens a connection, of at most 1024. \
+             Each line is answered before the next one is read.",
         )
         .arg(port(alloc))
 }
