@@ -15,6 +15,7 @@ use crate::share::Share;
 use crate::start::Start;
 use crate::taking::take;
 use std::alloc::Global;
+use std::fmt;
 use std::sync::ledger::{Blank, Book, Ledger};
 use std::sync::{Mutex, Wait};
 use xa_assoc::ConnectFault;
@@ -151,5 +152,12 @@ impl<M: Manages, S: Start, L: Ledger> Desk<M, S, L> {
         ensures { result.1.total ≡ length result.0.entries }
     {
         self.lock.into_inner().parts()
+    }
+}
+
+/// Shows the name alone, so that it never waits for the lock.
+impl<M: Manages, S: Start, L: Ledger> fmt::Debug for Desk<M, S, L> {
+    fn fmt<W: fmt::Write>(&self, f: &mut fmt::Formatter<W>) -> fmt::Result {
+        f.debug_struct("Desk").finish_non_exhaustive()
     }
 }

@@ -17,6 +17,7 @@ use crate::replies::{is_memory, placed};
 use crate::spare::Spare;
 use crate::start::Start;
 use std::alloc::{AllocError, Global};
+use std::fmt;
 use std::marker::{Model, PhantomData};
 use xa_assoc::ConnectFault;
 use xa_codes::XA_OK;
@@ -199,6 +200,15 @@ impl<M: Manages, S: Start> Room<M, S> {
     {
         reached_promises();
         let _entries = self.entries();
+    }
+}
+
+/// Shows how many entries there are.
+impl<M: Manages, S: Start> fmt::Debug for Room<M, S> {
+    fn fmt<W: fmt::Write>(&self, f: &mut fmt::Formatter<W>) -> fmt::Result {
+        f.debug_struct("Room")
+            .field("entries", &self.history.len())
+            .finish_non_exhaustive()
     }
 }
 

@@ -1,5 +1,6 @@
 ghost use Rattle.std.specs.Prelude.{◌≡◌, ℕ, ◌+◌, ◌<◌, ◌≤◌, ◌^◌};
 
+use std::fmt;
 use std::marker::Model;
 use std::sync::ledger;
 use std::sync::ledger::{Book, Ledger};
@@ -62,6 +63,15 @@ impl<L: Ledger> Share<L> {
             mark,
             count: count + others,
         }
+    }
+}
+
+/// Shows how many events were recorded by it.
+impl<L: Ledger> fmt::Debug for Share<L> {
+    fn fmt<W: fmt::Write>(&self, f: &mut fmt::Formatter<W>) -> fmt::Result {
+        f.debug_struct("Share")
+            .field("count", &self.count)
+            .finish_non_exhaustive()
     }
 }
 

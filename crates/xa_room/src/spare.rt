@@ -13,7 +13,7 @@ use xa_xid::Xid;
 /// Room for a copy of a reply: for the longest value, and for the most XIDs. It is made before a call acts and stays,
 /// since the copy is made of memory of its own length where there is some: so what keeps the copies holds no more than
 /// they are long, and no call makes this room twice.
-#[derive(Drop)]
+#[derive(Debug, Drop)]
 pub(crate) struct Spare {
     pub(crate) value: Vec<u8>,
     pub(crate) list: Vec<Xid>,

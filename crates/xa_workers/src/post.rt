@@ -1,6 +1,7 @@
 use crate::gate::Gate;
 use crate::report::Report;
 use std::alloc::Global;
+use std::fmt;
 use std::sync::Wait;
 use std::sync::ledger::Ledger;
 use xa_assoc::ConnectFault;
@@ -87,5 +88,15 @@ impl<M: Manages, S: Start, L: Ledger, G: Gate, R: Wait> Door for Post<'_, M, S, 
 
     fn hangup(&mut self, session: u64) {
         self.report.hangup(self.rt, self.desk, session);
+    }
+}
+
+/// Shows its report and the number of its session's calls.
+impl<M: Manages, S: Start, L: Ledger, G, R> fmt::Debug for Post<'_, M, S, L, G, R> {
+    fn fmt<W: fmt::Write>(&self, f: &mut fmt::Formatter<W>) -> fmt::Result {
+        f.debug_struct("Post")
+            .field("report", &self.report)
+            .field("calls", &self.calls)
+            .finish_non_exhaustive()
     }
 }

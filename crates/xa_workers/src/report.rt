@@ -2,6 +2,7 @@ ghost use Rattle.std.specs.Prelude.{◌≡◌, ◌+◌, ◌≤◌, [], vec_len};
 
 use crate::keeping::{keep, keep_all};
 use std::alloc::Global;
+use std::fmt;
 use std::sync::Wait;
 use std::sync::ledger::Ledger;
 use xa_assoc::ConnectFault;
@@ -139,5 +140,15 @@ impl<L: Ledger> Report<L> {
             receipts,
             dropped: dropped + lost + missing,
         }
+    }
+}
+
+impl<L: Ledger> fmt::Debug for Report<L> {
+    fn fmt<W: fmt::Write>(&self, f: &mut fmt::Formatter<W>) -> fmt::Result {
+        f.debug_struct("Report")
+            .field("share", &self.share)
+            .field("receipts", &self.receipts)
+            .field("dropped", &self.dropped)
+            .finish()
     }
 }

@@ -1,5 +1,5 @@
-use std::io;
 use std::net::{Net, TcpStream};
+use std::{fmt, io};
 use xa_talk::{Connection, Dial};
 
 /// A server on 127.0.0.1.
@@ -16,5 +16,13 @@ impl<R: Net<Stream = TcpStream>> Dial<TcpStream, TcpStream> for Server<'_, R> {
         writer.set_nodelay(true)?;
         let reader = writer.try_clone()?;
         Ok(Connection { reader, writer })
+    }
+}
+
+impl<R> fmt::Debug for Server<'_, R> {
+    fn fmt<W: fmt::Write>(&self, f: &mut fmt::Formatter<W>) -> fmt::Result {
+        f.debug_struct("Server")
+            .field("port", &self.port)
+            .finish_non_exhaustive()
     }
 }
