@@ -1,11 +1,18 @@
 -- What a server tells, and what holds of the history that it tells of.
-use Rattle.std.specs.Prelude.{ℕ, ◌≡◌, Bool, List, length, Result, is_ok}
+use Rattle.std.specs.Prelude.{ℕ, ◌≡◌, ◌⊎◌, ◌+◌, ◌≤◌, Bool, List, length, Result, is_ok}
+use Rattle.xa_disk.specs.declared.disk.Disk as disk
+use Rattle.xa_manager.specs.declared.manager.Manager.{Manager}
+use Rattle.xa_manager.specs.Opening.{HasBegun}
+use Rattle.xa_manager.specs.Promises.{IsOpening, IsReached, ListsPrepared}
+use Rattle.xa_model.specs.Associations.{most_branches}
+use Rattle.xa_model.specs.OneCopy.{HasOneCopy}
 use Rattle.xa_model.specs.State.{State}
 use Rattle.xa_room.specs.declared.auditing.AuditFault.{AuditFault}
 use Rattle.xa_room.specs.declared.book.Entry.{Entry}
 use Rattle.xa_room.specs.declared.book.Receipt.{Receipt}
 use Rattle.xa_room.specs.declared.manages.Manages.{Ghosts}
 use Rattle.xa_room.specs.Audit.{Audits}
+use Rattle.xa_room.specs.Book.{HasNoRestart, plain_entries}
 use Rattle.xa_room.specs.Upholds.{IsLegal, IsCounted}
 use Rattle.xa_room.specs.Promises.{Promises}
 
@@ -28,3 +35,26 @@ pub record Serves {M : Type 0} (m : Ghosts M) (start : State → Type 0) (base :
   pub promises : Promises m start now entries
   pub counted : IsCounted m start base now entries
   pub tells : Tells entries receipts counted_by calls is_whole
+
+-- ---- laws
+
+-- A manager stood for an opening state. What was served of it, so many entries, is a legal history of that state; the
+-- committed branches behind it are one copy, and it lists what was prepared in it.
+pub record KeepsServed {M : Type 0} (m : Ghosts M) (manager : M) (calls : ℕ) : Type 0 where
+  pub first : State
+  pub opens : IsOpening first
+  pub stood : m.stands manager first
+  pub entries : List Entry
+  pub calls_are : calls ≡ length entries
+  pub promised : m.trusts ⊎ HasNoRestart entries
+      → (t : State) × IsReached first (plain_entries entries) t × HasOneCopy t
+      × ListsPrepared (plain_entries entries) t
+
+-- so it is of every manager that was opened, if no more branches are known by the log than may be
+abbrev pub ServedPromises : {D : Type 0} → disk.Ghosts D → Ghosts (Manager D) → Type 0
+ServedPromises {D} disks m =
+    (manager : Manager D) (bodies : List (List ℕ)) (name : List ℕ) (log_bytes : ℕ)
+    (begun : HasBegun disks bodies name log_bytes manager)
+    → length begun.durable.prepared + length begun.durable.decided ≤ most_branches
+    → (base : ℕ × ℕ) (calls : ℕ) (is_whole : Bool) → Serves m (m.stands manager) base calls is_whole
+    → KeepsServed m manager calls

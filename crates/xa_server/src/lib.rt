@@ -4,12 +4,15 @@
 //!   `MOST_WORKERS`
 //! - `audited`: `Audited`, what it tells of the history; `audited_lines`, the two lines that show it
 //! - `fault`: `ServerFault`, why it tells nothing
+//! - `laws`: `served_promises`, what is promised of what was served
 #![tactic(auto)]
 
 mod audited;
 mod fault;
+mod laws;
 mod serving;
 
 pub use audited::{Audited, audited_lines};
 pub use fault::ServerFault;
+pub use laws::served_promises;
 pub use serving::{MOST_WORKERS, serve_manager};
