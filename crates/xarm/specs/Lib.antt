@@ -1,1 +1,3 @@
 pub mod Done
+pub mod Faults
+pub mod Served

@@ -6,20 +6,19 @@ ghost use Rattle.xa_talk.specs.declared.dial.Connection.{Connection};
 ghost use Rattle.xarm.specs.Done.{HasPlayed, HasScanned, HasTalked};
 
 use crate::disks::Opens;
-use crate::serving::{ServeFault, Service};
+use crate::fault::ServeFault;
+use crate::serving::Service;
+use crate::settings::settings_of;
 use crate::talking::Server;
 use crate::words::{Asked, read_words};
 use clap::Error;
-use std::alloc::{AllocError, Global};
 use std::env;
 use std::fmt::Display;
 use std::io::{self, BufWriter, ErrorKind, Read, Write};
 use std::net::{Net, TcpStream};
 use std::process::ExitCode;
 use std::rt::Env;
-use xa_codes::Bytes;
 use xa_log::OpenFault;
-use xa_manager::Settings;
 use xa_play::{PlayFault, play_run};
 use xa_scan::{ScanFault, scan_run};
 use xa_talk::{TalkFault, talk_run};
@@ -102,15 +101,6 @@ fn talk<R: AllocGlobal + Input + Print + Net<Stream = TcpStream>>(
         &mut writer,
         &mut Server { rt, port },
     )
-}
-
-/// The settings that a command line asks for.
-fn settings_of(alloc: Global, name: &str, log_bytes: u64) -> Result<Settings, AllocError>
-    ensures name { IfOk result (λ settings. settings.name ≡ name.now) }
-    ensures log_bytes { IfOk result (λ settings. settings.log_bytes ≡ log_bytes) }
-{
-    let name = Bytes::from_slice(alloc, name.as_bytes())?;
-    Ok(Settings { name, log_bytes })
 }
 
 /// A word that is no text is refused as `clap` refuses it elsewhere.

@@ -4,7 +4,7 @@ use xa_disk::{Disk, DiskFault, FileDisk};
 pub trait Opens {
     ghost use Rattle.std.specs.Prelude.{ℕ, List, IfOk};
 
-    type Disk: Disk + Drop;
+    type Disk: Disk + Drop + Send;
 
     /// A disk is what the file at a path, by the path's bytes, was opened as.
     ghost opened: { Self.Disk → List ℕ → Type 0 };

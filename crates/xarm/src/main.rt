@@ -5,15 +5,18 @@
 //! - `talk` sends the calls of a script to a server, and prints the same
 //! - `scan` prints the records of a log
 //!
-//! `words` reads the command line, `command` does what it says; `disks` opens files, `talking` connections, and
-//! `serving` is the server. Of the tests, `tests` has those of the program alone, and `host` what they run it on.
+//! `words` reads the command line, `command` does what it says; `disks` opens files, `talking` connections; `settings`
+//! are a manager's; `serving` is the server, `fault` why it served nothing. Of the tests, `tests` has those of the
+//! program alone, and `host` what they run it on.
 #![tactic(auto)]
 
 mod command;
 mod disks;
+mod fault;
 #[cfg(test)]
 mod host;
 mod serving;
+mod settings;
 mod talking;
 #[cfg(test)]
 mod tests;

@@ -1,17 +1,21 @@
 //! The command `serve`: a manager over two files, whose sessions are the connections of a port.
-ghost use Rattle.std.specs.Prelude.{◌≡◌, ◌++◌, IfOk, codes, string_bytes};
+ghost use Rattle.std.specs.Prelude.{◌≡◌, ◌↔◌, ◌⊎◌, ◌++◌, IfErr, IfOk, IsErrOf, codes, string_bytes};
+ghost use Rattle.xa_manager.specs.declared.settings.TheConstants.{MOST_LOG};
+ghost use Rattle.xa_manager.specs.Opening.{IsBadSetting, OpenRefused};
+ghost use Rattle.xarm.specs.Served.{HasFailed, HasOpened, HasServed};
 
 use crate::disks::Opens;
+use crate::fault::ServeFault;
+use crate::settings::settings_of;
 use std::alloc::{AllocError, Global};
 use std::io::Print;
 use std::net::{Net, TcpListener, TcpStream};
 use std::sync::Wait;
 use std::thread::Threads;
-use thiserror::Error;
-use xa_codes::Bytes;
-use xa_disk::FileDisk;
+use xa_disk::Disk;
 use xa_manager::{MOST_LOG, Manager, ManagerFault, Settings};
-use xa_server::{ServerFault, audited_lines, serve_manager};
+use xa_room::Manages;
+use xa_server::{audited_lines, serve_manager};
 
 /// The most connections until a server ends.
 pub const MOST_SERVED: u64 = 1_000_000;
@@ -29,47 +33,6 @@ pub struct Service<'a> {
     pub connections: u64,
 }
 
-/// Why nothing was served, or not to the end. Its text is what `xarm` prints behind its name.
-#[derive(Clone, Copy, Debug, PartialEq, Eq, Error)]
-pub enum ServeFault {
-    #[error("no memory")]
-    Memory,
-    #[error("cannot write")]
-    Write,
-    #[error("cannot listen")]
-    Listen,
-    #[error("cannot start workers")]
-    Start,
-    /// The manager couldn't be opened on its log.
-    #[error("{0}")]
-    Manager(ManagerFault),
-}
-
-impl From<AllocError> for ServeFault {
-    fn from(_: AllocError) -> ServeFault {
-        ServeFault::Memory
-    }
-}
-
-impl From<ManagerFault> for ServeFault {
-    fn from(fault: ManagerFault) -> ServeFault {
-        match fault {
-            ManagerFault::Memory => ServeFault::Memory,
-            fault => ServeFault::Manager(fault),
-        }
-    }
-}
-
-impl From<ServerFault> for ServeFault {
-    fn from(fault: ServerFault) -> ServeFault {
-        match fault {
-            ServerFault::Memory => ServeFault::Memory,
-            // the command line takes no such number
-            ServerFault::Workers(_) => ServeFault::Start,
-        }
-    }
-}
-
 /// Opens the log's two files, listens, and opens the manager; then it serves so many connections, and audits the
 /// history. Whether the audit found it whole.
 ///
@@ -78,21 +41,23 @@ impl From<ServerFault> for ServeFault {
 pub fn serve<
     R: AllocGlobal
         + Print
-        + Opens<Disk = FileDisk>
+        + Opens
         + Net<Listener = TcpListener, Stream = TcpStream>
         + Threads
         + Wait
         + Sync,
->(rt: &R, service: &Service) -> Result<bool, ServeFault> {
-    let settings = Settings {
-        name: Bytes::from_slice(rt.alloc(), service.name.as_bytes())?,
-        log_bytes: MOST_LOG,
-    };
+>(rt: &R, service: &Service) -> Result<bool, ServeFault>
+    ensures served { IfOk result (λ is_whole. HasServed ⟦<R::Disk as Disk>⟧ ⟦<Manager<R::Disk> as Manages>⟧ R.opened
+        service.now.path.now service.now.name.now MOST_LOG is_whole) }
+    ensures failed { IfErr result (λ fault. HasFailed ⟦<R::Disk as Disk>⟧ R.opened
+        service.now.path.now service.now.name.now MOST_LOG service.now.workers fault) }
+{
+    let settings = settings_of(rt.alloc(), service.name, MOST_LOG)?;
     let (first, second) = open_files(rt, service.path)?;
     let Ok(listener) = TcpListener::bind(rt, ("127.0.0.1", service.port)) else {
         return Err(ServeFault::Listen);
     };
-    let manager = Manager::open(rt.alloc(), first, second, settings)?;
+    let manager = open_manager(rt.alloc(), first, second, settings)?;
     if rt.println("ready").is_err() {
         return Err(ServeFault::Write);
     }
@@ -104,16 +69,32 @@ pub fn serve<
     }
 }
 
-/// The log's two files, the first one at this path. One that can't be opened or locked is told as a device that failed.
+/// The manager that two files open to.
+fn open_manager<D: Disk + Drop>(
+    alloc: Global,
+    first: D,
+    second: D,
+    settings: Settings,
+) -> Result<Manager<D>, ManagerFault>
+    ensures opened { IfOk result (HasOpened D.Disk first second settings.name settings.log_bytes) }
+    ensures setting { IsErrOf result ManagerFault.Setting ↔ IsBadSetting settings.name settings.log_bytes }
+    ensures refused { D.honest
+        → IfErr result (λ e. OpenRefused e settings.name settings.log_bytes (D.seen first) (D.seen second)) }
+{
+    Manager::open(alloc, first, second, settings)
+}
+
+/// The log's two files, the first one at this path.
 fn open_files<R: AllocGlobal + Opens>(rt: &R, path: &str) -> Result<(R::Disk, R::Disk), ServeFault>
-    ensures { IfOk result (λ disks. R.opened disks.0 path.now × R.opened disks.1 (path.now ++ codes ".2")) }
+    ensures opened { IfOk result (λ disks. R.opened disks.0 path.now × R.opened disks.1 (path.now ++ codes ".2")) }
+    ensures failed { IfErr result (λ fault. (fault ≡ ServeFault.Memory) ⊎ (fault ≡ ServeFault.Files)) }
 {
     let second_path = second_path(rt.alloc(), path)?;
     let Ok(first) = rt.open_disk(path) else {
-        return Err(ServeFault::Manager(ManagerFault::Device));
+        return Err(ServeFault::Files);
     };
     let Ok(second) = rt.open_disk(second_path.as_str()) else {
-        return Err(ServeFault::Manager(ManagerFault::Device));
+        return Err(ServeFault::Files);
     };
     Ok((first, second))
 }

@@ -1,0 +1,17 @@
+-- As which fault of a server others are told.
+use Rattle.xa_manager.specs.declared.fault.ManagerFault.{ManagerFault}
+use Rattle.xa_manager.specs.declared.fault.ManagerFault.TheVariants as opening
+use Rattle.xa_server.specs.declared.fault.ServerFault.{ServerFault}
+use Rattle.xa_server.specs.declared.fault.ServerFault.TheVariants as serving
+use Rattle.xarm.specs.declared.fault.ServeFault.{ServeFault}
+use Rattle.xarm.specs.declared.fault.ServeFault.TheVariants.{Memory, Start, Manager}
+
+-- why a manager couldn't be opened
+abbrev pub opening_fault : ManagerFault → ServeFault
+opening_fault opening.Memory = Memory
+opening_fault fault = Manager fault
+
+-- why its sessions weren't served
+abbrev pub serving_fault : ServerFault → ServeFault
+serving_fault serving.Memory = Memory
+serving_fault (serving.Workers n) = Start
