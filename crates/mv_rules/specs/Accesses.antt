@@ -5,7 +5,7 @@ use Rattle.std.specs.List.{AllByRecursion as Each}
 use Rattle.std.specs.Cmp.Lexicographic.{slice_cmp}
 use Rattle.std.specs.Ordering.{nat_cmp}
 use Rattle.std.specs.declared.cmp.Ordering.TheVariants.{Less}
-use Rattle.xa_codes.specs.declared.write.TheConstants.{MOST_WRITES}
+use Rattle.xa_limits.specs.declared.TheConstants.{MOST_WRITES}
 use Rattle.xa_codes.specs.declared.write.Write.{Write}
 use Rattle.mv_chain.specs.Accesses.{Written, Answered, Seen, read_by, seen, is_busy, is_late}
 use Rattle.mv_chain.specs.Accesses.{is_undecided, has_undecided, IsUndecided}

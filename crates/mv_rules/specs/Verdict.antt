@@ -1,6 +1,6 @@
 -- What a put is to do.
 use Rattle.std.specs.Prelude.{ℕ, Bool, true, false, not, ◌&&◌, nat_le}
-use Rattle.xa_codes.specs.declared.write.TheConstants.{MOST_WRITES}
+use Rattle.xa_limits.specs.declared.TheConstants.{MOST_WRITES}
 use Rattle.mv_rules.specs.declared.answers.Put.TheVariants.{Late, Limit}
 use Rattle.mv_rules.specs.declared.verdict.Verdict.{Verdict}
 use Rattle.mv_rules.specs.declared.verdict.Verdict.TheVariants.{Refused, Again, First}

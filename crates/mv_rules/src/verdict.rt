@@ -3,7 +3,7 @@ ghost use Rattle.mv_rules.specs.Verdict.{verdict_of};
 
 use crate::answers::Put;
 use mv_chain::Look;
-use xa_codes::MOST_WRITES;
+use xa_limits::MOST_WRITES;
 
 /// What a put is to do.
 #[derive(Clone, Copy, Debug, PartialEq, Eq)]

@@ -9,7 +9,8 @@ use Rattle.xa_frame.specs.declared.body.Body.TheVariants as body
 use Rattle.xa_frame.specs.declared.reply.Reply.{Reply}
 use Rattle.xa_model.specs.State.{State, Session, session_of, free_number}
 use Rattle.xa_model.specs.Answer.{Answer, answer, carrying, detailed, first, unless}
-use Rattle.xa_model.specs.Associations.{connected, connect_by, connect_refusal, most_sessions}
+use Rattle.xa_model.specs.Associations.{connected, connect_by, connect_refusal}
+use Rattle.xa_limits.specs.declared.TheConstants.{MOST_SESSIONS}
 use Rattle.xa_assoc.specs.declared.seat.Seat.{Seat}
 use Rattle.xa_assoc.specs.declared.sessions.Sessions.{Sessions}
 use Rattle.xa_assoc.specs.Free.{is_free}
@@ -64,12 +65,12 @@ connect_goes_on m s st e = unless_none (connect_refusal (length s.sessions)) s (
 pub connect_refuses : (m : Sessions) (s : State) (r : Reply) → SessionsStandFor m s → connect_refusal (length m.seats.entries) ≡ Some r → connect_by s ≡ answer r s
 connect_refuses m s r st e = unless_some (connect_refusal (length s.sessions)) r s (connected s) (refusal_same m s (Some r) st e)
 
-fewer_by : (n : ℕ) (c : Bool) → nat_lt n most_sessions ≡ c → first ((not c, detailed XAER_RMERR detail.Limit) ∷ []) ≡ None → n < 1024
+fewer_by : (n : ℕ) (c : Bool) → nat_lt n MOST_SESSIONS ≡ c → first ((not c, detailed XAER_RMERR detail.Limit) ∷ []) ≡ None → n < 1024
 fewer_by n true e h = grind (arith, nat_tests)
 fewer_by n false e h = absurd (cc h)
 
 pub fewer : (n : ℕ) → connect_refusal n ≡ None → n < 1024
-fewer n h = fewer_by n (nat_lt n most_sessions) refl h
+fewer n h = fewer_by n (nat_lt n MOST_SESSIONS) refl h
 
 pub connect_number : (m : Sessions) (s : State) (t : ℕ) → SessionsStandFor m s → connect_refusal (length m.seats.entries) ≡ None → IsFirst m t → (connect_by s).reply ≡ carrying (body.Number (t + 1))
 connect_number m s t st e f = ap (λ (a : Answer). a.reply) (connect_goes_on m s st e) ∙ ap (λ (n : ℕ). carrying (body.Number n)) (number_is_free m s t st f)

@@ -3,7 +3,7 @@
 use Rattle.std.specs.Prelude.{ℕ, ◌≡◌, ◌+◌, ◌<◌, ◌==◌, Bool, true, false, not, ◌&&◌, ◌||◌, Option, Some, None, cond, option_map, option_and_then, is_some, if◌then◌else◌}
 use Rattle.xa_xid.specs.Triple.{Triple, xid_eq}
 use Rattle.xa_model.specs.State.{is_with}
-use Rattle.xa_model.specs.declared.limits.TheConstants.{MOST_SESSIONS}
+use Rattle.xa_limits.specs.declared.TheConstants.{MOST_SESSIONS}
 use Rattle.xa_assoc.specs.declared.sessions.Sessions.{Sessions}
 use Rattle.xa_assoc.specs.Free.{is_free}
 use Rattle.xa_assoc.specs.Seats.{connected_in, opened_at, active_at, owns_at, scan_at}

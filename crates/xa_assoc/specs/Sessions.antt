@@ -8,7 +8,7 @@ use Rattle.xa_model.specs.Answer.{Answer, answer}
 use Rattle.xa_model.specs.Associations.{is_taken, is_unknown, is_lasting, can_end, start_refusal, join_refusal, resume_refusal, end_refusal}
 use Rattle.xa_model.specs.Sound.{IsSound}
 use Rattle.xa_model.specs.Step.{opened_of}
-use Rattle.xa_model.specs.declared.limits.TheConstants.{MOST_SESSIONS}
+use Rattle.xa_limits.specs.declared.TheConstants.{MOST_SESSIONS}
 use Rattle.xa_model.specs.Recovering.{scan_of}
 use Rattle.xa_assoc.specs.declared.sessions.Sessions.{Sessions}
 use Rattle.xa_assoc.specs.Seats.{connected_in, opened_at, active_at, owns_at, scan_at}

@@ -3,14 +3,14 @@ ghost use Rattle.xa_assoc.specs.Seats.{seat_at, owns_at};
 ghost use Rattle.xa_assoc.specs.Changes.{Comes, Goes, Sets, Clears, ComesToWork, ComesToRest, LosesOwn, IsSameRoom};
 ghost use Rattle.xa_assoc.specs.Company.{company_of};
 ghost use Rattle.xa_assoc.specs.Sessions.{Stays};
-ghost use Rattle.xa_model.specs.declared.limits.TheConstants.{MOST_SESSIONS};
+ghost use Rattle.xa_limits.specs.declared.TheConstants.{MOST_SESSIONS};
 
 use crate::free::{make_free, make_taken};
 use crate::seat::Seat;
 use crate::sessions::Sessions;
 use std::alloc::AllocError;
 use std::collections::BTreeSet;
-use xa_model::MOST_SESSIONS;
+use xa_limits::MOST_SESSIONS;
 use xa_xid::Xid;
 
 /// Who is connected and opened.

@@ -1,9 +1,9 @@
 ghost use Rattle.std.specs.Prelude.{◌≡◌, ◌≢◌, ℕ, ◌<◌, ◌==◌, cond, true, false, IfNone, IfSome};
 ghost use Rattle.std.specs.Int.{bit_at};
 ghost use Rattle.xa_assoc.specs.Free.{is_free};
-ghost use Rattle.xa_model.specs.declared.limits.TheConstants.{MOST_SESSIONS};
+ghost use Rattle.xa_limits.specs.declared.TheConstants.{MOST_SESSIONS};
 
-use xa_model::MOST_SESSIONS;
+use xa_limits::MOST_SESSIONS;
 
 /// The words whose bits say which of `MOST_SESSIONS` indices are free.
 pub const WORDS: usize = MOST_SESSIONS / 64;

@@ -5,7 +5,7 @@ ghost use Rattle.xa_assoc.specs.Refusals.{is_memory, IsBare};
 
 use xa_codes::{Detail, XAER_DUPID, XAER_NOTA, XAER_PROTO, XAER_RMERR};
 use xa_frame::Reply;
-use xa_model::{MOST_BRANCHES, MOST_GIVEN, MOST_LOOSE, MOST_SESSIONS};
+use xa_limits::{MOST_BRANCHES, MOST_GIVEN, MOST_LOOSE, MOST_SESSIONS};
 
 /// Of a connect, where so many sessions are connected.
 pub fn connect_refusal(connected: usize) -> Option<Reply>

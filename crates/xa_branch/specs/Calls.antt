@@ -3,7 +3,8 @@ use Rattle.std.specs.Prelude.{ℕ, ℤ, Bool, true, false, Option, Some, None, R
 use Rattle.xa_codes.specs.declared.codes.TheConstants.{XAER_PROTO, XAER_NOTA}
 use Rattle.xa_xid.specs.Triple.{Triple}
 use Rattle.xa_model.specs.State.{State, Known as Fact, Unknown, AtWork, InDoubt, Completed, is_known_as, known_as, known_in, change}
-use Rattle.xa_model.specs.Associations.{most_branches, most_given, is_taken, with_mark}
+use Rattle.xa_model.specs.Associations.{is_taken, with_mark}
+use Rattle.xa_limits.specs.declared.TheConstants.{MOST_BRANCHES, MOST_GIVEN}
 use Rattle.xa_model.specs.Branches.{is_associated}
 use Rattle.xa_branch.specs.declared.fault.BeginFault.{BeginFault}
 use Rattle.xa_branch.specs.declared.fault.BeginFault.TheVariants.{Duplicate, Full, Spent, Memory}
@@ -13,8 +14,8 @@ use Rattle.xa_branch.specs.declared.fault.BeginFault.TheVariants.{Duplicate, Ful
 abbrev pub begin_fault : Bool → ℕ → ℕ → Option BeginFault
 begin_fault is_taken known given =
     if is_taken then Some Duplicate
-    else if nat_le most_branches known then Some Full
-    else if nat_le most_given given then Some Spent
+    else if nat_le MOST_BRANCHES known then Some Full
+    else if nat_le MOST_GIVEN given then Some Spent
     else None
 
 abbrev pub begin_fault_of : State → Triple → Option BeginFault

@@ -9,7 +9,7 @@ use crate::changes::{add, add_time, set, take};
 use crate::fault::BeginFault;
 use crate::working::Working;
 use xa_codes::Code;
-use xa_model::{BOOT_TIMESTAMPS, MOST_BRANCHES, MOST_GIVEN};
+use xa_limits::{BOOT_TIMESTAMPS, MOST_BRANCHES, MOST_GIVEN};
 use xa_xid::Xid;
 
 /// How branches begin, and are marked.

@@ -1,5 +1,5 @@
 use thiserror::Error;
-use xa_model::{MOST_BRANCHES, MOST_GIVEN};
+use xa_limits::{MOST_BRANCHES, MOST_GIVEN};
 
 /// Why a branch doesn't begin. Nothing changes.
 #[derive(Clone, Copy, Debug, PartialEq, Eq, Error)]

@@ -3,7 +3,7 @@ ghost use Rattle.xa_model.specs.LowWater.{low_water};
 ghost use Rattle.xa_branch.specs.Follows.{InSound};
 
 use crate::branches::Branches;
-use xa_model::BOOT_TIMESTAMPS;
+use xa_limits::BOOT_TIMESTAMPS;
 
 /// Which timestamps nobody works below.
 impl Branches {

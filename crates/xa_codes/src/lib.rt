@@ -7,8 +7,7 @@
 //! - `call`: `Call`, the fifteen calls of a session
 //! - `detail`: `Detail`, what a refusal is about, beside its code
 //! - `direction`: `Direction`, how a branch is to end
-//! - `bytes`: `Bytes`, a byte string that contracts see as a list; `write`: `Write`, what a branch leaves at a key, and
-//!   its limits `MOST_KEY`, `MOST_VALUE` and `MOST_WRITES`
+//! - `bytes`: `Bytes`, a byte string that contracts see as a list; `write`: `Write`, what a branch leaves at a key
 //!
 //! docs/PROTOCOL.md says what codes and flags mean.
 #![tactic(auto)]
@@ -37,4 +36,4 @@ pub use flags::{
     TMRESUME, TMSTARTRSCAN, TMSUCCESS, TMSUSPEND, legal_flags, worked_flags,
 };
 pub use names::code_name;
-pub use write::{MOST_KEY, MOST_VALUE, MOST_WRITES, Write};
+pub use write::Write;

@@ -7,7 +7,7 @@ use Rattle.xa_frame.specs.declared.fault.FrameFault.{FrameFault}
 use Rattle.xa_frame.specs.declared.fault.FrameFault.TheVariants as faults
 use Rattle.xa_frame.specs.declared.request.Request.{Request}
 use Rattle.xa_frame.specs.declared.reply.Reply.{Reply}
-use Rattle.xa_frame.specs.declared.request_decoder.TheConstants.{MOST_CONTENT}
+use Rattle.xa_limits.specs.declared.TheConstants.{MOST_CONTENT}
 use Rattle.xa_frame.specs.Faults.{fault_of_request}
 use Rattle.xa_frame.specs.Made.{bad_frame}
 use Rattle.xa_frame.specs.Spelling.{SpellsRequest}

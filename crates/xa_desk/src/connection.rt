@@ -1,6 +1,6 @@
 ghost use Rattle.std.specs.Prelude.{◌≡◌, ◌<◌, ◌≤◌, length, IfOk, IfErr, true, false, Some};
 ghost use Rattle.std.specs.Io.KnownBytes.{Consumes};
-ghost use Rattle.xa_frame.specs.declared.request_decoder.TheConstants.{MOST_CONTENT};
+ghost use Rattle.xa_limits.specs.declared.TheConstants.{MOST_CONTENT};
 ghost use Rattle.xa_frame.specs.Limits.{IsReply};
 ghost use Rattle.xa_desk.specs.declared.connection.TheConstants.{MOST_FRAMES};
 ghost use Rattle.xa_desk.specs.Frames.{reply_frame, without_memory};
@@ -13,7 +13,8 @@ use std::alloc::{AllocError, Global};
 use std::io::{Read, Write};
 use xa_bytes::{number_of, put_u32};
 use xa_codes::{Detail, XAER_RMFAIL};
-use xa_frame::{FrameFault, MOST_CONTENT, Reply, decode_request, encode_reply, one_reply};
+use xa_frame::{FrameFault, Reply, decode_request, encode_reply, one_reply};
+use xa_limits::MOST_CONTENT;
 use xa_output::write_text;
 
 /// The most frames of a connection.

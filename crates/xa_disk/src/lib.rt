@@ -7,7 +7,7 @@
 //!   (the bytes alone)
 //! - `plan`: which calls of a `MemDisk` are to fail, and with which `Effect`
 //! - `file`: `FileDisk`, a real file, of which only the counts are proved
-//! - `opening`: how a file is taken as a disk, and `FileFault`, why it isn't
+//! - `opening`: how a file is taken as a disk, and `FileFault`, why it isn't; `opens`: `Opens`, what opens files as disks
 #![tactic(auto)]
 
 mod bytes;
@@ -17,6 +17,7 @@ mod disk;
 mod file;
 mod memory;
 mod opening;
+mod opens;
 mod plan;
 
 pub use counts::Counts;
@@ -24,4 +25,5 @@ pub use disk::{Disk, DiskFault};
 pub use file::FileDisk;
 pub use memory::MemDisk;
 pub use opening::FileFault;
+pub use opens::Opens;
 pub use plan::Effect;

@@ -1,6 +1,6 @@
 -- Which byte strings, keys and values have a spelling of their own.
 use Rattle.std.specs.Prelude.{ℕ, ◌≤◌, List, length}
-use Rattle.xa_codes.specs.declared.write.TheConstants.{MOST_KEY, MOST_VALUE}
+use Rattle.xa_limits.specs.declared.TheConstants.{MOST_KEY, MOST_VALUE}
 use Rattle.xa_fields.specs.declared.reading.TheConstants.{MOST_SHORT}
 
 abbrev pub IsShort : List ℕ → Type 0

@@ -3,7 +3,8 @@ ghost use Rattle.xa_fields.specs.Reading.{bytes_at, short_at, key_at, value_at, 
 
 use crate::fault::FieldFault;
 use xa_bytes::take_u16;
-use xa_codes::{Direction, MOST_KEY, MOST_VALUE};
+use xa_codes::Direction;
+use xa_limits::{MOST_KEY, MOST_VALUE};
 use xa_xid::Xid;
 
 /// The most bytes behind a length of one byte.

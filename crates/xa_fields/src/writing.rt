@@ -8,7 +8,8 @@ use arrayvec::ArrayVec;
 use std::alloc::AllocError;
 use xa_bytes::put_u16;
 use xa_codes::Direction;
-use xa_xid::{MOST_BYTES, Xid};
+use xa_limits::XID_BYTES;
+use xa_xid::Xid;
 
 /// Appends bytes behind their length in one byte: the last byte of it, where they are more than `MOST_SHORT`.
 pub fn put_short(out: &mut Vec<u8>, bytes: &[u8]) -> Result<(), AllocError>
@@ -45,7 +46,7 @@ pub fn put_xid(out: &mut Vec<u8>, xid: &Xid) -> Result<(), AllocError>
     ensures bytes { OnOk result (out.new.items ≡ out.old.items ++ bytes_of xid.now) }
     ensures limits { IsWithinLimits xid.now }
 {
-    let mut bytes: ArrayVec<u8, MOST_BYTES> = ArrayVec::new();
+    let mut bytes: ArrayVec<u8, XID_BYTES> = ArrayVec::new();
     xid.put(&mut bytes);
     out.extend_from_slice(bytes.as_slice())
 }

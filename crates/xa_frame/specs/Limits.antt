@@ -8,8 +8,7 @@ use Rattle.xa_frame.specs.declared.request.Request.TheVariants.{Open, Close, Sta
 use Rattle.xa_frame.specs.declared.body.Body.{Body}
 use Rattle.xa_frame.specs.declared.body.Body.TheVariants.{Number, Value, Xids}
 use Rattle.xa_frame.specs.declared.reply.Reply.{Reply}
-use Rattle.xa_frame.specs.declared.request.TheConstants.{MOST_INFO}
-use Rattle.xa_frame.specs.declared.xids.TheConstants.{MOST_XIDS}
+use Rattle.xa_limits.specs.declared.TheConstants.{MOST_INFO, MOST_XIDS}
 
 abbrev pub IsInfo : List ℕ → Type 0
 IsInfo info = length info ≤ MOST_INFO

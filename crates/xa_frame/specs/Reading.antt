@@ -17,8 +17,7 @@ use Rattle.xa_frame.specs.declared.body.Body.TheVariants as body
 use Rattle.xa_frame.specs.declared.reply.Reply.{Reply}
 use Rattle.xa_frame.specs.declared.fault.FrameFault.{FrameFault}
 use Rattle.xa_frame.specs.declared.fault.FrameFault.TheVariants.{Short, Long, Version, Operation, Field, Trailing}
-use Rattle.xa_frame.specs.declared.request_decoder.TheConstants.{MOST_CONTENT}
-use Rattle.xa_frame.specs.declared.xids.TheConstants.{MOST_XIDS}
+use Rattle.xa_limits.specs.declared.TheConstants.{MOST_CONTENT, MOST_XIDS}
 use Rattle.xa_frame.specs.Fields.{of_field}
 use Rattle.xa_frame.specs.Spelling.{numbered, detail_numbered}
 

@@ -5,7 +5,8 @@ ghost use Rattle.xa_xid.specs.Triple.{IsWithinLimits};
 use crate::request::Request;
 use arrayvec::ArrayVec;
 use std::alloc::{AllocError, Global};
-use xa_xid::{MOST_BYTES, Xid};
+use xa_limits::XID_BYTES;
+use xa_xid::Xid;
 
 impl Request {
     /// A copy. Keys, values and open infos take memory.
@@ -102,6 +103,6 @@ fn hold_flags(flags: u32)
 fn hold_name(xid: &Xid)
     ensures { IsWithinLimits xid.now }
 {
-    let mut bytes: ArrayVec<u8, MOST_BYTES> = ArrayVec::new();
+    let mut bytes: ArrayVec<u8, XID_BYTES> = ArrayVec::new();
     xid.put(&mut bytes);
 }

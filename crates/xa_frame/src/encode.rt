@@ -11,7 +11,8 @@ use crate::request::Request;
 use std::alloc::{AllocError, Global};
 use xa_bytes::{put_u32, put_u64};
 use xa_fields::{put_direction, put_length, put_short, put_value, put_xid};
-use xa_xid::{MOST_BYTES, Xid};
+use xa_limits::XID_BYTES;
+use xa_xid::Xid;
 
 /// What each content begins with.
 pub(crate) const VERSION: u8 = 1;
@@ -62,7 +63,7 @@ fn room_of(request: &Request) -> usize
         Request::Get { key } | Request::Delete { key } => 3 + key.as_slice().len(),
         Request::Put { key, value } => 5 + key.as_slice().len() + value.as_slice().len(),
         Request::Close { .. } | Request::Recover { .. } | Request::Restart => 10,
-        _ => 6 + MOST_BYTES,
+        _ => 6 + XID_BYTES,
     }
 }
 

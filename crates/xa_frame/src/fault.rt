@@ -2,10 +2,10 @@ ghost use Rattle.std.specs.Prelude.{◌≡◌};
 ghost use Rattle.xa_frame.specs.declared.fault.FrameFault.TheVariants.{Memory};
 ghost use Rattle.xa_frame.specs.Fields.{fault_of_field};
 
-use crate::request_decoder::MOST_CONTENT;
 use std::alloc::{AllocError, AllocFailed};
 use thiserror::Error;
 use xa_fields::FieldFault;
+use xa_limits::MOST_CONTENT;
 
 /// Why a content gave no value: the first fault, read from left to right.
 #[derive(Clone, Copy, Debug, PartialEq, Eq, Error)]

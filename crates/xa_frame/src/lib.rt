@@ -3,9 +3,8 @@
 //!
 //! The values:
 //!
-//! - `request`: `Request`, with what each call is given; `MOST_INFO`, the longest info of an open
-//! - `reply`: `Reply`; `body`: `Body`, what a reply carries; `xids`: `Xids`, that contracts see as a list, at most
-//!   `MOST_XIDS`
+//! - `request`: `Request`, with what each call is given
+//! - `reply`: `Reply`; `body`: `Body`, what a reply carries; `xids`: `Xids`, that contracts see as a list
 //! - `making`: `Reply::plain`, `detailed`, `carrying` and `bad_frame`; `copying`: `Request::copied`, and `hold`, what
 //!   its parts hold
 //!
@@ -15,7 +14,7 @@
 //! - `encode`: `encode_request` and `encode_reply`, of values within the limits
 //! - `fields`: what a content is made of, read from the front: numbers, codes, details; keys, values and XIDs are
 //!   `xa_fields`'
-//! - `request_decoder`: `decode_request`, and `MOST_CONTENT`, the longest content; `reply_decoder`: `decode_reply`
+//! - `request_decoder`: `decode_request`; `reply_decoder`: `decode_reply`
 //! - `fault`: `FrameFault`, the first fault of a content, read from left to right
 //! - `laws`: `one_request` and `one_reply`, one value and one content; `worked_contents`, worked rows
 //!
@@ -43,6 +42,6 @@ pub use fault::FrameFault;
 pub use laws::{one_reply, one_request, worked_contents};
 pub use reply::Reply;
 pub use reply_decoder::decode_reply;
-pub use request::{MOST_INFO, Request};
-pub use request_decoder::{MOST_CONTENT, decode_request};
-pub use xids::{MOST_XIDS, Xids};
+pub use request::Request;
+pub use request_decoder::decode_request;
+pub use xids::Xids;

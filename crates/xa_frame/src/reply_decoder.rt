@@ -13,10 +13,11 @@ use crate::fault::FrameFault;
 use crate::fields::{code_of, detail_front, end, u16_at, u64_at};
 use crate::reply::Reply;
 use crate::request_decoder::versioned;
-use crate::xids::{MOST_XIDS, Xids};
+use crate::xids::Xids;
 use std::alloc::Global;
 use xa_codes::Bytes;
 use xa_fields::{take_value, take_xid};
+use xa_limits::MOST_XIDS;
 
 fn number_alone(bytes: &[u8]) -> Result<u64, FrameFault>
     ensures { result ≡ one_of (number_at w64) bytes.now }

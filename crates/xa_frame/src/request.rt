@@ -1,9 +1,5 @@
 use xa_codes::{Bytes, Direction};
-use xa_fields::MOST_SHORT;
 use xa_xid::Xid;
-
-/// The most bytes of an open info: its length is one byte.
-pub const MOST_INFO: usize = MOST_SHORT;
 
 /// What a session asks for: C193's calls of a resource manager (`xa_open` to `xa_recover`), gets, puts and deletes of
 /// records, and the operator's calls. Flags are C193's, or-ed. A key has 1 to `MOST_KEY` bytes, a value at most

@@ -16,10 +16,8 @@ use crate::request::Request;
 use std::alloc::Global;
 use xa_codes::{Bytes, Call, Direction};
 use xa_fields::{take_direction, take_key, take_short, take_value, take_xid};
+use xa_limits::MOST_CONTENT;
 use xa_xid::Xid;
-
-/// The most bytes of a frame's content.
-pub const MOST_CONTENT: usize = 65_535;
 
 fn flags_alone(bytes: &[u8]) -> Result<u32, FrameFault>
     ensures { result ≡ one_of (number_at w32) bytes.now }

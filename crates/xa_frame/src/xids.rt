@@ -3,9 +3,6 @@ ghost use Rattle.std.specs.Prelude.{◌≡◌};
 use std::marker::Model;
 use xa_xid::Xid;
 
-/// The most XIDs that a reply lists.
-pub const MOST_XIDS: usize = 256;
-
 /// XIDs that contracts see as a list.
 #[derive(Debug, Drop)]
 pub struct Xids {

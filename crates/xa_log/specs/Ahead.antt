@@ -5,7 +5,7 @@ use Rattle.xa_disk.specs.declared.disk.Disk.{Ghosts}
 use Rattle.xa_log.specs.Chain.{closed_by}
 use Rattle.xa_log.specs.declared.ahead.TheConstants.{READY_BYTES}
 use Rattle.xa_log.specs.declared.log.Log.{Log}
-use Rattle.xa_log.specs.declared.record.TheConstants.{AROUND_CLOSED}
+use Rattle.xa_limits.specs.declared.TheConstants.{AROUND_CLOSED}
 
 -- How many zeros go behind what is written from one offset up to another: those up to the end of the piece that it
 -- reaches into, within the limit; none where it stays in the piece in which it begins.

@@ -8,8 +8,8 @@ use Rattle.xa_log.specs.declared.appending.Appended.{Appended}
 use Rattle.xa_log.specs.declared.appending.Appended.TheVariants.{Kept, Refused, Lost, Full}
 use Rattle.xa_log.specs.Answers.{Fell}
 use Rattle.xa_log.specs.declared.format.Format.{Format}
-use Rattle.xa_log.specs.declared.format.TheConstants.{FIRST_OFFSET, PREAMBLE_BYTES}
-use Rattle.xa_log.specs.declared.record.TheConstants.{LENGTH_BYTES, AROUND_BODY}
+use Rattle.xa_log.specs.declared.format.TheConstants.{PREAMBLE_BYTES}
+use Rattle.xa_limits.specs.declared.TheConstants.{AROUND_BODY, FIRST_OFFSET, LENGTH_BYTES}
 use Rattle.xa_log.specs.Chain.{start, closing, preamble, record_of, records, IsBody, Rests}
 use Rattle.xa_log.specs.Pair.{has_log, IsCalm, Behind, AllOrNoBodies, CalmTears}
 

@@ -9,7 +9,7 @@ use Rattle.xa_log.specs.Chain.{format_of, is_record, body_at, logged}
 use Rattle.xa_log.specs.Reading.{is_newer, IsScan}
 use Rattle.xa_log.specs.Pair.{number_in, generation, is_nil, has_log, on_first}
 use Rattle.xa_log.specs.Window.{Caches}
-use Rattle.xa_log.specs.declared.format.TheConstants.{FORMAT_BYTES}
+use Rattle.xa_limits.specs.declared.TheConstants.{FORMAT_BYTES}
 use Rattle.xa_log.specs.declared.window.TheConstants.{WINDOW}
 
 -- lengths of two files that aren't too long

@@ -6,7 +6,8 @@ use Rattle.xa_disk.specs.Disk.{Torn}
 use Rattle.xa_log.specs.declared.fault.OpenFault.{OpenFault}
 use Rattle.xa_log.specs.declared.fault.OpenFault.TheVariants.{NotALog, TooNew, TooLong}
 use Rattle.xa_log.specs.declared.format.Format.{Format}
-use Rattle.xa_log.specs.declared.format.TheConstants.{FORMAT_BYTES, PREAMBLE_BYTES}
+use Rattle.xa_log.specs.declared.format.TheConstants.{PREAMBLE_BYTES}
+use Rattle.xa_limits.specs.declared.TheConstants.{FORMAT_BYTES}
 use Rattle.xa_log.specs.declared.looking.TheConstants.{NUMBER_OFFSET, NUMBER_END}
 use Rattle.xa_log.specs.Chain.{start, preamble, format_of, format_in, body_at, is_record, logged}
 use Rattle.xa_log.specs.Reading.{is_newer}

@@ -8,7 +8,7 @@ use Rattle.xa_log.specs.declared.format.Format.{Format}
 use Rattle.xa_log.specs.declared.appending.Appended.{Appended}
 use Rattle.xa_log.specs.declared.appending.Appended.TheVariants.{Kept, Refused, Lost, Full}
 use Rattle.xa_log.specs.declared.log.Log.{Log}
-use Rattle.xa_log.specs.declared.record.TheConstants.{AROUND_BODY, AROUND_CLOSED}
+use Rattle.xa_limits.specs.declared.TheConstants.{AROUND_BODY, AROUND_CLOSED}
 
 -- a log of these bodies, which a read gives and each crash leaves
 pub record Stands {D : Type 0} (disks : Ghosts D) (bodies : List (List ℕ)) (log : Log D) : Type 0 where

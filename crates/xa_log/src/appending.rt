@@ -6,8 +6,9 @@ ghost use Rattle.xa_log.specs.Chain.{digest, closed_by, IsBody};
 ghost use Rattle.xa_log.specs.Answers.{Went, Fell, HasCause};
 ghost use Rattle.xa_log.specs.Calls.{PutCalls, AppendCalls};
 
-use crate::record::{AROUND_CLOSED, DIGEST_BYTES, clear, encode};
+use crate::record::{clear, encode};
 use xa_disk::{Disk, DiskFault};
+use xa_limits::{AROUND_CLOSED, DIGEST_BYTES};
 
 /// What became of a record, or of a checkpoint.
 #[derive(Clone, Copy, Debug, PartialEq, Eq)]

@@ -14,9 +14,10 @@ ghost use Rattle.xa_log.specs.Pair.{IsCalm, CalmTears};
 ghost use Rattle.xa_log.specs.Checkpoint.{behind_preamble, bytes_behind, tailed, records_bytes, behind_front, first_length, IsReady, IsOther, LeavesOf, LeavesNone, LeavesAny, Checkpointed};
 
 use crate::appending::{Appended, put_or_clear, put_synced};
-use crate::format::{FIRST_OFFSET, Format, PREAMBLE_BYTES};
-use crate::record::{AROUND_BODY, AROUND_CLOSED, DIGEST_BYTES, LENGTH_BYTES, MOST_BODY, encode};
+use crate::format::{Format, PREAMBLE_BYTES};
+use crate::record::encode;
 use xa_disk::{Disk, DiskFault};
+use xa_limits::{AROUND_BODY, AROUND_CLOSED, DIGEST_BYTES, FIRST_OFFSET, LENGTH_BYTES, MOST_BODY};
 
 // The first part: writes a log of no records, and syncs, so that the older log is gone for good before a byte of the
 // new one is written. A fault is not repaired: the older log may be there still, which comes behind the current one as

@@ -3,17 +3,11 @@ ghost use Rattle.xa_log.specs.Chain.{magic, newest, start, preamble, format_of};
 ghost use Rattle.xa_log.specs.Reading.{front_fault};
 
 use crate::OpenFault;
-use crate::record::{DIGEST_BYTES, LENGTH_BYTES};
 use sha2::{Digest, Sha256};
-
-/// The bytes of a format's name, with which a log's file begins.
-pub const FORMAT_BYTES: usize = 8;
+use xa_limits::{DIGEST_BYTES, FORMAT_BYTES, LENGTH_BYTES};
 
 // The offset of the name's last byte, which is a digit and tells the formats apart.
 const DIGIT: usize = FORMAT_BYTES - 1;
-
-/// Where the first record of a log begins.
-pub const FIRST_OFFSET: u64 = FORMAT_BYTES as u64;
 
 /// The bytes of a log of no records: its format's name, and a closing length.
 pub const PREAMBLE_BYTES: usize = FORMAT_BYTES + LENGTH_BYTES;

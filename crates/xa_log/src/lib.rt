@@ -42,15 +42,15 @@ pub use ahead::READY_BYTES;
 pub use appending::Appended;
 pub use checkpointing::end_of;
 pub use fault::OpenFault;
-pub use format::{FIRST_OFFSET, FORMAT_BYTES, Format, PREAMBLE_BYTES};
+pub use format::{Format, PREAMBLE_BYTES};
 pub use laws::{
     memory_without_chance, memory_without_chance_beside, opened_is_pair, pair_is_current,
     pair_is_current_or_new, plain_by_body, stray_is_possible,
 };
-pub use log::{Log, MOST_LOG};
+pub use log::Log;
 pub use looking::{NUMBER_END, NUMBER_OFFSET};
 pub use opened::Opened;
 pub use opening::{create_on, open_on, read_log};
-pub use record::{AROUND_BODY, AROUND_CLOSED, DIGEST_BYTES, LENGTH_BYTES, MOST_BODY, MOST_RECORD};
+pub use record::MOST_RECORD;
 pub use window::{LEAST_READ, WINDOW};
 pub use worked::worked_pairs;

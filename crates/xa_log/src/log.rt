@@ -15,12 +15,9 @@ use crate::ahead::ready_behind;
 use crate::appending::{Appended, append_at};
 use crate::checkpointing::{checkpoint_on, end_of};
 use crate::format::Format;
-use crate::record::{AROUND_BODY, AROUND_CLOSED, DIGEST_BYTES, LENGTH_BYTES};
 use std::mem;
 use xa_disk::Disk;
-
-/// The most bytes that a log's file is to have. What a log keeps to is its own `log_bytes`.
-pub const MOST_LOG: u64 = 1_073_741_824;
+use xa_limits::{AROUND_BODY, AROUND_CLOSED, DIGEST_BYTES, LENGTH_BYTES};
 
 /// A log on two disks: the current file has its records, with bodies of 1 to `MOST_BODY` bytes, at most `log_bytes`
 /// bytes in all; the other one is where a checkpoint goes.

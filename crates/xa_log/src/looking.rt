@@ -11,13 +11,14 @@ ghost use Rattle.xa_log.specs.Looking.{AreShort, IsFront, HasFront, either_newer
 ghost use Rattle.xa_log.specs.Window.{Caches};
 
 use crate::OpenFault;
-use crate::format::{FORMAT_BYTES, Format, PREAMBLE_BYTES};
+use crate::format::{Format, PREAMBLE_BYTES};
 use crate::reading::{Scan, read_front, read_records, synced_length};
-use crate::record::{AROUND_BODY, DIGEST_BYTES, MOST_BODY, chained, size_of};
+use crate::record::{chained, size_of};
 use crate::window::{Span, WINDOW};
 use std::alloc::Global;
 use std::mem;
 use xa_disk::{Disk, DiskFault};
+use xa_limits::{AROUND_BODY, DIGEST_BYTES, FORMAT_BYTES, MOST_BODY};
 
 /// Where in a body its number stands, which in the first body is the log's generation.
 pub const NUMBER_OFFSET: usize = 1;

@@ -11,11 +11,12 @@ ghost use Rattle.xa_log.specs.Reading.{Finds, Fits, IsScan, bodies_of, fault_of,
 ghost use Rattle.xa_log.specs.Window.{Caches, Covers};
 
 use crate::OpenFault;
-use crate::format::{FIRST_OFFSET, FORMAT_BYTES, Format};
-use crate::record::{AROUND_BODY, DIGEST_BYTES, LENGTH_BYTES, MOST_BODY, chained, size_of};
+use crate::format::Format;
+use crate::record::{chained, size_of};
 use crate::window::{Span, WINDOW, fill};
 use std::alloc::{AllocError, Global};
 use xa_disk::{Disk, DiskFault};
+use xa_limits::{AROUND_BODY, DIGEST_BYTES, FIRST_OFFSET, FORMAT_BYTES, LENGTH_BYTES, MOST_BODY};
 
 /// A record that chains: its body's length, its digest, and what the window has by then, all of it included.
 #[derive(Clone, Copy)]

@@ -340,8 +340,7 @@ fn is_opened_again(alloc: Global, k: u64, first_fails: bool) -> Option<bool> {
         second.fail(k, Effect::Lost).ok()?;
     }
     let fault = open_on(alloc, &mut first, &mut second, LOG_BYTES).err();
-    let opened = open_on(alloc, &mut first, &mut second, LOG_BYTES).ok()?;
-    let (log, bodies) = Log::on(first, second, opened);
+    let (log, bodies) = Log::open(alloc, first, second, LOG_BYTES).ok()?;
     // A sync, a length and a read of each.
     let want = if k < 4 { Some(OpenFault::Device) } else { None };
     Some(fault == want && are(&bodies, &THREE) && !log.on_first())

@@ -3,13 +3,12 @@ use Rattle.std.proofs.Common.{◌≡◌, ◌<◌, ◌≤◌, ◌+◌, ℕ, true,
 use Rattle.std.specs.Prelude.{nat_lt}
 use Rattle.std.specs.List.{AllByRecursion}
 use Rattle.std.proofs.lemmas.Bool.Decides.{nat_tests}
-use Rattle.xa_codes.specs.declared.write.TheConstants.{MOST_VALUE}
+use Rattle.xa_limits.specs.declared.TheConstants.{MOST_BOOTS, MOST_VALUE}
 use Rattle.mv_rules.specs.Within.{IsWithin}
 use Rattle.xa_log.specs.Chain.{IsBody}
 use Rattle.xa_log.specs.Reading.{bodies_of}
 use Rattle.xa_model.specs.Durable.{Durable}
 use Rattle.xa_model.specs.Fold.{snapshot}
-use Rattle.xa_model.specs.Restarting.{most_boots}
 use Rattle.xa_manager.specs.declared.boots.NextBoot.{NextBoot}
 use Rattle.xa_manager.specs.Rereading.{IsNext, IsReady}
 use Rattle.xa_manager.proofs.NextBoots.{are_bodies}
@@ -26,7 +25,7 @@ next_short d None next e h = absurd (cc e)
 next_short d (Some n) next e h = let same : n ≡ next = cc e in subst (λ (x : NextBoot). IsWithin MOST_VALUE x.records) same h.4
 
 pub record IsNextOf (d : Durable) (next : NextBoot) : Type 0 where
-  pub less : nat_lt d.boot most_boots ≡ true
+  pub less : nat_lt d.boot MOST_BOOTS ≡ true
   pub number : next.boot ≡ d.boot + 1
   pub ready : IsReady d (d.boot + 1) next
 
@@ -38,8 +37,8 @@ isnt_less a b h = grind (arith, nat_tests)
 
 pub next_is : (d : Durable) (o : Option NextBoot) (next : NextBoot) → o ≡ Some next → IsNext d o → IsNextOf d next
 next_is d None next e h = absurd (cc e)
-next_is d (Some n) next e h = let same : n ≡ next = cc e in subst (λ (x : NextBoot). IsNextOf d x) same (record { less = is_less d.boot most_boots h.1; number = h.0; ready = h.2 })
+next_is d (Some n) next e h = let same : n ≡ next = cc e in subst (λ (x : NextBoot). IsNextOf d x) same (record { less = is_less d.boot MOST_BOOTS h.1; number = h.0; ready = h.2 })
 
-pub none_next : (d : Durable) (o : Option NextBoot) → o ≡ None → IsNext d o → nat_lt d.boot most_boots ≡ false
-none_next d None e h = isnt_less d.boot most_boots h
+pub none_next : (d : Durable) (o : Option NextBoot) → o ≡ None → IsNext d o → nat_lt d.boot MOST_BOOTS ≡ false
+none_next d None e h = isnt_less d.boot MOST_BOOTS h
 none_next d (Some n) e h = absurd (cc e)

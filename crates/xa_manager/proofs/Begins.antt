@@ -12,7 +12,7 @@ use Rattle.xa_log.specs.Reading.{bodies_of}
 use Rattle.xa_model.specs.Durable.{Durable, IsDurable}
 use Rattle.xa_model.specs.Fold.{snapshot, sizes}
 use Rattle.xa_model.specs.Logging.{log_room}
-use Rattle.xa_model.specs.Restarting.{most_boots}
+use Rattle.xa_limits.specs.declared.TheConstants.{MOST_BOOTS}
 use Rattle.xa_model.proofs.Readings.{fold_is_durable}
 use Rattle.xa_recovery.specs.Log.{LogRebuilt}
 use Rattle.xa_manager.specs.declared.boots.NextBoot.{NextBoot}
@@ -27,7 +27,7 @@ use Rattle.xa_manager.proofs.NextBoots.{are_bodies}
 pub record IsPlanned (bodies : List (List ℕ)) (d : Durable) (next : NextBoot) : Type 0 where
   pub comes : ComeTo bodies d
   pub form : IsDurable d
-  pub boots : d.boot < most_boots
+  pub boots : d.boot < MOST_BOOTS
   pub ready : IsReady d (d.boot + 1) next
   pub limits : AllByRecursion IsRecord (snapshot d (d.boot + 1))
 

@@ -12,7 +12,8 @@ use Rattle.xa_model.specs.State.{State}
 use Rattle.xa_model.specs.Answer.{Answer, detailed, answer}
 use Rattle.xa_model.specs.Turn.{Stops, Opens, going_on, taken}
 use Rattle.xa_model.specs.Logging.{applied, prepared_count, down}
-use Rattle.xa_model.specs.Restarting.{missed, survived, restarted, restarting, restart_turn, boot_became, most_boots}
+use Rattle.xa_model.specs.Restarting.{missed, survived, restarted, restarting, restart_turn, boot_became}
+use Rattle.xa_limits.specs.declared.TheConstants.{MOST_BOOTS}
 use Rattle.xa_model.specs.Loggable.{IsRecoverable, MayBeLast}
 use Rattle.xa_model.specs.Durable.{Durable, durable}
 use Rattle.xa_model.specs.Fold.{snapshot}
@@ -86,7 +87,7 @@ found_backed : (rs : List Record) (s : State) (r : Record) (o : Option Record) �
 found_backed rs s r None e h = absurd (cc e)
 found_backed rs s r (Some q) e h =
     let same : q ≡ r = cc e in
-    subst (λ (x : Record). Backs (settled rs s x) (survived s x)) same (reading_backed (settled rs s q) (survived s q) (nat_lt (survived s q).logged_boot most_boots) h)
+    subst (λ (x : Record). Backs (settled rs s x) (survived s x)) same (reading_backed (settled rs s q) (survived s q) (nat_lt (survived s q).logged_boot MOST_BOOTS) h)
 
 pub survived_backed : (rs : List Record) (s : State) (r : Record) → IsRecoverable s → Backs rs s → s.open_record ≡ Some r → Backs (settled rs s r) (survived s r)
 survived_backed rs s r h k found = found_backed rs s r s.open_record found (restart_backed rs s h k).1
@@ -108,11 +109,11 @@ begun_by : (rs : List Record) (t : State) (c : Bool) → c ≡ true
 begun_by rs t true e k = k.0
 begun_by rs t false e k = absurd (cc e)
 
-pub begun_backed : (rs : List Record) (t : State) → IsRecoverable t → t.open_record ≡ None → Backs rs t → nat_lt t.logged_boot most_boots ≡ true
+pub begun_backed : (rs : List Record) (t : State) → IsRecoverable t → t.open_record ≡ None → Backs rs t → nat_lt t.logged_boot MOST_BOOTS ≡ true
     → Backs (snapshot (durable t) (t.logged_boot + 1)) (restarted t (t.logged_boot + 1))
 begun_backed rs t h none k less =
     let reading : BacksReading rs t (restarting t) = subst (λ (x : State). BacksReading rs x (restarting x)) (missed_is t none) (restart_backed rs t h k).2 in
-    begun_by rs t (nat_lt t.logged_boot most_boots) less reading
+    begun_by rs t (nat_lt t.logged_boot MOST_BOOTS) less reading
 
 pub begun_room : (rs : List Record) (t : State) (boot : ℕ) → IsRecoverable t → Backs rs t → HasRoom t → HasRoom (restarted t boot)
 begun_room rs t boot h k room =
@@ -145,11 +146,11 @@ opens_by : (t : State) (a : Appending) (c : Bool) → c ≡ true
 opens_by t a true e = refl
 opens_by t a false e = absurd (cc e)
 
-pub turn_stops : (b : Bool) (s t : State) → IsFate b s t → nat_lt t.logged_boot most_boots ≡ false → taken (restart_turn s) (Reread b None) ≡ Some (answer (detailed XAER_RMFAIL detail.Limit) (down t))
-turn_stops b s t fate used = fate_taken b s t None fate ∙ stops_by t (nat_lt t.logged_boot most_boots) used
+pub turn_stops : (b : Bool) (s t : State) → IsFate b s t → nat_lt t.logged_boot MOST_BOOTS ≡ false → taken (restart_turn s) (Reread b None) ≡ Some (answer (detailed XAER_RMFAIL detail.Limit) (down t))
+turn_stops b s t fate used = fate_taken b s t None fate ∙ stops_by t (nat_lt t.logged_boot MOST_BOOTS) used
 
-pub turn_opens : (b : Bool) (s t : State) (a : Appending) → IsFate b s t → nat_lt t.logged_boot most_boots ≡ true → taken (restart_turn s) (Reread b (Some a)) ≡ Some (boot_became t (t.logged_boot + 1) a)
-turn_opens b s t a fate less = fate_taken b s t (Some a) fate ∙ opens_by t a (nat_lt t.logged_boot most_boots) less
+pub turn_opens : (b : Bool) (s t : State) (a : Appending) → IsFate b s t → nat_lt t.logged_boot MOST_BOOTS ≡ true → taken (restart_turn s) (Reread b (Some a)) ≡ Some (boot_became t (t.logged_boot + 1) a)
+turn_opens b s t a fate less = fate_taken b s t (Some a) fate ∙ opens_by t a (nat_lt t.logged_boot MOST_BOOTS) less
 
 pub is_answer : (o : Option Answer) (a : Answer) (P : Answer → Type 0) → o ≡ Some a → P a → IsSomeAnd o P
 is_answer o a P e p = subst (λ (q : Option Answer). IsSomeAnd q P) (sym e) p

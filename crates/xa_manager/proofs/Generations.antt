@@ -10,7 +10,7 @@ use Rattle.xa_record.proofs.Bodies.{one_body}
 use Rattle.xa_log.specs.Pair.{number_in, generation}
 use Rattle.xa_model.specs.Durable.{Durable}
 use Rattle.xa_model.specs.Fold.{fold, snapshot}
-use Rattle.xa_model.specs.Restarting.{most_boots}
+use Rattle.xa_limits.specs.declared.TheConstants.{MOST_BOOTS}
 use Rattle.xa_recovery.specs.Log.{LogRebuilt}
 use Rattle.xa_recovery.specs.declared.log_fault.LogFault.{LogFault}
 use Rattle.xa_recovery.specs.declared.log_fault.LogFault.TheVariants.{Memory, Malformed, Order}
@@ -20,7 +20,7 @@ number_opened : (boot : ℕ) → boot < 2 ^ 32 → number_in (spelled (logged.Op
 unfolding number_in
 number_opened boot h = from_be_bytes-to_be_bytes_4 boot h
 
-pub newer : (rs : List Record) (d : Durable) → fold rs ≡ Ok d → d.boot < most_boots → generation (map spelled rs) < generation (map spelled (snapshot d (d.boot + 1)))
+pub newer : (rs : List Record) (d : Durable) → fold rs ≡ Ok d → d.boot < MOST_BOOTS → generation (map spelled rs) < generation (map spelled (snapshot d (d.boot + 1)))
 newer [] d e less = let now = number_opened (d.boot + 1) (omega (arith, less)) in omega (arith, now)
 newer (r ∷ rs) d e less =
     let first = begins_with_boot r rs d e in

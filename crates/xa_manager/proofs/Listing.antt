@@ -2,7 +2,7 @@
 use Rattle.std.proofs.Common.{◌≡◌, ℕ, ◌≤◌, false, List, Option, length, take, refl, ap, sym, subst, ◌∙◌, arith}
 use Rattle.std.specs.Prelude.{min, filter}
 use Rattle.std.proofs.lemmas.List.{length-take}
-use Rattle.xa_frame.specs.declared.xids.TheConstants.{MOST_XIDS}
+use Rattle.xa_limits.specs.declared.TheConstants.{MOST_XIDS}
 use Rattle.xa_frame.specs.declared.reply.Reply.{Reply}
 use Rattle.xa_xid.specs.Triple.{Triple}
 use Rattle.xa_model.specs.State.{State}

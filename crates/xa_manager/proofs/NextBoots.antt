@@ -2,7 +2,7 @@
 use Rattle.std.proofs.Common.{◌≡◌, ◌<◌, ◌≤◌, ◌+◌, ◌^◌, ℕ, Bool, true, false, cond, List, [], ◌∷◌, map, Option, Some, None, Ok, refl, ◌∙◌, subst, arith, ltb-true, ltb-false}
 use Rattle.std.specs.Prelude.{nat_lt}
 use Rattle.std.specs.List.{AllByRecursion}
-use Rattle.xa_codes.specs.declared.write.TheConstants.{MOST_VALUE}
+use Rattle.xa_limits.specs.declared.TheConstants.{MOST_BOOTS, MOST_VALUE}
 use Rattle.xa_record.specs.declared.record.Record.{Record}
 use Rattle.xa_record.specs.Limits.{IsRecord}
 use Rattle.xa_record.specs.Spelling.{spelled}
@@ -11,24 +11,23 @@ use Rattle.mv_rules.specs.Within.{IsWithin}
 use Rattle.xa_log.specs.Chain.{IsBody}
 use Rattle.xa_model.specs.Durable.{Durable}
 use Rattle.xa_model.specs.Fold.{snapshot}
-use Rattle.xa_model.specs.Restarting.{most_boots}
 use Rattle.xa_model.proofs.Written.{snapshot_is_written}
 use Rattle.xa_recovery.specs.Log.{LogRebuilt}
 use Rattle.xa_manager.specs.declared.boots.NextBoot.{NextBoot}
 use Rattle.xa_manager.specs.Rereading.{IsReady, IsNext}
 
-some_by : (d n : ℕ) (c : Bool) → nat_lt d most_boots ≡ c → Some n ≡ cond c (Some (d + 1)) None → (n ≡ d + 1) × (d < most_boots)
-some_by d n true e h = (cc, ltb-true d most_boots e)
+some_by : (d n : ℕ) (c : Bool) → nat_lt d MOST_BOOTS ≡ c → Some n ≡ cond c (Some (d + 1)) None → (n ≡ d + 1) × (d < MOST_BOOTS)
+some_by d n true e h = (cc, ltb-true d MOST_BOOTS e)
 some_by d n false e h = absurd (cc)
 
-none_by : (d : ℕ) (c : Bool) → nat_lt d most_boots ≡ c → ◌≡◌ {A = Option ℕ} None (cond c (Some (d + 1)) None) → most_boots ≤ d
+none_by : (d : ℕ) (c : Bool) → nat_lt d MOST_BOOTS ≡ c → ◌≡◌ {A = Option ℕ} None (cond c (Some (d + 1)) None) → MOST_BOOTS ≤ d
 none_by d true e h = absurd (cc)
-none_by d false e h = ltb-false d most_boots e
+none_by d false e h = ltb-false d MOST_BOOTS e
 
-pub is_next : (bodies : List (List ℕ)) (d : Durable) (n : ℕ) (next : NextBoot) → LogRebuilt bodies (Ok d) → Some n ≡ cond (nat_lt d.boot most_boots) (Some (d.boot + 1)) None
+pub is_next : (bodies : List (List ℕ)) (d : Durable) (n : ℕ) (next : NextBoot) → LogRebuilt bodies (Ok d) → Some n ≡ cond (nat_lt d.boot MOST_BOOTS) (Some (d.boot + 1)) None
     → next.boot ≡ n → IsReady d n next → (AllByRecursion IsRecord (snapshot d n) → IsWithin MOST_VALUE next.records) → IsNext d (Some next)
 is_next bodies d n next (rs, are, folds) e boot ready short =
-    let number = some_by d.boot n (nat_lt d.boot most_boots) refl e in
+    let number = some_by d.boot n (nat_lt d.boot MOST_BOOTS) refl e in
     let below : d.boot + 1 < 2 ^ 32 = omega (arith, number.1) in
     let limits = snapshot_is_written rs d (d.boot + 1) are.limits folds (omega arith) below in (
       boot ∙ number.0,
@@ -38,8 +37,8 @@ is_next bodies d n next (rs, are, folds) e boot ready short =
       subst (λ (m : ℕ). AllByRecursion IsRecord (snapshot d m) → IsWithin MOST_VALUE next.records) number.0 short limits,
     )
 
-pub no_next : (d : Durable) → ◌≡◌ {A = Option ℕ} None (cond (nat_lt d.boot most_boots) (Some (d.boot + 1)) None) → IsNext d None
-no_next d e = none_by d.boot (nat_lt d.boot most_boots) refl e
+pub no_next : (d : Durable) → ◌≡◌ {A = Option ℕ} None (cond (nat_lt d.boot MOST_BOOTS) (Some (d.boot + 1)) None) → IsNext d None
+no_next d e = none_by d.boot (nat_lt d.boot MOST_BOOTS) refl e
 
 -- the bodies of records within their limits
 pub are_bodies : (rs : List Record) → AllByRecursion IsRecord rs → AllByRecursion IsBody (map spelled rs)

@@ -10,7 +10,7 @@ use Rattle.mv_rules.proofs.Undecided.{at_work as among}
 use Rattle.xa_codes.specs.declared.codes.TheConstants.{XAER_NOTA, XAER_PROTO, XA_RBOTHER}
 use Rattle.xa_codes.specs.declared.detail.Detail.TheVariants as detail
 use Rattle.xa_codes.specs.declared.write.Write.{Write}
-use Rattle.xa_record.specs.declared.record.TheConstants.{MOST_BODY}
+use Rattle.xa_limits.specs.declared.TheConstants.{MOST_BODY}
 use Rattle.xa_frame.specs.declared.reply.Reply.{Reply}
 use Rattle.xa_xid.specs.Triple.{Triple, IsWithinLimits}
 use Rattle.xa_record.specs.Limits.{IsBranch}

@@ -15,7 +15,8 @@ use Rattle.xa_model.specs.Durable.{Durable, durable}
 use Rattle.xa_model.specs.Fold.{fold, nothing}
 use Rattle.xa_model.specs.Loggable.{IsRecoverable, MayBeLast}
 use Rattle.xa_model.specs.Backing.{Backs}
-use Rattle.xa_model.specs.Restarting.{missed, survived, most_boots, can_open, reopened, reopening, opening}
+use Rattle.xa_model.specs.Restarting.{missed, survived, can_open, reopened, reopening, opening}
+use Rattle.xa_limits.specs.declared.TheConstants.{MOST_BOOTS}
 use Rattle.xa_model.specs.Restored.{IsRestored}
 use Rattle.xa_model.specs.Turn.{Reopened, going_on}
 use Rattle.xa_model.specs.Step.{step}
@@ -63,14 +64,14 @@ none_stray [] [] ea eb = ((λ e. refl), (λ e. refl))
 none_stray (x ∷ a) b ea eb = absurd (cc ea)
 none_stray [] (y ∷ b) ea eb = absurd (cc eb)
 
-below_limit : (n : ℕ) → n < most_boots → nat_lt n most_boots ≡ true
+below_limit : (n : ℕ) → n < MOST_BOOTS → nat_lt n MOST_BOOTS ≡ true
 below_limit n less = grind (arith, nat_tests)
 
 both_hold : (a b : Bool) → a ≡ true → b ≡ true → a && b ≡ true
 both_hold a b ea eb = rw (ea, eb) refl
 
 -- an opening whose record was kept
-kept_reopens : (t : State) (name : List ℕ) (log_bytes : ℕ) → nat_lt t.logged_boot most_boots && can_open t log_bytes (t.logged_boot + 1) ≡ true
+kept_reopens : (t : State) (name : List ℕ) (log_bytes : ℕ) → nat_lt t.logged_boot MOST_BOOTS && can_open t log_bytes (t.logged_boot + 1) ≡ true
     → going_on (Some Kept) (reopening name log_bytes t) ≡ Some (ok (reopened t name log_bytes (t.logged_boot + 1)))
 kept_reopens t name log_bytes e = rw e refl
 
@@ -102,16 +103,16 @@ module _ {D : Type 0} (disks : Ghosts D) where
   -- the state whose last record's fate is known
   opened_one : (m : Manager D) (name : List ℕ) (log_bytes : ℕ) (bodies : List (List ℕ)) (rs : List Record) (t : State) → HasBegun disks bodies name log_bytes m
       → bodies ≡ map spelled rs → Backs rs t → IsRecoverable t → t.open_record ≡ None
-      → (nat_lt t.logged_boot most_boots && can_open t log_bytes (t.logged_boot + 1) ≡ true) × ManagerStandsFor disks m (reopened t name log_bytes (t.logged_boot + 1))
+      → (nat_lt t.logged_boot MOST_BOOTS && can_open t log_bytes (t.logged_boot + 1) ≡ true) × ManagerStandsFor disks m (reopened t name log_bytes (t.logged_boot + 1))
   opened_one m name log_bytes bodies rs t begun are backs rec none =
       let same : begun.comes.records ≡ rs = same_records begun.comes.records rs begun.comes.bodies_are.limits backs.records (begun.comes.bodies_are.spelling ∙ are) in
       let d_is : begun.durable ≡ durable t = cc (begun.comes.folded, ap (λ (qs : List Record). fold qs) same, backs.lasts) in
-      let less : t.logged_boot < most_boots = subst (λ (x : Durable). x.boot < most_boots) d_is begun.boots in
+      let less : t.logged_boot < MOST_BOOTS = subst (λ (x : Durable). x.boot < MOST_BOOTS) d_is begun.boots in
       let room : has_boot_room log_bytes (durable t) (t.logged_boot + 1) ≡ true = subst (λ (x : Durable). has_boot_room log_bytes x (x.boot + 1) ≡ true) d_is begun.room in
       let it : IsRestored begun.durable (begun.durable.boot + 1) (reopened t name log_bytes (t.logged_boot + 1)) =
       subst (λ (x : Durable). IsRestored x (x.boot + 1) (reopened t name log_bytes (t.logged_boot + 1))) (sym d_is) (reopens_restored t name log_bytes rec none less) in
       let opens : can_open t log_bytes (t.logged_boot + 1) ≡ true = rw (← prepared_lasting t, ← decided_lasting t) room in
-      (both_hold (nat_lt t.logged_boot most_boots) (can_open t log_bytes (t.logged_boot + 1)) (below_limit t.logged_boot less) opens, begun.stands (reopened t name log_bytes (t.logged_boot + 1)) it refl refl refl)
+      (both_hold (nat_lt t.logged_boot MOST_BOOTS) (can_open t log_bytes (t.logged_boot + 1)) (below_limit t.logged_boot less) opens, begun.stands (reopened t name log_bytes (t.logged_boot + 1)) it refl refl refl)
 
   opened_some : (m : Manager D) (o : Option Answer) (a : Answer) → o ≡ Some a → ManagerStandsFor disks m a.after → IsSomeAnd o (λ x. ManagerStandsFor disks m x.after)
   opened_some m o a e st = subst (λ (x : Option Answer). IsSomeAnd x (λ y. ManagerStandsFor disks m y.after)) (sym e) st

@@ -4,7 +4,7 @@ use Rattle.std.specs.Prelude.{is_some, nat_lt, nat_le}
 use Rattle.std.proofs.lemmas.Bool.Decides.{nat_tests}
 use Rattle.xa_codes.specs.declared.codes.TheConstants.{XAER_INVAL, XAER_PROTO, XA_RBTRANSIENT}
 use Rattle.xa_codes.specs.declared.detail.Detail.TheVariants as detail
-use Rattle.xa_codes.specs.declared.write.TheConstants.{MOST_WRITES}
+use Rattle.xa_limits.specs.declared.TheConstants.{MOST_WRITES}
 use Rattle.xa_xid.specs.Triple.{Triple}
 use Rattle.mv_chain.specs.Accesses.{has_undecided, is_late, IsUnsettled}
 use Rattle.mv_rules.specs.declared.answers.Put.{Put}

@@ -2,8 +2,7 @@
 use Rattle.std.specs.Prelude.{IfOk, Result, Ok, Err}
 use Rattle.std.specs.declared.alloc.AllocError.{AllocError}
 use Rattle.std.proofs.Common.{◌≡◌, ◌≤◌, ℕ, List, length, refl, sym, subst}
-use Rattle.xa_codes.specs.declared.write.TheConstants.{MOST_VALUE}
-use Rattle.xa_frame.specs.declared.xids.TheConstants.{MOST_XIDS}
+use Rattle.xa_limits.specs.declared.TheConstants.{MOST_VALUE, MOST_XIDS}
 use Rattle.xa_assoc.specs.Refusals.{IsBare}
 use Rattle.xa_frame.specs.Limits.{IsBody}
 use Rattle.xa_frame.specs.declared.body.Body.{Body}

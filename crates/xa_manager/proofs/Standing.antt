@@ -15,7 +15,8 @@ use Rattle.xa_model.specs.Fold.{snapshot}
 use Rattle.xa_model.specs.Logging.{applied, down}
 use Rattle.xa_model.specs.Loggable.{IsRecoverable, MayBeLast}
 use Rattle.xa_model.specs.Backing.{Backs}
-use Rattle.xa_model.specs.Restarting.{restarted, most_boots}
+use Rattle.xa_model.specs.Restarting.{restarted}
+use Rattle.xa_limits.specs.declared.TheConstants.{MOST_BOOTS}
 use Rattle.xa_model.specs.Restored.{IsRestored}
 use Rattle.xa_model.specs.Room.{HasRoom}
 use Rattle.xa_model.specs.Fold.{sizes}
@@ -114,7 +115,7 @@ down_stands disks m m' s t b rs tables up doubt bytes st fate backs has =
 -- a checkpoint was lost
 pub lost_stands : {D : Type 0} (disks : Ghosts D) (m m' : Manager D) (s t : State) (b : Bool) (rs : List Record)
     → m'.tables ≡ m.tables → m'.up ≡ false → m'.doubt ≡ Some (Boot (t.logged_boot + 1)) → m'.log.log_bytes ≡ m.log.log_bytes → ManagerStandsFor disks m s → IsFate b s t → Backs rs t
-    → t.logged_boot < most_boots → MaySeal disks (map spelled rs) (map spelled (snapshot (durable t) (t.logged_boot + 1))) m'.log
+    → t.logged_boot < MOST_BOOTS → MaySeal disks (map spelled rs) (map spelled (snapshot (durable t) (t.logged_boot + 1))) m'.log
     → ManagerStandsFor disks m' (record (down t) { open_record = Some (logged.Opened (t.logged_boot + 1)) })
 lost_stands disks m m' s t b rs tables up doubt bytes st fate backs less seal =
     let h = outside m.up (view m) s st.tables in
@@ -144,7 +145,7 @@ found_end disks found log' s h up f = f.end ∙ by_fate f.state f.fate
 -- a new boot was logged, and begins
 pub begun_stands : {D : Type 0} (disks : Ghosts D) (m m' : Manager D) (s t : State) (b : Bool) (rs : List Record)
     → m'.tables.name ≡ m.tables.name → m'.tables.log_bytes ≡ m.tables.log_bytes → m'.up ≡ true → m'.doubt ≡ None → m'.log.log_bytes ≡ m.log.log_bytes
-    → ManagerStandsFor disks m s → IsFate b s t → Backs rs t → nat_lt t.logged_boot most_boots ≡ true
+    → ManagerStandsFor disks m s → IsFate b s t → Backs rs t → nat_lt t.logged_boot MOST_BOOTS ≡ true
     → ((x y : State) → y.sessions ≡ map without_scan x.sessions → y.associations ≡ [] → SessionsStandFor m.tables.sessions x → SessionsStandFor m'.tables.sessions y)
     → ((x : State) → IsRestored (durable t) (t.logged_boot + 1) x → BranchesStandFor m'.tables.branches x)
     → ((x : State) → IsRestored (durable t) (t.logged_boot + 1) x → RecordsStandFor (history_of x) m'.tables.records)
@@ -158,7 +159,7 @@ begun_stands disks m m' s t b rs name log_bytes up doubt bytes st fate backs les
     let room = fate_room b s t (st.roomy h.standing) fate in
     let boot : ℕ = t.logged_boot + 1 in
     let after : State = restarted t boot in
-    let restored = restarts_restored t recoverable none (ltb-true t.logged_boot most_boots less) in
+    let restored = restarts_restored t recoverable none (ltb-true t.logged_boot MOST_BOOTS less) in
     let stands : StandsFor (view m') after = record {
       name = name ∙ (h.name ∙ sym same.name);
       log_bytes = log_bytes ∙ (h.log_bytes ∙ sym same.log_bytes);

@@ -8,24 +8,22 @@ use Rattle.xa_log.specs.declared.fault.OpenFault.{OpenFault}
 use Rattle.xa_log.specs.declared.fault.OpenFault.TheVariants as log
 use Rattle.xa_log.specs.declared.format.TheConstants.{PREAMBLE_BYTES}
 use Rattle.xa_log.specs.declared.log.Log.{Log}
-use Rattle.xa_model.specs.declared.limits.TheConstants.{FIRST_OFFSET}
+use Rattle.xa_limits.specs.declared.TheConstants.{FIRST_OFFSET, LEAST_LOG, MOST_BOOTS, MOST_INFO, MOST_LOG}
 use Rattle.xa_model.specs.State.{State}
 use Rattle.xa_model.specs.Durable.{Durable}
 use Rattle.xa_model.specs.Fold.{fold, snapshot, sizes}
 use Rattle.xa_model.specs.Logging.{log_room}
-use Rattle.xa_model.specs.Restarting.{most_boots}
 use Rattle.xa_model.specs.Restored.{IsRestored}
 use Rattle.xa_recovery.specs.Log.{AreBodiesOf, LogRebuilt}
 use Rattle.xa_recovery.specs.declared.log_fault.LogFault.TheVariants as rebuilt
 use Rattle.xa_manager.specs.declared.fault.ManagerFault.{ManagerFault}
 use Rattle.xa_manager.specs.declared.fault.ManagerFault.TheVariants as fault
 use Rattle.xa_manager.specs.declared.manager.Manager.{Manager}
-use Rattle.xa_manager.specs.declared.settings.TheConstants.{MOST_NAME, LEAST_LOG, MOST_LOG}
 use Rattle.xa_manager.specs.Managed.{ManagerStandsFor}
 
 -- settings out of their limits
 abbrev pub IsBadSetting : List ℕ → ℕ → Type 0
-IsBadSetting name log_bytes = (MOST_NAME < length name) ⊎ (log_bytes < LEAST_LOG) ⊎ (MOST_LOG < log_bytes)
+IsBadSetting name log_bytes = (MOST_INFO < length name) ⊎ (log_bytes < LEAST_LOG) ⊎ (MOST_LOG < log_bytes)
 
 -- the current file has these bodies, and the other one comes behind it
 abbrev pub HasBodies : {D : Type 0} → Ghosts D → List (List ℕ) → Log D → Type 0
@@ -56,7 +54,7 @@ pub record HasBegun {D : Type 0} (disks : Ghosts D) (bodies : List (List ℕ)) (
     (log_bytes : ℕ) (m : Manager D) : Type 0 where
   pub durable : Durable
   pub comes : ComeTo bodies durable
-  pub boots : durable.boot < most_boots
+  pub boots : durable.boot < MOST_BOOTS
   pub room : has_boot_room log_bytes durable (durable.boot + 1) ≡ true
   pub stands : (s : State) → IsRestored durable (durable.boot + 1) s → s.name ≡ name → s.log_bytes ≡ log_bytes
       → s.sessions ≡ []
@@ -66,9 +64,9 @@ pub record HasBegun {D : Type 0} (disks : Ghosts D) (bodies : List (List ℕ)) (
 abbrev pub BootRefused : ManagerFault → List (List ℕ) → ℕ → Type 0
 BootRefused (fault.Malformed i) bodies log_bytes = LogRebuilt bodies (Err (rebuilt.Malformed i))
 BootRefused (fault.Order i) bodies log_bytes = LogRebuilt bodies (Err (rebuilt.Order i))
-BootRefused fault.Boots bodies log_bytes = (d : Durable) × ComeTo bodies d × (most_boots ≤ d.boot)
+BootRefused fault.Boots bodies log_bytes = (d : Durable) × ComeTo bodies d × (MOST_BOOTS ≤ d.boot)
 BootRefused fault.LogFull bodies log_bytes =
-    (d : Durable) × ComeTo bodies d × (d.boot < most_boots) × (has_boot_room log_bytes d (d.boot + 1) ≡ false)
+    (d : Durable) × ComeTo bodies d × (d.boot < MOST_BOOTS) × (has_boot_room log_bytes d (d.boot + 1) ≡ false)
 BootRefused fault.Memory bodies log_bytes = Unit {0}
 BootRefused fault.Device bodies log_bytes = Unit {0}
 BootRefused _ bodies log_bytes = ⊥

@@ -9,10 +9,10 @@ use Rattle.xa_xid.specs.Triple.{Triple}
 use Rattle.xa_model.specs.declared.event.Event.{Event}
 use Rattle.xa_model.specs.declared.outcome.Outcome.{Outcome}
 use Rattle.xa_model.specs.State.{State}
-use Rattle.xa_model.specs.Associations.{most_branches}
+use Rattle.xa_limits.specs.declared.TheConstants.{MOST_BOOTS, MOST_BRANCHES}
 use Rattle.xa_model.specs.Durable.{Durable}
 use Rattle.xa_model.specs.Fold.{fold}
-use Rattle.xa_model.specs.Restarting.{opening, most_boots}
+use Rattle.xa_model.specs.Restarting.{opening}
 use Rattle.xa_model.specs.Events.{IsEvent, HaveHappened}
 use Rattle.xa_model.specs.History.{Entry, Leads}
 use Rattle.xa_model.specs.OneCopy.{HasOneCopy}
@@ -29,8 +29,8 @@ pub record IsOpening (first : State) : Type 0 where
   pub durable : Durable
   pub limits : AllByRecursion IsRecord records
   pub folded : fold records ≡ Ok durable
-  pub boots : durable.boot < most_boots
-  pub few : length durable.prepared + length durable.decided ≤ most_branches
+  pub boots : durable.boot < MOST_BOOTS
+  pub few : length durable.prepared + length durable.decided ≤ MOST_BRANCHES
   pub opened : first ≡ opening durable first.name first.log_bytes (durable.boot + 1)
 
 -- a legal history of an opening state leads to the state
@@ -83,5 +83,5 @@ abbrev pub BegunIsReached : {D : Type 0} → Ghosts D → Type 0
 BegunIsReached {D} disks =
     (m : Manager D) (bodies : List (List ℕ)) (name : List ℕ) (log_bytes : ℕ)
     (begun : HasBegun disks bodies name log_bytes m)
-    → length begun.durable.prepared + length begun.durable.decided ≤ most_branches
+    → length begun.durable.prepared + length begun.durable.decided ≤ MOST_BRANCHES
     → (first : State) × IsReached first [] first × ManagerStandsFor disks m first

@@ -5,7 +5,7 @@ use Rattle.mv_chain.specs.Accesses.{Written}
 use Rattle.mv_rules.specs.declared.records.Records.{Records}
 use Rattle.mv_rules.specs.Records.{StandsFor as RecordsStandFor}
 use Rattle.mv_rules.specs.Within.{AreShort}
-use Rattle.xa_codes.specs.declared.write.TheConstants.{MOST_VALUE}
+use Rattle.xa_limits.specs.declared.TheConstants.{MOST_VALUE}
 use Rattle.xa_model.specs.State.{Decided}
 use Rattle.xa_model.specs.Durable.{CommittedBranch, PreparedBranch}
 use Rattle.xa_branch.specs.declared.branches.Branches.{Branches}

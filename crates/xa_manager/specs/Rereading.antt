@@ -11,12 +11,12 @@ use Rattle.xa_model.specs.State.{State}
 use Rattle.xa_model.specs.Durable.{Durable}
 use Rattle.xa_model.specs.Fold.{snapshot}
 use Rattle.xa_model.specs.Backing.{Backs}
-use Rattle.xa_model.specs.Restarting.{missed, survived, most_boots}
+use Rattle.xa_model.specs.Restarting.{missed, survived}
+use Rattle.xa_limits.specs.declared.TheConstants.{MOST_BOOTS, MOST_VALUE}
 use Rattle.xa_model.specs.Restored.{IsRestored}
 use Rattle.mv_rules.specs.Records.{StandsFor as RecordsStandFor}
 use Rattle.mv_rules.specs.Ties.{history_of}
 use Rattle.mv_rules.specs.Within.{IsWithin}
-use Rattle.xa_codes.specs.declared.write.TheConstants.{MOST_VALUE}
 use Rattle.xa_branch.specs.Branches.{BranchesStandFor}
 use Rattle.xa_recovery.specs.Log.{LogRebuilt}
 use Rattle.xa_recovery.specs.declared.log_fault.LogFault.{LogFault}
@@ -48,9 +48,9 @@ pub record IsReady (d : Durable) (boot : ℕ) (next : NextBoot) : Type 0 where
 
 -- the boot after those that were logged, unless their numbers are used up
 abbrev pub IsNext : Durable → Option NextBoot → Type 0
-IsNext d None = most_boots ≤ d.boot
+IsNext d None = MOST_BOOTS ≤ d.boot
 IsNext d (Some next) =
-    (next.boot ≡ d.boot + 1) × (d.boot < most_boots) × IsReady d (d.boot + 1) next
+    (next.boot ≡ d.boot + 1) × (d.boot < MOST_BOOTS) × IsReady d (d.boot + 1) next
     × AllByRecursion IsRecord (snapshot d (d.boot + 1)) × IsWithin MOST_VALUE next.records
 
 -- what the bodies of a log come to, and what the next boot begins with

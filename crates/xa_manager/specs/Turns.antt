@@ -11,7 +11,7 @@ use Rattle.xa_log.specs.Calls.{AppendCalls}
 use Rattle.xa_log.specs.Stands.{Moves}
 use Rattle.xa_log.specs.TwoFiles.{Pair, AppendsTo}
 use Rattle.xa_log.specs.declared.log.Log.{Log}
-use Rattle.xa_log.specs.declared.record.TheConstants.{AROUND_CLOSED}
+use Rattle.xa_limits.specs.declared.TheConstants.{AROUND_CLOSED}
 use Rattle.xa_model.specs.declared.outcome.Outcome.{Outcome}
 use Rattle.xa_model.specs.declared.outcome.Outcome.TheVariants.{Quiet, Appended}
 use Rattle.xa_model.specs.declared.outcome.Appending.{Appending}

@@ -1,7 +1,7 @@
 ghost use Rattle.std.specs.Prelude.{◌≡◌, ◌+◌, ◌<◌, ◌≤◌, map, IfOk};
 ghost use Rattle.std.specs.List.{AllByRecursion};
 ghost use Rattle.mv_rules.specs.Within.{IsWithin};
-ghost use Rattle.xa_codes.specs.declared.write.TheConstants.{MOST_VALUE};
+ghost use Rattle.xa_limits.specs.declared.TheConstants.{MOST_VALUE};
 ghost use Rattle.xa_record.specs.Limits.{IsRecord};
 ghost use Rattle.xa_model.specs.Fold.{snapshot};
 ghost use Rattle.xa_manager.specs.Drained.{GivesBack};

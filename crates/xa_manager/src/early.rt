@@ -5,7 +5,8 @@ ghost use Rattle.xa_assoc.specs.Refusals.{is_memory, IsBare};
 use xa_codes::{
     Bytes, Call, TMASYNC, XAER_ASYNC, XAER_INVAL, XAER_PROTO, XAER_RMFAIL, legal_flags,
 };
-use xa_frame::{MOST_XIDS, Reply, Request};
+use xa_frame::{Reply, Request};
+use xa_limits::MOST_XIDS;
 
 fn flags_of(request: &Request) -> u32
     ensures { result ≡ flags_of request.now }

@@ -3,7 +3,7 @@ ghost use Rattle.std.specs.List.{AllByRecursion};
 ghost use Rattle.xa_log.specs.Chain.{IsBody, newest, text};
 ghost use Rattle.xa_log.specs.Pair.{generation};
 ghost use Rattle.xa_log.specs.Reading.{bodies_of};
-ghost use Rattle.xa_log.specs.declared.record.TheConstants.{LENGTH_BYTES};
+ghost use Rattle.xa_limits.specs.declared.TheConstants.{LENGTH_BYTES};
 ghost use Rattle.xa_manager.specs.Opening.{HasBodies};
 
 use xa_disk::Disk;

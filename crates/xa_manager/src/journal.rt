@@ -1,9 +1,8 @@
 ghost use Rattle.std.specs.Prelude.{◌≡◌, ◌≤◌, ◌+◌, length, true};
-ghost use Rattle.xa_record.specs.declared.record.TheConstants.{MOST_BODY};
+ghost use Rattle.xa_limits.specs.declared.TheConstants.{AROUND_BODY, MOST_BODY};
 ghost use Rattle.xa_record.specs.Small.{IsSmall};
 ghost use Rattle.xa_record.specs.Spelling.{spelled};
 ghost use Rattle.xa_log.specs.Chain.{IsBody};
-ghost use Rattle.xa_log.specs.declared.record.TheConstants.{AROUND_BODY};
 ghost use Rattle.xa_model.specs.State.{State};
 ghost use Rattle.xa_model.specs.Logging.{log_room, prepared_count};
 ghost use Rattle.xa_manager.specs.Managed.{ManagerStandsFor};
@@ -14,9 +13,10 @@ use crate::manager::Manager;
 use crate::room::leaves_room;
 use arrayvec::ArrayVec;
 use xa_disk::Disk;
-use xa_log::{AROUND_BODY, Appended};
+use xa_limits::{AROUND_BODY, MOST_BODY, MOST_SMALL};
+use xa_log::Appended;
 use xa_model::Appending;
-use xa_record::{MOST_BODY, MOST_SMALL, Record, write_small};
+use xa_record::{Record, write_small};
 
 /// How records come into the log.
 impl<D: Disk> Manager<D> {

@@ -1,9 +1,4 @@
 //! What can be said of a manager's two files, and of managers on disks in memory.
-ghost use Rattle.std.specs.Prelude.{◌≡◌};
-ghost use Rattle.xa_log.specs.declared.format.TheConstants as log_format;
-ghost use Rattle.xa_log.specs.declared.record.TheConstants as log_record;
-ghost use Rattle.xa_model.specs.declared.limits.TheConstants as model;
-ghost use Rattle.xa_record.specs.declared.record.TheConstants as bodies;
 ghost use Rattle.xa_manager.specs.CrashLaws.{ReadLeaves, ReadStands, CrashLeaves, FilesLast, FilesLastAsFated};
 ghost use Rattle.xa_manager.specs.LogStands.{Trusts};
 ghost use Rattle.xa_manager.specs.Promises.{ReachedPromises, OnePromises, BegunIsReached};
@@ -51,14 +46,4 @@ pub fn one_promises<D: Disk>()
 /// A manager that was opened begins with such a state.
 pub fn begun_is_reached<D: Disk>()
     ensures { BegunIsReached D.Disk }
-{}
-
-/// Sizes that two crates have each, of which neither stands on the other: those by which the model reckons room are the
-/// log's, and the longest body of a record is the longest that a log takes.
-pub fn sizes_agree()
-    ensures first { model.FIRST_OFFSET ≡ log_format.FIRST_OFFSET }
-    ensures length { model.LENGTH_BYTES ≡ log_record.LENGTH_BYTES }
-    ensures digest { model.DIGEST_BYTES ≡ log_record.DIGEST_BYTES }
-    ensures around { model.AROUND_BODY ≡ log_record.AROUND_BODY }
-    ensures body { bodies.MOST_BODY ≡ log_record.MOST_BODY }
 {}

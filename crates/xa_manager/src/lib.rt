@@ -14,7 +14,7 @@
 //!   there is no manager
 //! - `laws`: `read_leaves`, `read_stands` and `crash_leaves`, that a read and a crash leave the records of the state;
 //!   `files_last`, what these come to; `reached_promises`, `one_promises` and `begun_is_reached`, what is promised of
-//!   histories; `memory_is_trusted`, that disks in memory meet the premises; `sizes_agree`
+//!   histories; `memory_is_trusted`, that disks in memory meet the premises
 //! - `planning`: planned faults in memory
 #![tactic(auto)]
 
@@ -51,9 +51,8 @@ pub use doubt::Doubt;
 pub use fault::ManagerFault;
 pub use laws::{
     begun_is_reached, crash_leaves, files_last, memory_is_trusted, one_promises, reached_promises,
-    read_leaves, read_stands, sizes_agree,
+    read_leaves, read_stands,
 };
 pub use manager::Manager;
 pub use replies::{connect_reply, memory_reply};
-pub use settings::{LEAST_LOG, MOST_LOG, MOST_NAME, Settings};
-pub use xa_model::{DECIDED_ROOM, PREPARED_ROOM};
+pub use settings::Settings;

@@ -19,12 +19,13 @@ use crate::fault::ManagerFault;
 use crate::first_records::log_first;
 use crate::manager::Manager;
 use crate::room::begins_with_room;
-use crate::settings::{LEAST_LOG, MOST_LOG, MOST_NAME, Settings};
+use crate::settings::Settings;
 use crate::tables::Tables;
 use std::alloc::Global;
 use xa_assoc::Sessions;
 use xa_codes::Bytes;
 use xa_disk::Disk;
+use xa_limits::{LEAST_LOG, MOST_INFO, MOST_LOG};
 use xa_log::{Appended, Log, OpenFault};
 use xa_model::Outcome;
 
@@ -54,7 +55,7 @@ impl<D: Disk + Drop> Manager<D> {
             → IfErr result (λ e. OpenRefused e settings.name settings.log_bytes (D.seen first) (D.seen second)) }
     {
         let Settings { name, log_bytes } = settings;
-        if name.as_slice().len() > MOST_NAME || log_bytes < LEAST_LOG || log_bytes > MOST_LOG {
+        if name.as_slice().len() > MOST_INFO || log_bytes < LEAST_LOG || log_bytes > MOST_LOG {
             return Err(ManagerFault::Setting);
         }
         match open_log(alloc, first, second, log_bytes) {

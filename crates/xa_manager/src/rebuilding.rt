@@ -11,7 +11,7 @@ ghost use Rattle.xa_model.specs.Restored.{IsRestored};
 ghost use Rattle.xa_model.specs.State.{State};
 ghost use Rattle.xa_recovery.specs.Durable.{as_committed, as_prepared, as_decided};
 ghost use Rattle.mv_rules.specs.Within.{IsWithin};
-ghost use Rattle.xa_codes.specs.declared.write.TheConstants.{MOST_VALUE};
+ghost use Rattle.xa_limits.specs.declared.TheConstants.{MOST_VALUE};
 ghost use Rattle.xa_record.specs.Limits.{IsRecord};
 ghost use Rattle.xa_model.specs.Fold.{snapshot};
 ghost use Rattle.xa_manager.specs.Rebuilding.{AreNew, HaveWrites, CommittedAreShort, PreparedAreShort};

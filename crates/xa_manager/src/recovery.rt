@@ -1,5 +1,5 @@
 ghost use Rattle.std.specs.Prelude.{◌≡◌, ◌≤◌, IfOk, OnErr, length, false};
-ghost use Rattle.xa_frame.specs.declared.xids.TheConstants.{MOST_XIDS};
+ghost use Rattle.xa_limits.specs.declared.TheConstants.{MOST_XIDS};
 ghost use Rattle.xa_model.specs.Recovering.{listing, recover_by};
 ghost use Rattle.xa_assoc.specs.Refusals.{is_memory};
 ghost use Rattle.xa_assoc.specs.Company.{company_of};
@@ -9,7 +9,8 @@ ghost use Rattle.xa_manager.specs.Tables.{TablesFollow, TablesStay};
 use crate::tables::Tables;
 use std::alloc::AllocError;
 use xa_codes::{Code, Detail};
-use xa_frame::{Body, MOST_XIDS, Reply, Xids};
+use xa_frame::{Body, Reply, Xids};
+use xa_limits::MOST_XIDS;
 use xa_xid::Xid;
 
 /// The row of recoveries.

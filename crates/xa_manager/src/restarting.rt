@@ -9,12 +9,12 @@ ghost use Rattle.xa_log.specs.Reading.{bodies_of};
 ghost use Rattle.xa_log.specs.declared.log.Log.{Log};
 ghost use Rattle.xa_log.specs.TwoFiles.{first_of, second_of};
 ghost use Rattle.mv_rules.specs.Within.{IsWithin};
-ghost use Rattle.xa_codes.specs.declared.write.TheConstants.{MOST_VALUE};
+ghost use Rattle.xa_limits.specs.declared.TheConstants.{MOST_BOOTS, MOST_VALUE};
 ghost use Rattle.xa_model.specs.Answer.{detailed};
 ghost use Rattle.xa_model.specs.Backing.{Backs};
 ghost use Rattle.xa_model.specs.Durable.{durable};
 ghost use Rattle.xa_model.specs.Loggable.{IsRecoverable};
-ghost use Rattle.xa_model.specs.Restarting.{restart_turn, most_boots};
+ghost use Rattle.xa_model.specs.Restarting.{restart_turn};
 ghost use Rattle.xa_model.specs.State.{State};
 ghost use Rattle.xa_model.specs.Turn.{taken};
 ghost use Rattle.xa_recovery.specs.Log.{LogRebuilt};
@@ -100,7 +100,7 @@ impl<D: Disk> Manager<D> {
         requires short { IsWithin MOST_VALUE next.records }
         ensures turn { (s t : State) (rs : List Record) → ManagerStandsFor D.Disk self.old s → Trusts D.Disk
             → IsFate survived s t → Backs rs t → HasRecords D.Disk rs self.old.log
-            → self.old.log.lost ≡ false → nat_lt t.logged_boot most_boots ≡ true
+            → self.old.log.lost ≡ false → nat_lt t.logged_boot MOST_BOOTS ≡ true
             → next.boot ≡ t.logged_boot + 1 → IsReady (durable t) (t.logged_boot + 1) next
             → AnswersAs D.Disk (taken (restart_turn s) result.outcome) result.reply self.new }
         ensures outcome { self.new.outcome ≡ self.old.outcome }

@@ -2,15 +2,16 @@ ghost use Rattle.std.specs.Prelude.{◌≡◌, ◌+◌, ◌*◌, ◌^◌, length
 ghost use Rattle.std.specs.List.{AllByRecursion};
 ghost use Rattle.xa_log.specs.Chain.{IsBody, newest, text};
 ghost use Rattle.xa_log.specs.Reading.{bodies_of};
-ghost use Rattle.xa_model.specs.Logging.{log_room, prepared_room, decided_room};
+ghost use Rattle.xa_model.specs.Logging.{log_room};
+ghost use Rattle.xa_limits.specs.declared.TheConstants.{DECIDED_ROOM, PREPARED_ROOM};
 
-use xa_log::{Format, LENGTH_BYTES, end_of};
-use xa_model::{DECIDED_ROOM, PREPARED_ROOM};
+use xa_limits::{DECIDED_ROOM, LENGTH_BYTES, PREPARED_ROOM};
+use xa_log::{Format, end_of};
 
 /// The room that a log keeps for so many prepared branches and completed XIDs. None where it is over 2^64 - 1 bytes.
 fn kept_room(prepared: u64, completed: u64) -> Option<u64>
-    ensures { result ≡ (if nat_lt (prepared_room * prepared + decided_room * completed) (2 ^ 64)
-        then Some (prepared_room * prepared + decided_room * completed) else None) }
+    ensures { result ≡ (if nat_lt (PREPARED_ROOM * prepared + DECIDED_ROOM * completed) (2 ^ 64)
+        then Some (PREPARED_ROOM * prepared + DECIDED_ROOM * completed) else None) }
 {
     let kept = prepared.checked_mul(PREPARED_ROOM)?;
     kept.checked_add(completed.checked_mul(DECIDED_ROOM)?)

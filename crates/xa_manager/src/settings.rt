@@ -1,17 +1,24 @@
+use std::alloc::{AllocError, Global};
 use xa_codes::Bytes;
-use xa_frame::MOST_INFO;
 
-/// The longest name of a manager, in bytes: an Open gives it as its info.
-pub const MOST_NAME: usize = MOST_INFO;
-/// The least size of a log, in bytes.
-pub const LEAST_LOG: u64 = 64;
-/// The greatest size of a log, in bytes.
-pub const MOST_LOG: u64 = xa_log::MOST_LOG;
-
-/// How a manager is set up: its name, of at most `MOST_NAME` bytes, which an Open has to give, and the size that its
+/// How a manager is set up: its name, of at most `MOST_INFO` bytes, which an Open has to give, and the size that its
 /// log may reach, of `LEAST_LOG` to `MOST_LOG` bytes.
 #[derive(Debug, Drop)]
 pub struct Settings {
     pub name: Bytes,
     pub log_bytes: u64,
+}
+
+impl Settings {
+    ghost use Rattle.std.specs.Prelude.{◌≡◌, IfOk};
+
+    /// The settings of a manager by this name, a log of which may reach this size. Whether they are within the limits
+    /// is looked at when a manager is opened.
+    pub fn new(alloc: Global, name: &str, log_bytes: u64) -> Result<Settings, AllocError>
+        ensures name { IfOk result (λ settings. settings.name ≡ name.now) }
+        ensures log_bytes { IfOk result (λ settings. settings.log_bytes ≡ log_bytes) }
+    {
+        let name = Bytes::from_slice(alloc, name.as_bytes())?;
+        Ok(Settings { name, log_bytes })
+    }
 }

@@ -1,6 +1,6 @@
 ghost use Rattle.std.proofs.Props.{props};
 ghost use Rattle.mv_rules.specs.Within.{IsWithin};
-ghost use Rattle.xa_codes.specs.declared.write.TheConstants.{MOST_VALUE};
+ghost use Rattle.xa_limits.specs.declared.TheConstants.{MOST_VALUE};
 
 use mv_rules::Records;
 use std::alloc::Global;

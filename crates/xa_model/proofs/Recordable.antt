@@ -14,7 +14,8 @@ use Rattle.xa_model.specs.Durable.{boot_of, is_past, writes_of}
 use Rattle.xa_model.specs.Logging.{applied}
 use Rattle.xa_model.specs.MayLog.{MayLog}
 use Rattle.xa_model.specs.Loggable.{AreShort, IsLoggable}
-use Rattle.xa_model.specs.Restarting.{most_boots, lasts}
+use Rattle.xa_model.specs.Restarting.{lasts}
+use Rattle.xa_limits.specs.declared.TheConstants.{MOST_BOOTS}
 use Rattle.xa_model.proofs.Inserts.{all_imply}
 use Rattle.xa_model.proofs.Lists.{change_all, without_all}
 use Rattle.xa_model.proofs.Tests.{past_more}
@@ -40,7 +41,7 @@ recordable s h = all_three s.boot s.logged_boot s.branches h.past h.begun h.writ
 pub record AreBoots (boot logged_boot : ℕ) : Type 0 where
   pub first : 1 ≤ boot
   pub boots : boot ≤ logged_boot
-  pub last : logged_boot ≤ most_boots
+  pub last : logged_boot ≤ MOST_BOOTS
 
 pub loggable : (t : State) → AreBoots t.boot t.logged_boot → AreRecordable t.boot t.logged_boot t.branches → IsLoggable t
 loggable t b h = record {

@@ -23,7 +23,8 @@ use Rattle.xa_model.specs.State.{State, Association, Branch, Operation, Got, Wro
 use Rattle.xa_model.specs.Source.{Version, source, is_late}
 use Rattle.xa_model.specs.Answer.{Answer, plain, detailed, answer, ok, unless, marked}
 use Rattle.xa_model.specs.Early.{early_refusal}
-use Rattle.xa_model.specs.Associations.{connect_refusal, connected, close_refusal, is_anyones, with_mark, marked_phase, left_behind, is_worked_by, start_refusal, begun, begin_by, is_taken, join_refusal, joined, join_by, resume_refusal, resumed, not_resumed, resume_by, start_by, end_refusal, loose_refusal, suspended, not_suspended, suspend_by, can_end, ended, failed, leave_by, end_by, mark_in, most_branches, most_given, timestamp_by, timestamp_in}
+use Rattle.xa_model.specs.Associations.{connect_refusal, connected, close_refusal, is_anyones, with_mark, marked_phase, left_behind, is_worked_by, start_refusal, begun, begin_by, is_taken, join_refusal, joined, join_by, resume_refusal, resumed, not_resumed, resume_by, start_by, end_refusal, loose_refusal, suspended, not_suspended, suspend_by, can_end, ended, failed, leave_by, end_by, mark_in, timestamp_by, timestamp_in}
+use Rattle.xa_limits.specs.declared.TheConstants.{MOST_BOOTS, MOST_BRANCHES, MOST_GIVEN}
 use Rattle.xa_model.specs.Branches.{as_committed, rolled_back, committed, one_phase_refusal, two_phase_refusal, heuristic_refusal, rollback_refusal, doom_refusal, doomed, is_associated}
 use Rattle.xa_model.specs.Records.{having_done, got, get_from, get_by, busy_refusal, is_full, limit_refusal, came_late, written, in_time, put_from, put_by}
 use Rattle.xa_model.specs.Recovering.{recovered_from, scan_from, scan_of}
@@ -35,7 +36,6 @@ use Rattle.xa_model.specs.Step.{row, respond, opened_of, is_up, commit_turn}
 use Rattle.xa_model.specs.Logging.{logs, has_room, log_full, writes_by, writes_in}
 use Rattle.xa_model.specs.Completions.{prepare_written, prepare_turn, commit_written, commit_one_phase_turn, commit_two_phase_turn, roll_back_turn, decide_refusal, forget_refusal}
 use Rattle.xa_model.specs.Loggable.{IsLoggable, is_boot}
-use Rattle.xa_model.specs.Restarting.{most_boots}
 use Rattle.xa_model.specs.Events.{IsAsked, IsEvent, asks_restart, is_restart}
 use Rattle.xa_model.proofs.Lists.{change_all, without_all, found_all}
 use Rattle.xa_model.proofs.Rows.{passed, below}
@@ -117,7 +117,7 @@ begun_boot boot n most = omega (arith, most)
 begun_past : (boot logged_boot n : ℕ) → 1 ≤ boot → boot ≤ logged_boot → 1 ≤ n → n ≤ 4294967295 → is_past (logged_boot + 1) (timestamp_of boot n) ≡ true
 begun_past boot logged_boot n first boots some most = grind (arith, nat_tests)
 
-begun_fits : (s : State) (n : ℕ) (xid : Triple) → IsLoggable s → s.given < most_given → Fits s (begun s n xid).after
+begun_fits : (s : State) (n : ℕ) (xid : Triple) → IsLoggable s → s.given < MOST_GIVEN → Fits s (begun s n xid).after
 begun_fits s n xid h room = (
   record {
     past = begun_past s.boot s.logged_boot (s.given + 1) h.first h.boots (omega arith) (omega (arith, room));
@@ -129,12 +129,12 @@ begun_fits s n xid h room = (
 
 -- the association table
 
-room : (at_work taken : Bool) (known given : ℕ) → start_refusal at_work taken known given ≡ None → given < most_given
+room : (at_work taken : Bool) (known given : ℕ) → start_refusal at_work taken known given ≡ None → given < MOST_GIVEN
 room true taken known given e = absurd (cc e)
 room false true known given e = absurd (cc e)
 room false false known given e =
-    let fine = (passed (not (nat_lt known most_branches) || not (nat_lt given most_given)) (detailed XAER_RMERR detail.Limit) None e).0 in
-    below given most_given (or_parts (not (nat_lt known most_branches)) (not (nat_lt given most_given)) fine).1
+    let fine = (passed (not (nat_lt known MOST_BRANCHES) || not (nat_lt given MOST_GIVEN)) (detailed XAER_RMERR detail.Limit) None e).0 in
+    below given MOST_GIVEN (or_parts (not (nat_lt known MOST_BRANCHES)) (not (nat_lt given MOST_GIVEN)) fine).1
 
 start_fits : (s : State) (n flags : ℕ) (xid : Triple) → IsLoggable s → Fits s (start_by s n flags xid).after
 start_fits s n flags xid loggable =
@@ -229,10 +229,10 @@ known_fits_by : (boot logged_boot : ℕ) (xid : Triple) (bs : List Branch) (o : 
 known_fits_by boot logged_boot xid bs None e h = tt
 known_fits_by boot logged_boot xid bs (Some b) e h = found_all (IsRecordable boot logged_boot) (is_known_as xid) b bs h e
 
-past_short : (logged_boot t : ℕ) → logged_boot ≤ most_boots → is_past (logged_boot + 1) t ≡ true → t < 2 ^ 64
+past_short : (logged_boot t : ℕ) → logged_boot ≤ MOST_BOOTS → is_past (logged_boot + 1) t ≡ true → t < 2 ^ 64
 past_short logged_boot t last past = let boot : boot_of t < logged_boot + 1 = grind (arith, nat_tests) in omega (arith, boot, last)
 
-stamped_by : (boot logged_boot : ℕ) (o : Option Branch) → logged_boot ≤ most_boots → is_empty (writes_by o) ≡ false → IfSome o (IsRecordable boot logged_boot) → IsStamped (timestamp_by o) (writes_by o)
+stamped_by : (boot logged_boot : ℕ) (o : Option Branch) → logged_boot ≤ MOST_BOOTS → is_empty (writes_by o) ≡ false → IfSome o (IsRecordable boot logged_boot) → IsStamped (timestamp_by o) (writes_by o)
 stamped_by boot logged_boot None last some h = absurd (cc some)
 stamped_by boot logged_boot (Some b) last some h = record { stamp = past_short logged_boot b.timestamp last h.past; writes = are_writes b.operations some h.written }
 

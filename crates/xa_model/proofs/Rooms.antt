@@ -16,7 +16,8 @@ use Rattle.xa_model.specs.State.{State, Branch, Phase, Working, Prepared, Commit
 use Rattle.xa_model.specs.Branches.{as_prepared, as_committed, prepared, committed, completed, is_decision_of, forgotten}
 use Rattle.xa_model.specs.Durable.{Durable, insert, named_before, by_name, durable}
 use Rattle.xa_model.specs.Fold.{fold, nothing, size_of}
-use Rattle.xa_model.specs.Logging.{prepared_room, decided_room, closing, log_room, has_room, is_in_doubt, prepared_count, snapshot_end, applied}
+use Rattle.xa_model.specs.Logging.{log_room, has_room, is_in_doubt, prepared_count, snapshot_end, applied}
+use Rattle.xa_limits.specs.declared.TheConstants.{DECIDED_ROOM, LENGTH_BYTES, PREPARED_ROOM}
 use Rattle.xa_model.specs.Completions.{is_completed}
 use Rattle.xa_model.specs.MayLog.{MayLog}
 use Rattle.xa_model.specs.Loggable.{IsRecoverable, is_boot}
@@ -30,23 +31,23 @@ use Rattle.xa_model.proofs.LogSizes.{snapshot_is_short}
 -- in numbers
 
 pub room_is : (log_bytes end prepared decided : ℕ) → log_room log_bytes end prepared decided ≡ true
-    → end + closing + prepared_room * prepared + decided_room * decided ≤ log_bytes
+    → end + LENGTH_BYTES + PREPARED_ROOM * prepared + DECIDED_ROOM * decided ≤ log_bytes
 room_is log_bytes end prepared decided e = grind (arith, nat_tests)
 
-pub is_room : (log_bytes end prepared decided : ℕ) → end + closing + prepared_room * prepared + decided_room * decided ≤ log_bytes
+pub is_room : (log_bytes end prepared decided : ℕ) → end + LENGTH_BYTES + PREPARED_ROOM * prepared + DECIDED_ROOM * decided ≤ log_bytes
     → log_room log_bytes end prepared decided ≡ true
 is_room log_bytes end prepared decided e = grind (arith, nat_tests)
 
 less_room : (log_bytes end prepared decided size fewer more : ℕ) → log_room log_bytes end prepared decided ≡ true
-    → size + prepared_room * fewer + decided_room * more ≤ end + prepared_room * prepared + decided_room * decided
+    → size + PREPARED_ROOM * fewer + DECIDED_ROOM * more ≤ end + PREPARED_ROOM * prepared + DECIDED_ROOM * decided
     → log_room log_bytes size fewer more ≡ true
 less_room log_bytes end prepared decided size fewer more e less =
     let room = room_is log_bytes end prepared decided e in is_room log_bytes size fewer more (omega (arith, room, less))
 
 -- a state that takes no more of a log of as many bytes
 pub still_room : (s t : State) → t.log_bytes ≡ s.log_bytes
-    → t.end + prepared_room * prepared_count t + decided_room * length t.decided
-    ≤ s.end + prepared_room * prepared_count s + decided_room * length s.decided
+    → t.end + PREPARED_ROOM * prepared_count t + DECIDED_ROOM * length t.decided
+    ≤ s.end + PREPARED_ROOM * prepared_count s + DECIDED_ROOM * length s.decided
     → HasRoom s → HasRoom t
 still_room s t bytes less h =
     subst (λ n. log_room n t.end (prepared_count t) (length t.decided) ≡ true) (sym bytes)

@@ -3,7 +3,8 @@ use Rattle.std.proofs.Common.{◌≡◌, ℕ, ◌+◌, ◌≤◌, ◌<◌, ◌==
 use Rattle.std.specs.Prelude.{filter}
 use Rattle.std.proofs.lemmas.Bool.Decides.{nat_tests}
 use Rattle.xa_model.specs.State.{State, Session, count, change, without, session_of, free_number}
-use Rattle.xa_model.specs.Associations.{is_anyones, connect_refusal, connected, connect_by, hang_up_by, left_behind, most_sessions}
+use Rattle.xa_model.specs.Associations.{is_anyones, connect_refusal, connected, connect_by, hang_up_by, left_behind}
+use Rattle.xa_limits.specs.declared.TheConstants.{MOST_SESSIONS}
 use Rattle.xa_model.specs.Sound.{IsSound}
 use Rattle.xa_model.proofs.Counts.{count_none, count_same, count_without, count_filter, count_out}
 use Rattle.xa_model.proofs.Finds.{none_before, find_without}
@@ -17,7 +18,7 @@ use Rattle.xa_model.proofs.Rows.{unless_sound, passed, below}
 pub record AreSeated (s : State) (sessions : List Session) : Type 0 where
   pub numbered : (n : ℕ) → count (λ x. x.number == n) sessions ≤ 1
   pub connected : (n : ℕ) → session_of sessions n ≡ None → count (is_anyones n) s.associations ≡ 0
-  pub limit : length sessions ≤ most_sessions
+  pub limit : length sessions ≤ MOST_SESSIONS
 
 pub with_sessions : (s : State) (sessions : List Session) → IsSound s → AreSeated s sessions → IsSound (record s { sessions = sessions })
 with_sessions s sessions h k = record {
@@ -48,7 +49,7 @@ pub connected_sound : (s : State) → IsSound s → IsSound (connect_by s).after
 connected_sound s h =
     unless_sound (connect_refusal (length s.sessions)) s (connected s) h
     (λ allowed.
-    let room : length s.sessions < most_sessions = below (length s.sessions) most_sessions (passed _ _ _ allowed).0 in
+    let room : length s.sessions < MOST_SESSIONS = below (length s.sessions) MOST_SESSIONS (passed _ _ _ allowed).0 in
     let n = free_number s.sessions in
     let new : Session = record { number = n; opened = false; scan = None } in
     with_sessions s (new ∷ s.sessions) h (record {

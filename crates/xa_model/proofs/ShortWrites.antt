@@ -12,7 +12,8 @@ use Rattle.xa_model.specs.State.{Operation, Got, Wrote}
 use Rattle.xa_model.specs.Source.{write_of, written_keys}
 use Rattle.xa_model.specs.Durable.{Pairwise, keys_before, value_in, put_write, writes_of}
 use Rattle.xa_model.specs.Fold.{is_empty}
-use Rattle.xa_model.specs.Records.{most_keys, is_full}
+use Rattle.xa_model.specs.Records.{is_full}
+use Rattle.xa_limits.specs.declared.TheConstants.{MOST_WRITES}
 use Rattle.xa_model.specs.Loggable.{AreShort}
 use Rattle.xa_model.proofs.Inserts.{all_imply}
 use Rattle.xa_model.proofs.Members.{less_is, keys_strict, keys_transitive}
@@ -59,7 +60,7 @@ writes_count (Wrote key value ∷ older) =
 
 -- a branch that isn't full may write
 
-few_by : (c : Bool) (n : ℕ) → (not c && not (nat_lt n most_keys)) ≡ false → n ≤ most_keys → cond c n (n + 1) ≤ most_keys
+few_by : (c : Bool) (n : ℕ) → (not c && not (nat_lt n MOST_WRITES)) ≡ false → n ≤ MOST_WRITES → cond c n (n + 1) ≤ MOST_WRITES
 few_by true n e few = few
 few_by false n e few = grind (arith, nat_tests)
 
@@ -67,8 +68,8 @@ pub wrote_short : (key : List ℕ) (value : Option (List ℕ)) (ops : List Opera
     → AreShort (writes_of (Wrote key value ∷ ops))
 wrote_short key value ops limits room h =
     let count : length (writes_of ops) ≡ written_keys ops = writes_count ops in
-    let few : written_keys ops ≤ most_keys = subst (λ (n : ℕ). n ≤ most_keys) count h.few in record {
-      few = subst (λ (n : ℕ). n ≤ most_keys) (sym (writes_count (Wrote key value ∷ ops))) (few_by (is_some (write_of key ops)) (written_keys ops) room few);
+    let few : written_keys ops ≤ MOST_WRITES = subst (λ (n : ℕ). n ≤ MOST_WRITES) count h.few in record {
+      few = subst (λ (n : ℕ). n ≤ MOST_WRITES) (sym (writes_count (Wrote key value ∷ ops))) (few_by (is_some (write_of key ops)) (written_keys ops) room few);
       each = put_all IsWrite (record { key = key; value = value }) (writes_of ops) limits h.each;
     }
 

@@ -26,7 +26,8 @@ use Rattle.xa_model.specs.Fold.{is_empty}
 use Rattle.xa_model.specs.Logging.{has_room, writes_in, append_became, log_full}
 use Rattle.xa_model.specs.Turn.{Happening, Asked, Reopened, Turn, Nobody, Now, Appends, Rereads, Rereading, Stops, Opens, taken, going_on, unless_now, marked_now}
 use Rattle.xa_model.specs.Step.{turn, row, respond, asked, opened_of, is_up, commit_turn}
-use Rattle.xa_model.specs.Restarting.{restarting, reopening, can_open, most_boots, missed, survived}
+use Rattle.xa_model.specs.Restarting.{restarting, reopening, can_open, missed, survived}
+use Rattle.xa_limits.specs.declared.TheConstants.{MOST_BOOTS}
 use Rattle.xa_model.specs.Total.{fits, fits_rereading, StepIsTotal, is_over, NothingIsStuck, NobodyAnswers, RestartsLook, OpeningsLook}
 
 going_fits : (r : Rereading) (x : Option Appending) → is_some (going_on x r) ≡ fits_rereading (Some r) x
@@ -183,10 +184,10 @@ either_looks false r after a x = refl
 restart_finds : (s : State) (o : Option Record) (x : Appending)
     → (fits_rereading (option_map (λ r. restarting (survived s r)) o) None || fits_rereading (option_map (λ r. restarting (survived s r)) o) (Some x)) ≡ is_some o
 restart_finds s None x = refl
-restart_finds s (Some r) x = either_looks (nat_lt (survived s r).logged_boot most_boots) _ _ _ x
+restart_finds s (Some r) x = either_looks (nat_lt (survived s r).logged_boot MOST_BOOTS) _ _ _ x
 
 pub restarts_look : RestartsLook
-restarts_look s x = (either_looks (nat_lt (missed s).logged_boot most_boots) _ _ _ x, restart_finds s s.open_record x)
+restarts_look s x = (either_looks (nat_lt (missed s).logged_boot MOST_BOOTS) _ _ _ x, restart_finds s s.open_record x)
 
 reopen_finds : (s : State) (name : List ℕ) (log_bytes : ℕ) (o : Option Record) (x : Appending)
     → (fits_rereading (option_map (λ r. reopening name log_bytes (survived s r)) o) None
@@ -194,9 +195,9 @@ reopen_finds : (s : State) (name : List ℕ) (log_bytes : ℕ) (o : Option Recor
 reopen_finds s name log_bytes None x = refl
 reopen_finds s name log_bytes (Some r) x =
     let t = survived s r in
-    either_looks (nat_lt t.logged_boot most_boots && can_open t log_bytes (t.logged_boot + 1)) _ _ _ x
+    either_looks (nat_lt t.logged_boot MOST_BOOTS && can_open t log_bytes (t.logged_boot + 1)) _ _ _ x
 
 pub openings_look : OpeningsLook
 openings_look s name log_bytes x =
     let t = missed s in
-    (either_looks (nat_lt t.logged_boot most_boots && can_open t log_bytes (t.logged_boot + 1)) _ _ _ x, reopen_finds s name log_bytes s.open_record x)
+    (either_looks (nat_lt t.logged_boot MOST_BOOTS && can_open t log_bytes (t.logged_boot + 1)) _ _ _ x, reopen_finds s name log_bytes s.open_record x)

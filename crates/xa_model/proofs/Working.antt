@@ -9,7 +9,8 @@ use Rattle.xa_xid.specs.Triple.{Triple, xid_eq}
 use Rattle.xa_xid.proofs.Same.{xid_same, xid_eq_itself}
 use Rattle.xa_model.specs.State.{State, Branch, Working, Association, count, change, without, is_with, is_known_as, owns, works_in, suspends, is_loose_with, active_of, known_of, known_as, known_in, session_of, holders_of, loose_of, timestamp_of}
 use Rattle.xa_model.specs.Answer.{ok, unless, marked}
-use Rattle.xa_model.specs.Associations.{is_taken, mark_in, start_refusal, begun, begin_by, join_refusal, joined, join_by, resume_refusal, resumable, resumed, not_resumed, resume_by, start_by, end_refusal, loose_refusal, suspended, not_suspended, suspend_by, can_end, without_one, ended, failed, leave_by, end_by, with_mark, held_by, most_branches, most_given, most_loose}
+use Rattle.xa_model.specs.Associations.{is_taken, mark_in, start_refusal, begun, begin_by, join_refusal, joined, join_by, resume_refusal, resumable, resumed, not_resumed, resume_by, start_by, end_refusal, loose_refusal, suspended, not_suspended, suspend_by, can_end, without_one, ended, failed, leave_by, end_by, with_mark, held_by}
+use Rattle.xa_limits.specs.declared.TheConstants.{MOST_BRANCHES, MOST_GIVEN, MOST_LOOSE}
 use Rattle.xa_model.specs.Sound.{IsSound, is_at_work, named}
 use Rattle.xa_model.proofs.Counts.{count_less, count_without, found_none}
 use Rattle.xa_model.proofs.Held.{one_more_sound, with_held}
@@ -40,7 +41,7 @@ new_works b o false e works = absurd (cc e)
 abbrev opened_branch : State → Triple → State
 opened_branch s xid = record s { given = s.given + 1; branches = record { timestamp = timestamp_of s.boot (s.given + 1); operations = []; phase = Working xid None } ∷ s.branches }
 
-opened_sound : (s : State) (xid : Triple) → IsSound s → named s xid ≡ 0 → known_in s < most_branches → s.given < most_given → IsSound (opened_branch s xid)
+opened_sound : (s : State) (xid : Triple) → IsSound s → named s xid ≡ 0 → known_in s < MOST_BRANCHES → s.given < MOST_GIVEN → IsSound (opened_branch s xid)
 opened_sound s xid h free room left = record {
   descends = (omega arith, omega arith, descends_below (timestamp_of s.boot s.given + 1) (timestamp_of s.boot (s.given + 1)) s.branches (omega arith) h.descends);
   distinct = λ q. new_distinct s xid q (xid_eq xid q) refl free (h.distinct q);
@@ -66,7 +67,7 @@ unheld s n xid h free =
     none_of o none e = found_none (is_known_as xid) s.branches none
 
 begun_sound : (s : State) (n : ℕ) (xid : Triple) → IsSound s → is_some (session_of s.sessions n) ≡ true → is_some (active_of s.associations n) ≡ false
-    → named s xid ≡ 0 → known_in s < most_branches → s.given < most_given → IsSound (begun s n xid).after
+    → named s xid ≡ 0 → known_in s < MOST_BRANCHES → s.given < MOST_GIVEN → IsSound (begun s n xid).after
 begun_sound s n xid h seated idle free room left =
     one_more_sound (opened_branch s xid) n xid (opened_sound s xid h free room left) seated
     (new_works (record { timestamp = timestamp_of s.boot (s.given + 1); operations = []; phase = Working xid None }) (known_of s.branches xid) (xid_eq xid xid) (xid_eq_itself xid) refl)
@@ -79,7 +80,7 @@ begin_sound s n xid h seated =
     let first_ = passed _ _ _ allowed in
     let second = passed _ _ _ first_.1 in
     let limits = neither _ _ (passed _ _ _ second.1).0 in
-    begun_sound s n xid h seated first_.0 (new_named s xid second.0) (below (known_in s) most_branches limits.0) (below s.given most_given limits.1))
+    begun_sound s n xid h seated first_.0 (new_named s xid second.0) (below (known_in s) MOST_BRANCHES limits.0) (below s.given MOST_GIVEN limits.1))
 
 -- one more session joins
 
@@ -115,8 +116,8 @@ start_sound s n flags xid h seated =
 
 -- an association is suspended
 
-loose_room : (migrates : Bool) (loose : ℕ) → loose_refusal migrates loose ≡ None → migrates ≡ true → loose < most_loose
-loose_room true loose allowed e = below loose most_loose (passed _ _ _ allowed).0
+loose_room : (migrates : Bool) (loose : ℕ) → loose_refusal migrates loose ≡ None → migrates ≡ true → loose < MOST_LOOSE
+loose_room true loose allowed e = below loose MOST_LOOSE (passed _ _ _ allowed).0
 loose_room false loose allowed e = absurd (cc e)
 
 suspend_sound : (s : State) (n : ℕ) (migrates : Bool) (xid : Triple) → IsSound s → IsSound (suspend_by s n migrates xid).after

@@ -10,31 +10,17 @@ use Rattle.xa_codes.specs.declared.flags.TheConstants.{TMJOIN, TMRESUME, TMSUSPE
 use Rattle.xa_xid.specs.Triple.{Triple}
 use Rattle.xa_frame.specs.declared.body.Body.TheVariants as body
 use Rattle.xa_frame.specs.declared.reply.Reply.{Reply}
-use Rattle.xa_model.specs.declared.limits.TheConstants.{MOST_SESSIONS, MOST_BRANCHES, MOST_GIVEN, MOST_LOOSE}
+use Rattle.xa_limits.specs.declared.TheConstants.{MOST_BRANCHES, MOST_GIVEN, MOST_LOOSE, MOST_SESSIONS}
 use Rattle.xa_model.specs.State.{State, Session, Branch, Phase, Working, Prepared, Committed, Association, Holder}
 use Rattle.xa_model.specs.State.{Active, Suspended, Loose, Known, Unknown, AtWork, InDoubt, Completed, known_as}
 use Rattle.xa_model.specs.State.{known_in, known_of, active_of, is_own, is_with, is_known_as, owns, works_in, suspends}
 use Rattle.xa_model.specs.State.{is_loose_with, loose_of, without, change, free_number, timestamp_of}
 use Rattle.xa_model.specs.Answer.{Answer, plain, detailed, carrying, answer, ok, first, unless, marked}
 
-abbrev pub most_sessions : ℕ
-most_sessions = MOST_SESSIONS
-
-abbrev pub most_branches : ℕ
-most_branches = MOST_BRANCHES
-
--- the last timestamp of a boot
-abbrev pub most_given : ℕ
-most_given = MOST_GIVEN
-
--- the most loose associations of a branch
-abbrev pub most_loose : ℕ
-most_loose = MOST_LOOSE
-
 -- Connect: the session gets the least number that is free
 
 abbrev pub connect_refusal : ℕ → Option Reply
-connect_refusal connected = first ((not (nat_lt connected most_sessions), detailed XAER_RMERR detail.Limit) ∷ [])
+connect_refusal connected = first ((not (nat_lt connected MOST_SESSIONS), detailed XAER_RMERR detail.Limit) ∷ [])
 
 abbrev pub connected : State → Answer
 connected s =
@@ -111,7 +97,7 @@ start_refusal is_at_work is_taken known given =
     first (
     (is_at_work, plain XAER_PROTO)
     ∷ (is_taken, plain XAER_DUPID)
-    ∷ (not (nat_lt known most_branches) || not (nat_lt given most_given), detailed XAER_RMERR detail.Limit)
+    ∷ (not (nat_lt known MOST_BRANCHES) || not (nat_lt given MOST_GIVEN), detailed XAER_RMERR detail.Limit)
     ∷ [])
 
 abbrev pub begun : State → ℕ → Triple → Answer
@@ -221,7 +207,7 @@ end_refusal known holds = first ((is_unknown known, plain XAER_NOTA) ∷ (not ho
 
 abbrev pub loose_refusal : Bool → ℕ → Option Reply
 loose_refusal migrates loose =
-    if migrates then first ((not (nat_lt loose most_loose), detailed XAER_RMERR detail.Limit) ∷ []) else None
+    if migrates then first ((not (nat_lt loose MOST_LOOSE), detailed XAER_RMERR detail.Limit) ∷ []) else None
 
 abbrev pub suspended : State → ℕ → Bool → Triple → State
 suspended s n migrates xid = record s {

@@ -4,7 +4,7 @@ use Rattle.std.specs.List.{AllByRecursion}
 use Rattle.xa_record.specs.Limits.{IsRecord}
 use Rattle.xa_record.specs.declared.record.Record.{Record}
 use Rattle.xa_record.specs.declared.record.Record.TheVariants as logged
-use Rattle.xa_model.specs.declared.limits.TheConstants.{FIRST_OFFSET}
+use Rattle.xa_limits.specs.declared.TheConstants.{FIRST_OFFSET}
 use Rattle.xa_model.specs.declared.outcome.Appending.TheVariants.{Kept, Refused, Lost}
 use Rattle.xa_model.specs.State.{State, timestamp_of}
 use Rattle.xa_model.specs.Sound.{is_working}

@@ -6,7 +6,7 @@ use Rattle.xa_record.specs.declared.record.Record.{Record}
 use Rattle.xa_model.specs.declared.outcome.Outcome.{Outcome}
 use Rattle.xa_model.specs.State.{State}
 use Rattle.xa_model.specs.Answer.{Answer}
-use Rattle.xa_model.specs.Associations.{most_branches}
+use Rattle.xa_limits.specs.declared.TheConstants.{MOST_BOOTS, MOST_BRANCHES}
 use Rattle.xa_model.specs.Durable.{Durable, durable}
 use Rattle.xa_model.specs.Fold.{fold, fits, reading, unread, snapshot, nothing}
 use Rattle.xa_model.specs.Turn.{Happening}
@@ -15,7 +15,7 @@ use Rattle.xa_model.specs.History.{Entry, Leads, fresh}
 use Rattle.xa_model.specs.Events.{IsHappening, HaveHappened}
 use Rattle.xa_model.specs.Loggable.{IsRecoverable, MayBeLast}
 use Rattle.xa_model.specs.Backing.{Backs, BacksTurn}
-use Rattle.xa_model.specs.Restarting.{restarted, reopened, opening, most_boots}
+use Rattle.xa_model.specs.Restarting.{restarted, reopened, opening}
 use Rattle.xa_model.specs.Restored.{IsRestored}
 
 -- every step keeps a state recoverable
@@ -45,20 +45,20 @@ KeepsBacked =
 -- a restart and an opening, of a state whose records' fates are settled, lead to what lasted of it
 abbrev pub RestartsRestored : Type 0
 RestartsRestored =
-    (s : State) → IsRecoverable s → s.open_record ≡ None → s.logged_boot < most_boots
+    (s : State) → IsRecoverable s → s.open_record ≡ None → s.logged_boot < MOST_BOOTS
     → IsRestored (durable s) (s.logged_boot + 1) (restarted s (s.logged_boot + 1))
 
 abbrev pub ReopensRestored : Type 0
 ReopensRestored =
-    (s : State) (name : List ℕ) (log_bytes : ℕ) → IsRecoverable s → s.open_record ≡ None → s.logged_boot < most_boots
+    (s : State) (name : List ℕ) (log_bytes : ℕ) → IsRecoverable s → s.open_record ≡ None → s.logged_boot < MOST_BOOTS
     → IsRestored (durable s) (s.logged_boot + 1) (reopened s name log_bytes (s.logged_boot + 1))
 
 -- so does an opening on records of which nothing else is known, if no more branches are known by them than may be
 abbrev pub OpensRestored : Type 0
 OpensRestored =
     (rs : List Record) (d : Durable) (name : List ℕ) (log_bytes : ℕ) → AllByRecursion IsRecord rs → fold rs ≡ Ok d
-    → d.boot < most_boots
-    → length d.prepared + length d.decided ≤ most_branches
+    → d.boot < MOST_BOOTS
+    → length d.prepared + length d.decided ≤ MOST_BRANCHES
     → IsRestored d (d.boot + 1) (opening d name log_bytes (d.boot + 1))
     × Backs (snapshot d (d.boot + 1)) (opening d name log_bytes (d.boot + 1))
 

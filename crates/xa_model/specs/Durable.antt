@@ -8,7 +8,7 @@ use Rattle.std.specs.Cmp.Lexicographic.{slice_cmp}
 use Rattle.std.specs.Ordering.{nat_cmp, is_lt}
 use Rattle.xa_codes.specs.declared.write.Write.{Write}
 use Rattle.xa_xid.specs.Triple.{Triple, xid_eq, xid_cmp}
-use Rattle.xa_model.specs.declared.limits.TheConstants.{BOOT_TIMESTAMPS}
+use Rattle.xa_limits.specs.declared.TheConstants.{BOOT_TIMESTAMPS}
 use Rattle.xa_model.specs.State.{State, Operation, Got, Wrote, Phase, Working, Prepared, Committed, Decided}
 
 -- A committed branch, with those of its writes that are the last of their keys (a delete is a write without a value).

@@ -13,7 +13,7 @@ use Rattle.xa_frame.specs.declared.request.Request.{Request}
 use Rattle.xa_frame.specs.declared.request.Request.TheVariants.{Open, Close, Start, End, Prepare, Commit, Rollback}
 use Rattle.xa_frame.specs.declared.request.Request.TheVariants.{Forget, Recover, Get, Put, Delete, Decide, Doom}
 use Rattle.xa_frame.specs.declared.request.Request.TheVariants.{Restart}
-use Rattle.xa_frame.specs.declared.xids.TheConstants.{MOST_XIDS}
+use Rattle.xa_limits.specs.declared.TheConstants.{MOST_XIDS}
 use Rattle.xa_model.specs.Answer.{plain, first}
 
 -- a request with no field of flags has none

@@ -11,7 +11,7 @@ use Rattle.xa_record.specs.Spelling.{spelled}
 use Rattle.xa_record.specs.declared.record.Record.{Record}
 use Rattle.xa_record.specs.declared.record.Record.TheVariants.{Opened, Prepared, Committed, Completed, Decided}
 use Rattle.xa_record.specs.declared.record.Record.TheVariants.{Forgotten, Base, Held, Known}
-use Rattle.xa_model.specs.declared.limits.TheConstants.{AROUND_BODY}
+use Rattle.xa_limits.specs.declared.TheConstants.{AROUND_BODY}
 use Rattle.xa_model.specs.State.{without}
 use Rattle.xa_model.specs.State.{Decided as Decision}
 use Rattle.xa_model.specs.Durable.{Durable, CommittedBranch, PreparedBranch, insert, commit, prepares_before}

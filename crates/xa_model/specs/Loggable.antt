@@ -8,20 +8,19 @@ use Rattle.xa_record.specs.declared.record.Record.TheVariants as logged
 use Rattle.xa_model.specs.State.{State, Up}
 use Rattle.xa_model.specs.Sound.{IsSound, is_working}
 use Rattle.xa_model.specs.Durable.{boot_of, is_past, writes_of}
-use Rattle.xa_model.specs.Records.{most_keys}
-use Rattle.xa_model.specs.Restarting.{most_boots}
+use Rattle.xa_limits.specs.declared.TheConstants.{MOST_BOOTS, MOST_WRITES}
 use Rattle.xa_model.specs.MayLog.{MayLog}
 
 -- so many writes as a record takes, each within its limits
 pub record AreShort (ws : List Write) : Type 0 where
-  pub few : length ws ≤ most_keys
+  pub few : length ws ≤ MOST_WRITES
   pub each : AllByRecursion IsWrite ws
 
 -- Boots count from 1. A boot that was logged by a restart that failed later gave no timestamps.
 pub record IsLoggable (s : State) : Type 0 where
   pub first : 1 ≤ s.boot
   pub boots : s.boot ≤ s.logged_boot
-  pub last : s.logged_boot ≤ most_boots
+  pub last : s.logged_boot ≤ MOST_BOOTS
   -- boots that were logged gave all timestamps, and branches at work have theirs from the last that gave any
   pub past : AllByRecursion (λ b. is_past (s.logged_boot + 1) b.timestamp ≡ true) s.branches
   pub begun : AllByRecursion (λ b. is_working b.phase ≡ true → boot_of b.timestamp ≡ s.boot) s.branches

@@ -6,7 +6,7 @@ use Rattle.xa_codes.specs.declared.write.Write.{Write}
 use Rattle.xa_xid.specs.Triple.{Triple}
 use Rattle.xa_record.specs.declared.record.Record.{Record}
 use Rattle.xa_record.specs.declared.record.Record.TheVariants as logged
-use Rattle.xa_model.specs.declared.limits.TheConstants.{FIRST_OFFSET, LENGTH_BYTES, DECIDED_ROOM, PREPARED_ROOM}
+use Rattle.xa_limits.specs.declared.TheConstants.{DECIDED_ROOM, FIRST_OFFSET, LENGTH_BYTES, PREPARED_ROOM}
 use Rattle.xa_model.specs.declared.outcome.Appending.{Appending}
 use Rattle.xa_model.specs.declared.outcome.Appending.TheVariants.{Kept, Refused, Lost}
 use Rattle.xa_model.specs.State.{State, Branch, Phase, Working, Prepared, Committed, Down, count, known_of}
@@ -18,21 +18,10 @@ use Rattle.xa_model.specs.Turn.{Turn, Appends}
 
 -- Room: what is prepared can always be completed and forgotten, and what the operator completed be forgotten
 
--- the most bytes of a completion and of its forgetting, and of the forgetting alone
-abbrev pub prepared_room : ℕ
-prepared_room = PREPARED_ROOM
-
-abbrev pub decided_room : ℕ
-decided_room = DECIDED_ROOM
-
--- the length of zero behind the last record
-abbrev pub closing : ℕ
-closing = LENGTH_BYTES
-
 -- whether a log of so many bytes that ends there keeps the room of so many prepared branches and completed XIDs
 abbrev pub log_room : ℕ → ℕ → ℕ → ℕ → Bool
 log_room log_bytes end prepared decided =
-    nat_le (end + closing + prepared_room * prepared + decided_room * decided) log_bytes
+    nat_le (end + LENGTH_BYTES + PREPARED_ROOM * prepared + DECIDED_ROOM * decided) log_bytes
 
 abbrev pub is_in_doubt : Phase → Bool
 is_in_doubt (Working xid mark) = false

@@ -2,7 +2,7 @@
 use Rattle.std.specs.Prelude.{ℕ, Bool, true, false, not, ◌&&◌, Option, Some, None, List, [], ◌∷◌, is_some, nat_lt}
 use Rattle.xa_codes.specs.declared.codes.TheConstants.{XAER_PROTO, XAER_INVAL, XA_RETRY, XA_RBTRANSIENT}
 use Rattle.xa_codes.specs.declared.detail.Detail.TheVariants as detail
-use Rattle.xa_codes.specs.declared.write.TheConstants.{MOST_WRITES}
+use Rattle.xa_limits.specs.declared.TheConstants.{MOST_WRITES}
 use Rattle.xa_xid.specs.Triple.{Triple}
 use Rattle.xa_frame.specs.declared.body.Body.{Body}
 use Rattle.xa_frame.specs.declared.body.Body.TheVariants as body
@@ -11,10 +11,6 @@ use Rattle.xa_model.specs.State.{State, Branch, Operation, Got, Wrote, is_known_
 use Rattle.xa_model.specs.Source.{Version, write_of, written_keys, source, is_busy, is_late}
 use Rattle.xa_model.specs.Answer.{Answer, plain, detailed, carrying, answer, ok, first, unless, marked}
 use Rattle.xa_model.specs.Associations.{with_mark}
-
--- the most keys that a branch may write
-abbrev pub most_keys : ℕ
-most_keys = MOST_WRITES
 
 abbrev pub having_done : Operation → Branch → Branch
 having_done op b = record b { operations = op ∷ b.operations }
@@ -48,7 +44,7 @@ get_by s key (Some (xid, b)) = marked (mark_of b.phase) s (get_from s key xid b 
 
 -- a further key, where there are as many as there may be
 abbrev pub is_full : List ℕ → List Operation → Bool
-is_full key ops = not (is_some (write_of key ops)) && not (nat_lt (written_keys ops) most_keys)
+is_full key ops = not (is_some (write_of key ops)) && not (nat_lt (written_keys ops) MOST_WRITES)
 
 abbrev pub limit_refusal : Bool → Option Reply
 limit_refusal full = first ((full, detailed XAER_INVAL detail.Limit) ∷ [])

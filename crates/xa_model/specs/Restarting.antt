@@ -6,7 +6,7 @@ use Rattle.xa_codes.specs.declared.detail.Detail.TheVariants as detail
 use Rattle.xa_codes.specs.declared.write.Write.{Write}
 use Rattle.xa_record.specs.declared.record.Record.{Record}
 use Rattle.xa_record.specs.declared.record.Record.TheVariants as logged
-use Rattle.xa_model.specs.declared.limits.TheConstants.{MOST_BOOTS, FIRST_OFFSET}
+use Rattle.xa_limits.specs.declared.TheConstants.{FIRST_OFFSET, MOST_BOOTS}
 use Rattle.xa_model.specs.declared.outcome.Appending.{Appending}
 use Rattle.xa_model.specs.declared.outcome.Appending.TheVariants.{Kept, Refused, Lost}
 use Rattle.xa_model.specs.State.{State, Session, Branch, Operation, Wrote, Prepared, Committed, Up, Ended}
@@ -34,9 +34,6 @@ abbrev pub survived : State → Record → State
 survived s r = record (applied r s) { open_record = None }
 
 -- The new boot
-
-abbrev pub most_boots : ℕ
-most_boots = MOST_BOOTS
 
 abbrev pub without_scan : Session → Session
 without_scan x = record x { scan = None }
@@ -66,7 +63,7 @@ boot_became s boot other = append_became s (logged.Opened boot) XAER_RMFAIL (dow
 
 abbrev pub restarting : State → Rereading
 restarting s =
-    if nat_lt s.logged_boot most_boots
+    if nat_lt s.logged_boot MOST_BOOTS
     then Opens (logged.Opened (s.logged_boot + 1)) (boot_became s (s.logged_boot + 1))
     else Stops (answer (detailed XAER_RMFAIL detail.Limit) (down s))
 
@@ -99,7 +96,7 @@ can_open s log_bytes boot = log_room log_bytes (snapshot_end s boot) (prepared_c
 
 abbrev pub reopening : List ℕ → ℕ → State → Rereading
 reopening name log_bytes s =
-    if nat_lt s.logged_boot most_boots && can_open s log_bytes (s.logged_boot + 1)
+    if nat_lt s.logged_boot MOST_BOOTS && can_open s log_bytes (s.logged_boot + 1)
     then Opens (logged.Opened (s.logged_boot + 1)) (reopen_became s name log_bytes (s.logged_boot + 1))
     else Stops (ok (refused_opening s name log_bytes))
 

@@ -3,7 +3,8 @@ use Rattle.std.specs.Prelude.{ℕ, ◌≡◌, ◌+◌, ◌<◌, ◌≤◌, ◌==
 use Rattle.xa_xid.specs.Triple.{Triple, xid_eq}
 use Rattle.xa_model.specs.State.{State, Branch, Phase, Working, Prepared, Committed, count, is_active, is_known_as}
 use Rattle.xa_model.specs.State.{owns, known_of, known_in, session_of, holders_of, loose_of, timestamp_of}
-use Rattle.xa_model.specs.Associations.{is_anyones, most_sessions, most_branches, most_given, most_loose}
+use Rattle.xa_model.specs.Associations.{is_anyones}
+use Rattle.xa_limits.specs.declared.TheConstants.{MOST_BRANCHES, MOST_GIVEN, MOST_LOOSE, MOST_SESSIONS}
 
 -- the timestamps are above 0, below the limit, and descend
 abbrev pub Descends : ℕ → List Branch → Type 0
@@ -39,7 +40,7 @@ pub record IsSound (s : State) : Type 0 where
   -- an XID that is held is of a known branch at work
   pub bound : (xid : Triple) → is_at_work (known_of s.branches xid) ≡ false → holders_of s.associations xid ≡ 0
   -- the limits
-  pub sessions : length s.sessions ≤ most_sessions
-  pub known : known_in s ≤ most_branches
-  pub given : s.given ≤ most_given
-  pub loose : (xid : Triple) → loose_of s.associations xid ≤ most_loose
+  pub sessions : length s.sessions ≤ MOST_SESSIONS
+  pub known : known_in s ≤ MOST_BRANCHES
+  pub given : s.given ≤ MOST_GIVEN
+  pub loose : (xid : Triple) → loose_of s.associations xid ≤ MOST_LOOSE

@@ -4,7 +4,7 @@ use Rattle.std.specs.Prelude.{[], ◌∷◌, find, filter, length, option_map, o
 use Rattle.xa_codes.specs.declared.direction.Direction.{Direction}
 use Rattle.xa_xid.specs.Triple.{Triple, xid_eq}
 use Rattle.xa_record.specs.declared.record.Record.{Record}
-use Rattle.xa_model.specs.declared.limits.TheConstants.{BOOT_TIMESTAMPS}
+use Rattle.xa_limits.specs.declared.TheConstants.{BOOT_TIMESTAMPS}
 
 -- What a branch did: a get, with its answer and the timestamp of the answer's source (0 where the key was absent
 -- before all branches), or a put or delete that was accepted. A deleted key has no value.

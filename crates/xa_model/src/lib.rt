@@ -1,7 +1,7 @@
 //! The sequential resource manager: its states, its one step, and histories. It answers by the
 //! tables of C193, and orders reads and writes by multiversion timestamp ordering (Bernstein,
 //! Hadzilacos and Goodman, 5.3). What the contracts of the layers above speak of stands in `specs/`;
-//! the program's part is the types of events and outcomes, and the limits.
+//! the program's part is the types of events and outcomes.
 //!
 //! The definitions, in an order to read; docs/MODEL.md retells them:
 //!
@@ -16,9 +16,7 @@
 //!
 //! The modules:
 //!
-//! - `event`: `Event`, what is asked; `outcome`: `Outcome` and `Appending`, what the device did; `limits`: how many
-//!   sessions, branches, timestamps, loose associations and boots there may be, from `MOST_SESSIONS` to `MOST_BOOTS`,
-//!   and the sizes of a log, by which room is reckoned, from `FIRST_OFFSET` to `PREPARED_ROOM`
+//! - `event`: `Event`, what is asked; `outcome`: `Outcome` and `Appending`, what the device did
 //! - `laws`: functions that do nothing, and whose contracts are theorems on the definitions. Of histories
 //!   `one_history`, `total`, `sound`, `recoverable`, `low_water`, `one_copy` and `listed_until_asked`; of what lasts
 //!   `lasting`, `sound_lasting`, `logged_lasts`, `backed`, `restored` and `roomy`. Those that begin with `worked_` are
@@ -27,7 +25,6 @@
 
 mod event;
 mod laws;
-mod limits;
 mod outcome;
 
 pub use event::Event;
@@ -36,9 +33,5 @@ pub use laws::{
     recoverable, restored, roomy, sound, sound_lasting, total, worked_associations, worked_copies,
     worked_limits, worked_logs, worked_low_water, worked_marks, worked_recovery, worked_refusals,
     worked_rows, worked_turns, worked_versions,
-};
-pub use limits::{
-    AROUND_BODY, BOOT_TIMESTAMPS, DECIDED_ROOM, DIGEST_BYTES, FIRST_OFFSET, LENGTH_BYTES,
-    MOST_BOOTS, MOST_BRANCHES, MOST_GIVEN, MOST_LOOSE, MOST_SESSIONS, PREPARED_ROOM,
 };
 pub use outcome::{Appending, Outcome};

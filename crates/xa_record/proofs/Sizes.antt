@@ -4,20 +4,17 @@ use Rattle.std.specs.List.{AllByRecursion}
 use Rattle.std.specs.Prelude.{IfSome, flat_map}
 use Rattle.std.proofs.lemmas.List.{length-append}
 use Rattle.xa_codes.specs.declared.direction.Direction.{Direction}
-use Rattle.xa_codes.specs.declared.write.TheConstants.{MOST_VALUE}
+use Rattle.xa_limits.specs.declared.TheConstants.{MOST_BODY, MOST_SMALL, MOST_VALUE, XID_BYTES}
 use Rattle.xa_codes.specs.declared.write.Write.{Write}
 use Rattle.xa_xid.specs.Triple.{Triple, IsWithinLimits}
 use Rattle.xa_xid.specs.Spelling.{bytes_of}
 use Rattle.xa_fields.specs.Spelling.{direction_bytes}
-use Rattle.xa_xid.specs.declared.bytes.TheConstants.{MOST_BYTES}
-use Rattle.xa_record.specs.declared.record.TheConstants.{MOST_BODY}
-use Rattle.xa_record.specs.declared.writing.TheConstants.{MOST_SMALL}
 use Rattle.xa_record.specs.declared.record.Record.{Record}
 use Rattle.xa_record.specs.declared.record.Record.TheVariants.{Opened, Prepared, Committed, Completed, Decided, Forgotten, Base, Held, Known}
 use Rattle.xa_record.specs.Limits.{IsWrite, IsStamped, IsBranch, IsRecord}
 use Rattle.xa_record.specs.Spelling.{left_bytes, write_bytes, stamped_bytes, branch_bytes, spelled}
 
-name_short : (x : Triple) → IsWithinLimits x → length (bytes_of x) ≤ MOST_BYTES
+name_short : (x : Triple) → IsWithinLimits x → length (bytes_of x) ≤ XID_BYTES
 name_short x h = omega (arith, length-append x.gtrid x.bqual, h.lengths.2, h.lengths.3)
 
 pub opened : (boot : ℕ) → length (spelled (Opened boot)) ≡ 5

@@ -6,7 +6,7 @@ use Rattle.std.specs.Ordering.{nat_cmp, is_lt}
 use Rattle.std.specs.Result.{result_ok}
 use Rattle.xa_bytes.specs.Numbers.{number_at}
 use Rattle.xa_codes.specs.declared.direction.Direction.{Direction}
-use Rattle.xa_codes.specs.declared.write.TheConstants.{MOST_WRITES}
+use Rattle.xa_limits.specs.declared.TheConstants.{MOST_WRITES}
 use Rattle.xa_codes.specs.declared.write.Write.{Write}
 use Rattle.xa_xid.specs.Triple.{Triple}
 use Rattle.xa_fields.specs.Reading.{key_at, value_at, direction_at, name_at}

@@ -2,8 +2,7 @@ ghost use Rattle.std.specs.Prelude.{◌≡◌, ◌<◌, ◌≤◌, ℕ, length, 
 ghost use Rattle.xa_codes.specs.declared.direction.Direction.{Direction};
 ghost use Rattle.xa_record.specs.declared.record.Record.{Record};
 ghost use Rattle.xa_record.specs.declared.record.Record.TheVariants.{Opened, Completed, Decided, Forgotten, Known};
-ghost use Rattle.xa_record.specs.declared.record.TheConstants.{MOST_BODY};
-ghost use Rattle.xa_record.specs.declared.writing.TheConstants.{MOST_SMALL};
+ghost use Rattle.xa_limits.specs.declared.TheConstants.{MOST_BODY, MOST_SMALL};
 ghost use Rattle.xa_record.specs.Limits.{IsRecord};
 ghost use Rattle.xa_record.specs.Reading.{record_at};
 ghost use Rattle.xa_record.specs.Spelling.{spelled};

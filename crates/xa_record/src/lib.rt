@@ -1,10 +1,9 @@
 //! The records of the log: what one says, and the bytes of its body. A log takes any bodies (`xa_log`); these are the
 //! resource manager's.
 //!
-//! - `record`: `Record`, of nine kinds: six say what happened, three make up a snapshot; `MOST_BODY`, the longest body
+//! - `record`: `Record`, of nine kinds: six say what happened, three make up a snapshot
 //! - `writes`: `Writes`, that contracts see as a list
-//! - `writing`: `write`, a record's body; `write_small`, that of a record without writes, which takes no memory, and
-//!   `MOST_SMALL`, the longest of these
+//! - `writing`: `write`, a record's body; `write_small`, that of a record without writes, which takes no memory
 //! - `reading`: `read`, the record whose body some bytes are; `fault`: `RecordFault`, why they gave none
 //! - `laws`: `one_record`, a body is one record's at most, and is read as it was written; `body_sizes`, how long bodies
 //!   are
@@ -23,6 +22,6 @@ mod writing;
 pub use fault::RecordFault;
 pub use laws::{body_sizes, one_record};
 pub use reading::read;
-pub use record::{MOST_BODY, Record};
+pub use record::Record;
 pub use writes::Writes;
-pub use writing::{MOST_SMALL, write, write_small};
+pub use writing::{write, write_small};

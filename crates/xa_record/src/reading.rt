@@ -12,8 +12,9 @@ use crate::record::Record;
 use crate::writes::Writes;
 use std::alloc::{AllocError, Global};
 use xa_bytes::{take_u16, take_u32, take_u64};
-use xa_codes::{Bytes, Direction, MOST_WRITES, Write};
+use xa_codes::{Bytes, Direction, Write};
 use xa_fields::{take_direction, take_key, take_value, take_xid};
+use xa_limits::MOST_WRITES;
 use xa_xid::Xid;
 
 #[tactic(auto, unfolding(crate::specs::Reading::xid_front))]

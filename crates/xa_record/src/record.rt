@@ -2,10 +2,6 @@ use crate::writes::Writes;
 use xa_codes::Direction;
 use xa_xid::Xid;
 
-/// The most bytes of a body: a log takes none that is longer. `xa_log` has the same again, since neither crate stands
-/// on the other; that the two agree is `sizes_agree` in `xa_manager`.
-pub const MOST_BODY: usize = 524_288;
-
 /// What one record of the log says.
 #[derive(Debug, Drop)]
 pub enum Record {

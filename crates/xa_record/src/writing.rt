@@ -2,7 +2,7 @@ ghost use Rattle.arrayvec.specs.ArrayVec.{array_vec_len};
 ghost use Rattle.std.specs.Prelude.{◌≡◌, ◌<◌, [], ◌∷◌, ◌++◌, flat_map, IfOk, OnOk};
 ghost use Rattle.xa_record.specs.Spelling.{spelled, branch_bytes, stamped_bytes, write_bytes, left_bytes};
 ghost use Rattle.xa_record.specs.Small.{IsSmall};
-ghost use Rattle.xa_record.specs.declared.writing.TheConstants.{MOST_SMALL};
+ghost use Rattle.xa_limits.specs.declared.TheConstants.{MOST_SMALL};
 ghost use Rattle.xa_xid.specs.Spelling.{bytes_of};
 
 use crate::record::Record;
@@ -12,10 +12,8 @@ use std::alloc::{AllocError, Global};
 use xa_bytes::put_u64;
 use xa_codes::{Bytes, Write};
 use xa_fields::{put_length, put_short, put_value, put_xid};
-use xa_xid::{MOST_BYTES, Xid};
-
-/// The most bytes of a body without writes: its kind, an XID, a direction.
-pub const MOST_SMALL: usize = 2 + MOST_BYTES;
+use xa_limits::{MOST_SMALL, XID_BYTES};
+use xa_xid::Xid;
 
 /// The record's body. A record out of its limits has none that `read` takes.
 pub fn write(alloc: Global, record: &Record) -> Result<Vec<u8>, AllocError>
@@ -82,7 +80,7 @@ fn put_named(out: &mut ArrayVec<u8, MOST_SMALL>, kind: u8, xid: &Xid)
     ensures items { out.new.items ≡ kind ∷ bytes_of xid.now }
     ensures len { array_vec_len out.new < MOST_SMALL }
 {
-    let mut bytes: ArrayVec<u8, MOST_BYTES> = ArrayVec::new();
+    let mut bytes: ArrayVec<u8, XID_BYTES> = ArrayVec::new();
     xid.put(&mut bytes);
     out.push(kind);
     let _ = out.try_extend_from_slice(bytes.as_slice());

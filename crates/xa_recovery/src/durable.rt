@@ -1,5 +1,5 @@
 ghost use Rattle.std.specs.Prelude.{◌≡◌, ◌+◌, nat_lt, if◌then◌else◌, None, Some};
-ghost use Rattle.xa_model.specs.Restarting.{most_boots};
+ghost use Rattle.xa_limits.specs.declared.TheConstants.{MOST_BOOTS};
 ghost use Rattle.xa_recovery.specs.Durable.{committed_of, prepared_of, decided_of};
 
 use std::collections::BTreeMap;
@@ -70,7 +70,7 @@ impl Durable {
 
 /// The number of the boot after those that were logged. None after `MOST_BOOTS`. Takes no memory.
 pub fn next_boot(durable: &Durable) -> Option<u32>
-    ensures { result ≡ (if nat_lt durable.now.boot most_boots then Some (durable.now.boot + 1) else None) }
+    ensures { result ≡ (if nat_lt durable.now.boot MOST_BOOTS then Some (durable.now.boot + 1) else None) }
 {
     durable.boot.checked_add(1)
 }

@@ -7,7 +7,7 @@ ghost use Rattle.xa_model.specs.Fold.{fits, is_new, is_unknown, is_used, is_empt
 ghost use Rattle.xa_recovery.specs.Rebuilding.{InEach};
 
 use crate::rebuilding::Rebuilding;
-use xa_model::BOOT_TIMESTAMPS;
+use xa_limits::BOOT_TIMESTAMPS;
 use xa_record::Record;
 use xa_xid::Xid;
 

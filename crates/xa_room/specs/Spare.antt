@@ -1,7 +1,6 @@
 -- Room for a copy of a reply.
 use Rattle.std.specs.Prelude.{◌≡◌, ◌≤◌, [], vec_capacity}
-use Rattle.xa_codes.specs.declared.write.TheConstants.{MOST_VALUE}
-use Rattle.xa_frame.specs.declared.xids.TheConstants.{MOST_XIDS}
+use Rattle.xa_limits.specs.declared.TheConstants.{MOST_VALUE, MOST_XIDS}
 use Rattle.xa_room.specs.declared.spare.Spare.{Spare}
 
 -- for each reply within the limits

@@ -1,13 +1,13 @@
 ghost use Rattle.std.specs.Prelude.{◌≡◌, ℕ, ◌≤◌, [], length, true, vec_capacity};
-ghost use Rattle.xa_codes.specs.declared.write.TheConstants.{MOST_VALUE};
-ghost use Rattle.xa_frame.specs.declared.xids.TheConstants.{MOST_XIDS};
+ghost use Rattle.xa_limits.specs.declared.TheConstants.{MOST_VALUE, MOST_XIDS};
 ghost use Rattle.xa_frame.specs.Limits.{IsReply};
 ghost use Rattle.xa_room.specs.Spare.{HasRoom};
 
 use std::alloc::{AllocError, Global};
 use std::mem;
-use xa_codes::{Bytes, MOST_VALUE};
-use xa_frame::{Body, MOST_XIDS, Reply, Xids};
+use xa_codes::Bytes;
+use xa_frame::{Body, Reply, Xids};
+use xa_limits::{MOST_VALUE, MOST_XIDS};
 use xa_xid::Xid;
 
 /// Room for a copy of a reply: for the longest value, and for the most XIDs. It is made before a call acts and stays,

@@ -3,7 +3,8 @@ use Rattle.std.proofs.Common.{◌≡◌, ℕ, ◌+◌, ◌≤◌, List, [], ◌�
 use Rattle.xa_log.specs.declared.format.Format.TheVariants.{One}
 use Rattle.xa_log.specs.Chain.{digest, magic, record_of, records, start}
 use Rattle.xa_log.proofs.Records.{length-record_of}
-use Rattle.xa_scan.specs.Lines.{behind, first_offset, line_at, lines_from}
+use Rattle.xa_scan.specs.Lines.{behind, line_at, lines_from}
+use Rattle.xa_limits.specs.declared.TheConstants.{FIRST_OFFSET}
 use Rattle.xa_scan.specs.Worked.{OffsetsInTheFile}
 
 pub behind_both : (offset : ℕ) (xs ys : List (List ℕ)) → behind offset (xs ++ ys) ≡ behind (behind offset xs) ys
@@ -35,4 +36,4 @@ behind_records offset prev (body ∷ bodies) =
 
 pub offsets_in_the_file : OffsetsInTheFile
 offsets_in_the_file One bodies =
-    omega (arith, behind_records first_offset (start One) bodies, length-append (magic One) (records (start One) bodies))
+    omega (arith, behind_records FIRST_OFFSET (start One) bodies, length-append (magic One) (records (start One) bodies))

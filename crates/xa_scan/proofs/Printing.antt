@@ -13,16 +13,17 @@ use Rattle.xa_log.specs.Reading as reading
 use Rattle.xa_scan.specs.declared.fault.ScanFault.{ScanFault}
 use Rattle.xa_scan.specs.declared.fault.ScanFault.TheVariants.{Memory, Write, Log}
 use Rattle.xa_scan.specs.Faults.{ended, fault_of}
-use Rattle.xa_scan.specs.Lines.{behind, end_line, first_offset, line_at, lines_from}
-use Rattle.xa_scan.specs.Scans.{IsFound, Prints, PrintsLine, PrintsLines, Scans, most_bytes}
+use Rattle.xa_scan.specs.Lines.{behind, end_line, line_at, lines_from}
+use Rattle.xa_limits.specs.declared.TheConstants.{FIRST_OFFSET, MOST_LOG}
+use Rattle.xa_scan.specs.Scans.{IsFound, Prints, PrintsLine, PrintsLines, Scans}
 use Rattle.xa_scan.proofs.Offsets.{behind_both, behind_grows, lines_both, lines_one, offsets_in_the_file}
 
 -- some lines were printed, and the next one's offset is this
 abbrev pub Printed : List (List ℕ) → List (List ℕ) → ℕ → Option (List ℕ) → Option (List ℕ) → Type 0
 Printed bodies rest offset old new =
-    (printed : List (List ℕ)) × (bodies ≡ printed ++ rest) × (offset ≡ behind first_offset printed) × Appends old new (lines_from first_offset printed)
+    (printed : List (List ℕ)) × (bodies ≡ printed ++ rest) × (offset ≡ behind FIRST_OFFSET printed) × Appends old new (lines_from FIRST_OFFSET printed)
 
-pub none_printed : (bodies : List (List ℕ)) (old : Option (List ℕ)) → Printed bodies bodies first_offset old old
+pub none_printed : (bodies : List (List ℕ)) (old : Option (List ℕ)) → Printed bodies bodies FIRST_OFFSET old old
 none_printed bodies old = ([], refl, refl, nothing_appended old)
 
 pub one_printed : {X : Type 0} (x : X) (bodies rest others : List (List ℕ)) (body : List ℕ) (offset : ℕ) (text : List ℕ) (old mid new : Option (List ℕ)) →
@@ -31,43 +32,43 @@ pub one_printed : {X : Type 0} (x : X) (bodies rest others : List (List ℕ)) (b
 one_printed x bodies rest others body offset text old mid new (printed, split, is, before) cut now line = (
   printed ++ body ∷ [],
   split ∙ (ap (λ (l : List (List ℕ)). printed ++ l) cut ∙ sym (append_assoc printed (body ∷ []) others)),
-  ap (λ (n : ℕ). n + (36 + length body)) is ∙ sym (behind_both first_offset printed (body ∷ [])),
+  ap (λ (n : ℕ). n + (36 + length body)) is ∙ sym (behind_both FIRST_OFFSET printed (body ∷ [])),
   subst (λ (t : List ℕ). Appends old new t)
-      (ap (λ (t : List ℕ). lines_from first_offset printed ++ t) (line ∙ (ap (λ (n : ℕ). line_at n body) is ∙ sym (lines_one (behind first_offset printed) body)))
-      ∙ sym (lines_both first_offset printed (body ∷ [])))
-      (appends_both old mid new (lines_from first_offset printed) text before now),
+      (ap (λ (t : List ℕ). lines_from FIRST_OFFSET printed ++ t) (line ∙ (ap (λ (n : ℕ). line_at n body) is ∙ sym (lines_one (behind FIRST_OFFSET printed) body)))
+      ∙ sym (lines_both FIRST_OFFSET printed (body ∷ [])))
+      (appends_both old mid new (lines_from FIRST_OFFSET printed) text before now),
 )
 
 -- the next offset is within the log
 pub next_within : (bodies rest others : List (List ℕ)) (body : List ℕ) (offset : ℕ) (old new : Option (List ℕ)) →
-    Printed bodies rest offset old new → rest ≡ body ∷ others → offset + (36 + length body) ≤ behind first_offset bodies
+    Printed bodies rest offset old new → rest ≡ body ∷ others → offset + (36 + length body) ≤ behind FIRST_OFFSET bodies
 next_within bodies rest others body offset old new (printed, split, is, before) cut =
-    let whole : behind first_offset bodies ≡ behind (behind first_offset printed) (body ∷ others) =
-    ap (λ (l : List (List ℕ)). behind first_offset l) (split ∙ ap (λ (l : List (List ℕ)). printed ++ l) cut) ∙ behind_both first_offset printed (body ∷ others) in
-    omega (arith, whole, is, behind_grows (behind first_offset printed + (36 + length body)) others)
+    let whole : behind FIRST_OFFSET bodies ≡ behind (behind FIRST_OFFSET printed) (body ∷ others) =
+    ap (λ (l : List (List ℕ)). behind FIRST_OFFSET l) (split ∙ ap (λ (l : List (List ℕ)). printed ++ l) cut) ∙ behind_both FIRST_OFFSET printed (body ∷ others) in
+    omega (arith, whole, is, behind_grows (behind FIRST_OFFSET printed + (36 + length body)) others)
 
 -- a line failed
 pub line_failed : (X Y : Type 0) (fault : ScanFault) (bodies rest others : List (List ℕ)) (body : List ℕ) (offset : ℕ) (text : List ℕ) (old mid new : Option (List ℕ)) →
     Printed bodies rest offset old mid → rest ≡ body ∷ others → Appends mid new text → PrintsLine {X = X} (Err fault) (line_at offset body) text →
     (all : List ℕ) × Appends old new all × PrintsLines {X = Y} (Err fault) bodies all
 line_failed X Y Memory bodies rest others body offset text old mid new (printed, split, is, before) cut now line = (
-  lines_from first_offset printed ++ text,
-  appends_both old mid new (lines_from first_offset printed) text before now,
-  (printed, rest, split, ap (λ (t : List ℕ). lines_from first_offset printed ++ t) line ∙ append-nil (lines_from first_offset printed)),
+  lines_from FIRST_OFFSET printed ++ text,
+  appends_both old mid new (lines_from FIRST_OFFSET printed) text before now,
+  (printed, rest, split, ap (λ (t : List ℕ). lines_from FIRST_OFFSET printed ++ t) line ∙ append-nil (lines_from FIRST_OFFSET printed)),
 )
 line_failed X Y Write bodies rest others body offset text old mid new (printed, split, is, before) cut now (more, some, line) =
-    let lines = lines_from first_offset printed in
-    let behind_it = lines_from (offset + (36 + length body)) others ++ end_line (behind first_offset bodies) in
-    let whole : lines_from first_offset bodies ≡ lines ++ (line_at offset body ++ lines_from (offset + (36 + length body)) others) =
-    ap (λ (l : List (List ℕ)). lines_from first_offset l) (split ∙ ap (λ (l : List (List ℕ)). printed ++ l) cut) ∙ (lines_both first_offset printed (body ∷ others)
+    let lines = lines_from FIRST_OFFSET printed in
+    let behind_it = lines_from (offset + (36 + length body)) others ++ end_line (behind FIRST_OFFSET bodies) in
+    let whole : lines_from FIRST_OFFSET bodies ≡ lines ++ (line_at offset body ++ lines_from (offset + (36 + length body)) others) =
+    ap (λ (l : List (List ℕ)). lines_from FIRST_OFFSET l) (split ∙ ap (λ (l : List (List ℕ)). printed ++ l) cut) ∙ (lines_both FIRST_OFFSET printed (body ∷ others)
     ∙ ap (λ (n : ℕ). lines ++ (line_at n body ++ lines_from (n + (36 + length body)) others)) (sym is)) in (
       lines ++ text,
       appends_both old mid new lines text before now,
       (
         more ++ behind_it,
-        ap (λ (l : List ℕ). l ++ end_line (behind first_offset bodies)) whole
-            ∙ (append_assoc lines (line_at offset body ++ lines_from (offset + (36 + length body)) others) (end_line (behind first_offset bodies))
-            ∙ (ap (λ (l : List ℕ). lines ++ l) (append_assoc (line_at offset body) (lines_from (offset + (36 + length body)) others) (end_line (behind first_offset bodies)))
+        ap (λ (l : List ℕ). l ++ end_line (behind FIRST_OFFSET bodies)) whole
+            ∙ (append_assoc lines (line_at offset body ++ lines_from (offset + (36 + length body)) others) (end_line (behind FIRST_OFFSET bodies))
+            ∙ (ap (λ (l : List ℕ). lines ++ l) (append_assoc (line_at offset body) (lines_from (offset + (36 + length body)) others) (end_line (behind FIRST_OFFSET bodies)))
             ∙ (ap (λ (l : List ℕ). lines ++ (l ++ behind_it)) line
             ∙ (ap (λ (l : List ℕ). lines ++ l) (append_assoc text more behind_it)
             ∙ sym (append_assoc lines text (more ++ behind_it)))))),
@@ -77,27 +78,27 @@ line_failed X Y (Log fault) bodies rest others body offset text old mid new prin
 
 -- the line of the end was written, or it failed
 pub end_printed : {X : Type 0} (end : Result X ScanFault) (bodies rest : List (List ℕ)) (offset at : ℕ) (text : List ℕ) (old mid new : Option (List ℕ)) →
-    Printed bodies rest offset old mid → rest ≡ [] → at ≡ behind first_offset bodies → Appends mid new text → PrintsLine end (end_line at) text →
+    Printed bodies rest offset old mid → rest ≡ [] → at ≡ behind FIRST_OFFSET bodies → Appends mid new text → PrintsLine end (end_line at) text →
     (all : List ℕ) × Appends old new all × PrintsLines end bodies all
 end_printed (Ok x) bodies rest offset at text old mid new (printed, split, is, before) none end now line =
     let all : bodies ≡ printed = split ∙ (ap (λ (l : List (List ℕ)). printed ++ l) none ∙ append-nil printed) in (
-      lines_from first_offset printed ++ text,
-      appends_both old mid new (lines_from first_offset printed) text before now,
-      ap (λ (l : List (List ℕ)). lines_from first_offset l ++ text) (sym all) ∙ ap (λ (l : List ℕ). lines_from first_offset bodies ++ l) (line ∙ ap end_line end),
+      lines_from FIRST_OFFSET printed ++ text,
+      appends_both old mid new (lines_from FIRST_OFFSET printed) text before now,
+      ap (λ (l : List (List ℕ)). lines_from FIRST_OFFSET l ++ text) (sym all) ∙ ap (λ (l : List ℕ). lines_from FIRST_OFFSET bodies ++ l) (line ∙ ap end_line end),
     )
 end_printed (Err Memory) bodies rest offset at text old mid new (printed, split, is, before) none end now line = (
-  lines_from first_offset printed ++ text,
-  appends_both old mid new (lines_from first_offset printed) text before now,
-  (printed, rest, split, ap (λ (t : List ℕ). lines_from first_offset printed ++ t) line ∙ append-nil (lines_from first_offset printed)),
+  lines_from FIRST_OFFSET printed ++ text,
+  appends_both old mid new (lines_from FIRST_OFFSET printed) text before now,
+  (printed, rest, split, ap (λ (t : List ℕ). lines_from FIRST_OFFSET printed ++ t) line ∙ append-nil (lines_from FIRST_OFFSET printed)),
 )
 end_printed (Err Write) bodies rest offset at text old mid new (printed, split, is, before) none end now (more, some, line) =
     let all : bodies ≡ printed = split ∙ (ap (λ (l : List (List ℕ)). printed ++ l) none ∙ append-nil printed) in (
-      lines_from first_offset printed ++ text,
-      appends_both old mid new (lines_from first_offset printed) text before now,
+      lines_from FIRST_OFFSET printed ++ text,
+      appends_both old mid new (lines_from FIRST_OFFSET printed) text before now,
       (
         more,
-        ap (λ (l : List ℕ). lines_from first_offset bodies ++ l) (ap end_line (sym end) ∙ line)
-            ∙ (ap (λ (l : List (List ℕ)). lines_from first_offset l ++ (text ++ more)) all ∙ sym (append_assoc (lines_from first_offset printed) text more)),
+        ap (λ (l : List ℕ). lines_from FIRST_OFFSET bodies ++ l) (ap end_line (sym end) ∙ line)
+            ∙ (ap (λ (l : List (List ℕ)). lines_from FIRST_OFFSET l ++ (text ++ more)) all ∙ sym (append_assoc (lines_from FIRST_OFFSET printed) text more)),
       ),
     )
 end_printed (Err (Log fault)) bodies rest offset at text old mid new printed none end now line = absurd line
@@ -111,7 +112,7 @@ prints_ended (Err Write) flushed bodies text h = h
 prints_ended (Err (Log fault)) flushed bodies text h = absurd h
 
 found_ended : {X E : Type 0} (printed : Result X ScanFault) (flushed : Result X E) (file : List ℕ) (bodies : List (List ℕ)) (text : List ℕ) → PrintsLines printed bodies text →
-    reading.fault_of most_bytes file ≡ None → logged file ≡ bodies → IsFound (ended printed flushed) file bodies
+    reading.fault_of MOST_LOG file ≡ None → logged file ≡ bodies → IsFound (ended printed flushed) file bodies
 found_ended (Ok x) (Ok y) file bodies text h none is = (none, is)
 found_ended (Ok x) (Err e) file bodies text h none is = (none, is)
 found_ended (Err Memory) flushed file bodies text h none is = inr (none, is)
@@ -119,7 +120,7 @@ found_ended (Err Write) flushed file bodies text h none is = (none, is)
 found_ended (Err (Log fault)) flushed file bodies text h none is = absurd h
 
 pub scanned : {X E : Type 0} (honest : Type 0) (printed : Result X ScanFault) (flushed : Result X E) (file : List ℕ) (bodies : List (List ℕ)) (text : List ℕ) (old mid new : Option (List ℕ)) →
-    (honest → (reading.fault_of most_bytes file ≡ None) × (logged file ≡ bodies)) → Appends old mid text → Keeps mid new → PrintsLines printed bodies text →
+    (honest → (reading.fault_of MOST_LOG file ≡ None) × (logged file ≡ bodies)) → Appends old mid text → Keeps mid new → PrintsLines printed bodies text →
     Scans honest (ended printed flushed) file old new
 scanned honest printed flushed file bodies text old mid new read written kept prints = record {
   bodies = bodies;
@@ -130,7 +131,7 @@ scanned honest printed flushed file bodies text old mid new read written kept pr
 }
 
 -- there is no log, or no memory
-pub unread : (X : Type 0) (honest : Type 0) (fault : OpenFault) (file : List ℕ) (output : Option (List ℕ)) → (honest → Explains fault (reading.fault_of most_bytes file)) →
+pub unread : (X : Type 0) (honest : Type 0) (fault : OpenFault) (file : List ℕ) (output : Option (List ℕ)) → (honest → Explains fault (reading.fault_of MOST_LOG file)) →
     Scans {X = X} honest (Err (fault_of fault)) file output output
 unread X honest preamble.Memory file output why = record {
   bodies = [];
@@ -145,16 +146,16 @@ unread X honest preamble.TooLong file output why = record { bodies = []; text = 
 unread X honest preamble.Device file output why = record { bodies = []; text = []; found = why; written = nothing_appended output; printed = refl }
 
 -- a file that is a log has no more bytes than a log may have
-pub no_longer : (file : List ℕ) (bodies : List (List ℕ)) → reading.fault_of most_bytes file ≡ None → Rests (format_in file) bodies file → behind first_offset bodies ≤ most_bytes
+pub no_longer : (file : List ℕ) (bodies : List (List ℕ)) → reading.fault_of MOST_LOG file ≡ None → Rests (format_in file) bodies file → behind FIRST_OFFSET bodies ≤ MOST_LOG
 no_longer file bodies none rests =
-    let at : behind first_offset bodies ≡ length (text (format_in file) bodies) = offsets_in_the_file (format_in file) bodies in
+    let at : behind FIRST_OFFSET bodies ≡ length (text (format_in file) bodies) = offsets_in_the_file (format_in file) bodies in
     let whole : length file ≡ length (text (format_in file) bodies) + length rests.rest = ap length rests.split ∙ length-append (text (format_in file) bodies) rests.rest in
-    let short : length file ≤ most_bytes = fits_of most_bytes file none in
+    let short : length file ≤ MOST_LOG = fits_of MOST_LOG file none in
     omega (arith, at, whole, short)
 
 -- the end of these bodies is no number of 64 bits
-pub past_limit : (bodies rest others : List (List ℕ)) (body : List ℕ) (offset : ℕ) → behind first_offset bodies ≡ behind offset rest → rest ≡ body ∷ others →
-    2 ^ 64 ≤ offset + (36 + length body) → most_bytes < behind first_offset bodies
+pub past_limit : (bodies rest others : List (List ℕ)) (body : List ℕ) (offset : ℕ) → behind FIRST_OFFSET bodies ≡ behind offset rest → rest ≡ body ∷ others →
+    2 ^ 64 ≤ offset + (36 + length body) → MOST_LOG < behind FIRST_OFFSET bodies
 past_limit bodies rest others body offset same cut past =
     let all : behind offset rest ≡ behind (offset + (36 + length body)) others = ap (λ (l : List (List ℕ)). behind offset l) cut in
     omega (arith, same, all, past, behind_grows (offset + (36 + length body)) others)

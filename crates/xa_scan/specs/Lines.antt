@@ -3,8 +3,7 @@ use Rattle.std.specs.Prelude.{ℕ, ◌+◌, List, [], ◌∷◌, ◌++◌, lengt
 use Rattle.std.specs.Fmt.{decimal}
 use Rattle.xa_record.specs.declared.record.Record.{Record}
 use Rattle.xa_record.specs.Reading.{record_at}
-use Rattle.xa_log.specs.declared.format.TheConstants.{FIRST_OFFSET}
-use Rattle.xa_log.specs.declared.record.TheConstants.{AROUND_BODY}
+use Rattle.xa_limits.specs.declared.TheConstants.{AROUND_BODY, FIRST_OFFSET}
 use Rattle.xa_scan.specs.Records.{record_text}
 
 -- the text of a record that was read, or that there is none
@@ -33,10 +32,6 @@ lines_from offset (body ∷ bodies) = line_at offset body ++ lines_from (offset 
 abbrev pub end_line : ℕ → List ℕ
 end_line offset = codes "end " ++ decimal offset ++ 10 ∷ []
 
--- the offset of the first record, behind the format that every log begins with
-abbrev pub first_offset : ℕ
-first_offset = FIRST_OFFSET
-
 -- the lines of a log that has these bodies
 abbrev pub scan_text : List (List ℕ) → List ℕ
-scan_text bodies = lines_from first_offset bodies ++ end_line (behind first_offset bodies)
+scan_text bodies = lines_from FIRST_OFFSET bodies ++ end_line (behind FIRST_OFFSET bodies)

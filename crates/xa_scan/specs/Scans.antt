@@ -4,20 +4,16 @@ use Rattle.std.specs.Io.KnownBytes.{Appends}
 use Rattle.xa_output.specs.Output.{IsFront, IsPart}
 use Rattle.xa_log.specs.Chain.{logged}
 use Rattle.xa_log.specs.Reading.{Explains, fault_of}
-use Rattle.xa_log.specs.declared.log.TheConstants.{MOST_LOG}
+use Rattle.xa_limits.specs.declared.TheConstants.{FIRST_OFFSET, MOST_LOG}
 use Rattle.xa_scan.specs.declared.fault.ScanFault.{ScanFault}
 use Rattle.xa_scan.specs.declared.fault.ScanFault.TheVariants.{Memory, Write, Log}
-use Rattle.xa_scan.specs.Lines.{lines_from, scan_text, first_offset}
-
--- the most bytes that a log has
-abbrev pub most_bytes : ℕ
-most_bytes = MOST_LOG
+use Rattle.xa_scan.specs.Lines.{lines_from, scan_text}
 
 -- the lines of some first records
 abbrev pub AreLines : List (List ℕ) → List ℕ → Type 0
 AreLines bodies text =
     (printed : List (List ℕ)) × (others : List (List ℕ))
-    × (bodies ≡ printed ++ others) × (text ≡ lines_from first_offset printed)
+    × (bodies ≡ printed ++ others) × (text ≡ lines_from FIRST_OFFSET printed)
 
 -- By the end, what was printed of a log that has these bodies: all; the lines of some records, where memory ran out;
 -- some first bytes, where they couldn't be written.
@@ -49,10 +45,10 @@ AddsLine end line output output' = (text : List ℕ) × Appends output output' t
 -- By the end, what the file is: a log, where its lines were printed or couldn't be written; none, for the reason that
 -- is told.
 abbrev pub IsFound : {X : Type 0} → Result X ScanFault → List ℕ → List (List ℕ) → Type 0
-IsFound (Ok x) file bodies = (fault_of most_bytes file ≡ None) × (logged file ≡ bodies)
-IsFound (Err Memory) file bodies = (bodies ≡ []) ⊎ ((fault_of most_bytes file ≡ None) × (logged file ≡ bodies))
-IsFound (Err Write) file bodies = (fault_of most_bytes file ≡ None) × (logged file ≡ bodies)
-IsFound (Err (Log fault)) file bodies = Explains fault (fault_of most_bytes file)
+IsFound (Ok x) file bodies = (fault_of MOST_LOG file ≡ None) × (logged file ≡ bodies)
+IsFound (Err Memory) file bodies = (bodies ≡ []) ⊎ ((fault_of MOST_LOG file ≡ None) × (logged file ≡ bodies))
+IsFound (Err Write) file bodies = (fault_of MOST_LOG file ≡ None) × (logged file ≡ bodies)
+IsFound (Err (Log fault)) file bodies = Explains fault (fault_of MOST_LOG file)
 
 -- A printing: the bodies that were read, which are the file's where the disk is honest, and the text that was written.
 pub record Scans {X : Type 0} (honest : Type 0) (end : Result X ScanFault) (file : List ℕ)

@@ -3,7 +3,8 @@ use Rattle.std.specs.Prelude.{◌≡◌, ℕ, List, [], ◌∷◌, ◌++◌, len
 use Rattle.xa_log.specs.declared.format.Format.{Format}
 use Rattle.xa_log.specs.Chain.{text}
 use Rattle.xa_log.specs.Worked.{opened, prepared, again, held}
-use Rattle.xa_scan.specs.Lines.{behind, first_offset, scan_text}
+use Rattle.xa_scan.specs.Lines.{behind, scan_text}
+use Rattle.xa_limits.specs.declared.TheConstants.{FIRST_OFFSET}
 
 -- a line and its end
 abbrev pub ended : List ℕ → List ℕ
@@ -64,4 +65,4 @@ Empty = scan_text [] ≡ ended (codes "end 8")
 
 -- The offset behind some records is the length of the file that has them, in each format.
 abbrev pub OffsetsInTheFile : Type 0
-OffsetsInTheFile = (format : Format) (bodies : List (List ℕ)) → behind first_offset bodies ≡ length (text format bodies)
+OffsetsInTheFile = (format : Format) (bodies : List (List ℕ)) → behind FIRST_OFFSET bodies ≡ length (text format bodies)

@@ -2,15 +2,17 @@
 ghost use Rattle.std.specs.Prelude.{◌≡◌, ◌≤◌, ◌<◌, ◌+◌, ◌^◌, IfErr, IfOk, IfSome, List, None, ℕ};
 ghost use Rattle.xa_log.specs.Reading.{bodies_of};
 ghost use Rattle.xa_scan.specs.Faults.{ended};
-ghost use Rattle.xa_scan.specs.Lines.{behind, end_line, first_offset, line_at};
-ghost use Rattle.xa_scan.specs.Scans.{AddsLine, AddsLines, Scans, most_bytes};
+ghost use Rattle.xa_scan.specs.Lines.{behind, end_line, line_at};
+ghost use Rattle.xa_limits.specs.declared.TheConstants.{FIRST_OFFSET, MOST_LOG};
+ghost use Rattle.xa_scan.specs.Scans.{AddsLine, AddsLines, Scans};
 
 use crate::fault::ScanFault;
 use crate::lines::{body_line, last_line};
 use std::alloc::Global;
 use std::io::{self, Write};
 use xa_disk::Disk;
-use xa_log::{AROUND_BODY, FIRST_OFFSET, MOST_LOG, OpenFault, read_log};
+use xa_limits::{AROUND_BODY, FIRST_OFFSET, MOST_LOG};
+use xa_log::{OpenFault, read_log};
 use xa_output::write_text;
 
 /// Reads the log that a disk is, of `MOST_LOG` bytes at most, and writes a line for each of its records, in order: its
@@ -43,9 +45,9 @@ fn ended(written: Result<(), ScanFault>, flushed: io::Result<()>) -> Result<(), 
 /// Where the next record of a log of these bodies would begin. No log of at most `MOST_LOG` bytes has bodies whose end
 /// isn't a number of 64 bits.
 fn end_of(bodies: &[Vec<u8>]) -> Result<u64, OpenFault>
-    ensures value { IfOk result (λ end. end ≡ behind first_offset (bodies_of bodies.now)) }
+    ensures value { IfOk result (λ end. end ≡ behind FIRST_OFFSET (bodies_of bodies.now)) }
     ensures fault { IfErr result
-        (λ fault. (fault ≡ OpenFault.TooLong) × (most_bytes < behind first_offset (bodies_of bodies.now))) }
+        (λ fault. (fault ≡ OpenFault.TooLong) × (MOST_LOG < behind FIRST_OFFSET (bodies_of bodies.now))) }
 {
     let mut offset = FIRST_OFFSET;
     let mut rest = bodies;
@@ -76,7 +78,7 @@ fn write_lines<W: Write>(
     bodies: &[Vec<u8>],
     end: u64,
 ) -> Result<(), ScanFault>
-    requires { end ≡ behind first_offset (bodies_of bodies.now) }
+    requires { end ≡ behind FIRST_OFFSET (bodies_of bodies.now) }
     ensures { AddsLines result (bodies_of bodies.now) (W.contents writer.old) (W.contents writer.new) }
 {
     let mut offset = FIRST_OFFSET;

@@ -11,10 +11,9 @@ use Rattle.xa_script.specs.declared.verb.Verb.{Verb}
 use Rattle.xa_script.specs.declared.verb.Verb.TheVariants as verb
 use Rattle.xa_codes.specs.declared.direction.Direction.{Direction}
 use Rattle.xa_codes.specs.declared.direction.Direction.TheVariants as direction
-use Rattle.xa_codes.specs.declared.write.TheConstants.{MOST_KEY, MOST_VALUE}
+use Rattle.xa_limits.specs.declared.TheConstants.{MOST_INFO, MOST_KEY, MOST_VALUE}
 use Rattle.xa_xid.specs.Triple.{Triple, IsWithinLimits}
 use Rattle.xa_xid.specs.Spelling.{text_of}
-use Rattle.xa_frame.specs.declared.request.TheConstants.{MOST_INFO}
 use Rattle.xa_frame.specs.declared.request.Request.{Request}
 use Rattle.xa_frame.specs.declared.request.Request.TheVariants.{Open, Close, Start, End, Prepare, Commit, Rollback, Forget}
 use Rattle.xa_frame.specs.declared.request.Request.TheVariants.{Recover, Get, Put, Delete, Decide, Doom, Restart}

@@ -12,8 +12,9 @@ use crate::numbers::read_count;
 use crate::parts::{only_word, two_words};
 use crate::verb::Verb;
 use std::alloc::{AllocError, Global};
-use xa_codes::{Bytes, Direction, MOST_KEY, MOST_VALUE};
-use xa_frame::{MOST_INFO, Request};
+use xa_codes::{Bytes, Direction};
+use xa_frame::Request;
+use xa_limits::{MOST_INFO, MOST_KEY, MOST_VALUE};
 use xa_xid::Xid;
 
 /// The request of a verb and the words behind it, where they are as it wants them.

@@ -4,7 +4,7 @@ use Rattle.xa_disk.specs.declared.disk.Disk as disk
 use Rattle.xa_manager.specs.declared.manager.Manager.{Manager}
 use Rattle.xa_manager.specs.Opening.{HasBegun}
 use Rattle.xa_manager.specs.Promises.{IsOpening, IsReached, ListsPrepared}
-use Rattle.xa_model.specs.Associations.{most_branches}
+use Rattle.xa_limits.specs.declared.TheConstants.{MOST_BRANCHES}
 use Rattle.xa_model.specs.OneCopy.{HasOneCopy}
 use Rattle.xa_model.specs.State.{State}
 use Rattle.xa_room.specs.declared.auditing.AuditFault.{AuditFault}
@@ -55,6 +55,6 @@ abbrev pub ServedPromises : {D : Type 0} → disk.Ghosts D → Ghosts (Manager D
 ServedPromises {D} disks m =
     (manager : Manager D) (bodies : List (List ℕ)) (name : List ℕ) (log_bytes : ℕ)
     (begun : HasBegun disks bodies name log_bytes manager)
-    → length begun.durable.prepared + length begun.durable.decided ≤ most_branches
+    → length begun.durable.prepared + length begun.durable.decided ≤ MOST_BRANCHES
     → (base : ℕ × ℕ) (calls : ℕ) (is_whole : Bool) → Serves m (m.stands manager) base calls is_whole
     → KeepsServed m manager calls

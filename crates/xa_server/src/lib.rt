@@ -1,18 +1,23 @@
 //! A server: each connection of a listener is a session of one manager.
 //!
-//! - `serving`: `serve_manager`, which has workers serve them at one desk, and then audits the desk's history;
-//!   `MOST_WORKERS`
+//! - `service`: `serve`, which opens a manager over two files and serves a port, by its `Service`; `MOST_SERVED`
+//! - `serving`: `serve_manager`, which has workers serve a manager's sessions at one desk, and then audits the desk's
+//!   history; `MOST_WORKERS`
 //! - `audited`: `Audited`, what it tells of the history; `audited_lines`, the two lines that show it
-//! - `fault`: `ServerFault`, why it tells nothing
+//! - `serve_fault`: `ServeFault`, why nothing was served; `fault`: `ServerFault`, why nothing is told of it
 //! - `laws`: `served_promises`, what is promised of what was served
 #![tactic(auto)]
 
 mod audited;
 mod fault;
 mod laws;
+mod serve_fault;
+mod service;
 mod serving;
 
 pub use audited::{Audited, audited_lines};
 pub use fault::ServerFault;
 pub use laws::served_promises;
+pub use serve_fault::ServeFault;
+pub use service::{MOST_SERVED, Service, serve};
 pub use serving::{MOST_WORKERS, serve_manager};

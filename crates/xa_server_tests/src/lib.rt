@@ -1,4 +1,4 @@
-//! Tests of what no clause says, of rooms, desks, workers and servers: what many sessions are answered, what an audit
+//! Tests of what no clause says, of rooms, desks, workers, servers and commands: what many sessions are answered, what an audit
 //! finds, connections that break, and worked rows with each allocation refused.
 //!
 //! - `desks`: what these tests begin with, a desk of a new room; `clients`: frames, and who sends them
@@ -7,6 +7,7 @@
 //! - `servers`: a manager behind a port answers as a play
 //! - `refused`: worked rows, with the lines in `refused_rows`, and audits; `refused_limits`: limits; all whichever one
 //!   allocation is refused
+//! - `commands`: the ends of commands, on a `host` that gives and takes what a test says
 //! - `rows`: `none_wrong`
 #![tactic(auto)]
 
@@ -17,9 +18,13 @@ mod broken_clients;
 #[cfg(test)]
 mod clients;
 #[cfg(test)]
+mod commands;
+#[cfg(test)]
 mod crews;
 #[cfg(test)]
 mod desks;
+#[cfg(test)]
+mod host;
 #[cfg(test)]
 mod meetings;
 #[cfg(test)]

@@ -5,7 +5,7 @@ use Rattle.std.specs.Io.KnownBytes.{Appends, Consumes}
 use Rattle.xa_desk.specs.Frames.{frame}
 use Rattle.xa_frame.specs.declared.reply.Reply.{Reply}
 use Rattle.xa_frame.specs.declared.request.Request.{Request}
-use Rattle.xa_frame.specs.declared.request_decoder.TheConstants.{MOST_CONTENT}
+use Rattle.xa_limits.specs.declared.TheConstants.{MOST_CONTENT}
 use Rattle.xa_frame.specs.Spelling.{SpellsReply, bytes_of_request}
 use Rattle.xa_output.specs.Output.{IsFront}
 use Rattle.xa_talk.specs.declared.fault.TalkFault.{TalkFault}

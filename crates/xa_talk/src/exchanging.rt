@@ -10,7 +10,8 @@ use crate::fault::TalkFault;
 use std::alloc::{AllocError, Global};
 use std::io::{Read, Write};
 use xa_bytes::{number_of, put_u32};
-use xa_frame::{FrameFault, MOST_CONTENT, Reply, Request, decode_reply, encode_request};
+use xa_frame::{FrameFault, Reply, Request, decode_reply, encode_request};
+use xa_limits::MOST_CONTENT;
 use xa_output::write_text;
 
 /// Sends the frame of a request, by one write where the writer takes it whole, and gives the reply that comes back.

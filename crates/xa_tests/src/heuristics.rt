@@ -4,7 +4,8 @@ use std::test::Fail;
 use xa_branch::State;
 use xa_codes::{Call, Code, Direction, XA_HEURCOM, XA_HEURRB, XA_RBOTHER, XAER_PROTO};
 use xa_heur::{answer_completed, decide, forget};
-use xa_record::{MOST_SMALL, Record, write_small};
+use xa_limits::MOST_SMALL;
+use xa_record::{Record, write_small};
 use xa_rows::first_wrong;
 use xa_xid::Xid;
 

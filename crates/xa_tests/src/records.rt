@@ -1,7 +1,8 @@
 use arrayvec::ArrayVec;
 use std::alloc::{AllocError, Global};
 use xa_codes::{Bytes, Direction, Write};
-use xa_record::{MOST_SMALL, Record, Writes, read, write, write_small};
+use xa_limits::MOST_SMALL;
+use xa_record::{Record, Writes, read, write, write_small};
 use xa_xid::Xid;
 
 // 1:aa:bb at timestamp 4294967297 writes 76 under 6b; a base is the same without the XID

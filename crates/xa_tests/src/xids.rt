@@ -1,11 +1,12 @@
 use crate::rows::none_wrong;
 use arrayvec::ArrayVec;
 use std::cmp::Ordering;
+use xa_limits::XID_BYTES;
 use xa_rows::PART_BYTES;
-use xa_xid::{MOST_BYTES, MOST_TEXT, Xid, XidFault};
+use xa_xid::{MOST_TEXT, Xid, XidFault};
 
 fn is_put(xid: &Xid, bytes: &[u8]) -> bool {
-    let mut out: ArrayVec<u8, MOST_BYTES> = ArrayVec::new();
+    let mut out: ArrayVec<u8, XID_BYTES> = ArrayVec::new();
     xid.put(&mut out);
     out.as_slice() == bytes
 }

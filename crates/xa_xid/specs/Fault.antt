@@ -1,7 +1,8 @@
 -- Which parts make an XID, and the first fault of those that make none.
 use Rattle.std.specs.Prelude.{ℕ, ℤ, length, List, Result, Ok, Err, ◌==◌, ◌||◌, nat_lt, if◌then◌else◌}
 use Rattle.std.specs.Ordering.{int_eq}
-use Rattle.xa_xid.specs.declared.xid.TheConstants.{MOST_PART, NULL_FORMAT}
+use Rattle.xa_xid.specs.declared.xid.TheConstants.{NULL_FORMAT}
+use Rattle.xa_limits.specs.declared.TheConstants.{MOST_PART}
 use Rattle.xa_xid.specs.declared.xid.XidFault.{XidFault}
 use Rattle.xa_xid.specs.declared.xid.XidFault.TheVariants.{Null, GtridLength, BqualLength}
 use Rattle.xa_xid.specs.Triple.{Triple}

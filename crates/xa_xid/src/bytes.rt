@@ -4,17 +4,15 @@ ghost use Rattle.xa_xid.specs.Triple.{Triple, IsWithinLimits};
 ghost use Rattle.xa_xid.specs.Spelling.{bytes_of, BeginsWith};
 ghost use Rattle.xa_xid.specs.Reading.{xid_at, parts_at};
 
-use crate::xid::{MOST_PART, Xid};
+use crate::xid::Xid;
 use arrayvec::ArrayVec;
-
-/// The most bytes of an XID: the format number, two lengths and two parts.
-pub const MOST_BYTES: usize = 6 + 2 * MOST_PART;
+use xa_limits::{MOST_PART, XID_BYTES};
 
 /// The bytes of an XID: the format number in 4 bytes, big-endian, a byte each for the lengths of gtrid and bqual,
 /// gtrid, bqual.
 impl Xid {
     /// Replaces what the vector holds by the XID's bytes. Takes no memory.
-    pub fn put(&self, out: &mut ArrayVec<u8, MOST_BYTES>)
+    pub fn put(&self, out: &mut ArrayVec<u8, XID_BYTES>)
         ensures bytes { out.new.items ≡ bytes_of self.now }
         ensures limits { IsWithinLimits self.now }
     {

@@ -5,10 +5,11 @@ ghost use Rattle.std.specs.Prelude.{◌≡◌, ◌≢◌, ◌↔◌, ◌<◌, �
 ghost use Rattle.xa_xid.specs.Triple.{Triple, IsWithinLimits};
 ghost use Rattle.xa_xid.specs.Spelling.{text_of, hex, hex_byte, hex_digit, HasNoColon, IsPlain};
 ghost use Rattle.xa_xid.specs.declared.text.TheConstants.{MOST_NUMBER, MOST_TEXT};
-ghost use Rattle.xa_xid.specs.declared.xid.TheConstants.{MOST_PART};
+ghost use Rattle.xa_limits.specs.declared.TheConstants.{MOST_PART};
 
-use crate::xid::{MOST_PART, Xid};
+use crate::xid::Xid;
 use arrayvec::ArrayVec;
+use xa_limits::MOST_PART;
 
 /// The most bytes of a format number in decimal.
 const MOST_NUMBER: usize = 11;

@@ -1,19 +1,18 @@
 ghost use Rattle.std.specs.Prelude.{◌≡◌, ◌≢◌, ◌↔◌, IfOk, IsOk, ◌≤◌, length};
 ghost use Rattle.xa_xid.specs.Fault.{xid_of};
 ghost use Rattle.xa_xid.specs.Triple.{IsXid};
-ghost use Rattle.xa_xid.specs.declared.xid.TheConstants.{MOST_PART, NULL_FORMAT};
+ghost use Rattle.xa_limits.specs.declared.TheConstants.{MOST_PART};
+ghost use Rattle.xa_xid.specs.declared.xid.TheConstants.{NULL_FORMAT};
 
 use arrayvec::ArrayVec;
 use std::cmp::Ordering;
 use std::marker::Model;
 use thiserror::Error;
+use xa_limits::MOST_PART;
 
 /// The format number of the null XID, which names no branch.
 pub const NULL_FORMAT: i32 = -1;
-/// The most bytes of a gtrid, which has at least one, and of a bqual.
-pub const MOST_PART: usize = 64;
-
-/// The name of a branch, in at most `MOST_BYTES` bytes of its own. Contracts see it as its three parts.
+/// The name of a branch, in at most `XID_BYTES` bytes of its own. Contracts see it as its three parts.
 #[derive(Debug, Drop)]
 pub struct Xid {
     format: i32,

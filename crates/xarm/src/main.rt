@@ -5,30 +5,21 @@
 //! - `talk` sends the calls of a script to a server, and prints the same
 //! - `scan` prints the records of a log
 //!
-//! `words` reads the command line, `command` does what it says; `disks` opens files, `talking` connections; `settings`
-//! are a manager's; `serving` is the server, `fault` why it served nothing. Of the tests, `tests` has those of the
-//! program alone, and `host` what they run it on.
+//! `words` reads the command line, `command` hands it on: to `xa_commands`, and to `xa_server`.
 #![tactic(auto)]
 
 mod command;
-mod disks;
-mod fault;
-#[cfg(test)]
-mod host;
-mod serving;
-mod settings;
-mod talking;
-#[cfg(test)]
-mod tests;
 mod words;
 
 use command::Ran;
 use std::process::ExitCode;
+use xa_commands::served;
+use xa_server::serve;
 
 fn main(rt: HostRuntime) -> ExitCode {
     let words = command::words(&rt);
     match command::run(&rt, &words) {
         Ran::Ended(status) => status,
-        Ran::Serves(service) => command::served(&rt, &serving::serve(&rt, &service)),
+        Ran::Serves(service) => served(&rt, &serve(&rt, &service)),
     }
 }

@@ -1,11 +1,10 @@
-//! The words of a command line. The help names limits in texts of its own, and a test compares these with the
-//! constants: a text that is made of a number would have to live as long as the words, since `clap` lends both alike.
-use crate::serving::{MOST_SERVED, Service};
+//! The words of a command line. The help names limits in texts of its own, and `.ci/commands` compares these with
+//! the constants: a text that is made of a number would have to live as long as the words, since `clap` lends both alike.
 use clap::builder::ValueParser;
 use clap::{Arg, ArgAction, ArgMatches, Command, Error};
 use std::alloc::{AllocError, Global};
-use xa_manager::MOST_LOG;
-use xa_server::MOST_WORKERS;
+use xa_limits::MOST_LOG;
+use xa_server::{MOST_SERVED, MOST_WORKERS, Service};
 
 /// What a command line asks for.
 #[derive(Debug, Drop)]

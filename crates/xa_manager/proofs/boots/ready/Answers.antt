@@ -1,5 +1,5 @@
 use Rattle.std.proofs.Common.{ℕ, subst}
-use Rattle.xa_codes.specs.declared.write.TheConstants.{MOST_VALUE}
+use Rattle.xa_limits.specs.declared.TheConstants.{MOST_VALUE}
 use Rattle.mv_rules.specs.Tidy.{IsDrained}
 use Rattle.xa_manager.proofs.Given.{given_stands}
 use Rattle.xa_manager.proofs.boots.ready.Goals as goal

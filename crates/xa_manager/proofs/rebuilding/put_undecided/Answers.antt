@@ -1,7 +1,7 @@
 use Rattle.std.proofs.Common.{ℕ, map, ap, refl, None}
 use Rattle.std.specs.Map.Iter.{deref_pair}
 use Rattle.std.proofs.lemmas.Map.Iter.{rest_more}
-use Rattle.xa_codes.specs.declared.write.TheConstants.{MOST_VALUE}
+use Rattle.xa_limits.specs.declared.TheConstants.{MOST_VALUE}
 use Rattle.mv_rules.specs.Restoring.{with_prepared}
 use Rattle.xa_recovery.specs.declared.durable.InDoubt.{InDoubt}
 use Rattle.xa_recovery.specs.Durable.{as_prepared}

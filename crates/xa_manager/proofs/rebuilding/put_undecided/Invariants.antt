@@ -1,5 +1,5 @@
 use Rattle.std.proofs.Common.{List, map}
-use Rattle.xa_codes.specs.declared.write.TheConstants.{MOST_VALUE}
+use Rattle.xa_limits.specs.declared.TheConstants.{MOST_VALUE}
 use Rattle.mv_chain.specs.Accesses.{Written}
 use Rattle.mv_rules.specs.Within.{IsWithin}
 use Rattle.mv_rules.specs.Restoring.{with_prepared}

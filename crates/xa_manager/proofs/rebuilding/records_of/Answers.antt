@@ -1,5 +1,5 @@
 use Rattle.std.proofs.Common.{List, map, subst, sym}
-use Rattle.xa_codes.specs.declared.write.TheConstants.{MOST_VALUE}
+use Rattle.xa_limits.specs.declared.TheConstants.{MOST_VALUE}
 use Rattle.xa_recovery.specs.Durable.{as_committed, as_prepared}
 use Rattle.xa_model.specs.Durable.{CommittedBranch, PreparedBranch}
 use Rattle.xa_manager.specs.Rebuilding.{CommittedAreShort, PreparedAreShort}

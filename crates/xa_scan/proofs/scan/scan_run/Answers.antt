@@ -4,8 +4,9 @@ use Rattle.std.specs.declared.alloc.Global.{Global}
 use Rattle.std.proofs.lemmas.Result.{err_from_is_err_and}
 use Rattle.xa_log.specs.declared.fault.OpenFault.TheVariants.{TooLong}
 use Rattle.xa_log.specs.Reading.{bodies_of}
-use Rattle.xa_scan.specs.Lines.{behind, first_offset}
-use Rattle.xa_scan.specs.Scans.{PrintsLines, most_bytes}
+use Rattle.xa_scan.specs.Lines.{behind}
+use Rattle.xa_limits.specs.declared.TheConstants.{FIRST_OFFSET, MOST_LOG}
+use Rattle.xa_scan.specs.Scans.{PrintsLines}
 use Rattle.xa_scan.proofs.Printing.{no_longer, scanned, unread}
 use Rattle.xa_scan.proofs.scan.scan_run.Goals as goal
 
@@ -23,8 +24,8 @@ returns-in_err-end g c =
     (unread (Unit {0}) g.D.Disk.honest TooLong file (g.W.Write.contents c.args.writer.now)
     (λ yes.
     let read = c.in_ok-bodies.ensures.value yes in
-    let short : behind first_offset (bodies_of c.in_ok-bodies.bodies.items) ≤ most_bytes = no_longer file (bodies_of c.in_ok-bodies.bodies.items) read.0 read.1 in
-    absurd (omega (arith, short, c.in_err-end.ensures.fault.1, ap (λ (l : List (Vec ℕ Global)). behind first_offset (bodies_of l)) c.as_slice.ensures.value))))
+    let short : behind FIRST_OFFSET (bodies_of c.in_ok-bodies.bodies.items) ≤ MOST_LOG = no_longer file (bodies_of c.in_ok-bodies.bodies.items) read.0 read.1 in
+    absurd (omega (arith, short, c.in_err-end.ensures.fault.1, ap (λ (l : List (Vec ℕ Global)). behind FIRST_OFFSET (bodies_of l)) c.as_slice.ensures.value))))
 
 pub returns : goal.returns
 returns g c =

@@ -1,7 +1,8 @@
 use Rattle.std.proofs.Common.{◌≡◌, ◌+◌, ℕ, ap, sym, ◌∙◌, subst, true, false}
 use Rattle.std.specs.Prelude.{nat_lt}
 use Rattle.xa_model.specs.Durable.{Durable, durable}
-use Rattle.xa_model.specs.Restarting.{most_boots, restart_turn}
+use Rattle.xa_model.specs.Restarting.{restart_turn}
+use Rattle.xa_limits.specs.declared.TheConstants.{MOST_BOOTS}
 use Rattle.xa_model.specs.Answer.{answer, detailed}
 use Rattle.xa_model.specs.Logging.{down}
 use Rattle.xa_model.specs.Turn.{taken}
@@ -32,7 +33,7 @@ returns-in-Some-clause-turn g c =
     let fate = c.has_survived-survived.ensures s bodies f st.doubt h boot in
     let next = next_is c.args.planned.durable c.args.planned.next c.in-Some.next c.in-Some.is c.requires in
     let number : c.args.planned.durable.boot ≡ f.state.logged_boot = ap (λ (d : Durable). d.boot) is in
-    c.log_boot.ensures.turn s f.state f.records st trusts fate f.backs f.has f.alive (subst (λ (n : ℕ). nat_lt n most_boots ≡ true) number next.less) (next.number ∙ ap (λ (n : ℕ). n + 1) number)
+    c.log_boot.ensures.turn s f.state f.records st trusts fate f.backs f.has f.alive (subst (λ (n : ℕ). nat_lt n MOST_BOOTS ≡ true) number next.less) (next.number ∙ ap (λ (n : ℕ). n + 1) number)
     (subst (λ (d : Durable). IsReady d (d.boot + 1) c.in-Some.next) is next.ready)
 
 pub returns-clause-turn : goal.returns-clause-turn
@@ -44,7 +45,7 @@ returns-clause-turn g c =
     let fate = c.has_survived-survived.ensures s bodies f st.doubt h boot in
     let used = none_next c.args.planned.durable c.args.planned.next c.in-None.is c.requires in
     let number : c.args.planned.durable.boot ≡ f.state.logged_boot = ap (λ (d : Durable). d.boot) is in
-    is_answer _ (answer (detailed XAER_RMFAIL detail.Limit) (down f.state)) _ (ap (λ (o : Outcome). taken (restart_turn s) o) c.stopped.ensures.told ∙ turn_stops c.has_survived-survived.result s f.state fate (subst (λ (n : ℕ). nat_lt n most_boots ≡ false) number used)) (
+    is_answer _ (answer (detailed XAER_RMFAIL detail.Limit) (down f.state)) _ (ap (λ (o : Outcome). taken (restart_turn s) o) c.stopped.ensures.told ∙ turn_stops c.has_survived-survived.result s f.state fate (subst (λ (n : ℕ). nat_lt n MOST_BOOTS ≡ false) number used)) (
       sym c.stopped.ensures.reply,
       down_stands g.D.Disk c.args.self.now _ s f.state c.has_survived-survived.result f.records
           (ap (λ m. m.tables) c.stopped.ensures.down) (ap (λ m. m.up) c.stopped.ensures.down) (ap (λ m. m.doubt) c.stopped.ensures.down) (ap (λ m. m.log.log_bytes) c.stopped.ensures.down) st fate f.backs

@@ -8,7 +8,8 @@ use Rattle.xa_log.specs.declared.appending.Appended.{Appended}
 use Rattle.xa_model.specs.declared.outcome.Appending.TheVariants.{Kept, Refused, Lost}
 use Rattle.xa_model.specs.Durable.{durable}
 use Rattle.xa_model.specs.Fold.{snapshot}
-use Rattle.xa_model.specs.Restarting.{most_boots, boot_became, restart_turn}
+use Rattle.xa_model.specs.Restarting.{boot_became, restart_turn}
+use Rattle.xa_limits.specs.declared.TheConstants.{MOST_BOOTS}
 use Rattle.xa_model.specs.Turn.{taken}
 use Rattle.xa_model.specs.declared.outcome.Outcome.{Outcome}
 use Rattle.xa_manager.specs.declared.doubt.Doubt.TheVariants.{Boot}
@@ -22,7 +23,7 @@ pub returns-in-Kept-clause-turn : goal.returns-in-Kept-clause-turn
 returns-in-Kept-clause-turn g c =
     λ s t rs st trusts fate backs has alive less boot ready.
     let bodies : bodies_of c.deref.result.now ≡ map spelled (snapshot (durable t) (t.logged_boot + 1)) = cc (ready.bodies, ap (λ vs. bodies_of vs) c.deref.ensures.value) in
-    let below : t.logged_boot < most_boots = ltb-true t.logged_boot most_boots less in
+    let below : t.logged_boot < MOST_BOOTS = ltb-true t.logged_boot MOST_BOOTS less in
     let above = subst (λ (b : List (List ℕ)). generation (map spelled rs) < generation b) (sym bodies) (newer rs (durable t) backs.lasts below) in
     let went = c.checkpoint.ensures.answer trusts.disk (map spelled rs) has.0 has.1 above in
     let kept = subst (λ (a : Appended). Checkpoints g.D.Disk a (map spelled rs) has.0 (bodies_of c.deref.result.now) c.checkpoint.new.self) c.in-Kept.is went in
@@ -38,7 +39,7 @@ pub returns-in-Refused-clause-turn : goal.returns-in-Refused-clause-turn
 returns-in-Refused-clause-turn g c =
     λ s t rs st trusts fate backs has alive less boot ready.
     let bodies : bodies_of c.deref.result.now ≡ map spelled (snapshot (durable t) (t.logged_boot + 1)) = cc (ready.bodies, ap (λ vs. bodies_of vs) c.deref.ensures.value) in
-    let below : t.logged_boot < most_boots = ltb-true t.logged_boot most_boots less in
+    let below : t.logged_boot < MOST_BOOTS = ltb-true t.logged_boot MOST_BOOTS less in
     let above = subst (λ (b : List (List ℕ)). generation (map spelled rs) < generation b) (sym bodies) (newer rs (durable t) backs.lasts below) in
     let went = c.checkpoint.ensures.answer trusts.disk (map spelled rs) has.0 has.1 above in
     let kept = subst (λ (a : Appended). Checkpoints g.D.Disk a (map spelled rs) has.0 (bodies_of c.deref.result.now) c.checkpoint.new.self) c.in-Refused.is went in
@@ -49,7 +50,7 @@ pub returns-in-Lost-clause-turn : goal.returns-in-Lost-clause-turn
 returns-in-Lost-clause-turn g c =
     λ s t rs st trusts fate backs has alive less boot ready.
     let bodies : bodies_of c.deref.result.now ≡ map spelled (snapshot (durable t) (t.logged_boot + 1)) = cc (ready.bodies, ap (λ vs. bodies_of vs) c.deref.ensures.value) in
-    let below : t.logged_boot < most_boots = ltb-true t.logged_boot most_boots less in
+    let below : t.logged_boot < MOST_BOOTS = ltb-true t.logged_boot MOST_BOOTS less in
     let above = subst (λ (b : List (List ℕ)). generation (map spelled rs) < generation b) (sym bodies) (newer rs (durable t) backs.lasts below) in
     let went = c.checkpoint.ensures.answer trusts.disk (map spelled rs) has.0 has.1 above in
     let kept = subst (λ (a : Appended). Checkpoints g.D.Disk a (map spelled rs) has.0 (bodies_of c.deref.result.now) c.checkpoint.new.self) c.in-Lost.is went in

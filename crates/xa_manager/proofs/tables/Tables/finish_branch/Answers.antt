@@ -1,5 +1,5 @@
 use Rattle.std.proofs.Common.{refl, subst}
-use Rattle.xa_codes.specs.declared.write.TheConstants.{MOST_VALUE}
+use Rattle.xa_limits.specs.declared.TheConstants.{MOST_VALUE}
 use Rattle.mv_chain.specs.declared.fate.Fate.{Fate}
 use Rattle.xa_model.specs.Branches.{rolled_back, committed}
 use Rattle.xa_assoc.proofs.Follows.{unmoved}

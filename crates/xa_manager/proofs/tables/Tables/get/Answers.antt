@@ -1,5 +1,5 @@
 use Rattle.std.proofs.Common.{◌≡◌, ℕ, List, Some, None, subst, arith, rules}
-use Rattle.xa_codes.specs.declared.write.TheConstants.{MOST_VALUE}
+use Rattle.xa_limits.specs.declared.TheConstants.{MOST_VALUE}
 use Rattle.mv_rules.specs.declared.answers.Got.TheVariants as got_as
 use Rattle.xa_manager.specs.View.{view_of, own_at}
 use Rattle.xa_manager.proofs.Changed.{Gets, same_beside}

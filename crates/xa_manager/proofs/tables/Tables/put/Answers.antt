@@ -1,5 +1,5 @@
 use Rattle.std.proofs.Common.{◌≡◌, ℕ, List, Some, None, subst, arith, rules}
-use Rattle.xa_codes.specs.declared.write.TheConstants.{MOST_VALUE}
+use Rattle.xa_limits.specs.declared.TheConstants.{MOST_VALUE}
 use Rattle.xa_model.specs.Answer.{plain}
 use Rattle.mv_rules.specs.declared.answers.Put.TheVariants as put_as
 use Rattle.xa_manager.specs.View.{view_of, own_at}

@@ -1,4 +1,5 @@
-use xa_disk::{Disk, DiskFault, FileDisk};
+use crate::disk::{Disk, DiskFault};
+use crate::file::FileDisk;
 
 /// What opens the files of a log as disks.
 pub trait Opens {

@@ -15,7 +15,7 @@ use Rattle.xa_model.specs.Loggable.{IsRecoverable}
 use Rattle.xa_model.specs.State.{State}
 use Rattle.xa_model.specs.Step.{step}
 use Rattle.xa_model.specs.Turn.{Reopened}
-use Rattle.xarm.specs.Served.{HasOpened}
+use Rattle.xa_server.specs.Served.{HasOpened}
 
 pub has_opened : {D E : Type 0} (disks : disk.Ghosts D) (first second : D) (name : List ℕ) (log_bytes : ℕ)
     (result : Result (Manager D) E)

@@ -3,8 +3,8 @@ use Rattle.xa_manager.specs.declared.fault.ManagerFault.{ManagerFault}
 use Rattle.xa_manager.specs.declared.fault.ManagerFault.TheVariants as opening
 use Rattle.xa_server.specs.declared.fault.ServerFault.{ServerFault}
 use Rattle.xa_server.specs.declared.fault.ServerFault.TheVariants as serving
-use Rattle.xarm.specs.declared.fault.ServeFault.{ServeFault}
-use Rattle.xarm.specs.declared.fault.ServeFault.TheVariants.{Memory, Start, Manager}
+use Rattle.xa_server.specs.declared.serve_fault.ServeFault.{ServeFault}
+use Rattle.xa_server.specs.declared.serve_fault.ServeFault.TheVariants.{Memory, Start, Manager}
 
 -- why a manager couldn't be opened
 abbrev pub opening_fault : ManagerFault → ServeFault

@@ -1,18 +1,14 @@
-use crate::disks::Opens;
 use std::alloc::{Allocator, Global};
 use std::cell::RefCell;
-use std::env::FillError;
 use std::fmt::Display;
 use std::io::{self, BufRead, ErrorKind, Lines, Read};
 use std::net::{Net, SocketAddr, TcpListener, TcpStream};
-use std::rt::Env;
-use xa_disk::{DiskFault, MemDisk};
+use xa_disk::{DiskFault, MemDisk, Opens};
 
-/// A runtime of the tests: the words of a command line, what its reader gives, and whether its output is taken.
+/// A runtime of the tests: what its reader gives, and whether its output is taken.
 #[derive(Drop)]
-pub struct Host<'a> {
+pub struct Host {
     pub alloc: Global,
-    pub words: &'a [&'a [u8]],
     pub input: Given,
     pub takes: bool,
     pub printed: RefCell<Vec<u8>>,
@@ -64,7 +60,7 @@ impl BufRead for Given {
     }
 }
 
-impl Alloc for Host<'_> {
+impl Alloc for Host {
     type A = Global;
 
     fn alloc(&self) -> Global {
@@ -72,28 +68,7 @@ impl Alloc for Host<'_> {
     }
 }
 
-impl Env for Host<'_> {
-    fn arg(&self, i: usize, buf: &mut [u8]) -> Result<usize, FillError> {
-        let Some(word) = self.words.get(i) else {
-            return Err(FillError::NotPresent);
-        };
-        if word.len() > buf.len() {
-            return Err(FillError::TooLong);
-        }
-        buf[..word.len()].copy_from_slice(word);
-        Ok(word.len())
-    }
-
-    fn var(&self, _name: &str, _buf: &mut [u8]) -> Result<usize, FillError> {
-        Err(FillError::NotPresent)
-    }
-
-    fn var_at(&self, _i: usize, _buf: &mut [u8]) -> Result<usize, FillError> {
-        Err(FillError::NotPresent)
-    }
-}
-
-impl io::Input for Host<'_> {
+impl io::Input for Host {
     type Reader = Given;
 
     fn read_line<A: Allocator + Clone>(&self, _buf: &mut String<A>) -> io::Result<usize> {
@@ -109,7 +84,7 @@ impl io::Input for Host<'_> {
     }
 }
 
-impl Host<'_> {
+impl Host {
     fn put(&self, to: &RefCell<Vec<u8>>, bytes: &[u8]) -> io::Result<()> {
         let Ok(mut text) = to.try_borrow_mut() else {
             return Err(io::Error::from(ErrorKind::Other));
@@ -118,7 +93,7 @@ impl Host<'_> {
     }
 }
 
-impl io::Print for Host<'_> {
+impl io::Print for Host {
     fn print<D: Display + Drop>(&self, value: D) -> io::Result<()> {
         let text = format!(in self.alloc; "{value}")?;
         io::Print::write_all(self, text.as_bytes())
@@ -137,7 +112,7 @@ impl io::Print for Host<'_> {
     }
 }
 
-impl io::Eprint for Host<'_> {
+impl io::Eprint for Host {
     fn eprint<D: Display + Drop>(&self, value: D) -> io::Result<()> {
         let text = format!(in self.alloc; "{value}")?;
         self.put(&self.errors, text.as_bytes())
@@ -150,7 +125,7 @@ impl io::Eprint for Host<'_> {
 }
 
 /// Its files are empty, but one that can't be opened.
-impl Opens for Host<'_> {
+impl Opens for Host {
     type Disk = MemDisk;
 
     ghost opened = { λ _ _. Unit {0} };
@@ -165,7 +140,7 @@ impl Opens for Host<'_> {
 }
 
 /// Nobody can be reached.
-impl Net for Host<'_> {
+impl Net for Host {
     type Stream = TcpStream;
 
     type Listener = TcpListener;

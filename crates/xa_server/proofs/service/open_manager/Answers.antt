@@ -1,5 +1,5 @@
-use Rattle.xarm.proofs.Opening.{has_opened}
-use Rattle.xarm.proofs.serving.open_manager.Goals as goal
+use Rattle.xa_server.proofs.Opening.{has_opened}
+use Rattle.xa_server.proofs.service.open_manager.Goals as goal
 
 pub returns-clause-opened : goal.returns-clause-opened
 returns-clause-opened g c =

@@ -18,8 +18,8 @@ use Rattle.xa_model.specs.Turn.{Reopened}
 use Rattle.xa_room.specs.declared.manages.Manages as room
 use Rattle.xa_server.specs.declared.serving.TheConstants.{MOST_WORKERS}
 use Rattle.xa_server.specs.Serves.{Serves}
-use Rattle.xarm.specs.declared.fault.ServeFault.{ServeFault}
-use Rattle.xarm.specs.declared.fault.ServeFault.TheVariants as fault
+use Rattle.xa_server.specs.declared.serve_fault.ServeFault.{ServeFault}
+use Rattle.xa_server.specs.declared.serve_fault.ServeFault.TheVariants as fault
 
 -- The manager is what these two disks were opened to: one that begins with what their records come to; a new one, where
 -- both were empty; and one that stands for the opening of each state that they stood for.

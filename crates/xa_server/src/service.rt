@@ -1,21 +1,21 @@
-//! The command `serve`: a manager over two files, whose sessions are the connections of a port.
+//! A manager over two files, whose sessions are the connections of a port.
 ghost use Rattle.std.specs.Prelude.{◌≡◌, ◌↔◌, ◌⊎◌, ◌++◌, IfErr, IfOk, IsErrOf, codes, string_bytes};
-ghost use Rattle.xa_manager.specs.declared.settings.TheConstants.{MOST_LOG};
+ghost use Rattle.xa_limits.specs.declared.TheConstants.{MOST_LOG};
 ghost use Rattle.xa_manager.specs.Opening.{IsBadSetting, OpenRefused};
-ghost use Rattle.xarm.specs.Served.{HasFailed, HasOpened, HasServed};
+ghost use Rattle.xa_server.specs.Served.{HasFailed, HasOpened, HasServed};
 
-use crate::disks::Opens;
-use crate::fault::ServeFault;
-use crate::settings::settings_of;
+use crate::audited::audited_lines;
+use crate::serve_fault::ServeFault;
+use crate::serving::serve_manager;
 use std::alloc::{AllocError, Global};
 use std::io::Print;
 use std::net::{Net, TcpListener, TcpStream};
 use std::sync::Wait;
 use std::thread::Threads;
-use xa_disk::Disk;
-use xa_manager::{MOST_LOG, Manager, ManagerFault, Settings};
+use xa_disk::{Disk, Opens};
+use xa_limits::MOST_LOG;
+use xa_manager::{Manager, ManagerFault, Settings};
 use xa_room::Manages;
-use xa_server::{audited_lines, serve_manager};
 
 /// The most connections until a server ends.
 pub const MOST_SERVED: u64 = 1_000_000;
@@ -52,7 +52,7 @@ pub fn serve<
     ensures failed { IfErr result (λ fault. HasFailed ⟦<R::Disk as Disk>⟧ R.opened
         service.now.path.now service.now.name.now MOST_LOG service.now.workers fault) }
 {
-    let settings = settings_of(rt.alloc(), service.name, MOST_LOG)?;
+    let settings = Settings::new(rt.alloc(), service.name, MOST_LOG)?;
     let (first, second) = open_files(rt, service.path)?;
     let Ok(listener) = TcpListener::bind(rt, ("127.0.0.1", service.port)) else {
         return Err(ServeFault::Listen);

@@ -1,7 +1,7 @@
+use crate::fault::ServerFault;
 use std::alloc::AllocError;
 use thiserror::Error;
 use xa_manager::ManagerFault;
-use xa_server::ServerFault;
 
 /// Why nothing was served, or not to the end. Its text is what `xarm` prints behind its name.
 #[derive(Clone, Copy, Debug, PartialEq, Eq, Error)]
@@ -24,7 +24,7 @@ pub enum ServeFault {
 
 impl From<AllocError> for ServeFault {
     ghost use Rattle.std.specs.Prelude.{◌≡◌};
-    ghost use Rattle.xarm.specs.declared.fault.ServeFault.TheVariants.{Memory};
+    ghost use Rattle.xa_server.specs.declared.serve_fault.ServeFault.TheVariants.{Memory};
 
     ghost from_gives = { λ _ fault. fault ≡ Memory };
 
@@ -35,7 +35,7 @@ impl From<AllocError> for ServeFault {
 
 impl From<ManagerFault> for ServeFault {
     ghost use Rattle.std.specs.Prelude.{◌≡◌};
-    ghost use Rattle.xarm.specs.Faults.{opening_fault};
+    ghost use Rattle.xa_server.specs.Faults.{opening_fault};
 
     ghost from_gives = { λ fault told. told ≡ opening_fault fault };
 
@@ -49,7 +49,7 @@ impl From<ManagerFault> for ServeFault {
 
 impl From<ServerFault> for ServeFault {
     ghost use Rattle.std.specs.Prelude.{◌≡◌};
-    ghost use Rattle.xarm.specs.Faults.{serving_fault};
+    ghost use Rattle.xa_server.specs.Faults.{serving_fault};
 
     ghost from_gives = { λ fault told. told ≡ serving_fault fault };
 

@@ -1,7 +1,7 @@
 use Rattle.std.proofs.Common.{subst}
-use Rattle.xa_manager.specs.declared.settings.TheConstants.{MOST_LOG}
-use Rattle.xarm.specs.Served.{HasOpened}
-use Rattle.xarm.proofs.serving.serve.Goals as goal
+use Rattle.xa_limits.specs.declared.TheConstants.{MOST_LOG}
+use Rattle.xa_server.specs.Served.{HasOpened}
+use Rattle.xa_server.proofs.service.serve.Goals as goal
 
 -- the manager was opened under the settings' name and size, which are those that were asked for
 pub returns-in-Ok-print-clause-served : goal.returns-in-Ok-print-clause-served

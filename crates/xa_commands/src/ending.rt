@@ -1,0 +1,53 @@
+ghost use Rattle.std.specs.IoError.{error_kind};
+ghost use Rattle.std.specs.Prelude.{◌≡◌, ◌≢◌, IfOk, OnErr, OnOk, false, true};
+ghost use Rattle.std.specs.Process.{exit_status};
+
+use std::fmt::Display;
+use std::io::{self, ErrorKind};
+use std::process::ExitCode;
+use xa_play::PlayFault;
+
+/// The status of an end, and its line on standard error where it is a fault: 0 where all is done, else 1.
+pub fn ended<R: Eprint, F: Display>(rt: &R, end: &Result<(), F>) -> ExitCode
+    ensures done { OnOk end.now (exit_status result ≡ 0) }
+    ensures fault { OnErr end.now (exit_status result ≡ 1) }
+{
+    if let Err(fault) = end {
+        let _ = eprintln!(rt; "xarm: {fault}");
+    }
+    match end {
+        Ok(()) => ExitCode::SUCCESS,
+        Err(_) => ExitCode::from(1),
+    }
+}
+
+/// The same of a server. A history whose audit failed is a fault that was told on standard output.
+pub fn served<R: Eprint, F: Display>(rt: &R, end: &Result<bool, F>) -> ExitCode
+    ensures whole { IfOk end.now (λ is_whole. is_whole ≡ true → exit_status result ≡ 0) }
+    ensures failed { IfOk end.now (λ is_whole. is_whole ≡ false → exit_status result ≡ 1) }
+    ensures fault { OnErr end.now (exit_status result ≡ 1) }
+{
+    match end {
+        Ok(true) => ExitCode::SUCCESS,
+        Ok(false) => ExitCode::from(1),
+        Err(fault) => {
+            let _ = eprintln!(rt; "xarm: {fault}");
+            ExitCode::from(1)
+        }
+    }
+}
+
+/// The status where the words of the command line can't be had. A word that is no text is refused as a word that is
+/// no command is elsewhere, with status 2.
+pub fn words_fault<R: Eprint>(rt: &R, error: &io::Error) -> ExitCode
+    ensures memory { error_kind error.now ≡ ErrorKind.OutOfMemory → exit_status result ≡ 1 }
+    ensures no_text { error_kind error.now ≢ ErrorKind.OutOfMemory → exit_status result ≡ 2 }
+{
+    match error.kind() {
+        ErrorKind::OutOfMemory => ended(rt, &Err(PlayFault::Memory)),
+        _ => {
+            let _ = rt.eprintln("error: invalid UTF-8 was detected in one or more arguments");
+            ExitCode::from(2)
+        }
+    }
+}

@@ -1,0 +1,17 @@
+//! The commands of the program that serve nobody, and the statuses in which all of them end.
+//!
+//! - `playing`: `play`, a script from standard input is played
+//! - `scanning`: `scan`, the records of a log are printed
+//! - `talking`: `talk`, a script goes to a server; `Server`, one on 127.0.0.1
+//! - `ending`: `ended`, `served` and `words_fault`, the status of an end, and its line on standard error
+#![tactic(auto)]
+
+mod ending;
+mod playing;
+mod scanning;
+mod talking;
+
+pub use ending::{ended, served, words_fault};
+pub use playing::play;
+pub use scanning::scan;
+pub use talking::{Server, talk};
