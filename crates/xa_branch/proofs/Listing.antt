@@ -1,28 +1,28 @@
 -- The XIDs that recovery lists, of what is kept and of what lasts: two lists in order with the same members.
-use Rattle.std.proofs.Common.{◌≡◌, ◌⊎◌, inl, inr, ℕ, zero, suc, ◌+◌, ◌<◌, ◌≤◌, length, Bool, true, false, ◌&&◌, ◌||◌, cond, Option, Some, None, List, [], ◌∷◌, ◌++◌, refl, ap, sym, ◌∙◌, subst, arith}
+use Rattle.std.proofs.Common.{◌≡◌, ◌⊎◌, inl, inr, ℕ, zero, suc, ◌+◌, ◌<◌, ◌≤◌, length, Bool, true, false, ◌||◌, cond, Option, Some, None, List, [], ◌∷◌, ◌++◌, refl, ap, sym, ◌∙◌, subst, arith}
 use Rattle.std.proofs.lemmas.List.{length-take}
 use Rattle.std.specs.Prelude.{filter, find, fold, is_some, map, take}
 use Rattle.std.specs.BTreeMap.{BTreeMap, IsOrdered, keys, is_at}
 use Rattle.std.specs.BTreeSet.{insert_key}
 use Rattle.std.specs.Cmp.{both_ways}
-use Rattle.std.specs.List.{AllByRecursion, list_any}
+use Rattle.std.specs.List.{list_any}
 use Rattle.std.specs.List.Sorted.{IsStrictlySortedBy}
 use Rattle.std.specs.Map.{keys_of, lookup}
-use Rattle.std.specs.Ordering.{is_eq, is_lt, match_ordering, ordering_reverse}
+use Rattle.std.specs.Ordering.{is_eq, is_lt, match_ordering}
 use Rattle.std.specs.declared.cmp.Ordering.{Ordering}
 use Rattle.std.specs.declared.cmp.Ordering.TheVariants.{Less, Equal, Greater}
 use Rattle.std.proofs.lemmas.List.{append_assoc}
 use Rattle.std.proofs.lemmas.List.Folds.{list_any-append}
-use Rattle.std.proofs.lemmas.List.Kept.{IsStrictlySortedBy-filter}
 use Rattle.std.proofs.lemmas.Map.Keys.{sorted_head, sorted_tail}
 use Rattle.xa_xid.specs.Triple.{Triple, xid_eq, xid_cmp}
-use Rattle.xa_xid.proofs.Same.{xid_same, xid_eq_same, xid_cmp_same, xid_cmp_itself, xid_cmp_total}
+use Rattle.xa_xid.proofs.Same.{xid_same, xid_eq_same, xid_cmp_same}
 use Rattle.xa_model.specs.State.{State, Decided}
 use Rattle.xa_model.specs.Sound.{IsSound}
 use Rattle.xa_model.specs.Durable.{Pairwise, PreparedBranch, durable}
-use Rattle.xa_model.specs.Listed.{is_above, in_order, lasting_names}
-use Rattle.xa_model.proofs.Inserts.{IsTransitive, all_imply}
-use Rattle.xa_model.proofs.Members.{Member, IsStrict, same_members}
+use Rattle.xa_model.specs.Listed.{is_above, lasting_names, listed}
+use Rattle.xa_model.proofs.InOrder.{below, below_transitive, below_strict, ordered_pairwise}
+use Rattle.xa_model.proofs.Inserts.{all_imply}
+use Rattle.xa_model.proofs.Members.{Member, same_members}
 use Rattle.xa_model.proofs.Xids.{cmp_is_eq}
 use Rattle.xa_branch.specs.declared.branches.Branches.{Branches}
 use Rattle.xa_branch.specs.declared.lasting.Lasting.{Lasting}
@@ -36,51 +36,10 @@ above after m = filter (is_above after) (keys m)
 
 -- order
 
-abbrev below : Triple → Triple → Bool
-below x y = is_lt (xid_cmp x y)
-
-less_is : (o : Ordering) → is_lt o ≡ true → o ≡ Less
-less_is Less e = refl
-less_is Equal e = absurd (cc e)
-less_is Greater e = absurd (cc e)
-
-below_transitive : IsTransitive below
-below_transitive = record { trans = λ x y z e f. ap is_lt (xid_cmp_total.trans x y z (less_is (xid_cmp x y) e) (less_is (xid_cmp y z) f)) }
-
-below_strict : IsStrict below
-below_strict = record { never = λ x. ap is_lt (xid_cmp_itself x) }
-
 sorted_pairwise : (xs : List Triple) → IsStrictlySortedBy xid_cmp xs → Pairwise below xs
 sorted_pairwise [] h = tt
 sorted_pairwise (x ∷ xs) h =
     (all_imply (λ y. xid_cmp x y ≡ Less) (λ y. below x y ≡ true) (λ y e. ap is_lt e) xs (sorted_head xid_cmp x xs h), sorted_pairwise xs (sorted_tail xid_cmp x xs h))
-
-key_all_by : (P : Triple → Type 0) (k x : Triple) (xs : List Triple) (o : Ordering) → P k → AllByRecursion P (x ∷ xs) → AllByRecursion P (insert_key xid_cmp xs k)
-    → AllByRecursion P (match_ordering o (k ∷ x ∷ xs) (x ∷ xs) (x ∷ insert_key xid_cmp xs k))
-key_all_by P k x xs Less p h ih = (p, h)
-key_all_by P k x xs Equal p h ih = h
-key_all_by P k x xs Greater p h ih = (h.0, ih)
-
-key_all : (P : Triple → Type 0) (k : Triple) (xs : List Triple) → P k → AllByRecursion P xs → AllByRecursion P (insert_key xid_cmp xs k)
-key_all P k [] p h = (p, tt)
-key_all P k (x ∷ xs) p h = key_all_by P k x xs (xid_cmp k x) p h (key_all P k xs p h.1)
-
-key_pairwise_by : (k x : Triple) (xs : List Triple) (o : Ordering) → xid_cmp k x ≡ o → Pairwise below (x ∷ xs) → Pairwise below (insert_key xid_cmp xs k)
-    → Pairwise below (match_ordering o (k ∷ x ∷ xs) (x ∷ xs) (x ∷ insert_key xid_cmp xs k))
-key_pairwise_by k x xs Less e h ih =
-    ((ap is_lt e, all_imply (λ y. below x y ≡ true) (λ y. below k y ≡ true) (λ y less. below_transitive.trans k x y (ap is_lt e) less) xs h.0), h)
-key_pairwise_by k x xs Equal e h ih = h
-key_pairwise_by k x xs Greater e h ih =
-    let less : xid_cmp x k ≡ Less = xid_cmp_total.antisymm x k ∙ ap ordering_reverse e in
-    (key_all (λ y. below x y ≡ true) k xs (ap is_lt less) h.0, ih)
-
-key_pairwise : (k : Triple) (xs : List Triple) → Pairwise below xs → Pairwise below (insert_key xid_cmp xs k)
-key_pairwise k [] h = (tt, tt)
-key_pairwise k (x ∷ xs) h = key_pairwise_by k x xs (xid_cmp k x) refl h (key_pairwise k xs h.1)
-
-fold_pairwise : (done xs : List Triple) → Pairwise below done → Pairwise below (fold (insert_key xid_cmp) done xs)
-fold_pairwise done [] h = h
-fold_pairwise done (x ∷ xs) h = fold_pairwise (insert_key xid_cmp done x) xs (key_pairwise x done h)
 
 -- members
 
@@ -119,21 +78,6 @@ has_fold : (q : Triple) (done xs : List Triple) → has q (fold (insert_key xid_
 has_fold q done [] = or_false (has q done)
 has_fold q done (x ∷ xs) =
     has_fold q (insert_key xid_cmp done x) xs ∙ (ap (λ b. b || has q xs) (has_key q x done) ∙ or_moved (xid_eq x q) (has q done) (has q xs))
-
-has_filter_by : (p : Triple → Bool) (q x : Triple) (xs : List Triple) (c d : Bool) → xid_eq x q ≡ c → p x ≡ d → has q (filter p xs) ≡ (p q && has q xs)
-    → has q (cond d (x ∷ filter p xs) (filter p xs)) ≡ (p q && (xid_eq x q || has q xs))
-has_filter_by p q x xs true true e f ih = let passes : p q ≡ true = ap p (sym (xid_same x q e)) ∙ f in rw (passes, e) refl
-has_filter_by p q x xs true false e f ih = let passes : p q ≡ false = ap p (sym (xid_same x q e)) ∙ f in rw passes (ih ∙ rw passes refl)
-has_filter_by p q x xs false true e f ih = rw e ih
-has_filter_by p q x xs false false e f ih = rw e ih
-
-has_filter : (p : Triple → Bool) (q : Triple) (xs : List Triple) → has q (filter p xs) ≡ (p q && has q xs)
-has_filter p q [] = none_and (p q)
-  where
-    none_and : (b : Bool) → false ≡ (b && false)
-    none_and true = refl
-    none_and false = refl
-has_filter p q (x ∷ xs) = has_filter_by p q x xs (xid_eq x q) (p x) refl refl (has_filter p q xs)
 
 some_or : {A : Type 0} (c : Bool) (x : A) (o : Option A) → (c || is_some o) ≡ is_some (cond c (Some x) o)
 some_or true x o = refl
@@ -183,18 +127,16 @@ has_names s q h =
     list_any-append (λ x. xid_eq x q) (map (λ p. p.xid) ps) (map (λ e. e.xid) ds)
     ∙ (rw (has_map (λ p. p.xid) q ps, has_map (λ e. e.xid) q ds) (sym (either_restored (find (λ p. xid_eq p.xid q) ps) (find (λ e. xid_eq e.xid q) ds))) ∙ ap (λ (o : Option Lasting). is_some o) (found_lasting s q h))
 
-same_has : (m : Branches) (s : State) (after : Option Triple) (q : Triple) → IsSound s → BranchesStandFor m s → has q (above after m.lasting) ≡ has q (in_order (filter (is_above after) (lasting_names (durable s))))
-same_has m s after q h st =
-    let kept : has q (keys m.lasting) ≡ has q (lasting_names (durable s)) = has_keys q m.lasting.entries ∙ (ap (λ (o : Option Lasting). is_some o) (st.lasting q) ∙ sym (has_names s q h)) in
-    has_filter (is_above after) q (keys m.lasting)
-    ∙ (ap (λ b. is_above after q && b) kept ∙ sym (has_fold q [] (filter (is_above after) (lasting_names (durable s))) ∙ has_filter (is_above after) q (lasting_names (durable s))))
+same_has : (m : Branches) (s : State) (q : Triple) → IsSound s → BranchesStandFor m s → has q (keys m.lasting) ≡ has q (listed (durable s))
+same_has m s q h st =
+    has_keys q m.lasting.entries ∙ (ap (λ (o : Option Lasting). is_some o) (st.lasting q) ∙ (sym (has_names s q h) ∙ sym (has_fold q [] (lasting_names (durable s)))))
 
-pub listed_same : (m : Branches) (s : State) (after : Option Triple) → IsSound s → BranchesStandFor m s → IsOrdered xid_cmp m.lasting → above after m.lasting ≡ in_order (filter (is_above after) (lasting_names (durable s)))
-listed_same m s after h st ordered =
-    let kept = above after m.lasting in
-    let names = filter (is_above after) (lasting_names (durable s)) in
-    same_members below below_transitive below_strict kept (in_order names) (sorted_pairwise kept (IsStrictlySortedBy-filter xid_cmp (is_above after) (keys m.lasting) ordered)) (fold_pairwise [] names tt)
-    (λ z n. has_member z (in_order names) (sym (same_has m s after z h st) ∙ member_has z kept n)) (λ z n. has_member z kept (same_has m s after z h st ∙ member_has z (in_order names) n))
+pub listed_same : (m : Branches) (s : State) → IsSound s → BranchesStandFor m s → IsOrdered xid_cmp m.lasting → keys m.lasting ≡ listed (durable s)
+listed_same m s h st ordered =
+    let kept = keys m.lasting in
+    let lasting = listed (durable s) in
+    same_members below below_transitive below_strict kept lasting (sorted_pairwise kept ordered) (ordered_pairwise (lasting_names (durable s)))
+    (λ z n. has_member z lasting (sym (same_has m s z h st) ∙ member_has z kept n)) (λ z n. has_member z kept (same_has m s z h st ∙ member_has z lasting n))
 
 -- the XIDs of a part of what is kept
 

@@ -7,7 +7,7 @@ use Rattle.xa_frame.specs.declared.reply.Reply.{Reply}
 use Rattle.xa_xid.specs.Triple.{Triple}
 use Rattle.xa_model.specs.State.{State}
 use Rattle.xa_model.specs.Durable.{durable}
-use Rattle.xa_model.specs.Listed.{list_after, in_order, is_above, lasting_names}
+use Rattle.xa_model.specs.Listed.{list_after, listed, is_above}
 use Rattle.xa_model.specs.Recovering.{listing, recovered, recover_by, scanning, scan_after}
 use Rattle.xa_assoc.specs.Sessions.{SessionsStandFor}
 use Rattle.xa_branch.proofs.Elsewhere.{stands_elsewhere}
@@ -33,11 +33,11 @@ pub recover_follows : (m m' : View) (n flags count : ℕ) (cursor : Option Tripl
     → ((s : State) → SessionsStandFor m.sessions s → recover_by s n flags count ≡ recovered s n flags count cursor)
     → ((s : State) → StandsFor m s → xids ≡ list_after cursor count (durable s)) → (length xids ≤ MOST_XIDS → reply ≡ listing xids) → Moves m n flags cursor xids m' → is_memory reply.detail ≡ false
     → Follows m (λ s. recover_by s n flags count) reply m'
-recover_follows m m' n flags count cursor xids reply few goes listed says moves served =
+recover_follows m m' n flags count cursor xids reply few goes lists says moves served =
     follows_by m m' (λ s. recover_by s n flags count) reply served
     (λ s st.
-    let same = listed s st in
-    let short : length xids ≤ MOST_XIDS = few_listed (in_order (filter (is_above cursor) (lasting_names (durable s)))) count xids same few in (
+    let same = lists s st in
+    let short : length xids ≤ MOST_XIDS = few_listed (filter (is_above cursor) (listed (durable s))) count xids same few in (
       recovered s n flags count cursor,
       goes s st.sessions,
       ap listing (sym same) ∙ sym (says short),

@@ -36,6 +36,7 @@ pub mod Written
 pub mod Ascending
 pub mod Remains
 pub mod Members
+pub mod InOrder
 pub mod Keys
 pub mod LastOfKeys
 pub mod WorkedLog

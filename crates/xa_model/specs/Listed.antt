@@ -20,6 +20,6 @@ abbrev pub is_above : Option Triple → Triple → Bool
 is_above None xid = true
 is_above (Some after) xid = is_lt (xid_cmp after xid)
 
--- the first of those above the given one, or above none
+-- the first of those listed that are above the given one, or of all
 abbrev pub list_after : Option Triple → ℕ → Durable → List Triple
-list_after after count d = take count (in_order (filter (is_above after) (lasting_names d)))
+list_after after count d = take count (filter (is_above after) (listed d))

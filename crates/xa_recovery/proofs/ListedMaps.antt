@@ -1,5 +1,5 @@
 -- What is listed of the maps, and the records of a snapshot of them.
-use Rattle.std.proofs.Common.{◌≡◌, ℕ, Bool, true, false, cond, List, [], ◌∷◌, ◌++◌, map, refl, ap, sym, ◌∙◌}
+use Rattle.std.proofs.Common.{◌≡◌, ℕ, Bool, true, false, cond, List, [], ◌∷◌, ◌++◌, map, Option, refl, ap, sym, ◌∙◌}
 use Rattle.std.specs.Prelude.{filter, fold}
 use Rattle.std.specs.BTreeSet.{insert_key}
 use Rattle.std.specs.Map.{keys_of, values_of}
@@ -10,7 +10,8 @@ use Rattle.xa_xid.specs.Triple.{Triple, xid_cmp}
 use Rattle.xa_record.specs.Spelling.{spelled}
 use Rattle.xa_record.specs.declared.record.Record.TheVariants.{Opened}
 use Rattle.xa_model.specs.Fold.{base, held, known, snapshot}
-use Rattle.xa_model.specs.Listed.{in_order}
+use Rattle.xa_model.specs.Listed.{in_order, is_above}
+use Rattle.xa_model.proofs.InOrder.{above_in_order}
 use Rattle.xa_recovery.specs.declared.durable.InDoubt.{InDoubt}
 use Rattle.xa_recovery.specs.Durable.{as_committed, as_prepared, as_decided}
 use Rattle.xa_recovery.specs.Snapshots.{base_body, held_body, known_body}
@@ -33,18 +34,20 @@ decided_names [] = refl
 decided_names (e ∷ ds) = ap (λ xs. e.0 ∷ xs) (decided_names ds)
 
 -- both maps in turn
-pub listed_maps : (p : Triple → Bool) (ps : List (ℕ × InDoubt)) (ds : List (Triple × Direction)) (none some all : List Triple) → none ≡ []
-    → some ≡ fold (insert_key xid_cmp) none (filter p (map (λ b. b.xid) (values_of ps)))
-    → all ≡ fold (insert_key xid_cmp) some (filter p (keys_of ds))
-    → all ≡ in_order (filter p (map (λ q. q.xid) (map as_prepared ps) ++ map (λ e. e.xid) (map as_decided ds)))
-listed_maps p ps ds none some all e f g =
+pub listed_maps : (after : Option Triple) (ps : List (ℕ × InDoubt)) (ds : List (Triple × Direction)) (none some all : List Triple) → none ≡ []
+    → some ≡ fold (insert_key xid_cmp) none (filter (is_above after) (map (λ b. b.xid) (values_of ps)))
+    → all ≡ fold (insert_key xid_cmp) some (filter (is_above after) (keys_of ds))
+    → all ≡ filter (is_above after) (in_order (map (λ q. q.xid) (map as_prepared ps) ++ map (λ e. e.xid) (map as_decided ds)))
+listed_maps after ps ds none some all e f g =
+    let p = is_above after in
     let xs = map (λ (b : InDoubt). b.xid) (values_of ps) in
     let ys = keys_of ds in
     g ∙ (ap (λ zs. fold (insert_key xid_cmp) zs (filter p ys)) (f ∙ ap (λ zs. fold (insert_key xid_cmp) zs (filter p xs)) e)
     ∙ (sym (fold-append (insert_key xid_cmp) [] (filter p xs) (filter p ys))
     ∙ (ap (fold (insert_key xid_cmp) []) (sym (filtered_both p xs ys))
-    ∙ (ap (λ zs. fold (insert_key xid_cmp) [] (filter p (zs ++ ys))) (prepared_names ps)
-    ∙ ap (λ zs. fold (insert_key xid_cmp) [] (filter p (map (λ q. q.xid) (map as_prepared ps) ++ zs))) (decided_names ds)))))
+    ∙ (sym (above_in_order after (xs ++ ys))
+    ∙ (ap (λ zs. filter p (in_order (zs ++ ys))) (prepared_names ps)
+    ∙ ap (λ zs. filter p (in_order (map (λ q. q.xid) (map as_prepared ps) ++ zs))) (decided_names ds))))))
 
 committed_bodies : (es : List (ℕ × List Write)) → map spelled (map base (map as_committed es)) ≡ map base_body es
 committed_bodies [] = refl

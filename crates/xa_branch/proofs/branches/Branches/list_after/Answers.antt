@@ -1,5 +1,5 @@
 use Rattle.std.proofs.Common.{◌≡◌, ◌++◌, [], Bool, ◌&&◌, true, false, List, ap, sym, ◌∙◌, refl}
-use Rattle.std.specs.Prelude.{take, option_copied}
+use Rattle.std.specs.Prelude.{filter, take, option_copied}
 use Rattle.std.specs.BTreeMap.Range.{is_from_start}
 use Rattle.std.specs.Map.{keys_of}
 use Rattle.std.specs.Range.Bound.{bound_map}
@@ -42,4 +42,4 @@ returns-clause-listed c = λ s h st.
     let all : take l.xid-iterator.n (keys_of l.xid-iterator.iter) ≡ [] = taken_all l.xid-iterator.n l.xid-iterator.iter (λ some. (c.in-None.ensures.steps some).0) in
     sym (append-nil l.listed.items)
     ∙ (sym (ap (λ (xs : List Triple). l.listed.items ++ xs) all)
-    ∙ (l.invariant ∙ ap (take c.args.count) (listed_same c.args.self.now s (option_copied c.args.after) h st c.range.ensures.ordered)))
+    ∙ (l.invariant ∙ ap (λ (xs : List Triple). take c.args.count (filter (is_above (option_copied c.args.after)) xs)) (listed_same c.args.self.now s h st c.range.ensures.ordered)))
