@@ -84,6 +84,8 @@ pub mod OneByOne
 pub mod MovingRows
 pub mod MovingTurns
 pub mod Preparing
+pub mod OpenedLists
+pub mod Scans
 pub mod Copies
 pub mod Totals
 pub mod LowWaters

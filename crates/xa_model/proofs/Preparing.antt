@@ -29,7 +29,7 @@ use Rattle.xa_model.specs.Events.{IsHappening}
 use Rattle.xa_model.specs.History.{Entry, Leads}
 use Rattle.xa_model.specs.Loggable.{IsRecoverable}
 use Rattle.xa_model.specs.LoggingLaws.{LogsWhatLasts}
-use Rattle.xa_model.specs.ListedLaw.{AreRefusals, ListedUntilAsked, ListedSinceBoot, is_prepare, is_request}
+use Rattle.xa_model.specs.ListedLaw.{AreRefusals, ListsUntilAsked, ListedUntilAsked, ListedSinceBoot, is_prepare, is_request}
 use Rattle.xa_model.specs.Sound.{is_working}
 use Rattle.xa_model.proofs.Inserts.{all_front, all_back, all_imply}
 use Rattle.xa_model.proofs.Lists.{found_all, change_all}
@@ -220,7 +220,10 @@ idle_refuses (Working xid mark) idle e = cc idle
 idle_refuses (Prepared xid) idle e = cc e
 idle_refuses Committed idle e = cc e
 
+pub idle_lists : (first : State) → IsRecoverable first → AllByRecursion (λ b. is_working b.phase ≡ false) first.branches → ListsUntilAsked first
+idle_lists first h none =
+    listed_until_asked first h
+    (all_imply (λ (b : Branch). is_working b.phase ≡ false) IsRefusal (λ b idle. idle_refuses b.phase idle) first.branches none)
+
 pub listed_since_boot : ListedSinceBoot
-listed_since_boot d next first h =
-    listed_until_asked first h.recoverable
-    (all_imply (λ (b : Branch). is_working b.phase ≡ false) IsRefusal (λ b idle. idle_refuses b.phase idle) first.branches h.idle)
+listed_since_boot d next first h = idle_lists first h.recoverable h.idle

@@ -19,11 +19,11 @@ filter_keeps_by P x xs ys true h rest = (h, rest)
 filter_keeps_by P x xs ys false h rest = rest
 
 -- what holds of all holds of those that pass
-filter_keeps : {A : Type 0} (P : A → Type 0) (p : A → Bool) (xs : List A) → AllByRecursion P xs → AllByRecursion P (filter p xs)
+pub filter_keeps : {A : Type 0} (P : A → Type 0) (p : A → Bool) (xs : List A) → AllByRecursion P xs → AllByRecursion P (filter p xs)
 filter_keeps P p [] h = tt
 filter_keeps P p (x ∷ xs) h = filter_keeps_by P x xs (filter p xs) (p x) h.0 (filter_keeps P p xs h.1)
 
-idle : (bs : List Branch) → AllByRecursion (λ (b : Branch). is_working b.phase ≡ false) (filter lasts bs)
+pub idle : (bs : List Branch) → AllByRecursion (λ (b : Branch). is_working b.phase ≡ false) (filter lasts bs)
 idle bs = all_filtered (λ (b : Branch). is_working b.phase ≡ false) lasts (λ b e. not-true (is_working b.phase) e) bs
 
 same_end : (s : State) (next : ℕ) → snapshot_end s next ≡ snapshot_end (restarted s next) next

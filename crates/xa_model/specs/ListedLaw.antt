@@ -1,19 +1,27 @@
 -- What recovery lists stays listed until its completion is asked for.
-use Rattle.std.specs.Prelude.{ℕ, ◌≡◌, ◌⊎◌, Bool, true, false, Some, List, ◌∷◌, ◌++◌}
+use Rattle.std.specs.Prelude.{ℕ, ◌≡◌, ◌⊎◌, ◌+◌, ◌<◌, ◌≤◌, Bool, true, false, Ok, Some, List, ◌∷◌, ◌++◌, length}
 use Rattle.std.specs.List.{list_any, AllByRecursion}
 use Rattle.xa_codes.specs.declared.codes.TheConstants.{XA_OK, XAER_RMFAIL}
 use Rattle.xa_codes.specs.declared.detail.Detail.TheVariants as detail
 use Rattle.xa_frame.specs.declared.reply.Reply.{Reply}
 use Rattle.xa_frame.specs.declared.request.Request.{Request}
 use Rattle.xa_frame.specs.declared.request.Request.TheVariants.{Prepare, Commit, Rollback, Forget}
+use Rattle.xa_limits.specs.declared.TheConstants.{MOST_BOOTS, MOST_BRANCHES}
+use Rattle.xa_record.specs.Limits.{IsRecord}
+use Rattle.xa_record.specs.declared.record.Record.{Record}
 use Rattle.xa_xid.specs.Triple.{Triple, xid_eq}
 use Rattle.xa_model.specs.declared.event.Event.TheVariants.{Call}
-use Rattle.xa_model.specs.State.{State, mark_of}
+use Rattle.xa_model.specs.declared.outcome.Outcome.{Outcome}
+use Rattle.xa_model.specs.State.{State, Up, mark_of}
+use Rattle.xa_model.specs.Answer.{Answer}
 use Rattle.xa_model.specs.Durable.{Durable, durable}
 use Rattle.xa_model.specs.Listed.{listed}
-use Rattle.xa_model.specs.Turn.{Happening, Asked}
+use Rattle.xa_model.specs.Fold.{fold}
+use Rattle.xa_model.specs.Turn.{Happening, Asked, Reopened}
+use Rattle.xa_model.specs.Restarting.{opening}
+use Rattle.xa_model.specs.Step.{step}
 use Rattle.xa_model.specs.Events.{HaveHappened}
-use Rattle.xa_model.specs.History.{Entry, Leads}
+use Rattle.xa_model.specs.History.{Entry, Leads, fresh}
 use Rattle.xa_model.specs.Loggable.{IsRecoverable}
 use Rattle.xa_model.specs.Restored.{IsRestored}
 
@@ -67,3 +75,22 @@ ListedUntilAsked = (first : State) → IsRecoverable first → AreRefusals first
 -- so it is from each restart and each opening on
 abbrev pub ListedSinceBoot : Type 0
 ListedSinceBoot = (d : Durable) (next : ℕ) (first : State) → IsRestored d next first → ListsUntilAsked first
+
+-- as in each of a new manager
+abbrev pub FreshLists : Type 0
+FreshLists = (name : List ℕ) (log_bytes : ℕ) → ListsUntilAsked (fresh name log_bytes)
+
+-- and of one that was opened on a log's records
+abbrev pub OpenedLists : Type 0
+OpenedLists =
+    (rs : List Record) (d : Durable) (name : List ℕ) (log_bytes : ℕ) → AllByRecursion IsRecord rs → fold rs ≡ Ok d
+    → d.boot < MOST_BOOTS
+    → length d.prepared + length d.decided ≤ MOST_BRANCHES
+    → ListsUntilAsked (opening d name log_bytes (d.boot + 1))
+
+-- and of one that was opened again, and is up
+abbrev pub ReopenedLists : Type 0
+ReopenedLists =
+    (s : State) (name : List ℕ) (log_bytes : ℕ) (outcome : Outcome) (a : Answer) → IsRecoverable s
+    → step s (Reopened name log_bytes) outcome ≡ Some a
+    → a.after.standing ≡ Up → ListsUntilAsked a.after

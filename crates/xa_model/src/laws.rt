@@ -10,7 +10,8 @@ ghost use Rattle.xa_model.specs.BackingLaws.{KeepsRecoverable, AlwaysRecoverable
 ghost use Rattle.xa_model.specs.BackingLaws.{RestartsRestored, ReopensRestored, OpensRestored, OpensFresh};
 ghost use Rattle.xa_model.specs.Room.{KeepsRoom, RestartKeepsRoom};
 ghost use Rattle.xa_model.specs.OneCopy.{AlwaysOneCopy, FreshOneCopy, OpenedOneCopy};
-ghost use Rattle.xa_model.specs.ListedLaw.{ListedUntilAsked, ListedSinceBoot};
+ghost use Rattle.xa_model.specs.ListedLaw.{ListedUntilAsked, ListedSinceBoot, FreshLists, OpenedLists, ReopenedLists};
+ghost use Rattle.xa_model.specs.ScanLaw.{ListedAscends, ScanListsFirst, ScanListsAll, ScanIsAnswered};
 ghost use Rattle.xa_model.specs.LowWaterLaws.{BelowKnown, IsReached, BelowNext, NeverFalls};
 ghost use Rattle.xa_model.specs.WorkedLowWater.{WaterRises};
 ghost use Rattle.xa_model.specs.WorkedLog.{HeldAndCommitted, DecidedAndForgotten, RolledBack, LastWrites, InOrder};
@@ -264,10 +265,25 @@ pub fn one_copy()
 /// leave it listed, and so does all that is done with other XIDs.
 ///
 /// The history begins with any state that a restart may begin with, if no branch in it is marked with the code of
-/// success; so with all that restarts and openings lead to.
+/// success; so with all that restarts and openings lead to: with a new manager, with one that was opened on a log's
+/// records, and with one that was opened again.
 pub fn listed_until_asked()
     ensures always { ListedUntilAsked }
     ensures boot { ListedSinceBoot }
+    ensures fresh { FreshLists }
+    ensures opened { OpenedLists }
+    ensures reopened { ReopenedLists }
+{}
+
+/// A scan lists what recovery lists, in the XIDs' order and each once. The calls of one scan, with nothing between
+/// them, are answered the first of these XIDs, as many as they ask for; and where they are answered fewer than they ask
+/// for, they are answered all. In an opened session of a manager that is up they are answered so, whatever they ask for
+/// within a call's limit.
+pub fn scan_lists_all()
+    ensures ascends { ListedAscends }
+    ensures first { ScanListsFirst }
+    ensures whole { ScanListsAll }
+    ensures answered { ScanIsAnswered }
 {}
 
 /// Worked lists of committed branches: one that is one copy, and three that aren't, since a read missed a write before
