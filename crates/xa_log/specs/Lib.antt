@@ -13,3 +13,4 @@ pub mod Laws
 pub mod TwoFiles
 pub mod Looking
 pub mod Worked
+pub mod Missing

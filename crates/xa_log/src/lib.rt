@@ -8,7 +8,8 @@
 //! - `checkpointing`: how a checkpoint goes to the other disk, in its three parts; `end_of`, whether it fits
 //! - `opening`: making and reading a log on disks that are lent: `create_on`, `open_on`, `read_log`
 //! - `opened`: `Opened`, a log that was made or read so, without its disks
-//! - `looking`: which of two files is the current one, by the number in its first body
+//! - `looking`: which of two files is the current one, by the number in its first body; `missing`: `missing_file`, which
+//!   one is missing
 //! - `reading`, `window`: reading a file record by record, and in pieces
 //! - `format`: `Format`, a file's first bytes; `record`: the bytes of a record
 //! - `fault`: `OpenFault`, why a file's bytes aren't taken as a log
@@ -29,6 +30,7 @@ mod laws;
 mod log;
 mod looking;
 mod making;
+mod missing;
 mod opened;
 mod opening;
 mod planning;
@@ -49,6 +51,7 @@ pub use laws::{
 };
 pub use log::Log;
 pub use looking::{NUMBER_END, NUMBER_OFFSET};
+pub use missing::{Missing, missing_file};
 pub use opened::Opened;
 pub use opening::{create_on, open_on, read_log};
 pub use record::MOST_RECORD;

@@ -70,7 +70,11 @@ fn measure<D: Disk>(first: &mut D, second: &mut D, log_bytes: u64) -> Result<(u6
 }
 
 // How a file of this length begins, as an empty window has it then. Fewer bytes than a format's name has are not read.
-fn front_of<D: Disk>(disk: &mut D, window: &mut [u8], len: u64) -> Result<Front, DiskFault>
+pub(crate) fn front_of<D: Disk>(
+    disk: &mut D,
+    window: &mut [u8],
+    len: u64,
+) -> Result<Front, DiskFault>
     requires { length window.old ≡ WINDOW }
     ensures front { D.honest → len ≡ length (D.seen disk.old) → IfOk result (IsFront (D.seen disk.old) window.new) }
     ensures holds { IfOk result (HasFront len) }
@@ -147,7 +151,7 @@ fn first_number(window: &[u8], span: Span, len: u64, prev: &[u8; DIGEST_BYTES]) 
 
 // What of a file tells whether it is the current one of two, if it is a log: its first record alone, which has the
 // generation, and without which the file has no bodies. So of the one that isn't current no more is read.
-fn head_of(window: &[u8], front: Front, len: u64) -> Option<Head>
+pub(crate) fn head_of(window: &[u8], front: Front, len: u64) -> Option<Head>
     requires room { length window.now ≡ WINDOW }
     requires holds { HasFront len front }
     ensures head { (file : List ℕ) → len ≡ length file → IsFront file window.now front → IsHead file result }

@@ -2,7 +2,7 @@ use crate::log_pairs::{bytes_on, disk_of, log_of};
 use crate::rows::none_wrong;
 use std::alloc::Global;
 use xa_disk::{Disk, MemDisk};
-use xa_log::{Log, OpenFault, create_on};
+use xa_log::{Log, Missing, OpenFault, create_on, missing_file};
 use xa_rows::{LOG_BYTES, first_wrong};
 
 /// What stands in a file.
@@ -114,6 +114,44 @@ fn wrong_row(alloc: Global, rows: &[Row]) -> Option<usize> {
 #[test]
 fn the_current_file_of_two(rt: HostRuntime) {
     none_wrong(&rt, wrong_row(rt.alloc(), &ROWS));
+}
+
+/// Two files, and which of them is missing.
+type MissingRow = (File, File, Missing);
+
+const MISSING: [MissingRow; 11] = [
+    (NOTHING, TWO, Missing::First),
+    (TWO, NOTHING, Missing::Second),
+    (NOTHING, TOP, Missing::First),
+    (PAST, NOTHING, Missing::Second),
+    // A first boot leaves these.
+    (NOTHING, NOTHING, Missing::Neither),
+    (ONE, NOTHING, Missing::Neither),
+    (NOTHING, ZEROS, Missing::Neither),
+    // None of them is empty, or none is a log.
+    (TWO, ONE, Missing::Neither),
+    (SHORT, TWO, Missing::Neither),
+    (NOTHING, OTHER, Missing::Neither),
+    (SHORT, NOTHING, Missing::Neither),
+];
+
+fn is_missing(alloc: Global, first: File, second: File, want: Missing) -> bool {
+    let (Some(mut first), Some(mut second)) = (disk(alloc, first), disk(alloc, second)) else {
+        return false;
+    };
+    missing_file(alloc, &mut first, &mut second) == Ok(want)
+}
+
+#[test]
+fn a_missing_file(rt: HostRuntime) {
+    let alloc = rt.alloc();
+    none_wrong(
+        &rt,
+        first_wrong(
+            &MISSING,
+            |(first, second, want)| is_missing(alloc, *first, *second, *want),
+        ),
+    );
 }
 
 /// Two files, the limit of their bytes, and why they are refused.
