@@ -1,10 +1,14 @@
 -- What a command did, with some reader or disk: no clause says that it is the one that the runtime gave.
-use Rattle.std.specs.Prelude.{ℕ, List, Option, Result}
+use Rattle.std.specs.Prelude.{◌≡◌, ◌⊎◌, ℕ, List, Option, Result, Ok, Err}
+use Rattle.xa_commands.specs.declared.scanning_fault.ScanningFault.{ScanningFault}
+use Rattle.xa_commands.specs.declared.scanning_fault.ScanningFault.TheVariants.{Scan}
 use Rattle.xa_play.specs.Plays.{Plays}
 use Rattle.xa_play.specs.Runs.{IsLawful}
 use Rattle.xa_play.specs.declared.fault.PlayFault.{PlayFault}
 use Rattle.xa_scan.specs.Scans.{Scans}
 use Rattle.xa_scan.specs.declared.fault.ScanFault.{ScanFault}
+use Rattle.xa_scan.specs.declared.fault.ScanFault.TheVariants.{Memory}
+use Rattle.xa_script.specs.declared.style.Style.{Style}
 use Rattle.xa_talk.specs.Talks.{Talks}
 use Rattle.xa_talk.specs.declared.fault.TalkFault.{TalkFault}
 
@@ -14,14 +18,24 @@ HasPlayed {I} remaining name log_bytes end =
     (reader : I) × (output : Option (List ℕ)) × (output' : Option (List ℕ))
     × Plays IsLawful name log_bytes end (remaining reader) output output'
 
--- a disk was scanned, with this end
-abbrev pub HasScanned : {D X : Type 0} → Type 0 → (D → List ℕ) → Result X ScanFault → Type 0
-HasScanned {D} honest seen end =
-    (disk : D) × (output : Option (List ℕ)) × (output' : Option (List ℕ)) × Scans honest end (seen disk) output output'
+-- the disk that was opened at a path was scanned, with this end
+abbrev pub HasScanned : {D X : Type 0} → Type 0 → (D → List ℕ) → (D → List ℕ → Type 0) → List ℕ → Result X ScanFault
+    → Type 0
+HasScanned {D} honest seen opened path end =
+    (disk : D) × opened disk path × ((output : Option (List ℕ)) × (output' : Option (List ℕ))
+    × Scans honest end (seen disk) output output')
+
+-- the same by what is told: it was scanned, or there was no memory, or no file was opened
+abbrev pub Scanned : {D X : Type 0} → Type 0 → (D → List ℕ) → (D → List ℕ → Type 0) → List ℕ
+    → Result X ScanningFault → Type 0
+Scanned honest seen opened path (Ok x) = HasScanned {X = Unit {0}} honest seen opened path (Ok tt)
+Scanned honest seen opened path (Err (Scan fault)) =
+    (fault ≡ Memory) ⊎ HasScanned {X = Unit {0}} honest seen opened path (Err fault)
+Scanned honest seen opened path (Err fault) = Unit {0}
 
 -- what a reader gave was sent over connections, with this end
-abbrev pub HasTalked : {I C X : Type 0} → (I → Option (List ℕ)) → (C → Option (List ℕ)) → (C → Option (List ℕ))
+abbrev pub HasTalked : {I C X : Type 0} → Style → (I → Option (List ℕ)) → (C → Option (List ℕ)) → (C → Option (List ℕ))
     → Result X TalkFault → Type 0
-HasTalked {I} remaining sent left end =
+HasTalked {I} style remaining sent left end =
     (reader : I) × (reader' : I) × (output : Option (List ℕ)) × (output' : Option (List ℕ))
-    × Talks sent left end (remaining reader) (remaining reader') output output'
+    × Talks style sent left end (remaining reader) (remaining reader') output output'

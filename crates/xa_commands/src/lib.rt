@@ -1,7 +1,7 @@
 //! The commands of the program that serve nobody, and the statuses in which all of them end.
 //!
 //! - `playing`: `play`, a script from standard input is played
-//! - `scanning`: `scan`, the records of a log are printed
+//! - `scanning`: `scan`, the records of a log are printed; `scanning_fault`: `ScanningFault`, why they aren't
 //! - `talking`: `talk`, a script goes to a server; `Server`, one on 127.0.0.1
 //! - `ending`: `ended`, `served` and `words_fault`, the status of an end, and its line on standard error
 #![tactic(auto)]
@@ -9,9 +9,11 @@
 mod ending;
 mod playing;
 mod scanning;
+mod scanning_fault;
 mod talking;
 
 pub use ending::{ended, served, words_fault};
 pub use playing::play;
 pub use scanning::scan;
+pub use scanning_fault::ScanningFault;
 pub use talking::{Server, talk};

@@ -1,21 +1,28 @@
-ghost use Rattle.std.specs.Prelude.{◌⊎◌, IsErrOf};
-ghost use Rattle.xa_commands.specs.Done.{HasScanned};
+ghost use Rattle.xa_commands.specs.Done.{Scanned};
 
+use crate::scanning_fault::ScanningFault;
 use std::io::{self, BufWriter};
-use xa_disk::Opens;
-use xa_log::OpenFault;
+use xa_disk::{FileFault, Opens};
 use xa_scan::{ScanFault, scan_run};
 
-/// Prints the records of a log. A file that can't be opened is a device's fault.
-pub fn scan<R: AllocGlobal + Print + Opens>(rt: &R, path: &str) -> Result<(), ScanFault>
-    ensures { IsErrOf result (ScanFault.Log OpenFault.Device) ⊎ IsErrOf result ScanFault.Memory
-        ⊎ HasScanned R.Disk.honest R.Disk.seen result }
+/// Prints the records of a log, which is opened for reading alone.
+pub fn scan<'a, R: AllocGlobal + Print + Opens>(
+    rt: &R,
+    path: &'a str,
+) -> Result<(), ScanningFault<'a>>
+    ensures { Scanned R.Disk.honest R.Disk.seen R.opened path.now result }
 {
-    let Ok(mut disk) = rt.open_disk(path) else {
-        return Err(ScanFault::Log(OpenFault::Device));
+    let mut disk = match rt.read_disk(path) {
+        Ok(disk) => disk,
+        Err(FileFault::InUse) => return Err(ScanningFault::InUse),
+        Err(FileFault::Memory) => return Err(ScanningFault::Scan(ScanFault::Memory)),
+        Err(fault) => return Err(ScanningFault::File { path, fault }),
     };
     let Ok(mut writer) = BufWriter::new(rt.alloc(), io::writer(rt)) else {
-        return Err(ScanFault::Memory);
+        return Err(ScanningFault::Scan(ScanFault::Memory));
     };
-    scan_run(rt.alloc(), &mut disk, &mut writer)
+    match scan_run(rt.alloc(), &mut disk, &mut writer) {
+        Ok(()) => Ok(()),
+        Err(fault) => Err(ScanningFault::Scan(fault)),
+    }
 }

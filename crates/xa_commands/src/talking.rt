@@ -4,6 +4,7 @@ ghost use Rattle.xa_talk.specs.declared.dial.Connection.{Connection};
 use std::fmt;
 use std::io::{self, Read, Write};
 use std::net::{Net, TcpStream};
+use xa_script::Style;
 use xa_talk::{Connection, Dial, TalkFault, talk_run};
 
 /// A server on 127.0.0.1.
@@ -36,8 +37,9 @@ impl<R> fmt::Debug for Server<'_, R> {
 pub fn talk<R: AllocGlobal + Input + Print + Net<Stream = TcpStream>>(
     rt: &R,
     port: u16,
+    style: Style,
 ) -> Result<(), TalkFault>
-    ensures { HasTalked {C = Connection TcpStream TcpStream} R.Reader.remaining
+    ensures { HasTalked {C = Connection TcpStream TcpStream} style R.Reader.remaining
         (λ c. ⟦<TcpStream as Write>⟧.contents c.writer)
         (λ c. ⟦<TcpStream as Read>⟧.remaining c.reader) result }
 {
@@ -48,5 +50,6 @@ pub fn talk<R: AllocGlobal + Input + Print + Net<Stream = TcpStream>>(
         &mut reader,
         &mut writer,
         &mut Server { rt, port },
+        style,
     )
 }

@@ -9,14 +9,15 @@ ghost use Rattle.xa_disk.specs.Counts.{no_calls, with_length, with_read, with_wr
 ghost use Rattle.xa_disk.specs.Disk.{CountsFault};
 ghost use Rattle.xa_disk.specs.Images.{torn_by_nothing};
 
-use crate::opening::locked;
-use crate::{Counts, Disk, DiskFault, FileFault};
+use crate::opening::{locked, shared};
+use crate::teller::Teller;
+use crate::{Counts, Disk, DiskFault, FileCall, FileFault};
 use std::fs::File;
 use std::io;
 use std::os::unix::fs::FileExt;
 
 /// A disk that is a file, with counts of its calls and of those that failed. While it is there no other
-/// `FileDisk` has the file, in this process or another.
+/// `FileDisk` writes to the file, in this process or another. The first call that fails is told on standard error.
 #[derive(Debug, Drop)]
 pub struct FileDisk {
     file: File,
@@ -27,6 +28,7 @@ pub struct FileDisk {
     // opened anew.
     unsynced: bool,
     error: Option<io::Error>,
+    teller: Teller,
 }
 
 // How many bytes a file has.
@@ -56,30 +58,55 @@ impl FileDisk {
         ensures whole { IfOk result (λ disk. disk.unsynced ≡ false) }
         ensures error { IfOk result (λ disk. disk.error ≡ None) }
     {
-        match locked(rt, path) {
-            Ok(file) => Ok(FileDisk {
-                file,
-                failures: 0,
-                counts: Counts::none(),
-                unsynced: false,
-                error: None,
-            }),
-            Err(fault) => Err(fault),
-        }
+        let file = locked(rt, path)?;
+        FileDisk::on(rt, path, file)
     }
 
-    /// What the system said of the last call that failed, as that there is no space; `None` where none has.
+    /// The regular file at a path, for reads: each write fails. It may be one that can't be written. Nothing is
+    /// created. `InUse` where a disk that writes has it; where the file can't be locked, that isn't known.
+    pub fn for_reading(rt: &HostRuntime, path: &str) -> Result<FileDisk, FileFault>
+        ensures failures { IfOk result (λ disk. disk.failures ≡ 0) }
+        ensures counts { IfOk result (λ disk. disk.counts ≡ no_calls) }
+        ensures whole { IfOk result (λ disk. disk.unsynced ≡ false) }
+        ensures error { IfOk result (λ disk. disk.error ≡ None) }
+    {
+        let file = shared(rt, path)?;
+        FileDisk::on(rt, path, file)
+    }
+
+    // A file that was opened at a path.
+    fn on(rt: &HostRuntime, path: &str, file: File) -> Result<FileDisk, FileFault>
+        ensures failures { IfOk result (λ disk. disk.failures ≡ 0) }
+        ensures counts { IfOk result (λ disk. disk.counts ≡ no_calls) }
+        ensures whole { IfOk result (λ disk. disk.unsynced ≡ false) }
+        ensures error { IfOk result (λ disk. disk.error ≡ None) }
+    {
+        let Ok(teller) = Teller::new(rt, path) else {
+            return Err(FileFault::Memory);
+        };
+        Ok(FileDisk {
+            file,
+            failures: 0,
+            counts: Counts::none(),
+            unsynced: false,
+            error: None,
+            teller,
+        })
+    }
+
+    /// What the system said of the first call that failed, as that there is no space; `None` where none has.
     pub fn error(&self) -> Option<io::Error>
         ensures { result ≡ self.now.error }
     {
         self.error
     }
 
-    // Answers a call. One that failed is counted, and its error kept.
-    fn answer<T: Drop>(&mut self, answer: io::Result<T>) -> Result<T, DiskFault>
+    // Answers a call. One that failed is counted, and the first one's error is told and kept.
+    fn answer<T: Drop>(&mut self, call: FileCall, answer: io::Result<T>) -> Result<T, DiskFault>
         ensures kind { MatchResult answer (λ _. IsOk result) (λ _. IsErr result) }
         ensures count { CountsFault result self.old.failures self.new.failures }
         ensures told { MatchResult result (λ _. self.new.error ≡ self.old.error) (λ _. self.new.error ≢ None) }
+        ensures first { self.old.error ≢ None → self.new.error ≡ self.old.error }
         ensures counts { self.new.counts ≡ self.old.counts }
         ensures unsynced { self.new.unsynced ≡ self.old.unsynced }
     {
@@ -87,9 +114,23 @@ impl FileDisk {
             Ok(value) => Ok(value),
             Err(error) => {
                 self.failures = self.failures.saturating_add(1);
-                self.error = Some(error);
+                self.keep(call, error);
                 Err(DiskFault)
             }
+        }
+    }
+
+    // Tells an error and keeps it, if it is the first.
+    fn keep(&mut self, call: FileCall, error: io::Error)
+        ensures some { self.new.error ≢ None }
+        ensures first { self.old.error ≢ None → self.new.error ≡ self.old.error }
+        ensures failures { self.new.failures ≡ self.old.failures }
+        ensures counts { self.new.counts ≡ self.old.counts }
+        ensures unsynced { self.new.unsynced ≡ self.old.unsynced }
+    {
+        if self.error.is_none() {
+            self.teller.tell(call, &error);
+            self.error = Some(error);
         }
     }
 
@@ -134,46 +175,50 @@ impl Disk for FileDisk {
         ensures calls { self.new.counts ≡ with_length self.old.counts }
         ensures count { CountsFault result self.old.failures self.new.failures }
         ensures told { MatchResult result (λ _. self.new.error ≡ self.old.error) (λ _. self.new.error ≢ None) }
+        ensures first { self.old.error ≢ None → self.new.error ≡ self.old.error }
         ensures unsynced { self.new.unsynced ≡ self.old.unsynced }
     {
         self.counts = self.counts.with_length();
         let length = length_of(&self.file);
-        self.answer(length)
+        self.answer(FileCall::Length, length)
     }
 
     fn read_at(&mut self, at: u64, into: &mut [u8]) -> Result<(), DiskFault>
         ensures calls { self.new.counts ≡ with_read (length into.old) self.old.counts }
         ensures count { CountsFault result self.old.failures self.new.failures }
         ensures told { MatchResult result (λ _. self.new.error ≡ self.old.error) (λ _. self.new.error ≢ None) }
+        ensures first { self.old.error ≢ None → self.new.error ≡ self.old.error }
         ensures unsynced { self.new.unsynced ≡ self.old.unsynced }
     {
         self.counts = self.counts.with_read(into.len());
         let read = self.file.read_exact_at(into, at);
-        self.answer(read)
+        self.answer(FileCall::Read, read)
     }
 
     fn write_at(&mut self, at: u64, from: &[u8]) -> Result<(), DiskFault>
         ensures calls { self.new.counts ≡ with_write self.old.counts }
         ensures count { CountsFault result self.old.failures self.new.failures }
         ensures told { MatchResult result (λ _. self.new.error ≡ self.old.error) (λ _. self.new.error ≢ None) }
+        ensures first { self.old.error ≢ None → self.new.error ≡ self.old.error }
         ensures unsynced { self.new.unsynced ≡ self.old.unsynced }
     {
         self.counts = self.counts.with_write();
         let written = self.file.write_all_at(from, at);
-        self.answer(written)
+        self.answer(FileCall::Write, written)
     }
 
     fn sync(&mut self) -> Result<(), DiskFault>
         ensures calls { self.new.counts ≡ with_sync self.old.counts }
         ensures count { CountsFault result self.old.failures self.new.failures }
         ensures told { MatchResult result (λ _. self.new.error ≡ self.old.error) (λ _. self.new.error ≢ None) }
+        ensures first { self.old.error ≢ None → self.new.error ≡ self.old.error }
         // After a sync that failed each later one fails.
         ensures refused { self.old.unsynced ≡ true → IsErr result }
         ensures unsynced { MatchResult result (λ _. self.new.unsynced ≡ false) (λ _. self.new.unsynced ≡ true) }
     {
         self.counts = self.counts.with_sync();
         let synced = self.try_sync();
-        let answer = self.answer(synced);
+        let answer = self.answer(FileCall::Sync, synced);
         self.unsynced = answer.is_err();
         answer
     }

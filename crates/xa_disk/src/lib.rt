@@ -6,8 +6,10 @@
 //! - `memory`: `MemDisk`, of which all of that is proved; with `call` (the record of its writes and syncs) and `bytes`
 //!   (the bytes alone)
 //! - `plan`: which calls of a `MemDisk` are to fail, and with which `Effect`
-//! - `file`: `FileDisk`, a real file, of which only the counts are proved
-//! - `opening`: how a file is taken as a disk, and `FileFault`, why it isn't; `opens`: `Opens`, what opens files as disks
+//! - `file`: `FileDisk`, a real file, of which only the counts are proved; `teller`, what tells its first fault
+//! - `opening`: how a file is taken as a disk, and `file_fault`: `FileFault`, why it isn't; `file_call`: `FileCall`, the
+//!   system's calls on files
+//! - `opens`: `Opens`, what opens files as disks
 #![tactic(auto)]
 
 mod bytes;
@@ -15,15 +17,19 @@ mod call;
 mod counts;
 mod disk;
 mod file;
+mod file_call;
+mod file_fault;
 mod memory;
 mod opening;
 mod opens;
 mod plan;
+mod teller;
 
 pub use counts::Counts;
 pub use disk::{Disk, DiskFault};
 pub use file::FileDisk;
+pub use file_call::FileCall;
+pub use file_fault::FileFault;
 pub use memory::MemDisk;
-pub use opening::FileFault;
 pub use opens::Opens;
 pub use plan::Effect;

@@ -1,24 +1,18 @@
 //! How a file is taken as a disk.
 use crate::file::length_of;
-use std::fs::{File, OpenFile, OpenOptions, TryLockError};
+use crate::{FileCall, FileFault};
+use std::fs::{self, File, OpenFile, OpenOptions, TryLockError};
 use std::io;
 use std::io::ErrorKind;
 use std::os::unix::fs::OpenOptionsExt;
 use std::path::{AsPath, Path};
-use thiserror::Error;
 
-/// Why a file is not taken as a disk.
-#[derive(Clone, Copy, Debug, Drop, Error)]
-pub enum FileFault {
-    /// It can't be opened, made, locked or measured, or its folder can't be synced.
-    #[error("{0}")]
-    Opening(io::Error),
-    /// Another disk has it, of this process or of another.
-    #[error("in use")]
-    InUse,
-    /// It is a folder, a device, a pipe or a socket.
-    #[error("no regular file")]
-    Irregular,
+// What a call answered, or that it failed.
+fn called<T: Drop>(call: FileCall, answer: io::Result<T>) -> Result<T, FileFault> {
+    match answer {
+        Ok(value) => Ok(value),
+        Err(error) => Err(FileFault::Call { call, error }),
+    }
 }
 
 // Makes a file's entry in its folder last.
@@ -39,26 +33,38 @@ fn opened(rt: &HostRuntime, path: &str) -> Result<File, FileFault> {
         .mode(0o600)
         .open(rt, path);
     match opened {
-        Ok(file) => Ok(file),
         Err(error) if error.kind() == ErrorKind::IsADirectory => Err(FileFault::Irregular),
-        Err(error) => Err(FileFault::Opening(error)),
+        opened => called(FileCall::Open, opened),
     }
 }
 
 // The same, where it is a regular file that no other disk has.
 pub(crate) fn locked(rt: &HostRuntime, path: &str) -> Result<File, FileFault> {
     let file = opened(rt, path)?;
-    if !file.metadata().map_err(FileFault::Opening)?.is_file() {
+    if !called(FileCall::Length, file.metadata())?.is_file() {
         return Err(FileFault::Irregular);
     }
     match file.try_lock() {
         Ok(()) => {}
         Err(TryLockError::WouldBlock) => return Err(FileFault::InUse),
-        Err(TryLockError::Error(error)) => return Err(FileFault::Opening(error)),
+        Err(TryLockError::Error(error)) => return called(FileCall::Lock, Err(error)),
     }
     // A file with bytes was empty when a disk first took it.
-    if length_of(&file).map_err(FileFault::Opening)? == 0 {
-        sync_folder(rt, path).map_err(FileFault::Opening)?;
+    if called(FileCall::Length, length_of(&file))? == 0 {
+        called(FileCall::SyncFolder, sync_folder(rt, path))?;
     }
     Ok(file)
+}
+
+// The regular file at a path, for reading alone, where no disk writes to it. One that can't be locked is read as it is.
+pub(crate) fn shared(rt: &HostRuntime, path: &str) -> Result<File, FileFault> {
+    // Before it is opened, since that waits for the writer of a pipe.
+    if !called(FileCall::Open, fs::metadata(rt, path))?.is_file() {
+        return Err(FileFault::Irregular);
+    }
+    let file = called(FileCall::Open, File::open(rt, path))?;
+    match file.try_lock_shared() {
+        Err(TryLockError::WouldBlock) => Err(FileFault::InUse),
+        Ok(()) | Err(TryLockError::Error(_)) => Ok(file),
+    }
 }

@@ -1,5 +1,6 @@
-use crate::disk::{Disk, DiskFault};
+use crate::disk::Disk;
 use crate::file::FileDisk;
+use crate::file_fault::FileFault;
 
 /// What opens the files of a log as disks.
 pub trait Opens {
@@ -11,7 +12,11 @@ pub trait Opens {
     ghost opened: { Self.Disk → List ℕ → Type 0 };
 
     /// The file at a path, made if it isn't there. No other disk may have it.
-    fn open_disk(&self, path: &str) -> Result<Self::Disk, DiskFault>
+    fn open_disk(&self, path: &str) -> Result<Self::Disk, FileFault>
+        ensures { IfOk result (λ disk. opened disk path.now) };
+
+    /// The file at a path, for reads. It isn't made, and no other disk that writes may have it.
+    fn read_disk(&self, path: &str) -> Result<Self::Disk, FileFault>
         ensures { IfOk result (λ disk. opened disk path.now) };
 }
 
@@ -23,7 +28,11 @@ impl Opens for HostRuntime {
 
     ghost opened = { λ disk _. disk.failures ≡ 0 };
 
-    fn open_disk(&self, path: &str) -> Result<FileDisk, DiskFault> {
-        FileDisk::at(self, path)
+    fn open_disk(&self, path: &str) -> Result<FileDisk, FileFault> {
+        FileDisk::open(self, path)
+    }
+
+    fn read_disk(&self, path: &str) -> Result<FileDisk, FileFault> {
+        FileDisk::for_reading(self, path)
     }
 }

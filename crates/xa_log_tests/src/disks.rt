@@ -3,7 +3,7 @@ use std::alloc::Global;
 use std::fs;
 use std::io::ErrorKind;
 use std::os::unix::fs::MetadataExt;
-use xa_disk::{Disk, DiskFault, Effect, FileDisk, FileFault, MemDisk};
+use xa_disk::{Disk, DiskFault, Effect, FileCall, FileDisk, FileFault, MemDisk};
 
 // A write that is synced, one that isn't, and a plan.
 fn written(disk: &mut MemDisk) -> Option<()> {
@@ -153,6 +153,44 @@ fn a_file_is_one_disk(rt: HostRuntime) {
     assert!(rt; fs::remove_file(&rt, path.as_str()).is_ok());
 }
 
+fn is_read(rt: &HostRuntime, path: &str) -> bool {
+    FileDisk::for_reading(rt, path).is_ok()
+}
+
+// A disk that writes keeps readers away.
+fn is_read_by_none(rt: &HostRuntime, path: &str) -> bool {
+    match FileDisk::open(rt, path) {
+        Ok(_disk) => matches!(FileDisk::for_reading(rt, path), Err(FileFault::InUse)),
+        Err(_) => false,
+    }
+}
+
+// A reader keeps a disk that writes away, and no other reader.
+fn is_read_by_two(rt: &HostRuntime, path: &str) -> bool {
+    match FileDisk::for_reading(rt, path) {
+        Ok(_disk) => is_read(rt, path) && is_in_use(rt, path),
+        Err(_) => false,
+    }
+}
+
+fn no_write(rt: &HostRuntime, path: &str) -> bool {
+    match FileDisk::for_reading(rt, path) {
+        Ok(mut disk) => disk.write_at(0, b"a".as_slice()).is_err(),
+        Err(_) => false,
+    }
+}
+
+#[test]
+fn a_file_for_reading(rt: HostRuntime) {
+    let path = path_of(&rt, "xa_disk-read").expect(&rt, "a path");
+    assert!(rt; !is_read(&rt, path.as_str()));
+    assert!(rt; is_read_by_none(&rt, path.as_str()));
+    assert!(rt; is_read_by_two(&rt, path.as_str()));
+    assert!(rt; no_write(&rt, path.as_str()));
+    assert!(rt; fs::remove_file(&rt, path.as_str()).is_ok());
+    assert!(rt; !is_read(&rt, "/dev/null"));
+}
+
 fn is_irregular(rt: &HostRuntime, path: &str) -> bool {
     match refused(rt, path) {
         Some(FileFault::Irregular) => true,
@@ -162,7 +200,12 @@ fn is_irregular(rt: &HostRuntime, path: &str) -> bool {
 
 fn opening_kind(rt: &HostRuntime, path: &str) -> Option<ErrorKind> {
     match refused(rt, path) {
-        Some(FileFault::Opening(error)) => Some(error.kind()),
+        Some(
+            FileFault::Call {
+                call: FileCall::Open,
+                error,
+            },
+        ) => Some(error.kind()),
         _ => None,
     }
 }

@@ -1,11 +1,14 @@
 -- The line that shows a reply.
-use Rattle.std.specs.Prelude.{ℕ, List, [], ◌∷◌, ◌++◌, codes, flat_map}
+use Rattle.std.specs.Prelude.{ℕ, ℤ, List, [], ◌∷◌, ◌++◌, codes, flat_map}
 use Rattle.std.specs.Fmt.{decimal, signed_decimal}
+use Rattle.xa_codes.specs.Names as names
 use Rattle.xa_codes.specs.declared.detail.Detail.{Detail}
 use Rattle.xa_codes.specs.declared.detail.Detail.TheVariants as detail
 use Rattle.xa_frame.specs.declared.body.Body.{Body}
 use Rattle.xa_frame.specs.declared.body.Body.TheVariants.{Nothing, Number, Value, Absent, Xids}
 use Rattle.xa_frame.specs.declared.reply.Reply.{Reply}
+use Rattle.xa_script.specs.declared.style.Style.{Style}
+use Rattle.xa_script.specs.declared.style.Style.TheVariants.{Codes, Names}
 use Rattle.xa_xid.specs.Triple.{Triple}
 use Rattle.xa_xid.specs.Spelling.{hex, text_of}
 
@@ -35,6 +38,15 @@ body_text (Value value) = codes " value " ++ value_text value
 body_text Absent = codes " absent"
 body_text (Xids xids) = codes " xids" ++ xids_text xids
 
--- the code, a blank, the detail's name, the body and the line's end
+-- the code, and behind it C193's name of it where the style has names
+abbrev pub code_text : Style → ℤ → List ℕ
+code_text Codes code = signed_decimal code
+code_text Names code = signed_decimal code ++ 32 ∷ names.name_of code
+
+-- the code's text, a blank, the detail's name, the body and the line's end
+abbrev pub line_in : Style → Reply → List ℕ
+line_in style reply = code_text style reply.code ++ (32 ∷ name_of reply.detail) ++ body_text reply.body ++ 10 ∷ []
+
+-- the same with the code's number alone
 abbrev pub line_of : Reply → List ℕ
 line_of reply = signed_decimal reply.code ++ (32 ∷ name_of reply.detail) ++ body_text reply.body ++ 10 ∷ []

@@ -8,7 +8,7 @@
 //! - words: `parts`, where a text is cut, with `first_part`; `numbers`; `flags`; `hexadecimal`, bytes by their digits
 //! - `log_file`: `LogFile`, of which file a device call is to fail; `call_effect`: `CallEffect`, what it does all the
 //!   same
-//! - `reply`: `reply_line`
+//! - `reply`: `reply_line`; `styled_line`, the same in a `Style`
 //! - `laws`: `reader_exists`, the texts of XIDs can be read, so that the contract of `read_line` says something
 //!
 //! Nothing here calls a manager, so whoever sends requests by other ways can read the same lines. docs/SCRIPT.md has
@@ -25,6 +25,7 @@ mod numbers;
 mod parts;
 mod reply;
 mod request;
+mod style;
 mod verb;
 
 pub use call_effect::CallEffect;
@@ -32,4 +33,5 @@ pub use laws::reader_exists;
 pub use line::{Line, read_line};
 pub use log_file::LogFile;
 pub use parts::first_part;
-pub use reply::reply_line;
+pub use reply::{reply_line, styled_line};
+pub use style::Style;

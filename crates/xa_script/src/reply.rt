@@ -1,10 +1,12 @@
-ghost use Rattle.std.specs.Prelude.{◌≡◌, ◌++◌, IfOk, OnOk, codes};
-ghost use Rattle.xa_script.specs.Replies.{body_text, line_of, name_of, value_text, xids_text};
+ghost use Rattle.std.specs.Prelude.{◌≡◌, ◌∷◌, ◌++◌, IfOk, OnOk, codes};
+ghost use Rattle.std.specs.Fmt.{signed_decimal};
+ghost use Rattle.xa_script.specs.Replies.{body_text, code_text, line_in, line_of, name_of, value_text, xids_text};
 
 use crate::hexadecimal::push_digits;
+use crate::style::Style;
 use arrayvec::ArrayVec;
 use std::alloc::{AllocError, Global};
-use xa_codes::Detail;
+use xa_codes::{Code, Detail, code_name};
 use xa_frame::{Body, Reply};
 use xa_xid::{MOST_TEXT, Xid};
 
@@ -12,12 +14,41 @@ use xa_xid::{MOST_TEXT, Xid};
 pub fn reply_line(alloc: Global, reply: &Reply) -> Result<Vec<u8>, AllocError>
     ensures { IfOk result (λ line. line.items ≡ line_of reply.now) }
 {
-    let code = reply.code;
-    let detail = detail_name(reply.detail);
-    let mut line = format!(in alloc; "{code} {detail}")?.into_bytes();
+    styled_line(alloc, reply, Style::Codes)
+}
+
+/// The same with the code in a style.
+pub fn styled_line(alloc: Global, reply: &Reply, style: Style) -> Result<Vec<u8>, AllocError>
+    ensures { IfOk result (λ line. line.items ≡ line_in style reply.now) }
+{
+    let mut line = line_front(alloc, reply.code, reply.detail, style)?;
     push_body(alloc, &mut line, &reply.body)?;
     line.push(b'\n')?;
     Ok(line)
+}
+
+fn line_front(
+    alloc: Global,
+    code: Code,
+    detail: Detail,
+    style: Style,
+) -> Result<Vec<u8>, AllocError>
+    ensures { IfOk result (λ front. front.items ≡ code_text style code ++ 32 ∷ name_of detail) }
+{
+    match style {
+        Style::Codes => {
+            let detail = detail_name(detail);
+            Ok(format!(in alloc; "{code} {detail}")?.into_bytes())
+        }
+        Style::Names => named_front(alloc, code, code_name(code), detail_name(detail)),
+    }
+}
+
+fn named_front(alloc: Global, code: Code, name: &str, detail: &str) -> Result<Vec<u8>, AllocError>
+    ensures { IfOk result
+        (λ front. front.items ≡ (signed_decimal code ++ 32 ∷ name.now) ++ 32 ∷ detail.now) }
+{
+    Ok(format!(in alloc; "{code} {name} {detail}")?.into_bytes())
 }
 
 fn push_body(alloc: Global, line: &mut Vec<u8>, body: &Body) -> Result<(), AllocError>

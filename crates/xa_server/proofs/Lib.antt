@@ -1,2 +1,3 @@
 pub mod Opening
 pub mod Promising
+pub mod Failing

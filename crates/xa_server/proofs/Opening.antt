@@ -1,5 +1,5 @@
 -- What a manager that was opened is, from each clause of its opening.
-use Rattle.std.proofs.Common.{ℕ, ◌≡◌, Bool, List, [], Result, Ok, Err, Some, IfOk, IsSomeAnd}
+use Rattle.std.proofs.Common.{ℕ, ◌≡◌, ◌∙◌, Bool, List, [], Result, Ok, Err, Some, IfOk, IsSomeAnd, subst, sym}
 use Rattle.xa_disk.specs.declared.disk.Disk as disk
 use Rattle.xa_log.specs.Pair.{logged_pair}
 use Rattle.xa_log.specs.TwoFiles.{NoStray}
@@ -32,3 +32,23 @@ pub has_opened : {D E : Type 0} (disks : disk.Ghosts D) (first second : D) (name
 has_opened disks first second name log_bytes (Ok m) begun fresh_one reopens =
     record { begun = begun; fresh_one = fresh_one; reopens = reopens }
 has_opened disks first second name log_bytes (Err e) begun fresh_one reopens = tt
+
+-- the same of disks that held what these hold
+pub opened_before : {D : Type 0} (disks : disk.Ghosts D) (first first' second second' : D) (name : List ℕ) (log_bytes : ℕ)
+    (m : Manager D)
+    → (disks.honest → disks.seen first' ≡ disks.seen first) → (disks.honest → disks.seen second' ≡ disks.seen second)
+    → HasOpened disks first' second' name log_bytes m → HasOpened disks first second name log_bytes m
+opened_before disks first first' second second' name log_bytes m same same_second h = record {
+  begun = λ honest stray.
+      subst (λ a. HasBegun disks (logged_pair a (disks.seen second)) name log_bytes m) (same honest)
+      (subst (λ b. HasBegun disks (logged_pair (disks.seen first') b) name log_bytes m) (same_second honest)
+      (h.begun honest
+      (subst (λ a. NoStray a (disks.seen second')) (sym (same honest))
+      (subst (λ b. NoStray (disks.seen first) b) (sym (same_second honest)) stray))));
+  fresh_one = λ trusts none none_second.
+      h.fresh_one trusts (same trusts.disk ∙ none) (same_second trusts.disk ∙ none_second);
+  reopens = λ trusts s recoverable files.
+      h.reopens trusts s recoverable
+      (subst (λ a. FilesStandFor log_bytes a (disks.seen second') s) (sym (same trusts.disk))
+      (subst (λ b. FilesStandFor log_bytes (disks.seen first) b s) (sym (same_second trusts.disk)) files));
+}

@@ -1,8 +1,10 @@
 -- What a server that ended did, and what is known where it failed.
-use Rattle.std.specs.Prelude.{◌≡◌, ◌⊎◌, ◌<◌, ◌++◌, ℕ, Bool, List, [], IsSomeAnd, Some, codes}
+use Rattle.std.specs.Prelude.{◌≡◌, ◌⊎◌, ◌<◌, ◌++◌, ℕ, Bool, if◌then◌else◌, List, [], IsSomeAnd, Some, codes}
 use Rattle.xa_disk.specs.declared.disk.Disk as disk
+use Rattle.xa_log.specs.Missing.{missing_of}
 use Rattle.xa_log.specs.Pair.{logged_pair}
 use Rattle.xa_log.specs.TwoFiles.{NoStray}
+use Rattle.xa_log.specs.declared.missing.Missing.TheVariants.{Neither, First, Second}
 use Rattle.xa_manager.specs.declared.manager.Manager.{Manager}
 use Rattle.xa_manager.specs.Files.{FilesStandFor}
 use Rattle.xa_manager.specs.LogStands.{Trusts}
@@ -46,17 +48,44 @@ pub record HasServed {D : Type 0} (disks : disk.Ghosts D) (m : room.Ghosts (Mana
   pub first : D
   pub second : D
   pub files : AreFiles opened path first second
+  pub whole : disks.honest → missing_of (disks.seen first) (disks.seen second) ≡ Neither
   pub manager : Manager D
   pub has_opened : HasOpened disks first second name log_bytes manager
   pub calls : ℕ
   pub serves : Serves m (m.stands manager) (m.failures manager) calls is_whole
 
--- What is known where it failed: no manager was opened on the files at a path, for a reason that it tells; or there
--- were no such workers.
+-- What is known of two disks where a server failed on them: no manager was opened on them, for a reason that it tells;
+-- or the one that it names is missing.
+abbrev pub Refuses : {D : Type 0} → disk.Ghosts D → List ℕ → List ℕ → ℕ → D → D → ServeFault → Type 0
+Refuses disks path name log_bytes first second (fault.Manager e) =
+    disks.honest → OpenRefused e name log_bytes (disks.seen first) (disks.seen second)
+Refuses disks path name log_bytes first second (fault.Missing file) =
+    (file.path.now ≡ path)
+    × (disks.honest
+    → missing_of (disks.seen first) (disks.seen second) ≡ (if file.is_second then Second else First))
+Refuses disks path name log_bytes first second fault.Start = ⊥
+Refuses disks path name log_bytes first second _ = Unit {0}
+
+-- a fault of opening files
+abbrev pub IsFileFault : ServeFault → Type 0
+IsFileFault fault.Memory = Unit {0}
+IsFileFault fault.InUse = Unit {0}
+IsFileFault (fault.File file why) = Unit {0}
+IsFileFault _ = ⊥
+
+-- the disks that it failed on were opened on the files at a path
+abbrev pub HasRefused : {D : Type 0} → disk.Ghosts D → (D → List ℕ → Type 0) → List ℕ → List ℕ → ℕ → ServeFault
+    → Type 0
+HasRefused {D} disks opened path name log_bytes why =
+    (first : D) × (second : D) × AreFiles opened path first second
+    × Refuses disks path name log_bytes first second why
+
+-- What is known where it failed: it failed on the files at a path, or there were no such workers.
 abbrev pub HasFailed : {D : Type 0} → disk.Ghosts D → (D → List ℕ → Type 0) → List ℕ → List ℕ → ℕ → ℕ → ServeFault
     → Type 0
-HasFailed {D} disks opened path name log_bytes workers (fault.Manager e) =
-    (first : D) × (second : D) × AreFiles opened path first second
-    × (disks.honest → OpenRefused e name log_bytes (disks.seen first) (disks.seen second))
+HasFailed disks opened path name log_bytes workers (fault.Manager e) =
+    HasRefused disks opened path name log_bytes (fault.Manager e)
+HasFailed disks opened path name log_bytes workers (fault.Missing file) =
+    HasRefused disks opened path name log_bytes (fault.Missing file)
 HasFailed disks opened path name log_bytes workers fault.Start = (workers ≡ 0) ⊎ (MOST_WORKERS < workers)
 HasFailed disks opened path name log_bytes workers _ = Unit {0}

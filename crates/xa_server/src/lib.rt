@@ -4,13 +4,15 @@
 //! - `serving`: `serve_manager`, which has workers serve a manager's sessions at one desk, and then audits the desk's
 //!   history; `MOST_WORKERS`
 //! - `audited`: `Audited`, what it tells of the history; `audited_lines`, the two lines that show it
-//! - `serve_fault`: `ServeFault`, why nothing was served; `fault`: `ServerFault`, why nothing is told of it
+//! - `serve_fault`: `ServeFault`, why nothing was served; `log_file`: `LogFile`, a file that it names; `fault`:
+//!   `ServerFault`, why nothing is told of it
 //! - `laws`: `served_promises`, what is promised of what was served
 #![tactic(auto)]
 
 mod audited;
 mod fault;
 mod laws;
+mod log_file;
 mod serve_fault;
 mod service;
 mod serving;
@@ -18,6 +20,7 @@ mod serving;
 pub use audited::{Audited, audited_lines};
 pub use fault::ServerFault;
 pub use laws::served_promises;
+pub use log_file::LogFile;
 pub use serve_fault::ServeFault;
 pub use service::{MOST_SERVED, Service, serve};
 pub use serving::{MOST_WORKERS, serve_manager};

@@ -1,11 +1,13 @@
 use crate::fault::ServerFault;
+use crate::log_file::LogFile;
 use std::alloc::AllocError;
 use thiserror::Error;
+use xa_disk::FileFault;
 use xa_manager::ManagerFault;
 
 /// Why nothing was served, or not to the end. Its text is what `xarm` prints behind its name.
-#[derive(Clone, Copy, Debug, PartialEq, Eq, Error)]
-pub enum ServeFault {
+#[derive(Clone, Copy, Debug, Drop, Error)]
+pub enum ServeFault<'a> {
     #[error("no memory")]
     Memory,
     #[error("cannot write")]
@@ -14,32 +16,38 @@ pub enum ServeFault {
     Listen,
     #[error("cannot start workers")]
     Start,
-    /// A file of the log couldn't be opened, or another process has it.
-    #[error("device fault")]
-    Files,
+    /// A server has the log, or a scan reads it.
+    #[error("log in use")]
+    InUse,
+    /// A file of the log couldn't be opened.
+    #[error("device fault: {file}: {fault}")]
+    File { file: LogFile<'a>, fault: FileFault },
+    /// It was there once, or had bytes, since the other one's log is of a later generation.
+    #[error("log file missing or empty: {0}")]
+    Missing(LogFile<'a>),
     /// The manager couldn't be opened on its log.
     #[error("{0}")]
     Manager(ManagerFault),
 }
 
-impl From<AllocError> for ServeFault {
+impl From<AllocError> for ServeFault<'_> {
     ghost use Rattle.std.specs.Prelude.{◌≡◌};
     ghost use Rattle.xa_server.specs.declared.serve_fault.ServeFault.TheVariants.{Memory};
 
     ghost from_gives = { λ _ fault. fault ≡ Memory };
 
-    fn from(_: AllocError) -> ServeFault {
+    fn from(_: AllocError) -> Self {
         ServeFault::Memory
     }
 }
 
-impl From<ManagerFault> for ServeFault {
+impl From<ManagerFault> for ServeFault<'_> {
     ghost use Rattle.std.specs.Prelude.{◌≡◌};
     ghost use Rattle.xa_server.specs.Faults.{opening_fault};
 
     ghost from_gives = { λ fault told. told ≡ opening_fault fault };
 
-    fn from(fault: ManagerFault) -> ServeFault {
+    fn from(fault: ManagerFault) -> Self {
         match fault {
             ManagerFault::Memory => ServeFault::Memory,
             fault => ServeFault::Manager(fault),
@@ -47,13 +55,13 @@ impl From<ManagerFault> for ServeFault {
     }
 }
 
-impl From<ServerFault> for ServeFault {
+impl From<ServerFault> for ServeFault<'_> {
     ghost use Rattle.std.specs.Prelude.{◌≡◌};
     ghost use Rattle.xa_server.specs.Faults.{serving_fault};
 
     ghost from_gives = { λ fault told. told ≡ serving_fault fault };
 
-    fn from(fault: ServerFault) -> ServeFault {
+    fn from(fault: ServerFault) -> Self {
         match fault {
             ServerFault::Memory => ServeFault::Memory,
             // the command line takes no such number

@@ -1,10 +1,13 @@
 //! A manager over two files, whose sessions are the connections of a port.
-ghost use Rattle.std.specs.Prelude.{◌≡◌, ◌↔◌, ◌⊎◌, ◌++◌, IfErr, IfOk, IsErrOf, codes, string_bytes};
+ghost use Rattle.std.specs.Prelude.{◌≡◌, ◌↔◌, ◌++◌, ℕ, List, IfErr, IfOk, IsErrOf, OnOk, codes, string_bytes};
 ghost use Rattle.xa_limits.specs.declared.TheConstants.{MOST_LOG};
+ghost use Rattle.xa_log.specs.Missing.{missing_of};
+ghost use Rattle.xa_log.specs.declared.missing.Missing.TheVariants.{Neither};
 ghost use Rattle.xa_manager.specs.Opening.{IsBadSetting, OpenRefused};
-ghost use Rattle.xa_server.specs.Served.{HasFailed, HasOpened, HasServed};
+ghost use Rattle.xa_server.specs.Served.{HasFailed, HasOpened, HasServed, IsFileFault, Refuses};
 
 use crate::audited::audited_lines;
+use crate::log_file::LogFile;
 use crate::serve_fault::ServeFault;
 use crate::serving::serve_manager;
 use std::alloc::{AllocError, Global};
@@ -12,8 +15,9 @@ use std::io::Print;
 use std::net::{Net, TcpListener, TcpStream};
 use std::sync::Wait;
 use std::thread::Threads;
-use xa_disk::{Disk, Opens};
+use xa_disk::{Disk, FileFault, Opens};
 use xa_limits::MOST_LOG;
+use xa_log::{Missing, OpenFault, missing_file};
 use xa_manager::{Manager, ManagerFault, Settings};
 use xa_room::Manages;
 
@@ -36,9 +40,10 @@ pub struct Service<'a> {
 /// Opens the log's two files, listens, and opens the manager; then it serves so many connections, and audits the
 /// history. Whether the audit found it whole.
 ///
-/// Nobody is answered before the manager is open, and where the port can't be had the manager isn't opened, so that
-/// nothing is written to the log.
+/// Nobody is answered before the manager is open. Where the port can't be had, or a file of the log is missing, the
+/// manager isn't opened, so that nothing is written to the log.
 pub fn serve<
+    'a,
     R: AllocGlobal
         + Print
         + Opens
@@ -46,14 +51,15 @@ pub fn serve<
         + Threads
         + Wait
         + Sync,
->(rt: &R, service: &Service) -> Result<bool, ServeFault>
+>(rt: &R, service: &Service<'a>) -> Result<bool, ServeFault<'a>>
     ensures served { IfOk result (λ is_whole. HasServed ⟦<R::Disk as Disk>⟧ ⟦<Manager<R::Disk> as Manages>⟧ R.opened
         service.now.path.now service.now.name.now MOST_LOG is_whole) }
     ensures failed { IfErr result (λ fault. HasFailed ⟦<R::Disk as Disk>⟧ R.opened
         service.now.path.now service.now.name.now MOST_LOG service.now.workers fault) }
 {
     let settings = Settings::new(rt.alloc(), service.name, MOST_LOG)?;
-    let (first, second) = open_files(rt, service.path)?;
+    let (mut first, mut second) = open_files(rt, service.path)?;
+    none_missing(rt.alloc(), &mut first, &mut second, service.path)?;
     let Ok(listener) = TcpListener::bind(rt, ("127.0.0.1", service.port)) else {
         return Err(ServeFault::Listen);
     };
@@ -84,19 +90,60 @@ fn open_manager<D: Disk + Drop>(
     Manager::open(alloc, first, second, settings)
 }
 
+/// Refuses two files of which one is missing, by its being empty. Only reads.
+fn none_missing<'a, D: Disk>(
+    alloc: Global,
+    first: &mut D,
+    second: &mut D,
+    path: &'a str,
+) -> Result<(), ServeFault<'a>>
+    ensures whole { D.honest → OnOk result (missing_of (D.seen first.old) (D.seen second.old) ≡ Neither) }
+    ensures same { D.honest → D.seen first.new ≡ D.seen first.old }
+    ensures same_second { D.honest → D.seen second.new ≡ D.seen second.old }
+    ensures failed { (name : List ℕ) (log_bytes : ℕ)
+        → IfErr result (Refuses D.Disk path.now name log_bytes first.old second.old) }
+{
+    let is_second = match missing_file(alloc, first, second) {
+        Ok(Missing::Neither) => return Ok(()),
+        Ok(Missing::First) => false,
+        Ok(Missing::Second) => true,
+        Err(OpenFault::Memory) => return Err(ServeFault::Memory),
+        Err(fault) => return Err(ServeFault::Manager(ManagerFault::Log(fault))),
+    };
+    Err(ServeFault::Missing(LogFile { path, is_second }))
+}
+
 /// The log's two files, the first one at this path.
-fn open_files<R: AllocGlobal + Opens>(rt: &R, path: &str) -> Result<(R::Disk, R::Disk), ServeFault>
+fn open_files<'a, R: AllocGlobal + Opens>(
+    rt: &R,
+    path: &'a str,
+) -> Result<(R::Disk, R::Disk), ServeFault<'a>>
     ensures opened { IfOk result (λ disks. R.opened disks.0 path.now × R.opened disks.1 (path.now ++ codes ".2")) }
-    ensures failed { IfErr result (λ fault. (fault ≡ ServeFault.Memory) ⊎ (fault ≡ ServeFault.Files)) }
+    ensures failed { IfErr result IsFileFault }
 {
     let second_path = second_path(rt.alloc(), path)?;
-    let Ok(first) = rt.open_disk(path) else {
-        return Err(ServeFault::Files);
+    let first = match rt.open_disk(path) {
+        Ok(disk) => disk,
+        Err(fault) => return Err(refused(path, false, fault)),
     };
-    let Ok(second) = rt.open_disk(second_path.as_str()) else {
-        return Err(ServeFault::Files);
-    };
-    Ok((first, second))
+    match rt.open_disk(second_path.as_str()) {
+        Ok(second) => Ok((first, second)),
+        Err(fault) => Err(refused(path, true, fault)),
+    }
+}
+
+/// Why one of the two wasn't opened.
+fn refused(path: &str, is_second: bool, fault: FileFault) -> ServeFault<'_>
+    ensures { IsFileFault result }
+{
+    match fault {
+        FileFault::Memory => ServeFault::Memory,
+        FileFault::InUse => ServeFault::InUse,
+        fault => ServeFault::File {
+            file: LogFile { path, is_second },
+            fault,
+        },
+    }
 }
 
 /// The path of the log's second file.

@@ -3,29 +3,27 @@ use std::cell::RefCell;
 use std::fmt::Display;
 use std::io::{self, BufRead, ErrorKind, Lines, Read};
 use std::net::{Net, SocketAddr, TcpListener, TcpStream};
-use xa_disk::{DiskFault, MemDisk, Opens};
+use xa_disk::{FileCall, FileFault, MemDisk, Opens};
 
-/// A runtime of the tests: what its reader gives, and whether its output is taken.
+/// A runtime of the tests: what its reader gives, and what was printed on it.
 #[derive(Drop)]
 pub struct Host {
     pub alloc: Global,
     pub input: Given,
-    pub takes: bool,
     pub printed: RefCell<Vec<u8>>,
     pub errors: RefCell<Vec<u8>>,
 }
 
-/// A reader that gives a text so many times, and then fails or ends.
+/// A reader that gives a text, and then fails or ends.
 #[derive(Clone, Copy, Drop)]
 pub struct Given {
     pub text: &'static [u8],
-    pub times: usize,
     pub error: Option<ErrorKind>,
 }
 
 impl Read for Given {
     fn read(&mut self, buf: &mut [u8]) -> io::Result<usize> {
-        if self.times == 0 {
+        if self.text.is_empty() {
             return match self.error {
                 Some(kind) => Err(io::Error::from(kind)),
                 None => Ok(0),
@@ -33,14 +31,14 @@ impl Read for Given {
         }
         let count = self.text.len().min(buf.len());
         buf[..count].copy_from_slice(&self.text[..count]);
-        self.times -= 1;
+        self.text = &self.text[count..];
         Ok(count)
     }
 }
 
 impl BufRead for Given {
     fn fill_buf(&mut self) -> io::Result<&[u8]> {
-        if self.times == 0 {
+        if self.text.is_empty() {
             return match self.error {
                 Some(kind) => Err(io::Error::from(kind)),
                 None => Ok(b"".as_slice()),
@@ -50,13 +48,7 @@ impl BufRead for Given {
     }
 
     fn consume(&mut self, amount: usize) {
-        if self.times == 0 {
-            return;
-        }
         self.text = &self.text[amount.min(self.text.len())..];
-        if self.text.is_empty() {
-            self.times = 0;
-        }
     }
 }
 
@@ -105,9 +97,6 @@ impl io::Print for Host {
     }
 
     fn write_all(&self, bytes: &[u8]) -> io::Result<()> {
-        if !self.takes {
-            return Err(io::Error::from(ErrorKind::BrokenPipe));
-        }
         self.put(&self.printed, bytes)
     }
 }
@@ -124,18 +113,25 @@ impl io::Eprint for Host {
     }
 }
 
-/// Its files are empty, but one that can't be opened.
+/// Its files are empty, but one that can't be opened and one that another disk has.
 impl Opens for Host {
     type Disk = MemDisk;
 
     ghost opened = { λ _ _. Unit {0} };
 
-    fn open_disk(&self, path: &str) -> Result<MemDisk, DiskFault> {
-        if path == "closed" {
-            Err(DiskFault)
-        } else {
-            Ok(MemDisk::new(self.alloc))
+    fn open_disk(&self, path: &str) -> Result<MemDisk, FileFault> {
+        match path {
+            "closed" => Err(FileFault::Call {
+                call: FileCall::Open,
+                error: io::Error::from(ErrorKind::PermissionDenied),
+            }),
+            "taken" => Err(FileFault::InUse),
+            _ => Ok(MemDisk::new(self.alloc)),
         }
+    }
+
+    fn read_disk(&self, path: &str) -> Result<MemDisk, FileFault> {
+        self.open_disk(path)
     }
 }
 

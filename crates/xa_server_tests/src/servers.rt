@@ -13,7 +13,7 @@ use xa_frame::{Reply, decode_reply};
 use xa_manager::{Manager, Settings};
 use xa_play::play_run;
 use xa_rows::{LOG_BYTES, SESSIONS};
-use xa_script::{first_part, reply_line};
+use xa_script::{Style, first_part, reply_line};
 use xa_server::{Audited, audited_lines, serve_manager};
 use xa_talk::{Connection, Dial, talk_run};
 
@@ -155,7 +155,7 @@ fn talked<R: Net<Stream = TcpStream>>(
         address,
         came: &came,
     };
-    let end = talk_run(alloc, &mut reader, &mut printed, &mut caller);
+    let end = talk_run(alloc, &mut reader, &mut printed, &mut caller, Style::Codes);
     let _caller = caller;
     end.ok()?;
     Some((printed, came.into_inner()))

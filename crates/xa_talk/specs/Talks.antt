@@ -8,32 +8,33 @@ use Rattle.xa_output.specs.Output.{IsFront}
 use Rattle.xa_script.specs.Lines as lines
 use Rattle.xa_script.specs.Replies as replies
 use Rattle.xa_script.specs.Requests.{ReadsTexts}
+use Rattle.xa_script.specs.declared.style.Style.{Style}
 use Rattle.xa_xid.specs.Triple.{Triple}
 use Rattle.xa_talk.specs.declared.fault.TalkFault.{TalkFault}
 use Rattle.xa_talk.specs.declared.fault.TalkFault.TheVariants.{Memory, Read, Write}
 use Rattle.xa_talk.specs.Answers.{LineAnswered}
 
 -- The line of a reply is written. Where it failed, nothing, without memory, or some first bytes.
-abbrev pub Shows : {X : Type 0} → Reply → Result X TalkFault → List ℕ → Type 0
-Shows reply (Ok x) text = text ≡ replies.line_of reply
-Shows reply (Err Memory) text = text ≡ []
-Shows reply (Err Write) text = IsFront text (replies.line_of reply)
-Shows reply (Err fault) text = ⊥
+abbrev pub Shows : {X : Type 0} → Style → Reply → Result X TalkFault → List ℕ → Type 0
+Shows style reply (Ok x) text = text ≡ replies.line_in style reply
+Shows style reply (Err Memory) text = text ≡ []
+Shows style reply (Err Write) text = IsFront text (replies.line_in style reply)
+Shows style reply (Err fault) text = ⊥
 
 -- what is written behind an answer: nothing where there is no reply, and a fault is told on
-abbrev pub ShowsAnswer : {X : Type 0} → Result (Option Reply) TalkFault → Result X TalkFault → List ℕ → Type 0
-ShowsAnswer (Ok None) (Ok x) text = text ≡ []
-ShowsAnswer (Ok None) (Err fault) text = ⊥
-ShowsAnswer (Ok (Some reply)) end text = Shows reply end text
-ShowsAnswer (Err fault) (Ok x) text = ⊥
-ShowsAnswer (Err fault) (Err told) text = (told ≡ fault) × (text ≡ [])
+abbrev pub ShowsAnswer : {X : Type 0} → Style → Result (Option Reply) TalkFault → Result X TalkFault → List ℕ → Type 0
+ShowsAnswer style (Ok None) (Ok x) text = text ≡ []
+ShowsAnswer style (Ok None) (Err fault) text = ⊥
+ShowsAnswer style (Ok (Some reply)) end text = Shows style reply end text
+ShowsAnswer style (Err fault) (Ok x) text = ⊥
+ShowsAnswer style (Err fault) (Err told) text = (told ≡ fault) × (text ≡ [])
 
 -- A line is answered as its definition says, and the answer is shown; or there was no memory to read it.
-abbrev pub LineTalked : {C X : Type 0} → (C → Option (List ℕ)) → (C → Option (List ℕ)) → List ℕ → Result X TalkFault
+abbrev pub LineTalked : {C X : Type 0} → Style → (C → Option (List ℕ)) → (C → Option (List ℕ)) → List ℕ → Result X TalkFault
     → List ℕ → List (Option C) → List (Option C) → Type 0
-LineTalked sent left line end text numbered numbered' =
+LineTalked style sent left line end text numbered numbered' =
     (IsErrOf end Memory × (text ≡ []) × (numbered' ≡ numbered))
-    ⊎ ((answer : Result (Option Reply) TalkFault) × ShowsAnswer answer end text
+    ⊎ ((answer : Result (Option Reply) TalkFault) × ShowsAnswer style answer end text
     × ((xid_of : List ℕ → Option Triple) → ReadsTexts xid_of
     → LineAnswered sent left (lines.line_of xid_of line) answer numbered numbered'))
 
@@ -61,8 +62,8 @@ NextRead (Ok true) input line input' = ReadsLine input line input'
 NextRead (Ok false) input line input' = IsAtEnd input × Keeps input input'
 NextRead (Err fault) input line input' = IsReadFault fault × ReadsPart input input'
 
--- over connections, with what was sent over one, and what can still be read from it
-module _ {C : Type 0} (sent left : C → Option (List ℕ)) where
+-- in a style of replies, over connections, with what was sent over one, and what can still be read from it
+module _ {C : Type 0} (style : Style) (sent left : C → Option (List ℕ)) where
   -- Lines are read and talked, one behind the other: each is talked to its end before the next one is read.
   abbrev pub LinesTalked : Option (List ℕ) → List (Option C) → List (List ℕ) → List ℕ → Option (List ℕ)
       → List (Option C) → Type 0
@@ -70,7 +71,7 @@ module _ {C : Type 0} (sent left : C → Option (List ℕ)) where
   LinesTalked input numbered (line ∷ lines) text input' numbered' =
       (behind : Option (List ℕ)) × (first : List ℕ) × (others : List ℕ) × (next : List (Option C))
       × ReadsLine input line behind
-      × LineTalked {X = Unit {0}} sent left (strip_last 10 line) (Ok tt) first numbered next
+      × LineTalked {X = Unit {0}} style sent left (strip_last 10 line) (Ok tt) first numbered next
       × (text ≡ first ++ others) × LinesTalked behind next lines others input' numbered'
 
   -- By the end of a script, what became of the next line. Ok: there is none. A fault: it couldn't be read, or it was
@@ -81,7 +82,7 @@ module _ {C : Type 0} (sent left : C → Option (List ℕ)) where
   NextEnds (Err fault) input numbered text input' =
       ((text ≡ []) × IsReadFault fault × ReadsPart input input')
       ⊎ ((line : List ℕ) × (numbered' : List (Option C)) × ReadsLine input line input'
-      × LineTalked {X = Unit {0}} sent left (strip_last 10 line) (Err fault) text numbered numbered')
+      × LineTalked {X = Unit {0}} style sent left (strip_last 10 line) (Err fault) text numbered numbered')
 
   -- A script is talked, from no connections on: so many lines to their ends, and then the next one as the end says.
   -- What is written is the text of each, in their order.

@@ -14,9 +14,10 @@ use std::alloc::Global;
 use std::io::{BufRead, Error, ErrorKind, Read, Write};
 use xa_frame::Reply;
 use xa_output::write_text;
-use xa_script::{read_line, reply_line};
+use xa_script::{Style, read_line, styled_line};
 
-/// Reads a script line by line. Each line is answered, and its reply written and flushed, before the next one is read.
+/// Reads a script line by line. Each line is answered, and its reply written in a style and flushed, before the next one
+/// is read.
 ///
 /// It ends with the input, or with the first fault: a line that couldn't be read, or beyond which none can be counted
 /// (`Read`); no memory; no connection where the line asks for one (`Connect`); one that broke (`Broken`), or brought
@@ -26,8 +27,9 @@ pub fn talk_run<I: BufRead + Drop, O: Write, R: Read + Drop, W: Write + Drop, D:
     input: &mut I,
     output: &mut O,
     dial: &mut D,
+    style: Style,
 ) -> Result<(), TalkFault>
-    ensures { Talks {C = Connection R W} (λ c. W.contents c.writer) (λ c. R.remaining c.reader) result
+    ensures { Talks {C = Connection R W} style (λ c. W.contents c.writer) (λ c. R.remaining c.reader) result
         (I.remaining input.old) (I.remaining input.new) (O.contents output.old) (O.contents output.new) }
 {
     let mut connections = Connections::new(alloc);
@@ -42,6 +44,7 @@ pub fn talk_run<I: BufRead + Drop, O: Write, R: Read + Drop, W: Write + Drop, D:
             &mut connections,
             output,
             without_end(line.as_slice()),
+            style,
         )?;
     }
     Err(TalkFault::Read)
@@ -66,24 +69,30 @@ fn talk_line<O: Write, R: Read + Drop, W: Write + Drop, D: Dial<R, W>>(
     connections: &mut Connections<R, W>,
     output: &mut O,
     line: &[u8],
+    style: Style,
 ) -> Result<(), TalkFault>
     ensures { (text : List ℕ) × Appends (O.contents output.old) (O.contents output.new) text
-        × LineTalked (λ c. W.contents c.writer) (λ c. R.remaining c.reader) line.now result text
+        × LineTalked style (λ c. W.contents c.writer) (λ c. R.remaining c.reader) line.now result text
         connections.old.numbered.items connections.new.numbered.items }
 {
     let said = read_line(alloc, line)?;
     let Some(reply) = answer(alloc, dial, connections, said)? else {
         return Ok(());
     };
-    write_reply(alloc, output, &reply)
+    write_reply(alloc, output, &reply, style)
 }
 
 /// Writes the line of a reply, and flushes it.
-fn write_reply<O: Write>(alloc: Global, output: &mut O, reply: &Reply) -> Result<(), TalkFault>
+fn write_reply<O: Write>(
+    alloc: Global,
+    output: &mut O,
+    reply: &Reply,
+    style: Style,
+) -> Result<(), TalkFault>
     ensures { (text : List ℕ) × Appends (O.contents output.old) (O.contents output.new) text
-        × Shows reply.now result text }
+        × Shows style reply.now result text }
 {
-    let text = reply_line(alloc, reply)?;
+    let text = styled_line(alloc, reply, style)?;
     if !write_text(output, text.as_slice()) {
         return Err(TalkFault::Write);
     }

@@ -2,6 +2,7 @@ use std::alloc::Global;
 use std::cell::RefCell;
 use std::io::{self, ErrorKind, Write};
 use xa_rows::first_wrong;
+use xa_script::Style;
 use xa_talk::{Connection, Dial, TalkFault, talk_run};
 
 /// Keeps what is sent over a connection.
@@ -131,7 +132,7 @@ fn is_row(alloc: Global, row: &Row) -> bool {
         reached: 0,
         sent: &sent,
     };
-    let end = talk_run(alloc, &mut script, &mut printed, &mut server);
+    let end = talk_run(alloc, &mut script, &mut printed, &mut server, Style::Codes);
     let is_printed = printed.as_slice() == row.printed.as_bytes();
     let _server = server;
     end == row.end && is_printed && sent.into_inner().as_slice() == row.sent

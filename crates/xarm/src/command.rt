@@ -30,7 +30,7 @@ pub fn run<'a, R: AllocGlobal + Input + Print + Eprint + Opens + Net<Stream = Tc
         Ok(Asked::Play { name, log_bytes }) => ended(rt, &play(rt, name, log_bytes)),
         Ok(Asked::Scan { path }) => ended(rt, &scan(rt, path)),
         Ok(Asked::Serve(service)) => return Ran::Serves(service),
-        Ok(Asked::Talk { port }) => ended(rt, &talk(rt, port)),
+        Ok(Asked::Talk { port, style }) => ended(rt, &talk(rt, port, style)),
         Err(error) => refused(rt, &error),
     })
 }

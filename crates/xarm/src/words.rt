@@ -4,7 +4,11 @@ use clap::builder::ValueParser;
 use clap::{Arg, ArgAction, ArgMatches, Command, Error};
 use std::alloc::{AllocError, Global};
 use xa_limits::MOST_LOG;
+use xa_script::Style;
 use xa_server::{MOST_SERVED, MOST_WORKERS, Service};
+
+/// The greatest number that a word may spell: `clap` reads numbers of 63 bits.
+const MOST_NUMBER: u64 = 9_223_372_036_854_775_807;
 
 /// What a command line asks for.
 #[derive(Debug, Drop)]
@@ -19,6 +23,7 @@ pub enum Asked<'a> {
     },
     Talk {
         port: u16,
+        style: Style,
     },
     Serve(Service<'a>),
 }
@@ -52,10 +57,15 @@ fn read_matches<'a>(matches: &ArgMatches<'a>) -> Asked<'a> {
         }),
         Some(("talk", talk)) => Asked::Talk {
             port: talk.get_one("port").unwrap_or(0),
+            style: if talk.get_flag("names") {
+                Style::Names
+            } else {
+                Style::Codes
+            },
         },
         Some((_, play)) => Asked::Play {
             name: text_of(play, "name", "xarm"),
-            log_bytes: log_bytes_of(play),
+            log_bytes: play.get_one("log-bytes").unwrap_or(MOST_LOG),
         },
         None => Asked::Play {
             name: "xarm",
@@ -66,14 +76,6 @@ fn read_matches<'a>(matches: &ArgMatches<'a>) -> Asked<'a> {
 
 fn text_of<'a>(matches: &ArgMatches<'a>, name: &str, absent: &'a str) -> &'a str {
     matches.get_str(name).unwrap_or(absent)
-}
-
-/// How many bytes a file of the log may have. A word that spells no number is out of the limits, as 0 is.
-fn log_bytes_of(play: &ArgMatches) -> u64 {
-    match play.get_str("log-bytes") {
-        Some(word) => word.parse::<u64>().unwrap_or(0),
-        None => MOST_LOG,
-    }
 }
 
 fn play_command<'a>(alloc: Global) -> Result<Command<'a>, AllocError> {
@@ -87,6 +89,7 @@ fn play_command<'a>(alloc: Global) -> Result<Command<'a>, AllocError> {
         .long("log-bytes")
         .value_name("N")
         .help("How many bytes each of the log's two files may have: 64 to 1073741824")
+        .value_parser(ValueParser::unsigned(0, MOST_NUMBER))
         .action(ArgAction::Set)
         .default_value("1073741824");
     Command::new(alloc, "play")
@@ -102,7 +105,7 @@ fn scan_command<'a>(alloc: Global) -> Result<Command<'a>, AllocError> {
     let path = Arg::new(alloc, "path")
         .value_name("PATH")
         .help(
-            "One of the log's two files, of at most 1073741824 bytes; one that isn't there is made, and is no log",
+            "One of the log's two files, of at most 1073741824 bytes. It is only read, and not while a server has it",
         )
         .required(true)
         .action(ArgAction::Set);
@@ -113,13 +116,18 @@ fn scan_command<'a>(alloc: Global) -> Result<Command<'a>, AllocError> {
 }
 
 fn talk_command<'a>(alloc: Global) -> Result<Command<'a>, AllocError> {
+    let names = Arg::new(alloc, "names")
+        .long("names")
+        .help("Prints the name of each code behind its number, as in 104 XA_RBOTHER LogFull")
+        .action(ArgAction::SetTrue);
     Command::new(alloc, "talk")
         .about("Sends the calls of a script from standard input to a server and prints the replies")
         .after_help(
             "Example: xarm talk --port 4100\nA connect opens a connection, of at most 1024. \
              Each line is answered before the next one is read.",
         )
-        .arg(port(alloc))
+        .arg(port(alloc))?
+        .arg(names)
 }
 
 fn serve_command<'a>(alloc: Global) -> Result<Command<'a>, AllocError> {

@@ -1,0 +1,27 @@
+use std::fmt;
+
+/// A call of the system on a file, or on its folder. Its text is the call's name in POSIX.
+#[derive(Clone, Copy, Debug, PartialEq, Eq)]
+pub enum FileCall {
+    Open,
+    Lock,
+    Length,
+    SyncFolder,
+    Read,
+    Write,
+    Sync,
+}
+
+impl fmt::Display for FileCall {
+    fn fmt<W: fmt::Write>(&self, f: &mut fmt::Formatter<W>) -> fmt::Result {
+        f.write_str(match self {
+            FileCall::Open => "open",
+            FileCall::Lock => "flock",
+            FileCall::Length => "fstat",
+            FileCall::SyncFolder => "fsync of its folder",
+            FileCall::Read => "pread",
+            FileCall::Write => "pwrite",
+            FileCall::Sync => "fdatasync",
+        })
+    }
+}
