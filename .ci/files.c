@@ -1,0 +1,104 @@
+/* Tells of each call on a file, and of each send, that a program makes which is run under it (LD_PRELOAD), by a line to the
+   descriptor whose number stands in TELL: the call, the file's name, what was asked and what came of it. One call can be made to
+   fail: FAULT has its name, which one of that name, counted from 1, and the error's number. The error 0 stands for a short write, of
+   half of the bytes, and a + behind the count for all from that one on. */
+typedef unsigned long size_t;
+typedef long ssize_t;
+typedef long off_t;
+
+/* of the C library, by hand: the kit's clang comes without its headers */
+extern long syscall(long number, ...);
+extern int *__errno_location(void);
+extern char *getenv(const char *name);
+extern long strtol(const char *text, char **end, int base);
+extern int snprintf(char *to, size_t room, const char *form, ...);
+extern size_t strlen(const char *text);
+extern int strncmp(const char *one, const char *other, size_t count);
+extern char *strrchr(const char *text, int character);
+extern ssize_t readlink(const char *path, char *to, size_t room);
+extern ssize_t write(int file, const void *bytes, size_t count);
+extern void abort(void);
+
+enum { PREAD = 17, PWRITE = 18, SENDTO = 44, FSYNC = 74, FDATASYNC = 75 };
+
+static long to, number, error;
+static int goes_on;
+static char name[16];
+
+__attribute__((constructor)) static void begin(void)
+{
+    const char *tell = getenv("TELL"), *fault = getenv("FAULT");
+    char *rest;
+    int at = 0;
+    to = tell ? strtol(tell, &rest, 10) : 0;
+    if (!fault)
+        return;
+    while (fault[at] && fault[at] != ' ' && at < 15) {
+        name[at] = fault[at];
+        at++;
+    }
+    number = strtol(fault + at, &rest, 10);
+    goes_on = *rest == '+';
+    error = strtol(rest + goes_on, &rest, 10);
+}
+
+/* whether this call of that name is the one that is to fail */
+static int fails(const char *call)
+{
+    static long seen;
+    long count;
+    if (!number || strncmp(call, name, 16) != 0)
+        return 0;
+    count = __sync_add_and_fetch(&seen, 1);
+    return goes_on ? count >= number : count == number;
+}
+
+static ssize_t told(const char *call, int file, long at, ssize_t answer)
+{
+    char link[64], path[512], line[640];
+    const char *last;
+    ssize_t length;
+    int kept = *__errno_location();
+    snprintf(link, sizeof link, "/proc/self/fd/%d", file);
+    length = readlink(link, path, sizeof path - 1);
+    path[length < 0 ? 0 : length] = 0;
+    last = strrchr(path, '/');
+    length = snprintf(line, sizeof line, "%s %s %ld %ld\n", call, last ? last + 1 : path, at, answer < 0 ? (long)-kept : (long)answer);
+    if (to && write((int)to, line, (size_t)length) != length)
+        abort();
+    *__errno_location() = kept;
+    return answer;
+}
+
+static ssize_t failed(void)
+{
+    *__errno_location() = (int)error;
+    return -1;
+}
+
+ssize_t pread(int file, void *bytes, size_t count, off_t at)
+{
+    return told("pread", file, at, fails("pread") ? failed() : syscall(PREAD, file, bytes, count, at));
+}
+
+ssize_t pwrite(int file, const void *bytes, size_t count, off_t at)
+{
+    if (!fails("pwrite"))
+        return told("pwrite", file, at, syscall(PWRITE, file, bytes, count, at));
+    return told("pwrite", file, at, error ? failed() : syscall(PWRITE, file, bytes, (count + 1) / 2, at));
+}
+
+int fdatasync(int file)
+{
+    return (int)told("fdatasync", file, 0, fails("fdatasync") ? failed() : syscall(FDATASYNC, file));
+}
+
+int fsync(int file)
+{
+    return (int)told("fsync", file, 0, fails("fsync") ? failed() : syscall(FSYNC, file));
+}
+
+ssize_t send(int file, const void *bytes, size_t count, int flags)
+{
+    return told("send", file, 0, syscall(SENDTO, file, bytes, count, flags, (void *)0, 0));
+}
