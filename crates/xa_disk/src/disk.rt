@@ -53,8 +53,9 @@ pub trait Disk {
         ensures calls { counts self.new ≡ with_length (counts self.old) }
         ensures count { CountsFault result (failures self.old) (failures self.new) };
 
-    /// Fills `into` with the bytes from an offset on. A read past the length is a fault.
+    /// Fills `into`, of one byte at least, with the bytes from an offset on. A read past the length is a fault.
     fn read_at(&mut self, at: u64, into: &mut [u8]) -> Result<(), DiskFault>
+        requires { 1 ≤ length into.old }
         ensures value { honest → OnOk result (Reads (seen self.old) at into.new) }
         ensures same { honest → seen self.new ≡ seen self.old }
         ensures time { honest → Passes Same (moment self.old) (moment self.new)
@@ -62,9 +63,10 @@ pub trait Disk {
         ensures calls { counts self.new ≡ with_read (length into.old) (counts self.old) }
         ensures count { CountsFault result (failures self.old) (failures self.new) };
 
-    /// Writes over what is there, and past the end; a gap before the offset is filled with zeros. Until a sync, a
-    /// crash may leave any bytes in the range and past the old end.
+    /// Writes one byte or more over what is there, and past the end; a gap before the offset is filled with zeros.
+    /// Until a sync, a crash may leave any bytes in the range and past the old end.
     fn write_at(&mut self, at: u64, from: &[u8]) -> Result<(), DiskFault>
+        requires { 1 ≤ length from.now }
         ensures written { honest → OnOk result (seen self.new ≡ put (seen self.old) at from.now) }
         ensures failed { honest → OnErr result (tears (seen self.old) at from.now (seen self.new)) }
         ensures time { honest → Passes (Torn at (length from.now)) (moment self.old) (moment self.new)

@@ -4,7 +4,7 @@
 //! nothing here, and that a file keeps them is a premise of whoever rests on them. The counts of calls and of
 //! failures are proved, and that no sync succeeds behind one that failed. The code above a `Disk` is generic, so
 //! it is the same code that is proved over each honest disk.
-ghost use Rattle.std.specs.Prelude.{◌≡◌, ◌≢◌, [], ℕ, true, false, None, length, IfOk, IsOk, IsErr, MatchResult, refl};
+ghost use Rattle.std.specs.Prelude.{◌≡◌, ◌≢◌, ◌≤◌, [], ℕ, true, false, None, length, IfOk, IsOk, IsErr, MatchResult, refl};
 ghost use Rattle.xa_disk.specs.Counts.{no_calls, with_length, with_read, with_write, with_sync};
 ghost use Rattle.xa_disk.specs.Disk.{CountsFault};
 ghost use Rattle.xa_disk.specs.Images.{torn_by_nothing};
@@ -184,6 +184,7 @@ impl Disk for FileDisk {
     }
 
     fn read_at(&mut self, at: u64, into: &mut [u8]) -> Result<(), DiskFault>
+        requires { 1 ≤ length into.old }
         ensures calls { self.new.counts ≡ with_read (length into.old) self.old.counts }
         ensures count { CountsFault result self.old.failures self.new.failures }
         ensures told { MatchResult result (λ _. self.new.error ≡ self.old.error) (λ _. self.new.error ≢ None) }
@@ -196,6 +197,7 @@ impl Disk for FileDisk {
     }
 
     fn write_at(&mut self, at: u64, from: &[u8]) -> Result<(), DiskFault>
+        requires { 1 ≤ length from.now }
         ensures calls { self.new.counts ≡ with_write self.old.counts }
         ensures count { CountsFault result self.old.failures self.new.failures }
         ensures told { MatchResult result (λ _. self.new.error ≡ self.old.error) (λ _. self.new.error ≢ None) }

@@ -255,6 +255,7 @@ impl Disk for MemDisk {
     }
 
     fn read_at(&mut self, at: u64, into: &mut [u8]) -> Result<(), DiskFault>
+        requires { 1 ≤ length into.old }
         ensures value { OnOk result (Reads self.old.bytes.items at into.new) }
         ensures same { self.new.bytes.items ≡ self.old.bytes.items }
         ensures time { PassesTime Same self.old self.new }
@@ -272,6 +273,7 @@ impl Disk for MemDisk {
     }
 
     fn write_at(&mut self, at: u64, from: &[u8]) -> Result<(), DiskFault>
+        requires { 1 ≤ length from.now }
         ensures written { OnOk result (self.new.bytes.items ≡ put self.old.bytes.items at from.now) }
         ensures failed { OnErr result (AllOrNone self.old.bytes.items at from.now self.new.bytes.items) }
         ensures time { PassesTime (Torn at (length from.now)) self.old self.new }
