@@ -1,46 +1,36 @@
-//! A real file.
+//! A disk that is a file.
 //!
-//! No contract can say what a file holds, so `honest` is no fact of this type: the clauses on values promise
-//! nothing here, and that a file keeps them is a premise of whoever rests on them. The counts of calls and of
-//! failures are proved, and that no sync succeeds behind one that failed. The code above a `Disk` is generic, so
-//! it is the same code that is proved over each honest disk.
-ghost use Rattle.std.specs.Prelude.{◌≡◌, ◌≢◌, ◌≤◌, [], ℕ, true, false, None, length, IfOk, IsOk, IsErr, MatchResult, refl};
+//! Each call of a `Disk` is exactly one call of the file, with its arguments, and a sync behind one that failed is none.
+//! So the disk keeps what the trait says where its file does. No contract can say what the system does: of `HostFile`,
+//! whose calls are the system's, that is a premise of whoever rests on it. The code above a `Disk` is generic, so it is
+//! the same code that is proved over each honest disk.
+ghost use Rattle.std.specs.Prelude.{◌≡◌, ◌≢◌, ◌≤◌, ◌∷◌, true, false, None, if◌then◌else◌, length, IfOk, OnOk, OnErr, IsErr, MatchResult};
 ghost use Rattle.xa_disk.specs.Counts.{no_calls, with_length, with_read, with_write, with_sync};
-ghost use Rattle.xa_disk.specs.Disk.{CountsFault};
-ghost use Rattle.xa_disk.specs.Images.{torn_by_nothing};
+ghost use Rattle.xa_disk.specs.Disk.{put, Torn, Same, Only, Passes, CountsFault, Reads};
+ghost use Rattle.xa_disk.specs.RawCall.{Measures, Gets, Puts, Syncs};
 
 use crate::opening::{locked, shared};
-use crate::teller::Teller;
-use crate::{Counts, Disk, DiskFault, FileCall, FileFault};
-use std::fs::File;
+use crate::tally::Tally;
+use crate::{Disk, DiskFault, FileCall, FileFault, HostFile, RawFile};
 use std::io;
-use std::os::unix::fs::FileExt;
 
 /// A disk that is a file, with counts of its calls and of those that failed. While it is there no other
 /// `FileDisk` writes to the file, in this process or another. The first call that fails is told on standard error.
 #[derive(Debug, Drop)]
-pub struct FileDisk {
-    file: File,
-    failures: u64,
-    counts: Counts,
+pub struct FileDisk<F = HostFile> {
+    file: F,
+    tally: Tally,
     // A sync has failed. The system may have dropped what that one was to write, so a later one that succeeds would
     // say nothing of it. Reads may still give these bytes, and a crash loses them: it stays so until the file is
     // opened anew.
     unsynced: bool,
-    error: Option<io::Error>,
-    teller: Teller,
 }
 
-// How many bytes a file has.
-pub(crate) fn length_of(file: &File) -> io::Result<u64> {
-    Ok(file.metadata()?.len())
-}
-
-impl FileDisk {
+impl FileDisk<HostFile> {
     /// The file at a path, created if it isn't there, as `open` takes it.
     pub fn at(rt: &HostRuntime, path: &str) -> Result<FileDisk, DiskFault>
-        ensures failures { IfOk result (λ disk. disk.failures ≡ 0) }
-        ensures counts { IfOk result (λ disk. disk.counts ≡ no_calls) }
+        ensures failures { IfOk result (λ disk. disk.tally.failures ≡ 0) }
+        ensures counts { IfOk result (λ disk. disk.tally.counts ≡ no_calls) }
         ensures whole { IfOk result (λ disk. disk.unsynced ≡ false) }
     {
         match FileDisk::open(rt, path) {
@@ -53,174 +43,179 @@ impl FileDisk {
     /// created, readable and writable by its owner alone. Where the file is empty, as a new one is, its entry in its
     /// folder is synced.
     pub fn open(rt: &HostRuntime, path: &str) -> Result<FileDisk, FileFault>
-        ensures failures { IfOk result (λ disk. disk.failures ≡ 0) }
-        ensures counts { IfOk result (λ disk. disk.counts ≡ no_calls) }
+        ensures failures { IfOk result (λ disk. disk.tally.failures ≡ 0) }
+        ensures counts { IfOk result (λ disk. disk.tally.counts ≡ no_calls) }
         ensures whole { IfOk result (λ disk. disk.unsynced ≡ false) }
-        ensures error { IfOk result (λ disk. disk.error ≡ None) }
+        ensures error { IfOk result (λ disk. disk.tally.error ≡ None) }
     {
         let file = locked(rt, path)?;
-        FileDisk::on(rt, path, file)
+        FileDisk::on(rt, path, HostFile::of(file))
     }
 
     /// The regular file at a path, for reads: each write fails. It may be one that can't be written. Nothing is
     /// created. `InUse` where a disk that writes has it; where the file can't be locked, that isn't known.
     pub fn for_reading(rt: &HostRuntime, path: &str) -> Result<FileDisk, FileFault>
-        ensures failures { IfOk result (λ disk. disk.failures ≡ 0) }
-        ensures counts { IfOk result (λ disk. disk.counts ≡ no_calls) }
+        ensures failures { IfOk result (λ disk. disk.tally.failures ≡ 0) }
+        ensures counts { IfOk result (λ disk. disk.tally.counts ≡ no_calls) }
         ensures whole { IfOk result (λ disk. disk.unsynced ≡ false) }
-        ensures error { IfOk result (λ disk. disk.error ≡ None) }
+        ensures error { IfOk result (λ disk. disk.tally.error ≡ None) }
     {
         let file = shared(rt, path)?;
-        FileDisk::on(rt, path, file)
+        FileDisk::on(rt, path, HostFile::of(file))
     }
+}
 
-    // A file that was opened at a path.
-    fn on(rt: &HostRuntime, path: &str, file: File) -> Result<FileDisk, FileFault>
-        ensures failures { IfOk result (λ disk. disk.failures ≡ 0) }
-        ensures counts { IfOk result (λ disk. disk.counts ≡ no_calls) }
+impl<F: Drop> FileDisk<F> {
+    /// A disk on a file that was opened at a path, which is told with its faults.
+    pub fn on(rt: &HostRuntime, path: &str, file: F) -> Result<FileDisk<F>, FileFault>
+        ensures file { IfOk result (λ disk. disk.file ≡ file) }
+        ensures failures { IfOk result (λ disk. disk.tally.failures ≡ 0) }
+        ensures counts { IfOk result (λ disk. disk.tally.counts ≡ no_calls) }
         ensures whole { IfOk result (λ disk. disk.unsynced ≡ false) }
-        ensures error { IfOk result (λ disk. disk.error ≡ None) }
+        ensures error { IfOk result (λ disk. disk.tally.error ≡ None) }
     {
-        let Ok(teller) = Teller::new(rt, path) else {
+        let Ok(tally) = Tally::new(rt, path) else {
             return Err(FileFault::Memory);
         };
         Ok(FileDisk {
             file,
-            failures: 0,
-            counts: Counts::none(),
+            tally,
             unsynced: false,
-            error: None,
-            teller,
         })
     }
 
     /// What the system said of the first call that failed, as that there is no space; `None` where none has.
     pub fn error(&self) -> Option<io::Error>
-        ensures { result ≡ self.now.error }
+        ensures { result ≡ self.now.tally.error }
     {
-        self.error
+        self.tally.error
     }
+}
 
-    // Answers a call. One that failed is counted, and the first one's error is told and kept.
-    fn answer<T: Drop>(&mut self, call: FileCall, answer: io::Result<T>) -> Result<T, DiskFault>
-        ensures kind { MatchResult answer (λ _. IsOk result) (λ _. IsErr result) }
-        ensures count { CountsFault result self.old.failures self.new.failures }
-        ensures told { MatchResult result (λ _. self.new.error ≡ self.old.error) (λ _. self.new.error ≢ None) }
-        ensures first { self.old.error ≢ None → self.new.error ≡ self.old.error }
-        ensures counts { self.new.counts ≡ self.old.counts }
-        ensures unsynced { self.new.unsynced ≡ self.old.unsynced }
-    {
-        match answer {
-            Ok(value) => Ok(value),
-            Err(error) => {
-                self.failures = self.failures.saturating_add(1);
-                self.keep(call, error);
-                Err(DiskFault)
-            }
-        }
-    }
-
-    // Tells an error and keeps it, if it is the first.
-    fn keep(&mut self, call: FileCall, error: io::Error)
-        ensures some { self.new.error ≢ None }
-        ensures first { self.old.error ≢ None → self.new.error ≡ self.old.error }
-        ensures failures { self.new.failures ≡ self.old.failures }
-        ensures counts { self.new.counts ≡ self.old.counts }
-        ensures unsynced { self.new.unsynced ≡ self.old.unsynced }
-    {
-        if self.error.is_none() {
-            self.teller.tell(call, &error);
-            self.error = Some(error);
-        }
-    }
-
-    // Syncs by `sync_data`, unless a sync has failed: the bytes, and what of the file's description is needed to read
-    // them, its length included.
-    fn try_sync(&self) -> io::Result<()>
-        ensures { self.now.unsynced ≡ true → IsErr result }
+impl<F: RawFile> FileDisk<F> {
+    // Syncs the file, unless a sync has failed.
+    fn try_sync(&mut self) -> io::Result<()>
+        ensures refused { self.old.unsynced ≡ true → IsErr result }
+        ensures durable { F.honest → OnOk result (Only (F.seen self.old.file) (F.may_leave self.new.file)) }
+        ensures same { F.honest → F.seen self.new.file ≡ F.seen self.old.file }
+        ensures time { F.honest → Passes Same (F.moment self.old.file) (F.moment self.new.file)
+            (F.left_since self.old.file) (F.left_since self.new.file)
+            (F.may_leave self.old.file) (F.may_leave self.new.file) }
+        ensures called { F.recorded → F.calls self.new.file
+            ≡ (if self.old.unsynced then F.calls self.old.file else Syncs ∷ F.calls self.old.file) }
+        ensures tally { self.new.tally ≡ self.old.tally }
     {
         if self.unsynced {
             return Err(io::Error::other("an earlier sync failed"));
         }
-        self.file.sync_data()
+        self.file.sync()
     }
 }
 
-impl Disk for FileDisk {
-    ghost honest = { ⊥ };
+impl<F: RawFile> Disk for FileDisk<F> {
+    ghost honest = { F.honest };
 
-    ghost seen = { λ _. [] };
+    ghost seen = { λ d. F.seen d.file };
 
-    ghost may_leave = { λ _ c. c ≡ [] };
+    ghost may_leave = { λ d. F.may_leave d.file };
 
-    ghost moment = { λ _. 0 };
+    ghost moment = { λ d. F.moment d.file };
 
-    ghost left_since = { λ _ _ c. c ≡ [] };
+    ghost left_since = { λ d. F.left_since d.file };
 
-    ghost tears = { λ old _ _ new. new ≡ old };
+    ghost tears = { F.tears };
 
-    ghost tears_torn = { torn_by_nothing };
+    ghost tears_torn = { F.tears_torn };
 
-    ghost failures = { λ d. d.failures };
+    ghost failures = { λ d. d.tally.failures };
 
-    ghost counts = { λ d. d.counts };
+    ghost counts = { λ d. d.tally.counts };
 
-    ghost counts_now = { λ _ _ _ _ now. now };
+    ghost counts_now = { λ d. F.counts_now d.file };
 
-    ghost only_now = { λ _ _ left. left };
+    ghost only_now = { λ d. F.only_now d.file };
 
-    ghost seen_may_stay = { λ _. refl };
+    ghost seen_may_stay = { λ d. F.seen_may_stay d.file };
 
     fn length(&mut self) -> Result<u64, DiskFault>
-        ensures calls { self.new.counts ≡ with_length self.old.counts }
-        ensures count { CountsFault result self.old.failures self.new.failures }
-        ensures told { MatchResult result (λ _. self.new.error ≡ self.old.error) (λ _. self.new.error ≢ None) }
-        ensures first { self.old.error ≢ None → self.new.error ≡ self.old.error }
+        ensures value { F.honest → IfOk result (λ n. n ≡ length (F.seen self.old.file)) }
+        ensures same { F.honest → F.seen self.new.file ≡ F.seen self.old.file }
+        ensures time { F.honest → Passes Same (F.moment self.old.file) (F.moment self.new.file)
+            (F.left_since self.old.file) (F.left_since self.new.file)
+            (F.may_leave self.old.file) (F.may_leave self.new.file) }
+        ensures called { F.recorded → F.calls self.new.file ≡ Measures ∷ F.calls self.old.file }
+        ensures calls { self.new.tally.counts ≡ with_length self.old.tally.counts }
+        ensures count { CountsFault result self.old.tally.failures self.new.tally.failures }
+        ensures told { MatchResult result (λ _. self.new.tally.error ≡ self.old.tally.error)
+            (λ _. self.new.tally.error ≢ None) }
+        ensures first { self.old.tally.error ≢ None → self.new.tally.error ≡ self.old.tally.error }
         ensures unsynced { self.new.unsynced ≡ self.old.unsynced }
     {
-        self.counts = self.counts.with_length();
-        let length = length_of(&self.file);
-        self.answer(FileCall::Length, length)
+        self.tally.counts = self.tally.counts.with_length();
+        let length = self.file.length();
+        self.tally.answer(FileCall::Length, length)
     }
 
     fn read_at(&mut self, at: u64, into: &mut [u8]) -> Result<(), DiskFault>
         requires { 1 ≤ length into.old }
-        ensures calls { self.new.counts ≡ with_read (length into.old) self.old.counts }
-        ensures count { CountsFault result self.old.failures self.new.failures }
-        ensures told { MatchResult result (λ _. self.new.error ≡ self.old.error) (λ _. self.new.error ≢ None) }
-        ensures first { self.old.error ≢ None → self.new.error ≡ self.old.error }
+        ensures value { F.honest → OnOk result (Reads (F.seen self.old.file) at into.new) }
+        ensures same { F.honest → F.seen self.new.file ≡ F.seen self.old.file }
+        ensures time { F.honest → Passes Same (F.moment self.old.file) (F.moment self.new.file)
+            (F.left_since self.old.file) (F.left_since self.new.file)
+            (F.may_leave self.old.file) (F.may_leave self.new.file) }
+        ensures called { F.recorded → F.calls self.new.file ≡ Gets at (length into.old) ∷ F.calls self.old.file }
+        ensures calls { self.new.tally.counts ≡ with_read (length into.old) self.old.tally.counts }
+        ensures count { CountsFault result self.old.tally.failures self.new.tally.failures }
+        ensures told { MatchResult result (λ _. self.new.tally.error ≡ self.old.tally.error)
+            (λ _. self.new.tally.error ≢ None) }
+        ensures first { self.old.tally.error ≢ None → self.new.tally.error ≡ self.old.tally.error }
         ensures unsynced { self.new.unsynced ≡ self.old.unsynced }
     {
-        self.counts = self.counts.with_read(into.len());
-        let read = self.file.read_exact_at(into, at);
-        self.answer(FileCall::Read, read)
+        self.tally.counts = self.tally.counts.with_read(into.len());
+        let read = self.file.read_at(at, into);
+        self.tally.answer(FileCall::Read, read)
     }
 
     fn write_at(&mut self, at: u64, from: &[u8]) -> Result<(), DiskFault>
         requires { 1 ≤ length from.now }
-        ensures calls { self.new.counts ≡ with_write self.old.counts }
-        ensures count { CountsFault result self.old.failures self.new.failures }
-        ensures told { MatchResult result (λ _. self.new.error ≡ self.old.error) (λ _. self.new.error ≢ None) }
-        ensures first { self.old.error ≢ None → self.new.error ≡ self.old.error }
+        ensures written { F.honest → OnOk result (F.seen self.new.file ≡ put (F.seen self.old.file) at from.now) }
+        ensures failed { F.honest → OnErr result (F.tears (F.seen self.old.file) at from.now (F.seen self.new.file)) }
+        ensures time { F.honest → Passes (Torn at (length from.now)) (F.moment self.old.file) (F.moment self.new.file)
+            (F.left_since self.old.file) (F.left_since self.new.file)
+            (F.may_leave self.old.file) (F.may_leave self.new.file) }
+        ensures called { F.recorded → F.calls self.new.file ≡ Puts at from.now ∷ F.calls self.old.file }
+        ensures calls { self.new.tally.counts ≡ with_write self.old.tally.counts }
+        ensures count { CountsFault result self.old.tally.failures self.new.tally.failures }
+        ensures told { MatchResult result (λ _. self.new.tally.error ≡ self.old.tally.error)
+            (λ _. self.new.tally.error ≢ None) }
+        ensures first { self.old.tally.error ≢ None → self.new.tally.error ≡ self.old.tally.error }
         ensures unsynced { self.new.unsynced ≡ self.old.unsynced }
     {
-        self.counts = self.counts.with_write();
-        let written = self.file.write_all_at(from, at);
-        self.answer(FileCall::Write, written)
+        self.tally.counts = self.tally.counts.with_write();
+        let written = self.file.write_at(at, from);
+        self.tally.answer(FileCall::Write, written)
     }
 
     fn sync(&mut self) -> Result<(), DiskFault>
-        ensures calls { self.new.counts ≡ with_sync self.old.counts }
-        ensures count { CountsFault result self.old.failures self.new.failures }
-        ensures told { MatchResult result (λ _. self.new.error ≡ self.old.error) (λ _. self.new.error ≢ None) }
-        ensures first { self.old.error ≢ None → self.new.error ≡ self.old.error }
-        // After a sync that failed each later one fails.
+        ensures durable { F.honest → OnOk result (Only (F.seen self.old.file) (F.may_leave self.new.file)) }
+        ensures same { F.honest → F.seen self.new.file ≡ F.seen self.old.file }
+        ensures time { F.honest → Passes Same (F.moment self.old.file) (F.moment self.new.file)
+            (F.left_since self.old.file) (F.left_since self.new.file)
+            (F.may_leave self.old.file) (F.may_leave self.new.file) }
+        // After a sync that failed each later one fails, and makes no call.
+        ensures called { F.recorded → F.calls self.new.file
+            ≡ (if self.old.unsynced then F.calls self.old.file else Syncs ∷ F.calls self.old.file) }
         ensures refused { self.old.unsynced ≡ true → IsErr result }
         ensures unsynced { MatchResult result (λ _. self.new.unsynced ≡ false) (λ _. self.new.unsynced ≡ true) }
+        ensures calls { self.new.tally.counts ≡ with_sync self.old.tally.counts }
+        ensures count { CountsFault result self.old.tally.failures self.new.tally.failures }
+        ensures told { MatchResult result (λ _. self.new.tally.error ≡ self.old.tally.error)
+            (λ _. self.new.tally.error ≢ None) }
+        ensures first { self.old.tally.error ≢ None → self.new.tally.error ≡ self.old.tally.error }
     {
-        self.counts = self.counts.with_sync();
+        self.tally.counts = self.tally.counts.with_sync();
         let synced = self.try_sync();
-        let answer = self.answer(FileCall::Sync, synced);
+        let answer = self.tally.answer(FileCall::Sync, synced);
         self.unsynced = answer.is_err();
         answer
     }

@@ -6,7 +6,9 @@
 //! - `memory`: `MemDisk`, of which all of that is proved; with `call` (the record of its writes and syncs) and `bytes`
 //!   (the bytes alone)
 //! - `plan`: which calls of a `MemDisk` are to fail, and with which `Effect`
-//! - `file`: `FileDisk`, a real file, of which only the counts are proved; `teller`, what tells its first fault
+//! - `file`: `FileDisk`, a file, which is a disk where its `RawFile` is; with `tally` (its counts) and `teller` (what
+//!   tells its first fault)
+//! - `raw_file`: the trait `RawFile`, the calls on an open file; `host_file`: `HostFile`, the system's
 //! - `opening`: how a file is taken as a disk, and `file_fault`: `FileFault`, why it isn't; `file_call`: `FileCall`, the
 //!   system's calls on files
 //! - `opens`: `Opens`, what opens files as disks
@@ -19,10 +21,13 @@ mod disk;
 mod file;
 mod file_call;
 mod file_fault;
+mod host_file;
 mod memory;
 mod opening;
 mod opens;
 mod plan;
+mod raw_file;
+mod tally;
 mod teller;
 
 pub use counts::Counts;
@@ -30,6 +35,8 @@ pub use disk::{Disk, DiskFault};
 pub use file::FileDisk;
 pub use file_call::FileCall;
 pub use file_fault::FileFault;
+pub use host_file::HostFile;
 pub use memory::MemDisk;
 pub use opens::Opens;
 pub use plan::Effect;
+pub use raw_file::RawFile;

@@ -1,5 +1,4 @@
 //! How a file is taken as a disk.
-use crate::file::length_of;
 use crate::{FileCall, FileFault};
 use std::fs::{self, File, OpenFile, OpenOptions, TryLockError};
 use std::io;
@@ -13,6 +12,11 @@ fn called<T: Drop>(call: FileCall, answer: io::Result<T>) -> Result<T, FileFault
         Ok(value) => Ok(value),
         Err(error) => Err(FileFault::Call { call, error }),
     }
+}
+
+// How many bytes a file has.
+fn length_of(file: &File) -> io::Result<u64> {
+    Ok(file.metadata()?.len())
 }
 
 // Makes a file's entry in its folder last.

@@ -26,7 +26,7 @@ impl Opens for HostRuntime {
 
     type Disk = FileDisk;
 
-    ghost opened = { λ disk _. disk.failures ≡ 0 };
+    ghost opened = { λ disk _. disk.tally.failures ≡ 0 };
 
     fn open_disk(&self, path: &str) -> Result<FileDisk, FileFault> {
         FileDisk::open(self, path)

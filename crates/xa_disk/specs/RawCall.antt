@@ -1,0 +1,12 @@
+-- The calls of the system on an open file.
+use Rattle.std.specs.Prelude.{ℕ, List}
+
+pub data RawCall : Type 0 where
+  -- how many bytes it has
+  Measures : RawCall
+  -- so many bytes are read from an offset on
+  Gets : (at count : ℕ) → RawCall
+  -- these bytes are written at an offset
+  Puts : (at : ℕ) (bytes : List ℕ) → RawCall
+  -- what was written is made to last
+  Syncs : RawCall

@@ -1,0 +1,82 @@
+use std::io;
+
+/// The calls of the system on one open file that a disk is made of: each is made once, with these arguments.
+///
+/// The ghost members are those of `Disk`, and the clauses on values say of a file what `Disk` says of a disk, where
+/// `honest` holds of the type. `calls` is the record of the calls, where `recorded` holds of the type.
+pub trait RawFile {
+    ghost use Rattle.std.specs.Prelude.{◌≡◌, ◌≤◌, ◌∷◌, List, ℕ, length, IfOk, OnOk, OnErr};
+    ghost use Rattle.xa_disk.specs.Disk.{put, Torn, Same, Only, Passes, Reads};
+    ghost use Rattle.xa_disk.specs.RawCall.{RawCall, Measures, Gets, Puts, Syncs};
+
+    /// The clauses on values hold of this type of file.
+    ghost honest: { Type 0 };
+
+    /// What a read gives.
+    ghost seen: { Self → List ℕ };
+
+    /// What a crash now may leave.
+    ghost may_leave: { Self → List ℕ → Type 0 };
+
+    /// The moment, as a number that doesn't fall.
+    ghost moment: { Self → ℕ };
+
+    /// What a crash at some moment from that one on may have left.
+    ghost left_since: { Self → ℕ → List ℕ → Type 0 };
+
+    /// What a write of these bytes at this offset that fails may leave to a read, from what a read gave before.
+    ghost tears: { List ℕ → ℕ → List ℕ → List ℕ → Type 0 };
+
+    /// The record of calls holds of this type of file.
+    ghost recorded: { Type 0 };
+
+    /// Each call that was made, failed or not, the newest first.
+    ghost calls: { Self → List RawCall };
+
+    /// How many bytes a read can give.
+    fn length(&mut self) -> io::Result<u64>
+        ensures value { honest → IfOk result (λ n. n ≡ length (seen self.old)) }
+        ensures same { honest → seen self.new ≡ seen self.old }
+        ensures time { honest → Passes Same (moment self.old) (moment self.new)
+            (left_since self.old) (left_since self.new) (may_leave self.old) (may_leave self.new) }
+        ensures called { recorded → calls self.new ≡ Measures ∷ calls self.old };
+
+    /// Fills `into` with the bytes from an offset on. A read past the length is an error.
+    fn read_at(&mut self, at: u64, into: &mut [u8]) -> io::Result<()>
+        requires { 1 ≤ length into.old }
+        ensures value { honest → OnOk result (Reads (seen self.old) at into.new) }
+        ensures same { honest → seen self.new ≡ seen self.old }
+        ensures time { honest → Passes Same (moment self.old) (moment self.new)
+            (left_since self.old) (left_since self.new) (may_leave self.old) (may_leave self.new) }
+        ensures called { recorded → calls self.new ≡ Gets at (length into.old) ∷ calls self.old };
+
+    /// Writes over what is there, and past the end; a gap before the offset is filled with zeros.
+    fn write_at(&mut self, at: u64, from: &[u8]) -> io::Result<()>
+        requires { 1 ≤ length from.now }
+        ensures written { honest → OnOk result (seen self.new ≡ put (seen self.old) at from.now) }
+        ensures failed { honest → OnErr result (tears (seen self.old) at from.now (seen self.new)) }
+        ensures time { honest → Passes (Torn at (length from.now)) (moment self.old) (moment self.new)
+            (left_since self.old) (left_since self.new) (may_leave self.old) (may_leave self.new) }
+        ensures called { recorded → calls self.new ≡ Puts at from.now ∷ calls self.old };
+
+    /// Makes what a read gives what a crash leaves.
+    fn sync(&mut self) -> io::Result<()>
+        ensures durable { honest → OnOk result (Only (seen self.old) (may_leave self.new)) }
+        ensures same { honest → seen self.new ≡ seen self.old }
+        ensures time { honest → Passes Same (moment self.old) (moment self.new)
+            (left_since self.old) (left_since self.new) (may_leave self.old) (may_leave self.new) }
+        ensures called { recorded → calls self.new ≡ Syncs ∷ calls self.old };
+
+    /// Law: this moment is one of those since an earlier one.
+    ghost counts_now: { (file : Self) (t : ℕ) (c : List ℕ) → t ≤ moment file → may_leave file c → left_since file t c };
+
+    /// Law: since this moment there is no other.
+    ghost only_now: { (file : Self) (c : List ℕ) → left_since file (moment file) c → may_leave file c };
+
+    /// Law: a write that fails changes no byte outside its range and the gap before it.
+    ghost tears_torn: { (old : List ℕ) (at : ℕ) (bytes new : List ℕ) → tears old at bytes new
+        → Torn at (length bytes) old new };
+
+    /// Law: a crash may leave what a read gives.
+    ghost seen_may_stay: { (file : Self) → may_leave file (seen file) };
+}
