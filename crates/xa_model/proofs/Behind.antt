@@ -115,6 +115,16 @@ prepared_in s xid h k =
     found_any (prepared_as xid) (held_as xid k.branch) (parts held_of s.branches)
     (found_in held_of (is_known_as xid) (prepared_as xid) (held_named xid) k.branch (held_as xid k.branch) s.branches (in_doubt xid k.branch s.branches k.known k.prepared) (once s xid h) k.known)
 
+pub doubt_prepared : (s : State) (xid : Triple) → IsSound s → known_as s xid ≡ InDoubt → is_prepared xid (durable s).prepared ≡ true
+doubt_prepared s xid h doubt = prepared_in s xid h (of_prepared s xid doubt)
+
+pub done_decided : (s : State) (xid : Triple) → is_completed (known_as s xid) ≡ true → is_decided xid (durable s).decided ≡ true
+done_decided s xid done = any_named (λ f. xid_eq f.xid xid) s.decided ∙ of_decided s xid done
+
+-- a branch at work is neither prepared nor completed
+pub work_unknown : (s : State) (xid : Triple) → IsSound s → is_at_work (known_of s.branches xid) ≡ true → is_unknown xid (durable s) ≡ true
+work_unknown s xid h works = let k = working_by s xid (known_of s.branches xid) refl works in unknown s xid k.branch h k.known k.working
+
 -- so the record fits
 
 fits_working : (s : State) (xid : Triple) (t : ℕ) (x : Reading) → IsSound s → IsOfWorking s xid → x.durable ≡ durable s → is_timely t x ≡ true → is_new xid t x ≡ true
@@ -126,9 +136,9 @@ fits_behind : (s : State) (r : Record) (x : Reading) → IsSound s → MayLog s 
 fits_behind s (logged.Opened boot) x h k e timely = ap (λ (d : Durable). nat_lt d.boot boot) e ∙ is_less s.logged_boot boot k
 fits_behind s (logged.Prepared xid t ws) x h k e timely = fits_working s xid t x h (working_by s xid (known_of s.branches xid) refl k.working) e timely
 fits_behind s (logged.Committed xid t ws) x h k e timely = fits_working s xid t x h (working_by s xid (known_of s.branches xid) refl k.working) e timely
-fits_behind s (logged.Completed xid direction) x h k e timely = ap (λ (d : Durable). is_prepared xid d.prepared) e ∙ prepared_in s xid h (of_prepared s xid k)
-fits_behind s (logged.Decided xid direction) x h k e timely = ap (λ (d : Durable). is_prepared xid d.prepared) e ∙ prepared_in s xid h (of_prepared s xid k)
-fits_behind s (logged.Forgotten xid) x h k e timely = ap (λ (d : Durable). is_decided xid d.decided) e ∙ any_named (λ f. xid_eq f.xid xid) s.decided ∙ of_decided s xid k
+fits_behind s (logged.Completed xid direction) x h k e timely = ap (λ (d : Durable). is_prepared xid d.prepared) e ∙ doubt_prepared s xid h k
+fits_behind s (logged.Decided xid direction) x h k e timely = ap (λ (d : Durable). is_prepared xid d.prepared) e ∙ doubt_prepared s xid h k
+fits_behind s (logged.Forgotten xid) x h k e timely = ap (λ (d : Durable). is_decided xid d.decided) e ∙ done_decided s xid k
 fits_behind s (logged.Base t ws) x h k e timely = absurd k
 fits_behind s (logged.Held xid t ws) x h k e timely = absurd k
 fits_behind s (logged.Known xid direction) x h k e timely = absurd k

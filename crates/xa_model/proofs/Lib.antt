@@ -75,6 +75,8 @@ pub mod RoomyTurns
 pub mod Replies
 pub mod Listing
 pub mod Asking
+pub mod Fated
+pub mod Answering
 pub mod StillListed
 pub mod Moves
 pub mod Pins
@@ -84,6 +86,7 @@ pub mod OneByOne
 pub mod MovingRows
 pub mod MovingTurns
 pub mod Preparing
+pub mod Unlisted
 pub mod OpenedLists
 pub mod Scans
 pub mod Copies

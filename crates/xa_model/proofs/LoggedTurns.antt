@@ -57,7 +57,7 @@ idle_of s xid known free unsettled = record { free = unheld s xid free; working 
     unheld : (s : State) (xid : Triple) → is_associated s xid ≡ false → holders_of s.associations xid ≡ 0
     unheld s xid e = grind (arith, nat_tests)
 
-allowed_idle : (s : State) (xid : Triple) → one_phase_refusal (known_as s xid) (is_associated s xid) ≡ None → IsIdle s xid (timestamp_in s xid) (writes_in s xid)
+pub allowed_idle : (s : State) (xid : Triple) → one_phase_refusal (known_as s xid) (is_associated s xid) ≡ None → IsIdle s xid (timestamp_in s xid) (writes_in s xid)
 allowed_idle s xid allowed =
     let first = passed _ _ _ allowed in
     let second = neither _ _ (passed _ _ _ first.1).0 in
@@ -111,7 +111,7 @@ commits s xid h =
     (let r = logged.Committed xid (timestamp_in s xid) (writes_in s xid) in
     cond_logs (has_room s r 0) s (logs s r XAER_RMERR (rolled_back s xid)) (Now (log_full s xid)) (λ room. logs_lasts s r XAER_RMERR (rolled_back s xid) idle (gone_keeps s xid h idle)) (gone_keeps s xid h idle))))
 
-two_phase_doubt : (k : Known) → two_phase_refusal k ≡ None → heuristic_refusal k ≡ None → k ≡ InDoubt
+pub two_phase_doubt : (k : Known) → two_phase_refusal k ≡ None → heuristic_refusal k ≡ None → k ≡ InDoubt
 two_phase_doubt Unknown e f = absurd (cc e)
 two_phase_doubt (AtWork mark) e f = absurd (cc e)
 two_phase_doubt InDoubt e f = refl
@@ -123,7 +123,7 @@ decide_doubt (AtWork mark) e = absurd (cc e)
 decide_doubt InDoubt e = refl
 decide_doubt (Completed direction) e = absurd (cc e)
 
-forget_completed : (k : Known) → forget_refusal k ≡ None → is_completed k ≡ true
+pub forget_completed : (k : Known) → forget_refusal k ≡ None → is_completed k ≡ true
 forget_completed Unknown e = absurd (cc e)
 forget_completed (AtWork mark) e = absurd (cc e)
 forget_completed InDoubt e = absurd (cc e)

@@ -1,6 +1,6 @@
 -- The worked rows of branches in doubt compute.
 use Rattle.std.proofs.Common.{refl}
-use Rattle.xa_model.specs.WorkedRecovery.{Recovered, PreparedWithoutWrites, NextBoot, LostAndFound, LostAndGone, Heuristics, Scans, JustRoom, NoRoom, Refusals}
+use Rattle.xa_model.specs.WorkedRecovery.{Recovered, PreparedWithoutWrites, NextBoot, LostAndFound, LostAndGone, Heuristics, Scans, JustRoom, NoRoom, Refusals, PreparedAgain}
 
 pub recovered : Recovered
 recovered = refl
@@ -31,3 +31,6 @@ no_room = refl
 
 pub refusals : Refusals
 refusals = refl
+
+pub prepared_again : PreparedAgain
+prepared_again = refl

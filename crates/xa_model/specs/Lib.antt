@@ -25,6 +25,7 @@ pub mod Room
 pub mod Total
 pub mod Laws
 pub mod ListedLaw
+pub mod UnlistedLaw
 pub mod ScanLaw
 pub mod LowWater
 pub mod LowWaterLaws

@@ -25,9 +25,12 @@ use Rattle.xa_model.specs.History.{Entry, Leads, fresh}
 use Rattle.xa_model.specs.Loggable.{IsRecoverable}
 use Rattle.xa_model.specs.Restored.{IsRestored}
 
--- recovery lists the XID
+-- whether recovery lists the XID of what lasts
+abbrev pub lists : Triple → Durable → Bool
+lists xid d = list_any (λ x. xid_eq x xid) (listed d)
+
 abbrev pub IsListed : Triple → State → Type 0
-IsListed xid s = list_any (λ x. xid_eq x xid) (listed (durable s)) ≡ true
+IsListed xid s = lists xid (durable s) ≡ true
 
 -- a prepare of the XID
 abbrev pub is_prepare : Triple → Request → Bool
@@ -45,15 +48,26 @@ abbrev pub is_request : (Request → Bool) → Happening → Bool
 is_request test (Asked (Call n request)) = test request
 is_request test _ = false
 
--- it was done; or its append was lost, so that it may be done
+-- it was done
+abbrev pub IsDone : Reply → Type 0
+IsDone reply = reply.code ≡ XA_OK
+
+-- its append was lost, so that it may be done
 abbrev pub MayBeDone : Reply → Type 0
-MayBeDone reply = (reply.code ≡ XA_OK) ⊎ ((reply.code ≡ XAER_RMFAIL) × (reply.detail ≡ detail.Device))
+MayBeDone reply = (reply.code ≡ XAER_RMFAIL) × (reply.detail ≡ detail.Device)
 
 abbrev pub AsksCompletion : Triple → Entry → Type 0
-AsksCompletion xid e = (is_request (is_completion xid) e.happening ≡ true) × MayBeDone e.reply
+AsksCompletion xid e = (is_request (is_completion xid) e.happening ≡ true) × (IsDone e.reply ⊎ MayBeDone e.reply)
+
+abbrev pub HasCompleted : Triple → Entry → Type 0
+HasCompleted xid e = (is_request (is_completion xid) e.happening ≡ true) × IsDone e.reply
 
 abbrev pub HasPrepared : Triple → Entry → Type 0
-HasPrepared xid e = (is_request (is_prepare xid) e.happening ≡ true) × (e.reply.code ≡ XA_OK)
+HasPrepared xid e = (is_request (is_prepare xid) e.happening ≡ true) × IsDone e.reply
+
+-- a prepare of the XID is called, whatever is answered
+abbrev pub CallsPrepare : Triple → Entry → Type 0
+CallsPrepare xid e = is_request (is_prepare xid) e.happening ≡ true
 
 -- no mark is the code of success
 abbrev pub AreRefusals : State → Type 0

@@ -161,3 +161,23 @@ Refusals =
     ∷ refused (commits 1 xid_a (detailed XAER_RMERR detail.Device))
     ∷ commits 1 xid_a (plain XAER_NOTA)
     ∷ [])
+
+-- what was committed is listed no more, also after a restart, until its XID is prepared again: a prepare whose record
+-- was lost may be found
+abbrev pub PreparedAgain : Type 0
+PreparedAgain =
+    Replied new_manager (
+    in_doubt
+    ++ kept (completes 1 xid_1 done)
+    ∷ restarts 1 false done
+    ∷ lists []
+    ∷ begins 1 xid_1 (number 8589934593)
+    ∷ puts 1 0x77 done
+    ∷ ends 1 xid_1 done
+    ∷ lists []
+    ∷ lost (prepares 1 xid_1 (detailed XAER_RMFAIL detail.Device))
+    ∷ restarts 1 true done
+    ∷ lists (xid_1 ∷ [])
+    ∷ kept (rolls_back 1 xid_1 done)
+    ∷ lists []
+    ∷ [])

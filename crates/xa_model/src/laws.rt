@@ -11,6 +11,7 @@ ghost use Rattle.xa_model.specs.BackingLaws.{RestartsRestored, ReopensRestored, 
 ghost use Rattle.xa_model.specs.Room.{KeepsRoom, RestartKeepsRoom};
 ghost use Rattle.xa_model.specs.OneCopy.{AlwaysOneCopy, FreshOneCopy, OpenedOneCopy};
 ghost use Rattle.xa_model.specs.ListedLaw.{ListedUntilAsked, ListedSinceBoot, FreshLists, OpenedLists, ReopenedLists};
+ghost use Rattle.xa_model.specs.UnlistedLaw.{AlwaysUnlisted, UnlistedSinceBoot};
 ghost use Rattle.xa_model.specs.ScanLaw.{ListedAscends, ScanListsFirst, ScanListsAll, ScanIsAnswered};
 ghost use Rattle.xa_model.specs.LowWaterLaws.{BelowKnown, IsReached, BelowNext, NeverFalls};
 ghost use Rattle.xa_model.specs.WorkedLowWater.{WaterRises};
@@ -22,7 +23,7 @@ ghost use Rattle.xa_model.specs.WorkedTurns.{PreparedAndCommitted, RolledBackAga
 ghost use Rattle.xa_model.specs.WorkedTurns.{LostAppends, LostBoots, DecidedByOperator, OpenedAgain};
 ghost use Rattle.xa_model.specs.WorkedDevice.{EachRefused, EachLost, RestartRefused, OpeningRefused};
 ghost use Rattle.xa_model.specs.WorkedRecovery.{Recovered, PreparedWithoutWrites, NextBoot, LostAndFound, LostAndGone};
-ghost use Rattle.xa_model.specs.WorkedRecovery.{Heuristics, Scans, JustRoom, NoRoom, Refusals};
+ghost use Rattle.xa_model.specs.WorkedRecovery.{Heuristics, Scans, JustRoom, NoRoom, Refusals, PreparedAgain};
 ghost use Rattle.xa_model.specs.Worked.{ReadBack, BusyUntilCommitted, FlagsRefused};
 ghost use Rattle.xa_model.specs.WorkedCalls.{ComesAndGoes, Migration, OwnBeforeLoose, LooseEnds, BrokenConnection};
 ghost use Rattle.xa_model.specs.WorkedCalls.{SuspendedAndBroken, NumbersAgain, Opening, Marks, FirstMark};
@@ -199,6 +200,7 @@ pub fn worked_recovery()
     ensures room { JustRoom }
     ensures full { NoRoom }
     ensures refused { Refusals }
+    ensures again { PreparedAgain }
 {}
 
 /// What is logged is what lasts: what a record does to a state that may log it keeps the state sound, and does to what
@@ -273,6 +275,17 @@ pub fn listed_until_asked()
     ensures fresh { FreshLists }
     ensures opened { OpenedLists }
     ensures reopened { ReopenedLists }
+{}
+
+/// What was completed is gone: behind a commit, a rollback or a forget that was answered XA_OK recovery doesn't list
+/// its XID at any place of the history, until a prepare of that XID is called again, whatever that is answered: where
+/// its append was lost, a restart may find it. A crash, a restart or an opening doesn't bring a completed branch back,
+/// nor does what the operator decides.
+///
+/// The history begins with any state that a restart may begin with; so with all that restarts and openings lead to.
+pub fn unlisted_until_prepared()
+    ensures always { AlwaysUnlisted }
+    ensures boot { UnlistedSinceBoot }
 {}
 
 /// A scan lists what recovery lists, in the XIDs' order and each once. The calls of one scan, with nothing between

@@ -1,4 +1,4 @@
-use Rattle.xa_model.proofs.WorkedRecovery.{recovered, prepared_without_writes, next_boot, lost_and_found, lost_and_gone, heuristics, scans, just_room, no_room, refusals}
+use Rattle.xa_model.proofs.WorkedRecovery.{recovered, prepared_without_writes, next_boot, lost_and_found, lost_and_gone, heuristics, scans, just_room, no_room, refusals, prepared_again}
 use Rattle.xa_model.proofs.laws.worked_recovery.Goals as goal
 
 pub returns-clause-recovered : goal.returns-clause-recovered
@@ -30,3 +30,6 @@ returns-clause-full c = no_room
 
 pub returns-clause-refused : goal.returns-clause-refused
 returns-clause-refused c = refusals
+
+pub returns-clause-again : goal.returns-clause-again
+returns-clause-again c = prepared_again
