@@ -87,6 +87,8 @@ pub mod MovingRows
 pub mod MovingTurns
 pub mod Preparing
 pub mod Unlisted
+pub mod Crashes
+pub mod CrashLists
 pub mod OpenedLists
 pub mod Scans
 pub mod Copies

@@ -26,6 +26,8 @@ pub mod Total
 pub mod Laws
 pub mod ListedLaw
 pub mod UnlistedLaw
+pub mod Crash
+pub mod CrashLaws
 pub mod ScanLaw
 pub mod LowWater
 pub mod LowWaterLaws

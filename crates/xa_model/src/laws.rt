@@ -12,6 +12,10 @@ ghost use Rattle.xa_model.specs.Room.{KeepsRoom, RestartKeepsRoom};
 ghost use Rattle.xa_model.specs.OneCopy.{AlwaysOneCopy, FreshOneCopy, OpenedOneCopy};
 ghost use Rattle.xa_model.specs.ListedLaw.{ListedUntilAsked, ListedSinceBoot, FreshLists, OpenedLists, ReopenedLists};
 ghost use Rattle.xa_model.specs.UnlistedLaw.{AlwaysUnlisted, UnlistedSinceBoot};
+ghost use Rattle.xa_model.specs.CrashLaws.{LostFits, LostFates, LeavesBefore, LeavesBehind, LeavesAppended};
+ghost use Rattle.xa_model.specs.CrashLaws.{LeavesNoMore, LeavesExactly, FirstLeft, LastLeft, EarlierLeft, LaterLeft, LeftAmid};
+ghost use Rattle.xa_model.specs.CrashLaws.{CrashKeepsPrepared, CrashKeepsCompleted, CrashKeepsSinceBoot};
+ghost use Rattle.xa_model.specs.CrashLaws.{BootLists};
 ghost use Rattle.xa_model.specs.ScanLaw.{ListedAscends, ScanListsFirst, ScanListsAll, ScanIsAnswered};
 ghost use Rattle.xa_model.specs.LowWaterLaws.{BelowKnown, IsReached, BelowNext, NeverFalls};
 ghost use Rattle.xa_model.specs.WorkedLowWater.{WaterRises};
@@ -286,6 +290,41 @@ pub fn listed_until_asked()
 pub fn unlisted_until_prepared()
     ensures always { AlwaysUnlisted }
     ensures boot { UnlistedSinceBoot }
+{}
+
+/// What a crash may leave at any moment of an event, of a restart or of an opening: what it may leave before it, what
+/// it may behind it, and what it may where the append is lost, which is what lasts with the record or without it.
+/// Where nothing is appended that is no more than before; once no record's fate is unknown, it is exactly what lasts.
+pub fn crash_at_any_moment()
+    ensures fits { LostFits }
+    ensures lost { LostFates }
+    ensures before { LeavesBefore }
+    ensures behind { LeavesBehind }
+    ensures appended { LeavesAppended }
+    ensures no_more { LeavesNoMore }
+    ensures exactly { LeavesExactly }
+{}
+
+/// What a crash may leave at any moment of a history is left while one of its entries happens, or of its first state.
+pub fn crash_in_history()
+    ensures first { FirstLeft }
+    ensures last { LastLeft }
+    ensures earlier { EarlierLeft }
+    ensures later { LaterLeft }
+    ensures amid { LeftAmid }
+{}
+
+/// What a crash leaves at any moment keeps the promises. Recovery lists of it each XID whose prepare was answered
+/// XA_OK, while its completion wasn't asked for, before the crash or by the call that the crash broke off; and none
+/// whose completion was answered XA_OK, while no prepare of it was called again. A manager that is opened on it lists
+/// the same.
+///
+/// The history begins as that of `listed_until_asked` and of `unlisted_until_prepared`.
+pub fn crash_keeps_promises()
+    ensures prepared { CrashKeepsPrepared }
+    ensures completed { CrashKeepsCompleted }
+    ensures boot { CrashKeepsSinceBoot }
+    ensures opened { BootLists }
 {}
 
 /// A scan lists what recovery lists, in the XIDs' order and each once. The calls of one scan, with nothing between

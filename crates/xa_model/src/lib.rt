@@ -12,6 +12,7 @@
 //! - `Fold` and `Durable`, what lasts; `Restarting`, restarts and openings; `Room`, the room that the log keeps
 //! - `Step`, the one step; `History`; and what is proved of histories, of which `OneCopy`, `ListedLaw`, `UnlistedLaw`
 //!   and `ScanLaw` come first
+//! - `Crash`, what a crash may leave at any moment; `CrashLaws`, what is proved of it
 //! - `LowWater`, a timestamp below which no known branch stands
 //! - `Sound`, `Loggable`, `Backing` and `Restored`, what every state of a history has; `Total`, which outcomes fit
 //!
@@ -20,8 +21,9 @@
 //! - `event`: `Event`, what is asked; `outcome`: `Outcome` and `Appending`, what the device did
 //! - `laws`: functions that do nothing, and whose contracts are theorems on the definitions. Of histories
 //!   `one_history`, `total`, `sound`, `recoverable`, `low_water`, `one_copy`, `listed_until_asked`,
-//!   `unlisted_until_prepared` and `scan_lists_all`; of what lasts `lasting`, `sound_lasting`, `logged_lasts`,
-//!   `backed`, `restored` and `roomy`. Those that begin with `worked_` are worked rows: replies that the definitions compute
+//!   `unlisted_until_prepared` and `scan_lists_all`; of crashes `crash_at_any_moment`, `crash_in_history` and
+//!   `crash_keeps_promises`; of what lasts `lasting`, `sound_lasting`, `logged_lasts`, `backed`, `restored` and
+//!   `roomy`. Those that begin with `worked_` are worked rows: replies that the definitions compute
 #![tactic(auto)]
 
 mod event;
@@ -30,10 +32,10 @@ mod outcome;
 
 pub use event::Event;
 pub use laws::{
-    backed, lasting, listed_until_asked, logged_lasts, low_water, one_copy, one_history,
-    recoverable, restored, roomy, scan_lists_all, sound, sound_lasting, total,
-    unlisted_until_prepared, worked_associations, worked_copies, worked_limits, worked_logs,
-    worked_low_water, worked_marks, worked_recovery, worked_refusals, worked_rows, worked_turns,
-    worked_versions,
+    backed, crash_at_any_moment, crash_in_history, crash_keeps_promises, lasting,
+    listed_until_asked, logged_lasts, low_water, one_copy, one_history, recoverable, restored,
+    roomy, scan_lists_all, sound, sound_lasting, total, unlisted_until_prepared,
+    worked_associations, worked_copies, worked_limits, worked_logs, worked_low_water, worked_marks,
+    worked_recovery, worked_refusals, worked_rows, worked_turns, worked_versions,
 };
 pub use outcome::{Appending, Outcome};
