@@ -19,7 +19,7 @@ use Rattle.xa_model.specs.Durable.{Durable, durable}
 use Rattle.xa_model.specs.Fold.{apply}
 use Rattle.xa_model.specs.Turn.{Happening, Asked, Reopened, Turn, Nobody, Now, Appends, Rereads, Rereading, Stops, Opens, going_on, taken, unless_now}
 use Rattle.xa_model.specs.Step.{respond, asked, turn, step, opened_of, is_up}
-use Rattle.xa_model.specs.Events.{IsEvent, IsHappening, is_restart}
+use Rattle.xa_model.specs.Events.{IsEvent, IsHappening, HaveHappened, is_restart}
 use Rattle.xa_model.specs.History.{Entry}
 use Rattle.xa_model.specs.Logging.{applied, lost}
 use Rattle.xa_model.specs.MayLog.{MayLog}
@@ -30,7 +30,7 @@ use Rattle.xa_model.specs.Crash.{with_append, appends, lost_of, IsFate, IsFateBe
 use Rattle.xa_model.specs.CrashLaws.{LostFits, LostFates, LeavesBefore, LeavesBehind, LeavesAppended, LeavesNoMore, LeavesExactly, FirstLeft, LastLeft, EarlierLeft, LaterLeft, LeftAmid}
 use Rattle.xa_model.proofs.AppliedDecisions.{applied_lasts}
 use Rattle.xa_model.proofs.Restarts.{restart_lasts, reopen_lasts}
-use Rattle.xa_model.proofs.Recoveries.{StaysRecoverable, turn_stays}
+use Rattle.xa_model.proofs.Recoveries.{StaysRecoverable, turn_stays, keeps_recoverable}
 use Rattle.xa_model.proofs.Asking.{IsAsked}
 use Rattle.xa_model.proofs.Fated.{IsFated, Spares, alone, quiet_is, asked_lasts, step_fated}
 
@@ -304,13 +304,23 @@ module _ (P : Durable → Type 0) (E : Happening → Reply → Type 0) (boots : 
   behind_fated s happening outcome d (Some a) e is h other all left =
       all_contained P (fates a.after) d (step_fated P E boots spares s happening outcome a is h e (other a.reply) all) left
 
-  pub left_fated : (s : State) (happening : Happening) (outcome : Outcome) (d : Durable) → IsHappening happening → IsRecoverable s
+  left_fated : (s : State) (happening : Happening) (outcome : Outcome) (d : Durable) → IsHappening happening → IsRecoverable s
       → ((reply : Reply) → E happening reply → ⊥) → IsFated P s → MayBeLeft s happening outcome d → P d
   left_fated s happening outcome d is h other all (inl fate) = all_contained P (fates s) d all fate
   left_fated s happening outcome d is h other all (inr (inl left)) =
       behind_fated s happening outcome d (step s happening outcome) refl is h other all left
   left_fated s happening outcome d is h other all (inr (inr left)) =
       behind_fated s happening (lost_of outcome) d (step s happening (lost_of outcome)) refl is h other all left
+
+  -- through a run in which none of these is asked
+  pub run_fated : (s : State) (run : List Entry) (d : Durable) → HaveHappened run → IsRecoverable s
+      → AllByRecursion (λ e. (reply : Reply) → E e.happening reply → ⊥) run → IsFated P s → MayBeLeftIn s run d → P d
+  run_fated s [] d happened h none all left = all_contained P (fates s) d all left
+  run_fated s (e ∷ es) d happened h none all (inl left) = left_fated s e.happening e.outcome d happened.0 h none.0 all left
+  run_fated s (e ∷ es) d happened h none all (inr (mid, steps, left)) =
+      let a : Answer = record { reply = e.reply; after = mid } in
+      run_fated mid es d happened.1 (keeps_recoverable s e.happening e.outcome a happened.0 h steps) none.1
+      (step_fated P E boots spares s e.happening e.outcome a happened.0 h steps (none.0 e.reply) all) left
 
 -- histories
 

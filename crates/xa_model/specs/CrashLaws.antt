@@ -1,6 +1,7 @@
 -- Laws on what a crash may leave at any moment.
-use Rattle.std.specs.Prelude.{ℕ, ◌≡◌, ◌⊎◌, true, false, Some, None, List, [], ◌∷◌, ◌++◌, is_some}
+use Rattle.std.specs.Prelude.{ℕ, ◌≡◌, ◌⊎◌, Bool, true, false, Some, None, List, [], ◌∷◌, ◌++◌, is_some}
 use Rattle.std.specs.List.{AllByRecursion}
+use Rattle.xa_frame.specs.declared.request.Request.{Request}
 use Rattle.xa_xid.specs.Triple.{Triple}
 use Rattle.xa_model.specs.declared.outcome.Outcome.{Outcome}
 use Rattle.xa_model.specs.declared.outcome.Appending.TheVariants.{Kept, Refused, Lost}
@@ -100,28 +101,30 @@ LeftAmid =
     → IsFate s d
     ⊎ ((mid : State) × (entry : Entry) × IsAmid s entries mid entry × MayBeLeft mid entry.happening entry.outcome d)
 
--- The promises, in a history from this state that a crash breaks off while something happens, or before it
+-- The promises, in a history from this state that goes on with a run, at any moment of which a crash breaks it off
 
--- of what is left recovery lists what was prepared, while its completion wasn't asked for: neither before, nor by what
--- happens at the crash
+-- no such request is among what happens
+abbrev pub NoneAsks : (Request → Bool) → List Entry → Type 0
+NoneAsks test run = AllByRecursion (λ e. is_request test e.happening ≡ false) run
+
+-- of what is left recovery lists what was prepared, while its completion wasn't asked for: neither before the run, nor
+-- in it, where the crash may break off what would have been refused
 abbrev pub CrashLists : State → Type 0
 CrashLists first =
-    (last : State) (before later : List Entry) (prepare : Entry) (xid : Triple) (happening : Happening)
-    (outcome : Outcome) (d : Durable)
-    → HaveHappened (before ++ prepare ∷ later) → Leads first (before ++ prepare ∷ later) last
+    (mid : State) (before later run : List Entry) (prepare : Entry) (xid : Triple) (d : Durable)
+    → HaveHappened (before ++ prepare ∷ later) → Leads first (before ++ prepare ∷ later) mid
     → HasPrepared xid prepare → AllByRecursion (λ e. AsksCompletion xid e → ⊥) later
-    → IsHappening happening → is_request (is_completion xid) happening ≡ false
-    → MayBeLeft last happening outcome d → lists xid d ≡ true
+    → HaveHappened run → NoneAsks (is_completion xid) run
+    → MayBeLeftIn mid run d → lists xid d ≡ true
 
 -- and nothing that was completed, while no prepare of it was called again
 abbrev pub CrashUnlists : State → Type 0
 CrashUnlists first =
-    (last : State) (before later : List Entry) (completion : Entry) (xid : Triple) (happening : Happening)
-    (outcome : Outcome) (d : Durable)
-    → HaveHappened (before ++ completion ∷ later) → Leads first (before ++ completion ∷ later) last
+    (mid : State) (before later run : List Entry) (completion : Entry) (xid : Triple) (d : Durable)
+    → HaveHappened (before ++ completion ∷ later) → Leads first (before ++ completion ∷ later) mid
     → HasCompleted xid completion → AllByRecursion (λ e. CallsPrepare xid e → ⊥) later
-    → IsHappening happening → is_request (is_prepare xid) happening ≡ false
-    → MayBeLeft last happening outcome d → lists xid d ≡ false
+    → HaveHappened run → NoneAsks (is_prepare xid) run
+    → MayBeLeftIn mid run d → lists xid d ≡ false
 
 abbrev pub CrashKeepsPrepared : Type 0
 CrashKeepsPrepared = (first : State) → IsRecoverable first → AreRefusals first → CrashLists first

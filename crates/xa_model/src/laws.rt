@@ -314,10 +314,10 @@ pub fn crash_in_history()
     ensures amid { LeftAmid }
 {}
 
-/// What a crash leaves at any moment keeps the promises. Recovery lists of it each XID whose prepare was answered
-/// XA_OK, while its completion wasn't asked for, before the crash or by the call that the crash broke off; and none
-/// whose completion was answered XA_OK, while no prepare of it was called again. A manager that is opened on it lists
-/// the same.
+/// What a crash leaves at any moment of a run keeps the promises of the history before it. Recovery lists of it each
+/// XID whose prepare was answered XA_OK, while its completion wasn't asked for before the run, nor called in it; and
+/// none whose completion was answered XA_OK, while no prepare of it was called again. A manager that is opened on what
+/// is left lists the same.
 ///
 /// The history begins as that of `listed_until_asked` and of `unlisted_until_prepared`.
 pub fn crash_keeps_promises()
