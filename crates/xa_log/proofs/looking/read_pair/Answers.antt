@@ -1,6 +1,8 @@
-use Rattle.std.proofs.Common.{arith}
+use Rattle.std.proofs.Common.{arith, ◌∙◌}
+use Rattle.xa_disk.specs.Disk.{Same}
 use Rattle.xa_log.proofs.Fetch.{reads_some}
 use Rattle.xa_log.proofs.Looks.{looks_by, looks_second, reads_window, little_by, fronts_short, current_short}
+use Rattle.xa_log.proofs.Torn.{then}
 use Rattle.xa_log.proofs.looking.read_pair.Goals as goal
 
 pub returns-in_err-fronts-clause-calls : goal.returns-in_err-fronts-clause-calls
@@ -49,3 +51,19 @@ returns-clause-little g c =
     little_by g.D.Disk.counts c.read_current.result c.args.first.now c.args.second.now _ _ c.read_fronts.new.first c.read_fronts.new.second c.read_current.ensures.other
     (reads_window _ _ _ _ _ _ (omega (arith, fronts.holds.0.from, fronts.holds.0.held)) (c.in_ok-lens.ensures.calls 0) fronts.fetched)
     (reads_window _ _ _ _ _ _ (omega (arith, fronts.holds.1.from, fronts.holds.1.held)) (c.in_ok-lens.ensures.calls_second 0) fronts.fetched_second)
+
+pub returns-in_err-fronts-clause-time : goal.returns-in_err-fronts-clause-time
+returns-in_err-fronts-clause-time g c h = then Same (λ a b d p q. q ∙ p) _ _ _ _ _ _ _ _ _ (c.in_ok-lens.ensures.time h) (c.in_err-fronts.ensures.time h)
+
+pub returns-clause-time : goal.returns-clause-time
+returns-clause-time g c h =
+    then Same (λ a b d p q. q ∙ p) _ _ _ _ _ _ _ _ _ (c.in_ok-lens.ensures.time h)
+    (then Same (λ a b d p q. q ∙ p) _ _ _ _ _ _ _ _ _ (c.in_ok-fronts.ensures.time h) (c.read_current.ensures.time h))
+
+pub returns-in_err-fronts-clause-time_second : goal.returns-in_err-fronts-clause-time_second
+returns-in_err-fronts-clause-time_second g c h = then Same (λ a b d p q. q ∙ p) _ _ _ _ _ _ _ _ _ (c.in_ok-lens.ensures.time_second h) (c.in_err-fronts.ensures.time_second h)
+
+pub returns-clause-time_second : goal.returns-clause-time_second
+returns-clause-time_second g c h =
+    then Same (λ a b d p q. q ∙ p) _ _ _ _ _ _ _ _ _ (c.in_ok-lens.ensures.time_second h)
+    (then Same (λ a b d p q. q ∙ p) _ _ _ _ _ _ _ _ _ (c.in_ok-fronts.ensures.time_second h) (c.read_current.ensures.time_second h))
