@@ -1,5 +1,5 @@
-//! Tests of what no clause says, of rooms, desks, workers, servers and commands: what many sessions are answered, what an audit
-//! finds, connections that break, and worked rows with each allocation refused.
+//! Tests of what no clause says, of rooms, desks, workers and servers: what many sessions are answered, what an audit finds,
+//! connections that break, and worked rows with each allocation refused.
 //!
 //! - `desks`: what these tests begin with, a desk of a new room; `clients`: frames, and who sends them
 //! - `rooms`: receipts, shares and audits; `crews`: callers at once; `meetings`: sessions at once, over connections
@@ -7,7 +7,6 @@
 //! - `servers`: a manager behind a port answers as a play
 //! - `refused`: worked rows, with the lines in `refused_rows`, and audits; `refused_limits`: limits; all whichever one
 //!   allocation is refused
-//! - `commands`: the ends of commands, on a `host` that gives and takes what a test says
 //! - `rows`: `none_wrong`
 #![tactic(auto)]
 
@@ -18,13 +17,9 @@ mod broken_clients;
 #[cfg(test)]
 mod clients;
 #[cfg(test)]
-mod commands;
-#[cfg(test)]
 mod crews;
 #[cfg(test)]
 mod desks;
-#[cfg(test)]
-mod host;
 #[cfg(test)]
 mod meetings;
 #[cfg(test)]
