@@ -4,3 +4,4 @@ pub mod Time
 pub mod Heeds
 pub mod Replays
 pub mod Plans
+pub mod Keeping

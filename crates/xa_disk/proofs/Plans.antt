@@ -1,5 +1,5 @@
 -- Plans, one by one.
-use Rattle.std.proofs.Common.{◌≡◌, ℕ, zero, suc, ◌+◌, ◌-◌, ◌≤◌, ◌<◌, ◌==◌, Bool, true, false, not, cond, List, [], ◌∷◌, ◌++◌, map, length, get_or, refl, sym, ◌∙◌, ap, arith, Option, Some, None}
+use Rattle.std.proofs.Common.{◌≡◌, ℕ, zero, suc, ◌+◌, ◌-◌, ◌≤◌, ◌<◌, ◌==◌, Bool, true, false, not, ◌&&◌, cond, List, [], ◌∷◌, ◌++◌, map, length, get_or, refl, sym, ◌∙◌, ap, arith, Option, Some, None}
 use Rattle.std.proofs.lemmas.Bool.Decides.{nat_tests}
 use Rattle.std.specs.List.{filter}
 use Rattle.xa_disk.specs.declared.plan.Effect.{Effect}
@@ -58,3 +58,10 @@ pub there : (plans : List Plan) (i : ℕ) (a b : Plan) → i < length plans → 
 there [] i a b lt = absurd (omega arith)
 there (p ∷ plans) zero a b lt = refl
 there (p ∷ plans) (suc i) a b lt = there plans i a b (omega arith)
+
+-- a plan more, under a stop
+pub planned_more : (met stopped : Bool) (plan lost before : Option Effect) → cond stopped lost (cond met plan before) ≡ cond (met && not stopped) plan (cond stopped lost before)
+planned_more true true plan lost before = refl
+planned_more true false plan lost before = refl
+planned_more false true plan lost before = refl
+planned_more false false plan lost before = refl

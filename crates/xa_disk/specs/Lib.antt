@@ -4,5 +4,6 @@ pub mod Plans
 pub mod Counts
 pub mod RawCall
 pub mod Replay
+pub mod Keeping
 pub mod Images
 pub mod Memory

@@ -1,7 +1,8 @@
 //! The record of a disk in memory: its writes and syncs.
-ghost use Rattle.std.specs.Prelude.{◌≡◌, ◌≤◌, ◌++◌, ◌∷◌, [], List, ℕ, length, take, OnOk, OnErr, IfOk};
+ghost use Rattle.std.specs.Prelude.{◌≡◌, ◌-◌, ◌≤◌, ◌++◌, ◌∷◌, [], List, ℕ, length, take, drop, OnOk, OnErr, IfOk};
 ghost use Rattle.xa_disk.specs.declared.call.Call.TheVariants.{Write, Sync};
 ghost use Rattle.xa_disk.specs.Replay.{replay};
+ghost use Rattle.xa_disk.specs.Keeping.{unsynced, put_front, put_fronts, kept};
 
 use crate::bytes::put_bytes;
 use std::alloc::{AllocError, Global};
@@ -36,9 +37,10 @@ pub(crate) fn note_sync(calls: &mut Vec<Call>) -> Result<(), AllocError>
 }
 
 // How many calls there are up to the last sync, with it.
-pub(crate) fn stable_end(calls: &[Call]) -> usize
+fn stable_end(calls: &[Call]) -> usize
     ensures within { result ≤ length calls.now }
     ensures stable { (first : List ℕ) → (replay first calls.now).stable ≡ (replay first (take result calls.now)).seen }
+    ensures behind { unsynced [] calls.now ≡ drop result calls.now }
 {
     let mut end = 0;
     for (i, call) in calls.iter().enumerate() {
@@ -51,7 +53,7 @@ pub(crate) fn stable_end(calls: &[Call]) -> usize
 }
 
 // What the calls leave to a read.
-pub(crate) fn replayed(alloc: Global, first: &[u8], calls: &[Call]) -> Result<Vec<u8>, AllocError>
+fn replayed(alloc: Global, first: &[u8], calls: &[Call]) -> Result<Vec<u8>, AllocError>
     ensures { IfOk result (λ bytes. bytes.items ≡ (replay first.now calls.now).seen) }
 {
     let mut bytes = Vec::from_slice(alloc, first)?;
@@ -61,5 +63,46 @@ pub(crate) fn replayed(alloc: Global, first: &[u8], calls: &[Call]) -> Result<Ve
             Call::Sync => {}
         }
     }
+    Ok(bytes)
+}
+
+// Writes the first k bytes of a range, or all of it, and gives how many may be written behind it.
+fn write_front(bytes: &mut Vec<u8>, at: u64, from: &[u8], k: u64) -> Result<u64, AllocError>
+    ensures left { IfOk result (λ left. left ≡ k - length from.now) }
+    ensures front { OnOk result (bytes.new.items ≡ put_front k bytes.old.items at from.now) }
+{
+    if k == 0 {
+        return Ok(0);
+    }
+    let count = (from.len() as u64).min(k) as usize;
+    put_bytes(bytes, at, &from[..count])?;
+    Ok(k.saturating_sub(from.len() as u64))
+}
+
+fn write_fronts(bytes: &mut Vec<u8>, calls: &[Call], k: u64) -> Result<(), AllocError>
+    ensures { OnOk result (bytes.new.items ≡ put_fronts k bytes.old.items calls.now) }
+{
+    let mut left = k;
+    for call in calls {
+        match call {
+            Call::Write(at, from) => left = write_front(bytes, *at, from, left)?,
+            Call::Sync => {}
+        }
+    }
+    Ok(())
+}
+
+// What a crash leaves that keeps the first k of the bytes written since the last sync.
+pub(crate) fn kept(
+    alloc: Global,
+    first: &[u8],
+    calls: &[Call],
+    k: u64,
+) -> Result<Vec<u8>, AllocError>
+    ensures { IfOk result (λ bytes. bytes.items ≡ kept first.now calls.now k) }
+{
+    let end = stable_end(calls);
+    let mut bytes = replayed(alloc, first, &calls[..end])?;
+    write_fronts(&mut bytes, &calls[end..], k)?;
     Ok(bytes)
 }

@@ -5,7 +5,7 @@
 //! - `counts`: `Counts`, how many device calls of each kind a disk was asked for
 //! - `memory`: `MemDisk`, of which all of that is proved; with `call` (the record of its writes and syncs) and `bytes`
 //!   (the bytes alone)
-//! - `plan`: which calls of a `MemDisk` are to fail, and with which `Effect`
+//! - `faults`: which calls of a `MemDisk` are to fail; `plan`: a single one of them, and with which `Effect`
 //! - `file`: `FileDisk`, a file, which is a disk where its `RawFile` is; with `tally` (its counts) and `teller` (what
 //!   tells its first fault)
 //! - `raw_file`: the trait `RawFile`, the calls on an open file; `host_file`: `HostFile`, the system's
@@ -18,6 +18,7 @@ mod bytes;
 mod call;
 mod counts;
 mod disk;
+mod faults;
 mod file;
 mod file_call;
 mod file_fault;

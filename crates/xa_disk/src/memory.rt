@@ -1,14 +1,13 @@
 //! A disk in memory that keeps a record of its writes and syncs.
-ghost use Rattle.std.specs.Prelude.{◌≡◌, ◌⊎◌, ◌+◌, ◌≤◌, ◌<◌, ◌==◌, ◌≢◌, ◌↔◌, ℕ, [], ⊤, false, length, if◌then◌else◌, Some, None, OnOk, OnErr, IfOk, MatchBool, MatchResult, IsTrue, is_ok};
+ghost use Rattle.std.specs.Prelude.{◌≡◌, ◌⊎◌, ◌+◌, ◌≤◌, ◌<◌, ◌≢◌, ◌↔◌, ℕ, [], ⊤, false, length, Some, None, OnOk, OnErr, IfOk, MatchBool, MatchResult, IsTrue, is_ok};
 ghost use Rattle.xa_disk.specs.Disk.{put, Torn, Same, Only, AllOrNone, CountsFault, Reads};
-ghost use Rattle.xa_disk.specs.Plans.{due};
 ghost use Rattle.xa_disk.specs.Replay.{first_of, replay, IsImage, LeftSince};
 ghost use Rattle.xa_disk.specs.Images.{counts_now, only_now, stays_of, all_or_none_torn};
 
 use crate::bytes::{put_bytes, read_bytes};
-use crate::call::{Call, note_sync, note_write, replayed, stable_end};
-use crate::plan::{Effect, Plan, take_due};
-use crate::{Counts, Disk, DiskFault};
+use crate::call::{Call, kept, note_sync, note_write};
+use crate::faults::Faults;
+use crate::{Counts, Disk, DiskFault, Effect};
 use std::alloc::{AllocError, Global};
 
 /// A disk in memory. A test plans which of its calls fail, and when it crashes.
@@ -18,7 +17,7 @@ pub struct MemDisk {
     first: Option<Vec<u8>>,
     calls: Vec<Call>,
     bytes: Vec<u8>,
-    plans: Vec<Plan>,
+    faults: Faults,
     failures: u64,
     counts: Counts,
     ghost replayed: { bytes.items ≡ (replay (first_of first bytes.items) calls.items).seen },
@@ -35,7 +34,7 @@ fn held_first<'a>(first: &'a Option<Vec<u8>>, bytes: &'a [u8]) -> &'a [u8]
 }
 
 impl MemDisk {
-    ghost use Rattle.xa_disk.specs.Memory.{IsNew, Stays, Crashes};
+    ghost use Rattle.xa_disk.specs.Memory.{IsNew, Stays, Adds, Stops, SamePlans, Crashes, CrashesKeeping};
 
     /// An empty disk.
     pub fn new(alloc: Global) -> MemDisk
@@ -53,57 +52,69 @@ impl MemDisk {
             first: None,
             calls: Vec::new(alloc),
             bytes,
-            plans: Vec::new(alloc),
+            faults: Faults::none(alloc),
             failures: 0,
             counts: Counts::none(),
         }
     }
 
     /// Plans that the k-th device call from now fails, where 1 is the next one. Of two plans for one call the
-    /// later one holds. Nothing else changes.
+    /// later one holds, and over both a stop. Nothing else changes.
     pub fn fail(&mut self, k: u64, effect: Effect) -> Result<(), AllocError>
-        ensures planned { OnOk result ((j : ℕ)
-            → due self.new.plans.items j ≡ (if k == j then Some effect else due self.old.plans.items j)) }
-        ensures err { OnErr result ((j : ℕ) → due self.new.plans.items j ≡ due self.old.plans.items j) }
+        ensures planned { OnOk result (Adds k effect self.old self.new) }
+        ensures err { OnErr result (SamePlans self.old self.new) }
         ensures same { Stays self.old self.new }
     {
-        self.plans.push(Plan { left: k, effect })?;
-        Ok(())
+        self.faults.plan(k, effect)
     }
 
-    /// A crash: the plans are gone, and all that no sync made stable. Moments count from 0 again.
+    /// From the k-th device call from now on each fails and has no effect, until a crash. Of two stops the earlier
+    /// one holds. Nothing else changes.
+    pub fn stop(&mut self, k: u64)
+        ensures planned { Stops k self.old self.new }
+        ensures same { Stays self.old self.new }
+    {
+        self.faults.stop(k);
+    }
+
+    /// A crash: the plans are gone, a stop, and all that no sync made stable. Moments count from 0 again.
     pub fn crash(&mut self) -> Result<(), AllocError>
         ensures ok { OnOk result (Crashes self.old self.new) }
         ensures err { OnErr result (self.new ≡ self.old) }
     {
+        self.crash_keeping(0)
+    }
+
+    /// The same, but of the bytes that were written since the last sync with an effect the first k stay, in the order
+    /// of the writes. A write that is cut leaves its front.
+    pub fn crash_keeping(&mut self, k: u64) -> Result<(), AllocError>
+        ensures ok { OnOk result (CrashesKeeping k self.old self.new) }
+        ensures err { OnErr result (self.new ≡ self.old) }
+    {
         let alloc = *self.bytes.allocator();
-        let end = stable_end(&self.calls);
-        let bytes = replayed(
-            alloc,
-            held_first(&self.first, &self.bytes),
-            &self.calls[..end],
-        )?;
+        let first = held_first(&self.first, &self.bytes);
+        let bytes = kept(alloc, first, &self.calls, k)?;
         self.first = None;
         self.bytes = bytes;
         self.calls.clear();
-        self.plans.clear();
+        self.faults.clear();
         Ok(())
     }
 }
 
 impl MemDisk {
-    ghost use Rattle.xa_disk.specs.Memory.{Keeps, Stays, CountsDown};
+    ghost use Rattle.xa_disk.specs.Memory.{Keeps, Stays, CountsDown, planned};
 
     // The plan for the call that is made now, with which the counts are these.
     fn begin(&mut self, counts: Counts) -> Option<Effect>
-        ensures plan { result ≡ due self.old.plans.items 1 }
+        ensures plan { result ≡ planned self.old 1 }
         ensures later { CountsDown self.old self.new }
         ensures same { Keeps self.old self.new }
         ensures failures { self.new.failures ≡ self.old.failures }
         ensures counts { self.new.counts ≡ counts }
     {
         self.counts = counts;
-        take_due(&mut self.plans)
+        self.faults.take()
     }
 
     // Answers a call that was done or not.
@@ -111,7 +122,7 @@ impl MemDisk {
         ensures ok { OnOk result ((plan ≡ None) × IsTrue done) }
         ensures err { OnErr result (plan ≡ None → done ≡ false) }
         ensures kept { Keeps self.old self.new }
-        ensures plans { self.new.plans ≡ self.old.plans }
+        ensures faults { self.new.faults ≡ self.old.faults }
         ensures counts { self.new.counts ≡ self.old.counts }
         ensures count { CountsFault result self.old.failures self.new.failures }
     {
@@ -126,7 +137,7 @@ impl MemDisk {
     fn keep_first(&mut self) -> Result<(), AllocError>
         ensures same { Stays self.old self.new }
         ensures ok { OnOk result (self.new.first ≢ None) }
-        ensures plans { self.new.plans ≡ self.old.plans }
+        ensures faults { self.new.faults ≡ self.old.faults }
     {
         if self.first.is_none() {
             let alloc = *self.bytes.allocator();
@@ -144,7 +155,7 @@ impl MemDisk {
         ensures ok { OnOk result (Wrote self.old self.new at from.now) }
         ensures err { OnErr result (Keeps self.old self.new) }
         ensures counted { SameCounts self.old self.new }
-        ensures plans { self.new.plans ≡ self.old.plans }
+        ensures faults { self.new.faults ≡ self.old.faults }
     {
         self.keep_first()?;
         self.put_kept(at, from)
@@ -155,7 +166,7 @@ impl MemDisk {
         ensures ok { OnOk result (Wrote self.old self.new at from.now) }
         ensures err { OnErr result (Keeps self.old self.new) }
         ensures counted { SameCounts self.old self.new }
-        ensures plans { self.new.plans ≡ self.old.plans }
+        ensures faults { self.new.faults ≡ self.old.faults }
     {
         let alloc = *self.bytes.allocator();
         note_write(&mut self.calls, alloc, at, from)?;
@@ -172,7 +183,7 @@ impl MemDisk {
         ensures ok { OnOk result (Synced self.old self.new) }
         ensures err { OnErr result (Keeps self.old self.new) }
         ensures counted { SameCounts self.old self.new }
-        ensures plans { self.new.plans ≡ self.old.plans }
+        ensures faults { self.new.faults ≡ self.old.faults }
     {
         note_sync(&mut self.calls)?;
         Ok(())
@@ -183,7 +194,7 @@ impl MemDisk {
         ensures done { MatchBool result (Wrote self.old self.new at from.now) (Keeps self.old self.new) }
         ensures counted { SameCounts self.old self.new }
         ensures lost { plan ≡ Some Effect.Lost → result ≡ false }
-        ensures plans { self.new.plans ≡ self.old.plans }
+        ensures faults { self.new.faults ≡ self.old.faults }
     {
         if let Some(Effect::Lost) = plan {
             return false;
@@ -199,7 +210,7 @@ impl MemDisk {
         ensures done { MatchBool result (Synced self.old self.new) (Keeps self.old self.new) }
         ensures counted { SameCounts self.old self.new }
         ensures lost { plan ≡ Some Effect.Lost → result ≡ false }
-        ensures plans { self.new.plans ≡ self.old.plans }
+        ensures faults { self.new.faults ≡ self.old.faults }
     {
         if let Some(Effect::Lost) = plan {
             return false;
@@ -213,7 +224,7 @@ impl MemDisk {
 
 impl Disk for MemDisk {
     ghost use Rattle.xa_disk.specs.Counts.{with_length, with_read, with_write, with_sync};
-    ghost use Rattle.xa_disk.specs.Memory.{Keeps, Wrote, Synced, PassesTime, CountsDown, Heeds, image_of};
+    ghost use Rattle.xa_disk.specs.Memory.{Keeps, Wrote, Synced, PassesTime, CountsDown, Heeds, image_of, planned};
 
     ghost honest = { ⊤ };
 
@@ -246,7 +257,7 @@ impl Disk for MemDisk {
         ensures calls { self.new.counts ≡ with_length self.old.counts }
         ensures count { CountsFault result self.old.failures self.new.failures }
         ensures later { CountsDown self.old self.new }
-        ensures heeds { Heeds (due self.old.plans.items 1) result
+        ensures heeds { Heeds (planned self.old 1) result
             (Keeps self.old self.new) ⊥ (Keeps self.old self.new) }
     {
         let plan = self.begin(self.counts.with_length());
@@ -262,7 +273,7 @@ impl Disk for MemDisk {
         ensures calls { self.new.counts ≡ with_read (length into.old) self.old.counts }
         ensures count { CountsFault result self.old.failures self.new.failures }
         ensures later { CountsDown self.old self.new }
-        ensures heeds { Heeds (due self.old.plans.items 1) result
+        ensures heeds { Heeds (planned self.old 1) result
             (Keeps self.old self.new)
             ((length self.old.bytes.items < at + length into.old) × Keeps self.old self.new)
             (Keeps self.old self.new) }
@@ -280,7 +291,7 @@ impl Disk for MemDisk {
         ensures calls { self.new.counts ≡ with_write self.old.counts }
         ensures count { CountsFault result self.old.failures self.new.failures }
         ensures later { CountsDown self.old self.new }
-        ensures heeds { Heeds (due self.old.plans.items 1) result
+        ensures heeds { Heeds (planned self.old 1) result
             (Wrote self.old self.new at from.now) (Keeps self.old self.new) (Keeps self.old self.new) }
     {
         let plan = self.begin(self.counts.with_write());
@@ -295,7 +306,7 @@ impl Disk for MemDisk {
         ensures calls { self.new.counts ≡ with_sync self.old.counts }
         ensures count { CountsFault result self.old.failures self.new.failures }
         ensures later { CountsDown self.old self.new }
-        ensures heeds { Heeds (due self.old.plans.items 1) result
+        ensures heeds { Heeds (planned self.old 1) result
             (Synced self.old self.new) (Keeps self.old self.new) (Keeps self.old self.new) }
     {
         let plan = self.begin(self.counts.with_sync());
