@@ -1,4 +1,5 @@
--- Histories of opening states are one copy, and list what was prepared; so do the runs of a manager.
+-- Histories of opening states are one copy, and list what was prepared and nothing that was completed; so do the runs
+-- of a manager.
 use Rattle.std.proofs.Common.{◌+◌, Bool, true, false, cond, List, [], ◌∷◌, ◌++◌, refl, sym, subst}
 use Rattle.xa_disk.specs.declared.disk.Disk.{Ghosts}
 use Rattle.xa_frame.specs.declared.reply.Reply.{Reply}
@@ -14,10 +15,11 @@ use Rattle.xa_model.specs.OneCopy.{HasOneCopy}
 use Rattle.xa_model.proofs.Copies.{opened_one_copy}
 use Rattle.xa_model.proofs.Openings.{opens_restored}
 use Rattle.xa_model.proofs.Preparing.{listed_since_boot}
+use Rattle.xa_model.proofs.Unlisted.{unlisted_since_boot}
 use Rattle.xa_assoc.specs.Refusals.{is_memory}
 use Rattle.xa_manager.specs.declared.manager.Manager.{Manager}
 use Rattle.xa_manager.specs.Answered.{AnswersAll, recorded}
-use Rattle.xa_manager.specs.Promises.{IsOpening, IsReached, ListsPrepared, PromisesAll, ReachedPromises, OnePromises, BegunIsReached}
+use Rattle.xa_manager.specs.Promises.{IsOpening, IsReached, ListsPrepared, ListsNoCompleted, PromisesAll, ReachedPromises, OnePromises, BegunIsReached}
 use Rattle.xa_manager.proofs.Driving.{answers_more}
 
 restored : (first : State) (h : IsOpening first) → IsRestored h.durable (h.durable.boot + 1) first
@@ -36,8 +38,13 @@ reached_lists first s entries h before later prepare xid e prepared none =
     listed_since_boot h.opens.durable (h.opens.durable.boot + 1) first (restored first h.opens) s before later prepare xid
     (subst HaveHappened e h.happened) (subst (λ (es : List Entry). Leads first es s) e h.leads) prepared none
 
+pub reached_unlists : (first s : State) (entries : List Entry) → IsReached first entries s → ListsNoCompleted entries s
+reached_unlists first s entries h before later completion xid e completed none =
+    unlisted_since_boot h.opens.durable (h.opens.durable.boot + 1) first (restored first h.opens) s before later completion xid
+    (subst HaveHappened e h.happened) (subst (λ (es : List Entry). Leads first es s) e h.leads) completed none
+
 pub reached_promises : ReachedPromises
-reached_promises first s entries h = (reached_one_copy first s entries h, reached_lists first s entries h)
+reached_promises first s entries h = (reached_one_copy first s entries h, reached_lists first s entries h, reached_unlists first s entries h)
 
 -- a history goes on with another one
 
@@ -83,6 +90,7 @@ module _ {D : Type 0} (disks : Ghosts D) where
         stands = a.4;
         one_copy = reached_one_copy first a.1 (before ++ es) on;
         listed = reached_lists first a.1 (before ++ es) on;
+        unlisted = reached_unlists first a.1 (before ++ es) on;
       }
 
   answers_none : (m : Manager D) → AnswersAll disks m [] [] m

@@ -1,4 +1,5 @@
--- What is promised of a manager's runs: one copy, and that what was answered as prepared stays listed.
+-- What is promised of a manager's runs: one copy, that what was answered as prepared stays listed, and that what was
+-- completed isn't.
 use Rattle.std.specs.Prelude.{ℕ, ◌≡◌, ◌⊎◌, ◌+◌, ◌<◌, ◌≤◌, true, Ok, List, [], ◌∷◌, ◌++◌, length}
 use Rattle.std.specs.List.{AllByRecursion}
 use Rattle.xa_disk.specs.declared.disk.Disk.{Ghosts}
@@ -16,7 +17,7 @@ use Rattle.xa_model.specs.Restarting.{opening}
 use Rattle.xa_model.specs.Events.{IsEvent, HaveHappened}
 use Rattle.xa_model.specs.History.{Entry, Leads}
 use Rattle.xa_model.specs.OneCopy.{HasOneCopy}
-use Rattle.xa_model.specs.ListedLaw.{HasPrepared, AsksCompletion, IsListed}
+use Rattle.xa_model.specs.ListedLaw.{HasPrepared, HasCompleted, AsksCompletion, CallsPrepare, IsListed}
 use Rattle.xa_manager.specs.declared.manager.Manager.{Manager}
 use Rattle.xa_manager.specs.LogStands.{Trusts}
 use Rattle.xa_manager.specs.Managed.{ManagerStandsFor}
@@ -45,9 +46,15 @@ ListsPrepared entries s =
     (before later : List Entry) (prepare : Entry) (xid : Triple) → entries ≡ before ++ prepare ∷ later
     → HasPrepared xid prepare → AllByRecursion (λ e. AsksCompletion xid e → ⊥) later → IsListed xid s
 
+-- and none whose completion was answered XA_OK, if no prepare of it was called since then
+abbrev pub ListsNoCompleted : List Entry → State → Type 0
+ListsNoCompleted entries s =
+    (before later : List Entry) (completion : Entry) (xid : Triple) → entries ≡ before ++ completion ∷ later
+    → HasCompleted xid completion → AllByRecursion (λ e. CallsPrepare xid e → ⊥) later → IsListed xid s → ⊥
+
 -- The history goes on with the events and their replies, with these outcomes, and the manager stands for the state that
 -- it then leads to. That state's committed branches are one copy, and it lists what was prepared, in these replies or
--- before.
+-- before, and nothing that was completed.
 pub record KeepsPromises {D : Type 0} (disks : Ghosts D) (before : List Entry) (s : State) (events : List Event)
     (replies : List Reply) (m' : Manager D) : Type 0 where
   pub outcomes : List Outcome
@@ -57,6 +64,7 @@ pub record KeepsPromises {D : Type 0} (disks : Ghosts D) (before : List Entry) (
   pub stands : ManagerStandsFor disks m' after
   pub one_copy : HasOneCopy after
   pub listed : ListsPrepared (before ++ recorded events outcomes replies) after
+  pub unlisted : ListsNoCompleted (before ++ recorded events outcomes replies) after
 
 -- so it is behind every legal history whose last state the manager stood for
 abbrev pub PromisesAll : {D : Type 0} → Ghosts D → Manager D → List Event → List Reply → Manager D → Type 0
@@ -70,7 +78,7 @@ PromisesAll disks m events replies m' =
 abbrev pub ReachedPromises : Type 0
 ReachedPromises =
     (first s : State) (entries : List Entry) → IsReached first entries s
-    → HasOneCopy s × ListsPrepared entries s
+    → HasOneCopy s × ListsPrepared entries s × ListsNoCompleted entries s
 
 -- of one event, answered as every call is
 abbrev pub OnePromises : {D : Type 0} → Ghosts D → Type 0

@@ -32,8 +32,9 @@ pub fn memory_is_trusted()
     ensures { Trusts ⟦<MemDisk as Disk>⟧ }
 {}
 
-/// Whatever state a legal history of an opening state leads to: its committed branches are one copy, and each branch
-/// that was answered as prepared is listed, unless its completion was asked for since then.
+/// Whatever state a legal history of an opening state leads to: its committed branches are one copy, each branch that
+/// was answered as prepared is listed, unless its completion was asked for since then, and none that was completed is,
+/// unless a prepare of its XID was called since then.
 pub fn reached_promises()
     ensures { ReachedPromises }
 {}

@@ -193,8 +193,9 @@ impl<M: Manages, S: Start> Room<M, S> {
         &self.history
     }
 
-    /// The committed branches read what they read as if each had been executed alone, in the order of timestamps; and
-    /// what was answered as prepared is listed by recovery until its completion is asked for. It does nothing.
+    /// The committed branches read what they read as if each had been executed alone, in the order of timestamps; what
+    /// was answered as prepared is listed by recovery until its completion is asked for, and what was completed isn't
+    /// until it is prepared again. It does nothing.
     pub fn promises(&self)
         ensures { Promises M.Manages S.start self.now.now self.now.entries }
     {

@@ -23,5 +23,5 @@ served_promises disks m stands manager bodies name log_bytes begun few base call
       calls_are = serves.tells.calls_are;
       promised = λ trusted.
           let after = serves.promises opened.0 stood opened.1.opens trusted in
-          (after.0, after.1, after.3, after.4);
+          (after.0, after.1, after.3, after.4, after.5);
     }

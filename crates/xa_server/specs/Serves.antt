@@ -3,7 +3,7 @@ use Rattle.std.specs.Prelude.{ℕ, ◌≡◌, ◌⊎◌, ◌+◌, ◌≤◌, Boo
 use Rattle.xa_disk.specs.declared.disk.Disk as disk
 use Rattle.xa_manager.specs.declared.manager.Manager.{Manager}
 use Rattle.xa_manager.specs.Opening.{HasBegun}
-use Rattle.xa_manager.specs.Promises.{IsOpening, IsReached, ListsPrepared}
+use Rattle.xa_manager.specs.Promises.{IsOpening, IsReached, ListsPrepared, ListsNoCompleted}
 use Rattle.xa_limits.specs.declared.TheConstants.{MOST_BRANCHES}
 use Rattle.xa_model.specs.OneCopy.{HasOneCopy}
 use Rattle.xa_model.specs.State.{State}
@@ -39,7 +39,7 @@ pub record Serves {M : Type 0} (m : Ghosts M) (start : State → Type 0) (base :
 -- ---- laws
 
 -- A manager stood for an opening state. What was served of it, so many entries, is a legal history of that state; the
--- committed branches behind it are one copy, and it lists what was prepared in it.
+-- committed branches behind it are one copy, and it lists what was prepared in it and nothing that was completed.
 pub record KeepsServed {M : Type 0} (m : Ghosts M) (manager : M) (calls : ℕ) : Type 0 where
   pub first : State
   pub opens : IsOpening first
@@ -48,7 +48,7 @@ pub record KeepsServed {M : Type 0} (m : Ghosts M) (manager : M) (calls : ℕ) :
   pub calls_are : calls ≡ length entries
   pub promised : m.trusts ⊎ HasNoRestart entries
       → (t : State) × IsReached first (plain_entries entries) t × HasOneCopy t
-      × ListsPrepared (plain_entries entries) t
+      × ListsPrepared (plain_entries entries) t × ListsNoCompleted (plain_entries entries) t
 
 -- so it is of every manager that was opened, if no more branches are known by the log than may be
 abbrev pub ServedPromises : {D : Type 0} → disk.Ghosts D → Ghosts (Manager D) → Type 0
