@@ -1,11 +1,16 @@
 -- Histories of opening states are one copy, and list what was prepared and nothing that was completed; so do the runs
 -- of a manager.
-use Rattle.std.proofs.Common.{◌+◌, Bool, true, false, cond, List, [], ◌∷◌, ◌++◌, refl, sym, subst}
+use Rattle.std.proofs.Common.{◌≡◌, ◌+◌, ◌≤◌, ℕ, Bool, true, false, cond, List, [], ◌∷◌, ◌++◌, length, refl, sym, subst, arith}
+use Rattle.std.proofs.lemmas.Bool.Decides.{nat_tests}
 use Rattle.xa_disk.specs.declared.disk.Disk.{Ghosts}
 use Rattle.xa_frame.specs.declared.reply.Reply.{Reply}
 use Rattle.xa_model.specs.declared.event.Event.{Event}
 use Rattle.xa_model.specs.declared.outcome.Outcome.{Outcome}
+use Rattle.xa_limits.specs.declared.TheConstants.{FIRST_OFFSET, MOST_LOG}
 use Rattle.xa_model.specs.State.{State}
+use Rattle.xa_model.specs.Sound.{most_known}
+use Rattle.xa_model.specs.Fold.{snapshot, sizes}
+use Rattle.xa_model.specs.Logging.{log_room}
 use Rattle.xa_model.specs.Restarting.{opening}
 use Rattle.xa_model.specs.Restored.{IsRestored}
 use Rattle.xa_model.specs.Turn.{Asked}
@@ -74,6 +79,10 @@ happened_recorded (event ∷ events) (o ∷ outcomes) (reply ∷ replies) h =
     happened_one (record { happening = Asked event; outcome = o; reply = reply }) (recorded events outcomes replies) (is_memory reply.detail) h.0
     (happened_recorded events outcomes replies h.1)
 
+-- what is known of a log takes room there
+room_few : (log_bytes end p q : ℕ) → log_room log_bytes end p q ≡ true → log_bytes ≤ MOST_LOG → p + q ≤ most_known
+room_few log_bytes end p q room limit = grind (arith, nat_tests, room, limit)
+
 module _ {D : Type 0} (disks : Ghosts D) where
   -- a run whose replies are a legal history
   pub promises_all : (m m' : Manager D) (events : List Event) (replies : List Reply) → AreEvents events → AnswersAll disks m events replies m'
@@ -102,8 +111,10 @@ module _ {D : Type 0} (disks : Ghosts D) where
       (answers_more disks m m m' [] [] event reply refl (answers_none m) one.answered)
 
   pub begun_is_reached : BegunIsReached disks
-  begun_is_reached m bodies name log_bytes begun few =
+  begun_is_reached m bodies name log_bytes begun =
       let d = begun.durable in
+      let few : length d.prepared + length d.decided ≤ most_known =
+      room_few log_bytes (FIRST_OFFSET + sizes (snapshot d (d.boot + 1))) (length d.prepared) (length d.decided) begun.room begun.limit in
       let first = opening d name log_bytes (d.boot + 1) in
       let restored = (opens_restored begun.comes.records d name log_bytes begun.comes.bodies_are.limits begun.comes.folded begun.boots few).0 in
       let opens : IsOpening first = record {

@@ -55,6 +55,7 @@ pub record HasBegun {D : Type 0} (disks : Ghosts D) (bodies : List (List ℕ)) (
   pub durable : Durable
   pub comes : ComeTo bodies durable
   pub boots : durable.boot < MOST_BOOTS
+  pub limit : log_bytes ≤ MOST_LOG
   pub room : has_boot_room log_bytes durable (durable.boot + 1) ≡ true
   pub stands : (s : State) → IsRestored durable (durable.boot + 1) s → s.name ≡ name → s.log_bytes ≡ log_bytes
       → s.sessions ≡ []

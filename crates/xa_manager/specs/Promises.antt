@@ -10,7 +10,8 @@ use Rattle.xa_xid.specs.Triple.{Triple}
 use Rattle.xa_model.specs.declared.event.Event.{Event}
 use Rattle.xa_model.specs.declared.outcome.Outcome.{Outcome}
 use Rattle.xa_model.specs.State.{State}
-use Rattle.xa_limits.specs.declared.TheConstants.{MOST_BOOTS, MOST_BRANCHES}
+use Rattle.xa_model.specs.Sound.{most_known}
+use Rattle.xa_limits.specs.declared.TheConstants.{MOST_BOOTS}
 use Rattle.xa_model.specs.Durable.{Durable}
 use Rattle.xa_model.specs.Fold.{fold}
 use Rattle.xa_model.specs.Restarting.{opening}
@@ -31,7 +32,7 @@ pub record IsOpening (first : State) : Type 0 where
   pub limits : AllByRecursion IsRecord records
   pub folded : fold records ≡ Ok durable
   pub boots : durable.boot < MOST_BOOTS
-  pub few : length durable.prepared + length durable.decided ≤ MOST_BRANCHES
+  pub few : length durable.prepared + length durable.decided ≤ most_known
   pub opened : first ≡ opening durable first.name first.log_bytes (durable.boot + 1)
 
 -- a legal history of an opening state leads to the state
@@ -86,10 +87,8 @@ OnePromises {D} disks =
     (m m' : Manager D) (event : Event) (reply : Reply) → IsEvent event → FullyAnswered disks m event reply m'
     → PromisesAll disks m (event ∷ []) (reply ∷ []) m'
 
--- a manager that was opened stands for an opening state, if no more branches are known by the log than may be
+-- a manager that was opened stands for an opening state
 abbrev pub BegunIsReached : {D : Type 0} → Ghosts D → Type 0
 BegunIsReached {D} disks =
-    (m : Manager D) (bodies : List (List ℕ)) (name : List ℕ) (log_bytes : ℕ)
-    (begun : HasBegun disks bodies name log_bytes m)
-    → length begun.durable.prepared + length begun.durable.decided ≤ MOST_BRANCHES
+    (m : Manager D) (bodies : List (List ℕ)) (name : List ℕ) (log_bytes : ℕ) → HasBegun disks bodies name log_bytes m
     → (first : State) × IsReached first [] first × ManagerStandsFor disks m first

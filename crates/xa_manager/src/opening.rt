@@ -1,4 +1,5 @@
 ghost use Rattle.std.specs.Prelude.{◌≡◌, ◌≤◌, ◌<◌, ◌⊎◌, ◌↔◌, Bool, List, ℕ, [], IfOk, IfErr, OnOk, IsErrOf, IsSomeAnd, Some, None, length};
+ghost use Rattle.xa_limits.specs.declared.TheConstants.{MOST_LOG};
 ghost use Rattle.xa_log.specs.Pair.{pair_fault, logged_pair};
 ghost use Rattle.xa_log.specs.Reading.{bodies_of};
 ghost use Rattle.xa_log.specs.TwoFiles.{NoStray};
@@ -73,6 +74,7 @@ fn begin<D: Disk + Drop>(
     name: Bytes,
     log_bytes: u64,
 ) -> Result<Manager<D>, ManagerFault>
+    requires limit { log_bytes ≤ MOST_LOG }
     ensures begun { D.honest → HasBodies D.Disk (bodies_of bodies.now) log → log.log_bytes ≡ log_bytes
         → IfOk result (HasBegun D.Disk (bodies_of bodies.now) name log_bytes) }
     ensures refused { IfErr result (λ e. BootRefused e (bodies_of bodies.now) log_bytes) }

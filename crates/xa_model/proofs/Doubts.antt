@@ -8,7 +8,7 @@ use Rattle.xa_xid.specs.Triple.{Triple, xid_eq}
 use Rattle.xa_xid.proofs.Same.{xid_same}
 use Rattle.xa_model.specs.State.{State, Branch, Phase, Working, Prepared, Committed, InDoubt, count, change, without, name_of, is_with, is_known_as, known_by, known_among, known_as, known_of, known_count, decided_of, or_completed, holders_of, timestamp_of}
 use Rattle.xa_model.specs.Branches.{prepared_phase, as_prepared, prepared, as_committed, completed, decided_by, is_decision_of, forgotten}
-use Rattle.xa_model.specs.Sound.{IsSound, is_working, is_at_work, named}
+use Rattle.xa_model.specs.Sound.{IsSound, is_working, is_at_work, named, most_known}
 use Rattle.xa_model.proofs.Counts.{count_same, count_without}
 use Rattle.xa_model.proofs.Leaving.{count_left, count_turned, found_any}
 use Rattle.xa_model.proofs.Lists.{find_change_other}
@@ -78,7 +78,7 @@ completed_sound s direction.Rollback xid h free = gone_sound s xid h free
 abbrev with_decision : State → Direction → Triple → State
 with_decision t direction xid = record t { decided = record { xid = xid; direction = direction } ∷ t.decided }
 
-noted_sound : (t : State) (direction : Direction) (xid : Triple) → IsSound t → ((q : Triple) → named t q + cond (xid_eq xid q) 1 0 ≤ 1) → known_count t.branches + length t.decided + 1 ≤ 4096
+noted_sound : (t : State) (direction : Direction) (xid : Triple) → IsSound t → ((q : Triple) → named t q + cond (xid_eq xid q) 1 0 ≤ 1) → known_count t.branches + length t.decided + 1 ≤ most_known
     → IsSound (with_decision t direction xid)
 noted_sound t direction xid h distinct room =
     with_decided t (record { xid = xid; direction = direction } ∷ t.decided) h (λ q. omega (arith, distinct q)) (omega (arith, room))

@@ -10,7 +10,7 @@ use Rattle.xa_record.specs.declared.record.Record.{Record}
 use Rattle.xa_xid.specs.Triple.{Triple, xid_eq}
 use Rattle.xa_xid.proofs.Same.{xid_same}
 use Rattle.xa_model.specs.State.{Branch, Decided, count, is_known_as, known_count, name_of, timestamp_of}
-use Rattle.xa_model.specs.Sound.{IsSound, is_working}
+use Rattle.xa_model.specs.Sound.{IsSound, is_working, most_known}
 use Rattle.xa_model.specs.Durable.{Durable, CommittedBranch, PreparedBranch, IsDurable, Pairwise, durable, last_writes, by_name, writes_of, keys_before, named_before, named_apart, is_prepared, is_past, boot_of}
 use Rattle.xa_model.specs.Fold.{fold, reading, unread, is_used, snapshot, sizes}
 use Rattle.xa_model.specs.Loggable.{AreShort, IsLoggable, IsRecoverable}
@@ -156,7 +156,7 @@ known d = counted (λ b. is_some (name_of b.phase)) (λ p. true) (λ c. refl) (�
 
 -- The state is sound
 
-opening_sound : (d : Durable) (name : List ℕ) (log_bytes : ℕ) → IsDurable d → length d.prepared + length d.decided ≤ 4096
+opening_sound : (d : Durable) (name : List ℕ) (log_bytes : ℕ) → IsDurable d → length d.prepared + length d.decided ≤ most_known
     → IsSound (opening d name log_bytes (d.boot + 1))
 opening_sound d name log_bytes h few = record {
   descends = by_time_descends (timestamp_of (d.boot + 1) 0 + 1) (built d) (within d h) (apart d h);
@@ -210,7 +210,7 @@ opening_loggable d name log_bytes h less = record {
   written = all_short d h.written;
 }
 
-opening_recoverable : (d : Durable) (name : List ℕ) (log_bytes : ℕ) → IsKept d → d.boot < 4294967295 → length d.prepared + length d.decided ≤ 4096
+opening_recoverable : (d : Durable) (name : List ℕ) (log_bytes : ℕ) → IsKept d → d.boot < 4294967295 → length d.prepared + length d.decided ≤ most_known
     → IsRecoverable (opening d name log_bytes (d.boot + 1))
 opening_recoverable d name log_bytes h less few = record {
   sound = opening_sound d name log_bytes h.form few;
@@ -248,7 +248,7 @@ opening_lasts d name log_bytes h =
     behind_apart [] ys h = h
     behind_apart (x ∷ xs) ys h = behind_apart xs ys h.1
 
-opening_restored : (d : Durable) (name : List ℕ) (log_bytes : ℕ) → IsKept d → d.boot < 4294967295 → length d.prepared + length d.decided ≤ 4096
+opening_restored : (d : Durable) (name : List ℕ) (log_bytes : ℕ) → IsKept d → d.boot < 4294967295 → length d.prepared + length d.decided ≤ most_known
     → IsRestored d (d.boot + 1) (opening d name log_bytes (d.boot + 1))
 opening_restored d name log_bytes h less few = record {
   recoverable = opening_recoverable d name log_bytes h less few;

@@ -5,8 +5,7 @@ use Rattle.xa_record.specs.declared.record.Record.{Record}
 use Rattle.xa_xid.specs.Triple.{Triple, xid_eq}
 use Rattle.xa_model.specs.State.{State, Branch, Association, Decided, Read, Standing, known_in, count, change, name_of, is_known_as, is_active, owns, is_loose_with, known_of, holders_of, timestamp_of}
 use Rattle.xa_model.specs.Associations.{is_anyones}
-use Rattle.xa_limits.specs.declared.TheConstants.{MOST_BRANCHES}
-use Rattle.xa_model.specs.Sound.{IsSound, Descends, is_working, is_at_work, named}
+use Rattle.xa_model.specs.Sound.{IsSound, Descends, is_working, is_at_work, named, most_known}
 use Rattle.xa_model.proofs.Counts.{count_same, count_map}
 use Rattle.xa_model.proofs.Finds.{told, told_change, told_map}
 use Rattle.xa_model.proofs.Order.{KeepsTimestamp, change_descends, map_descends}
@@ -51,7 +50,7 @@ with_fewer_held s held h fewer = record {
 
 -- of the decisions it matters that no XID has two, and how many they are
 pub with_decided : (s : State) (ds : List Decided) → IsSound s → ((q : Triple) → named (record s { decided = ds }) q ≤ 1)
-    → known_in (record s { decided = ds }) ≤ MOST_BRANCHES → IsSound (record s { decided = ds })
+    → known_in (record s { decided = ds }) ≤ most_known → IsSound (record s { decided = ds })
 with_decided s ds h distinct known = record {
   descends = h.descends;
   distinct = distinct;

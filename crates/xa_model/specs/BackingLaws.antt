@@ -6,7 +6,8 @@ use Rattle.xa_record.specs.declared.record.Record.{Record}
 use Rattle.xa_model.specs.declared.outcome.Outcome.{Outcome}
 use Rattle.xa_model.specs.State.{State}
 use Rattle.xa_model.specs.Answer.{Answer}
-use Rattle.xa_limits.specs.declared.TheConstants.{MOST_BOOTS, MOST_BRANCHES}
+use Rattle.xa_model.specs.Sound.{most_known}
+use Rattle.xa_limits.specs.declared.TheConstants.{MOST_BOOTS}
 use Rattle.xa_model.specs.Durable.{Durable, durable}
 use Rattle.xa_model.specs.Fold.{fold, fits, reading, unread, snapshot, nothing}
 use Rattle.xa_model.specs.Turn.{Happening}
@@ -53,12 +54,12 @@ ReopensRestored =
     (s : State) (name : List ℕ) (log_bytes : ℕ) → IsRecoverable s → s.open_record ≡ None → s.logged_boot < MOST_BOOTS
     → IsRestored (durable s) (s.logged_boot + 1) (reopened s name log_bytes (s.logged_boot + 1))
 
--- so does an opening on records of which nothing else is known, if no more branches are known by them than may be
+-- so does an opening on records of which nothing else is known, if they make no more XIDs known than a log has bytes
 abbrev pub OpensRestored : Type 0
 OpensRestored =
     (rs : List Record) (d : Durable) (name : List ℕ) (log_bytes : ℕ) → AllByRecursion IsRecord rs → fold rs ≡ Ok d
     → d.boot < MOST_BOOTS
-    → length d.prepared + length d.decided ≤ MOST_BRANCHES
+    → length d.prepared + length d.decided ≤ most_known
     → IsRestored d (d.boot + 1) (opening d name log_bytes (d.boot + 1))
     × Backs (snapshot d (d.boot + 1)) (opening d name log_bytes (d.boot + 1))
 

@@ -6,13 +6,14 @@ use Rattle.xa_codes.specs.declared.detail.Detail.TheVariants as detail
 use Rattle.xa_frame.specs.declared.reply.Reply.{Reply}
 use Rattle.xa_frame.specs.declared.request.Request.{Request}
 use Rattle.xa_frame.specs.declared.request.Request.TheVariants.{Prepare, Commit, Rollback, Forget}
-use Rattle.xa_limits.specs.declared.TheConstants.{MOST_BOOTS, MOST_BRANCHES}
+use Rattle.xa_limits.specs.declared.TheConstants.{MOST_BOOTS}
 use Rattle.xa_record.specs.Limits.{IsRecord}
 use Rattle.xa_record.specs.declared.record.Record.{Record}
 use Rattle.xa_xid.specs.Triple.{Triple, xid_eq}
 use Rattle.xa_model.specs.declared.event.Event.TheVariants.{Call}
 use Rattle.xa_model.specs.declared.outcome.Outcome.{Outcome}
 use Rattle.xa_model.specs.State.{State, Up, mark_of}
+use Rattle.xa_model.specs.Sound.{most_known}
 use Rattle.xa_model.specs.Answer.{Answer}
 use Rattle.xa_model.specs.Durable.{Durable, durable}
 use Rattle.xa_model.specs.Listed.{listed}
@@ -99,7 +100,7 @@ abbrev pub OpenedLists : Type 0
 OpenedLists =
     (rs : List Record) (d : Durable) (name : List ℕ) (log_bytes : ℕ) → AllByRecursion IsRecord rs → fold rs ≡ Ok d
     → d.boot < MOST_BOOTS
-    → length d.prepared + length d.decided ≤ MOST_BRANCHES
+    → length d.prepared + length d.decided ≤ most_known
     → ListsUntilAsked (opening d name log_bytes (d.boot + 1))
 
 -- and of one that was opened again, and is up

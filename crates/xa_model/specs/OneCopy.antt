@@ -4,8 +4,8 @@ use Rattle.std.specs.List.{AllByRecursion}
 use Rattle.xa_record.specs.Limits.{IsRecord}
 use Rattle.xa_record.specs.declared.record.Record.{Record}
 use Rattle.xa_model.specs.State.{State, Branch, Operation, Got, Wrote, committed_of, timestamp_of}
-use Rattle.xa_limits.specs.declared.TheConstants.{MOST_BOOTS, MOST_BRANCHES}
-use Rattle.xa_model.specs.Sound.{Descends}
+use Rattle.xa_limits.specs.declared.TheConstants.{MOST_BOOTS}
+use Rattle.xa_model.specs.Sound.{Descends, most_known}
 use Rattle.xa_model.specs.Durable.{Durable}
 use Rattle.xa_model.specs.Fold.{fold}
 use Rattle.xa_model.specs.Restarting.{opening}
@@ -67,5 +67,5 @@ abbrev pub OpenedOneCopy : Type 0
 OpenedOneCopy =
     (rs : List Record) (d : Durable) (name : List ℕ) (log_bytes : ℕ) (last : State)
     (entries : List Entry) → AllByRecursion IsRecord rs → fold rs ≡ Ok d
-    → d.boot < MOST_BOOTS → length d.prepared + length d.decided ≤ MOST_BRANCHES
+    → d.boot < MOST_BOOTS → length d.prepared + length d.decided ≤ most_known
     → HaveHappened entries → Leads (opening d name log_bytes (d.boot + 1)) entries last → HasOneCopy last

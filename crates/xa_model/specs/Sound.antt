@@ -4,7 +4,7 @@ use Rattle.xa_xid.specs.Triple.{Triple, xid_eq}
 use Rattle.xa_model.specs.State.{State, Branch, Phase, Working, Prepared, Committed, count, is_active, is_known_as}
 use Rattle.xa_model.specs.State.{owns, known_of, known_in, session_of, holders_of, loose_of, timestamp_of}
 use Rattle.xa_model.specs.Associations.{is_anyones}
-use Rattle.xa_limits.specs.declared.TheConstants.{MOST_BRANCHES, MOST_GIVEN, MOST_LOOSE, MOST_SESSIONS}
+use Rattle.xa_limits.specs.declared.TheConstants.{MOST_GIVEN, MOST_LOG, MOST_LOOSE, MOST_SESSIONS}
 
 -- the timestamps are above 0, below the limit, and descend
 abbrev pub Descends : ℕ → List Branch → Type 0
@@ -25,6 +25,11 @@ is_at_work None = false
 abbrev pub named : State → Triple → ℕ
 named s xid = count (is_known_as xid) s.branches + count (λ d. xid_eq d.xid xid) s.decided
 
+-- How many XIDs may be known. Start lets in no more than MOST_BRANCHES of them, but a log that no manager wrote may know
+-- more: each takes a record, and so at least a byte of the log.
+abbrev pub most_known : ℕ
+most_known = MOST_LOG
+
 pub record IsSound (s : State) : Type 0 where
   -- the branches stand by timestamp, and none has a timestamp that wasn't given
   pub descends : Descends (timestamp_of s.boot s.given + 1) s.branches
@@ -41,6 +46,6 @@ pub record IsSound (s : State) : Type 0 where
   pub bound : (xid : Triple) → is_at_work (known_of s.branches xid) ≡ false → holders_of s.associations xid ≡ 0
   -- the limits
   pub sessions : length s.sessions ≤ MOST_SESSIONS
-  pub known : known_in s ≤ MOST_BRANCHES
+  pub known : known_in s ≤ most_known
   pub given : s.given ≤ MOST_GIVEN
   pub loose : (xid : Triple) → loose_of s.associations xid ≤ MOST_LOOSE

@@ -12,8 +12,8 @@ use Rattle.xa_server.specs.Serves.{ServedPromises}
 pub served_promises : {D : Type 0} (disks : disk.Ghosts D) (m : Ghosts (Manager D))
     → ((manager : Manager D) (s : State) → ManagerStandsFor disks manager s → m.stands manager s)
     → ServedPromises disks m
-served_promises disks m stands manager bodies name log_bytes begun few base calls is_whole serves =
-    let opened = promised.begun_is_reached disks manager bodies name log_bytes begun few in
+served_promises disks m stands manager bodies name log_bytes begun base calls is_whole serves =
+    let opened = promised.begun_is_reached disks manager bodies name log_bytes begun in
     let stood = stands manager opened.0 opened.2 in
     record {
       first = opened.0;

@@ -1,10 +1,9 @@
 -- What a server tells, and what holds of the history that it tells of.
-use Rattle.std.specs.Prelude.{ℕ, ◌≡◌, ◌⊎◌, ◌+◌, ◌≤◌, Bool, List, length, Result, is_ok}
+use Rattle.std.specs.Prelude.{ℕ, ◌≡◌, ◌⊎◌, Bool, List, length, Result, is_ok}
 use Rattle.xa_disk.specs.declared.disk.Disk as disk
 use Rattle.xa_manager.specs.declared.manager.Manager.{Manager}
 use Rattle.xa_manager.specs.Opening.{HasBegun}
 use Rattle.xa_manager.specs.Promises.{IsOpening, IsReached, ListsPrepared, ListsNoCompleted}
-use Rattle.xa_limits.specs.declared.TheConstants.{MOST_BRANCHES}
 use Rattle.xa_model.specs.OneCopy.{HasOneCopy}
 use Rattle.xa_model.specs.State.{State}
 use Rattle.xa_room.specs.declared.auditing.AuditFault.{AuditFault}
@@ -50,11 +49,10 @@ pub record KeepsServed {M : Type 0} (m : Ghosts M) (manager : M) (calls : ℕ) :
       → (t : State) × IsReached first (plain_entries entries) t × HasOneCopy t
       × ListsPrepared (plain_entries entries) t × ListsNoCompleted (plain_entries entries) t
 
--- so it is of every manager that was opened, if no more branches are known by the log than may be
+-- so it is of every manager that was opened
 abbrev pub ServedPromises : {D : Type 0} → disk.Ghosts D → Ghosts (Manager D) → Type 0
 ServedPromises {D} disks m =
     (manager : Manager D) (bodies : List (List ℕ)) (name : List ℕ) (log_bytes : ℕ)
-    (begun : HasBegun disks bodies name log_bytes manager)
-    → length begun.durable.prepared + length begun.durable.decided ≤ MOST_BRANCHES
+    → HasBegun disks bodies name log_bytes manager
     → (base : ℕ × ℕ) (calls : ℕ) (is_whole : Bool) → Serves m (m.stands manager) base calls is_whole
     → KeepsServed m manager calls

@@ -43,6 +43,7 @@ returns-clause-begun g c = λ h has sized.
       durable = d;
       comes = plan.comes;
       boots = plan.boots;
+      limit = c.requires.limit;
       room = room;
       stands = new_stands g.D.Disk _ d (d.boot + 1) c.args.name c.args.log_bytes
           refl refl refl refl (c.log_first.ensures.settings ∙ sized) c.new.ensures plan.ready.branches plan.ready.records
