@@ -1,12 +1,15 @@
 -- The worked rows at the limits compute.
 use Rattle.std.proofs.Common.{refl}
-use Rattle.xa_model.specs.WorkedLimits.{ManySessions, ManyBranches, ManyTimestamps, ManyLoose, ManyKeys}
+use Rattle.xa_model.specs.WorkedLimits.{ManySessions, ManyBranches, MoreBranches, ManyTimestamps, ManyLoose, ManyKeys}
 
 pub many_sessions : ManySessions
 many_sessions = refl
 
 pub many_branches : ManyBranches
 many_branches = refl
+
+pub more_branches : MoreBranches
+more_branches = refl
 
 pub many_timestamps : ManyTimestamps
 many_timestamps = refl

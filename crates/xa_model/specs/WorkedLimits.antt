@@ -55,6 +55,18 @@ ManyBranches =
     ∷ begins 1 xid_a at_limit
     ∷ [])
 
+-- a log may make more of them known: nothing begins until fewer are
+abbrev pub MoreBranches : Type 0
+MoreBranches =
+    Replied (record new_manager { given = 4097; branches = branches_to 4097 }) (
+    session 1
+    ++ begins 1 xid_a at_limit
+    ∷ commits 1 (formatted 0) done
+    ∷ begins 1 xid_a at_limit
+    ∷ commits 1 (formatted 1) done
+    ∷ begins 1 xid_a (time 4098)
+    ∷ [])
+
 -- a boot gives 4,294,967,295 timestamps
 abbrev pub ManyTimestamps : Type 0
 ManyTimestamps =

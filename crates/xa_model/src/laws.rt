@@ -38,7 +38,7 @@ ghost use Rattle.xa_model.specs.WorkedRefusals.{SuspendRefused, EndRefused};
 ghost use Rattle.xa_model.specs.WorkedEarly.{NotConnected, NotOpened, IsDown, FlagsOfEach};
 ghost use Rattle.xa_model.specs.WorkedBranches.{OnePhaseRefused, TwoPhaseRefused, RollbackRefused, PrepareRefused};
 ghost use Rattle.xa_model.specs.WorkedBranches.{DoomRefused, RecordsRefused};
-ghost use Rattle.xa_model.specs.WorkedLimits.{ManySessions, ManyBranches, ManyTimestamps, ManyLoose, ManyKeys};
+ghost use Rattle.xa_model.specs.WorkedLimits.{ManySessions, ManyBranches, MoreBranches, ManyTimestamps, ManyLoose, ManyKeys};
 
 /// From a given start, given events and outcomes have at most one legal history.
 pub fn one_history()
@@ -136,6 +136,7 @@ pub fn worked_refusals()
 pub fn worked_limits()
     ensures sessions { ManySessions }
     ensures branches { ManyBranches }
+    ensures more { MoreBranches }
     ensures timestamps { ManyTimestamps }
     ensures loose { ManyLoose }
     ensures keys { ManyKeys }
