@@ -26,6 +26,7 @@ pub enum Appended {
 
 // Writes and syncs.
 pub(crate) fn put_synced<D: Disk>(disk: &mut D, at: u64, bytes: &[u8]) -> Result<(), DiskFault>
+    requires { 1 ≤ length bytes.now }
     ensures written { D.honest → OnOk result (D.seen disk.new ≡ put (D.seen disk.old) at bytes.now) }
     ensures durable { D.honest → OnOk result (Only (D.seen disk.new) (D.may_leave disk.new)) }
     ensures failed { D.honest → OnErr result (Torn at (length bytes.now) (D.seen disk.old) (D.seen disk.new)) }
@@ -43,6 +44,7 @@ pub(crate) fn put_synced<D: Disk>(disk: &mut D, at: u64, bytes: &[u8]) -> Result
 // length is torn behind its length. A disk that syncs no more behind a failed sync, as `FileDisk`, so comes to `Lost`
 // there, and then a rescan fails too: only the files opened anew tell what stands.
 pub(crate) fn put_or_clear<D: Disk>(disk: &mut D, at: u64, bytes: &mut [u8]) -> Appended
+    requires { 1 ≤ length bytes.old }
     ensures went { D.honest
         → Went D.tears result at bytes.old (D.seen disk.old) (D.seen disk.new) (D.may_leave disk.new) }
     ensures time { D.honest → TimePasses D.Disk (Torn at (length bytes.old)) disk.old disk.new }
