@@ -45,8 +45,8 @@ fn length_is(disk: &mut MemDisk, length: u64) -> bool {
     disk.length() == Ok(length)
 }
 
-fn write_fails(disk: &mut MemDisk, at: u64, bytes: &[u8]) -> bool {
-    disk.write_at(at, bytes) == Err(DiskFault)
+fn write_fails(disk: &mut MemDisk, at: u64, byte: u8) -> bool {
+    disk.write_at(at, &[byte]) == Err(DiskFault)
 }
 
 fn two_bytes(disk: &mut MemDisk, at: u64) -> Result<[u8; 2], DiskFault> {
@@ -59,7 +59,7 @@ fn two_bytes(disk: &mut MemDisk, at: u64) -> Result<[u8; 2], DiskFault> {
 fn planned_faults_come_once(rt: HostRuntime) {
     let mut disk = planned(rt.alloc()).expect(&rt, "a disk with plans");
     assert!(rt; length_is(&mut disk, 2));
-    assert!(rt; write_fails(&mut disk, 1, &[9]));
+    assert!(rt; write_fails(&mut disk, 1, 9));
     assert!(rt; two_bytes(&mut disk, 0) == Ok([7, 9]));
     assert!(rt; two_bytes(&mut disk, 1) == Err(DiskFault));
 }
@@ -81,7 +81,7 @@ fn sync_fails(disk: &mut MemDisk) -> bool {
 fn a_kept_sync_outlasts_a_crash(rt: HostRuntime) {
     let mut disk = planned_sync(rt.alloc()).expect(&rt, "a disk with plans");
     assert!(rt; sync_fails(&mut disk));
-    assert!(rt; write_fails(&mut disk, 2, b"c"));
+    assert!(rt; write_fails(&mut disk, 2, b'c'));
     assert!(rt; length_is(&mut disk, 3));
     assert!(rt; disk.crash().is_ok());
     assert!(rt; length_is(&mut disk, 2));

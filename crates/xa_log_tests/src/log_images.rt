@@ -33,19 +33,25 @@ fn front(bytes: &[u8], len: usize) -> &[u8] {
     bytes.get(..len).unwrap_or(bytes)
 }
 
+fn put(disk: &mut MemDisk, at: usize, bytes: &[u8]) -> Option<()> {
+    if bytes.is_empty() {
+        return Some(());
+    }
+    disk.write_at(at as u64, bytes).ok()
+}
+
 // The other file when so many bytes were written.
 fn cut_off(alloc: Global, files: &Files, cut: usize) -> Option<MemDisk> {
     let new = files.new.as_slice();
     let mut disk = disk_of(alloc, &files.old)?;
     let opening = b"XARMLOG1\0\0\0\0".as_slice();
-    disk.write_at(0, front(opening, cut)).ok()?;
+    put(&mut disk, 0, front(opening, cut))?;
     if cut > FRONT {
-        disk.write_at(FRONT as u64, front(new.get(FRONT..)?, cut - FRONT))
-            .ok()?;
+        put(&mut disk, FRONT, front(new.get(FRONT..)?, cut - FRONT))?;
     }
     if cut > new.len() {
-        disk.write_at(NAMED as u64, front(new.get(NAMED..FRONT)?, cut - new.len()))
-            .ok()?;
+        let first_length = front(new.get(NAMED..FRONT)?, cut - new.len());
+        put(&mut disk, NAMED, first_length)?;
     }
     Some(disk)
 }

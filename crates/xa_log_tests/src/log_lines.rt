@@ -1,9 +1,9 @@
 use crate::log_files::disks_behind;
-use crate::log_pairs::{OPENED, keeps_all};
+use crate::log_pairs::{OPENED, disk_of, keeps_all};
 use crate::rows::none_wrong;
 use std::alloc::Global;
 use std::io::{self, ErrorKind, Write};
-use xa_disk::{Disk, Effect, MemDisk};
+use xa_disk::{Effect, MemDisk};
 use xa_log::{Log, OpenFault};
 use xa_rows::LOG_BYTES;
 use xa_scan::{ScanFault, offsets_in_the_file, scan_run, worked_scans};
@@ -112,8 +112,7 @@ fn a_body_that_is_no_record(rt: HostRuntime) {
 }
 
 fn fails_as(alloc: Global, bytes: &[u8], fault: OpenFault, text: &str) -> Option<bool> {
-    let mut disk = MemDisk::new(alloc);
-    disk.write_at(0, bytes).ok()?;
+    let mut disk = disk_of(alloc, bytes)?;
     let (end, lines) = scanned(alloc, &mut disk);
     let told = format!(in alloc; "xarm: {fault}").ok()?;
     Some(end == Err(ScanFault::Log(fault)) && lines.is_empty() && told.as_str() == text)

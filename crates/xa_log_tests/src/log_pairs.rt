@@ -117,7 +117,9 @@ pub fn crashed(log: Log<MemDisk>) -> Option<(MemDisk, MemDisk)> {
 pub fn bytes_on(alloc: Global, disk: &mut MemDisk) -> Option<Vec<u8>> {
     let len = disk.length().ok()?;
     let mut bytes = vec![in alloc; 0; len as usize].ok()?;
-    disk.read_at(0, &mut bytes).ok()?;
+    if !bytes.is_empty() {
+        disk.read_at(0, &mut bytes).ok()?;
+    }
     Some(bytes)
 }
 
