@@ -13,7 +13,7 @@ use Rattle.xa_log.specs.Answers.{Fell, Went}
 use Rattle.xa_log.specs.declared.appending.Appended.{Appended}
 use Rattle.xa_log.specs.declared.appending.Appended.TheVariants.{Kept, Refused, Lost, Full}
 use Rattle.xa_log.specs.Pair.{has_log, IsCalm, Behind}
-use Rattle.xa_log.specs.Checkpoint.{behind_front, first_length, IsReady, IsOther, IsQuiet, LeavesOf, LeavesNone, LeavesAny, SealTears, Checkpointed}
+use Rattle.xa_log.specs.Checkpoint.{behind_front, first_length, IsReady, IsOther, IsQuiet, LeavesOf, LeavesNone, LeavesSealed, LeavesAny, SealTears, Checkpointed}
 use Rattle.std.proofs.lemmas.List.{take_at}
 use Rattle.xa_log.proofs.Records.{length-magic, record_to, bodies_closed, closed_zeros, rests_logged}
 use Rattle.xa_log.proofs.Torn.{torn_front, put_within}
@@ -89,9 +89,9 @@ module _ {D : Type 0} (disks : Ghosts D) (most : ℕ) (format : Format) (stood b
       → LeavesOnly disks a c (LeavesAny most format stood bodies)
   second_part p q = leaves_then disks a b c (LeavesOf most stood) (LeavesNone most format) Any (λ x leaves. inl leaves) (λ x none. inr (inl none)) p q
 
-  pub third_part : LeavesOnly disks a b (LeavesAny most format stood bodies) → LeavesOnly disks b c (LeavesOf most bodies)
+  pub third_part : LeavesOnly disks a b (LeavesAny most format stood bodies) → LeavesOnly disks b c (LeavesSealed most bodies)
       → LeavesOnly disks a c (LeavesAny most format stood bodies)
-  third_part p q = leaves_then disks a b c Any (LeavesOf most bodies) Any (λ x leaves. leaves) (λ x leaves. inr (inr leaves)) p q
+  third_part p q = leaves_then disks a b c Any (LeavesSealed most bodies) Any (λ x leaves. leaves) (λ x leaves. inr (inr leaves)) p q
 
 -- a file of which only such images are left
 pub others_none : {D : Type 0} (format : Format) (disks : Ghosts D) (most : ℕ) (disk : D)
@@ -170,6 +170,17 @@ others_log format disks most bodies disk r fits only = (
 
 -- ---- the seal's answers
 
+ready_long : (format : Format) (bodies : List (List ℕ)) (file : List ℕ) → IsReady format bodies file → 12 ≤ length file
+ready_long format bodies file ready =
+    omega (arith, ap (λ (l : List ℕ). length l) ready.split, length-append (preamble format) (behind_front format bodies ++ ready.rest), length-preamble format)
+
+-- a torn seal leaves the header
+pub seal_log : (format : Format) (bodies : List (List ℕ)) (file : List ℕ) → IsReady format bodies file → (c : List ℕ) → Torn 8 4 file c → has_log c ≡ true
+seal_log format bodies file ready c torn =
+    let front : take 8 c ≡ magic format =
+    torn_front 8 4 file c (omega (arith, ready_long format bodies file ready)) torn ∙ ap (λ (l : List ℕ). take 8 l) ready.split ∙ header_magic format (behind_front format bodies ++ ready.rest) in
+    ap (λ (o : Option Format). is_some o) (ap (λ (l : List ℕ). format_of l) front ∙ format_magic format)
+
 module _ {D : Type 0} (format : Format) (disks : Ghosts D)
     (most : ℕ) (stood bodies : List (List ℕ)) (old mid new : D) (ready : IsReady format bodies (disks.seen mid)) (fits : length (disks.seen mid) ≤ most)
     (durable : Only (disks.seen mid) (disks.may_leave mid)) where
@@ -177,14 +188,7 @@ module _ {D : Type 0} (format : Format) (disks : Ghosts D)
   seal = to_be_bytes w32 (first_length bodies)
 
   long : 12 ≤ length (disks.seen mid)
-  long = omega (arith, ap (λ (l : List ℕ). length l) ready.split, length-append (preamble format) (behind_front format bodies ++ ready.rest), length-preamble format)
-
-  -- a torn seal leaves the header
-  torn_log : (c : List ℕ) → Torn 8 4 (disks.seen mid) c → has_log c ≡ true
-  torn_log c torn =
-      let front : take 8 c ≡ magic format =
-      torn_front 8 4 (disks.seen mid) c (omega (arith, long)) torn ∙ ap (λ (l : List ℕ). take 8 l) ready.split ∙ header_magic format (behind_front format bodies ++ ready.rest) in
-      ap (λ (o : Option Format). is_some o) (ap (λ (l : List ℕ). format_of l) front ∙ format_magic format)
+  long = ready_long format bodies (disks.seen mid) ready
 
   pub sealed : (o : Appended) → o ≢ Full → Went disks.tears o 8 (to_be_bytes w32 (first_length bodies)) (disks.seen mid) (disks.seen new) (disks.may_leave new)
       → ((c : List ℕ) → disks.may_leave new c → (d : List ℕ) × disks.may_leave mid d × Torn 8 4 d c)
@@ -204,8 +208,8 @@ module _ {D : Type 0} (format : Format) (disks : Ghosts D)
     seal_leaves format bodies (disks.seen mid) ready most (disks.seen new) fits went.0,
     (λ lucky. lucky format bodies (disks.seen mid) went.1 (disks.seen new) ready went.2 went.3),
     (λ c left. let x = follows c left in seal_leaves format bodies (disks.seen mid) ready most c fits (subst (λ f. Torn 8 4 f c) (durable x.0 x.1) x.2)),
-    torn_log (disks.seen new) went.0,
-    (λ c left. let x = follows c left in torn_log c (subst (λ f. Torn 8 4 f c) (durable x.0 x.1) x.2)),
+    seal_log format bodies (disks.seen mid) ready (disks.seen new) went.0,
+    (λ c left. let x = follows c left in seal_log format bodies (disks.seen mid) ready c (subst (λ f. Torn 8 4 f c) (durable x.0 x.1) x.2)),
   )
   sealed Full other went follows = absurd (other refl)
 

@@ -68,10 +68,14 @@ pub record LeavesNone (most : ℕ) (format : Format) (c : List ℕ) : Type 0 whe
   pub fits : length c ≤ most
   pub front : take PREAMBLE_BYTES c ≡ preamble format
 
+-- an image of a file from the seal on: its header is whole
+abbrev pub LeavesSealed : ℕ → List (List ℕ) → List ℕ → Type 0
+LeavesSealed most bodies c = LeavesOf most bodies c × (has_log c ≡ true)
+
 -- An image of a file at any moment of a checkpoint: until the header is synced it has without chance what stood there
 -- or nothing, until the seal nothing, whatever was left, and from the seal on without chance these bodies or nothing.
 abbrev pub LeavesAny : ℕ → Format → List (List ℕ) → List (List ℕ) → List ℕ → Type 0
-LeavesAny most format stood bodies c = LeavesOf most stood c ⊎ LeavesNone most format c ⊎ LeavesOf most bodies c
+LeavesAny most format stood bodies c = LeavesOf most stood c ⊎ LeavesNone most format c ⊎ LeavesSealed most bodies c
 
 -- The premise on a disk's failed writes: a seal that was lost leaves nothing by chance to a read.
 abbrev pub SealTears : (List ℕ → ℕ → List ℕ → List ℕ → Type 0) → Type 0

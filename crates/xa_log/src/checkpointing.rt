@@ -11,7 +11,7 @@ ghost use Rattle.xa_log.specs.Reading.{bodies_of};
 ghost use Rattle.xa_log.specs.Answers.{Went, Fell, HasCause};
 ghost use Rattle.xa_log.specs.Calls.{PutCalls, RecordsCalls, AppendCalls, CheckpointCalls};
 ghost use Rattle.xa_log.specs.Pair.{IsCalm, CalmTears};
-ghost use Rattle.xa_log.specs.Checkpoint.{behind_preamble, bytes_behind, tailed, records_bytes, behind_front, first_length, IsReady, IsOther, LeavesOf, LeavesNone, LeavesAny, Checkpointed};
+ghost use Rattle.xa_log.specs.Checkpoint.{behind_preamble, bytes_behind, tailed, records_bytes, behind_front, first_length, IsReady, IsOther, LeavesOf, LeavesNone, LeavesSealed, LeavesAny, Checkpointed};
 
 use crate::appending::{Appended, put_or_clear, put_synced};
 use crate::format::{Format, PREAMBLE_BYTES};
@@ -122,7 +122,7 @@ pub(crate) fn put_seal<D: Disk>(disk: &mut D, size: u32) -> Appended
     ensures any_moment { D.honest → (most : ℕ) (format : Format) (bodies : List (List ℕ))
         → IsReady format bodies (D.seen disk.old)
         → size ≡ first_length bodies → length (D.seen disk.old) ≤ most → Only (D.seen disk.old) (D.may_leave disk.old)
-        → LeavesOnly D.Disk disk.old disk.new (LeavesOf most bodies) }
+        → LeavesOnly D.Disk disk.old disk.new (LeavesSealed most bodies) }
     ensures time { D.honest
         → TimePasses D.Disk (Torn FIRST_OFFSET LENGTH_BYTES) disk.old disk.new }
     ensures cause { HasCause result (D.failures disk.old) (D.failures disk.new) }
