@@ -24,11 +24,13 @@ use Rattle.xa_model.specs.Loggable.{IsRecoverable}
 use Rattle.xa_model.specs.Restarting.{restart_turn}
 use Rattle.xa_model.specs.Turn.{Turn, Now, Asked, taken}
 use Rattle.xa_model.specs.Step.{row, respond, opened_of, is_up, step}
+use Rattle.xa_model.specs.Step.{turn as turn_of}
 use Rattle.xa_assoc.specs.Refusals.{is_memory}
 use Rattle.xa_assoc.specs.Seats.{opened_at}
 use Rattle.xa_assoc.specs.declared.fault.ConnectFault.TheVariants.{Memory}
 use Rattle.xa_manager.specs.declared.manager.Manager.{Manager}
 use Rattle.xa_manager.specs.declared.done.Done.{Done}
+use Rattle.xa_manager.specs.Crash.{LeavesBy}
 use Rattle.xa_manager.specs.LogStands.{Trusts}
 use Rattle.xa_manager.specs.Answered.{FullyAnswered, HasCalled, StaysFor, NoneRises, connect_reply, may_want, memory_code}
 use Rattle.xa_manager.specs.View.{View}
@@ -36,7 +38,7 @@ use Rattle.xa_manager.specs.Managed.{view, ManagerStandsFor, AnswersAs}
 use Rattle.xa_manager.specs.Stands.{TablesStandFor, Follows, FollowsDown, Stays, StaysDown}
 use Rattle.xa_manager.specs.Turns.{Takes, TakesTurn, HasDone}
 use Rattle.xa_manager.proofs.OnePhase.{refused_turn, passed_turn}
-use Rattle.xa_manager.proofs.Stepping.{asked_by, has_done}
+use Rattle.xa_manager.proofs.Stepping.{asked_by, has_done, quiet_crash}
 use Rattle.xa_manager.proofs.Taking.{takes_row}
 
 early_by : (b : Bool) (k : View) (s : State) (n : ℕ) (request : Request) → TablesStandFor b k s → early_refusal (is_up s.standing) s.name (opened_of s n) request ≡ early_refusal b k.name (opened_at k.sessions n) request
@@ -112,6 +114,7 @@ module _ {D : Type 0} (disks : Ghosts D) where
         let steps : step s (Asked (Call n request)) Quiet ≡ Some (answer reply s) = ap (λ (t : Turn). taken t Quiet) (asked_by m.up (view m) s (respond s (Call n request)) st.tables ∙ is) in
         subst (λ (o : Option Answer). IsSomeAnd o (λ a. (a.reply ≡ reply) × ManagerStandsFor disks m a.after)) (sym steps) (refl, st);
     called = λ s st premises. refl;
+    crash = λ s st trusts. quiet_crash disks m m s (turn_of s (Asked (Call n request))) Quiet st refl refl;
     served = served;
   }
 
@@ -176,31 +179,38 @@ module _ {D : Type 0} (disks : Ghosts D) where
   -- a restart, of whichever state the manager stood for, up or down
   restarted_done : (m m' : Manager D) (n : ℕ) (reply : Reply) (outcome : Outcome) → None ≡ early_refusal m.up (view m).name (opened_at (view m).sessions n) Restart
       → ((s : State) → ManagerStandsFor disks m s → Trusts disks → AnswersAs disks (taken (restart_turn s) outcome) reply m') → HasCalled disks outcome m.log m'.log → is_memory reply.detail ≡ false
+      → ((s : State) → ManagerStandsFor disks m s → Trusts disks → LeavesBy disks m.log (restart_turn s) outcome m'.log s)
       → HasDone disks m (Call n Restart) reply outcome m'
-  restarted_done m m' n reply outcome h turn called served = record {
+  restarted_done m m' n reply outcome h turn called served crash = record {
     steps = λ s st premises.
         let steps : step s (Asked (Call n Restart)) outcome ≡ taken (restart_turn s) outcome =
         ap (λ (t : Turn). taken t outcome) (asked_by m.up (view m) s (respond s (Call n Restart)) st.tables ∙ passed_row m s n Restart h st) in
         subst (λ (o : Option Answer). IsSomeAnd o (λ a. (a.reply ≡ reply) × ManagerStandsFor disks m' a.after)) (sym steps)
         (⊎_elim (λ trusts. turn s st trusts) (λ no. absurd (cc no)) premises);
     called = λ s st premises. called;
+    crash = λ s st trusts.
+        let is : turn_of s (Asked (Call n Restart)) ≡ restart_turn s =
+        asked_by m.up (view m) s (respond s (Call n Restart)) st.tables ∙ passed_row m s n Restart h st in
+        subst (λ (t : Turn). LeavesBy disks m.log t outcome m'.log s) (sym is) (crash s st trusts);
     served = served;
   }
 
   restart_by : (m m' : Manager D) (n : ℕ) (r : Result Done AllocError) → None ≡ early_refusal m.up (view m).name (opened_at (view m).sessions n) Restart
       → IfOk r (λ d. (s : State) → ManagerStandsFor disks m s → Trusts disks → AnswersAs disks (taken (restart_turn s) d.outcome) d.reply m')
       → IfOk r (λ d. HasCalled disks d.outcome m.log m'.log) → IfOk r (λ d. is_memory d.reply.detail ≡ false)
+      → IfOk r (λ d. (s : State) → ManagerStandsFor disks m s → Trusts disks → LeavesBy disks m.log (restart_turn s) d.outcome m'.log s)
       → IfOk r (λ d. HasDone disks m (Call n Restart) d.reply d.outcome m')
-  restart_by m m' n (Ok d) h turn called served = restarted_done m m' n d.reply d.outcome h turn called served
-  restart_by m m' n (Err e) h turn called served = tt
+  restart_by m m' n (Ok d) h turn called served crash = restarted_done m m' n d.reply d.outcome h turn called served crash
+  restart_by m m' n (Err e) h turn called served crash = tt
 
   pub restart_done : (m m' : Manager D) (n : ℕ) (request : Request) (r : Result Done AllocError) → request ≡ Restart → None ≡ early_refusal m.up (view m).name (opened_at (view m).sessions n) request
       → IfOk r (λ d. (s : State) → ManagerStandsFor disks m s → Trusts disks → AnswersAs disks (taken (restart_turn s) d.outcome) d.reply m')
       → IfOk r (λ d. HasCalled disks d.outcome m.log m'.log) → IfOk r (λ d. is_memory d.reply.detail ≡ false)
+      → IfOk r (λ d. (s : State) → ManagerStandsFor disks m s → Trusts disks → LeavesBy disks m.log (restart_turn s) d.outcome m'.log s)
       → IfOk r (λ d. HasDone disks m (Call n request) d.reply d.outcome m')
-  restart_done m m' n request r same h turn called served =
+  restart_done m m' n request r same h turn called served crash =
       subst (λ (q : Request). IfOk r (λ d. HasDone disks m (Call n q) d.reply d.outcome m')) (sym same)
-      (restart_by m m' n r (subst (λ (q : Request). None ≡ early_refusal m.up (view m).name (opened_at (view m).sessions n) q) same h) turn called served)
+      (restart_by m m' n r (subst (λ (q : Request). None ≡ early_refusal m.up (view m).name (opened_at (view m).sessions n) q) same h) turn called served crash)
 
   -- the outcome is no part of what a manager stands for
   told : (m : Manager D) (o : Outcome) (s : State) → ManagerStandsFor disks m s → ManagerStandsFor disks (record m { outcome = o }) s
@@ -210,9 +220,13 @@ module _ {D : Type 0} (disks : Ghosts D) where
   and_then None P Q f h = h
   and_then (Some a) P Q f h = f a h
 
-  served_not : (b : Bool) (A B : Type 0) → b ≡ false → B → MatchBool b A B
+  pub served_not : (b : Bool) (A B : Type 0) → b ≡ false → B → MatchBool b A B
   served_not true A B e h = absurd (cc e)
   served_not false A B e h = h
+
+  pub restart_answered : (m' : Manager D) (s : State) (reply : Reply) (outcome : Outcome) → AnswersAs disks (taken (restart_turn s) outcome) reply m'
+      → AnswersAs disks (taken (restart_turn s) outcome) reply (record m' { outcome = outcome })
+  restart_answered m' s reply outcome h = and_then (taken (restart_turn s) outcome) _ _ (λ a x. (x.0, told m' outcome a.after x.1)) h
 
   pub done_answered : (m m' : Manager D) (e : Event) (reply : Reply) (outcome : Outcome) → HasDone disks m e reply outcome m'
       → FullyAnswered disks m e reply (record m' { outcome = outcome })
@@ -221,13 +235,14 @@ module _ {D : Type 0} (disks : Ghosts D) where
         (λ s st premises. and_then (step s (Asked e) outcome) _ _ (λ a h. (h.0, told m' outcome a.after h.1)) (x.steps s st premises));
     pinned = λ w. never (is_memory reply.detail) _ x.served w;
     called = λ served s st premises. x.called s st premises;
+    crash = λ served s st trusts. x.crash s st trusts;
     quiet = λ w. never (is_memory reply.detail) _ x.served w;
   }
 
   -- where memory was wanted
   pub wanted_answered : (m m' : Manager D) (n : ℕ) (request : Request) (reply : Reply) → reply ≡ detailed (memory_code request) detail.Memory → StaysFor disks m m' → m'.outcome ≡ m.outcome → NoneRises disks.failures m.log m'.log → may_want request ≡ true
       → FullyAnswered disks m (Call n request) reply m'
-  wanted_answered m m' n request reply is stays outcome quiet may = rw is (record { answered = (stays, outcome); pinned = λ w. (may, refl); called = λ served. absurd (cc served); quiet = λ w. quiet })
+  wanted_answered m m' n request reply is stays outcome quiet may = rw is (record { answered = (stays, outcome); pinned = λ w. (may, refl); called = λ served. absurd (cc served); crash = λ served. absurd (cc served); quiet = λ w. quiet })
 
   pub either_stays_for : (m m' : Manager D) → m'.up ≡ m.up → m'.log ≡ m.log → m'.doubt ≡ m.doubt → Stays (view m) (view m') → StaysDown (view m) (view m') → StaysFor disks m m'
   either_stays_for m m' up log doubt stays down s st = record {
@@ -249,7 +264,7 @@ module _ {D : Type 0} (disks : Ghosts D) where
       (λ s st. subst (λ (t : Turn). Takes disks m t reply Quiet m') (sym (is s)) (takes_either m m' act reply Quiet refl log up doubt f d s st)))
 
   pub connect_wanted : (m m' : Manager D) → StaysFor disks m m' → m'.outcome ≡ m.outcome → NoneRises disks.failures m.log m'.log → FullyAnswered disks m Connect (connect_reply (Err Memory)) m'
-  connect_wanted m m' stays outcome quiet = record { answered = (stays, outcome); pinned = λ w. (refl, refl); called = λ served. absurd (cc served); quiet = λ w. quiet }
+  connect_wanted m m' stays outcome quiet = record { answered = (stays, outcome); pinned = λ w. (refl, refl); called = λ served. absurd (cc served); crash = λ served. absurd (cc served); quiet = λ w. quiet }
 
   -- the low water is given once a request is answered
 
@@ -258,6 +273,7 @@ module _ {D : Type 0} (disks : Ghosts D) where
   given_done m mid m' e reply outcome x stays log = record {
     steps = λ s st premises. and_then (step s (Asked e) outcome) _ _ (λ a h. (h.0, stays a.after h.1)) (x.steps s st premises);
     called = λ s st premises. rw log (x.called s st premises);
+    crash = λ s st trusts. rw log (x.crash s st trusts);
     served = x.served;
   }
 

@@ -1,32 +1,38 @@
 -- What two files leave of a state, by what the log stands for.
-use Rattle.std.proofs.Common.{◌≡◌, ◌⊎◌, inl, inr, ⊎_elim, ℕ, ◌+◌, ◌≤◌, Bool, true, false, List, [], ◌∷◌, ◌++◌, length, refl, sym, ◌∙◌, ap, subst, cond, Option, Some, None, nat_lt}
+use Rattle.std.proofs.Common.{◌≡◌, ◌⊎◌, inl, inr, ⊎_elim, ℕ, ◌+◌, ◌≤◌, ◌<◌, arith, Bool, true, false, List, [], ◌∷◌, ◌++◌, length, refl, sym, ◌∙◌, ap, subst, cond, Option, Some, None, nat_lt}
 use Rattle.std.specs.Prelude.{map, option_map, IfSome}
 use Rattle.std.proofs.lemmas.List.{map_push}
+use Rattle.xa_disk.specs.Disk.{Same}
+use Rattle.xa_disk.specs.Time.{TimePasses}
 use Rattle.xa_disk.specs.declared.disk.Disk.{Ghosts}
 use Rattle.xa_codes.specs.declared.codes.TheConstants.{XAER_RMFAIL}
 use Rattle.xa_codes.specs.declared.detail.Detail.TheVariants as detail
 use Rattle.xa_record.specs.Spelling.{spelled}
 use Rattle.xa_record.specs.declared.record.Record.{Record}
 use Rattle.xa_record.specs.declared.record.Record.TheVariants as logged
-use Rattle.xa_log.specs.Chain.{NoChance, IsPlain, IsBeforeOrAfter}
-use Rattle.xa_log.specs.Pair.{has_log, Behind, CalmTears, IsCalm}
-use Rattle.xa_log.specs.Checkpoint.{LeavesOf, SealTears}
-use Rattle.xa_log.specs.TwoFiles.{Pair, MayStandPair, MaySeal}
+use Rattle.xa_log.specs.Chain.{newest, NoChance, IsPlain, IsBeforeOrAfter}
+use Rattle.xa_log.specs.Pair.{generation, has_log, Behind, CalmTears, IsCalm}
+use Rattle.xa_log.specs.Checkpoint.{LeavesOf, LeavesAny, SealTears}
+use Rattle.xa_log.specs.Laws.{IsLogOf}
+use Rattle.xa_log.specs.Stands.{Leaves}
+use Rattle.xa_log.specs.TwoFiles.{Pair, MayStandPair, MaySeal, first_of, second_of}
 use Rattle.xa_log.specs.declared.log.Log.{Log}
+use Rattle.xa_log.proofs.Two.{beats_more}
 use Rattle.xa_model.specs.State.{State}
 use Rattle.xa_model.specs.Answer.{answer, detailed}
 use Rattle.xa_model.specs.Turn.{Opens, Stops}
 use Rattle.xa_model.specs.Durable.{durable}
 use Rattle.xa_model.specs.Fold.{snapshot}
 use Rattle.xa_model.specs.Logging.{down}
-use Rattle.xa_model.specs.Loggable.{IsRecoverable}
+use Rattle.xa_model.specs.Loggable.{IsRecoverable, is_boot}
 use Rattle.xa_model.specs.Backing.{Backs, BacksReading, settled}
 use Rattle.xa_model.specs.Restarting.{survived, restarting, boot_became}
 use Rattle.xa_model.proofs.Booted.{same_backed, restart_backed}
-use Rattle.xa_manager.specs.LogStands.{Trusts, HasRecords, MayHaveRecord, HasRecordsOf}
+use Rattle.xa_manager.specs.Crash.{StandFor, LeavesLook}
+use Rattle.xa_manager.specs.LogStands.{Trusts, HasRecords, MayHaveRecord, HasRecordsOf, snapshot_bodies}
 use Rattle.xa_manager.specs.Files.{Settles, FilesStandFor}
 use Rattle.xa_manager.specs.CrashLaws.{HasCalmRecords, MayHaveCalmRecord, HasCalmRecordsOf, ReadLeaves, CrashLeaves}
-use Rattle.xa_manager.proofs.CrashImages.{AreFilesOf, files_of_pair, files_of_append, files_of_seal}
+use Rattle.xa_manager.proofs.CrashImages.{AreFilesOf, files_of_other, files_of_none, files_of_pair, files_of_append, files_of_seal}
 
 -- ---- the fate is settled
 
@@ -186,12 +192,72 @@ module _ {D : Type 0} (disks : Ghosts D) (log : Log D) where
     crash_of rs s (Some r) (inr (inl has)) = inl (crash_pair rs has)
     crash_of rs s (Some r) (inr (inr has)) = inr (r, refl, crash_pair (settled rs s r) has)
 
+-- ---- what a crash leaves while a record is appended
+
+appended_only : (rs : List Record) (s : State) (r : Record) → is_boot r ≡ false → settled rs s r ≡ rs ++ r ∷ []
+appended_only rs s (logged.Opened boot) e = absurd (cc e)
+appended_only rs s (logged.Prepared xid t ws) e = refl
+appended_only rs s (logged.Committed xid t ws) e = refl
+appended_only rs s (logged.Completed xid direction) e = refl
+appended_only rs s (logged.Decided xid direction) e = refl
+appended_only rs s (logged.Forgotten xid) e = refl
+appended_only rs s (logged.Base t ws) e = refl
+appended_only rs s (logged.Held xid t ws) e = refl
+appended_only rs s (logged.Known xid direction) e = refl
+
+pub append_files : {D : Type 0} (disks : Ghosts D) (log : Log D) (rs : List Record) (t : State) (r : Record) (stood : List (List ℕ)) (current other : List ℕ)
+    → is_boot r ≡ false → Pair disks (map spelled rs) stood log → Leaves log.log_bytes log.format (map spelled rs) (spelled r) current
+    → IsPlain log.format (map spelled rs) (spelled r) current → disks.may_leave log.other other → IsCalm stood other
+    → IsRecoverable t → Backs rs t → t.open_record ≡ Some r
+    → FilesStandFor log.log_bytes (cond log.on_first current other) (cond log.on_first other current) t
+append_files disks log rs t r stood current other boot p leaves plain two calm h k is =
+    let settles = appended_only rs t r boot in
+    let pushed : map spelled (settled rs t r) ≡ map spelled rs ++ spelled r ∷ [] = ap (λ (x : List Record). map spelled x) settles ∙ map_push spelled rs r in
+    either_for log.log_bytes log.on_first rs t current other h k
+    (⊎_elim (λ f. inl f)
+    (λ f. inr (r, is, subst (λ (x : List (List ℕ)). AreFilesOf log.log_bytes log.on_first x current other) (sym pushed) f))
+    (files_of_append log.log_bytes log.on_first log.format (map spelled rs) (spelled r) stood current other leaves.fits (leaves.reads plain)
+    (p.other.left_fits other two) (p.other.left_behind other two) calm p.older (beats_more log.on_first (map spelled rs) (spelled r) stood p.older)))
+
+-- ---- what a crash leaves while a snapshot is written
+
+pub checkpoint_files : {D : Type 0} (disks : Ghosts D) (log : Log D) (rs : List Record) (t : State) (boot : ℕ) (stood : List (List ℕ)) (current other : List ℕ)
+    → Pair disks (map spelled rs) stood log → generation (map spelled rs) < generation (snapshot_bodies t boot)
+    → IsRecoverable t → Backs rs t → t.open_record ≡ Some (logged.Opened boot)
+    → disks.may_leave log.disk current → LeavesAny log.log_bytes newest stood (snapshot_bodies t boot) other
+    → (IsCalm stood other → StandFor log current other t) ⊎ StandFor log current other t ⊎ (IsCalm (snapshot_bodies t boot) other → StandFor log current other t)
+checkpoint_files {D} disks log rs t boot stood current other p above h k is one = by
+  where
+    l : IsLogOf log.log_bytes (map spelled rs) current
+    l = subst (λ (x : List ℕ). IsLogOf log.log_bytes (map spelled rs) x) (sym (p.current.durable current one))
+        (record { format = log.format; fits = p.current.fits; rests = p.current.file })
+
+    old : AreFilesOf log.log_bytes log.on_first (map spelled rs) current other → StandFor log current other t
+    old f = either_for log.log_bytes log.on_first rs t current other h k (inl f)
+
+    fresh : AreFilesOf log.log_bytes log.on_first (snapshot_bodies t boot) current other → StandFor log current other t
+    fresh f = either_for log.log_bytes log.on_first rs t current other h k (inr (logged.Opened boot, is, f))
+
+    by : LeavesAny log.log_bytes newest stood (snapshot_bodies t boot) other
+        → (IsCalm stood other → StandFor log current other t) ⊎ StandFor log current other t ⊎ (IsCalm (snapshot_bodies t boot) other → StandFor log current other t)
+    by (inl leaves) = inl (λ calm. old (files_of_other log.log_bytes log.on_first (map spelled rs) stood current other l leaves calm p.older))
+    by (inr (inl none)) = inr (inl (old (files_of_none log.log_bytes log.on_first newest (map spelled rs) current other l none)))
+    by (inr (inr leaves)) = inr (inr (λ calm. ⊎_elim old fresh
+        (files_of_seal log.log_bytes log.on_first (map spelled rs) (snapshot_bodies t boot) current other l leaves.0 leaves.1 calm above)))
+
 -- ---- in the order of the two
 
 seen_in_order : {D : Type 0} (seen : D → List ℕ) (most : ℕ) (s : State) (f : Bool) (d o : D)
     → FilesStandFor most (cond f (seen d) (seen o)) (cond f (seen o) (seen d)) s → FilesStandFor most (seen (cond f d o)) (seen (cond f o d)) s
 seen_in_order seen most s true d o h = h
 seen_in_order seen most s false d o h = h
+
+-- a look writes nothing
+same_left : {D : Type 0} (disks : Ghosts D) (old new : D) → TimePasses disks Same old new
+    → ((c : List ℕ) → disks.left_since old (disks.moment old) c → disks.may_leave old c)
+    → (c : List ℕ) → disks.left_since new (disks.moment old) c → disks.may_leave old c
+same_left disks old new time only_now c left =
+    ⊎_elim (λ past. only_now c past) (λ x. subst (λ (f : List ℕ). disks.may_leave old f) (sym x.2) x.1) (time.nothing_else (disks.moment old) c (omega arith) left)
 
 images_in_order : (most : ℕ) (s : State) (f : Bool) (a b : List ℕ)
     → FilesStandFor most (cond f (cond f a b) (cond f b a)) (cond f (cond f b a) (cond f a b)) s → FilesStandFor most a b s
@@ -219,3 +285,12 @@ crash_leaves disks log s first second h one two stands =
     images_in_order log.log_bytes s log.on_first first second
     (either_for log.log_bytes log.on_first stands.records s current other h stands.backs
     (crash_of disks log current other left.0 left.1 stands.records s s.open_record stands.has))
+
+pub look_leaves : {D : Type 0} (disks : Ghosts D) (old new : Log D) (s : State) → IsRecoverable s
+    → ((d : D) (c : List ℕ) → disks.left_since d (disks.moment d) c → disks.may_leave d c)
+    → TimePasses disks Same (first_of old) (first_of new) → TimePasses disks Same (second_of old) (second_of new)
+    → LeavesLook disks old new s
+look_leaves disks old new s h only_now one two first second left plain =
+    crash_leaves disks old s first second h
+    (same_left disks (first_of old) (first_of new) one (only_now (first_of old)) first left.first_left)
+    (same_left disks (second_of old) (second_of new) two (only_now (second_of old)) second left.second_left) plain

@@ -2,13 +2,13 @@
 use Rattle.std.proofs.Common.{◌≡◌, ◌⊎◌, inl, inr, ⊎_elim, ℕ, ◌≤◌, ◌<◌, Bool, true, false, List, [], ◌∷◌, ◌++◌, length, sym, ◌∙◌, ap, subst, cond, Option, None, is_some}
 use Rattle.xa_log.specs.declared.format.Format.{Format}
 use Rattle.xa_log.specs.Chain.{IsBeforeOrAfter, format_of, logged}
-use Rattle.xa_log.specs.Checkpoint.{LeavesOf}
+use Rattle.xa_log.specs.Checkpoint.{LeavesOf, LeavesNone}
 use Rattle.xa_log.specs.Laws.{IsLogOf}
 use Rattle.xa_log.specs.Pair.{generation, has_log, beats, logged_pair, pair_fault, Behind, IsCalm}
 use Rattle.xa_log.specs.TwoFiles.{NoStray}
 use Rattle.xa_log.proofs.Again.{format_magic}
-use Rattle.xa_log.proofs.Pair.{beats_read}
-use Rattle.xa_log.proofs.Parts.{rests_magic}
+use Rattle.xa_log.proofs.Pair.{beats_nil, beats_read}
+use Rattle.xa_log.proofs.Parts.{none_calm, none_of, rests_magic}
 use Rattle.xa_log.proofs.Records.{rests_logged}
 use Rattle.xa_log.proofs.Still.{fault_order, logged_order}
 use Rattle.xa_log.proofs.Which.{behind_law, pair_law, seal_law}
@@ -27,10 +27,9 @@ no_stray : (first : Bool) (current other : List ℕ) → has_log current ≡ tru
 no_stray true current other is wins = (λ none. absurd (cc (is, none)), wins)
 no_stray false current other is wins = (wins, λ none. absurd (cc (is, none)))
 
-pub files_of_pair : (most : ℕ) (first : Bool) (bodies stood : List (List ℕ)) (current other : List ℕ) → IsLogOf most bodies current → length other ≤ most
-    → Behind stood other → IsCalm stood other → beats first bodies stood ≡ true → AreFilesOf most first bodies current other
-files_of_pair most first bodies stood current other l fits behind calm wins =
-    let leaves = behind_law most stood other fits behind in
+pub files_of_other : (most : ℕ) (first : Bool) (bodies stood : List (List ℕ)) (current other : List ℕ) → IsLogOf most bodies current
+    → LeavesOf most stood other → IsCalm stood other → beats first bodies stood ≡ true → AreFilesOf most first bodies current other
+files_of_other most first bodies stood current other l leaves calm wins =
     let it = pair_law most first bodies stood current other l leaves calm wins in
     let its : logged current ≡ bodies = rests_logged l.format bodies current l.rests in
     let before : beats first (logged current) (logged other) ≡ true =
@@ -40,6 +39,17 @@ files_of_pair most first bodies stood current other l fits behind calm wins =
       stray = no_stray first current other (begins most bodies current l) (λ none. before);
       logged = sym (logged_order (λ (x : List ℕ). x) first current other) ∙ it.1;
     }
+
+pub files_of_pair : (most : ℕ) (first : Bool) (bodies stood : List (List ℕ)) (current other : List ℕ) → IsLogOf most bodies current → length other ≤ most
+    → Behind stood other → IsCalm stood other → beats first bodies stood ≡ true → AreFilesOf most first bodies current other
+files_of_pair most first bodies stood current other l fits behind calm wins =
+    files_of_other most first bodies stood current other l (behind_law most stood other fits behind) calm wins
+
+-- the other file has a whole header and a length 0
+pub files_of_none : (most : ℕ) (first : Bool) (format : Format) (bodies : List (List ℕ)) (current other : List ℕ) → IsLogOf most bodies current
+    → LeavesNone most format other → AreFilesOf most first bodies current other
+files_of_none most first format bodies current other l none =
+    files_of_other most first bodies [] current other l (none_of format most [] other none) (none_calm format [] other none.front) (beats_nil first bodies)
 
 -- the append of a body was lost
 pub files_of_append : (most : ℕ) (first : Bool) (format : Format) (bodies : List (List ℕ)) (body : List ℕ) (stood : List (List ℕ)) (current other : List ℕ)

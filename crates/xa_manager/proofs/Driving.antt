@@ -18,7 +18,7 @@ use Rattle.xa_assoc.specs.Refusals.{is_memory}
 use Rattle.xa_manager.specs.declared.manager.Manager.{Manager}
 use Rattle.xa_manager.specs.LogStands.{Trusts}
 use Rattle.xa_manager.specs.Managed.{ManagerStandsFor}
-use Rattle.xa_manager.specs.Answered.{Answered, AnswersAll, ArePinned, IsPinned, StaysFor, StepsAs, recorded, no_restart}
+use Rattle.xa_manager.specs.Answered.{Answered, AnswersAll, ArePinned, FullyAnswered, IsPinned, RunsAll, StaysFor, StepsAs, recorded, no_restart}
 
 -- a legal history goes on by one entry
 pub leads_more : (s : State) (es : List Entry) (mid : State) (e : Entry) (s' : State) → Leads s es mid → Steps mid e s' → Leads s (es ++ e ∷ []) s'
@@ -131,3 +131,10 @@ pinned_more [] [] event reply h one = (one, tt)
 pinned_more [] (r ∷ rs) event reply h one = absurd h
 pinned_more (e ∷ es) [] event reply h one = absurd h
 pinned_more (e ∷ es) (r ∷ rs) event reply h one = (h.0, pinned_more es rs event reply h.1 one)
+
+pub runs_more : {D : Type 0} (disks : Ghosts D) (m mid m' : Manager D) (es : List Event) (rs : List Reply) (event : Event) (reply : Reply)
+    → RunsAll disks m es rs mid → FullyAnswered disks mid event reply m' → RunsAll disks m (es ++ event ∷ []) (rs ++ reply ∷ []) m'
+runs_more disks m mid m' [] [] event reply is h = (m', subst (λ x. FullyAnswered disks x event reply m') is h, refl)
+runs_more disks m mid m' [] (r ∷ rs) event reply none h = absurd none
+runs_more disks m mid m' (e ∷ es) [] event reply none h = absurd none
+runs_more disks m mid m' (e ∷ es) (r ∷ rs) event reply run h = (run.0, run.1, runs_more disks run.0 mid m' es rs event reply run.2 h)

@@ -24,6 +24,7 @@ pub mod Beginnings
 pub mod Begins
 pub mod CrashFiles
 pub mod CrashImages
+pub mod CrashBoots
 pub mod Fates
 pub mod FileFates
 pub mod FirstRecords

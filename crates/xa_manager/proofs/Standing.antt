@@ -133,6 +133,14 @@ lost_stands disks m m' s t b rs tables up doubt bytes st fate backs less seal =
       log = λ trusts. record { records = rs; backs = down_backed rs t (Some (logged.Opened boot)) backs; has = inl seal };
     }
 
+-- so a restart may begin from there
+pub lost_recoverable : {D : Type 0} (disks : Ghosts D) (m : Manager D) (s t : State) (b : Bool) → ManagerStandsFor disks m s → IsFate b s t → t.logged_boot < MOST_BOOTS
+    → IsRecoverable (record (down t) { open_record = Some (logged.Opened (t.logged_boot + 1)) })
+lost_recoverable disks m s t b st fate less =
+    let after : State = record (down t) { open_record = Some (logged.Opened (t.logged_boot + 1)) } in
+    let last : MayBeLast after (logged.Opened (t.logged_boot + 1)) = record { may = omega arith; limits = (omega arith, omega arith); current = λ is. absurd (cc is) } in
+    (tables_down (view m) s t (Some (logged.Opened (t.logged_boot + 1))) b (outside m.up (view m) s st.tables) fate last).recoverable
+
 -- a manager that is up ends its log where it did
 pub found_end : {D : Type 0} (disks : Ghosts D) (found : List (List ℕ)) (log' : Log D) (s : State)
     → IsRecoverable s → s.standing ≡ Up → Found disks found log' s → log'.end ≡ s.end

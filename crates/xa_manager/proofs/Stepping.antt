@@ -10,12 +10,13 @@ use Rattle.xa_log.specs.TwoFiles.{Pair, MayStandPair, MaySeal}
 use Rattle.xa_log.specs.declared.log.Log.{Log}
 use Rattle.xa_model.specs.declared.event.Event.{Event}
 use Rattle.xa_model.specs.declared.outcome.Outcome.{Outcome}
+use Rattle.xa_model.specs.declared.outcome.Outcome.TheVariants.{Quiet, Appended}
 use Rattle.xa_model.specs.declared.outcome.Appending.{Appending}
 use Rattle.xa_model.specs.declared.outcome.Appending.TheVariants.{Kept, Refused, Lost}
 use Rattle.xa_model.specs.State.{State, Standing, Up}
 use Rattle.xa_model.specs.Answer.{Answer, ok}
 use Rattle.xa_model.specs.Turn.{Turn, Nobody, Now, Appends, Rereads, Asked, taken}
-use Rattle.xa_model.specs.Step.{respond, asked, step}
+use Rattle.xa_model.specs.Step.{respond, asked, turn, step}
 use Rattle.xa_model.specs.Events.{IsEvent, is_restart}
 use Rattle.xa_model.specs.Durable.{Durable, durable}
 use Rattle.xa_model.specs.Fold.{snapshot}
@@ -39,9 +40,11 @@ use Rattle.xa_manager.specs.declared.doubt.Doubt.TheVariants as doubt
 use Rattle.xa_manager.specs.declared.manager.Manager.{Manager}
 use Rattle.xa_manager.specs.Answered.{HasCalled}
 use Rattle.xa_manager.specs.View.{View as Tables}
-use Rattle.xa_manager.specs.LogStands.{HasRecords, MayHaveRecord, HasRecordsOf, LogStandsFor}
+use Rattle.xa_manager.specs.Crash.{LeavesAppend, LeavesBy}
+use Rattle.xa_manager.specs.LogStands.{Trusts, HasRecords, MayHaveRecord, HasRecordsOf, LogStandsFor}
 use Rattle.xa_manager.specs.Managed.{view, Doubts, ManagerStandsFor}
 use Rattle.xa_manager.specs.Stands.{StandsFor, TablesStandFor}
+use Rattle.xa_manager.proofs.CrashFiles.{append_files, crash_leaves}
 use Rattle.xa_manager.specs.Turns.{HasDone, HasAppended, TakesNow, TakesAppending, Takes, up_after, doubt_after}
 
 -- what the tables say of a state, up or down
@@ -298,6 +301,40 @@ module _ {D : Type 0} (disks : Ghosts D) where
   takes_called m m' (Appends r after) reply outcome x = subst (λ (o : Outcome). HasCalled disks o m.log m'.log) (sym x.outcome_is) (x.log.other.0, x.log.other.1, x.log.cause, x.log.calls)
   takes_called m m' (Rereads failed found missing) reply outcome x = absurd x
 
+  -- what a crash leaves meanwhile
+
+  pub quiet_crash : (m m' : Manager D) (s : State) (t : Turn) (outcome : Outcome) → ManagerStandsFor disks m s → outcome ≡ Quiet → m'.log ≡ m.log
+      → LeavesBy disks m.log t outcome m'.log s
+  quiet_crash m m' s t outcome st quiet log =
+      subst (λ (o : Outcome). LeavesBy disks m.log t o m'.log s) (sym quiet)
+      (log, λ first second one two plain. crash_leaves disks m.log s first second (recoverable_by m.up (view m) s st.tables) one two plain)
+
+  appending_crash : (m m' : Manager D) (s : State) (e : Event) (r : Record) (after : Appending → Answer) (reply : Reply) (outcome : Outcome) → IsEvent e → is_restart e ≡ false → ManagerStandsFor disks m s
+      → Trusts disks → respond s e ≡ Appends r after → TakesAppending disks m r after reply outcome m' → LeavesBy disks m.log (turn s (Asked e)) outcome m'.log s
+  appending_crash m m' s e r after reply outcome event other st trusts is x =
+      let t = turn_is m s e (Appends r after) st is in
+      let steps : taken (turn s (Asked e)) (Appended Lost) ≡ Some (after Lost) = ap (λ (u : Turn). taken u (Appended Lost)) t in
+      let before = recoverable_by m.up (view m) s st.tables in
+      let recoverable = keeps_recoverable s (Asked e) (Appended Lost) (after Lost) event before steps in
+      let logs : LogsWhatLasts s (Appends r after) = subst (LogsWhatLasts s) is (events_log_what_lasts s e before.sound other) in
+      let last : LogsLast s (Appends r after) = subst (LogsLast s) t (turn_logs_last s (Asked e) event before) in
+      let open_is : (after Lost).after.open_record ≡ Some r = ap (λ (y : Answer). y.after.open_record) logs.3 in
+      subst (λ (o : Outcome). LeavesBy disks m.log (turn s (Asked e)) o m'.log s) (sym x.outcome_is)
+      (subst (λ (o : Option Answer). IsSomeAnd o (λ l. LeavesAppend disks m.log m'.log s l.after)) (sym steps)
+      (r, open_is, λ current other left plain.
+        append_files disks m.log plain.records (after Lost).after r plain.stood current other last.1 plain.pair
+        ((x.log.leaves trusts.disk (map spelled plain.records) plain.pair.current).each current left.current_left)
+        plain.plain left.other_left plain.calm recoverable
+        (let backed : BacksTurn plain.records s (Appends r after) = subst (BacksTurn plain.records s) t (keeps_backed plain.records s (Asked e) event before plain.backs) in backed.2)
+        open_is))
+
+  takes_crash : (m m' : Manager D) (s : State) (e : Event) (t : Turn) (reply : Reply) (outcome : Outcome) → IsEvent e → is_restart e ≡ false → ManagerStandsFor disks m s → Trusts disks → respond s e ≡ t
+      → Takes disks m t reply outcome m' → LeavesBy disks m.log (turn s (Asked e)) outcome m'.log s
+  takes_crash m m' s e Nobody reply outcome event other st trusts is x = absurd x
+  takes_crash m m' s e (Now a) reply outcome event other st trusts is x = quiet_crash m m' s (turn s (Asked e)) outcome st x.outcome_is x.log
+  takes_crash m m' s e (Appends r after) reply outcome event other st trusts is x = appending_crash m m' s e r after reply outcome event other st trusts is x
+  takes_crash m m' s e (Rereads failed found missing) reply outcome event other st trusts is x = absurd x
+
   some_and : (m' : Manager D) (s : State) (e : Event) (reply : Reply) (outcome : Outcome) → IsStep m' s e reply outcome
       → IsSomeAnd (step s (Asked e) outcome) (λ a. (a.reply ≡ reply) × ManagerStandsFor disks m' a.after)
   some_and m' s e reply outcome x =
@@ -310,5 +347,6 @@ module _ {D : Type 0} (disks : Ghosts D) where
   has_done m m' e reply outcome event other served takes = record {
     steps = λ s st premises. some_and m' s e reply outcome (takes_steps m m' s e (respond s e) reply outcome event other st refl (takes s st));
     called = λ s st premises. takes_called m m' (respond s e) reply outcome (takes s st);
+    crash = λ s st trusts. takes_crash m m' s e (respond s e) reply outcome event other st trusts refl (takes s st);
     served = served;
   }

@@ -31,6 +31,7 @@ use Rattle.xa_assoc.specs.Refusals.{is_memory}
 use Rattle.xa_assoc.specs.declared.fault.ConnectFault.{ConnectFault}
 use Rattle.xa_assoc.specs.declared.fault.ConnectFault.TheVariants.{Memory, Full}
 use Rattle.xa_manager.specs.declared.manager.Manager.{Manager}
+use Rattle.xa_manager.specs.Crash.{CrashesAs}
 use Rattle.xa_manager.specs.LogStands.{Trusts}
 use Rattle.xa_manager.specs.Managed.{ManagerStandsFor, AnswersAs}
 
@@ -131,8 +132,18 @@ pub record FullyAnswered {D : Type 0} (disks : Ghosts D) (m : Manager D) (event 
   pub answered : Answered disks m event reply m'
   pub pinned : IsPinned event reply
   pub called : is_memory reply.detail ≡ false → CallsAs disks m event m'.outcome m'
+  -- what a crash at any moment of it leaves
+  pub crash : is_memory reply.detail ≡ false → CrashesAs disks m event m'.outcome m'
   -- where memory was wanted, no device call failed
   pub quiet : is_memory reply.detail ≡ true → NoneRises disks.failures m.log m'.log
+
+-- each of the events was answered as it is by itself, one after another
+abbrev pub RunsAll : {D : Type 0} → Ghosts D → Manager D → List Event → List Reply → Manager D → Type 0
+RunsAll disks m [] [] m' = m' ≡ m
+RunsAll disks m [] (reply ∷ replies) m' = ⊥
+RunsAll disks m (event ∷ events) [] m' = ⊥
+RunsAll {D} disks m (event ∷ events) (reply ∷ replies) m' =
+    (mid : Manager D) × FullyAnswered disks m event reply mid × RunsAll disks mid events replies m'
 
 -- the reply that a connect's result stands for
 abbrev pub connect_reply : Result ℕ ConnectFault → Reply

@@ -17,4 +17,5 @@ pub mod Rereading
 pub mod Opening
 pub mod Faults
 pub mod CrashLaws
+pub mod Crash
 pub mod Promises

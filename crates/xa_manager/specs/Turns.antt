@@ -1,5 +1,6 @@
 -- How a manager takes one turn of the sequential resource manager.
 use Rattle.std.specs.Prelude.{◌⊎◌, ℕ, ◌+◌, ◌≤◌, ℤ, pos, ◌≡◌, Bool, true, false, Option, Some, None, List, length}
+use Rattle.xa_disk.specs.Time.{LeavesOnly}
 use Rattle.xa_disk.specs.declared.disk.Disk.{Ghosts}
 use Rattle.xa_codes.specs.declared.codes.TheConstants.{XAER_RMFAIL}
 use Rattle.xa_codes.specs.declared.detail.Detail.TheVariants as detail
@@ -8,7 +9,7 @@ use Rattle.xa_record.specs.Spelling.{spelled}
 use Rattle.xa_record.specs.declared.record.Record.{Record}
 use Rattle.xa_log.specs.Answers.{HasCause}
 use Rattle.xa_log.specs.Calls.{AppendCalls}
-use Rattle.xa_log.specs.Stands.{Moves}
+use Rattle.xa_log.specs.Stands.{Stands, Leaves, Moves}
 use Rattle.xa_log.specs.TwoFiles.{Pair, AppendsTo}
 use Rattle.xa_log.specs.declared.log.Log.{Log}
 use Rattle.xa_limits.specs.declared.TheConstants.{AROUND_CLOSED}
@@ -28,6 +29,7 @@ use Rattle.xa_manager.specs.declared.doubt.Doubt.{Doubt}
 use Rattle.xa_manager.specs.declared.doubt.Doubt.TheVariants as doubt
 use Rattle.xa_manager.specs.declared.manager.Manager.{Manager}
 use Rattle.xa_manager.specs.Answered.{as_appended, CallsAs}
+use Rattle.xa_manager.specs.Crash.{CrashesAs}
 use Rattle.xa_manager.specs.LogStands.{Trusts}
 use Rattle.xa_manager.specs.Managed.{view, ManagerStandsFor, AnswersAs}
 use Rattle.xa_manager.specs.Stands.{TablesStandFor}
@@ -41,6 +43,9 @@ pub record HasAppended {D : Type 0} (disks : Ghosts D) (body : List ℕ) (a : Ap
       → AppendsTo disks (as_appended a) bodies body stood log'
   pub cause : HasCause (as_appended a) (disks.failures log.disk) (disks.failures log'.disk)
   pub calls : AppendCalls (as_appended a) (disks.counts log.disk) (disks.counts log'.disk)
+  -- what a crash at any moment of it leaves of the file that is written
+  pub leaves : disks.honest → (bodies : List (List ℕ)) → Stands disks bodies log
+      → LeavesOnly disks log.disk log'.disk (Leaves log.log_bytes log.format bodies body)
 
 -- whether the manager is up afterwards, and what it keeps of a record that was lost behind the log's end
 abbrev pub up_after : Appending → Bool
@@ -111,4 +116,5 @@ pub record HasDone {D : Type 0} (disks : Ghosts D) (m : Manager D) (event : Even
   pub steps : (s : State) → ManagerStandsFor disks m s → Trusts disks ⊎ (is_restart event ≡ false)
       → AnswersAs disks (step s (Asked event) outcome) reply m'
   pub called : CallsAs disks m event outcome m'
+  pub crash : CrashesAs disks m event outcome m'
   pub served : is_memory reply.detail ≡ false

@@ -2,7 +2,7 @@ ghost use Rattle.std.specs.Prelude.{◌≡◌, pos, IfOk, OnErr};
 ghost use Rattle.xa_model.specs.Events.{IsAsked, AreEvents, IsEvent};
 ghost use Rattle.xa_log.specs.TwoFiles.{first_of, second_of};
 ghost use Rattle.xa_model.specs.Answer.{plain};
-ghost use Rattle.xa_manager.specs.Answered.{FullyAnswered, AnswersAll, ArePinned, StaysFor, connect_reply};
+ghost use Rattle.xa_manager.specs.Answered.{FullyAnswered, AnswersAll, ArePinned, RunsAll, StaysFor, connect_reply};
 ghost use Rattle.xa_assoc.specs.Company.{Gains, Loses};
 ghost use Rattle.xa_manager.specs.Drained.{GivesBack};
 ghost use Rattle.xa_manager.specs.Connected.{connected_to};
@@ -176,6 +176,8 @@ impl<D: Disk> Manager<D> {
         requires { AreEvents events.items }
         ensures history { IfOk result (λ replies. AnswersAll D.Disk self.old events.items replies.items self.new) }
         ensures promises { IfOk result (λ replies. PromisesAll D.Disk self.old events.items replies.items self.new) }
+        // What is said of a call by itself is said of each, what a crash at any moment of it leaves among it.
+        ensures each { IfOk result (λ replies. RunsAll D.Disk self.old events.items replies.items self.new) }
         // The outcomes of that history tell of no more failures than the disks counted.
         ensures counted { IfOk result (λ replies. CountsAll D.Disk self.old events.items replies.items self.new) }
         ensures pinned { IfOk result (λ replies. ArePinned events.items replies.items) }

@@ -19,6 +19,7 @@ ghost use Rattle.xa_model.specs.State.{State};
 ghost use Rattle.xa_model.specs.Turn.{taken};
 ghost use Rattle.xa_recovery.specs.Log.{LogRebuilt};
 ghost use Rattle.xa_manager.specs.Answered.{StaysFor, HasCalled, NoneRises};
+ghost use Rattle.xa_manager.specs.Crash.{LeavesLook, LeavesBoot, LeavesBy};
 ghost use Rattle.xa_manager.specs.LogStands.{Trusts, HasRecords};
 ghost use Rattle.xa_manager.specs.Managed.{ManagerStandsFor, AnswersAs, Doubts};
 ghost use Rattle.xa_manager.specs.Rereading.{IsFate, Found, IsNext, IsReady};
@@ -56,6 +57,8 @@ impl<D: Disk> Manager<D> {
         ensures count { CountsDeviceOf D.failures result (first_of self.old.log) (first_of self.new.log)
             (second_of self.old.log) (second_of self.new.log) }
         ensures alive { OnOk result (self.new.log.lost ≡ false) }
+        ensures leaves { Trusts D.Disk → (s : State) → ManagerStandsFor D.Disk self.old s
+            → LeavesLook D.Disk self.old.log self.new.log s }
         ensures tables { self.new.tables ≡ self.old.tables }
         ensures up { self.new.up ≡ self.old.up }
         ensures doubt { self.new.doubt ≡ self.old.doubt }
@@ -103,6 +106,11 @@ impl<D: Disk> Manager<D> {
             → self.old.log.lost ≡ false → nat_lt t.logged_boot MOST_BOOTS ≡ true
             → next.boot ≡ t.logged_boot + 1 → IsReady (durable t) (t.logged_boot + 1) next
             → AnswersAs D.Disk (taken (restart_turn s) result.outcome) result.reply self.new }
+        ensures leaves { (s t : State) (rs : List Record) → ManagerStandsFor D.Disk self.old s → Trusts D.Disk
+            → IsFate survived s t → Backs rs t → HasRecords D.Disk rs self.old.log
+            → self.old.log.lost ≡ false → nat_lt t.logged_boot MOST_BOOTS ≡ true
+            → IsReady (durable t) (t.logged_boot + 1) next
+            → LeavesBoot D.Disk self.old.log (restart_turn s) result.outcome self.new.log }
         ensures outcome { self.new.outcome ≡ self.old.outcome }
         ensures called { self.old.log.lost ≡ false → (log : Log D) → NoneRises D.failures log self.old.log
             → HasCalled D.Disk result.outcome log self.new.log }
@@ -147,6 +155,9 @@ impl<D: Disk> Manager<D> {
         ensures turn { (s : State) (bodies : List (List ℕ)) → ManagerStandsFor D.Disk self.old s → Trusts D.Disk
             → Found D.Disk bodies self.old.log s → LogRebuilt bodies (Ok planned.durable)
             → AnswersAs D.Disk (taken (restart_turn s) result.outcome) result.reply self.new }
+        ensures leaves { (s : State) (bodies : List (List ℕ)) → ManagerStandsFor D.Disk self.old s → Trusts D.Disk
+            → Found D.Disk bodies self.old.log s → LogRebuilt bodies (Ok planned.durable)
+            → LeavesBoot D.Disk self.old.log (restart_turn s) result.outcome self.new.log }
         ensures outcome { self.new.outcome ≡ self.old.outcome }
         ensures called { self.old.log.lost ≡ false → (log : Log D) → NoneRises D.failures log self.old.log
             → HasCalled D.Disk result.outcome log self.new.log }
@@ -195,6 +206,11 @@ impl<D: Disk> Manager<D> {
     pub(crate) fn restarted(&mut self) -> Result<Done, AllocError>
         ensures turn { IfOk result (λ d. (s : State) → ManagerStandsFor D.Disk self.old s → Trusts D.Disk
             → AnswersAs D.Disk (taken (restart_turn s) d.outcome) d.reply self.new) }
+        // What a crash at any moment of it leaves, also where memory was wanted.
+        ensures leaves { IfOk result (λ d. (s : State) → ManagerStandsFor D.Disk self.old s → Trusts D.Disk
+            → LeavesBy D.Disk self.old.log (restart_turn s) d.outcome self.new.log s) }
+        ensures leaves_read { OnErr result ((s : State) → ManagerStandsFor D.Disk self.old s → Trusts D.Disk
+            → LeavesLook D.Disk self.old.log self.new.log s) }
         ensures err { OnErr result (StaysFor D.Disk self.old self.new) }
         ensures outcome { self.new.outcome ≡ self.old.outcome }
         ensures called { IfOk result (λ d. HasCalled D.Disk d.outcome self.old.log self.new.log) }
@@ -234,6 +250,11 @@ impl<D: Disk> Manager<D> {
             ((s : State) → ManagerStandsFor D.Disk self.old s → Trusts D.Disk
             → AnswersAs D.Disk (taken (restart_turn s) self.new.outcome) result self.new) }
         ensures pinned { is_memory result.detail ≡ true → result ≡ detailed XAER_RMFAIL Detail.Memory }
+        ensures leaves { MatchBool (is_memory result.detail)
+            ((s : State) → ManagerStandsFor D.Disk self.old s → Trusts D.Disk
+            → LeavesLook D.Disk self.old.log self.new.log s)
+            ((s : State) → ManagerStandsFor D.Disk self.old s → Trusts D.Disk
+            → LeavesBy D.Disk self.old.log (restart_turn s) self.new.outcome self.new.log s) }
         ensures called { is_memory result.detail ≡ false → HasCalled D.Disk self.new.outcome self.old.log self.new.log }
         ensures connected { connected_to self.new ≡ connected_to self.old }
         ensures place { result.place ≡ 0 }

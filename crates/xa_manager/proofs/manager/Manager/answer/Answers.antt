@@ -39,7 +39,7 @@ pub returns-in-Restart-clause-ok : goal.returns-in-Restart-clause-ok
 returns-in-Restart-clause-ok g c =
     let none : c.refusal.result ≡ None = search rules in
     restart_done _ c.args.self.now c.restarted.new.self c.args.session c.args.request c.restarted.result c.in-Restart.is (sym none ∙ c.refusal.ensures.value)
-    c.restarted.ensures.turn c.restarted.ensures.called c.restarted.ensures.served
+    c.restarted.ensures.turn c.restarted.ensures.called c.restarted.ensures.served c.restarted.ensures.leaves
 
 pub returns-in-Prepare-clause-ok : goal.returns-in-Prepare-clause-ok
 returns-in-Prepare-clause-ok g c =

@@ -9,6 +9,7 @@ use Rattle.xa_model.specs.Turn.{taken}
 use Rattle.xa_model.specs.declared.outcome.Outcome.{Outcome}
 use Rattle.xa_codes.specs.declared.codes.TheConstants.{XAER_RMFAIL}
 use Rattle.xa_codes.specs.declared.detail.Detail.TheVariants as detail
+use Rattle.xa_manager.specs.Crash.{LeavesBoot}
 use Rattle.xa_manager.specs.LogStands.{HasRecords}
 use Rattle.xa_manager.specs.Managed.{view}
 use Rattle.xa_manager.specs.Rereading.{IsReady}
@@ -51,3 +52,21 @@ returns-clause-turn g c =
           (ap (λ m. m.tables) c.stopped.ensures.down) (ap (λ m. m.up) c.stopped.ensures.down) (ap (λ m. m.doubt) c.stopped.ensures.down) (ap (λ m. m.log.log_bytes) c.stopped.ensures.down) st fate f.backs
           (subst (λ m. HasRecords g.D.Disk f.records m.log) (sym c.stopped.ensures.down) f.has),
     )
+
+pub returns-in-Some-clause-leaves : goal.returns-in-Some-clause-leaves
+returns-in-Some-clause-leaves g c =
+    λ s bodies st trusts f rebuilt.
+    let h = (outside c.args.self.now.up (view c.args.self.now) s st.tables).recoverable in
+    let is : c.args.planned.durable ≡ durable f.state = rebuilt_is bodies f.records c.args.planned.durable (durable f.state) rebuilt f.spelled_as f.backs.records f.backs.lasts in
+    let boot : c.boot.result ≡ f.state.logged_boot = c.boot.ensures ∙ ap (λ (d : Durable). d.boot) is in
+    let fate = c.has_survived-survived.ensures s bodies f st.doubt h boot in
+    let next = next_is c.args.planned.durable c.args.planned.next c.in-Some.next c.in-Some.is c.requires in
+    let number : c.args.planned.durable.boot ≡ f.state.logged_boot = ap (λ (d : Durable). d.boot) is in
+    c.log_boot.ensures.leaves s f.state f.records st trusts fate f.backs f.has f.alive (subst (λ (n : ℕ). nat_lt n MOST_BOOTS ≡ true) number next.less)
+    (subst (λ (d : Durable). IsReady d (d.boot + 1) c.in-Some.next) is next.ready)
+
+pub returns-clause-leaves : goal.returns-clause-leaves
+returns-clause-leaves g c =
+    λ s bodies st trusts f rebuilt.
+    subst (λ (o : Outcome). LeavesBoot g.D.Disk c.args.self.now.log (restart_turn s) o c.stopped.new.self.log) (sym c.stopped.ensures.told)
+    (ap (λ m. m.log) c.stopped.ensures.down)

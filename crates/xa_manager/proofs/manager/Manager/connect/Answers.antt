@@ -1,5 +1,6 @@
 use Rattle.std.proofs.Common.{refl}
-use Rattle.std.specs.Prelude.{Ok}
+use Rattle.std.specs.Prelude.{Ok, Err}
+use Rattle.xa_assoc.specs.declared.fault.ConnectFault.TheVariants.{Full}
 use Rattle.xa_model.specs.Associations.{connect_by}
 use Rattle.xa_model.specs.declared.event.Event.TheVariants.{Connect}
 use Rattle.xa_manager.specs.Answered.{connect_reply}
@@ -10,3 +11,10 @@ pub returns-in-Ok-clause-answered : goal.returns-in-Ok-clause-answered
 returns-in-Ok-clause-answered g c =
     event_answered _ c.args.self.now (record c.args.self.now { tables = c.connect.new.self }) Connect (λ s. connect_by s) (connect_reply (Ok c.in-Ok.number)) tt refl (λ s. refl) refl refl refl
     (c.in-Ok.ensures.ok (λ q. cc q)) (c.in-Ok.ensures.down (λ q. cc q))
+
+pub returns-in-Err-Full-clause-answered : goal.returns-in-Err-Full-clause-answered
+returns-in-Err-Full-clause-answered g c =
+    let up = rw c.in-Err-Full.field-0-is at c.in-Err-Full.ensures.ok in
+    let down = rw c.in-Err-Full.field-0-is at c.in-Err-Full.ensures.down in
+    event_answered _ c.args.self.now (record c.args.self.now { tables = c.connect.new.self }) Connect (λ s. connect_by s) (connect_reply (Err Full)) tt refl (λ s. refl) refl refl refl
+    (up (λ q. cc q)) (down (λ q. cc q))

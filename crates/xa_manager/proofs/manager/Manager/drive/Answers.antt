@@ -4,9 +4,9 @@ use Rattle.std.proofs.lemmas.Iterator.Consumers.{YieldsList-end}
 use Rattle.std.proofs.lemmas.List.{map-id}
 use Rattle.xa_model.specs.declared.event.Event.{Event}
 use Rattle.xa_model.specs.Events.{AreEvents}
-use Rattle.xa_manager.specs.Answered.{AnswersAll}
+use Rattle.xa_manager.specs.Answered.{AnswersAll, RunsAll}
 use Rattle.xa_manager.proofs.Counting.{counts_more}
-use Rattle.xa_manager.proofs.Driving.{answers_more, pinned_each, pinned_more}
+use Rattle.xa_manager.proofs.Driving.{answers_more, pinned_each, pinned_more, runs_more}
 use Rattle.xa_manager.proofs.Promised.{promises_all}
 use Rattle.xa_manager.proofs.manager.Manager.drive.Goals as goal
 
@@ -22,6 +22,10 @@ loop-event-preserved g c = record {
       let more = answers_more g.D.Disk c.args.self.now c.loop-event.self c.happen-reply.new.self
       c.loop-event.yielded c.loop-event.replies.items c.in-Some.event c.happen-reply.result
       (pinned_each c.loop-event.yielded c.loop-event.replies.items c.loop-event.invariant.pinned) c.loop-event.invariant.answered c.happen-reply.ensures.answered in
+      rw c.push_reserved.ensures.items more;
+  each =
+      let more = runs_more g.D.Disk c.args.self.now c.loop-event.self c.happen-reply.new.self
+      c.loop-event.yielded c.loop-event.replies.items c.in-Some.event c.happen-reply.result c.loop-event.invariant.each c.happen-reply.ensures in
       rw c.push_reserved.ensures.items more;
   counted =
       let more = counts_more g.D.Disk c.args.self.now c.loop-event.self c.happen-reply.new.self
@@ -44,3 +48,10 @@ returns-clause-promises g c =
     all c.loop-event.invariant.answered in
     promises_all g.D.Disk c.args.self.now c.loop-event.self c.args.events.items
     c.loop-event.replies.items c.requires history
+
+pub returns-clause-each : goal.returns-clause-each
+returns-clause-each g c =
+    let ended = YieldsList-end (YieldsList-from_vec c.args.events.items (cc) (cc)) c.loop-event.yielded c.loop-event.event-iterator c.loop-event.yielded_by
+    c.next.result c.next.new.self c.in-None.is c.next.ensures.steps in
+    let all : c.loop-event.yielded ≡ c.args.events.items = sym (map-id c.loop-event.yielded) ∙ ended.0 in
+    subst (λ (events : List Event). RunsAll g.D.Disk c.args.self.now events c.loop-event.replies.items c.loop-event.self) all c.loop-event.invariant.each

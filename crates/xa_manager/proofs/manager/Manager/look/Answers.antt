@@ -3,6 +3,7 @@ use Rattle.xa_log.specs.Chain.{logged}
 use Rattle.xa_log.specs.Reading.{bodies_of}
 use Rattle.xa_manager.specs.Managed.{view}
 use Rattle.xa_manager.proofs.Results.{on_err, on_ok, if_ok, if_err, at_err, at_ok, in_ok, in_err}
+use Rattle.xa_manager.proofs.CrashFiles.{look_leaves}
 use Rattle.xa_manager.proofs.Rescanned.{Finds, stands_kept, stands_found, found_state, has_gives}
 use Rattle.xa_manager.proofs.Standing.{still_stands, outside, is_up, found_end}
 use Rattle.xa_manager.proofs.manager.Manager.look.Goals as goal
@@ -51,3 +52,8 @@ returns-clause-readable g c = λ trusts. if_err c.rescan.result _ (λ e is s st.
     (λ bodies stood p. in_err _ c.rescan.result e is (c.rescan.ensures.readable trusts.disk bodies stood p (inl trusts.headers)))
     (λ bodies body stood p. in_err _ c.rescan.result e is (c.rescan.ensures.readable_lost trusts.disk bodies body stood p (inl trusts.headers)))
     (λ bodies fresh p. in_err _ c.rescan.result e is (c.rescan.ensures.readable_sealed trusts.disk bodies fresh p (inl trusts.seals))) log.has)
+
+pub returns-clause-leaves : goal.returns-clause-leaves
+returns-clause-leaves g c = λ trusts s st.
+    look_leaves g.D.Disk c.args.self.now.log c.rescan.new.self s (outside c.args.self.now.up (view c.args.self.now) s st.tables).recoverable
+    g.met.D.Disk.only_now (c.rescan.ensures.time trusts.disk) (c.rescan.ensures.time_second trusts.disk)

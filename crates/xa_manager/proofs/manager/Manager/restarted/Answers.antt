@@ -9,6 +9,8 @@ use Rattle.xa_model.specs.Logging.{down}
 use Rattle.xa_model.specs.Restarting.{restart_turn}
 use Rattle.xa_model.specs.Turn.{taken}
 use Rattle.xa_recovery.specs.Log.{LogRebuilt}
+use Rattle.xa_manager.specs.Crash.{LeavesLook}
+use Rattle.xa_manager.proofs.CrashBoots.{boot_by, stopped_leaves, failed_leaves}
 use Rattle.xa_manager.proofs.Fates.{is_answer}
 use Rattle.xa_manager.proofs.Generations.{never_refused}
 use Rattle.xa_manager.proofs.Standing.{failed_stands}
@@ -54,3 +56,34 @@ returns-in-Err-TooNew-clause-turn g c = λ s st trusts. elim (c.in-Err-TooNew.en
 
 pub returns-clause-turn : goal.returns-clause-turn
 returns-clause-turn g c = λ s st trusts. elim (c.in-Err-TooLong.ensures.readable trusts s st) [ inl e ↦ absurd (cc e) | inr e ↦ absurd (cc e) ]
+
+-- ---- what a crash leaves meanwhile
+
+pub returns-in-Ok-plan-clause-leaves : goal.returns-in-Ok-plan-clause-leaves
+returns-in-Ok-plan-clause-leaves g c =
+    λ s st trusts.
+    let same : c.deref.result.now ≡ c.in-Ok.bodies.items = cc (c.deref.ensures.value) in
+    let rebuilt = subst (λ vs. LogRebuilt (bodies_of vs) (Ok c.in-Ok-plan.planned.durable)) same c.in-Ok-plan.ensures.0 in
+    let boot = c.begin.ensures.leaves s (bodies_of c.in-Ok.bodies.items) (c.in-Ok.ensures.stays (c.in-Ok.ensures.ends trusts s st) s st) trusts (c.in-Ok.ensures.found trusts s st) rebuilt in
+    boot_by _ c.args.self.now.log c.look.new.self.log s c.begin.result.outcome c.begin.new.self.log (c.in-Ok.ensures.leaves trusts s st) boot
+
+pub returns-in-Err-Memory-plan-clause-leaves_read : goal.returns-in-Err-Memory-plan-clause-leaves_read
+returns-in-Err-Memory-plan-clause-leaves_read g c = λ s st trusts. c.in-Ok.ensures.leaves trusts s st
+
+pub returns-in-Err-Malformed-clause-leaves : goal.returns-in-Err-Malformed-clause-leaves
+returns-in-Err-Malformed-clause-leaves g c = λ s st trusts.
+    stopped_leaves g.D.Disk c.args.self.now.log c.unread-in-Err-Malformed.new.self.log s c.unread-in-Err-Malformed.result.outcome c.unread-in-Err-Malformed.ensures.told
+    (subst (λ l. LeavesLook g.D.Disk c.args.self.now.log l s) (sym (ap (λ m. m.log) c.unread-in-Err-Malformed.ensures.down)) (c.in-Ok.ensures.leaves trusts s st))
+
+pub returns-in-Ok-clause-leaves : goal.returns-in-Ok-clause-leaves
+returns-in-Ok-clause-leaves g c = λ s st trusts.
+    stopped_leaves g.D.Disk c.args.self.now.log c.unread-in-Err-Order.new.self.log s c.unread-in-Err-Order.result.outcome c.unread-in-Err-Order.ensures.told
+    (subst (λ l. LeavesLook g.D.Disk c.args.self.now.log l s) (sym (ap (λ m. m.log) c.unread-in-Err-Order.ensures.down)) (c.in-Ok.ensures.leaves trusts s st))
+
+pub returns-in-Err-Memory-clause-leaves_read : goal.returns-in-Err-Memory-clause-leaves_read
+returns-in-Err-Memory-clause-leaves_read g c = λ s st trusts. c.in-Err-Memory.ensures.leaves trusts s st
+
+pub returns-in-Err-Device-clause-leaves : goal.returns-in-Err-Device-clause-leaves
+returns-in-Err-Device-clause-leaves g c = λ s st trusts.
+    failed_leaves g.D.Disk c.args.self.now.log c.failed.new.self.log s c.failed.result.outcome c.failed.ensures.told
+    (subst (λ l. LeavesLook g.D.Disk c.args.self.now.log l s) (sym (ap (λ m. m.log) c.failed.ensures.down)) (c.in-Err-Device.ensures.leaves trusts s st))

@@ -1,0 +1,65 @@
+-- What a crash leaves while the first records of a boot are written.
+use Rattle.std.proofs.Common.{◌≡◌, ◌+◌, ◌<◌, ℕ, Bool, true, false, List, Option, Some, None, map, refl, ap, sym, ◌∙◌, subst}
+use Rattle.std.specs.Prelude.{nat_lt, IsSomeAnd}
+use Rattle.xa_disk.specs.Time.{LeavesOnly}
+use Rattle.xa_disk.specs.declared.disk.Disk.{Ghosts}
+use Rattle.xa_record.specs.Spelling.{spelled}
+use Rattle.xa_record.specs.declared.record.Record.{Record}
+use Rattle.xa_log.specs.Chain.{newest}
+use Rattle.xa_log.specs.Checkpoint.{LeavesAny}
+use Rattle.xa_log.specs.Pair.{generation}
+use Rattle.xa_log.specs.declared.log.Log.{Log}
+use Rattle.xa_limits.specs.declared.TheConstants.{MOST_BOOTS}
+use Rattle.xa_model.specs.declared.outcome.Appending.{Appending}
+use Rattle.xa_model.specs.declared.outcome.Appending.TheVariants.{Lost}
+use Rattle.xa_model.specs.declared.outcome.Outcome.{Outcome}
+use Rattle.xa_model.specs.declared.outcome.Outcome.TheVariants.{Quiet, Appended, Failed, Reread}
+use Rattle.xa_model.specs.Answer.{Answer}
+use Rattle.xa_model.specs.Backing.{Backs}
+use Rattle.xa_model.specs.Durable.{durable}
+use Rattle.xa_model.specs.Fold.{snapshot}
+use Rattle.xa_model.specs.Loggable.{IsRecoverable}
+use Rattle.xa_model.specs.Logging.{down}
+use Rattle.xa_model.specs.Restarting.{boot_became, restart_turn}
+use Rattle.xa_model.specs.State.{State}
+use Rattle.xa_model.specs.Turn.{taken}
+use Rattle.xa_manager.specs.Crash.{LeavesLook, LeavesCheckpoint, LeavesBoot, LeavesBy, wrote}
+use Rattle.xa_manager.specs.LogStands.{HasRecords}
+use Rattle.xa_manager.specs.Rereading.{IsFate}
+use Rattle.xa_manager.proofs.CrashFiles.{checkpoint_files}
+use Rattle.xa_manager.proofs.Fates.{down_backed, turn_opens}
+use Rattle.xa_manager.proofs.Generations.{newer}
+
+pub boot_leaves : {D : Type 0} (disks : Ghosts D) (old new : Log D) (s t : State) (survived : Bool) (rs : List Record) (a : Appending)
+    → IsRecoverable (boot_became t (t.logged_boot + 1) Lost).after → IsFate survived s t → Backs rs t → (has : HasRecords disks rs old)
+    → nat_lt t.logged_boot MOST_BOOTS ≡ true → t.logged_boot < MOST_BOOTS
+    → LeavesOnly disks old.other (wrote a new) (LeavesAny old.log_bytes newest has.0 (map spelled (snapshot (durable t) (t.logged_boot + 1))))
+    → LeavesBoot disks old (restart_turn s) (Reread survived (Some a)) new
+boot_leaves disks old new s t survived rs a h fate backs has less below leaves =
+    let lost = (boot_became t (t.logged_boot + 1) Lost).after in
+    subst (λ (o : Option Answer). IsSomeAnd o (λ l. LeavesCheckpoint disks old a new l.after)) (sym (turn_opens survived s t Lost fate less)) (
+      t.logged_boot + 1,
+      has.0,
+      rs,
+      refl,
+      has.1,
+      λ current other left.
+          checkpoint_files disks old rs lost (t.logged_boot + 1) has.0 current other has.1 (newer rs (durable t) backs.lasts below)
+          h (down_backed rs t _ backs) refl left.current_left (leaves.each other left.other_left),
+    )
+
+-- once the log in the middle is known
+pub boot_by : {D : Type 0} (disks : Ghosts D) (old mid : Log D) (s : State) (o : Outcome) (new : Log D) → LeavesLook disks old mid s
+    → LeavesBoot disks mid (restart_turn s) o new → LeavesBy disks old (restart_turn s) o new s
+boot_by disks old mid s Quiet new look boot = absurd boot
+boot_by disks old mid s (Appended a) new look boot = absurd boot
+boot_by disks old mid s Failed new look boot = absurd boot
+boot_by disks old mid s (Reread survived appended) new look boot = (mid, look, boot)
+
+pub stopped_leaves : {D : Type 0} (disks : Ghosts D) (old new : Log D) (s : State) (o : Outcome) → o ≡ Reread false None → LeavesLook disks old new s
+    → LeavesBy disks old (restart_turn s) o new s
+stopped_leaves disks old new s o is look = subst (λ (x : Outcome). LeavesBy disks old (restart_turn s) x new s) (sym is) (new, look, refl)
+
+pub failed_leaves : {D : Type 0} (disks : Ghosts D) (old new : Log D) (s : State) (o : Outcome) → o ≡ Failed → LeavesLook disks old new s
+    → LeavesBy disks old (restart_turn s) o new s
+failed_leaves disks old new s o is look = subst (λ (x : Outcome). LeavesBy disks old (restart_turn s) x new s) (sym is) look

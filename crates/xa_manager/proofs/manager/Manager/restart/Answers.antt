@@ -1,0 +1,10 @@
+use Rattle.xa_manager.proofs.Calling.{served_not, restart_answered}
+use Rattle.xa_manager.proofs.manager.Manager.restart.Goals as goal
+
+pub returns-in-Ok-clause-answered : goal.returns-in-Ok-clause-answered
+returns-in-Ok-clause-answered g c =
+    served_not g.D.Disk _ _ _ c.in-Ok.ensures.served
+    (λ s st trusts. restart_answered g.D.Disk c.restarted.new.self s c.in-Ok.done.reply c.in-Ok.done.outcome (c.in-Ok.ensures.turn s st trusts))
+
+pub returns-in-Ok-clause-leaves : goal.returns-in-Ok-clause-leaves
+returns-in-Ok-clause-leaves g c = served_not g.D.Disk _ _ _ c.in-Ok.ensures.served (λ s st trusts. c.in-Ok.ensures.leaves s st trusts)

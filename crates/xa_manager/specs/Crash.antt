@@ -1,0 +1,129 @@
+-- What a crash at any moment of a call leaves of the log's two files.
+use Rattle.std.specs.Prelude.{◌≡◌, ◌⊎◌, ℕ, Bool, true, false, if◌then◌else◌, List, map, Option, Some, None, IsSomeAnd}
+use Rattle.xa_disk.specs.declared.disk.Disk.{Ghosts}
+use Rattle.xa_record.specs.Spelling.{spelled}
+use Rattle.xa_record.specs.declared.record.Record.{Record}
+use Rattle.xa_record.specs.declared.record.Record.TheVariants as logged
+use Rattle.xa_log.specs.Chain.{IsPlain}
+use Rattle.xa_log.specs.Pair.{IsCalm}
+use Rattle.xa_log.specs.TwoFiles.{Pair, first_of, second_of}
+use Rattle.xa_log.specs.declared.log.Log.{Log}
+use Rattle.xa_model.specs.declared.event.Event.{Event}
+use Rattle.xa_model.specs.declared.outcome.Appending.{Appending}
+use Rattle.xa_model.specs.declared.outcome.Appending.TheVariants.{Kept, Refused, Lost}
+use Rattle.xa_model.specs.declared.outcome.Outcome.{Outcome}
+use Rattle.xa_model.specs.declared.outcome.Outcome.TheVariants.{Quiet, Appended, Failed, Reread}
+use Rattle.xa_model.specs.Backing.{Backs}
+use Rattle.xa_model.specs.State.{State}
+use Rattle.xa_model.specs.Step.{turn}
+use Rattle.xa_model.specs.Turn.{Asked, Turn, taken}
+use Rattle.xa_manager.specs.declared.manager.Manager.{Manager}
+use Rattle.xa_manager.specs.CrashLaws.{StandsWithoutChance}
+use Rattle.xa_manager.specs.Files.{FilesStandFor}
+use Rattle.xa_manager.specs.LogStands.{Trusts, snapshot_bodies}
+use Rattle.xa_manager.specs.Managed.{ManagerStandsFor}
+
+-- the files of a log, by images of the current one and of the other one, stand for a state
+abbrev pub StandFor : {D : Type 0} → Log D → List ℕ → List ℕ → State → Type 0
+StandFor log current other s =
+    FilesStandFor log.log_bytes (if log.on_first then current else other) (if log.on_first then other else current) s
+
+-- ---- no device call, or a look at the log
+
+-- what a crash now leaves stands for the state for which the log stands
+abbrev pub LeavesNow : {D : Type 0} → Ghosts D → Log D → State → Type 0
+LeavesNow disks log s =
+    (first second : List ℕ) → disks.may_leave (first_of log) first → disks.may_leave (second_of log) second
+    → StandsWithoutChance disks log s first second → FilesStandFor log.log_bytes first second s
+
+-- images of the first and of the second file at moments of a look at a log, which leads to another
+pub record LeftByLook {D : Type 0} (disks : Ghosts D) (old new : Log D) (first second : List ℕ) : Type 0 where
+  pub first_left : disks.left_since (first_of new) (disks.moment (first_of old)) first
+  pub second_left : disks.left_since (second_of new) (disks.moment (second_of old)) second
+
+-- nothing is written, so they stand for the state for which the log stood
+abbrev pub LeavesLook : {D : Type 0} → Ghosts D → Log D → Log D → State → Type 0
+LeavesLook disks old new s =
+    (first second : List ℕ) → LeftByLook disks old new first second → StandsWithoutChance disks old s first second
+    → FilesStandFor old.log_bytes first second s
+
+-- ---- an append
+
+-- Images of the current file and of the other one at a moment of an append: of the current one since the append began;
+-- the other one isn't touched.
+pub record LeftByAppend {D : Type 0} (disks : Ghosts D) (old new : Log D) (current other : List ℕ) : Type 0 where
+  pub current_left : disks.left_since new.disk (disks.moment old.disk) current
+  pub other_left : disks.may_leave old.other other
+
+-- Nothing of them is left to chance, where the append of a record began on a log that stood behind a state: behind the
+-- log's records chains this one, or none; in front of the other file stands a record of the log that stood there, or
+-- none that chains.
+pub record AppendsWithoutChance {D : Type 0} (disks : Ghosts D) (log : Log D) (s : State) (r : Record)
+    (current other : List ℕ) : Type 0 where
+  pub records : List Record
+  pub backs : Backs records s
+  pub stood : List (List ℕ)
+  pub pair : Pair disks (map spelled records) stood log
+  pub plain : IsPlain log.format (map spelled records) (spelled r) current
+  pub calm : IsCalm stood other
+
+-- They stand for a state whose open record is the one that was to be appended: it stands in them, or it doesn't.
+abbrev pub LeavesAppend : {D : Type 0} → Ghosts D → Log D → Log D → State → State → Type 0
+LeavesAppend disks old new s lost =
+    (r : Record) × (lost.open_record ≡ Some r)
+    × ((current other : List ℕ) → LeftByAppend disks old new current other
+    → AppendsWithoutChance disks old s r current other → StandFor old current other lost)
+
+-- ---- a checkpoint
+
+-- the file that it wrote, which is the current one once the checkpoint is kept
+abbrev pub wrote : {D : Type 0} → Appending → Log D → D
+wrote Kept log = log.disk
+wrote Refused log = log.other
+wrote Lost log = log.other
+
+-- Images at a moment of a checkpoint: of the file that it writes since it began; the current one isn't touched.
+pub record LeftByCheckpoint {D : Type 0} (disks : Ghosts D) (old : Log D) (a : Appending) (new : Log D)
+    (current other : List ℕ) : Type 0 where
+  pub current_left : disks.may_leave old.disk current
+  pub other_left : disks.left_since (wrote a new) (disks.moment old.other) other
+
+-- They stand for a state whose open record is the new boot's, which stands first in its snapshot: the snapshot is the
+-- log, or the old file still is. Until the header of the file that is written is stable that is so unless by chance a
+-- record stands in front of it that isn't the first of the log that stood there; from the seal on unless by chance one
+-- stands there that isn't the snapshot's first; and between them always.
+abbrev pub LeavesCheckpoint : {D : Type 0} → Ghosts D → Log D → Appending → Log D → State → Type 0
+LeavesCheckpoint {D} disks old a new lost =
+    (boot : ℕ) × (stood : List (List ℕ)) × (records : List Record) × (lost.open_record ≡ Some (logged.Opened boot))
+    × Pair disks (map spelled records) stood old
+    × ((current other : List ℕ) → LeftByCheckpoint disks old a new current other
+    → (IsCalm stood other → StandFor old current other lost)
+    ⊎ StandFor old current other lost
+    ⊎ (IsCalm (snapshot_bodies lost boot) other → StandFor old current other lost))
+
+-- ---- a call
+
+-- What a restart leaves once it has looked at the log, by what became of the new boot's record.
+abbrev pub LeavesBoot : {D : Type 0} → Ghosts D → Log D → Turn → Outcome → Log D → Type 0
+LeavesBoot disks mid asked (Reread survived (Some a)) new =
+    IsSomeAnd (taken asked (Reread survived (Some Lost))) (λ lost. LeavesCheckpoint disks mid a new lost.after)
+LeavesBoot disks mid asked (Reread survived None) new = new ≡ mid
+LeavesBoot disks mid asked _ new = ⊥
+
+-- What a crash at any moment of a call leaves, by what the device did in it: where no device call was made, and where
+-- the look at the log failed, what a crash before it leaves; of an append and of a checkpoint, whatever they were
+-- answered, what one leaves whose answer never came. A restart has a log in the middle, to which the look led, and from
+-- which the checkpoint goes on: an image of the one file before it never stands beside one of the other behind it.
+abbrev pub LeavesBy : {D : Type 0} → Ghosts D → Log D → Turn → Outcome → Log D → State → Type 0
+LeavesBy disks old asked Quiet new s = (new ≡ old) × LeavesNow disks old s
+LeavesBy disks old asked (Appended a) new s =
+    IsSomeAnd (taken asked (Appended Lost)) (λ lost. LeavesAppend disks old new s lost.after)
+LeavesBy disks old asked Failed new s = LeavesLook disks old new s
+LeavesBy {D} disks old asked (Reread survived appended) new s =
+    (mid : Log D) × LeavesLook disks old mid s × LeavesBoot disks mid asked (Reread survived appended) new
+
+-- so it is of each state that the manager stood for
+abbrev pub CrashesAs : {D : Type 0} → Ghosts D → Manager D → Event → Outcome → Manager D → Type 0
+CrashesAs disks m event outcome m' =
+    (s : State) → ManagerStandsFor disks m s → Trusts disks
+    → LeavesBy disks m.log (turn s (Asked event)) outcome m'.log s
