@@ -1,5 +1,5 @@
 -- What a crash leaves while the first records of a boot are written.
-use Rattle.std.proofs.Common.{◌≡◌, ◌+◌, ◌<◌, ℕ, Bool, true, false, List, Option, Some, None, map, refl, ap, sym, ◌∙◌, subst}
+use Rattle.std.proofs.Common.{◌≡◌, ◌+◌, ◌<◌, Bool, true, false, List, Option, Some, None, map, refl, sym, subst}
 use Rattle.std.specs.Prelude.{nat_lt, IsSomeAnd}
 use Rattle.xa_disk.specs.Time.{LeavesOnly}
 use Rattle.xa_disk.specs.declared.disk.Disk.{Ghosts}
@@ -7,7 +7,6 @@ use Rattle.xa_record.specs.Spelling.{spelled}
 use Rattle.xa_record.specs.declared.record.Record.{Record}
 use Rattle.xa_log.specs.Chain.{newest}
 use Rattle.xa_log.specs.Checkpoint.{LeavesAny}
-use Rattle.xa_log.specs.Pair.{generation}
 use Rattle.xa_log.specs.declared.log.Log.{Log}
 use Rattle.xa_limits.specs.declared.TheConstants.{MOST_BOOTS}
 use Rattle.xa_model.specs.declared.outcome.Appending.{Appending}
@@ -19,10 +18,8 @@ use Rattle.xa_model.specs.Backing.{Backs}
 use Rattle.xa_model.specs.Durable.{durable}
 use Rattle.xa_model.specs.Fold.{snapshot}
 use Rattle.xa_model.specs.Loggable.{IsRecoverable}
-use Rattle.xa_model.specs.Logging.{down}
 use Rattle.xa_model.specs.Restarting.{boot_became, restart_turn}
 use Rattle.xa_model.specs.State.{State}
-use Rattle.xa_model.specs.Turn.{taken}
 use Rattle.xa_manager.specs.Crash.{LeavesLook, LeavesCheckpoint, LeavesBoot, LeavesBy, wrote}
 use Rattle.xa_manager.specs.LogStands.{HasRecords}
 use Rattle.xa_manager.specs.Rereading.{IsFate}

@@ -320,13 +320,16 @@ module _ {D : Type 0} (disks : Ghosts D) where
       let last : LogsLast s (Appends r after) = subst (LogsLast s) t (turn_logs_last s (Asked e) event before) in
       let open_is : (after Lost).after.open_record ≡ Some r = ap (λ (y : Answer). y.after.open_record) logs.3 in
       subst (λ (o : Outcome). LeavesBy disks m.log (turn s (Asked e)) o m'.log s) (sym x.outcome_is)
-      (subst (λ (o : Option Answer). IsSomeAnd o (λ l. LeavesAppend disks m.log m'.log s l.after)) (sym steps)
-      (r, open_is, λ current other left plain.
-        append_files disks m.log plain.records (after Lost).after r plain.stood current other last.1 plain.pair
-        ((x.log.leaves trusts.disk (map spelled plain.records) plain.pair.current).each current left.current_left)
-        plain.plain left.other_left plain.calm recoverable
-        (let backed : BacksTurn plain.records s (Appends r after) = subst (BacksTurn plain.records s) t (keeps_backed plain.records s (Asked e) event before plain.backs) in backed.2)
-        open_is))
+      (subst (λ (o : Option Answer). IsSomeAnd o (λ l. LeavesAppend disks m.log m'.log s l.after)) (sym steps) (
+        r,
+        open_is,
+        λ current other left plain.
+            append_files disks m.log plain.records (after Lost).after r plain.stood current other last.1 plain.pair
+            ((x.log.leaves trusts.disk (map spelled plain.records) plain.pair.current).each current left.current_left)
+            plain.plain left.other_left plain.calm recoverable
+            (let backed : BacksTurn plain.records s (Appends r after) = subst (BacksTurn plain.records s) t (keeps_backed plain.records s (Asked e) event before plain.backs) in backed.2)
+            open_is,
+      ))
 
   takes_crash : (m m' : Manager D) (s : State) (e : Event) (t : Turn) (reply : Reply) (outcome : Outcome) → IsEvent e → is_restart e ≡ false → ManagerStandsFor disks m s → Trusts disks → respond s e ≡ t
       → Takes disks m t reply outcome m' → LeavesBy disks m.log (turn s (Asked e)) outcome m'.log s

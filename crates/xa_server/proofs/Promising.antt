@@ -1,5 +1,4 @@
 -- What is promised of a history that was served, from the opening state that its manager stood for.
-use Rattle.std.proofs.Common.{ℕ, Bool, List}
 use Rattle.xa_disk.specs.declared.disk.Disk as disk
 use Rattle.xa_manager.specs.declared.manager.Manager.{Manager}
 use Rattle.xa_manager.specs.Managed.{ManagerStandsFor}
