@@ -1,3 +1,4 @@
 pub mod Rows
 pub mod Offsets
 pub mod Printing
+pub mod Looking

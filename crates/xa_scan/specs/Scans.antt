@@ -1,6 +1,8 @@
 -- What is printed of a log, by how its printing ended.
 use Rattle.std.specs.Prelude.{ℕ, ◌≡◌, ◌⊎◌, List, [], ◌++◌, Option, None, Result, Ok, Err}
 use Rattle.std.specs.Io.KnownBytes.{Appends}
+use Rattle.xa_disk.specs.Counts.{plus}
+use Rattle.xa_disk.specs.declared.disk.Disk.{Ghosts}
 use Rattle.xa_output.specs.Output.{IsFront, IsPart}
 use Rattle.xa_log.specs.Chain.{logged}
 use Rattle.xa_log.specs.Reading.{Explains, fault_of}
@@ -58,3 +60,10 @@ pub record Scans {X : Type 0} (honest : Type 0) (end : Result X ScanFault) (file
   pub found : honest → IsFound end file bodies
   pub written : Appends output output' text
   pub printed : Prints end bodies text
+
+-- A disk was looked at: what a read gives of it stays, nothing was written, and it was synced once at most.
+pub record OnlyLooks {D : Type 0} (disks : Ghosts D) (old new : D) : Type 0 where
+  pub same : disks.honest → disks.seen new ≡ disks.seen old
+  pub writes : (disks.counts new).writes ≡ (disks.counts old).writes
+  pub syncs : ((disks.counts new).syncs ≡ (disks.counts old).syncs)
+      ⊎ ((disks.counts new).syncs ≡ plus (disks.counts old).syncs 1)

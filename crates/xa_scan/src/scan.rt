@@ -4,7 +4,7 @@ ghost use Rattle.xa_log.specs.Reading.{bodies_of};
 ghost use Rattle.xa_scan.specs.Faults.{ended};
 ghost use Rattle.xa_scan.specs.Lines.{behind, end_line, line_at};
 ghost use Rattle.xa_limits.specs.declared.TheConstants.{FIRST_OFFSET, MOST_LOG};
-ghost use Rattle.xa_scan.specs.Scans.{AddsLine, AddsLines, Scans};
+ghost use Rattle.xa_scan.specs.Scans.{AddsLine, AddsLines, OnlyLooks, Scans};
 
 use crate::fault::ScanFault;
 use crate::lines::{body_line, last_line};
@@ -18,14 +18,14 @@ use xa_output::write_text;
 /// Reads the log that a disk is, of `MOST_LOG` bytes at most, and writes a line for each of its records, in order: its
 /// offset and its text. Behind them stands the line of the log's end.
 ///
-/// The log is read before anything is written. What is read of the disk and which calls it is asked are those of
-/// `read_log`.
+/// The log is read before anything is printed. The disk is only looked at, by the calls of `read_log`.
 pub fn scan_run<D: Disk, W: Write>(
     alloc: Global,
     disk: &mut D,
     writer: &mut W,
 ) -> Result<(), ScanFault>
-    ensures { Scans D.honest result (D.seen disk.old) (W.contents writer.old) (W.contents writer.new) }
+    ensures scans { Scans D.honest result (D.seen disk.old) (W.contents writer.old) (W.contents writer.new) }
+    ensures looks { OnlyLooks D.Disk disk.old disk.new }
 {
     let bodies = read_log(alloc, disk, MOST_LOG)?;
     let end = end_of(bodies.as_slice())?;
