@@ -1,0 +1,21 @@
+package xarm.client;
+
+/** What a refusal is about, beside its code. The order is that of the numbers in a reply. */
+public enum Detail {
+    /** Nothing beside the code. */
+    NOTHING,
+    /** Memory was wanted; nothing changed, so ask again. */
+    MEMORY,
+    /** The log's device failed. */
+    DEVICE,
+    /** The version to be read is another branch's that is undecided. */
+    BUSY,
+    /** A branch with a later timestamp has read what this write would have changed; this branch can only be rolled back. */
+    LATE,
+    /** A limit of the resource manager was met. */
+    LIMIT,
+    /** The server read no request. */
+    FRAME,
+    /** The log has no room for the branch's record; the branch is rolled back. */
+    LOG_FULL
+}

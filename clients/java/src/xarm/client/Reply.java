@@ -1,0 +1,106 @@
+package xarm.client;
+
+import java.net.ProtocolException;
+import java.nio.BufferUnderflowException;
+import java.nio.ByteBuffer;
+import java.util.ArrayList;
+import java.util.List;
+
+/** A reply: the code, the detail, and a body of one of five kinds. */
+final class Reply {
+    static final int NOTHING = 0;
+    static final int NUMBER = 1;
+    static final int VALUE = 2;
+    static final int ABSENT = 3;
+    static final int XIDS = 4;
+
+    private static final byte VERSION = 1;
+    private static final int MOST_VALUE = 1_024;
+    private static final int MOST_XIDS = 256;
+
+    private final int code;
+    private final Detail detail;
+    private final int kind;
+    private byte[] value;
+    private final List<XarmXid> xids = new ArrayList<>();
+
+    private Reply(ByteBuffer content) {
+        require(content.get() == VERSION, "its version");
+        code = content.getInt();
+        int number = content.get();
+        require(0 <= number && number < Detail.values().length, "its detail");
+        detail = Detail.values()[number];
+        content.getLong(); // the place, which is for those who compare histories
+        kind = content.get();
+        readBody(content);
+        require(!content.hasRemaining(), "bytes behind it");
+    }
+
+    /**
+     * Reads the content of a reply's frame.
+     *
+     * @throws ProtocolException if it is none
+     */
+    static Reply read(byte[] content) throws ProtocolException {
+        try {
+            return new Reply(ByteBuffer.wrap(content));
+        } catch (BufferUnderflowException cut) {
+            throw new ProtocolException("no reply of an xarm server: it is cut");
+        } catch (IllegalArgumentException fault) {
+            throw new ProtocolException("no reply of an xarm server: " + fault.getMessage());
+        }
+    }
+
+    private void readBody(ByteBuffer content) {
+        switch (kind) {
+            case NOTHING:
+            case ABSENT:
+                break;
+            case NUMBER:
+                content.getLong(); // a branch's timestamp
+                break;
+            case VALUE:
+                int length = Short.toUnsignedInt(content.getShort());
+                require(length <= MOST_VALUE, "its value's length");
+                value = new byte[length];
+                content.get(value);
+                break;
+            case XIDS:
+                int count = Short.toUnsignedInt(content.getShort());
+                require(count <= MOST_XIDS, "its number of XIDs");
+                for (int i = 0; i < count; i++) {
+                    xids.add(XarmXid.read(content));
+                }
+                break;
+            default:
+                require(false, "its kind");
+        }
+    }
+
+    private static void require(boolean isWell, String what) {
+        if (!isWell) {
+            throw new IllegalArgumentException(what);
+        }
+    }
+
+    int code() {
+        return code;
+    }
+
+    Detail detail() {
+        return detail;
+    }
+
+    int kind() {
+        return kind;
+    }
+
+    /** The value, or null where there is none. */
+    byte[] value() {
+        return value;
+    }
+
+    List<XarmXid> xids() {
+        return xids;
+    }
+}

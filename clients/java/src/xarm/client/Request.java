@@ -1,0 +1,57 @@
+package xarm.client;
+
+import java.nio.ByteBuffer;
+import java.util.Arrays;
+
+/** A request, which is a frame in the making: its length, the version, the operation, and the fields in their order. */
+final class Request {
+    private static final byte VERSION = 1;
+    private static final int LENGTH_BYTES = 4;
+    // the longest is a Put: a key of 64 bytes and a value of 1,024, with what stands before them
+    private static final int MOST_BYTES = LENGTH_BYTES + 2 + 1 + 64 + 2 + 1_024;
+
+    private final Operation operation;
+    private final ByteBuffer bytes = ByteBuffer.allocate(MOST_BYTES);
+
+    Request(Operation operation) {
+        this.operation = operation;
+        bytes.position(LENGTH_BYTES);
+        bytes.put(VERSION).put(operation.number());
+    }
+
+    Request flags(int flags) {
+        bytes.putInt(flags);
+        return this;
+    }
+
+    Request xid(XarmXid xid) {
+        xid.write(bytes);
+        return this;
+    }
+
+    Request count(int count) {
+        bytes.putInt(count);
+        return this;
+    }
+
+    /** A key, or an open info: bytes behind their length of one byte. */
+    Request name(byte[] name) {
+        bytes.put((byte) name.length).put(name);
+        return this;
+    }
+
+    /** A value: bytes behind their length of two bytes. */
+    Request value(byte[] value) {
+        bytes.putShort((short) value.length).put(value);
+        return this;
+    }
+
+    Operation operation() {
+        return operation;
+    }
+
+    byte[] frame() {
+        bytes.putInt(0, bytes.position() - LENGTH_BYTES);
+        return Arrays.copyOf(bytes.array(), bytes.position());
+    }
+}

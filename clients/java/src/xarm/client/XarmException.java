@@ -1,0 +1,43 @@
+package xarm.client;
+
+import javax.transaction.xa.XAException;
+
+/**
+ * A call on records that was refused, or a connection that can't be had. Calls on the {@link XarmXAResource} throw an
+ * {@link XAException} with the same code instead.
+ */
+public class XarmException extends Exception {
+    private static final long serialVersionUID = 1;
+
+    private final int code;
+    private final Detail detail;
+
+    XarmException(String asked, int code, Detail detail) {
+        super(asked + ": " + Codes.name(code) + (detail == Detail.NOTHING ? "" : " " + detail));
+        this.code = code;
+        this.detail = detail;
+    }
+
+    XarmException(String asked, Throwable cause) {
+        super(asked + ": XAER_RMFAIL: " + cause.getMessage(), cause);
+        code = XAException.XAER_RMFAIL;
+        detail = Detail.NOTHING;
+    }
+
+    /** The code, with the number that {@link XAException} gives it; XAER_RMFAIL of a connection that broke. */
+    public int code() {
+        return code;
+    }
+
+    /** What the refusal is about. */
+    public Detail detail() {
+        return detail;
+    }
+
+    XAException toXAException() {
+        XAException exception = new XAException(getMessage());
+        exception.errorCode = code;
+        exception.initCause(this);
+        return exception;
+    }
+}

@@ -1,0 +1,40 @@
+package xarm.client;
+
+/**
+ * A session at a server: the resource by which a transaction manager has it work for branches, and the records that it reads
+ * and writes for the branch that it works for.
+ *
+ * <p>Threads may share it, and wait for each other's calls; it works for one branch at a time. Where its connection breaks,
+ * the next call of the resource makes a new one.
+ */
+public final class XarmXAConnection implements AutoCloseable {
+    private final Session session;
+    private final XarmXAResource resource;
+    private final Records records;
+
+    XarmXAConnection(Session session) {
+        this.session = session;
+        resource = new XarmXAResource(session);
+        records = new Records(session);
+    }
+
+    /** The same one each time. */
+    public XarmXAResource getXAResource() {
+        return resource;
+    }
+
+    /** The same ones each time. */
+    public Records getRecords() {
+        return records;
+    }
+
+    /**
+     * Closes the connection, and sends nothing: the server hangs the session up. A branch that it was at work for can only be
+     * rolled back from then on; one whose work was ended, and one that is prepared, stays as it is. Calls that come later are
+     * XAER_RMFAIL.
+     */
+    @Override
+    public void close() {
+        session.close();
+    }
+}
