@@ -35,9 +35,18 @@ public final class Tests {
         tests.endWithin(Long.parseLong(words[3]));
         List<String> suites = Arrays.asList(words).subList(4, words.length);
         for (String suite : suites) {
-            ((Suite) Class.forName("xarm.tests." + suite).getDeclaredConstructor().newInstance()).run(tests);
+            tests.runSuite(suite);
         }
         tests.end();
+    }
+
+    private void runSuite(String name) {
+        try {
+            ((Suite) Class.forName("xarm.tests." + name).getDeclaredConstructor().newInstance()).run(this);
+        } catch (Exception wrong) {
+            fail(name, wrong.toString());
+            wrong.printStackTrace();
+        }
     }
 
     /** Runs a test, and prints what came of it. */
