@@ -42,6 +42,11 @@ pub record MayStand {D : Type 0} (disks : Ghosts D) (bodies : List (List ℕ)) (
   pub left_is : (c : List ℕ) → disks.may_leave log.disk c → Leaves log.log_bytes log.format bodies body c
   pub lost : log.lost ≡ true
 
+-- Whatever its disks hold: the next record begins behind these bodies, and none was lost.
+pub record EndsBehind {D : Type 0} (bodies : List (List ℕ)) (log : Log D) : Type 0 where
+  pub end : log.end ≡ length (text log.format bodies)
+  pub alive : log.lost ≡ false
+
 -- what each answer says
 abbrev pub Answers : {D : Type 0} → Ghosts D → Appended → List (List ℕ) → List ℕ → Log D → Type 0
 Answers disks Kept bodies body log = Stands disks (bodies ++ body ∷ []) log

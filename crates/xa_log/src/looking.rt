@@ -5,7 +5,7 @@ ghost use Rattle.xa_disk.specs.Time.{TimePasses};
 ghost use Rattle.xa_disk.specs.declared.counts.Counts.{Counts};
 ghost use Rattle.xa_log.specs.Answers.{CountsDeviceOf};
 ghost use Rattle.xa_log.specs.Calls.{Fetched, FetchedSome, Looks, LooksSecond, LooksAt, LooksSecondAt, ReadsLittle, asked};
-ghost use Rattle.xa_log.specs.Reading.{Explains};
+ghost use Rattle.xa_log.specs.Reading.{Ends, Explains};
 ghost use Rattle.xa_log.specs.Pair.{number_in, beats, pair_fault, fault_pair};
 ghost use Rattle.xa_log.specs.Looking.{AreShort, IsFront, HasFront, either_newer, either_log, Numbers, Tells, IsHead, Chooses, IsCurrent};
 ghost use Rattle.xa_log.specs.Window.{Caches};
@@ -254,6 +254,7 @@ fn read_current<D: Disk>(
         × IsCurrent (D.seen first.old) (D.seen second.old) r.0 r.1)
         (λ e. e ≡ OpenFault.NotALog → either_log (D.seen first.old) (D.seen second.old) ≡ false) }
     ensures kinds { IfErr result (λ e. (e ≡ OpenFault.Device) ⊎ (e ≡ OpenFault.Memory) ⊎ (e ≡ OpenFault.NotALog)) }
+    ensures end { IfOk result (λ r. Ends r.1) }
     ensures fits { (most : ℕ) → lens.0 ≤ most → lens.1 ≤ most → IfOk result (λ r. r.1.end ≤ most) }
     ensures other { IfOk result (λ r. MatchBool r.0 (second.new ≡ second.old) (first.new ≡ first.old)) }
     ensures same { D.honest → D.seen first.new ≡ D.seen first.old }
@@ -301,6 +302,7 @@ pub(crate) fn read_pair<D: Disk>(
         (λ e. Explains e (pair_fault log_bytes (D.seen first.old) (D.seen second.old))) }
     ensures durable { D.honest → OnOk result (Only (D.seen first.new) (D.may_leave first.new)) }
     ensures durable_second { D.honest → OnOk result (Only (D.seen second.new) (D.may_leave second.new)) }
+    ensures end { IfOk result (λ r. Ends r.1) }
     ensures fits { IfOk result (λ r. r.1.end ≤ log_bytes) }
     ensures same { D.honest → D.seen first.new ≡ D.seen first.old }
     ensures same_second { D.honest → D.seen second.new ≡ D.seen second.old }
@@ -338,6 +340,7 @@ pub(crate) fn read_again<D: Disk>(
         (λ e. Explains e (fault_pair log_bytes on_first (D.seen disk.old) (D.seen other.old))) }
     ensures durable { D.honest → OnOk result (Only (D.seen disk.new) (D.may_leave disk.new)) }
     ensures durable_other { D.honest → OnOk result (Only (D.seen other.new) (D.may_leave other.new)) }
+    ensures end { IfOk result (λ r. Ends r.1) }
     ensures fits { IfOk result (λ r. r.1.end ≤ log_bytes) }
     ensures same { D.honest → D.seen disk.new ≡ D.seen disk.old }
     ensures same_other { D.honest → D.seen other.new ≡ D.seen other.old }

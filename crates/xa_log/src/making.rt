@@ -8,7 +8,8 @@ ghost use Rattle.xa_log.specs.Chain.{logged};
 ghost use Rattle.xa_log.specs.Checkpoint.{IsQuiet};
 ghost use Rattle.xa_log.specs.Opened.{IsOpened};
 ghost use Rattle.xa_log.specs.Pair.{pair_fault, logged_pair};
-ghost use Rattle.xa_log.specs.Reading.{bodies_of, TellsFault, ExplainsNew};
+ghost use Rattle.xa_log.specs.Reading.{Ends, bodies_of, TellsFault, ExplainsNew};
+ghost use Rattle.xa_log.specs.Stands.{EndsBehind};
 ghost use Rattle.xa_log.specs.TwoFiles.{Pair, IsOpenPair, first_of, second_of};
 ghost use Rattle.xa_log.specs.declared.format.TheConstants.{PREAMBLE_BYTES};
 
@@ -28,6 +29,7 @@ impl<D: Disk + Drop> Log<D> {
         log_bytes: u64,
     ) -> Result<Log<D>, OpenFault>
         ensures log { D.honest → IfOk result (λ log. Pair D.Disk [] [] log × IsQuiet D.Disk [] log.other) }
+        ensures ends { IfOk result (EndsBehind []) }
         ensures empty { D.honest → OnOk result ((D.seen first ≡ []) × (D.seen second ≡ [])) }
         ensures room { OnOk result (PREAMBLE_BYTES ≤ log_bytes) }
         ensures settings { IfOk result (λ log. (log.log_bytes ≡ log_bytes) × (log.on_first ≡ true)) }
@@ -54,6 +56,7 @@ impl<D: Disk + Drop> Log<D> {
     ) -> Result<(Log<D>, Vec<Vec<u8>>), OpenFault>
         ensures log { D.honest
             → IfOk result (λ r. IsOpenPair D.Disk (bodies_of r.1.items) (logged (D.seen r.0.other)) r.0) }
+        ensures ends { IfOk result (λ r. EndsBehind (bodies_of r.1.items) r.0) }
         ensures fault { D.honest → TellsFault result (pair_fault log_bytes (D.seen first) (D.seen second)) }
         ensures logged { D.honest
             → IfOk result (λ r. logged_pair (D.seen first) (D.seen second) ≡ bodies_of r.1.items) }
@@ -87,6 +90,7 @@ impl<D: Disk + Drop> Log<D> {
     pub(crate) fn on(first: D, second: D, opened: Opened) -> (Log<D>, Vec<Vec<u8>>)
         ensures log { D.honest → IsOpened D.Disk first second opened
             → IsOpenPair D.Disk (bodies_of result.1.items) (logged (D.seen result.0.other)) result.0 }
+        ensures ends { Ends opened.scan → EndsBehind (bodies_of result.1.items) result.0 }
         ensures disks { (first_of result.0 ≡ first) × (second_of result.0 ≡ second) }
         ensures on_first { result.0.on_first ≡ opened.on_first }
         ensures bodies { result.1 ≡ opened.scan.bodies }

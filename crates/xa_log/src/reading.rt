@@ -7,7 +7,7 @@ ghost use Rattle.xa_log.specs.Calls.{Fetched, FetchedSome, FetchedNext, Looks, a
 ghost use Rattle.xa_disk.specs.Counts.{with_sync};
 ghost use Rattle.xa_log.specs.Chain.{magic, logged};
 ghost use Rattle.xa_log.specs.Answers.{CountsDevice};
-ghost use Rattle.xa_log.specs.Reading.{Finds, Fits, IsScan, bodies_of, fault_of, Explains};
+ghost use Rattle.xa_log.specs.Reading.{Finds, Fits, IsScan, Ends, bodies_of, fault_of, Explains};
 ghost use Rattle.xa_log.specs.Window.{Caches, Covers};
 
 use crate::OpenFault;
@@ -106,6 +106,7 @@ pub(crate) fn read_records<D: Disk>(
         → take FORMAT_BYTES (D.seen disk.old) ≡ magic format
         → IfOk result (λ s. logged (D.seen disk.old) ≡ bodies_of s.bodies.items) }
     ensures format { IfOk result (λ s. s.format ≡ format) }
+    ensures end { IfOk result Ends }
     ensures fits { IfOk result (λ s. s.end ≤ len) }
     ensures same { D.honest → D.seen disk.new ≡ D.seen disk.old }
     ensures time { D.honest → TimePasses D.Disk Same disk.old disk.new }

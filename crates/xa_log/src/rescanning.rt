@@ -8,7 +8,7 @@ ghost use Rattle.xa_log.specs.Chain.{NoChance, logged};
 ghost use Rattle.xa_log.specs.Checkpoint.{IsOther, IsQuiet, LeavesOf, SealTears};
 ghost use Rattle.xa_log.specs.Pair.{IsCalm, CalmTears, fault_pair, logged_of};
 ghost use Rattle.xa_log.specs.Reading.{bodies_of, TellsFault};
-ghost use Rattle.xa_log.specs.Stands.{Stands, MayStand, Leaves, LeavesLog, Untouched};
+ghost use Rattle.xa_log.specs.Stands.{Stands, EndsBehind, MayStand, Leaves, LeavesLog, Untouched};
 ghost use Rattle.xa_log.specs.TwoFiles.{Pair, MayStandPair, MaySeal, IsOpenPair, IsReadPair, KeepsAll, first_of, second_of, disk_after, other_after};
 
 use crate::looking::{arrange, in_order, read_again};
@@ -35,6 +35,7 @@ impl<D: Disk> Log<D> {
     pub fn rescan(&mut self) -> Result<Vec<Vec<u8>>, OpenFault>
         ensures log { D.honest
             → IfOk result (λ r. IsOpenPair D.Disk (bodies_of r.items) (logged (D.seen self.new.other)) self.new) }
+        ensures ends { IfOk result (λ r. EndsBehind (bodies_of r.items) self.new) }
         ensures fault { D.honest
             → TellsFault result
             (fault_pair self.old.log_bytes self.old.on_first (D.seen self.old.disk) (D.seen self.old.other)) }

@@ -26,3 +26,9 @@ returns-in-None-clause-value g c h one two front other_front none =
     let a : List ℕ = g.D.Disk.seen c.args.first.now in
     let b : List ℕ = g.D.Disk.seen c.args.second.now in
     c.in-None.ensures.choice a b (c.head_of-head.ensures.head a one front) (c.head_of-other_head.ensures.head b two other_front)
+
+pub returns-in_ok-scan-in-Some-true-default-clause-end : goal.returns-in_ok-scan-in-Some-true-default-clause-end
+returns-in_ok-scan-in-Some-true-default-clause-end g c = c.in_ok-scan-in-Some-true-default.ensures.end
+
+pub returns-in_ok-scan-in-Some-false-default-clause-end : goal.returns-in_ok-scan-in-Some-false-default-clause-end
+returns-in_ok-scan-in-Some-false-default-clause-end g c = c.in_ok-scan-in-Some-false-default.ensures.end

@@ -67,3 +67,6 @@ pub returns-clause-time_second : goal.returns-clause-time_second
 returns-clause-time_second g c h =
     then Same (λ a b d p q. q ∙ p) _ _ _ _ _ _ _ _ _ (c.in_ok-lens.ensures.time_second h)
     (then Same (λ a b d p q. q ∙ p) _ _ _ _ _ _ _ _ _ (c.in_ok-fronts.ensures.time_second h) (c.read_current.ensures.time_second h))
+
+pub returns-clause-end : goal.returns-clause-end
+returns-clause-end g c = c.read_current.ensures.end

@@ -11,3 +11,6 @@ returns-clause-log g c h o =
     let only = of_both (λ d. Only (g.D.Disk.seen d) (g.D.Disk.may_leave d)) c.args.opened.on_first true p.0 p.1 c.args.first c.args.second is.0 is.1 o.durable o.durable_second in
     opens g.D.Disk _ _ _ c.args.opened.scan (sound c.args.opened.log_bytes _ _ o.fault) only.0 only.1 refl refl refl refl
     c.args.opened.on_first refl (ap g.D.Disk.seen is.0) (ap g.D.Disk.seen is.1) o.current
+
+pub returns-clause-ends : goal.returns-clause-ends
+returns-clause-ends g c ends = record { end = ends; alive = refl }

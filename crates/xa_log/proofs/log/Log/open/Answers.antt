@@ -36,3 +36,6 @@ returns-clause-little g c = search rules
 
 pub returns-clause-log : goal.returns-clause-log
 returns-clause-log g c h = c.on.ensures.log h (c.in_ok-opened.ensures.stands h)
+
+pub returns-clause-ends : goal.returns-clause-ends
+returns-clause-ends g c = c.on.ensures.ends c.in_ok-opened.ensures.end

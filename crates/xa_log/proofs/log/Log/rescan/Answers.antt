@@ -130,3 +130,6 @@ pub returns-clause-anew_sealed : goal.returns-clause-anew_sealed
 returns-clause-anew_sealed g c h =
     let same = in_turn (λ x y. g.D.Disk.seen y ≡ g.D.Disk.seen x) c.args.self.now.on_first c.args.self.now.disk c.args.self.now.other c.read_again.new.disk c.read_again.new.other _ _ c.arrange.ensures.first c.arrange.ensures.second (c.read_again.ensures.same h) (c.read_again.ensures.same_other h) in
     may_seal_anew g.D.Disk c.args.self.now _ _ same.0 same.1 (returns-clause-log g c h) (returns-clause-logged g c h)
+
+pub returns-clause-ends : goal.returns-clause-ends
+returns-clause-ends g c = record { end = c.in_ok-on_first.ensures.end; alive = refl }
