@@ -1,0 +1,9 @@
+use Rattle.std.proofs.Common.{refl}
+use Rattle.xa_log.proofs.Plans.{left_kept}
+use Rattle.xa_log.proofs.Still.{keeps_all}
+use Rattle.xa_log.proofs.planning.Log+MemDisk.stop_other.Goals as goal
+
+pub returns-clause-state : goal.returns-clause-state
+returns-clause-state c =
+    keeps_all _ c.args.self.now _ (record { on_first = refl; log_bytes = refl; format = refl; end = refl; digest = refl; lost = refl })
+    refl (λ x left. left) c.stop.ensures.same.same.bytes (left_kept _ _ c.stop.ensures.same)
