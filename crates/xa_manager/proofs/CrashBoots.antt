@@ -1,5 +1,5 @@
 -- What a crash leaves while the first records of a boot are written.
-use Rattle.std.proofs.Common.{◌≡◌, ◌+◌, ◌<◌, Bool, true, false, List, Option, Some, None, map, refl, sym, subst}
+use Rattle.std.proofs.Common.{◌≡◌, ◌+◌, ◌<◌, ℕ, Bool, true, false, List, Option, Some, None, map, refl, sym, subst}
 use Rattle.std.specs.Prelude.{nat_lt, IsSomeAnd}
 use Rattle.xa_disk.specs.Time.{LeavesOnly}
 use Rattle.xa_disk.specs.declared.disk.Disk.{Ghosts}
@@ -7,10 +7,12 @@ use Rattle.xa_record.specs.Spelling.{spelled}
 use Rattle.xa_record.specs.declared.record.Record.{Record}
 use Rattle.xa_log.specs.Chain.{newest}
 use Rattle.xa_log.specs.Checkpoint.{LeavesAny}
+use Rattle.xa_log.specs.TwoFiles.{Swaps}
 use Rattle.xa_log.specs.declared.log.Log.{Log}
+use Rattle.xa_log.proofs.Parts.{leaves_more}
 use Rattle.xa_limits.specs.declared.TheConstants.{MOST_BOOTS}
 use Rattle.xa_model.specs.declared.outcome.Appending.{Appending}
-use Rattle.xa_model.specs.declared.outcome.Appending.TheVariants.{Lost}
+use Rattle.xa_model.specs.declared.outcome.Appending.TheVariants.{Kept, Refused, Lost}
 use Rattle.xa_model.specs.declared.outcome.Outcome.{Outcome}
 use Rattle.xa_model.specs.declared.outcome.Outcome.TheVariants.{Quiet, Appended, Failed, Reread}
 use Rattle.xa_model.specs.Answer.{Answer}
@@ -20,7 +22,8 @@ use Rattle.xa_model.specs.Fold.{snapshot}
 use Rattle.xa_model.specs.Loggable.{IsRecoverable}
 use Rattle.xa_model.specs.Restarting.{boot_became, restart_turn}
 use Rattle.xa_model.specs.State.{State}
-use Rattle.xa_manager.specs.Crash.{LeavesLook, LeavesCheckpoint, LeavesBoot, LeavesBy, wrote}
+use Rattle.xa_manager.specs.Answered.{as_appended}
+use Rattle.xa_manager.specs.Crash.{LeavesLook, LeavesCurrent, LeavesCheckpoint, LeavesBoot, LeavesBy, wrote}
 use Rattle.xa_manager.specs.LogStands.{HasRecords}
 use Rattle.xa_manager.specs.Rereading.{IsFate}
 use Rattle.xa_manager.proofs.CrashFiles.{checkpoint_files}
@@ -30,20 +33,31 @@ use Rattle.xa_manager.proofs.Generations.{newer}
 pub boot_leaves : {D : Type 0} (disks : Ghosts D) (old new : Log D) (s t : State) (survived : Bool) (rs : List Record) (a : Appending)
     → IsRecoverable (boot_became t (t.logged_boot + 1) Lost).after → IsFate survived s t → Backs rs t → (has : HasRecords disks rs old)
     → nat_lt t.logged_boot MOST_BOOTS ≡ true → t.logged_boot < MOST_BOOTS
+    → new.log_bytes ≡ old.log_bytes → LeavesCurrent a old new
     → LeavesOnly disks old.other (wrote a new) (LeavesAny old.log_bytes newest has.0 (map spelled (snapshot (durable t) (t.logged_boot + 1))))
     → LeavesBoot disks old (restart_turn s) (Reread survived (Some a)) new
-boot_leaves disks old new s t survived rs a h fate backs has less below leaves =
+boot_leaves disks old new s t survived rs a h fate backs has less below same current leaves =
     let lost = (boot_became t (t.logged_boot + 1) Lost).after in
-    subst (λ (o : Option Answer). IsSomeAnd o (λ l. LeavesCheckpoint disks old a new l.after)) (sym (turn_opens survived s t Lost fate less)) (
-      t.logged_boot + 1,
-      has.0,
-      rs,
-      refl,
-      has.1,
-      λ current other left.
-          checkpoint_files disks old rs lost (t.logged_boot + 1) has.0 current other has.1 (newer rs (durable t) backs.lasts below)
-          h (down_backed rs t _ backs) refl left.current_left (leaves.each other left.other_left),
-    )
+    subst (λ (o : Option Answer). IsSomeAnd o (λ l. LeavesCheckpoint disks old a new l.after)) (sym (turn_opens survived s t Lost fate less)) (record {
+      boot = t.logged_boot + 1;
+      opens = refl;
+      stood = has.0;
+      records = rs;
+      pair = has.1;
+      log_bytes = same;
+      current = current;
+      other = leaves_more disks old.other (wrote a new) _ _
+          (λ other left one is_left.
+          checkpoint_files disks old rs lost (t.logged_boot + 1) has.0 one other has.1 (newer rs (durable t) backs.lasts below)
+          h (down_backed rs t _ backs) refl is_left left)
+          leaves;
+    })
+
+-- the current file isn't touched
+pub swap_leaves : {D : Type 0} (a : Appending) (fresh : List (List ℕ)) (old new : Log D) → Swaps (as_appended a) fresh old new → LeavesCurrent a old new
+swap_leaves Kept fresh old new x = (x.0, x.1)
+swap_leaves Refused fresh old new x = (x.0, x.1)
+swap_leaves Lost fresh old new x = (x.0, x.1)
 
 -- once the log in the middle is known
 pub boot_by : {D : Type 0} (disks : Ghosts D) (old mid : Log D) (s : State) (o : Outcome) (new : Log D) → LeavesLook disks old mid s

@@ -287,10 +287,13 @@ crash_leaves disks log s first second h one two stands =
     (crash_of disks log current other left.0 left.1 stands.records s s.open_record stands.has))
 
 pub look_leaves : {D : Type 0} (disks : Ghosts D) (old new : Log D) (s : State) → IsRecoverable s
-    → ((d : D) (c : List ℕ) → disks.left_since d (disks.moment d) c → disks.may_leave d c)
+    → ((d : D) (c : List ℕ) → disks.left_since d (disks.moment d) c → disks.may_leave d c) → new.log_bytes ≡ old.log_bytes
     → TimePasses disks Same (first_of old) (first_of new) → TimePasses disks Same (second_of old) (second_of new)
     → LeavesLook disks old new s
-look_leaves disks old new s h only_now one two first second left plain =
-    crash_leaves disks old s first second h
-    (same_left disks (first_of old) (first_of new) one (only_now (first_of old)) first left.first_left)
-    (same_left disks (second_of old) (second_of new) two (only_now (second_of old)) second left.second_left) plain
+look_leaves disks old new s h only_now same one two = (
+  record { log_bytes = same; first = one; second = two },
+  λ first second left plain.
+      crash_leaves disks old s first second h
+      (same_left disks (first_of old) (first_of new) one (only_now (first_of old)) first left.first_left)
+      (same_left disks (second_of old) (second_of new) two (only_now (second_of old)) second left.second_left) plain,
+)

@@ -1,5 +1,7 @@
 -- What a crash at any moment of a call leaves of the log's two files.
-use Rattle.std.specs.Prelude.{◌≡◌, ◌⊎◌, ℕ, if◌then◌else◌, List, map, Some, None, IsSomeAnd}
+use Rattle.std.specs.Prelude.{◌≡◌, ◌⊎◌, ℕ, not, if◌then◌else◌, List, map, Some, None, IsSomeAnd}
+use Rattle.xa_disk.specs.Disk.{Same}
+use Rattle.xa_disk.specs.Time.{TimePasses, LeavesOnly}
 use Rattle.xa_disk.specs.declared.disk.Disk.{Ghosts}
 use Rattle.xa_record.specs.Spelling.{spelled}
 use Rattle.xa_record.specs.declared.record.Record.{Record}
@@ -36,16 +38,23 @@ LeavesNow disks log s =
     (first second : List ℕ) → disks.may_leave (first_of log) first → disks.may_leave (second_of log) second
     → StandsWithoutChance disks log s first second → FilesStandFor log.log_bytes first second s
 
--- images of the first and of the second file at moments of a look at a log, which leads to another
+-- A look at a log leads to another: for each of the two files time passes, and nothing is written.
+pub record LooksTo {D : Type 0} (disks : Ghosts D) (old new : Log D) : Type 0 where
+  pub log_bytes : new.log_bytes ≡ old.log_bytes
+  pub first : TimePasses disks Same (first_of old) (first_of new)
+  pub second : TimePasses disks Same (second_of old) (second_of new)
+
+-- images of the first and of the second file at moments of it
 pub record LeftByLook {D : Type 0} (disks : Ghosts D) (old new : Log D) (first second : List ℕ) : Type 0 where
   pub first_left : disks.left_since (first_of new) (disks.moment (first_of old)) first
   pub second_left : disks.left_since (second_of new) (disks.moment (second_of old)) second
 
--- nothing is written, so they stand for the state for which the log stood
+-- so they stand for the state for which the log stood
 abbrev pub LeavesLook : {D : Type 0} → Ghosts D → Log D → Log D → State → Type 0
 LeavesLook disks old new s =
-    (first second : List ℕ) → LeftByLook disks old new first second → StandsWithoutChance disks old s first second
-    → FilesStandFor old.log_bytes first second s
+    LooksTo disks old new
+    × ((first second : List ℕ) → LeftByLook disks old new first second → StandsWithoutChance disks old s first second
+    → FilesStandFor old.log_bytes first second s)
 
 -- ---- an append
 
@@ -82,28 +91,40 @@ wrote Kept log = log.disk
 wrote Refused log = log.other
 wrote Lost log = log.other
 
--- Images at a moment of a checkpoint: of the file that it writes since it began; the current one isn't touched.
-pub record LeftByCheckpoint {D : Type 0} (disks : Ghosts D) (old : Log D) (a : Appending) (new : Log D)
-    (current other : List ℕ) : Type 0 where
-  pub current_left : disks.may_leave old.disk current
-  pub other_left : disks.left_since (wrote a new) (disks.moment old.other) other
+-- The current file isn't touched: behind a checkpoint that is kept it is the other one, and else the current one still.
+abbrev pub LeavesCurrent : {D : Type 0} → Appending → Log D → Log D → Type 0
+LeavesCurrent Kept old new = (new.other ≡ old.disk) × (new.on_first ≡ not old.on_first)
+LeavesCurrent Refused old new = (new.disk ≡ old.disk) × (new.on_first ≡ old.on_first)
+LeavesCurrent Lost old new = (new.disk ≡ old.disk) × (new.on_first ≡ old.on_first)
 
--- They stand for a state whose open record is the new boot's, which stands first in its snapshot: the snapshot is the
--- log, or the old file still is. Until the header of the file that is written is stable that is so unless by chance a
--- record stands in front of it that isn't the first of the log that stood there; from the seal on unless by chance one
--- stands there that isn't the snapshot's first; and between them always.
-abbrev pub LeavesCheckpoint : {D : Type 0} → Ghosts D → Log D → Appending → Log D → State → Type 0
-LeavesCheckpoint {D} disks old a new lost =
-    (boot : ℕ) × (stood : List (List ℕ)) × (records : List Record) × (lost.open_record ≡ Some (logged.Opened boot))
-    × Pair disks (map spelled records) stood old
-    × ((current other : List ℕ) → LeftByCheckpoint disks old a new current other
-    → (IsCalm stood other → StandFor old current other lost)
-    ⊎ StandFor old current other lost
-    ⊎ (IsCalm (snapshot_bodies lost boot) other → StandFor old current other lost))
+-- Beside each image of the current file one of the other stands for the state: until the header of the file that is
+-- written is stable unless by chance a record stands in front of it that isn't the first of the log that stood there;
+-- from the seal on unless by chance one stands there that isn't the snapshot's first; and between them always.
+abbrev pub StandsBeside : {D : Type 0} → Ghosts D → Log D → List (List ℕ) → List (List ℕ) → State → List ℕ → Type 0
+StandsBeside disks log stood fresh s other =
+    (current : List ℕ) → disks.may_leave log.disk current
+    → (IsCalm stood other → StandFor log current other s)
+    ⊎ StandFor log current other s
+    ⊎ (IsCalm fresh other → StandFor log current other s)
+
+-- At each moment of it the two files stand for a state whose open record is the new boot's, which stands first in its
+-- snapshot: the snapshot is the log, or the old file still is. Of the file that is written that is said of each image
+-- since the checkpoint began; one since an earlier moment was left before it, or is such a one.
+pub record LeavesCheckpoint {D : Type 0} (disks : Ghosts D) (old : Log D) (a : Appending) (new : Log D)
+    (lost : State) : Type 0 where
+  pub boot : ℕ
+  pub opens : lost.open_record ≡ Some (logged.Opened boot)
+  pub stood : List (List ℕ)
+  pub records : List Record
+  pub pair : Pair disks (map spelled records) stood old
+  pub log_bytes : new.log_bytes ≡ old.log_bytes
+  pub current : LeavesCurrent a old new
+  pub other : LeavesOnly disks old.other (wrote a new) (StandsBeside disks old stood (snapshot_bodies lost boot) lost)
 
 -- ---- a call
 
--- What a restart leaves once it has looked at the log, by what became of the new boot's record.
+-- What a restart leaves once it has looked at the log, by what became of the new boot's record; without one nothing
+-- more is done.
 abbrev pub LeavesBoot : {D : Type 0} → Ghosts D → Log D → Turn → Outcome → Log D → Type 0
 LeavesBoot disks mid asked (Reread survived (Some a)) new =
     IsSomeAnd (taken asked (Reread survived (Some Lost))) (λ lost. LeavesCheckpoint disks mid a new lost.after)
@@ -112,8 +133,9 @@ LeavesBoot disks mid asked _ new = ⊥
 
 -- What a crash at any moment of a call leaves, by what the device did in it: where no device call was made, and where
 -- the look at the log failed, what a crash before it leaves; of an append and of a checkpoint, whatever they were
--- answered, what one leaves whose answer never came. A restart has a log in the middle, to which the look led, and from
--- which the checkpoint goes on: an image of the one file before it never stands beside one of the other behind it.
+-- answered, what one leaves whose answer never came. A restart has a log in the middle, and each of its moments is in
+-- one of two phases: the look leads from the log before it to that log, and the checkpoint from there to the log behind
+-- it. So an image of the one file in the first never stands beside one of the other in the second.
 abbrev pub LeavesBy : {D : Type 0} → Ghosts D → Log D → Turn → Outcome → Log D → State → Type 0
 LeavesBy disks old asked Quiet new s = (new ≡ old) × LeavesNow disks old s
 LeavesBy disks old asked (Appended a) new s =

@@ -16,7 +16,7 @@ use Rattle.xa_model.specs.Turn.{taken}
 use Rattle.xa_model.specs.declared.outcome.Outcome.{Outcome}
 use Rattle.xa_manager.specs.declared.doubt.Doubt.TheVariants.{Boot}
 use Rattle.xa_manager.specs.Crash.{LeavesBoot, wrote}
-use Rattle.xa_manager.proofs.CrashBoots.{boot_leaves}
+use Rattle.xa_manager.proofs.CrashBoots.{boot_leaves, swap_leaves}
 use Rattle.xa_manager.proofs.Fates.{is_answer, turn_opens}
 use Rattle.xa_manager.proofs.Generations.{newer}
 use Rattle.xa_manager.proofs.Rescanned.{text_size}
@@ -80,9 +80,11 @@ returns-in-Kept-clause-leaves g c =
     let old = c.args.self.now.log in
     let went = c.checkpoint.ensures.any_moment trusts.disk (map spelled rs) has.0 has.1 in
     let of = subst (λ (a : Appended). LeavesOnly g.D.Disk old.other (written a c.checkpoint.new.self) (LeavesAny old.log_bytes newest has.0 (bodies_of c.deref.result.now))) c.in-Kept.is went in
+    let swaps = subst (λ (a : Appended). Swaps a (bodies_of c.deref.result.now) old c.checkpoint.new.self) c.in-Kept.is (c.checkpoint.ensures.swaps alive) in
     let leaves = subst (λ (b : List (List ℕ)). LeavesOnly g.D.Disk old.other (wrote Kept c.checkpoint.new.self) (LeavesAny old.log_bytes newest has.0 b)) bodies of in
     subst (λ (o : Outcome). LeavesBoot g.D.Disk old (restart_turn s) o c.checkpoint.new.self) (sym c.begun.ensures.told)
-    (boot_leaves g.D.Disk old c.checkpoint.new.self s t c.args.survived rs Kept (lost_recoverable g.D.Disk c.args.self.now s t c.args.survived st fate below) fate backs has less below leaves)
+    (boot_leaves g.D.Disk old c.checkpoint.new.self s t c.args.survived rs Kept (lost_recoverable g.D.Disk c.args.self.now s t c.args.survived st fate below) fate backs has less below
+    c.checkpoint.ensures.settings (swap_leaves Kept (bodies_of c.deref.result.now) old c.checkpoint.new.self swaps) leaves)
 
 pub returns-in-Refused-clause-leaves : goal.returns-in-Refused-clause-leaves
 returns-in-Refused-clause-leaves g c =
@@ -92,9 +94,11 @@ returns-in-Refused-clause-leaves g c =
     let old = c.args.self.now.log in
     let went = c.checkpoint.ensures.any_moment trusts.disk (map spelled rs) has.0 has.1 in
     let of = subst (λ (a : Appended). LeavesOnly g.D.Disk old.other (written a c.checkpoint.new.self) (LeavesAny old.log_bytes newest has.0 (bodies_of c.deref.result.now))) c.in-Refused.is went in
+    let swaps = subst (λ (a : Appended). Swaps a (bodies_of c.deref.result.now) old c.checkpoint.new.self) c.in-Refused.is (c.checkpoint.ensures.swaps alive) in
     let leaves = subst (λ (b : List (List ℕ)). LeavesOnly g.D.Disk old.other (wrote Refused c.checkpoint.new.self) (LeavesAny old.log_bytes newest has.0 b)) bodies of in
     subst (λ (o : Outcome). LeavesBoot g.D.Disk old (restart_turn s) o c.checkpoint.new.self) (sym c.begun-in-Refused.ensures.told)
-    (boot_leaves g.D.Disk old c.checkpoint.new.self s t c.args.survived rs Refused (lost_recoverable g.D.Disk c.args.self.now s t c.args.survived st fate below) fate backs has less below leaves)
+    (boot_leaves g.D.Disk old c.checkpoint.new.self s t c.args.survived rs Refused (lost_recoverable g.D.Disk c.args.self.now s t c.args.survived st fate below) fate backs has less below
+    c.checkpoint.ensures.settings (swap_leaves Refused (bodies_of c.deref.result.now) old c.checkpoint.new.self swaps) leaves)
 
 pub returns-in-Lost-clause-leaves : goal.returns-in-Lost-clause-leaves
 returns-in-Lost-clause-leaves g c =
@@ -104,9 +108,11 @@ returns-in-Lost-clause-leaves g c =
     let old = c.args.self.now.log in
     let went = c.checkpoint.ensures.any_moment trusts.disk (map spelled rs) has.0 has.1 in
     let of = subst (λ (a : Appended). LeavesOnly g.D.Disk old.other (written a c.checkpoint.new.self) (LeavesAny old.log_bytes newest has.0 (bodies_of c.deref.result.now))) c.in-Lost.is went in
+    let swaps = subst (λ (a : Appended). Swaps a (bodies_of c.deref.result.now) old c.checkpoint.new.self) c.in-Lost.is (c.checkpoint.ensures.swaps alive) in
     let leaves = subst (λ (b : List (List ℕ)). LeavesOnly g.D.Disk old.other (wrote Lost c.checkpoint.new.self) (LeavesAny old.log_bytes newest has.0 b)) bodies of in
     subst (λ (o : Outcome). LeavesBoot g.D.Disk old (restart_turn s) o c.checkpoint.new.self) (sym c.begun-in-Lost.ensures.told)
-    (boot_leaves g.D.Disk old c.checkpoint.new.self s t c.args.survived rs Lost (lost_recoverable g.D.Disk c.args.self.now s t c.args.survived st fate below) fate backs has less below leaves)
+    (boot_leaves g.D.Disk old c.checkpoint.new.self s t c.args.survived rs Lost (lost_recoverable g.D.Disk c.args.self.now s t c.args.survived st fate below) fate backs has less below
+    c.checkpoint.ensures.settings (swap_leaves Lost (bodies_of c.deref.result.now) old c.checkpoint.new.self swaps) leaves)
 
 pub returns-in-Full-clause-leaves : goal.returns-in-Full-clause-leaves
 returns-in-Full-clause-leaves g c =

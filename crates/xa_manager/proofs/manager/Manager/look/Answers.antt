@@ -56,4 +56,4 @@ returns-clause-readable g c = λ trusts. if_err c.rescan.result _ (λ e is s st.
 pub returns-clause-leaves : goal.returns-clause-leaves
 returns-clause-leaves g c = λ trusts s st.
     look_leaves g.D.Disk c.args.self.now.log c.rescan.new.self s (outside c.args.self.now.up (view c.args.self.now) s st.tables).recoverable
-    g.met.D.Disk.only_now (c.rescan.ensures.time trusts.disk) (c.rescan.ensures.time_second trusts.disk)
+    g.met.D.Disk.only_now c.rescan.ensures.settings (c.rescan.ensures.time trusts.disk) (c.rescan.ensures.time_second trusts.disk)
