@@ -31,9 +31,7 @@ pub enum Asked<'a> {
 /// What the words of a command line ask for, the program's name first.
 pub fn read_words<'a>(alloc: Global, words: &'a [String]) -> Result<Asked<'a>, Error> {
     let command = Command::new(alloc, "xarm")
-        .version(
-            "0.1.0\nlog: reads and writes XARMLOG1\nkit: rattle-kit-13f logic dac8208d650f15bf",
-        )
+        .version("0.1.0\nlog: reads and writes XARMLOG1\nkit: rattle-kit-13 logic dac8208d650f15bf")
         .about("An XA resource manager")
         .subcommand_required(true)
         .subcommand(play_command(alloc)?)?
