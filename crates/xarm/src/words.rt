@@ -82,13 +82,13 @@ fn play_command<'a>(alloc: Global) -> Result<Command<'a>, AllocError> {
     let name = Arg::new(alloc, "name")
         .long("name")
         .value_name("NAME")
-        .help("The resource manager's name, as an open gives it: 0 to 255 bytes")
+        .help("The resource manager's name, by which sessions open it: 0 to 255 bytes")
         .action(ArgAction::Set)
         .default_value("xarm");
     let log_bytes = Arg::new(alloc, "log-bytes")
         .long("log-bytes")
         .value_name("N")
-        .help("How many bytes each of the log's two files may have: 64 to 1073741824")
+        .help("The greatest size of each of the log's two files, in bytes: 64 to 1073741824")
         .value_parser(ValueParser::unsigned(0, MOST_NUMBER))
         .action(ArgAction::Set)
         .default_value("1073741824");
@@ -105,12 +105,12 @@ fn scan_command<'a>(alloc: Global) -> Result<Command<'a>, AllocError> {
     let path = Arg::new(alloc, "path")
         .value_name("PATH")
         .help(
-            "One of the log's two files, of at most 1073741824 bytes. It is only read, and not while a server has it",
+            "One of the log's two files, of at most 1073741824 bytes. It is opened read-only, and refused while a server uses it",
         )
         .required(true)
         .action(ArgAction::Set);
     Command::new(alloc, "scan")
-        .about("Prints the records of a log, one a line, and where the next one would begin")
+        .about("Prints the records of a log, one per line, and where the next one would begin")
         .after_help("Example: xarm scan bank.log")
         .arg(path)
 }
@@ -118,7 +118,7 @@ fn scan_command<'a>(alloc: Global) -> Result<Command<'a>, AllocError> {
 fn talk_command<'a>(alloc: Global) -> Result<Command<'a>, AllocError> {
     let names = Arg::new(alloc, "names")
         .long("names")
-        .help("Prints the name of each code behind its number, as in 104 XA_RBOTHER LogFull")
+        .help("Prints the name of each code after its number, as in 104 XA_RBOTHER LogFull")
         .action(ArgAction::SetTrue);
     Command::new(alloc, "talk")
         .about("Sends the calls of a script from standard input to a server and prints the replies")
@@ -134,26 +134,26 @@ fn serve_command<'a>(alloc: Global) -> Result<Command<'a>, AllocError> {
     let log = Arg::new(alloc, "log")
         .long("log")
         .value_name("PATH")
-        .help("The log's first file; the second one is PATH.2. Files that aren't there are made")
+        .help("The log's first file; the second one is PATH.2. Missing files are created")
         .required(true)
         .action(ArgAction::Set);
     let name = Arg::new(alloc, "name")
         .long("name")
         .value_name("NAME")
-        .help("The resource manager's name, as an open gives it: 0 to 255 bytes")
+        .help("The resource manager's name, by which sessions open it: 0 to 255 bytes")
         .required(true)
         .action(ArgAction::Set);
     let workers = Arg::new(alloc, "workers")
         .long("workers")
         .value_name("N")
-        .help("How many connections are served at a time: 1 to 64")
+        .help("The number of connections that are served at a time: 1 to 64")
         .required(true)
         .value_parser(ValueParser::unsigned(1, MOST_WORKERS))
         .action(ArgAction::Set);
     let connections = Arg::new(alloc, "connections")
         .long("connections")
         .value_name("C")
-        .help("After how many connections it ends: 1 to 1000000")
+        .help("The number of connections after which the server ends: 1 to 1000000")
         .value_parser(ValueParser::unsigned(1, MOST_SERVED))
         .action(ArgAction::Set)
         .default_value("1000000");
