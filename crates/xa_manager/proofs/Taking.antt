@@ -15,8 +15,9 @@ use Rattle.xa_model.specs.Answer.{Answer}
 use Rattle.xa_model.specs.Turn.{Turn, Now, Appends}
 use Rattle.xa_model.specs.Logging.{append_became, applied, lost, logs}
 use Rattle.xa_model.specs.Loggable.{IsRecoverable}
-use Rattle.xa_assoc.specs.Refusals.{is_memory}
+use Rattle.xa_assoc.specs.Refusals.{is_memory, IsBare}
 use Rattle.xa_assoc.proofs.Follows.{unmoved}
+use Rattle.xa_manager.specs.declared.done.Done.{Done}
 use Rattle.xa_manager.specs.declared.manager.Manager.{Manager}
 use Rattle.xa_manager.specs.Answered.{StaysFor}
 use Rattle.xa_manager.specs.View.{View}
@@ -92,6 +93,15 @@ logs_answers s turn r code left body a m' is body_is tables fits = record {
   tables = tables;
   fits = fits;
 }
+
+-- what it is told has no body
+pub appended_bare : (d : Done) (code : ℤ) (a : Appending) → d ≡ record { reply = reply_to code a; outcome = Appended a } → IsBare d.reply
+appended_bare d code a e = subst (λ (x : Done). IsBare x.reply) (sym e) (by a)
+  where
+    by : (x : Appending) → IsBare (reply_to code x)
+    by WasKept = (refl, refl)
+    by Refused = (refl, refl)
+    by Lost = (refl, refl)
 
 -- what is said of an error
 pub on_err : {T E : Type 0} (r : Result T E) (X : Type 0) → X → OnErr r X

@@ -8,6 +8,7 @@ use Rattle.xa_model.specs.Recovering.{recover_by}
 use Rattle.xa_model.specs.State.{own_branch}
 use Rattle.xa_model.specs.Step.{row, commit_turn}
 use Rattle.xa_model.specs.Turn.{Now}
+use Rattle.xa_manager.proofs.Replying.{bare_fresh, now_bare, now_fresh, done_bare}
 use Rattle.xa_manager.proofs.Calling.{refused_done, both_done, turn_done, turns_done, follows_done, restart_done}
 use Rattle.xa_manager.proofs.manager.Manager.answer.Goals as goal
 
@@ -119,3 +120,53 @@ returns-in-Doom-clause-ok g c =
     rw c.now-in-Doom.ensures
     (follows_done _ c.args.self.now (record c.args.self.now { tables = c.doom.new.self }) c.args.session c.args.request _ c.refusal.result (λ s. doom_by s c.in-Doom.xid) c.doom.result
     c.requires c.in-Doom.is refl refl none c.refusal.ensures.value c.refusal.ensures.answered (λ s. refl) refl refl refl c.doom.ensures.follows)
+
+-- ---- each reply is fresh
+
+pub returns-in-Some-clause-fresh : goal.returns-in-Some-clause-fresh
+returns-in-Some-clause-fresh g c = now_bare _ _ _ c.now.ensures c.in-Some.ensures.bare
+
+pub returns-in-Open-clause-fresh : goal.returns-in-Open-clause-fresh
+returns-in-Open-clause-fresh g c = now_bare _ _ _ c.now-in-Open.ensures c.open.ensures.bare
+
+pub returns-in-Close-clause-fresh : goal.returns-in-Close-clause-fresh
+returns-in-Close-clause-fresh g c = now_bare _ _ _ c.now-in-Close.ensures c.close.ensures.bare
+
+pub returns-in-Restart-clause-fresh : goal.returns-in-Restart-clause-fresh
+returns-in-Restart-clause-fresh g c = done_bare _ c.restarted.ensures.bare
+
+pub returns-in_ok-start-in-Start-clause-fresh : goal.returns-in_ok-start-in-Start-clause-fresh
+returns-in_ok-start-in-Start-clause-fresh g c = now_fresh _ _ _ c.now-in-Start.ensures c.in_ok-start-in-Start.ensures.fresh
+
+pub returns-in-End-clause-fresh : goal.returns-in-End-clause-fresh
+returns-in-End-clause-fresh g c = now_bare _ _ _ c.now-in-End.ensures c.end.ensures.bare
+
+pub returns-in-Prepare-clause-fresh : goal.returns-in-Prepare-clause-fresh
+returns-in-Prepare-clause-fresh g c = done_bare _ c.prepare.ensures.bare
+
+pub returns-in-Commit-clause-fresh : goal.returns-in-Commit-clause-fresh
+returns-in-Commit-clause-fresh g c = done_bare _ c.commit.ensures.bare
+
+pub returns-in-Rollback-clause-fresh : goal.returns-in-Rollback-clause-fresh
+returns-in-Rollback-clause-fresh g c = bare_fresh _ c.rollback.ensures.bare
+
+pub returns-in-Forget-clause-fresh : goal.returns-in-Forget-clause-fresh
+returns-in-Forget-clause-fresh g c = bare_fresh _ c.forget.ensures.bare
+
+pub returns-in_ok-recover-in-Recover-clause-fresh : goal.returns-in_ok-recover-in-Recover-clause-fresh
+returns-in_ok-recover-in-Recover-clause-fresh g c = now_fresh _ _ _ c.now-in-Recover.ensures c.in_ok-recover-in-Recover.ensures.fresh
+
+pub returns-in_ok-get-in-Get-clause-fresh : goal.returns-in_ok-get-in-Get-clause-fresh
+returns-in_ok-get-in-Get-clause-fresh g c = now_fresh _ _ _ c.now-in-Get.ensures c.in_ok-get-in-Get.ensures.fresh
+
+pub returns-in_ok-put-in-Put-clause-fresh : goal.returns-in_ok-put-in-Put-clause-fresh
+returns-in_ok-put-in-Put-clause-fresh g c = now_bare _ _ _ c.now-in-Put.ensures c.in_ok-put-in-Put.ensures.bare
+
+pub returns-in_ok-put-in-Delete-clause-fresh : goal.returns-in_ok-put-in-Delete-clause-fresh
+returns-in_ok-put-in-Delete-clause-fresh g c = now_bare _ _ _ c.now-in-Delete.ensures c.in_ok-put-in-Delete.ensures.bare
+
+pub returns-in-Decide-clause-fresh : goal.returns-in-Decide-clause-fresh
+returns-in-Decide-clause-fresh g c = bare_fresh _ c.decide.ensures.bare
+
+pub returns-in-Doom-clause-fresh : goal.returns-in-Doom-clause-fresh
+returns-in-Doom-clause-fresh g c = now_bare _ _ _ c.now-in-Doom.ensures c.doom.ensures.bare

@@ -1,4 +1,5 @@
-use Rattle.std.proofs.Common.{◌≡◌, ◌≤◌, ◌+◌, None, length, refl, ap, sym, ◌∙◌, subst, arith}
+use Rattle.std.proofs.Common.{◌≡◌, ◌≤◌, ◌+◌, None, length, refl, ap, sym, ◌∙◌, subst, arith, rules, w32, to_z, of_z}
+use Rattle.std.proofs.lemmas.Grind.{common_steps}
 use Rattle.xa_codes.specs.declared.codes.TheConstants.{XAER_RMERR}
 use Rattle.xa_record.specs.Spelling.{spelled}
 use Rattle.xa_record.specs.declared.record.Record.TheVariants as logged
@@ -11,9 +12,9 @@ use Rattle.xa_manager.specs.View.{view_of}
 use Rattle.xa_manager.specs.Managed.{view}
 use Rattle.xa_manager.specs.Stands.{StandsFor}
 use Rattle.xa_manager.specs.declared.tables.Tables.{Tables}
-use Rattle.xa_manager.proofs.Taking.{takes_appending, tables_up, served_by}
+use Rattle.xa_manager.proofs.Taking.{takes_appending, tables_up, served_by, takes_now, appended_bare}
 use Rattle.xa_manager.proofs.OnePhase.{passed_turn}
-use Rattle.xa_manager.proofs.Completing.{forgets_completed, forgotten_fits, small_appends}
+use Rattle.xa_manager.proofs.Completing.{forgets_completed, forgotten_fits, small_appends, now_first}
 use Rattle.xa_manager.proofs.manager.Manager.forget.Goals as goal
 
 pub returns-clause-turn : goal.returns-clause-turn
@@ -36,3 +37,15 @@ returns-clause-turn g c =
     small_appends (view m) (view m') s (forget_turn s xid) r XAER_RMERR body a st (passed_turn (forget_refusal (known_as s xid)) s (logs s r XAER_RMERR s) passes) (ap spelled (sym c.in-Ok.ensures.logs)) (forgotten_fits s xid (length (spelled r)) st.up whole.roomy done small)
     (λ e recoverable. c.take_forgotten.ensures.kept e s (s.end + size_of r) (subst (λ (k : Tables). StandsFor (view_of k) s) (sym same) st) done recoverable)
     (λ e. ap view_of (c.take_forgotten.ensures.left e ∙ same))))
+
+pub returns-in-Err-clause-turn : goal.returns-in-Err-clause-turn
+returns-in-Err-clause-turn g c =
+    let m = c.args.self.now in
+    let xid = c.args.xid.now in
+    let kept : to_z w32 (of_z w32 c.in-Err.code) ≡ c.in-Err.code = first_of (search rules, grind (arith, common_steps)) in
+    rw (c.now.ensures, c.plain.ensures, kept)
+    (takes_now _ m m (λ (s : State). forget_turn s xid) _ _ refl refl refl refl refl
+    (λ s whole is_up st. now_first (view m) s (forget_refusal (known_as s xid)) (logs s (logged.Forgotten xid) XAER_RMERR s) _ st (c.in-Err.ensures.refusal s st)))
+
+pub returns-clause-bare : goal.returns-clause-bare
+returns-clause-bare g c = appended_bare _ _ _ c.appended.ensures

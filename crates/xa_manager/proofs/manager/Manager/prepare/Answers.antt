@@ -1,4 +1,5 @@
-use Rattle.std.proofs.Common.{◌≡◌, ◌≤◌, ◌+◌, None, true, false, length, refl, ap, sym, ◌∙◌, subst, arith, rules}
+use Rattle.std.proofs.Common.{◌≡◌, ◌≤◌, ◌+◌, None, true, false, length, refl, ap, sym, ◌∙◌, subst, arith, rules, Some, w32, to_z, of_z}
+use Rattle.std.proofs.lemmas.Grind.{common_steps}
 use Rattle.std.proofs.lemmas.Bool.Decides.{nat_tests}
 use Rattle.xa_codes.specs.declared.codes.TheConstants.{XA_RDONLY, XAER_RMERR}
 use Rattle.xa_record.specs.Spelling.{spelled}
@@ -14,8 +15,8 @@ use Rattle.xa_manager.specs.View.{view_of}
 use Rattle.xa_manager.specs.Managed.{view}
 use Rattle.xa_manager.specs.Stands.{StandsWithRoom}
 use Rattle.xa_manager.specs.declared.tables.Tables.{Tables}
-use Rattle.xa_manager.proofs.Taking.{takes_now, takes_appending, tables_up, stays_up, on_err, served_by, refused_is, lost_is, down_after}
-use Rattle.xa_manager.proofs.OnePhase.{now_empty, now_full, worked_known, told_writes, no_writes, some_writes, has_prepared, written_appends, WasTold, HasRecord}
+use Rattle.xa_manager.proofs.Taking.{takes_now, takes_appending, tables_up, stays_up, on_err, served_by, refused_is, lost_is, down_after, appended_bare}
+use Rattle.xa_manager.proofs.OnePhase.{now_empty, now_full, worked_known, told_writes, no_writes, some_writes, has_prepared, written_appends, WasTold, HasRecord, now_refused, now_marked}
 use Rattle.xa_manager.proofs.manager.Manager.prepare.Goals as goal
 
 pub returns-then-is_empty-clause-ok : goal.returns-then-is_empty-clause-ok
@@ -108,3 +109,32 @@ returns-clause-ok g c =
     (λ e recoverable. c.take_prepared.ensures.left (refused_is a e) s (subst (λ (k : Tables). StandsWithRoom xid (view_of k) s) (sym same) (c.in_ok-make_room.ensures.ok s st)))
     (λ e recoverable.
     down_after (view m') s r (c.take_prepared.ensures.left (lost_is a e) s (subst (λ (k : Tables). StandsWithRoom xid (view_of k) s) (sym same) (c.in_ok-make_room.ensures.ok s st))) recoverable)))
+
+-- ---- what is refused, and what is marked
+
+pub returns-in-Some-clause-ok : goal.returns-in-Some-clause-ok
+returns-in-Some-clause-ok g c =
+    let m = c.args.self.now in
+    let xid = c.args.xid.now in
+    let refused = c.in-Some.ensures in
+    rw c.now.ensures
+    (takes_now _ m m (λ (s : State). prepare_turn s xid) c.in-Some.reply _ refused.served refl refl refl refl
+    (λ s whole is_up st. now_refused (view m) s xid (answer (plain XA_RDONLY) (committed s xid)) (prepare_written s xid) c.in-Some.reply st (refused.value s st)))
+
+pub returns-in-Some-mark_of-clause-ok : goal.returns-in-Some-mark_of-clause-ok
+returns-in-Some-mark_of-clause-ok g c =
+    let m = c.args.self.now in
+    let m' = record c.args.self.now { tables = c.finish_branch.new.self } in
+    let xid = c.args.xid.now in
+    let free : c.one_phase_refusal.result ≡ None = search rules in
+    let marked : c.mark_of.result ≡ Some c.in-Some-mark_of.code = search rules in
+    let kept : to_z w32 (of_z w32 c.in-Some-mark_of.code) ≡ c.in-Some-mark_of.code = first_of (search rules, grind (arith, common_steps)) in
+    rw (c.now-in-Some-mark_of.ensures, c.plain.ensures, kept)
+    (takes_now _ m m' (λ (s : State). prepare_turn s xid) _ _ refl refl refl refl refl
+    (λ s whole is_up st.
+    let passes = sym free ∙ c.one_phase_refusal.ensures.value s st in
+    now_marked (view m') s xid (answer (plain XA_RDONLY) (committed s xid)) (prepare_written s xid) c.in-Some-mark_of.code passes (c.mark_of.ensures s st ∙ marked)
+    (λ recoverable. c.finish_branch.ensures.rolled_back refl s s.end st (worked_known s xid passes) recoverable)))
+
+pub returns-clause-bare : goal.returns-clause-bare
+returns-clause-bare g c = appended_bare _ _ _ c.appended.ensures

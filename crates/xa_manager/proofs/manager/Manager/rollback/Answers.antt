@@ -13,8 +13,9 @@ use Rattle.xa_manager.specs.Managed.{view}
 use Rattle.xa_manager.specs.Stands.{StandsFor}
 use Rattle.xa_manager.specs.declared.tables.Tables.{Tables}
 use Rattle.xa_manager.proofs.Finishing.{doubtful_known}
-use Rattle.xa_manager.proofs.Taking.{takes_appending, tables_up, served_by}
-use Rattle.xa_manager.proofs.Completing.{passes_both, settled_doubtful, doubt_rolls, doubtful_fits, small_appends}
+use Rattle.xa_manager.proofs.Taking.{takes_appending, tables_up, served_by, takes_now, appended_bare}
+use Rattle.xa_manager.proofs.Completing.{passes_both, settled_doubtful, doubt_rolls, doubtful_fits, small_appends, now_first, now_second}
+use Rattle.xa_model.specs.Turn.{unless_now}
 use Rattle.xa_manager.proofs.manager.Manager.rollback.Goals as goal
 
 pub returns-clause-turn : goal.returns-clause-turn
@@ -41,3 +42,31 @@ returns-clause-turn g c =
     small_appends (view m) (view m') s (rollback_turn s xid) r XAER_RMERR body a st (passes_both s (rollback_refusal (known_as s xid) (is_associated s xid)) (heuristic_refusal (known_as s xid)) (roll_back_turn s xid (known_as s xid)) passes through ∙ doubt_rolls s xid (known_as s xid) doubt) (ap (λ x. spelled (logged.Completed x Rollback)) (sym c.copied.ensures)) (doubtful_fits s xid (length (spelled r)) st.up whole.roomy doubt (completed xid Rollback c.requires.name))
     (λ e recoverable. c.take_completed.ensures.kept e s (s.end + size_of r) (subst (λ (k : Tables). StandsFor (view_of k) s) (sym same) st) (doubtful_known s xid doubt) recoverable)
     (λ e. ap view_of (c.take_completed.ensures.left e ∙ same))))
+
+-- ---- what is refused
+
+pub returns-in-Some-clause-turn : goal.returns-in-Some-clause-turn
+returns-in-Some-clause-turn g c =
+    let m = c.args.self.now in
+    let xid = c.args.xid.now in
+    let refused = c.in-Some.ensures in
+    rw c.now.ensures
+    (takes_now _ m m (λ (s : State). rollback_turn s xid) c.in-Some.reply _ refused.served refl refl refl refl
+    (λ s whole is_up st.
+    let rolls = roll_back_turn s xid (known_as s xid) in
+    now_first (view m) s (rollback_refusal (known_as s xid) (is_associated s xid)) (unless_now (heuristic_refusal (known_as s xid)) s rolls) c.in-Some.reply st (refused.value s st)))
+
+pub returns-in-Some-heuristic_refusal-clause-turn : goal.returns-in-Some-heuristic_refusal-clause-turn
+returns-in-Some-heuristic_refusal-clause-turn g c =
+    let m = c.args.self.now in
+    let xid = c.args.xid.now in
+    let refused = c.in-Some-heuristic_refusal.ensures in
+    let free : c.rollback_refusal.result ≡ None = search rules in
+    rw c.now-in-Some-heuristic_refusal.ensures
+    (takes_now _ m m (λ (s : State). rollback_turn s xid) c.in-Some-heuristic_refusal.reply _ refused.served refl refl refl refl
+    (λ s whole is_up st.
+    let rolls = roll_back_turn s xid (known_as s xid) in
+    now_second (view m) s (rollback_refusal (known_as s xid) (is_associated s xid)) (heuristic_refusal (known_as s xid)) rolls c.in-Some-heuristic_refusal.reply st (sym free ∙ c.rollback_refusal.ensures.value s st) (refused.value s st)))
+
+pub returns-clause-bare : goal.returns-clause-bare
+returns-clause-bare g c = appended_bare _ _ _ c.appended.ensures
