@@ -11,21 +11,26 @@ use Rattle.xa_model.specs.State.{State}
 use Rattle.xa_model.specs.Sound.{most_known}
 use Rattle.xa_model.specs.Fold.{snapshot, sizes}
 use Rattle.xa_model.specs.Logging.{log_room}
-use Rattle.xa_model.specs.Restarting.{opening}
+use Rattle.xa_model.specs.Restarting.{opening, restart_turn}
 use Rattle.xa_model.specs.Restored.{IsRestored}
-use Rattle.xa_model.specs.Turn.{Asked}
+use Rattle.xa_model.specs.RestartLaw.{restart_entries}
+use Rattle.xa_model.specs.Turn.{Asked, taken}
 use Rattle.xa_model.specs.Events.{AreEvents, IsHappening, HaveHappened}
 use Rattle.xa_model.specs.History.{Entry, Leads}
 use Rattle.xa_model.specs.OneCopy.{HasOneCopy}
 use Rattle.xa_model.proofs.Copies.{opened_one_copy}
 use Rattle.xa_model.proofs.Openings.{opens_restored}
 use Rattle.xa_model.proofs.Preparing.{listed_since_boot}
+use Rattle.xa_model.proofs.Unasked.{restart_leads, restart_happens}
 use Rattle.xa_model.proofs.Unlisted.{unlisted_since_boot}
 use Rattle.xa_assoc.specs.Refusals.{is_memory}
 use Rattle.xa_manager.specs.declared.manager.Manager.{Manager}
 use Rattle.xa_manager.specs.Answered.{AnswersAll, recorded}
-use Rattle.xa_manager.specs.Promises.{IsOpening, IsReached, ListsPrepared, ListsNoCompleted, PromisesAll, ReachedPromises, OnePromises, BegunIsReached}
-use Rattle.xa_manager.proofs.Driving.{answers_more}
+use Rattle.xa_manager.specs.LogStands.{Trusts}
+use Rattle.xa_manager.specs.Managed.{view, ManagerStandsFor, AnswersAs}
+use Rattle.xa_manager.specs.Promises.{IsOpening, IsReached, ListsPrepared, ListsNoCompleted, PromisesAll, RestartPromises, ReachedPromises, OnePromises, BegunIsReached}
+use Rattle.xa_manager.proofs.Driving.{answers_more, stepped}
+use Rattle.xa_manager.proofs.Standing.{outside}
 
 restored : (first : State) (h : IsOpening first) → IsRestored h.durable (h.durable.boot + 1) first
 restored first h =
@@ -109,6 +114,25 @@ module _ {D : Type 0} (disks : Ghosts D) where
   one_promises m m' event reply happened one =
       promises_all m m' (event ∷ []) (reply ∷ []) (happened, tt)
       (answers_more disks m m m' [] [] event reply refl (answers_none m) one.answered)
+
+  -- a restart that no session asked for
+  pub restart_promises : (m m' : Manager D) (reply : Reply)
+      → ((s : State) → ManagerStandsFor disks m s → Trusts disks → AnswersAs disks (taken (restart_turn s) m'.outcome) reply m')
+      → RestartPromises disks m reply m'
+  restart_promises m m' reply turn first s before reached stands trusts =
+      let a = stepped (λ (x : State). ManagerStandsFor disks m' x) reply (taken (restart_turn s) m'.outcome) (turn s stands trusts) in
+      let here = outside m.up (view m) s stands.tables in
+      let leads = restart_leads s m'.outcome (record { reply = reply; after = a.0 }) here.recoverable.sound here.standing a.1 in
+      let es = restart_entries s.sessions m'.outcome reply in
+      let on = reached_on first s a.0 before es reached (restart_happens s.sessions m'.outcome reply) leads in
+      record {
+        after = a.0;
+        reached = on;
+        stands = a.2;
+        one_copy = reached_one_copy first a.0 (before ++ es) on;
+        listed = reached_lists first a.0 (before ++ es) on;
+        unlisted = reached_unlists first a.0 (before ++ es) on;
+      }
 
   pub begun_is_reached : BegunIsReached disks
   begun_is_reached m bodies name log_bytes begun =

@@ -18,6 +18,7 @@ use Rattle.xa_model.specs.Restarting.{opening}
 use Rattle.xa_model.specs.Events.{IsEvent, HaveHappened}
 use Rattle.xa_model.specs.History.{Entry, Leads}
 use Rattle.xa_model.specs.OneCopy.{HasOneCopy}
+use Rattle.xa_model.specs.RestartLaw.{restart_entries}
 use Rattle.xa_model.specs.ListedLaw.{HasPrepared, HasCompleted, AsksCompletion, CallsPrepare, IsListed}
 use Rattle.xa_manager.specs.declared.manager.Manager.{Manager}
 use Rattle.xa_manager.specs.LogStands.{Trusts}
@@ -72,6 +73,22 @@ abbrev pub PromisesAll : {D : Type 0} → Ghosts D → Manager D → List Event 
 PromisesAll disks m events replies m' =
     (first s : State) (before : List Entry) → IsReached first before s → ManagerStandsFor disks m s
     → Trusts disks ⊎ (no_restart events ≡ true) → KeepsPromises disks before s events replies m'
+
+-- A restart that no session asked for: the history goes on with it (`restart_entries`), and the manager stands for the
+-- state that it then leads to, of which the same is true.
+pub record RestartKeeps {D : Type 0} (disks : Ghosts D) (first : State) (before : List Entry) (s : State)
+    (outcome : Outcome) (reply : Reply) (m' : Manager D) : Type 0 where
+  pub after : State
+  pub reached : IsReached first (before ++ restart_entries s.sessions outcome reply) after
+  pub stands : ManagerStandsFor disks m' after
+  pub one_copy : HasOneCopy after
+  pub listed : ListsPrepared (before ++ restart_entries s.sessions outcome reply) after
+  pub unlisted : ListsNoCompleted (before ++ restart_entries s.sessions outcome reply) after
+
+abbrev pub RestartPromises : {D : Type 0} → Ghosts D → Manager D → Reply → Manager D → Type 0
+RestartPromises disks m reply m' =
+    (first s : State) (before : List Entry) → IsReached first before s → ManagerStandsFor disks m s
+    → Trusts disks → RestartKeeps disks first before s m'.outcome reply m'
 
 -- ---- laws
 

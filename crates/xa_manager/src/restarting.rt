@@ -22,6 +22,7 @@ ghost use Rattle.xa_manager.specs.Answered.{StaysFor, HasCalled, NoneRises};
 ghost use Rattle.xa_manager.specs.Crash.{LeavesLook, LeavesBoot, LeavesBy};
 ghost use Rattle.xa_manager.specs.LogStands.{Trusts, HasRecords};
 ghost use Rattle.xa_manager.specs.Managed.{ManagerStandsFor, AnswersAs, Doubts};
+ghost use Rattle.xa_manager.specs.Promises.{RestartPromises};
 ghost use Rattle.xa_manager.specs.Rereading.{IsFate, Found, IsNext, IsReady};
 ghost use Rattle.xa_manager.specs.Connected.{connected_to};
 ghost use Rattle.xa_frame.specs.Limits.{IsReply};
@@ -249,6 +250,7 @@ impl<D: Disk> Manager<D> {
             (StaysFor D.Disk self.old self.new × (self.new.outcome ≡ self.old.outcome))
             ((s : State) → ManagerStandsFor D.Disk self.old s → Trusts D.Disk
             → AnswersAs D.Disk (taken (restart_turn s) self.new.outcome) result self.new) }
+        ensures promises { is_memory result.detail ≡ false → RestartPromises D.Disk self.old result self.new }
         ensures pinned { is_memory result.detail ≡ true → result ≡ detailed XAER_RMFAIL Detail.Memory }
         ensures leaves { MatchBool (is_memory result.detail)
             ((s : State) → ManagerStandsFor D.Disk self.old s → Trusts D.Disk

@@ -92,6 +92,7 @@ pub mod CrashLists
 pub mod OpenedLists
 pub mod Scans
 pub mod Copies
+pub mod Unasked
 pub mod Totals
 pub mod LowWaters
 pub mod ChangedWaters

@@ -29,6 +29,7 @@ pub mod UnlistedLaw
 pub mod Crash
 pub mod CrashLaws
 pub mod ScanLaw
+pub mod RestartLaw
 pub mod LowWater
 pub mod LowWaterLaws
 pub mod OneCopy

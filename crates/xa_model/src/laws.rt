@@ -17,6 +17,7 @@ ghost use Rattle.xa_model.specs.CrashLaws.{LeavesNoMore, LeavesExactly, FirstLef
 ghost use Rattle.xa_model.specs.CrashLaws.{CrashKeepsPrepared, CrashKeepsCompleted, CrashKeepsSinceBoot};
 ghost use Rattle.xa_model.specs.CrashLaws.{BootLists};
 ghost use Rattle.xa_model.specs.ScanLaw.{ListedAscends, ScanListsFirst, ScanListsAll, ScanIsAnswered};
+ghost use Rattle.xa_model.specs.RestartLaw.{RestartLeads, RestartHappens};
 ghost use Rattle.xa_model.specs.LowWaterLaws.{BelowKnown, IsReached, BelowNext, NeverFalls};
 ghost use Rattle.xa_model.specs.WorkedLowWater.{WaterRises};
 ghost use Rattle.xa_model.specs.WorkedLog.{HeldAndCommitted, DecidedAndForgotten, RolledBack, LastWrites, InOrder};
@@ -337,6 +338,14 @@ pub fn scan_lists_all()
     ensures first { ScanListsFirst }
     ensures whole { ScanListsAll }
     ensures answered { ScanIsAnswered }
+{}
+
+/// A restart that no session asked for is that of a session which is connected, or where none is, of one that connects,
+/// asks for it, and is hung up: of a sound state that isn't ended, these entries lead to the state that the restart
+/// leads to.
+pub fn restart_leads()
+    ensures leads { RestartLeads }
+    ensures happens { RestartHappens }
 {}
 
 /// Worked lists of committed branches: one that is one copy, and three that aren't, since a read missed a write before

@@ -1,0 +1,210 @@
+-- A restart that no session asked for is one that a session asks for.
+use Rattle.std.proofs.Common.{◌≡◌, ℕ, ◌+◌, ◌≤◌, ◌==◌, Bool, true, false, not, cond, List, [], ◌∷◌, Option, Some, None, refl, ap, sym, ◌∙◌, subst, arith}
+use Rattle.std.specs.Prelude.{filter, map, option_map, nat_lt, IfSome}
+use Rattle.std.proofs.lemmas.Bool.{and_parts}
+use Rattle.std.proofs.lemmas.Bool.Decides.{nat_tests}
+use Rattle.xa_codes.specs.declared.codes.TheConstants.{XAER_RMFAIL, XA_RBCOMMFAIL}
+use Rattle.xa_codes.specs.declared.detail.Detail.TheVariants as detail
+use Rattle.xa_codes.specs.declared.direction.Direction.TheVariants as direction
+use Rattle.xa_frame.specs.declared.request.Request.TheVariants.{Restart}
+use Rattle.xa_record.specs.declared.record.Record.{Record}
+use Rattle.xa_record.specs.declared.record.Record.TheVariants as logged
+use Rattle.xa_limits.specs.declared.TheConstants.{MOST_BOOTS}
+use Rattle.xa_model.specs.declared.outcome.Outcome.{Outcome}
+use Rattle.xa_model.specs.declared.outcome.Outcome.TheVariants.{Quiet, Appended, Failed, Reread}
+use Rattle.xa_model.specs.declared.outcome.Appending.{Appending}
+use Rattle.xa_model.specs.declared.outcome.Appending.TheVariants.{Kept, Refused, Lost}
+use Rattle.xa_model.specs.State.{State, Session, Branch, Phase, Working, Prepared, Committed, Association, Standing, Up, Down, Ended, count, owns, session_of}
+use Rattle.xa_model.specs.Answer.{Answer, answer, detailed, ok}
+use Rattle.xa_model.specs.Associations.{connect_by, hang_up_by, is_anyones, is_worked_by, left_behind, with_mark}
+use Rattle.xa_model.specs.Early.{early_refusal}
+use Rattle.xa_model.specs.History.{Leads}
+use Rattle.xa_model.specs.Logging.{applied, down}
+use Rattle.xa_model.specs.Restarting.{boot_became, missed, restart_turn, restarting, survived}
+use Rattle.xa_model.specs.RestartLaw.{asks, comes, goes, restart_entries, RestartLeads, RestartHappens}
+use Rattle.xa_model.specs.Step.{asked, is_up, opened_of}
+use Rattle.xa_model.specs.Turn.{Turn, Now, Rereads, Stops, Opens, going_on, taken, unless_now}
+use Rattle.xa_model.proofs.Counts.{count_less}
+use Rattle.xa_model.proofs.Leaving.{none_counted}
+
+-- where nobody passes, nobody leaves
+
+nobody_by : {A : Type 0} (p : A → Bool) (x : A) (xs ys : List A) (c : Bool) → cond c 1 0 + count p xs ≡ 0 → (count p xs ≡ 0 → ys ≡ xs) → cond (not c) (x ∷ ys) ys ≡ x ∷ xs
+nobody_by {A = A} p x xs ys true none rest = absurd (omega arith)
+nobody_by {A = A} p x xs ys false none rest = let here : count p xs ≡ 0 = omega arith in ap (λ (l : List A). x ∷ l) (rest here)
+
+nobody_leaves : {A : Type 0} (p : A → Bool) (xs : List A) → count p xs ≡ 0 → filter (λ x. not (p x)) xs ≡ xs
+nobody_leaves p [] none = refl
+nobody_leaves p (x ∷ xs) none = nobody_by p x xs (filter (λ y. not (p y)) xs) (p x) none (nobody_leaves p xs)
+
+-- and no branch is marked
+
+owned_by : (held : List Association) (n : ℕ) (p : Phase) → count (is_anyones n) held ≡ 0 → is_worked_by held n p ≡ false
+owned_by held n (Working xid mark) none =
+    let fewer : count (owns n xid) held ≤ count (is_anyones n) held = count_less (owns n xid) (is_anyones n) (λ a is. (and_parts (is_anyones n a) _ is).0) held in
+    let zero : count (owns n xid) held ≡ 0 = omega arith in
+    none_counted (owns n xid) held zero
+owned_by held n (Prepared xid) none = refl
+owned_by held n Committed none = refl
+
+unmarked_by : (b : Branch) (c : Bool) → c ≡ false → cond c (with_mark XA_RBCOMMFAIL b) b ≡ b
+unmarked_by b true e = absurd (cc e)
+unmarked_by b false e = refl
+
+all_same : (f : Branch → Branch) → ((b : Branch) → f b ≡ b) → (bs : List Branch) → map f bs ≡ bs
+all_same f same [] = refl
+all_same f same (b ∷ bs) = rw (same b, all_same f same bs) refl
+
+-- a session that came and goes
+
+abbrev among : List Session → State → State
+among xs s = record s { sessions = xs }
+
+abbrev one : Session
+one = record { number = 1; opened = false; scan = None }
+
+abbrev with_one : State → State
+with_one s = among (one ∷ []) s
+
+same_state : (s : State) (xs : List Session) (held : List Association) (bs : List Branch) → xs ≡ s.sessions → held ≡ s.associations → bs ≡ s.branches
+    → record s { sessions = xs; associations = held; branches = bs } ≡ s
+same_state s xs held bs d e f = rw (d, e, f) refl
+
+left_alone : (s : State) → s.sessions ≡ [] → count (is_anyones 1) s.associations ≡ 0 → hang_up_by (with_one s) 1 ≡ ok s
+left_alone s none free =
+    ap ok
+    (same_state s [] (filter (λ a. not (is_anyones 1 a)) s.associations) (map (left_behind s.associations 1) s.branches) (sym none)
+    (nobody_leaves (is_anyones 1) s.associations free)
+    (all_same (left_behind s.associations 1) (λ b. unmarked_by b (is_worked_by s.associations 1 b.phase) (owned_by s.associations 1 b.phase free)) s.branches))
+
+-- a restart beside it
+
+record WithOne (a : Answer) (o : Option Answer) : Type 0 where
+  same : o ≡ Some (answer a.reply (with_one a.after))
+  alone : a.after.sessions ≡ []
+  free : count (is_anyones 1) a.after.associations ≡ 0
+  answers : a.after.standing ≡ Ended → ⊥
+
+abbrev BothWays : Option Answer → Option Answer → Type 0
+BothWays o p = IfSome o (λ a. WithOne a p)
+
+boots_by : (s : State) (x : Option Appending) (boot : ℕ) (c : Bool) → count (is_anyones 1) s.associations ≡ 0
+    → BothWays
+    (going_on x (cond c (Opens (logged.Opened boot) (boot_became (among [] s) boot)) (Stops (answer (detailed XAER_RMFAIL detail.Limit) (down (among [] s))))))
+    (going_on x (cond c (Opens (logged.Opened boot) (boot_became (with_one s) boot)) (Stops (answer (detailed XAER_RMFAIL detail.Limit) (down (with_one s))))))
+boots_by s None boot true free = tt
+boots_by s None boot false free = record { same = refl; alone = refl; free = free; answers = λ e. absurd (cc e) }
+boots_by s (Some x) boot false free = tt
+boots_by s (Some Kept) boot true free = record { same = refl; alone = refl; free = refl; answers = λ e. absurd (cc e) }
+boots_by s (Some Refused) boot true free = record { same = refl; alone = refl; free = free; answers = λ e. absurd (cc e) }
+boots_by s (Some Lost) boot true free = record { same = refl; alone = refl; free = free; answers = λ e. absurd (cc e) }
+
+boots : (s : State) (x : Option Appending) → count (is_anyones 1) s.associations ≡ 0 → BothWays (going_on x (restarting (among [] s))) (going_on x (restarting (with_one s)))
+boots s x free = boots_by s x (s.logged_boot + 1) (nat_lt s.logged_boot MOST_BOOTS) free
+
+applied_among : (xs : List Session) (s : State) (r : Record) → applied r (among xs s) ≡ among xs (applied r s)
+applied_among xs s (logged.Opened boot) = refl
+applied_among xs s (logged.Prepared xid t ws) = refl
+applied_among xs s (logged.Committed xid t ws) = refl
+applied_among xs s (logged.Completed xid direction.Commit) = refl
+applied_among xs s (logged.Completed xid direction.Rollback) = refl
+applied_among xs s (logged.Decided xid direction.Commit) = refl
+applied_among xs s (logged.Decided xid direction.Rollback) = refl
+applied_among xs s (logged.Forgotten xid) = refl
+applied_among xs s (logged.Base t ws) = refl
+applied_among xs s (logged.Held xid t ws) = refl
+applied_among xs s (logged.Known xid direction) = refl
+
+applied_held : (s : State) (r : Record) → (applied r s).associations ≡ s.associations
+applied_held s (logged.Opened boot) = refl
+applied_held s (logged.Prepared xid t ws) = refl
+applied_held s (logged.Committed xid t ws) = refl
+applied_held s (logged.Completed xid direction.Commit) = refl
+applied_held s (logged.Completed xid direction.Rollback) = refl
+applied_held s (logged.Decided xid direction.Commit) = refl
+applied_held s (logged.Decided xid direction.Rollback) = refl
+applied_held s (logged.Forgotten xid) = refl
+applied_held s (logged.Base t ws) = refl
+applied_held s (logged.Held xid t ws) = refl
+applied_held s (logged.Known xid direction) = refl
+
+survives : (s : State) (r : Record) (x : Option Appending) → count (is_anyones 1) s.associations ≡ 0
+    → BothWays (going_on x (restarting (survived (among [] s) r))) (going_on x (restarting (survived (with_one s) r)))
+survives s r x free =
+    let u : State = record (applied r s) { open_record = None } in
+    let same = λ (xs : List Session). ap (λ (t : State). record t { open_record = None }) (sym (applied_among xs s r)) in
+    let held : count (is_anyones 1) u.associations ≡ 0 = ap (count (is_anyones 1)) (applied_held s r) ∙ free in
+    subst (λ (t : State). BothWays (going_on x (restarting t)) (going_on x (restarting (survived (with_one s) r)))) (same [])
+    (subst (λ (t : State). BothWays (going_on x (restarting (among [] u))) (going_on x (restarting t))) (same (one ∷ [])) (boots u x held))
+
+restarts_by : (s : State) (o : Option Record) (outcome : Outcome) → count (is_anyones 1) s.associations ≡ 0
+    → BothWays
+    (taken (Rereads (answer (detailed XAER_RMFAIL detail.Device) (down (among [] s))) (option_map (λ r. restarting (survived (among [] s) r)) o) (Some (restarting (missed (among [] s))))) outcome)
+    (taken (Rereads (answer (detailed XAER_RMFAIL detail.Device) (down (with_one s))) (option_map (λ r. restarting (survived (with_one s) r)) o) (Some (restarting (missed (with_one s))))) outcome)
+restarts_by s o Quiet free = tt
+restarts_by s o (Appended x) free = tt
+restarts_by s o Failed free = record { same = refl; alone = refl; free = free; answers = λ e. absurd (cc e) }
+restarts_by s None (Reread true x) free = tt
+restarts_by s (Some r) (Reread true x) free = survives s r x free
+restarts_by s o (Reread false x) free = boots (missed s) x free
+
+-- who asks for it
+
+answered_by : (p : Standing) (t : Turn) → (p ≡ Ended → ⊥) → asked p t ≡ t
+answered_by Up t answers = refl
+answered_by Down t answers = refl
+answered_by Ended t answers = absurd (answers refl)
+
+asked_by : (p : Standing) (name : List ℕ) (opened : Bool) (s : State) (t : Turn) → (p ≡ Ended → ⊥)
+    → asked p (unless_now (early_refusal (is_up p) name (Some opened) Restart) s t) ≡ t
+asked_by Up name opened s t answers = refl
+asked_by Down name opened s t answers = refl
+asked_by Ended name opened s t answers = absurd (answers refl)
+
+itself_by : (n : ℕ) (x : Session) (o : Option Session) (c : Bool) → (n == n) ≡ c → cond c (Some x) o ≡ Some x
+itself_by n x o true e = refl
+itself_by n x o false e = let same : (n == n) ≡ true = grind (arith, nat_tests) in absurd (cc (e, same))
+
+itself : (x : Session) (xs : List Session) → session_of (x ∷ xs) x.number ≡ Some x
+itself x xs = itself_by x.number x (session_of xs x.number) (x.number == x.number) refl
+
+-- what is taken of a turn is what a step is
+
+abbrev takes : Outcome → Turn → Option Answer
+takes outcome t = taken t outcome
+
+nobody : (s : State) (outcome : Outcome) (a : Answer) → count (is_anyones 1) s.associations ≡ 0 → (s.standing ≡ Ended → ⊥)
+    → taken (restart_turn (among [] s)) outcome ≡ Some a
+    → Leads (among [] s) (comes ∷ asks 1 outcome a.reply ∷ goes ∷ []) a.after
+nobody s outcome a free answers e =
+    let w : WithOne a (taken (restart_turn (with_one s)) outcome) =
+    subst (λ (o : Option Answer). BothWays o (taken (restart_turn (with_one s)) outcome)) e (restarts_by s s.open_record outcome free) in (
+      with_one s,
+      ap (takes Quiet) (answered_by s.standing (Now (connect_by (among [] s))) answers),
+      (
+        with_one a.after,
+        ap (takes outcome) (asked_by s.standing s.name false (with_one s) (restart_turn (with_one s)) answers) ∙ w.same,
+        (
+          a.after,
+          ap (takes Quiet) (answered_by a.after.standing (Now (hang_up_by (with_one a.after) 1)) w.answers) ∙ ap Some (left_alone a.after w.alone w.free),
+          refl,
+        ),
+      ),
+    )
+
+leads_by : (s : State) (xs : List Session) (outcome : Outcome) (a : Answer) → (session_of xs 1 ≡ None → count (is_anyones 1) s.associations ≡ 0)
+    → (s.standing ≡ Ended → ⊥) → taken (restart_turn (among xs s)) outcome ≡ Some a → Leads (among xs s) (restart_entries xs outcome a.reply) a.after
+leads_by s [] outcome a free answers e = nobody s outcome a (free refl) answers e
+leads_by s (x ∷ xs) outcome a free answers e =
+    let t = among (x ∷ xs) s in
+    let opened : opened_of t x.number ≡ Some x.opened = ap (option_map (λ (y : Session). y.opened)) (itself x xs) in
+    let turns = ap (λ (o : Option Bool). asked s.standing (unless_now (early_refusal (is_up s.standing) s.name o Restart) t (restart_turn t))) opened
+    ∙ asked_by s.standing s.name x.opened t (restart_turn t) answers in
+    (a.after, ap (takes outcome) turns ∙ e, refl)
+
+pub restart_leads : RestartLeads
+restart_leads s outcome a sound answers e = leads_by s s.sessions outcome a (sound.connected 1) answers e
+
+pub restart_happens : RestartHappens
+restart_happens [] outcome reply = (tt, (record { limits = tt; held = tt }, (tt, tt)))
+restart_happens (x ∷ xs) outcome reply = (record { limits = tt; held = tt }, tt)
