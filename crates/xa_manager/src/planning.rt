@@ -1,12 +1,12 @@
-//! Planned faults of the disks in memory of a manager's log.
-ghost use Rattle.std.specs.Prelude.{◌≡◌};
+//! Planned faults, stops and crashes of the disks in memory of a manager's log.
+ghost use Rattle.std.specs.Prelude.{◌≡◌, IfOk};
 
 use crate::Manager;
 use std::alloc::AllocError;
 use xa_disk::{Disk, Effect, MemDisk};
 
 impl Manager<MemDisk> {
-    ghost use Rattle.xa_log.specs.Planned.{Plans};
+    ghost use Rattle.xa_log.specs.Planned.{CrashesBoth, Plans, PlansStop};
     ghost use Rattle.xa_manager.specs.Answered.{StaysFor};
 
     /// Plans that the k-th device call of the current file's disk from now fails, as `MemDisk::fail` does. Nothing else
@@ -28,5 +28,38 @@ impl Manager<MemDisk> {
         ensures outcome { self.new.outcome ≡ self.old.outcome }
     {
         self.log.fail_other(k, effect)
+    }
+
+    /// Plans that from its k-th device call from now the current file's disk stops, as `MemDisk::stop` does. Nothing
+    /// else changes.
+    pub fn stop(&mut self, k: u64)
+        ensures planned { PlansStop k self.old.log.disk self.new.log.disk }
+        ensures other { self.new.log.other ≡ self.old.log.other }
+        ensures stays { StaysFor ⟦<MemDisk as Disk>⟧ self.old self.new }
+        ensures outcome { self.new.outcome ≡ self.old.outcome }
+    {
+        self.log.stop(k);
+    }
+
+    /// The same of the other file's disk.
+    pub fn stop_other(&mut self, k: u64)
+        ensures planned { PlansStop k self.old.log.other self.new.log.other }
+        ensures current { self.new.log.disk ≡ self.old.log.disk }
+        ensures stays { StaysFor ⟦<MemDisk as Disk>⟧ self.old self.new }
+        ensures outcome { self.new.outcome ≡ self.old.outcome }
+    {
+        self.log.stop_other(k);
+    }
+
+    /// Gives the two disks back, the first one first, after a crash of both: the current file's and the other file's
+    /// keep so many bytes of those that were written since the last sync, as `MemDisk::crash_keeping` does.
+    pub fn into_crashed_disks(
+        self,
+        current: u64,
+        other: u64,
+    ) -> Result<(MemDisk, MemDisk), AllocError>
+        ensures { IfOk result (CrashesBoth current other self.log) }
+    {
+        self.log.into_crashed_disks(current, other)
     }
 }

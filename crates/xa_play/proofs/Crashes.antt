@@ -1,21 +1,13 @@
 -- What a crash left of two disks is opened.
-use Rattle.std.proofs.Common.{◌≡◌, ℕ, List, IfOk, Result, Ok, Err, subst}
-use Rattle.xa_disk.specs.Memory.{Crashes, image_of}
+use Rattle.std.proofs.Common.{ℕ, List, IfOk, Result, Ok, Err}
 use Rattle.xa_disk.specs.declared.memory.MemDisk.{MemDisk}
-use Rattle.xa_log.specs.TwoFiles.{first_of, second_of}
 use Rattle.xa_manager.specs.declared.manager.Manager.{Manager}
-use Rattle.xa_play.specs.Disks.{OpenedOn, seen}
+use Rattle.xa_play.specs.Disks.{CrashesTo, OpenedOn, seen}
 use Rattle.xa_play.specs.Played.{Crashed}
 use Rattle.xa_play.specs.declared.fault.PlayFault.{PlayFault}
+use Rattle.xa_script.specs.declared.log_file.LogFile.{LogFile}
 
-pub crashed : (name : List ℕ) (n : ℕ) (m : Manager MemDisk) (r : Result (Manager MemDisk) PlayFault) (disks : MemDisk × MemDisk) (first second : MemDisk)
-    → disks ≡ (first_of m.log, second_of m.log) → Crashes disks.0 first → Crashes disks.1 second
-    → IfOk r (OpenedOn name n (seen first) (seen second)) → IfOk r (Crashed name n m)
-crashed name n m (Err fault) disks first second is a b h = tt
-crashed name n m (Ok m') disks first second is a b h = (
-  seen first,
-  seen second,
-  subst (λ (p : MemDisk × MemDisk). image_of p.0 (seen first)) is a.left,
-  subst (λ (p : MemDisk × MemDisk). image_of p.1 (seen second)) is b.left,
-  h,
-)
+pub crashed : (name : List ℕ) (n : ℕ) (file : LogFile) (keeps : ℕ) (m : Manager MemDisk) (r : Result (Manager MemDisk) PlayFault) (disks : MemDisk × MemDisk)
+    → CrashesTo file keeps m.log disks → IfOk r (OpenedOn name n (seen disks.0) (seen disks.1)) → IfOk r (Crashed name n file keeps m)
+crashed name n file keeps m (Err fault) disks left h = tt
+crashed name n file keeps m (Ok m') disks left h = (disks, left, h)

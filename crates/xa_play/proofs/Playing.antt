@@ -17,7 +17,7 @@ use Rattle.xa_manager.specs.Answered.{may_want_memory, wanted_memory}
 use Rattle.xa_manager.specs.declared.manager.Manager.{Manager}
 use Rattle.xa_xid.specs.Triple.{Triple}
 use Rattle.xa_script.specs.declared.line.Line.{Line}
-use Rattle.xa_script.specs.declared.line.Line.TheVariants.{Silent, Unknown, Connect, Hangup, Call, Fail, Reopen, Crash}
+use Rattle.xa_script.specs.declared.line.Line.TheVariants.{Silent, Unknown, Connect, Hangup, Call, Fail, Stop, Reopen, Crash}
 use Rattle.xa_script.specs.declared.call_effect.CallEffect.{CallEffect}
 use Rattle.xa_script.specs.declared.log_file.LogFile.{LogFile}
 use Rattle.xa_script.specs.declared.log_file.LogFile.TheVariants.{Current, Other}
@@ -26,7 +26,7 @@ use Rattle.xa_script.specs.Lines as lines
 use Rattle.xa_script.specs.Parts.{parts, parts_behind}
 use Rattle.xa_script.specs.Replies as replies
 use Rattle.xa_script.specs.Requests.{ReadsTexts}
-use Rattle.xa_play.specs.Disks.{StandsFor, Answered, Stays, Planned, FilesStand, MemoryIsTrusted, first_seen, second_seen}
+use Rattle.xa_play.specs.Disks.{StandsFor, Answered, Stays, Planned, Stopped, FilesStand, MemoryIsTrusted, first_seen, second_seen}
 use Rattle.xa_manager.specs.Files.{FilesStandFor}
 use Rattle.xa_manager.specs.Answered.{StepsAs}
 use Rattle.xa_disk.specs.contracts.memory.MemDiskDisk.TheImpl.{ghosts as mem_disks}
@@ -66,9 +66,10 @@ plays_then name log_bytes P Q run Connect text f h = (h.0, h.1, said_then P Q ru
 plays_then name log_bytes P Q run (Hangup n) text f h = (h.0, h.1, said_then P Q run (event.Hangup n) h.0 (is_memory h.0.detail) f h.2)
 plays_then name log_bytes P Q run (Call n request) text f h = (h.0, h.1, said_then P Q run (event.Call n request) h.0 (is_memory h.0.detail) f h.2)
 plays_then name log_bytes P Q run (Fail file call effect) text f h = (h.0, f run h.1)
+plays_then name log_bytes P Q run (Stop file call) text f h = (h.0, f run h.1)
 plays_then name log_bytes P Q run Reopen text f h = (h.0, (h.1.0, (h.1.1.0, h.1.1.1, f _ h.1.1.2)))
-plays_then name log_bytes P Q run Crash text f h =
-    (h.0, h.1, h.2, h.3, λ left is stand. let a = h.4 left is stand in (a.0, (a.1.0, a.1.1, f _ a.1.2)))
+plays_then name log_bytes P Q run (Crash file keeps) text f h =
+    (h.0, h.1, h.2, λ left is stand. let a = h.3 left is stand in (a.0, (a.1.0, a.1.1, f _ a.1.2)))
 
 follows : (m' : Manager MemDisk) (reply : Reply) (o : Option Answer) → IsSomeAnd o (λ a. (a.reply ≡ reply) × StandsFor m' a.after) →
     (after : State) × (o ≡ Some (record { reply = reply; after = after })) × StandsFor m' after
@@ -98,6 +99,10 @@ planned_stays : (result : Result (Unit {0}) AllocError) (file : LogFile) (call :
 planned_stays result Current call effect m m' h = h.2.0
 planned_stays result Other call effect m m' h = h.2.0
 
+stopped_stays : (file : LogFile) (call : ℕ) (m m' : Manager MemDisk) → Stopped file call m m' → Stays m m'
+stopped_stays Current call m m' h = h.2.0
+stopped_stays Other call m m' h = h.2.0
+
 -- the manager was opened again, on files to which the state of a run comes
 reopens : (name : List ℕ) (n : ℕ) (m' : Manager MemDisk) (run : Run) → IsRun run
     → (survived : Bool) × IsSomeAnd (step run.now (Reopened name n) (Reread survived (Some Kept))) (λ a. StandsFor m' a.after)
@@ -117,15 +122,16 @@ line_plays trusted files laws name n m m' (Hangup k) answer run h stands = shows
 line_plays trusted files laws name n m m' (Call k request) answer run h stands = shows trusted n m m' (event.Call k request) answer run h.1 h.0 stands
 line_plays trusted files laws name n m m' (Fail file call effect) answer run h stands =
     (ap printed h.0, (planned_stays (Ok tt) file call effect m m' h.1 run.now stands.0, stands.1, stands.2))
+line_plays trusted files laws name n m m' (Stop file call) answer run h stands =
+    (ap printed h.0, (stopped_stays file call m m' h.1 run.now stands.0, stands.1, stands.2))
 line_plays trusted files laws name n m m' Reopen answer run h stands =
     let f = files m run.now stands.0 in
     (ap printed h.0, reopens name n m' run stands.2 (h.1 run.now f.1 (subst (λ (b : ℕ). FilesStandFor b (first_seen m) (second_seen m) run.now) stands.1 f.0)))
-line_plays trusted files laws name n m m' Crash answer run h stands = (
+line_plays trusted files laws name n m m' (Crash file keeps) answer run h stands = (
   ap printed h.0,
   h.1.0,
-  h.1.1,
-  record { log = m.log; stands = stands.0.log trusted; first_left = h.1.2; second_left = h.1.3 },
-  λ left is stand. reopens name n m' left is (h.1.4 left.now (laws left is).recoverable stand),
+  record { log = m.log; stands = stands.0.log trusted; left = h.1.1 },
+  λ left is stand. reopens name n m' left is (h.1.2 left.now (laws left is).recoverable stand),
 )
 
 -- the line is read so, answered so, and its answer printed so
@@ -145,13 +151,13 @@ line_cut name n m m' line text part played cut = λ xid_of reads run stands.
 -- how lines may end
 pub data End : Type 0 where
   AllDone : End
-  Stopped : End
+  IsStopped : End
   IsCut : End
   IsRefused : End
 
 abbrev pub Ends : List ℕ → ℕ → End → Run → List Line → List ℕ → Type 0
 Ends name n AllDone = Done name n
-Ends name n Stopped = Stops name n
+Ends name n IsStopped = Stops name n
 Ends name n IsCut = Cuts name n
 Ends name n IsRefused = Refuses name n
 
@@ -189,7 +195,7 @@ pub line_failed : (X : Type 0) (fault : PlayFault) (name : List ℕ) (n : ℕ) (
     parts 10 left ≡ line ∷ parts_behind 10 behind →
     PlayedSoFar name n m script text m' (Some left) → LineEnds name n (Err fault) m' line part → ScriptEnds name n {X = X} (Err fault) m script (text ++ part)
 line_failed X faults.Memory name n m m' script text line left part behind cut before h = λ xid_of reads run stands.
-    rw h (before xid_of reads Stopped [] (λ after stood. rw cut (inl refl)) run stands)
+    rw h (before xid_of reads IsStopped [] (λ after stood. rw cut (inl refl)) run stands)
 line_failed X faults.Write name n m m' script text line left part behind cut before h = λ xid_of reads run stands.
     inl (before xid_of reads IsCut part (λ after stood. rw cut (inl (h xid_of reads after stood))) run stands)
 line_failed X (faults.Manager fault) name n m m' script text line left part behind cut before h = λ xid_of reads run stands.

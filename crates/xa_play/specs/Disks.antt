@@ -1,13 +1,12 @@
 -- What is known of a manager whose log stands on two disks in memory.
 use Rattle.std.specs.Prelude.{ℕ, ◌≡◌, Bool, Some, List, IsSomeAnd, Result}
 use Rattle.std.specs.declared.alloc.AllocError.{AllocError}
-use Rattle.xa_disk.specs.Memory.{image_of}
 use Rattle.xa_disk.specs.contracts.memory.MemDiskDisk.TheImpl.{ghosts as mem_disks}
 use Rattle.xa_disk.specs.declared.memory.MemDisk.{MemDisk}
 use Rattle.xa_frame.specs.declared.reply.Reply.{Reply}
 use Rattle.xa_disk.specs.declared.plan.Effect.{Effect}
 use Rattle.xa_disk.specs.declared.plan.Effect.TheVariants as planned
-use Rattle.xa_log.specs.Planned.{Plans}
+use Rattle.xa_log.specs.Planned.{CrashesBoth, Plans, PlansStop}
 use Rattle.xa_log.specs.TwoFiles.{first_of, second_of}
 use Rattle.xa_log.specs.declared.log.Log.{Log}
 use Rattle.xa_model.specs.declared.event.Event.{Event}
@@ -62,6 +61,13 @@ Planned result Current call effect m m' =
 Planned result Other call effect m m' =
     Plans result call (as_effect effect) m.log.other m'.log.other × (m'.log.disk ≡ m.log.disk) × StaysAndTells m m'
 
+-- It is planned, of the file that the line names, that from this device call on its disk stops, and nothing else changes.
+abbrev pub Stopped : LogFile → ℕ → Manager MemDisk → Manager MemDisk → Type 0
+Stopped Current call m m' =
+    PlansStop call m.log.disk m'.log.disk × (m'.log.other ≡ m.log.other) × StaysAndTells m m'
+Stopped Other call m m' =
+    PlansStop call m.log.other m'.log.other × (m'.log.disk ≡ m.log.disk) × StaysAndTells m m'
+
 -- what a read gives of the two files
 abbrev pub first_seen : Manager MemDisk → List ℕ
 first_seen m = seen (first_of m.log)
@@ -82,9 +88,14 @@ OpenedOn name log_bytes first second m =
     → (survived : Bool)
     × IsSomeAnd (step t (Reopened name log_bytes) (Reread survived (Some Kept))) (λ a. StandsFor m a.after)
 
--- these are what a crash may leave of the two files of a log that stands behind the state
-pub record CrashLeaves (s : State) (first second : List ℕ) : Type 0 where
+-- The two disks after a crash. Of the file that the line names, so many bytes stay of those that were written since its
+-- last sync; of the other one none.
+abbrev pub CrashesTo : LogFile → ℕ → Log MemDisk → MemDisk × MemDisk → Type 0
+CrashesTo Current keeps log disks = CrashesBoth keeps 0 log disks
+CrashesTo Other keeps log disks = CrashesBoth 0 keeps log disks
+
+-- these are the disks that such a crash leaves of a log that stands behind the state
+pub record CrashLeaves (s : State) (file : LogFile) (keeps : ℕ) (disks : MemDisk × MemDisk) : Type 0 where
   pub log : Log MemDisk
   pub stands : LogStandsFor mem_disks log s
-  pub first_left : image_of (first_of log) first
-  pub second_left : image_of (second_of log) second
+  pub left : CrashesTo file keeps log disks

@@ -1,10 +1,8 @@
 -- What one line is answered by a manager in memory, and what lines print from whichever state it stands for.
 use Rattle.std.specs.Prelude.{ℕ, ◌≡◌, ◌⊎◌, List, [], pos, Option, Some, None, Result, Ok, Err, IsSomeAnd}
-use Rattle.xa_disk.specs.Memory.{image_of}
 use Rattle.xa_disk.specs.declared.memory.MemDisk.{MemDisk}
 use Rattle.xa_frame.specs.Made.{bad_frame}
 use Rattle.xa_frame.specs.declared.reply.Reply.{Reply}
-use Rattle.xa_log.specs.TwoFiles.{first_of, second_of}
 use Rattle.xa_model.specs.declared.event.Event.TheVariants as event
 use Rattle.xa_model.specs.Events.{IsAsked}
 use Rattle.xa_model.specs.Answer.{plain}
@@ -12,11 +10,12 @@ use Rattle.xa_manager.specs.declared.fault.ManagerFault.{ManagerFault}
 use Rattle.xa_manager.specs.declared.manager.Manager.{Manager}
 use Rattle.xa_xid.specs.Triple.{Triple}
 use Rattle.xa_script.specs.declared.line.Line.{Line}
-use Rattle.xa_script.specs.declared.line.Line.TheVariants.{Silent, Unknown, Connect, Hangup, Call, Fail, Reopen, Crash}
+use Rattle.xa_script.specs.declared.line.Line.TheVariants.{Silent, Unknown, Connect, Hangup, Call, Fail, Stop, Reopen, Crash}
+use Rattle.xa_script.specs.declared.log_file.LogFile.{LogFile}
 use Rattle.xa_script.specs.Lines as lines
 use Rattle.xa_script.specs.Requests.{ReadsTexts}
 use Rattle.xa_play.specs.Runs.{Run, IsRun, IsLawful}
-use Rattle.xa_play.specs.Disks.{StandsFor, Answered, Planned, OpenedOn, first_seen, second_seen}
+use Rattle.xa_play.specs.Disks.{StandsFor, Answered, Planned, Stopped, CrashesTo, OpenedOn, first_seen, second_seen, seen}
 use Rattle.xa_play.specs.Plays.{PlaysLine, CutsLine, IsOpening, Prints, lines_of}
 use Rattle.xa_play.specs.declared.fault.PlayFault.{PlayFault}
 use Rattle.xa_play.specs.declared.fault.PlayFault.TheVariants as faults
@@ -40,10 +39,10 @@ AnswerFails said fault = (fault ≡ faults.Memory) ⊎ (IsOpening said × IsRefu
 -- over the settings
 module _ (name : List ℕ) (log_bytes : ℕ) where
   -- the manager was opened on what a crash left of its disks
-  abbrev pub Crashed : Manager MemDisk → Manager MemDisk → Type 0
-  Crashed m m' =
-      (first : List ℕ) × (second : List ℕ) × image_of (first_of m.log) first × image_of (second_of m.log) second
-      × OpenedOn name log_bytes first second m'
+  abbrev pub Crashed : LogFile → ℕ → Manager MemDisk → Manager MemDisk → Type 0
+  Crashed file keeps m m' =
+      (disks : MemDisk × MemDisk) × CrashesTo file keeps m.log disks
+      × OpenedOn name log_bytes (seen disks.0) (seen disks.1) m'
 
   -- What one line is answered by a manager, and leaves of it.
   abbrev pub LineAnswered : Manager MemDisk → Line → Option Reply → Manager MemDisk → Type 0
@@ -54,9 +53,10 @@ module _ (name : List ℕ) (log_bytes : ℕ) where
   LineAnswered m (Call n request) answer m' =
       IsAsked request × IsSomeAnd answer (λ reply. Answered m (event.Call n request) reply m')
   LineAnswered m (Fail file call effect) answer m' = (answer ≡ None) × Planned (Ok tt) file call effect m m'
+  LineAnswered m (Stop file call) answer m' = (answer ≡ None) × Stopped file call m m'
   LineAnswered m Reopen answer m' =
       (answer ≡ Some (plain (pos 0))) × OpenedOn name log_bytes (first_seen m) (second_seen m) m'
-  LineAnswered m Crash answer m' = (answer ≡ Some (plain (pos 0))) × Crashed m m'
+  LineAnswered m (Crash file keeps) answer m' = (answer ≡ Some (plain (pos 0))) × Crashed file keeps m m'
 
   -- the manager stands for the state that a run led to, which has the size of log that was set
   abbrev pub StandsAs : Manager MemDisk → Run → Type 0

@@ -2,6 +2,7 @@
 use Rattle.std.specs.Prelude.{ℕ, ◌≡◌, ◌<◌, ◌≤◌, ◌⊎◌, ⊤, Bool, true, pos, MatchBool}
 use Rattle.std.specs.Prelude.{List, [], ◌∷◌, ◌++◌, length, map, Option, Some, IfSome, Result, Ok, Err}
 use Rattle.std.specs.Io.KnownBytes.{Appends}
+use Rattle.xa_disk.specs.declared.memory.MemDisk.{MemDisk}
 use Rattle.xa_frame.specs.Made.{bad_frame}
 use Rattle.xa_frame.specs.declared.reply.Reply.{Reply}
 use Rattle.xa_model.specs.declared.event.Event.{Event}
@@ -20,12 +21,12 @@ use Rattle.xa_manager.specs.Files.{FilesStandFor}
 use Rattle.xa_xid.specs.Triple.{Triple}
 use Rattle.xa_output.specs.Output.{IsPart}
 use Rattle.xa_script.specs.declared.line.Line.{Line}
-use Rattle.xa_script.specs.declared.line.Line.TheVariants.{Silent, Unknown, Connect, Hangup, Call, Fail, Reopen, Crash}
+use Rattle.xa_script.specs.declared.line.Line.TheVariants.{Silent, Unknown, Connect, Hangup, Call, Fail, Stop, Reopen, Crash}
 use Rattle.xa_script.specs.Lines as lines
 use Rattle.xa_script.specs.Parts.{parts}
 use Rattle.xa_script.specs.Replies as replies
 use Rattle.xa_script.specs.Requests.{ReadsTexts}
-use Rattle.xa_play.specs.Disks.{CrashLeaves}
+use Rattle.xa_play.specs.Disks.{CrashLeaves, seen}
 use Rattle.xa_play.specs.Runs.{Run, IsRun, at_start, behind}
 use Rattle.xa_play.specs.declared.fault.PlayFault.{PlayFault}
 use Rattle.xa_play.specs.declared.fault.PlayFault.TheVariants.{Memory, Write, Manager}
@@ -52,7 +53,7 @@ opened_line = replies.line_of (plain (pos 0))
 -- lines that open the manager again
 abbrev pub IsOpening : Line → Type 0
 IsOpening Reopen = ⊤
-IsOpening Crash = ⊤
+IsOpening (Crash file keeps) = ⊤
 IsOpening _ = ⊥
 
 -- over the settings
@@ -72,10 +73,12 @@ module _ (name : List ℕ) (log_bytes : ℕ) where
   PlaysLine run (Hangup n) text Then = Shows run (event.Hangup n) text Then
   PlaysLine run (Call n request) text Then = Shows run (event.Call n request) text Then
   PlaysLine run (Fail file call effect) text Then = (text ≡ []) × Then run
+  PlaysLine run (Stop file call) text Then = (text ≡ []) × Then run
   PlaysLine run Reopen text Then = (text ≡ opened_line) × Reopens run Then
-  PlaysLine run Crash text Then =
-      (text ≡ opened_line) × (first : List ℕ) × (second : List ℕ) × CrashLeaves run.now first second
-      × ((left : Run) → IsRun left → FilesStandFor log_bytes first second left.now → Reopens left Then)
+  PlaysLine run (Crash file keeps) text Then =
+      (text ≡ opened_line) × (disks : MemDisk × MemDisk) × CrashLeaves run.now file keeps disks
+      × ((left : Run) → IsRun left → FilesStandFor log_bytes (seen disks.0) (seen disks.1) left.now
+      → Reopens left Then)
 
   -- Some first lines are played, one after another, and of the run behind each of them the first holds. Of the run
   -- behind them all, of the lines that are left and of the text behind theirs the second holds.

@@ -4,7 +4,7 @@ ghost use Rattle.xa_frame.specs.Limits.{IsRequest};
 ghost use Rattle.xa_model.specs.Events.{IsAsked};
 ghost use Rattle.xa_script.specs.Lines as lines;
 ghost use Rattle.xa_manager.specs.Opening.{IsBadSetting};
-ghost use Rattle.xa_play.specs.Disks.{Answered, Planned};
+ghost use Rattle.xa_play.specs.Disks.{Answered, Planned, Stopped};
 ghost use Rattle.xa_play.specs.Played.{AnswerFails, LineAnswered};
 
 use crate::fault::PlayFault;
@@ -50,12 +50,16 @@ pub fn answer(
             plan(&mut manager, file, call, effect)?;
             Ok((manager, None))
         }
+        Line::Stop { file, call } => {
+            stop(&mut manager, file, call);
+            Ok((manager, None))
+        }
         Line::Reopen => {
             let manager = reopen(alloc, manager, settings)?;
             Ok((manager, Some(Reply::plain(XA_OK))))
         }
-        Line::Crash => {
-            let manager = crash(alloc, manager, settings)?;
+        Line::Crash { file, keeps } => {
+            let manager = crash(alloc, manager, settings, file, keeps)?;
             Ok((manager, Some(Reply::plain(XA_OK))))
         }
     }
@@ -102,5 +106,15 @@ fn plan(
     match file {
         LogFile::Current => manager.fail(call, effect),
         LogFile::Other => manager.fail_other(call, effect),
+    }
+}
+
+/// Plans that from this device call on the disk of the log's file that is named stops.
+fn stop(manager: &mut Manager<MemDisk>, file: LogFile, call: u64)
+    ensures { Stopped file call manager.old manager.new }
+{
+    match file {
+        LogFile::Current => manager.stop(call),
+        LogFile::Other => manager.stop_other(call),
     }
 }

@@ -2,13 +2,14 @@
 ghost use Rattle.std.specs.Prelude.{◌≡◌, ◌↔◌, ◌⊎◌, IfErr, IfOk, IsErrOf};
 ghost use Rattle.xa_model.specs.History.{fresh};
 ghost use Rattle.xa_manager.specs.Opening.{IsBadSetting};
-ghost use Rattle.xa_play.specs.Disks.{StandsFor, OpenedOn, first_seen, second_seen, seen};
+ghost use Rattle.xa_play.specs.Disks.{StandsFor, CrashesTo, OpenedOn, first_seen, second_seen, seen};
 ghost use Rattle.xa_play.specs.Played.{Crashed, IsOpeningFault};
 
 use crate::fault::PlayFault;
 use std::alloc::{AllocError, Global};
 use xa_disk::MemDisk;
 use xa_manager::{Manager, Settings, memory_is_trusted};
+use xa_script::LogFile;
 
 /// A copy of the settings.
 pub fn copied(alloc: Global, settings: &Settings) -> Result<Settings, AllocError>
@@ -47,21 +48,36 @@ pub fn reopen(
     open_on(alloc, first, second, settings)
 }
 
-/// The manager is opened again, on what a crash leaves of its disks.
+/// The manager is opened again, on what a crash leaves of its disks that keeps so many bytes of the log's file that is
+/// named.
 pub fn crash(
     alloc: Global,
     manager: Manager<MemDisk>,
     settings: &Settings,
+    file: LogFile,
+    keeps: u64,
 ) -> Result<Manager<MemDisk>, PlayFault>
     requires { ¬ IsBadSetting settings.now.name settings.now.log_bytes }
-    ensures crashed { IfOk result (Crashed settings.now.name settings.now.log_bytes manager) }
+    ensures crashed { IfOk result (Crashed settings.now.name settings.now.log_bytes file keeps manager) }
     ensures faults { IfErr result IsOpeningFault }
 {
     let settings = copied(alloc, settings)?;
-    let (mut first, mut second) = manager.into_disks();
-    first.crash()?;
-    second.crash()?;
+    let (first, second) = crashed_disks(manager, file, keeps)?;
     open_on(alloc, first, second, settings)
+}
+
+/// The disks after a crash.
+fn crashed_disks(
+    manager: Manager<MemDisk>,
+    file: LogFile,
+    keeps: u64,
+) -> Result<(MemDisk, MemDisk), AllocError>
+    ensures { IfOk result (CrashesTo file keeps manager.log) }
+{
+    match file {
+        LogFile::Current => manager.into_crashed_disks(keeps, 0),
+        LogFile::Other => manager.into_crashed_disks(0, keeps),
+    }
 }
 
 /// A manager on two disks.

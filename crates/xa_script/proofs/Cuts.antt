@@ -3,7 +3,7 @@ use Rattle.std.proofs.Common.{◌≡◌, ◌==◌, ℕ, ◌+◌, ◌≤◌, nat_
 use Rattle.std.specs.Prelude.{bytes_eq, unwrap_or}
 use Rattle.std.specs.List.{slice_split, position_or_len, onto_first}
 use Rattle.xa_script.specs.declared.line.Line.TheVariants.{Unknown}
-use Rattle.xa_script.specs.Lines.{asked_of, by_words, fail_by}
+use Rattle.xa_script.specs.Lines.{asked_by, by_words}
 use Rattle.xa_script.specs.Parts.{alone, one_of, words}
 use Rattle.xa_xid.specs.Triple.{Triple}
 use Rattle.std.proofs.lemmas.Bool.{ltb-true, ltb-false}
@@ -53,7 +53,7 @@ not_alone asked p text = of_parts (λ parts. alone asked parts ≡ None) (λ fir
 
 -- a word and the words of a text
 pub more_words : (xid_of : List ℕ → Option Triple) (first text : List ℕ) → by_words xid_of (first ∷ words text)
-    ≡ unwrap_or (if bytes_eq first (codes "fail") then fail_by (words text) else asked_of xid_of first (words text)) Unknown
+    ≡ unwrap_or (asked_by xid_of first (words text)) Unknown
 more_words xid_of first text =
-    of_parts (λ others. by_words xid_of (first ∷ others) ≡ unwrap_or (if bytes_eq first (codes "fail") then fail_by others else asked_of xid_of first others) Unknown)
+    of_parts (λ others. by_words xid_of (first ∷ others) ≡ unwrap_or (asked_by xid_of first others) Unknown)
     (λ second others. refl) (λ byte. byte == 32) text

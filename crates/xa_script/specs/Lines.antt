@@ -2,15 +2,15 @@
 use Rattle.std.specs.Prelude.{ℕ, ◌==◌, Bool, true, if◌then◌else◌, bytes_eq, codes}
 use Rattle.std.specs.Prelude.{List, [], ◌∷◌, Option, Some, None, option_and_then, unwrap_or}
 use Rattle.std.specs.Option.{option_map}
-use Rattle.xa_script.specs.Parts.{alone, by_two, words}
-use Rattle.xa_script.specs.Numbers.{call_number_of, number_of}
+use Rattle.xa_script.specs.Parts.{alone, by_two, one_of, words}
+use Rattle.xa_script.specs.Numbers.{byte_count_of, call_number_of, number_of}
 use Rattle.xa_script.specs.Requests.{verb_of, request_of}
 use Rattle.xa_script.specs.declared.call_effect.CallEffect.{CallEffect}
 use Rattle.xa_script.specs.declared.call_effect.CallEffect.TheVariants.{Kept, Lost}
 use Rattle.xa_script.specs.declared.log_file.LogFile.{LogFile}
 use Rattle.xa_script.specs.declared.log_file.LogFile.TheVariants.{Current, Other}
 use Rattle.xa_script.specs.declared.line.Line.{Line}
-use Rattle.xa_script.specs.declared.line.Line.TheVariants.{Silent, Unknown, Connect, Hangup, Call, Fail, Reopen, Crash}
+use Rattle.xa_script.specs.declared.line.Line.TheVariants.{Silent, Unknown, Connect, Hangup, Call, Fail, Stop, Reopen, Crash}
 use Rattle.xa_frame.specs.Limits.{IsRequest}
 use Rattle.xa_xid.specs.Triple.{Triple}
 
@@ -29,7 +29,7 @@ abbrev pub sole_of : List ℕ → Line
 sole_of word =
     if bytes_eq word (codes "connect") then Connect
     else if bytes_eq word (codes "reopen") then Reopen
-    else if bytes_eq word (codes "crash") then Crash
+    else if bytes_eq word (codes "crash") then Crash Current 0
     else Unknown
 
 -- what a device call that is to fail does all the same
@@ -43,10 +43,21 @@ effect_of word =
 abbrev pub fail_of : LogFile → List (List ℕ) → Option Line
 fail_of file words = by_two call_number_of effect_of (λ call effect. Fail file call effect) words
 
--- what the words behind `fail` ask: of the current log file, or behind one word more of the other one
-abbrev pub fail_by : List (List ℕ) → Option Line
-fail_by [] = None
-fail_by (word ∷ words) = if bytes_eq word (codes "other") then fail_of Other words else fail_of Current (word ∷ words)
+-- the first device call that is to fail of that file's disk
+abbrev pub stop_of : LogFile → List (List ℕ) → Option Line
+stop_of file words = option_map (λ call. Stop file call) (option_and_then call_number_of (one_of words))
+
+-- how many bytes of that file's disk a crash keeps
+abbrev pub crash_of : LogFile → List (List ℕ) → Option Line
+crash_of file words = option_map (λ keeps. Crash file keeps) (option_and_then byte_count_of (one_of words))
+
+-- which log file words speak of, and what they say of it: the other one after the word `other`, else the current one
+abbrev pub file_of : List (List ℕ) → LogFile × List (List ℕ)
+file_of [] = (Current, [])
+file_of (word ∷ words) = if bytes_eq word (codes "other") then (Other, words) else (Current, word ∷ words)
+
+abbrev pub by_file : (LogFile → List (List ℕ) → Option Line) → List (List ℕ) → Option Line
+by_file asked words = asked (file_of words).0 (file_of words).1
 
 -- over what reads the texts of XIDs
 module _ (xid_of : List ℕ → Option Triple) where
@@ -64,13 +75,18 @@ module _ (xid_of : List ℕ → Option Triple) where
       (λ n. if bytes_eq name (codes "hangup") then alone (Hangup n) arguments else call_of n name arguments)
       (number_of session)
 
+  -- what a first word asks, and the words after it
+  abbrev pub asked_by : List ℕ → List (List ℕ) → Option Line
+  asked_by first words =
+      if bytes_eq first (codes "fail") then by_file fail_of words
+      else if bytes_eq first (codes "stop") then by_file stop_of words
+      else if bytes_eq first (codes "crash") then by_file crash_of words
+      else asked_of first words
+
   abbrev pub by_words : List (List ℕ) → Line
   by_words [] = Unknown
   by_words (word ∷ []) = sole_of word
-  by_words (first ∷ second ∷ others) =
-      unwrap_or
-      (if bytes_eq first (codes "fail") then fail_by (second ∷ others) else asked_of first (second ∷ others))
-      Unknown
+  by_words (first ∷ second ∷ others) = unwrap_or (asked_by first (second ∷ others)) Unknown
 
   abbrev pub line_of : List ℕ → Line
   line_of line = if is_silent line then Silent else by_words (words line)

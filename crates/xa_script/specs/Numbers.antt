@@ -33,3 +33,7 @@ count_of word = if bytes_eq word (codes "0") then Some 0 else up_to 4_294_967_29
 -- which of a disk's calls is to fail, counted from now: the next one is 1, the last one 1,000
 abbrev pub call_number_of : List ℕ → Option ℕ
 call_number_of word = up_to 1_000 word
+
+-- how many bytes a crash keeps: from 0 to 16,777,216
+abbrev pub byte_count_of : List ℕ → Option ℕ
+byte_count_of word = if bytes_eq word (codes "0") then Some 0 else up_to 16_777_216 word

@@ -1,13 +1,13 @@
 //! The script of `xarm play`: what each line of it asks, and the line that shows a reply.
 //!
 //! A line is `connect`, or the number of a session and what it asks: a hang-up, or a request of any kind; or it speaks
-//! of the log's disks: a device call that is to fail, a reopening, a crash. Any other is `Line::Unknown`.
+//! of the log's disks: a device call that is to fail, a stop, a reopening, a crash. Any other is `Line::Unknown`.
 //!
 //! - `line`: `Line` and `read_line`
 //! - `verb`: what a session asks for, by its word; `request`: the request of a verb and the words behind it
 //! - words: `parts`, where a text is cut, with `first_part`; `numbers`; `flags`; `hexadecimal`, bytes by their digits
-//! - `log_file`: `LogFile`, of which file a device call is to fail; `call_effect`: `CallEffect`, what it does all the
-//!   same
+//! - `log_file`: `LogFile`, which file such a line speaks of; `call_effect`: `CallEffect`, what a device call that is to
+//!   fail does all the same
 //! - `reply`: `reply_line`; `styled_line`, the same in a `Style`
 //! - `laws`: `reader_exists`, the texts of XIDs can be read, so that the contract of `read_line` says something
 //!

@@ -1,14 +1,14 @@
 ghost use Rattle.std.specs.Option.{option_copied};
 ghost use Rattle.std.specs.Prelude.{◌≡◌, ◌≢◌, ◌∷◌, [], ℕ, IfOk, IfSome, List, Option, false, unwrap_or};
 ghost use Rattle.xa_xid.specs.Triple.{Triple};
-ghost use Rattle.xa_script.specs.Lines.{IsWithinLimits, asked_of, by_words, fail_by, fail_of, line_of, sole_of};
+ghost use Rattle.xa_script.specs.Lines.{IsWithinLimits, asked_of, by_file, by_words, crash_of, fail_of, file_of, line_of, sole_of, stop_of};
 ghost use Rattle.xa_script.specs.Parts.{alone, words, words_behind};
 ghost use Rattle.xa_script.specs.Requests.{ReadsTexts};
 
 use crate::call_effect::{CallEffect, read_effect};
 use crate::log_file::LogFile;
-use crate::numbers::{read_call_number, read_number};
-use crate::parts::{first_part, two_words};
+use crate::numbers::{read_byte_count, read_call_number, read_number};
+use crate::parts::{first_part, only_word, two_words};
 use crate::request::read_request;
 use crate::verb::read_verb;
 use std::alloc::{AllocError, Global};
@@ -33,10 +33,21 @@ pub enum Line {
         call: u64,
         effect: CallEffect,
     },
+    /// From a device call of a log file's disk on each of them fails, until a crash.
+    Stop {
+        file: LogFile,
+        /// Counted as that of `Fail`.
+        call: u64,
+    },
     /// The manager is dropped, and opened again on its disks as a read gives them.
     Reopen,
-    /// As a reopening, after the disks have lost what no sync made stable.
-    Crash,
+    /// As a reopening, after both disks have lost what no sync made stable, but for some bytes of a log file's.
+    Crash {
+        file: LogFile,
+        /// How many bytes stay of those that were written to it since its last sync, in the order of the writes: at
+        /// most 16,777,216.
+        keeps: u64,
+    },
 }
 
 /// What a line says.
@@ -64,7 +75,10 @@ fn read_sole(word: &[u8]) -> Line
     } else if word == b"reopen".as_slice() {
         Line::Reopen
     } else if word == b"crash".as_slice() {
-        Line::Crash
+        Line::Crash {
+            file: LogFile::Current,
+            keeps: 0,
+        }
     } else {
         Line::Unknown
     }
@@ -79,33 +93,57 @@ fn read_words(alloc: Global, first: &[u8], others: &[u8]) -> Result<Line, AllocE
 {
     if first == b"fail".as_slice() {
         Ok(read_fail(others).unwrap_or(Line::Unknown))
+    } else if first == b"stop".as_slice() {
+        Ok(read_stop(others).unwrap_or(Line::Unknown))
+    } else if first == b"crash".as_slice() {
+        Ok(read_crash(others).unwrap_or(Line::Unknown))
     } else {
         read_call(alloc, first, others)
     }
 }
 
-/// What the words behind `fail` ask.
-fn read_fail(asked: &[u8]) -> Option<Line>
-    ensures value { result ≡ fail_by (words asked.now) }
-    ensures limits { IfSome result IsWithinLimits }
+/// Which log file words speak of, by `other` in front of them, and the words after that.
+fn read_file(asked: &[u8]) -> (LogFile, Option<&[u8]>)
+    ensures { (result.0, words_behind (option_copied result.1)) ≡ file_of (words asked.now) }
 {
     match first_part(asked, b' ') {
-        (word, plan) if word == b"other".as_slice() => read_plan(LogFile::Other, plan),
-        _ => read_plan(LogFile::Current, Some(asked)),
+        (word, others) if word == b"other".as_slice() => (LogFile::Other, others),
+        _ => (LogFile::Current, Some(asked)),
     }
 }
 
-/// A device call that is to fail, and its effect.
-fn read_plan(file: LogFile, words: Option<&[u8]>) -> Option<Line>
-    ensures value { result ≡ fail_of file (words_behind (option_copied words.entry)) }
+/// What the words after `fail` ask: a device call that is to fail, and its effect.
+fn read_fail(asked: &[u8]) -> Option<Line>
+    ensures value { result ≡ by_file fail_of (words asked.now) }
     ensures limits { IfSome result IsWithinLimits }
 {
-    let (call, effect) = two_words(words)?;
+    let (file, plan) = read_file(asked);
+    let (call, effect) = two_words(plan)?;
     Some(Line::Fail {
         file,
         call: read_call_number(call)?,
         effect: read_effect(effect)?,
     })
+}
+
+/// What the words after `stop` ask: the first device call that is to fail.
+fn read_stop(asked: &[u8]) -> Option<Line>
+    ensures value { result ≡ by_file stop_of (words asked.now) }
+    ensures limits { IfSome result IsWithinLimits }
+{
+    let (file, call) = read_file(asked);
+    let call = read_call_number(only_word(call)?)?;
+    Some(Line::Stop { file, call })
+}
+
+/// What the words after `crash` ask: how many bytes it keeps.
+fn read_crash(asked: &[u8]) -> Option<Line>
+    ensures value { result ≡ by_file crash_of (words asked.now) }
+    ensures limits { IfSome result IsWithinLimits }
+{
+    let (file, keeps) = read_file(asked);
+    let keeps = read_byte_count(only_word(keeps)?)?;
+    Some(Line::Crash { file, keeps })
 }
 
 /// What a session's number says, and the words behind it.

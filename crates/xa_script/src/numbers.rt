@@ -1,5 +1,5 @@
 ghost use Rattle.std.specs.Prelude.{◌≡◌, ◌∷◌, [], ◌<◌, ◌^◌, IfSome, ◌+◌, ◌-◌, ◌*◌, if◌then◌else◌, None, Some};
-ghost use Rattle.xa_script.specs.Numbers.{below_limit, call_number_of, count_of, is_digit, number_of, value_from};
+ghost use Rattle.xa_script.specs.Numbers.{below_limit, byte_count_of, call_number_of, count_of, is_digit, number_of, value_from};
 
 /// A decimal number from 1 to 2^64 - 1: digits without a leading zero.
 pub fn read_number(word: &[u8]) -> Option<u64>
@@ -33,6 +33,21 @@ pub fn read_count(word: &[u8]) -> Option<u32>
         return Some(0);
     }
     u32::try_from(read_number(word)?).ok()
+}
+
+/// How many bytes a crash keeps: 0, or a decimal number to 16,777,216.
+pub fn read_byte_count(word: &[u8]) -> Option<u64>
+    ensures { result ≡ byte_count_of word.now }
+{
+    if word == b"0".as_slice() {
+        return Some(0);
+    }
+    let count = read_number(word)?;
+    if count <= 16_777_216 {
+        Some(count)
+    } else {
+        None
+    }
 }
 
 /// Which device call is to fail: a decimal number from 1 to 1,000.

@@ -36,9 +36,8 @@ pub fn answer<R: Read + Drop, W: Write + Drop, D: Dial<R, W>>(
             Ok(Some(Reply::plain(XA_OK)))
         }
         Line::Call(number, request) => shown(call(alloc, connections, number, &request)),
-        Line::Unknown | Line::Fail { .. } | Line::Reopen | Line::Crash => {
-            Ok(Some(Reply::bad_frame()))
-        }
+        Line::Unknown | Line::Fail { .. } | Line::Stop { .. } | Line::Reopen | Line::Crash { .. } =>
+            Ok(Some(Reply::bad_frame())),
     }
 }
 
