@@ -1,19 +1,22 @@
 -- What each step of an append leaves.
-use Rattle.std.proofs.Common.{◌≡◌, ◌≢◌, ◌⊎◌, inl, inr, ⊎_elim, ℕ, ◌+◌, ◌-◌, ◌^◌, ◌<◌, ◌≤◌, true, List, [], ◌∷◌, ◌++◌, length, take, drop, replicate, refl, sym, ◌∙◌, ap, subst, arith, append_assoc, length-append, suc}
+use Rattle.std.proofs.Common.{◌≡◌, ◌≢◌, ◌⊎◌, inl, inr, ⊎_elim, ℕ, ◌+◌, ◌-◌, ◌^◌, ◌<◌, ◌≤◌, Bool, true, false, cond, List, [], ◌∷◌, ◌++◌, length, take, drop, replicate, refl, sym, ◌∙◌, ap, subst, arith, append_assoc, length-append, suc, nat_eq}
+use Rattle.std.proofs.lemmas.Bool.{eq-eqb}
+use Rattle.std.proofs.lemmas.Bool.Decides.{nat_tests}
 use Rattle.std.proofs.lemmas.List.{take_at, drop_at, take-take, take-replicate, length-replicate}
 use Rattle.xa_disk.specs.Disk.{put, Torn, Only}
 use Rattle.xa_disk.specs.Time.{TimePasses, LeavesOnly}
 use Rattle.xa_disk.specs.declared.disk.Disk.{Ghosts}
 use Rattle.xa_disk.specs.Images.{torn_same, put_torn}
-use Rattle.xa_log.specs.Chain.{start, last, text, IsBody, digest, record_of, closed_by, closed_record, Rests, IsBeforeOrAfter}
+use Rattle.xa_log.specs.Chain.{start, last, text, IsBody, digest, record_of, records, closed_by, closed_record, Rests, IsBeforeOrAfter}
 use Rattle.xa_log.specs.declared.format.Format.{Format}
 use Rattle.xa_log.specs.Ahead.{ready, appended}
 use Rattle.xa_log.specs.Answers.{Went, Fell, HasCause}
+use Rattle.xa_log.specs.Pair.{number_in, generation}
 use Rattle.xa_log.specs.Stands.{Stands, MayStand, Leaves, Answers}
 use Rattle.xa_log.specs.declared.appending.Appended.{Appended}
 use Rattle.xa_log.specs.declared.appending.Appended.TheVariants.{Kept, Refused, Lost, Full}
 use Rattle.xa_log.specs.declared.log.Log.{Log}
-use Rattle.xa_log.proofs.Records.{length-record_of, text_more, last_more, rests_more, closed_zeros, plain_front}
+use Rattle.xa_log.proofs.Records.{length-record_of, length-text, text_more, last_more, rests_more, closed_zeros, plain_front}
 use Rattle.xa_log.proofs.Again.{no_fault}
 use Rattle.xa_log.proofs.Torn.{torn_then, torn_front, put_within}
 
@@ -93,6 +96,20 @@ module _ (format : Format) (bodies : List (List ℕ)) (body file : List ℕ) (re
       torn_to : (c : List ℕ) → c ≡ file → Torn end n file c
       torn_to c is = subst (λ f. Torn end n file f) (sym is) (torn_same end n file)
 
+-- ---- a log's generation
+
+isnt_eight : (n : ℕ) → 8 < n → nat_eq n 8 ≡ false
+isnt_eight n h = grind (arith, nat_tests)
+
+-- of a log with one body more
+generation_more : (format : Format) (bodies : List (List ℕ)) (body : List ℕ) (end number : ℕ) → end ≡ length (text format bodies) → number ≡ generation bodies
+    → cond (nat_eq end 8) (number_in body) number ≡ generation (bodies ++ body ∷ [])
+generation_more format [] body end number at is = ap (λ (t : Bool). cond t (number_in body) number) (eq-eqb end 8 (at ∙ length-text format []))
+generation_more format (b ∷ bodies) body end number at is =
+    let long : 8 < end =
+    omega (arith, at, length-text format (b ∷ bodies), length-append (record_of (start format) b) (records (digest (start format) b) bodies), length-record_of (start format) b) in
+    ap (λ (t : Bool). cond t (number_in body) number) (isnt_eight end long) ∙ is
+
 -- ---- what a log stands for after each answer
 
 module _ {D : Type 0} (disks : Ghosts D) (bodies : List (List ℕ)) (body : List ℕ) (more : ℕ) (old new : Log D) (stands : Stands disks bodies old) where
@@ -122,19 +139,20 @@ module _ {D : Type 0} (disks : Ghosts D) (bodies : List (List ℕ)) (body : List
   abbrev Room : Type 0
   Room = (old.end + (40 + length body + more) ≤ old.log_bytes) × (new.log_bytes ≡ old.log_bytes) × (new.format ≡ old.format)
 
-  pub answer_kept : Room → IsBody body → Went_by Kept → new.end ≡ old.end + (36 + length body) → new.digest ≡ digest old.digest body → new.lost ≡ old.lost → Stands disks (bodies ++ body ∷ []) new
-  answer_kept room ok went end_is digest_is lost_is = record {
+  pub answer_kept : Room → IsBody body → Went_by Kept → new.end ≡ old.end + (36 + length body) → new.digest ≡ digest old.digest body → new.generation ≡ cond (nat_eq old.end 8) (number_in body) old.generation → new.lost ≡ old.lost → Stands disks (bodies ++ body ∷ []) new
+  answer_kept room ok went end_is digest_is number_is lost_is = record {
     fits = fits_after room.0 room.1 (torn_kept went);
     file = subst (λ k. Rests k (bodies ++ body ∷ []) (disks.seen new.disk)) (sym room.2) (kept format bodies body (disks.seen old.disk) stands.file more (disks.seen new.disk) ok (went.0 ∙ (λ i. put (disks.seen old.disk) (stands.end i) (closed_by more (stands.digest i) body))));
     end = subst (λ k. new.end ≡ length (text k (bodies ++ body ∷ []))) (sym room.2)
         (omega (arith, end_is, stands.end, ap length (text_more format bodies body), length-append (text format bodies) (record_of (last (start format) bodies) body), length-record_of (last (start format) bodies) body));
     digest = subst (λ k. new.digest ≡ last (start k) (bodies ++ body ∷ [])) (sym room.2) (digest_is ∙ ap (λ (d : List ℕ). digest d body) stands.digest ∙ sym (last_more (start format) bodies body));
+    number = number_is ∙ generation_more format bodies body old.end old.generation stands.end stands.number;
     durable = went.1;
     alive = lost_is ∙ stands.alive;
   }
 
-  pub answer_refused : Room → Went_by Refused → new.end ≡ old.end → new.digest ≡ old.digest → new.lost ≡ old.lost → Stands disks bodies new × (take (40 + length body) (drop (length (text new.format bodies)) (disks.seen new.disk)) ≡ replicate (40 + length body) 0)
-  answer_refused room went end_is digest_is lost_is =
+  pub answer_refused : Room → Went_by Refused → new.end ≡ old.end → new.digest ≡ old.digest → new.generation ≡ old.generation → new.lost ≡ old.lost → Stands disks bodies new × (take (40 + length body) (drop (length (text new.format bodies)) (disks.seen new.disk)) ≡ replicate (40 + length body) 0)
+  answer_refused room went end_is digest_is number_is lost_is =
       let n = 36 + length body + more in
       let torn : Torn (length (text format bodies)) (4 + n) (disks.seen old.disk) went.0 = subst (λ k. Torn (length (text format bodies)) k (disks.seen old.disk) went.0) length-range (subst (λ e. Torn e (length (closed_by more old.digest body)) (disks.seen old.disk) went.0) stands.end went.1) in
       let is : disks.seen new.disk ≡ put went.0 (length (text format bodies)) (replicate (4 + n) 0) = went.2 ∙ (λ i. put went.0 (stands.end i) (replicate (length-range i) 0)) in
@@ -145,6 +163,7 @@ module _ {D : Type 0} (disks : Ghosts D) (bodies : List (List ℕ)) (body : List
           fits = fits_after room.0 room.1 (torn_refused went);
           end = subst (λ k. new.end ≡ length (text k bodies)) (sym room.2) (end_is ∙ stands.end);
           digest = subst (λ k. new.digest ≡ last (start k) bodies) (sym room.2) (digest_is ∙ stands.digest);
+          number = number_is ∙ stands.number;
           durable = went.3;
           alive = lost_is ∙ stands.alive;
         },
@@ -189,12 +208,12 @@ module _ {D : Type 0} (disks : Ghosts D) (bodies : List (List ℕ)) (body : List
   abbrev Went_as : Appended → Type 0
   Went_as outcome = Went disks.tears outcome old.end (closed_by more old.digest body) (disks.seen old.disk) (disks.seen new.disk) (disks.may_leave new.disk)
 
-  pub answers_kept : Room → (o : Appended) → o ≡ Kept → IsBody body → Went_as o → new.end ≡ old.end + (36 + length body) → new.digest ≡ digest old.digest body → new.lost ≡ old.lost → Answers disks o bodies body new
-  answers_kept room o is ok went e d l = subst (λ x. Answers disks x bodies body new) (sym is) (answer_kept room ok (subst Went_as is went) e d l)
+  pub answers_kept : Room → (o : Appended) → o ≡ Kept → IsBody body → Went_as o → new.end ≡ old.end + (36 + length body) → new.digest ≡ digest old.digest body → new.generation ≡ cond (nat_eq old.end 8) (number_in body) old.generation → new.lost ≡ old.lost → Answers disks o bodies body new
+  answers_kept room o is ok went e d n l = subst (λ x. Answers disks x bodies body new) (sym is) (answer_kept room ok (subst Went_as is went) e d n l)
 
-  pub answers_refused : Room → (o : Appended) → (o ≡ Refused) ⊎ (o ≡ Full) → o ≢ Full → Went_as o → new.end ≡ old.end → new.digest ≡ old.digest → new.lost ≡ old.lost → Answers disks o bodies body new
-  answers_refused room o (inl is) other went e d l = subst (λ x. Answers disks x bodies body new) (sym is) (answer_refused room (subst Went_as is went) e d l)
-  answers_refused room o (inr is) other went e d l = absurd (other is)
+  pub answers_refused : Room → (o : Appended) → (o ≡ Refused) ⊎ (o ≡ Full) → o ≢ Full → Went_as o → new.end ≡ old.end → new.digest ≡ old.digest → new.generation ≡ old.generation → new.lost ≡ old.lost → Answers disks o bodies body new
+  answers_refused room o (inl is) other went e d n l = subst (λ x. Answers disks x bodies body new) (sym is) (answer_refused room (subst Went_as is went) e d n l)
+  answers_refused room o (inr is) other went e d n l = absurd (other is)
 
   pub answers_lost : Room → (o : Appended) → o ≡ Lost → IsBody body → Went_as o → new.lost ≡ true → ((c : List ℕ) → disks.may_leave new.disk c → (d : List ℕ) × disks.may_leave old.disk d × Torn old.end (length (closed_by more old.digest body)) d c) → Answers disks o bodies body new
   answers_lost room o is ok went l follows = subst (λ x. Answers disks x bodies body new) (sym is) (answer_lost room ok (subst Went_as is went) l follows)

@@ -97,7 +97,7 @@ current_logged a b first scan it = by first it
     by false it = ap (λ (t : Bool). cond t (logged a) (logged b)) (sym it.choice) ∙ scan_logged b scan it.scan_is
 
 module _ {D : Type 0} (disks : Ghosts D) (a b : List ℕ) (log : Log D) (scan : Scan) (s : Sound log.log_bytes a b) (one : Only (disks.seen log.disk) (disks.may_leave log.disk)) (two : Only (disks.seen log.other) (disks.may_leave log.other))
-    (format : log.format ≡ scan.format) (end : log.end ≡ scan.end) (digest : log.digest ≡ scan.digest) (alive : log.lost ≡ false) where
+    (format : log.format ≡ scan.format) (end : log.end ≡ scan.end) (digest : log.digest ≡ scan.digest) (number : log.generation ≡ generation (bodies_of scan.bodies.items)) (alive : log.lost ≡ false) where
   abbrev bodies : List (List ℕ)
   bodies = bodies_of scan.bodies.items
 
@@ -107,6 +107,7 @@ module _ {D : Type 0} (disks : Ghosts D) (a b : List ℕ) (log : Log D) (scan : 
     fits = subst (λ f. length f ≤ log.log_bytes) (sym is) fits;
     end = subst (λ k. log.end ≡ length (text k bodies)) (sym format) (end ∙ it.end);
     digest = subst (λ k. log.digest ≡ last (start k) bodies) (sym format) (digest ∙ it.digest);
+    number = number;
     durable = one;
     alive = alive;
   }

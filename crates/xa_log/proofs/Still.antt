@@ -25,6 +25,7 @@ module _ {D : Type 0} (disks : Ghosts D) (old new : Log D) (u : Untouched old ne
     fits = omega (arith, ap (λ (l : List ℕ). length l) same, u.log_bytes, s.fits);
     end = subst (λ k. new.end ≡ length (text k bodies)) (sym u.format) (u.end ∙ s.end);
     digest = subst (λ k. new.digest ≡ last (start k) bodies) (sym u.format) (u.digest ∙ s.digest);
+    number = u.number ∙ s.number;
     durable = λ c now. s.durable c (left c now) ∙ sym same;
     alive = u.lost ∙ s.alive;
   }

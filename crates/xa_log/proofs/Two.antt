@@ -60,11 +60,15 @@ module _ {D : Type 0} (disks : Ghosts D)
   abbrev Left : Format → Appended → List (List ℕ) → D → Type 0
   Left format o fresh d = Checkpointed disks o old.log_bytes format stood fresh old.other d
 
-  pub kept_pair : (format : Format) (fresh : List (List ℕ)) → generation bodies < generation fresh → (o : Appended) (d : D) → o ≡ Kept
+  -- the log's generation is that of its bodies
+  above : (fresh : List (List ℕ)) → old.generation < generation fresh → generation bodies < generation fresh
+  above fresh less = subst (λ (n : ℕ). n < generation fresh) p.current.number less
+
+  pub kept_pair : (format : Format) (fresh : List (List ℕ)) → old.generation < generation fresh → (o : Appended) (d : D) → o ≡ Kept
       → Left format o fresh d → new.disk ≡ d → new.other ≡ old.disk → new.log_bytes ≡ old.log_bytes → new.format ≡ format
-      → new.end ≡ length (text format fresh) → new.digest ≡ last (start format) fresh → new.lost ≡ old.lost
+      → new.end ≡ length (text format fresh) → new.digest ≡ last (start format) fresh → new.generation ≡ generation fresh → new.lost ≡ old.lost
       → Checkpoints disks o bodies stood fresh new
-  kept_pair format fresh above o d is left disk other most form end digest lost =
+  kept_pair format fresh less o d is left disk other most form end digest number lost =
       let now : Left format Kept fresh d = subst (λ x. Left format x fresh d) is left in
       let was = others_log old.format disks old.log_bytes bodies old.disk p.current.file p.current.fits p.current.durable in
       let same : IsOther disks new.log_bytes bodies new.other =
@@ -77,12 +81,13 @@ module _ {D : Type 0} (disks : Ghosts D)
             fits = subst (λ m. length (disks.seen new.disk) ≤ m) (sym most) (subst (λ x. length (disks.seen x) ≤ old.log_bytes) (sym disk) now.1);
             end = subst (λ k. new.end ≡ length (text k fresh)) (sym form) end;
             digest = subst (λ k. new.digest ≡ last (start k) fresh) (sym form) digest;
+            number = number;
             durable = subst (λ x. Only (disks.seen x) (disks.may_leave x)) (sym disk) now.2;
             alive = lost ∙ p.current.alive;
           };
           other = same;
           calm_on = λ lucky. quiet.calm;
-          older = beats_above new.on_first fresh bodies above;
+          older = beats_above new.on_first fresh bodies (above fresh less);
         },
         quiet,
       )
@@ -92,24 +97,25 @@ module _ {D : Type 0} (disks : Ghosts D)
   rests_still disk form = subst (λ k. Rests k bodies (disks.seen new.disk)) (sym form) (subst (λ x. Rests old.format bodies (disks.seen x)) (sym disk) p.current.file)
 
   stays : new.disk ≡ old.disk → new.log_bytes ≡ old.log_bytes → new.format ≡ old.format → new.end ≡ old.end → new.digest ≡ old.digest
-      → new.lost ≡ old.lost → Stands disks bodies new
-  stays disk most form end digest lost = record {
+      → new.generation ≡ old.generation → new.lost ≡ old.lost → Stands disks bodies new
+  stays disk most form end digest number lost = record {
     file = rests_still disk form;
     fits = subst (λ m. length (disks.seen new.disk) ≤ m) (sym most) (subst (λ x. length (disks.seen x) ≤ old.log_bytes) (sym disk) p.current.fits);
     end = subst (λ k. new.end ≡ length (text k bodies)) (sym form) (end ∙ p.current.end);
     digest = subst (λ k. new.digest ≡ last (start k) bodies) (sym form) (digest ∙ p.current.digest);
+    number = number ∙ p.current.number;
     durable = subst (λ x. Only (disks.seen x) (disks.may_leave x)) (sym disk) p.current.durable;
     alive = lost ∙ p.current.alive;
   }
 
   pub refused_pair : (format : Format) (fresh : List (List ℕ)) (o : Appended) → (o ≡ Refused) ⊎ (o ≡ Full) → o ≢ Full → Left format o fresh new.other
       → new.disk ≡ old.disk → new.on_first ≡ old.on_first → new.log_bytes ≡ old.log_bytes → new.format ≡ old.format → new.end ≡ old.end
-      → new.digest ≡ old.digest → new.lost ≡ old.lost
+      → new.digest ≡ old.digest → new.generation ≡ old.generation → new.lost ≡ old.lost
       → Checkpoints disks o bodies stood fresh new
-  refused_pair format fresh o (inr is) other left disk first most form end digest lost = absurd (other is)
-  refused_pair format fresh o (inl is) other left disk first most form end digest lost =
+  refused_pair format fresh o (inr is) other left disk first most form end digest number lost = absurd (other is)
+  refused_pair format fresh o (inl is) other left disk first most form end digest number lost =
       let now : Left format Refused fresh new.other = subst (λ x. Left format x fresh new.other) is left in
-      let s = stays disk most form end digest lost in
+      let s = stays disk most form end digest number lost in
       subst (λ x. Checkpoints disks x bodies stood fresh new) (sym is) (⊎_elim
       (λ x. inl (record { current = s; other = subst (λ m. IsOther disks m stood new.other) (sym most) x.0; calm_on = λ lucky. x.1 lucky (p.calm_on lucky); older = ap (λ (b : Bool). beats b bodies stood) first ∙ p.older }))
       (λ x. inr (record { current = s; other = subst (λ m. IsOther disks m [] new.other) (sym most) x.0; calm_on = λ lucky. (quiet x.1).calm; older = beats_nil new.on_first bodies }, x.1))
@@ -118,10 +124,10 @@ module _ {D : Type 0} (disks : Ghosts D)
       quiet : IsQuiet disks [] new.other → IsQuiet disks [] new.other
       quiet q = q
 
-  pub lost_pair : (format : Format) (fresh : List (List ℕ)) → generation bodies < generation fresh → (o : Appended) → o ≡ Lost
+  pub lost_pair : (format : Format) (fresh : List (List ℕ)) → old.generation < generation fresh → (o : Appended) → o ≡ Lost
       → Left format o fresh new.other → new.disk ≡ old.disk → new.log_bytes ≡ old.log_bytes → new.format ≡ old.format → new.lost ≡ true
       → Checkpoints disks o bodies stood fresh new
-  lost_pair format fresh above o is left disk most form lost =
+  lost_pair format fresh less o is left disk most form lost =
       let now : Left format Lost fresh new.other = subst (λ x. Left format x fresh new.other) is left in
       subst (λ x. Checkpoints disks x bodies stood fresh new) (sym is) (record {
         file = rests_still disk form;
@@ -132,7 +138,7 @@ module _ {D : Type 0} (disks : Ghosts D)
         front = now.3;
         left = λ c l. subst (λ m. LeavesOf m fresh c) (sym most) (now.2 c l);
         left_front = now.4;
-        above = above;
+        above = above fresh less;
         lost = lost;
       })
 

@@ -1,14 +1,15 @@
 -- What a log stands for.
-use Rattle.std.specs.Prelude.{◌≡◌, ◌≤◌, ℕ, ◌+◌, true, false, List, [], ◌∷◌, ◌++◌, length, take, replicate, None}
+use Rattle.std.specs.Prelude.{◌≡◌, ◌≤◌, ℕ, ◌+◌, ◌==◌, if◌then◌else◌, true, false, List, [], ◌∷◌, ◌++◌, length, take, replicate, None}
 use Rattle.xa_disk.specs.Disk.{Only}
 use Rattle.xa_disk.specs.declared.disk.Disk.{Ghosts}
 use Rattle.xa_log.specs.Chain.{start, last, text, behind_text, Rests, IsPlain, IsBeforeOrAfter, NoChance}
+use Rattle.xa_log.specs.Pair.{number_in, generation}
 use Rattle.xa_log.specs.Reading.{fault_of}
 use Rattle.xa_log.specs.declared.format.Format.{Format}
 use Rattle.xa_log.specs.declared.appending.Appended.{Appended}
 use Rattle.xa_log.specs.declared.appending.Appended.TheVariants.{Kept, Refused, Lost, Full}
 use Rattle.xa_log.specs.declared.log.Log.{Log}
-use Rattle.xa_limits.specs.declared.TheConstants.{AROUND_BODY, AROUND_CLOSED}
+use Rattle.xa_limits.specs.declared.TheConstants.{AROUND_BODY, AROUND_CLOSED, FIRST_OFFSET}
 
 -- a log of these bodies, which a read gives and each crash leaves
 pub record Stands {D : Type 0} (disks : Ghosts D) (bodies : List (List ℕ)) (log : Log D) : Type 0 where
@@ -16,6 +17,7 @@ pub record Stands {D : Type 0} (disks : Ghosts D) (bodies : List (List ℕ)) (lo
   pub fits : length (disks.seen log.disk) ≤ log.log_bytes
   pub end : log.end ≡ length (text log.format bodies)
   pub digest : log.digest ≡ last (start log.format) bodies
+  pub number : log.generation ≡ generation bodies
   pub durable : Only (disks.seen log.disk) (disks.may_leave log.disk)
   pub alive : log.lost ≡ false
 
@@ -65,6 +67,7 @@ pub record Untouched {D : Type 0} (old new : Log D) : Type 0 where
   pub format : new.format ≡ old.format
   pub end : new.end ≡ old.end
   pub digest : new.digest ≡ old.digest
+  pub number : new.generation ≡ old.generation
   pub lost : new.lost ≡ old.lost
 
 -- where a log's next record begins after an append of so many bytes
@@ -75,3 +78,11 @@ Moves Refused n old new =
 Moves Lost n old new =
     (new.end ≡ old.end) × (new.format ≡ old.format) × (new.digest ≡ old.digest) × (new.lost ≡ true)
 Moves Full n old new = new ≡ old
+
+-- a log's generation after an append of a body: where it had no record the body's number
+abbrev pub Renumbers : {D : Type 0} → Appended → List ℕ → Log D → Log D → Type 0
+Renumbers Kept body old new =
+    new.generation ≡ (if old.end == FIRST_OFFSET then number_in body else old.generation)
+Renumbers Refused body old new = new.generation ≡ old.generation
+Renumbers Lost body old new = new.generation ≡ old.generation
+Renumbers Full body old new = new.generation ≡ old.generation

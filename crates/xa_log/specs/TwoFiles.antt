@@ -63,12 +63,15 @@ abbrev pub Swaps : {D : Type 0} → Appended → List (List ℕ) → Log D → L
 Swaps Kept fresh old new =
     (new.other ≡ old.disk) × (new.on_first ≡ not old.on_first) × (new.format ≡ newest)
     × (new.end ≡ length (text newest fresh)) × (new.digest ≡ last (start newest) fresh) × (new.lost ≡ old.lost)
+    × (new.generation ≡ generation fresh)
 Swaps Refused fresh old new =
     (new.disk ≡ old.disk) × (new.on_first ≡ old.on_first) × (new.format ≡ old.format)
     × (new.end ≡ old.end) × (new.digest ≡ old.digest) × (new.lost ≡ old.lost)
+    × (new.generation ≡ old.generation)
 Swaps Lost fresh old new =
     (new.disk ≡ old.disk) × (new.on_first ≡ old.on_first) × (new.format ≡ old.format)
     × (new.end ≡ old.end) × (new.digest ≡ old.digest) × (new.lost ≡ true)
+    × (new.generation ≡ old.generation)
 Swaps Full fresh old new = new ≡ old
 
 -- what each answer of an append says of two files

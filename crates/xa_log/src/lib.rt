@@ -8,8 +8,8 @@
 //! - `checkpointing`: how a checkpoint goes to the other disk, in its three parts; `end_of`, whether it fits
 //! - `opening`: making and reading a log on disks that are lent: `create_on`, `open_on`, `read_log`
 //! - `opened`: `Opened`, a log that was made or read so, without its disks
-//! - `looking`: which of two files is the current one, by the number in its first body; `missing`: `missing_file`, which
-//!   one is missing
+//! - `looking`: which of two files is the current one, by the number in its first body; `generation`: that number, of
+//!   bodies; `missing`: `missing_file`, which one is missing
 //! - `reading`, `window`: reading a file record by record, and in pieces
 //! - `format`: `Format`, a file's first bytes; `record`: the bytes of a record
 //! - `fault`: `OpenFault`, why a file's bytes aren't taken as a log
@@ -26,6 +26,7 @@ mod appending;
 mod checkpointing;
 mod fault;
 mod format;
+mod generation;
 mod laws;
 mod log;
 mod looking;
@@ -45,6 +46,7 @@ pub use appending::Appended;
 pub use checkpointing::end_of;
 pub use fault::OpenFault;
 pub use format::{Format, PREAMBLE_BYTES};
+pub use generation::generation_of_bodies;
 pub use laws::{
     memory_without_chance, memory_without_chance_beside, opened_is_pair, pair_is_current,
     pair_is_current_or_new, plain_by_body, stray_is_possible,

@@ -15,6 +15,7 @@ use crate::ahead::ready_behind;
 use crate::appending::{Appended, append_at};
 use crate::checkpointing::{checkpoint_on, end_of};
 use crate::format::Format;
+use crate::generation::{generation_of_bodies, generation_with};
 use std::mem;
 use xa_disk::Disk;
 use xa_limits::{AROUND_BODY, AROUND_CLOSED, DIGEST_BYTES, LENGTH_BYTES};
@@ -33,6 +34,8 @@ pub struct Log<D> {
     // Where the next record begins, and the digest of the one before it.
     pub(crate) end: u64,
     pub(crate) digest: [u8; DIGEST_BYTES],
+    // The number in the current file's first body, 0 where it has no record.
+    pub(crate) generation: usize,
     // The window when the log is read, and a record's bytes when one is appended.
     pub(crate) buffer: Vec<u8>,
     // An append or a checkpoint was lost, and no rescan has succeeded since: whether the last record stands, or which
@@ -44,7 +47,7 @@ pub struct Log<D> {
 
 impl<D: Disk> Log<D> {
     ghost use Rattle.xa_log.specs.Ahead.{Writes};
-    ghost use Rattle.xa_log.specs.Stands.{Stands, Leaves, Moves, Answers};
+    ghost use Rattle.xa_log.specs.Stands.{Stands, Leaves, Moves, Renumbers, Answers};
     ghost use Rattle.xa_log.specs.TwoFiles.{Pair, AppendsTo, Checkpoints, Swaps, written};
 
     /// Adds a record of a body of 1 to `MOST_BODY` bytes: one write and one sync where nothing fails. Takes no memory.
@@ -63,6 +66,7 @@ impl<D: Disk> Log<D> {
             → (result ≡ Appended.Full) ↔ (self.old.log_bytes < self.old.end + AROUND_CLOSED + length body.now) }
         ensures unchanged { result ≡ Appended.Full → self.new ≡ self.old }
         ensures moves { Moves result (length body.now) self.old self.new }
+        ensures numbers { Renumbers result body.now self.old self.new }
         ensures cause { self.old.lost ≡ false → HasCause result (D.failures self.old.disk) (D.failures self.new.disk) }
         ensures calls { self.old.lost ≡ false → AppendCalls result (D.counts self.old.disk) (D.counts self.new.disk) }
         ensures kept { self.old.lost ≡ false → self.old.end + AROUND_CLOSED + length body.now ≤ self.old.log_bytes
@@ -97,6 +101,7 @@ impl<D: Disk> Log<D> {
         );
         match outcome {
             Appended::Kept => {
+                self.generation = generation_with(self.generation, self.end, body);
                 self.end += AROUND_BODY as u64 + len as u64;
                 self.digest = digest;
             }
@@ -113,6 +118,13 @@ impl<D: Disk> Log<D> {
         self.end
     }
 
+    /// The generation of the log: the number in its first body, 0 where it has no record.
+    pub fn generation(&self) -> usize
+        ensures { result ≡ self.now.generation }
+    {
+        self.generation
+    }
+
     /// How many bytes are left for records: `log_bytes` less the log with its closing length, or 0.
     pub fn free(&self) -> u64
         ensures { result ≡ self.now.log_bytes - (self.now.end + LENGTH_BYTES) }
@@ -120,18 +132,17 @@ impl<D: Disk> Log<D> {
         (self.log_bytes - self.end).saturating_sub(LENGTH_BYTES as u64)
     }
 
-    /// Writes a log of these bodies, each of 1 to `MOST_BODY` bytes, to the other file, in the newest format. `Kept`:
-    /// that file is the current one from then on. An opening takes it if its generation, the number in the first body
-    /// from byte `NUMBER_OFFSET` on, is above the old one's: nothing else is written to say which is current, and the
-    /// old log stays where it is. `Refused`: the current file stays in use. `Full`: they don't fit, with a closing
-    /// length. Where nothing fails: a write and a sync, a write a record and a sync, a write and a sync. Takes no
-    /// memory. After `Lost`, its own or an append's, every checkpoint answers so, and asks nothing of the disks, until
-    /// a rescan succeeds.
+    /// Writes a log of these bodies, each of 1 to `MOST_BODY` bytes, to the other file, in the newest format. Their
+    /// generation is above the log's: an opening takes the file with the greater one, nothing else is written to say
+    /// which is current, and the old log stays where it is. `Kept`: that file is the current one from then on.
+    /// `Refused`: the current file stays in use. `Full`: they don't fit, with a closing length. Where nothing fails: a
+    /// write and a sync, a write a record and a sync, a write and a sync. Takes no memory. After `Lost`, its own or an
+    /// append's, every checkpoint answers so, and asks nothing of the disks, until a rescan succeeds.
     pub fn checkpoint(&mut self, bodies: &[Vec<u8>]) -> Appended
         requires some { 1 ≤ length bodies.now }
         requires sizes { AllByRecursion IsBody (bodies_of bodies.now) }
+        requires above { self.old.generation < generation (bodies_of bodies.now) }
         ensures answer { D.honest → (old stood : List (List ℕ)) → Pair D.Disk old stood self.old
-            → generation old < generation (bodies_of bodies.now)
             → Checkpoints D.Disk result old stood (bodies_of bodies.now) self.new }
         // What a crash at any moment of the call leaves of the file that is written.
         ensures any_moment { D.honest → (old stood : List (List ℕ)) → Pair D.Disk old stood self.old
@@ -169,6 +180,7 @@ impl<D: Disk> Log<D> {
                 self.format = format;
                 self.end = end;
                 self.digest = digest;
+                self.generation = generation_of_bodies(bodies);
             }
             Appended::Lost => self.lost = true,
             Appended::Refused | Appended::Full => {}

@@ -113,7 +113,7 @@ pub(crate) fn front_of<D: Disk>(
 }
 
 // The number in a body.
-fn number_of(body: &[u8]) -> usize
+pub(crate) fn number_of(body: &[u8]) -> usize
     ensures { result ≡ number_in body.now }
 {
     if body.len() < NUMBER_END {

@@ -7,12 +7,13 @@ ghost use Rattle.xa_log.specs.Calls.{OnlyReads, ReadsLittle, asked};
 ghost use Rattle.xa_log.specs.Chain.{logged};
 ghost use Rattle.xa_log.specs.Checkpoint.{IsQuiet};
 ghost use Rattle.xa_log.specs.Opened.{IsOpened};
-ghost use Rattle.xa_log.specs.Pair.{pair_fault, logged_pair};
+ghost use Rattle.xa_log.specs.Pair.{generation, pair_fault, logged_pair};
 ghost use Rattle.xa_log.specs.Reading.{Ends, bodies_of, TellsFault, ExplainsNew};
 ghost use Rattle.xa_log.specs.Stands.{EndsBehind};
 ghost use Rattle.xa_log.specs.TwoFiles.{Pair, IsOpenPair, first_of, second_of};
 ghost use Rattle.xa_log.specs.declared.format.TheConstants.{PREAMBLE_BYTES};
 
+use crate::generation::generation_of_bodies;
 use crate::looking::in_order;
 use crate::opened::Opened;
 use crate::opening::{create_on, open_on};
@@ -30,6 +31,7 @@ impl<D: Disk + Drop> Log<D> {
     ) -> Result<Log<D>, OpenFault>
         ensures log { D.honest → IfOk result (λ log. Pair D.Disk [] [] log × IsQuiet D.Disk [] log.other) }
         ensures ends { IfOk result (EndsBehind []) }
+        ensures number { IfOk result (λ log. log.generation ≡ 0) }
         ensures empty { D.honest → OnOk result ((D.seen first ≡ []) × (D.seen second ≡ [])) }
         ensures room { OnOk result (PREAMBLE_BYTES ≤ log_bytes) }
         ensures settings { IfOk result (λ log. (log.log_bytes ≡ log_bytes) × (log.on_first ≡ true)) }
@@ -57,6 +59,7 @@ impl<D: Disk + Drop> Log<D> {
         ensures log { D.honest
             → IfOk result (λ r. IsOpenPair D.Disk (bodies_of r.1.items) (logged (D.seen r.0.other)) r.0) }
         ensures ends { IfOk result (λ r. EndsBehind (bodies_of r.1.items) r.0) }
+        ensures number { IfOk result (λ r. r.0.generation ≡ generation (bodies_of r.1.items)) }
         ensures fault { D.honest → TellsFault result (pair_fault log_bytes (D.seen first) (D.seen second)) }
         ensures logged { D.honest
             → IfOk result (λ r. logged_pair (D.seen first) (D.seen second) ≡ bodies_of r.1.items) }
@@ -97,11 +100,13 @@ impl<D: Disk + Drop> Log<D> {
         ensures format { result.0.format ≡ opened.scan.format }
         ensures end { result.0.end ≡ opened.scan.end }
         ensures digest { result.0.digest ≡ opened.scan.digest }
+        ensures number { result.0.generation ≡ generation (bodies_of result.1.items) }
         ensures settings { result.0.log_bytes ≡ opened.log_bytes }
         ensures alive { result.0.lost ≡ false }
     {
         let scan = opened.scan;
         let digest = scan.digest;
+        let number = generation_of_bodies(&scan.bodies);
         let (disk, other) = in_order(first, second, opened.on_first);
         let log = Log {
             disk,
@@ -111,6 +116,7 @@ impl<D: Disk + Drop> Log<D> {
             log_bytes: opened.log_bytes,
             end: scan.end,
             digest,
+            generation: number,
             buffer: opened.buffer,
             lost: false,
         };

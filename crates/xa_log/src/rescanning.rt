@@ -6,11 +6,12 @@ ghost use Rattle.xa_log.specs.Answers.{CountsDeviceOf};
 ghost use Rattle.xa_log.specs.Calls.{Looks, LooksSecond, ReadsLittle};
 ghost use Rattle.xa_log.specs.Chain.{NoChance, logged};
 ghost use Rattle.xa_log.specs.Checkpoint.{IsOther, IsQuiet, LeavesOf, SealTears};
-ghost use Rattle.xa_log.specs.Pair.{IsCalm, CalmTears, fault_pair, logged_of};
+ghost use Rattle.xa_log.specs.Pair.{generation, IsCalm, CalmTears, fault_pair, logged_of};
 ghost use Rattle.xa_log.specs.Reading.{bodies_of, TellsFault};
 ghost use Rattle.xa_log.specs.Stands.{Stands, EndsBehind, MayStand, Leaves, LeavesLog, Untouched};
 ghost use Rattle.xa_log.specs.TwoFiles.{Pair, MayStandPair, MaySeal, IsOpenPair, IsReadPair, KeepsAll, first_of, second_of, disk_after, other_after};
 
+use crate::generation::generation_of_bodies;
 use crate::looking::{arrange, in_order, read_again};
 use crate::opening::new_buffer;
 use crate::{Log, OpenFault};
@@ -36,6 +37,7 @@ impl<D: Disk> Log<D> {
         ensures log { D.honest
             → IfOk result (λ r. IsOpenPair D.Disk (bodies_of r.items) (logged (D.seen self.new.other)) self.new) }
         ensures ends { IfOk result (λ r. EndsBehind (bodies_of r.items) self.new) }
+        ensures number { IfOk result (λ r. self.new.generation ≡ generation (bodies_of r.items)) }
         ensures fault { D.honest
             → TellsFault result
             (fault_pair self.old.log_bytes self.old.on_first (D.seen self.old.disk) (D.seen self.old.other)) }
@@ -125,6 +127,7 @@ impl<D: Disk> Log<D> {
         self.format = scan.format;
         self.end = scan.end;
         self.digest = digest;
+        self.generation = generation_of_bodies(&scan.bodies);
         self.lost = false;
         Ok(scan.bodies)
     }

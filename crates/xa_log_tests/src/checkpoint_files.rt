@@ -1,7 +1,7 @@
 use crate::folders::path_of;
 use crate::log_pairs::{
-    NEW, OLD, appends, are, bytes_on, checkpoint_of, checkpoints, crashed, file_of, keeps_all,
-    log_of,
+    AGAIN, NEW, OLD, OPENED, PREPARED, appends, are, bytes_on, checkpoint_of, checkpoints, copies,
+    crashed, file_of, keeps_all, log_of,
 };
 use crate::logs::{are_numbered, contains, filled};
 use crate::rows::none_wrong;
@@ -102,22 +102,46 @@ fn a_checkpoint_in_two_files(rt: HostRuntime) {
     assert!(rt; fs::remove_file(&rt, other).is_ok());
 }
 
+// The generation of a log that is made, with a record and with two, after a checkpoint, a look and an opening.
+fn generations(alloc: Global) -> Option<[usize; 6]> {
+    let mut log = log_of(alloc, &[])?;
+    let made = log.generation();
+    appends(&mut log, &OPENED)?;
+    let first = log.generation();
+    appends(&mut log, &PREPARED)?;
+    let second = log.generation();
+    checkpoint_of(alloc, &mut log, &NEW)?;
+    let checkpointed = log.generation();
+    log.rescan().ok()?;
+    let read = log.generation();
+    let (one, other) = crashed(log)?;
+    let (log, _bodies) = Log::open(alloc, one, other, LOG_BYTES).ok()?;
+    Some([made, first, second, checkpointed, read, log.generation()])
+}
+
+#[test]
+fn a_log_has_the_generation_of_its_first_record(rt: HostRuntime) {
+    assert!(rt; generations(rt.alloc()) == Some([0, 1, 1, 2, 2, 2]));
+}
+
+// The second boot's record, and so many bodies, each filled with its number.
 fn many(alloc: Global, records: usize, size: usize) -> Option<Vec<Vec<u8>>> {
-    let mut bodies = Vec::new(alloc);
+    let mut bodies = copies(alloc, &[&AGAIN])?;
     for index in 0..records {
         bodies.push(filled(alloc, index, size)?).ok()?;
     }
     Some(bodies)
 }
 
-// Whether a checkpoint of so many bodies, each filled with its number, is read after a crash as it was written. Beside
-// a log of no record it is taken whatever its first bytes are.
+// Whether a checkpoint of these is read after a crash as it was written.
 fn is_checkpointed(alloc: Global, records: usize, size: usize) -> Option<bool> {
     let mut log = log_of(alloc, &[])?;
     let came = checkpoints(&mut log, &many(alloc, records, size)?)?;
     let (first, second) = crashed(log)?;
     let (log, bodies) = Log::open(alloc, first, second, LOG_BYTES).ok()?;
-    let right = bodies.len() == records && are_numbered(&bodies, size);
+    let begins = are(bodies.get(..1)?, &[&AGAIN]);
+    let more = bodies.get(1..)?;
+    let right = begins && more.len() == records && are_numbered(more, size);
     Some(came == Appended::Kept && right && !log.on_first())
 }
 

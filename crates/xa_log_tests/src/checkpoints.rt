@@ -15,6 +15,11 @@ const MORE: [&[u8]; 1] = [&DECIDED];
 
 const THREE: [&[u8]; 3] = [&AGAIN, &HELD, &DECIDED];
 
+// The checkpoints of the boots behind it.
+const LATER: [&[u8]; 2] = [&[1, 0, 0, 0, 3], &HELD];
+
+const LAST: [&[u8]; 2] = [&[1, 0, 0, 0, 4], &HELD];
+
 /// Which calls on the other file fail, and what a checkpoint of one body comes to.
 type Faults = (&'static [(u64, Effect)], Appended);
 
@@ -77,16 +82,21 @@ fn device_faults_in_a_checkpoint(rt: HostRuntime) {
     none_wrong(&rt, wrong_answer(rt.alloc(), &FAULTS));
 }
 
-// What a checkpoint, an append and a checkpoint come to, one behind the other.
-fn three(alloc: Global, log: &mut Log<MemDisk>) -> Option<(Appended, Appended, Appended)> {
-    let first = checkpoint_of(alloc, log, &ONE)?;
+// What a checkpoint, an append and a checkpoint of a later boot come to, one behind the other.
+fn three(
+    alloc: Global,
+    log: &mut Log<MemDisk>,
+    bodies: &[&[u8]],
+    later: &[&[u8]],
+) -> Option<(Appended, Appended, Appended)> {
+    let first = checkpoint_of(alloc, log, bodies)?;
     let second = appends(log, &OPENED)?;
-    let third = checkpoint_of(alloc, log, &NEW)?;
+    let third = checkpoint_of(alloc, log, later)?;
     Some((first, second, third))
 }
 
 fn three_with(alloc: Global, plans: &[(u64, Effect)]) -> Option<(Appended, Appended, Appended)> {
-    three(alloc, &mut with_plans(alloc, plans)?)
+    three(alloc, &mut with_plans(alloc, plans)?, &ONE, &LATER)
 }
 
 // A checkpoint that was lost, then a rescan, and the three again.
@@ -97,13 +107,14 @@ fn is_lost_until_read(
     on_first: bool,
 ) -> Option<bool> {
     let mut log = with_plans(alloc, plans)?;
-    let came = three(alloc, &mut log)?;
+    let came = three(alloc, &mut log, &ONE, &LATER)?;
     let bodies = log.rescan().ok()?;
     Some(
         came == (Appended::Lost, Appended::Lost, Appended::Lost)
             && are(&bodies, rows)
             && log.on_first() == on_first
-            && three(alloc, &mut log)? == (Appended::Kept, Appended::Kept, Appended::Kept),
+            && three(alloc, &mut log, &LATER, &LAST)?
+                == (Appended::Kept, Appended::Kept, Appended::Kept),
     )
 }
 

@@ -5,7 +5,7 @@ ghost use Rattle.xa_log.specs.Reading.{bodies_of};
 
 use std::alloc::Global;
 use xa_disk::{Disk, MemDisk};
-use xa_log::{Appended, Log};
+use xa_log::{Appended, Log, generation_of_bodies};
 use xa_rows::{BODY_BYTES, LOG_BYTES};
 
 // The first boot's record.
@@ -42,9 +42,12 @@ fn are_bodies(bodies: &[Vec<u8>]) -> bool
     true
 }
 
-/// What a checkpoint of these comes to, if they are bodies.
+/// What a checkpoint of these comes to, if they are bodies of a generation above the log's.
 pub fn checkpoints<D: Disk>(log: &mut Log<D>, bodies: &[Vec<u8>]) -> Option<Appended> {
     if bodies.is_empty() || !are_bodies(bodies) {
+        return None;
+    }
+    if generation_of_bodies(bodies) <= log.generation() {
         return None;
     }
     Some(log.checkpoint(bodies))

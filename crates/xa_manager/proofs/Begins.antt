@@ -1,6 +1,6 @@
 -- What the next boot begins with, of the log that was read.
-use Rattle.std.proofs.Common.{◌≡◌, ◌+◌, ◌<◌, ℕ, Bool, List, [], ◌∷◌, map, length, Option, Some, refl, ap, sym, ◌∙◌, subst, arith}
-use Rattle.std.specs.Prelude.{Ok, Vec}
+use Rattle.std.proofs.Common.{◌≡◌, ◌+◌, ◌<◌, ℕ, Bool, List, [], ◌∷◌, map, length, Option, Some, None, refl, ap, sym, ◌∙◌, subst, arith}
+use Rattle.std.specs.Prelude.{Ok, Vec, IfSome}
 use Rattle.std.specs.declared.alloc.Global.{Global}
 use Rattle.std.specs.List.{AllByRecursion}
 use Rattle.std.proofs.lemmas.List.{length-map}
@@ -67,6 +67,20 @@ pub first_newer : (bodies : List (List ℕ)) (d : Durable) (next : NextBoot) (xs
 first_newer bodies d next xs it e =
     subst (λ (l : List (List ℕ)). generation l < generation (bodies_of xs)) it.comes.bodies_are.spelling
     (subst (λ (l : List (List ℕ)). generation (map spelled it.comes.records) < generation l) (sym (first_bodies bodies d next xs it e)) (newer it.comes.records d it.comes.folded it.boots))
+
+-- so do those of each boot that is planned
+pub next_newer : (bodies : List (List ℕ)) (d : Durable) (o : Option NextBoot) → LogRebuilt bodies (Ok d) → IsNext d o
+    → IfSome o (λ next. generation bodies < generation (bodies_of next.bodies.items))
+next_newer bodies d None rebuilt n = tt
+next_newer bodies d (Some next) rebuilt n =
+    let c : ComeTo bodies d = comes_to bodies d rebuilt in
+    first_newer bodies d next next.bodies.items (record { comes = c; form = fold_is_durable c.records d c.folded; boots = n.1; ready = n.2; limits = n.3 }) refl
+
+-- of a log of this generation
+pub next_above : (g : ℕ) (bodies : List (List ℕ)) (o : Option NextBoot) → g ≡ generation bodies
+    → IfSome o (λ next. generation bodies < generation (bodies_of next.bodies.items))
+    → IfSome o (λ next. g < generation (bodies_of next.bodies.items))
+next_above g bodies o is above = subst (λ (n : ℕ). IfSome o (λ next. n < generation (bodies_of next.bodies.items))) (sym is) above
 
 -- no bodies are given
 pub none_given : (xs : List (Vec ℕ Global)) → length xs ≡ 0 → bodies_of xs ≡ []

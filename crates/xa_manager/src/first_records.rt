@@ -13,8 +13,8 @@ use xa_log::{Appended, Log};
 pub(crate) fn log_first<D: Disk>(log: &mut Log<D>, is_empty: bool, bodies: &[Vec<u8>]) -> Appended
     requires some { 1 ≤ length bodies.now }
     requires sizes { AllByRecursion IsBody (bodies_of bodies.now) }
+    requires above { log.old.generation < generation (bodies_of bodies.now) }
     ensures kept { D.honest → result ≡ Appended.Kept → (old : List (List ℕ)) → (is_empty ≡ true → old ≡ [])
-        → generation old < generation (bodies_of bodies.now)
         → HasBodies D.Disk old log.old → HasBodies D.Disk (bodies_of bodies.now) log.new }
     ensures full { D.honest → result ≡ Appended.Full → (old : List (List ℕ)) → (is_empty ≡ true → old ≡ [])
         → HasBodies D.Disk old log.old

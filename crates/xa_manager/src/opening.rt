@@ -1,6 +1,6 @@
 ghost use Rattle.std.specs.Prelude.{◌≡◌, ◌≤◌, ◌<◌, ◌⊎◌, ◌↔◌, Bool, List, ℕ, [], IfOk, IfErr, OnOk, IsErrOf, IsSomeAnd, Some, None, length};
 ghost use Rattle.xa_limits.specs.declared.TheConstants.{MOST_LOG};
-ghost use Rattle.xa_log.specs.Pair.{pair_fault, logged_pair};
+ghost use Rattle.xa_log.specs.Pair.{generation, pair_fault, logged_pair};
 ghost use Rattle.xa_log.specs.Reading.{bodies_of};
 ghost use Rattle.xa_log.specs.TwoFiles.{NoStray};
 ghost use Rattle.xa_model.specs.declared.outcome.Outcome.TheVariants.{Reread};
@@ -75,6 +75,7 @@ fn begin<D: Disk + Drop>(
     log_bytes: u64,
 ) -> Result<Manager<D>, ManagerFault>
     requires limit { log_bytes ≤ MOST_LOG }
+    requires number { log.generation ≡ generation (bodies_of bodies.now) }
     ensures begun { D.honest → HasBodies D.Disk (bodies_of bodies.now) log → log.log_bytes ≡ log_bytes
         → IfOk result (HasBegun D.Disk (bodies_of bodies.now) name log_bytes) }
     ensures refused { IfErr result (λ e. BootRefused e (bodies_of bodies.now) log_bytes) }
@@ -128,6 +129,7 @@ pub(crate) fn open_log<D: Disk + Drop>(
     ensures whole { D.honest
         → OnOk result (((D.seen first ≡ []) × (D.seen second ≡ []))
         ⊎ (pair_fault log_bytes (D.seen first) (D.seen second) ≡ None)) }
+    ensures number { IfOk result (λ r. r.0.generation ≡ generation (bodies_of r.1.items)) }
     ensures settings { IfOk result (λ r. r.0.log_bytes ≡ log_bytes) }
     ensures refused { D.honest → IfErr result (λ e. LogRefused e log_bytes (D.seen first) (D.seen second)) }
 {

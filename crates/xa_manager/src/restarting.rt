@@ -1,10 +1,11 @@
-ghost use Rattle.std.specs.Prelude.{◌≡◌, ◌⊎◌, ◌≤◌, ◌+◌, ℕ, List, length, nat_lt, true, false, None, Some, Ok, IfOk, IfErr, OnOk, OnErr, MatchBool};
+ghost use Rattle.std.specs.Prelude.{◌≡◌, ◌⊎◌, ◌≤◌, ◌<◌, ◌+◌, ℕ, List, length, nat_lt, true, false, None, Some, Ok, IfOk, IfErr, IfSome, OnOk, OnErr, MatchBool};
 ghost use Rattle.std.specs.List.{AllByRecursion};
 ghost use Rattle.xa_assoc.specs.Refusals.{is_memory, IsBare};
 ghost use Rattle.xa_codes.specs.declared.codes.TheConstants.{XAER_RMFAIL};
 ghost use Rattle.xa_record.specs.declared.record.Record.{Record};
 ghost use Rattle.xa_log.specs.Answers.{CountsDeviceOf};
 ghost use Rattle.xa_log.specs.Chain.{IsBody};
+ghost use Rattle.xa_log.specs.Pair.{generation};
 ghost use Rattle.xa_log.specs.Reading.{bodies_of};
 ghost use Rattle.xa_log.specs.declared.log.Log.{Log};
 ghost use Rattle.xa_log.specs.TwoFiles.{first_of, second_of};
@@ -58,6 +59,7 @@ impl<D: Disk> Manager<D> {
         ensures count { CountsDeviceOf D.failures result (first_of self.old.log) (first_of self.new.log)
             (second_of self.old.log) (second_of self.new.log) }
         ensures alive { OnOk result (self.new.log.lost ≡ false) }
+        ensures number { IfOk result (λ v. self.new.log.generation ≡ generation (bodies_of v.items)) }
         ensures leaves { Trusts D.Disk → (s : State) → ManagerStandsFor D.Disk self.old s
             → LeavesLook D.Disk self.old.log self.new.log s }
         ensures tables { self.new.tables ≡ self.old.tables }
@@ -102,6 +104,7 @@ impl<D: Disk> Manager<D> {
         requires some { 1 ≤ length next.bodies.items }
         requires sizes { AllByRecursion IsBody (bodies_of next.bodies.items) }
         requires short { IsWithin MOST_VALUE next.records }
+        requires above { self.old.log.generation < generation (bodies_of next.bodies.items) }
         ensures turn { (s t : State) (rs : List Record) → ManagerStandsFor D.Disk self.old s → Trusts D.Disk
             → IsFate survived s t → Backs rs t → HasRecords D.Disk rs self.old.log
             → self.old.log.lost ≡ false → nat_lt t.logged_boot MOST_BOOTS ≡ true
@@ -152,7 +155,9 @@ impl<D: Disk> Manager<D> {
 
     /// A new boot begins with what the log came to.
     fn begin(&mut self, planned: Planned) -> Done
-        requires { IsNext planned.durable planned.next }
+        requires next { IsNext planned.durable planned.next }
+        requires above { IfSome planned.next
+            (λ next. self.old.log.generation < generation (bodies_of next.bodies.items)) }
         ensures turn { (s : State) (bodies : List (List ℕ)) → ManagerStandsFor D.Disk self.old s → Trusts D.Disk
             → Found D.Disk bodies self.old.log s → LogRebuilt bodies (Ok planned.durable)
             → AnswersAs D.Disk (taken (restart_turn s) result.outcome) result.reply self.new }

@@ -1,4 +1,5 @@
-use Rattle.std.proofs.Common.{rules, ◌≡◌, ◌+◌, ℕ, List, true, false, sym, refl, ◌∙◌, subst, arith}
+use Rattle.std.proofs.Common.{rules, ◌≡◌, ◌+◌, ◌<◌, ℕ, List, true, false, sym, refl, ◌∙◌, subst, arith}
+use Rattle.xa_log.specs.Pair.{generation}
 use Rattle.xa_log.specs.Reading.{bodies_of}
 use Rattle.xa_manager.specs.Opening.{HasBodies, has_boot_room}
 use Rattle.xa_recovery.specs.Durable.{as_prepared, as_decided}
@@ -28,6 +29,12 @@ log_first-requires-clause-sizes g c =
     let plan = planned (bodies_of c.args.bodies.now) c.in_ok-durable.field-0 c.in-Some.next c.in_ok-durable.ensures.0 c.in_ok-durable.ensures.1 c.in-Some.is in
     first_sizes _ c.in_ok-durable.field-0.durable c.in-Some.next _ plan c.deref-2.ensures.value
 
+pub log_first-requires-clause-above : goal.log_first-requires-clause-above
+log_first-requires-clause-above g c =
+    let plan = planned (bodies_of c.args.bodies.now) c.in_ok-durable.field-0 c.in-Some.next c.in_ok-durable.ensures.0 c.in_ok-durable.ensures.1 c.in-Some.is in
+    subst (λ (n : ℕ). n < generation (bodies_of c.deref-2.result.now)) (sym c.requires.number)
+    (first_newer _ c.in_ok-durable.field-0.durable c.in-Some.next c.deref-2.result.now plan c.deref-2.ensures.value)
+
 pub returns-clause-begun : goal.returns-clause-begun
 returns-clause-begun g c = λ h has sized.
     let plan = planned (bodies_of c.args.bodies.now) c.in_ok-durable.field-0 c.in-Some.next c.in_ok-durable.ensures.0 c.in_ok-durable.ensures.1 c.in-Some.is in
@@ -38,7 +45,7 @@ returns-clause-begun g c = λ h has sized.
     (count_of as_prepared c.prepared.result.now.entries _ d.prepared c.len-prepared.result c.len-prepared.ensures.len c.prepared.ensures refl)
     (count_of as_decided c.decided.result.now.entries _ d.decided c.len-completed.result c.len-completed.ensures.len c.decided.ensures refl)
     (sym c.if-not-begins_with_room.false ∙ c.begins_with_room.ensures) in
-    let kept = c.log_first.ensures.kept h c.in-Kept.is (bodies_of c.args.bodies.now) (λ e. none_given c.args.bodies.now (search rules)) (first_newer _ d c.in-Some.next xs plan c.deref-2.ensures.value) has in
+    let kept = c.log_first.ensures.kept h c.in-Kept.is (bodies_of c.args.bodies.now) (λ e. none_given c.args.bodies.now (search rules)) has in
     record {
       durable = d;
       comes = plan.comes;

@@ -21,11 +21,11 @@ returns-in-Lost-clause-any_moment g c h bodies s =
 
 pub returns-in-Kept-clause-answer : goal.returns-in-Kept-clause-answer
 returns-in-Kept-clause-answer g c h bodies s =
-    answers_kept _ bodies _ _ c.args.self.now _ s (omega (arith, c.ready_behind-ready.ensures.within), refl, refl) _ c.in-Kept.is c.requires (c.append_at-outcome.ensures.went h) refl c.append_at-outcome.ensures.digest refl
+    answers_kept _ bodies _ _ c.args.self.now _ s (omega (arith, c.ready_behind-ready.ensures.within), refl, refl) _ c.in-Kept.is c.requires (c.append_at-outcome.ensures.went h) refl c.append_at-outcome.ensures.digest c.generation_with-self.ensures refl
 
 pub returns-in-Refused-clause-answer : goal.returns-in-Refused-clause-answer
 returns-in-Refused-clause-answer g c h bodies s =
-    answers_refused _ bodies _ _ c.args.self.now _ s (omega (arith, c.ready_behind-ready.ensures.within), refl, refl) _ c.in-Refused.is c.append_at-outcome.ensures.not_full (c.append_at-outcome.ensures.went h) refl refl refl
+    answers_refused _ bodies _ _ c.args.self.now _ s (omega (arith, c.ready_behind-ready.ensures.within), refl, refl) _ c.in-Refused.is c.append_at-outcome.ensures.not_full (c.append_at-outcome.ensures.went h) refl refl refl refl
 
 pub returns-in-Lost-clause-answer : goal.returns-in-Lost-clause-answer
 returns-in-Lost-clause-answer g c h bodies s =

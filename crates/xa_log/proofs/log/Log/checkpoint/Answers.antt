@@ -50,7 +50,7 @@ returns-in-Refused-clause-any_moment g c h old stood p =
     c.newest-format.ensures (wrote.ensures.any_moment h most stood room p.other)
 
 pub returns-in-Kept-clause-answer : goal.returns-in-Kept-clause-answer
-returns-in-Kept-clause-answer g c h old stood p above =
+returns-in-Kept-clause-answer g c h old stood p =
     let old_log = c.args.self.now in
     let most = old_log.log_bytes in
     let fresh = bodies_of c.args.bodies.now in
@@ -59,12 +59,12 @@ returns-in-Kept-clause-answer g c h old stood p above =
     let end : c.in-Some.end ≡ length (text format (bodies_of c.args.bodies.now)) = c.in-Some.ensures.some.0 in
     let room : 12 + length (records (start format) (bodies_of c.args.bodies.now)) ≤ c.args.self.now.log_bytes =
     omega (arith, c.in-Some.ensures.some.0, c.in-Some.ensures.some.1, length-text format (bodies_of c.args.bodies.now)) in
-    kept_pair g.D.Disk old stood old_log _ p format fresh above _ wrote.new.disk c.in-Kept.is
+    kept_pair g.D.Disk old stood old_log _ p format fresh c.requires.above _ wrote.new.disk c.in-Kept.is
     (wrote.ensures.answer h most stood room p.other)
-    c.swap.ensures.x_after c.swap.ensures.y_after refl refl end (wrote.ensures.digest c.in-Kept.is) refl
+    c.swap.ensures.x_after c.swap.ensures.y_after refl refl end (wrote.ensures.digest c.in-Kept.is) c.generation_of_bodies-self.ensures refl
 
 pub returns-in-Lost-clause-answer : goal.returns-in-Lost-clause-answer
-returns-in-Lost-clause-answer g c h old stood p above =
+returns-in-Lost-clause-answer g c h old stood p =
     let old_log = c.args.self.now in
     let most = old_log.log_bytes in
     let fresh = bodies_of c.args.bodies.now in
@@ -73,12 +73,12 @@ returns-in-Lost-clause-answer g c h old stood p above =
     let end : c.in-Some.end ≡ length (text format (bodies_of c.args.bodies.now)) = c.in-Some.ensures.some.0 in
     let room : 12 + length (records (start format) (bodies_of c.args.bodies.now)) ≤ c.args.self.now.log_bytes =
     omega (arith, c.in-Some.ensures.some.0, c.in-Some.ensures.some.1, length-text format (bodies_of c.args.bodies.now)) in
-    lost_pair g.D.Disk old stood old_log _ p format fresh above _ c.in-Lost.is
+    lost_pair g.D.Disk old stood old_log _ p format fresh c.requires.above _ c.in-Lost.is
     (wrote.ensures.answer h most stood room p.other)
     refl refl refl refl
 
 pub returns-in-Refused-clause-answer : goal.returns-in-Refused-clause-answer
-returns-in-Refused-clause-answer g c h old stood p above =
+returns-in-Refused-clause-answer g c h old stood p =
     let old_log = c.args.self.now in
     let most = old_log.log_bytes in
     let fresh = bodies_of c.args.bodies.now in
@@ -89,7 +89,7 @@ returns-in-Refused-clause-answer g c h old stood p above =
     omega (arith, c.in-Some.ensures.some.0, c.in-Some.ensures.some.1, length-text format (bodies_of c.args.bodies.now)) in
     refused_pair g.D.Disk old stood old_log _ p format fresh _ c.in-Refused.is wrote.ensures.not_full
     (wrote.ensures.answer h most stood room p.other)
-    refl refl refl refl refl refl refl
+    refl refl refl refl refl refl refl refl
 
 pub returns-in-Kept-clause-kept : goal.returns-in-Kept-clause-kept
 returns-in-Kept-clause-kept g c alive fits low same =

@@ -1,5 +1,7 @@
-use Rattle.std.proofs.Common.{refl, ap, true}
+use Rattle.std.proofs.Common.{refl, ap, true, ◌∙◌}
 use Rattle.xa_disk.specs.Disk.{Only}
+use Rattle.xa_log.specs.Pair.{generation}
+use Rattle.xa_log.specs.Reading.{bodies_of}
 use Rattle.xa_log.proofs.Opens.{sound, opens}
 use Rattle.xa_log.proofs.Still.{of_pair, of_both}
 use Rattle.xa_log.proofs.log.Log.on.Goals as goal
@@ -9,7 +11,7 @@ returns-clause-log g c h o =
     let p = c.in_order-disk.result in
     let is = of_pair c.args.opened.on_first p c.args.first c.args.second c.in_order-disk.ensures in
     let only = of_both (λ d. Only (g.D.Disk.seen d) (g.D.Disk.may_leave d)) c.args.opened.on_first true p.0 p.1 c.args.first c.args.second is.0 is.1 o.durable o.durable_second in
-    opens g.D.Disk _ _ _ c.args.opened.scan (sound c.args.opened.log_bytes _ _ o.fault) only.0 only.1 refl refl refl refl
+    opens g.D.Disk _ _ _ c.args.opened.scan (sound c.args.opened.log_bytes _ _ o.fault) only.0 only.1 refl refl refl (c.generation_of_bodies-number.ensures ∙ ap (λ vs. generation (bodies_of vs)) c.deref.ensures.value) refl
     c.args.opened.on_first refl (ap g.D.Disk.seen is.0) (ap g.D.Disk.seen is.1) o.current
 
 pub returns-clause-ends : goal.returns-clause-ends

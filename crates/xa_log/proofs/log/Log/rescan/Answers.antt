@@ -1,7 +1,8 @@
-use Rattle.std.proofs.Common.{◌≡◌, ◌∙◌, refl, subst}
+use Rattle.std.proofs.Common.{◌≡◌, ◌∙◌, ap, refl, subst}
 use Rattle.xa_disk.specs.Disk.{Same, Only}
 use Rattle.xa_disk.specs.Time.{TimePasses}
-use Rattle.xa_log.specs.Reading.{Explains}
+use Rattle.xa_log.specs.Pair.{generation}
+use Rattle.xa_log.specs.Reading.{Explains, bodies_of}
 use Rattle.xa_log.proofs.Again.{explained, left_log, on_err}
 use Rattle.xa_log.proofs.Anew.{pair_anew, may_stand_anew, may_seal_anew}
 use Rattle.xa_log.proofs.Opens.{sound, opens, current_logged}
@@ -11,14 +12,14 @@ use Rattle.xa_log.proofs.log.Log.rescan.Goals as goal
 pub returns-in_err-on_first-clause-keeps : goal.returns-in_err-on_first-clause-keeps
 returns-in_err-on_first-clause-keeps g c h =
     on_err _ c.from_residual-in_err-on_first.result
-    (keeps_all g.D.Disk c.args.self.now _ (record { on_first = refl; log_bytes = refl; format = refl; end = refl; digest = refl; lost = refl })
+    (keeps_all g.D.Disk c.args.self.now _ (record { on_first = refl; log_bytes = refl; format = refl; end = refl; digest = refl; number = refl; lost = refl })
     (c.read_again.ensures.same h) (left_back _ _ _ _ _ _ (c.read_again.ensures.time h))
     (c.read_again.ensures.same_other h) (left_back _ _ _ _ _ _ (c.read_again.ensures.time_other h)))
 
 pub returns-in_err-other_window-clause-keeps : goal.returns-in_err-other_window-clause-keeps
 returns-in_err-other_window-clause-keeps g c h =
     on_err _ c.from_residual.result
-    (keeps_all g.D.Disk c.args.self.now _ (record { on_first = refl; log_bytes = refl; format = refl; end = refl; digest = refl; lost = refl })
+    (keeps_all g.D.Disk c.args.self.now _ (record { on_first = refl; log_bytes = refl; format = refl; end = refl; digest = refl; number = refl; lost = refl })
     refl (λ x left. left) refl (λ x left. left))
 
 pub returns-in_err-other_window-clause-any_moment : goal.returns-in_err-other_window-clause-any_moment
@@ -108,12 +109,15 @@ pub returns-clause-logged : goal.returns-clause-logged
 returns-clause-logged g c h =
     logged_order g.D.Disk.seen c.args.self.now.on_first c.args.self.now.disk c.args.self.now.other ∙ current_logged _ _ _ _ (c.in_ok-on_first.ensures.value h).1
 
+pub returns-clause-number : goal.returns-clause-number
+returns-clause-number g c = c.generation_of_bodies-self.ensures ∙ ap (λ vs. generation (bodies_of vs)) c.deref.ensures.value
+
 pub returns-clause-log : goal.returns-clause-log
 returns-clause-log g c h =
     let value = c.in_ok-on_first.ensures.value h in
     let only = of_both (λ d. Only (g.D.Disk.seen d) (g.D.Disk.may_leave d)) c.in_ok-on_first.on_first c.args.self.now.on_first _ _ c.read_again.new.disk c.read_again.new.other c.arrange.ensures.first c.arrange.ensures.second (c.in_ok-on_first.ensures.durable h) (c.in_ok-on_first.ensures.durable_other h) in
     let same = in_turn (λ x y. g.D.Disk.seen y ≡ g.D.Disk.seen x) c.args.self.now.on_first c.args.self.now.disk c.args.self.now.other c.read_again.new.disk c.read_again.new.other _ _ c.arrange.ensures.first c.arrange.ensures.second (c.read_again.ensures.same h) (c.read_again.ensures.same_other h) in
-    opens g.D.Disk _ _ _ c.in_ok-on_first.scan (sound c.args.self.now.log_bytes _ _ (fault_order g.D.Disk.seen c.args.self.now.log_bytes c.args.self.now.on_first c.args.self.now.disk c.args.self.now.other ∙ value.0)) only.0 only.1 refl refl refl refl
+    opens g.D.Disk _ _ _ c.in_ok-on_first.scan (sound c.args.self.now.log_bytes _ _ (fault_order g.D.Disk.seen c.args.self.now.log_bytes c.args.self.now.on_first c.args.self.now.disk c.args.self.now.other ∙ value.0)) only.0 only.1 refl refl refl (returns-clause-number g c) refl
     c.in_ok-on_first.on_first refl same.0 same.1 value.1
 
 pub returns-clause-anew : goal.returns-clause-anew

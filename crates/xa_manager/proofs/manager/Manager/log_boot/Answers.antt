@@ -28,8 +28,7 @@ returns-in-Kept-clause-turn g c =
     λ s t rs st trusts fate backs has alive less boot ready.
     let bodies : bodies_of c.deref.result.now ≡ map spelled (snapshot (durable t) (t.logged_boot + 1)) = cc (ready.bodies, ap (λ vs. bodies_of vs) c.deref.ensures.value) in
     let below : t.logged_boot < MOST_BOOTS = ltb-true t.logged_boot MOST_BOOTS less in
-    let above = subst (λ (b : List (List ℕ)). generation (map spelled rs) < generation b) (sym bodies) (newer rs (durable t) backs.lasts below) in
-    let went = c.checkpoint.ensures.answer trusts.disk (map spelled rs) has.0 has.1 above in
+    let went = c.checkpoint.ensures.answer trusts.disk (map spelled rs) has.0 has.1 in
     let kept = subst (λ (a : Appended). Checkpoints g.D.Disk a (map spelled rs) has.0 (bodies_of c.deref.result.now) c.checkpoint.new.self) c.in-Kept.is went in
     let swaps = subst (λ (a : Appended). Swaps a (bodies_of c.deref.result.now) c.args.self.now.log c.checkpoint.new.self) c.in-Kept.is (c.checkpoint.ensures.swaps alive) in
     let pair = subst (λ (b : List (List ℕ)). Pair g.D.Disk b (map spelled rs) c.checkpoint.new.self) bodies kept.0 in
@@ -44,8 +43,7 @@ returns-in-Refused-clause-turn g c =
     λ s t rs st trusts fate backs has alive less boot ready.
     let bodies : bodies_of c.deref.result.now ≡ map spelled (snapshot (durable t) (t.logged_boot + 1)) = cc (ready.bodies, ap (λ vs. bodies_of vs) c.deref.ensures.value) in
     let below : t.logged_boot < MOST_BOOTS = ltb-true t.logged_boot MOST_BOOTS less in
-    let above = subst (λ (b : List (List ℕ)). generation (map spelled rs) < generation b) (sym bodies) (newer rs (durable t) backs.lasts below) in
-    let went = c.checkpoint.ensures.answer trusts.disk (map spelled rs) has.0 has.1 above in
+    let went = c.checkpoint.ensures.answer trusts.disk (map spelled rs) has.0 has.1 in
     let kept = subst (λ (a : Appended). Checkpoints g.D.Disk a (map spelled rs) has.0 (bodies_of c.deref.result.now) c.checkpoint.new.self) c.in-Refused.is went in
     is_answer _ (boot_became t (t.logged_boot + 1) Refused) _ (ap (λ (o : Outcome). taken (restart_turn s) o) c.begun-in-Refused.ensures.told ∙ turn_opens c.args.survived s t Refused fate less)
     (cc, down_stands g.D.Disk c.args.self.now _ s t c.args.survived rs refl refl refl c.checkpoint.ensures.settings st fate backs (refused_pair g.D.Disk (map spelled rs) has.0 c.checkpoint.new.self kept))
@@ -55,8 +53,7 @@ returns-in-Lost-clause-turn g c =
     λ s t rs st trusts fate backs has alive less boot ready.
     let bodies : bodies_of c.deref.result.now ≡ map spelled (snapshot (durable t) (t.logged_boot + 1)) = cc (ready.bodies, ap (λ vs. bodies_of vs) c.deref.ensures.value) in
     let below : t.logged_boot < MOST_BOOTS = ltb-true t.logged_boot MOST_BOOTS less in
-    let above = subst (λ (b : List (List ℕ)). generation (map spelled rs) < generation b) (sym bodies) (newer rs (durable t) backs.lasts below) in
-    let went = c.checkpoint.ensures.answer trusts.disk (map spelled rs) has.0 has.1 above in
+    let went = c.checkpoint.ensures.answer trusts.disk (map spelled rs) has.0 has.1 in
     let kept = subst (λ (a : Appended). Checkpoints g.D.Disk a (map spelled rs) has.0 (bodies_of c.deref.result.now) c.checkpoint.new.self) c.in-Lost.is went in
     is_answer _ (boot_became t (t.logged_boot + 1) Lost) _ (ap (λ (o : Outcome). taken (restart_turn s) o) c.begun-in-Lost.ensures.told ∙ turn_opens c.args.survived s t Lost fate less) (
       cc,

@@ -1,4 +1,5 @@
-use Rattle.std.proofs.Common.{◌≡◌, Ok, Err, ap, sym, subst, inl, inr}
+use Rattle.std.proofs.Common.{◌≡◌, ◌∙◌, Ok, Err, ap, sym, subst, inl, inr}
+use Rattle.xa_log.specs.Pair.{generation}
 use Rattle.xa_log.specs.Reading.{bodies_of}
 use Rattle.xa_codes.specs.declared.codes.TheConstants.{XAER_RMFAIL}
 use Rattle.xa_codes.specs.declared.detail.Detail.TheVariants as detail
@@ -10,11 +11,19 @@ use Rattle.xa_model.specs.Restarting.{restart_turn}
 use Rattle.xa_model.specs.Turn.{taken}
 use Rattle.xa_recovery.specs.Log.{LogRebuilt}
 use Rattle.xa_manager.specs.Crash.{LeavesLook}
+use Rattle.xa_manager.proofs.Begins.{next_newer, next_above}
 use Rattle.xa_manager.proofs.CrashBoots.{boot_by, stopped_leaves, failed_leaves}
 use Rattle.xa_manager.proofs.Fates.{is_answer}
 use Rattle.xa_manager.proofs.Generations.{never_refused}
 use Rattle.xa_manager.proofs.Standing.{failed_stands}
 use Rattle.xa_manager.proofs.manager.Manager.restarted.Goals as goal
+
+pub begin-requires-clause-above : goal.begin-requires-clause-above
+begin-requires-clause-above g c =
+    let same : c.deref.result.now ≡ c.in-Ok.bodies.items = cc (c.deref.ensures.value) in
+    let p = c.in-Ok-plan.planned in
+    next_above _ (bodies_of c.deref.result.now) p.next (c.in-Ok.ensures.number ∙ ap (λ vs. generation (bodies_of vs)) (sym same))
+    (next_newer (bodies_of c.deref.result.now) p.durable p.next c.in-Ok-plan.ensures.0 c.in-Ok-plan.ensures.1)
 
 pub returns-in-Ok-plan-clause-turn : goal.returns-in-Ok-plan-clause-turn
 returns-in-Ok-plan-clause-turn g c =
