@@ -8,10 +8,10 @@ use Rattle.xa_room.specs.declared.manages.Manages.{Ghosts}
 use Rattle.xa_server.specs.Serves.{ServedPromises}
 
 -- of a manager that is what `stands` says, where that says no less than the manager's own relation
-pub served_promises : {D : Type 0} (disks : disk.Ghosts D) (m : Ghosts (Manager D))
+pub served_promises : {D : Type 0} (L : Type 0) (disks : disk.Ghosts D) (m : Ghosts (Manager D))
     → ((manager : Manager D) (s : State) → ManagerStandsFor disks manager s → m.stands manager s)
-    → ServedPromises disks m
-served_promises disks m stands manager bodies name log_bytes begun base calls is_whole serves =
+    → ServedPromises L disks m
+served_promises L disks m stands manager bodies name log_bytes begun base workers told serves =
     let opened = promised.begun_is_reached disks manager bodies name log_bytes begun in
     let stood = stands manager opened.0 opened.2 in
     record {

@@ -1,5 +1,6 @@
 -- What a server that ended did, and what is known where it failed.
 use Rattle.std.specs.Prelude.{◌≡◌, ◌⊎◌, ◌<◌, ◌++◌, ℕ, Bool, if◌then◌else◌, List, [], IsSomeAnd, Some, codes}
+use Rattle.std.specs.declared.net.TcpListener.{TcpListener}
 use Rattle.xa_disk.specs.declared.disk.Disk as disk
 use Rattle.xa_log.specs.Missing.{missing_of}
 use Rattle.xa_log.specs.Pair.{logged_pair}
@@ -18,6 +19,9 @@ use Rattle.xa_model.specs.State.{State}
 use Rattle.xa_model.specs.Step.{step}
 use Rattle.xa_model.specs.Turn.{Reopened}
 use Rattle.xa_room.specs.declared.manages.Manages as room
+use Rattle.xa_server.specs.declared.audited.Audited.{Audited}
+use Rattle.xa_server.specs.declared.listens.Listens as listens
+use Rattle.xa_server.specs.declared.service.Service.{Service}
 use Rattle.xa_server.specs.declared.serving.TheConstants.{MOST_WORKERS}
 use Rattle.xa_server.specs.Serves.{Serves}
 use Rattle.xa_server.specs.declared.serve_fault.ServeFault.{ServeFault}
@@ -37,55 +41,91 @@ pub record HasOpened {D : Type 0} (disks : disk.Ghosts D) (first second : D) (na
       × IsSomeAnd (step s (Reopened name log_bytes) (Reread survived (Some Kept)))
       (λ a. ManagerStandsFor disks m a.after)
 
+-- the address that a server listens at
+abbrev pub address : List ℕ
+address = codes "127.0.0.1"
+
+abbrev pub second_path : List ℕ → List ℕ
+second_path path = path ++ codes ".2"
+
 -- these disks were opened at a path, and at the path with `.2` behind it
 abbrev pub AreFiles : {D : Type 0} → (D → List ℕ → Type 0) → List ℕ → D → D → Type 0
-AreFiles opened path first second = opened first path × opened second (path ++ codes ".2")
+AreFiles opened path first second = opened first path × opened second (second_path path)
 
--- A manager was opened on the files at a path. Its sessions were served, from each state that it stood for, and the
--- audit of their history found this.
-pub record HasServed {D : Type 0} (disks : disk.Ghosts D) (m : room.Ghosts (Manager D)) (opened : D → List ℕ → Type 0)
-    (path name : List ℕ) (log_bytes : ℕ) (is_whole : Bool) : Type 0 where
-  pub first : D
-  pub second : D
+-- the same, and neither file was missing
+pub record AreWhole {D : Type 0} (disks : disk.Ghosts D) (opened : D → List ℕ → Type 0) (path : List ℕ)
+    (first second : D) : Type 0 where
   pub files : AreFiles opened path first second
   pub whole : disks.honest → missing_of (disks.seen first) (disks.seen second) ≡ Neither
+
+-- The log's two files were opened at the path that was asked for; the listener listens on the port; and this manager
+-- was opened on the files.
+pub record IsReady {D R : Type 0} (disks : disk.Ghosts D) (opened : D → List ℕ → Type 0) (net : listens.Ghosts R)
+    (log_bytes : ℕ) (service : Service) (listener : TcpListener) (manager : Manager D) : Type 0 where
+  pub first : D
+  pub second : D
+  pub files : AreWhole disks opened service.path.now first second
+  pub listening : net.listens listener address service.port
+  pub has_opened : HasOpened disks first second service.name.now log_bytes manager
+
+-- All was ready, and the manager's sessions were served by so many workers, from each state that it stood for. The
+-- audit of their history found this.
+pub record HasServed {D R : Type 0} (L : Type 0) (disks : disk.Ghosts D) (m : room.Ghosts (Manager D))
+    (opened : D → List ℕ → Type 0) (net : listens.Ghosts R) (log_bytes : ℕ) (service : Service) (is_whole : Bool)
+    : Type 0 where
+  pub listener : TcpListener
   pub manager : Manager D
-  pub has_opened : HasOpened disks first second name log_bytes manager
-  pub calls : ℕ
-  pub serves : Serves m (m.stands manager) (m.failures manager) calls is_whole
+  pub ready : IsReady disks opened net log_bytes service listener manager
+  pub told : Audited
+  pub serves : Serves L m (m.stands manager) (m.failures manager) service.workers told
+  pub found : is_whole ≡ told.is_whole
+
+-- ---- where it failed
+
+-- a fault of opening files
+abbrev pub IsFileFault : List ℕ → ServeFault → Type 0
+IsFileFault path fault.Memory = Unit {0}
+IsFileFault path fault.InUse = Unit {0}
+IsFileFault path (fault.File file why) = file.path.now ≡ path
+IsFileFault path _ = ⊥
 
 -- What is known of two disks where a server failed on them: no manager was opened on them, for a reason that it tells;
 -- or the one that it names is missing.
 abbrev pub Refuses : {D : Type 0} → disk.Ghosts D → List ℕ → List ℕ → ℕ → D → D → ServeFault → Type 0
+Refuses disks path name log_bytes first second fault.Memory = Unit {0}
 Refuses disks path name log_bytes first second (fault.Manager e) =
     disks.honest → OpenRefused e name log_bytes (disks.seen first) (disks.seen second)
 Refuses disks path name log_bytes first second (fault.Missing file) =
     (file.path.now ≡ path)
     × (disks.honest
     → missing_of (disks.seen first) (disks.seen second) ≡ (if file.is_second then Second else First))
-Refuses disks path name log_bytes first second fault.Start = ⊥
-Refuses disks path name log_bytes first second _ = Unit {0}
-
--- a fault of opening files
-abbrev pub IsFileFault : ServeFault → Type 0
-IsFileFault fault.Memory = Unit {0}
-IsFileFault fault.InUse = Unit {0}
-IsFileFault (fault.File file why) = Unit {0}
-IsFileFault _ = ⊥
+Refuses disks path name log_bytes first second _ = ⊥
 
 -- the disks that it failed on were opened on the files at a path
-abbrev pub HasRefused : {D : Type 0} → disk.Ghosts D → (D → List ℕ → Type 0) → List ℕ → List ℕ → ℕ → ServeFault
-    → Type 0
-HasRefused {D} disks opened path name log_bytes why =
-    (first : D) × (second : D) × AreFiles opened path first second
-    × Refuses disks path name log_bytes first second why
+abbrev pub HasRefused : {D : Type 0} → disk.Ghosts D → (D → List ℕ → Type 0) → ℕ → Service → ServeFault → Type 0
+HasRefused {D} disks opened log_bytes service why =
+    (first : D) × (second : D) × AreFiles opened service.path.now first second
+    × Refuses disks service.path.now service.name.now log_bytes first second why
 
--- What is known where it failed: it failed on the files at a path, or there were no such workers.
-abbrev pub HasFailed : {D : Type 0} → disk.Ghosts D → (D → List ℕ → Type 0) → List ℕ → List ℕ → ℕ → ℕ → ServeFault
-    → Type 0
-HasFailed disks opened path name log_bytes workers (fault.Manager e) =
-    HasRefused disks opened path name log_bytes (fault.Manager e)
-HasFailed disks opened path name log_bytes workers (fault.Missing file) =
-    HasRefused disks opened path name log_bytes (fault.Missing file)
-HasFailed disks opened path name log_bytes workers fault.Start = (workers ≡ 0) ⊎ (MOST_WORKERS < workers)
-HasFailed disks opened path name log_bytes workers _ = Unit {0}
+-- all was ready
+abbrev pub WasReady : {D R : Type 0} → disk.Ghosts D → (D → List ℕ → Type 0) → listens.Ghosts R → ℕ → Service → Type 0
+WasReady {D} disks opened net log_bytes service =
+    (listener : TcpListener) × (manager : Manager D) × IsReady disks opened net log_bytes service listener manager
+
+-- What was asked before it failed, and how that ended: no manager was opened on the files, or one of them is missing;
+-- the files were there, and the port was refused; all was ready, and it couldn't print, or there are no such workers.
+abbrev pub HasFailed : {D R : Type 0} → disk.Ghosts D → (D → List ℕ → Type 0) → listens.Ghosts R → ℕ → Service
+    → ServeFault → Type 0
+HasFailed disks opened net log_bytes service fault.Memory = Unit {0}
+HasFailed disks opened net log_bytes service fault.InUse = Unit {0}
+HasFailed disks opened net log_bytes service (fault.File file why) = file.path.now ≡ service.path.now
+HasFailed disks opened net log_bytes service (fault.Manager e) =
+    HasRefused disks opened log_bytes service (fault.Manager e)
+HasFailed disks opened net log_bytes service (fault.Missing file) =
+    HasRefused disks opened log_bytes service (fault.Missing file)
+HasFailed {D} disks opened net log_bytes service fault.Listen =
+    (first : D) × (second : D) × AreWhole disks opened service.path.now first second
+    × net.refuses address service.port
+HasFailed disks opened net log_bytes service fault.Write = WasReady disks opened net log_bytes service
+HasFailed disks opened net log_bytes service fault.Start =
+    WasReady disks opened net log_bytes service × ((service.workers ≡ 0) ⊎ (MOST_WORKERS < service.workers))

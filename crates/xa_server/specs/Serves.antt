@@ -1,5 +1,5 @@
 -- What a server tells, and what holds of the history that it tells of.
-use Rattle.std.specs.Prelude.{ℕ, ◌≡◌, ◌⊎◌, Bool, List, length, Result, is_ok}
+use Rattle.std.specs.Prelude.{ℕ, ◌≡◌, ◌⊎◌, ◌+◌, List, length, Result, is_ok, vec_len}
 use Rattle.xa_disk.specs.declared.disk.Disk as disk
 use Rattle.xa_manager.specs.declared.manager.Manager.{Manager}
 use Rattle.xa_manager.specs.Opening.{HasBegun}
@@ -8,32 +8,39 @@ use Rattle.xa_model.specs.OneCopy.{HasOneCopy}
 use Rattle.xa_model.specs.State.{State}
 use Rattle.xa_room.specs.declared.auditing.AuditFault.{AuditFault}
 use Rattle.xa_room.specs.declared.book.Entry.{Entry}
-use Rattle.xa_room.specs.declared.book.Receipt.{Receipt}
 use Rattle.xa_room.specs.declared.manages.Manages.{Ghosts}
 use Rattle.xa_room.specs.Audit.{Audits}
 use Rattle.xa_room.specs.Book.{HasNoRestart, plain_entries}
+use Rattle.xa_room.specs.Gone.{WasGone}
 use Rattle.xa_room.specs.Upholds.{IsLegal, IsCounted}
 use Rattle.xa_room.specs.Promises.{Promises}
+use Rattle.xa_server.specs.declared.audited.Audited.{Audited}
+use Rattle.xa_workers.specs.declared.report.Report.{Report}
+use Rattle.xa_workers.specs.Connections.{Runs}
 
--- how many entries there are, and whether the audit of these receipts and this count found no fault
-pub record Tells (entries : List Entry) (receipts : List Receipt) (counted calls : ℕ) (is_whole : Bool) : Type 0 where
-  pub calls_are : calls ≡ length entries
+-- How many entries there are, how many receipts were dropped, and whether the audit of the report found no fault. The
+-- report counts each entry, as a receipt or as one that was dropped.
+pub record Tells {L : Type 0} (entries : List Entry) (report : Report L) (told : Audited) : Type 0 where
+  pub calls_are : told.calls ≡ length entries
+  pub dropped_are : told.dropped ≡ report.dropped
+  pub counts_all : vec_len report.receipts + report.dropped ≡ length entries
+  pub agrees : report.share.count ≡ length entries
   pub answer : Result (Unit {0}) AuditFault
-  pub audits : Audits entries receipts counted answer
-  pub found : is_whole ≡ is_ok answer
+  pub audits : Audits entries report.receipts.items report.share.count answer
+  pub found : told.is_whole ≡ is_ok answer
 
 -- From each starting state the history is a legal one, with what that promises, and tells of no more failures than were
--- counted. It has so many entries, and the audit of some receipts found that.
-pub record Serves {M : Type 0} (m : Ghosts M) (start : State → Type 0) (base : ℕ × ℕ) (calls : ℕ) (is_whole : Bool)
-    : Type 0 where
+-- counted. The report of so many workers, of the connections that they served, is what is told of it.
+pub record Serves {M : Type 0} (L : Type 0) (m : Ghosts M) (start : State → Type 0) (base : ℕ × ℕ) (workers : ℕ)
+    (told : Audited) : Type 0 where
   pub now : M
   pub entries : List Entry
-  pub receipts : List Receipt
-  pub counted_by : ℕ
+  pub report : Report L
+  pub runs : Runs (WasGone m start) workers report
   pub legal : IsLegal m start now entries
   pub promises : Promises m start now entries
   pub counted : IsCounted m start base now entries
-  pub tells : Tells entries receipts counted_by calls is_whole
+  pub tells : Tells entries report told
 
 -- ---- laws
 
@@ -50,9 +57,9 @@ pub record KeepsServed {M : Type 0} (m : Ghosts M) (manager : M) (calls : ℕ) :
       × ListsPrepared (plain_entries entries) t × ListsNoCompleted (plain_entries entries) t
 
 -- so it is of every manager that was opened
-abbrev pub ServedPromises : {D : Type 0} → disk.Ghosts D → Ghosts (Manager D) → Type 0
-ServedPromises {D} disks m =
+abbrev pub ServedPromises : {D : Type 0} → Type 0 → disk.Ghosts D → Ghosts (Manager D) → Type 0
+ServedPromises {D} L disks m =
     (manager : Manager D) (bodies : List (List ℕ)) (name : List ℕ) (log_bytes : ℕ)
     → HasBegun disks bodies name log_bytes manager
-    → (base : ℕ × ℕ) (calls : ℕ) (is_whole : Bool) → Serves m (m.stands manager) base calls is_whole
-    → KeepsServed m manager calls
+    → (base : ℕ × ℕ) (workers : ℕ) (told : Audited) → Serves L m (m.stands manager) base workers told
+    → KeepsServed m manager told.calls

@@ -1,6 +1,7 @@
 //! What is promised of what a server served.
 ghost use Rattle.xa_server.specs.Serves.{ServedPromises};
 
+use std::sync::ledger::Ledger;
 use xa_disk::Disk;
 use xa_manager::Manager;
 use xa_room::Manages;
@@ -8,6 +9,6 @@ use xa_room::Manages;
 /// What was served of a manager that was opened on a log is a legal history of an opening state. Its committed
 /// branches are one copy, and what was answered as prepared is listed until its completion is asked for. After a
 /// Restart it is so under the manager's premises.
-pub fn served_promises<D: Disk>()
-    ensures { ServedPromises D.Disk ⟦<Manager<D> as Manages>⟧ }
+pub fn served_promises<D: Disk, L: Ledger>()
+    ensures { ServedPromises L D.Disk ⟦<Manager<D> as Manages>⟧ }
 {}

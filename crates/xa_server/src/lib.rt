@@ -1,9 +1,10 @@
 //! A server: each connection of a listener is a session of one manager.
 //!
 //! - `service`: `serve`, which opens a manager over two files and serves a port, by its `Service`; `MOST_SERVED`
+//! - `listens`: `Listens`, what listens on the ports of a machine
 //! - `serving`: `serve_manager`, which has workers serve a manager's sessions at one desk, and then audits the desk's
 //!   history; `MOST_WORKERS`
-//! - `audited`: `Audited`, what it tells of the history; `audited_lines`, the two lines that show it
+//! - `audited`: `Audited`, what it tells of the history; `audited_lines`, the lines that show it
 //! - `serve_fault`: `ServeFault`, why nothing was served; `log_file`: `LogFile`, a file that it names; `fault`:
 //!   `ServerFault`, why nothing is told of it
 //! - `laws`: `served_promises`, what is promised of what was served
@@ -12,6 +13,7 @@
 mod audited;
 mod fault;
 mod laws;
+mod listens;
 mod log_file;
 mod serve_fault;
 mod service;
@@ -20,6 +22,7 @@ mod serving;
 pub use audited::{Audited, audited_lines};
 pub use fault::ServerFault;
 pub use laws::served_promises;
+pub use listens::Listens;
 pub use log_file::LogFile;
 pub use serve_fault::ServeFault;
 pub use service::{MOST_SERVED, Service, serve};

@@ -1,18 +1,20 @@
 //! A manager over two files, whose sessions are the connections of a port.
 ghost use Rattle.std.specs.Prelude.{◌≡◌, ◌↔◌, ◌++◌, ℕ, List, IfErr, IfOk, IsErrOf, OnOk, codes, string_bytes};
+ghost use Rattle.std.specs.declared.marker.Brand.{Brand};
 ghost use Rattle.xa_limits.specs.declared.TheConstants.{MOST_LOG};
 ghost use Rattle.xa_log.specs.Missing.{missing_of};
 ghost use Rattle.xa_log.specs.declared.missing.Missing.TheVariants.{Neither};
 ghost use Rattle.xa_manager.specs.Opening.{IsBadSetting, OpenRefused};
-ghost use Rattle.xa_server.specs.Served.{HasFailed, HasOpened, HasServed, IsFileFault, Refuses};
+ghost use Rattle.xa_server.specs.Served.{AreFiles, HasFailed, HasOpened, HasServed, IsFileFault, IsReady, Refuses, second_path};
 
 use crate::audited::audited_lines;
+use crate::listens::Listens;
 use crate::log_file::LogFile;
 use crate::serve_fault::ServeFault;
 use crate::serving::serve_manager;
 use std::alloc::{AllocError, Global};
 use std::io::Print;
-use std::net::{Net, TcpListener, TcpStream};
+use std::net::TcpListener;
 use std::sync::Wait;
 use std::thread::Threads;
 use xa_disk::{Disk, FileFault, Opens};
@@ -42,28 +44,15 @@ pub struct Service<'a> {
 ///
 /// Nobody is answered before the manager is open. Where the port can't be had, or a file of the log is missing, the
 /// manager isn't opened, so that nothing is written to the log.
-pub fn serve<
-    'a,
-    R: AllocGlobal
-        + Print
-        + Opens
-        + Net<Listener = TcpListener, Stream = TcpStream>
-        + Threads
-        + Wait
-        + Sync,
->(rt: &R, service: &Service<'a>) -> Result<bool, ServeFault<'a>>
-    ensures served { IfOk result (λ is_whole. HasServed ⟦<R::Disk as Disk>⟧ ⟦<Manager<R::Disk> as Manages>⟧ R.opened
-        service.now.path.now service.now.name.now MOST_LOG is_whole) }
-    ensures failed { IfErr result (λ fault. HasFailed ⟦<R::Disk as Disk>⟧ R.opened
-        service.now.path.now service.now.name.now MOST_LOG service.now.workers fault) }
+pub fn serve<'a, R: AllocGlobal + Print + Opens + Listens + Threads + Wait + Sync>(
+    rt: &R,
+    service: &Service<'a>,
+) -> Result<bool, ServeFault<'a>>
+    ensures served { IfOk result (HasServed Brand ⟦<R::Disk as Disk>⟧ ⟦<Manager<R::Disk> as Manages>⟧ R.opened
+        R.Listens MOST_LOG service.now) }
+    ensures failed { IfErr result (HasFailed ⟦<R::Disk as Disk>⟧ R.opened R.Listens MOST_LOG service.now) }
 {
-    let settings = Settings::new(rt.alloc(), service.name, MOST_LOG)?;
-    let (mut first, mut second) = open_files(rt, service.path)?;
-    none_missing(rt.alloc(), &mut first, &mut second, service.path)?;
-    let Ok(listener) = TcpListener::bind(rt, ("127.0.0.1", service.port)) else {
-        return Err(ServeFault::Listen);
-    };
-    let manager = open_manager(rt.alloc(), first, second, settings)?;
+    let (listener, manager) = make_ready(rt, service)?;
     if rt.println("ready").is_err() {
         return Err(ServeFault::Write);
     }
@@ -73,6 +62,25 @@ pub fn serve<
         Ok(()) => Ok(told.is_whole),
         Err(_) => Err(ServeFault::Write),
     }
+}
+
+// The listener, and the manager that the log's two files open to.
+fn make_ready<'a, R: AllocGlobal + Opens + Listens>(
+    rt: &R,
+    service: &Service<'a>,
+) -> Result<(TcpListener, Manager<R::Disk>), ServeFault<'a>>
+    ensures ready { IfOk result (λ made. IsReady ⟦<R::Disk as Disk>⟧ R.opened R.Listens MOST_LOG service.now
+        made.0 made.1) }
+    ensures failed { IfErr result (HasFailed ⟦<R::Disk as Disk>⟧ R.opened R.Listens MOST_LOG service.now) }
+{
+    let settings = Settings::new(rt.alloc(), service.name, MOST_LOG)?;
+    let (mut first, mut second) = open_files(rt, service.path)?;
+    none_missing(rt.alloc(), &mut first, &mut second, service.path)?;
+    let Ok(listener) = rt.listen("127.0.0.1", service.port) else {
+        return Err(ServeFault::Listen);
+    };
+    let manager = open_manager(rt.alloc(), first, second, settings)?;
+    Ok((listener, manager))
 }
 
 /// The manager that two files open to.
@@ -118,37 +126,40 @@ fn open_files<'a, R: AllocGlobal + Opens>(
     rt: &R,
     path: &'a str,
 ) -> Result<(R::Disk, R::Disk), ServeFault<'a>>
-    ensures opened { IfOk result (λ disks. R.opened disks.0 path.now × R.opened disks.1 (path.now ++ codes ".2")) }
-    ensures failed { IfErr result IsFileFault }
+    ensures opened { IfOk result (λ disks. AreFiles R.opened path.now disks.0 disks.1) }
+    ensures failed { IfErr result (IsFileFault path.now) }
 {
     let second_path = second_path(rt.alloc(), path)?;
     let first = match rt.open_disk(path) {
         Ok(disk) => disk,
-        Err(fault) => return Err(refused(path, false, fault)),
+        Err(fault) => {
+            let is_second = false;
+            return Err(refused(LogFile { path, is_second }, fault));
+        }
     };
     match rt.open_disk(second_path.as_str()) {
         Ok(second) => Ok((first, second)),
-        Err(fault) => Err(refused(path, true, fault)),
+        Err(fault) => {
+            let is_second = true;
+            Err(refused(LogFile { path, is_second }, fault))
+        }
     }
 }
 
-/// Why one of the two wasn't opened.
-fn refused(path: &str, is_second: bool, fault: FileFault) -> ServeFault<'_>
-    ensures { IsFileFault result }
+/// Why a file of the log wasn't opened.
+fn refused(file: LogFile<'_>, fault: FileFault) -> ServeFault<'_>
+    ensures { IsFileFault file.entry.path.now result }
 {
     match fault {
         FileFault::Memory => ServeFault::Memory,
         FileFault::InUse => ServeFault::InUse,
-        fault => ServeFault::File {
-            file: LogFile { path, is_second },
-            fault,
-        },
+        fault => ServeFault::File { file, fault },
     }
 }
 
 /// The path of the log's second file.
 fn second_path(alloc: Global, path: &str) -> Result<String, AllocError>
-    ensures { IfOk result (λ second. string_bytes second ≡ path.now ++ codes ".2") }
+    ensures { IfOk result (λ second. string_bytes second ≡ second_path path.now) }
 {
     format!(in alloc; "{path}.2")
 }

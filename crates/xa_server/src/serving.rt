@@ -1,7 +1,10 @@
-ghost use Rattle.std.specs.Prelude.{◌≡◌, ◌↔◌, ◌<◌, ◌⊎◌, IfErr, IfOk, IsErrOf, false};
+ghost use Rattle.std.specs.Prelude.{◌≡◌, ◌↔◌, ◌+◌, ◌<◌, ◌⊎◌, ℕ, IfErr, IfOk, IsErrOf, false, length, vec_len};
+ghost use Rattle.std.specs.declared.marker.Brand.{Brand};
 ghost use Rattle.xa_model.specs.State.{State};
+ghost use Rattle.xa_room.specs.Gone.{WasGone};
 ghost use Rattle.xa_server.specs.declared.serving.TheConstants.{MOST_WORKERS};
 ghost use Rattle.xa_server.specs.Serves.{Serves, Tells};
+ghost use Rattle.xa_workers.specs.Connections.{Runs};
 
 use crate::audited::Audited;
 use crate::fault::ServerFault;
@@ -9,19 +12,21 @@ use std::alloc::Global;
 use std::marker::Brand;
 use std::net::TcpListener;
 use std::sync::Wait;
-use std::sync::ledger::{Blank, Ledger};
+use std::sync::ledger::{Blank, Book, Ledger};
 use std::thread::Threads;
-use xa_room::{AuditFault, Desk, Manages, Room, Start, audit};
+use xa_room::{AuditFault, Desk, Manages, Room, Start, agree, audit};
 use xa_workers::{OpenGate, Report, run_workers};
 
 /// The most workers, and the parts of the ledger of which each takes some.
 pub const MOST_WORKERS: u64 = 64;
 
 /// Serves the sessions of a manager: by so many workers, 1 to `MOST_WORKERS`, until so many connections were taken. A
-/// worker serves one connection at a time. Then it tells how many entries the history has, and what its audit found.
+/// worker serves one connection at a time. Then it tells how many entries the history has, how many of their receipts
+/// found no memory, and what the audit of the others found.
 ///
 /// From whichever state the manager stood for, the history is a legal one of so many entries; its committed branches
-/// are one copy; and what was answered as prepared is listed until its completion is asked for.
+/// are one copy; and what was answered as prepared is listed until its completion is asked for. The receipts are those
+/// of the connections that the workers served, one for each entry that isn't told as dropped.
 pub fn serve_manager<M: Manages + Send + Drop, R: AllocGlobal + Threads + Wait + Sync>(
     rt: &R,
     listener: &TcpListener,
@@ -29,8 +34,8 @@ pub fn serve_manager<M: Manages + Send + Drop, R: AllocGlobal + Threads + Wait +
     workers: u64,
     connections: u64,
 ) -> Result<Audited, ServerFault>
-    ensures served { IfOk result (λ told. Serves M.Manages (M.stands manager) (M.failures manager)
-        told.calls told.is_whole) }
+    ensures served { IfOk result (λ told. Serves Brand M.Manages (M.stands manager) (M.failures manager)
+        workers told) }
     ensures workers { IsErrOf result (ServerFault.Workers workers) ↔ ((workers ≡ 0) ⊎ (MOST_WORKERS < workers)) }
     ensures fault { IfErr result (λ fault. (fault ≡ ServerFault.Memory) ⊎ (fault ≡ ServerFault.Workers workers)) }
 {
@@ -56,7 +61,7 @@ fn serve_by<
     requires base { M.failures manager ≡ S.base }
     requires name { blank.name ≡ L.name }
     requires parts { (blank.parts ≡ L.parts) × (blank.parts ≡ MOST_WORKERS) }
-    ensures served { IfOk result (λ told. Serves M.Manages S.start S.base told.calls told.is_whole) }
+    ensures served { IfOk result (λ told. Serves L M.Manages S.start S.base workers told) }
     ensures workers { IsErrOf result (ServerFault.Workers workers) ↔ ((workers ≡ 0) ⊎ (MOST_WORKERS < workers)) }
     ensures fault { IfErr result (λ fault. (fault ≡ ServerFault.Memory) ⊎ (fault ≡ ServerFault.Workers workers)) }
 {
@@ -75,28 +80,34 @@ fn serve_by<
         workers,
         connections,
     )?;
-    let (room, _book) = desk.into_room();
-    audited(rt.alloc(), &room, report)
+    let (room, book) = desk.into_room();
+    audited(rt.alloc(), &room, book, report)
 }
 
-// What is told of the room's history, by the workers' receipts.
+// What is told of the room's history, by the workers' report.
 fn audited<M: Manages, S: Start, L: Ledger>(
     alloc: Global,
     room: &Room<M, S>,
+    book: Book<L>,
     report: Report<L>,
 ) -> Result<Audited, ServerFault>
-    ensures served { IfOk result (λ told. Serves M.Manages S.start S.base told.calls told.is_whole) }
-    ensures told { IfOk result (λ told. Tells room.now.entries report.receipts.items report.share.count
-        told.calls told.is_whole) }
+    requires parts { report.share.parts ≡ L.parts }
+    requires total { book.total ≡ length room.now.entries }
+    requires count { report.share.count ≡ vec_len report.receipts + report.dropped }
+    ensures served { (workers : ℕ) → Runs (WasGone M.Manages S.start) workers report
+        → IfOk result (λ told. Serves L M.Manages S.start S.base workers told) }
+    ensures told { IfOk result (λ told. Tells room.now.entries report told) }
     ensures fault { IfErr result (λ fault. fault ≡ ServerFault.Memory) }
 {
     room.promises();
     let entries = room.entries();
     let Report {
-        share,
+        mut share,
         receipts,
-        dropped: _,
+        dropped,
     } = report;
+    let mut book = book;
+    agree(&mut book, &mut share);
     let mut shares = Vec::new(alloc);
     if shares.push(share).is_err() {
         return Err(ServerFault::Memory);
@@ -107,6 +118,7 @@ fn audited<M: Manages, S: Start, L: Ledger>(
     }
     Ok(Audited {
         calls: entries.len() as u64,
+        dropped,
         is_whole: answer.is_ok(),
     })
 }

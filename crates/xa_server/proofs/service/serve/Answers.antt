@@ -1,40 +1,30 @@
-use Rattle.std.proofs.Common.{subst}
+use Rattle.std.proofs.Common.{ap, refl, Err}
 use Rattle.std.proofs.lemmas.Result.{err_from_is_err_and}
 use Rattle.xa_limits.specs.declared.TheConstants.{MOST_LOG}
-use Rattle.xa_server.specs.Served.{HasOpened}
-use Rattle.xa_server.proofs.Failing.{failed_on_files}
-use Rattle.xa_server.proofs.Opening.{opened_before}
+use Rattle.xa_server.proofs.Failing.{failed_when_ready}
 use Rattle.xa_server.proofs.service.serve.Goals as goal
 
--- the manager was opened under the settings' name and size, which are those that were asked for
-pub returns-in-Ok-print-clause-served : goal.returns-in-Ok-print-clause-served
-returns-in-Ok-print-clause-served g c =
-    let settings = c.in_ok-settings.settings in
-    let manager = c.in_ok-manager.manager in
-    let first = c.in_ok-first.first in
-    let second = c.in_ok-first.second in
-    record {
-      first = first;
-      second = second;
-      files = c.in_ok-first.ensures.opened;
-      whole = c.in_ok-none_missing.ensures.whole;
-      manager = manager;
-      has_opened =
-          opened_before g.R.Disk.Disk first c.none_missing.new.first second c.none_missing.new.second c.args.service.now.name.now MOST_LOG manager
-          c.none_missing.ensures.same c.none_missing.ensures.same_second
-          (subst (λ name. HasOpened g.R.Disk.Disk c.none_missing.new.first c.none_missing.new.second name MOST_LOG manager) c.in_ok-settings.ensures.name
-          (subst (λ log_bytes. HasOpened g.R.Disk.Disk c.none_missing.new.first c.none_missing.new.second settings.name log_bytes manager)
-          c.in_ok-settings.ensures.log_bytes c.in_ok-manager.ensures.opened));
-      calls = c.in_ok-told.told.calls;
-      serves = c.in_ok-told.ensures.served;
-    }
+pub returns-in-Ok-clause-served : goal.returns-in-Ok-clause-served
+returns-in-Ok-clause-served g c = record {
+  listener = c.in_ok-listener.listener;
+  manager = c.in_ok-listener.manager;
+  ready = c.in_ok-listener.ensures.ready;
+  told = c.in_ok-told.told;
+  serves = c.in_ok-told.ensures.served;
+  found = refl;
+}
 
-pub returns-in_err-none_missing-clause-failed : goal.returns-in_err-none_missing-clause-failed
-returns-in_err-none_missing-clause-failed g c =
-    let told =
-    err_from_is_err_and c.from_residual-in_err-none_missing.result
-    c.from_residual-in_err-none_missing.ensures.1 in
+pub returns-then-is_err-clause-failed : goal.returns-then-is_err-clause-failed
+returns-then-is_err-clause-failed g c =
+    (c.in_ok-listener.listener, c.in_ok-listener.manager, c.in_ok-listener.ensures.ready)
+
+pub returns-clause-failed : goal.returns-clause-failed
+returns-clause-failed g c = (c.in_ok-listener.listener, c.in_ok-listener.manager, c.in_ok-listener.ensures.ready)
+
+pub returns-in_err-told-clause-failed : goal.returns-in_err-told-clause-failed
+returns-in_err-told-clause-failed g c =
+    let told = err_from_is_err_and c.from_residual-in_err-told.result c.from_residual-in_err-told.ensures.1 in
     rw (told.1, told.2)
-    (failed_on_files g.R.Disk.Disk g.R.Opens.opened c.args.service.now.path.now c.args.service.now.name.now MOST_LOG
-    c.args.service.now.workers c.in_ok-first.first c.in_ok-first.second c.in_err-none_missing.field-0.0
-    c.in_ok-first.ensures.opened (c.in_err-none_missing.ensures.failed c.args.service.now.name.now MOST_LOG))
+    (failed_when_ready g.R.Disk.Disk g.R.Opens.opened g.R.Listens MOST_LOG c.args.service.now c.in_err-told.field-0.0
+    (c.in_ok-listener.listener, c.in_ok-listener.manager, c.in_ok-listener.ensures.ready)
+    c.in_err-told.ensures.fault (λ same. c.in_err-told.ensures.workers.0 (ap Err same)))

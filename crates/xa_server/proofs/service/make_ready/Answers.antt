@@ -1,0 +1,37 @@
+use Rattle.std.proofs.Common.{subst}
+use Rattle.std.proofs.lemmas.Result.{err_from_is_err_and}
+use Rattle.xa_limits.specs.declared.TheConstants.{MOST_LOG}
+use Rattle.xa_server.specs.Served.{HasOpened}
+use Rattle.xa_server.proofs.Failing.{failed_on_files}
+use Rattle.xa_server.proofs.Opening.{opened_before}
+use Rattle.xa_server.proofs.service.make_ready.Goals as goal
+
+-- the manager was opened under the settings' name and size, which are those that were asked for
+pub returns-clause-ready : goal.returns-clause-ready
+returns-clause-ready g c =
+    let settings = c.in_ok-settings.settings in
+    let manager = c.in_ok-manager.manager in
+    let first = c.in_ok-first.first in
+    let second = c.in_ok-first.second in
+    record {
+      first = first;
+      second = second;
+      files = record { files = c.in_ok-first.ensures.opened; whole = c.in_ok-none_missing.ensures.whole };
+      listening = c.in-Ok.ensures.listens;
+      has_opened =
+          opened_before g.R.Disk.Disk first c.none_missing.new.first second c.none_missing.new.second c.args.service.now.name.now MOST_LOG manager
+          c.none_missing.ensures.same c.none_missing.ensures.same_second
+          (subst (λ name. HasOpened g.R.Disk.Disk c.none_missing.new.first c.none_missing.new.second name MOST_LOG manager) c.in_ok-settings.ensures.name
+          (subst (λ log_bytes. HasOpened g.R.Disk.Disk c.none_missing.new.first c.none_missing.new.second settings.name log_bytes manager)
+          c.in_ok-settings.ensures.log_bytes c.in_ok-manager.ensures.opened));
+    }
+
+pub returns-in_err-none_missing-clause-failed : goal.returns-in_err-none_missing-clause-failed
+returns-in_err-none_missing-clause-failed g c =
+    let told =
+    err_from_is_err_and c.from_residual-in_err-none_missing.result
+    c.from_residual-in_err-none_missing.ensures.1 in
+    rw (told.1, told.2)
+    (failed_on_files g.R.Disk.Disk g.R.Opens.opened g.R.Listens MOST_LOG c.args.service.now
+    c.in_ok-first.first c.in_ok-first.second c.in_err-none_missing.field-0.0
+    c.in_ok-first.ensures.opened (c.in_err-none_missing.ensures.failed c.args.service.now.name.now MOST_LOG))
