@@ -32,6 +32,36 @@ beats_more first [] body (d ∷ stood) wins = absurd
     later true is = cc is
     later false is = cc is
 
+-- a checkpoint that was kept, whatever stood in the other file
+pub replaced : {D : Type 0} (disks : Ghosts D) (bodies stood : List (List ℕ)) (old new : Log D) → (s : Stands disks bodies old)
+    → (format : Format) (fresh : List (List ℕ)) → old.generation < generation fresh → (o : Appended) (d : D) → o ≡ Kept
+    → Checkpointed disks o old.log_bytes format stood fresh old.other d
+    → new.disk ≡ d → new.other ≡ old.disk → new.log_bytes ≡ old.log_bytes → new.format ≡ format
+    → new.end ≡ length (text format fresh) → new.digest ≡ last (start format) fresh → new.generation ≡ generation fresh → new.lost ≡ old.lost
+    → Pair disks fresh bodies new × IsQuiet disks bodies new.other
+replaced disks bodies stood old new s format fresh less o d is left disk other most form end digest number lost =
+    let now : Checkpointed disks Kept old.log_bytes format stood fresh old.other d = subst (λ x. Checkpointed disks x old.log_bytes format stood fresh old.other d) is left in
+    let was = others_log old.format disks old.log_bytes bodies old.disk s.file s.fits s.durable in
+    let same : IsOther disks new.log_bytes bodies new.other =
+    subst (λ m. IsOther disks m bodies new.other) (sym most) (subst (λ x. IsOther disks old.log_bytes bodies x) (sym other) was.0) in
+    let quiet : IsQuiet disks bodies new.other = subst (λ x. IsQuiet disks bodies x) (sym other) was.1 in (
+      record {
+        current = record {
+          file = subst (λ k. Rests k fresh (disks.seen new.disk)) (sym form) (subst (λ x. Rests format fresh (disks.seen x)) (sym disk) now.0);
+          fits = subst (λ m. length (disks.seen new.disk) ≤ m) (sym most) (subst (λ x. length (disks.seen x) ≤ old.log_bytes) (sym disk) now.1);
+          end = subst (λ k. new.end ≡ length (text k fresh)) (sym form) end;
+          digest = subst (λ k. new.digest ≡ last (start k) fresh) (sym form) digest;
+          number = number;
+          durable = subst (λ x. Only (disks.seen x) (disks.may_leave x)) (sym disk) now.2;
+          alive = lost ∙ s.alive;
+        };
+        other = same;
+        calm_on = λ lucky. quiet.calm;
+        older = beats_above new.on_first fresh bodies (subst (λ (n : ℕ). n < generation fresh) s.number less);
+      },
+      quiet,
+    )
+
 module _ {D : Type 0} (disks : Ghosts D)
     (bodies stood : List (List ℕ)) (old new : Log D) (p : Pair disks bodies stood old) where
   -- the other file stays
@@ -69,28 +99,8 @@ module _ {D : Type 0} (disks : Ghosts D)
       → new.end ≡ length (text format fresh) → new.digest ≡ last (start format) fresh → new.generation ≡ generation fresh → new.lost ≡ old.lost
       → Checkpoints disks o bodies stood fresh new
   kept_pair format fresh less o d is left disk other most form end digest number lost =
-      let now : Left format Kept fresh d = subst (λ x. Left format x fresh d) is left in
-      let was = others_log old.format disks old.log_bytes bodies old.disk p.current.file p.current.fits p.current.durable in
-      let same : IsOther disks new.log_bytes bodies new.other =
-      subst (λ m. IsOther disks m bodies new.other) (sym most) (subst (λ x. IsOther disks old.log_bytes bodies x) (sym other) was.0) in
-      let quiet : IsQuiet disks bodies new.other = subst (λ x. IsQuiet disks bodies x) (sym other) was.1 in
-      subst (λ x. Checkpoints disks x bodies stood fresh new) (sym is) (
-        record {
-          current = record {
-            file = subst (λ k. Rests k fresh (disks.seen new.disk)) (sym form) (subst (λ x. Rests format fresh (disks.seen x)) (sym disk) now.0);
-            fits = subst (λ m. length (disks.seen new.disk) ≤ m) (sym most) (subst (λ x. length (disks.seen x) ≤ old.log_bytes) (sym disk) now.1);
-            end = subst (λ k. new.end ≡ length (text k fresh)) (sym form) end;
-            digest = subst (λ k. new.digest ≡ last (start k) fresh) (sym form) digest;
-            number = number;
-            durable = subst (λ x. Only (disks.seen x) (disks.may_leave x)) (sym disk) now.2;
-            alive = lost ∙ p.current.alive;
-          };
-          other = same;
-          calm_on = λ lucky. quiet.calm;
-          older = beats_above new.on_first fresh bodies (above fresh less);
-        },
-        quiet,
-      )
+      subst (λ x. Checkpoints disks x bodies stood fresh new) (sym is)
+      (replaced disks bodies stood old new p.current format fresh less o d is left disk other most form end digest number lost)
 
   -- the current file stays
   rests_still : new.disk ≡ old.disk → new.format ≡ old.format → Rests new.format bodies (disks.seen new.disk)

@@ -5,7 +5,7 @@ ghost use Rattle.xa_disk.specs.Time.{LeavesOnly};
 ghost use Rattle.std.specs.List.{AllByRecursion};
 ghost use Rattle.xa_log.specs.Calls.{AppendCalls, CheckpointCalls};
 ghost use Rattle.xa_log.specs.Chain.{newest, text, IsBody};
-ghost use Rattle.xa_log.specs.Checkpoint.{LeavesAny};
+ghost use Rattle.xa_log.specs.Checkpoint.{IsOther, IsQuiet, LeavesAny};
 ghost use Rattle.xa_log.specs.Pair.{generation};
 ghost use Rattle.xa_log.specs.Reading.{bodies_of};
 ghost use Rattle.xa_log.specs.Answers.{HasCause};
@@ -144,6 +144,10 @@ impl<D: Disk> Log<D> {
         requires above { self.old.generation < generation (bodies_of bodies.now) }
         ensures answer { D.honest → (old stood : List (List ℕ)) → Pair D.Disk old stood self.old
             → Checkpoints D.Disk result old stood (bodies_of bodies.now) self.new }
+        // Whatever has stood in the other file: its records are gone.
+        ensures replaces { D.honest → (old stood : List (List ℕ)) → Stands D.Disk old self.old
+            → IsOther D.Disk self.old.log_bytes stood self.old.other → result ≡ Appended.Kept
+            → Pair D.Disk (bodies_of bodies.now) old self.new × IsQuiet D.Disk old self.new.other }
         // What a crash at any moment of the call leaves of the file that is written.
         ensures any_moment { D.honest → (old stood : List (List ℕ)) → Pair D.Disk old stood self.old
             → LeavesOnly D.Disk self.old.other (written result self.new)

@@ -81,8 +81,3 @@ pub next_above : (g : ℕ) (bodies : List (List ℕ)) (o : Option NextBoot) → 
     → IfSome o (λ next. generation bodies < generation (bodies_of next.bodies.items))
     → IfSome o (λ next. g < generation (bodies_of next.bodies.items))
 next_above g bodies o is above = subst (λ (n : ℕ). IfSome o (λ next. n < generation (bodies_of next.bodies.items))) (sym is) above
-
--- no bodies are given
-pub none_given : (xs : List (Vec ℕ Global)) → length xs ≡ 0 → bodies_of xs ≡ []
-none_given [] e = refl
-none_given (x ∷ xs) e = absurd (omega (arith, e))

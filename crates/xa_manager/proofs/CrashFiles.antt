@@ -11,7 +11,7 @@ use Rattle.xa_record.specs.Spelling.{spelled}
 use Rattle.xa_record.specs.declared.record.Record.{Record}
 use Rattle.xa_record.specs.declared.record.Record.TheVariants as logged
 use Rattle.xa_log.specs.Chain.{newest, NoChance, IsPlain, IsBeforeOrAfter}
-use Rattle.xa_log.specs.Pair.{generation, has_log, Behind, CalmTears, IsCalm}
+use Rattle.xa_log.specs.Pair.{generation, Behind, CalmTears, IsCalm}
 use Rattle.xa_log.specs.Checkpoint.{LeavesOf, LeavesAny, SealTears}
 use Rattle.xa_log.specs.Laws.{IsLogOf}
 use Rattle.xa_log.specs.Stands.{Leaves}
@@ -61,7 +61,7 @@ survived_settles rs s r h k is =
 
 files_for : (most : ℕ) (first : Bool) (rs : List Record) (s : State) (current other : List ℕ) → AreFilesOf most first (map spelled rs) current other
     → Settles rs s → FilesStandFor most (cond first current other) (cond first other current) s
-files_for most first rs s current other f settles = record { whole = f.whole; stray = f.stray; records = rs; logged = f.logged; settles = settles }
+files_for most first rs s current other f settles = record { whole = f.whole; records = rs; logged = f.logged; settles = settles }
 
 -- the records, or those that settle the fate of the one that was lost
 abbrev Either : ℕ → Bool → List Record → State → Option Record → List ℕ → List ℕ → Type 0
@@ -122,12 +122,12 @@ module _ {D : Type 0} (disks : Ghosts D) (log : Log D) where
 
   of_seal : (rs : List Record) (s : State) (boot : ℕ) (current other : List ℕ)
       → MaySeal disks (map spelled rs) (map spelled (snapshot (durable s) boot)) log → current ≡ disks.seen log.disk
-      → LeavesOf log.log_bytes (map spelled (snapshot (durable s) boot)) other → has_log other ≡ true
+      → LeavesOf log.log_bytes (map spelled (snapshot (durable s) boot)) other
       → IsCalm (map spelled (snapshot (durable s) boot)) other → Ends rs s (logged.Opened boot) current other
-  of_seal rs s boot current other p is leaves front calm =
+  of_seal rs s boot current other p is leaves calm =
       subst (λ (x : List ℕ). Ends rs s (logged.Opened boot) x other) (sym is)
       (files_of_seal log.log_bytes log.on_first (map spelled rs) (map spelled (snapshot (durable s) boot)) (disks.seen log.disk) other
-      (record { format = log.format; fits = p.fits; rests = p.file }) leaves front calm p.above)
+      (record { format = log.format; fits = p.fits; rests = p.file }) leaves calm p.above)
 
   -- ---- what a read gives
 
@@ -143,7 +143,7 @@ module _ {D : Type 0} (disks : Ghosts D) (log : Log D) where
 
   read_seal : (rs : List Record) (s : State) (boot : ℕ) → SealTears disks.tears → MayHaveRecord disks rs s (logged.Opened boot) log
       → Ends rs s (logged.Opened boot) (disks.seen log.disk) (disks.seen log.other)
-  read_seal rs s boot lucky p = of_seal rs s boot (disks.seen log.disk) (disks.seen log.other) p refl p.other p.front (p.calm_on lucky)
+  read_seal rs s boot lucky p = of_seal rs s boot (disks.seen log.disk) (disks.seen log.other) p refl p.other (p.calm_on lucky)
 
   module _ (t : Trusts disks) where
     read_lost : (rs : List Record) (s : State) (r : Record) → ((boot : ℕ) × (r ≡ logged.Opened boot)) ⊎ IsAppended rs s r
@@ -176,7 +176,7 @@ module _ {D : Type 0} (disks : Ghosts D) (log : Log D) where
 
     crash_seal : (rs : List Record) (s : State) (boot : ℕ) → MayHaveCalmRecord disks rs s (logged.Opened boot) log current other
         → Ends rs s (logged.Opened boot) current other
-    crash_seal rs s boot (p, calm) = of_seal rs s boot current other p (p.durable current one) (p.left other two) (p.left_front other two) calm
+    crash_seal rs s boot (p, calm) = of_seal rs s boot current other p (p.durable current one) (p.left other two) calm
 
     crash_lost : (rs : List Record) (s : State) (r : Record) → ((boot : ℕ) × (r ≡ logged.Opened boot)) ⊎ IsAppended rs s r
         → MayHaveCalmRecord disks rs s r log current other → Ends rs s r current other
@@ -243,7 +243,7 @@ checkpoint_files {D} disks log rs t boot stood current other p above h k is one 
     by (inl leaves) = inl (λ calm. old (files_of_other log.log_bytes log.on_first (map spelled rs) stood current other l leaves calm p.older))
     by (inr (inl none)) = inr (inl (old (files_of_none log.log_bytes log.on_first newest (map spelled rs) current other l none)))
     by (inr (inr leaves)) = inr (inr (λ calm. ⊎_elim old fresh
-        (files_of_seal log.log_bytes log.on_first (map spelled rs) (snapshot_bodies t boot) current other l leaves.0 leaves.1 calm above)))
+        (files_of_seal log.log_bytes log.on_first (map spelled rs) (snapshot_bodies t boot) current other l leaves.0 calm above)))
 
 -- ---- in the order of the two
 

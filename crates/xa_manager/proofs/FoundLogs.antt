@@ -1,26 +1,56 @@
--- What two files that were read have.
-use Rattle.std.proofs.Common.{◌≡◌, ℕ, List, sym, subst, ◌∙◌}
-use Rattle.std.specs.Prelude.{Result, Ok, Err, IfOk, Vec}
-use Rattle.std.specs.declared.alloc.Global.{Global}
+-- What the log of two files is, and what becomes of it.
+use Rattle.std.proofs.Common.{◌≡◌, ◌+◌, ◌<◌, ℕ, Bool, true, false, List, [], ◌∷◌, ◌++◌, length, sym, ◌∙◌, ap, subst, arith}
 use Rattle.xa_disk.specs.declared.disk.Disk.{Ghosts}
-use Rattle.xa_log.specs.Chain.{logged}
-use Rattle.xa_log.specs.Reading.{bodies_of}
-use Rattle.xa_log.specs.TwoFiles.{IsOpenPair, NoStray, first_of, second_of}
+use Rattle.xa_log.specs.Chain.{newest, text}
+use Rattle.xa_log.specs.Checkpoint.{IsOther}
+use Rattle.xa_log.specs.Stands.{Stands, EndsBehind, Moves}
+use Rattle.xa_log.specs.TwoFiles.{Pair, AppendsTo, Swaps}
+use Rattle.xa_log.specs.declared.appending.Appended.{Appended}
+use Rattle.xa_log.specs.declared.appending.Appended.TheVariants.{Kept}
+use Rattle.xa_log.specs.declared.format.Format.{Format}
 use Rattle.xa_log.specs.declared.log.Log.{Log}
-use Rattle.xa_log.proofs.Opens.{opened_law}
-use Rattle.xa_log.specs.declared.fault.OpenFault.{OpenFault}
-use Rattle.xa_manager.specs.Opening.{HasBodies}
+use Rattle.xa_manager.specs.Opening.{HasBodies, IsFound}
+use Rattle.xa_manager.proofs.LogLengths.{one_size, none_size}
 
--- a log that was opened has its bodies, where nothing stray stands in the files
-pub opened_has : {D : Type 0} (disks : Ghosts D) (a b a' b' : List ℕ)
-    (r : Result (Log D × Vec (Vec ℕ Global) Global) OpenFault)
-    → IfOk r (λ x. IsOpenPair disks (bodies_of x.1.items) (logged (disks.seen x.0.other)) x.0)
-    → IfOk r (λ x. (disks.seen (first_of x.0) ≡ a') × (disks.seen (second_of x.0) ≡ b')) → a' ≡ a → b' ≡ b
-    → IfOk r (λ x. NoStray a b → HasBodies disks (bodies_of x.1.items) x.0)
-opened_has disks a b a' b' (Ok x) pair same ea eb =
-    λ stray. (
-      logged (disks.seen x.0.other),
-      opened_law disks (bodies_of x.1.items) x.0 pair
-          (subst (λ (l : List ℕ). NoStray l (disks.seen (second_of x.0))) (sym (same.0 ∙ ea)) (subst (λ (l : List ℕ). NoStray a l) (sym (same.1 ∙ eb)) stray)),
-    )
-opened_has disks a b a' b' (Err e) pair same ea eb = tt
+-- it stands, whatever stands in the other file
+pub record FoundStands {D : Type 0} (disks : Ghosts D) (bodies : List (List ℕ)) (log : Log D) : Type 0 where
+  pub stood : List (List ℕ)
+  pub current : Stands disks bodies log
+  pub other : IsOther disks log.log_bytes stood log.other
+
+pub found_stands : {D : Type 0} (disks : Ghosts D) (is_new : Bool) (bodies : List (List ℕ)) (log : Log D) → IsFound disks is_new bodies log → FoundStands disks bodies log
+found_stands disks true bodies log (stood, p) = record { stood = stood; current = p.current; other = p.other }
+found_stands disks false bodies log (stood, p) = record { stood = stood; current = p.current; other = p.other }
+
+-- one that was made
+pub found_new : {D : Type 0} (disks : Ghosts D) (is_new : Bool) (bodies : List (List ℕ)) (log : Log D) → is_new ≡ true → bodies ≡ [] → IsFound disks is_new bodies log
+    → HasBodies disks [] log
+found_new disks is_new bodies log is none found =
+    subst (λ (b : List (List ℕ)). HasBodies disks b log) none (subst (λ (t : Bool). IsFound disks t bodies log) is found)
+
+-- its first record
+pub first_kept : {D : Type 0} (disks : Ghosts D) (o : Appended) (stood : List (List ℕ)) (body : List ℕ) (bodies : List (List ℕ)) (log : Log D) → o ≡ Kept → bodies ≡ body ∷ []
+    → AppendsTo disks o [] body stood log → HasBodies disks bodies log
+first_kept disks o stood body bodies log kept one went =
+    (stood, subst (λ (b : List (List ℕ)). Pair disks b stood log) (sym one) (subst (λ (x : Appended). AppendsTo disks x [] body stood log) kept went))
+
+-- where its next record begins then
+pub first_ends : {D : Type 0} (o : Appended) (old new : Log D) (was bodies : List (List ℕ)) (body : List ℕ) → o ≡ Kept → was ≡ [] → bodies ≡ body ∷ []
+    → Moves o (length body) old new → EndsBehind was old → EndsBehind bodies new
+first_ends o old new was bodies body kept none one moves ends =
+    let now : Moves Kept (length body) old new = subst (λ (x : Appended). Moves x (length body) old new) kept moves in
+    let none_end : old.end ≡ length (text old.format []) = ends.end ∙ ap (λ (b : List (List ℕ)). length (text old.format b)) none in
+    let end : new.end ≡ length (text new.format (body ∷ [])) = omega (arith, now.0, none_end, none_size old.format, one_size new.format body) in
+    record {
+      end = end ∙ ap (λ (b : List (List ℕ)). length (text new.format b)) (sym one);
+      alive = now.2 ∙ ends.alive;
+    }
+
+-- and of a checkpoint
+pub replaced_ends : {D : Type 0} (o : Appended) (old new : Log D) (was bodies : List (List ℕ)) → o ≡ Kept → Swaps o bodies old new → EndsBehind was old → EndsBehind bodies new
+replaced_ends o old new was bodies kept swaps ends =
+    let now : Swaps Kept bodies old new = subst (λ (x : Appended). Swaps x bodies old new) kept swaps in
+    record {
+      end = now.3 ∙ ap (λ (f : Format). length (text f bodies)) (sym now.2);
+      alive = now.5 ∙ ends.alive;
+    }

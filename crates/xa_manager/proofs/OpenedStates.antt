@@ -6,7 +6,6 @@ use Rattle.xa_disk.specs.declared.disk.Disk.{Ghosts}
 use Rattle.xa_record.specs.Spelling.{spelled}
 use Rattle.xa_record.specs.declared.record.Record.{Record}
 use Rattle.xa_log.specs.Pair.{pair_fault, logged_pair}
-use Rattle.xa_log.specs.TwoFiles.{NoStray}
 use Rattle.xa_model.specs.declared.outcome.Outcome.TheVariants.{Reread}
 use Rattle.xa_model.specs.declared.outcome.Appending.TheVariants.{Kept}
 use Rattle.xa_model.specs.State.{State}
@@ -29,7 +28,7 @@ use Rattle.xa_manager.specs.declared.manager.Manager.{Manager}
 use Rattle.xa_manager.specs.declared.fault.ManagerFault.{ManagerFault}
 use Rattle.xa_manager.specs.declared.fault.ManagerFault.TheVariants as fault
 use Rattle.xa_manager.specs.Managed.{ManagerStandsFor}
-use Rattle.xa_manager.specs.Opening.{HasBegun, BootRefused, OpenRefused, has_boot_room}
+use Rattle.xa_manager.specs.Opening.{HasBegun, HasBegunOn, BootRefused, OpenRefused, has_boot_room}
 use Rattle.xa_manager.specs.Files.{FilesStandFor, Settles}
 use Rattle.xa_manager.proofs.Generations.{same_records}
 
@@ -50,6 +49,18 @@ begun_map : {D : Type 0} (r : Result (Manager D) ManagerFault) (P Q : Manager D 
 begun_map (Ok m) P Q f h = f m h
 begun_map (Err e) P Q f h = tt
 
+-- on honest disks it began with what a read gives
+pub begun_read : {D : Type 0} (disks : Ghosts D) (r : Result (Manager D) ManagerFault) (a b : List ℕ) (name : List ℕ) (log_bytes : ℕ) → disks.honest
+    → IfOk r (HasBegunOn disks a b name log_bytes) → IfOk r (HasBegun disks (logged_pair a b) name log_bytes)
+begun_read disks r a b name log_bytes h begun =
+    begun_map r (HasBegunOn disks a b name log_bytes) _ (λ m it. subst (λ (l : List (List ℕ)). HasBegun disks l name log_bytes m) (sym (it.read h)) it.begun) begun
+
+-- what it began with is what a read gives of the two files
+pub begun_on : {D : Type 0} (disks : Ghosts D) (r : Result (Manager D) ManagerFault) (a b : List ℕ) (bodies : List (List ℕ)) (name : List ℕ) (log_bytes : ℕ)
+    → (disks.honest → logged_pair a b ≡ bodies) → IfOk r (HasBegun disks bodies name log_bytes) → IfOk r (HasBegunOn disks a b name log_bytes)
+begun_on disks r a b bodies name log_bytes read begun =
+    begun_map r (HasBegun disks bodies name log_bytes) _ (λ m it. record { bodies = bodies; begun = it; read = read }) begun
+
 no_records : (rs : List Record) → map spelled rs ≡ [] → rs ≡ []
 no_records [] e = refl
 no_records (r ∷ rs) e = absurd (cc e)
@@ -58,11 +69,6 @@ none_logged : (a b : List ℕ) → a ≡ [] → b ≡ [] → logged_pair a b ≡
 none_logged [] [] ea eb = refl
 none_logged (x ∷ a) b ea eb = absurd (cc ea)
 none_logged [] (y ∷ b) ea eb = absurd (cc eb)
-
-none_stray : (a b : List ℕ) → a ≡ [] → b ≡ [] → NoStray a b
-none_stray [] [] ea eb = ((λ e. refl), (λ e. refl))
-none_stray (x ∷ a) b ea eb = absurd (cc ea)
-none_stray [] (y ∷ b) ea eb = absurd (cc eb)
 
 below_limit : (n : ℕ) → n < MOST_BOOTS → nat_lt n MOST_BOOTS ≡ true
 below_limit n less = grind (arith, nat_tests)
@@ -95,10 +101,10 @@ module _ {D : Type 0} (disks : Ghosts D) where
       (begun.stands (opening nothing name log_bytes 1) (subst (λ (x : Durable). IsRestored x (x.boot + 1) (opening nothing name log_bytes 1)) same it) refl refl refl)
 
   pub fresh_opened : (r : Result (Manager D) ManagerFault) (name : List ℕ) (log_bytes : ℕ) (a b : List ℕ)
-      → (NoStray a b → IfOk r (HasBegun disks (logged_pair a b) name log_bytes)) → a ≡ [] → b ≡ [] → IfOk r (λ m. ManagerStandsFor disks m (fresh name log_bytes))
+      → IfOk r (HasBegun disks (logged_pair a b) name log_bytes) → a ≡ [] → b ≡ [] → IfOk r (λ m. ManagerStandsFor disks m (fresh name log_bytes))
   fresh_opened r name log_bytes a b h ea eb =
       begun_map r (HasBegun disks (logged_pair a b) name log_bytes) _
-      (λ m begun. fresh_one m name log_bytes (subst (λ (l : List (List ℕ)). HasBegun disks l name log_bytes m) (none_logged a b ea eb) begun)) (h (none_stray a b ea eb))
+      (λ m begun. fresh_one m name log_bytes (subst (λ (l : List (List ℕ)). HasBegun disks l name log_bytes m) (none_logged a b ea eb) begun)) h
 
   -- the state whose last record's fate is known
   opened_one : (m : Manager D) (name : List ℕ) (log_bytes : ℕ) (bodies : List (List ℕ)) (rs : List Record) (t : State) → HasBegun disks bodies name log_bytes m
@@ -134,8 +140,8 @@ module _ {D : Type 0} (disks : Ghosts D) where
       )
 
   pub reopens_opened : (r : Result (Manager D) ManagerFault) (s : State) (name : List ℕ) (log_bytes : ℕ) (a b : List ℕ) → IsRecoverable s → FilesStandFor log_bytes a b s
-      → (NoStray a b → IfOk r (HasBegun disks (logged_pair a b) name log_bytes))
+      → IfOk r (HasBegun disks (logged_pair a b) name log_bytes)
       → IfOk r (λ m. (found : Bool) × IsSomeAnd (step s (Reopened name log_bytes) (Reread found (Some Kept))) (λ x. ManagerStandsFor disks m x.after))
   reopens_opened r s name log_bytes a b rec files h =
       begun_map r (HasBegun disks (logged_pair a b) name log_bytes) _
-      (λ m begun. reopens_one m s name log_bytes (logged_pair a b) files.records rec files.logged files.settles begun) (h files.stray)
+      (λ m begun. reopens_one m s name log_bytes (logged_pair a b) files.records rec files.logged files.settles begun) h

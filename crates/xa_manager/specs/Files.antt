@@ -3,7 +3,6 @@ use Rattle.std.specs.Prelude.{◌≡◌, ◌⊎◌, ℕ, None, Some, List, map}
 use Rattle.xa_record.specs.Spelling.{spelled}
 use Rattle.xa_record.specs.declared.record.Record.{Record}
 use Rattle.xa_log.specs.Pair.{pair_fault, logged_pair}
-use Rattle.xa_log.specs.TwoFiles.{NoStray}
 use Rattle.xa_model.specs.State.{State}
 use Rattle.xa_model.specs.Backing.{Backs}
 use Rattle.xa_model.specs.Restarting.{missed, survived}
@@ -15,7 +14,6 @@ Settles rs s = Backs rs (missed s) ⊎ ((r : Record) × (s.open_record ≡ Some 
 -- the bytes of two files are a log of such records, which an opening accepts
 pub record FilesStandFor (most : ℕ) (first second : List ℕ) (s : State) : Type 0 where
   pub whole : pair_fault most first second ≡ None
-  pub stray : NoStray first second
   pub records : List Record
   pub logged : logged_pair first second ≡ map spelled records
   pub settles : Settles records s

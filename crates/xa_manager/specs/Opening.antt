@@ -3,7 +3,7 @@ use Rattle.std.specs.Prelude.{◌≡◌, ◌≢◌, ◌⊎◌, ◌≤◌, ◌<�
 use Rattle.xa_disk.specs.declared.disk.Disk.{Ghosts}
 use Rattle.xa_record.specs.declared.record.Record.{Record}
 use Rattle.xa_log.specs.Pair.{pair_fault, logged_pair}
-use Rattle.xa_log.specs.TwoFiles.{Pair}
+use Rattle.xa_log.specs.TwoFiles.{Pair, IsOpenPair}
 use Rattle.xa_log.specs.declared.fault.OpenFault.{OpenFault}
 use Rattle.xa_log.specs.declared.fault.OpenFault.TheVariants as log
 use Rattle.xa_log.specs.declared.format.TheConstants.{PREAMBLE_BYTES}
@@ -28,6 +28,13 @@ IsBadSetting name log_bytes = (MOST_INFO < length name) ⊎ (log_bytes < LEAST_L
 -- the current file has these bodies, and the other one comes behind it
 abbrev pub HasBodies : {D : Type 0} → Ghosts D → List (List ℕ) → Log D → Type 0
 HasBodies disks bodies log = (stood : List (List ℕ)) × Pair disks bodies stood log
+
+-- The log that two files gave, with its bodies. One that was made has none, and the other file is empty. One that was
+-- opened has those that were read; what stands in the other file goes with the first checkpoint, so nothing is asked of
+-- it.
+abbrev pub IsFound : {D : Type 0} → Ghosts D → Bool → List (List ℕ) → Log D → Type 0
+IsFound disks true bodies log = HasBodies disks bodies log
+IsFound disks false bodies log = (stood : List (List ℕ)) × IsOpenPair disks bodies stood log
 
 -- why two files gave no log
 abbrev pub LogRefused : OpenFault → ℕ → List ℕ → List ℕ → Type 0
@@ -60,6 +67,13 @@ pub record HasBegun {D : Type 0} (disks : Ghosts D) (bodies : List (List ℕ)) (
   pub stands : (s : State) → IsRestored durable (durable.boot + 1) s → s.name ≡ name → s.log_bytes ≡ log_bytes
       → s.sessions ≡ []
       → ManagerStandsFor disks m s
+
+-- A boot began with the bodies of two files: where the disks are honest, with those that a read gives.
+pub record HasBegunOn {D : Type 0} (disks : Ghosts D) (first second : List ℕ) (name : List ℕ) (log_bytes : ℕ)
+    (m : Manager D) : Type 0 where
+  pub bodies : List (List ℕ)
+  pub begun : HasBegun disks bodies name log_bytes m
+  pub read : disks.honest → logged_pair first second ≡ bodies
 
 -- why no boot began with these bodies
 abbrev pub BootRefused : ManagerFault → List (List ℕ) → ℕ → Type 0

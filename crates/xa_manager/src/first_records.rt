@@ -4,24 +4,27 @@ ghost use Rattle.xa_log.specs.Chain.{IsBody, newest, text};
 ghost use Rattle.xa_log.specs.Pair.{generation};
 ghost use Rattle.xa_log.specs.Reading.{bodies_of};
 ghost use Rattle.xa_limits.specs.declared.TheConstants.{LENGTH_BYTES};
-ghost use Rattle.xa_manager.specs.Opening.{HasBodies};
+ghost use Rattle.xa_log.specs.Stands.{EndsBehind};
+ghost use Rattle.xa_manager.specs.Opening.{HasBodies, IsFound};
 
 use xa_disk::Disk;
 use xa_log::{Appended, Log};
 
-/// Logs the first records of a boot: a log without records gets its first, and else a new file begins with them.
-pub(crate) fn log_first<D: Disk>(log: &mut Log<D>, is_empty: bool, bodies: &[Vec<u8>]) -> Appended
+/// Logs the first records of a boot: a log that was just made gets its first one, and else a new file begins with them.
+pub(crate) fn log_first<D: Disk>(log: &mut Log<D>, is_new: bool, bodies: &[Vec<u8>]) -> Appended
     requires some { 1 ≤ length bodies.now }
     requires sizes { AllByRecursion IsBody (bodies_of bodies.now) }
     requires above { log.old.generation < generation (bodies_of bodies.now) }
-    ensures kept { D.honest → result ≡ Appended.Kept → (old : List (List ℕ)) → (is_empty ≡ true → old ≡ [])
-        → HasBodies D.Disk old log.old → HasBodies D.Disk (bodies_of bodies.now) log.new }
-    ensures full { D.honest → result ≡ Appended.Full → (old : List (List ℕ)) → (is_empty ≡ true → old ≡ [])
-        → HasBodies D.Disk old log.old
+    ensures kept { D.honest → result ≡ Appended.Kept → (old : List (List ℕ)) → (is_new ≡ true → old ≡ [])
+        → IsFound D.Disk is_new old log.old → HasBodies D.Disk (bodies_of bodies.now) log.new }
+    ensures ends { result ≡ Appended.Kept → (old : List (List ℕ)) → (is_new ≡ true → old ≡ [])
+        → EndsBehind old log.old → EndsBehind (bodies_of bodies.now) log.new }
+    ensures full { result ≡ Appended.Full → (old : List (List ℕ)) → (is_new ≡ true → old ≡ [])
+        → EndsBehind old log.old
         → log.old.log_bytes < length (text newest (bodies_of bodies.now)) + LENGTH_BYTES }
     ensures settings { log.new.log_bytes ≡ log.old.log_bytes }
 {
-    if is_empty && bodies.len() == 1 {
+    if is_new && bodies.len() == 1 {
         log.append(&bodies[0])
     } else {
         log.checkpoint(bodies)

@@ -1,8 +1,8 @@
-ghost use Rattle.std.specs.Prelude.{◌≡◌, ◌≤◌, ◌<◌, ◌⊎◌, ◌↔◌, Bool, List, ℕ, [], IfOk, IfErr, OnOk, IsErrOf, IsSomeAnd, Some, None, length};
+ghost use Rattle.std.specs.Prelude.{◌≡◌, ◌≤◌, ◌<◌, ◌⊎◌, ◌↔◌, Bool, true, List, ℕ, [], IfOk, IfErr, OnOk, IsErrOf, IsSomeAnd, Some, None, length};
 ghost use Rattle.xa_limits.specs.declared.TheConstants.{MOST_LOG};
 ghost use Rattle.xa_log.specs.Pair.{generation, pair_fault, logged_pair};
 ghost use Rattle.xa_log.specs.Reading.{bodies_of};
-ghost use Rattle.xa_log.specs.TwoFiles.{NoStray};
+ghost use Rattle.xa_log.specs.Stands.{EndsBehind};
 ghost use Rattle.xa_model.specs.declared.outcome.Outcome.TheVariants.{Reread};
 ghost use Rattle.xa_model.specs.declared.outcome.Appending.TheVariants.{Kept};
 ghost use Rattle.xa_model.specs.State.{State};
@@ -13,7 +13,7 @@ ghost use Rattle.xa_model.specs.History.{fresh};
 ghost use Rattle.xa_manager.specs.Files.{FilesStandFor};
 ghost use Rattle.xa_manager.specs.LogStands.{Trusts};
 ghost use Rattle.xa_manager.specs.Managed.{ManagerStandsFor};
-ghost use Rattle.xa_manager.specs.Opening.{IsBadSetting, HasBodies, HasBegun, LogRefused, BootRefused, OpenRefused};
+ghost use Rattle.xa_manager.specs.Opening.{IsBadSetting, IsFound, HasBegun, HasBegunOn, LogRefused, BootRefused, OpenRefused};
 
 use crate::boots::{NextBoot, Planned, plan};
 use crate::fault::ManagerFault;
@@ -41,9 +41,8 @@ impl<D: Disk + Drop> Manager<D> {
         settings: Settings,
     ) -> Result<Manager<D>, ManagerFault>
         ensures setting { IsErrOf result ManagerFault.Setting ↔ IsBadSetting settings.name settings.log_bytes }
-        ensures begun { D.honest → NoStray (D.seen first) (D.seen second)
-            → IfOk result (HasBegun D.Disk (logged_pair (D.seen first) (D.seen second))
-            settings.name settings.log_bytes) }
+        ensures begun { IfOk result
+            (HasBegunOn D.Disk (D.seen first) (D.seen second) settings.name settings.log_bytes) }
         // On empty disks it is a new manager; on files that stand for a state it stands for that state's opening.
         ensures fresh { Trusts D.Disk → D.seen first ≡ [] → D.seen second ≡ []
             → IfOk result (λ m. ManagerStandsFor D.Disk m (fresh settings.name settings.log_bytes)) }
@@ -60,7 +59,7 @@ impl<D: Disk + Drop> Manager<D> {
             return Err(ManagerFault::Setting);
         }
         match open_log(alloc, first, second, log_bytes) {
-            Ok((log, bodies)) => begin(alloc, log, bodies.as_slice(), name, log_bytes),
+            Ok((log, bodies, is_new)) => begin(alloc, log, &bodies, is_new, name, log_bytes),
             Err(fault) => Err(ManagerFault::Log(fault)),
         }
     }
@@ -71,12 +70,15 @@ fn begin<D: Disk + Drop>(
     alloc: Global,
     mut log: Log<D>,
     bodies: &[Vec<u8>],
+    is_new: bool,
     name: Bytes,
     log_bytes: u64,
 ) -> Result<Manager<D>, ManagerFault>
     requires limit { log_bytes ≤ MOST_LOG }
     requires number { log.generation ≡ generation (bodies_of bodies.now) }
-    ensures begun { D.honest → HasBodies D.Disk (bodies_of bodies.now) log → log.log_bytes ≡ log_bytes
+    requires made { is_new ≡ true → bodies_of bodies.now ≡ [] }
+    requires ends { EndsBehind (bodies_of bodies.now) log }
+    ensures begun { (D.honest → IsFound D.Disk is_new (bodies_of bodies.now) log) → log.log_bytes ≡ log_bytes
         → IfOk result (HasBegun D.Disk (bodies_of bodies.now) name log_bytes) }
     ensures refused { IfErr result (λ e. BootRefused e (bodies_of bodies.now) log_bytes) }
 {
@@ -95,7 +97,7 @@ fn begin<D: Disk + Drop>(
     if !begins_with_room(&first, prepared, completed, log_bytes) {
         return Err(ManagerFault::LogFull);
     }
-    match log_first(&mut log, bodies.is_empty(), &first) {
+    match log_first(&mut log, is_new, &first) {
         Appended::Kept => {}
         Appended::Refused | Appended::Lost | Appended::Full => return Err(ManagerFault::Device),
     }
@@ -115,17 +117,18 @@ fn begin<D: Disk + Drop>(
     })
 }
 
-/// The log of two disks with its bodies: makes one where both disks are empty, and else opens the one that they have.
-/// Both lengths are asked first.
+/// The log of two disks with its bodies, and whether it was made: one is made where both disks are empty, and else the
+/// one that they have is opened. Both lengths are asked first.
 pub(crate) fn open_log<D: Disk + Drop>(
     alloc: Global,
     mut first: D,
     mut second: D,
     log_bytes: u64,
-) -> Result<(Log<D>, Vec<Vec<u8>>), OpenFault>
+) -> Result<(Log<D>, Vec<Vec<u8>>, bool), OpenFault>
     ensures logged { D.honest → IfOk result (λ r. logged_pair (D.seen first) (D.seen second) ≡ bodies_of r.1.items) }
-    ensures log { D.honest
-        → IfOk result (λ r. NoStray (D.seen first) (D.seen second) → HasBodies D.Disk (bodies_of r.1.items) r.0) }
+    ensures log { D.honest → IfOk result (λ r. IsFound D.Disk r.2 (bodies_of r.1.items) r.0) }
+    ensures made { IfOk result (λ r. r.2 ≡ true → bodies_of r.1.items ≡ []) }
+    ensures ends { IfOk result (λ r. EndsBehind (bodies_of r.1.items) r.0) }
     ensures whole { D.honest
         → OnOk result (((D.seen first ≡ []) × (D.seen second ≡ []))
         ⊎ (pair_fault log_bytes (D.seen first) (D.seen second) ≡ None)) }
@@ -137,7 +140,8 @@ pub(crate) fn open_log<D: Disk + Drop>(
     let other_len = second.length()?;
     if len == 0 && other_len == 0 {
         let log = Log::create(alloc, first, second, log_bytes)?;
-        return Ok((log, Vec::new(alloc)));
+        return Ok((log, Vec::new(alloc), true));
     }
-    Log::open(alloc, first, second, log_bytes)
+    let (log, bodies) = Log::open(alloc, first, second, log_bytes)?;
+    Ok((log, bodies, false))
 }

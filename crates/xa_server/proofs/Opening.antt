@@ -1,13 +1,12 @@
 -- What a manager that was opened is, from each clause of its opening.
-use Rattle.std.proofs.Common.{ℕ, ◌≡◌, ◌∙◌, Bool, List, [], Result, Ok, Err, Some, IfOk, IsSomeAnd, subst, sym}
+use Rattle.std.proofs.Common.{ℕ, ◌≡◌, ◌∙◌, Bool, List, [], Result, Ok, Err, Some, IfOk, IsSomeAnd, ap, subst, sym}
 use Rattle.xa_disk.specs.declared.disk.Disk as disk
 use Rattle.xa_log.specs.Pair.{logged_pair}
-use Rattle.xa_log.specs.TwoFiles.{NoStray}
 use Rattle.xa_manager.specs.declared.manager.Manager.{Manager}
 use Rattle.xa_manager.specs.Files.{FilesStandFor}
 use Rattle.xa_manager.specs.LogStands.{Trusts}
 use Rattle.xa_manager.specs.Managed.{ManagerStandsFor}
-use Rattle.xa_manager.specs.Opening.{HasBegun}
+use Rattle.xa_manager.specs.Opening.{HasBegunOn}
 use Rattle.xa_model.specs.declared.outcome.Appending.TheVariants.{Kept}
 use Rattle.xa_model.specs.declared.outcome.Outcome.TheVariants.{Reread}
 use Rattle.xa_model.specs.History.{fresh}
@@ -19,8 +18,7 @@ use Rattle.xa_server.specs.Served.{HasOpened}
 
 pub has_opened : {D E : Type 0} (disks : disk.Ghosts D) (first second : D) (name : List ℕ) (log_bytes : ℕ)
     (result : Result (Manager D) E)
-    → (disks.honest → NoStray (disks.seen first) (disks.seen second)
-    → IfOk result (HasBegun disks (logged_pair (disks.seen first) (disks.seen second)) name log_bytes))
+    → IfOk result (HasBegunOn disks (disks.seen first) (disks.seen second) name log_bytes)
     → (Trusts disks → disks.seen first ≡ [] → disks.seen second ≡ []
     → IfOk result (λ m. ManagerStandsFor disks m (fresh name log_bytes)))
     → (Trusts disks → (s : State) → IsRecoverable s
@@ -39,12 +37,13 @@ pub opened_before : {D : Type 0} (disks : disk.Ghosts D) (first first' second se
     → (disks.honest → disks.seen first' ≡ disks.seen first) → (disks.honest → disks.seen second' ≡ disks.seen second)
     → HasOpened disks first' second' name log_bytes m → HasOpened disks first second name log_bytes m
 opened_before disks first first' second second' name log_bytes m same same_second h = record {
-  begun = λ honest stray.
-      subst (λ a. HasBegun disks (logged_pair a (disks.seen second)) name log_bytes m) (same honest)
-      (subst (λ b. HasBegun disks (logged_pair (disks.seen first') b) name log_bytes m) (same_second honest)
-      (h.begun honest
-      (subst (λ a. NoStray a (disks.seen second')) (sym (same honest))
-      (subst (λ b. NoStray (disks.seen first) b) (sym (same_second honest)) stray))));
+  begun = record {
+    bodies = h.begun.bodies;
+    begun = h.begun.begun;
+    read = λ honest.
+        ap (λ a. logged_pair a (disks.seen second)) (sym (same honest)) ∙ ap (λ b. logged_pair (disks.seen first') b) (sym (same_second honest))
+        ∙ h.begun.read honest;
+  };
   fresh_one = λ trusts none none_second.
       h.fresh_one trusts (same trusts.disk ∙ none) (same_second trusts.disk ∙ none_second);
   reopens = λ trusts s recoverable files.

@@ -3,14 +3,12 @@ use Rattle.std.specs.Prelude.{◌≡◌, ◌⊎◌, ◌<◌, ◌++◌, ℕ, Bool
 use Rattle.std.specs.declared.net.TcpListener.{TcpListener}
 use Rattle.xa_disk.specs.declared.disk.Disk as disk
 use Rattle.xa_log.specs.Missing.{missing_of}
-use Rattle.xa_log.specs.Pair.{logged_pair}
-use Rattle.xa_log.specs.TwoFiles.{NoStray}
 use Rattle.xa_log.specs.declared.missing.Missing.TheVariants.{Neither, First, Second}
 use Rattle.xa_manager.specs.declared.manager.Manager.{Manager}
 use Rattle.xa_manager.specs.Files.{FilesStandFor}
 use Rattle.xa_manager.specs.LogStands.{Trusts}
 use Rattle.xa_manager.specs.Managed.{ManagerStandsFor}
-use Rattle.xa_manager.specs.Opening.{HasBegun, OpenRefused}
+use Rattle.xa_manager.specs.Opening.{HasBegunOn, OpenRefused}
 use Rattle.xa_model.specs.declared.outcome.Appending.TheVariants.{Kept}
 use Rattle.xa_model.specs.declared.outcome.Outcome.TheVariants.{Reread}
 use Rattle.xa_model.specs.History.{fresh}
@@ -28,11 +26,11 @@ use Rattle.xa_server.specs.declared.serve_fault.ServeFault.{ServeFault}
 use Rattle.xa_server.specs.declared.serve_fault.ServeFault.TheVariants as fault
 
 -- The manager is what these two disks were opened to: one that begins with what their records come to; a new one, where
--- both were empty; and one that stands for the opening of each state that they stood for.
+-- both were empty; and one that stands for the opening of each state that they stood for. The first holds of any disks,
+-- but for what their bytes are.
 pub record HasOpened {D : Type 0} (disks : disk.Ghosts D) (first second : D) (name : List ℕ) (log_bytes : ℕ)
     (m : Manager D) : Type 0 where
-  pub begun : disks.honest → NoStray (disks.seen first) (disks.seen second)
-      → HasBegun disks (logged_pair (disks.seen first) (disks.seen second)) name log_bytes m
+  pub begun : HasBegunOn disks (disks.seen first) (disks.seen second) name log_bytes m
   pub fresh_one : Trusts disks → disks.seen first ≡ [] → disks.seen second ≡ []
       → ManagerStandsFor disks m (fresh name log_bytes)
   pub reopens : Trusts disks → (s : State) → IsRecoverable s

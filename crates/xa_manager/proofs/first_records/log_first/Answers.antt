@@ -1,12 +1,35 @@
-use Rattle.std.proofs.Common.{subst}
-use Rattle.xa_manager.specs.Opening.{HasBodies}
+use Rattle.std.proofs.Common.{◌≡◌, List, [], ◌∷◌, ℕ, subst}
+use Rattle.xa_log.specs.Reading.{bodies_of}
+use Rattle.xa_log.specs.Stands.{EndsBehind}
 use Rattle.xa_manager.proofs.FirstRecords.{first_full, one_body}
+use Rattle.xa_manager.proofs.FoundLogs.{found_stands, found_new, first_kept, first_ends, replaced_ends}
 use Rattle.xa_manager.proofs.first_records.log_first.Goals as goal
 
--- src/first_records.rt:56:1
 pub returns-then-bodies-eq1-clause-full : goal.returns-then-bodies-eq1-clause-full
-returns-then-bodies-eq1-clause-full g c = λ h full old empty has.
-    first_full g.D.Disk c.args.log.now _ c.deref.result.now
+returns-then-bodies-eq1-clause-full g c = λ full old empty ends.
+    first_full c.args.log.now _ c.deref.result.now
     (one_body c.args.bodies.now c.index-bodies-0.result c.deref.result.now c.if-bodies-eq1.true c.index-bodies-0.is c.deref.ensures.value)
-    (subst (λ o. HasBodies g.D.Disk o c.args.log.now) (empty c.if-is_empty.true) has)
+    (subst (λ o. EndsBehind o c.args.log.now) (empty c.if-is_new.true) ends)
     (λ alive. (c.append.ensures.full alive).0 full)
+
+pub returns-then-bodies-eq1-clause-kept : goal.returns-then-bodies-eq1-clause-kept
+returns-then-bodies-eq1-clause-kept g c = λ h kept old empty found.
+    let one = one_body c.args.bodies.now c.index-bodies-0.result c.deref.result.now c.if-bodies-eq1.true c.index-bodies-0.is c.deref.ensures.value in
+    let has = found_new g.D.Disk c.args.is_new old c.args.log.now c.if-is_new.true (empty c.if-is_new.true) found in
+    first_kept g.D.Disk _ has.0 c.deref.result.now _ _ kept one (c.append.ensures.pair h [] has.0 has.1)
+
+pub returns-then-bodies-eq1-clause-ends : goal.returns-then-bodies-eq1-clause-ends
+returns-then-bodies-eq1-clause-ends g c = λ kept old empty ends.
+    let one = one_body c.args.bodies.now c.index-bodies-0.result c.deref.result.now c.if-bodies-eq1.true c.index-bodies-0.is c.deref.ensures.value in
+    first_ends _ c.args.log.now _ old _ c.deref.result.now kept (empty c.if-is_new.true) one c.append.ensures.moves ends
+
+pub returns-else-is_new-clause-kept : goal.returns-else-is_new-clause-kept
+returns-else-is_new-clause-kept g c = λ h kept old empty found.
+    let it = found_stands g.D.Disk c.args.is_new old c.args.log.now found in
+    (old, (c.checkpoint.ensures.replaces h old it.stood it.current it.other kept).0)
+
+pub returns-else-is_new-clause-ends : goal.returns-else-is_new-clause-ends
+returns-else-is_new-clause-ends g c = λ kept old empty ends. replaced_ends _ c.args.log.now _ old _ kept (c.checkpoint.ensures.swaps ends.alive) ends
+
+pub returns-else-is_new-clause-full : goal.returns-else-is_new-clause-full
+returns-else-is_new-clause-full g c = λ full old empty ends. (c.checkpoint.ensures.full ends.alive).0 full

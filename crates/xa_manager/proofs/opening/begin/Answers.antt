@@ -1,9 +1,10 @@
-use Rattle.std.proofs.Common.{rules, ◌≡◌, ◌+◌, ◌<◌, ℕ, List, true, false, sym, refl, ◌∙◌, subst, arith}
+use Rattle.std.proofs.Common.{◌≡◌, ◌+◌, ◌<◌, ℕ, List, true, false, sym, refl, ◌∙◌, subst, arith}
 use Rattle.xa_log.specs.Pair.{generation}
 use Rattle.xa_log.specs.Reading.{bodies_of}
+use Rattle.xa_log.specs.Stands.{EndsBehind}
 use Rattle.xa_manager.specs.Opening.{HasBodies, has_boot_room}
 use Rattle.xa_recovery.specs.Durable.{as_prepared, as_decided}
-use Rattle.xa_manager.proofs.Begins.{planned, first_bodies, first_sizes, first_room, first_newer, count_of, none_given}
+use Rattle.xa_manager.proofs.Begins.{planned, first_bodies, first_sizes, first_room, first_newer, count_of}
 use Rattle.xa_manager.proofs.NewBoots.{new_stands}
 use Rattle.xa_manager.proofs.opening.begin.Goals as goal
 
@@ -36,7 +37,7 @@ log_first-requires-clause-above g c =
     (first_newer _ c.in_ok-durable.field-0.durable c.in-Some.next c.deref-2.result.now plan c.deref-2.ensures.value)
 
 pub returns-clause-begun : goal.returns-clause-begun
-returns-clause-begun g c = λ h has sized.
+returns-clause-begun g c = λ found sized.
     let plan = planned (bodies_of c.args.bodies.now) c.in_ok-durable.field-0 c.in-Some.next c.in_ok-durable.ensures.0 c.in_ok-durable.ensures.1 c.in-Some.is in
     let d = c.in_ok-durable.field-0.durable in
     let xs = c.deref-2.result.now in
@@ -45,7 +46,8 @@ returns-clause-begun g c = λ h has sized.
     (count_of as_prepared c.prepared.result.now.entries _ d.prepared c.len-prepared.result c.len-prepared.ensures.len c.prepared.ensures refl)
     (count_of as_decided c.decided.result.now.entries _ d.decided c.len-completed.result c.len-completed.ensures.len c.decided.ensures refl)
     (sym c.if-not-begins_with_room.false ∙ c.begins_with_room.ensures) in
-    let kept = c.log_first.ensures.kept h c.in-Kept.is (bodies_of c.args.bodies.now) (λ e. none_given c.args.bodies.now (search rules)) has in
+    let same = first_bodies _ d c.in-Some.next xs plan c.deref-2.ensures.value in
+    let ends = c.log_first.ensures.ends c.in-Kept.is (bodies_of c.args.bodies.now) c.requires.made c.requires.ends in
     record {
       durable = d;
       comes = plan.comes;
@@ -54,6 +56,8 @@ returns-clause-begun g c = λ h has sized.
       room = room;
       stands = new_stands g.D.Disk _ d (d.boot + 1) c.args.name c.args.log_bytes
           refl refl refl refl (c.log_first.ensures.settings ∙ sized) c.new.ensures plan.ready.branches plan.ready.records
-          (subst (λ (l : List (List ℕ)). HasBodies g.D.Disk l c.log_first.new.log) (first_bodies _ d c.in-Some.next xs plan c.deref-2.ensures.value) kept)
+          (subst (λ (l : List (List ℕ)). EndsBehind l c.log_first.new.log) same ends)
+          (λ h. subst (λ (l : List (List ℕ)). HasBodies g.D.Disk l c.log_first.new.log) same
+          (c.log_first.ensures.kept h c.in-Kept.is (bodies_of c.args.bodies.now) c.requires.made (found h)))
           plan.limits plan.form (omega arith) room;
     }

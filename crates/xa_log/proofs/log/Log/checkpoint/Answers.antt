@@ -2,7 +2,7 @@ use Rattle.std.proofs.Common.{rules, ◌≡◌, ◌+◌, ◌≤◌, length, refl
 use Rattle.xa_log.specs.Chain.{newest, start, text, records}
 use Rattle.xa_log.specs.Reading.{bodies_of}
 use Rattle.xa_log.proofs.Records.{length-text}
-use Rattle.xa_log.proofs.Two.{kept_pair, refused_pair, lost_pair, other_still, wrote_kept, wrote_lost, wrote_refused, moments_of, kept_by}
+use Rattle.xa_log.proofs.Two.{replaced, kept_pair, refused_pair, lost_pair, other_still, wrote_kept, wrote_lost, wrote_refused, moments_of, kept_by}
 use Rattle.xa_log.proofs.log.Log.checkpoint.Goals as goal
 
 pub returns-in-None-clause-any_moment : goal.returns-in-None-clause-any_moment
@@ -48,6 +48,19 @@ returns-in-Refused-clause-any_moment g c h old stood p =
     omega (arith, c.in-Some.ensures.some.0, c.in-Some.ensures.some.1, length-text format (bodies_of c.args.bodies.now)) in
     moments_of g.D.Disk most format stood fresh old_log.other wrote.new.disk _ (wrote_refused _ _ wrote.new.disk c.in-Refused.is refl)
     c.newest-format.ensures (wrote.ensures.any_moment h most stood room p.other)
+
+pub returns-in-Kept-clause-replaces : goal.returns-in-Kept-clause-replaces
+returns-in-Kept-clause-replaces g c h old stood s o kept =
+    let old_log = c.args.self.now in
+    let fresh = bodies_of c.args.bodies.now in
+    let wrote = c.checkpoint_on-outcome in
+    let format = c.newest-format.result in
+    let end : c.in-Some.end ≡ length (text format (bodies_of c.args.bodies.now)) = c.in-Some.ensures.some.0 in
+    let room : 12 + length (records (start format) (bodies_of c.args.bodies.now)) ≤ c.args.self.now.log_bytes =
+    omega (arith, c.in-Some.ensures.some.0, c.in-Some.ensures.some.1, length-text format (bodies_of c.args.bodies.now)) in
+    replaced g.D.Disk old stood old_log _ s format fresh c.requires.above _ wrote.new.disk c.in-Kept.is
+    (wrote.ensures.answer h old_log.log_bytes stood room o)
+    c.swap.ensures.x_after c.swap.ensures.y_after refl refl end (wrote.ensures.digest c.in-Kept.is) c.generation_of_bodies-self.ensures refl
 
 pub returns-in-Kept-clause-answer : goal.returns-in-Kept-clause-answer
 returns-in-Kept-clause-answer g c h old stood p =
