@@ -30,7 +30,7 @@ use Rattle.xa_assoc.specs.Seats.{opened_at}
 use Rattle.xa_assoc.specs.declared.fault.ConnectFault.TheVariants.{Memory}
 use Rattle.xa_manager.specs.declared.manager.Manager.{Manager}
 use Rattle.xa_manager.specs.declared.done.Done.{Done}
-use Rattle.xa_manager.specs.Crash.{LeavesBy}
+use Rattle.xa_manager.specs.Crash.{LeavesBy, LeavesLook, LeavesWanting}
 use Rattle.xa_manager.specs.LogStands.{Trusts}
 use Rattle.xa_manager.specs.Answered.{FullyAnswered, HasCalled, StaysFor, NoneRises, connect_reply, may_want, memory_code}
 use Rattle.xa_manager.specs.View.{View}
@@ -38,7 +38,7 @@ use Rattle.xa_manager.specs.Managed.{view, ManagerStandsFor, AnswersAs}
 use Rattle.xa_manager.specs.Stands.{TablesStandFor, Follows, FollowsDown, Stays, StaysDown}
 use Rattle.xa_manager.specs.Turns.{Takes, TakesTurn, HasDone}
 use Rattle.xa_manager.proofs.OnePhase.{refused_turn, passed_turn}
-use Rattle.xa_manager.proofs.Stepping.{asked_by, has_done, quiet_crash}
+use Rattle.xa_manager.proofs.Stepping.{asked_by, has_done, now_leaves, quiet_crash}
 use Rattle.xa_manager.proofs.Taking.{takes_row}
 
 early_by : (b : Bool) (k : View) (s : State) (n : ℕ) (request : Request) → TablesStandFor b k s → early_refusal (is_up s.standing) s.name (opened_of s n) request ≡ early_refusal b k.name (opened_at k.sessions n) request
@@ -237,12 +237,32 @@ module _ {D : Type 0} (disks : Ghosts D) where
     called = λ served s st premises. x.called s st premises;
     crash = λ served s st trusts. x.crash s st trusts;
     quiet = λ w. never (is_memory reply.detail) _ x.served w;
+    untouched = λ w. never (is_memory reply.detail) _ x.served w;
+    wanting = λ w. never (is_memory reply.detail) _ x.served w;
   }
 
   -- where memory was wanted
-  pub wanted_answered : (m m' : Manager D) (n : ℕ) (request : Request) (reply : Reply) → reply ≡ detailed (memory_code request) detail.Memory → StaysFor disks m m' → m'.outcome ≡ m.outcome → NoneRises disks.failures m.log m'.log → may_want request ≡ true
+
+  wanting_by : (m m' : Manager D) (b : Bool) → (b ≡ true → (s : State) → ManagerStandsFor disks m s → Trusts disks → LeavesLook disks m.log m'.log s)
+      → (s : State) → ManagerStandsFor disks m s → Trusts disks → LeavesWanting disks m.log b m'.log s
+  wanting_by m m' true looks s st trusts = looks refl s st trusts
+  wanting_by m m' false looks s st trusts = now_leaves disks m s st
+
+  pub wanted_answered : (m m' : Manager D) (n : ℕ) (request : Request) (reply : Reply) → reply ≡ detailed (memory_code request) detail.Memory → StaysFor disks m m' → m'.outcome ≡ m.outcome → NoneRises disks.failures m.log m'.log
+      → (asks_restart request ≡ false → m'.log ≡ m.log)
+      → (asks_restart request ≡ true → (s : State) → ManagerStandsFor disks m s → Trusts disks → LeavesLook disks m.log m'.log s)
+      → may_want request ≡ true
       → FullyAnswered disks m (Call n request) reply m'
-  wanted_answered m m' n request reply is stays outcome quiet may = rw is (record { answered = (stays, outcome); pinned = λ w. (may, refl); called = λ served. absurd (cc served); crash = λ served. absurd (cc served); quiet = λ w. quiet })
+  wanted_answered m m' n request reply is stays outcome quiet untouched looks may =
+      rw is (record {
+        answered = (stays, outcome);
+        pinned = λ w. (may, refl);
+        called = λ served. absurd (cc served);
+        crash = λ served. absurd (cc served);
+        quiet = λ w. quiet;
+        untouched = λ w. untouched;
+        wanting = λ w. wanting_by m m' (asks_restart request) looks;
+      })
 
   pub either_stays_for : (m m' : Manager D) → m'.up ≡ m.up → m'.log ≡ m.log → m'.doubt ≡ m.doubt → Stays (view m) (view m') → StaysDown (view m) (view m') → StaysFor disks m m'
   either_stays_for m m' up log doubt stays down s st = record {
@@ -263,8 +283,17 @@ module _ {D : Type 0} (disks : Ghosts D) where
       (has_done disks m m' e reply Quiet event other f.served
       (λ s st. subst (λ (t : Turn). Takes disks m t reply Quiet m') (sym (is s)) (takes_either m m' act reply Quiet refl log up doubt f d s st)))
 
-  pub connect_wanted : (m m' : Manager D) → StaysFor disks m m' → m'.outcome ≡ m.outcome → NoneRises disks.failures m.log m'.log → FullyAnswered disks m Connect (connect_reply (Err Memory)) m'
-  connect_wanted m m' stays outcome quiet = record { answered = (stays, outcome); pinned = λ w. (refl, refl); called = λ served. absurd (cc served); crash = λ served. absurd (cc served); quiet = λ w. quiet }
+  pub connect_wanted : (m m' : Manager D) → StaysFor disks m m' → m'.outcome ≡ m.outcome → m'.log ≡ m.log → FullyAnswered disks m Connect (connect_reply (Err Memory)) m'
+  connect_wanted m m' stays outcome log =
+      record {
+        answered = (stays, outcome);
+        pinned = λ w. (refl, refl);
+        called = λ served. absurd (cc served);
+        crash = λ served. absurd (cc served);
+        quiet = λ w. rw log (refl, refl);
+        untouched = λ w other. log;
+        wanting = λ w s st trusts. now_leaves disks m s st;
+      }
 
   -- the low water is given once a request is answered
 

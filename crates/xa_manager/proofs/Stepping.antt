@@ -40,7 +40,7 @@ use Rattle.xa_manager.specs.declared.doubt.Doubt.TheVariants as doubt
 use Rattle.xa_manager.specs.declared.manager.Manager.{Manager}
 use Rattle.xa_manager.specs.Answered.{HasCalled}
 use Rattle.xa_manager.specs.View.{View as Tables}
-use Rattle.xa_manager.specs.Crash.{LeavesAppend, LeavesBy}
+use Rattle.xa_manager.specs.Crash.{LeavesAppend, LeavesBy, LeavesNow}
 use Rattle.xa_manager.specs.LogStands.{Trusts, HasRecords, MayHaveRecord, HasRecordsOf, LogStandsFor}
 use Rattle.xa_manager.specs.Managed.{view, Doubts, ManagerStandsFor}
 use Rattle.xa_manager.specs.Stands.{StandsFor, TablesStandFor}
@@ -303,11 +303,14 @@ module _ {D : Type 0} (disks : Ghosts D) where
 
   -- what a crash leaves meanwhile
 
+  pub now_leaves : (m : Manager D) (s : State) → ManagerStandsFor disks m s → LeavesNow disks m.log s
+  now_leaves m s st first second one two plain = crash_leaves disks m.log s first second (recoverable_by m.up (view m) s st.tables) one two plain
+
   pub quiet_crash : (m m' : Manager D) (s : State) (t : Turn) (outcome : Outcome) → ManagerStandsFor disks m s → outcome ≡ Quiet → m'.log ≡ m.log
       → LeavesBy disks m.log t outcome m'.log s
   quiet_crash m m' s t outcome st quiet log =
       subst (λ (o : Outcome). LeavesBy disks m.log t o m'.log s) (sym quiet)
-      (log, λ first second one two plain. crash_leaves disks m.log s first second (recoverable_by m.up (view m) s st.tables) one two plain)
+      (log, now_leaves m s st)
 
   appending_crash : (m m' : Manager D) (s : State) (e : Event) (r : Record) (after : Appending → Answer) (reply : Reply) (outcome : Outcome) → IsEvent e → is_restart e ≡ false → ManagerStandsFor disks m s
       → Trusts disks → respond s e ≡ Appends r after → TakesAppending disks m r after reply outcome m' → LeavesBy disks m.log (turn s (Asked e)) outcome m'.log s

@@ -31,7 +31,7 @@ use Rattle.xa_assoc.specs.Refusals.{is_memory}
 use Rattle.xa_assoc.specs.declared.fault.ConnectFault.{ConnectFault}
 use Rattle.xa_assoc.specs.declared.fault.ConnectFault.TheVariants.{Memory, Full}
 use Rattle.xa_manager.specs.declared.manager.Manager.{Manager}
-use Rattle.xa_manager.specs.Crash.{CrashesAs}
+use Rattle.xa_manager.specs.Crash.{CrashesAs, CrashesWanting}
 use Rattle.xa_manager.specs.LogStands.{Trusts}
 use Rattle.xa_manager.specs.Managed.{ManagerStandsFor, AnswersAs}
 
@@ -134,8 +134,11 @@ pub record FullyAnswered {D : Type 0} (disks : Ghosts D) (m : Manager D) (event 
   pub called : is_memory reply.detail ≡ false → CallsAs disks m event m'.outcome m'
   -- what a crash at any moment of it leaves
   pub crash : is_memory reply.detail ≡ false → CrashesAs disks m event m'.outcome m'
-  -- where memory was wanted, no device call failed
+  -- where memory was wanted, no device call failed, and none was made but by a restart
   pub quiet : is_memory reply.detail ≡ true → NoneRises disks.failures m.log m'.log
+  pub untouched : is_memory reply.detail ≡ true → is_restart event ≡ false → m'.log ≡ m.log
+  -- what a crash at any moment of it leaves then
+  pub wanting : is_memory reply.detail ≡ true → CrashesWanting disks m event m'
 
 -- each of the events was answered as it is by itself, one after another
 abbrev pub RunsAll : {D : Type 0} → Ghosts D → Manager D → List Event → List Reply → Manager D → Type 0

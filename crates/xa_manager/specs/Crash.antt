@@ -1,5 +1,5 @@
 -- What a crash at any moment of a call leaves of the log's two files.
-use Rattle.std.specs.Prelude.{◌≡◌, ◌⊎◌, ℕ, not, if◌then◌else◌, List, map, Some, None, IsSomeAnd}
+use Rattle.std.specs.Prelude.{◌≡◌, ◌⊎◌, ℕ, Bool, true, false, not, if◌then◌else◌, List, map, Some, None, IsSomeAnd}
 use Rattle.xa_disk.specs.Disk.{Same}
 use Rattle.xa_disk.specs.Time.{TimePasses, LeavesOnly}
 use Rattle.xa_disk.specs.declared.disk.Disk.{Ghosts}
@@ -16,6 +16,7 @@ use Rattle.xa_model.specs.declared.outcome.Appending.TheVariants.{Kept, Refused,
 use Rattle.xa_model.specs.declared.outcome.Outcome.{Outcome}
 use Rattle.xa_model.specs.declared.outcome.Outcome.TheVariants.{Quiet, Appended, Failed, Reread}
 use Rattle.xa_model.specs.Backing.{Backs}
+use Rattle.xa_model.specs.Events.{is_restart}
 use Rattle.xa_model.specs.State.{State}
 use Rattle.xa_model.specs.Step.{turn}
 use Rattle.xa_model.specs.Turn.{Asked, Turn, taken}
@@ -149,3 +150,13 @@ abbrev pub CrashesAs : {D : Type 0} → Ghosts D → Manager D → Event → Out
 CrashesAs disks m event outcome m' =
     (s : State) → ManagerStandsFor disks m s → Trusts disks
     → LeavesBy disks m.log (turn s (Asked event)) outcome m'.log s
+
+-- What a crash leaves at any moment of an event that wanted memory: of a restart, which looked at the log at most, what
+-- the look leaves; of any other, what a crash before it leaves.
+abbrev pub LeavesWanting : {D : Type 0} → Ghosts D → Log D → Bool → Log D → State → Type 0
+LeavesWanting disks old true new s = LeavesLook disks old new s
+LeavesWanting disks old false new s = LeavesNow disks old s
+
+abbrev pub CrashesWanting : {D : Type 0} → Ghosts D → Manager D → Event → Manager D → Type 0
+CrashesWanting disks m event m' =
+    (s : State) → ManagerStandsFor disks m s → Trusts disks → LeavesWanting disks m.log (is_restart event) m'.log s

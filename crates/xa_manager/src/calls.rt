@@ -1,10 +1,14 @@
 ghost use Rattle.std.specs.Prelude.{◌≡◌, IfOk, OnErr, IfSome, IsOk, IsSome, None, true, false};
 ghost use Rattle.xa_model.specs.declared.event.Event.{Event};
 ghost use Rattle.xa_model.specs.Early.{call_of, passes_down, has_wrong_count, early_refusal};
-ghost use Rattle.xa_model.specs.Events.{IsAsked};
+ghost use Rattle.xa_model.specs.Events.{IsAsked, asks_restart};
+ghost use Rattle.xa_model.specs.State.{State};
 ghost use Rattle.xa_assoc.specs.Refusals.{is_memory, IsBare};
 ghost use Rattle.xa_assoc.specs.Seats.{opened_at};
 ghost use Rattle.xa_manager.specs.Answered.{StaysFor, NoneRises, may_want};
+ghost use Rattle.xa_manager.specs.Crash.{LeavesLook};
+ghost use Rattle.xa_manager.specs.LogStands.{Trusts};
+ghost use Rattle.xa_manager.specs.Managed.{ManagerStandsFor};
 ghost use Rattle.xa_manager.specs.Turns.{HasDone};
 ghost use Rattle.xa_manager.specs.Connected.{connected_to};
 ghost use Rattle.xa_manager.specs.Replies.{IsFresh};
@@ -45,6 +49,11 @@ impl<D: Disk> Manager<D> {
         ensures company { connected_to self.new ≡ connected_to self.old }
         ensures fresh { IfOk result (λ d. IsFresh d.reply) }
         ensures quiet { OnErr result (NoneRises D.failures self.old.log self.new.log) }
+        ensures untouched { OnErr result (asks_restart request ≡ false → self.new.log ≡ self.old.log) }
+        // What a crash at any moment of it leaves, where memory was wanted of a restart.
+        ensures leaves_read { OnErr result (asks_restart request ≡ true
+            → (s : State) → ManagerStandsFor D.Disk self.old s → Trusts D.Disk
+            → LeavesLook D.Disk self.old.log self.new.log s) }
     {
         if let Some(reply) = self.refusal(session, &request) {
             return Ok(Done::now(reply));

@@ -4,7 +4,7 @@ ghost use Rattle.xa_xid.specs.Triple.{IsWithinLimits};
 ghost use Rattle.xa_model.specs.Completions.{prepare_turn, commit_one_phase_turn, commit_two_phase_turn, rollback_turn};
 ghost use Rattle.xa_model.specs.Branches.{doom_by};
 ghost use Rattle.xa_model.specs.Step.{commit_turn};
-ghost use Rattle.xa_manager.specs.Answered.{StaysFor, NoneRises};
+ghost use Rattle.xa_manager.specs.Answered.{StaysFor};
 ghost use Rattle.xa_manager.specs.Turns.{TakesTurn};
 ghost use Rattle.xa_assoc.specs.Refusals.{IsBare};
 ghost use Rattle.xa_assoc.specs.Company.{company_of};
@@ -35,7 +35,7 @@ impl<D: Disk> Manager<D> {
         ensures outcome { self.new.outcome ≡ self.old.outcome }
         ensures company { connected_to self.new ≡ connected_to self.old }
         ensures bare { IfOk result (λ d. IsBare d.reply) }
-        ensures quiet { OnErr result (NoneRises D.failures self.old.log self.new.log) }
+        ensures untouched { OnErr result (self.new.log ≡ self.old.log) }
     {
         if let Some(reply) = self.tables.one_phase_refusal(xid) {
             return Ok(Done::now(reply));
@@ -75,7 +75,7 @@ impl<D: Disk> Manager<D> {
         ensures outcome { self.new.outcome ≡ self.old.outcome }
         ensures company { connected_to self.new ≡ connected_to self.old }
         ensures bare { IfOk result (λ d. IsBare d.reply) }
-        ensures quiet { OnErr result (NoneRises D.failures self.old.log self.new.log) }
+        ensures untouched { OnErr result (self.new.log ≡ self.old.log) }
     {
         if flags & TMONEPHASE == TMONEPHASE {
             self.commit_one_phase(xid)
@@ -94,7 +94,7 @@ impl<D: Disk> Manager<D> {
         ensures outcome { self.new.outcome ≡ self.old.outcome }
         ensures company { connected_to self.new ≡ connected_to self.old }
         ensures bare { IfOk result (λ d. IsBare d.reply) }
-        ensures quiet { OnErr result (NoneRises D.failures self.old.log self.new.log) }
+        ensures untouched { OnErr result (self.new.log ≡ self.old.log) }
     {
         if let Some(reply) = self.tables.one_phase_refusal(xid) {
             return Ok(Done::now(reply));

@@ -96,7 +96,7 @@ kept_step m start base now then es cap cap' e kept steps counts event p q room =
 pub kept_noted : {M : Type 0} (m : Ghosts M) (start : State → Type 0) (base : ℕ × ℕ) (now then : M) (es es0 es' : List Entry) (cap cap' : ℕ)
     (event : Event) (outcome : Outcome) (reply : Reply)
     → Upholds m start base now es cap
-    → Acts m.stands m.trusts m.told m.has_called m.failures now event reply then
+    → Acts m.stands m.trusts m.told m.has_called m.crashes m.failures now event reply then
     → is_memory reply.detail ≡ false → reply.place ≡ 0 → IsEvent event → outcome ≡ m.told then
     → es0 ≡ es → es' ≡ es0 ++ entry_of (length es0 + 1) event outcome reply ∷ [] → length es + 1 + m.sessions then ≤ cap'
     → Upholds m start base then es' cap'
@@ -119,7 +119,7 @@ pub adds_noted : {M : Type 0} (m : Ghosts M) (old new : Told M)
     → new.entries ≡ es0 ++ entry_of (length es0 + 1) event outcome reply ∷ []
     → receipt ≡ receipt_of (entry_of (length es0 + 1) event outcome reply)
     → outcome ≡ m.told new.now
-    → Acts m.stands m.trusts m.told m.has_called m.failures old.now event reply new.now
+    → Acts m.stands m.trusts m.told m.has_called m.crashes m.failures old.now event reply new.now
     → is_memory reply.detail ≡ false → reply.place ≡ 0
     → Adds m old new event receipt.reply receipt
 adds_noted m old new es0 event outcome reply receipt same noted is tells acts served zero =
@@ -133,6 +133,7 @@ adds_noted m old new es0 event outcome reply receipt same noted is tells acts se
       receipt_is = is ∙ (λ i. record { place = sym place i; event = event; reply = sym (ap (λ (r : Receipt). r.reply) is) i });
       steps = subst (λ (r : Reply). StepsTo m.stands m.trusts old.now event (m.told new.now) r new.now) ((λ i. record reply { place = zero i }) ∙ ap unplaced (sym said)) (not_memory _ _ _ served acts.answered);
       called = acts.called served;
+      crash = acts.crash served;
       counted = not_memory _ _ _ served acts.counted;
     }
 

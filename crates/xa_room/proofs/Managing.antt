@@ -8,6 +8,7 @@ use Rattle.xa_model.specs.declared.event.Event.{Event}
 use Rattle.xa_manager.specs.declared.manager.Manager.{Manager}
 use Rattle.xa_manager.specs.Answered.{FullyAnswered, HasCalled}
 use Rattle.xa_manager.specs.Counted.{counted_by}
+use Rattle.xa_manager.specs.Crash.{CrashesAs}
 use Rattle.xa_manager.specs.LogStands.{Trusts}
 use Rattle.xa_manager.specs.Managed.{ManagerStandsFor}
 use Rattle.xa_manager.proofs.Counting.{called_by, none_by}
@@ -24,11 +25,12 @@ by_cases false C E f g = g refl
 pub acted : {D : Type 0} (disks : Ghosts D) (old : Manager D) (event : Event) (reply : Reply) (new : Manager D)
     → FullyAnswered disks old event reply new
     → Acts (ManagerStandsFor disks) (Trusts disks) (λ m. m.outcome)
-    (λ outcome a b. HasCalled disks outcome a.log b.log) (λ m. counted_by disks.failures m.log) old event reply new
+    (λ outcome a b. HasCalled disks outcome a.log b.log) (λ event outcome a b. CrashesAs disks a event outcome b) (λ m. counted_by disks.failures m.log) old event reply new
 acted disks old event reply new full = record {
   answered = each_way (is_memory reply.detail) _ _ _ _ (λ e h. h.0) (λ e h. h) full.answered;
   pinned = full.pinned;
   called = full.called;
+  crash = full.crash;
   counted = by_cases (is_memory reply.detail) _ _
       (λ e s stands. none_by disks old.log new.log (full.quiet e))
       (λ e s stands premise. called_by disks new.outcome old.log new.log (full.called e s stands premise));

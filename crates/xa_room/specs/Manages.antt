@@ -36,13 +36,15 @@ Calls stands trusts has_called old event outcome new =
 
 -- what an event does
 pub record Acts {M : Type 0} (stands : M → State → Type 0) (trusts : Type 0) (told : M → Outcome)
-    (has_called : Outcome → M → M → Type 0) (failures : M → ℕ × ℕ) (old : M) (event : Event) (reply : Reply)
-    (new : M) : Type 0 where
+    (has_called : Outcome → M → M → Type 0) (crashes : Event → Outcome → M → M → Type 0) (failures : M → ℕ × ℕ)
+    (old : M) (event : Event) (reply : Reply) (new : M) : Type 0 where
   pub answered : MatchBool (is_memory reply.detail)
       (Stays stands old new) (StepsTo stands trusts old event (told new) reply new)
   -- where memory was wanted, the reply says that and nothing else
   pub pinned : IsPinned event reply
   pub called : is_memory reply.detail ≡ false → Calls stands trusts has_called old event (told new) new
+  -- what a crash at any moment of it leaves
+  pub crash : is_memory reply.detail ≡ false → crashes event (told new) old new
   pub counted : MatchBool (is_memory reply.detail)
       ((s : State) → stands old s → RiseBy 0 (failures old) (failures new))
       (Counts stands trusts failures old event (told new) new)

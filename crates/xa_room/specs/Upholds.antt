@@ -44,6 +44,7 @@ pub record Adds {M : Type 0} (m : Ghosts M) (old new : Told M) (event : Event) (
   pub receipt_is : receipt ≡ record { place = reply.place; event = event; reply = reply }
   pub steps : StepsTo m.stands m.trusts old.now event (m.told new.now) (unplaced reply) new.now
   pub called : Calls m.stands m.trusts m.has_called old.now event (m.told new.now) new.now
+  pub crash : m.crashes event (m.told new.now) old.now new.now
   pub counted : Counts m.stands m.trusts m.failures old.now event (m.told new.now) new.now
 
 -- no entry, and the manager stands for whichever state it stood for

@@ -10,6 +10,7 @@ impl<D: Disk> Manages for Manager<D> {
     ghost use Rattle.xa_manager.specs.Answered.{HasCalled};
     ghost use Rattle.xa_manager.specs.Connected.{connected_to};
     ghost use Rattle.xa_manager.specs.Counted.{counted_by};
+    ghost use Rattle.xa_manager.specs.Crash.{CrashesAs};
     ghost use Rattle.xa_manager.specs.LogStands.{Trusts};
     ghost use Rattle.xa_manager.specs.Managed.{ManagerStandsFor};
 
@@ -20,6 +21,8 @@ impl<D: Disk> Manages for Manager<D> {
     ghost told = { λ m. m.outcome };
 
     ghost has_called = { λ outcome old new. HasCalled D.Disk outcome old.log new.log };
+
+    ghost crashes = { λ event outcome old new. CrashesAs D.Disk old event outcome new };
 
     ghost failures = { λ m. counted_by D.failures m.log };
 

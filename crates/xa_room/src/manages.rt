@@ -27,6 +27,9 @@ pub trait Manages {
     /// What the device did, by an outcome, between one and the other.
     ghost has_called: { Outcome → Self → Self → Type 0 };
 
+    /// What a crash at any moment of an event leaves, by its outcome, between one and the other.
+    ghost crashes: { Event → Outcome → Self → Self → Type 0 };
+
     /// How many calls of each of its two devices have failed. A count stays at 2^64 - 1.
     ghost failures: { Self → ℕ × ℕ };
 
@@ -37,21 +40,21 @@ pub trait Manages {
     ghost sessions: { Self → ℕ };
 
     fn connect(&mut self) -> Result<u64, ConnectFault>
-        ensures acts { Acts stands trusts told has_called failures
+        ensures acts { Acts stands trusts told has_called crashes failures
             self.old Event.Connect (connect_reply result) self.new }
         ensures sessions { MatchResult result
             (λ _. sessions self.new ≡ sessions self.old + 1) (λ _. sessions self.new ≡ sessions self.old) };
 
     fn call(&mut self, session: u64, request: Request) -> Reply
         requires { IsAsked request }
-        ensures acts { Acts stands trusts told has_called failures
+        ensures acts { Acts stands trusts told has_called crashes failures
             self.old (Event.Call session request) result self.new }
         ensures limits { IsReply result }
         ensures place { result.place ≡ 0 }
         ensures sessions { sessions self.new ≡ sessions self.old };
 
     fn hangup(&mut self, session: u64)
-        ensures acts { Acts stands trusts told has_called failures
+        ensures acts { Acts stands trusts told has_called crashes failures
             self.old (Event.Hangup session) (plain (pos 0)) self.new }
         ensures sessions { has_session self.old session ≡ true → sessions self.new + 1 ≡ sessions self.old };
 

@@ -18,6 +18,8 @@ pub returns-in-Err-clause-answered : goal.returns-in-Err-clause-answered
 returns-in-Err-clause-answered g c =
     wanted_answered _ c.args.self.now c.give_low_water.new.self c.args.session c.args.request c.detailed.result (c.detailed.ensures ∙ ap (λ (k : ℤ). detailed k detail.Memory) (ap (λ (k : ℤ). to_z w32 (of_z w32 k)) c.memory_code-code.ensures ∙ code_kept c.args.request)) (given_stays g.D.Disk c.args.self.now c.answer-answered.new.self c.give_low_water.new.self c.in-Err.ensures.err c.give_low_water.ensures.stays)
     (c.give_low_water.ensures.outcome ∙ c.answer-answered.ensures.outcome) (rw c.give_low_water.ensures.log c.in-Err.ensures.quiet)
+    (λ other. c.give_low_water.ensures.log ∙ c.in-Err.ensures.untouched other)
+    (λ restart s st trusts. rw c.give_low_water.ensures.log (c.in-Err.ensures.leaves_read restart s st trusts))
     (wants c.answer-answered.result _ (may_want c.args.request) c.in-Err.is c.answer-answered.ensures.room)
 
 pub returns-in-Ok-clause-place : goal.returns-in-Ok-clause-place

@@ -23,8 +23,8 @@ invariant_of-self-2 g c =
     kept_noted m g.S.Start.start g.S.Start.base room.manager c.call-reply.new.self
     room.history.items _ _ _ _ (Call c.args.session c.args.first) _ c.copied-kept.result
     c.self.invariant
-    (subst (λ (q : Request). Acts m.stands m.trusts m.told m.has_called m.failures room.manager (Call c.args.session q) c.copied-kept.result c.call-reply.new.self) (sym first)
-    (subst (λ (r : Reply). Acts m.stands m.trusts m.told m.has_called m.failures room.manager (Call c.args.session c.args.request) r c.call-reply.new.self) (sym kept) call.acts))
+    (subst (λ (q : Request). Acts m.stands m.trusts m.told m.has_called m.crashes m.failures room.manager (Call c.args.session q) c.copied-kept.result c.call-reply.new.self) (sym first)
+    (subst (λ (r : Reply). Acts m.stands m.trusts m.told m.has_called m.crashes m.failures room.manager (Call c.args.session c.args.request) r c.call-reply.new.self) (sym kept) call.acts))
     (ap (λ (r : Reply). is_memory r.detail) kept ∙ sym c.if-is_memory.ensures) (ap (λ (r : Reply). r.place) kept ∙ call.place)
     (subst IsAsked (sym first) asked) c.outcome.ensures
     c.make_room.ensures.items c.note-receipt.ensures.entries
@@ -46,7 +46,7 @@ returns-clause-recorded g c =
           (adds_noted m old new
           _ (Call c.args.session c.args.first) _ c.copied-kept.result c.note-receipt.result
           c.make_room.ensures.items c.note-receipt.ensures.entries is c.outcome.ensures
-          (subst (λ (q : Request). Acts m.stands m.trusts m.told m.has_called m.failures room.manager (Call c.args.session q) c.copied-kept.result c.call-reply.new.self) (sym first)
-          (subst (λ (r : Reply). Acts m.stands m.trusts m.told m.has_called m.failures room.manager (Call c.args.session c.args.request) r c.call-reply.new.self) (sym kept) call.acts))
+          (subst (λ (q : Request). Acts m.stands m.trusts m.told m.has_called m.crashes m.failures room.manager (Call c.args.session q) c.copied-kept.result c.call-reply.new.self) (sym first)
+          (subst (λ (r : Reply). Acts m.stands m.trusts m.told m.has_called m.crashes m.failures room.manager (Call c.args.session c.args.request) r c.call-reply.new.self) (sym kept) call.acts))
           (ap (λ (r : Reply). is_memory r.detail) kept ∙ sym c.if-is_memory.ensures) (ap (λ (r : Reply). r.place) kept ∙ call.place))),
     )

@@ -15,7 +15,7 @@ invariant_of-self-2 g c =
     kept_noted m g.S.Start.start g.S.Start.base room.manager c.connect-session.new.self
     room.history.items _ _ _ _ Connect _ _
     c.self.invariant
-    (subst (λ (r : Reply). Acts m.stands m.trusts m.told m.has_called m.failures room.manager Connect r c.connect-session.new.self) (sym c.connect_reply.ensures.value) connect.acts)
+    (subst (λ (r : Reply). Acts m.stands m.trusts m.told m.has_called m.crashes m.failures room.manager Connect r c.connect-session.new.self) (sym c.connect_reply.ensures.value) connect.acts)
     served (ap (λ (r : Reply). r.place) c.connect_reply.ensures.value ∙ connect_place _) tt c.outcome.ensures
     c.make_room.ensures.items c.note-receipt.ensures.entries
     (omega (
