@@ -215,6 +215,47 @@ const PREPARED: [Line; 13] = [
     ("1 get 6b", "0 Nothing value 76"),
 ];
 
+const STOPPED_PREPARE: [Line; 32] = [
+    ("connect", "0 Nothing number 1"),
+    ("1 open TMNOFLAGS xarm", OK),
+    ("1 start TMNOFLAGS 1:aa:bb", "0 Nothing number 4294967297"),
+    ("1 put 6b 76", OK),
+    ("1 end TMSUCCESS 1:aa:bb", OK),
+    ("stop 2", ""),
+    ("1 prepare TMNOFLAGS 1:aa:bb", "-7 Device"),
+    ("1 recover TMSTARTRSCAN|TMENDRSCAN 10", "-7 Nothing"),
+    ("crash 60", OK),
+    ("connect", "0 Nothing number 1"),
+    ("1 open TMNOFLAGS xarm", OK),
+    ("1 recover TMSTARTRSCAN|TMENDRSCAN 10", "0 Nothing xids"),
+    ("1 start TMNOFLAGS 1:aa:bb", "0 Nothing number 8589934593"),
+    ("1 put 6b 76", OK),
+    ("1 end TMSUCCESS 1:aa:bb", OK),
+    ("stop 2", ""),
+    ("1 prepare TMNOFLAGS 1:aa:bb", "-7 Device"),
+    ("crash 61", OK),
+    ("connect", "0 Nothing number 1"),
+    ("1 open TMNOFLAGS xarm", OK),
+    (
+        "1 recover TMSTARTRSCAN|TMENDRSCAN 10",
+        "1 Nothing xids 1:aa:bb",
+    ),
+    ("1 commit TMNOFLAGS 1:aa:bb", OK),
+    ("1 start TMNOFLAGS 1:aa:cc", "0 Nothing number 12884901889"),
+    ("1 put 6b 77", OK),
+    ("1 end TMSUCCESS 1:aa:cc", OK),
+    ("stop 3", ""),
+    ("1 prepare TMNOFLAGS 1:aa:cc", OK),
+    ("1 commit TMNOFLAGS 1:aa:cc", "-7 Device"),
+    ("crash", OK),
+    ("connect", "0 Nothing number 1"),
+    ("1 open TMNOFLAGS xarm", OK),
+    (
+        "1 recover TMSTARTRSCAN|TMENDRSCAN 10",
+        "1 Nothing xids 1:aa:cc",
+    ),
+];
+
 const TWO_SESSIONS: [Line; 20] = [
     ("connect", "0 Nothing number 1"),
     ("1 open TMNOFLAGS xarm", OK),
@@ -238,7 +279,7 @@ const TWO_SESSIONS: [Line; 20] = [
     ("1 commit TMONEPHASE 1:cc:", "-4 Nothing"),
 ];
 
-const EXAMPLES: [Play; 9] = [
+const EXAMPLES: [Play; 10] = [
     &[&BUSY_READ],
     &[&DEAD_CLIENT],
     &[&DOWN],
@@ -247,6 +288,7 @@ const EXAMPLES: [Play; 9] = [
     &[&IN_DOUBT],
     &[&OPERATOR],
     &[&PREPARED],
+    &[&STOPPED_PREPARE],
     &[&TWO_SESSIONS],
 ];
 

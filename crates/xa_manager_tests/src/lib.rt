@@ -4,7 +4,7 @@
 //! - `managers`: calls of a manager, whichever one allocation is refused; `versions_kept`: how many versions it keeps
 //! - `lines`: what the lines of a script ask; `calls`: scripts of many calls, and those at limits
 //! - `plays`: ends of a play; `plays_calls`, `plays_failing`, `plays_lost`, `plays_recovered`: worked rows, by what
-//!   befalls a branch
+//!   befalls a branch; `plays_stopped`: crashes after a disk has stopped at some device call
 //! - `examples`: the scripts of examples/; `scripted`: how a table of lines and replies is played
 //! - `one_copy`: runs by chance, whose branches are executed one at a time; `one_copy_branches`, `one_copy_scripts`:
 //!   what those need
@@ -35,6 +35,8 @@ mod plays_failing;
 mod plays_lost;
 #[cfg(test)]
 mod plays_recovered;
+#[cfg(test)]
+mod plays_stopped;
 #[cfg(test)]
 mod rows;
 #[cfg(test)]

@@ -5,7 +5,7 @@ use xa_rows::{KEY_BYTES, PART_BYTES, VALUE_BYTES, first_wrong};
 use xa_script::read_line;
 
 /// Lines that are no commands, each a script.
-const OTHERS: [&str; 107] = [
+const OTHERS: [&str; 128] = [
     // Words and blanks.
     "connect x",
     "connect ",
@@ -90,8 +90,18 @@ const OTHERS: [&str; 107] = [
     "1 hangup x",
     "reopen x",
     "1 reopen",
-    "crash 5",
     "1 crash",
+    "1 crash 5",
+    "crash x",
+    "crash ",
+    "crash 00",
+    "crash 05",
+    "crash +5",
+    "crash 16777217",
+    "crash 5 5",
+    "crash other",
+    "crash other 16777217",
+    "crash other other 5",
     // Device calls that are to fail.
     "fail",
     "fail lost",
@@ -107,6 +117,18 @@ const OTHERS: [&str; 107] = [
     "fail other 1001 kept",
     "fail other other 1 kept",
     "1 fail 1 lost",
+    // A stop.
+    "stop",
+    "stop 0",
+    "stop 1001",
+    "stop 01",
+    "stop +1",
+    "stop 1 lost",
+    "stop other",
+    "stop other 0",
+    "stop other 1001",
+    "stop other 1 1",
+    "1 stop 1",
     // A recovery and what the operator decides.
     "1 recover TMNOFLAGS",
     "1 recover TMNOFLAGS 4294967296",
@@ -126,7 +148,7 @@ const OTHERS: [&str; 107] = [
 ];
 
 /// Scripts without a reply.
-const SILENT: [&str; 9] = [
+const SILENT: [&str; 11] = [
     "",
     "\n",
     "\n\n",
@@ -136,10 +158,12 @@ const SILENT: [&str; 9] = [
     "fail 1 lost",
     "fail other 1000 kept",
     "fail 1 kept\nfail 1 lost\nfail other 2 lost",
+    "stop 1",
+    "stop other 1000\nstop 1\nfail 1 kept",
 ];
 
 /// Lines that ask something, each with what it says.
-const ASKED: [(&str, &str); 14] = [
+const ASKED: [(&str, &str); 19] = [
     ("9 hangup", "Hangup(9)"),
     (
         "18446744073709551615 hangup",
@@ -182,8 +206,13 @@ const ASKED: [(&str, &str); 14] = [
         "fail other 7 lost",
         "Fail { file: Other, call: 7, effect: Lost }",
     ),
+    ("stop 1000", "Stop { file: Current, call: 1000 }"),
+    ("stop other 1", "Stop { file: Other, call: 1 }"),
     ("reopen", "Reopen"),
-    ("crash", "Crash"),
+    ("crash", "Crash { file: Current, keeps: 0 }"),
+    ("crash 0", "Crash { file: Current, keeps: 0 }"),
+    ("crash 16777216", "Crash { file: Current, keeps: 16777216 }"),
+    ("crash other 9", "Crash { file: Other, keeps: 9 }"),
 ];
 
 fn line_text(alloc: Global, line: &str) -> Result<String, AllocError> {

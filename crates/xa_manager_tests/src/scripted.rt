@@ -10,12 +10,32 @@ fn push_line(text: &mut String, line: &str) -> Result<(), AllocError> {
     text.push_str("\n")
 }
 
-fn push_part(script: &mut String, want: &mut String, part: &[Line]) -> Result<(), AllocError> {
+fn push_part(
+    script: &mut String,
+    want: &mut String,
+    part: &[(&str, &str)],
+) -> Result<(), AllocError> {
     for (line, reply) in part {
         push_line(script, line)?;
         push_line(want, reply)?;
     }
     Ok(())
+}
+
+/// Whether lines are played with these parts before and after them, print what stands beside them, and end so.
+pub fn plays_parts(
+    alloc: Global,
+    before: Play,
+    lines: &[(&str, &str)],
+    after: Play,
+    fault: &str,
+) -> Result<bool, AllocError> {
+    let (mut script, mut want) = texts(alloc, before)?;
+    push_part(&mut script, &mut want, lines)?;
+    for part in after {
+        push_part(&mut script, &mut want, part)?;
+    }
+    Ok(ends_as(alloc, LOG_BYTES, script.as_str(), want.as_str(), fault))
 }
 
 /// The script of a play, and what it prints.

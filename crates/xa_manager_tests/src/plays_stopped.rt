@@ -1,0 +1,282 @@
+use crate::rows::none_wrong;
+use crate::scripted::{plays_parts, wrong_play};
+use std::alloc::{AllocError, Global};
+use xa_rows::{
+    ABSENT_IN_SECOND, COMMITTED, DECIDED, FORGOTTEN, HEURISTIC, LISTED, Line, NONE_LISTED, OK, P1,
+    PREPARED, Play, READ_IN_SECOND, RESTART, WRITTEN,
+};
+
+/// A line that has a disk stop from one of its device calls on, the reply of the call after it, the crash that follows,
+/// and what is found then.
+type Stop = (&'static str, &'static str, &'static str, Play);
+
+const LOST: &str = "-7 Device";
+
+// What is found after a crash: the branch in doubt, to be committed; or committed; or not at all. Each boot's first
+// branch has its number.
+const IN_DOUBT: Play = &[&P1, &LISTED, &COMMITTED, &READ_IN_SECOND];
+
+const DONE: Play = &[&P1, &NONE_LISTED, &READ_IN_SECOND];
+
+const GONE: Play = &[&P1, &NONE_LISTED, &ABSENT_IN_SECOND];
+
+const COMPLETED: Play = &[&P1, &LISTED, &HEURISTIC, &FORGOTTEN, &READ_IN_SECOND];
+
+// The first call writes the record, and the second one syncs it. Where the write has its effect, a crash may leave any
+// front of the record; a prepared one has 61 bytes, and so has one that is committed in one phase.
+const PREPARE: [Stop; 8] = [
+    ("stop 1", LOST, "crash", GONE),
+    ("stop 1", LOST, "crash 16777216", GONE),
+    ("stop 2", LOST, "crash", GONE),
+    ("stop 2", LOST, "crash other 16777216", GONE),
+    ("stop 2", LOST, "crash 60", GONE),
+    ("stop 2", LOST, "crash 61", IN_DOUBT),
+    ("stop 3", OK, "crash", IN_DOUBT),
+    ("stop other 1", OK, "crash 0", IN_DOUBT),
+];
+
+const COMMIT_AT_ONCE: [Stop; 6] = [
+    ("stop 1", LOST, "crash", GONE),
+    ("stop 2", LOST, "crash", GONE),
+    ("stop 2", LOST, "crash 60", GONE),
+    ("stop 2", LOST, "crash 61", DONE),
+    ("stop 3", OK, "crash", DONE),
+    ("stop other 1", OK, "crash", DONE),
+];
+
+// The record of a completion or a decision has 46 bytes, and that of a forgotten one 45.
+const COMMIT: [Stop; 6] = [
+    ("stop 1", LOST, "crash", IN_DOUBT),
+    ("stop 2", LOST, "crash", IN_DOUBT),
+    ("stop 2", LOST, "crash 45", IN_DOUBT),
+    ("stop 2", LOST, "crash 46", DONE),
+    ("stop 3", OK, "crash", DONE),
+    ("stop other 1", OK, "crash", DONE),
+];
+
+const ROLLBACK: [Stop; 6] = [
+    ("stop 1", LOST, "crash", IN_DOUBT),
+    ("stop 2", LOST, "crash", IN_DOUBT),
+    ("stop 2", LOST, "crash 45", IN_DOUBT),
+    ("stop 2", LOST, "crash 46", GONE),
+    ("stop 3", OK, "crash", GONE),
+    ("stop other 1", OK, "crash", GONE),
+];
+
+const DECIDE: [Stop; 6] = [
+    ("stop 1", LOST, "crash", IN_DOUBT),
+    ("stop 2", LOST, "crash", IN_DOUBT),
+    ("stop 2", LOST, "crash 45", IN_DOUBT),
+    ("stop 2", LOST, "crash 46", COMPLETED),
+    ("stop 3", OK, "crash", COMPLETED),
+    ("stop other 1", OK, "crash", COMPLETED),
+];
+
+const FORGET: [Stop; 6] = [
+    ("stop 1", LOST, "crash", COMPLETED),
+    ("stop 2", LOST, "crash", COMPLETED),
+    ("stop 2", LOST, "crash 44", COMPLETED),
+    ("stop 2", LOST, "crash 45", DONE),
+    ("stop 3", OK, "crash", DONE),
+    ("stop other 1", OK, "crash", DONE),
+];
+
+// The branch is in doubt in a later boot, since one before it was logged.
+const READ_IN_THIRD: [Line; 2] = [
+    ("1 start TMNOFLAGS 1:cc:", "0 Nothing number 12884901889"),
+    ("1 get 6b", "0 Nothing value 76"),
+];
+
+const READ_IN_FOURTH: [Line; 2] = [
+    ("1 start TMNOFLAGS 1:cc:", "0 Nothing number 17179869185"),
+    ("1 get 6b", "0 Nothing value 76"),
+];
+
+const IN_THIRD: Play = &[&P1, &LISTED, &COMMITTED, &READ_IN_THIRD];
+
+const IN_FOURTH: Play = &[&P1, &LISTED, &COMMITTED, &READ_IN_FOURTH];
+
+// A restart syncs, measures and reads the current file. The other one, which is empty, is synced and measured, and then
+// the new log is written to it: its front with a length 0 and a sync, two records and a sync, the first length, which has
+// 4 bytes, and a sync.
+const FIRST_RESTART: [Stop; 20] = [
+    ("stop 1", LOST, "crash", IN_DOUBT),
+    ("stop 2", LOST, "crash", IN_DOUBT),
+    ("stop 3", LOST, "crash", IN_DOUBT),
+    ("stop 4", OK, "crash", IN_THIRD),
+    ("stop other 1", LOST, "crash", IN_DOUBT),
+    ("stop other 2", LOST, "crash", IN_DOUBT),
+    ("stop other 3", LOST, "crash", IN_DOUBT),
+    ("stop other 4", LOST, "crash", IN_DOUBT),
+    ("stop other 4", LOST, "crash other 5", IN_DOUBT),
+    ("stop other 4", LOST, "crash other 12", IN_DOUBT),
+    ("stop other 5", LOST, "crash", IN_DOUBT),
+    ("stop other 6", LOST, "crash other 20", IN_DOUBT),
+    ("stop other 7", LOST, "crash", IN_DOUBT),
+    ("stop other 7", LOST, "crash other 16777216", IN_DOUBT),
+    ("stop other 8", LOST, "crash", IN_DOUBT),
+    ("stop other 9", LOST, "crash", IN_DOUBT),
+    ("stop other 9", LOST, "crash 16777216", IN_DOUBT),
+    ("stop other 9", LOST, "crash other 3", IN_DOUBT),
+    ("stop other 9", LOST, "crash other 4", IN_THIRD),
+    ("stop other 10", OK, "crash", IN_THIRD),
+];
+
+// The next one finds a log in the other file, and reads its front too.
+const SECOND_RESTART: [Stop; 9] = [
+    ("stop 3", LOST, "crash", IN_THIRD),
+    ("stop 4", OK, "crash", IN_FOURTH),
+    ("stop other 3", LOST, "crash", IN_THIRD),
+    ("stop other 5", LOST, "crash other 12", IN_THIRD),
+    ("stop other 8", LOST, "crash other 16777216", IN_THIRD),
+    ("stop other 10", LOST, "crash", IN_THIRD),
+    ("stop other 10", LOST, "crash other 3", IN_THIRD),
+    ("stop other 10", LOST, "crash other 4", IN_FOURTH),
+    ("stop other 11", OK, "crash", IN_FOURTH),
+];
+
+/// A call, and what was played before it.
+type Call = (Play, &'static str);
+
+fn is_stopped(alloc: Global, call: &Call, row: &Stop) -> Result<bool, AllocError> {
+    let (before, line) = *call;
+    let (stop, reply, crash, found) = *row;
+    let lines = [(stop, ""), (line, reply), (crash, OK)];
+    plays_parts(alloc, before, &lines, found, "")
+}
+
+fn wrong_stop(alloc: Global, call: &Call, rows: &[Stop]) -> Option<usize> {
+    for (index, row) in rows.iter().enumerate() {
+        if is_stopped(alloc, call, row) != Ok(true) {
+            return Some(index);
+        }
+    }
+    None
+}
+
+const AT_WORK: Play = &[&P1, &WRITTEN];
+
+const VOTED: Play = &[&P1, &WRITTEN, &PREPARED];
+
+const BY_OPERATOR: Play = &[&P1, &WRITTEN, &PREPARED, &DECIDED];
+
+const RESTARTED: Play = &[&P1, &WRITTEN, &PREPARED, &RESTART];
+
+#[test]
+fn votes_that_stop(rt: HostRuntime) {
+    let prepare = (AT_WORK, "1 prepare TMNOFLAGS 1:aa:bb");
+    none_wrong(&rt, wrong_stop(rt.alloc(), &prepare, &PREPARE));
+    let commit = (AT_WORK, "1 commit TMONEPHASE 1:aa:bb");
+    none_wrong(&rt, wrong_stop(rt.alloc(), &commit, &COMMIT_AT_ONCE));
+}
+
+#[test]
+fn completions_that_stop(rt: HostRuntime) {
+    let commit = (VOTED, "1 commit TMNOFLAGS 1:aa:bb");
+    none_wrong(&rt, wrong_stop(rt.alloc(), &commit, &COMMIT));
+    let rollback = (VOTED, "1 rollback TMNOFLAGS 1:aa:bb");
+    none_wrong(&rt, wrong_stop(rt.alloc(), &rollback, &ROLLBACK));
+    let decide = (VOTED, "1 decide commit 1:aa:bb");
+    none_wrong(&rt, wrong_stop(rt.alloc(), &decide, &DECIDE));
+    let forget = (BY_OPERATOR, "1 forget TMNOFLAGS 1:aa:bb");
+    none_wrong(&rt, wrong_stop(rt.alloc(), &forget, &FORGET));
+}
+
+#[test]
+fn restarts_that_stop(rt: HostRuntime) {
+    let first = (VOTED, "1 restart");
+    none_wrong(&rt, wrong_stop(rt.alloc(), &first, &FIRST_RESTART));
+    let second = (RESTARTED, "1 restart");
+    none_wrong(&rt, wrong_stop(rt.alloc(), &second, &SECOND_RESTART));
+}
+
+/// What was played before an opening, the file whose disk stops in it, how many calls it makes of that disk, and what is
+/// found after it and a crash.
+type Opening = (Play, &'static str, u64, Play);
+
+// The file's length, then a sync, a length and a read, where it isn't empty; and of the other file a checkpoint.
+const OPENINGS: [Opening; 4] = [
+    (VOTED, "stop", 4, IN_THIRD),
+    (VOTED, "stop other", 10, IN_THIRD),
+    (RESTARTED, "stop", 4, IN_FOURTH),
+    (RESTARTED, "stop other", 11, IN_FOURTH),
+];
+
+fn is_opening(alloc: Global, row: &Opening, call: u64) -> Result<bool, AllocError> {
+    let (before, stop, calls, found) = *row;
+    let stop = format!(in alloc; "{stop} {call}")?;
+    if call <= calls {
+        let lines = [(stop.as_str(), ""), ("reopen", "")];
+        return plays_parts(alloc, before, &lines, &[], "xarm: device fault");
+    }
+    let lines = [(stop.as_str(), ""), ("reopen", OK), ("crash", OK)];
+    plays_parts(alloc, before, &lines, found, "")
+}
+
+fn wrong_call(alloc: Global, row: &Opening) -> Option<u64> {
+    for call in 1..row.2.saturating_add(2) {
+        if is_opening(alloc, row, call) != Ok(true) {
+            return Some(call);
+        }
+    }
+    None
+}
+
+fn wrong_opening(alloc: Global, rows: &[Opening]) -> Option<usize> {
+    for (index, row) in rows.iter().enumerate() {
+        if wrong_call(alloc, row).is_some() {
+            return Some(index);
+        }
+    }
+    None
+}
+
+// An opening stops at each of its calls, or after them.
+#[test]
+fn openings_that_stop(rt: HostRuntime) {
+    none_wrong(&rt, wrong_opening(rt.alloc(), &OPENINGS));
+}
+
+// A record that was refused is taken back whole: a later one of its length, of which a crash leaves the length alone,
+// doesn't bring it back.
+const TAKEN_BACK: [Line; 9] = [
+    ("fail 1 kept", ""),
+    ("1 prepare TMNOFLAGS 1:aa:bb", "-3 Device"),
+    ("1 rollback TMNOFLAGS 1:aa:bb", OK),
+    ("1 start TMNOFLAGS 1:aa:cc", "0 Nothing number 4294967298"),
+    ("1 put 6b 77", OK),
+    ("1 end TMSUCCESS 1:aa:cc", OK),
+    ("stop 2", ""),
+    ("1 prepare TMNOFLAGS 1:aa:cc", LOST),
+    ("crash 4", OK),
+];
+
+// Of two stops the earlier one holds, and over a plan too.
+const EARLIER: [Line; 6] = [
+    ("stop 1", ""),
+    ("stop 5", ""),
+    ("fail 1 kept", ""),
+    ("fail 2 kept", ""),
+    ("1 prepare TMNOFLAGS 1:aa:bb", LOST),
+    ("crash 61", OK),
+];
+
+// A stopped disk stays so until a crash, over restarts.
+const STAYS: [Line; 5] = [
+    ("stop 3", ""),
+    ("1 prepare TMNOFLAGS 1:aa:bb", OK),
+    ("1 commit TMNOFLAGS 1:aa:bb", LOST),
+    ("1 restart", LOST),
+    ("crash 46", OK),
+];
+
+const PLANS: [Play; 3] = [
+    &[&P1, &WRITTEN, &TAKEN_BACK, &P1, &NONE_LISTED],
+    &[&P1, &WRITTEN, &EARLIER, &P1, &NONE_LISTED],
+    &[&P1, &WRITTEN, &STAYS, &P1, &LISTED],
+];
+
+#[test]
+fn plans_of_stops(rt: HostRuntime) {
+    none_wrong(&rt, wrong_play(rt.alloc(), &PLANS));
+}
