@@ -29,7 +29,7 @@ final class Session {
     private final String host;
     private final int port;
     private final byte[] name;
-    private final int readTimeout;
+    private int readTimeout;
     private final Branches branches = new Branches();
     private Socket socket; // null where there is no connection
     private boolean isClosed;
@@ -47,8 +47,21 @@ final class Session {
         return branches;
     }
 
-    int readTimeout() {
+    synchronized int readTimeout() {
         return readTimeout;
+    }
+
+    /** From the next call on. */
+    synchronized void setReadTimeout(int milliseconds) {
+        readTimeout = checkedTimeout(milliseconds);
+    }
+
+    /** A read time-out, which is 1 or more. */
+    static int checkedTimeout(int milliseconds) {
+        if (milliseconds < 1) {
+            throw new IllegalArgumentException("a read time-out of " + milliseconds + " ms");
+        }
+        return milliseconds;
     }
 
     synchronized boolean isConnected() {

@@ -28,6 +28,18 @@ public final class XarmXAConnection implements AutoCloseable {
         return records;
     }
 
+    public int getReadTimeout() {
+        return session.readTimeout();
+    }
+
+    /**
+     * How many milliseconds a call waits for its answer, from the next one on, as for
+     * {@link XarmXADataSource#setReadTimeout}. At first it is the data source's.
+     */
+    public void setReadTimeout(int milliseconds) {
+        session.setReadTimeout(milliseconds);
+    }
+
     /**
      * Closes the connection, and sends nothing: the server hangs the session up. A branch that it was at work for can only be
      * rolled back from then on; one whose work was ended, and one that is prepared, stays as it is. Calls that come later are

@@ -81,10 +81,7 @@ public final class XarmXADataSource {
      * more, since no call waits for ever. One that waited in vain is XAER_RMFAIL, and its connection is closed.
      */
     public void setReadTimeout(int milliseconds) {
-        if (milliseconds < 1) {
-            throw new IllegalArgumentException("a read time-out of " + milliseconds + " ms");
-        }
-        readTimeout = milliseconds;
+        readTimeout = Session.checkedTimeout(milliseconds);
     }
 
     @Override

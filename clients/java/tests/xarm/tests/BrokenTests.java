@@ -214,20 +214,23 @@ final class BrokenTests implements Suite {
 
     private void silent() throws Exception {
         XarmXADataSource source = new XarmXADataSource("127.0.0.1", relay.port(), "bank");
-        source.setReadTimeout(READ_TIMEOUT);
         try (XarmXAConnection waiting = source.getXAConnection()) {
             XarmXid branch = xid("silent");
             Work.end(waiting, branch, "b11", "v");
             relay.holdReply();
+            // what is to be answered has the data source's, however busy the machine is
+            waiting.setReadTimeout(READ_TIMEOUT);
             within(() -> code(XAER_RMFAIL, () -> waiting.getXAResource().prepare(branch)));
+            waiting.setReadTimeout(source.getReadTimeout());
             listed(waiting.getXAResource(), branch);
             waiting.getXAResource().rollback(branch);
         }
     }
 
     private void slow() throws Exception {
-        try (Fake fake = new Fake(READ_TIMEOUT / 4); XarmXAConnection waiting = fake.connect(READ_TIMEOUT)) {
+        try (Fake fake = new Fake(READ_TIMEOUT / 4); XarmXAConnection waiting = fake.connect(10 * READ_TIMEOUT)) {
             fake.answer(XA_OK, Detail.NOTHING);
+            waiting.setReadTimeout(READ_TIMEOUT);
             within(() -> code(XAER_RMFAIL, () -> waiting.getXAResource().forget(xid("slow"))));
         }
     }

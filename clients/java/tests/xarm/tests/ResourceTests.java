@@ -248,7 +248,12 @@ final class ResourceTests implements Suite {
         source.setName("bank");
         source.setHost("localhost");
         source.setReadTimeout(5_000);
-        source.getXAConnection().close();
+        XarmXAConnection opened = source.getXAConnection();
+        equal(5_000, opened.getReadTimeout());
+        opened.setReadTimeout(6_000);
+        equal(6_000, opened.getReadTimeout());
+        illegal(() -> opened.setReadTimeout(0));
+        opened.close();
         illegal(() -> source.setPort(0));
         illegal(() -> source.setPort(65_536));
         illegal(() -> source.setName("n".repeat(256)));
