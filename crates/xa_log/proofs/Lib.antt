@@ -1,6 +1,7 @@
 pub mod Hash
 pub mod Records
 pub mod Torn
+pub mod Tried
 pub mod Encode
 pub mod Append
 pub mod Front

@@ -1,9 +1,11 @@
 -- How far a file is made ready ahead of its log.
 use Rattle.std.specs.Prelude.{◌≡◌, ℕ, ◌+◌, ◌-◌, ◌/◌, ◌%◌, ◌==◌, min, if◌then◌else◌, List, length}
-use Rattle.xa_disk.specs.Disk.{put}
 use Rattle.xa_disk.specs.declared.disk.Disk.{Ghosts}
-use Rattle.xa_log.specs.Chain.{closed_by}
+use Rattle.xa_log.specs.Answers.{Wrote}
+use Rattle.xa_log.specs.Calls.{AppendsAhead}
+use Rattle.xa_log.specs.Chain.{closed, closed_by}
 use Rattle.xa_log.specs.declared.ahead.TheConstants.{READY_BYTES}
+use Rattle.xa_log.specs.declared.appending.Appended.{Appended}
 use Rattle.xa_log.specs.declared.log.Log.{Log}
 use Rattle.xa_limits.specs.declared.TheConstants.{AROUND_CLOSED}
 
@@ -13,10 +15,21 @@ abbrev pub ready : ℕ → ℕ → ℕ → ℕ
 ready from to most =
     if from / READY_BYTES == to / READY_BYTES then 0 else min (READY_BYTES - to % READY_BYTES) (most - to)
 
+-- how many go behind an append of a body of so many bytes
+abbrev pub ready_for : {D : Type 0} → Log D → ℕ → ℕ
+ready_for log n = ready log.end (log.end + AROUND_CLOSED + n) log.log_bytes
+
 -- what is written of an append of this body: its record, the closing length, and these zeros
 abbrev pub appended : {D : Type 0} → Log D → List ℕ → List ℕ
-appended log body = closed_by (ready log.end (log.end + AROUND_CLOSED + length body) log.log_bytes) log.digest body
+appended log body = closed_by (ready_for log (length body)) log.digest body
 
--- an append that is kept has written that and nothing else
+-- An append that is kept has written that and nothing else, or where the write with zeros failed, over what it left, the
+-- record and the closing length.
 abbrev pub Writes : {D : Type 0} → Ghosts D → List ℕ → Log D → Log D → Type 0
-Writes disks body old new = disks.seen new.disk ≡ put (disks.seen old.disk) old.end (appended old body)
+Writes disks body old new = Wrote disks old.end (closed old.digest body) (appended old body) old.disk new.disk
+
+-- the failures and the calls of an append of a body of so many bytes
+abbrev pub AppendsBy : {D : Type 0} → Ghosts D → ℕ → Appended → Log D → Log D → Type 0
+AppendsBy disks n outcome old new =
+    AppendsAhead (ready_for old n) outcome
+    (disks.failures old.disk) (disks.failures new.disk) (disks.counts old.disk) (disks.counts new.disk)

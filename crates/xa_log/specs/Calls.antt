@@ -2,7 +2,9 @@
 use Rattle.std.specs.Prelude.{◌≡◌, ◌⊎◌, ℕ, zero, suc, ◌+◌, ◌*◌, ◌≤◌, ◌<◌, Bool, true, false, Option, None, Some, Result}
 use Rattle.std.specs.Prelude.{MatchResult}
 use Rattle.xa_disk.specs.Counts.{plus, with_length, with_write, with_sync}
+use Rattle.xa_disk.specs.Disk.{CountsFault}
 use Rattle.xa_disk.specs.declared.counts.Counts.{Counts}
+use Rattle.xa_log.specs.Answers.{HasCause}
 use Rattle.xa_log.specs.declared.reading.Found.{Found}
 use Rattle.xa_log.specs.declared.appending.Appended.{Appended}
 use Rattle.xa_log.specs.declared.appending.Appended.TheVariants.{Kept, Refused, Lost, Full}
@@ -77,8 +79,21 @@ PutCalls result old new =
     MatchResult result (λ _. new ≡ with_sync (with_write old))
     (λ _. (new ≡ with_write old) ⊎ (new ≡ with_sync (with_write old)))
 
--- The calls of an append that isn't answered from memory: a write and a sync; where one of them failed the repair's
--- write, and its sync unless that write failed.
+-- Where so many bytes more than those that count were tried: a write of all, or behind one that failed a write of those
+-- that count.
+abbrev pub WritesAhead : {T E : Type 0} → ℕ → Result T E → ℕ → ℕ → Counts → Counts → Type 0
+WritesAhead more result failures failures' old new =
+    (CountsFault result failures failures' × (new ≡ with_write old))
+    ⊎ ((1 ≤ more) × CountsFault result (plus failures 1) failures' × (new ≡ with_write (with_write old)))
+
+-- the same and a sync, of which the first that failed for good is the last
+abbrev pub PutsAhead : {T E : Type 0} → ℕ → Result T E → ℕ → ℕ → Counts → Counts → Type 0
+PutsAhead more result failures failures' old new =
+    (CountsFault result failures failures' × PutCalls result old new)
+    ⊎ ((1 ≤ more) × CountsFault result (plus failures 1) failures' × PutCalls result (with_write old) new)
+
+-- The calls of an append that isn't answered from memory, where no write with zeros failed: a write and a sync; where one
+-- of them failed the repair's write, and its sync unless that write failed.
 abbrev pub AppendCalls : Appended → Counts → Counts → Type 0
 AppendCalls Kept old new = new ≡ with_sync (with_write old)
 AppendCalls Refused old new =
@@ -87,6 +102,13 @@ AppendCalls Lost old new =
     (new ≡ with_write (with_write old)) ⊎ (new ≡ with_sync (with_write (with_write old)))
     ⊎ (new ≡ with_sync (with_sync (with_write (with_write old))))
 AppendCalls Full old new = new ≡ old
+
+-- the failures and the calls of an append with so many zeros: those, or where there are any, those behind a write with
+-- them that failed
+abbrev pub AppendsAhead : ℕ → Appended → ℕ → ℕ → Counts → Counts → Type 0
+AppendsAhead more outcome failures failures' old new =
+    (HasCause outcome failures failures' × AppendCalls outcome old new)
+    ⊎ ((1 ≤ more) × HasCause outcome (plus failures 1) failures' × AppendCalls outcome (with_write old) new)
 
 -- so many writes more
 abbrev pub with_writes : ℕ → Counts → Counts

@@ -1,10 +1,10 @@
 //! How a record goes to the disk.
-ghost use Rattle.std.specs.Prelude.{◌≡◌, ◌≢◌, ◌+◌, ◌≤◌, length, OnOk, OnErr};
+ghost use Rattle.std.specs.Prelude.{◌≡◌, ◌≢◌, ◌+◌, ◌-◌, ◌≤◌, length, take, OnOk, OnErr};
 ghost use Rattle.xa_disk.specs.Disk.{put, Torn, Only, CountsFault};
 ghost use Rattle.xa_disk.specs.Time.{TimePasses};
-ghost use Rattle.xa_log.specs.Chain.{digest, closed_by, IsBody};
-ghost use Rattle.xa_log.specs.Answers.{Went, Fell, HasCause};
-ghost use Rattle.xa_log.specs.Calls.{PutCalls, AppendCalls};
+ghost use Rattle.xa_log.specs.Chain.{digest, closed, closed_by, IsBody};
+ghost use Rattle.xa_log.specs.Answers.{Went, Wrote, WentAhead, Fell, FellAhead, HasCause};
+ghost use Rattle.xa_log.specs.Calls.{PutCalls, WritesAhead, PutsAhead, AppendCalls, AppendsAhead};
 
 use crate::record::{clear, encode};
 use xa_disk::{Disk, DiskFault};
@@ -39,10 +39,81 @@ pub(crate) fn put_synced<D: Disk>(disk: &mut D, at: u64, bytes: &[u8]) -> Result
     disk.sync()
 }
 
-// Writes the bytes and syncs. If that fails, writes zeros over the whole range and syncs. Clearing the length alone
-// isn't enough: a refused body and its digest would still lie there, and chain again once a later record of the same
-// length is torn behind its length. A disk that syncs no more behind a failed sync, as `FileDisk`, so comes to `Lost`
-// there, and then a rescan fails too: only the files opened anew tell what stands.
+// Writes the bytes. If that fails and only the first `len` count, writes these by themselves: there may be no space for
+// the rest.
+fn write_ahead<D: Disk>(disk: &mut D, at: u64, bytes: &[u8], len: usize) -> Result<(), DiskFault>
+    requires some { 1 ≤ len }
+    requires within { len ≤ length bytes.now }
+    ensures written { D.honest → OnOk result (Wrote D.Disk at (take len bytes.now) bytes.now disk.old disk.new) }
+    ensures fell { D.honest
+        → OnErr result (FellAhead D.tears (D.seen disk.old) at (take len bytes.now) bytes.now (D.seen disk.new)) }
+    ensures time { D.honest → TimePasses D.Disk (Torn at (length bytes.now)) disk.old disk.new }
+    ensures calls { WritesAhead (length bytes.now - len) result
+        (D.failures disk.old) (D.failures disk.new) (D.counts disk.old) (D.counts disk.new) }
+{
+    match disk.write_at(at, bytes) {
+        Ok(()) => return Ok(()),
+        Err(fault) => {
+            if len == bytes.len() {
+                return Err(fault);
+            }
+        }
+    }
+    disk.write_at(at, &bytes[..len])
+}
+
+// The same with a sync behind it. A sync that fails is never tried again.
+fn put_ahead_synced<D: Disk>(
+    disk: &mut D,
+    at: u64,
+    bytes: &[u8],
+    len: usize,
+) -> Result<(), DiskFault>
+    requires some { 1 ≤ len }
+    requires within { len ≤ length bytes.now }
+    ensures written { D.honest → OnOk result (Wrote D.Disk at (take len bytes.now) bytes.now disk.old disk.new) }
+    ensures durable { D.honest → OnOk result (Only (D.seen disk.new) (D.may_leave disk.new)) }
+    ensures fell { D.honest
+        → OnErr result (FellAhead D.tears (D.seen disk.old) at (take len bytes.now) bytes.now (D.seen disk.new)) }
+    ensures time { D.honest → TimePasses D.Disk (Torn at (length bytes.now)) disk.old disk.new }
+    ensures calls { PutsAhead (length bytes.now - len) result
+        (D.failures disk.old) (D.failures disk.new) (D.counts disk.old) (D.counts disk.new) }
+{
+    write_ahead(disk, at, bytes, len)?;
+    disk.sync()
+}
+
+// Writes the bytes and syncs, as `put_ahead_synced`. If that fails, writes zeros over the first `len` and syncs.
+// Clearing the length alone isn't enough: a refused body and its digest would still lie there, and chain again once a
+// later record of the same length is torn behind its length. What goes behind these bytes needs no clearing, and no
+// space for it. A disk that syncs no more behind a failed sync, as `FileDisk`, so comes to `Lost` there, and then a
+// rescan fails too: only the files opened anew tell what stands.
+pub(crate) fn put_ahead_or_clear<D: Disk>(
+    disk: &mut D,
+    at: u64,
+    bytes: &mut [u8],
+    len: usize,
+) -> Appended
+    requires some { 1 ≤ len }
+    requires within { len ≤ length bytes.old }
+    ensures went { D.honest → WentAhead D.Disk result at (take len bytes.old) bytes.old disk.old disk.new }
+    ensures time { D.honest → TimePasses D.Disk (Torn at (length bytes.old)) disk.old disk.new }
+    ensures calls { AppendsAhead (length bytes.old - len) result
+        (D.failures disk.old) (D.failures disk.new) (D.counts disk.old) (D.counts disk.new) }
+    ensures not_full { result ≢ Appended.Full }
+{
+    match put_ahead_synced(disk, at, bytes, len) {
+        Ok(()) => return Appended::Kept,
+        Err(_) => {}
+    }
+    clear(bytes, 0, len);
+    match put_synced(disk, at, &bytes[..len]) {
+        Ok(()) => Appended::Refused,
+        Err(_) => Appended::Lost,
+    }
+}
+
+// The same where all the bytes count.
 pub(crate) fn put_or_clear<D: Disk>(disk: &mut D, at: u64, bytes: &mut [u8]) -> Appended
     requires { 1 ≤ length bytes.old }
     ensures went { D.honest
@@ -52,20 +123,13 @@ pub(crate) fn put_or_clear<D: Disk>(disk: &mut D, at: u64, bytes: &mut [u8]) -> 
     ensures calls { AppendCalls result (D.counts disk.old) (D.counts disk.new) }
     ensures not_full { result ≢ Appended.Full }
 {
-    match put_synced(disk, at, bytes) {
-        Ok(()) => return Appended::Kept,
-        Err(_) => {}
-    }
-    bytes.fill(0);
-    match put_synced(disk, at, bytes) {
-        Ok(()) => Appended::Refused,
-        Err(_) => Appended::Lost,
-    }
+    let len = bytes.len();
+    put_ahead_or_clear(disk, at, bytes, len)
 }
 
-// Writes a body's record, as `put_or_clear` does, and gives its digest. The closing length goes in the same write, and
-// so do the zeros that make the file ready: an append is one write and one sync, and what stands behind it isn't read
-// as a record.
+// Writes a body's record, as `put_ahead_or_clear` does, and gives its digest. The closing length goes in the same write,
+// and so do the zeros that make the file ready: an append is one write and one sync, and what stands behind it isn't
+// read as a record. The zeros are for speed alone, so the record is kept where they don't fit.
 pub(crate) fn append_at<D: Disk>(
     disk: &mut D,
     at: u64,
@@ -78,17 +142,17 @@ pub(crate) fn append_at<D: Disk>(
     requires body { IsBody body.now }
     ensures digest { result.1 ≡ digest prev.now body.now }
     ensures went { D.honest
-        → Went D.tears result.0 at (closed_by ready prev.now body.now)
-        (D.seen disk.old) (D.seen disk.new) (D.may_leave disk.new) }
+        → WentAhead D.Disk result.0 at (closed prev.now body.now) (closed_by ready prev.now body.now)
+        disk.old disk.new }
     ensures time { D.honest
         → TimePasses D.Disk (Torn at (length (closed_by ready prev.now body.now))) disk.old disk.new }
-    ensures cause { HasCause result.0 (D.failures disk.old) (D.failures disk.new) }
-    ensures calls { AppendCalls result.0 (D.counts disk.old) (D.counts disk.new) }
+    ensures calls { AppendsAhead ready result.0
+        (D.failures disk.old) (D.failures disk.new) (D.counts disk.old) (D.counts disk.new) }
     ensures not_full { result.0 ≢ Appended.Full }
 {
     let digest = encode(buffer, prev, body);
     let len = AROUND_CLOSED + body.len();
     clear(buffer, len, ready);
-    let outcome = put_or_clear(disk, at, &mut buffer[..len + ready]);
+    let outcome = put_ahead_or_clear(disk, at, &mut buffer[..len + ready], len);
     (outcome, digest)
 }

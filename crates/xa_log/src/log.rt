@@ -3,7 +3,7 @@ ghost use Rattle.std.specs.Prelude.{◌≡◌, ◌+◌, ◌-◌, ◌≤◌, ◌<
 ghost use Rattle.xa_disk.specs.Counts.{top};
 ghost use Rattle.xa_disk.specs.Time.{LeavesOnly};
 ghost use Rattle.std.specs.List.{AllByRecursion};
-ghost use Rattle.xa_log.specs.Calls.{AppendCalls, CheckpointCalls};
+ghost use Rattle.xa_log.specs.Calls.{CheckpointCalls};
 ghost use Rattle.xa_log.specs.Chain.{newest, text, IsBody};
 ghost use Rattle.xa_log.specs.Checkpoint.{IsOther, IsQuiet, LeavesAny};
 ghost use Rattle.xa_log.specs.Pair.{generation};
@@ -46,13 +46,13 @@ pub struct Log<D> {
 }
 
 impl<D: Disk> Log<D> {
-    ghost use Rattle.xa_log.specs.Ahead.{Writes};
+    ghost use Rattle.xa_log.specs.Ahead.{Writes, AppendsBy};
     ghost use Rattle.xa_log.specs.Stands.{Stands, Leaves, Moves, Renumbers, Answers};
     ghost use Rattle.xa_log.specs.TwoFiles.{Pair, AppendsTo, Checkpoints, Swaps, written};
 
-    /// Adds a record of a body of 1 to `MOST_BODY` bytes: one write and one sync where nothing fails. Takes no memory.
-    /// After `Lost`, its own or a checkpoint's, every append answers so, and asks nothing of the disk, until a rescan
-    /// succeeds.
+    /// Adds a record of a body of 1 to `MOST_BODY` bytes: one write and one sync where nothing fails; a write that goes
+    /// on with zeros, and fails, is followed by one of the record alone. Takes no memory. After `Lost`, its own or a
+    /// checkpoint's, every append answers so, and asks nothing of the disk, until a rescan succeeds.
     pub fn append(&mut self, body: &[u8]) -> Appended
         requires { IsBody body.now }
         ensures answer { D.honest → (bodies : List (List ℕ)) → Stands D.Disk bodies self.old
@@ -67,8 +67,7 @@ impl<D: Disk> Log<D> {
         ensures unchanged { result ≡ Appended.Full → self.new ≡ self.old }
         ensures moves { Moves result (length body.now) self.old self.new }
         ensures numbers { Renumbers result body.now self.old self.new }
-        ensures cause { self.old.lost ≡ false → HasCause result (D.failures self.old.disk) (D.failures self.new.disk) }
-        ensures calls { self.old.lost ≡ false → AppendCalls result (D.counts self.old.disk) (D.counts self.new.disk) }
+        ensures calls { self.old.lost ≡ false → AppendsBy D.Disk (length body.now) result self.old self.new }
         ensures kept { self.old.lost ≡ false → self.old.end + AROUND_CLOSED + length body.now ≤ self.old.log_bytes
             → D.failures self.old.disk < top → D.failures self.new.disk ≡ D.failures self.old.disk
             → result ≡ Appended.Kept }

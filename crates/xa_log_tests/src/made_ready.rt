@@ -2,7 +2,7 @@ use crate::log_pairs::appends;
 use crate::logs::{are_numbered, filled};
 use crate::rows::none_wrong;
 use std::alloc::Global;
-use xa_disk::{Disk, MemDisk};
+use xa_disk::{Disk, Effect, MemDisk};
 use xa_log::{Appended, Log, read_log};
 use xa_rows::{LOG_BYTES, first_wrong};
 
@@ -17,9 +17,15 @@ fn log_of_filled(alloc: Global, records: usize, size: usize, most: u64) -> Optio
     Some(log)
 }
 
-// How long its current file is behind a crash, if the file has the bodies then.
-fn length_left(alloc: Global, records: usize, size: usize, most: u64) -> Option<u64> {
-    let (mut disk, _other) = log_of_filled(alloc, records, size, most)?.into_disks();
+// How long a log's current file is behind a crash, if the file has so many bodies then.
+fn length_left(
+    alloc: Global,
+    log: Log<MemDisk>,
+    records: usize,
+    size: usize,
+    most: u64,
+) -> Option<u64> {
+    let (mut disk, _other) = log.into_disks();
     disk.crash().ok()?;
     let bodies = read_log(alloc, &mut disk, most).ok()?;
     if bodies.len() != records || !are_numbered(&bodies, size) {
@@ -28,13 +34,19 @@ fn length_left(alloc: Global, records: usize, size: usize, most: u64) -> Option<
     disk.length().ok()
 }
 
+fn length_of_filled(alloc: Global, records: usize, size: usize, most: u64) -> Option<u64> {
+    let log = log_of_filled(alloc, records, size, most)?;
+    length_left(alloc, log, records, size, most)
+}
+
 // How many bodies, of which size, in how many bytes at most, and how long the file is.
 type Row = (usize, usize, u64, u64);
 
 fn wrong_length(alloc: Global, rows: &[Row]) -> Option<usize> {
     first_wrong(
         rows,
-        |(records, size, most, length)| length_left(alloc, *records, *size, *most) == Some(*length),
+        |(records, size, most, length)| length_of_filled(alloc, *records, *size, *most)
+            == Some(*length),
     )
 }
 
@@ -51,4 +63,32 @@ const LENGTHS: [Row; 5] = [
 #[test]
 fn a_file_grows_by_pieces(rt: HostRuntime) {
     none_wrong(&rt, wrong_length(rt.alloc(), &LENGTHS));
+}
+
+// The same of one body whose record ends with the first piece, where the disk's next device calls fail so.
+fn length_with_faults(alloc: Global, plans: &[(u64, Effect)], kept: Appended) -> Option<u64> {
+    let mut log = log_of_filled(alloc, 0, 1, LOG_BYTES)?;
+    for (k, effect) in plans {
+        log.fail(*k, *effect).ok()?;
+    }
+    if appends(&mut log, &filled(alloc, 0, 262_096)?) != Some(kept) {
+        return None;
+    }
+    length_left(
+        alloc,
+        log,
+        usize::from(kept == Appended::Kept),
+        262_096,
+        LOG_BYTES,
+    )
+}
+
+// The write with the zeros fails: the record is kept without them. If its own write fails too, zeros lie over it alone.
+#[test]
+fn a_record_is_kept_without_zeros(rt: HostRuntime) {
+    let alloc = rt.alloc();
+    let once = [(1, Effect::Lost)];
+    assert!(rt; length_with_faults(alloc, &once, Appended::Kept) == Some(262_144));
+    let twice = [(1, Effect::Lost), (2, Effect::Lost)];
+    assert!(rt; length_with_faults(alloc, &twice, Appended::Refused) == Some(262_144));
 }

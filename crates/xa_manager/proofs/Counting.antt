@@ -5,7 +5,9 @@ use Rattle.std.specs.Prelude.{MatchBool}
 use Rattle.std.proofs.lemmas.List.{append-nil}
 use Rattle.xa_disk.specs.declared.disk.Disk.{Ghosts}
 use Rattle.xa_frame.specs.declared.reply.Reply.{Reply}
-use Rattle.xa_log.specs.Answers.{HasCause, HasRisen}
+use Rattle.xa_disk.specs.Counts.{plus}
+use Rattle.xa_log.specs.Ahead.{AppendsBy}
+use Rattle.xa_log.specs.Answers.{HasRisen}
 use Rattle.xa_log.specs.TwoFiles.{first_of, second_of}
 use Rattle.xa_log.specs.declared.log.Log.{Log}
 use Rattle.xa_model.specs.declared.event.Event.{Event}
@@ -36,6 +38,13 @@ first_by a b c d h e = λ p q. let r : a < c = h p in (omega arith, omega arith,
 second_by : (a b c d : ℕ) → c ≡ a → HasRisen b d → RiseBy 1 (a, b) (c, d)
 second_by a b c d e h = λ p q. let r : b < d = h q in (omega arith, omega arith, omega arith)
 
+-- one failed, and none is told of
+more_by : (a b c d : ℕ) → c ≡ plus a 1 → d ≡ b → RiseBy 0 (a, b) (c, d)
+more_by a b c d e f = λ p q. (omega (arith, e), omega (arith, f), omega (arith, e, f))
+
+risen_more : (a c : ℕ) → HasRisen (plus a 1) c → HasRisen a c
+risen_more a c h = λ low. let r : plus a 1 < c = h low in omega (arith, r)
+
 pub rise_both : (k n : ℕ) (x y z : ℕ × ℕ) → RiseBy k x y → RiseBy n y z → RiseBy (k + n) x z
 rise_both k n (a, b) (c, d) (e, f) h i = λ p q. let r = i p q in let t = h r.0 r.1 in (t.0, t.1, omega (arith, r.2, t.2))
 
@@ -60,16 +69,21 @@ module _ {D : Type 0} (disks : Ghosts D) where
       subst (λ (b : Bool). RiseBy n (counted_by disks.failures old) (disks.failures (cond b new.disk new.other), disks.failures (cond b new.other new.disk))) (sym same)
       (sides_by n old.on_first old.disk old.other new.disk new.other h)
 
-  append_by : (a : Appending) (old new : Log D) → new.other ≡ old.other → new.on_first ≡ old.on_first → HasCause (as_appended a) (disks.failures old.disk) (disks.failures new.disk)
+  append_by : (a : Appending) (n : ℕ) (old new : Log D) → new.other ≡ old.other → new.on_first ≡ old.on_first → AppendsBy disks n (as_appended a) old new
       → RiseBy (failures_of_append a) (counted_by disks.failures old) (counted_by disks.failures new)
-  append_by Kept old new other same cause = in_order 0 old new same (stay_by (disks.failures old.disk) (disks.failures old.other) (disks.failures new.disk) (disks.failures new.other) cause (ap disks.failures other))
-  append_by Refused old new other same cause = in_order 1 old new same (first_by (disks.failures old.disk) (disks.failures old.other) (disks.failures new.disk) (disks.failures new.other) cause (ap disks.failures other))
-  append_by Lost old new other same cause = in_order 1 old new same (first_by (disks.failures old.disk) (disks.failures old.other) (disks.failures new.disk) (disks.failures new.other) cause (ap disks.failures other))
+  append_by Kept n old new other same (inl x) = in_order 0 old new same (stay_by (disks.failures old.disk) (disks.failures old.other) (disks.failures new.disk) (disks.failures new.other) x.0 (ap disks.failures other))
+  append_by Kept n old new other same (inr x) = in_order 0 old new same (more_by (disks.failures old.disk) (disks.failures old.other) (disks.failures new.disk) (disks.failures new.other) x.1 (ap disks.failures other))
+  append_by Refused n old new other same (inl x) = in_order 1 old new same (first_by (disks.failures old.disk) (disks.failures old.other) (disks.failures new.disk) (disks.failures new.other) x.0 (ap disks.failures other))
+  append_by Refused n old new other same (inr x) =
+      in_order 1 old new same (first_by (disks.failures old.disk) (disks.failures old.other) (disks.failures new.disk) (disks.failures new.other) (risen_more (disks.failures old.disk) (disks.failures new.disk) x.1) (ap disks.failures other))
+  append_by Lost n old new other same (inl x) = in_order 1 old new same (first_by (disks.failures old.disk) (disks.failures old.other) (disks.failures new.disk) (disks.failures new.other) x.0 (ap disks.failures other))
+  append_by Lost n old new other same (inr x) =
+      in_order 1 old new same (first_by (disks.failures old.disk) (disks.failures old.other) (disks.failures new.disk) (disks.failures new.other) (risen_more (disks.failures old.disk) (disks.failures new.disk) x.1) (ap disks.failures other))
 
   pub called_by : (o : Outcome) (old new : Log D)
       → HasCalled disks o old new → RiseBy (failures_in o) (counted_by disks.failures old) (counted_by disks.failures new)
   called_by outcome.Quiet old new h = none_by old new (ap (λ (l : Log D). disks.failures (first_of l)) h, ap (λ (l : Log D). disks.failures (second_of l)) h)
-  called_by (outcome.Appended a) old new h = append_by a old new h.0 h.1 h.2
+  called_by (outcome.Appended a) old new h = append_by a h.2 old new h.0 h.1 h.4
   called_by outcome.Failed old new h = one_by old new h
   called_by (outcome.Reread survived None) old new h = none_by old new h
   called_by (outcome.Reread survived (Some Kept)) old new h = none_by old new h

@@ -19,6 +19,7 @@ pub mod OnePhase
 pub mod Completing
 pub mod Stepping
 pub mod Calling
+pub mod Appending
 pub mod Counting
 pub mod Beginnings
 pub mod Begins

@@ -298,7 +298,7 @@ module _ {D : Type 0} (disks : Ghosts D) where
   takes_called : (m m' : Manager D) (t : Turn) (reply : Reply) (outcome : Outcome) → Takes disks m t reply outcome m' → HasCalled disks outcome m.log m'.log
   takes_called m m' Nobody reply outcome x = absurd x
   takes_called m m' (Now a) reply outcome x = subst (λ (o : Outcome). HasCalled disks o m.log m'.log) (sym x.outcome_is) x.log
-  takes_called m m' (Appends r after) reply outcome x = subst (λ (o : Outcome). HasCalled disks o m.log m'.log) (sym x.outcome_is) (x.log.other.0, x.log.other.1, x.log.cause, x.log.calls)
+  takes_called m m' (Appends r after) reply outcome x = subst (λ (o : Outcome). HasCalled disks o m.log m'.log) (sym x.outcome_is) (x.log.other.0, x.log.other.1, length (spelled r), x.log.moves, x.log.calls)
   takes_called m m' (Rereads failed found missing) reply outcome x = absurd x
 
   -- what a crash leaves meanwhile

@@ -9,8 +9,9 @@ use Rattle.xa_frame.specs.declared.request.Request.{Request}
 use Rattle.xa_frame.specs.declared.request.Request.TheVariants.{Start, Prepare, Commit, Recover, Get, Put, Delete, Restart}
 use Rattle.xa_frame.specs.declared.reply.Reply.{Reply}
 use Rattle.xa_frame.specs.declared.body.Body.TheVariants as body
-use Rattle.xa_log.specs.Answers.{HasCause, HasRisen}
-use Rattle.xa_log.specs.Calls.{AppendCalls}
+use Rattle.xa_log.specs.Ahead.{AppendsBy}
+use Rattle.xa_log.specs.Answers.{HasRisen}
+use Rattle.xa_log.specs.Stands.{Moves}
 use Rattle.xa_log.specs.TwoFiles.{first_of, second_of}
 use Rattle.xa_log.specs.declared.appending.Appended.{Appended}
 use Rattle.xa_log.specs.declared.appending.Appended.TheVariants as appended
@@ -78,12 +79,13 @@ RisesBy failures (Some Kept) old new = NoneRises failures old new
 RisesBy failures (Some Refused) old new = OneRises failures old new
 RisesBy failures (Some Lost) old new = OneRises failures old new
 
+-- An outcome that tells of a failure has one behind it. Behind a record that is kept there may be one, where zeros were
+-- due: of the write with them.
 abbrev pub HasCalled : {D : Type 0} → Ghosts D → Outcome → Log D → Log D → Type 0
 HasCalled disks outcome.Quiet old new = new ≡ old
 HasCalled disks (outcome.Appended appending) old new =
     (new.other ≡ old.other) × (new.on_first ≡ old.on_first)
-    × HasCause (as_appended appending) (disks.failures old.disk) (disks.failures new.disk)
-    × AppendCalls (as_appended appending) (disks.counts old.disk) (disks.counts new.disk)
+    × (n : ℕ) × Moves (as_appended appending) n old new × AppendsBy disks n (as_appended appending) old new
 HasCalled disks outcome.Failed old new = OneRises disks.failures old new
 HasCalled disks (outcome.Reread survived appended) old new = RisesBy disks.failures appended old new
 

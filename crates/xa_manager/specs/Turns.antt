@@ -7,8 +7,7 @@ use Rattle.xa_codes.specs.declared.detail.Detail.TheVariants as detail
 use Rattle.xa_frame.specs.declared.reply.Reply.{Reply}
 use Rattle.xa_record.specs.Spelling.{spelled}
 use Rattle.xa_record.specs.declared.record.Record.{Record}
-use Rattle.xa_log.specs.Answers.{HasCause}
-use Rattle.xa_log.specs.Calls.{AppendCalls}
+use Rattle.xa_log.specs.Ahead.{AppendsBy}
 use Rattle.xa_log.specs.Stands.{Stands, Leaves, Moves}
 use Rattle.xa_log.specs.TwoFiles.{Pair, AppendsTo}
 use Rattle.xa_log.specs.declared.log.Log.{Log}
@@ -41,8 +40,7 @@ pub record HasAppended {D : Type 0} (disks : Ghosts D) (body : List ℕ) (a : Ap
   pub moves : Moves (as_appended a) (length body) log log'
   pub pair : disks.honest → (bodies stood : List (List ℕ)) → Pair disks bodies stood log
       → AppendsTo disks (as_appended a) bodies body stood log'
-  pub cause : HasCause (as_appended a) (disks.failures log.disk) (disks.failures log'.disk)
-  pub calls : AppendCalls (as_appended a) (disks.counts log.disk) (disks.counts log'.disk)
+  pub calls : AppendsBy disks (length body) (as_appended a) log log'
   -- what a crash at any moment of it leaves of the file that is written
   pub leaves : disks.honest → (bodies : List (List ℕ)) → Stands disks bodies log
       → LeavesOnly disks log.disk log'.disk (Leaves log.log_bytes log.format bodies body)

@@ -1,19 +1,15 @@
-use Rattle.std.proofs.Common.{rules, length, arith}
-use Rattle.xa_log.proofs.Torn.{torn_passes}
+use Rattle.std.proofs.Common.{arith, length}
+use Rattle.std.proofs.lemmas.List.{take_all}
+use Rattle.xa_log.proofs.Tried.{went_alone, calls_alone}
 use Rattle.xa_log.proofs.appending.put_or_clear.Goals as goal
 
-pub returns-in-Ok-put_synced-clause-went : goal.returns-in-Ok-put_synced-clause-went
-returns-in-Ok-put_synced-clause-went g c = search rules
+pub returns-clause-went : goal.returns-clause-went
+returns-clause-went g c h =
+    went_alone g.D.Disk c.args.at _ c.args.bytes.now c.args.disk.now c.put_ahead_or_clear.new.disk (take_all (length c.args.bytes.now) c.args.bytes.now (omega arith)) _
+    (c.put_ahead_or_clear.ensures.went h)
 
-pub returns-in-Err-put_synced-clause-went : goal.returns-in-Err-put_synced-clause-went
-returns-in-Err-put_synced-clause-went g c = search rules
+pub returns-clause-cause : goal.returns-clause-cause
+returns-clause-cause g c = (calls_alone _ _ _ _ _ _ (omega arith) c.put_ahead_or_clear.ensures.calls).0
 
-pub returns-in-Err-put_synced-clause-time : goal.returns-in-Err-put_synced-clause-time
-returns-in-Err-put_synced-clause-time g c h =
-    torn_passes g.D.Disk c.args.at (length c.args.bytes.now) _ c.args.disk.now c.put_synced.new.disk c.put_synced-2.new.disk (c.put_synced.ensures.time h) (c.put_synced-2.ensures.time h) (omega arith)
-
-pub returns-in-Err-put_synced-clause-calls : goal.returns-in-Err-put_synced-clause-calls
-returns-in-Err-put_synced-clause-calls g c = search rules
-
-pub returns-in-Err-put_synced-clause-cause : goal.returns-in-Err-put_synced-clause-cause
-returns-in-Err-put_synced-clause-cause g c = search rules
+pub returns-clause-calls : goal.returns-clause-calls
+returns-clause-calls g c = (calls_alone _ _ _ _ _ _ (omega arith) c.put_ahead_or_clear.ensures.calls).1

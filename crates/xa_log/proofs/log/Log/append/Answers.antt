@@ -1,5 +1,5 @@
 use Rattle.std.proofs.Common.{rules, refl, arith}
-use Rattle.xa_log.proofs.Append.{answers_kept, answers_refused, answers_lost, record_moments, length-closed_by, no_moments, kept_if, writes_kept}
+use Rattle.xa_log.proofs.Append.{answers_kept, answers_refused, answers_lost, record_moments, length-closed_by, no_moments, kept_ahead, writes_kept, appends_by}
 use Rattle.xa_log.proofs.Two.{appends}
 use Rattle.xa_log.proofs.log.Log.append.Goals as goal
 
@@ -21,24 +21,24 @@ returns-in-Lost-clause-any_moment g c h bodies s =
 
 pub returns-in-Kept-clause-answer : goal.returns-in-Kept-clause-answer
 returns-in-Kept-clause-answer g c h bodies s =
-    answers_kept _ bodies _ _ c.args.self.now _ s (omega (arith, c.ready_behind-ready.ensures.within), refl, refl) _ c.in-Kept.is c.requires (c.append_at-outcome.ensures.went h) refl c.append_at-outcome.ensures.digest c.generation_with-self.ensures refl
+    answers_kept _ bodies _ _ c.args.self.now _ g.met.D.Disk.tears_torn s (omega (arith, c.ready_behind-ready.ensures.within), refl, refl) _ c.in-Kept.is c.requires (c.append_at-outcome.ensures.went h) refl c.append_at-outcome.ensures.digest c.generation_with-self.ensures refl
 
 pub returns-in-Refused-clause-answer : goal.returns-in-Refused-clause-answer
 returns-in-Refused-clause-answer g c h bodies s =
-    answers_refused _ bodies _ _ c.args.self.now _ s (omega (arith, c.ready_behind-ready.ensures.within), refl, refl) _ c.in-Refused.is c.append_at-outcome.ensures.not_full (c.append_at-outcome.ensures.went h) refl refl refl refl
+    answers_refused _ bodies _ _ c.args.self.now _ g.met.D.Disk.tears_torn s (omega (arith, c.ready_behind-ready.ensures.within), refl, refl) _ c.in-Refused.is c.append_at-outcome.ensures.not_full (c.append_at-outcome.ensures.went h) refl refl refl refl
 
 pub returns-in-Lost-clause-answer : goal.returns-in-Lost-clause-answer
 returns-in-Lost-clause-answer g c h bodies s =
-    answers_lost _ bodies _ _ c.args.self.now _ s (omega (arith, c.ready_behind-ready.ensures.within), refl, refl) _ c.in-Lost.is c.requires (c.append_at-outcome.ensures.went h) refl (c.append_at-outcome.ensures.time h).follows
+    answers_lost _ bodies _ _ c.args.self.now _ g.met.D.Disk.tears_torn s (omega (arith, c.ready_behind-ready.ensures.within), refl, refl) _ c.in-Lost.is c.requires (c.append_at-outcome.ensures.went h) refl (c.append_at-outcome.ensures.time h).follows
 
 pub returns-in-Kept-clause-kept : goal.returns-in-Kept-clause-kept
-returns-in-Kept-clause-kept g c alive fits low same = kept_if _ _ _ c.append_at-outcome.ensures.cause low same c.append_at-outcome.ensures.not_full
+returns-in-Kept-clause-kept g c alive fits low same = kept_ahead _ _ _ _ _ _ c.append_at-outcome.ensures.calls low same c.append_at-outcome.ensures.not_full
 
 pub returns-in-Refused-clause-kept : goal.returns-in-Refused-clause-kept
-returns-in-Refused-clause-kept g c alive fits low same = kept_if _ _ _ c.append_at-outcome.ensures.cause low same c.append_at-outcome.ensures.not_full
+returns-in-Refused-clause-kept g c alive fits low same = kept_ahead _ _ _ _ _ _ c.append_at-outcome.ensures.calls low same c.append_at-outcome.ensures.not_full
 
 pub returns-in-Lost-clause-kept : goal.returns-in-Lost-clause-kept
-returns-in-Lost-clause-kept g c alive fits low same = kept_if _ _ _ c.append_at-outcome.ensures.cause low same c.append_at-outcome.ensures.not_full
+returns-in-Lost-clause-kept g c alive fits low same = kept_ahead _ _ _ _ _ _ c.append_at-outcome.ensures.calls low same c.append_at-outcome.ensures.not_full
 
 pub returns-then-self-clause-lost : goal.returns-then-self-clause-lost
 returns-then-self-clause-lost g c = search rules
@@ -72,4 +72,13 @@ returns-in-Lost-clause-other g c = search rules
 
 pub returns-in-Kept-clause-writes : goal.returns-in-Kept-clause-writes
 returns-in-Kept-clause-writes g c h is =
-    writes_kept g.D.Disk c.args.body.now c.args.self.now c.append_at-outcome.new.disk _ c.in-Kept.is _ (c.append_at-outcome.ensures.went h) c.ready_behind-ready.ensures.exact
+    writes_kept g.D.Disk c.args.body.now c.args.self.now c.append_at-outcome.new.disk _ _ c.ready_behind-ready.ensures.exact c.in-Kept.is (c.append_at-outcome.ensures.went h)
+
+pub returns-in-Kept-clause-calls : goal.returns-in-Kept-clause-calls
+returns-in-Kept-clause-calls g c alive = appends_by g.D.Disk c.args.body.now c.args.self.now c.append_at-outcome.new.disk _ _ c.ready_behind-ready.ensures.exact c.append_at-outcome.ensures.calls
+
+pub returns-in-Refused-clause-calls : goal.returns-in-Refused-clause-calls
+returns-in-Refused-clause-calls g c alive = appends_by g.D.Disk c.args.body.now c.args.self.now c.append_at-outcome.new.disk _ _ c.ready_behind-ready.ensures.exact c.append_at-outcome.ensures.calls
+
+pub returns-in-Lost-clause-calls : goal.returns-in-Lost-clause-calls
+returns-in-Lost-clause-calls g c alive = appends_by g.D.Disk c.args.body.now c.args.self.now c.append_at-outcome.new.disk _ _ c.ready_behind-ready.ensures.exact c.append_at-outcome.ensures.calls
