@@ -57,7 +57,8 @@ impl Chain {
 
     /// What a read at `ts` sees, and whether a write at `ts` is late, by one search. It holds until the chain changes.
     pub fn look(&self, pool: &Pool, ts: u64) -> Look
-        ensures { IsKept pool.now self.now → result ≡ looked ts (versions_of pool.now self.now) }
+        ensures found { IsKept pool.now self.now → result ≡ looked ts (versions_of pool.now self.now) }
+        ensures at { result.at ≡ ts }
     {
         look_in(pool, &self.slots, ts)
     }

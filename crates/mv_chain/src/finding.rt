@@ -41,7 +41,8 @@ fn late_at(pool: &Pool, slots: &[usize], count: usize, ts: u64) -> bool
 
 /// What stands at `ts`, by one binary search.
 pub(crate) fn look_in(pool: &Pool, slots: &[usize], ts: u64) -> Look
-    ensures { IsChain (shown_at pool.now slots.now) → result ≡ looked ts (shown_at pool.now slots.now) }
+    ensures found { IsChain (shown_at pool.now slots.now) → result ≡ looked ts (shown_at pool.now slots.now) }
+    ensures at { result.at ≡ ts }
 {
     let count = find(pool, slots, ts);
     let late = late_at(pool, slots, count, ts);

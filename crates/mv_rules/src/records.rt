@@ -1,4 +1,4 @@
-ghost use Rattle.std.specs.Prelude.{◌≡◌, ◌≢◌, ℕ, ◌≤◌, max, List, [], ◌∷◌, Some, false, true, IsSome};
+ghost use Rattle.std.specs.Prelude.{◌≡◌, ◌≢◌, ℕ, ◌+◌, ◌≤◌, max, List, [], ◌∷◌, Some, false, true, IsSome};
 ghost use Rattle.std.specs.Prelude.{None, IfSome, IfNone, IfOk, OnOk, OnErr, option_map};
 ghost use Rattle.slab.specs.Slab.{get as chain_in};
 ghost use Rattle.mv_chain.specs.Accesses.{wrote, is_late, decided, AreWhole, IsUndecided, IsUnsettled};
@@ -36,19 +36,22 @@ pub struct Records {
 
 impl Records {
     ghost use Rattle.mv_rules.specs.Accesses.{after_get, AnswersGet, after_put, AnswersPut};
-    ghost use Rattle.mv_rules.specs.Accesses.{IsWritesOf, IsWholeAt};
+    ghost use Rattle.mv_rules.specs.Accesses.{IsWritesOf, IsAscending, IsWholeAt};
     ghost use Rattle.mv_rules.specs.Calls.{IfStood, IfIndexed, IfUnindexed, IfUnsettled};
     ghost use Rattle.mv_rules.specs.Noted.{Reads, Puts, Settles, Restores};
-    ghost use Rattle.mv_rules.specs.Records.{StandsFor, index_of, versions_in};
+    ghost use Rattle.mv_rules.specs.Records.{StandsFor, index_of, own_of, versions_in};
     ghost use Rattle.mv_rules.specs.Restoring.{with_branch, IsRestorable};
     ghost use Rattle.mv_rules.specs.Tidy.{kept_of, names, forgotten, tidied_if, has_read};
     ghost use Rattle.mv_rules.specs.Tidy.{Tidies, IsDrained, KeepsAll, KeepsBut};
+    ghost use Rattle.mv_rules.specs.Own.{OwnStays};
     ghost use Rattle.mv_rules.specs.Within.{IsWithin, KeepsWithin, IsShortAnswer, AreShort};
+    ghost use Rattle.mv_rules.specs.Within.{IsKey, AreKeys, HasKeys, KeepsKeys, KeepsOwnBut, HaveKeys};
 
     /// No key was written or read. Takes no memory.
     pub fn new(alloc: Global) -> Records
         ensures stands { (low : ℕ) → StandsFor (record { low = low; writes = []; reads = [] }) result }
         ensures within { (n : ℕ) → IsWithin n result }
+        ensures own { (t : ℕ) → own_of t result ≡ [] }
     {
         Records {
             alloc,
@@ -131,6 +134,7 @@ impl Records {
             → IfIndexed key.now i self.old (λ h. Reads ts key.now self.old self.new) }
         ensures short { (n : ℕ) → IsWithin n self.old → IsShortAnswer n result }
         ensures within { KeepsWithin self.old self.new }
+        ensures own { OwnStays self.old.notes self.new.notes }
     {
         let chain = &mut self.chains[i];
         read(self.alloc, &mut self.pool, chain, &mut self.notes, ts, key)
@@ -145,6 +149,7 @@ impl Records {
         ensures reads { has_read result ≡ true → IfStood self.old (λ h. Reads ts key.now self.old self.new) }
         ensures short { (n : ℕ) → IsWithin n self.old → IsShortAnswer n result }
         ensures within { KeepsWithin self.old self.new }
+        ensures keys { KeepsKeys self.old self.new }
     {
         if let Some(i) = self.find(key) {
             return self.get_at(i, ts, key);
@@ -171,6 +176,7 @@ impl Records {
         ensures puts { result ≡ Put.Done → IfIndexed key.now i self.old
             (λ h. IsUnsettled ts h.low h.writes → Puts ts key.now (bytes_of value) self.old self.new) }
         ensures within { (n : ℕ) → IsWithin n self.old → IsShort n (bytes_of value) → IsWithin n self.new }
+        ensures keys { HasKeys self.old → IsKey key.now → HasKeys self.new }
     {
         let count = count(&self.notes, ts);
         let chain = &mut self.chains[i];
@@ -215,6 +221,7 @@ impl Records {
         ensures puts { result ≡ Put.Done
             → IfUnsettled ts self.old (λ h. Puts ts key.now (bytes_of value) self.old self.new) }
         ensures within { (n : ℕ) → IsWithin n self.old → IsShort n (bytes_of value) → IsWithin n self.new }
+        ensures keys { HasKeys self.old → IsKey key.now → HasKeys self.new }
     {
         if let Some(i) = self.find(key) {
             return self.put_at(i, ts, key, value);
@@ -236,6 +243,9 @@ impl Records {
             → StandsFor (record h { writes = decided ts fate h.writes }) self.new) }
         ensures settles { IfStood self.old (λ h. Settles ts fate self.old self.new) }
         ensures within { KeepsWithin self.old self.new }
+        ensures keys { KeepsKeys self.old self.new }
+        ensures others { KeepsOwnBut ts self.old self.new }
+        ensures decided { own_of ts self.new ≡ [] }
     {
         let Some(noted) = self.notes.get(&ts) else {
             return;
@@ -285,6 +295,7 @@ impl Records {
         ensures tidies { IfStood self.old (λ h. AreWhole h.writes → Tidies low self.old self.new) }
         ensures drained { IsDrained low self.new }
         ensures within { KeepsWithin self.old self.new }
+        ensures keys { KeepsKeys self.old self.new }
     {
         while let Some(noted) = next_due(&mut self.notes, low) {
             self.drain(&noted.decided, low);
@@ -323,6 +334,9 @@ impl Records {
         ensures puts { OnOk result
             (IfUnsettled ts self.old (λ h. Puts ts key.now (bytes_of value) self.old self.new)) }
         ensures within { (n : ℕ) → IsWithin n self.old → IsShort n (bytes_of value) → IsWithin n self.new }
+        ensures keys { (n : ℕ) → AreKeys n (own_of ts self.old) → IsKey key.now
+            → AreKeys (n + 1) (own_of ts self.new) }
+        ensures others { KeepsOwnBut ts self.old self.new }
     {
         let i = self.find_or_make(key)?;
         let chain = &mut self.chains[i];
@@ -361,6 +375,10 @@ impl Records {
         ensures restores { OnOk result (IfStood self.old (λ h. IsRestorable ts h
             → Restores ts writes.now fate self.old self.new)) }
         ensures within { (n : ℕ) → IsWithin n self.old → AreShort n writes.now → IsWithin n self.new }
+        ensures keys { OnOk result (HasKeys self.old → own_of ts self.old ≡ [] → HaveKeys writes.now
+            → HasKeys self.new) }
+        ensures others { KeepsOwnBut ts self.old self.new }
+        ensures decided { OnOk result (IsSome fate → own_of ts self.new ≡ []) }
     {
         for write in writes {
             let value = copied(self.alloc, &write.value)?;
@@ -380,7 +398,9 @@ impl Records {
     pub fn writes_of(&self, ts: u64) -> Result<Vec<Write>, AllocError>
         ensures writes { IfOk result (λ v. IfStood self.now (λ h. IsUndecided ts h.writes
             → IsWritesOf ts h.writes v.items)) }
+        ensures ascending { IfOk result (λ v. IsAscending v.items) }
         ensures short { IfOk result (λ v. (n : ℕ) → IsWithin n self.now → AreShort n v.items) }
+        ensures keys { IfOk result (λ v. HasKeys self.now → HaveKeys v.items) }
     {
         match self.notes.get(&ts) {
             Some(noted) => {

@@ -6,7 +6,8 @@ ghost use Rattle.mv_chain.specs.Chain.{shows};
 ghost use Rattle.mv_chain.specs.Within.{IsShort, IsWithin};
 ghost use Rattle.mv_rules.specs.Collected.{as_write, collected};
 ghost use Rattle.mv_rules.specs.Held.{versions_at, IsHeld};
-ghost use Rattle.mv_rules.specs.Within.{AreShort};
+ghost use Rattle.mv_rules.specs.Within.{AreShort, AreKeys, HaveKeys};
+ghost use Rattle.xa_limits.specs.declared.TheConstants.{MOST_WRITES};
 
 use crate::own::Own;
 use mv_chain::{Chain, Pool};
@@ -58,6 +59,7 @@ pub(crate) fn collect(
         → get (slice_cmp nat_cmp) m key ≡ collected ts pool.now chains.now key own.now) }
     ensures ordered { IfOk result (λ m. IsOrdered (slice_cmp nat_cmp) m) }
     ensures short { IfOk result (λ m. (n : ℕ) → IsWithin n pool.now → AreShort n (map as_write m.entries)) }
+    ensures keys { IfOk result (λ m. AreKeys MOST_WRITES own.now → HaveKeys (map as_write m.entries)) }
 {
     let mut values = BTreeMap::new(alloc);
     for written in own {

@@ -13,8 +13,8 @@ returns-then-not-look-clause-found c = λ h.
       | then-not-look-via-then-not-look w ↦ inl (grind (arith, w.if-not-look.true))
       | then-not-look-via-else-not-look+then-look-ts w ↦ inr (λ same. grind (arith, nat_tests, w.if-look-ts.true, same))
     ] in
-    look_undecided c.args.ts (shown_at c.args.pool.now c.args.slots.now) h look (c.look_in-look.ensures h) other
+    look_undecided c.args.ts (shown_at c.args.pool.now c.args.slots.now) h look (c.look_in-look.ensures.found h) other
 
 pub returns-clause-found : goal.returns-clause-found
 returns-clause-found c = λ h.
-    look_own c.args.ts (shown_at c.args.pool.now c.args.slots.now) h c.look_in-look.result (c.look_in-look.ensures h) _ c.last.result (sym (shown_length c.args.pool.now c.args.slots.now)) (grind (arith, c.if-not-look.false)) (grind (arith, nat_tests, c.if-look-ts.false)) c.last.ensures
+    look_own c.args.ts (shown_at c.args.pool.now c.args.slots.now) h c.look_in-look.result (c.look_in-look.ensures.found h) _ c.last.result (sym (shown_length c.args.pool.now c.args.slots.now)) (grind (arith, c.if-not-look.false)) (grind (arith, nat_tests, c.if-look-ts.false)) c.last.ensures

@@ -11,7 +11,7 @@ use Rattle.mv_rules.proofs.steps.read.Goals.{in-None, in-Some+in-Ok}
 pub returns-clause-stands : goal.returns-clause-stands
 returns-clause-stands c =
     λ k key low writes reads s le.
-    let is = c.look-look.ensures k in
+    let is = c.look-look.ensures.found k in
     let same = s.seen nobody c.args.ts le in
     let from : (shows c.args.ts (versions_of c.args.pool.now c.args.chain.now)).from ≡ (seen key c.args.ts writes).from = ap (λ r. r.from) same in
     let free = answered_free c.args.ts c.look-look.result.from c.look-look.result.pending (seen key c.args.ts writes) (ap (λ (l : Look). l.from) is ∙ from) (ap (λ (l : Look). l.pending) is ∙ ap (λ r. r.pending) same) c.else-look.either in
@@ -29,4 +29,4 @@ returns-clause-same c =
     ]
 
 pub returns-clause-versions : goal.returns-clause-versions
-returns-clause-versions c = λ answered k. c.mark_at.ensures.versions c.args.ts k (c.look-look.ensures k)
+returns-clause-versions c = λ answered k. c.mark_at.ensures.versions c.args.ts k (c.look-look.ensures.found k)

@@ -3,6 +3,7 @@ use Rattle.mv_rules.specs.Records.{index_of}
 use Rattle.mv_rules.specs.Tidy.{has_read}
 use Rattle.mv_rules.proofs.Exact.{reads_made}
 use Rattle.mv_rules.proofs.Tidied.{unmade, absent_kept, reads_unwritten}
+use Rattle.mv_rules.proofs.Within.{keys_alike, notes_alike}
 use Rattle.mv_rules.proofs.records.Records.get.Goals as goal
 
 pub returns-in-Some-clause-stands : goal.returns-in-Some-clause-stands
@@ -23,6 +24,9 @@ returns c =
       stands = λ h s le. c.get_at-got.ensures.stands h (c.make.ensures.stands h s (none h s)) c.in-Ok.ensures.index le;
       short = λ n h. c.get_at-got.ensures.short n (c.make.ensures.within n h);
       within = λ n h. c.get_at-got.ensures.within n (c.make.ensures.within n h);
+      keys = λ h.
+          keys_alike c.make.new.self c.get_at-got.new.self c.get_at-got.ensures.own
+          (keys_alike c.args.self.now c.make.new.self (notes_alike _ _ c.make.ensures.notes) h);
     }
 
 pub returns-in-Some-clause-same : goal.returns-in-Some-clause-same
@@ -44,3 +48,15 @@ returns-in-Some-clause-reads c = λ answered h s. c.get_at.ensures.reads answere
 
 pub returns-in_default-make-clause-stands : goal.returns-in_default-make-clause-stands
 returns-in_default-make-clause-stands c = λ h s le. c.make.ensures.stands h s (c.in_default.ensures.none h s)
+
+pub returns-in-Some-clause-keys : goal.returns-in-Some-clause-keys
+returns-in-Some-clause-keys c = λ h. keys_alike c.args.self.now c.get_at.new.self c.get_at.ensures.own h
+
+pub returns-in-Memory-clause-keys : goal.returns-in-Memory-clause-keys
+returns-in-Memory-clause-keys c = λ h.
+    let made = keys_alike c.args.self.now c.make.new.self (notes_alike _ _ c.make.ensures.notes) h in
+    let read = keys_alike c.make.new.self c.get_at-got.new.self c.get_at-got.ensures.own made in
+    keys_alike c.get_at-got.new.self c.forget.new.self (notes_alike _ _ c.forget.ensures.notes) read
+
+pub returns-in_default-make-clause-keys : goal.returns-in_default-make-clause-keys
+returns-in_default-make-clause-keys c = λ h. keys_alike c.args.self.now c.make.new.self (notes_alike _ _ c.make.ensures.notes) h

@@ -11,6 +11,7 @@ use Rattle.mv_rules.proofs.Tidied.{tidied_three, none_left}
 use Rattle.mv_rules.proofs.Frames.{nothing_left}
 use Rattle.mv_rules.proofs.Indices.{stands_alike}
 use Rattle.mv_rules.proofs.Remade.{low_rises}
+use Rattle.mv_rules.proofs.Within.{keys_alike, keys_stay, notes_alike}
 use Rattle.mv_rules.proofs.records.Records.low_water.Goals as goal
 
 pub loop-noted-preserved : goal.loop-noted-preserved
@@ -30,6 +31,7 @@ loop-noted-preserved c =
           ∙ c.loop-noted.invariant.kept h s whole le q);
       notes = ap (λ (n : BTreeMap ℕ Notes). not_due low n.entries) same ∙ (sym c.in-Some.ensures.later ∙ c.loop-noted.invariant.notes);
       within = λ n h. c.drain-in-Some.ensures.within n (c.drain.ensures.within n (c.loop-noted.invariant.within n h));
+      keys = λ h. keys_alike before c.drain-in-Some.new.self (notes_alike _ _ same) (keys_alike c.loop-noted.self before c.next_due.ensures.same (c.loop-noted.invariant.keys h));
     }
 
 pub returns-clause-stands : goal.returns-clause-stands
@@ -54,3 +56,6 @@ returns-clause-tidies c =
 
 pub returns-clause-drained : goal.returns-clause-drained
 returns-clause-drained c = rw c.in_default.ensures.left (none_left c.args.low c.loop-noted.self.notes.entries)
+
+pub returns-clause-keys : goal.returns-clause-keys
+returns-clause-keys c = λ h. keys_stay c.loop-noted.self.notes c.next_due.new.notes c.next_due.ensures.same (c.loop-noted.invariant.keys h)

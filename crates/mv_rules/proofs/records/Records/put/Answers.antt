@@ -4,6 +4,7 @@ use Rattle.mv_rules.specs.Accesses.{Accesses, after_put}
 use Rattle.mv_rules.specs.Records.{StandsFor}
 use Rattle.mv_rules.proofs.Written.{refused_same}
 use Rattle.mv_rules.proofs.Tidied.{unmade, absent_kept}
+use Rattle.mv_rules.proofs.Within.{keys_alike, notes_alike}
 use Rattle.mv_rules.proofs.records.Records.put.Goals as goal
 
 pub returns-in_default-make-clause-stands : goal.returns-in_default-make-clause-stands
@@ -24,6 +25,9 @@ returns c =
           (c.put_at-answer.ensures.same c.in_default-answer.not-Done h (c.make.ensures.stands h s (none h s)) c.in-Ok.ensures.index) (c.forget.ensures.kept _ (c.put_at-answer.ensures.stands h (c.make.ensures.stands h s (none h s)) c.in-Ok.ensures.index u));
       puts = λ done. absurd (c.in_default-answer.not-Done done);
       within = λ n h short. c.forget.ensures.within n (c.put_at-answer.ensures.within n (c.make.ensures.within n h) short);
+      keys = λ h key.
+          let made = keys_alike c.args.self.now c.make.new.self (notes_alike _ _ c.make.ensures.notes) h in
+          keys_alike c.put_at-answer.new.self c.forget.new.self (notes_alike _ _ c.forget.ensures.notes) (c.put_at-answer.ensures.keys made key);
     }
 
 pub returns-in-Some-clause-same : goal.returns-in-Some-clause-same
@@ -41,3 +45,9 @@ returns-in-Some-clause-stands c = λ h s u. c.put_at.ensures.stands h s c.in-Som
 pub returns-in-Done-clause-stands : goal.returns-in-Done-clause-stands
 returns-in-Done-clause-stands c =
     λ h s u. c.in-Done.ensures.stands h (c.make.ensures.stands h s (c.in_default.ensures.none h s)) c.in-Ok.ensures.index u
+
+pub returns-in-Done-clause-keys : goal.returns-in-Done-clause-keys
+returns-in-Done-clause-keys c = λ h key. c.put_at-answer.ensures.keys (keys_alike c.args.self.now c.make.new.self (notes_alike _ _ c.make.ensures.notes) h) key
+
+pub returns-in_default-make-clause-keys : goal.returns-in_default-make-clause-keys
+returns-in_default-make-clause-keys c = λ h key. keys_alike c.args.self.now c.make.new.self (notes_alike _ _ c.make.ensures.notes) h

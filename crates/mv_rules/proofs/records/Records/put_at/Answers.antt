@@ -1,15 +1,18 @@
-use Rattle.std.proofs.Common.{◌≡◌, refl, sym, ap, ℕ, List, Option}
+use Rattle.std.proofs.Common.{◌≡◌, ◌<◌, refl, sym, ap, ℕ, List, Option, length, arith}
 use Rattle.std.specs.Prelude.{option_map, ◌==◌}
 use Rattle.mv_chain.specs.declared.look.Look.{Look}
 use Rattle.mv_chain.specs.Chain.{shows, is_marked, installed}
 use Rattle.mv_chain.specs.Pool.{versions_of}
 use Rattle.mv_chain.proofs.Frames.{nothing_leaves}
+use Rattle.xa_limits.specs.declared.TheConstants.{MOST_WRITES}
 use Rattle.mv_rules.specs.Held.{shown_in}
+use Rattle.mv_rules.specs.Records.{own_of}
 use Rattle.mv_rules.proofs.Changed.{alike_at, again_at, first_at}
 use Rattle.mv_rules.proofs.Written.{looked_at, put_refused, again_is, first_is}
 use Rattle.mv_rules.proofs.Exact.{puts_again, puts_first}
 use Rattle.mv_rules.proofs.Changed.{with_chain}
 use Rattle.mv_rules.proofs.Tidied.{kept_with, same_kept}
+use Rattle.mv_rules.proofs.Within.{keys_stay, keys_put, few_first}
 use Rattle.mv_rules.proofs.records.Records.put_at.Goals as goal
 
 pub returns-in_default-clause-stands : goal.returns-in_default-clause-stands
@@ -23,7 +26,7 @@ returns-in-Refused-clause-answer c =
     λ h s here u m.
     let value : Option (List ℕ) = option_map (λ v. v.items) c.args.value in
     let k = s.chains.held.kept c.args.i c.index_mut-chain.result.now c.index_mut-chain.ensures.value in
-    let verdict = looked_at _ c.look-look.result c.args.ts c.count-count.result _ (c.look-look.ensures k) c.in-Refused.ensures in
+    let verdict = looked_at _ c.look-look.result c.args.ts c.count-count.result _ (c.look-look.ensures.found k) c.in-Refused.ensures in
     (put_refused h c.args.self.now c.args.key.now c.args.i c.args.ts c.count-count.result (versions_of c.args.self.now.pool c.index_mut-chain.result.now) u s here (ap (shown_in c.args.self.now.pool) (sym c.index_mut-chain.ensures.value)) c.count-count.ensures c.in-Refused.answer value verdict).0
 
 pub returns-in-Refused-clause-stands : goal.returns-in-Refused-clause-stands
@@ -32,7 +35,7 @@ returns-in-Refused-clause-stands c =
     let chain = c.index_mut-chain.result.now in
     let value : Option (List ℕ) = option_map (λ v. v.items) c.args.value in
     let k = s.chains.held.kept c.args.i c.index_mut-chain.result.now c.index_mut-chain.ensures.value in
-    let verdict = looked_at _ c.look-look.result c.args.ts c.count-count.result _ (c.look-look.ensures k) c.in-Refused.ensures in
+    let verdict = looked_at _ c.look-look.result c.args.ts c.count-count.result _ (c.look-look.ensures.found k) c.in-Refused.ensures in
     let left = (put_refused h c.args.self.now c.args.key.now c.args.i c.args.ts c.count-count.result (versions_of c.args.self.now.pool c.index_mut-chain.result.now) u s here (ap (shown_in c.args.self.now.pool) (sym c.index_mut-chain.ensures.value)) c.count-count.ensures c.in-Refused.answer value verdict).1 in
     alike_at _ c.args.self.now c.args.key.now c.args.i chain chain c.args.self.now.pool c.args.self.now.notes left here c.index_mut-chain.ensures.value (nothing_leaves c.args.self.now.pool chain.slots.items) (λ k. k) refl (λ t. refl)
 
@@ -41,41 +44,41 @@ returns-in-Ok-clause-answer c =
     λ h s here u m.
     let value : Option (List ℕ) = option_map (λ v. v.items) c.args.value in
     let k = s.chains.held.kept c.args.i c.index_mut-chain.result.now c.index_mut-chain.ensures.value in
-    let verdict = looked_at _ c.look-look.result c.args.ts c.count-count.result _ (c.look-look.ensures k) c.in-Again.ensures in
-    (again_at h c.args.self.now c.args.key.now c.args.i c.index_mut-chain.result.now c.install_at.new.self c.install_at.new.pool c.args.self.now.notes s here c.index_mut-chain.ensures.value c.install_at.ensures.others (λ kk. c.install_at.ensures.kept c.args.ts kk (c.look-look.ensures kk)) c.args.ts c.count-count.result value u c.count-count.ensures verdict
-    (λ key low ws rs st un late. c.in-Ok.ensures.stands c.args.ts key low ws rs k (c.look-look.ensures k) st un late) (λ t. refl)).0
+    let verdict = looked_at _ c.look-look.result c.args.ts c.count-count.result _ (c.look-look.ensures.found k) c.in-Again.ensures in
+    (again_at h c.args.self.now c.args.key.now c.args.i c.index_mut-chain.result.now c.install_at.new.self c.install_at.new.pool c.args.self.now.notes s here c.index_mut-chain.ensures.value c.install_at.ensures.others (λ kk. c.install_at.ensures.kept c.args.ts kk (c.look-look.ensures.found kk)) c.args.ts c.count-count.result value u c.count-count.ensures verdict
+    (λ key low ws rs st un late. c.in-Ok.ensures.stands c.args.ts key low ws rs k (c.look-look.ensures.found k) st un late) (λ t. refl)).0
 
 pub returns-in-Ok-clause-stands : goal.returns-in-Ok-clause-stands
 returns-in-Ok-clause-stands c =
     λ h s here u.
     let value : Option (List ℕ) = option_map (λ v. v.items) c.args.value in
     let k = s.chains.held.kept c.args.i c.index_mut-chain.result.now c.index_mut-chain.ensures.value in
-    let verdict = looked_at _ c.look-look.result c.args.ts c.count-count.result _ (c.look-look.ensures k) c.in-Again.ensures in
-    (again_at h c.args.self.now c.args.key.now c.args.i c.index_mut-chain.result.now c.install_at.new.self c.install_at.new.pool c.args.self.now.notes s here c.index_mut-chain.ensures.value c.install_at.ensures.others (λ kk. c.install_at.ensures.kept c.args.ts kk (c.look-look.ensures kk)) c.args.ts c.count-count.result value u c.count-count.ensures verdict
-    (λ key low ws rs st un late. c.in-Ok.ensures.stands c.args.ts key low ws rs k (c.look-look.ensures k) st un late) (λ t. refl)).1
+    let verdict = looked_at _ c.look-look.result c.args.ts c.count-count.result _ (c.look-look.ensures.found k) c.in-Again.ensures in
+    (again_at h c.args.self.now c.args.key.now c.args.i c.index_mut-chain.result.now c.install_at.new.self c.install_at.new.pool c.args.self.now.notes s here c.index_mut-chain.ensures.value c.install_at.ensures.others (λ kk. c.install_at.ensures.kept c.args.ts kk (c.look-look.ensures.found kk)) c.args.ts c.count-count.result value u c.count-count.ensures verdict
+    (λ key low ws rs st un late. c.in-Ok.ensures.stands c.args.ts key low ws rs k (c.look-look.ensures.found k) st un late) (λ t. refl)).1
 
 pub returns-in-Err-clause-stands : goal.returns-in-Err-clause-stands
 returns-in-Err-clause-stands c =
     λ h s here u.
     let k = s.chains.held.kept c.args.i c.index_mut-chain.result.now c.index_mut-chain.ensures.value in
-    alike_at h c.args.self.now c.args.key.now c.args.i c.index_mut-chain.result.now c.install_at.new.self c.install_at.new.pool c.args.self.now.notes s here c.index_mut-chain.ensures.value c.install_at.ensures.others (λ kk. c.install_at.ensures.kept c.args.ts kk (c.look-look.ensures kk)) (c.in-Err.ensures.err k) (λ t. refl)
+    alike_at h c.args.self.now c.args.key.now c.args.i c.index_mut-chain.result.now c.install_at.new.self c.install_at.new.pool c.args.self.now.notes s here c.index_mut-chain.ensures.value c.install_at.ensures.others (λ kk. c.install_at.ensures.kept c.args.ts kk (c.look-look.ensures.found kk)) (c.in-Err.ensures.err k) (λ t. refl)
 
 pub returns-in-Ok-add-clause-stands : goal.returns-in-Ok-add-clause-stands
 returns-in-Ok-add-clause-stands c =
     λ h s here u.
     let value : Option (List ℕ) = option_map (λ v. v.items) c.args.value in
     let k = s.chains.held.kept c.args.i c.index_mut-chain.result.now c.index_mut-chain.ensures.value in
-    let verdict = looked_at _ c.look-look.result c.args.ts c.count-count.result _ (c.look-look.ensures k) c.in-First.ensures in
-    let at_ts : c.look-look.result.at ≡ c.args.ts = ap (λ (l : Look). l.at) (c.look-look.ensures k) in
+    let verdict = looked_at _ c.look-look.result c.args.ts c.count-count.result _ (c.look-look.ensures.found k) c.in-First.ensures in
+    let at_ts : c.look-look.result.at ≡ c.args.ts = ap (λ (l : Look). l.at) (c.look-look.ensures.found k) in
     let noted = rw (c.in-Ok-from_slice.ensures, at_ts) at c.in-Ok-add.ensures.noted in
-    (first_at h c.args.self.now c.args.key.now c.args.i c.index_mut-chain.result.now c.add.new.chain c.add.new.pool c.add.new.notes s here c.index_mut-chain.ensures.value c.add.ensures.others (λ kk. c.add.ensures.kept c.args.ts kk (c.look-look.ensures kk)) c.args.ts c.count-count.result value u c.count-count.ensures verdict
-    (c.in-Ok-add.ensures.ok c.args.ts k (c.look-look.ensures k)) noted).1
+    (first_at h c.args.self.now c.args.key.now c.args.i c.index_mut-chain.result.now c.add.new.chain c.add.new.pool c.add.new.notes s here c.index_mut-chain.ensures.value c.add.ensures.others (λ kk. c.add.ensures.kept c.args.ts kk (c.look-look.ensures.found kk)) c.args.ts c.count-count.result value u c.count-count.ensures verdict
+    (c.in-Ok-add.ensures.ok c.args.ts k (c.look-look.ensures.found k)) noted).1
 
 pub returns-in-Err-add-clause-stands : goal.returns-in-Err-add-clause-stands
 returns-in-Err-add-clause-stands c =
     λ h s here u.
     let k = s.chains.held.kept c.args.i c.index_mut-chain.result.now c.index_mut-chain.ensures.value in
-    alike_at h c.args.self.now c.args.key.now c.args.i c.index_mut-chain.result.now c.add.new.chain c.add.new.pool c.add.new.notes s here c.index_mut-chain.ensures.value c.add.ensures.others (λ kk. c.add.ensures.kept c.args.ts kk (c.look-look.ensures kk)) (c.in-Err-add.ensures.err k) c.in-Err-add.ensures.unnoted
+    alike_at h c.args.self.now c.args.key.now c.args.i c.index_mut-chain.result.now c.add.new.chain c.add.new.pool c.add.new.notes s here c.index_mut-chain.ensures.value c.add.ensures.others (λ kk. c.add.ensures.kept c.args.ts kk (c.look-look.ensures.found kk)) (c.in-Err-add.ensures.err k) c.in-Err-add.ensures.unnoted
 
 pub returns-in_default-clause-same : goal.returns-in_default-clause-same
 returns-in_default-clause-same c =
@@ -95,13 +98,13 @@ pub returns-in-Err-clause-same : goal.returns-in-Err-clause-same
 returns-in-Err-clause-same c =
     λ n h s here.
     same_kept c.args.self.now (with_chain c.args.self.now c.args.i c.install_at.new.pool c.install_at.new.self c.args.self.now.notes) c.args.key.now
-    (kept_with h c.args.self.now c.args.key.now c.args.i c.index_mut-chain.result.now c.install_at.new.self c.install_at.new.pool c.args.self.now.notes s here c.index_mut-chain.ensures.value c.install_at.ensures.others (λ kk. c.install_at.ensures.kept c.args.ts kk (c.look-look.ensures kk)) (λ vs. vs) c.in-Err.ensures.err)
+    (kept_with h c.args.self.now c.args.key.now c.args.i c.index_mut-chain.result.now c.install_at.new.self c.install_at.new.pool c.args.self.now.notes s here c.index_mut-chain.ensures.value c.install_at.ensures.others (λ kk. c.install_at.ensures.kept c.args.ts kk (c.look-look.ensures.found kk)) (λ vs. vs) c.in-Err.ensures.err)
 
 pub returns-in-Err-add-clause-same : goal.returns-in-Err-add-clause-same
 returns-in-Err-add-clause-same c =
     λ n h s here.
     same_kept c.args.self.now (with_chain c.args.self.now c.args.i c.add.new.pool c.add.new.chain c.add.new.notes) c.args.key.now
-    (kept_with h c.args.self.now c.args.key.now c.args.i c.index_mut-chain.result.now c.add.new.chain c.add.new.pool c.add.new.notes s here c.index_mut-chain.ensures.value c.add.ensures.others (λ kk. c.add.ensures.kept c.args.ts kk (c.look-look.ensures kk)) (λ vs. vs) c.in-Err-add.ensures.err)
+    (kept_with h c.args.self.now c.args.key.now c.args.i c.index_mut-chain.result.now c.add.new.chain c.add.new.pool c.add.new.notes s here c.index_mut-chain.ensures.value c.add.ensures.others (λ kk. c.add.ensures.kept c.args.ts kk (c.look-look.ensures.found kk)) (λ vs. vs) c.in-Err-add.ensures.err)
 
 pub returns-in-Ok-clause-puts : goal.returns-in-Ok-clause-puts
 returns-in-Ok-clause-puts c =
@@ -111,10 +114,10 @@ returns-in-Ok-clause-puts c =
     let value : Option (List ℕ) = option_map (λ v. v.items) c.args.value in
     let k = s.chains.held.kept c.args.i a c.index_mut-chain.ensures.value in
     let vs = versions_of r.pool a in
-    let verdict = looked_at _ c.look-look.result c.args.ts c.count-count.result _ (c.look-look.ensures k) c.in-Again.ensures in
+    let verdict = looked_at _ c.look-look.result c.args.ts c.count-count.result _ (c.look-look.ensures.found k) c.in-Again.ensures in
     puts_again h r (with_chain r c.args.i c.install_at.new.pool c.install_at.new.self r.notes) c.args.key.now c.args.i c.args.ts vs value u s here (ap (shown_in r.pool) (sym c.index_mut-chain.ensures.value))
-    (kept_with h r c.args.key.now c.args.i a c.install_at.new.self c.install_at.new.pool r.notes s here c.index_mut-chain.ensures.value c.install_at.ensures.others (λ kk. c.install_at.ensures.kept c.args.ts kk (c.look-look.ensures kk))
-    (installed c.args.ts value) (λ kk. c.in-Ok.ensures.versions c.args.ts kk (c.look-look.ensures kk)))
+    (kept_with h r c.args.key.now c.args.i a c.install_at.new.self c.install_at.new.pool r.notes s here c.index_mut-chain.ensures.value c.install_at.ensures.others (λ kk. c.install_at.ensures.kept c.args.ts kk (c.look-look.ensures.found kk))
+    (installed c.args.ts value) (λ kk. c.in-Ok.ensures.versions c.args.ts kk (c.look-look.ensures.found kk)))
     (again_is ((shows c.args.ts vs).from == c.args.ts) c.count-count.result (is_marked c.args.ts vs) verdict).1 refl
 
 pub returns-in-Ok-add-clause-puts : goal.returns-in-Ok-add-clause-puts
@@ -125,10 +128,22 @@ returns-in-Ok-add-clause-puts c =
     let value : Option (List ℕ) = option_map (λ v. v.items) c.args.value in
     let k = s.chains.held.kept c.args.i a c.index_mut-chain.ensures.value in
     let vs = versions_of r.pool a in
-    let verdict = looked_at _ c.look-look.result c.args.ts c.count-count.result _ (c.look-look.ensures k) c.in-First.ensures in
-    let at_ts : c.look-look.result.at ≡ c.args.ts = ap (λ (l : Look). l.at) (c.look-look.ensures k) in
+    let verdict = looked_at _ c.look-look.result c.args.ts c.count-count.result _ (c.look-look.ensures.found k) c.in-First.ensures in
+    let at_ts : c.look-look.result.at ≡ c.args.ts = ap (λ (l : Look). l.at) (c.look-look.ensures.found k) in
     let lists = rw (c.in-Ok-from_slice.ensures, at_ts) at c.in-Ok-add.ensures.lists in
     puts_first h r (with_chain r c.args.i c.add.new.pool c.add.new.chain c.add.new.notes) c.args.key.now c.args.i c.args.ts vs value u s here (ap (shown_in r.pool) (sym c.index_mut-chain.ensures.value))
-    (kept_with h r c.args.key.now c.args.i a c.add.new.chain c.add.new.pool c.add.new.notes s here c.index_mut-chain.ensures.value c.add.ensures.others (λ kk. c.add.ensures.kept c.args.ts kk (c.look-look.ensures kk))
-    (installed c.args.ts value) (λ kk. c.in-Ok-add.ensures.versions c.args.ts kk (c.look-look.ensures kk)))
+    (kept_with h r c.args.key.now c.args.i a c.add.new.chain c.add.new.pool c.add.new.notes s here c.index_mut-chain.ensures.value c.add.ensures.others (λ kk. c.add.ensures.kept c.args.ts kk (c.look-look.ensures.found kk))
+    (installed c.args.ts value) (λ kk. c.in-Ok-add.ensures.versions c.args.ts kk (c.look-look.ensures.found kk)))
     (first_is ((shows c.args.ts vs).from == c.args.ts) c.count-count.result (is_marked c.args.ts vs) verdict).1 refl lists
+
+pub returns-in-Ok-add-clause-keys : goal.returns-in-Ok-add-clause-keys
+returns-in-Ok-add-clause-keys c =
+    λ h key.
+    let r = c.args.self.now in
+    let first = few_first _ c.count-count.result _ c.in-First.ensures in
+    let few : length (own_of c.args.ts r) < MOST_WRITES = omega (arith, first, c.count-count.ensures) in
+    let noted = rw (c.in-Ok-from_slice.ensures, c.look-look.ensures.at) at c.in-Ok-add.ensures.noted in
+    keys_put r.notes c.add.new.notes c.args.ts (record { key = c.args.key.now; index = c.args.i }) noted few key h
+
+pub returns-in-Err-add-clause-keys : goal.returns-in-Err-add-clause-keys
+returns-in-Err-add-clause-keys c = λ h key. keys_stay c.args.self.now.notes c.add.new.notes c.in-Err-add.ensures.unnoted h

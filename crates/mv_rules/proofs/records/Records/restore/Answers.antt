@@ -4,7 +4,7 @@ use Rattle.xa_codes.specs.declared.write.Write.{Write}
 use Rattle.mv_rules.specs.Accesses.{Accesses}
 use Rattle.mv_rules.specs.Restoring.{with_branch}
 use Rattle.mv_rules.proofs.Exact.{puts_more}
-use Rattle.mv_rules.proofs.Within.{write_short}
+use Rattle.mv_rules.proofs.Within.{write_short, write_key}
 use Rattle.mv_rules.proofs.Rebuilt.{branch_grown, restorable_unsettled, restorable_timely, branch_decided}
 use Rattle.mv_rules.proofs.records.Records.restore.Goals as goal
 
@@ -25,6 +25,10 @@ loop-write-preserved c =
           rw step (puts_more c.args.ts done w c.args.self.now c.loop-write.self c.put_back.new.self (c.loop-write.invariant.puts h s e) (rw (c.as_slice.ensures, c.in_ok-value.ensures) at one));
       within = λ n h short.
           c.in_ok-put_back.ensures.within n (c.loop-write.invariant.within n h short) (rw c.in_ok-value.ensures (write_short n c.loop-write.write-index ws w c.loop-write-test.true c.write-item.is short));
+      keys = λ none have.
+          let key = write_key c.loop-write.write-index ws w c.loop-write-test.true c.write-item.is have.1 in
+          c.put_back.ensures.keys c.loop-write.write-index (c.loop-write.invariant.keys none have) (rw c.as_slice.ensures key);
+      others = λ t other. c.put_back.ensures.others t other ∙ c.loop-write.invariant.others t other;
     }
 
 pub returns-in-Some-clause-stands : goal.returns-in-Some-clause-stands
