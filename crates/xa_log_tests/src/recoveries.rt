@@ -67,11 +67,15 @@ fn are_bodies(bodies: &[Vec<u8>], wanted: &[&[u8]]) -> bool {
     true
 }
 
-// what a restart with boot 2 writes of the records
+// what a restart with boot 2 writes of the bodies
 fn leaves(alloc: Global, bodies: &[&[u8]], wanted: &[&[u8]]) -> Option<bool> {
-    let durable = durable_of(alloc, bodies)?;
-    let left = snapshot(alloc, &durable, 2).ok()?;
-    Some(are_bodies(left.as_slice(), wanted))
+    match rebuild_log(alloc, &copies(alloc, bodies)?) {
+        Ok(durable) => {
+            let left = snapshot(alloc, &durable, 2).ok()?;
+            Some(are_bodies(left.as_slice(), wanted))
+        }
+        Err(_) => None,
+    }
 }
 
 #[test]

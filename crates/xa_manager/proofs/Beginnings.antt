@@ -4,7 +4,7 @@ use Rattle.std.specs.Prelude.{nat_lt}
 use Rattle.std.specs.List.{AllByRecursion}
 use Rattle.std.proofs.lemmas.Bool.Decides.{nat_tests}
 use Rattle.xa_limits.specs.declared.TheConstants.{MOST_BOOTS, MOST_VALUE}
-use Rattle.mv_rules.specs.Within.{IsWithin}
+use Rattle.mv_rules.specs.Within.{IsWithin, HasKeys}
 use Rattle.xa_log.specs.Chain.{IsBody}
 use Rattle.xa_log.specs.Reading.{bodies_of}
 use Rattle.xa_model.specs.Durable.{Durable}
@@ -23,6 +23,10 @@ next_sizes d (Some n) next e h =
 pub next_short : (d : Durable) (o : Option NextBoot) (next : NextBoot) → o ≡ Some next → IsNext d o → IsWithin MOST_VALUE next.records
 next_short d None next e h = absurd (cc e)
 next_short d (Some n) next e h = let same : n ≡ next = cc e in subst (λ (x : NextBoot). IsWithin MOST_VALUE x.records) same h.4
+
+pub next_keys : (d : Durable) (o : Option NextBoot) (next : NextBoot) → o ≡ Some next → IsNext d o → HasKeys next.records
+next_keys d None next e h = absurd (cc e)
+next_keys d (Some n) next e h = let same : n ≡ next = cc e in subst (λ (x : NextBoot). HasKeys x.records) same h.5
 
 pub record IsNextOf (d : Durable) (next : NextBoot) : Type 0 where
   pub less : nat_lt d.boot MOST_BOOTS ≡ true

@@ -39,6 +39,8 @@ pub mod OpenedStates
 pub mod PlannedLogs
 pub mod Replying
 pub mod ShortWrites
+pub mod KeysBack
+pub mod WritesWithin
 pub mod Rescanned
 pub mod Results
 pub mod Standing

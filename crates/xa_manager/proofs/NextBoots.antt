@@ -1,5 +1,5 @@
 -- The next boot is made ready for what the log came to.
-use Rattle.std.proofs.Common.{◌≡◌, ◌<◌, ◌≤◌, ◌+◌, ◌^◌, ℕ, Bool, true, false, cond, List, [], ◌∷◌, map, Option, Some, None, Ok, refl, ◌∙◌, subst, arith, ltb-true, ltb-false}
+use Rattle.std.proofs.Common.{◌≡◌, ◌<◌, ◌≤◌, ◌+◌, ◌^◌, ℕ, Bool, true, false, cond, List, [], ◌∷◌, map, Option, Some, None, Ok, refl, sym, ◌∙◌, subst, arith, ltb-true, ltb-false}
 use Rattle.std.specs.Prelude.{nat_lt}
 use Rattle.std.specs.List.{AllByRecursion}
 use Rattle.xa_limits.specs.declared.TheConstants.{MOST_BOOTS, MOST_VALUE}
@@ -7,10 +7,11 @@ use Rattle.xa_record.specs.declared.record.Record.{Record}
 use Rattle.xa_record.specs.Limits.{IsRecord}
 use Rattle.xa_record.specs.Spelling.{spelled}
 use Rattle.xa_record.proofs.Sizes.{any}
-use Rattle.mv_rules.specs.Within.{IsWithin}
+use Rattle.mv_rules.specs.Within.{IsWithin, HasKeys}
 use Rattle.xa_log.specs.Chain.{IsBody}
-use Rattle.xa_model.specs.Durable.{Durable}
+use Rattle.xa_model.specs.Durable.{Durable, IsDurable}
 use Rattle.xa_model.specs.Fold.{snapshot}
+use Rattle.xa_model.proofs.Readings.{fold_is_durable}
 use Rattle.xa_model.proofs.Written.{snapshot_is_written}
 use Rattle.xa_recovery.specs.Log.{LogRebuilt}
 use Rattle.xa_manager.specs.declared.boots.NextBoot.{NextBoot}
@@ -24,17 +25,26 @@ none_by : (d : ℕ) (c : Bool) → nat_lt d MOST_BOOTS ≡ c → ◌≡◌ {A = 
 none_by d true e h = absurd (cc)
 none_by d false e h = ltb-false d MOST_BOOTS e
 
-pub is_next : (bodies : List (List ℕ)) (d : Durable) (n : ℕ) (next : NextBoot) → LogRebuilt bodies (Ok d) → Some n ≡ cond (nat_lt d.boot MOST_BOOTS) (Some (d.boot + 1)) None
-    → next.boot ≡ n → IsReady d n next → (AllByRecursion IsRecord (snapshot d n) → IsWithin MOST_VALUE next.records) → IsNext d (Some next)
-is_next bodies d n next (rs, are, folds) e boot ready short =
+-- its first records are within their limits, and what they stand for is in the one form
+pub next_limits : (bodies : List (List ℕ)) (d : Durable) (n : ℕ) → LogRebuilt bodies (Ok d) → Some n ≡ cond (nat_lt d.boot MOST_BOOTS) (Some (d.boot + 1)) None → AllByRecursion IsRecord (snapshot d n)
+next_limits bodies d n (rs, are, folds) e =
     let number = some_by d.boot n (nat_lt d.boot MOST_BOOTS) refl e in
     let below : d.boot + 1 < 2 ^ 32 = omega (arith, number.1) in
-    let limits = snapshot_is_written rs d (d.boot + 1) are.limits folds (omega arith) below in (
+    subst (λ (m : ℕ). AllByRecursion IsRecord (snapshot d m)) (sym number.0) (snapshot_is_written rs d (d.boot + 1) are.limits folds (omega arith) below)
+
+pub next_form : (bodies : List (List ℕ)) (d : Durable) → LogRebuilt bodies (Ok d) → IsDurable d
+next_form bodies d (rs, are, folds) = fold_is_durable rs d folds
+
+pub is_next : (bodies : List (List ℕ)) (d : Durable) (n : ℕ) (next : NextBoot) → LogRebuilt bodies (Ok d) → Some n ≡ cond (nat_lt d.boot MOST_BOOTS) (Some (d.boot + 1)) None
+    → next.boot ≡ n → IsReady d n next → IsWithin MOST_VALUE next.records → HasKeys next.records → IsNext d (Some next)
+is_next bodies d n next rebuilt e boot ready short keys =
+    let number = some_by d.boot n (nat_lt d.boot MOST_BOOTS) refl e in (
       boot ∙ number.0,
       number.1,
       subst (λ (m : ℕ). IsReady d m next) number.0 ready,
-      limits,
-      subst (λ (m : ℕ). AllByRecursion IsRecord (snapshot d m) → IsWithin MOST_VALUE next.records) number.0 short limits,
+      subst (λ (m : ℕ). AllByRecursion IsRecord (snapshot d m)) number.0 (next_limits bodies d n rebuilt e),
+      short,
+      keys,
     )
 
 pub no_next : (d : Durable) → ◌≡◌ {A = Option ℕ} None (cond (nat_lt d.boot MOST_BOOTS) (Some (d.boot + 1)) None) → IsNext d None

@@ -3,11 +3,11 @@ use Rattle.std.specs.Prelude.{◌≡◌, ◌<◌, ◌++◌, ℕ, List, [], ◌�
 use Rattle.std.specs.List.{AllByRecursion}
 use Rattle.mv_chain.specs.Accesses.{Written}
 use Rattle.mv_rules.specs.declared.records.Records.{Records}
-use Rattle.mv_rules.specs.Records.{StandsFor as RecordsStandFor}
-use Rattle.mv_rules.specs.Within.{AreShort}
+use Rattle.mv_rules.specs.Records.{own_of, StandsFor as RecordsStandFor}
+use Rattle.mv_rules.specs.Within.{AreShort, HasKeys, HaveKeys}
 use Rattle.xa_limits.specs.declared.TheConstants.{MOST_VALUE}
 use Rattle.xa_model.specs.State.{Decided}
-use Rattle.xa_model.specs.Durable.{CommittedBranch, PreparedBranch}
+use Rattle.xa_model.specs.Durable.{CommittedBranch, PreparedBranch, Pairwise, prepares_before}
 use Rattle.xa_branch.specs.declared.branches.Branches.{Branches}
 use Rattle.xa_branch.specs.Restored.{HasRestored}
 
@@ -48,3 +48,19 @@ CommittedAreShort bs = AllByRecursion (λ b. AreShort MOST_VALUE b.writes) bs
 
 abbrev pub PreparedAreShort : List PreparedBranch → Type 0
 PreparedAreShort ps = AllByRecursion (λ p. AreShort MOST_VALUE p.writes) ps
+
+-- what branches in doubt wrote has keys within the limits, and no more of them than a record holds
+
+abbrev pub PreparedHaveKeys : List PreparedBranch → Type 0
+PreparedHaveKeys ps = AllByRecursion (λ p. HaveKeys p.writes) ps
+
+-- no undecided branch has written anything
+abbrev pub NoneHasWritten : Records → Type 0
+NoneHasWritten m = (t : ℕ) → own_of t m ≡ []
+
+-- so it is of those branches in doubt that are left
+pub record KeysUpto (left : List PreparedBranch) (m : Records) : Type 0 where
+  pub limits : PreparedHaveKeys left
+  pub apart : Pairwise prepares_before left
+  pub unwritten : AllByRecursion (λ p. own_of p.timestamp m ≡ []) left
+  pub keys : HasKeys m

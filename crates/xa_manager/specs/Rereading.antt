@@ -16,7 +16,7 @@ use Rattle.xa_limits.specs.declared.TheConstants.{MOST_BOOTS, MOST_VALUE}
 use Rattle.xa_model.specs.Restored.{IsRestored}
 use Rattle.mv_rules.specs.Records.{StandsFor as RecordsStandFor}
 use Rattle.mv_rules.specs.Ties.{history_of}
-use Rattle.mv_rules.specs.Within.{IsWithin}
+use Rattle.mv_rules.specs.Within.{IsWithin, HasKeys}
 use Rattle.xa_branch.specs.Branches.{BranchesStandFor}
 use Rattle.xa_recovery.specs.Log.{LogRebuilt}
 use Rattle.xa_recovery.specs.declared.log_fault.LogFault.{LogFault}
@@ -51,7 +51,7 @@ abbrev pub IsNext : Durable → Option NextBoot → Type 0
 IsNext d None = MOST_BOOTS ≤ d.boot
 IsNext d (Some next) =
     (next.boot ≡ d.boot + 1) × (d.boot < MOST_BOOTS) × IsReady d (d.boot + 1) next
-    × AllByRecursion IsRecord (snapshot d (d.boot + 1)) × IsWithin MOST_VALUE next.records
+    × AllByRecursion IsRecord (snapshot d (d.boot + 1)) × IsWithin MOST_VALUE next.records × HasKeys next.records
 
 -- what the bodies of a log come to, and what the next boot begins with
 abbrev pub Plans : List (List ℕ) → Result Planned LogFault → Type 0

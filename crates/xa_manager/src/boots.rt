@@ -1,8 +1,9 @@
 ghost use Rattle.std.specs.Prelude.{◌≡◌, ◌+◌, ◌<◌, ◌≤◌, map, IfOk};
 ghost use Rattle.std.specs.List.{AllByRecursion};
-ghost use Rattle.mv_rules.specs.Within.{IsWithin};
+ghost use Rattle.mv_rules.specs.Within.{IsWithin, HasKeys};
 ghost use Rattle.xa_limits.specs.declared.TheConstants.{MOST_VALUE};
 ghost use Rattle.xa_record.specs.Limits.{IsRecord};
+ghost use Rattle.xa_model.specs.Durable.{IsDurable};
 ghost use Rattle.xa_model.specs.Fold.{snapshot};
 ghost use Rattle.xa_manager.specs.Drained.{GivesBack};
 ghost use Rattle.xa_manager.specs.Rereading.{IsReady, Plans};
@@ -31,11 +32,13 @@ pub struct Planned {
 
 /// Makes ready what the boot of this number begins with.
 fn ready(alloc: Global, durable: &Durable, boot: u32) -> Result<NextBoot, AllocError>
+    requires limits { AllByRecursion IsRecord (snapshot durable.now boot) }
+    requires form { IsDurable durable.now }
     ensures ready { IfOk result (IsReady durable.now boot) }
     ensures boot { IfOk result (λ next. next.boot ≡ boot) }
     ensures drained { IfOk result (λ next. GivesBack next.branches next.records) }
-    ensures short { AllByRecursion IsRecord (snapshot durable.now boot)
-        → IfOk result (λ next. IsWithin MOST_VALUE next.records) }
+    ensures short { IfOk result (λ next. IsWithin MOST_VALUE next.records) }
+    ensures keys { IfOk result (λ next. HasKeys next.records) }
 {
     let branches = branches_of(alloc, durable, boot)?;
     let mut records = records_of(alloc, durable)?;

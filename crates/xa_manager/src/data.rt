@@ -6,6 +6,7 @@ ghost use Rattle.xa_manager.specs.Changes.{items_of};
 ghost use Rattle.xa_assoc.specs.Company.{company_of};
 ghost use Rattle.xa_assoc.specs.Refusals.{IsBare};
 ghost use Rattle.mv_chain.specs.Within.{IsShort};
+ghost use Rattle.mv_rules.specs.Within.{IsKey};
 ghost use Rattle.xa_manager.specs.Replies.{IsFresh};
 ghost use Rattle.xa_manager.specs.Tables.{TablesFollow, TablesStay};
 
@@ -46,7 +47,8 @@ impl Tables {
         key: &Bytes,
         value: Option<Vec<u8>>,
     ) -> Result<Reply, AllocError>
-        requires { IsShort MOST_VALUE (items_of value) }
+        requires key { IsKey key.now }
+        requires value { IsShort MOST_VALUE (items_of value) }
         ensures ok { IfOk result
             (λ r. TablesFollow self.old (λ s. put_by s key.now (items_of value) (own_branch s session)) r self.new) }
         ensures err { OnErr result (TablesStay self.old self.new) }

@@ -6,15 +6,16 @@ ghost use Rattle.mv_rules.specs.Restoring.{with_committed, with_prepared};
 ghost use Rattle.mv_rules.specs.Ties.{history_of};
 ghost use Rattle.xa_branch.specs.Branches.{BranchesStandFor};
 ghost use Rattle.xa_branch.specs.Restored.{HasRestored};
-ghost use Rattle.xa_model.specs.Durable.{PreparedBranch, Pairwise, named_apart, named_before, commits_before, is_prepared};
+ghost use Rattle.xa_model.specs.Durable.{PreparedBranch, Pairwise, named_apart, named_before, prepares_before, is_prepared};
 ghost use Rattle.xa_model.specs.Restored.{IsRestored};
 ghost use Rattle.xa_model.specs.State.{State};
 ghost use Rattle.xa_recovery.specs.Durable.{as_committed, as_prepared, as_decided};
-ghost use Rattle.mv_rules.specs.Within.{IsWithin};
+ghost use Rattle.mv_rules.specs.Within.{IsWithin, HasKeys};
 ghost use Rattle.xa_limits.specs.declared.TheConstants.{MOST_VALUE};
 ghost use Rattle.xa_record.specs.Limits.{IsRecord};
 ghost use Rattle.xa_model.specs.Fold.{snapshot};
 ghost use Rattle.xa_manager.specs.Rebuilding.{AreNew, HaveWrites, CommittedAreShort, PreparedAreShort};
+ghost use Rattle.xa_manager.specs.Rebuilding.{PreparedHaveKeys, NoneHasWritten};
 
 use mv_chain::Fate;
 use mv_rules::Records;
@@ -78,6 +79,7 @@ fn put_committed(records: &mut Records, committed: &BTreeMap<u64, Writes>) -> Re
         → OnOk result (HaveWrites (fold with_committed [] (map as_committed committed.now.entries)) records.new) }
     ensures short { CommittedAreShort (map as_committed committed.now.entries) → IsWithin MOST_VALUE records.old
         → OnOk result (IsWithin MOST_VALUE records.new) }
+    ensures unwritten { NoneHasWritten records.old → OnOk result (NoneHasWritten records.new) }
 {
     for (timestamp, writes) in committed {
         records.restore(*timestamp, writes.as_slice(), Some(Fate::Committed))?;
@@ -93,6 +95,9 @@ fn put_undecided(records: &mut Records, prepared: &BTreeMap<u64, InDoubt>) -> Re
         → OnOk result (HaveWrites (fold with_prepared older (map as_prepared prepared.now.entries)) records.new) }
     ensures short { PreparedAreShort (map as_prepared prepared.now.entries) → IsWithin MOST_VALUE records.old
         → OnOk result (IsWithin MOST_VALUE records.new) }
+    ensures keys { PreparedHaveKeys (map as_prepared prepared.now.entries)
+        → Pairwise prepares_before (map as_prepared prepared.now.entries) → NoneHasWritten records.old
+        → OnOk result (HasKeys records.new) }
 {
     for (timestamp, branch) in prepared {
         records.restore(*timestamp, branch.writes.as_slice(), None)?;
@@ -106,6 +111,8 @@ pub(crate) fn records_of(alloc: Global, durable: &Durable) -> Result<Records, Al
         → IsRestored durable.now next s → RecordsStandFor (history_of s) m) }
     ensures short { (boot : ℕ) → AllByRecursion IsRecord (snapshot durable.now boot)
         → IfOk result (IsWithin MOST_VALUE) }
+    ensures keys { (boot : ℕ) → AllByRecursion IsRecord (snapshot durable.now boot)
+        → Pairwise prepares_before durable.now.prepared → IfOk result HasKeys }
 {
     let mut records = Records::new(alloc);
     put_committed(&mut records, durable.committed())?;

@@ -9,7 +9,7 @@ ghost use Rattle.xa_log.specs.Pair.{generation};
 ghost use Rattle.xa_log.specs.Reading.{bodies_of};
 ghost use Rattle.xa_log.specs.declared.log.Log.{Log};
 ghost use Rattle.xa_log.specs.TwoFiles.{first_of, second_of};
-ghost use Rattle.mv_rules.specs.Within.{IsWithin};
+ghost use Rattle.mv_rules.specs.Within.{IsWithin, HasKeys};
 ghost use Rattle.xa_limits.specs.declared.TheConstants.{MOST_BOOTS, MOST_VALUE};
 ghost use Rattle.xa_model.specs.Answer.{detailed};
 ghost use Rattle.xa_model.specs.Backing.{Backs};
@@ -104,6 +104,7 @@ impl<D: Disk> Manager<D> {
         requires some { 1 ≤ length next.bodies.items }
         requires sizes { AllByRecursion IsBody (bodies_of next.bodies.items) }
         requires short { IsWithin MOST_VALUE next.records }
+        requires keys { HasKeys next.records }
         requires above { self.old.log.generation < generation (bodies_of next.bodies.items) }
         ensures turn { (s t : State) (rs : List Record) → ManagerStandsFor D.Disk self.old s → Trusts D.Disk
             → IsFate survived s t → Backs rs t → HasRecords D.Disk rs self.old.log

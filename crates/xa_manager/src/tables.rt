@@ -1,5 +1,5 @@
 ghost use Rattle.std.proofs.Props.{props};
-ghost use Rattle.mv_rules.specs.Within.{IsWithin};
+ghost use Rattle.mv_rules.specs.Within.{IsWithin, HasKeys};
 ghost use Rattle.xa_limits.specs.declared.TheConstants.{MOST_VALUE};
 
 use mv_rules::Records;
@@ -19,4 +19,6 @@ pub struct Tables {
     pub records: Records,
     /// No value that is kept has more bytes than a reply carries.
     ghost short: { IsWithin MOST_VALUE records } by { Prim.hlevel props },
+    /// No undecided branch has written more, or longer, keys than a record holds.
+    ghost keys: { HasKeys records } by { Prim.hlevel props },
 }

@@ -1,5 +1,6 @@
 ghost use Rattle.arrayvec.specs.ArrayVec.{array_vec_len};
 ghost use Rattle.std.specs.Prelude.{◌≡◌, ◌<◌, [], ◌∷◌, ◌++◌, flat_map, IfOk, OnOk};
+ghost use Rattle.xa_record.specs.Limits.{IsRecord};
 ghost use Rattle.xa_record.specs.Spelling.{spelled, branch_bytes, stamped_bytes, write_bytes, left_bytes};
 ghost use Rattle.xa_record.specs.Small.{IsSmall};
 ghost use Rattle.xa_limits.specs.declared.TheConstants.{MOST_SMALL};
@@ -15,8 +16,9 @@ use xa_fields::{put_length, put_short, put_value, put_xid};
 use xa_limits::{MOST_SMALL, XID_BYTES};
 use xa_xid::Xid;
 
-/// The record's body. A record out of its limits has none that `read` takes.
+/// The body of a record within its limits, as every record is that was read. Of another the lengths would be cut.
 pub fn write(alloc: Global, record: &Record) -> Result<Vec<u8>, AllocError>
+    requires { IsRecord «record».now }
     ensures { IfOk result (λ v. v.items ≡ spelled «record».now) }
 {
     match record {

@@ -1,4 +1,7 @@
 ghost use Rattle.std.specs.Prelude.{◌≡◌, ◌∷◌, [], map, IfOk, OnOk};
+ghost use Rattle.std.specs.List.{AllByRecursion};
+ghost use Rattle.xa_xid.specs.Triple.{IsWithinLimits};
+ghost use Rattle.xa_record.specs.Limits.{IsStamped, IsBranch, IsRecord};
 ghost use Rattle.xa_record.specs.Spelling.{spelled};
 ghost use Rattle.xa_model.specs.Fold.{snapshot};
 ghost use Rattle.xa_recovery.specs.Snapshots.{Puts, bytes_of, base_body, held_body, known_body};
@@ -13,6 +16,7 @@ use xa_xid::Xid;
 
 /// Writes the body of a record behind the others.
 fn put(alloc: Global, bodies: &mut Vec<Vec<u8>>, said: &Record) -> Result<(), AllocError>
+    requires { IsRecord said.now }
     ensures { OnOk result (Puts bodies.old (spelled said.now ∷ []) bodies.new) }
 {
     bodies.push(write(alloc, said)?)?;
@@ -25,6 +29,7 @@ fn put_base(
     timestamp: u64,
     writes: &Writes,
 ) -> Result<(), AllocError>
+    requires { IsStamped timestamp writes.now }
     ensures { OnOk result (Puts bodies.old (base_body (timestamp, writes.now) ∷ []) bodies.new) }
 {
     let writes = writes_copied(alloc, writes)?;
@@ -36,6 +41,7 @@ fn put_committed(
     bodies: &mut Vec<Vec<u8>>,
     committed: &BTreeMap<u64, Writes>,
 ) -> Result<(), AllocError>
+    requires { AllByRecursion (λ e. IsStamped e.0 e.1) committed.now.entries }
     ensures { OnOk result (Puts bodies.old (map base_body committed.now.entries) bodies.new) }
 {
     for (timestamp, writes) in committed {
@@ -50,6 +56,7 @@ fn put_held(
     timestamp: u64,
     branch: &InDoubt,
 ) -> Result<(), AllocError>
+    requires { IsBranch branch.now.xid timestamp branch.now.writes }
     ensures { OnOk result (Puts bodies.old (held_body (timestamp, branch.now) ∷ []) bodies.new) }
 {
     let xid = branch.xid.copied();
@@ -70,6 +77,7 @@ fn put_prepared(
     bodies: &mut Vec<Vec<u8>>,
     prepared: &BTreeMap<u64, InDoubt>,
 ) -> Result<(), AllocError>
+    requires { AllByRecursion (λ e. IsBranch e.1.xid e.0 e.1.writes) prepared.now.entries }
     ensures { OnOk result (Puts bodies.old (map held_body prepared.now.entries) bodies.new) }
 {
     for (timestamp, branch) in prepared {
@@ -84,6 +92,7 @@ fn put_known(
     xid: &Xid,
     direction: Direction,
 ) -> Result<(), AllocError>
+    requires { IsWithinLimits xid.now }
     ensures { OnOk result (Puts bodies.old (known_body (xid.now, direction) ∷ []) bodies.new) }
 {
     let xid = xid.copied();
@@ -95,6 +104,7 @@ fn put_decided(
     bodies: &mut Vec<Vec<u8>>,
     decided: &BTreeMap<Xid, Direction>,
 ) -> Result<(), AllocError>
+    requires { AllByRecursion (λ e. IsWithinLimits e.0) decided.now.entries }
     ensures { OnOk result (Puts bodies.old (map known_body decided.now.entries) bodies.new) }
 {
     for (xid, direction) in decided {
@@ -106,11 +116,13 @@ fn put_decided(
 /// The bodies of the records that a new file begins with, in the boot of this number: the boot, the committed branches,
 /// those in doubt, and what the operator completed. The boot stands first: its number is the file's generation, and the
 /// manager's step knows it as the one record that a restart appends. Of a log with a record they take no more room than
-/// its own records, so a restart has the room.
+/// its own records, so a restart has the room. They are within the limits of records where those were that the durable
+/// value comes from, as all are that were read, and the boot is above 0 (`lasting` of `xa_model`).
 ///
 /// # Errors
 /// Want of memory.
 pub fn snapshot(alloc: Global, durable: &Durable, boot: u32) -> Result<Vec<Vec<u8>>, AllocError>
+    requires { AllByRecursion IsRecord (snapshot durable.now boot) }
     ensures { IfOk result (λ v. bytes_of v.items ≡ map spelled (snapshot durable.now boot)) }
 {
     let mut bodies = Vec::new(alloc);

@@ -1,6 +1,6 @@
 use arrayvec::ArrayVec;
 use std::alloc::{AllocError, Global};
-use xa_codes::{Bytes, Direction, Write};
+use xa_codes::{Bytes, Direction};
 use xa_limits::MOST_SMALL;
 use xa_record::{Record, Writes, read, write, write_small};
 use xa_xid::Xid;
@@ -19,15 +19,6 @@ pub const HELD: [u8; 25] = [
 // 1:aa:bb was rolled back
 pub const KNOWN: [u8; 10] = [9, 0, 0, 0, 1, 1, 1, 0xaa, 0xbb, 2];
 
-fn k_with_v(alloc: Global) -> Result<Writes, AllocError> {
-    let mut writes = Vec::new(alloc);
-    writes.push(Write {
-        key: Bytes::from_slice(alloc, b"k")?,
-        value: Some(Bytes::from_slice(alloc, b"v")?),
-    })?;
-    Ok(Writes::new(writes))
-}
-
 fn is_v(value: &Option<Bytes>) -> bool {
     match value {
         Some(value) => value.as_slice() == b"v".as_slice(),
@@ -42,9 +33,9 @@ fn is_k_with_v(writes: &Writes) -> bool {
     }
 }
 
-fn is_written(alloc: Global, record: &Record, body: &[u8]) -> bool {
-    match write(alloc, record) {
-        Ok(written) => written.as_slice() == body,
+fn is_body(body: Result<Vec<u8>, AllocError>, wanted: &[u8]) -> bool {
+    match body {
+        Ok(body) => body.as_slice() == wanted,
         Err(_) => false,
     }
 }
@@ -60,10 +51,16 @@ fn is_prepared(record: &Record, named: &Xid) -> bool {
     }
 }
 
+// read, and written again
 fn reads_prepared(alloc: Global) -> Option<bool> {
     let named = Xid::take_text(b"1:aa:bb")?;
-    let record = read(alloc, &PREPARED).ok()?;
-    Some(is_prepared(&record, &named))
+    match read(alloc, &PREPARED) {
+        Ok(record) => {
+            let again = write(alloc, &record);
+            Some(is_prepared(&record, &named) && is_body(again, &PREPARED))
+        }
+        Err(_) => None,
+    }
 }
 
 #[test]
@@ -90,14 +87,6 @@ fn opened(rt: HostRuntime) {
     assert!(rt; reads_opened(rt.alloc()));
 }
 
-fn writes_base(alloc: Global) -> Option<bool> {
-    let record = Record::Base {
-        timestamp: 4294967297,
-        writes: k_with_v(alloc).ok()?,
-    };
-    Some(is_written(alloc, &record, &BASE))
-}
-
 fn is_base(record: &Record) -> bool {
     match record {
         Record::Base { timestamp, writes } => *timestamp == 4294967297 && is_k_with_v(writes),
@@ -105,24 +94,19 @@ fn is_base(record: &Record) -> bool {
     }
 }
 
-fn reads_base(alloc: Global) -> Option<bool> {
-    let record = read(alloc, &BASE).ok()?;
-    Some(is_base(&record))
+fn reads_base(alloc: Global) -> bool {
+    match read(alloc, &BASE) {
+        Ok(record) => {
+            let again = write(alloc, &record);
+            is_base(&record) && is_body(again, &BASE)
+        }
+        Err(_) => false,
+    }
 }
 
 #[test]
 fn base(rt: HostRuntime) {
-    assert!(rt; writes_base(rt.alloc()) == Some(true));
-    assert!(rt; reads_base(rt.alloc()) == Some(true));
-}
-
-fn writes_held(alloc: Global) -> Option<bool> {
-    let record = Record::Held {
-        xid: Xid::take_text(b"1:aa:bb")?,
-        timestamp: 4294967297,
-        writes: k_with_v(alloc).ok()?,
-    };
-    Some(is_written(alloc, &record, &HELD))
+    assert!(rt; reads_base(rt.alloc()));
 }
 
 fn is_held(record: &Record, named: &Xid) -> bool {
@@ -138,24 +122,28 @@ fn is_held(record: &Record, named: &Xid) -> bool {
 
 fn reads_held(alloc: Global) -> Option<bool> {
     let named = Xid::take_text(b"1:aa:bb")?;
-    let record = read(alloc, &HELD).ok()?;
-    Some(is_held(&record, &named))
+    match read(alloc, &HELD) {
+        Ok(record) => {
+            let again = write(alloc, &record);
+            Some(is_held(&record, &named) && is_body(again, &HELD))
+        }
+        Err(_) => None,
+    }
 }
 
 #[test]
 fn held(rt: HostRuntime) {
-    assert!(rt; writes_held(rt.alloc()) == Some(true));
     assert!(rt; reads_held(rt.alloc()) == Some(true));
 }
 
-fn writes_known(alloc: Global) -> Option<bool> {
+fn writes_known() -> Option<bool> {
     let record = Record::Known {
         xid: Xid::take_text(b"1:aa:bb")?,
         direction: Direction::Rollback,
     };
     let mut small: ArrayVec<u8, MOST_SMALL> = ArrayVec::new();
     write_small(&record, &mut small);
-    Some(small.as_slice() == KNOWN.as_slice() && is_written(alloc, &record, &KNOWN))
+    Some(small.as_slice() == KNOWN.as_slice())
 }
 
 fn is_known(record: &Record, named: &Xid) -> bool {
@@ -169,12 +157,17 @@ fn is_known(record: &Record, named: &Xid) -> bool {
 
 fn reads_known(alloc: Global) -> Option<bool> {
     let named = Xid::take_text(b"1:aa:bb")?;
-    let record = read(alloc, &KNOWN).ok()?;
-    Some(is_known(&record, &named))
+    match read(alloc, &KNOWN) {
+        Ok(record) => {
+            let again = write(alloc, &record);
+            Some(is_known(&record, &named) && is_body(again, &KNOWN))
+        }
+        Err(_) => None,
+    }
 }
 
 #[test]
 fn known(rt: HostRuntime) {
-    assert!(rt; writes_known(rt.alloc()) == Some(true));
+    assert!(rt; writes_known() == Some(true));
     assert!(rt; reads_known(rt.alloc()) == Some(true));
 }

@@ -14,7 +14,10 @@ returns-clause-ready c = record {
 }
 
 pub returns-clause-short : goal.returns-clause-short
-returns-clause-short c = λ limits. c.low_water-2.ensures.within MOST_VALUE (c.in_ok-records.ensures.short c.args.boot limits)
+returns-clause-short c = c.low_water-2.ensures.within MOST_VALUE (c.in_ok-records.ensures.short c.args.boot c.requires.limits)
+
+pub returns-clause-keys : goal.returns-clause-keys
+returns-clause-keys c = c.low_water-2.ensures.keys (c.in_ok-records.ensures.keys c.args.boot c.requires.limits c.requires.form.prepared)
 
 pub returns-clause-drained : goal.returns-clause-drained
 returns-clause-drained c = λ s sound st. subst (λ (low : ℕ). IsDrained low c.low_water-2.new.self) (c.low_water.ensures s sound st) c.low_water-2.ensures.drained

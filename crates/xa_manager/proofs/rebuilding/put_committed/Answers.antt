@@ -7,6 +7,7 @@ use Rattle.mv_chain.specs.declared.fate.Fate.TheVariants.{Committed as kept}
 use Rattle.mv_rules.specs.Restoring.{with_committed}
 use Rattle.xa_recovery.specs.Durable.{as_committed}
 use Rattle.xa_manager.proofs.NewTables.{added_more, added_all}
+use Rattle.xa_manager.proofs.KeysBack.{none_more}
 use Rattle.xa_manager.proofs.ShortWrites.{committed_next}
 use Rattle.xa_manager.proofs.rebuilding.put_committed.Goals as goal
 
@@ -21,6 +22,8 @@ loop-timestamp-preserved c =
           let i = c.loop-timestamp.invariant.short all start in
           let next = committed_next (map as_committed c.loop-timestamp.timestamp-iterator) (map as_committed c.next.new.self) (as_committed e) (ap (λ es. map as_committed es) more) i.0 in
           (next.1, c.in_ok-restore.ensures.within MOST_VALUE i.1 (rw c.as_slice.ensures next.0));
+      unwritten = λ none.
+          none_more c.loop-timestamp.records c.restore.new.self c.in-Some.timestamp.now (c.in_ok-restore.ensures.decided refl) c.in_ok-restore.ensures.others (c.loop-timestamp.invariant.unwritten none);
     }
 
 pub returns-clause-stands : goal.returns-clause-stands
@@ -29,3 +32,6 @@ returns-clause-stands c = λ new start.
 
 pub returns-clause-short : goal.returns-clause-short
 returns-clause-short c = λ all start. (c.loop-timestamp.invariant.short all start).1
+
+pub returns-clause-unwritten : goal.returns-clause-unwritten
+returns-clause-unwritten c = c.loop-timestamp.invariant.unwritten

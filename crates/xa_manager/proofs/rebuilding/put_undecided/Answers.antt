@@ -6,6 +6,7 @@ use Rattle.mv_rules.specs.Restoring.{with_prepared}
 use Rattle.xa_recovery.specs.declared.durable.InDoubt.{InDoubt}
 use Rattle.xa_recovery.specs.Durable.{as_prepared}
 use Rattle.xa_manager.proofs.NewTables.{added_more, added_all}
+use Rattle.xa_manager.proofs.KeysBack.{keys_first, keys_more}
 use Rattle.xa_manager.proofs.ShortWrites.{prepared_next}
 use Rattle.xa_manager.proofs.rebuilding.put_undecided.Goals as goal
 
@@ -20,6 +21,9 @@ loop-timestamp-preserved c =
           let i = c.loop-timestamp.invariant.short all start in
           let next = prepared_next (map as_prepared c.loop-timestamp.timestamp-iterator) (map as_prepared c.next.new.self) (as_prepared e) (ap (λ es. map as_prepared es) more) i.0 in
           (next.1, c.in_ok-restore.ensures.within MOST_VALUE i.1 (rw c.as_slice.ensures next.0));
+      keys = λ start.
+          keys_more c.loop-timestamp.records c.restore.new.self (map as_prepared c.loop-timestamp.timestamp-iterator) (map as_prepared c.next.new.self) (as_prepared e) (ap (λ es. map as_prepared es) more) c.in_ok-restore.ensures.others
+          (rw c.as_slice.ensures at c.in_ok-restore.ensures.keys) (c.loop-timestamp.invariant.keys start);
     }
 
 pub returns-clause-stands : goal.returns-clause-stands
@@ -28,3 +32,6 @@ returns-clause-stands c = λ older new start.
 
 pub returns-clause-short : goal.returns-clause-short
 returns-clause-short c = λ all start. (c.loop-timestamp.invariant.short all start).1
+
+pub returns-clause-keys : goal.returns-clause-keys
+returns-clause-keys c = λ all apart none. (c.loop-timestamp.invariant.keys (keys_first c.args.records.now (map as_prepared c.args.prepared.now.entries) all apart none)).keys

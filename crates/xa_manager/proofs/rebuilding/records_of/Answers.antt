@@ -1,10 +1,10 @@
 use Rattle.std.proofs.Common.{List, map, subst, sym}
 use Rattle.xa_limits.specs.declared.TheConstants.{MOST_VALUE}
 use Rattle.xa_recovery.specs.Durable.{as_committed, as_prepared}
-use Rattle.xa_model.specs.Durable.{CommittedBranch, PreparedBranch}
-use Rattle.xa_manager.specs.Rebuilding.{CommittedAreShort, PreparedAreShort}
+use Rattle.xa_model.specs.Durable.{CommittedBranch, PreparedBranch, Pairwise, prepares_before}
+use Rattle.xa_manager.specs.Rebuilding.{CommittedAreShort, PreparedAreShort, PreparedHaveKeys}
 use Rattle.xa_manager.proofs.NewTables.{records_stand}
-use Rattle.xa_manager.proofs.ShortWrites.{snapshot_short}
+use Rattle.xa_manager.proofs.ShortWrites.{snapshot_short, snapshot_keys}
 use Rattle.xa_manager.proofs.rebuilding.records_of.Goals as goal
 
 pub returns-clause-stands : goal.returns-clause-stands
@@ -18,3 +18,10 @@ returns-clause-short c = λ boot limits.
     let committed = subst (λ (bs : List CommittedBranch). CommittedAreShort bs) (sym c.committed.ensures) short.0 in
     let prepared = subst (λ (ps : List PreparedBranch). PreparedAreShort ps) (sym c.prepared.ensures) short.1 in
     c.in_ok-put_undecided.ensures.short prepared (c.in_ok-put_committed.ensures.short committed (c.new-records.ensures.within MOST_VALUE))
+
+pub returns-clause-keys : goal.returns-clause-keys
+returns-clause-keys c = λ boot limits apart.
+    let same = sym c.prepared.ensures in
+    let keys = subst (λ (ps : List PreparedBranch). PreparedHaveKeys ps) same (snapshot_keys c.args.durable.now boot limits) in
+    let order = subst (λ (ps : List PreparedBranch). Pairwise prepares_before ps) same apart in
+    c.in_ok-put_undecided.ensures.keys keys order (c.in_ok-put_committed.ensures.unwritten c.new-records.ensures.own)

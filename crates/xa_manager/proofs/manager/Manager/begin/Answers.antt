@@ -15,7 +15,7 @@ use Rattle.xa_manager.specs.Crash.{LeavesBoot}
 use Rattle.xa_manager.specs.LogStands.{HasRecords}
 use Rattle.xa_manager.specs.Managed.{view}
 use Rattle.xa_manager.specs.Rereading.{IsReady}
-use Rattle.xa_manager.proofs.Beginnings.{next_sizes, next_short, next_is, none_next}
+use Rattle.xa_manager.proofs.Beginnings.{next_sizes, next_short, next_keys, next_is, none_next}
 use Rattle.xa_manager.proofs.Fates.{is_answer, turn_stops}
 use Rattle.xa_manager.proofs.Generations.{rebuilt_is}
 use Rattle.xa_manager.proofs.Standing.{outside, down_stands}
@@ -26,6 +26,9 @@ log_boot-requires-clause-sizes g c = next_sizes c.args.planned.durable c.args.pl
 
 pub log_boot-requires-clause-short : goal.log_boot-requires-clause-short
 log_boot-requires-clause-short g c = next_short c.args.planned.durable c.args.planned.next c.in-Some.next c.in-Some.is c.requires.next
+
+pub log_boot-requires-clause-keys : goal.log_boot-requires-clause-keys
+log_boot-requires-clause-keys g c = next_keys c.args.planned.durable c.args.planned.next c.in-Some.next c.in-Some.is c.requires.next
 
 pub log_boot-requires-clause-above : goal.log_boot-requires-clause-above
 log_boot-requires-clause-above g c =

@@ -1,7 +1,8 @@
-use Rattle.std.proofs.Common.{◌≡◌, ◌≤◌, ◌+◌, None, true, false, length, refl, ap, sym, ◌∙◌, subst, arith, rules, Some, w32, to_z, of_z}
+use Rattle.std.proofs.Common.{◌≡◌, ◌≤◌, ◌<◌, ◌^◌, ◌+◌, None, true, false, length, refl, ap, sym, ◌∙◌, subst, arith, rules, Some, w32, to_z, of_z}
 use Rattle.std.proofs.lemmas.Grind.{common_steps}
 use Rattle.std.proofs.lemmas.Bool.Decides.{nat_tests}
 use Rattle.xa_codes.specs.declared.codes.TheConstants.{XA_RDONLY, XAER_RMERR}
+use Rattle.xa_limits.specs.declared.TheConstants.{MOST_VALUE}
 use Rattle.xa_record.specs.Spelling.{spelled}
 use Rattle.xa_record.specs.declared.record.Record.TheVariants as logged
 use Rattle.xa_model.specs.State.{State}
@@ -17,7 +18,18 @@ use Rattle.xa_manager.specs.Stands.{StandsWithRoom}
 use Rattle.xa_manager.specs.declared.tables.Tables.{Tables}
 use Rattle.xa_manager.proofs.Taking.{takes_now, takes_appending, tables_up, stays_up, on_err, served_by, refused_is, lost_is, down_after, appended_bare}
 use Rattle.xa_manager.proofs.OnePhase.{now_empty, now_full, worked_known, told_writes, no_writes, some_writes, has_prepared, written_appends, WasTold, HasRecord, now_refused, now_marked}
+use Rattle.xa_manager.proofs.WritesWithin.{is_within}
 use Rattle.xa_manager.proofs.manager.Manager.prepare.Goals as goal
+
+-- what the branch has written is within the limits of a record
+pub write-requires : goal.write-requires
+write-requires g c =
+    let ws = c.in_ok-writes.writes.items in
+    let t = c.timestamp-timestamp.result in
+    let some : 1 ≤ length ws = grind (arith, nat_tests, c.is_empty.ensures, c.if-is_empty.false) in
+    let stamp : t < 2 ^ 64 = omega arith in
+    is_within c.args.xid.now c.copied.result t ws c.new.result c.copied.ensures c.new.ensures c.requires.name stamp some
+    c.in_ok-writes.ensures.ascending (c.in_ok-writes.ensures.short MOST_VALUE c.args.self.now.tables.short) (c.in_ok-writes.ensures.keys c.args.self.now.tables.keys)
 
 pub returns-then-is_empty-clause-ok : goal.returns-then-is_empty-clause-ok
 returns-then-is_empty-clause-ok g c =

@@ -13,4 +13,7 @@ returns-clause-becomes c = λ s end st doubt recoverable.
     (subst (λ (fate : Fate). Settles t fate c.args.self.now.records c.settle.new.self) c.fate_of.ensures c.settle.ensures.stands) recoverable
 
 pub invariant_of-self : goal.invariant_of-self
-invariant_of-self c = record { short = c.settle.ensures.within MOST_VALUE c.args.self.now.short }
+invariant_of-self c = record {
+  short = c.settle.ensures.within MOST_VALUE c.args.self.now.short;
+  keys = c.settle.ensures.keys c.args.self.now.keys;
+}

@@ -38,4 +38,7 @@ returns-clause-committed c = λ is s end st here recoverable.
     }
 
 pub invariant_of-self : goal.invariant_of-self
-invariant_of-self c = record { short = c.settle.ensures.within MOST_VALUE c.args.self.now.short }
+invariant_of-self c = record {
+  short = c.settle.ensures.within MOST_VALUE c.args.self.now.short;
+  keys = c.settle.ensures.keys c.args.self.now.keys;
+}

@@ -8,7 +8,10 @@ use Rattle.xa_manager.proofs.Replying.{value_fresh}
 use Rattle.xa_manager.proofs.tables.Tables.get.Goals as goal
 
 pub invariant_of-self : goal.invariant_of-self
-invariant_of-self c = record { short = c.get.ensures.within MOST_VALUE c.args.self.now.short }
+invariant_of-self c = record {
+  short = c.get.ensures.within MOST_VALUE c.args.self.now.short;
+  keys = c.get.ensures.keys c.args.self.now.keys;
+}
 
 pub returns-in-Value-clause-ok : goal.returns-in-Value-clause-ok
 returns-in-Value-clause-ok c =

@@ -16,7 +16,10 @@ returns-clause-stays c = λ s st. record {
 }
 
 pub invariant_of-self : goal.invariant_of-self
-invariant_of-self c = record { short = c.low_water.ensures.within MOST_VALUE c.args.self.now.short }
+invariant_of-self c = record {
+  short = c.low_water.ensures.within MOST_VALUE c.args.self.now.short;
+  keys = c.low_water.ensures.keys c.args.self.now.keys;
+}
 
 pub returns-clause-drained : goal.returns-clause-drained
 returns-clause-drained c = λ s sound st. subst (λ (low : ℕ). IsDrained low c.low_water.new.self) (c.low_water-low.ensures s sound st) c.low_water.ensures.drained

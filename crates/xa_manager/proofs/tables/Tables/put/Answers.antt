@@ -9,7 +9,10 @@ use Rattle.xa_manager.proofs.Putting.{put_alone, put_marked, put_full, put_late,
 use Rattle.xa_manager.proofs.tables.Tables.put.Goals as goal
 
 pub invariant_of-self : goal.invariant_of-self
-invariant_of-self c = record { short = c.put.ensures.within MOST_VALUE c.args.self.now.short c.requires }
+invariant_of-self c = record {
+  short = c.put.ensures.within MOST_VALUE c.args.self.now.short c.requires.value;
+  keys = c.put.ensures.keys c.args.self.now.keys (rw c.as_slice.ensures c.requires.key);
+}
 
 pub returns-in-Some-mark-clause-ok : goal.returns-in-Some-mark-clause-ok
 returns-in-Some-mark-clause-ok c =
