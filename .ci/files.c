@@ -1,7 +1,8 @@
 /* Tells of each call on a file, and of each send, that a program makes which is run under it (LD_PRELOAD), by a line to the
    descriptor whose number stands in TELL: the call, the file's name, what was asked and what came of it. One call can be made to
    fail: FAULT has its name, which one of that name, counted from 1, and the error's number. The error 0 stands for a short write, of
-   half of the bytes, and a + behind the count for all from that one on. */
+   half of the bytes, and a + behind the count for all from that one on. The name 'over' stands for each pwrite of more bytes than the
+   number says. */
 typedef unsigned long size_t;
 typedef long ssize_t;
 typedef long off_t;
@@ -83,6 +84,8 @@ ssize_t pread(int file, void *bytes, size_t count, off_t at)
 
 ssize_t pwrite(int file, const void *bytes, size_t count, off_t at)
 {
+    if (strncmp("over", name, 16) == 0 && count > (size_t)number)
+        return told("pwrite", file, at, failed());
     if (!fails("pwrite"))
         return told("pwrite", file, at, syscall(PWRITE, file, bytes, count, at));
     return told("pwrite", file, at, error ? failed() : syscall(PWRITE, file, bytes, (count + 1) / 2, at));
