@@ -71,7 +71,7 @@ seen_by : (gone : ℕ → Bool) (key : List ℕ) (u : ℕ) (b : Branch) (bs : Li
     → seen_without gone key u base ≡ last_seen (last_write key (add (committed_part b.timestamp (writes_of b.operations) phase) (parts left bs))) (record { from = 0; value = None; pending = false })
     → (seen_without gone key u base ≡ last_seen (last_write key (parts left bs)) (record { from = 0; value = None; pending = false }) → seen_without gone key u (fold with_prepared base (parts held_of bs)) ≡ seen_without gone key u (writes_in bs))
     → seen_without gone key u (fold with_prepared base (add (prepared_part b.timestamp (writes_of b.operations) phase) (parts held_of bs))) ≡ seen_without gone key u (writes_by b.timestamp (fate_of phase) b.operations ++ writes_in bs)
-seen_by gone key u b bs base (Working xid mark) is idle up h e ih = absurd (cc idle)
+seen_by gone key u b bs base (Working xid work) is idle up h e ih = absurd (cc idle)
 seen_by gone key u b bs base (Prepared xid) is idle up h e ih =
     let rest : List Written = fold with_prepared base (parts held_of bs) in
     let same : seen_without gone key u rest ≡ seen_without gone key u (writes_in bs) = ih e in
@@ -110,7 +110,7 @@ same_seen gone key u limit (b ∷ bs) base h le idle e =
 
 held_by : (key : List ℕ) (t : ℕ) (b : Branch) (bs : List Branch) (base : List Written) (phase : Phase) → is_working phase ≡ false → has_undecided key t (fold with_prepared base (parts held_of bs)) ≡ has_undecided key t (writes_in bs)
     → has_undecided key t (fold with_prepared base (add (prepared_part b.timestamp (writes_of b.operations) phase) (parts held_of bs))) ≡ has_undecided key t (writes_by b.timestamp (fate_of phase) b.operations ++ writes_in bs)
-held_by key t b bs base (Working xid mark) idle ih = absurd (cc idle)
+held_by key t b bs base (Working xid work) idle ih = absurd (cc idle)
 held_by key t b bs base (Prepared xid) idle ih =
     ap (has_undecided key t) (fold-append with_prepared base (parts held_of bs) ((record { xid = xid; timestamp = b.timestamp; writes = writes_of b.operations }) ∷ []))
     ∙ held_left key t b.timestamp None b.operations (fold with_prepared base (parts held_of bs)) (writes_in bs) ih
@@ -140,7 +140,7 @@ count_left t b bs rest true e h held ih =
 count_by : (t : ℕ) (b : Branch) (bs : List Branch) (base : List Written) (phase : Phase) → is_working phase ≡ false → Descends b.timestamp bs → ((key : List ℕ) → has_undecided key t (fold with_prepared base (parts held_of bs)) ≡ has_undecided key t (writes_in bs))
     → undecided_keys t (fold with_prepared base (parts held_of bs)) ≡ undecided_keys t (writes_in bs)
     → undecided_keys t (fold with_prepared base (add (prepared_part b.timestamp (writes_of b.operations) phase) (parts held_of bs))) ≡ undecided_keys t (writes_by b.timestamp (fate_of phase) b.operations ++ writes_in bs)
-count_by t b bs base (Working xid mark) idle h held ih = absurd (cc idle)
+count_by t b bs base (Working xid work) idle h held ih = absurd (cc idle)
 count_by t b bs base (Prepared xid) idle h held ih =
     ap (undecided_keys t) (fold-append with_prepared base (parts held_of bs) ((record { xid = xid; timestamp = b.timestamp; writes = writes_of b.operations }) ∷ []))
     ∙ count_left t b bs (fold with_prepared base (parts held_of bs)) (b.timestamp == t) refl h held ih
@@ -178,7 +178,7 @@ own_by : (gone : ℕ → Bool) (key : List ℕ) (t : ℕ) (b : Branch) (bs : Lis
     → has_undecided key t (writes_by b.timestamp (fate_of phase) b.operations ++ writes_in bs) ≡ true
     → (has_undecided key t (writes_in bs) ≡ true → seen_without gone key t (fold with_prepared base (parts held_of bs)) ≡ seen_without gone key t (writes_in bs))
     → seen_without gone key t (fold with_prepared base (add (prepared_part b.timestamp (writes_of b.operations) phase) (parts held_of bs))) ≡ seen_without gone key t (writes_by b.timestamp (fate_of phase) b.operations ++ writes_in bs)
-own_by gone key t b bs base (Working xid mark) c e idle h g o ih = absurd (cc idle)
+own_by gone key t b bs base (Working xid work) c e idle h g o ih = absurd (cc idle)
 own_by gone key t b bs base (Prepared xid) c e idle h g o ih =
     ap (seen_without gone key t) (fold-append with_prepared base (parts held_of bs) ((record { xid = xid; timestamp = b.timestamp; writes = writes_of b.operations }) ∷ []))
     ∙ at c e
@@ -259,7 +259,7 @@ last_keys [] h = tt
 last_keys (c ∷ later) h = with_keys c.timestamp (left_by later c.writes) (last_writes later) (pairs_kept keys_before (λ w. not (is_written w.key later)) c.writes h.0) (last_keys later h.1)
 
 part_keys : (t : ℕ) (ws : List Write) (phase : Phase) (c : CommittedBranch) → committed_part t ws phase ≡ Some c → Pairwise keys_before ws → Pairwise keys_before c.writes
-part_keys t ws (Working xid mark) c e h = absurd (cc e)
+part_keys t ws (Working xid work) c e h = absurd (cc e)
 part_keys t ws (Prepared xid) c e h = absurd (cc e)
 part_keys t ws Committed c e h = let same : record { timestamp = t; writes = ws } ≡ c = cc e in subst (λ (x : CommittedBranch). Pairwise keys_before x.writes) same h
 

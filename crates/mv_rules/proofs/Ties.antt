@@ -59,12 +59,12 @@ seen_group gone key u t fate (Wrote k value ∷ older) rest le =
 
 -- what a branch shows is its version
 phase_stands : (t : ℕ) (p : Phase) → stands nobody t (fate_of p) ≡ true
-phase_stands t (Working xid mark) = refl
+phase_stands t (Working xid work) = refl
 phase_stands t (Prepared xid) = refl
 phase_stands t Committed = refl
 
 phase_undecided : (p : Phase) → is_undecided (fate_of p) ≡ not (is_committed p)
-phase_undecided (Working xid mark) = refl
+phase_undecided (Working xid work) = refl
 phase_undecided (Prepared xid) = refl
 phase_undecided Committed = refl
 

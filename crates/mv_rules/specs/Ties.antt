@@ -13,7 +13,7 @@ use Rattle.xa_model.specs.Sound.{Descends}
 use Rattle.mv_rules.specs.Accesses.{Accesses}
 
 abbrev pub fate_of : Phase → Option Fate
-fate_of (Working xid mark) = None
+fate_of (Working xid work) = None
 fate_of (Prepared xid) = None
 fate_of Committed = Some kept
 

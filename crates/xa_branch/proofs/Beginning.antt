@@ -31,7 +31,7 @@ unknown s xid none =
     found_none (is_known_as xid) s.branches zero
 
 prepared_by : (p : Phase) → is_in_doubt p ≡ true → is_some (name_of p) ≡ true
-prepared_by (Working x mark) e = absurd (cc e)
+prepared_by (Working x work) e = absurd (cc e)
 prepared_by (Prepared x) e = refl
 prepared_by Committed e = absurd (cc e)
 

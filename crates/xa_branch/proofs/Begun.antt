@@ -1,11 +1,11 @@
 -- Known branches that stand for a state, after a branch begins.
-use Rattle.std.proofs.Common.{◌≡◌, ℕ, ℤ, ◌+◌, ◌==◌, Bool, true, false, cond, Option, Some, None, List, [], ◌∷◌, refl, ap, sym, ◌∙◌, subst, arith}
+use Rattle.std.proofs.Common.{◌≡◌, ℕ, ◌+◌, ◌==◌, Bool, true, false, cond, Option, Some, None, List, ◌∷◌, refl, ap, sym, ◌∙◌, subst, arith}
 use Rattle.std.specs.Prelude.{option_and_then, is_some}
 use Rattle.std.specs.BTreeMap.{BTreeMap, get, btree_map_len}
 use Rattle.std.specs.BTreeSet.{BTreeSet}
 use Rattle.xa_xid.specs.Triple.{Triple, xid_eq, xid_cmp}
 use Rattle.xa_xid.proofs.Same.{xid_same, xid_eq_itself}
-use Rattle.xa_model.specs.State.{State, Branch, Phase, Working, Prepared, Committed, Association, Active, known_of, decided_of, holders_of, timestamp_of}
+use Rattle.xa_model.specs.State.{State, Branch, Phase, Working, Prepared, Committed, Association, Active, known_of, decided_of, holders_of, timestamp_of, unmarked, new_branch, Work}
 use Rattle.xa_model.specs.Associations.{begun}
 use Rattle.xa_model.specs.LowWater.{is_known_at}
 use Rattle.xa_model.specs.Sound.{IsSound}
@@ -15,7 +15,7 @@ use Rattle.xa_branch.specs.declared.kind.Kind.{Kind}
 use Rattle.xa_branch.specs.declared.kind.Kind.TheVariants as kind
 use Rattle.xa_branch.specs.declared.working.Working.{Working as Kept}
 use Rattle.xa_branch.specs.Kinds.{held_as}
-use Rattle.xa_branch.specs.Branches.{BranchesStandFor, kept_of, working_at, working_by, working_in, lasting_at, lasting_among}
+use Rattle.xa_branch.specs.Branches.{BranchesStandFor, kept_of, working_at, working_by, working_in, lasting_at, lasting_among, kept_with}
 use Rattle.xa_branch.specs.Changes.{Sets, SetsTime, new_kept}
 use Rattle.xa_branch.proofs.Counting.{gained_here, gained_other, joined_gains, holders_by_kind}
 use Rattle.xa_branch.proofs.Looks.{idle_at}
@@ -24,14 +24,14 @@ use Rattle.xa_branch.proofs.Timed.{begun_time}
 
 -- where the counts are the same, so is what is kept
 
-pub kept_same : (t : ℕ) (mark : Option ℤ) (a u l a' u' l' : ℕ) → a ≡ a' → u ≡ u' → l ≡ l'
-    → ◌≡◌ {A = Kept} (record { timestamp = t; mark = mark; active = a; suspended = u; loose = l }) (record { timestamp = t; mark = mark; active = a'; suspended = u'; loose = l' })
-kept_same t mark a u l a' u' l' e f g = rw (e, f, g) refl
+pub kept_same : (t : ℕ) (work : Work) (a u l a' u' l' : ℕ) → a ≡ a' → u ≡ u' → l ≡ l'
+    → ◌≡◌ {A = Kept} (kept_with t work a u l) (kept_with t work a' u' l')
+kept_same t work a u l a' u' l' e f g = rw (e, f, g) refl
 
 same_by : (held after : List Association) (q : Triple) (t : ℕ) (p : Phase) → ((j : Kind) → held_as j after q ≡ held_as j held q) → working_by held q t p ≡ working_by after q t p
-same_by held after q t (Working x mark) same =
+same_by held after q t (Working x work) same =
     ap Some
-    (kept_same t mark (held_as kind.Active held q) (held_as kind.Suspended held q) (held_as kind.Loose held q) (held_as kind.Active after q) (held_as kind.Suspended after q) (held_as kind.Loose after q)
+    (kept_same t work (held_as kind.Active held q) (held_as kind.Suspended held q) (held_as kind.Loose held q) (held_as kind.Active after q) (held_as kind.Suspended after q) (held_as kind.Loose after q)
     (sym (same kind.Active)) (sym (same kind.Suspended)) (sym (same kind.Loose)))
 same_by held after q t (Prepared x) same = refl
 same_by held after q t Committed same = refl
@@ -48,16 +48,16 @@ none_held held xid zero kind.Active = omega (arith, holders_by_kind held xid)
 none_held held xid zero kind.Suspended = omega (arith, holders_by_kind held xid)
 none_held held xid zero kind.Loose = omega (arith, holders_by_kind held xid)
 
-begun_here : (n : ℕ) (xid q : Triple) (held : List Association) (t : ℕ) → xid_eq xid q ≡ true → holders_of held q ≡ 0 → new_kept t ≡ kept_of (record { xid = xid; holder = Active n } ∷ held) q t None
+begun_here : (n : ℕ) (xid q : Triple) (held : List Association) (t : ℕ) → xid_eq xid q ≡ true → holders_of held q ≡ 0 → new_kept t ≡ kept_of (record { xid = xid; holder = Active n } ∷ held) q t unmarked
 begun_here n xid q held t e zero =
     let after : List Association = record { xid = xid; holder = Active n } ∷ held in
     let gains = joined_gains n xid held in
     let active : held_as kind.Active after q ≡ 1 = gained_here kind.Active xid held after gains kind.Active q e ∙ omega (arith, none_held held q zero kind.Active) in
     let suspended : held_as kind.Suspended after q ≡ 0 = gained_here kind.Active xid held after gains kind.Suspended q e ∙ omega (arith, none_held held q zero kind.Suspended) in
     let loose : held_as kind.Loose after q ≡ 0 = gained_here kind.Active xid held after gains kind.Loose q e ∙ omega (arith, none_held held q zero kind.Loose) in
-    kept_same t None 1 0 0 (held_as kind.Active after q) (held_as kind.Suspended after q) (held_as kind.Loose after q) (sym active) (sym suspended) (sym loose)
+    kept_same t unmarked 1 0 0 (held_as kind.Active after q) (held_as kind.Suspended after q) (held_as kind.Loose after q) (sym active) (sym suspended) (sym loose)
 
-begun_look : (m : Branches) (s : State) (n : ℕ) (xid q : Triple) (b : Branch) (c : Bool) → xid_eq xid q ≡ c → BranchesStandFor m s → holders_of s.associations xid ≡ 0 → b.phase ≡ Working xid None
+begun_look : (m : Branches) (s : State) (n : ℕ) (xid q : Triple) (b : Branch) (c : Bool) → xid_eq xid q ≡ c → BranchesStandFor m s → holders_of s.associations xid ≡ 0 → b.phase ≡ Working xid unmarked
     → cond c (Some (new_kept b.timestamp)) (working_at m q) ≡ option_and_then (working_in (record { xid = xid; holder = Active n } ∷ s.associations) q) (cond c (Some b) (known_of s.branches q))
 begun_look m s n xid q b true e st zero is =
     let free : holders_of s.associations q ≡ 0 = subst (λ (x : Triple). holders_of s.associations x ≡ 0) (xid_same xid q e) zero in
@@ -67,7 +67,7 @@ begun_look m s n xid q b false e st zero is =
     st.working q ∙ same_in s.associations after q (known_of s.branches q) (λ j. gained_other kind.Active xid s.associations after (joined_gains n xid s.associations) j q e)
 
 -- what lasts of others
-begun_lasting : (m : Branches) (s : State) (xid q : Triple) (b : Branch) (c : Bool) → xid_eq xid q ≡ c → BranchesStandFor m s → lasting_at m xid ≡ None → b.phase ≡ Working xid None
+begun_lasting : (m : Branches) (s : State) (xid q : Triple) (b : Branch) (c : Bool) → xid_eq xid q ≡ c → BranchesStandFor m s → lasting_at m xid ≡ None → b.phase ≡ Working xid unmarked
     → lasting_at m q ≡ lasting_among (cond c (Some b) (known_of s.branches q)) (decided_of s.decided q)
 begun_lasting m s xid q b true e st none is = rw is (subst (λ (x : Triple). lasting_at m x ≡ None) (xid_same xid q e) none)
 begun_lasting m s xid q b false e st none is = st.lasting q
@@ -79,11 +79,11 @@ begun_stands m after ts s n xid h st free nor sets timed = record {
   boot = st.boot;
   given = ap (λ (k : ℕ). k + 1) st.given;
   working = λ q.
-      let b : Branch = record { timestamp = timestamp_of s.boot (s.given + 1); operations = []; phase = Working xid None } in
+      let b : Branch = new_branch (timestamp_of s.boot (s.given + 1)) xid in
       let zero : holders_of s.associations xid ≡ 0 = h.bound xid (idle_at m s xid st free) in
       sets.at q ∙ rw (cmp_is_eq xid q) (begun_look m s n xid q b (xid_eq xid q) refl st zero refl);
   lasting = λ q.
-      let b : Branch = record { timestamp = timestamp_of s.boot (s.given + 1); operations = []; phase = Working xid None } in begun_lasting m s xid q b (xid_eq xid q) refl st nor refl;
+      let b : Branch = new_branch (timestamp_of s.boot (s.given + 1)) xid in begun_lasting m s xid q b (xid_eq xid q) refl st nor refl;
   times = λ t.
       let new : ℕ = timestamp_of s.boot (s.given + 1) in timed t ∙ ap (cond (new == t) true) (st.times t) ∙ sym (begun_time new t (is_known_at t s.branches));
   known =

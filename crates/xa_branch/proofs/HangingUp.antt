@@ -1,5 +1,5 @@
 -- Known branches that stand for a state, after a session hangs up.
-use Rattle.std.proofs.Common.{◌≡◌, ℕ, ℤ, ◌+◌, ◌≤◌, Bool, true, false, not, ◌&&◌, ◌||◌, cond, Option, Some, None, List, [], ◌∷◌, length, refl, ap, sym, ◌∙◌, arith}
+use Rattle.std.proofs.Common.{◌≡◌, ℕ, ◌+◌, ◌≤◌, Bool, true, false, not, ◌&&◌, ◌||◌, cond, Option, Some, None, List, [], ◌∷◌, length, refl, ap, sym, ◌∙◌, arith}
 use Rattle.std.specs.Prelude.{find, filter, map, is_some, option_map, option_and_then}
 use Rattle.std.specs.BTreeMap.{BTreeMap, btree_map_len}
 use Rattle.std.specs.BTreeSet.{BTreeSet, contains}
@@ -7,7 +7,7 @@ use Rattle.std.specs.List.{list_any}
 use Rattle.xa_codes.specs.declared.codes.TheConstants.{XA_RBCOMMFAIL}
 use Rattle.xa_xid.specs.Triple.{Triple, xid_eq, xid_cmp}
 use Rattle.xa_xid.proofs.Same.{xid_same}
-use Rattle.xa_model.specs.State.{State, Branch, Phase, Working, Prepared, Committed, Association, Holder, Active, Suspended, Loose, count, name_of, is_with, is_active, is_own, is_suspended, is_known_as, known_of, known_count, decided_of, owns, works_in, suspends, active_of}
+use Rattle.xa_model.specs.State.{State, Branch, Phase, Working, Prepared, Committed, Association, Holder, Active, Suspended, Loose, count, name_of, is_with, is_active, is_own, is_suspended, is_known_as, known_of, known_count, decided_of, owns, works_in, suspends, active_of, Work}
 use Rattle.xa_model.specs.Logging.{is_in_doubt}
 use Rattle.xa_model.specs.Associations.{is_anyones, is_worked_by, marked_phase, with_mark, left_behind as left_by_session, hang_up_by}
 use Rattle.xa_model.specs.Sound.{IsSound}
@@ -126,31 +126,31 @@ is_left n q held = record {
 }
 
 -- an XID that the session has no association with
-same_left : (n : ℕ) (q : Triple) (held : List Association) (t : ℕ) (mark : Option ℤ) → list_any (owns n q) held ≡ false → kept_of held q t mark ≡ kept_of (left_of n held) q t mark
-same_left n q held t mark none =
+same_left : (n : ℕ) (q : Triple) (held : List Association) (t : ℕ) (work : Work) → list_any (owns n q) held ≡ false → kept_of held q t work ≡ kept_of (left_of n held) q t work
+same_left n q held t work none =
     let left = is_left n q held in
     let zero_ : count (owns n q) held ≡ 0 = count_nowhere (owns n q) held none in
     let split : count (owns n q) held ≡ count (works_in n q) held + count (suspends n q) held = owned n q held in
     let active : held_as kind.Active held q ≡ held_as kind.Active (left_of n held) q = omega (arith, left.active) in
     let suspended : held_as kind.Suspended held q ≡ held_as kind.Suspended (left_of n held) q = omega (arith, left.suspended) in
-    kept_same t mark (held_as kind.Active held q) (held_as kind.Suspended held q) (held_as kind.Loose held q) (held_as kind.Active (left_of n held) q) (held_as kind.Suspended (left_of n held) q)
+    kept_same t work (held_as kind.Active held q) (held_as kind.Suspended held q) (held_as kind.Loose held q) (held_as kind.Active (left_of n held) q) (held_as kind.Suspended (left_of n held) q)
     (held_as kind.Loose (left_of n held) q) active suspended (sym left.loose)
 
 -- one that it has an association with, active or suspended
-fewer_left : (n : ℕ) (q : Triple) (held : List Association) (t : ℕ) (mark : Option ℤ) (d : Bool) → list_any (works_in n q) held ≡ d → count (owns n q) held ≤ 1 → list_any (owns n q) held ≡ true
-    → less_one (cond d kind.Active kind.Suspended) (kept_of held q t mark) ≡ kept_of (left_of n held) q t mark
-fewer_left n q held t mark true works one any =
+fewer_left : (n : ℕ) (q : Triple) (held : List Association) (t : ℕ) (work : Work) (d : Bool) → list_any (works_in n q) held ≡ d → count (owns n q) held ≤ 1 → list_any (owns n q) held ≡ true
+    → less_one (cond d kind.Active kind.Suspended) (kept_of held q t work) ≡ kept_of (left_of n held) q t work
+fewer_left n q held t work true works one any =
     let left = is_left n q held in
     let some : 1 ≤ count (works_in n q) held = any_counts (works_in n q) held works in
     let split : count (owns n q) held ≡ count (works_in n q) held + count (suspends n q) held = owned n q held in
-    less kind.Active t mark (held_as kind.Active held q) (held_as kind.Suspended held q) (held_as kind.Loose held q) (held_as kind.Active (left_of n held) q) (held_as kind.Suspended (left_of n held) q)
+    less kind.Active t work (held_as kind.Active held q) (held_as kind.Suspended held q) (held_as kind.Loose held q) (held_as kind.Active (left_of n held) q) (held_as kind.Suspended (left_of n held) q)
     (held_as kind.Loose (left_of n held) q) (omega (arith, left.active)) (omega (arith, left.suspended)) (omega (arith, left.loose))
-fewer_left n q held t mark false idle one any =
+fewer_left n q held t work false idle one any =
     let left = is_left n q held in
     let none : count (works_in n q) held ≡ 0 = count_nowhere (works_in n q) held idle in
     let some : 1 ≤ count (owns n q) held = any_counts (owns n q) held any in
     let split : count (owns n q) held ≡ count (works_in n q) held + count (suspends n q) held = owned n q held in
-    less kind.Suspended t mark (held_as kind.Active held q) (held_as kind.Suspended held q) (held_as kind.Loose held q) (held_as kind.Active (left_of n held) q) (held_as kind.Suspended (left_of n held) q)
+    less kind.Suspended t work (held_as kind.Active held q) (held_as kind.Suspended held q) (held_as kind.Loose held q) (held_as kind.Active (left_of n held) q) (held_as kind.Suspended (left_of n held) q)
     (held_as kind.Loose (left_of n held) q) (omega (arith, left.active)) (omega (arith, left.suspended)) (omega (arith, left.loose))
 
 -- Branches after a hang-up
@@ -159,18 +159,18 @@ cond_none : (c : Bool) → ◌≡◌ {A = Option Kept} (cond c None None) None
 cond_none true = refl
 cond_none false = refl
 
-behind_working : (n : ℕ) (q x : Triple) (held : List Association) (t : ℕ) (mark : Option ℤ) (c d : Bool) → list_any (owns n q) held ≡ c → list_any (works_in n q) held ≡ d → count (owns n q) held ≤ 1
-    → cond c (Some (left_behind (cond d kind.Active kind.Suspended) (kept_of held q t mark))) (Some (kept_of held q t mark))
-    ≡ working_by (left_of n held) q t (cond c (marked_phase XA_RBCOMMFAIL (Working x mark)) (Working x mark))
-behind_working n q x held t mark true d any works one = ap (λ (w : Kept). Some (marked XA_RBCOMMFAIL w)) (fewer_left n q held t mark d works one any)
-behind_working n q x held t mark false d none works one = ap Some (same_left n q held t mark none)
+behind_working : (n : ℕ) (q x : Triple) (held : List Association) (t : ℕ) (work : Work) (c d : Bool) → list_any (owns n q) held ≡ c → list_any (works_in n q) held ≡ d → count (owns n q) held ≤ 1
+    → cond c (Some (left_behind (cond d kind.Active kind.Suspended) (kept_of held q t work))) (Some (kept_of held q t work))
+    ≡ working_by (left_of n held) q t (cond c (marked_phase XA_RBCOMMFAIL (Working x work)) (Working x work))
+behind_working n q x held t work true d any works one = ap (λ (w : Kept). Some (marked XA_RBCOMMFAIL w)) (fewer_left n q held t work d works one any)
+behind_working n q x held t work false d none works one = ap Some (same_left n q held t work none)
 
 behind_phase : (n : ℕ) (q : Triple) (held : List Association) (t : ℕ) (p : Phase) (d : Bool) → is_with q (name_of p) ≡ true → list_any (works_in n q) held ≡ d → count (owns n q) held ≤ 1
     → cond (list_any (owns n q) held) (option_map (left_behind (cond d kind.Active kind.Suspended)) (working_by held q t p)) (working_by held q t p)
     ≡ working_by (left_of n held) q t (cond (is_worked_by held n p) (marked_phase XA_RBCOMMFAIL p) p)
-behind_phase n q held t (Working x mark) d named works one =
+behind_phase n q held t (Working x work) d named works one =
     let any : list_any (owns n x) held ≡ list_any (owns n q) held = ap (λ (z : Triple). list_any (owns n z) held) (xid_same x q named) in
-    rw any (behind_working n q x held t mark (list_any (owns n q) held) d refl works one)
+    rw any (behind_working n q x held t work (list_any (owns n q) held) d refl works one)
 behind_phase n q held t (Prepared x) d named works one = cond_none (list_any (owns n q) held)
 behind_phase n q held t Committed d named works one = cond_none (list_any (owns n q) held)
 

@@ -3,7 +3,7 @@ use Rattle.std.proofs.Common.{◌≡◌, ℕ, true, false, Option, Some, None, r
 use Rattle.std.specs.Prelude.{option_map, option_and_then}
 use Rattle.xa_codes.specs.declared.direction.Direction.{Direction}
 use Rattle.xa_xid.specs.Triple.{Triple}
-use Rattle.xa_model.specs.State.{State, Branch, Phase, Working, Prepared, Committed, Known, Unknown, AtWork, InDoubt, Completed, is_known_as, known_of, known_as, decided_of}
+use Rattle.xa_model.specs.State.{State, Branch, Phase, Working, Prepared, Committed, Known, Unknown, AtWork, InDoubt, Completed, is_known_as, known_of, known_as, decided_of, Work}
 use Rattle.xa_model.specs.Sound.{is_at_work}
 use Rattle.xa_model.proofs.Lists.{found_passes}
 use Rattle.xa_branch.specs.declared.branches.Branches.{Branches}
@@ -12,13 +12,17 @@ use Rattle.xa_branch.specs.declared.lasting.Lasting.TheVariants as lasts
 use Rattle.xa_branch.specs.declared.working.Working.{Working as Kept}
 use Rattle.xa_branch.specs.Branches.{BranchesStandFor, kept_of, working_at, working_by, working_in, working_known, lasting_at, lasting_by, lasting_among, lasting_known}
 
+-- what it has while it is at work
+abbrev pub work_of : Kept → Work
+work_of w = record { mark = w.mark }
+
 -- a known branch at work
 pub record IsWorking (s : State) (xid : Triple) (w : Kept) : Type 0 where
   pub branch : Branch
   pub named : Triple
   pub found : known_of s.branches xid ≡ Some branch
-  pub phase : branch.phase ≡ Working named w.mark
-  pub kept : w ≡ kept_of s.associations xid branch.timestamp w.mark
+  pub phase : branch.phase ≡ Working named (work_of w)
+  pub kept : w ≡ kept_of s.associations xid branch.timestamp (work_of w)
 
 -- a prepared branch with this timestamp
 pub record IsPrepared (s : State) (xid : Triple) (t : ℕ) : Type 0 where
@@ -37,7 +41,7 @@ pub data Seen (s : State) (xid : Triple) : Option Kept → Option Lasting → Ty
 
 seen_phase : (s : State) (xid : Triple) (b : Branch) (p : Phase) → b.phase ≡ p → known_of s.branches xid ≡ Some b → is_known_as xid b ≡ true
     → Seen s xid (working_by s.associations xid b.timestamp p) (lasting_by b.timestamp p)
-seen_phase s xid b (Working x mark) e found passes = There (kept_of s.associations xid b.timestamp mark) (record { branch = b; named = x; found = found; phase = e; kept = refl })
+seen_phase s xid b (Working x work) e found passes = There (kept_of s.associations xid b.timestamp work) (record { branch = b; named = x; found = found; phase = e; kept = refl })
 seen_phase s xid b (Prepared x) e found passes = Doubtful b.timestamp (record { branch = b; named = x; found = found; phase = e; time = refl })
 seen_phase s xid b Committed e found passes = let no : false ≡ true = simp e at passes in absurd (cc no)
 

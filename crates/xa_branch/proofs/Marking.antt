@@ -26,7 +26,7 @@ same_number f (Some w) n k e = omega arith
 -- A mark
 
 marked_name : (code : ℤ) (p : Phase) → name_of (marked_phase code p) ≡ name_of p
-marked_name code (Working x mark) = refl
+marked_name code (Working x work) = refl
 marked_name code (Prepared x) = refl
 marked_name code Committed = refl
 
@@ -34,12 +34,12 @@ marked_known : (code : ℤ) (xid : Triple) (b : Branch) → is_known_as xid (wit
 marked_known code xid b = ap (λ (o : Option Triple). is_with xid o) (marked_name code b.phase)
 
 marked_plain : (code : ℤ) (p : Phase) → is_in_doubt (marked_phase code p) ≡ is_in_doubt p
-marked_plain code (Working x mark) = refl
+marked_plain code (Working x work) = refl
 marked_plain code (Prepared x) = refl
 marked_plain code Committed = refl
 
 marked_lasts : (code : ℤ) (t : ℕ) (p : Phase) → lasting_by t (marked_phase code p) ≡ lasting_by t p
-marked_lasts code t (Working x mark) = refl
+marked_lasts code t (Working x work) = refl
 marked_lasts code t (Prepared x) = refl
 marked_lasts code t Committed = refl
 
@@ -47,7 +47,7 @@ pub marked_keeps : (code : ℤ) → KeepsLasting (with_mark code)
 marked_keeps code = record { name = λ b. marked_name code b.phase; lasts = λ b. marked_lasts code b.timestamp b.phase; plain = λ b. marked_plain code b.phase; time = λ b. refl }
 
 marked_by : (code : ℤ) (held : List Association) (q : Triple) (t : ℕ) (p : Phase) → option_map (marked code) (working_by held q t p) ≡ working_by held q t (marked_phase code p)
-marked_by code held q t (Working x mark) = refl
+marked_by code held q t (Working x work) = refl
 marked_by code held q t (Prepared x) = refl
 marked_by code held q t Committed = refl
 

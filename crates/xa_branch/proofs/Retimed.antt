@@ -24,7 +24,7 @@ held_last t ps p = list_any-append (λ x. x.timestamp == t) ps (p ∷ []) ∙ la
 
 held_one : (t : ℕ) (b : Branch) (phase : Phase) (ps : List PreparedBranch) (q : Bool) → b.phase ≡ phase → is_working phase ≡ false → is_held_at t ps ≡ q
     → is_held_at t (add (held_of b) ps) ≡ ((is_known b && (b.timestamp == t)) || q)
-held_one t b (Working x mark) ps q e idle same = absurd (cc idle)
+held_one t b (Working x work) ps q e idle same = absurd (cc idle)
 held_one t b (Prepared x) ps q e idle same = rw e (held_last t ps (held_as x b) ∙ rw same refl)
 held_one t b Committed ps q e idle same = rw e same
 

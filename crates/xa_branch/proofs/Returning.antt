@@ -138,7 +138,7 @@ named_length (d ∷ ds) = omega (arith, inserted_length named_before d (by_name 
 -- as many branches are prepared as are held, and no others are known
 
 held_length : (b : Branch) (phase : Phase) (xs : List PreparedBranch) (k : ℕ) → b.phase ≡ phase → length xs ≡ k → length (add (held_of b) xs) ≡ cond (is_in_doubt b.phase) 1 0 + k
-held_length b (Working x mark) xs k e same = rw e (omega (arith, same))
+held_length b (Working x work) xs k e same = rw e (omega (arith, same))
 held_length b (Prepared x) xs k e same = rw e (omega (arith, same, one_longer xs (held_as x b)))
 held_length b Committed xs k e same = rw e (omega (arith, same))
 
@@ -147,7 +147,7 @@ parts_length [] = refl
 parts_length (b ∷ bs) = ap length (parts-cons held_of b bs) ∙ held_length b b.phase (parts held_of bs) (prepared_among bs) refl (parts_length bs)
 
 idle_one : (b : Branch) (phase : Phase) → b.phase ≡ phase → is_working phase ≡ false → is_some (name_of b.phase) ≡ is_in_doubt b.phase
-idle_one b (Working x mark) e idle = absurd (cc idle)
+idle_one b (Working x work) e idle = absurd (cc idle)
 idle_one b (Prepared x) e idle = rw e refl
 idle_one b Committed e idle = rw e refl
 
@@ -162,7 +162,7 @@ none_lasting s xid None e = rw e refl
 none_lasting s xid (Some d) e = rw e refl
 
 some_lasting : (xid : Triple) (b : Branch) (phase : Phase) (d : Option Decided) → b.phase ≡ phase → is_known_as xid b ≡ true → is_working phase ≡ false → restored_by (Some (held_as xid b)) d ≡ lasting_by b.timestamp b.phase
-some_lasting xid b (Working x mark) d e named idle = absurd (cc idle)
+some_lasting xid b (Working x work) d e named idle = absurd (cc idle)
 some_lasting xid b (Prepared x) d e named idle = rw e refl
 some_lasting xid b Committed d e named idle = let no : false ≡ true = rw e at named in absurd (cc no)
 
@@ -183,7 +183,7 @@ undecided : (s : State) (xid : Triple) (b : Branch) → IsSound s → known_of s
 undecided s xid b h e = found_none (λ d. xid_eq d.xid xid) s.decided (omega (arith, h.distinct xid, found_counted (is_known_as xid) b s.branches e))
 
 working_lasts : (b : Branch) (phase : Phase) → b.phase ≡ phase → is_working phase ≡ true → lasting_by b.timestamp b.phase ≡ None
-working_lasts b (Working x mark) e works = rw e refl
+working_lasts b (Working x work) e works = rw e refl
 working_lasts b (Prepared x) e works = absurd (cc works)
 working_lasts b Committed e works = absurd (cc works)
 
@@ -211,7 +211,7 @@ found_lasting s xid h = lasts_by s xid (known_of s.branches xid) h refl
 -- and nothing is at work
 
 idle_phase : (s : State) (xid : Triple) (b : Branch) (phase : Phase) → b.phase ≡ phase → is_working phase ≡ false → working_in s.associations xid b ≡ None
-idle_phase s xid b (Working x mark) e idle = absurd (cc idle)
+idle_phase s xid b (Working x work) e idle = absurd (cc idle)
 idle_phase s xid b (Prepared x) e idle = rw e refl
 idle_phase s xid b Committed e idle = rw e refl
 

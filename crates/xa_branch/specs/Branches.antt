@@ -1,11 +1,11 @@
 -- Which states of the sequential resource manager the known branches stand for.
-use Rattle.std.specs.Prelude.{ℕ, ◌≡◌, ◌+◌, ℤ, Bool, Option, Some, None, List, length, option_map, option_and_then}
+use Rattle.std.specs.Prelude.{ℕ, ◌≡◌, ◌+◌, Bool, Option, Some, None, List, length, option_map, option_and_then}
 use Rattle.std.specs.BTreeMap.{get, btree_map_len}
 use Rattle.std.specs.BTreeSet.{contains}
 use Rattle.std.specs.Ordering.{nat_cmp}
 use Rattle.xa_codes.specs.declared.direction.Direction.{Direction}
 use Rattle.xa_xid.specs.Triple.{Triple, xid_cmp}
-use Rattle.xa_model.specs.State.{State, Branch, Phase, Working, Prepared, Committed, Association, count, known_of, known_in, decided_of}
+use Rattle.xa_model.specs.State.{State, Branch, Phase, Working, Prepared, Committed, Association, count, known_of, known_in, decided_of, Work}
 use Rattle.xa_model.specs.Logging.{is_in_doubt, prepared_count}
 use Rattle.xa_model.specs.LowWater.{is_known_at}
 use Rattle.xa_branch.specs.declared.branches.Branches.{Branches}
@@ -31,18 +31,23 @@ timed_at m t = contains nat_cmp m.times t
 abbrev pub number_of : Branches → ℕ
 number_of m = btree_map_len m.working + btree_map_len m.lasting
 
--- a branch at work: its timestamp and mark, and how many associations of each kind it has
-abbrev pub kept_of : List Association → Triple → ℕ → Option ℤ → Kept
-kept_of held xid timestamp mark = record {
+-- a branch at work: its timestamp and mark, and how many active, suspended and loose associations it has
+abbrev pub kept_with : ℕ → Work → ℕ → ℕ → ℕ → Kept
+kept_with timestamp work active suspended loose = record {
   timestamp = timestamp;
-  mark = mark;
-  active = held_as kind.Active held xid;
-  suspended = held_as kind.Suspended held xid;
-  loose = held_as kind.Loose held xid;
+  mark = work.mark;
+  active = active;
+  suspended = suspended;
+  loose = loose;
 }
 
+abbrev pub kept_of : List Association → Triple → ℕ → Work → Kept
+kept_of held xid timestamp work =
+    kept_with timestamp work
+    (held_as kind.Active held xid) (held_as kind.Suspended held xid) (held_as kind.Loose held xid)
+
 abbrev pub working_by : List Association → Triple → ℕ → Phase → Option Kept
-working_by held xid timestamp (Working x mark) = Some (kept_of held xid timestamp mark)
+working_by held xid timestamp (Working x work) = Some (kept_of held xid timestamp work)
 working_by held xid timestamp (Prepared x) = None
 working_by held xid timestamp Committed = None
 
@@ -55,7 +60,7 @@ working_known s xid = option_and_then (working_in s.associations xid) (known_of 
 
 -- what lasts of a branch: of one at work nothing
 abbrev pub lasting_by : ℕ → Phase → Option Lasting
-lasting_by timestamp (Working x mark) = None
+lasting_by timestamp (Working x work) = None
 lasting_by timestamp (Prepared x) = Some (lasting.Prepared timestamp)
 lasting_by timestamp Committed = None
 

@@ -106,7 +106,7 @@ found_counts p q b [] h e = absurd (cc h)
 found_counts p q b (x ∷ bs) h e = counts_by q x b (count q bs) (find p bs) (p x) h e (λ more. found_counts p q b bs more e)
 
 doubtful_phase : (p : Phase) → known_by p ≡ InDoubt → is_in_doubt p ≡ true
-doubtful_phase (Working xid mark) e = absurd (cc e)
+doubtful_phase (Working xid work) e = absurd (cc e)
 doubtful_phase (Prepared xid) e = refl
 doubtful_phase Committed e = absurd (cc e)
 
@@ -131,7 +131,7 @@ pub doubtful_fits : (s : State) (xid : Triple) (n : ℕ) → s.standing ≡ Up �
 doubtful_fits s xid n up roomy doubt small = room_left s.log_bytes s.end (prepared_count s) (length s.decided) n (roomy (λ ended. absurd (cc (up, ended)))).room (some_prepared s xid doubt) small
 
 completed_phase : (p : Phase) → is_completed (known_by p) ≡ true → ⊥
-completed_phase (Working xid mark) e = cc e
+completed_phase (Working xid work) e = cc e
 completed_phase (Prepared xid) e = cc e
 completed_phase Committed e = cc e
 

@@ -48,7 +48,7 @@ pub record IsHere (s : State) (xid : Triple) : Type 0 where
   pub undecided : fate_of branch.phase ≡ None
 
 named_open : (xid : Triple) (p : Phase) → is_with xid (name_of p) ≡ true → fate_of p ≡ None
-named_open xid (Working x mark) e = refl
+named_open xid (Working x work) e = refl
 named_open xid (Prepared x) e = refl
 named_open xid Committed e = absurd (cc e)
 

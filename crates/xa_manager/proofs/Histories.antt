@@ -24,7 +24,7 @@ same_writes s t r reads writes low st =
     subst (λ (rs : List Read). RecordsStandFor (record { low = low_of t; writes = writes_in t.branches; reads = map read_as rs }) r) (sym reads) moved
 
 marked_fate : (code : ℤ) (p : Phase) → fate_of (marked_phase code p) ≡ fate_of p
-marked_fate code (Working xid mark) = refl
+marked_fate code (Working xid work) = refl
 marked_fate code (Prepared xid) = refl
 marked_fate code Committed = refl
 
@@ -57,7 +57,7 @@ left_records n s r st =
 -- a branch is prepared
 
 prepared_fate : (p : Phase) → fate_of (prepared_phase p) ≡ fate_of p
-prepared_fate (Working xid mark) = refl
+prepared_fate (Working xid work) = refl
 prepared_fate (Prepared xid) = refl
 prepared_fate Committed = refl
 

@@ -7,7 +7,7 @@ use Rattle.xa_model.specs.Logging.{is_in_doubt, prepared_count}
 use Rattle.xa_model.proofs.Counts.{count_less}
 
 doubtful_named : (p : Phase) → is_in_doubt p ≡ true → is_some (name_of p) ≡ true
-doubtful_named (Working xid mark) e = refl
+doubtful_named (Working xid work) e = refl
 doubtful_named (Prepared xid) e = refl
 doubtful_named Committed e = absurd (cc e)
 

@@ -71,7 +71,7 @@ applied_current s (logged.Known xid direction) e h = h
 -- the timestamp of the record's branch is no other branch's
 
 prepared_works : (p : Phase) → is_working (prepared_phase p) ≡ true → ⊥
-prepared_works (Working xid mark) e = cc e
+prepared_works (Working xid work) e = cc e
 prepared_works (Prepared xid) e = cc e
 prepared_works Committed e = cc e
 

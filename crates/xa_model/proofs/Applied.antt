@@ -29,12 +29,12 @@ prepared_of b = prepared_part b.timestamp (writes_of b.operations) b.phase
 
 -- and has its timestamp
 pub committed_time : (b : Branch) (p : Phase) (c : CommittedBranch) → committed_part b.timestamp (writes_of b.operations) p ≡ Some c → c.timestamp ≡ b.timestamp
-committed_time b (Working x mark) c e = absurd (cc e)
+committed_time b (Working x work) c e = absurd (cc e)
 committed_time b (Prepared x) c e = absurd (cc e)
 committed_time b Committed c e = let same : record { timestamp = b.timestamp; writes = writes_of b.operations } ≡ c = cc e in ap (λ (d : CommittedBranch). d.timestamp) (sym same)
 
 pub prepared_time : (b : Branch) (p : Phase) (c : PreparedBranch) → prepared_part b.timestamp (writes_of b.operations) p ≡ Some c → c.timestamp ≡ b.timestamp
-prepared_time b (Working x mark) c e = absurd (cc e)
+prepared_time b (Working x work) c e = absurd (cc e)
 prepared_time b Committed c e = absurd (cc e)
 prepared_time b (Prepared x) c e = let same : record { xid = x; timestamp = b.timestamp; writes = writes_of b.operations } ≡ c = cc e in ap (λ (d : PreparedBranch). d.timestamp) (sym same)
 
@@ -164,7 +164,7 @@ pub record IsWork (b : Branch) (xid : Triple) : Type 0 where
   pub stays : committed_of (as_prepared b) ≡ None
 
 work_by : (t : ℕ) (ops : List _) (p : Phase) (xid : Triple) → is_with xid (name_of p) ≡ true → is_working p ≡ true → IsWork (record { timestamp = t; operations = ops; phase = p }) xid
-work_by t ops (Working x mark) xid named works =
+work_by t ops (Working x work) xid named works =
     let same : x ≡ xid = xid_same x xid named in
     record { uncommitted = refl; unprepared = refl; prepares = ap (λ (y : Triple). Some (record { xid = y; timestamp = t; writes = writes_of ops })) same; stays = refl }
 work_by t ops (Prepared x) xid named works = absurd (cc works)
@@ -236,7 +236,7 @@ rolled_back_lasts s xid t ws h idle =
 
 pub doubt_by : (b : Branch) (p : Phase) (xid : Triple) → b.phase ≡ p → is_with xid (name_of b.phase) ≡ true → known_by b.phase ≡ InDoubt
     → (committed_of b ≡ None) × (prepared_of b ≡ Some (record { xid = xid; timestamp = b.timestamp; writes = writes_of b.operations }))
-doubt_by b (Working x mark) xid e named doubt = let no : known_by (Working x mark) ≡ InDoubt = simp e at doubt in absurd (cc no)
+doubt_by b (Working x work) xid e named doubt = let no : known_by (Working x work) ≡ InDoubt = simp e at doubt in absurd (cc no)
 doubt_by b Committed xid e named doubt = let no : known_by Committed ≡ InDoubt = simp e at doubt in absurd (cc no)
 doubt_by b (Prepared x) xid e named doubt =
     let test : is_with xid (name_of (Prepared x)) ≡ true = subst (λ (p : Phase). is_with xid (name_of p) ≡ true) e named in
@@ -247,7 +247,7 @@ doubt_by b (Prepared x) xid e named doubt =
 
 -- who isn't known by an XID isn't prepared under it
 pub unnamed_by : (xid : Triple) (b : Branch) (p : Phase) (q : PreparedBranch) → prepared_part b.timestamp (writes_of b.operations) p ≡ Some q → is_with xid (name_of p) ≡ false → prepared_as xid q ≡ false
-unnamed_by xid b (Working x mark) q made other = absurd (cc made)
+unnamed_by xid b (Working x work) q made other = absurd (cc made)
 unnamed_by xid b Committed q made other = absurd (cc made)
 unnamed_by xid b (Prepared x) q made other =
     let same : record { xid = x; timestamp = b.timestamp; writes = writes_of b.operations } ≡ q = cc made in subst (λ (r : PreparedBranch). prepared_as xid r ≡ false) same other

@@ -43,7 +43,7 @@ no_doubt None e = cc e
 no_doubt (Some direction) e = cc e
 
 not_working : (p : Phase) → known_by p ≡ InDoubt → is_working p ≡ false
-not_working (Working x mark) e = absurd (cc e)
+not_working (Working x work) e = absurd (cc e)
 not_working (Prepared x) e = refl
 not_working Committed e = refl
 
@@ -55,7 +55,7 @@ of_prepared : (s : State) (xid : Triple) → known_as s xid ≡ InDoubt → IsOf
 of_prepared s xid doubt = prepared_by s xid (known_of s.branches xid) refl doubt
 
 at_most_known : (p : Phase) → is_completed (known_by p) ≡ true → ⊥
-at_most_known (Working x mark) e = cc e
+at_most_known (Working x work) e = cc e
 at_most_known (Prepared x) e = cc e
 at_most_known Committed e = cc e
 

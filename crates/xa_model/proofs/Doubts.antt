@@ -19,7 +19,7 @@ use Rattle.xa_model.proofs.Parts.{with_branches, with_decided}
 -- Prepared
 
 pub prepared_name : (p : Phase) → name_of (prepared_phase p) ≡ name_of p
-prepared_name (Working x mark) = refl
+prepared_name (Working x work) = refl
 prepared_name (Prepared x) = refl
 prepared_name Committed = refl
 
@@ -96,7 +96,7 @@ held_decided s direction.Rollback xid h any free =
 -- a branch in doubt is there, and nobody holds it
 
 idle_phase : (p : Phase) → known_by p ≡ InDoubt → is_working p ≡ false
-idle_phase (Working x mark) e = absurd (cc e)
+idle_phase (Working x work) e = absurd (cc e)
 idle_phase (Prepared x) e = refl
 idle_phase Committed e = absurd (cc e)
 

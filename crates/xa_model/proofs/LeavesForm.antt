@@ -22,7 +22,7 @@ less_apart : (t u n : ℕ) → t < n → u ≡ n → ((u == t) ≡ false) × ((t
 less_apart t u n less e = (grind (arith, nat_tests), grind (arith, nat_tests))
 
 one_phase : (t : ℕ) (ws : List Write) (phase : Phase) (x : CommittedBranch) (y : PreparedBranch) → committed_part t ws phase ≡ Some x → prepared_part t ws phase ≡ Some y → ⊥
-one_phase t ws (Working xid mark) x y e f = absurd (cc e)
+one_phase t ws (Working xid work) x y e f = absurd (cc e)
 one_phase t ws (Prepared xid) x y e f = absurd (cc e)
 one_phase t ws Committed x y e f = absurd (cc f)
 

@@ -95,12 +95,12 @@ change_made m p f same [] = refl
 change_made m p f same (b ∷ bs) = changed_by m f b bs (change p f bs) (p b) (same b) (change_made m p f same bs)
 
 mark_committed : (code : ℤ) (b : Branch) (p : Phase) → committed_part b.timestamp (writes_of b.operations) (marked_phase code p) ≡ committed_part b.timestamp (writes_of b.operations) p
-mark_committed code b (Working x mark) = refl
+mark_committed code b (Working x work) = refl
 mark_committed code b (Prepared x) = refl
 mark_committed code b Committed = refl
 
 mark_prepared : (code : ℤ) (b : Branch) (p : Phase) → prepared_part b.timestamp (writes_of b.operations) (marked_phase code p) ≡ prepared_part b.timestamp (writes_of b.operations) p
-mark_prepared code b (Working x mark) = refl
+mark_prepared code b (Working x work) = refl
 mark_prepared code b (Prepared x) = refl
 mark_prepared code b Committed = refl
 
@@ -175,7 +175,7 @@ get_same s key (Some (xid, b)) =
     marked_same (mark_of b.phase) s s (get_from s key xid b v) (itself s) (unless_same (busy_refusal b.timestamp v) s (got s key xid b v) (λ none. got_same s key xid b v))
 
 unmade_by : (b : Branch) (p : Phase) → is_working p ≡ true → (committed_part b.timestamp (writes_of b.operations) p ≡ None) × (prepared_part b.timestamp (writes_of b.operations) p ≡ None)
-unmade_by b (Working x mark) works = (refl, refl)
+unmade_by b (Working x work) works = (refl, refl)
 unmade_by b (Prepared x) works = absurd (cc works)
 unmade_by b Committed works = absurd (cc works)
 

@@ -67,7 +67,7 @@ phase_uncompleted : (b : Branch) → is_completed (known_by b.phase) ≡ false
 phase_uncompleted b = by_phase b.phase
   where
     by_phase : (p : Phase) → is_completed (known_by p) ≡ false
-    by_phase (Working x mark) = refl
+    by_phase (Working x work) = refl
     by_phase (Prepared x) = refl
     by_phase Committed = refl
 

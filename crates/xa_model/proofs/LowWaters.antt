@@ -3,7 +3,7 @@ use Rattle.std.proofs.Common.{◌≡◌, ℕ, ◌+◌, ◌<◌, ◌≤◌, ◌==
 use Rattle.std.specs.List.{AllByRecursion}
 use Rattle.std.proofs.lemmas.Bool.Decides.{nat_tests}
 use Rattle.xa_xid.specs.Triple.{Triple}
-use Rattle.xa_model.specs.State.{State, Branch, Operation, Phase, Working, Prepared, Committed, is_known_as, is_committed, name_of, known_count, timestamp_of}
+use Rattle.xa_model.specs.State.{State, Branch, Operation, Phase, Working, Prepared, Committed, is_known_as, is_committed, name_of, known_count, timestamp_of, new_branch}
 use Rattle.xa_model.specs.Records.{having_done, did}
 use Rattle.xa_model.specs.Sound.{IsSound}
 use Rattle.xa_model.specs.Step.{turn}
@@ -146,7 +146,7 @@ below_next s n h more = omega (arith, water_given (core s) (ordered s h), more)
 
 -- who is known isn't committed
 known_is : (p : Phase) → name_of p ≡ None → is_committed p ≡ true
-known_is (Working xid mark) e = absurd (cc e)
+known_is (Working xid work) e = absurd (cc e)
 known_is (Prepared xid) e = absurd (cc e)
 known_is Committed e = refl
 
@@ -155,7 +155,7 @@ unknown_by b c (Some xid) u e f g known = rw e refl
 unknown_by b c None (Some xid) e f g known = absurd (stays_committed c.phase f (g.committed (known_is b.phase e)))
   where
     stays_committed : (p : Phase) → name_of p ≡ Some xid → is_committed p ≡ true → ⊥
-    stays_committed (Working x mark) e h = cc h
+    stays_committed (Working x work) e h = cc h
     stays_committed (Prepared x) e h = cc h
     stays_committed Committed e h = cc e
 unknown_by b c None None e f g known = absurd (cc (f, known))
@@ -179,11 +179,11 @@ restarts_rise c boot bs less r o =
 begins_rise : (c : Core) (xid : Triple) → IsOrdered c
     → water c ≤ water (record c {
       given = c.given + 1;
-      branches = record { timestamp = timestamp_of c.boot (c.given + 1); operations = []; phase = Working xid None } ∷ c.branches;
+      branches = new_branch (timestamp_of c.boot (c.given + 1)) xid ∷ c.branches;
     })
 begins_rise c xid o =
     let next : water c ≤ timestamp_of c.boot (c.given + 1) = omega (arith, water_given c o) in
-    at_most (water c) (timestamp_of c.boot (c.given + 1)) (record { timestamp = timestamp_of c.boot (c.given + 1); operations = []; phase = Working xid None } ∷ c.branches)
+    at_most (water c) (timestamp_of c.boot (c.given + 1)) (new_branch (timestamp_of c.boot (c.given + 1)) xid ∷ c.branches)
     ((λ known. next), known_above (timestamp_of c.boot c.given) c.branches) next
 
 -- what a branch does changes neither its timestamp nor its phase

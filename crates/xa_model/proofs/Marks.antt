@@ -9,12 +9,12 @@ use Rattle.xa_model.proofs.Order.{KeepsTimestamp}
 use Rattle.xa_model.proofs.Parts.{KeepsName, with_branches, changed_kept}
 
 marked_name : (code : ℤ) (p : Phase) → name_of (marked_phase code p) ≡ name_of p
-marked_name code (Working xid mark) = refl
+marked_name code (Working xid work) = refl
 marked_name code (Prepared xid) = refl
 marked_name code Committed = refl
 
 marked_working : (code : ℤ) (p : Phase) → is_working (marked_phase code p) ≡ is_working p
-marked_working code (Working xid mark) = refl
+marked_working code (Working xid work) = refl
 marked_working code (Prepared xid) = refl
 marked_working code Committed = refl
 

@@ -1,9 +1,9 @@
 -- The moves that every step is made of, as far as timestamps, reads and writes go.
-use Rattle.std.proofs.Common.{◌≡◌, ℕ, ◌+◌, ◌<◌, Bool, true, false, not, cond, List, [], ◌∷◌, map, Option, Some, None, refl, ◌∙◌}
+use Rattle.std.proofs.Common.{◌≡◌, ℕ, ◌+◌, ◌<◌, Bool, true, false, not, cond, List, [], ◌∷◌, map, Option, Some, refl, ◌∙◌}
 use Rattle.std.specs.Prelude.{filter}
 use Rattle.xa_codes.specs.declared.codes.TheConstants.{XA_OK}
 use Rattle.xa_xid.specs.Triple.{Triple}
-use Rattle.xa_model.specs.State.{State, Branch, Read, Got, Wrote, Phase, Working, Prepared, Committed, is_committed, is_known_as, is_with, name_of, known_of, mark_of, timestamp_of, change, without}
+use Rattle.xa_model.specs.State.{State, Branch, Read, Got, Wrote, Phase, Working, Prepared, Committed, is_committed, is_known_as, is_with, name_of, known_of, mark_of, timestamp_of, change, without, new_branch}
 use Rattle.xa_model.specs.Source.{source, is_busy, is_late}
 use Rattle.xa_model.specs.Sound.{is_working}
 use Rattle.xa_model.specs.Records.{did}
@@ -41,7 +41,7 @@ pub data Moves : Core → Core → Type 0 where
   begins : {c : Core} (xid : Triple)
       → Moves c (record c {
         given = c.given + 1;
-        branches = record { timestamp = timestamp_of c.boot (c.given + 1); operations = []; phase = Working xid None } ∷ c.branches;
+        branches = new_branch (timestamp_of c.boot (c.given + 1)) xid ∷ c.branches;
       })
   gets : {c : Core} (key : List ℕ) (xid : Triple) (b : Branch) → known_of c.branches xid ≡ Some b
       → is_busy b.timestamp (source key b.timestamp c.branches) ≡ false
@@ -85,7 +85,7 @@ remain_on (stays g p) (stays h q) = stays (both_go _ _ _ g h) (remain_on p q)
 
 -- who is known isn't committed
 known_by : (xid : Triple) (p : Phase) → is_with xid (name_of p) ≡ true → is_committed p ≡ false
-known_by xid (Working x mark) e = refl
+known_by xid (Working x work) e = refl
 known_by xid (Prepared x) e = refl
 known_by xid Committed e = absurd (cc e)
 
@@ -115,7 +115,7 @@ left_remain xid [] = none
 left_remain xid (b ∷ bs) = left_by b bs (without (is_known_as xid) bs) (is_known_as xid b) (known_uncommitted xid b) (left_remain xid bs)
 
 not_lasting : (p : Phase) → not (is_working p) ≡ false → is_committed p ≡ false
-not_lasting (Working xid mark) e = refl
+not_lasting (Working xid work) e = refl
 not_lasting (Prepared xid) e = refl
 not_lasting Committed e = absurd (cc e)
 

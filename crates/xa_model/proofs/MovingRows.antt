@@ -51,7 +51,7 @@ itself s = remains s.branches (all_remain s.branches)
 -- branches that change, or leave
 
 marked_committed : (code : ℤ) (p : Phase) → is_committed p ≡ true → is_committed (marked_phase code p) ≡ true
-marked_committed code (Working xid mark) e = absurd (cc e)
+marked_committed code (Working xid work) e = absurd (cc e)
 marked_committed code (Prepared xid) e = e
 marked_committed code Committed e = e
 
@@ -60,7 +60,7 @@ or_mark_ok code (Some other) bad e = e
 or_mark_ok code None bad e = absurd (bad (cc e))
 
 marked_ok : (code : ℤ) (p : Phase) → (code ≡ XA_OK → ⊥) → mark_of (marked_phase code p) ≡ Some XA_OK → mark_of p ≡ Some XA_OK
-marked_ok code (Working xid mark) bad e = or_mark_ok code mark bad e
+marked_ok code (Working xid work) bad e = or_mark_ok code work.mark bad e
 marked_ok code (Prepared xid) bad e = e
 marked_ok code Committed bad e = e
 
@@ -78,12 +78,12 @@ committed_goes : (b : Branch) → GoesOn b (as_committed b)
 committed_goes b = record { timestamp = refl; operations = refl; committed = λ e. refl; mark = λ e. absurd (cc e) }
 
 prepared_committed : (p : Phase) → is_committed p ≡ true → is_committed (prepared_phase p) ≡ true
-prepared_committed (Working xid mark) e = absurd (cc e)
+prepared_committed (Working xid work) e = absurd (cc e)
 prepared_committed (Prepared xid) e = e
 prepared_committed Committed e = e
 
 prepared_ok : (p : Phase) → mark_of (prepared_phase p) ≡ Some XA_OK → mark_of p ≡ Some XA_OK
-prepared_ok (Working xid mark) e = absurd (cc e)
+prepared_ok (Working xid work) e = absurd (cc e)
 prepared_ok (Prepared xid) e = e
 prepared_ok Committed e = e
 

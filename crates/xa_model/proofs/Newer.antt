@@ -88,7 +88,7 @@ pub left_unused : (xid : Triple) (ts : List ℕ) (bs : List Branch) → AreUnuse
 left_unused xid ts bs h = without_all (λ (b : Branch). is_working b.phase ≡ true → is_used b.timestamp ts ≡ false) (is_known_as xid) bs h
 
 mark_works : (code : ℤ) (p : Phase) → is_working (marked_phase code p) ≡ true → is_working p ≡ true
-mark_works code (Working xid mark) e = refl
+mark_works code (Working xid work) e = refl
 mark_works code (Prepared xid) e = e
 mark_works code Committed e = e
 

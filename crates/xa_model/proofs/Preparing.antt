@@ -50,7 +50,7 @@ moves_refuse (gets key xid b found free) h = change_all IsRefusal (is_known_as x
 moves_refuse (puts key value xid b found new on_time) h = change_all IsRefusal (is_known_as xid) (having_done _) (λ x k. k) _ h
 
 marked_as : (p : Phase) → mark_in (known_by p) ≡ mark_of p
-marked_as (Working xid mark) = refl
+marked_as (Working xid work) = refl
 marked_as (Prepared xid) = refl
 marked_as Committed = refl
 
@@ -111,7 +111,7 @@ listed_until_asked first h refusals last before later prepare xid happened leads
 -- after a restart or an opening no branch is at work, so that none is marked
 
 idle_refuses : (p : Phase) → is_working p ≡ false → mark_of p ≡ Some XA_OK → ⊥
-idle_refuses (Working xid mark) idle e = cc idle
+idle_refuses (Working xid work) idle e = cc idle
 idle_refuses (Prepared xid) idle e = cc e
 idle_refuses Committed idle e = cc e
 

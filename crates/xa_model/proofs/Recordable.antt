@@ -68,7 +68,7 @@ pub with_phase : (boot logged_boot : ℕ) (b : Branch) (p : Phase) → (is_worki
 with_phase boot logged_boot b p works h = record { past = h.past; begun = λ e. h.begun (works e); written = h.written }
 
 prepared_works : (b : Branch) (p : Phase) → is_working (prepared_phase p) ≡ true → is_working b.phase ≡ true
-prepared_works b (Working xid mark) e = absurd (cc e)
+prepared_works b (Working xid work) e = absurd (cc e)
 prepared_works b (Prepared xid) e = absurd (cc e)
 prepared_works b Committed e = absurd (cc e)
 

@@ -85,7 +85,7 @@ logs_keeps s r code left limits other h = (limits, other, h)
 -- branches
 
 marked_works : (code : ℤ) (p : Phase) → is_working (marked_phase code p) ≡ true → is_working p ≡ true
-marked_works code (Working xid mark) e = refl
+marked_works code (Working xid work) e = refl
 marked_works code (Prepared xid) e = e
 marked_works code Committed e = e
 

@@ -23,7 +23,7 @@ abbrev pub time_of : PreparedBranch → ℕ
 time_of p = p.timestamp
 
 left_time : (t : ℕ) (ws : List Write) (phase : Phase) (x : CommittedBranch) → committed_part t ws phase ≡ Some x → x.timestamp ≡ t
-left_time t ws (Working xid mark) x e = absurd (cc e)
+left_time t ws (Working xid work) x e = absurd (cc e)
 left_time t ws (Prepared xid) x e = absurd (cc e)
 left_time t ws Committed x e = let same : record { timestamp = t; writes = ws } ≡ x = cc e in ap (λ (y : CommittedBranch). y.timestamp) (sym same)
 
@@ -31,7 +31,7 @@ pub left_timed : IsTimed left time
 left_timed = record { timed = λ b x e. left_time b.timestamp (writes_of b.operations) b.phase x e }
 
 held_time : (t : ℕ) (ws : List Write) (phase : Phase) (x : PreparedBranch) → prepared_part t ws phase ≡ Some x → x.timestamp ≡ t
-held_time t ws (Working xid mark) x e = absurd (cc e)
+held_time t ws (Working xid work) x e = absurd (cc e)
 held_time t ws (Prepared xid) x e = let same : record { xid = xid; timestamp = t; writes = ws } ≡ x = cc e in ap (λ (y : PreparedBranch). y.timestamp) (sym same)
 held_time t ws Committed x e = absurd (cc e)
 
@@ -39,7 +39,7 @@ pub held_timed : IsTimed held_of time_of
 held_timed = record { timed = λ b x e. held_time b.timestamp (writes_of b.operations) b.phase x e }
 
 held_name : (xid : Triple) (b : Branch) (phase : Phase) (x : PreparedBranch) → b.phase ≡ phase → prepared_part b.timestamp (writes_of b.operations) phase ≡ Some x → prepared_as xid x ≡ is_known_as xid b
-held_name xid b (Working y mark) x k e = absurd (cc e)
+held_name xid b (Working y work) x k e = absurd (cc e)
 held_name xid b (Prepared y) x k e =
     let same : record { xid = y; timestamp = b.timestamp; writes = writes_of b.operations } ≡ x = cc e in
     ap (λ (z : PreparedBranch). xid_eq z.xid xid) (sym same) ∙ rw k refl
@@ -51,7 +51,7 @@ held_named xid = record { named = λ b x e. held_name xid b b.phase x refl e }
 -- a branch at work isn't held
 
 pub working_held : (t : ℕ) (ws : List Write) (phase : Phase) → is_working phase ≡ true → prepared_part t ws phase ≡ None
-working_held t ws (Working xid mark) e = refl
+working_held t ws (Working xid work) e = refl
 working_held t ws (Prepared xid) e = absurd (cc e)
 working_held t ws Committed e = absurd (cc e)
 
@@ -62,7 +62,7 @@ held_as xid b = record { xid = xid; timestamp = b.timestamp; writes = writes_of 
 
 doubt_by : (xid : Triple) (b : Branch) (phase : Phase) → b.phase ≡ phase → is_known_as xid b ≡ true → is_working phase ≡ false
     → prepared_part b.timestamp (writes_of b.operations) phase ≡ Some (held_as xid b)
-doubt_by xid b (Working y mark) k known e = absurd (cc e)
+doubt_by xid b (Working y work) k known e = absurd (cc e)
 doubt_by xid b (Prepared y) k known e =
     let named : xid_eq y xid ≡ true = rw k at known in
     ap (λ z. Some (held_as z b)) (xid_same y xid named)

@@ -42,12 +42,12 @@ kept m gone [] = refl
 kept m gone (b ∷ bs) = kept_by m b bs (lasts b) refl (gone b) (kept m gone bs)
 
 uncommitted : (b : Branch) (p : Phase) → not (is_working p) ≡ false → committed_part b.timestamp (writes_of b.operations) p ≡ None
-uncommitted b (Working x mark) e = refl
+uncommitted b (Working x work) e = refl
 uncommitted b (Prepared x) e = absurd (cc e)
 uncommitted b Committed e = absurd (cc e)
 
 unprepared : (b : Branch) (p : Phase) → not (is_working p) ≡ false → prepared_part b.timestamp (writes_of b.operations) p ≡ None
-unprepared b (Working x mark) e = refl
+unprepared b (Working x work) e = refl
 unprepared b (Prepared x) e = absurd (cc e)
 unprepared b Committed e = absurd (cc e)
 

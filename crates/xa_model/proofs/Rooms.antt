@@ -113,7 +113,7 @@ record IsDoubtful (s : State) (xid : Triple) : Type 0 where
   doubt : is_in_doubt branch.phase ≡ true
 
 doubt_of : (p : Phase) → known_by p ≡ InDoubt → is_in_doubt p ≡ true
-doubt_of (Working x mark) e = absurd (cc e)
+doubt_of (Working x work) e = absurd (cc e)
 doubt_of (Prepared x) e = refl
 doubt_of Committed e = absurd (cc e)
 
@@ -144,7 +144,7 @@ forgotten_by xid ds None found e = absurd (cc e)
 forgotten_by xid ds (Some d) found e = shorter (is_decision_of xid) d ds found
 
 branch_completed : (p : Phase) → is_completed (known_by p) ≡ true → ⊥
-branch_completed (Working x mark) e = cc e
+branch_completed (Working x work) e = cc e
 branch_completed (Prepared x) e = cc e
 branch_completed Committed e = cc e
 
@@ -236,7 +236,7 @@ applied_room s (logged.Known xid d) h room may limits other = absurd may
 
 made_by : (b : Branch) (p : Phase) (bs : List Branch) → b.phase ≡ p → length (filter_map prepared_of bs) ≡ count doubts bs
     → length (filter_map prepared_of (b ∷ bs)) ≡ count doubts (b ∷ bs)
-made_by b (Working x mark) bs e rest = rw e (omega (arith, rest))
+made_by b (Working x work) bs e rest = rw e (omega (arith, rest))
 made_by b (Prepared x) bs e rest = rw e (omega (arith, rest))
 made_by b Committed bs e rest = rw e (omega (arith, rest))
 

@@ -54,7 +54,7 @@ idle_count n held e =
 -- an XID of which nothing is known has no name among branches and completed ones
 
 no_name : (xid : Triple) (b : Branch) (p : Phase) → b.phase ≡ p → is_known_as xid b ≡ true → is_taken (known_by p) ≡ false → ⊥
-no_name xid b (Working x mark) e is free = cc free
+no_name xid b (Working x work) e is free = cc free
 no_name xid b (Prepared x) e is free = cc free
 no_name xid b Committed e is free = let no : false ≡ true = simp e at is in cc no
 
@@ -77,7 +77,7 @@ at_work_by : (o : Option Branch) (d : Option Direction) → is_unknown (known_am
 at_work_by (Some b) d known unsettled = by_phase b.phase known unsettled
   where
     by_phase : (p : Phase) → is_unknown (known_by p) ≡ false → is_lasting (known_by p) ≡ false → is_working p ≡ true
-    by_phase (Working x mark) known unsettled = refl
+    by_phase (Working x work) known unsettled = refl
     by_phase (Prepared x) known unsettled = absurd (cc unsettled)
     by_phase Committed known unsettled = absurd (cc known)
 at_work_by None (Some direction) known unsettled = absurd (cc unsettled)

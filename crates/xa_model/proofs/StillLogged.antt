@@ -73,7 +73,7 @@ left_writes held n (Some b) = by_test b (is_worked_by held n b.phase)
     by_test b false = refl
 
 doubtful_by : (p : Phase) (c : Bool) → known_by p ≡ InDoubt → known_by (cond c (marked_phase XA_RBCOMMFAIL p) p) ≡ InDoubt
-doubtful_by (Working x mark) c e = absurd (cc e)
+doubtful_by (Working x work) c e = absurd (cc e)
 doubtful_by (Prepared x) true e = refl
 doubtful_by (Prepared x) false e = refl
 doubtful_by Committed c e = absurd (cc e)
@@ -87,7 +87,7 @@ left_doubtful held n None d e = e
 left_doubtful held n (Some b) d e = ap known_by (left_phase b (is_worked_by held n b.phase)) ∙ doubtful_by b.phase (is_worked_by held n b.phase) e
 
 never_completed : (p : Phase) → is_completed (known_by p) ≡ true → ⊥
-never_completed (Working x mark) e = cc e
+never_completed (Working x work) e = cc e
 never_completed (Prepared x) e = cc e
 never_completed Committed e = cc e
 

@@ -40,7 +40,7 @@ nobody_leaves p (x ∷ xs) none = nobody_by p x xs (filter (λ y. not (p y)) xs)
 -- and no branch is marked
 
 owned_by : (held : List Association) (n : ℕ) (p : Phase) → count (is_anyones n) held ≡ 0 → is_worked_by held n p ≡ false
-owned_by held n (Working xid mark) none =
+owned_by held n (Working xid work) none =
     let fewer : count (owns n xid) held ≤ count (is_anyones n) held = count_less (owns n xid) (is_anyones n) (λ a is. (and_parts (is_anyones n a) _ is).0) held in
     let zero : count (owns n xid) held ≡ 0 = omega arith in
     none_counted (owns n xid) held zero

@@ -14,7 +14,7 @@ use Rattle.xa_limits.specs.declared.TheConstants.{MOST_BRANCHES, MOST_GIVEN, MOS
 use Rattle.xa_model.specs.State.{State, Session, Branch, Phase, Working, Prepared, Committed, Association, Holder}
 use Rattle.xa_model.specs.State.{Active, Suspended, Loose, Known, Unknown, AtWork, InDoubt, Completed, known_as}
 use Rattle.xa_model.specs.State.{known_in, known_of, active_of, is_own, is_with, is_known_as, owns, works_in, suspends}
-use Rattle.xa_model.specs.State.{is_loose_with, loose_of, without, change, free_number, timestamp_of}
+use Rattle.xa_model.specs.State.{is_loose_with, loose_of, without, change, free_number, timestamp_of, new_branch}
 use Rattle.xa_model.specs.Answer.{Answer, plain, detailed, carrying, answer, ok, first, unless, marked}
 
 -- Connect: the session gets the least number that is free
@@ -62,7 +62,7 @@ or_mark (Some code) other = Some code
 or_mark None other = Some other
 
 abbrev pub marked_phase : ℤ → Phase → Phase
-marked_phase code (Working xid mark) = Working xid (or_mark mark code)
+marked_phase code (Working xid work) = Working xid (record work { mark = or_mark work.mark code })
 marked_phase code (Prepared xid) = Prepared xid
 marked_phase code Committed = Committed
 
@@ -72,7 +72,7 @@ with_mark code b = record b { phase = marked_phase code b.phase }
 -- A hang-up: each association of the session's own ends, and its branch is marked; the session's number is free again
 
 abbrev pub is_worked_by : List Association → ℕ → Phase → Bool
-is_worked_by held n (Working xid mark) = list_any (owns n xid) held
+is_worked_by held n (Working xid work) = list_any (owns n xid) held
 is_worked_by held n (Prepared xid) = false
 is_worked_by held n Committed = false
 
@@ -106,7 +106,7 @@ begun s n xid =
     answer (carrying (body.Number t)) (record s {
       given = s.given + 1;
       associations = record { xid = xid; holder = Active n } ∷ s.associations;
-      branches = record { timestamp = t; operations = []; phase = Working xid None } ∷ s.branches;
+      branches = new_branch t xid ∷ s.branches;
     })
 
 abbrev pub begin_by : State → ℕ → Triple → Answer

@@ -66,7 +66,7 @@ doom_by s xid = unless (doom_refusal (known_as s xid)) s (ok (doomed s xid))
 -- What lasts: branches that are prepared, and XIDs whose branches the operator completed
 
 abbrev pub prepared_phase : Phase → Phase
-prepared_phase (Working xid mark) = Prepared xid
+prepared_phase (Working xid work) = Prepared xid
 prepared_phase (Prepared xid) = Prepared xid
 prepared_phase Committed = Committed
 

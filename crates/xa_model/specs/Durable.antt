@@ -111,12 +111,12 @@ writes_of (Got key answer source ∷ older) = writes_of older
 writes_of (Wrote key value ∷ older) = put_write (record { key = key; value = value }) (writes_of older)
 
 abbrev pub committed_part : ℕ → List Write → Phase → Option CommittedBranch
-committed_part t ws (Working xid mark) = None
+committed_part t ws (Working xid work) = None
 committed_part t ws (Prepared xid) = None
 committed_part t ws Committed = Some (record { timestamp = t; writes = ws })
 
 abbrev pub prepared_part : ℕ → List Write → Phase → Option PreparedBranch
-prepared_part t ws (Working xid mark) = None
+prepared_part t ws (Working xid work) = None
 prepared_part t ws (Prepared xid) = Some (record { xid = xid; timestamp = t; writes = ws })
 prepared_part t ws Committed = None
 

@@ -24,7 +24,7 @@ log_room log_bytes end prepared decided =
     nat_le (end + LENGTH_BYTES + PREPARED_ROOM * prepared + DECIDED_ROOM * decided) log_bytes
 
 abbrev pub is_in_doubt : Phase → Bool
-is_in_doubt (Working xid mark) = false
+is_in_doubt (Working xid work) = false
 is_in_doubt (Prepared xid) = true
 is_in_doubt Committed = false
 

@@ -13,7 +13,7 @@ Descends limit (b ∷ bs) = (0 < b.timestamp) × (b.timestamp < limit) × Descen
 
 -- a known branch that is at work
 abbrev pub is_working : Phase → Bool
-is_working (Working xid mark) = true
+is_working (Working xid work) = true
 is_working (Prepared xid) = false
 is_working Committed = false
 

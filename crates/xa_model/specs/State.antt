@@ -12,10 +12,14 @@ pub data Operation : Type 0 where
   Got : (key : List ℕ) (answer : Option (List ℕ)) (source : ℕ) → Operation
   Wrote : (key : List ℕ) (value : Option (List ℕ)) → Operation
 
--- Where a branch stands: it is known under an XID, at work with the mark that it may have, or prepared; or it is
--- committed and known no more. A branch that was rolled back stands nowhere.
+-- What a branch has only while it is at work: the mark that it may have.
+pub record Work : Type 0 where
+  pub mark : Option ℤ
+
+-- Where a branch stands: it is known under an XID, at work or prepared; or it is committed and known no more. A branch
+-- that was rolled back stands nowhere.
 pub data Phase : Type 0 where
-  Working : (xid : Triple) (mark : Option ℤ) → Phase
+  Working : (xid : Triple) (work : Work) → Phase
   Prepared : (xid : Triple) → Phase
   Committed : Phase
 
@@ -89,9 +93,16 @@ count p (x ∷ xs) = (if p x then 1 else 0) + count p xs
 
 -- Branches
 
+abbrev pub unmarked : Work
+unmarked = record { mark = None }
+
+-- a branch that begins
+abbrev pub new_branch : ℕ → Triple → Branch
+new_branch timestamp xid = record { timestamp = timestamp; operations = []; phase = Working xid unmarked }
+
 -- the XID that a branch is known under, from its start until it is gone
 abbrev pub name_of : Phase → Option Triple
-name_of (Working xid mark) = Some xid
+name_of (Working xid work) = Some xid
 name_of (Prepared xid) = Some xid
 name_of Committed = None
 
@@ -121,7 +132,7 @@ known_in s = known_count s.branches + length s.decided
 
 -- what the branch wrote is committed
 abbrev pub is_committed : Phase → Bool
-is_committed (Working x mark) = false
+is_committed (Working x work) = false
 is_committed (Prepared x) = false
 is_committed Committed = true
 
@@ -131,7 +142,7 @@ committed_of branches = filter (λ b. is_committed b.phase) branches
 
 -- the mark of a branch that is at work
 abbrev pub mark_of : Phase → Option ℤ
-mark_of (Working x mark) = mark
+mark_of (Working x work) = work.mark
 mark_of (Prepared x) = None
 mark_of Committed = None
 
@@ -144,7 +155,7 @@ pub data Known : Type 0 where
   Completed : (direction : Direction) → Known
 
 abbrev pub known_by : Phase → Known
-known_by (Working x mark) = AtWork mark
+known_by (Working x work) = AtWork work.mark
 known_by (Prepared x) = InDoubt
 known_by Committed = Unknown
 

@@ -4,7 +4,7 @@ use Rattle.xa_frame.specs.declared.body.Body.TheVariants as body
 use Rattle.xa_frame.specs.declared.request.Request.TheVariants.{Get}
 use Rattle.xa_model.specs.declared.event.Event.TheVariants.{Call}
 use Rattle.xa_model.specs.declared.outcome.Outcome.TheVariants.{Quiet}
-use Rattle.xa_model.specs.State.{State, Branch, Operation, Got, Wrote, Working, Committed, Active, Read}
+use Rattle.xa_model.specs.State.{State, Branch, Operation, Got, Wrote, Committed, Active, Read, new_branch}
 use Rattle.xa_model.specs.Answer.{carrying}
 use Rattle.xa_model.specs.Turn.{Asked}
 use Rattle.xa_model.specs.Step.{step}
@@ -53,9 +53,7 @@ abbrev at_work : List Operation → List Read → State
 at_work operations reads = record new_manager {
   sessions = record { number = 1; opened = true; scan = None } ∷ [];
   associations = record { xid = xid_a; holder = Active 1 } ∷ [];
-  branches =
-      record { timestamp = 2; operations = operations; phase = Working xid_a None }
-      ∷ branch_at 1 (Wrote key written ∷ []) ∷ [];
+  branches = record (new_branch 2 xid_a) { operations = operations } ∷ branch_at 1 (Wrote key written ∷ []) ∷ [];
   reads = reads;
 }
 

@@ -15,7 +15,7 @@ use Rattle.xa_model.specs.declared.event.Event.TheVariants.{Call}
 use Rattle.xa_model.specs.declared.outcome.Appending.TheVariants.{Kept, Refused, Lost}
 use Rattle.xa_model.specs.declared.outcome.Outcome.{Outcome}
 use Rattle.xa_model.specs.declared.outcome.Outcome.TheVariants.{Quiet, Appended, Failed, Reread}
-use Rattle.xa_model.specs.State.{State, Wrote, Working, Prepared, Committed, Phase, Down, Ended}
+use Rattle.xa_model.specs.State.{State, Wrote, Working, Prepared, Committed, Phase, Down, Ended, unmarked, new_branch}
 use Rattle.xa_model.specs.Answer.{plain, detailed, answer}
 use Rattle.xa_model.specs.Turn.{Asked, Reopened, Turn, Nobody, Now, Appends, Rereads, taken}
 use Rattle.xa_model.specs.Durable.{Durable}
@@ -49,7 +49,11 @@ with_branch phase end = record new_manager {
 }
 
 abbrev pub idle : State
-idle = with_branch (Working xid_1 None) 49
+idle = with_branch (Working xid_1 unmarked) 49
+
+-- the operator has marked it
+abbrev pub marked_idle : State
+marked_idle = with_branch (Working xid_1 (record unmarked { mark = Some XA_RBOTHER })) 49
 
 abbrev pub in_doubt : State
 in_doubt = with_branch (Prepared xid_1) 110
@@ -60,8 +64,7 @@ without_branch = record idle { branches = [] }
 
 -- a branch that wrote nothing
 abbrev pub read_only : State
-read_only =
-    record idle { branches = record { timestamp = 4294967297; operations = []; phase = Working xid_1 None } ∷ [] }
+read_only = record idle { branches = new_branch 4294967297 xid_1 ∷ [] }
 
 abbrev pub prepared_1 : Record
 prepared_1 = logged.Prepared xid_1 4294967297 put_1
@@ -129,9 +132,8 @@ RolledBackAgain =
 -- A branch that is marked is rolled back, and gone.
 abbrev pub MarkedIsGone : Type 0
 MarkedIsGone =
-    Takes (preparing (with_branch (Working xid_1 (Some XA_RBOTHER)) 49)) Quiet (plain XA_RBOTHER) without_branch
-    × Takes (committing_at_once (with_branch (Working xid_1 (Some XA_RBOTHER)) 49)) Quiet
-    (plain XA_RBOTHER) without_branch
+    Takes (preparing marked_idle) Quiet (plain XA_RBOTHER) without_branch
+    × Takes (committing_at_once marked_idle) Quiet (plain XA_RBOTHER) without_branch
 
 -- A branch without writes is gone, as committed, and nothing is logged.
 abbrev pub ReadOnly : Type 0
