@@ -7,7 +7,7 @@ use Rattle.xa_codes.specs.declared.detail.Detail.TheVariants as detail
 use Rattle.xa_xid.specs.Triple.{Triple}
 use Rattle.xa_frame.specs.declared.body.Body.TheVariants as body
 use Rattle.xa_frame.specs.declared.reply.Reply.{Reply}
-use Rattle.xa_model.specs.State.{State, Session, session_of, free_number}
+use Rattle.xa_model.specs.State.{State, Session, session_of, free_number, new_session}
 use Rattle.xa_model.specs.Answer.{Answer, answer, carrying, detailed, first, unless}
 use Rattle.xa_model.specs.Associations.{connected, connect_by, connect_refusal}
 use Rattle.xa_limits.specs.declared.TheConstants.{MOST_SESSIONS}
@@ -89,12 +89,12 @@ nothing_at n k v f true e none = sym (subst (λ (i : ℕ). f i ≡ v) (same_numb
 nothing_at n k v f false e none = refl
 
 came_opened : (n k : ℕ) (xs : List Session) (c : Bool)
-    → option_map (λ (x : Session). x.opened) (cond c (Some (record { number = n; opened = false; scan = None })) (session_of xs k)) ≡ cond c (Some false) (option_map (λ (x : Session). x.opened) (session_of xs k))
+    → option_map (λ (x : Session). x.opened) (cond c (Some (new_session n)) (session_of xs k)) ≡ cond c (Some false) (option_map (λ (x : Session). x.opened) (session_of xs k))
 came_opened n k xs true = refl
 came_opened n k xs false = refl
 
 came_scan : (n k : ℕ) (xs : List Session) (c : Bool)
-    → option_and_then (λ (x : Session). x.scan) (cond c (Some (record { number = n; opened = false; scan = None })) (session_of xs k)) ≡ cond c None (option_and_then (λ (x : Session). x.scan) (session_of xs k))
+    → option_and_then (λ (x : Session). x.scan) (cond c (Some (new_session n)) (session_of xs k)) ≡ cond c None (option_and_then (λ (x : Session). x.scan) (session_of xs k))
 came_scan n k xs true = refl
 came_scan n k xs false = refl
 
@@ -103,7 +103,7 @@ came_free b true o e = refl
 came_free b false o e = e
 
 came : (m m' : Sessions) (n : ℕ) (s : State) → Comes m n m' → opened_at m n ≡ None → SessionsStandFor m s
-    → SessionsStandFor m' (record s { sessions = record { number = n; opened = false; scan = None } ∷ s.sessions })
+    → SessionsStandFor m' (record s { sessions = new_session n ∷ s.sessions })
 came m m' n s d none st = record {
   opened = λ k. d.opened k ∙ ap (λ (o : Option Bool). cond (n == k) (Some false) o) (st.opened k) ∙ sym (came_opened n k s.sessions (n == k));
   active = λ k. d.active k ∙ nothing_at n k None (active_at m) (n == k) refl (ap (option_and_then (λ x. x.active)) (unseated m n none)) ∙ st.active k;
@@ -128,5 +128,5 @@ connect_follows m m' t f e d = λ s sound st.
     let stands = came m m' (t + 1) s d none st in
     let same : connect_by s ≡ connected s = connect_goes_on m s st e in
     let at : SessionsStandFor m' (connected s).after
-    = subst (λ (n : ℕ). SessionsStandFor m' (record s { sessions = record { number = n; opened = false; scan = None } ∷ s.sessions })) (sym (number_is_free m s t st f)) stands in
+    = subst (λ (n : ℕ). SessionsStandFor m' (record s { sessions = new_session n ∷ s.sessions })) (sym (number_is_free m s t st f)) stands in
     subst (λ (a : Answer). SessionsStandFor m' a.after) (sym same) at

@@ -2,7 +2,7 @@
 use Rattle.std.proofs.Common.{◌≡◌, ℕ, ◌+◌, ◌≤◌, ◌<◌, ◌==◌, Bool, true, false, not, cond, List, [], ◌∷◌, length, Option, Some, None, refl, arith, subst}
 use Rattle.std.specs.Prelude.{filter}
 use Rattle.std.proofs.lemmas.Bool.Decides.{nat_tests}
-use Rattle.xa_model.specs.State.{State, Session, count, change, without, session_of, free_number}
+use Rattle.xa_model.specs.State.{State, Session, count, change, without, session_of, free_number, new_session}
 use Rattle.xa_model.specs.Associations.{is_anyones, connect_refusal, connected, connect_by, hang_up_by, left_behind}
 use Rattle.xa_limits.specs.declared.TheConstants.{MOST_SESSIONS}
 use Rattle.xa_model.specs.Sound.{IsSound}
@@ -51,10 +51,9 @@ connected_sound s h =
     (λ allowed.
     let room : length s.sessions < MOST_SESSIONS = below (length s.sessions) MOST_SESSIONS (passed _ _ _ allowed).0 in
     let n = free_number s.sessions in
-    let new : Session = record { number = n; opened = false; scan = None } in
-    with_sessions s (new ∷ s.sessions) h (record {
+    with_sessions s (new_session n ∷ s.sessions) h (record {
       numbered = λ m. new_numbered s.sessions n m (n == m) refl (free_number_free s.sessions) (h.numbered m);
-      connected = λ m none. h.connected m (new_none new (session_of s.sessions m) (n == m) none);
+      connected = λ m none. h.connected m (new_none (new_session n) (session_of s.sessions m) (n == m) none);
       limit = omega arith;
     }))
 

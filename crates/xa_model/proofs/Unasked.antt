@@ -14,7 +14,7 @@ use Rattle.xa_model.specs.declared.outcome.Outcome.{Outcome}
 use Rattle.xa_model.specs.declared.outcome.Outcome.TheVariants.{Quiet, Appended, Failed, Reread}
 use Rattle.xa_model.specs.declared.outcome.Appending.{Appending}
 use Rattle.xa_model.specs.declared.outcome.Appending.TheVariants.{Kept, Refused, Lost}
-use Rattle.xa_model.specs.State.{State, Session, Branch, Phase, Working, Prepared, Committed, Association, Standing, Up, Down, Ended, count, owns, session_of}
+use Rattle.xa_model.specs.State.{State, Session, Branch, Phase, Working, Prepared, Committed, Association, Standing, Up, Down, Ended, count, owns, session_of, new_session}
 use Rattle.xa_model.specs.Answer.{Answer, answer, detailed, ok}
 use Rattle.xa_model.specs.Associations.{connect_by, hang_up_by, is_anyones, is_worked_by, left_behind, with_mark}
 use Rattle.xa_model.specs.Early.{early_refusal}
@@ -61,7 +61,7 @@ abbrev among : List Session → State → State
 among xs s = record s { sessions = xs }
 
 abbrev one : Session
-one = record { number = 1; opened = false; scan = None }
+one = new_session 1
 
 abbrev with_one : State → State
 with_one s = among (one ∷ []) s

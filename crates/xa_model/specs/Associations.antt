@@ -14,7 +14,7 @@ use Rattle.xa_limits.specs.declared.TheConstants.{MOST_BRANCHES, MOST_GIVEN, MOS
 use Rattle.xa_model.specs.State.{State, Session, Branch, Phase, Working, Prepared, Committed, Association, Holder}
 use Rattle.xa_model.specs.State.{Active, Suspended, Loose, Known, Unknown, AtWork, InDoubt, Completed, known_as}
 use Rattle.xa_model.specs.State.{known_in, known_of, active_of, is_own, is_with, is_known_as, owns, works_in, suspends}
-use Rattle.xa_model.specs.State.{is_loose_with, loose_of, without, change, free_number, timestamp_of, new_branch}
+use Rattle.xa_model.specs.State.{is_loose_with, loose_of, without, change, free_number, timestamp_of, new_branch, new_session}
 use Rattle.xa_model.specs.Answer.{Answer, plain, detailed, carrying, answer, ok, first, unless, marked}
 
 -- Connect: the session gets the least number that is free
@@ -25,8 +25,7 @@ connect_refusal connected = first ((not (nat_lt connected MOST_SESSIONS), detail
 abbrev pub connected : State → Answer
 connected s =
     let n = free_number s.sessions in
-    answer (carrying (body.Number n))
-    (record s { sessions = record { number = n; opened = false; scan = None } ∷ s.sessions })
+    answer (carrying (body.Number n)) (record s { sessions = new_session n ∷ s.sessions })
 
 abbrev pub connect_by : State → Answer
 connect_by s = unless (connect_refusal (length s.sessions)) s (connected s)

@@ -227,6 +227,10 @@ own_branch s n = option_and_then (branch_with s.branches) (active_of s.associati
 
 -- Sessions
 
+-- a session that connects
+abbrev pub new_session : ℕ → Session
+new_session n = record { number = n; opened = false; scan = None }
+
 abbrev pub session_of : List Session → ℕ → Option Session
 session_of sessions n = find (λ s. s.number == n) sessions
 

@@ -1,12 +1,13 @@
 -- Worked rows at the limits: the last that is served, and the first that is refused.
-use Rattle.std.specs.Prelude.{ℕ, pos, ◌+◌, ◌-◌, true, Some, None, List, [], ◌∷◌, ◌++◌, map, replicate}
+use Rattle.std.specs.Prelude.{ℕ, pos, ◌+◌, ◌-◌, Some, List, [], ◌∷◌, ◌++◌, map, replicate}
 use Rattle.std.specs.List.{range_with_len}
 use Rattle.xa_codes.specs.declared.codes.TheConstants.{XAER_RMERR, XAER_INVAL, XAER_DUPID}
 use Rattle.xa_codes.specs.declared.detail.Detail.TheVariants as detail
 use Rattle.xa_xid.specs.Triple.{Triple}
 use Rattle.xa_frame.specs.declared.reply.Reply.{Reply}
 use Rattle.xa_frame.specs.declared.request.Request.TheVariants.{Put, Delete}
-use Rattle.xa_model.specs.State.{State, Session, Branch, Association, Operation, Wrote, Loose, new_branch}
+use Rattle.xa_model.specs.State.{State, Session, Branch, Association, Operation, Wrote, Loose, new_branch, new_session}
+use Rattle.xa_model.specs.Associations.{as_opened}
 use Rattle.xa_model.specs.Answer.{plain, detailed}
 use Rattle.xa_model.specs.Worked.{byte, done, number}
 use Rattle.xa_model.specs.WorkedScripts.{Replied, new_manager, xid_a, xid_b, time, connects, hangs_up, asks_by, session}
@@ -20,7 +21,7 @@ at_limit = detailed XAER_RMERR detail.Limit
 
 -- the sessions 1 to n, opened
 abbrev pub sessions_to : ℕ → List Session
-sessions_to n = map (λ k. record { number = k; opened = true; scan = None }) (range_with_len 1 n)
+sessions_to n = map (λ k. as_opened (new_session k)) (range_with_len 1 n)
 
 -- 1,024 are connected at most, and one that is hung up makes room
 abbrev pub ManySessions : Type 0

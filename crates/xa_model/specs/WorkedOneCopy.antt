@@ -1,10 +1,11 @@
 -- Worked lists of committed branches: which are one copy. And what becomes of a get that is answered.
-use Rattle.std.specs.Prelude.{ℕ, ◌≡◌, true, Option, Some, None, List, [], ◌∷◌}
+use Rattle.std.specs.Prelude.{ℕ, ◌≡◌, Option, Some, None, List, [], ◌∷◌}
 use Rattle.xa_frame.specs.declared.body.Body.TheVariants as body
 use Rattle.xa_frame.specs.declared.request.Request.TheVariants.{Get}
 use Rattle.xa_model.specs.declared.event.Event.TheVariants.{Call}
 use Rattle.xa_model.specs.declared.outcome.Outcome.TheVariants.{Quiet}
-use Rattle.xa_model.specs.State.{State, Branch, Operation, Got, Wrote, Committed, Active, Read, new_branch}
+use Rattle.xa_model.specs.State.{State, Branch, Operation, Got, Wrote, Committed, Active, Read, new_branch, new_session}
+use Rattle.xa_model.specs.Associations.{as_opened}
 use Rattle.xa_model.specs.Answer.{carrying}
 use Rattle.xa_model.specs.Turn.{Asked}
 use Rattle.xa_model.specs.Step.{step}
@@ -51,7 +52,7 @@ ReadsAbove = IsOneCopy (branch_at 2 (Wrote key written ∷ []) ∷ branch_at 1 (
 -- session 1 works for a branch at 2, which did this, above a write by 1; so many reads were answered
 abbrev at_work : List Operation → List Read → State
 at_work operations reads = record new_manager {
-  sessions = record { number = 1; opened = true; scan = None } ∷ [];
+  sessions = as_opened (new_session 1) ∷ [];
   associations = record { xid = xid_a; holder = Active 1 } ∷ [];
   branches = record (new_branch 2 xid_a) { operations = operations } ∷ branch_at 1 (Wrote key written ∷ []) ∷ [];
   reads = reads;

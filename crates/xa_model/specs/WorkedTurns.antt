@@ -16,6 +16,8 @@ use Rattle.xa_model.specs.declared.outcome.Appending.TheVariants.{Kept, Refused,
 use Rattle.xa_model.specs.declared.outcome.Outcome.{Outcome}
 use Rattle.xa_model.specs.declared.outcome.Outcome.TheVariants.{Quiet, Appended, Failed, Reread}
 use Rattle.xa_model.specs.State.{State, Wrote, Working, Prepared, Committed, Phase, Down, Ended, unmarked, new_branch}
+use Rattle.xa_model.specs.State.{new_session}
+use Rattle.xa_model.specs.Associations.{as_opened}
 use Rattle.xa_model.specs.Answer.{plain, detailed, answer}
 use Rattle.xa_model.specs.Turn.{Asked, Reopened, Turn, Nobody, Now, Appends, Rereads, taken}
 use Rattle.xa_model.specs.Durable.{Durable}
@@ -42,7 +44,7 @@ record_of (Rereads failed survived missing) = None
 abbrev pub with_branch : Phase → ℕ → State
 with_branch phase end = record new_manager {
   given = 1;
-  sessions = record { number = 1; opened = true; scan = Some None } ∷ [];
+  sessions = record (new_session 1) { opened = true; scan = Some None } ∷ [];
   branches =
       record { timestamp = 4294967297; operations = Wrote (byte 0x6b) (Some (byte 0x76)) ∷ []; phase = phase } ∷ [];
   end = end;
@@ -164,7 +166,7 @@ booted s boot end = record s {
   boot = boot;
   given = 0;
   logged_boot = boot;
-  sessions = record { number = 1; opened = true; scan = None } ∷ [];
+  sessions = as_opened (new_session 1) ∷ [];
   end = end;
 }
 
