@@ -14,13 +14,13 @@ use Rattle.xa_model.specs.Durable.{Durable, durable}
 use Rattle.xa_model.specs.Fold.{fold, nothing}
 use Rattle.xa_model.specs.Loggable.{IsRecoverable, MayBeLast}
 use Rattle.xa_model.specs.Backing.{Backs}
-use Rattle.xa_model.specs.Restarting.{missed, survived, can_open, reopened, reopening, opening}
+use Rattle.xa_model.specs.Restarting.{missed, survived, can_open, reopened, reopening}
 use Rattle.xa_limits.specs.declared.TheConstants.{MOST_BOOTS}
 use Rattle.xa_model.specs.Restored.{IsRestored}
 use Rattle.xa_model.specs.Turn.{Reopened, going_on}
 use Rattle.xa_model.specs.Step.{step}
 use Rattle.xa_model.specs.History.{fresh}
-use Rattle.xa_model.proofs.Openings.{opens_restored, opens_fresh}
+use Rattle.xa_model.proofs.Openings.{opens_restored}
 use Rattle.xa_model.proofs.Restores.{reopens_restored}
 use Rattle.xa_model.proofs.Restarts.{missed_recoverable, survived_recoverable}
 use Rattle.xa_model.proofs.Rooms.{prepared_lasting, decided_lasting}
@@ -97,8 +97,7 @@ module _ {D : Type 0} (disks : Ghosts D) where
       let none : begun.comes.records ≡ [] = no_records begun.comes.records begun.comes.bodies_are.spelling in
       let same : nothing ≡ begun.durable = cc (begun.comes.folded, ap (λ (rs : List Record). fold rs) none) in
       let it = (opens_restored [] nothing name log_bytes tt refl (omega arith) (omega arith)).0 in
-      subst (λ (s : State). ManagerStandsFor disks m s) (opens_fresh name log_bytes)
-      (begun.stands (opening nothing name log_bytes 1) (subst (λ (x : Durable). IsRestored x (x.boot + 1) (opening nothing name log_bytes 1)) same it) refl refl refl)
+      begun.stands (fresh name log_bytes) (subst (λ (x : Durable). IsRestored x (x.boot + 1) (fresh name log_bytes)) same it) refl refl refl
 
   pub fresh_opened : (r : Result (Manager D) ManagerFault) (name : List ℕ) (log_bytes : ℕ) (a b : List ℕ)
       → IfOk r (HasBegun disks (logged_pair a b) name log_bytes) → a ≡ [] → b ≡ [] → IfOk r (λ m. ManagerStandsFor disks m (fresh name log_bytes))

@@ -288,4 +288,18 @@ opens_restored rs d name log_bytes k e less few =
     (opening_restored d name log_bytes h less few, opening_backed rs d name log_bytes k e h less)
 
 pub opens_fresh : OpensFresh
-opens_fresh name log_bytes = refl
+opens_fresh name log_bytes = record {
+  name = refl;
+  log_bytes = refl;
+  boot = refl;
+  given = refl;
+  logged_boot = refl;
+  sessions = refl;
+  associations = refl;
+  branches = refl;
+  decided = refl;
+  reads = refl;
+  standing = refl;
+  end = refl;
+  open_record = refl;
+}

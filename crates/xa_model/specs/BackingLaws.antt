@@ -1,15 +1,15 @@
 -- Laws on the log behind a state, and on the states that restarts and openings lead to.
-use Rattle.std.specs.Prelude.{ℕ, ◌≡◌, ◌+◌, ◌<◌, ◌≤◌, true, None, Ok, Some, List, length}
+use Rattle.std.specs.Prelude.{ℕ, ◌≡◌, ◌+◌, ◌<◌, ◌≤◌, true, None, Ok, Some, List, [], length}
 use Rattle.std.specs.List.{AllByRecursion}
 use Rattle.xa_record.specs.Limits.{IsRecord}
 use Rattle.xa_record.specs.declared.record.Record.{Record}
 use Rattle.xa_model.specs.declared.outcome.Outcome.{Outcome}
-use Rattle.xa_model.specs.State.{State}
+use Rattle.xa_model.specs.State.{State, Up}
 use Rattle.xa_model.specs.Answer.{Answer}
 use Rattle.xa_model.specs.Sound.{most_known}
 use Rattle.xa_limits.specs.declared.TheConstants.{MOST_BOOTS}
 use Rattle.xa_model.specs.Durable.{Durable, durable}
-use Rattle.xa_model.specs.Fold.{fold, fits, reading, unread, snapshot, nothing}
+use Rattle.xa_model.specs.Fold.{fold, fits, reading, unread, snapshot}
 use Rattle.xa_model.specs.Turn.{Happening}
 use Rattle.xa_model.specs.Step.{turn, step}
 use Rattle.xa_model.specs.History.{Entry, Leads, fresh}
@@ -63,6 +63,22 @@ OpensRestored =
     → IsRestored d (d.boot + 1) (opening d name log_bytes (d.boot + 1))
     × Backs (snapshot d (d.boot + 1)) (opening d name log_bytes (d.boot + 1))
 
--- a new manager is one that was opened on a log of no records
+-- Up, with these settings, in its first boot, whose record ends at byte 49; and nothing was asked of it.
+pub record IsNew (named : List ℕ) (most : ℕ) (s : State) : Type 0 where
+  pub name : s.name ≡ named
+  pub log_bytes : s.log_bytes ≡ most
+  pub boot : s.boot ≡ 1
+  pub given : s.given ≡ 0
+  pub logged_boot : s.logged_boot ≡ 1
+  pub sessions : s.sessions ≡ []
+  pub associations : s.associations ≡ []
+  pub branches : s.branches ≡ []
+  pub decided : s.decided ≡ []
+  pub reads : s.reads ≡ []
+  pub standing : s.standing ≡ Up
+  pub end : s.end ≡ 49
+  pub open_record : s.open_record ≡ None
+
+-- a manager that was opened on a log of no records is new
 abbrev pub OpensFresh : Type 0
-OpensFresh = (name : List ℕ) (log_bytes : ℕ) → opening nothing name log_bytes 1 ≡ fresh name log_bytes
+OpensFresh = (name : List ℕ) (log_bytes : ℕ) → IsNew name log_bytes (fresh name log_bytes)

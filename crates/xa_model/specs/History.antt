@@ -1,9 +1,11 @@
 -- Histories of the sequential resource manager.
-use Rattle.std.specs.Prelude.{ℕ, ◌≡◌, Option, Some, None, List, [], ◌∷◌, option_and_then, option_map}
+use Rattle.std.specs.Prelude.{ℕ, ◌≡◌, Option, Some, List, [], ◌∷◌, option_and_then, option_map}
 use Rattle.xa_frame.specs.declared.reply.Reply.{Reply}
 use Rattle.xa_model.specs.declared.outcome.Outcome.{Outcome}
-use Rattle.xa_model.specs.State.{State, Up}
+use Rattle.xa_model.specs.State.{State}
 use Rattle.xa_model.specs.Turn.{Happening}
+use Rattle.xa_model.specs.Fold.{nothing}
+use Rattle.xa_model.specs.Restarting.{opening}
 use Rattle.xa_model.specs.Step.{step}
 
 -- what happened, what the device did, and what was replied
@@ -16,24 +18,9 @@ pub record History : Type 0 where
   pub start : State
   pub entries : List Entry
 
--- The state of a manager that was opened on an empty log: nothing was asked of it, and the record of its first boot
--- ends at byte 49.
+-- the state of a manager that was opened on an empty log, and asked nothing
 abbrev pub fresh : List ℕ → ℕ → State
-fresh name log_bytes = record {
-  name = name;
-  log_bytes = log_bytes;
-  boot = 1;
-  given = 0;
-  logged_boot = 1;
-  sessions = [];
-  associations = [];
-  branches = [];
-  decided = [];
-  reads = [];
-  standing = Up;
-  end = 49;
-  open_record = None;
-}
+fresh name log_bytes = opening nothing name log_bytes 1
 
 -- one entry leads from a state to the next
 abbrev pub Steps : State → Entry → State → Type 0
