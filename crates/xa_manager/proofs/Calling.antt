@@ -18,22 +18,21 @@ use Rattle.xa_model.specs.declared.outcome.Outcome.{Outcome}
 use Rattle.xa_model.specs.declared.outcome.Outcome.TheVariants.{Quiet}
 use Rattle.xa_model.specs.State.{State, Standing}
 use Rattle.xa_model.specs.Answer.{Answer, answer, detailed}
-use Rattle.xa_model.specs.Early.{call_of, passes_down, early_refusal}
+use Rattle.xa_model.specs.Early.{call_of, passes_down, early_refusal, Context}
 use Rattle.xa_model.specs.Events.{IsEvent, IsAsked, asks_restart, is_restart}
 use Rattle.xa_model.specs.Loggable.{IsRecoverable}
 use Rattle.xa_model.specs.Restarting.{restart_turn}
 use Rattle.xa_model.specs.Turn.{Turn, Now, Asked, taken}
-use Rattle.xa_model.specs.Step.{row, respond, opened_of, is_up, step}
-use Rattle.xa_model.specs.Step.{turn as turn_of}
+use Rattle.xa_model.specs.Step.{row, respond, is_up, step}
+use Rattle.xa_model.specs.Step.{turn as turn_of, context_of}
 use Rattle.xa_assoc.specs.Refusals.{is_memory}
-use Rattle.xa_assoc.specs.Seats.{opened_at}
 use Rattle.xa_assoc.specs.declared.fault.ConnectFault.TheVariants.{Memory}
 use Rattle.xa_manager.specs.declared.manager.Manager.{Manager}
 use Rattle.xa_manager.specs.declared.done.Done.{Done}
 use Rattle.xa_manager.specs.Crash.{LeavesBy, LeavesLook, LeavesWanting}
 use Rattle.xa_manager.specs.LogStands.{Trusts}
 use Rattle.xa_manager.specs.Answered.{FullyAnswered, HasCalled, StaysFor, NoneRises, connect_reply, may_want, memory_code}
-use Rattle.xa_manager.specs.View.{View}
+use Rattle.xa_manager.specs.View.{View, context_at}
 use Rattle.xa_manager.specs.Managed.{view, ManagerStandsFor, AnswersAs}
 use Rattle.xa_manager.specs.Stands.{TablesStandFor, Follows, FollowsDown, Stays, StaysDown}
 use Rattle.xa_manager.specs.Turns.{Takes, TakesTurn, HasDone}
@@ -41,15 +40,15 @@ use Rattle.xa_manager.proofs.OnePhase.{refused_turn, passed_turn}
 use Rattle.xa_manager.proofs.Stepping.{asked_by, has_done, now_leaves, quiet_crash}
 use Rattle.xa_manager.proofs.Taking.{takes_row}
 
-early_by : (b : Bool) (k : View) (s : State) (n : ℕ) (request : Request) → TablesStandFor b k s → early_refusal (is_up s.standing) s.name (opened_of s n) request ≡ early_refusal b k.name (opened_at k.sessions n) request
-early_by true k s n request st =
-    ap (λ (standing : Standing). early_refusal (is_up standing) s.name (opened_of s n) request) st.up
-    ∙ ap (λ (name : List ℕ). early_refusal true name (opened_of s n) request) (sym st.name)
-    ∙ ap (λ (o : Option Bool). early_refusal true k.name o request) (sym (st.sessions.opened n))
-early_by false k s n request st =
-    ap (λ (standing : Standing). early_refusal (is_up standing) s.name (opened_of s n) request) st.down
-    ∙ ap (λ (name : List ℕ). early_refusal false name (opened_of s n) request) (sym st.name)
-    ∙ ap (λ (o : Option Bool). early_refusal false k.name o request) (sym (st.sessions.opened n))
+context_by : (b : Bool) (k : View) (s : State) (n : ℕ) → TablesStandFor b k s → context_of s n ≡ context_at b k n
+context_by true k s n st =
+    ap (λ (standing : Standing). record (context_of s n) { up = is_up standing }) st.up
+    ∙ ap (λ (name : List ℕ). record (context_of s n) { up = true; name = name }) (sym st.name)
+    ∙ ap (λ (o : Option Bool). record (context_at true k n) { session = o }) (sym (st.sessions.opened n))
+context_by false k s n st =
+    ap (λ (standing : Standing). record (context_of s n) { up = is_up standing }) st.down
+    ∙ ap (λ (name : List ℕ). record (context_of s n) { up = false; name = name }) (sym st.name)
+    ∙ ap (λ (o : Option Bool). record (context_at false k n) { session = o }) (sym (st.sessions.opened n))
 
 never : (b : Bool) (A : Type 0) → b ≡ false → b ≡ true → A
 never true A e h = absurd (cc e)
@@ -103,14 +102,14 @@ module _ {D : Type 0} (disks : Ghosts D) where
   answers_by m s n request st = ap taken (asked_by m.up (view m) s (respond s (Call n request)) st.tables)
 
   early_same : (m : Manager D) (s : State) (n : ℕ) (request : Request) → ManagerStandsFor disks m s
-      → early_refusal (is_up s.standing) s.name (opened_of s n) request ≡ early_refusal m.up (view m).name (opened_at (view m).sessions n) request
-  early_same m s n request st = early_by m.up (view m) s n request st.tables
+      → early_refusal (context_of s n) request ≡ early_refusal (context_at m.up (view m) n) request
+  early_same m s n request st = ap (λ (c : Context). early_refusal c request) (context_by m.up (view m) s n st.tables)
 
-  pub refused_done : (m : Manager D) (n : ℕ) (request : Request) (reply : Reply) → Some reply ≡ early_refusal m.up (view m).name (opened_at (view m).sessions n) request → is_memory reply.detail ≡ false
+  pub refused_done : (m : Manager D) (n : ℕ) (request : Request) (reply : Reply) → Some reply ≡ early_refusal (context_at m.up (view m) n) request → is_memory reply.detail ≡ false
       → HasDone disks m (Call n request) reply Quiet m
   refused_done m n request reply h served = record {
     steps = λ s st premises.
-        let is : respond s (Call n request) ≡ Now (answer reply s) = refused_turn (early_refusal (is_up s.standing) s.name (opened_of s n) request) s (row s n request) reply (h ∙ sym (early_same m s n request st)) in
+        let is : respond s (Call n request) ≡ Now (answer reply s) = refused_turn (early_refusal (context_of s n) request) s (row s n request) reply (h ∙ sym (early_same m s n request st)) in
         let steps : step s (Asked (Call n request)) Quiet ≡ Some (answer reply s) = ap (λ (t : Turn). taken t Quiet) (asked_by m.up (view m) s (respond s (Call n request)) st.tables ∙ is) in
         subst (λ (o : Option Answer). IsSomeAnd o (λ a. (a.reply ≡ reply) × ManagerStandsFor disks m a.after)) (sym steps) (refl, st);
     called = λ s st premises. refl;
@@ -118,11 +117,11 @@ module _ {D : Type 0} (disks : Ghosts D) where
     served = served;
   }
 
-  passed_row : (m : Manager D) (s : State) (n : ℕ) (request : Request) → None ≡ early_refusal m.up (view m).name (opened_at (view m).sessions n) request → ManagerStandsFor disks m s
+  passed_row : (m : Manager D) (s : State) (n : ℕ) (request : Request) → None ≡ early_refusal (context_at m.up (view m) n) request → ManagerStandsFor disks m s
       → respond s (Call n request) ≡ row s n request
-  passed_row m s n request h st = passed_turn (early_refusal (is_up s.standing) s.name (opened_of s n) request) s (row s n request) (h ∙ sym (early_same m s n request st))
+  passed_row m s n request h st = passed_turn (early_refusal (context_of s n) request) s (row s n request) (h ∙ sym (early_same m s n request st))
 
-  pub row_done : (m m' : Manager D) (n : ℕ) (request : Request) (reply : Reply) (outcome : Outcome) → IsAsked request → asks_restart request ≡ false → None ≡ early_refusal m.up (view m).name (opened_at (view m).sessions n) request
+  pub row_done : (m m' : Manager D) (n : ℕ) (request : Request) (reply : Reply) (outcome : Outcome) → IsAsked request → asks_restart request ≡ false → None ≡ early_refusal (context_at m.up (view m) n) request
       → is_memory reply.detail ≡ false → ((s : State) → ManagerStandsFor disks m s → Takes disks m (row s n request) reply outcome m')
       → HasDone disks m (Call n request) reply outcome m'
   row_done m m' n request reply outcome event other h served takes =
@@ -145,7 +144,7 @@ module _ {D : Type 0} (disks : Ghosts D) where
       }
 
   pub both_done : (m m' : Manager D) (n : ℕ) (request : Request) (act : State → Answer) (reply : Reply) → IsAsked request → asks_restart request ≡ false
-      → None ≡ early_refusal m.up (view m).name (opened_at (view m).sessions n) request → ((s : State) → row s n request ≡ Now (act s)) → m'.log ≡ m.log → m'.up ≡ m.up → m'.doubt ≡ m.doubt
+      → None ≡ early_refusal (context_at m.up (view m) n) request → ((s : State) → row s n request ≡ Now (act s)) → m'.log ≡ m.log → m'.up ≡ m.up → m'.doubt ≡ m.doubt
       → Follows (view m) act reply (view m') → FollowsDown (view m) act reply (view m') → HasDone disks m (Call n request) reply Quiet m'
   both_done m m' n request act reply event other h is log up doubt f d =
       row_done m m' n request reply Quiet event other h f.served
@@ -153,7 +152,7 @@ module _ {D : Type 0} (disks : Ghosts D) where
 
   -- the row of a request that a manager which is down refuses
   pub turn_done : (m m' : Manager D) (n : ℕ) (request handed : Request) (o : Option Reply) (turn : State → Turn) (reply : Reply) (outcome : Outcome) → IsAsked request → request ≡ handed
-      → asks_restart handed ≡ false → passes_down (call_of handed) ≡ false → o ≡ None → o ≡ early_refusal m.up (view m).name (opened_at (view m).sessions n) request
+      → asks_restart handed ≡ false → passes_down (call_of handed) ≡ false → o ≡ None → o ≡ early_refusal (context_at m.up (view m) n) request
       → (o ≡ None → m.up ≡ false → passes_down (call_of request) ≡ true) → ((s : State) → row s n handed ≡ turn s) → TakesTurn disks m turn reply outcome m'
       → HasDone disks m (Call n request) reply outcome m'
   turn_done m m' n request handed o turn reply outcome event same other stops none h passes is x =
@@ -162,7 +161,7 @@ module _ {D : Type 0} (disks : Ghosts D) where
       (λ s st. subst (λ (t : Turn). Takes disks m t reply outcome m') (sym (ap (row s n) same ∙ is s)) (x.takes s st is_up))
 
   pub turns_done : (m m' : Manager D) (n : ℕ) (request handed : Request) (o : Option Reply) (turn : State → Turn) (r : Result Done AllocError) → IsAsked request → request ≡ handed
-      → asks_restart handed ≡ false → passes_down (call_of handed) ≡ false → o ≡ None → o ≡ early_refusal m.up (view m).name (opened_at (view m).sessions n) request
+      → asks_restart handed ≡ false → passes_down (call_of handed) ≡ false → o ≡ None → o ≡ early_refusal (context_at m.up (view m) n) request
       → (o ≡ None → m.up ≡ false → passes_down (call_of request) ≡ true) → ((s : State) → row s n handed ≡ turn s) → IfOk r (λ d. TakesTurn disks m turn d.reply d.outcome m')
       → IfOk r (λ d. HasDone disks m (Call n request) d.reply d.outcome m')
   turns_done m m' n request handed o turn (Ok d) event same other stops none h passes is x = turn_done m m' n request handed o turn d.reply d.outcome event same other stops none h passes is x
@@ -170,14 +169,14 @@ module _ {D : Type 0} (disks : Ghosts D) where
 
   -- the same of a row of the tables
   pub follows_done : (m m' : Manager D) (n : ℕ) (request handed : Request) (o : Option Reply) (act : State → Answer) (reply : Reply) → IsAsked request → request ≡ handed
-      → asks_restart handed ≡ false → passes_down (call_of handed) ≡ false → o ≡ None → o ≡ early_refusal m.up (view m).name (opened_at (view m).sessions n) request
+      → asks_restart handed ≡ false → passes_down (call_of handed) ≡ false → o ≡ None → o ≡ early_refusal (context_at m.up (view m) n) request
       → (o ≡ None → m.up ≡ false → passes_down (call_of request) ≡ true) → ((s : State) → row s n handed ≡ Now (act s)) → m'.log ≡ m.log → m'.up ≡ m.up → m'.doubt ≡ m.doubt
       → Follows (view m) act reply (view m') → HasDone disks m (Call n request) reply Quiet m'
   follows_done m m' n request handed o act reply event same other stops none h passes is log up doubt f =
       turn_done m m' n request handed o (λ s. Now (act s)) reply Quiet event same other stops none h passes is (takes_row disks m m' act reply Quiet refl log up doubt f)
 
   -- a restart, of whichever state the manager stood for, up or down
-  restarted_done : (m m' : Manager D) (n : ℕ) (reply : Reply) (outcome : Outcome) → None ≡ early_refusal m.up (view m).name (opened_at (view m).sessions n) Restart
+  restarted_done : (m m' : Manager D) (n : ℕ) (reply : Reply) (outcome : Outcome) → None ≡ early_refusal (context_at m.up (view m) n) Restart
       → ((s : State) → ManagerStandsFor disks m s → Trusts disks → AnswersAs disks (taken (restart_turn s) outcome) reply m') → HasCalled disks outcome m.log m'.log → is_memory reply.detail ≡ false
       → ((s : State) → ManagerStandsFor disks m s → Trusts disks → LeavesBy disks m.log (restart_turn s) outcome m'.log s)
       → HasDone disks m (Call n Restart) reply outcome m'
@@ -195,7 +194,7 @@ module _ {D : Type 0} (disks : Ghosts D) where
     served = served;
   }
 
-  restart_by : (m m' : Manager D) (n : ℕ) (r : Result Done AllocError) → None ≡ early_refusal m.up (view m).name (opened_at (view m).sessions n) Restart
+  restart_by : (m m' : Manager D) (n : ℕ) (r : Result Done AllocError) → None ≡ early_refusal (context_at m.up (view m) n) Restart
       → IfOk r (λ d. (s : State) → ManagerStandsFor disks m s → Trusts disks → AnswersAs disks (taken (restart_turn s) d.outcome) d.reply m')
       → IfOk r (λ d. HasCalled disks d.outcome m.log m'.log) → IfOk r (λ d. is_memory d.reply.detail ≡ false)
       → IfOk r (λ d. (s : State) → ManagerStandsFor disks m s → Trusts disks → LeavesBy disks m.log (restart_turn s) d.outcome m'.log s)
@@ -203,14 +202,14 @@ module _ {D : Type 0} (disks : Ghosts D) where
   restart_by m m' n (Ok d) h turn called served crash = restarted_done m m' n d.reply d.outcome h turn called served crash
   restart_by m m' n (Err e) h turn called served crash = tt
 
-  pub restart_done : (m m' : Manager D) (n : ℕ) (request : Request) (r : Result Done AllocError) → request ≡ Restart → None ≡ early_refusal m.up (view m).name (opened_at (view m).sessions n) request
+  pub restart_done : (m m' : Manager D) (n : ℕ) (request : Request) (r : Result Done AllocError) → request ≡ Restart → None ≡ early_refusal (context_at m.up (view m) n) request
       → IfOk r (λ d. (s : State) → ManagerStandsFor disks m s → Trusts disks → AnswersAs disks (taken (restart_turn s) d.outcome) d.reply m')
       → IfOk r (λ d. HasCalled disks d.outcome m.log m'.log) → IfOk r (λ d. is_memory d.reply.detail ≡ false)
       → IfOk r (λ d. (s : State) → ManagerStandsFor disks m s → Trusts disks → LeavesBy disks m.log (restart_turn s) d.outcome m'.log s)
       → IfOk r (λ d. HasDone disks m (Call n request) d.reply d.outcome m')
   restart_done m m' n request r same h turn called served crash =
       subst (λ (q : Request). IfOk r (λ d. HasDone disks m (Call n q) d.reply d.outcome m')) (sym same)
-      (restart_by m m' n r (subst (λ (q : Request). None ≡ early_refusal m.up (view m).name (opened_at (view m).sessions n) q) same h) turn called served crash)
+      (restart_by m m' n r (subst (λ (q : Request). None ≡ early_refusal (context_at m.up (view m) n) q) same h) turn called served crash)
 
   -- the outcome is no part of what a manager stands for
   told : (m : Manager D) (o : Outcome) (s : State) → ManagerStandsFor disks m s → ManagerStandsFor disks (record m { outcome = o }) s

@@ -1,9 +1,10 @@
 -- What contracts see of a manager.
-use Rattle.std.specs.Prelude.{ℕ, Option, List, option_map, option_and_then}
+use Rattle.std.specs.Prelude.{ℕ, Bool, Option, List, option_map, option_and_then}
 use Rattle.mv_rules.specs.declared.records.Records.{Records}
 use Rattle.xa_xid.specs.Triple.{Triple}
+use Rattle.xa_model.specs.Early.{Context}
 use Rattle.xa_assoc.specs.declared.sessions.Sessions.{Sessions}
-use Rattle.xa_assoc.specs.Seats.{active_at}
+use Rattle.xa_assoc.specs.Seats.{active_at, opened_at}
 use Rattle.xa_branch.specs.declared.branches.Branches.{Branches}
 use Rattle.xa_branch.specs.declared.working.Working.{Working}
 use Rattle.xa_branch.specs.Branches.{working_at}
@@ -20,6 +21,10 @@ pub record View : Type 0 where
 abbrev pub view_of : Tables → View
 view_of t =
     record { name = t.name; log_bytes = t.log_bytes; sessions = t.sessions; branches = t.branches; records = t.records }
+
+-- what the refusals before a session's row look at, of a manager that is up or isn't
+abbrev pub context_at : Bool → View → ℕ → Context
+context_at up m n = record { up = up; name = m.name; session = opened_at m.sessions n }
 
 -- the branch that a session is at work for
 abbrev pub with_working : View → Triple → Option (Triple × Working)

@@ -10,6 +10,7 @@ ghost use Rattle.xa_manager.specs.Crash.{LeavesLook};
 ghost use Rattle.xa_manager.specs.LogStands.{Trusts};
 ghost use Rattle.xa_manager.specs.Managed.{ManagerStandsFor};
 ghost use Rattle.xa_manager.specs.Turns.{HasDone};
+ghost use Rattle.xa_manager.specs.View.{context_at, view_of};
 ghost use Rattle.xa_manager.specs.Connected.{connected_to};
 ghost use Rattle.xa_manager.specs.Replies.{IsFresh};
 
@@ -24,8 +25,8 @@ use xa_frame::{Reply, Request};
 impl<D: Disk> Manager<D> {
     /// How a request of a session is refused before its row is looked at.
     fn refusal(&self, session: u64, request: &Request) -> Option<Reply>
-        ensures value { result ≡ early_refusal self.now.up self.now.tables.name
-            (opened_at self.now.tables.sessions session) request.now }
+        ensures value { result
+            ≡ early_refusal (context_at self.now.up (view_of self.now.tables) session) request.now }
         ensures served { IfSome result (λ r. is_memory r.detail ≡ false) }
         ensures connected { result ≡ None → IsSome (opened_at self.now.tables.sessions session) }
         ensures counted { result ≡ None → has_wrong_count request.now ≡ false }

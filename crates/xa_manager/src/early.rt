@@ -112,7 +112,8 @@ pub fn early_refusal(
     session: Option<bool>,
     request: &Request,
 ) -> Option<Reply>
-    ensures value { result ≡ early_refusal up name.now session request.now }
+    ensures value { result
+        ≡ early_refusal (record { up = up; name = name.now; session = session }) request.now }
     ensures served { IfSome result (λ r. is_memory r.detail ≡ false) }
     ensures bare { IfSome result IsBare }
     ensures connected { result ≡ None → IsSome session }

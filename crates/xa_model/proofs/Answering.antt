@@ -12,14 +12,14 @@ use Rattle.xa_model.specs.declared.outcome.Appending.{Appending}
 use Rattle.xa_model.specs.declared.outcome.Appending.TheVariants.{Kept, Refused, Lost}
 use Rattle.xa_model.specs.State.{State, Standing, Up, Down, Ended, Known, Unknown, AtWork, InDoubt, Completed}
 use Rattle.xa_model.specs.Answer.{Answer, plain, first}
-use Rattle.xa_model.specs.Early.{early_refusal, passes_down, call_of, needs_open, is_opened, is_async, flags_of, is_invalid}
+use Rattle.xa_model.specs.Early.{early_refusal, passes_down, call_of, needs_open, is_opened, is_async, flags_of, is_invalid, Context}
 use Rattle.xa_model.specs.Associations.{is_unknown, is_lasting}
 use Rattle.xa_model.specs.Branches.{one_phase_refusal, two_phase_refusal, rollback_refusal, heuristic_refusal}
 use Rattle.xa_model.specs.Completions.{forget_refusal, is_completed}
 use Rattle.xa_model.specs.Durable.{Durable, durable}
 use Rattle.xa_model.specs.Fold.{apply}
 use Rattle.xa_model.specs.Turn.{Turn, Nobody, Now, Appends, Rereads, Asked, unless_now, marked_now}
-use Rattle.xa_model.specs.Step.{row, respond, asked, turn, opened_of, is_up}
+use Rattle.xa_model.specs.Step.{row, respond, asked, turn, is_up, context_of}
 use Rattle.xa_model.specs.Logging.{applied}
 use Rattle.xa_model.specs.Events.{IsEvent, asks_restart}
 use Rattle.xa_model.specs.History.{Entry, Leads}
@@ -50,15 +50,14 @@ pub one_phase_bad : (k : Known) (held : Bool) (reply : Reply) → one_phase_refu
 one_phase_bad k held reply e ok =
     refused ((is_unknown k, plain XAER_NOTA) ∷ (held || is_lasting k, plain XAER_PROTO) ∷ []) reply ((λ ok. cc ok), ((λ ok. cc ok), tt)) e ok
 
-pub early_bad : (up : Bool) (name : List ℕ) (session : Option Bool) (request : Request) (reply : Reply)
-    → early_refusal up name session request ≡ Some reply → reply.code ≡ XA_OK → ⊥
-early_bad up name session request reply e ok =
+pub early_bad : (c : Context) (request : Request) (reply : Reply) → early_refusal c request ≡ Some reply → reply.code ≡ XA_OK → ⊥
+early_bad c request reply e ok =
     refused (
-    (not up && not (passes_down (call_of request)), plain XAER_RMFAIL)
-    ∷ (is_none session, plain XAER_PROTO)
-    ∷ (needs_open (call_of request) && not (is_opened session), plain XAER_PROTO)
+    (not c.up && not (passes_down (call_of request)), plain XAER_RMFAIL)
+    ∷ (is_none c.session, plain XAER_PROTO)
+    ∷ (needs_open (call_of request) && not (is_opened c.session), plain XAER_PROTO)
     ∷ (is_async (call_of request) (flags_of request), plain XAER_ASYNC)
-    ∷ (is_invalid name request, plain XAER_INVAL)
+    ∷ (is_invalid c.name request, plain XAER_INVAL)
     ∷ []) reply ((λ ok. cc ok), ((λ ok. cc ok), ((λ ok. cc ok), ((λ ok. cc ok), ((λ ok. cc ok), tt))))) e ok
 
 other_bad : (k : Known) (reply : Reply) → heuristic_refusal k ≡ Some reply → IsDone reply → ⊥
@@ -155,9 +154,9 @@ pub call_settles : (P : Durable → Type 0) (s : State) (n : ℕ) (request : Req
     → AllOf (IsSettled P) (turn s (Asked (event.Call n request)))
 call_settles P s n request is other down h settles =
     let e = event.Call n request in
-    let early = early_refusal (is_up s.standing) s.name (opened_of s n) request in
+    let early = early_refusal (context_of s n) request in
     asked_settles P s (respond s e) s.standing refl h (turn_logs_last s (Asked e) is h)
-    (unless_settles P s early (row s n request) (λ reply bad ok. early_bad (is_up s.standing) s.name (opened_of s n) request reply bad ok)
+    (unless_settles P s early (row s n request) (λ reply bad ok. early_bad (context_of s n) request reply bad ok)
     (λ allowed. settles (is_running s s.standing refl (asked_up (is_up s.standing) (passes_down (call_of request)) (passed _ _ _ allowed).0 down))))
     (events_log_what_lasts s e h.sound other)
 

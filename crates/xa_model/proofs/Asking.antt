@@ -20,7 +20,7 @@ use Rattle.xa_model.specs.Associations.{mark_in, timestamp_in}
 use Rattle.xa_model.specs.Branches.{rolled_back, committed, one_phase_refusal, two_phase_refusal, rollback_refusal, heuristic_refusal, is_associated}
 use Rattle.xa_model.specs.Fold.{is_empty}
 use Rattle.xa_model.specs.Turn.{Happening, Asked, Reopened, Turn, Now, Appends, unless_now, marked_now}
-use Rattle.xa_model.specs.Step.{row, respond, asked, turn, opened_of, is_up}
+use Rattle.xa_model.specs.Step.{row, respond, asked, turn, context_of}
 use Rattle.xa_model.specs.Logging.{logs, has_room, log_full, writes_in}
 use Rattle.xa_model.specs.Completions.{prepare_turn, prepare_written, commit_one_phase_turn, commit_two_phase_turn, commit_written, roll_back_turn, decide_refusal, forget_refusal}
 use Rattle.xa_model.specs.ListedLaw.{is_prepare, is_completion, is_request}
@@ -110,7 +110,7 @@ event_logs : (s : State) (e : Event) → Logs (IsAsked (Asked e)) (respond s e)
 event_logs s event.Connect = tt
 event_logs s (event.Hangup n) = tt
 event_logs s (event.Call n request) =
-    unless_logs (IsAsked (Asked (event.Call n request))) (early_refusal (is_up s.standing) s.name (opened_of s n) request) s (row s n request)
+    unless_logs (IsAsked (Asked (event.Call n request))) (early_refusal (context_of s n) request) s (row s n request)
     (row_logs s n request)
 
 pub turn_logs : (s : State) (h : Happening) → Logs (IsAsked h) (turn s h)

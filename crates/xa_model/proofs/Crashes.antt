@@ -18,7 +18,7 @@ use Rattle.xa_model.specs.Early.{early_refusal}
 use Rattle.xa_model.specs.Durable.{Durable, durable}
 use Rattle.xa_model.specs.Fold.{apply}
 use Rattle.xa_model.specs.Turn.{Happening, Asked, Reopened, Turn, Nobody, Now, Appends, Rereads, Rereading, Stops, Opens, going_on, taken, unless_now}
-use Rattle.xa_model.specs.Step.{respond, asked, turn, step, opened_of, is_up}
+use Rattle.xa_model.specs.Step.{respond, asked, turn, step, context_of}
 use Rattle.xa_model.specs.Events.{IsEvent, IsHappening, HaveHappened, is_restart}
 use Rattle.xa_model.specs.History.{Entry}
 use Rattle.xa_model.specs.Logging.{applied, lost}
@@ -152,7 +152,7 @@ asked_leaves Ended s t h = tt
 
 restart_only : (s : State) (n : ℕ) (request : Request) → is_restart (event.Call n request) ≡ true → IsRecoverable s
     → TurnLeaves s (respond s (event.Call n request))
-restart_only s n Restart e h = unless_leaves (early_refusal (is_up s.standing) s.name (opened_of s n) Restart) s (restart_turn s) (restart_leaves s h)
+restart_only s n Restart e h = unless_leaves (early_refusal (context_of s n) Restart) s (restart_turn s) (restart_leaves s h)
 restart_only s n request e h = absurd (cc e)
 
 restarts_leave : (s : State) (e : Event) → is_restart e ≡ true → IsRecoverable s → TurnLeaves s (respond s e)

@@ -17,7 +17,7 @@ use Rattle.xa_model.specs.Early.{early_refusal}
 use Rattle.xa_model.specs.Durable.{Durable, durable}
 use Rattle.xa_model.specs.Fold.{apply}
 use Rattle.xa_model.specs.Turn.{Happening, Asked, Reopened, Turn, Nobody, Now, Appends, Rereads, Rereading, Stops, Opens}
-use Rattle.xa_model.specs.Step.{respond, asked, turn, step, opened_of, is_up}
+use Rattle.xa_model.specs.Step.{respond, asked, turn, step, context_of}
 use Rattle.xa_model.specs.Events.{IsEvent, IsHappening, HaveHappened, is_restart}
 use Rattle.xa_model.specs.History.{Entry, Leads}
 use Rattle.xa_model.specs.Logging.{applied, lost}
@@ -157,7 +157,7 @@ module _ (P : Durable → Type 0) (E : Happening → Reply → Type 0) (boots : 
   restart_only : (s : State) (n : ℕ) (request : Request) → is_restart (event.Call n request) ≡ true → IsRecoverable s → IsFated P s
       → AllOf (Stays P (E (Asked (event.Call n request)))) (respond s (event.Call n request))
   restart_only s n Restart e h all =
-      unless_all (Stays P (E (Asked (event.Call n Restart)))) (early_refusal (is_up s.standing) s.name (opened_of s n) Restart) s (restart_turn s)
+      unless_all (Stays P (E (Asked (event.Call n Restart)))) (early_refusal (context_of s n) Restart) s (restart_turn s)
       (λ reply is k other. all)
       (restart_stays (Asked (event.Call n Restart)) s h all)
   restart_only s n request e h all = absurd (cc e)

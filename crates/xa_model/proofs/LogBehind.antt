@@ -11,7 +11,7 @@ use Rattle.xa_model.specs.State.{State, Standing, Up, Down, Ended, timestamp_of}
 use Rattle.xa_model.specs.Answer.{Answer}
 use Rattle.xa_model.specs.Early.{early_refusal}
 use Rattle.xa_model.specs.Turn.{Asked, Reopened, Turn, Nobody, Now, Appends, Rereads, unless_now}
-use Rattle.xa_model.specs.Step.{respond, asked, turn, opened_of, is_up}
+use Rattle.xa_model.specs.Step.{respond, asked, turn, context_of}
 use Rattle.xa_model.specs.Events.{IsEvent, is_restart}
 use Rattle.xa_model.specs.Fold.{reading, unread}
 use Rattle.xa_model.specs.Loggable.{IsRecoverable}
@@ -68,7 +68,7 @@ unless_backed rs s (Some reply) k h = k
 
 restart_only : (rs : List Record) (s : State) (n : ℕ) (request : Request) → is_restart (event.Call n request) ≡ true → IsRecoverable s → Backs rs s
     → BacksTurn rs s (respond s (event.Call n request))
-restart_only rs s n Restart e h k = unless_backed rs s (early_refusal (is_up s.standing) s.name (opened_of s n) Restart) k (restart_backed rs s h k)
+restart_only rs s n Restart e h k = unless_backed rs s (early_refusal (context_of s n) Restart) k (restart_backed rs s h k)
 restart_only rs s n request e h k = absurd (cc e)
 
 restarts_backed : (rs : List Record) (s : State) (e : Event) → is_restart e ≡ true → IsRecoverable s → Backs rs s → BacksTurn rs s (respond s e)

@@ -20,7 +20,7 @@ use Rattle.xa_model.specs.Branches.{doom_refusal, doomed, doom_by}
 use Rattle.xa_model.specs.Records.{having_done, got, get_from, get_by, busy_refusal, is_full, limit_refusal, came_late, written, in_time, put_from, put_by}
 use Rattle.xa_model.specs.Completions.{commit_one_phase_turn, commit_two_phase_turn}
 use Rattle.xa_model.specs.Recovering.{scan_of, scan_from, recovered_from, recover_by}
-use Rattle.xa_model.specs.Step.{row, opened_of, is_up}
+use Rattle.xa_model.specs.Step.{row, context_of}
 use Rattle.xa_model.specs.Events.{asks_restart}
 use Rattle.xa_model.specs.Sound.{IsSound, is_working, is_at_work}
 use Rattle.xa_model.specs.Durable.{durable, last_writes, by_name, writes_of, committed_part, prepared_part}
@@ -281,5 +281,5 @@ pub events_log_what_lasts : EventsLogWhatLasts
 events_log_what_lasts s event.Connect h other = keeps s (connect_by s).after (unless_same (connect_refusal _) s (connected s) (λ none. alike s s.given _ s.associations s.reads)) (connected_sound s h)
 events_log_what_lasts s (event.Hangup n) h other = keeps s (hang_up_by s n).after (hung_up_same s n _ _) (hung_up_sound s n h)
 events_log_what_lasts s (event.Call n request) h other =
-    unless_logs (early_refusal (is_up s.standing) s.name (opened_of s n) request) s (row s n request) (logged_itself s h)
-    (λ allowed. row_logs s n request h (reached (is_up s.standing) s.name request (session_of s.sessions n) allowed) other)
+    unless_logs (early_refusal (context_of s n) request) s (row s n request) (logged_itself s h)
+    (λ allowed. row_logs s n request h (reached s n request allowed) other)

@@ -27,7 +27,7 @@ use Rattle.xa_model.specs.Associations.{connect_refusal, connected, close_refusa
 use Rattle.xa_model.specs.Branches.{rolled_back, committed, as_committed, as_prepared, prepared_phase, one_phase_refusal, two_phase_refusal, rollback_refusal, heuristic_refusal, doom_refusal, doomed, is_associated}
 use Rattle.xa_model.specs.Records.{got, get_from, get_by, busy_refusal, is_full, limit_refusal, came_late, written, in_time, put_from, put_by}
 use Rattle.xa_model.specs.Recovering.{recovered_from, scan_from, scan_of}
-use Rattle.xa_model.specs.Step.{row, respond, opened_of, is_up}
+use Rattle.xa_model.specs.Step.{row, respond, context_of}
 use Rattle.xa_model.specs.Turn.{Turn, Now, unless_now}
 use Rattle.xa_model.specs.Logging.{logs, has_room, log_full, writes_in, applied, append_became}
 use Rattle.xa_model.specs.Completions.{prepare_turn, prepare_written, commit_one_phase_turn, commit_two_phase_turn, commit_written, rollback_turn, roll_back_turn, decide_refusal, forget_refusal}
@@ -336,4 +336,4 @@ event_moved s event.Connect h e = unless_moved (connect_refusal _) s (connected 
 event_moved s (event.Hangup n) h e =
     remains (map (left_behind s.associations n) s.branches) (mapped_remain (left_behind s.associations n) (left_goes s.associations n) s.branches)
 event_moved s (event.Call n request) h e =
-    unless_turns (early_refusal (is_up s.standing) s.name (opened_of s n) request) s (row s n request) (row_moved s n request h e)
+    unless_turns (early_refusal (context_of s n) request) s (row s n request) (row_moved s n request h e)

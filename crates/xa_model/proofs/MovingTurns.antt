@@ -15,7 +15,7 @@ use Rattle.xa_model.specs.State.{State}
 use Rattle.xa_model.specs.Answer.{Answer, answer, detailed, ok}
 use Rattle.xa_model.specs.Early.{early_refusal}
 use Rattle.xa_model.specs.Turn.{Happening, Asked, Reopened, Rereading, Stops, Opens}
-use Rattle.xa_model.specs.Step.{respond, turn, opened_of, is_up}
+use Rattle.xa_model.specs.Step.{respond, turn, context_of}
 use Rattle.xa_model.specs.Events.{HaveHappened, is_restart}
 use Rattle.xa_model.specs.History.{Entry, Leads}
 use Rattle.xa_model.specs.Logging.{down}
@@ -95,7 +95,7 @@ reopen_moved s name log_bytes h = (
 restart_only : (s : State) (n : ℕ) (request : Request) → is_restart (event.Call n request) ≡ true → IsRecoverable s
     → AllOf (Moved s) (respond s (event.Call n request))
 restart_only s n Restart e h =
-    unless_all (Moved s) (early_refusal (is_up s.standing) s.name (opened_of s n) Restart) s (restart_turn s) (λ reply is. itself s)
+    unless_all (Moved s) (early_refusal (context_of s n) Restart) s (restart_turn s) (λ reply is. itself s)
     (restart_moved s h)
 restart_only s n request e h = absurd (cc e)
 

@@ -23,7 +23,7 @@ use Rattle.xa_model.specs.Associations.{connect_refusal, connected, close_refusa
 use Rattle.xa_model.specs.Branches.{rolled_back, committed, as_committed, one_phase_refusal, two_phase_refusal, rollback_refusal, heuristic_refusal, doom_refusal, doomed, is_associated}
 use Rattle.xa_model.specs.Records.{having_done, got, get_from, get_by, busy_refusal, is_full, limit_refusal, came_late, written, in_time, put_from, put_by}
 use Rattle.xa_model.specs.Recovering.{recovered_from, scan_from, scan_of}
-use Rattle.xa_model.specs.Step.{row, respond, opened_of, is_up}
+use Rattle.xa_model.specs.Step.{row, respond, context_of}
 use Rattle.xa_model.specs.Turn.{Turn, Nobody, Now, Appends, Rereads, unless_now, marked_now}
 use Rattle.xa_model.specs.Logging.{logs, has_room, log_full, writes_in}
 use Rattle.xa_model.specs.Completions.{prepare_turn, prepare_written, commit_one_phase_turn, commit_two_phase_turn, commit_written, rollback_turn, roll_back_turn, decide_refusal, forget_refusal}
@@ -286,4 +286,4 @@ event_continues s event.Connect e = unless_newer (connect_refusal _) s (connecte
 event_continues s (event.Hangup n) e =
     moved s _ _ _ s.reads (λ ts h. mapped_unused (left_behind s.associations n) (behind_still s.associations n) ts s.branches h)
 event_continues s (event.Call n request) e =
-    unless_continues (early_refusal (is_up s.standing) s.name (opened_of s n) request) s (row s n request) (row_continues s n request e)
+    unless_continues (early_refusal (context_of s n) request) s (row s n request) (row_continues s n request e)

@@ -32,7 +32,7 @@ use Rattle.xa_model.specs.Sound.{is_working}
 use Rattle.xa_model.specs.Durable.{boot_of, is_past}
 use Rattle.xa_model.specs.Fold.{is_empty}
 use Rattle.xa_model.specs.Turn.{Turn, Now, Appends, unless_now, marked_now}
-use Rattle.xa_model.specs.Step.{row, respond, opened_of, is_up, commit_turn}
+use Rattle.xa_model.specs.Step.{row, respond, commit_turn, context_of}
 use Rattle.xa_model.specs.Logging.{logs, has_room, log_full, writes_by, writes_in}
 use Rattle.xa_model.specs.Completions.{prepare_written, prepare_turn, commit_written, commit_one_phase_turn, commit_two_phase_turn, roll_back_turn, decide_refusal, forget_refusal}
 use Rattle.xa_model.specs.Loggable.{IsLoggable, is_boot}
@@ -302,4 +302,4 @@ pub events_keep_recordable : (s : State) (e : Event) → IsEvent e → IsLoggabl
 events_keep_recordable s event.Connect is h other = unless_fits (connect_refusal (length s.sessions)) s (connected s) (recordable s h) (λ none. recordable s h)
 events_keep_recordable s (event.Hangup n) is h other = left_recordable s.associations n s.boot s.logged_boot s.branches (recordable s h)
 events_keep_recordable s (event.Call n request) is h other =
-    unless_keeps (early_refusal (is_up s.standing) s.name (opened_of s n) request) s (row s n request) (recordable s h) (λ allowed. row_keeps s n request is h other)
+    unless_keeps (early_refusal (context_of s n) request) s (row s n request) (recordable s h) (λ allowed. row_keeps s n request is h other)

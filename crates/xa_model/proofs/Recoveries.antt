@@ -19,7 +19,7 @@ use Rattle.xa_model.specs.Answer.{Answer}
 use Rattle.xa_model.specs.Early.{early_refusal}
 use Rattle.xa_model.specs.Durable.{IsDurable, durable}
 use Rattle.xa_model.specs.Turn.{Happening, Asked, Reopened, Turn, Nobody, Now, Appends, Rereads, Rereading, Stops, Opens, going_on, taken, unless_now}
-use Rattle.xa_model.specs.Step.{respond, asked, turn, opened_of, is_up}
+use Rattle.xa_model.specs.Step.{respond, asked, turn, context_of}
 use Rattle.xa_model.specs.Logging.{applied, down, lost}
 use Rattle.xa_model.specs.Restarting.{restart_turn, reopen_turn, restarting, reopening, survived, missed}
 use Rattle.xa_model.specs.Events.{IsEvent, IsHappening, asks_restart, is_restart}
@@ -205,7 +205,7 @@ asked_to_restart s n (Put key value) h e = absurd (cc e)
 asked_to_restart s n (Delete key) h e = absurd (cc e)
 asked_to_restart s n (Decide direction xid) h e = absurd (cc e)
 asked_to_restart s n (Doom xid) h e = absurd (cc e)
-asked_to_restart s n Restart h e = unless_stays (early_refusal (is_up s.standing) s.name (opened_of s n) Restart) s (restart_turn s) h (restart_stays s h)
+asked_to_restart s n Restart h e = unless_stays (early_refusal (context_of s n) Restart) s (restart_turn s) h (restart_stays s h)
 
 restart_asked : (s : State) (e : Event) → IsRecoverable s → is_restart e ≡ true → StaysRecoverable (respond s e)
 restart_asked s event.Connect h is = absurd (cc is)
@@ -282,7 +282,7 @@ restart_logs s n (Put key value) e = absurd (cc e)
 restart_logs s n (Delete key) e = absurd (cc e)
 restart_logs s n (Decide direction xid) e = absurd (cc e)
 restart_logs s n (Doom xid) e = absurd (cc e)
-restart_logs s n Restart e = unless_logs (early_refusal (is_up s.standing) s.name (opened_of s n) Restart) s (restart_turn s) tt
+restart_logs s n Restart e = unless_logs (early_refusal (context_of s n) Restart) s (restart_turn s) tt
 
 event_logs : (s : State) (e : Event) → is_restart e ≡ true → LogsLast s (respond s e)
 event_logs s event.Connect is = absurd (cc is)

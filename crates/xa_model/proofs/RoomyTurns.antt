@@ -22,7 +22,7 @@ use Rattle.xa_model.specs.Early.{early_refusal}
 use Rattle.xa_model.specs.Durable.{durable}
 use Rattle.xa_model.specs.Fold.{apply, snapshot, size_of, sizes}
 use Rattle.xa_model.specs.Turn.{Asked, Reopened, Turn, Nobody, Now, Appends, Rereads, Rereading, Stops, Opens, going_on, taken, unless_now}
-use Rattle.xa_model.specs.Step.{respond, asked, turn, opened_of, is_up}
+use Rattle.xa_model.specs.Step.{respond, asked, turn, context_of}
 use Rattle.xa_model.specs.Logging.{is_in_doubt, snapshot_end, applied, down, lost}
 use Rattle.xa_model.specs.Restarting.{missed, survived, lasts, restarted, restart_turn, restarting, boot_became, reopened, reopen_became, reopening, reopen_turn, refused_opening, can_open}
 use Rattle.xa_model.specs.Events.{IsEvent, is_restart}
@@ -302,7 +302,7 @@ restart_asked : (rs : List Record) (s : State) (n : ℕ) (request : Request) →
     → HasRoomAnyway s
     → Leaves HasRoomAnyway (respond s (event.Call n request))
 restart_asked rs s n Restart e h k room =
-    unless_leaves (early_refusal (is_up s.standing) s.name (opened_of s n) Restart) s (restart_turn s) room (restart_leaves rs s h k room)
+    unless_leaves (early_refusal (context_of s n) Restart) s (restart_turn s) room (restart_leaves rs s h k room)
 restart_asked rs s n request e h k room = absurd (cc e)
 
 restart_only : (rs : List Record) (s : State) (e : Event) → is_restart e ≡ true → IsRecoverable s → Backs rs s → HasRoomAnyway s

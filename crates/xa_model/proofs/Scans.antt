@@ -19,12 +19,12 @@ use Rattle.xa_model.specs.declared.event.Event.TheVariants as event
 use Rattle.xa_model.specs.declared.outcome.Outcome.TheVariants.{Quiet}
 use Rattle.xa_model.specs.State.{State, Session, Standing, Up, Down, Ended, session_of}
 use Rattle.xa_model.specs.Answer.{Answer, plain, first}
-use Rattle.xa_model.specs.Early.{early_refusal, passes_down, call_of, needs_open, is_opened, is_async, flags_of, is_invalid}
+use Rattle.xa_model.specs.Early.{early_refusal, passes_down, call_of, needs_open, is_opened, is_async, flags_of, is_invalid, Context}
 use Rattle.xa_model.specs.Durable.{Durable, Pairwise, durable}
 use Rattle.xa_model.specs.Listed.{is_above, lasting_names, listed, list_after}
 use Rattle.xa_model.specs.Recovering.{scan_of, scan_from, moved, scan_after, with_scan, scanning, listing, recovered, recovered_from, recover_by}
 use Rattle.xa_model.specs.Turn.{Asked, Now, taken, unless_now}
-use Rattle.xa_model.specs.Step.{respond, asked, turn, step, opened_of, is_up}
+use Rattle.xa_model.specs.Step.{respond, asked, turn, step, opened_of, is_up, context_of}
 use Rattle.xa_model.specs.History.{Steps, Leads}
 use Rattle.xa_model.specs.ScanLaw.{Portion, recovers, asked_for, answered, ListedAscends, ScanListsFirst, ScanListsAll, ScanIsAnswered}
 use Rattle.xa_model.proofs.InOrder.{below, below_transitive, below_strict, ordered_pairwise, above_more}
@@ -86,15 +86,14 @@ refused : (P : Reply → Type 0) (checks : List (Bool × Reply)) (reply : Reply)
 refused P [] reply h e = absurd (cc e)
 refused P (check ∷ checks) reply h e = refused_by P check.0 check.1 reply (first checks) h.0 (refused P checks reply h.1) e
 
-early_bare : (up : Bool) (name : List ℕ) (session : Option Bool) (request : Request) (reply : Reply)
-    → early_refusal up name session request ≡ Some reply → reply.body ≡ body.Nothing
-early_bare up name session request reply e =
+early_bare : (c : Context) (request : Request) (reply : Reply) → early_refusal c request ≡ Some reply → reply.body ≡ body.Nothing
+early_bare c request reply e =
     refused (λ r. r.body ≡ body.Nothing) (
-    (not up && not (passes_down (call_of request)), plain XAER_RMFAIL)
-    ∷ (is_none session, plain XAER_PROTO)
-    ∷ (needs_open (call_of request) && not (is_opened session), plain XAER_PROTO)
+    (not c.up && not (passes_down (call_of request)), plain XAER_RMFAIL)
+    ∷ (is_none c.session, plain XAER_PROTO)
+    ∷ (needs_open (call_of request) && not (is_opened c.session), plain XAER_PROTO)
     ∷ (is_async (call_of request) (flags_of request), plain XAER_ASYNC)
-    ∷ (is_invalid name request, plain XAER_INVAL)
+    ∷ (is_invalid c.name request, plain XAER_INVAL)
     ∷ []) reply (refl, (refl, (refl, (refl, (refl, tt))))) e
 
 no_list : (reply : Reply) (xids : List Triple) → reply.body ≡ body.Nothing → reply ≡ listing xids → ⊥
@@ -127,13 +126,13 @@ row_goes s n flags count xids (Some cursor) there e same =
     }
 
 call_goes : (s : State) (n flags count : ℕ) (xids : List Triple) (o : Option Reply)
-    → early_refusal (is_up s.standing) s.name (opened_of s n) (Recover flags count) ≡ o
+    → early_refusal (context_of s n) (Recover flags count) ≡ o
     → AllOf (Goes s n flags count xids) (unless_now o s (Now (recover_by s n flags count)))
 call_goes s n flags count xids (Some reply) e = λ same.
-    absurd (no_list reply xids (early_bare (is_up s.standing) s.name (opened_of s n) (Recover flags count) reply e) same)
+    absurd (no_list reply xids (early_bare (context_of s n) (Recover flags count) reply e) same)
 call_goes s n flags count xids None e =
     row_goes s n flags count xids (scan_from flags (scan_of s.sessions n))
-    (reached (is_up s.standing) s.name (Recover flags count) (session_of s.sessions n) e) refl
+    (reached s n (Recover flags count) e) refl
 
 went : (s t : State) (n : ℕ) (p : Portion) → Steps s (recovers n p) t → Went s n p.flags p.count p.xids t
 went s t n p steps =
@@ -142,7 +141,7 @@ went s t n p steps =
     let Q = Goes s n p.flags p.count p.xids in
     taken_all Q (turn s (Asked e)) Quiet a
     (asked_all Q s.standing (respond s e)
-    (call_goes s n p.flags p.count p.xids (early_refusal (is_up s.standing) s.name (opened_of s n) (Recover p.flags p.count)) refl)) steps refl
+    (call_goes s n p.flags p.count p.xids (early_refusal (context_of s n) (Recover p.flags p.count)) refl)) steps refl
 
 -- where it leaves the scan
 
@@ -223,10 +222,9 @@ scan_lists_all s last n portions one leads fewer =
 
 -- a scan is answered, whatever its calls ask for
 
-allowed : (up : Bool) (name : List ℕ) (session : Option Bool) (flags count : ℕ) → up ≡ true → session ≡ Some true → legal call.Recover flags ≡ true
-    → nat_lt MOST_XIDS count ≡ false
-    → early_refusal up name session (Recover flags count) ≡ None
-allowed up name session flags count e opened fine few = rw (e, opened, fine, few) refl
+allowed : (c : Context) (flags count : ℕ) → c.up ≡ true → c.session ≡ Some true → legal call.Recover flags ≡ true → nat_lt MOST_XIDS count ≡ false
+    → early_refusal c (Recover flags count) ≡ None
+allowed c flags count e opened fine few = rw (e, opened, fine, few) refl
 
 taken_up : (s : State) (a : Answer) (standing : Standing) (o : Option Reply) → standing ≡ Up → o ≡ None → taken (asked standing (unless_now o s (Now a))) Quiet ≡ Some a
 taken_up s a Up None e none = refl
@@ -239,8 +237,8 @@ call_answered : (s : State) (n flags count : ℕ) (cursor : Option Triple) → s
     → step s (Asked (event.Call n (Recover flags count))) Quiet ≡ Some (recovered s n flags count cursor)
 call_answered s n flags count cursor up opened fine few from =
     let within : nat_lt MOST_XIDS count ≡ false = grind (arith, nat_tests) in
-    let passes = allowed (is_up s.standing) s.name (opened_of s n) flags count (ap is_up up) opened fine within in
-    taken_up s (recover_by s n flags count) s.standing (early_refusal (is_up s.standing) s.name (opened_of s n) (Recover flags count)) up passes
+    let passes = allowed (context_of s n) flags count (ap is_up up) opened fine within in
+    taken_up s (recover_by s n flags count) s.standing (early_refusal (context_of s n) (Recover flags count)) up passes
     ∙ ap (λ (o : Option (Option Triple)). Some (recovered_from s n flags count o)) from
 
 is_seated : (o : Option Session) → option_map (λ x. x.opened) o ≡ Some true → is_some o ≡ true

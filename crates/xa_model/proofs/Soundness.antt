@@ -5,10 +5,10 @@ use Rattle.std.specs.List.{list_any}
 use Rattle.xa_codes.specs.declared.codes.TheConstants.{XA_RBTRANSIENT, XA_RBOTHER}
 use Rattle.xa_frame.specs.declared.request.Request.{Request}
 use Rattle.xa_xid.specs.Triple.{Triple}
-use Rattle.xa_model.specs.State.{State, Branch, Got, Wrote, Session, known_as, mark_of, change}
+use Rattle.xa_model.specs.State.{State, Branch, Got, Wrote, Session, known_as, mark_of, change, session_of}
 use Rattle.xa_model.specs.Source.{Version, source, is_late}
 use Rattle.xa_model.specs.Answer.{Answer, ok}
-use Rattle.xa_model.specs.Early.{early_refusal, call_of, passes_down}
+use Rattle.xa_model.specs.Early.{early_refusal, call_of, passes_down, Context}
 use Rattle.xa_model.specs.Associations.{as_closed, close_refusal, close_by, with_mark, is_anyones}
 use Rattle.xa_model.specs.Branches.{doom_refusal, doomed, doom_by}
 use Rattle.xa_model.specs.Records.{having_done, got, get_from, get_by, busy_refusal, is_full, limit_refusal, came_late, written, in_time, put_from, put_by}
@@ -20,6 +20,7 @@ use Rattle.xa_model.proofs.Parts.{sound_beside}
 use Rattle.xa_model.proofs.Marks.{mark_keeps, done_keeps, changed_sound}
 use Rattle.xa_model.proofs.Rows.{unless_sound, marked_sound, passed}
 use Rattle.xa_model.proofs.Seats.{seat_sound}
+use Rattle.xa_model.specs.Step.{context_of}
 
 -- the operator's mark
 
@@ -71,6 +72,9 @@ pub recover_sound : (s : State) (n flags count : ℕ) → IsSound s → IsSound 
 recover_sound s n flags count h = recovered_sound s n flags count (scan_from flags (scan_of s.sessions n)) h
 
 -- the row is reached only by a session that is connected
-pub reached : (up : Bool) (name : List ℕ) (request : Request) (o : Option Session) → early_refusal up name (option_map (λ x. x.opened) o) request ≡ None → is_some o ≡ true
-reached up name request (Some x) allowed = refl
-reached up name request None allowed = let second = (passed (not up && not (passes_down (call_of request))) _ _ allowed).1 in absurd (cc second)
+reached_by : (c : Context) (request : Request) (o : Option Session) → early_refusal (record c { session = option_map (λ x. x.opened) o }) request ≡ None → is_some o ≡ true
+reached_by c request (Some x) allowed = refl
+reached_by c request None allowed = let second = (passed (not c.up && not (passes_down (call_of request))) _ _ allowed).1 in absurd (cc second)
+
+pub reached : (s : State) (n : ℕ) (request : Request) → early_refusal (context_of s n) request ≡ None → is_some (session_of s.sessions n) ≡ true
+reached s n request allowed = reached_by (context_of s n) request (session_of s.sessions n) allowed

@@ -17,7 +17,7 @@ use Rattle.xa_model.specs.Answer.{Answer, unless}
 use Rattle.xa_model.specs.Early.{early_refusal}
 use Rattle.xa_model.specs.Associations.{connect_refusal, connected, close_refusal, is_anyones, with_mark, marked_phase, left_behind, is_worked_by, timestamp_by}
 use Rattle.xa_model.specs.Turn.{Turn, Now, unless_now}
-use Rattle.xa_model.specs.Step.{row, respond, opened_of, is_up}
+use Rattle.xa_model.specs.Step.{row, respond, is_up, context_of}
 use Rattle.xa_model.specs.Logging.{writes_by}
 use Rattle.xa_model.specs.Completions.{is_completed}
 use Rattle.xa_model.specs.MayLog.{IsIdle, MayLog}
@@ -137,12 +137,12 @@ unless_may None s a r h k = k
 unless_may (Some reply) s a r h k = h
 
 down_calls : (s : State) (n : ℕ) (up : Bool) (request : Request) → up ≡ false → asks_restart request ≡ false
-    → StillMay s (unless_now (early_refusal up s.name (opened_of s n) request) s (row s n request))
+    → StillMay s (unless_now (early_refusal (record (context_of s n) { up = up }) request) s (row s n request))
 down_calls s n true request down other = absurd (cc down)
 down_calls s n false (Open flags info) down other =
-    unless_still (early_refusal false s.name (opened_of s n) (Open flags info)) s (row s n (Open flags info)) (λ r may. seated_may s _ r may)
+    unless_still (early_refusal (record (context_of s n) { up = false }) (Open flags info)) s (row s n (Open flags info)) (λ r may. seated_may s _ r may)
 down_calls s n false (Close flags) down other =
-    unless_still (early_refusal false s.name (opened_of s n) (Close flags)) s (row s n (Close flags))
+    unless_still (early_refusal (record (context_of s n) { up = false }) (Close flags)) s (row s n (Close flags))
     (λ r may. unless_may (close_refusal (list_any (is_anyones n) s.associations)) s _ r may (seated_may s _ r may))
 down_calls s n false (Start flags xid) down other = λ r may. may
 down_calls s n false (End flags xid) down other = λ r may. may

@@ -25,7 +25,7 @@ use Rattle.xa_model.specs.Early.{early_refusal}
 use Rattle.xa_model.specs.Fold.{is_empty}
 use Rattle.xa_model.specs.Logging.{has_room, writes_in, append_became, log_full}
 use Rattle.xa_model.specs.Turn.{Happening, Asked, Reopened, Turn, Nobody, Now, Appends, Rereads, Rereading, Stops, Opens, taken, going_on, unless_now, marked_now}
-use Rattle.xa_model.specs.Step.{turn, row, respond, asked, opened_of, is_up, commit_turn}
+use Rattle.xa_model.specs.Step.{turn, row, respond, asked, commit_turn, context_of}
 use Rattle.xa_model.specs.Restarting.{restarting, reopening, can_open, missed, survived}
 use Rattle.xa_limits.specs.declared.TheConstants.{MOST_BOOTS}
 use Rattle.xa_model.specs.Total.{fits, fits_rereading, StepIsTotal, is_over, NothingIsStuck, NobodyAnswers, RestartsLook, OpeningsLook}
@@ -146,7 +146,7 @@ respond_taken : (s : State) (e : Event) → IsTaken (respond s e)
 respond_taken s event.Connect = now_taken _
 respond_taken s (event.Hangup n) = now_taken _
 respond_taken s (event.Call n request) =
-    unless_taken (early_refusal (is_up s.standing) s.name (opened_of s n) request) s (row s n request) (row_taken s n request)
+    unless_taken (early_refusal (context_of s n) request) s (row s n request) (row_taken s n request)
 
 asked_taken : (standing : Standing) (e : Event) (t : Turn) → is_over standing (Asked e) ≡ false → IsTaken t → IsTaken (asked standing t)
 asked_taken Up e t other h = h

@@ -17,12 +17,12 @@ use Rattle.xa_model.specs.declared.outcome.Appending.TheVariants.{Kept, Refused,
 use Rattle.xa_model.specs.State.{State, Session, Branch, Phase, Working, Prepared, Committed, Association, Standing, Up, Down, Ended, count, owns, session_of, new_session}
 use Rattle.xa_model.specs.Answer.{Answer, answer, detailed, ok}
 use Rattle.xa_model.specs.Associations.{connect_by, hang_up_by, is_anyones, is_worked_by, left_behind, with_mark}
-use Rattle.xa_model.specs.Early.{early_refusal}
+use Rattle.xa_model.specs.Early.{early_refusal, Context}
 use Rattle.xa_model.specs.History.{Leads}
 use Rattle.xa_model.specs.Logging.{applied, down}
 use Rattle.xa_model.specs.Restarting.{boot_became, missed, restart_turn, restarting, survived}
 use Rattle.xa_model.specs.RestartLaw.{asks, comes, goes, restart_entries, RestartLeads, RestartHappens}
-use Rattle.xa_model.specs.Step.{asked, is_up, opened_of}
+use Rattle.xa_model.specs.Step.{asked, is_up, opened_of, context_of}
 use Rattle.xa_model.specs.Turn.{Turn, Now, Rereads, Stops, Opens, going_on, taken, unless_now}
 use Rattle.xa_model.proofs.Counts.{count_less}
 use Rattle.xa_model.proofs.Leaving.{none_counted}
@@ -155,11 +155,11 @@ answered_by Up t answers = refl
 answered_by Down t answers = refl
 answered_by Ended t answers = absurd (answers refl)
 
-asked_by : (p : Standing) (name : List ℕ) (opened : Bool) (s : State) (t : Turn) → (p ≡ Ended → ⊥)
-    → asked p (unless_now (early_refusal (is_up p) name (Some opened) Restart) s t) ≡ t
-asked_by Up name opened s t answers = refl
-asked_by Down name opened s t answers = refl
-asked_by Ended name opened s t answers = absurd (answers refl)
+asked_by : (p : Standing) (c : Context) (opened : Bool) (s : State) (t : Turn) → (p ≡ Ended → ⊥)
+    → asked p (unless_now (early_refusal (record c { up = is_up p; session = Some opened }) Restart) s t) ≡ t
+asked_by Up c opened s t answers = refl
+asked_by Down c opened s t answers = refl
+asked_by Ended c opened s t answers = absurd (answers refl)
 
 itself_by : (n : ℕ) (x : Session) (o : Option Session) (c : Bool) → (n == n) ≡ c → cond c (Some x) o ≡ Some x
 itself_by n x o true e = refl
@@ -183,7 +183,7 @@ nobody s outcome a free answers e =
       ap (takes Quiet) (answered_by s.standing (Now (connect_by (among [] s))) answers),
       (
         with_one a.after,
-        ap (takes outcome) (asked_by s.standing s.name false (with_one s) (restart_turn (with_one s)) answers) ∙ w.same,
+        ap (takes outcome) (asked_by s.standing (context_of (with_one s) 1) false (with_one s) (restart_turn (with_one s)) answers) ∙ w.same,
         (
           a.after,
           ap (takes Quiet) (answered_by a.after.standing (Now (hang_up_by (with_one a.after) 1)) w.answers) ∙ ap Some (left_alone a.after w.alone w.free),
@@ -198,8 +198,8 @@ leads_by s [] outcome a free answers e = nobody s outcome a (free refl) answers 
 leads_by s (x ∷ xs) outcome a free answers e =
     let t = among (x ∷ xs) s in
     let opened : opened_of t x.number ≡ Some x.opened = ap (option_map (λ (y : Session). y.opened)) (itself x xs) in
-    let turns = ap (λ (o : Option Bool). asked s.standing (unless_now (early_refusal (is_up s.standing) s.name o Restart) t (restart_turn t))) opened
-    ∙ asked_by s.standing s.name x.opened t (restart_turn t) answers in
+    let turns = ap (λ (o : Option Bool). asked s.standing (unless_now (early_refusal (record (context_of t x.number) { session = o }) Restart) t (restart_turn t))) opened
+    ∙ asked_by s.standing (context_of t x.number) x.opened t (restart_turn t) answers in
     (a.after, ap (takes outcome) turns ∙ e, refl)
 
 pub restart_leads : RestartLeads

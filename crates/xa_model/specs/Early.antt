@@ -73,13 +73,19 @@ abbrev pub is_opened : Option Bool → Bool
 is_opened (Some opened) = opened
 is_opened None = false
 
--- `session` says whether the session is opened, if it is connected
-abbrev pub early_refusal : Bool → List ℕ → Option Bool → Request → Option Reply
-early_refusal up name session request =
+-- What these refusals look at: whether the manager is up, its name, and whether the session is opened, if it is
+-- connected.
+pub record Context : Type 0 where
+  pub up : Bool
+  pub name : List ℕ
+  pub session : Option Bool
+
+abbrev pub early_refusal : Context → Request → Option Reply
+early_refusal c request =
     first (
-    (not up && not (passes_down (call_of request)), plain XAER_RMFAIL)
-    ∷ (is_none session, plain XAER_PROTO)
-    ∷ (needs_open (call_of request) && not (is_opened session), plain XAER_PROTO)
+    (not c.up && not (passes_down (call_of request)), plain XAER_RMFAIL)
+    ∷ (is_none c.session, plain XAER_PROTO)
+    ∷ (needs_open (call_of request) && not (is_opened c.session), plain XAER_PROTO)
     ∷ (is_async (call_of request) (flags_of request), plain XAER_ASYNC)
-    ∷ (is_invalid name request, plain XAER_INVAL)
+    ∷ (is_invalid c.name request, plain XAER_INVAL)
     ∷ [])

@@ -13,7 +13,7 @@ use Rattle.xa_model.specs.declared.outcome.Outcome.{Outcome}
 use Rattle.xa_model.specs.State.{State, Standing, Up, Down, Ended, own_branch, session_of}
 use Rattle.xa_model.specs.Answer.{Answer}
 use Rattle.xa_model.specs.Turn.{Happening, Asked, Reopened, Turn, Nobody, Now, taken, unless_now}
-use Rattle.xa_model.specs.Early.{early_refusal}
+use Rattle.xa_model.specs.Early.{Context, early_refusal}
 use Rattle.xa_model.specs.Associations.{connect_by, open_by, close_by, hang_up_by, start_by, end_by}
 use Rattle.xa_model.specs.Branches.{doom_by}
 use Rattle.xa_model.specs.Completions.{prepare_turn, commit_one_phase_turn, commit_two_phase_turn, rollback_turn}
@@ -52,11 +52,13 @@ is_up Up = true
 is_up Down = false
 is_up Ended = false
 
+abbrev pub context_of : State → ℕ → Context
+context_of s n = record { up = is_up s.standing; name = s.name; session = opened_of s n }
+
 abbrev pub respond : State → Event → Turn
 respond s event.Connect = Now (connect_by s)
 respond s (event.Hangup n) = Now (hang_up_by s n)
-respond s (event.Call n request) =
-    unless_now (early_refusal (is_up s.standing) s.name (opened_of s n) request) s (row s n request)
+respond s (event.Call n request) = unless_now (early_refusal (context_of s n) request) s (row s n request)
 
 abbrev pub asked : Standing → Turn → Turn
 asked Up turn = turn

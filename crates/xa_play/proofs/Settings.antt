@@ -23,7 +23,7 @@ use Rattle.xa_model.specs.State.{State, Known, Unknown, AtWork, InDoubt, Complet
 use Rattle.xa_model.specs.Fold.{is_empty}
 use Rattle.xa_model.specs.Answer.{Answer, answer, plain, detailed, ok}
 use Rattle.xa_model.specs.Turn.{Asked, Reopened, Turn, Nobody, Now, Appends, Rereads, Rereading, Stops, Opens, going_on, taken, unless_now, marked_now}
-use Rattle.xa_model.specs.Step.{step, turn, row, respond, asked, opened_of, is_up}
+use Rattle.xa_model.specs.Step.{step, turn, row, respond, asked, context_of}
 use Rattle.xa_model.specs.Events.{asks_restart}
 use Rattle.xa_model.proofs.RoomyRows.{AsksRoom, events_ask_room}
 use Rattle.xa_model.specs.Early.{early_refusal}
@@ -191,7 +191,7 @@ asked_call : (s : State) (n : ℕ) (request : Request) (o : Outcome) → asks_re
     → IfSome (taken (respond s (event.Call n request)) o) (Keeps s.log_bytes)
 asked_call s n request o e h =
     taken_keeps s (respond s (event.Call n request)) o (events_ask_room s (event.Call n request) e)
-    (unless_appends s.log_bytes (early_refusal (is_up s.standing) s.name (opened_of s n) request) s (row s n request) h).each
+    (unless_appends s.log_bytes (early_refusal (context_of s n) request) s (row s n request) h).each
 
 call_keeps : (s : State) (n : ℕ) (request : Request) (o : Outcome) → IfSome (taken (respond s (event.Call n request)) o) (Keeps s.log_bytes)
 call_keeps s n (Open flags info) o = asked_call s n (Open flags info) o refl (record { each = tt })
@@ -210,7 +210,7 @@ call_keeps s n (Put key value) o = asked_call s n (Put key value) o refl (record
 call_keeps s n (Delete key) o = asked_call s n (Delete key) o refl (record { each = tt })
 call_keeps s n (Decide d xid) o = asked_call s n (Decide d xid) o refl (decide_keeps s d xid)
 call_keeps s n (Doom xid) o = asked_call s n (Doom xid) o refl (record { each = tt })
-call_keeps s n Restart o = restart_keeps s (early_refusal (is_up s.standing) s.name (opened_of s n) Restart) o
+call_keeps s n Restart o = restart_keeps s (early_refusal (context_of s n) Restart) o
 
 respond_keeps : (s : State) (e : Event) (o : Outcome) → IfSome (taken (respond s e) o) (Keeps s.log_bytes)
 respond_keeps s event.Connect o = taken_keeps s (respond s event.Connect) o (events_ask_room s event.Connect refl) tt
