@@ -107,7 +107,7 @@ TurnLeaves s Nobody = Unit {0}
 TurnLeaves s (Now a) = IsFated (IsFate s) a.after
 TurnLeaves s (Appends r after) = AppendFates after
 TurnLeaves s (Rereads failed found missing) =
-    IsFated (IsFate s) failed.after × IfSome found (ReadingLeaves s) × IfSome missing (ReadingLeaves s)
+    IsFated (IsFate s) failed.after × IfSome found (ReadingLeaves s) × ReadingLeaves s missing
 
 logs_leave : (s : State) (t : Turn) → IsRecoverable s → LogsWhatLasts s t → StaysRecoverable t → TurnLeaves s t
 logs_leave s Nobody h l stays = tt
@@ -183,7 +183,7 @@ going_fits x (Some (Opens r after)) a e = refl
 taken_fits : (t : Turn) (o : Outcome) (a : Answer) → taken t o ≡ Some a → is_some (taken t (lost_of o)) ≡ true
 taken_fits (Appends r after) (Appended x) a e = refl
 taken_fits (Rereads failed found missing) (Reread true (Some x)) a e = going_fits x found a e
-taken_fits (Rereads failed found missing) (Reread false (Some x)) a e = going_fits x missing a e
+taken_fits (Rereads failed found missing) (Reread false (Some x)) a e = going_fits x (Some missing) a e
 taken_fits t Quiet a e = ap is_some e
 taken_fits t Failed a e = ap is_some e
 taken_fits t (Reread there None) a e = ap is_some e
@@ -216,7 +216,7 @@ taken_lost : (s : State) (t : Turn) (o : Outcome) (kept refused lost : Answer) �
     → fates lost.after ≡ durable refused.after ∷ durable kept.after ∷ []
 taken_lost s (Appends r after) (Appended x) kept refused lost f is e g k = three after kept refused lost f e g k
 taken_lost s (Rereads failed found missing) (Reread true (Some x)) kept refused lost f is e g k = reading_lost s found kept refused lost f.1 e g k
-taken_lost s (Rereads failed found missing) (Reread false (Some x)) kept refused lost f is e g k = reading_lost s missing kept refused lost f.2 e g k
+taken_lost s (Rereads failed found missing) (Reread false (Some x)) kept refused lost f is e g k = reading_lost s (Some missing) kept refused lost f.2 e g k
 taken_lost s t Quiet kept refused lost f is e g k = absurd (cc is)
 taken_lost s t Failed kept refused lost f is e g k = absurd (cc is)
 taken_lost s t (Reread there None) kept refused lost f is e g k = absurd (cc is)
@@ -272,7 +272,7 @@ taken_no_more : (s : State) (t : Turn) (o : Outcome) (d : Durable) → TurnLeave
 taken_no_more s (Now a) Quiet d f none left = all_contained (IsFate s) (fates a.after) d f left
 taken_no_more s (Rereads failed found missing) Failed d f none left = all_contained (IsFate s) (fates failed.after) d f.0 left
 taken_no_more s (Rereads failed found missing) (Reread true None) d f none left = reading_no_more s found d f.1 left
-taken_no_more s (Rereads failed found missing) (Reread false None) d f none left = reading_no_more s missing d f.2 left
+taken_no_more s (Rereads failed found missing) (Reread false None) d f none left = reading_no_more s (Some missing) d f.2 left
 taken_no_more s t (Appended x) d f none left = absurd (cc none)
 taken_no_more s t (Reread there (Some x)) d f none left = absurd (cc none)
 taken_no_more s t o d f none left = absurd left

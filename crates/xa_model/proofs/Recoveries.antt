@@ -46,7 +46,7 @@ abbrev pub StaysRecoverable : Turn → Type 0
 StaysRecoverable Nobody = Unit {0}
 StaysRecoverable (Now a) = IsRecoverable a.after
 StaysRecoverable (Appends r after) = (x : Appending) → IsRecoverable (after x).after
-StaysRecoverable (Rereads failed found missing) = IsRecoverable failed.after × IfSome found GoesOn × IfSome missing GoesOn
+StaysRecoverable (Rereads failed found missing) = IsRecoverable failed.after × IfSome found GoesOn × GoesOn missing
 
 same_recoverable : (a b : Answer) → IsRecoverable a.after → Some a ≡ Some b → IsRecoverable b.after
 same_recoverable a b h e = let same : a ≡ b = cc e in subst (λ (x : Answer). IsRecoverable x.after) same h
@@ -75,7 +75,7 @@ taken_recoverable (Rereads failed found missing) Quiet b h e = absurd (cc e)
 taken_recoverable (Rereads failed found missing) (Appended x) b h e = absurd (cc e)
 taken_recoverable (Rereads failed found missing) Failed b h e = same_recoverable failed b h.0 e
 taken_recoverable (Rereads failed found missing) (Reread true x) b h e = reread x found b h.1 e
-taken_recoverable (Rereads failed found missing) (Reread false x) b h e = reread x missing b h.2 e
+taken_recoverable (Rereads failed found missing) (Reread false x) b h e = gone_on x missing b h.2 e
 
 -- restarts and openings
 

@@ -18,7 +18,7 @@ abbrev pub AllOf : (Answer → Type 0) → Turn → Type 0
 AllOf Q Nobody = Unit {0}
 AllOf Q (Now a) = Q a
 AllOf Q (Appends r after) = (x : Appending) → Q (after x)
-AllOf Q (Rereads failed found missing) = Q failed × IfSome found (AllOfReading Q) × IfSome missing (AllOfReading Q)
+AllOf Q (Rereads failed found missing) = Q failed × IfSome found (AllOfReading Q) × AllOfReading Q missing
 
 same_answer : (Q : Answer → Type 0) (a b : Answer) → Q a → Some a ≡ Some b → Q b
 same_answer Q a b h e = let same : a ≡ b = cc e in subst Q same h
@@ -48,7 +48,7 @@ taken_all Q (Rereads failed found missing) Quiet b h e = absurd (cc e)
 taken_all Q (Rereads failed found missing) (Appended x) b h e = absurd (cc e)
 taken_all Q (Rereads failed found missing) Failed b h e = same_answer Q failed b h.0 e
 taken_all Q (Rereads failed found missing) (Reread true x) b h e = reread Q x found b h.1 e
-taken_all Q (Rereads failed found missing) (Reread false x) b h e = reread Q x missing b h.2 e
+taken_all Q (Rereads failed found missing) (Reread false x) b h e = gone_on Q x missing b h.2 e
 
 pub asked_all : (Q : Answer → Type 0) (standing : Standing) (t : Turn) → AllOf Q t → AllOf Q (asked standing t)
 asked_all Q Up t h = h

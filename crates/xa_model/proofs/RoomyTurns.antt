@@ -52,7 +52,7 @@ abbrev pub Leaves : (State → Type 0) → Turn → Type 0
 Leaves P Nobody = Unit {0}
 Leaves P (Now a) = P a.after
 Leaves P (Appends r after) = (x : Appending) → P (after x).after
-Leaves P (Rereads failed found missing) = P failed.after × IfSome found (LeavesReading P) × IfSome missing (LeavesReading P)
+Leaves P (Rereads failed found missing) = P failed.after × IfSome found (LeavesReading P) × LeavesReading P missing
 
 same_left : (P : State → Type 0) (a b : Answer) → P a.after → Some a ≡ Some b → P b.after
 same_left P a b h e = let same : a ≡ b = cc e in subst (λ (x : Answer). P x.after) same h
@@ -82,7 +82,7 @@ taken_left P (Rereads failed found missing) Quiet b h e = absurd (cc e)
 taken_left P (Rereads failed found missing) (Appended x) b h e = absurd (cc e)
 taken_left P (Rereads failed found missing) Failed b h e = same_left P failed b h.0 e
 taken_left P (Rereads failed found missing) (Reread true x) b h e = reread P x found b h.1 e
-taken_left P (Rereads failed found missing) (Reread false x) b h e = reread P x missing b h.2 e
+taken_left P (Rereads failed found missing) (Reread false x) b h e = gone_on P x missing b h.2 e
 
 -- a record takes as much of a log whoever answers, and where the same lasts
 

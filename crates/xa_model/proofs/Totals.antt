@@ -36,13 +36,9 @@ going_fits (Stops a) (Some x) = refl
 going_fits (Opens appended after) None = refl
 going_fits (Opens appended after) (Some x) = refl
 
-found_fits : (failed : Answer) (missing o : Option Rereading) (x : Option Appending) → is_some (taken (Rereads failed o missing) (Reread true x)) ≡ fits_rereading o x
+found_fits : (failed : Answer) (missing : Rereading) (o : Option Rereading) (x : Option Appending) → is_some (taken (Rereads failed o missing) (Reread true x)) ≡ fits_rereading o x
 found_fits failed missing None x = refl
 found_fits failed missing (Some r) x = going_fits r x
-
-missing_fits : (failed : Answer) (found o : Option Rereading) (x : Option Appending) → is_some (taken (Rereads failed found o) (Reread false x)) ≡ fits_rereading o x
-missing_fits failed found None x = refl
-missing_fits failed found (Some r) x = going_fits r x
 
 taken_fits : (t : Turn) (outcome : Outcome) → is_some (taken t outcome) ≡ fits t outcome
 taken_fits Nobody outcome = refl
@@ -58,7 +54,7 @@ taken_fits (Rereads failed found missing) Quiet = refl
 taken_fits (Rereads failed found missing) (Appended x) = refl
 taken_fits (Rereads failed found missing) Failed = refl
 taken_fits (Rereads failed found missing) (Reread true x) = found_fits failed missing found x
-taken_fits (Rereads failed found missing) (Reread false x) = missing_fits failed found missing x
+taken_fits (Rereads failed found missing) (Reread false x) = going_fits missing x
 
 pub step_is_total : StepIsTotal
 step_is_total s h outcome = taken_fits (turn s h) outcome
@@ -75,7 +71,7 @@ now_taken a = record { outcome = Quiet; fitting = refl }
 appends_taken : (r : Record) (after : Appending → Answer) → IsTaken (Appends r after)
 appends_taken r after = record { outcome = Appended Kept; fitting = refl }
 
-rereads_taken : (failed : Answer) (found missing : Option Rereading) → IsTaken (Rereads failed found missing)
+rereads_taken : (failed : Answer) (found : Option Rereading) (missing : Rereading) → IsTaken (Rereads failed found missing)
 rereads_taken failed found missing = record { outcome = Failed; fitting = refl }
 
 unless_taken : (o : Option Reply) (s : State) (t : Turn) → IsTaken t → IsTaken (unless_now o s t)

@@ -139,8 +139,8 @@ survives s r x free =
 
 restarts_by : (s : State) (o : Option Record) (outcome : Outcome) → count (is_anyones 1) s.associations ≡ 0
     → BothWays
-    (taken (Rereads (answer (detailed XAER_RMFAIL detail.Device) (down (among [] s))) (option_map (λ r. restarting (survived (among [] s) r)) o) (Some (restarting (missed (among [] s))))) outcome)
-    (taken (Rereads (answer (detailed XAER_RMFAIL detail.Device) (down (with_one s))) (option_map (λ r. restarting (survived (with_one s) r)) o) (Some (restarting (missed (with_one s))))) outcome)
+    (taken (Rereads (answer (detailed XAER_RMFAIL detail.Device) (down (among [] s))) (option_map (λ r. restarting (survived (among [] s) r)) o) (restarting (missed (among [] s)))) outcome)
+    (taken (Rereads (answer (detailed XAER_RMFAIL detail.Device) (down (with_one s))) (option_map (λ r. restarting (survived (with_one s) r)) o) (restarting (missed (with_one s)))) outcome)
 restarts_by s o Quiet free = tt
 restarts_by s o (Appended x) free = tt
 restarts_by s o Failed free = record { same = refl; alone = refl; free = free; answers = λ e. absurd (cc e) }

@@ -48,4 +48,4 @@ BacksTurn rs s (Appends r after) =
 BacksTurn rs s (Rereads failed found missing) =
     Backs rs failed.after
     × IfSome s.open_record (λ r. IfSome found (BacksReading (settled rs s r) (survived s r)))
-    × IfSome missing (BacksReading rs (missed s))
+    × BacksReading rs (missed s) missing

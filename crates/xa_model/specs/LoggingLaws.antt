@@ -96,7 +96,7 @@ SettlesWhatLasts s (Rereads failed found missing) =
     Fails s failed.after
     × IfSome s.open_record
     (λ r. (durable (survived s r) ≡ apply r (durable s)) × IfSome found (BootLasts (survived s r)))
-    × (durable (missed s) ≡ durable s) × IfSome missing (BootLasts (missed s))
+    × (durable (missed s) ≡ durable s) × BootLasts (missed s) missing
 SettlesWhatLasts s _ = ⊥
 
 abbrev pub RestartLasts : Type 0

@@ -71,7 +71,7 @@ abbrev pub restart_turn : State → Turn
 restart_turn s =
     Rereads (answer (detailed XAER_RMFAIL detail.Device) (down s))
     (option_map (λ r. restarting (survived s r)) s.open_record)
-    (Some (restarting (missed s)))
+    (restarting (missed s))
 
 -- An opening that was refused or stopped leaves the state as it was, with the settings handed in and without sessions,
 -- and only an opening may follow it.
@@ -104,7 +104,7 @@ abbrev pub reopen_turn : State → List ℕ → ℕ → Turn
 reopen_turn s name log_bytes =
     Rereads (ok (refused_opening s name log_bytes))
     (option_map (λ r. reopening name log_bytes (survived s r)) s.open_record)
-    (Some (reopening name log_bytes (missed s)))
+    (reopening name log_bytes (missed s))
 
 -- The state of a manager that was opened on a log, and asked nothing. Of a branch its writes are known, and no more.
 

@@ -20,7 +20,7 @@ fits (Now answer) Quiet = true
 fits (Appends appended after) (Appended appending) = true
 fits (Rereads failed found missing) Failed = true
 fits (Rereads failed found missing) (Reread true appending) = fits_rereading found appending
-fits (Rereads failed found missing) (Reread false appending) = fits_rereading missing appending
+fits (Rereads failed found missing) (Reread false appending) = fits_rereading (Some missing) appending
 fits _ _ = false
 
 -- each happening is answered with each outcome that fits its turn, and with no other

@@ -27,7 +27,7 @@ pub data Turn : Type 0 where
   Nobody : Turn
   Now : (answer : Answer) → Turn
   Appends : (appended : Record) (after : Appending → Answer) → Turn
-  Rereads : (failed : Answer) (survived missing : Option Rereading) → Turn
+  Rereads : (failed : Answer) (survived : Option Rereading) (missing : Rereading) → Turn
 
 -- where the outcome doesn't fit, there is no answer
 abbrev pub going_on : Option Appending → Rereading → Option Answer
@@ -44,10 +44,10 @@ abbrev pub taken_appending : (Appending → Answer) → Outcome → Option Answe
 taken_appending after (Appended appending) = Some (after appending)
 taken_appending after _ = None
 
-abbrev pub taken_rereading : Answer → Option Rereading → Option Rereading → Outcome → Option Answer
+abbrev pub taken_rereading : Answer → Option Rereading → Rereading → Outcome → Option Answer
 taken_rereading failed survived missing Failed = Some failed
 taken_rereading failed survived missing (Reread true appended) = option_and_then (going_on appended) survived
-taken_rereading failed survived missing (Reread false appended) = option_and_then (going_on appended) missing
+taken_rereading failed survived missing (Reread false appended) = going_on appended missing
 taken_rereading failed survived missing _ = None
 
 abbrev pub taken : Turn → Outcome → Option Answer
