@@ -4,29 +4,37 @@ use crate::file_fault::FileFault;
 
 /// What opens the files of a log as disks.
 pub trait Opens {
-    ghost use Rattle.std.specs.Prelude.{ℕ, List, IfOk};
+    ghost use Rattle.std.specs.Prelude.{ℕ, List, IfErr, IfOk};
+    ghost use Rattle.xa_disk.specs.declared.file_fault.FileFault.{FileFault};
 
     type Disk: Disk + Drop + Send;
 
     /// A disk is what the file at a path, by the path's bytes, was opened as.
     ghost opened: { Self.Disk → List ℕ → Type 0 };
 
+    /// It was asked for the file at a path, by the path's bytes, and refused it for this reason.
+    ghost refused: { List ℕ → FileFault → Type 0 };
+
     /// The file at a path, made if it isn't there. No other disk may have it.
     fn open_disk(&self, path: &str) -> Result<Self::Disk, FileFault>
-        ensures { IfOk result (λ disk. opened disk path.now) };
+        ensures opened { IfOk result (λ disk. opened disk path.now) }
+        ensures refused { IfErr result (refused path.now) };
 
     /// The file at a path, for reads. It isn't made, and no other disk that writes may have it.
     fn read_disk(&self, path: &str) -> Result<Self::Disk, FileFault>
-        ensures { IfOk result (λ disk. opened disk path.now) };
+        ensures opened { IfOk result (λ disk. opened disk path.now) }
+        ensures refused { IfErr result (refused path.now) };
 }
 
-/// Of a file a contract can't say more than that its disk had no failure yet.
+/// Of a file a contract can't say more than that its disk had no failure yet, and of one that wasn't opened nothing.
 impl Opens for HostRuntime {
     ghost use Rattle.std.specs.Prelude.{◌≡◌};
 
     type Disk = FileDisk;
 
     ghost opened = { λ disk _. disk.tally.failures ≡ 0 };
+
+    ghost refused = { λ _ _. Unit {0} };
 
     fn open_disk(&self, path: &str) -> Result<FileDisk, FileFault> {
         FileDisk::open(self, path)
