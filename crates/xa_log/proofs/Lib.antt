@@ -2,6 +2,7 @@ pub mod Hash
 pub mod Records
 pub mod Torn
 pub mod Tried
+pub mod Known
 pub mod Encode
 pub mod Append
 pub mod Front

@@ -55,7 +55,7 @@ reads_window len upto most first first' now le is f = record {
 }
 
 -- where one of two was read on and the other wasn't
-pub little_by : {D T : Type 0} (counts : D → Counts) (r : Result (Bool × T) OpenFault) (x y a b c d : D) → IfOk r (λ v. MatchBool v.0 (b ≡ d) (a ≡ c)) → OnlyReads 1048576 (asked (counts x)) (counts c) → OnlyReads 1048576 (asked (counts y)) (counts d)
+pub little_by : {D T : Type 0} (counts : D → Counts) (r : Result (Bool × T × ℕ × ℕ) OpenFault) (x y a b c d : D) → IfOk r (λ v. MatchBool v.0 (b ≡ d) (a ≡ c)) → OnlyReads 1048576 (asked (counts x)) (counts c) → OnlyReads 1048576 (asked (counts y)) (counts d)
     → IfOk r (λ v. ReadsLittle counts v.0 x a y b)
 little_by counts (Err e) x y a b c d other one two = tt
 little_by {D} {T} counts (Ok v) x y a b c d other one two = by v.0 other

@@ -11,6 +11,7 @@ use Rattle.xa_log.specs.Chain.{start, last, text, Rests, IsBeforeOrAfter, logged
 use Rattle.xa_log.specs.Reading.{is_newer, fault_of}
 use Rattle.xa_log.specs.Pair.{beats, has_log, Behind, IsCalm, CalmTears, pair_fault, fault_pair, logged_pair, logged_of}
 use Rattle.xa_log.specs.Checkpoint.{IsOther, IsQuiet, LeavesOf, SealTears}
+use Rattle.xa_log.specs.Ahead.{IsKnown}
 use Rattle.xa_log.specs.Stands.{Stands, MayStand, Leaves, LeavesLog, Untouched}
 use Rattle.xa_log.specs.TwoFiles.{Pair, MayStandPair, MaySeal, KeepsAll}
 use Rattle.xa_log.proofs.Again.{no_fault, rests_front, fits_of, nothing_new}
@@ -84,6 +85,12 @@ module _ {D : Type 0} (disks : Ghosts D) (old new : Log D) (u : Untouched old ne
     lost = u.lost ∙ p.lost;
   }
 
+  known_kept : IsKnown disks old → IsKnown disks new
+  known_kept k = record {
+    current = omega (arith, u.known, k.current, ap (λ (l : List ℕ). length l) same);
+    other = omega (arith, u.other_known, k.other, ap (λ (l : List ℕ). length l) same_other);
+  }
+
   pub keeps_all : KeepsAll disks old new
   keeps_all = record {
     stands = stands_kept;
@@ -92,6 +99,7 @@ module _ {D : Type 0} (disks : Ghosts D) (old new : Log D) (u : Untouched old ne
     may_stand = may_stand_kept;
     may_stand_pair = may_stand_pair_kept;
     may_seal = may_seal_kept;
+    known = known_kept;
   }
 
 -- ---- what a crash may leave of each file

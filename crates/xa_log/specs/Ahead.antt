@@ -1,5 +1,5 @@
 -- How far a file is made ready ahead of its log.
-use Rattle.std.specs.Prelude.{◌≡◌, ℕ, ◌+◌, ◌-◌, ◌/◌, ◌%◌, ◌==◌, min, if◌then◌else◌, List, length}
+use Rattle.std.specs.Prelude.{◌≡◌, ℕ, ◌+◌, ◌-◌, ◌/◌, ◌%◌, ◌≤◌, ◌==◌, ◌||◌, min, nat_le, if◌then◌else◌, List, length}
 use Rattle.xa_disk.specs.declared.disk.Disk.{Ghosts}
 use Rattle.xa_log.specs.Answers.{Wrote}
 use Rattle.xa_log.specs.Calls.{AppendsAhead}
@@ -9,15 +9,20 @@ use Rattle.xa_log.specs.declared.appending.Appended.{Appended}
 use Rattle.xa_log.specs.declared.log.Log.{Log}
 use Rattle.xa_limits.specs.declared.TheConstants.{AROUND_CLOSED}
 
+-- how many bytes there are from an offset up to the end of its piece, within the limit
+abbrev pub piece_from : ℕ → ℕ → ℕ
+piece_from to most = min (READY_BYTES - to % READY_BYTES) (most - to)
+
 -- How many zeros go behind what is written from one offset up to another: those up to the end of the piece that it
--- reaches into, within the limit; none where it stays in the piece in which it begins.
-abbrev pub ready : ℕ → ℕ → ℕ → ℕ
-ready from to most =
-    if from / READY_BYTES == to / READY_BYTES then 0 else min (READY_BYTES - to % READY_BYTES) (most - to)
+-- reaches into, within the limit; none where it stays in the piece in which it begins, or the file is known to reach
+-- that end.
+abbrev pub ready : ℕ → ℕ → ℕ → ℕ → ℕ
+ready from to most known =
+    if from / READY_BYTES == to / READY_BYTES || nat_le (to + piece_from to most) known then 0 else piece_from to most
 
 -- how many go behind an append of a body of so many bytes
 abbrev pub ready_for : {D : Type 0} → Log D → ℕ → ℕ
-ready_for log n = ready log.end (log.end + AROUND_CLOSED + n) log.log_bytes
+ready_for log n = ready log.end (log.end + AROUND_CLOSED + n) log.log_bytes log.known
 
 -- what is written of an append of this body: its record, the closing length, and these zeros
 abbrev pub appended : {D : Type 0} → Log D → List ℕ → List ℕ
@@ -33,3 +38,13 @@ abbrev pub AppendsBy : {D : Type 0} → Ghosts D → ℕ → Appended → Log D 
 AppendsBy disks n outcome old new =
     AppendsAhead (ready_for old n) outcome
     (disks.failures old.disk) (disks.failures new.disk) (disks.counts old.disk) (disks.counts new.disk)
+
+-- each of the two files was measured, and is known to reach as far as it does
+pub record IsMeasured {D : Type 0} (disks : Ghosts D) (log : Log D) : Type 0 where
+  pub current : log.known ≡ length (disks.seen log.disk)
+  pub other : log.other_known ≡ length (disks.seen log.other)
+
+-- neither is taken to reach further than it does
+pub record IsKnown {D : Type 0} (disks : Ghosts D) (log : Log D) : Type 0 where
+  pub current : log.known ≤ length (disks.seen log.disk)
+  pub other : log.other_known ≤ length (disks.seen log.other)

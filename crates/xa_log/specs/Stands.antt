@@ -1,5 +1,5 @@
 -- What a log stands for.
-use Rattle.std.specs.Prelude.{◌≡◌, ◌≤◌, ℕ, ◌+◌, ◌==◌, if◌then◌else◌, true, false, List, [], ◌∷◌, ◌++◌, length, take, replicate, None}
+use Rattle.std.specs.Prelude.{◌≡◌, ◌≤◌, ℕ, ◌+◌, ◌==◌, max, if◌then◌else◌, true, false, List, [], ◌∷◌, ◌++◌, length, take, replicate, None}
 use Rattle.xa_disk.specs.Disk.{Only}
 use Rattle.xa_disk.specs.declared.disk.Disk.{Ghosts}
 use Rattle.xa_log.specs.Chain.{start, last, text, behind_text, Rests, IsPlain, IsBeforeOrAfter, NoChance}
@@ -69,14 +69,21 @@ pub record Untouched {D : Type 0} (old new : Log D) : Type 0 where
   pub digest : new.digest ≡ old.digest
   pub number : new.generation ≡ old.generation
   pub lost : new.lost ≡ old.lost
+  pub known : new.known ≡ old.known
+  pub other_known : new.other_known ≡ old.other_known
 
--- where a log's next record begins after an append of so many bytes
+-- Where a log's next record begins after an append of so many bytes, and how far the files are known to reach: the
+-- current one as far as the record and its closing length, the zeros behind it not counted.
 abbrev pub Moves : {D : Type 0} → Appended → ℕ → Log D → Log D → Type 0
-Moves Kept n old new = (new.end ≡ old.end + (AROUND_BODY + n)) × (new.format ≡ old.format) × (new.lost ≡ old.lost)
+Moves Kept n old new =
+    (new.end ≡ old.end + (AROUND_BODY + n)) × (new.format ≡ old.format) × (new.lost ≡ old.lost)
+    × (new.known ≡ max old.known (old.end + AROUND_CLOSED + n)) × (new.other_known ≡ old.other_known)
 Moves Refused n old new =
     (new.end ≡ old.end) × (new.format ≡ old.format) × (new.digest ≡ old.digest) × (new.lost ≡ old.lost)
+    × (new.known ≡ old.known) × (new.other_known ≡ old.other_known)
 Moves Lost n old new =
     (new.end ≡ old.end) × (new.format ≡ old.format) × (new.digest ≡ old.digest) × (new.lost ≡ true)
+    × (new.known ≡ old.known) × (new.other_known ≡ old.other_known)
 Moves Full n old new = new ≡ old
 
 -- a log's generation after an append of a body: where it had no record the body's number

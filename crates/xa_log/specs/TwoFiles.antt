@@ -1,7 +1,9 @@
 -- What a log of two files stands for.
-use Rattle.std.specs.Prelude.{◌≡◌, ◌⊎◌, ◌≤◌, ◌<◌, ℕ, true, false, not, if◌then◌else◌, List, [], ◌∷◌, ◌++◌, length}
+use Rattle.std.specs.Prelude.{◌≡◌, ◌⊎◌, ◌+◌, ◌≤◌, ◌<◌, ℕ, max, true, false, not, if◌then◌else◌, List, [], ◌∷◌, ◌++◌, length}
 use Rattle.xa_disk.specs.Disk.{Only}
 use Rattle.xa_disk.specs.declared.disk.Disk.{Ghosts}
+use Rattle.xa_limits.specs.declared.TheConstants.{LENGTH_BYTES}
+use Rattle.xa_log.specs.Ahead.{IsKnown}
 use Rattle.xa_log.specs.Chain.{newest, start, last, text, Rests, logged}
 use Rattle.xa_log.specs.Pair.{generation, beats, has_log, IsCalm, CalmTears}
 use Rattle.xa_log.specs.Checkpoint.{IsOther, IsQuiet, LeavesOf, SealTears}
@@ -58,20 +60,22 @@ written Refused log = log.other
 written Lost log = log.other
 written Full log = log.other
 
--- a log's fields after a checkpoint of new bodies
+-- A log's fields after a checkpoint of new bodies: what was known of the two files changes places with them, and the
+-- one that was written is known to reach as far as the new log's closing length.
 abbrev pub Swaps : {D : Type 0} → Appended → List (List ℕ) → Log D → Log D → Type 0
 Swaps Kept fresh old new =
     (new.other ≡ old.disk) × (new.on_first ≡ not old.on_first) × (new.format ≡ newest)
     × (new.end ≡ length (text newest fresh)) × (new.digest ≡ last (start newest) fresh) × (new.lost ≡ old.lost)
     × (new.generation ≡ generation fresh)
+    × (new.known ≡ max old.other_known (length (text newest fresh) + LENGTH_BYTES)) × (new.other_known ≡ old.known)
 Swaps Refused fresh old new =
     (new.disk ≡ old.disk) × (new.on_first ≡ old.on_first) × (new.format ≡ old.format)
     × (new.end ≡ old.end) × (new.digest ≡ old.digest) × (new.lost ≡ old.lost)
-    × (new.generation ≡ old.generation)
+    × (new.generation ≡ old.generation) × (new.known ≡ old.known) × (new.other_known ≡ old.other_known)
 Swaps Lost fresh old new =
     (new.disk ≡ old.disk) × (new.on_first ≡ old.on_first) × (new.format ≡ old.format)
     × (new.end ≡ old.end) × (new.digest ≡ old.digest) × (new.lost ≡ true)
-    × (new.generation ≡ old.generation)
+    × (new.generation ≡ old.generation) × (new.known ≡ old.known) × (new.other_known ≡ old.other_known)
 Swaps Full fresh old new = new ≡ old
 
 -- what each answer of an append says of two files
@@ -104,6 +108,7 @@ pub record KeepsAll {D : Type 0} (disks : Ghosts D) (old new : Log D) : Type 0 w
   pub may_stand_pair : (bodies : List (List ℕ)) (body : List ℕ) (stood : List (List ℕ))
       → MayStandPair disks bodies body stood old → MayStandPair disks bodies body stood new
   pub may_seal : (bodies fresh : List (List ℕ)) → MaySeal disks bodies fresh old → MaySeal disks bodies fresh new
+  pub known : IsKnown disks old → IsKnown disks new
 
 -- The premise of an opening on the first and the second file: where one begins as no log, the records that chain behind
 -- its first 8 bytes, if any do, come behind those of the other one.

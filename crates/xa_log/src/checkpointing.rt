@@ -25,6 +25,7 @@ use xa_limits::{AROUND_BODY, AROUND_CLOSED, DIGEST_BYTES, FIRST_OFFSET, LENGTH_B
 pub(crate) fn put_front<D: Disk>(disk: &mut D, format: Format) -> Result<(), DiskFault>
     ensures made { D.honest → OnOk result (D.seen disk.new ≡ preamble format ++ drop PREAMBLE_BYTES (D.seen disk.old)) }
     ensures durable { D.honest → OnOk result (Only (D.seen disk.new) (D.may_leave disk.new)) }
+    ensures grows { D.honest → length (D.seen disk.old) ≤ length (D.seen disk.new) }
     ensures stays { D.honest → (most : ℕ) (stood : List (List ℕ)) → PREAMBLE_BYTES ≤ most
         → IsOther D.Disk most stood disk.old → OnErr result (IsOther D.Disk most stood disk.new) }
     ensures calm { D.honest → CalmTears D.tears → (stood : List (List ℕ)) → IsCalm stood (D.seen disk.old)
@@ -153,6 +154,9 @@ pub(crate) fn checkpoint_on<D: Disk>(
         → PREAMBLE_BYTES + records_bytes format (bodies_of bodies.now) ≤ most
         → IsOther D.Disk most stood disk.old
         → LeavesOnly D.Disk disk.old disk.new (LeavesAny most format stood (bodies_of bodies.now)) }
+    ensures grows { D.honest → length (D.seen disk.old) ≤ length (D.seen disk.new) }
+    ensures reaches { D.honest → result.0 ≡ Appended.Kept
+        → PREAMBLE_BYTES + records_bytes format (bodies_of bodies.now) ≤ length (D.seen disk.new) }
     ensures cause { HasCause result.0 (D.failures disk.old) (D.failures disk.new) }
     ensures calls { CheckpointCalls result.0 (length bodies.now) (D.counts disk.old) (D.counts disk.new) }
     ensures not_full { result.0 ≢ Appended.Full }

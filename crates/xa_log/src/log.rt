@@ -36,6 +36,9 @@ pub struct Log<D> {
     pub(crate) digest: [u8; DIGEST_BYTES],
     // The number in the current file's first body, 0 where it has no record.
     pub(crate) generation: usize,
+    // How far the current file and the other one are known to reach: they were measured, or written up to there since.
+    pub(crate) known: u64,
+    pub(crate) other_known: u64,
     // The window when the log is read, and a record's bytes when one is appended.
     pub(crate) buffer: Vec<u8>,
     // An append or a checkpoint was lost, and no rescan has succeeded since: whether the last record stands, or which
@@ -46,7 +49,7 @@ pub struct Log<D> {
 }
 
 impl<D: Disk> Log<D> {
-    ghost use Rattle.xa_log.specs.Ahead.{Writes, AppendsBy};
+    ghost use Rattle.xa_log.specs.Ahead.{Writes, AppendsBy, IsKnown};
     ghost use Rattle.xa_log.specs.Stands.{Stands, Leaves, Moves, Renumbers, Answers};
     ghost use Rattle.xa_log.specs.TwoFiles.{Pair, AppendsTo, Checkpoints, Swaps, written};
 
@@ -77,6 +80,7 @@ impl<D: Disk> Log<D> {
         ensures pair { D.honest → (bodies stood : List (List ℕ)) → Pair D.Disk bodies stood self.old
             → AppendsTo D.Disk result bodies body.now stood self.new }
         ensures writes { D.honest → result ≡ Appended.Kept → Writes D.Disk body.now self.old self.new }
+        ensures known { D.honest → IsKnown D.Disk self.old → IsKnown D.Disk self.new }
     {
         if self.lost {
             return Appended::Lost; // Until a rescan, whether the last record stands is open.
@@ -85,11 +89,8 @@ impl<D: Disk> Log<D> {
         if self.log_bytes - self.end < AROUND_CLOSED as u64 + len as u64 {
             return Appended::Full;
         }
-        let ready = ready_behind(
-            self.end,
-            self.end + AROUND_CLOSED as u64 + len as u64,
-            self.log_bytes,
-        );
+        let to = self.end + AROUND_CLOSED as u64 + len as u64;
+        let ready = ready_behind(self.end, to, self.log_bytes, self.known);
         let (outcome, digest) = append_at(
             &mut self.disk,
             self.end,
@@ -102,6 +103,7 @@ impl<D: Disk> Log<D> {
             Appended::Kept => {
                 self.generation = generation_with(self.generation, self.end, body);
                 self.end += AROUND_BODY as u64 + len as u64;
+                self.known = self.known.max(to);
                 self.digest = digest;
             }
             Appended::Lost => self.lost = true,
@@ -166,6 +168,7 @@ impl<D: Disk> Log<D> {
             → D.failures self.old.other < top → D.failures (written result self.new) ≡ D.failures self.old.other
             → result ≡ Appended.Kept }
         ensures settings { self.new.log_bytes ≡ self.old.log_bytes }
+        ensures known { D.honest → IsKnown D.Disk self.old → IsKnown D.Disk self.new }
     {
         if self.lost {
             return Appended::Lost;
@@ -182,6 +185,9 @@ impl<D: Disk> Log<D> {
                 self.on_first = !self.on_first;
                 self.format = format;
                 self.end = end;
+                let known = self.other_known.max(end + LENGTH_BYTES as u64);
+                self.other_known = self.known;
+                self.known = known;
                 self.digest = digest;
                 self.generation = generation_of_bodies(bodies);
             }

@@ -234,7 +234,7 @@ fn read_fronts<D: Disk>(
     Ok((front, other_front))
 }
 
-// Reads the log of the current one of two files that begin so. The other one isn't touched.
+// Reads the log of the current one of two files that begin so. The other one isn't touched. Gives their lengths back.
 fn read_current<D: Disk>(
     alloc: Global,
     first: &mut D,
@@ -243,7 +243,7 @@ fn read_current<D: Disk>(
     other_window: &mut [u8],
     lens: (u64, u64),
     fronts: (Front, Front),
-) -> Result<(bool, Scan), OpenFault>
+) -> Result<(bool, Scan, u64, u64), OpenFault>
     requires room { length window.old ≡ WINDOW }
     requires other_room { length other_window.old ≡ WINDOW }
     requires holds { HasFront lens.0 fronts.0 }
@@ -256,6 +256,7 @@ fn read_current<D: Disk>(
     ensures kinds { IfErr result (λ e. (e ≡ OpenFault.Device) ⊎ (e ≡ OpenFault.Memory) ⊎ (e ≡ OpenFault.NotALog)) }
     ensures end { IfOk result (λ r. Ends r.1) }
     ensures fits { (most : ℕ) → lens.0 ≤ most → lens.1 ≤ most → IfOk result (λ r. r.1.end ≤ most) }
+    ensures lens { IfOk result (λ r. (r.2 ≡ lens.0) × (r.3 ≡ lens.1)) }
     ensures other { IfOk result (λ r. MatchBool r.0 (second.new ≡ second.old) (first.new ≡ first.old)) }
     ensures same { D.honest → D.seen first.new ≡ D.seen first.old }
     ensures same_second { D.honest → D.seen second.new ≡ D.seen second.old }
@@ -274,18 +275,18 @@ fn read_current<D: Disk>(
     match choose(head, other_head) {
         Some((true, format)) => {
             let scan = read_records(alloc, first, window, fronts.0.span, lens.0, format)?;
-            Ok((true, scan))
+            Ok((true, scan, lens.0, lens.1))
         }
         Some((false, format)) => {
             let scan = read_records(alloc, second, other_window, fronts.1.span, lens.1, format)?;
-            Ok((false, scan))
+            Ok((false, scan, lens.0, lens.1))
         }
         None => Err(OpenFault::NotALog),
     }
 }
 
-// Syncs and measures both files, reads how both begin, and then the log of the current one. Gives it, and whether it is
-// the first file's. Each file has a window of its own, so that no byte is read twice.
+// Syncs and measures both files, reads how both begin, and then the log of the current one. Gives it, whether it is
+// the first file's, and how long both are. Each file has a window of its own, so that no byte is read twice.
 pub(crate) fn read_pair<D: Disk>(
     alloc: Global,
     first: &mut D,
@@ -293,7 +294,7 @@ pub(crate) fn read_pair<D: Disk>(
     window: &mut [u8],
     other_window: &mut [u8],
     log_bytes: u64,
-) -> Result<(bool, Scan), OpenFault>
+) -> Result<(bool, Scan, u64, u64), OpenFault>
     requires room { length window.old ≡ WINDOW }
     requires other_room { length other_window.old ≡ WINDOW }
     ensures value { D.honest
@@ -302,6 +303,8 @@ pub(crate) fn read_pair<D: Disk>(
         (λ e. Explains e (pair_fault log_bytes (D.seen first.old) (D.seen second.old))) }
     ensures durable { D.honest → OnOk result (Only (D.seen first.new) (D.may_leave first.new)) }
     ensures durable_second { D.honest → OnOk result (Only (D.seen second.new) (D.may_leave second.new)) }
+    ensures lens { D.honest → IfOk result
+        (λ r. (r.2 ≡ length (D.seen first.old)) × (r.3 ≡ length (D.seen second.old))) }
     ensures end { IfOk result (λ r. Ends r.1) }
     ensures fits { IfOk result (λ r. r.1.end ≤ log_bytes) }
     ensures same { D.honest → D.seen first.new ≡ D.seen first.old }
@@ -330,7 +333,7 @@ pub(crate) fn read_again<D: Disk>(
     window: &mut [u8],
     other_window: &mut [u8],
     log_bytes: u64,
-) -> Result<(bool, Scan), OpenFault>
+) -> Result<(bool, Scan, u64, u64), OpenFault>
     requires room { length window.old ≡ WINDOW }
     requires other_room { length other_window.old ≡ WINDOW }
     ensures value { D.honest → MatchResult result
@@ -340,6 +343,9 @@ pub(crate) fn read_again<D: Disk>(
         (λ e. Explains e (fault_pair log_bytes on_first (D.seen disk.old) (D.seen other.old))) }
     ensures durable { D.honest → OnOk result (Only (D.seen disk.new) (D.may_leave disk.new)) }
     ensures durable_other { D.honest → OnOk result (Only (D.seen other.new) (D.may_leave other.new)) }
+    ensures lens { D.honest → IfOk result
+        (λ r. (r.2 ≡ length (D.seen (if on_first then disk.old else other.old)))
+        × (r.3 ≡ length (D.seen (if on_first then other.old else disk.old)))) }
     ensures end { IfOk result (λ r. Ends r.1) }
     ensures fits { IfOk result (λ r. r.1.end ≤ log_bytes) }
     ensures same { D.honest → D.seen disk.new ≡ D.seen disk.old }

@@ -3,6 +3,7 @@ ghost use Rattle.std.specs.Prelude.{◌≡◌, ◌≤◌, ◌<◌, ◌↔◌, []
 ghost use Rattle.xa_disk.specs.Disk.{Same};
 ghost use Rattle.xa_disk.specs.Time.{TimePasses};
 ghost use Rattle.xa_disk.specs.Counts.{with_length, with_write, with_sync};
+ghost use Rattle.xa_log.specs.Ahead.{IsMeasured};
 ghost use Rattle.xa_log.specs.Calls.{OnlyReads, ReadsLittle, asked};
 ghost use Rattle.xa_log.specs.Chain.{logged};
 ghost use Rattle.xa_log.specs.Checkpoint.{IsQuiet};
@@ -32,6 +33,7 @@ impl<D: Disk + Drop> Log<D> {
         ensures log { D.honest → IfOk result (λ log. Pair D.Disk [] [] log × IsQuiet D.Disk [] log.other) }
         ensures ends { IfOk result (EndsBehind []) }
         ensures number { IfOk result (λ log. log.generation ≡ 0) }
+        ensures measured { D.honest → IfOk result (IsMeasured D.Disk) }
         ensures empty { D.honest → OnOk result ((D.seen first ≡ []) × (D.seen second ≡ [])) }
         ensures room { OnOk result (PREAMBLE_BYTES ≤ log_bytes) }
         ensures settings { IfOk result (λ log. (log.log_bytes ≡ log_bytes) × (log.on_first ≡ true)) }
@@ -60,6 +62,7 @@ impl<D: Disk + Drop> Log<D> {
             → IfOk result (λ r. IsOpenPair D.Disk (bodies_of r.1.items) (logged (D.seen r.0.other)) r.0) }
         ensures ends { IfOk result (λ r. EndsBehind (bodies_of r.1.items) r.0) }
         ensures number { IfOk result (λ r. r.0.generation ≡ generation (bodies_of r.1.items)) }
+        ensures measured { D.honest → IfOk result (λ r. IsMeasured D.Disk r.0) }
         ensures fault { D.honest → TellsFault result (pair_fault log_bytes (D.seen first) (D.seen second)) }
         ensures logged { D.honest
             → IfOk result (λ r. logged_pair (D.seen first) (D.seen second) ≡ bodies_of r.1.items) }
@@ -102,12 +105,14 @@ impl<D: Disk + Drop> Log<D> {
         ensures digest { result.0.digest ≡ opened.scan.digest }
         ensures number { result.0.generation ≡ generation (bodies_of result.1.items) }
         ensures settings { result.0.log_bytes ≡ opened.log_bytes }
+        ensures measured { D.honest → IsOpened D.Disk first second opened → IsMeasured D.Disk result.0 }
         ensures alive { result.0.lost ≡ false }
     {
         let scan = opened.scan;
         let digest = scan.digest;
         let number = generation_of_bodies(&scan.bodies);
         let (disk, other) = in_order(first, second, opened.on_first);
+        let (known, other_known) = in_order(opened.len, opened.second_len, opened.on_first);
         let log = Log {
             disk,
             other,
@@ -117,6 +122,8 @@ impl<D: Disk + Drop> Log<D> {
             end: scan.end,
             digest,
             generation: number,
+            known,
+            other_known,
             buffer: opened.buffer,
             lost: false,
         };

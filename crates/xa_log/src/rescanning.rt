@@ -2,6 +2,7 @@
 ghost use Rattle.std.specs.Prelude.{◌≡◌, ◌⊎◌, ◌++◌, ◌∷◌, [], List, ℕ, true, false, if◌then◌else◌, length, OnOk, OnErr, IfOk, IfErr, MatchResult, None};
 ghost use Rattle.xa_disk.specs.Disk.{Same};
 ghost use Rattle.xa_disk.specs.Time.{TimePasses, LeavesOnly};
+ghost use Rattle.xa_log.specs.Ahead.{IsMeasured};
 ghost use Rattle.xa_log.specs.Answers.{CountsDeviceOf};
 ghost use Rattle.xa_log.specs.Calls.{Looks, LooksSecond, ReadsLittle};
 ghost use Rattle.xa_log.specs.Chain.{NoChance, logged};
@@ -64,6 +65,7 @@ impl<D: Disk> Log<D> {
             (second_of self.old) (second_of self.new)) }
         ensures settings { self.new.log_bytes ≡ self.old.log_bytes }
         ensures alive { OnOk result (self.new.lost ≡ false) }
+        ensures measured { D.honest → OnOk result (IsMeasured D.Disk self.new) }
         ensures as_before { OnErr result (Untouched self.old self.new) }
         ensures keeps { D.honest → OnErr result (KeepsAll D.Disk self.old self.new) }
         // What was left to chance comes out well: then a rescan that succeeds finds what the log stood for, and the
@@ -112,7 +114,7 @@ impl<D: Disk> Log<D> {
     {
         let alloc = *self.buffer.allocator();
         let mut other_window = new_buffer(alloc)?;
-        let (on_first, scan) = read_again(
+        let (on_first, scan, len, second_len) = read_again(
             alloc,
             &mut self.disk,
             &mut self.other,
@@ -122,8 +124,11 @@ impl<D: Disk> Log<D> {
             self.log_bytes,
         )?;
         arrange(&mut self.disk, &mut self.other, self.on_first, on_first);
+        let (known, other_known) = in_order(len, second_len, on_first);
         let digest = scan.digest;
         self.on_first = on_first;
+        self.known = known;
+        self.other_known = other_known;
         self.format = scan.format;
         self.end = scan.end;
         self.digest = digest;

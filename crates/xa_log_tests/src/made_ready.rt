@@ -1,4 +1,4 @@
-use crate::log_pairs::appends;
+use crate::log_pairs::{NEW, appends, checkpoint_of};
 use crate::logs::{are_numbered, filled};
 use crate::rows::none_wrong;
 use std::alloc::Global;
@@ -91,4 +91,44 @@ fn a_record_is_kept_without_zeros(rt: HostRuntime) {
     assert!(rt; length_with_faults(alloc, &once, Appended::Kept) == Some(262_144));
     let twice = [(1, Effect::Lost), (2, Effect::Lost)];
     assert!(rt; length_with_faults(alloc, &twice, Appended::Refused) == Some(262_144));
+}
+
+// The checkpoint by which a log goes back to its first file.
+const BACK: [&[u8]; 1] = [&[1, 0, 0, 0, 3]];
+
+// A log in the file of an older and longer one, which has three bodies of 250,000 bytes and is known up to 750,120, or
+// was measured up to the piece's end behind that, 786,432. It has so many bodies of 300,000 bytes behind its first.
+fn log_in_longer_file(alloc: Global, measured: bool, records: usize) -> Option<Log<MemDisk>> {
+    let mut log = log_of_filled(alloc, 3, 250_000, LOG_BYTES)?;
+    checkpoint_of(alloc, &mut log, &NEW)?;
+    if measured {
+        log.rescan().ok()?;
+    }
+    checkpoint_of(alloc, &mut log, &BACK)?;
+    for _record in 0..records {
+        appends(&mut log, &filled(alloc, 9, 300_000)?)?;
+    }
+    Some(log)
+}
+
+// What stands behind the closing length of a log on its first file, and how long that file is.
+fn behind(log: Log<MemDisk>) -> Option<(u8, u64)> {
+    let at = log.end().checked_add(4)?;
+    let (mut disk, _other) = log.into_disks();
+    let mut byte = [9];
+    disk.read_at(at, &mut byte).ok()?;
+    Some((byte[0], disk.length().ok()?))
+}
+
+fn left_behind(alloc: Global, measured: bool, records: usize) -> Option<(u8, u64)> {
+    behind(log_in_longer_file(alloc, measured, records)?)
+}
+
+// Where the file is known to reach the end of the piece, the older log's bytes are left; else zeros lie over them.
+#[test]
+fn a_longer_file_is_ready(rt: HostRuntime) {
+    let alloc = rt.alloc();
+    assert!(rt; left_behind(alloc, false, 1) == Some((1, 786_432)));
+    assert!(rt; left_behind(alloc, false, 2) == Some((0, 786_432)));
+    assert!(rt; left_behind(alloc, true, 2) == Some((2, 786_432)));
 }

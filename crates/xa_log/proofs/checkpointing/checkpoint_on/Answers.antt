@@ -1,4 +1,4 @@
-use Rattle.std.proofs.Common.{rules, ◌≡◌, inl, inr, ◌≤◌, ℕ, List, length, sym, ◌∙◌, subst, arith, Vec, Global}
+use Rattle.std.proofs.Common.{rules, ◌≡◌, inl, inr, ◌+◌, ◌≤◌, ℕ, List, length, sym, ◌∙◌, subst, arith, Vec, Global}
 use Rattle.std.proofs.lemmas.List.{length-map}
 use Rattle.std.specs.Int.{w32, to_be_bytes}
 use Rattle.xa_disk.specs.Disk.{Only}
@@ -7,6 +7,7 @@ use Rattle.xa_log.specs.Answers.{Went}
 use Rattle.xa_log.specs.Reading.{bodies_of}
 use Rattle.xa_log.specs.Checkpoint.{IsReady, LeavesNone, first_length}
 use Rattle.xa_log.proofs.Steps.{first_len}
+use Rattle.xa_log.proofs.Known.{seal_grows, records_reach, header_long}
 use Rattle.xa_log.proofs.Counted.{refused_front, refused_records, sealed_calls}
 use Rattle.xa_log.proofs.Parts.{first_part, second_part, third_part, none_torn, none_long, others_none, opened_none, records_ready, sealed, at_err}
 use Rattle.xa_log.proofs.checkpointing.checkpoint_on.Goals as goal
@@ -103,3 +104,18 @@ pub returns-in-Ok-put_records-clause-calls : goal.returns-in-Ok-put_records-clau
 returns-in-Ok-put_records-clause-calls g c =
     sealed_calls c.put_seal-outcome.result c.put_seal-outcome.ensures.not_full
     (length c.args.bodies.now) _ _ _ _ c.in-Ok.ensures.calls c.in-Ok-put_records.ensures.calls c.put_seal-outcome.ensures.calls
+
+pub returns-in-Err-put_records-clause-grows : goal.returns-in-Err-put_records-clause-grows
+returns-in-Err-put_records-clause-grows g c h = omega (arith, c.put_front.ensures.grows h, (c.put_records.ensures.torn h).no_shorter)
+
+pub returns-in-Ok-put_records-clause-grows : goal.returns-in-Ok-put_records-clause-grows
+returns-in-Ok-put_records-clause-grows g c h =
+    omega (arith, c.put_front.ensures.grows h, (c.put_records.ensures.torn h).no_shorter, seal_grows _ _ _ _ _ _ _ (c.put_seal-outcome.ensures.went h))
+
+pub returns-in-Ok-put_records-clause-reaches : goal.returns-in-Ok-put_records-clause-reaches
+returns-in-Ok-put_records-clause-reaches g c h kept =
+    let mid : List ℕ = g.D.Disk.seen c.put_front.new.disk in
+    let done : List ℕ = g.D.Disk.seen c.put_records.new.disk in
+    let long : 12 ≤ length mid = header_long c.args.format (g.D.Disk.seen c.args.disk.now) mid (c.in-Ok.ensures.made h) in
+    let whole : 12 + length (records (start c.args.format) (bodies_of c.args.bodies.now)) ≤ length done = records_reach c.args.format (bodies_of c.args.bodies.now) mid done (c.in-Ok-put_records.ensures.written h long) in
+    omega (arith, whole, seal_grows _ _ _ _ _ _ _ (c.put_seal-outcome.ensures.went h))

@@ -5,6 +5,7 @@ use Rattle.xa_disk.specs.Images.{torn_same}
 use Rattle.xa_log.specs.Chain.{preamble}
 use Rattle.xa_log.specs.Answers.{Fell}
 use Rattle.xa_log.proofs.Header.{length-preamble, put_header}
+use Rattle.xa_log.proofs.Known.{put_grows}
 use Rattle.xa_log.proofs.Ready.{map_ok, map_err, leaves_by, fell_calm, other_torn, front_leaves}
 use Rattle.xa_log.proofs.checkpointing.put_front.Goals as goal
 
@@ -42,3 +43,6 @@ returns-clause-any_moment g c h most stood room other =
     (front_leaves g.D.Disk most stood old room other)
     (subst (λ k. TimePasses g.D.Disk (Torn 0 k) old new) n
     (c.put_synced.ensures.time h))
+
+pub returns-clause-grows : goal.returns-clause-grows
+returns-clause-grows g c h = put_grows c.put_synced.result _ _ _ _ _ (c.put_synced.ensures.written h) (c.put_synced.ensures.failed h)

@@ -1,6 +1,7 @@
 use Rattle.std.proofs.Common.{arith, ◌∙◌}
 use Rattle.xa_disk.specs.Disk.{Same}
 use Rattle.xa_log.proofs.Fetch.{reads_some}
+use Rattle.xa_log.proofs.Known.{measures}
 use Rattle.xa_log.proofs.Looks.{looks_by, looks_second, reads_window, little_by, fronts_short, current_short}
 use Rattle.xa_log.proofs.Torn.{then}
 use Rattle.xa_log.proofs.looking.read_pair.Goals as goal
@@ -70,3 +71,8 @@ returns-clause-time_second g c h =
 
 pub returns-clause-end : goal.returns-clause-end
 returns-clause-end g c = c.read_current.ensures.end
+
+pub returns-clause-lens : goal.returns-clause-lens
+returns-clause-lens g c h =
+    let lens = c.in_ok-lens.ensures.value h in
+    measures c.read_current.result _ _ _ _ lens.first_is lens.second_is c.read_current.ensures.lens

@@ -1,5 +1,6 @@
 use Rattle.std.proofs.Common.{rules, refl, arith}
 use Rattle.xa_log.proofs.Append.{answers_kept, answers_refused, answers_lost, record_moments, length-closed_by, no_moments, kept_ahead, writes_kept, appends_by}
+use Rattle.xa_log.proofs.Known.{known_kept, known_still}
 use Rattle.xa_log.proofs.Two.{appends}
 use Rattle.xa_log.proofs.log.Log.append.Goals as goal
 
@@ -82,3 +83,12 @@ returns-in-Refused-clause-calls g c alive = appends_by g.D.Disk c.args.body.now 
 
 pub returns-in-Lost-clause-calls : goal.returns-in-Lost-clause-calls
 returns-in-Lost-clause-calls g c alive = appends_by g.D.Disk c.args.body.now c.args.self.now c.append_at-outcome.new.disk _ _ c.ready_behind-ready.ensures.exact c.append_at-outcome.ensures.calls
+
+pub returns-in-Kept-clause-known : goal.returns-in-Kept-clause-known
+returns-in-Kept-clause-known g c h k = known_kept g.D.Disk g.met.D.Disk.tears_torn _ _ c.args.self.now _ refl refl _ (c.append_at-outcome.ensures.went h) k c.in-Kept.is c.max-self.ensures
+
+pub returns-in-Refused-clause-known : goal.returns-in-Refused-clause-known
+returns-in-Refused-clause-known g c h k = known_still g.D.Disk g.met.D.Disk.tears_torn _ _ c.args.self.now _ refl refl _ (c.append_at-outcome.ensures.went h) k refl
+
+pub returns-in-Lost-clause-known : goal.returns-in-Lost-clause-known
+returns-in-Lost-clause-known g c h k = known_still g.D.Disk g.met.D.Disk.tears_torn _ _ c.args.self.now _ refl refl _ (c.append_at-outcome.ensures.went h) k refl

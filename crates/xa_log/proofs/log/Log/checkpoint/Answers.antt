@@ -1,6 +1,7 @@
 use Rattle.std.proofs.Common.{rules, ◌≡◌, ◌+◌, ◌≤◌, length, refl, arith}
 use Rattle.xa_log.specs.Chain.{newest, start, text, records}
 use Rattle.xa_log.specs.Reading.{bodies_of}
+use Rattle.xa_log.proofs.Known.{known_swapped, known_beside}
 use Rattle.xa_log.proofs.Records.{length-text}
 use Rattle.xa_log.proofs.Two.{replaced, kept_pair, refused_pair, lost_pair, other_still, wrote_kept, wrote_lost, wrote_refused, moments_of, kept_by}
 use Rattle.xa_log.proofs.log.Log.checkpoint.Goals as goal
@@ -121,3 +122,21 @@ returns-in-Lost-clause-kept g c alive fits low same =
 
 pub returns-in-Kept-clause-swaps : goal.returns-in-Kept-clause-swaps
 returns-in-Kept-clause-swaps g c = search rules
+
+pub returns-in-Kept-clause-known : goal.returns-in-Kept-clause-known
+returns-in-Kept-clause-known g c h k =
+    let wrote = c.checkpoint_on-outcome in
+    let format = c.newest-format.result in
+    let reaches = wrote.ensures.reaches h c.in-Kept.is in
+    let long : c.in-Some.end + 4 ≤ length (g.D.Disk.seen wrote.new.disk) = omega (arith, c.in-Some.ensures.some.0, reaches, length-text format (bodies_of c.args.bodies.now)) in
+    known_swapped g.D.Disk c.args.self.now _ wrote.new.disk (wrote.ensures.grows h) k (c.in-Some.end + 4) long c.swap.ensures.x_after c.swap.ensures.y_after c.max-known.ensures refl
+
+pub returns-in-Refused-clause-known : goal.returns-in-Refused-clause-known
+returns-in-Refused-clause-known g c h k =
+    let wrote = c.checkpoint_on-outcome in
+    known_beside g.D.Disk c.args.self.now _ wrote.new.disk (wrote.ensures.grows h) k refl refl refl refl
+
+pub returns-in-Lost-clause-known : goal.returns-in-Lost-clause-known
+returns-in-Lost-clause-known g c h k =
+    let wrote = c.checkpoint_on-outcome in
+    known_beside g.D.Disk c.args.self.now _ wrote.new.disk (wrote.ensures.grows h) k refl refl refl refl

@@ -39,3 +39,6 @@ returns-clause-log g c h = c.on.ensures.log h (c.in_ok-opened.ensures.stands h)
 
 pub returns-clause-ends : goal.returns-clause-ends
 returns-clause-ends g c = c.on.ensures.ends c.in_ok-opened.ensures.end
+
+pub returns-clause-measured : goal.returns-clause-measured
+returns-clause-measured g c h = c.on.ensures.measured h (c.in_ok-opened.ensures.stands h)

@@ -5,6 +5,7 @@ use Rattle.xa_log.specs.Pair.{generation}
 use Rattle.xa_log.specs.Reading.{Explains, bodies_of}
 use Rattle.xa_log.proofs.Again.{explained, left_log, on_err}
 use Rattle.xa_log.proofs.Anew.{pair_anew, may_stand_anew, may_seal_anew}
+use Rattle.xa_log.proofs.Known.{measured}
 use Rattle.xa_log.proofs.Opens.{sound, opens, current_logged}
 use Rattle.xa_log.proofs.Still.{keeps_all, left_other, left_sealed, pair_reads, may_stand_reads, may_seal_reads, left_back, unasked, err_only, in_turn, came_back, of_both, fault_order, logged_order, look}
 use Rattle.xa_log.proofs.log.Log.rescan.Goals as goal
@@ -12,14 +13,14 @@ use Rattle.xa_log.proofs.log.Log.rescan.Goals as goal
 pub returns-in_err-on_first-clause-keeps : goal.returns-in_err-on_first-clause-keeps
 returns-in_err-on_first-clause-keeps g c h =
     on_err _ c.from_residual-in_err-on_first.result
-    (keeps_all g.D.Disk c.args.self.now _ (record { on_first = refl; log_bytes = refl; format = refl; end = refl; digest = refl; number = refl; lost = refl })
+    (keeps_all g.D.Disk c.args.self.now _ (record { on_first = refl; log_bytes = refl; format = refl; end = refl; digest = refl; number = refl; lost = refl; known = refl; other_known = refl })
     (c.read_again.ensures.same h) (left_back _ _ _ _ _ _ (c.read_again.ensures.time h))
     (c.read_again.ensures.same_other h) (left_back _ _ _ _ _ _ (c.read_again.ensures.time_other h)))
 
 pub returns-in_err-other_window-clause-keeps : goal.returns-in_err-other_window-clause-keeps
 returns-in_err-other_window-clause-keeps g c h =
     on_err _ c.from_residual.result
-    (keeps_all g.D.Disk c.args.self.now _ (record { on_first = refl; log_bytes = refl; format = refl; end = refl; digest = refl; number = refl; lost = refl })
+    (keeps_all g.D.Disk c.args.self.now _ (record { on_first = refl; log_bytes = refl; format = refl; end = refl; digest = refl; number = refl; lost = refl; known = refl; other_known = refl })
     refl (λ x left. left) refl (λ x left. left))
 
 pub returns-in_err-other_window-clause-any_moment : goal.returns-in_err-other_window-clause-any_moment
@@ -137,3 +138,10 @@ returns-clause-anew_sealed g c h =
 
 pub returns-clause-ends : goal.returns-clause-ends
 returns-clause-ends g c = record { end = c.in_ok-on_first.ensures.end; alive = refl }
+
+pub returns-clause-measured : goal.returns-clause-measured
+returns-clause-measured g c h =
+    let lens = c.in_ok-on_first.ensures.lens h in
+    let same = in_turn (λ x y. g.D.Disk.seen y ≡ g.D.Disk.seen x) c.args.self.now.on_first c.args.self.now.disk c.args.self.now.other c.read_again.new.disk c.read_again.new.other _ _ c.arrange.ensures.first c.arrange.ensures.second (c.read_again.ensures.same h) (c.read_again.ensures.same_other h) in
+    let it = measured g.D.Disk.seen c.in_ok-on_first.on_first _ _ _ _ c.in_order-known.result _ _ same.0 same.1 c.in_order-known.ensures lens.0 lens.1 in
+    record { current = it.0; other = it.1 }

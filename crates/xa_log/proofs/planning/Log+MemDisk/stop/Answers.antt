@@ -5,5 +5,5 @@ use Rattle.xa_log.proofs.planning.Log+MemDisk.stop.Goals as goal
 
 pub returns-clause-state : goal.returns-clause-state
 returns-clause-state c =
-    keeps_all _ c.args.self.now _ (record { on_first = refl; log_bytes = refl; format = refl; end = refl; digest = refl; number = refl; lost = refl })
+    keeps_all _ c.args.self.now _ (record { on_first = refl; log_bytes = refl; format = refl; end = refl; digest = refl; number = refl; lost = refl; known = refl; other_known = refl })
     c.stop.ensures.same.same.bytes (left_kept _ _ c.stop.ensures.same) refl (λ x left. left)
