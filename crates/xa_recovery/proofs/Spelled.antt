@@ -13,7 +13,7 @@ use Rattle.xa_recovery.specs.declared.log_fault.LogFault.TheVariants.{Malformed,
 use Rattle.xa_recovery.specs.declared.fault.AddFault.{AddFault}
 use Rattle.xa_recovery.specs.declared.fault.AddFault.TheVariants as add
 use Rattle.xa_recovery.specs.declared.rebuilding.Rebuilding.{Rebuilding}
-use Rattle.xa_recovery.specs.Rebuilding.{Taken}
+use Rattle.xa_recovery.specs.Rebuilding.{HasRead, Taken}
 use Rattle.xa_recovery.specs.Log.{AreBodiesOf, IsNoBody, IsFirstMalformed, HasReadBodies, LogRebuilt}
 use Rattle.xa_recovery.proofs.Loops.{joined, mapped_both}
 
@@ -72,6 +72,10 @@ one_more_body rs bodies r body are is same = record {
   spelling = mapped_both spelled rs (r ∷ []) ∙ (ap (λ bs. bs ++ spelled r ∷ []) are.spelling ∙ ap (λ b. bodies ++ b ∷ []) (sym same));
 }
 
+pub body_read : (m more : Rebuilding) (bodies : List (List ℕ)) (r : Record) (body : List ℕ) (h : HasReadBodies m bodies) → IsRecord r → body ≡ spelled r → HasRead more (h.records ++ r ∷ [])
+    → HasReadBodies more (bodies ++ body ∷ [])
+body_read m more bodies r body h is same taken = record { records = h.records ++ r ∷ []; are = one_more_body h.records bodies r body h.are is same; read = taken }
+
 pub body_refused : (m : Rebuilding) (bodies : List (List ℕ)) (i : ℕ) (r : Record) (body : List ℕ) (h : HasReadBodies m bodies) → length bodies ≡ i → IsRecord r → body ≡ spelled r
     → (e : AddFault) → e ≡ add.Order → Taken h.records r (Err e) → LogRebuilt (bodies ++ body ∷ []) (Err (Order i))
 body_refused m bodies i r body h at is same e order taken =
@@ -117,6 +121,10 @@ no_body : (body : List ℕ) (e : RecordFault) → e ≡ reading.Malformed → ((
 no_body body e malformed only = λ r is same.
     let memory : e ≡ reading.Memory = only r is (sym same) in
     absurd (cc (malformed, memory))
+
+pub body_malformed : (m : Rebuilding) (bodies : List (List ℕ)) (i : ℕ) (body : List ℕ) → HasReadBodies m bodies → length bodies ≡ i
+    → (e : RecordFault) → e ≡ reading.Malformed → ((r : Record) → IsRecord r → body ≡ spelled r → Gives (Err e) r) → IsFirstMalformed i (bodies ++ body ∷ [])
+body_malformed m bodies i body h at e malformed only = malformed_behind h.records bodies i body h.are at (no_body body e malformed only)
 
 pub malformed_goes_before : (first i : ℕ) (vs : List (Vec ℕ Global)) (body : List ℕ) → i < length vs → take (i + 1) (map (λ b. b.items) vs) ≡ take i (map (λ b. b.items) vs) ++ body ∷ []
     → (e : RecordFault) → e ≡ reading.Malformed → ((r : Record) → IsRecord r → body ≡ spelled r → Gives (Err e) r)
