@@ -1,6 +1,6 @@
 -- How a whole run ends.
-use Rattle.std.proofs.Common.{◌≡◌, ◌⊎◌, ℕ, ◌≤◌, ◌<◌, ◌==◌, List, [], ◌∷◌, length, Option, Some, None, IfSome, Result, Ok, Err, refl, subst, arith, inl, inr, append-nil}
-use Rattle.std.specs.Prelude.{unwrap_or}
+use Rattle.std.proofs.Common.{◌≡◌, ◌⊎◌, ℕ, ◌≤◌, ◌<◌, ◌==◌, List, [], ◌∷◌, length, Option, Some, None, IfSome, Result, Ok, Err, refl, subst, sym, ap, arith, inl, inr, append-nil}
+use Rattle.std.specs.Prelude.{IfErr, IsErrOf, unwrap_or}
 use Rattle.std.specs.Io.KnownBytes.{Appends, Keeps}
 use Rattle.std.proofs.lemmas.List.{length-map}
 use Rattle.std.proofs.lemmas.List.Splits.{length-slice_split}
@@ -16,8 +16,8 @@ use Rattle.xa_play.specs.declared.fault.PlayFault.TheVariants.{Memory, Setting, 
 use Rattle.xa_play.specs.Faults.{end_of}
 use Rattle.xa_play.specs.Disks.{StandsFor, FilesStand}
 use Rattle.xa_play.specs.Runs.{Run, IsLawful, at_start}
-use Rattle.xa_play.specs.Plays.{Plays, WasRead, PlaysTo, Prints, Stops, lines_of}
-use Rattle.xa_play.specs.Played.{ScriptEnds}
+use Rattle.xa_play.specs.Plays.{IsTooLong, Plays, WasRead, PlaysTo, Prints, Stops, lines_of}
+use Rattle.xa_play.specs.Played.{IsLinesFault, IsOpeningFault, ScriptEnds}
 use Rattle.xa_play.proofs.Lawful.{run_at_start}
 use Rattle.xa_output.proofs.Pieces.{appends_both, keeps_appends, nothing_appended}
 
@@ -61,9 +61,72 @@ unread X Setting e read = read
 unread X TooLong e read = read
 unread X Read e read = read
 
+-- an opening's faults come before a script is read
+pub unopened : (X : Type 0) (fault : PlayFault) → (fault ≡ Setting) ⊎ IsOpeningFault fault → WasRead {X = X} (Err fault) → ⊥
+unopened X Write (inl e) read = cc e
+unopened X Write (inr (inl e)) read = cc e
+unopened X Write (inr (inr refused)) read = let e = refused.1 in cc
+unopened X Memory e read = read
+unopened X (Manager fault) e read = read
+unopened X Setting e read = read
+unopened X TooLong e read = read
+unopened X Read e read = read
+
 pub whichever : {A : Type 0} (o : Option A) (P : A → Type 0) → ((x : A) → P x) → IfSome o P
 whichever None P h = tt
 whichever (Some x) P h = h x
+
+-- which fault an end has
+
+pub fault_is : (X : Type 0) (fault other : PlayFault) → IsErrOf {T = X} (Err fault) other → fault ≡ other
+fault_is X fault other e = cc
+
+-- settings that an opening refused
+pub refused_setting : (X M : Type 0) (fault : PlayFault) (Bad : Type 0) → (IsErrOf {T = M} (Err fault) Setting → Bad) × (Bad → IsErrOf {T = M} (Err fault) Setting) →
+    (IsErrOf {T = X} (Err fault) Setting → Bad) × (Bad → IsErrOf {T = X} (Err fault) Setting)
+refused_setting X M fault Bad h = (λ e. h.0 (ap Err (fault_is X fault Setting e)), λ bad. ap Err (fault_is M fault Setting (h.1 bad)))
+
+-- settings that were taken
+pub taken_setting : (X M : Type 0) (m : M) (end : Result X PlayFault) (Bad : Type 0) → (IsErrOf end Setting → ⊥) → (Bad → IsErrOf {E = PlayFault} (Ok m) Setting) →
+    (IsErrOf end Setting → Bad) × (Bad → IsErrOf end Setting)
+taken_setting X M m end Bad other h = (λ e. absurd (other e), λ bad. let e = h bad in cc)
+
+pub opening_is_not_long : (X : Type 0) (fault : PlayFault) → (fault ≡ Setting) ⊎ IsOpeningFault fault → IsErrOf {T = X} (Err fault) TooLong → ⊥
+opening_is_not_long X fault (inl setting) e = cc
+opening_is_not_long X fault (inr (inl memory)) e = cc
+opening_is_not_long X fault (inr (inr refused)) e = let is = refused.1 in cc
+
+pub script_is_no_setting : (X : Type 0) (fault : PlayFault) → (fault ≡ Memory) ⊎ (fault ≡ Read) ⊎ (fault ≡ TooLong) → IsErrOf {T = X} (Err fault) Setting → ⊥
+script_is_no_setting X fault (inl memory) e = cc
+script_is_no_setting X fault (inr (inl read)) e = cc
+script_is_no_setting X fault (inr (inr long)) e = cc
+
+-- a play whose script was read ends in no other fault than its lines do
+lines_end_in : (X E : Type 0) (played : Result X PlayFault) (flushed : Result X E) → IfErr played IsLinesFault → (fault : PlayFault) → IsErrOf (end_of played flushed) fault → IsLinesFault fault
+lines_end_in X E (Err error) flushed h fault e = subst (λ f. IsLinesFault f) (fault_is X error fault e) h
+lines_end_in X E (Ok x) (Ok y) h fault e = cc
+lines_end_in X E (Ok x) (Err error) h fault e = inl (sym (fault_is X Write fault e))
+
+not_of_lines : (fault : PlayFault) → IsLinesFault fault → (fault ≡ Setting) ⊎ (fault ≡ TooLong) ⊎ (fault ≡ Read) → ⊥
+not_of_lines fault (inl write) (inl e) = cc
+not_of_lines fault (inl write) (inr (inl e)) = cc
+not_of_lines fault (inl write) (inr (inr e)) = cc
+not_of_lines fault (inr (inl memory)) (inl e) = cc
+not_of_lines fault (inr (inl memory)) (inr (inl e)) = cc
+not_of_lines fault (inr (inl memory)) (inr (inr e)) = cc
+not_of_lines fault (inr (inr refused)) (inl e) = let is = refused.1 in cc
+not_of_lines fault (inr (inr refused)) (inr (inl e)) = let is = refused.1 in cc
+not_of_lines fault (inr (inr refused)) (inr (inr e)) = let is = refused.1 in cc
+
+pub lines_are_played : (X E : Type 0) (played : Result X PlayFault) (flushed : Result X E) → IfErr played IsLinesFault → (fault : PlayFault) → (fault ≡ Setting) ⊎ (fault ≡ TooLong) ⊎ (fault ≡ Read) →
+    IsErrOf (end_of played flushed) fault → ⊥
+lines_are_played X E played flushed h fault other e = not_of_lines fault (lines_end_in X E played flushed h fault e) other
+
+pub script_is_short : (input : Option (List ℕ)) (script : List ℕ) (P : List ℕ → Type 0) → IfSome input (λ bytes. script ≡ bytes) → length script ≤ 16_777_216 → IfSome input (λ bytes. IsTooLong bytes → P bytes)
+script_is_short None script P all limit = tt
+script_is_short (Some bytes) script P all limit = λ long.
+    let same : length script ≡ length bytes = ap length all in
+    absurd (omega arith)
 
 prints_end : (X E : Type 0) (name : List ℕ) (n : ℕ) (played : Result X PlayFault) (flushed : Result X E) (run : Run) (lines : List Line) (text : List ℕ) → Prints name n IsLawful played run lines text
     → Prints name n IsLawful (end_of played flushed) run lines text
