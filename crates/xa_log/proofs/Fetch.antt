@@ -1,13 +1,16 @@
 -- Reads of a file from its front, piece by piece.
-use Rattle.std.proofs.Common.{◌≡◌, ◌⊎◌, inl, inr, ⊎_elim, ℕ, zero, suc, ◌+◌, ◌-◌, ◌*◌, ◌^◌, ◌≤◌, ◌<◌, min, List, ◌++◌, length, take, drop, refl, sym, ◌∙◌, ap, subst, arith, append_assoc, length-append, length-take-le, length-drop, take-append-drop, rules, Option, None, Some, Result, Ok, Err, IsErr, MatchResult}
+use Rattle.std.proofs.Common.{◌≡◌, ◌⊎◌, inl, inr, ⊎_elim, ℕ, zero, suc, ◌+◌, ◌-◌, ◌*◌, ◌^◌, ◌≤◌, ◌<◌, min, Bool, true, false, if◌then◌else◌, List, ◌++◌, length, take, drop, refl, sym, ◌∙◌, ap, subst, arith, append_assoc, length-append, length-take-le, length-drop, take-append-drop, rules, Option, None, Some, Result, Ok, Err, IsErr, MatchResult}
 use Rattle.std.proofs.lemmas.List.{take_at, take-take, drop-take, drop-drop}
-use Rattle.std.specs.Result.{IsErrAnd}
+use Rattle.std.specs.Result.{IfErr, IsErrAnd}
 use Rattle.xa_disk.specs.Counts.{plus, with_read, with_sync}
 use Rattle.xa_disk.specs.declared.counts.Counts.{Counts}
 use Rattle.xa_log.specs.Calls.{with_reads, Fetched, FetchedSome, FetchedNext, OnlyReads, Looks, LooksAt, asked}
 use Rattle.xa_log.specs.declared.fault.OpenFault.{OpenFault}
-use Rattle.xa_log.specs.declared.fault.OpenFault.TheVariants.{Device}
+use Rattle.xa_log.specs.declared.fault.OpenFault.TheVariants.{Device, Memory, NotALog, TooNew, TooLong}
+use Rattle.xa_log.specs.declared.format.Format.{Format}
 use Rattle.xa_log.specs.declared.reading.Found.{Found}
+use Rattle.xa_log.specs.Reading.{fault_unless, front_fault, is_newer}
+use Rattle.xa_log.specs.Chain.{format_of}
 
 plus_more : (x r k m : ℕ) → min (min (x + r) m + k) m ≡ min (x + (r + k)) m
 plus_more x r k m = omega arith
@@ -93,3 +96,33 @@ reads_some len most first first' now le is f = record {
   pieces = f.fetched.pieces;
   few = f.fetched.few;
 }
+
+-- what a look ends in behind its length
+looked_on : (e : OpenFault) (most : ℕ) (first now : Counts) → (e ≡ TooLong → ⊥) → OnlyReads most (asked first) now → LooksAt e most first now
+looked_on Device most first now other reads = inr reads
+looked_on Memory most first now other reads = inr reads
+looked_on NotALog most first now other reads = reads
+looked_on TooNew most first now other reads = reads
+looked_on TooLong most first now other reads = absurd (other refl)
+
+-- a read that failed
+pub looked_front : {T : Type 0} (r : Result T OpenFault) (most : ℕ) (first now : Counts) → IsErr r × IsErrAnd r (λ e. e ≡ Device) → OnlyReads most (asked first) now → Looks r most first now
+looked_front (Ok x) most first now is reads = absurd (search (is.0, rules))
+looked_front (Err e) most first now is reads = subst (λ f. LooksAt f most first now) (sym is.1) (inr reads)
+
+-- the reading of records
+pub looked_records : {T : Type 0} (r : Result T OpenFault) (most : ℕ) (first now : Counts) → IfErr r (λ e. (e ≡ Device) ⊎ (e ≡ Memory)) → OnlyReads most (asked first) now → Looks r most first now
+looked_records (Ok x) most first now kinds reads = reads
+looked_records (Err e) most first now kinds reads = looked_on e most first now (λ long. ⊎_elim (λ device. cc) (λ memory. cc) kinds) reads
+
+no_format : (o : Option Format) (newer : Bool) (e : OpenFault) → fault_unless o (if newer then TooNew else NotALog) ≡ Some e → e ≡ TooLong → ⊥
+no_format (Some format) newer e fault long = cc
+no_format None true e fault long = cc
+no_format None false e fault long = cc
+
+-- a front that names no format
+pub looked_format : (front : List ℕ) (e : OpenFault) (most : ℕ) (first now : Counts) → front_fault front ≡ Some e → OnlyReads most (asked first) now → LooksAt e most first now
+looked_format front e most first now fault reads = looked_on e most first now (no_format (format_of front) (is_newer front) e fault) reads
+
+pub reads_upto : (len upto most : ℕ) (first first' now : Counts) → len ≤ most → first ≡ first' → Fetched len upto first now → OnlyReads most first' now
+reads_upto len upto most first first' now le is f = reads_some len most first first' now le is (record { upto = upto; fetched = f })
