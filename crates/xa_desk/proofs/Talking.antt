@@ -18,7 +18,7 @@ use Rattle.xa_desk.specs.Serving.{Answers, AnswersAll, IsShort, frames_of, Owes,
 use Rattle.xa_desk.specs.Steps.{Lacks, ReadsLength, Sends, end_of}
 use Rattle.xa_desk.proofs.Known.{consumes-none, consumes-twice}
 
-answers-append : {D : Type 0} (called : D → Request → Reply → D → Type 0) (d m e : D) (cs ds : List (List ℕ)) (rs qs : List Reply)
+pub answers-append : {D : Type 0} (called : D → Request → Reply → D → Type 0) (d m e : D) (cs ds : List (List ℕ)) (rs qs : List Reply)
     → AnswersAll called d cs rs m → AnswersAll called m ds qs e → AnswersAll called d (cs ++ ds) (rs ++ qs) e
 answers-append {D} called d m e [] ds [] qs h k = subst (λ (x : D). AnswersAll called x ds qs e) (sym h) k
 answers-append called d m e [] ds (y ∷ rs) qs h k = absurd h
@@ -26,7 +26,7 @@ answers-append called d m e (x ∷ cs) ds [] qs h k = absurd h
 answers-append called d m e (x ∷ cs) ds (y ∷ rs) qs h k = (h.0, h.1, answers-append called h.0 m e cs ds rs qs h.2 k)
 
 -- what was written behind other replies
-frames-behind : (rs qs : List Reply) (written : List ℕ) → written ≡ frames_of qs → frames_of rs ++ written ≡ frames_of (rs ++ qs)
+pub frames-behind : (rs qs : List Reply) (written : List ℕ) → written ≡ frames_of qs → frames_of rs ++ written ≡ frames_of (rs ++ qs)
 frames-behind rs qs written h = ap (λ (bs : List ℕ). frames_of rs ++ bs) h ∙ sym (flat_map-append reply_frame rs qs)
 
 owes-behind : (rs qs : List Reply) (read : List ℕ) (owed : List Reply) → Owes qs read owed → Owes (rs ++ qs) read (rs ++ owed)

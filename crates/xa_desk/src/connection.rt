@@ -1,4 +1,4 @@
-ghost use Rattle.std.specs.Prelude.{◌≡◌, ◌<◌, ◌≤◌, length, IfOk, IfErr, true, false, Some};
+ghost use Rattle.std.specs.Prelude.{◌≡◌, ◌<◌, ◌≤◌, ◌++◌, length, IfOk, IfErr, OnOk, true, false, Some};
 ghost use Rattle.std.specs.Io.KnownBytes.{Consumes};
 ghost use Rattle.xa_limits.specs.declared.TheConstants.{MOST_CONTENT};
 ghost use Rattle.xa_frame.specs.Limits.{IsReply};
@@ -72,15 +72,25 @@ fn without_memory() -> Reply
     Reply::detailed(XAER_RMFAIL, Detail::Memory)
 }
 
+/// Appends the frame of a reply.
+pub fn put_frame(alloc: Global, out: &mut Vec<u8>, reply: &Reply) -> Result<(), AllocError>
+    requires { IsReply reply.now }
+    ensures { OnOk result (out.new.items ≡ out.old.items ++ reply_frame reply.now) }
+{
+    let content = encode_reply(alloc, reply)?;
+    one_reply();
+    out.reserve(4 + content.len())?;
+    put_u32(out, content.len() as u32)?;
+    out.extend_from_slice(&content)?;
+    Ok(())
+}
+
 fn frame_of(alloc: Global, reply: &Reply) -> Result<Vec<u8>, AllocError>
     requires { IsReply reply.now }
     ensures { IfOk result (λ v. v.items ≡ reply_frame reply.now) }
 {
-    let content = encode_reply(alloc, reply)?;
-    one_reply();
-    let mut frame = Vec::with_capacity(alloc, 4 + content.len())?;
-    put_u32(&mut frame, content.len() as u32)?;
-    frame.extend_from_slice(&content)?;
+    let mut frame = Vec::new(alloc);
+    put_frame(alloc, &mut frame, reply)?;
     Ok(frame)
 }
 
@@ -132,8 +142,8 @@ fn exchange<D: Door, R: Read, W: Write>(
     send(alloc, writer, &reply)
 }
 
-// The reply to a content.
-fn answer<D: Door>(alloc: Global, door: &mut D, session: u64, content: &[u8]) -> Reply
+/// The reply to a content: the door's, or one to a content that has a fault or couldn't be decoded for want of memory.
+pub fn answer<D: Door>(alloc: Global, door: &mut D, session: u64, content: &[u8]) -> Reply
     ensures answers { Answers (D.called session) door.old content.now result door.new }
     ensures limits { IsReply result }
 {

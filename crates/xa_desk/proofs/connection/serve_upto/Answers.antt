@@ -1,4 +1,4 @@
-use Rattle.std.proofs.Common.{◌∙◌, ap, rules, sym, subst}
+use Rattle.std.proofs.Common.{rules}
 use Rattle.xa_desk.proofs.Talking.{talks-bound}
 use Rattle.xa_desk.proofs.connection.serve_upto.Goals as goal
 

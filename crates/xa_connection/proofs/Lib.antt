@@ -1,0 +1,4 @@
+pub mod Turning
+pub mod Fronts
+pub mod Moving
+pub mod Ending

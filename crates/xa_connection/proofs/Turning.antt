@@ -1,0 +1,78 @@
+-- One answer, by what is at the front.
+use Rattle.std.proofs.Common.{◌≡◌, ℕ, ◌+◌, ◌-◌, ◌≤◌, List, [], ◌∷◌, ◌++◌, length, take, drop, Some, None, refl, sym, ap, ◌∙◌, inl, inr, arith, subst}
+use Rattle.xa_frame.specs.declared.request.Request.{Request}
+use Rattle.xa_frame.specs.declared.reply.Reply.{Reply}
+use Rattle.xa_frame.specs.Made.{bad_frame}
+use Rattle.xa_desk.specs.declared.served.Served.TheVariants as served
+use Rattle.xa_desk.specs.Frames.{frame}
+use Rattle.xa_desk.specs.Serving.{Answers}
+use Rattle.xa_connection.specs.declared.answering.Answering.{Answering}
+use Rattle.xa_connection.specs.declared.answering.Answering.TheVariants.{Idle, Answered, Memory}
+use Rattle.xa_connection.specs.declared.connection.Connection.{Connection}
+use Rattle.xa_connection.specs.Fronts.{BeginsTooLong, BeginsWhole}
+use Rattle.xa_connection.specs.Calls.{Holds, IsReady, Turns}
+use Rattle.xa_connection.proofs.Fronts.{begins_short}
+
+-- no bytes are left
+pub none-left : (n : ℕ) (bytes : List ℕ) → n ≡ length bytes → n ≤ 0 → bytes ≡ []
+none-left n [] is none = refl
+none-left n (b ∷ bytes) is none = absurd (omega (arith, is, none))
+
+-- the content behind a length
+pub content-is : (count : ℕ) (front input : List ℕ) → front ≡ input → take (4 + count - 4) (drop 4 front) ≡ take count (drop 4 input)
+content-is count front input is =
+    let same : 4 + count - 4 ≡ count = omega arith in
+    ap (λ (n : ℕ). take n (drop 4 front)) same ∙ ap (λ (bs : List ℕ). take count (drop 4 bs)) is
+
+-- a frame is at the front, whose content was answered
+pub turns-frame : {D : Type 0} (called : D → Request → Reply → D → Type 0) (c c' : Connection) (d e : D) (answering : Answering) (count : ℕ) (content rest : List ℕ) (reply : Reply)
+    → IsReady c → BeginsWhole c.input count → content ≡ take count (drop 4 c.input) → Answers called d content reply e → rest ≡ drop (4 + count) c.input
+    → Holds (record c { input = rest }) reply answering c' → Turns called c d answering c' e
+turns-frame called c c' d e Idle count content rest reply ready b is said behind h = absurd h
+turns-frame called c c' d e Answered count content rest reply ready b is said behind h =
+    let front : List ℕ = take count (drop 4 c.input) in (
+      ready,
+      reply,
+      inl (
+        front,
+        begins_short c.input count b,
+        b.parts ∙ ap (λ (bs : List ℕ). frame front ++ bs) (sym behind ∙ sym (ap (λ (x : Connection). x.input) h)),
+        subst (λ (bs : List ℕ). Answers called d bs reply e) is said,
+        ap (λ (x : Connection). x.end) h ∙ ready.0,
+      ),
+      ap (λ (x : Connection). x.output) h,
+    )
+turns-frame called c c' d e Memory count content rest reply ready b is said behind h =
+    let front : List ℕ = take count (drop 4 c.input) in (
+      ready,
+      reply,
+      None,
+      inl (
+        front,
+        begins_short c.input count b,
+        b.parts ∙ ap (λ (bs : List ℕ). frame front ++ bs) (sym behind ∙ sym (ap (λ (x : Connection). x.input) h)),
+        subst (λ (bs : List ℕ). Answers called d bs reply e) is said,
+        refl,
+      ),
+      ap (λ (x : Connection). x.output) h,
+      ap (λ (x : Connection). x.end) h,
+    )
+
+-- a length that is too great is at the front
+pub turns-length : {D : Type 0} (called : D → Request → Reply → D → Type 0) (c c' : Connection) (d : D) (answering : Answering) (reply : Reply)
+    → IsReady c → BeginsTooLong c.input → reply ≡ bad_frame → Holds (record c { end = Some served.TooLong }) reply answering c' → Turns called c d answering c' d
+turns-length called c c' d Idle reply ready b is h = absurd h
+turns-length called c c' d Answered reply ready b is h = (
+  ready,
+  reply,
+  inr (b, ap (λ (x : Connection). x.input) h, refl, is, ap (λ (x : Connection). x.end) h),
+  ap (λ (x : Connection). x.output) h,
+)
+turns-length called c c' d Memory reply ready b is h = (
+  ready,
+  reply,
+  Some served.TooLong,
+  inr (b, ap (λ (x : Connection). x.input) h, refl, is, refl),
+  ap (λ (x : Connection). x.output) h,
+  ap (λ (x : Connection). x.end) h,
+)

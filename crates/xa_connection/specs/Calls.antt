@@ -1,0 +1,63 @@
+-- What each call does to a connection.
+use Rattle.std.specs.Prelude.{ℕ, ◌≡◌, ◌≢◌, ◌⊎◌, ◌-◌, List, [], ◌∷◌, ◌++◌, length, take, min, Option, Some, None, IsSome}
+use Rattle.xa_frame.specs.declared.request.Request.{Request}
+use Rattle.xa_frame.specs.declared.reply.Reply.{Reply}
+use Rattle.xa_frame.specs.Made.{bad_frame}
+use Rattle.xa_desk.specs.declared.served.Served.{Served}
+use Rattle.xa_desk.specs.declared.served.Served.TheVariants as served
+use Rattle.xa_desk.specs.Frames.{frame, reply_frame}
+use Rattle.xa_desk.specs.Serving.{Answers, IsShort, IsCut}
+use Rattle.xa_connection.specs.declared.answering.Answering.{Answering}
+use Rattle.xa_connection.specs.declared.answering.Answering.TheVariants.{Idle, Answered, Memory}
+use Rattle.xa_connection.specs.declared.connection.Connection.{Connection}
+use Rattle.xa_connection.specs.declared.connection.TheConstants.{MOST_INPUT}
+use Rattle.xa_connection.specs.Fronts.{BeginsTooLong}
+
+-- nothing came in, and nothing is to be sent
+abbrev pub new_connection : Connection
+new_connection = record { input = []; output = []; end = None }
+
+-- by its end, what is to be sent and what came in: how many bytes it takes
+abbrev pub room_in : Option Served → List ℕ → List ℕ → ℕ
+room_in None [] input = MOST_INPUT - length input
+room_in None (b ∷ output) input = 0
+room_in (Some end) output input = 0
+
+abbrev pub room_of : Connection → ℕ
+room_of c = room_in c.end c.output c.input
+
+-- it took the first of these bytes, as many as it has room for
+abbrev pub Feeds : Connection → List ℕ → ℕ → Connection → Type 0
+Feeds c bytes count c' =
+    (count ≡ min (room_of c) (length bytes)) × (c' ≡ record c { input = c.input ++ take count bytes })
+
+-- it goes on, and nothing is to be sent
+abbrev pub IsReady : Connection → Type 0
+IsReady c = (c.end ≡ None) × (c.output ≡ [])
+
+-- it has nothing to answer: it is to end, a reply is to be sent first, or no whole frame came in
+abbrev pub IsIdle : Connection → Type 0
+IsIdle c = IsSome c.end ⊎ ((c.output ≢ []) ⊎ IsCut c.input)
+
+-- what is at the front is owed this reply: a content, which is taken with its length; or a length that is too great,
+-- which stays, and behind whose reply it is to end
+abbrev pub AnswersFront : {D : Type 0} → (D → Request → Reply → D → Type 0) → Connection → D → Reply → Option Served → List ℕ → D → Type 0
+AnswersFront called c d reply end input e =
+    ((content : List ℕ) × IsShort content × (c.input ≡ frame content ++ input) × Answers called d content reply e
+    × (end ≡ None))
+    ⊎ (BeginsTooLong c.input × (input ≡ c.input) × (e ≡ d) × (reply ≡ bad_frame) × (end ≡ Some served.TooLong))
+
+-- an answer: one reply was owed, and is to be sent, or found no memory
+abbrev pub Turns : {D : Type 0} → (D → Request → Reply → D → Type 0) → Connection → D → Answering → Connection → D → Type 0
+Turns called c d Idle c' e = IsIdle c × (c' ≡ c) × (e ≡ d)
+Turns called c d Answered c' e =
+    IsReady c × (reply : Reply) × AnswersFront called c d reply c'.end c'.input e × (c'.output ≡ reply_frame reply)
+Turns called c d Memory c' e =
+    IsReady c × (reply : Reply) × (end : Option Served) × AnswersFront called c d reply end c'.input e × (c'.output ≡ [])
+    × (c'.end ≡ Some served.Memory)
+
+-- a reply is to be sent, or found no memory
+abbrev pub Holds : Connection → Reply → Answering → Connection → Type 0
+Holds c reply Idle c' = ⊥
+Holds c reply Answered c' = c' ≡ record c { output = reply_frame reply }
+Holds c reply Memory c' = c' ≡ record c { output = []; end = Some served.Memory }

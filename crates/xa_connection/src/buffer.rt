@@ -1,0 +1,106 @@
+ghost use Rattle.std.specs.Prelude.{◌≡◌, ◌≤◌, ◌↔◌, ◌++◌, [], drop, length, vec_len, IsTrue, OnOk, OnErr};
+ghost use Rattle.xa_frame.specs.Limits.{IsReply};
+ghost use Rattle.xa_desk.specs.Frames.{reply_frame};
+
+use std::alloc::{AllocError, Global};
+use std::marker::Model;
+use xa_desk::put_frame;
+use xa_frame::Reply;
+
+/// Bytes in a row: what comes goes behind them, and they are taken from the front. Contracts see those that are left.
+///
+/// Bytes that were taken stay until they are as many as those that are left. So a byte that stays is moved once at most
+/// for each that was taken, and the block is at most twice as long as what it held at its fullest.
+#[derive(Debug, Drop)]
+pub struct Buffer {
+    bytes: Vec<u8>,
+    /// How many of them were taken.
+    taken: usize,
+}
+
+impl Model for Buffer {
+    ghost use Rattle.std.specs.Prelude.{ℕ, List, ◌≤◌, drop, length};
+
+    ghost Value = { List ℕ };
+
+    ghost view = { λ b. drop b.taken b.bytes.items };
+
+    ghost invariant = { λ b. b.taken ≤ length b.bytes.items };
+}
+
+impl Buffer {
+    pub fn new(alloc: Global) -> Buffer
+        ensures { result ≡ [] }
+    {
+        Buffer {
+            bytes: Vec::new(alloc),
+            taken: 0,
+        }
+    }
+
+    pub fn as_slice(&self) -> &[u8]
+        ensures { result.now ≡ self.now }
+    {
+        &self.bytes.as_slice()[self.taken..]
+    }
+
+    pub fn len(&self) -> usize
+        ensures { result ≡ length self.now }
+    {
+        self.bytes.len() - self.taken
+    }
+
+    /// Puts bytes behind those that are there, or none.
+    pub fn put(&mut self, more: &[u8]) -> Result<(), AllocError>
+        ensures ok { OnOk result (self.new ≡ self.old ++ more.now) }
+        ensures err { OnErr result (self.new ≡ self.old) }
+    {
+        self.bytes.extend_from_slice(more)
+    }
+
+    /// Holds the frame of a reply in place of what it held, or nothing.
+    pub fn hold(&mut self, alloc: Global, reply: &Reply) -> Result<(), AllocError>
+        requires { IsReply reply.now }
+        ensures ok { OnOk result (self.new ≡ reply_frame reply.now) }
+        ensures err { OnErr result (self.new ≡ []) }
+    {
+        self.bytes.clear();
+        self.taken = 0;
+        let held = put_frame(alloc, &mut self.bytes, reply);
+        if held.is_err() {
+            self.bytes.clear();
+        }
+        held
+    }
+
+    /// Takes so many bytes from the front, or all.
+    pub fn take(&mut self, count: usize)
+        ensures { self.new ≡ drop count self.old }
+    {
+        if count >= self.len() {
+            self.clear();
+            return;
+        }
+        self.taken += count;
+        if self.taken >= self.bytes.len() - self.taken {
+            remove_front(&mut self.bytes, self.taken);
+            self.taken = 0;
+        }
+    }
+
+    fn clear(&mut self)
+        ensures { self.new ≡ [] }
+    {
+        self.bytes.clear();
+        self.taken = 0;
+    }
+}
+
+fn remove_front(bytes: &mut Vec<u8>, count: usize)
+    requires { count ≤ vec_len bytes.old }
+    ensures { bytes.new.items ≡ drop count bytes.old.items }
+{
+    let len = bytes.len();
+    bytes.as_mut_slice().copy_within(count..len, 0);
+    bytes.truncate(len - count);
+}

@@ -1,0 +1,33 @@
+ghost use Rattle.xa_connection.specs.Fronts.{IsFront};
+
+use xa_bytes::{one_number, take_u32};
+use xa_limits::MOST_CONTENT;
+
+/// What is at the front of some bytes.
+#[derive(Clone, Copy, Debug, PartialEq, Eq)]
+pub enum Front {
+    /// A frame, whose content has so many bytes.
+    Whole(usize),
+    /// A part of a frame, or nothing.
+    Cut,
+    /// A length above `MOST_CONTENT`.
+    TooLong,
+}
+
+/// What is at the front of these bytes. Of a length that is too great nothing behind it is looked at.
+pub fn front_of(bytes: &[u8]) -> Front
+    ensures { IsFront bytes.now result }
+{
+    one_number();
+    let Some((count, rest)) = take_u32(bytes) else {
+        return Front::Cut;
+    };
+    let count = count as usize;
+    if count > MOST_CONTENT {
+        Front::TooLong
+    } else if rest.len() < count {
+        Front::Cut
+    } else {
+        Front::Whole(count)
+    }
+}

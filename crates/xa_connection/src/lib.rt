@@ -1,0 +1,22 @@
+//! One connection without its socket: the bytes that come in are fed to it, it answers their frames one after another
+//! at a door, and hands out the bytes of the replies, all in whatever cuts.
+//!
+//! - `connection`: `Connection`, and `MOST_INPUT`, the most bytes that it keeps of what came in
+//! - `answering`: `Answering`, what an answer came to
+//! - `front`: what is at the front of the bytes that came in
+//! - `buffer`: bytes that come at one end and go at the other
+//! - `laws`: `has_talked`, what a connection has done since it was new; `talks_of`, that `serve` of `xa_desk` does the
+//!   same over a reader and a writer
+//!
+//! Whose socket it is, and when that is ready, is for a caller to know: see `Connection` for the turns that it takes.
+#![tactic(auto)]
+
+mod answering;
+mod buffer;
+mod connection;
+mod front;
+mod laws;
+
+pub use answering::Answering;
+pub use connection::{Connection, MOST_INPUT};
+pub use laws::{has_talked, talks_of};
