@@ -1,8 +1,10 @@
 -- One answer, by what is at the front.
-use Rattle.std.proofs.Common.{◌≡◌, ℕ, ◌+◌, ◌-◌, ◌≤◌, List, [], ◌∷◌, ◌++◌, length, take, drop, Some, None, refl, sym, ap, ◌∙◌, inl, inr, arith, subst}
+use Rattle.std.proofs.Common.{◌≡◌, ◌↔◌, Bool, false, ℕ, ◌+◌, ◌-◌, ◌≤◌, List, [], ◌∷◌, ◌++◌, length, take, drop, Option, Some, None, refl, sym, ap, ◌∙◌, inl, inr, arith, subst}
+use Rattle.std.specs.Prelude.{IsSome, IsTrue}
 use Rattle.xa_frame.specs.declared.request.Request.{Request}
 use Rattle.xa_frame.specs.declared.reply.Reply.{Reply}
 use Rattle.xa_frame.specs.Made.{bad_frame}
+use Rattle.xa_desk.specs.declared.served.Served.{Served}
 use Rattle.xa_desk.specs.declared.served.Served.TheVariants as served
 use Rattle.xa_desk.specs.Frames.{frame}
 use Rattle.xa_desk.specs.Serving.{Answers}
@@ -12,6 +14,11 @@ use Rattle.xa_connection.specs.declared.connection.Connection.{Connection}
 use Rattle.xa_connection.specs.Fronts.{BeginsTooLong, BeginsWhole}
 use Rattle.xa_connection.specs.Calls.{Holds, IsReady, Turns}
 use Rattle.xa_connection.proofs.Fronts.{begins_short}
+
+-- it goes on
+pub goes-on : (end : Option Served) (closing : Bool) → (IsTrue closing ↔ IsSome end) → closing ≡ false → end ≡ None
+goes-on None closing h is = refl
+goes-on (Some x) closing h is = absurd (cc (sym (h.1 refl) ∙ is))
 
 -- no bytes are left
 pub none-left : (n : ℕ) (bytes : List ℕ) → n ≡ length bytes → n ≤ 0 → bytes ≡ []

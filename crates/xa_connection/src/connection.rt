@@ -8,9 +8,10 @@ use crate::front::{Front, front_of};
 use std::alloc::{AllocError, Global};
 use xa_desk::{Door, Served, answer};
 use xa_frame::Reply;
+use xa_limits::MOST_CONTENT;
 
-/// The most bytes that are kept of what came in: a frame of the greatest length.
-pub const MOST_INPUT: usize = 65_539;
+/// The most bytes that are kept of what came in: those of the longest frame.
+pub const MOST_INPUT: usize = 4 + MOST_CONTENT;
 
 /// One connection, without its socket: what came in and isn't answered, what is to be sent of the last reply, and
 /// whether it is to end.

@@ -9,8 +9,8 @@
 //! - `chains`, `versions`: one key's versions, and all keys'
 //! - `sessions`, `tables`: the tables of sessions and of branches; `scans`: recovery scans; `heuristics`: the
 //!   operator's decisions
-//! - `connections`: one connection in pieces, and broken; `doors`: what it is served by; `talks`: scripts over
-//!   connections
+//! - `connections`: one connection in pieces, and broken; `cuts`: one without its socket; `doors`: what they are
+//!   served by; `talks`: scripts over connections
 //! - `rows`: `none_wrong`
 #![tactic(auto)]
 
@@ -20,6 +20,8 @@ mod chains;
 mod codes;
 #[cfg(test)]
 mod connections;
+#[cfg(test)]
+mod cuts;
 #[cfg(test)]
 mod doors;
 #[cfg(test)]

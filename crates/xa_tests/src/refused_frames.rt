@@ -4,7 +4,7 @@ use std::alloc::{AllocError, Global};
 use xa_desk::{Served, serve};
 use xa_rows::CONTENT_BYTES;
 
-const REFUSED: [u8; 19] = [
+pub const REFUSED: [u8; 19] = [
     0, 0, 0, 15, 1, 255, 255, 255, 251, 6, 0, 0, 0, 0, 0, 0, 0, 0, 0,
 ];
 
@@ -75,9 +75,9 @@ fn refuses(rt: HostRuntime) {
 }
 
 /// Start of 1:aa:bb, and the reply at place 3.
-const START: [u8; 18] = [0, 0, 0, 14, 1, 3, 0, 0, 0, 0, 0, 0, 0, 1, 1, 1, 0xaa, 0xbb];
+pub const START: [u8; 18] = [0, 0, 0, 14, 1, 3, 0, 0, 0, 0, 0, 0, 0, 1, 1, 1, 0xaa, 0xbb];
 
-const BEGUN: [u8; 27] = [
+pub const BEGUN: [u8; 27] = [
     0, 0, 0, 23, 1, 0, 0, 0, 0, 0, 0, 0, 0, 0, 0, 0, 0, 3, 1, 0, 0, 0, 1, 0, 0, 0, 1,
 ];
 
