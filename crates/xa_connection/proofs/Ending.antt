@@ -1,4 +1,4 @@
--- What a connection has done is what `serve` does.
+-- What a connection and its door have done stays with each call, and is what `serve` does.
 use Rattle.std.proofs.Common.{◌≡◌, ◌≢◌, ℕ, ◌+◌, List, [], ◌++◌, length, Option, Some, None, refl, sym, ap, ◌∙◌, inl, inr, append_assoc, append-nil, arith, subst}
 use Rattle.std.specs.List.{flat_map}
 use Rattle.xa_frame.specs.declared.request.Request.{Request}
@@ -7,9 +7,13 @@ use Rattle.xa_desk.specs.declared.served.Served.{Served}
 use Rattle.xa_desk.specs.declared.served.Served.TheVariants.{Ended, ReadFault, WriteFault, TooLong, Memory}
 use Rattle.xa_desk.specs.Frames.{frame}
 use Rattle.xa_desk.specs.Serving.{Ends, Talks}
+use Rattle.xa_desk.proofs.Talking.{answers-append}
 use Rattle.xa_connection.specs.declared.connection.Connection.{Connection}
-use Rattle.xa_connection.specs.Talked.{HasTalked, Sends, TalksLaw}
-use Rattle.xa_connection.proofs.Moving.{all-sent}
+use Rattle.xa_connection.specs.declared.answering.Answering.{Answering}
+use Rattle.xa_connection.specs.Calls.{Turns}
+use Rattle.xa_connection.specs.Carries.{CarriesLaw, Sends}
+use Rattle.xa_connection.specs.Talked.{HasEnded, HasTalked, TalkedLaw}
+use Rattle.xa_connection.proofs.Carrying.{all-sent, carries-law}
 
 -- what came in is what was read and the rest, and so it ends
 talks-so : {D : Type 0} (called : D → Request → Reply → D → Type 0) (first d : D) (fed sent : List ℕ) (c : Connection) (end : Option Served) (h : HasTalked called first fed sent c d) (read rest : List ℕ)
@@ -24,9 +28,9 @@ talks-so called first d fed sent c end h read rest is ends at_end =
         replies = h.replies;
         read = read;
         written = sent;
-        short = h.short;
+        short = h.carries.short;
         few = omega arith;
-        consumed = h.fed_is ∙ ap (λ (bs : List ℕ). before ++ bs) is ∙ sym (append_assoc before read rest);
+        consumed = h.carries.fed_is ∙ ap (λ (bs : List ℕ). before ++ bs) is ∙ sym (append_assoc before read rest);
         answered = h.answered;
         appended = refl;
         ends = ends;
@@ -54,20 +58,55 @@ write-fault (Some Ended) replies input sent unsent some h = absurd h
 write-fault (Some ReadFault) replies input sent unsent some h = absurd h
 write-fault (Some WriteFault) replies input sent unsent some h = absurd h
 
-pub talks-law : {D : Type 0} (called : D → Request → Reply → D → Type 0) → TalksLaw called
-talks-law called first d fed sent c None h p =
-    talks-so called first d fed sent c None h [] c.input refl (refl, all-sent c.end h.replies c.input sent c.output p.0 p.1 h.sends) (λ e. absurd (cc e))
-talks-law called first d fed sent c (Some Ended) h p =
-    talks-so called first d fed sent c (Some Ended) h [] c.input refl (refl, all-sent c.end h.replies c.input sent c.output p.0 p.1 h.sends) (λ e. p.2)
-talks-law called first d fed sent c (Some ReadFault) h p =
-    talks-so called first d fed sent c (Some ReadFault) h c.input [] (sym (append-nil c.input)) (p.2, all-sent c.end h.replies c.input sent c.output p.0 p.1 h.sends) (λ e. refl)
-talks-law called first d fed sent c (Some WriteFault) h p =
-    let w = write-fault c.end h.replies c.input sent c.output p h.sends in
+has-ended : {D : Type 0} (called : D → Request → Reply → D → Type 0) (first d : D) (fed sent : List ℕ) (c : Connection) (end : Option Served) → HasTalked called first fed sent c d → HasEnded end c
+    → (most : ℕ) × (rest : List ℕ) × Talks called most end (Some fed) (Some rest) (Some []) (Some sent) first d
+has-ended called first d fed sent c None h p =
+    talks-so called first d fed sent c None h [] c.input refl (refl, all-sent c.end h.replies c.input sent c.output p.0 p.1 h.carries.sends) (λ e. absurd (cc e))
+has-ended called first d fed sent c (Some Ended) h p =
+    talks-so called first d fed sent c (Some Ended) h [] c.input refl (refl, all-sent c.end h.replies c.input sent c.output p.0 p.1 h.carries.sends) (λ e. p.2)
+has-ended called first d fed sent c (Some ReadFault) h p =
+    talks-so called first d fed sent c (Some ReadFault) h c.input [] (sym (append-nil c.input)) (p.2, all-sent c.end h.replies c.input sent c.output p.0 p.1 h.carries.sends) (λ e. refl)
+has-ended called first d fed sent c (Some WriteFault) h p =
+    let w = write-fault c.end h.replies c.input sent c.output p h.carries.sends in
     talks-so called first d fed sent c (Some WriteFault) h w.0 w.1 w.2 w.3 (λ e. absurd (cc e))
-talks-law called first d fed sent c (Some TooLong) h p =
-    let k : Sends (Some TooLong) h.replies c.input sent c.output = subst (λ (x : Option Served). Sends x h.replies c.input sent c.output) p.0 h.sends in
+has-ended called first d fed sent c (Some TooLong) h p =
+    let k : Sends (Some TooLong) h.replies c.input sent c.output = subst (λ (x : Option Served). Sends x h.replies c.input sent c.output) p.0 h.carries.sends in
     talks-so called first d fed sent c (Some TooLong) h k.0.0 k.0.1 k.0.3
     (k.0.2, sym (append-nil sent) ∙ sym (k.1.in_order ∙ ap (λ (bs : List ℕ). sent ++ bs) p.1)) (λ e. absurd (cc e))
-talks-law called first d fed sent c (Some Memory) h p =
-    let k : Sends (Some Memory) h.replies c.input sent c.output = subst (λ (x : Option Served). Sends x h.replies c.input sent c.output) p h.sends in
+has-ended called first d fed sent c (Some Memory) h p =
+    let k : Sends (Some Memory) h.replies c.input sent c.output = subst (λ (x : Option Served). Sends x h.replies c.input sent c.output) p h.carries.sends in
     talks-so called first d fed sent c (Some Memory) h k.2 k.3 k.4 (k.0, k.6, inr (k.1, k.5)) (λ e. absurd (cc e))
+
+-- what it carries is of the same contents and replies
+talked-so : {D : Type 0} (called : D → Request → Reply → D → Type 0) (first d e : D) (fed sent : List ℕ) (c c' : Connection) (answering : Answering) → HasTalked called first fed sent c d → Turns called c d answering c' e
+    → HasTalked called first fed sent c' e
+talked-so called first d e fed sent c c' answering h t =
+    let law : CarriesLaw called = carries-law called in
+    let a = law.answered h.contents h.replies fed sent answering c c' d e h.carries t in
+    record {
+      contents = h.contents ++ a.0;
+      replies = h.replies ++ a.1;
+      answered = answers-append called first d e h.contents a.0 h.replies a.1 h.answered a.2;
+      carries = a.3;
+    }
+
+pub talked-law : {D : Type 0} (called : D → Request → Reply → D → Type 0) → TalkedLaw called
+talked-law called =
+    let law : CarriesLaw called = carries-law called in
+    record {
+      begins = λ d. record { contents = []; replies = []; answered = refl; carries = law.begins };
+      fed = λ first d fed sent bytes count c c' h f. record {
+        contents = h.contents;
+        replies = h.replies;
+        answered = h.answered;
+        carries = law.fed h.contents h.replies fed sent bytes count c c' h.carries f;
+      };
+      answered = λ first d e fed sent answering c c' h t. talked-so called first d e fed sent c c' answering h t;
+      sent = λ first d fed sent count c h. record {
+        contents = h.contents;
+        replies = h.replies;
+        answered = h.answered;
+        carries = law.sent h.contents h.replies fed sent count c h.carries;
+      };
+      ended = has-ended called;
+    }

@@ -1,4 +1,4 @@
-pub mod Turning
-pub mod Fronts
-pub mod Moving
+pub mod Carrying
 pub mod Ending
+pub mod Fronts
+pub mod Turning

@@ -5,8 +5,8 @@
 //! - `answering`: `Answering`, what an answer came to
 //! - `front`: what is at the front of the bytes that came in
 //! - `buffer`: bytes that come at one end and go at the other
-//! - `laws`: `has_talked`, what a connection has done since it was new; `talks_of`, that `serve` of `xa_desk` does the
-//!   same over a reader and a writer
+//! - `laws`: `carries`, of which frames what was fed and sent is made; `has_talked`, that with a door of its own a
+//!   connection does what `serve` of `xa_desk` does over a reader and a writer
 //!
 //! Whose socket it is, and when that is ready, is for a caller to know: see `Connection` for the turns that it takes.
 #![tactic(auto)]
@@ -19,4 +19,4 @@ mod laws;
 
 pub use answering::Answering;
 pub use connection::{Connection, MOST_INPUT};
-pub use laws::{has_talked, talks_of};
+pub use laws::{carries, has_talked};

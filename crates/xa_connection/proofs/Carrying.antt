@@ -1,4 +1,4 @@
--- Each call, of what a connection has done since it was new.
+-- What a connection carries stays with each call.
 use Rattle.std.proofs.Common.{◌≡◌, ℕ, ◌≤◌, List, [], ◌∷◌, ◌++◌, length, take, drop, min, Option, Some, None, refl, sym, ap, ◌∙◌, inl, inr, append_assoc, append-nil, arith, subst}
 use Rattle.std.specs.List.{flat_map}
 use Rattle.std.proofs.lemmas.Grind.{flat_map-append}
@@ -11,14 +11,15 @@ use Rattle.xa_frame.specs.Made.{bad_frame}
 use Rattle.xa_desk.specs.declared.served.Served.{Served}
 use Rattle.xa_desk.specs.declared.served.Served.TheVariants.{Ended, ReadFault, WriteFault, TooLong, Memory}
 use Rattle.xa_desk.specs.Frames.{frame, reply_frame}
-use Rattle.xa_desk.specs.Serving.{Answers, AnswersAll, IsShort, frames_of}
-use Rattle.xa_desk.proofs.Talking.{answers-append, frames-behind}
+use Rattle.xa_desk.specs.Serving.{AnswersAll, IsShort, frames_of}
+use Rattle.xa_desk.proofs.Talking.{frames-behind}
+use Rattle.xa_connection.specs.declared.answering.Answering.{Answering}
 use Rattle.xa_connection.specs.declared.answering.Answering.TheVariants as answering
 use Rattle.xa_connection.specs.declared.connection.Connection.{Connection}
 use Rattle.xa_connection.specs.declared.connection.TheConstants.{MOST_INPUT}
 use Rattle.xa_connection.specs.Fronts.{BeginsTooLong}
-use Rattle.xa_connection.specs.Calls.{room_in}
-use Rattle.xa_connection.specs.Talked.{Begins, Delivers, HasTalked, KeepsAnswered, KeepsFed, KeepsSent, Sends}
+use Rattle.xa_connection.specs.Calls.{Feeds, Turns, room_in}
+use Rattle.xa_connection.specs.Carries.{Carries, CarriesLaw, Delivers, Sends}
 
 -- nothing is under way
 pub idle-delivers : (replies : List Reply) (sent : List ℕ) → sent ≡ frames_of replies → Delivers replies sent []
@@ -92,91 +93,105 @@ within None [] input bytes count few is = omega (arith, length-append input (tak
 within None (b ∷ output) input bytes count few is = omega (arith, length-append input (take count bytes), length-take count bytes, few, is)
 within (Some end) output input bytes count few is = omega (arith, length-append input (take count bytes), length-take count bytes, few, is)
 
-pub begins : {D : Type 0} (called : D → Request → Reply → D → Type 0) → Begins called
-begins called d = record {
-  contents = [];
-  replies = [];
-  short = All-nil IsShort;
-  answered = refl;
-  fed_is = refl;
-  sends = idle-delivers [] [] refl;
-  bounded = omega arith;
-}
-
-pub keeps-fed : {D : Type 0} (called : D → Request → Reply → D → Type 0) → KeepsFed called
-keeps-fed called first d fed sent bytes count c c' h f =
+carries-fed : (contents : List (List ℕ)) (replies : List Reply) (fed sent bytes : List ℕ) (count : ℕ) (c c' : Connection) → Carries contents replies fed sent c → Feeds c bytes count c'
+    → Carries contents replies (fed ++ take count bytes) sent c'
+carries-fed contents replies fed sent bytes count c c' h f =
     let more : List ℕ = take count bytes in
-    subst (λ (x : Connection). HasTalked called first (fed ++ more) sent x d) (sym f.1) (record {
-      contents = h.contents;
-      replies = h.replies;
+    subst (λ (x : Connection). Carries contents replies (fed ++ more) sent x) (sym f.1) (record {
       short = h.short;
-      answered = h.answered;
-      fed_is = ap (λ (bs : List ℕ). bs ++ more) h.fed_is ∙ append_assoc (flat_map frame h.contents) c.input more;
-      sends = fed-sends c.end h.replies c.input more sent c.output h.sends;
+      fed_is = ap (λ (bs : List ℕ). bs ++ more) h.fed_is ∙ append_assoc (flat_map frame contents) c.input more;
+      sends = fed-sends c.end replies c.input more sent c.output h.sends;
       bounded = within c.end c.output c.input bytes count h.bounded f.0;
     })
 
-pub keeps-sent : {D : Type 0} (called : D → Request → Reply → D → Type 0) → KeepsSent called
-keeps-sent called first d fed sent count c h = record {
-  contents = h.contents;
-  replies = h.replies;
+carries-sent : (contents : List (List ℕ)) (replies : List Reply) (fed sent : List ℕ) (count : ℕ) (c : Connection) → Carries contents replies fed sent c
+    → Carries contents replies fed (sent ++ take count c.output) (record c { output = drop count c.output })
+carries-sent contents replies fed sent count c h = record {
   short = h.short;
-  answered = h.answered;
   fed_is = h.fed_is;
-  sends = sent-sends c.end h.replies c.input sent c.output count h.sends;
+  sends = sent-sends c.end replies c.input sent c.output count h.sends;
   bounded = h.bounded;
 }
 
 -- a content was taken and answered
-frame-answered : {D : Type 0} (called : D → Request → Reply → D → Type 0) (first d e : D) (fed sent : List ℕ) (c c' : Connection) (content : List ℕ) (reply : Reply) (h : HasTalked called first fed sent c d)
-    → IsShort content → c.input ≡ frame content ++ c'.input → Answers called d content reply e → Sends c'.end (h.replies ++ reply ∷ []) c'.input sent c'.output → HasTalked called first fed sent c' e
-frame-answered called first d e fed sent c c' content reply h short is said sends =
-    let before : List ℕ = flat_map frame h.contents in
-    let frames : flat_map frame (h.contents ++ content ∷ []) ≡ before ++ frame content =
-    flat_map-append frame h.contents (content ∷ []) ∙ ap (λ (bs : List ℕ). before ++ bs) (append-nil (frame content)) in
+frame-answered : (contents : List (List ℕ)) (replies : List Reply) (fed sent : List ℕ) (c c' : Connection) (content : List ℕ) (reply : Reply) → Carries contents replies fed sent c
+    → IsShort content → c.input ≡ frame content ++ c'.input → Sends c'.end (replies ++ reply ∷ []) c'.input sent c'.output → Carries (contents ++ content ∷ []) (replies ++ reply ∷ []) fed sent c'
+frame-answered contents replies fed sent c c' content reply h short is sends =
+    let before : List ℕ = flat_map frame contents in
+    let frames : flat_map frame (contents ++ content ∷ []) ≡ before ++ frame content =
+    flat_map-append frame contents (content ∷ []) ∙ ap (λ (bs : List ℕ). before ++ bs) (append-nil (frame content)) in
     record {
-      contents = h.contents ++ content ∷ [];
-      replies = h.replies ++ reply ∷ [];
-      short = All-append IsShort h.contents (content ∷ []) h.short (All-cons IsShort content [] short (All-nil IsShort));
-      answered = answers-append called first d e h.contents (content ∷ []) h.replies (reply ∷ []) h.answered (e, said, refl);
+      short = All-append IsShort contents (content ∷ []) h.short (All-cons IsShort content [] short (All-nil IsShort));
       fed_is = h.fed_is ∙ ap (λ (bs : List ℕ). before ++ bs) is ∙ sym (append_assoc before (frame content) c'.input) ∙ ap (λ (bs : List ℕ). bs ++ c'.input) (sym frames);
       sends = sends;
       bounded = omega (arith, h.bounded, ap (λ (bs : List ℕ). length bs) is, length-append (frame content) c'.input);
     }
 
--- a length that is too great was answered, and stays
-length-answered : {D : Type 0} (called : D → Request → Reply → D → Type 0) (first d e : D) (fed sent : List ℕ) (c c' : Connection) (h : HasTalked called first fed sent c d)
-    → c'.input ≡ c.input → e ≡ d → Sends c'.end h.replies c'.input sent c'.output → HasTalked called first fed sent c' e
-length-answered {D} called first d e fed sent c c' h same door sends = record {
-  contents = h.contents;
-  replies = h.replies;
-  short = h.short;
-  answered = subst (λ (x : D). AnswersAll called first h.contents h.replies x) (sym door) h.answered;
-  fed_is = h.fed_is ∙ ap (λ (bs : List ℕ). flat_map frame h.contents ++ bs) (sym same);
-  sends = sends;
-  bounded = omega (arith, h.bounded, ap (λ (bs : List ℕ). length bs) same);
-}
+-- no content was
+none-answered : (contents : List (List ℕ)) (replies : List Reply) (fed sent : List ℕ) (c c' : Connection) → Carries contents replies fed sent c
+    → c'.input ≡ c.input → Sends c'.end replies c'.input sent c'.output → Carries (contents ++ []) (replies ++ []) fed sent c'
+none-answered contents replies fed sent c c' h same sends =
+    subst (λ (cs : List (List ℕ)). Carries cs (replies ++ []) fed sent c') (sym (append-nil contents))
+    (subst (λ (rs : List Reply). Carries contents rs fed sent c') (sym (append-nil replies)) (record {
+      short = h.short;
+      fed_is = h.fed_is ∙ ap (λ (bs : List ℕ). flat_map frame contents ++ bs) (sym same);
+      sends = sends;
+      bounded = omega (arith, h.bounded, ap (λ (bs : List ℕ). length bs) same);
+    }))
 
-pub keeps-answered : {D : Type 0} (called : D → Request → Reply → D → Type 0) → KeepsAnswered called
-keeps-answered {D} called first d e fed sent c c' answering.Idle h t =
-    subst (λ (x : Connection). HasTalked called first fed sent x e) (sym t.1) (subst (λ (y : D). HasTalked called first fed sent c y) (sym t.2) h)
-keeps-answered called first d e fed sent c c' answering.Answered h t =
-    let told : sent ≡ frames_of h.replies = all-sent c.end h.replies c.input sent c.output t.0.0 t.0.1 h.sends in
+carries-answered : {D : Type 0} (called : D → Request → Reply → D → Type 0) (contents : List (List ℕ)) (replies : List Reply) (fed sent : List ℕ) (answering : Answering) (c c' : Connection) (d e : D)
+    → Carries contents replies fed sent c → Turns called c d answering c' e
+    → (asked : List (List ℕ)) × (answered : List Reply) × AnswersAll called d asked answered e × Carries (contents ++ asked) (replies ++ answered) fed sent c'
+carries-answered called contents replies fed sent answering.Idle c c' d e h t = (
+  [],
+  [],
+  sym t.2,
+  subst (λ (x : Connection). Carries (contents ++ []) (replies ++ []) fed sent x) (sym t.1) (none-answered contents replies fed sent c c h refl h.sends),
+)
+carries-answered called contents replies fed sent answering.Answered c c' d e h t =
+    let told : sent ≡ frames_of replies = all-sent c.end replies c.input sent c.output t.0.0 t.0.1 h.sends in
     elim t.2 [
-      | inl k ↦ frame-answered called first d e fed sent c c' k.0 t.1 h k.1 k.2 k.3
-          (sends-by c'.end None (h.replies ++ t.1 ∷ []) c'.input sent c'.output (reply_frame t.1) k.4 t.3 (more-delivers h.replies t.1 sent told))
-      | inr k ↦ length-answered called first d e fed sent c c' h k.1 k.2
-          (sends-by c'.end (Some TooLong) h.replies c'.input sent c'.output (reply_frame bad_frame) k.4 (t.3 ∙ ap reply_frame k.3)
-          (subst BeginsTooLong (sym k.1) k.0, more-delivers h.replies bad_frame sent told))
+      | inl k ↦ (
+        k.0 ∷ [],
+        t.1 ∷ [],
+        (e, k.3, refl),
+        frame-answered contents replies fed sent c c' k.0 t.1 h k.1 k.2
+            (sends-by c'.end None (replies ++ t.1 ∷ []) c'.input sent c'.output (reply_frame t.1) k.4 t.3 (more-delivers replies t.1 sent told)),
+      )
+      | inr k ↦ (
+        [],
+        [],
+        sym k.2,
+        none-answered contents replies fed sent c c' h k.1
+            (sends-by c'.end (Some TooLong) replies c'.input sent c'.output (reply_frame bad_frame) k.4 (t.3 ∙ ap reply_frame k.3)
+            (subst BeginsTooLong (sym k.1) k.0, more-delivers replies bad_frame sent told)),
+      )
     ]
-keeps-answered called first d e fed sent c c' answering.Memory h t =
-    let told : sent ≡ frames_of h.replies = all-sent c.end h.replies c.input sent c.output t.0.0 t.0.1 h.sends in
+carries-answered called contents replies fed sent answering.Memory c c' d e h t =
+    let told : sent ≡ frames_of replies = all-sent c.end replies c.input sent c.output t.0.0 t.0.1 h.sends in
     elim t.3 [
-      | inl k ↦ frame-answered called first d e fed sent c c' k.0 t.1 h k.1 k.2 k.3
-          (sends-by c'.end (Some Memory) (h.replies ++ t.1 ∷ []) c'.input sent c'.output [] t.5 t.4 (h.replies, t.1, [], c'.input, refl, inl (refl, refl), told, refl))
+      | inl k ↦ (
+        k.0 ∷ [],
+        t.1 ∷ [],
+        (e, k.3, refl),
+        frame-answered contents replies fed sent c c' k.0 t.1 h k.1 k.2
+            (sends-by c'.end (Some Memory) (replies ++ t.1 ∷ []) c'.input sent c'.output [] t.5 t.4 (replies, t.1, [], c'.input, refl, inl (refl, refl), told, refl)),
+      )
       | inr k ↦
-          let b : BeginsTooLong c'.input = subst BeginsTooLong (sym k.1) k.0 in
-          length-answered called first d e fed sent c c' h k.1 k.2
-          (sends-by c'.end (Some Memory) h.replies c'.input sent c'.output [] t.5 t.4
-          (h.replies, t.1, b.0, b.1, b.3, inr (b.2, ap (λ (r : Reply). h.replies ++ r ∷ []) k.3), told, refl))
+          let b : BeginsTooLong c'.input = subst BeginsTooLong (sym k.1) k.0 in (
+            [],
+            [],
+            sym k.2,
+            none-answered contents replies fed sent c c' h k.1
+                (sends-by c'.end (Some Memory) replies c'.input sent c'.output [] t.5 t.4
+                (replies, t.1, b.0, b.1, b.3, inr (b.2, ap (λ (r : Reply). replies ++ r ∷ []) k.3), told, refl)),
+          )
     ]
+
+pub carries-law : {D : Type 0} (called : D → Request → Reply → D → Type 0) → CarriesLaw called
+carries-law called = record {
+  begins = record { short = All-nil IsShort; fed_is = refl; sends = idle-delivers [] [] refl; bounded = omega arith };
+  fed = carries-fed;
+  answered = carries-answered called;
+  sent = carries-sent;
+}
