@@ -92,8 +92,8 @@ impl<D: Disk + Drop> Log<D> {
         Ok(Log::on(first, second, opened))
     }
 
-    // The log that was made or read on these two disks, with its bodies.
-    pub(crate) fn on(first: D, second: D, opened: Opened) -> (Log<D>, Vec<Vec<u8>>)
+    /// The log that `create_on` or `open_on` made or read on these two disks, with its bodies.
+    pub fn on(first: D, second: D, opened: Opened) -> (Log<D>, Vec<Vec<u8>>)
         ensures log { D.honest → IsOpened D.Disk first second opened
             → IsOpenPair D.Disk (bodies_of result.1.items) (logged (D.seen result.0.other)) result.0 }
         ensures ends { Ends opened.scan → EndsBehind (bodies_of result.1.items) result.0 }

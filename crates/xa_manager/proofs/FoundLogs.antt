@@ -1,14 +1,15 @@
 -- What the log of two files is, and what becomes of it.
-use Rattle.std.proofs.Common.{◌≡◌, ◌+◌, ◌<◌, ℕ, Bool, true, false, List, [], ◌∷◌, ◌++◌, length, sym, ◌∙◌, ap, subst, arith}
+use Rattle.std.proofs.Common.{◌≡◌, ℕ, Bool, true, false, List, [], ◌∷◌, length, cond, refl, sym, ◌∙◌, ap, subst, arith}
 use Rattle.xa_disk.specs.declared.disk.Disk.{Ghosts}
-use Rattle.xa_log.specs.Chain.{newest, text}
+use Rattle.xa_log.specs.Chain.{text, logged}
 use Rattle.xa_log.specs.Checkpoint.{IsOther}
 use Rattle.xa_log.specs.Stands.{Stands, EndsBehind, Moves}
-use Rattle.xa_log.specs.TwoFiles.{Pair, AppendsTo, Swaps}
+use Rattle.xa_log.specs.TwoFiles.{Pair, IsOpenPair, AppendsTo, Swaps, second_of}
 use Rattle.xa_log.specs.declared.appending.Appended.{Appended}
 use Rattle.xa_log.specs.declared.appending.Appended.TheVariants.{Kept}
 use Rattle.xa_log.specs.declared.format.Format.{Format}
 use Rattle.xa_log.specs.declared.log.Log.{Log}
+use Rattle.xa_log.proofs.Opens.{made_pair}
 use Rattle.xa_manager.specs.Opening.{HasBodies, IsFound}
 use Rattle.xa_manager.proofs.LogLengths.{one_size, none_size}
 
@@ -21,6 +22,16 @@ pub record FoundStands {D : Type 0} (disks : Ghosts D) (bodies : List (List ℕ)
 pub found_stands : {D : Type 0} (disks : Ghosts D) (is_new : Bool) (bodies : List (List ℕ)) (log : Log D) → IsFound disks is_new bodies log → FoundStands disks bodies log
 found_stands disks true bodies log (stood, p) = record { stood = stood; current = p.current; other = p.other }
 found_stands disks false bodies log (stood, p) = record { stood = stood; current = p.current; other = p.other }
+
+-- what was made or read on two disks is one
+pub found_log : {D : Type 0} (disks : Ghosts D) (is_new : Bool) (bodies : List (List ℕ)) (log : Log D) (second : D) → IsOpenPair disks bodies (logged (disks.seen log.other)) log
+    → (is_new ≡ true → (bodies ≡ []) × (log.on_first ≡ true) × (disks.seen second ≡ [])) → second_of log ≡ second → IsFound disks is_new bodies log
+found_log disks false bodies log second it new is = (logged (disks.seen log.other), it)
+found_log {D} disks true bodies log second it new is =
+    let n = new refl in
+    let other : log.other ≡ second = sym (ap (λ (t : Bool). cond t log.other log.disk) n.1) ∙ is in
+    let none : logged (disks.seen log.other) ≡ [] = ap (λ (d : D). logged (disks.seen d)) other ∙ ap (λ (f : List ℕ). logged f) n.2 in
+    ([], subst (λ (b : List (List ℕ)). Pair disks b [] log) (sym n.0) (made_pair disks bodies (logged (disks.seen log.other)) log n.0 none it).0)
 
 -- one that was made
 pub found_new : {D : Type 0} (disks : Ghosts D) (is_new : Bool) (bodies : List (List ℕ)) (log : Log D) → is_new ≡ true → bodies ≡ [] → IsFound disks is_new bodies log

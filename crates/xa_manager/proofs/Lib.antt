@@ -28,6 +28,7 @@ pub mod CrashImages
 pub mod CrashBoots
 pub mod Fates
 pub mod FileFates
+pub mod Findings
 pub mod FirstRecords
 pub mod FoundLogs
 pub mod Generations
@@ -37,6 +38,7 @@ pub mod NewTables
 pub mod NextBoots
 pub mod OpenedStates
 pub mod PlannedLogs
+pub mod Refusing
 pub mod Replying
 pub mod ShortWrites
 pub mod KeysBack

@@ -1,11 +1,11 @@
 -- The states that an opened manager stands for.
 use Rattle.std.proofs.lemmas.Bool.Decides.{nat_tests}
-use Rattle.std.proofs.Common.{◌≡◌, ◌⊎◌, inl, inr, ◌+◌, ◌<◌, ℕ, Bool, true, false, List, [], ◌∷◌, map, Option, None, Some, IsSomeAnd, refl, ap, sym, ◌∙◌, subst, arith}
-use Rattle.std.specs.Prelude.{Result, Ok, Err, IfOk, IfErr, IfSome, nat_lt, ◌&&◌, option_map, option_and_then}
+use Rattle.std.proofs.Common.{◌≡◌, inl, inr, ◌+◌, ◌<◌, ℕ, Bool, true, false, List, [], ◌∷◌, map, Option, None, Some, IsSomeAnd, refl, ap, sym, ◌∙◌, subst, arith}
+use Rattle.std.specs.Prelude.{Result, Ok, Err, IfOk, IfSome, nat_lt, ◌&&◌, option_map, option_and_then}
 use Rattle.xa_disk.specs.declared.disk.Disk.{Ghosts}
 use Rattle.xa_record.specs.Spelling.{spelled}
 use Rattle.xa_record.specs.declared.record.Record.{Record}
-use Rattle.xa_log.specs.Pair.{pair_fault, logged_pair}
+use Rattle.xa_log.specs.Pair.{logged_pair}
 use Rattle.xa_model.specs.declared.outcome.Outcome.TheVariants.{Reread}
 use Rattle.xa_model.specs.declared.outcome.Appending.TheVariants.{Kept}
 use Rattle.xa_model.specs.State.{State}
@@ -25,38 +25,24 @@ use Rattle.xa_model.proofs.Restores.{reopens_restored}
 use Rattle.xa_model.proofs.Restarts.{missed_recoverable, survived_recoverable}
 use Rattle.xa_model.proofs.Rooms.{prepared_lasting, decided_lasting}
 use Rattle.xa_manager.specs.declared.manager.Manager.{Manager}
-use Rattle.xa_manager.specs.declared.fault.ManagerFault.{ManagerFault}
-use Rattle.xa_manager.specs.declared.fault.ManagerFault.TheVariants as fault
 use Rattle.xa_manager.specs.Managed.{ManagerStandsFor}
-use Rattle.xa_manager.specs.Opening.{HasBegun, HasBegunOn, BootRefused, OpenRefused, has_boot_room}
+use Rattle.xa_manager.specs.Opening.{HasBegun, HasBegunOn, has_boot_room}
 use Rattle.xa_manager.specs.Files.{FilesStandFor, Settles}
 use Rattle.xa_manager.proofs.Generations.{same_records}
 
-pub refused_by : {D : Type 0} (r : Result (Manager D) ManagerFault) (bodies : List (List ℕ)) (name : List ℕ) (log_bytes : ℕ) (a b : List ℕ) → IfErr r (λ e. BootRefused e bodies log_bytes)
-    → ((a ≡ []) × (b ≡ [])) ⊎ (pair_fault log_bytes a b ≡ None) → logged_pair a b ≡ bodies → IfErr r (λ e. OpenRefused e name log_bytes a b)
-refused_by (Ok m) bodies name log_bytes a b h whole same = tt
-refused_by (Err (fault.Log e)) bodies name log_bytes a b h whole same = absurd h
-refused_by (Err (fault.Malformed i)) bodies name log_bytes a b h whole same = (whole, rw same h)
-refused_by (Err (fault.Order i)) bodies name log_bytes a b h whole same = (whole, rw same h)
-refused_by (Err fault.Boots) bodies name log_bytes a b h whole same = (whole, rw same h)
-refused_by (Err fault.LogFull) bodies name log_bytes a b h whole same = (whole, rw same h)
-refused_by (Err fault.Device) bodies name log_bytes a b h whole same = (whole, tt)
-refused_by (Err fault.Memory) bodies name log_bytes a b h whole same = (whole, tt)
-refused_by (Err fault.Setting) bodies name log_bytes a b h whole same = absurd h
-
 -- a manager that began
-begun_map : {D : Type 0} (r : Result (Manager D) ManagerFault) (P Q : Manager D → Type 0) → ((m : Manager D) → P m → Q m) → IfOk r P → IfOk r Q
+begun_map : {D E : Type 0} (r : Result (Manager D) E) (P Q : Manager D → Type 0) → ((m : Manager D) → P m → Q m) → IfOk r P → IfOk r Q
 begun_map (Ok m) P Q f h = f m h
 begun_map (Err e) P Q f h = tt
 
 -- on honest disks it began with what a read gives
-pub begun_read : {D : Type 0} (disks : Ghosts D) (r : Result (Manager D) ManagerFault) (a b : List ℕ) (name : List ℕ) (log_bytes : ℕ) → disks.honest
+pub begun_read : {D E : Type 0} (disks : Ghosts D) (r : Result (Manager D) E) (a b : List ℕ) (name : List ℕ) (log_bytes : ℕ) → disks.honest
     → IfOk r (HasBegunOn disks a b name log_bytes) → IfOk r (HasBegun disks (logged_pair a b) name log_bytes)
 begun_read disks r a b name log_bytes h begun =
     begun_map r (HasBegunOn disks a b name log_bytes) _ (λ m it. subst (λ (l : List (List ℕ)). HasBegun disks l name log_bytes m) (sym (it.read h)) it.begun) begun
 
 -- what it began with is what a read gives of the two files
-pub begun_on : {D : Type 0} (disks : Ghosts D) (r : Result (Manager D) ManagerFault) (a b : List ℕ) (bodies : List (List ℕ)) (name : List ℕ) (log_bytes : ℕ)
+pub begun_on : {D E : Type 0} (disks : Ghosts D) (r : Result (Manager D) E) (a b : List ℕ) (bodies : List (List ℕ)) (name : List ℕ) (log_bytes : ℕ)
     → (disks.honest → logged_pair a b ≡ bodies) → IfOk r (HasBegun disks bodies name log_bytes) → IfOk r (HasBegunOn disks a b name log_bytes)
 begun_on disks r a b bodies name log_bytes read begun =
     begun_map r (HasBegun disks bodies name log_bytes) _ (λ m it. record { bodies = bodies; begun = it; read = read }) begun
@@ -99,7 +85,7 @@ module _ {D : Type 0} (disks : Ghosts D) where
       let it = (opens_restored [] nothing name log_bytes tt refl (omega arith) (omega arith)).0 in
       begun.stands (fresh name log_bytes) (subst (λ (x : Durable). IsRestored x (x.boot + 1) (fresh name log_bytes)) same it) refl refl refl
 
-  pub fresh_opened : (r : Result (Manager D) ManagerFault) (name : List ℕ) (log_bytes : ℕ) (a b : List ℕ)
+  pub fresh_opened : {E : Type 0} (r : Result (Manager D) E) (name : List ℕ) (log_bytes : ℕ) (a b : List ℕ)
       → IfOk r (HasBegun disks (logged_pair a b) name log_bytes) → a ≡ [] → b ≡ [] → IfOk r (λ m. ManagerStandsFor disks m (fresh name log_bytes))
   fresh_opened r name log_bytes a b h ea eb =
       begun_map r (HasBegun disks (logged_pair a b) name log_bytes) _
@@ -138,7 +124,7 @@ module _ {D : Type 0} (disks : Ghosts D) where
             (found_step s r name log_bytes e ∙ kept_reopens (survived s r) name log_bytes x.0) x.1,
       )
 
-  pub reopens_opened : (r : Result (Manager D) ManagerFault) (s : State) (name : List ℕ) (log_bytes : ℕ) (a b : List ℕ) → IsRecoverable s → FilesStandFor log_bytes a b s
+  pub reopens_opened : {E : Type 0} (r : Result (Manager D) E) (s : State) (name : List ℕ) (log_bytes : ℕ) (a b : List ℕ) → IsRecoverable s → FilesStandFor log_bytes a b s
       → IfOk r (HasBegun disks (logged_pair a b) name log_bytes)
       → IfOk r (λ m. (found : Bool) × IsSomeAnd (step s (Reopened name log_bytes) (Reread found (Some Kept))) (λ x. ManagerStandsFor disks m x.after))
   reopens_opened r s name log_bytes a b rec files h =

@@ -15,6 +15,7 @@ pub mod Rebuilding
 pub mod Replies
 pub mod Rereading
 pub mod Opening
+pub mod Refused
 pub mod Faults
 pub mod CrashLaws
 pub mod Crash

@@ -9,6 +9,7 @@ use Rattle.xa_log.specs.declared.fault.OpenFault.TheVariants as log
 use Rattle.xa_log.specs.declared.format.TheConstants.{PREAMBLE_BYTES}
 use Rattle.xa_log.specs.declared.log.Log.{Log}
 use Rattle.xa_limits.specs.declared.TheConstants.{FIRST_OFFSET, LEAST_LOG, MOST_BOOTS, MOST_INFO, MOST_LOG}
+use Rattle.xa_model.specs.declared.outcome.Outcome.TheVariants.{Quiet}
 use Rattle.xa_model.specs.State.{State}
 use Rattle.xa_model.specs.Durable.{Durable}
 use Rattle.xa_model.specs.Fold.{fold, snapshot, sizes}
@@ -19,6 +20,7 @@ use Rattle.xa_recovery.specs.declared.log_fault.LogFault.TheVariants as rebuilt
 use Rattle.xa_manager.specs.declared.fault.ManagerFault.{ManagerFault}
 use Rattle.xa_manager.specs.declared.fault.ManagerFault.TheVariants as fault
 use Rattle.xa_manager.specs.declared.manager.Manager.{Manager}
+use Rattle.xa_manager.specs.declared.tables.Tables.{Tables}
 use Rattle.xa_manager.specs.Managed.{ManagerStandsFor}
 
 -- settings out of their limits
@@ -67,6 +69,10 @@ pub record HasBegun {D : Type 0} (disks : Ghosts D) (bodies : List (List ℕ)) (
   pub stands : (s : State) → IsRestored durable (durable.boot + 1) s → s.name ≡ name → s.log_bytes ≡ log_bytes
       → s.sessions ≡ []
       → ManagerStandsFor disks m s
+
+-- the manager of these tables and this log, as a boot begins
+abbrev pub begun_manager : {D : Type 0} → Tables → Log D → Manager D
+begun_manager tables log = record { tables = tables; log = log; up = true; doubt = None; outcome = Quiet }
 
 -- A boot began with the bodies of two files: where the disks are honest, with those that a read gives.
 pub record HasBegunOn {D : Type 0} (disks : Ghosts D) (first second : List ℕ) (name : List ℕ) (log_bytes : ℕ)

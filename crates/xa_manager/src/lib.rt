@@ -11,7 +11,7 @@
 //!   kept of a record that was lost; `answered`, what rows do by the device's answer; `done`, what a call comes to
 //! - a boot: `settings`, `Settings`; `opening` or `restarting`, how it begins; `boots`, what is made
 //!   ready for it, and `rebuilding` its tables; `first_records`, how an opening logs it; `fault`: `ManagerFault`, why
-//!   there is no manager
+//!   there is no manager, and `refused`: `RefusedOpening`, with the disks
 //! - `laws`: `read_leaves`, `read_stands` and `crash_leaves`, that a read and a crash leave the records of the state;
 //!   `files_last`, what these come to; `reached_promises`, `one_promises` and `begun_is_reached`, what is promised of
 //!   histories; `memory_is_trusted`, that disks in memory meet the premises
@@ -40,6 +40,7 @@ mod planning;
 mod rebuilding;
 mod recovery;
 mod refusals;
+mod refused;
 mod replies;
 mod restarting;
 mod room;
@@ -54,5 +55,6 @@ pub use laws::{
     read_leaves, read_stands,
 };
 pub use manager::Manager;
+pub use refused::RefusedOpening;
 pub use replies::{connect_reply, memory_reply};
 pub use settings::Settings;

@@ -1,8 +1,10 @@
-ghost use Rattle.std.specs.Prelude.{◌≡◌, ◌≤◌, ◌<◌, ◌⊎◌, ◌↔◌, Bool, true, List, ℕ, [], IfOk, IfErr, OnOk, IsErrOf, IsSomeAnd, Some, None, length};
+ghost use Rattle.std.specs.Prelude.{◌≡◌, ◌≤◌, ◌<◌, ◌⊎◌, ◌↔◌, Bool, true, List, ℕ, [], IfOk, IfErr, OnOk, IsErrOf, IsErrAnd, IsSomeAnd, Some, None, length};
 ghost use Rattle.xa_limits.specs.declared.TheConstants.{MOST_LOG};
+ghost use Rattle.xa_log.specs.Opened.{IsOpened};
 ghost use Rattle.xa_log.specs.Pair.{generation, pair_fault, logged_pair};
-ghost use Rattle.xa_log.specs.Reading.{bodies_of};
+ghost use Rattle.xa_log.specs.Reading.{Ends, bodies_of};
 ghost use Rattle.xa_log.specs.Stands.{EndsBehind};
+ghost use Rattle.xa_log.specs.TwoFiles.{first_of, second_of};
 ghost use Rattle.xa_model.specs.declared.outcome.Outcome.TheVariants.{Reread};
 ghost use Rattle.xa_model.specs.declared.outcome.Appending.TheVariants.{Kept};
 ghost use Rattle.xa_model.specs.State.{State};
@@ -13,12 +15,14 @@ ghost use Rattle.xa_model.specs.History.{fresh};
 ghost use Rattle.xa_manager.specs.Files.{FilesStandFor};
 ghost use Rattle.xa_manager.specs.LogStands.{Trusts};
 ghost use Rattle.xa_manager.specs.Managed.{ManagerStandsFor};
-ghost use Rattle.xa_manager.specs.Opening.{IsBadSetting, IsFound, HasBegun, HasBegunOn, LogRefused, BootRefused, OpenRefused};
+ghost use Rattle.xa_manager.specs.Opening.{IsBadSetting, IsFound, HasBegun, HasBegunOn, LogRefused, BootRefused, OpenRefused, begun_manager};
+ghost use Rattle.xa_manager.specs.Refused.{LeavesFinding, LeavesBegin, LeavesRefused};
 
 use crate::boots::{NextBoot, Planned, plan};
 use crate::fault::ManagerFault;
 use crate::first_records::log_first;
 use crate::manager::Manager;
+use crate::refused::RefusedOpening;
 use crate::room::begins_with_room;
 use crate::settings::Settings;
 use crate::tables::Tables;
@@ -27,13 +31,11 @@ use xa_assoc::Sessions;
 use xa_codes::Bytes;
 use xa_disk::Disk;
 use xa_limits::{LEAST_LOG, MOST_INFO, MOST_LOG};
-use xa_log::{Appended, Log, OpenFault};
+use xa_log::{Appended, Log, OpenFault, Opened, create_on, open_on};
 use xa_model::Outcome;
 
 impl<D: Disk + Drop> Manager<D> {
-    /// Opens a manager on two disks: where both are empty it makes a log, and else it reads the log that they have. A
-    /// new boot begins with what lasts of it. A fault gives no disk back. Faults are looked for in this order:
-    /// `Setting`, the log's own, `Memory`, `Malformed`, `Order`, `Boots`, `LogFull`, `Device`.
+    /// Opens a manager on two disks, as `open_returning` does. A fault gives no disk back.
     pub fn open(
         alloc: Global,
         first: D,
@@ -54,13 +56,57 @@ impl<D: Disk + Drop> Manager<D> {
         ensures refused { D.honest
             → IfErr result (λ e. OpenRefused e settings.name settings.log_bytes (D.seen first) (D.seen second)) }
     {
+        match Manager::open_returning(alloc, first, second, settings) {
+            Ok(manager) => Ok(manager),
+            Err(refused) => Err(refused.fault),
+        }
+    }
+
+    /// Opens a manager on two disks: where both are empty it makes a log, and else it reads the log that they have. A
+    /// new boot begins with what lasts of it. A fault gives the disks back. Faults are looked for in this order:
+    /// `Setting`, the log's own, `Memory`, `Malformed`, `Order`, `Boots`, `LogFull`, `Device`. Where there is a log,
+    /// none of them but the last has written anything.
+    pub fn open_returning(
+        alloc: Global,
+        mut first: D,
+        mut second: D,
+        settings: Settings,
+    ) -> Result<Manager<D>, RefusedOpening<D>>
+        ensures setting { IsErrAnd result (λ r. r.fault ≡ ManagerFault.Setting)
+            ↔ IsBadSetting settings.name settings.log_bytes }
+        ensures begun { IfOk result
+            (HasBegunOn D.Disk (D.seen first) (D.seen second) settings.name settings.log_bytes) }
+        ensures fresh { Trusts D.Disk → D.seen first ≡ [] → D.seen second ≡ []
+            → IfOk result (λ m. ManagerStandsFor D.Disk m (fresh settings.name settings.log_bytes)) }
+        ensures reopens { Trusts D.Disk → (s : State) → IsRecoverable s
+            → FilesStandFor settings.log_bytes (D.seen first) (D.seen second) s
+            → IfOk result (λ m. (survived : Bool)
+            × IsSomeAnd (step s (Reopened settings.name settings.log_bytes) (Reread survived (Some Kept)))
+            (λ a. ManagerStandsFor D.Disk m a.after)) }
+        ensures refused { D.honest
+            → IfErr result
+            (λ r. OpenRefused r.fault settings.name settings.log_bytes (D.seen first) (D.seen second)) }
+        // What it did to the disks that it gives back.
+        ensures leaves { IfErr result (λ r. LeavesRefused D.Disk r.fault first r.first second r.second) }
+    {
         let Settings { name, log_bytes } = settings;
         if name.as_slice().len() > MOST_INFO || log_bytes < LEAST_LOG || log_bytes > MOST_LOG {
-            return Err(ManagerFault::Setting);
+            return Err(RefusedOpening {
+                fault: ManagerFault::Setting,
+                first,
+                second,
+            });
         }
-        match open_log(alloc, first, second, log_bytes) {
-            Ok((log, bodies, is_new)) => begin(alloc, log, &bodies, is_new, name, log_bytes),
-            Err(fault) => Err(ManagerFault::Log(fault)),
+        match find_log(alloc, &mut first, &mut second, log_bytes) {
+            Ok((opened, is_new)) => {
+                let (log, bodies) = Log::on(first, second, opened);
+                begin(alloc, log, &bodies, is_new, name, log_bytes)
+            }
+            Err(fault) => Err(RefusedOpening {
+                fault: ManagerFault::Log(fault),
+                first,
+                second,
+            }),
         }
     }
 }
@@ -73,14 +119,53 @@ fn begin<D: Disk + Drop>(
     is_new: bool,
     name: Bytes,
     log_bytes: u64,
-) -> Result<Manager<D>, ManagerFault>
+) -> Result<Manager<D>, RefusedOpening<D>>
     requires limit { log_bytes ≤ MOST_LOG }
     requires number { log.generation ≡ generation (bodies_of bodies.now) }
     requires made { is_new ≡ true → bodies_of bodies.now ≡ [] }
     requires ends { EndsBehind (bodies_of bodies.now) log }
     ensures begun { (D.honest → IsFound D.Disk is_new (bodies_of bodies.now) log) → log.log_bytes ≡ log_bytes
         → IfOk result (HasBegun D.Disk (bodies_of bodies.now) name log_bytes) }
+    ensures refused { IfErr result (λ r. BootRefused r.fault (bodies_of bodies.now) log_bytes) }
+    ensures leaves { IfErr result (λ r. (after : Log D) × LeavesBegin D.Disk r.fault is_new log after
+        × (r.first ≡ first_of after) × (r.second ≡ second_of after)) }
+{
+    match begin_on(alloc, &mut log, bodies, is_new, name, log_bytes) {
+        Ok(tables) => Ok(Manager {
+            tables,
+            log,
+            up: true,
+            doubt: None,
+            outcome: Outcome::Quiet,
+        }),
+        Err(fault) => {
+            let (first, second) = log.into_disks();
+            Err(RefusedOpening {
+                fault,
+                first,
+                second,
+            })
+        }
+    }
+}
+
+/// The tables of a boot that begins with what the bodies of a log come to, with its first records logged.
+fn begin_on<D: Disk>(
+    alloc: Global,
+    log: &mut Log<D>,
+    bodies: &[Vec<u8>],
+    is_new: bool,
+    name: Bytes,
+    log_bytes: u64,
+) -> Result<Tables, ManagerFault>
+    requires limit { log_bytes ≤ MOST_LOG }
+    requires number { log.old.generation ≡ generation (bodies_of bodies.now) }
+    requires made { is_new ≡ true → bodies_of bodies.now ≡ [] }
+    requires ends { EndsBehind (bodies_of bodies.now) log.old }
+    ensures begun { (D.honest → IsFound D.Disk is_new (bodies_of bodies.now) log.old) → log.old.log_bytes ≡ log_bytes
+        → IfOk result (λ t. HasBegun D.Disk (bodies_of bodies.now) name log_bytes (begun_manager t log.new)) }
     ensures refused { IfErr result (λ e. BootRefused e (bodies_of bodies.now) log_bytes) }
+    ensures leaves { IfErr result (λ e. LeavesBegin D.Disk e is_new log.old log.new) }
 {
     let Planned { durable, next } = plan(alloc, bodies)?;
     let Some(next) = next else {
@@ -97,51 +182,47 @@ fn begin<D: Disk + Drop>(
     if !begins_with_room(&first, prepared, completed, log_bytes) {
         return Err(ManagerFault::LogFull);
     }
-    match log_first(&mut log, is_new, &first) {
+    match log_first(log, is_new, &first) {
         Appended::Kept => {}
         Appended::Refused | Appended::Lost | Appended::Full => return Err(ManagerFault::Device),
     }
-    Ok(Manager {
-        tables: Tables {
-            alloc,
-            name,
-            log_bytes,
-            sessions: Sessions::new(alloc),
-            branches,
-            records,
-        },
-        log,
-        up: true,
-        doubt: None,
-        outcome: Outcome::Quiet,
+    Ok(Tables {
+        alloc,
+        name,
+        log_bytes,
+        sessions: Sessions::new(alloc),
+        branches,
+        records,
     })
 }
 
-/// The log of two disks with its bodies, and whether it was made: one is made where both disks are empty, and else the
-/// one that they have is opened. Both lengths are asked first.
-pub(crate) fn open_log<D: Disk + Drop>(
+/// The log that two disks have, and whether it was made: one is made where both are empty, and else the one that is
+/// there is read. Both lengths are asked first.
+fn find_log<D: Disk>(
     alloc: Global,
-    mut first: D,
-    mut second: D,
+    first: &mut D,
+    second: &mut D,
     log_bytes: u64,
-) -> Result<(Log<D>, Vec<Vec<u8>>, bool), OpenFault>
-    ensures logged { D.honest → IfOk result (λ r. logged_pair (D.seen first) (D.seen second) ≡ bodies_of r.1.items) }
-    ensures log { D.honest → IfOk result (λ r. IsFound D.Disk r.2 (bodies_of r.1.items) r.0) }
-    ensures made { IfOk result (λ r. r.2 ≡ true → bodies_of r.1.items ≡ []) }
-    ensures ends { IfOk result (λ r. EndsBehind (bodies_of r.1.items) r.0) }
+) -> Result<(Opened, bool), OpenFault>
+    ensures logged { D.honest
+        → IfOk result (λ r. logged_pair (D.seen first.old) (D.seen second.old) ≡ bodies_of r.0.scan.bodies.items) }
+    ensures stands { D.honest → IfOk result (λ r. IsOpened D.Disk first.new second.new r.0) }
+    ensures made { IfOk result (λ r. r.1 ≡ true → (r.0.scan.bodies.items ≡ []) × (r.0.on_first ≡ true)) }
+    ensures made_beside { D.honest → IfOk result (λ r. r.1 ≡ true → D.seen second.new ≡ []) }
+    ensures ends { IfOk result (λ r. Ends r.0.scan) }
     ensures whole { D.honest
-        → OnOk result (((D.seen first ≡ []) × (D.seen second ≡ []))
-        ⊎ (pair_fault log_bytes (D.seen first) (D.seen second) ≡ None)) }
-    ensures number { IfOk result (λ r. r.0.generation ≡ generation (bodies_of r.1.items)) }
+        → OnOk result (((D.seen first.old ≡ []) × (D.seen second.old ≡ []))
+        ⊎ (pair_fault log_bytes (D.seen first.old) (D.seen second.old) ≡ None)) }
     ensures settings { IfOk result (λ r. r.0.log_bytes ≡ log_bytes) }
-    ensures refused { D.honest → IfErr result (λ e. LogRefused e log_bytes (D.seen first) (D.seen second)) }
+    ensures refused { D.honest → IfErr result (λ e. LogRefused e log_bytes (D.seen first.old) (D.seen second.old)) }
+    ensures leaves { D.honest → LeavesFinding D.Disk first.old first.new second.old second.new }
 {
     let len = first.length()?;
     let other_len = second.length()?;
     if len == 0 && other_len == 0 {
-        let log = Log::create(alloc, first, second, log_bytes)?;
-        return Ok((log, Vec::new(alloc), true));
+        let opened = create_on(alloc, first, second, log_bytes)?;
+        return Ok((opened, true));
     }
-    let (log, bodies) = Log::open(alloc, first, second, log_bytes)?;
-    Ok((log, bodies, false))
+    let opened = open_on(alloc, first, second, log_bytes)?;
+    Ok((opened, false))
 }

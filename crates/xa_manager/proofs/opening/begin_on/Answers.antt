@@ -1,0 +1,63 @@
+use Rattle.std.proofs.Common.{◌≡◌, ◌+◌, ◌<◌, ℕ, List, true, false, sym, refl, ◌∙◌, subst, arith}
+use Rattle.xa_log.specs.Pair.{generation}
+use Rattle.xa_log.specs.Reading.{bodies_of}
+use Rattle.xa_log.specs.Stands.{EndsBehind}
+use Rattle.xa_manager.specs.Opening.{HasBodies, has_boot_room}
+use Rattle.xa_recovery.specs.Durable.{as_prepared, as_decided}
+use Rattle.xa_manager.proofs.Begins.{planned, first_bodies, first_sizes, first_room, first_newer, count_of}
+use Rattle.xa_manager.proofs.NewBoots.{new_stands}
+use Rattle.xa_manager.proofs.opening.begin_on.Goals as goal
+
+pub begins_with_room-requires : goal.begins_with_room-requires
+begins_with_room-requires g c =
+    let plan = planned (bodies_of c.args.bodies.now) c.in_ok-durable.field-0 c.in-Some.next c.in_ok-durable.ensures.0 c.in_ok-durable.ensures.1 c.in-Some.is in
+    record { sizes = first_sizes _ c.in_ok-durable.field-0.durable c.in-Some.next c.deref.result.now plan c.deref.ensures.value }
+
+pub returns-then-not-begins_with_room-clause-refused : goal.returns-then-not-begins_with_room-clause-refused
+returns-then-not-begins_with_room-clause-refused g c =
+    let plan = planned (bodies_of c.args.bodies.now) c.in_ok-durable.field-0 c.in-Some.next c.in_ok-durable.ensures.0 c.in_ok-durable.ensures.1 c.in-Some.is in (
+      c.in_ok-durable.field-0.durable,
+      plan.comes,
+      plan.boots,
+      first_room _ c.in_ok-durable.field-0.durable c.in-Some.next c.deref.result.now c.args.log_bytes c.len-prepared.result c.len-completed.result false plan c.deref.ensures.value
+          (count_of as_prepared c.prepared.result.now.entries _ c.in_ok-durable.field-0.durable.prepared c.len-prepared.result c.len-prepared.ensures.len c.prepared.ensures refl)
+          (count_of as_decided c.decided.result.now.entries _ c.in_ok-durable.field-0.durable.decided c.len-completed.result c.len-completed.ensures.len c.decided.ensures refl)
+          (sym c.if-not-begins_with_room.true ∙ c.begins_with_room.ensures),
+    )
+
+pub log_first-requires-clause-sizes : goal.log_first-requires-clause-sizes
+log_first-requires-clause-sizes g c =
+    let plan = planned (bodies_of c.args.bodies.now) c.in_ok-durable.field-0 c.in-Some.next c.in_ok-durable.ensures.0 c.in_ok-durable.ensures.1 c.in-Some.is in
+    first_sizes _ c.in_ok-durable.field-0.durable c.in-Some.next _ plan c.deref-2.ensures.value
+
+pub log_first-requires-clause-above : goal.log_first-requires-clause-above
+log_first-requires-clause-above g c =
+    let plan = planned (bodies_of c.args.bodies.now) c.in_ok-durable.field-0 c.in-Some.next c.in_ok-durable.ensures.0 c.in_ok-durable.ensures.1 c.in-Some.is in
+    subst (λ (n : ℕ). n < generation (bodies_of c.deref-2.result.now)) (sym c.requires.number)
+    (first_newer _ c.in_ok-durable.field-0.durable c.in-Some.next c.deref-2.result.now plan c.deref-2.ensures.value)
+
+pub returns-clause-begun : goal.returns-clause-begun
+returns-clause-begun g c = λ found sized.
+    let plan = planned (bodies_of c.args.bodies.now) c.in_ok-durable.field-0 c.in-Some.next c.in_ok-durable.ensures.0 c.in_ok-durable.ensures.1 c.in-Some.is in
+    let d = c.in_ok-durable.field-0.durable in
+    let xs = c.deref-2.result.now in
+    let room : has_boot_room c.args.log_bytes d (d.boot + 1) ≡ true =
+    first_room _ d c.in-Some.next c.deref.result.now c.args.log_bytes c.len-prepared.result c.len-completed.result true plan c.deref.ensures.value
+    (count_of as_prepared c.prepared.result.now.entries _ d.prepared c.len-prepared.result c.len-prepared.ensures.len c.prepared.ensures refl)
+    (count_of as_decided c.decided.result.now.entries _ d.decided c.len-completed.result c.len-completed.ensures.len c.decided.ensures refl)
+    (sym c.if-not-begins_with_room.false ∙ c.begins_with_room.ensures) in
+    let same = first_bodies _ d c.in-Some.next xs plan c.deref-2.ensures.value in
+    let ends = c.log_first.ensures.ends c.in-Kept.is (bodies_of c.args.bodies.now) c.requires.made c.requires.ends in
+    record {
+      durable = d;
+      comes = plan.comes;
+      boots = plan.boots;
+      limit = c.requires.limit;
+      room = room;
+      stands = new_stands g.D.Disk _ d (d.boot + 1) c.args.name c.args.log_bytes
+          refl refl refl refl (c.log_first.ensures.settings ∙ sized) c.new.ensures plan.ready.branches plan.ready.records
+          (subst (λ (l : List (List ℕ)). EndsBehind l c.log_first.new.log) same ends)
+          (λ h. subst (λ (l : List (List ℕ)). HasBodies g.D.Disk l c.log_first.new.log) same
+          (c.log_first.ensures.kept h c.in-Kept.is (bodies_of c.args.bodies.now) c.requires.made (found h)))
+          plan.limits plan.form (omega arith) room;
+    }
