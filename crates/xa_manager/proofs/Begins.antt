@@ -1,14 +1,17 @@
 -- What the next boot begins with, of the log that was read.
-use Rattle.std.proofs.Common.{◌≡◌, ◌+◌, ◌<◌, ℕ, Bool, List, map, length, Option, Some, None, refl, ap, sym, ◌∙◌, subst}
+use Rattle.std.proofs.Common.{◌≡◌, ◌+◌, ◌<◌, ℕ, Bool, true, List, map, length, Option, Some, None, refl, ap, sym, ◌∙◌, subst}
 use Rattle.std.specs.Prelude.{Ok, Vec, IfSome}
 use Rattle.std.specs.declared.alloc.Global.{Global}
 use Rattle.std.specs.List.{AllByRecursion}
 use Rattle.std.proofs.lemmas.List.{length-map}
+use Rattle.xa_disk.specs.declared.disk.Disk.{Ghosts}
 use Rattle.xa_record.specs.Limits.{IsRecord}
 use Rattle.xa_record.specs.Spelling.{spelled}
 use Rattle.xa_log.specs.Chain.{IsBody, newest, text}
 use Rattle.xa_log.specs.Pair.{generation}
 use Rattle.xa_log.specs.Reading.{bodies_of}
+use Rattle.xa_log.specs.declared.appending.Appended.{Appended}
+use Rattle.xa_log.specs.declared.log.Log.{Log}
 use Rattle.xa_model.specs.Durable.{Durable, IsDurable}
 use Rattle.xa_model.specs.Fold.{snapshot, sizes}
 use Rattle.xa_model.specs.Logging.{log_room}
@@ -18,6 +21,7 @@ use Rattle.xa_recovery.specs.Log.{LogRebuilt}
 use Rattle.xa_manager.specs.declared.boots.NextBoot.{NextBoot}
 use Rattle.xa_manager.specs.declared.boots.Planned.{Planned}
 use Rattle.xa_manager.specs.Opening.{ComeTo, has_boot_room}
+use Rattle.xa_manager.specs.Refused.{LogsFirst, LogsBoot}
 use Rattle.xa_manager.specs.Rereading.{IsReady, IsNext}
 use Rattle.xa_manager.proofs.Generations.{newer}
 use Rattle.xa_manager.proofs.LogLengths.{text_size}
@@ -81,3 +85,15 @@ pub next_above : (g : ℕ) (bodies : List (List ℕ)) (o : Option NextBoot) → 
     → IfSome o (λ next. generation bodies < generation (bodies_of next.bodies.items))
     → IfSome o (λ next. g < generation (bodies_of next.bodies.items))
 next_above g bodies o is above = subst (λ (n : ℕ). IfSome o (λ next. n < generation (bodies_of next.bodies.items))) (sym is) above
+
+-- what became of its first records
+pub logs_boot : {D : Type 0} (disks : Ghosts D) (is_new : Bool) (bodies : List (List ℕ)) (log_bytes : ℕ) (a : Appended) (old new : Log D) (d : Durable) (next : NextBoot) (xs : List (Vec ℕ Global))
+    → IsPlanned bodies d next → xs ≡ next.bodies.items → has_boot_room log_bytes d (d.boot + 1) ≡ true → LogsFirst disks is_new a (bodies_of xs) old new
+    → LogsBoot disks is_new bodies log_bytes a old new
+logs_boot disks is_new bodies log_bytes a old new d next xs it e room logs = record {
+  durable = d;
+  comes = it.comes;
+  boots = it.boots;
+  room = room;
+  logs = subst (λ (l : List (List ℕ)). LogsFirst disks is_new a l old new) (first_bodies bodies d next xs it e) logs;
+}

@@ -5,8 +5,10 @@ use Rattle.xa_disk.specs.Time.{LeavesOnly}
 use Rattle.xa_disk.specs.declared.disk.Disk.{Ghosts}
 use Rattle.xa_record.specs.Spelling.{spelled}
 use Rattle.xa_record.specs.declared.record.Record.{Record}
+use Rattle.xa_record.specs.declared.record.Record.TheVariants as logged
 use Rattle.xa_log.specs.Chain.{newest}
 use Rattle.xa_log.specs.Checkpoint.{LeavesAny}
+use Rattle.xa_log.specs.Pair.{generation}
 use Rattle.xa_log.specs.TwoFiles.{Swaps}
 use Rattle.xa_log.specs.declared.log.Log.{Log}
 use Rattle.xa_log.proofs.Parts.{leaves_more}
@@ -24,11 +26,31 @@ use Rattle.xa_model.specs.Restarting.{boot_became, restart_turn}
 use Rattle.xa_model.specs.State.{State}
 use Rattle.xa_manager.specs.Answered.{as_appended}
 use Rattle.xa_manager.specs.Crash.{LeavesLook, LeavesCurrent, LeavesCheckpoint, LeavesBoot, LeavesBy, wrote}
-use Rattle.xa_manager.specs.LogStands.{HasRecords}
+use Rattle.xa_manager.specs.LogStands.{HasRecords, snapshot_bodies}
 use Rattle.xa_manager.specs.Rereading.{IsFate}
 use Rattle.xa_manager.proofs.CrashFiles.{checkpoint_files}
 use Rattle.xa_manager.proofs.Fates.{down_backed, turn_opens}
 use Rattle.xa_manager.proofs.Generations.{newer}
+
+-- it is written, and the state is one in which its opened record is lost
+pub snapshot_leaves : {D : Type 0} (disks : Ghosts D) (old new : Log D) (lost : State) (boot : ℕ) (rs : List Record) (a : Appending)
+    → IsRecoverable lost → lost.open_record ≡ Some (logged.Opened boot) → Backs rs lost → (has : HasRecords disks rs old)
+    → generation (map spelled rs) < generation (snapshot_bodies lost boot)
+    → new.log_bytes ≡ old.log_bytes → LeavesCurrent a old new
+    → LeavesOnly disks old.other (wrote a new) (LeavesAny old.log_bytes newest has.0 (snapshot_bodies lost boot))
+    → LeavesCheckpoint disks old a new lost
+snapshot_leaves disks old new lost boot rs a h opens backs has above same current leaves = record {
+  boot = boot;
+  opens = opens;
+  stood = has.0;
+  records = rs;
+  pair = has.1;
+  log_bytes = same;
+  current = current;
+  other = leaves_more disks old.other (wrote a new) _ _
+      (λ other left one is_left. checkpoint_files disks old rs lost boot has.0 one other has.1 above h backs opens is_left left)
+      leaves;
+}
 
 pub boot_leaves : {D : Type 0} (disks : Ghosts D) (old new : Log D) (s t : State) (survived : Bool) (rs : List Record) (a : Appending)
     → IsRecoverable (boot_became t (t.logged_boot + 1) Lost).after → IsFate survived s t → Backs rs t → (has : HasRecords disks rs old)
@@ -38,20 +60,8 @@ pub boot_leaves : {D : Type 0} (disks : Ghosts D) (old new : Log D) (s t : State
     → LeavesBoot disks old (restart_turn s) (Reread survived (Some a)) new
 boot_leaves disks old new s t survived rs a h fate backs has less below same current leaves =
     let lost = (boot_became t (t.logged_boot + 1) Lost).after in
-    subst (λ (o : Option Answer). IsSomeAnd o (λ l. LeavesCheckpoint disks old a new l.after)) (sym (turn_opens survived s t Lost fate less)) (record {
-      boot = t.logged_boot + 1;
-      opens = refl;
-      stood = has.0;
-      records = rs;
-      pair = has.1;
-      log_bytes = same;
-      current = current;
-      other = leaves_more disks old.other (wrote a new) _ _
-          (λ other left one is_left.
-          checkpoint_files disks old rs lost (t.logged_boot + 1) has.0 one other has.1 (newer rs (durable t) backs.lasts below)
-          h (down_backed rs t _ backs) refl is_left left)
-          leaves;
-    })
+    subst (λ (o : Option Answer). IsSomeAnd o (λ l. LeavesCheckpoint disks old a new l.after)) (sym (turn_opens survived s t Lost fate less))
+    (snapshot_leaves disks old new lost (t.logged_boot + 1) rs a h refl (down_backed rs t _ backs) has (newer rs (durable t) backs.lasts below) same current leaves)
 
 -- the current file isn't touched
 pub swap_leaves : {D : Type 0} (a : Appending) (fresh : List (List ℕ)) (old new : Log D) → Swaps (as_appended a) fresh old new → LeavesCurrent a old new

@@ -253,7 +253,7 @@ seen_in_order seen most s true d o h = h
 seen_in_order seen most s false d o h = h
 
 -- a look writes nothing
-same_left : {D : Type 0} (disks : Ghosts D) (old new : D) → TimePasses disks Same old new
+pub same_left : {D : Type 0} (disks : Ghosts D) (old new : D) → TimePasses disks Same old new
     → ((c : List ℕ) → disks.left_since old (disks.moment old) c → disks.may_leave old c)
     → (c : List ℕ) → disks.left_since new (disks.moment old) c → disks.may_leave old c
 same_left disks old new time only_now c left =

@@ -1,6 +1,6 @@
 -- The first records of a boot: that a log without records has no room for its first, and what they leave where they aren't
 -- kept.
-use Rattle.std.proofs.Common.{◌≡◌, ◌≢◌, inl, inr, ⊎_elim, ◌+◌, ◌<◌, ℕ, Bool, List, [], ◌∷◌, length, true, false, refl, ap, sym, ◌∙◌, subst, arith}
+use Rattle.std.proofs.Common.{◌≡◌, ◌⊎◌, inl, inr, ⊎_elim, ◌+◌, ◌<◌, ℕ, Bool, List, [], ◌∷◌, length, true, false, ap, sym, ◌∙◌, subst, arith}
 use Rattle.std.specs.Prelude.{Vec, slice_index_or}
 use Rattle.std.specs.declared.alloc.Global.{Global}
 use Rattle.std.proofs.lemmas.Bool.{cases_Bool}
@@ -14,7 +14,7 @@ use Rattle.xa_log.specs.Stands.{Stands, EndsBehind, Leaves}
 use Rattle.xa_log.specs.TwoFiles.{Pair, AppendsTo, Checkpoints, Swaps, written}
 use Rattle.xa_log.specs.declared.appending.Appended.{Appended}
 use Rattle.xa_log.specs.declared.appending.Appended.TheVariants.{Kept, Refused, Lost, Full}
-use Rattle.xa_manager.specs.Refused.{LeavesFirst}
+use Rattle.xa_manager.specs.Refused.{LogsFirst, KeepsCurrent}
 use Rattle.xa_manager.proofs.LogLengths.{one_size, none_size}
 
 pub first_full : {D : Type 0} (log : Log D) (bodies : List (List ℕ)) (body : List ℕ)
@@ -31,49 +31,46 @@ one_body [] x body one first same = absurd (omega (arith, one))
 one_body (y ∷ []) x body one first same = ap (λ (l : List ℕ). l ∷ []) (sym (same ∙ ap (λ (v : Vec ℕ Global). v.items) first))
 one_body (y ∷ (z ∷ zs)) x body one first same = absurd (omega (arith, one))
 
--- the first record of a log that was made wasn't kept
-pub record_left : {D : Type 0} (disks : Ghosts D) (is_new : Bool) (o : Appended) (body : List ℕ) (old new : Log D) → is_new ≡ true
+-- what logging the first record of a log that was made does
+pub appends_first : {D : Type 0} (disks : Ghosts D) (is_new : Bool) (o : Appended) (fresh : List (List ℕ)) (body : List ℕ) (old new : Log D) → is_new ≡ true → fresh ≡ body ∷ []
     → (new.other ≡ old.other) × (new.on_first ≡ old.on_first)
     → (disks.honest → (bodies stood : List (List ℕ)) → Pair disks bodies stood old → AppendsTo disks o bodies body stood new)
     → (disks.honest → (bodies : List (List ℕ)) → Stands disks bodies old → LeavesOnly disks old.disk new.disk (Leaves old.log_bytes old.format bodies body))
-    → LeavesFirst disks is_new old new
-record_left disks is_new o body old new made same pair moment = inl (
+    → LogsFirst disks is_new o fresh old new
+appends_first disks is_new o fresh body old new made only same pair moment = inl (
   made,
   record {
     on_first = same.1;
     other = same.0;
     body = body;
-    answer = o;
+    only = only;
     left = λ h stood p. (pair h [] stood p, moment h [] p.current);
   },
 )
 
--- nor were those that a checkpoint was to write
-still : {D : Type 0} (o : Appended) (fresh : List (List ℕ)) (old new : Log D) → o ≢ Kept → Swaps o fresh old new → (new.disk ≡ old.disk) × (new.on_first ≡ old.on_first)
-still Kept fresh old new kept swaps = absurd (kept refl)
-still Refused fresh old new kept swaps = (swaps.0, swaps.1)
-still Lost fresh old new kept swaps = (swaps.0, swaps.1)
-still {D} Full fresh old new kept swaps = (ap (λ (l : Log D). l.disk) swaps, ap (λ (l : Log D). l.on_first) swaps)
+-- and a checkpoint of the first records
+swapped : {D : Type 0} (o : Appended) (fresh : List (List ℕ)) (old new : Log D) → Swaps o fresh old new → KeepsCurrent o old new
+swapped Kept fresh old new swaps = (swaps.0, swaps.1)
+swapped Refused fresh old new swaps = (swaps.0, swaps.1)
+swapped Lost fresh old new swaps = (swaps.0, swaps.1)
+swapped {D} Full fresh old new swaps = (ap (λ (l : Log D). l.disk) swaps, ap (λ (l : Log D). l.on_first) swaps)
 
-other_written : {D : Type 0} (o : Appended) (new : Log D) → o ≢ Kept → written o new ≡ new.other
-other_written Kept new kept = absurd (kept refl)
-other_written Refused new kept = refl
-other_written Lost new kept = refl
-other_written Full new kept = refl
-
-pub snapshot_left : {D : Type 0} (disks : Ghosts D) (is_new : Bool) (o : Appended) (fresh : List (List ℕ)) (old new : Log D) → o ≢ Kept
-    → (old.lost ≡ false → Swaps o fresh old new) → (old.lost ≡ true → (o ≡ Lost) × (new ≡ old))
+pub snapshots_first : {D : Type 0} (disks : Ghosts D) (is_new : Bool) (o : Appended) (fresh : List (List ℕ)) (old new : Log D)
+    → (old.lost ≡ false → Swaps o fresh old new) → (old.lost ≡ true → (o ≡ Lost) × (new ≡ old)) → new.log_bytes ≡ old.log_bytes
     → (disks.honest → (bodies stood : List (List ℕ)) → Pair disks bodies stood old → Checkpoints disks o bodies stood fresh new)
     → (disks.honest → (bodies stood : List (List ℕ)) → Pair disks bodies stood old → LeavesOnly disks old.other (written o new) (LeavesAny old.log_bytes newest stood fresh))
-    → LeavesFirst disks is_new old new
-snapshot_left {D} disks is_new o fresh old new kept swaps lost pair moment =
-    let same : (new.disk ≡ old.disk) × (new.on_first ≡ old.on_first) =
-    ⊎_elim (λ was. (ap (λ (l : Log D). l.disk) (lost was).1, ap (λ (l : Log D). l.on_first) (lost was).1)) (λ alive. still o fresh old new kept (swaps alive)) (cases_Bool old.lost) in
-    inr (record {
-      on_first = same.1;
-      current = same.0;
-      fresh = fresh;
-      answer = o;
-      left = λ h bodies stood p.
-          (pair h bodies stood p, subst (λ (d : D). LeavesOnly disks old.other d (LeavesAny old.log_bytes newest stood fresh)) (other_written o new kept) (moment h bodies stood p));
-    })
+    → LogsFirst disks is_new o fresh old new
+snapshots_first {D} disks is_new o fresh old new swaps lost same pair moment = inr (record {
+  current =
+      ⊎_elim
+      (λ was. subst (λ (x : Appended). KeepsCurrent x old new) (sym (lost was).0) (ap (λ (l : Log D). l.disk) (lost was).1, ap (λ (l : Log D). l.on_first) (lost was).1))
+      (λ alive. swapped o fresh old new (swaps alive)) (cases_Bool old.lost);
+  log_bytes = same;
+  left = λ h bodies stood p. (pair h bodies stood p, moment h bodies stood p);
+})
+
+-- they weren't kept
+pub not_kept : (o : Appended) → (o ≡ Refused) ⊎ (o ≡ Lost) ⊎ (o ≡ Full) → o ≡ Kept → ⊥
+not_kept o (inl is) kept = absurd (cc (is, kept))
+not_kept o (inr (inl is)) kept = absurd (cc (is, kept))
+not_kept o (inr (inr is)) kept = absurd (cc (is, kept))

@@ -21,12 +21,12 @@ pub record FoundStands {D : Type 0} (disks : Ghosts D) (bodies : List (List ℕ)
 
 pub found_stands : {D : Type 0} (disks : Ghosts D) (is_new : Bool) (bodies : List (List ℕ)) (log : Log D) → IsFound disks is_new bodies log → FoundStands disks bodies log
 found_stands disks true bodies log (stood, p) = record { stood = stood; current = p.current; other = p.other }
-found_stands disks false bodies log (stood, p) = record { stood = stood; current = p.current; other = p.other }
+found_stands disks false bodies log p = record { stood = logged (disks.seen log.other); current = p.current; other = p.other }
 
 -- what was made or read on two disks is one
 pub found_log : {D : Type 0} (disks : Ghosts D) (is_new : Bool) (bodies : List (List ℕ)) (log : Log D) (second : D) → IsOpenPair disks bodies (logged (disks.seen log.other)) log
     → (is_new ≡ true → (bodies ≡ []) × (log.on_first ≡ true) × (disks.seen second ≡ [])) → second_of log ≡ second → IsFound disks is_new bodies log
-found_log disks false bodies log second it new is = (logged (disks.seen log.other), it)
+found_log disks false bodies log second it new is = it
 found_log {D} disks true bodies log second it new is =
     let n = new refl in
     let other : log.other ≡ second = sym (ap (λ (t : Bool). cond t log.other log.disk) n.1) ∙ is in

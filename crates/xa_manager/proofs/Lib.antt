@@ -26,6 +26,7 @@ pub mod Begins
 pub mod CrashFiles
 pub mod CrashImages
 pub mod CrashBoots
+pub mod CrashOpenings
 pub mod Fates
 pub mod FileFates
 pub mod Findings

@@ -56,10 +56,10 @@ none_logged [] [] ea eb = refl
 none_logged (x ∷ a) b ea eb = absurd (cc ea)
 none_logged [] (y ∷ b) ea eb = absurd (cc eb)
 
-below_limit : (n : ℕ) → n < MOST_BOOTS → nat_lt n MOST_BOOTS ≡ true
+pub below_limit : (n : ℕ) → n < MOST_BOOTS → nat_lt n MOST_BOOTS ≡ true
 below_limit n less = grind (arith, nat_tests)
 
-both_hold : (a b : Bool) → a ≡ true → b ≡ true → a && b ≡ true
+pub both_hold : (a b : Bool) → a ≡ true → b ≡ true → a && b ≡ true
 both_hold a b ea eb = rw (ea, eb) refl
 
 -- an opening whose record was kept

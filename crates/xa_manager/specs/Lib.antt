@@ -19,4 +19,5 @@ pub mod Refused
 pub mod Faults
 pub mod CrashLaws
 pub mod Crash
+pub mod CrashOpening
 pub mod Promises

@@ -2,6 +2,7 @@
 use Rattle.std.specs.Prelude.{◌≡◌, ◌≢◌, ◌⊎◌, ◌≤◌, ◌<◌, ◌+◌, ℕ, Bool, true, false, List, [], length, Ok, Err, Some, None}
 use Rattle.xa_disk.specs.declared.disk.Disk.{Ghosts}
 use Rattle.xa_record.specs.declared.record.Record.{Record}
+use Rattle.xa_log.specs.Chain.{logged}
 use Rattle.xa_log.specs.Pair.{pair_fault, logged_pair}
 use Rattle.xa_log.specs.TwoFiles.{Pair, IsOpenPair}
 use Rattle.xa_log.specs.declared.fault.OpenFault.{OpenFault}
@@ -36,7 +37,7 @@ HasBodies disks bodies log = (stood : List (List ℕ)) × Pair disks bodies stoo
 -- it.
 abbrev pub IsFound : {D : Type 0} → Ghosts D → Bool → List (List ℕ) → Log D → Type 0
 IsFound disks true bodies log = HasBodies disks bodies log
-IsFound disks false bodies log = (stood : List (List ℕ)) × IsOpenPair disks bodies stood log
+IsFound disks false bodies log = IsOpenPair disks bodies (logged (disks.seen log.other)) log
 
 -- why two files gave no log
 abbrev pub LogRefused : OpenFault → ℕ → List ℕ → List ℕ → Type 0

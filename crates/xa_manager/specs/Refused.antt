@@ -1,19 +1,24 @@
--- What an opening that was refused leaves of its two disks.
-use Rattle.std.specs.Prelude.{◌≡◌, ◌⊎◌, ℕ, Bool, true, List, []}
+-- What an opening does to its two disks, and what one that was refused leaves of them.
+use Rattle.std.specs.Prelude.{◌≡◌, ◌≢◌, ◌⊎◌, ◌<◌, ◌+◌, ℕ, Bool, true, not, List, [], ◌∷◌, map}
 use Rattle.xa_disk.specs.Disk.{Torn, Same, Only}
 use Rattle.xa_disk.specs.Time.{TimePasses, LeavesOnly}
 use Rattle.xa_disk.specs.declared.disk.Disk.{Ghosts}
+use Rattle.xa_record.specs.Spelling.{spelled}
+use Rattle.xa_limits.specs.declared.TheConstants.{MOST_BOOTS}
 use Rattle.xa_log.specs.Chain.{newest}
 use Rattle.xa_log.specs.Checkpoint.{LeavesAny}
 use Rattle.xa_log.specs.Pair.{logged_pair}
 use Rattle.xa_log.specs.Stands.{Leaves}
-use Rattle.xa_log.specs.TwoFiles.{Pair, AppendsTo, Checkpoints, first_of, second_of}
+use Rattle.xa_log.specs.TwoFiles.{Pair, AppendsTo, Checkpoints, written, first_of, second_of}
 use Rattle.xa_log.specs.declared.appending.Appended.{Appended}
+use Rattle.xa_log.specs.declared.appending.Appended.TheVariants.{Kept, Refused, Lost, Full}
 use Rattle.xa_log.specs.declared.format.TheConstants.{PREAMBLE_BYTES}
 use Rattle.xa_log.specs.declared.log.Log.{Log}
+use Rattle.xa_model.specs.Durable.{Durable}
+use Rattle.xa_model.specs.Fold.{snapshot}
 use Rattle.xa_manager.specs.declared.fault.ManagerFault.{ManagerFault}
 use Rattle.xa_manager.specs.declared.fault.ManagerFault.TheVariants as fault
-use Rattle.xa_manager.specs.Opening.{IsFound}
+use Rattle.xa_manager.specs.Opening.{ComeTo, IsFound, has_boot_room}
 
 -- Time passes for a disk, and nothing is written.
 pub record IsUnwritten {D : Type 0} (disks : Ghosts D) (old new : D) : Type 0 where
@@ -35,54 +40,75 @@ abbrev pub LeavesFinding : {D : Type 0} → Ghosts D → D → D → D → D →
 LeavesFinding disks first first' second second' =
     (IsUnwritten disks first first' × IsUnwritten disks second second') ⊎ IsPartlyMade disks first first' second second'
 
--- ---- the first records of a boot, which weren't kept
+-- ---- the first records of a boot, by what became of them
 
--- The append of the first one to a log that was made: the other file isn't touched, and at each moment the current one
+-- The append of the only one, to a log that was made: the other file isn't touched, and at each moment the current one
 -- has without chance this record or none.
-pub record LeavesFirstRecord {D : Type 0} (disks : Ghosts D) (old new : Log D) : Type 0 where
+pub record AppendsFirst {D : Type 0} (disks : Ghosts D) (a : Appended) (fresh : List (List ℕ)) (old new : Log D) : Type 0 where
   pub on_first : new.on_first ≡ old.on_first
   pub other : new.other ≡ old.other
   pub body : List ℕ
-  pub answer : Appended
+  pub only : fresh ≡ body ∷ []
   pub left : disks.honest → (stood : List (List ℕ)) → Pair disks [] stood old
-      → AppendsTo disks answer [] body stood new
+      → AppendsTo disks a [] body stood new
       × LeavesOnly disks old.disk new.disk (Leaves old.log_bytes old.format [] body)
 
--- A checkpoint of them: the current file isn't touched, and at each moment the other one is what a checkpoint leaves.
-pub record LeavesSnapshot {D : Type 0} (disks : Ghosts D) (old new : Log D) : Type 0 where
-  pub on_first : new.on_first ≡ old.on_first
-  pub current : new.disk ≡ old.disk
-  pub fresh : List (List ℕ)
-  pub answer : Appended
+-- the file that was the current one isn't touched by a checkpoint
+abbrev pub KeepsCurrent : {D : Type 0} → Appended → Log D → Log D → Type 0
+KeepsCurrent Kept old new = (new.other ≡ old.disk) × (new.on_first ≡ not old.on_first)
+KeepsCurrent Refused old new = (new.disk ≡ old.disk) × (new.on_first ≡ old.on_first)
+KeepsCurrent Lost old new = (new.disk ≡ old.disk) × (new.on_first ≡ old.on_first)
+KeepsCurrent Full old new = (new.disk ≡ old.disk) × (new.on_first ≡ old.on_first)
+
+-- A checkpoint of them: at each moment the file that it writes is what a checkpoint leaves.
+pub record SnapshotsFirst {D : Type 0} (disks : Ghosts D) (a : Appended) (fresh : List (List ℕ)) (old new : Log D) : Type 0 where
+  pub current : KeepsCurrent a old new
+  pub log_bytes : new.log_bytes ≡ old.log_bytes
   pub left : disks.honest → (bodies stood : List (List ℕ)) → Pair disks bodies stood old
-      → Checkpoints disks answer bodies stood fresh new
-      × LeavesOnly disks old.other new.other (LeavesAny old.log_bytes newest stood fresh)
+      → Checkpoints disks a bodies stood fresh new
+      × LeavesOnly disks old.other (written a new) (LeavesAny old.log_bytes newest stood fresh)
 
-abbrev pub LeavesFirst : {D : Type 0} → Ghosts D → Bool → Log D → Log D → Type 0
-LeavesFirst disks is_new old new = ((is_new ≡ true) × LeavesFirstRecord disks old new) ⊎ LeavesSnapshot disks old new
+abbrev pub LogsFirst : {D : Type 0} → Ghosts D → Bool → Appended → List (List ℕ) → Log D → Log D → Type 0
+LogsFirst disks is_new a fresh old new =
+    ((is_new ≡ true) × AppendsFirst disks a fresh old new) ⊎ SnapshotsFirst disks a fresh old new
 
--- what a boot that didn't begin leaves of its log: of device calls there are none but those that log its first records
-abbrev pub LeavesBegin : {D : Type 0} → Ghosts D → ManagerFault → Bool → Log D → Log D → Type 0
-LeavesBegin disks fault.Device is_new old new = LeavesFirst disks is_new old new
-LeavesBegin disks _ is_new old new = new ≡ old
+-- They are the snapshot of what the log's bodies come to, which leaves the room that is kept free.
+pub record LogsBoot {D : Type 0} (disks : Ghosts D) (is_new : Bool) (bodies : List (List ℕ)) (log_bytes : ℕ)
+    (a : Appended) (old new : Log D) : Type 0 where
+  pub durable : Durable
+  pub comes : ComeTo bodies durable
+  pub boots : durable.boot < MOST_BOOTS
+  pub room : has_boot_room log_bytes durable (durable.boot + 1) ≡ true
+  pub logs : LogsFirst disks is_new a (map spelled (snapshot durable (durable.boot + 1))) old new
+
+-- what a boot that didn't begin leaves of its log: there are no device calls but those that log its first records
+abbrev pub LeavesBegin : {D : Type 0} → Ghosts D → ManagerFault → Bool → List (List ℕ) → ℕ → Log D → Log D → Type 0
+LeavesBegin disks fault.Device is_new bodies log_bytes old new =
+    (a : Appended) × (a ≢ Kept) × LogsBoot disks is_new bodies log_bytes a old new
+LeavesBegin disks _ is_new bodies log_bytes old new = new ≡ old
 
 -- ---- an opening
 
--- A device call failed as the first records were logged. The log in the middle is the one that was found: until it was,
--- the disks are left as by looking for one, and from there on as by logging the first records.
-pub record LeavesLogging {D : Type 0} (disks : Ghosts D) (first first' second second' : D) : Type 0 where
+-- An opening that came to log its first records. The log in the middle is the one that was found: until it was, the
+-- disks are left as by looking for one, and from there on as by logging the first records.
+pub record LeavesLogging {D : Type 0} (disks : Ghosts D) (log_bytes : ℕ) (first second : D) (a : Appended)
+    (after : Log D) : Type 0 where
   pub is_new : Bool
+  pub bodies : List (List ℕ)
   pub log : Log D
-  pub after : Log D
   pub finding : disks.honest → LeavesFinding disks first (first_of log) second (second_of log)
-  pub found : disks.honest → IsFound disks is_new (logged_pair (disks.seen first) (disks.seen second)) log
-  pub logging : LeavesFirst disks is_new log after
-  pub first_is : first' ≡ first_of after
-  pub second_is : second' ≡ second_of after
+  pub read : disks.honest → logged_pair (disks.seen first) (disks.seen second) ≡ bodies
+  pub found : disks.honest → IsFound disks is_new bodies log
+  pub log_bytes_is : log.log_bytes ≡ log_bytes
+  pub made : disks.honest → is_new ≡ true → (disks.seen first ≡ []) × (disks.seen second ≡ [])
+  pub logs : LogsBoot disks is_new bodies log_bytes a log after
 
--- What an opening leaves of its two disks, by the fault that it tells: of a bad setting they are what they were.
-abbrev pub LeavesRefused : {D : Type 0} → Ghosts D → ManagerFault → D → D → D → D → Type 0
-LeavesRefused disks fault.Setting first first' second second' = (first' ≡ first) × (second' ≡ second)
-LeavesRefused disks fault.Device first first' second second' = LeavesLogging disks first first' second second'
-LeavesRefused disks _ first first' second second' =
+-- What an opening leaves of the two disks that it gives back, by the fault that it tells: of a bad setting they are what
+-- they were.
+abbrev pub LeavesRefused : {D : Type 0} → Ghosts D → ManagerFault → ℕ → D → D → D → D → Type 0
+LeavesRefused disks fault.Setting log_bytes first first' second second' = (first' ≡ first) × (second' ≡ second)
+LeavesRefused {D} disks fault.Device log_bytes first first' second second' =
+    (a : Appended) × (after : Log D) × (a ≢ Kept) × LeavesLogging disks log_bytes first second a after
+    × (first' ≡ first_of after) × (second' ≡ second_of after)
+LeavesRefused disks _ log_bytes first first' second second' =
     disks.honest → LeavesFinding disks first first' second second'

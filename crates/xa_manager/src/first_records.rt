@@ -1,4 +1,4 @@
-ghost use Rattle.std.specs.Prelude.{◌≡◌, ◌≢◌, ◌≤◌, ◌<◌, ◌+◌, List, ℕ, [], true, length};
+ghost use Rattle.std.specs.Prelude.{◌≡◌, ◌≤◌, ◌<◌, ◌+◌, List, ℕ, [], true, length};
 ghost use Rattle.std.specs.List.{AllByRecursion};
 ghost use Rattle.xa_log.specs.Chain.{IsBody, newest, text};
 ghost use Rattle.xa_log.specs.Pair.{generation};
@@ -6,7 +6,7 @@ ghost use Rattle.xa_log.specs.Reading.{bodies_of};
 ghost use Rattle.xa_limits.specs.declared.TheConstants.{LENGTH_BYTES};
 ghost use Rattle.xa_log.specs.Stands.{EndsBehind};
 ghost use Rattle.xa_manager.specs.Opening.{HasBodies, IsFound};
-ghost use Rattle.xa_manager.specs.Refused.{LeavesFirst};
+ghost use Rattle.xa_manager.specs.Refused.{LogsFirst};
 
 use xa_disk::Disk;
 use xa_log::{Appended, Log};
@@ -23,7 +23,7 @@ pub(crate) fn log_first<D: Disk>(log: &mut Log<D>, is_new: bool, bodies: &[Vec<u
     ensures full { result ≡ Appended.Full → (old : List (List ℕ)) → (is_new ≡ true → old ≡ [])
         → EndsBehind old log.old
         → log.old.log_bytes < length (text newest (bodies_of bodies.now)) + LENGTH_BYTES }
-    ensures leaves { result ≢ Appended.Kept → LeavesFirst D.Disk is_new log.old log.new }
+    ensures logs { LogsFirst D.Disk is_new result (bodies_of bodies.now) log.old log.new }
     ensures settings { log.new.log_bytes ≡ log.old.log_bytes }
 {
     if is_new && bodies.len() == 1 {

@@ -12,11 +12,12 @@ ghost use Rattle.xa_model.specs.Loggable.{IsRecoverable};
 ghost use Rattle.xa_model.specs.Turn.{Reopened};
 ghost use Rattle.xa_model.specs.Step.{step};
 ghost use Rattle.xa_model.specs.History.{fresh};
+ghost use Rattle.xa_manager.specs.CrashOpening.{CrashesOpening};
 ghost use Rattle.xa_manager.specs.Files.{FilesStandFor};
 ghost use Rattle.xa_manager.specs.LogStands.{Trusts};
 ghost use Rattle.xa_manager.specs.Managed.{ManagerStandsFor};
 ghost use Rattle.xa_manager.specs.Opening.{IsBadSetting, IsFound, HasBegun, HasBegunOn, LogRefused, BootRefused, OpenRefused, begun_manager};
-ghost use Rattle.xa_manager.specs.Refused.{LeavesFinding, LeavesBegin, LeavesRefused};
+ghost use Rattle.xa_manager.specs.Refused.{LeavesFinding, LogsBoot, LeavesBegin, LeavesLogging, LeavesRefused};
 
 use crate::boots::{NextBoot, Planned, plan};
 use crate::fault::ManagerFault;
@@ -86,8 +87,12 @@ impl<D: Disk + Drop> Manager<D> {
         ensures refused { D.honest
             → IfErr result
             (λ r. OpenRefused r.fault settings.name settings.log_bytes (D.seen first) (D.seen second)) }
-        // What it did to the disks that it gives back.
-        ensures leaves { IfErr result (λ r. LeavesRefused D.Disk r.fault first r.first second r.second) }
+        // What it did to the disks: to those that it gives back, and to those of a manager's log.
+        ensures logs { IfOk result
+            (λ m. LeavesLogging D.Disk settings.log_bytes first second Appended.Kept m.log) }
+        // What a crash at any moment of it leaves of files that stand for a state.
+        ensures crash { CrashesOpening D.Disk first second settings.name settings.log_bytes result }
+        ensures leaves { IfErr result (λ r. LeavesRefused D.Disk r.fault settings.log_bytes first r.first second r.second) }
     {
         let Settings { name, log_bytes } = settings;
         if name.as_slice().len() > MOST_INFO || log_bytes < LEAST_LOG || log_bytes > MOST_LOG {
@@ -127,7 +132,9 @@ fn begin<D: Disk + Drop>(
     ensures begun { (D.honest → IsFound D.Disk is_new (bodies_of bodies.now) log) → log.log_bytes ≡ log_bytes
         → IfOk result (HasBegun D.Disk (bodies_of bodies.now) name log_bytes) }
     ensures refused { IfErr result (λ r. BootRefused r.fault (bodies_of bodies.now) log_bytes) }
-    ensures leaves { IfErr result (λ r. (after : Log D) × LeavesBegin D.Disk r.fault is_new log after
+    ensures logs { IfOk result (λ m. LogsBoot D.Disk is_new (bodies_of bodies.now) log_bytes Appended.Kept log m.log) }
+    ensures leaves { IfErr result
+        (λ r. (after : Log D) × LeavesBegin D.Disk r.fault is_new (bodies_of bodies.now) log_bytes log after
         × (r.first ≡ first_of after) × (r.second ≡ second_of after)) }
 {
     match begin_on(alloc, &mut log, bodies, is_new, name, log_bytes) {
@@ -165,7 +172,10 @@ fn begin_on<D: Disk>(
     ensures begun { (D.honest → IsFound D.Disk is_new (bodies_of bodies.now) log.old) → log.old.log_bytes ≡ log_bytes
         → IfOk result (λ t. HasBegun D.Disk (bodies_of bodies.now) name log_bytes (begun_manager t log.new)) }
     ensures refused { IfErr result (λ e. BootRefused e (bodies_of bodies.now) log_bytes) }
-    ensures leaves { IfErr result (λ e. LeavesBegin D.Disk e is_new log.old log.new) }
+    ensures logs { OnOk result
+        (LogsBoot D.Disk is_new (bodies_of bodies.now) log_bytes Appended.Kept log.old log.new) }
+    ensures leaves { IfErr result
+        (λ e. LeavesBegin D.Disk e is_new (bodies_of bodies.now) log_bytes log.old log.new) }
 {
     let Planned { durable, next } = plan(alloc, bodies)?;
     let Some(next) = next else {
@@ -209,6 +219,8 @@ fn find_log<D: Disk>(
     ensures stands { D.honest → IfOk result (λ r. IsOpened D.Disk first.new second.new r.0) }
     ensures made { IfOk result (λ r. r.1 ≡ true → (r.0.scan.bodies.items ≡ []) × (r.0.on_first ≡ true)) }
     ensures made_beside { D.honest → IfOk result (λ r. r.1 ≡ true → D.seen second.new ≡ []) }
+    ensures made_of { D.honest
+        → IfOk result (λ r. r.1 ≡ true → (D.seen first.old ≡ []) × (D.seen second.old ≡ [])) }
     ensures ends { IfOk result (λ r. Ends r.0.scan) }
     ensures whole { D.honest
         → OnOk result (((D.seen first.old ≡ []) × (D.seen second.old ≡ []))

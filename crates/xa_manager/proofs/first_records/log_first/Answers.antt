@@ -1,6 +1,7 @@
 use Rattle.std.proofs.Common.{[], subst}
+use Rattle.xa_log.specs.Reading.{bodies_of}
 use Rattle.xa_log.specs.Stands.{EndsBehind}
-use Rattle.xa_manager.proofs.FirstRecords.{first_full, one_body, record_left, snapshot_left}
+use Rattle.xa_manager.proofs.FirstRecords.{first_full, one_body, appends_first, snapshots_first}
 use Rattle.xa_manager.proofs.FoundLogs.{found_stands, found_new, first_kept, first_ends, replaced_ends}
 use Rattle.xa_manager.proofs.first_records.log_first.Goals as goal
 
@@ -33,10 +34,12 @@ returns-else-is_new-clause-ends g c = λ kept old empty ends. replaced_ends _ c.
 pub returns-else-is_new-clause-full : goal.returns-else-is_new-clause-full
 returns-else-is_new-clause-full g c = λ full old empty ends. (c.checkpoint.ensures.full ends.alive).0 full
 
-pub returns-then-bodies-eq1-clause-leaves : goal.returns-then-bodies-eq1-clause-leaves
-returns-then-bodies-eq1-clause-leaves g c = λ kept.
-    record_left g.D.Disk c.args.is_new _ c.deref.result.now c.args.log.now _ c.if-is_new.true c.append.ensures.other c.append.ensures.pair c.append.ensures.any_moment
+pub returns-then-bodies-eq1-clause-logs : goal.returns-then-bodies-eq1-clause-logs
+returns-then-bodies-eq1-clause-logs g c =
+    appends_first g.D.Disk c.args.is_new _ (bodies_of c.args.bodies.now) c.deref.result.now c.args.log.now _ c.if-is_new.true
+    (one_body c.args.bodies.now c.index-bodies-0.result c.deref.result.now c.if-bodies-eq1.true c.index-bodies-0.is c.deref.ensures.value)
+    c.append.ensures.other c.append.ensures.pair c.append.ensures.any_moment
 
-pub returns-else-is_new-clause-leaves : goal.returns-else-is_new-clause-leaves
-returns-else-is_new-clause-leaves g c = λ kept.
-    snapshot_left g.D.Disk c.args.is_new _ _ c.args.log.now _ kept c.checkpoint.ensures.swaps c.checkpoint.ensures.lost c.checkpoint.ensures.answer c.checkpoint.ensures.any_moment
+pub returns-else-is_new-clause-logs : goal.returns-else-is_new-clause-logs
+returns-else-is_new-clause-logs g c =
+    snapshots_first g.D.Disk c.args.is_new _ (bodies_of c.args.bodies.now) c.args.log.now _ c.checkpoint.ensures.swaps c.checkpoint.ensures.lost c.checkpoint.ensures.settings c.checkpoint.ensures.answer c.checkpoint.ensures.any_moment

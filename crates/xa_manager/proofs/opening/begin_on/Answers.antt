@@ -2,9 +2,12 @@ use Rattle.std.proofs.Common.{◌≡◌, ◌+◌, ◌<◌, ℕ, List, true, fals
 use Rattle.xa_log.specs.Pair.{generation}
 use Rattle.xa_log.specs.Reading.{bodies_of}
 use Rattle.xa_log.specs.Stands.{EndsBehind}
+use Rattle.xa_log.specs.declared.appending.Appended.TheVariants.{Kept}
 use Rattle.xa_manager.specs.Opening.{HasBodies, has_boot_room}
+use Rattle.xa_manager.specs.Refused.{LogsFirst}
 use Rattle.xa_recovery.specs.Durable.{as_prepared, as_decided}
-use Rattle.xa_manager.proofs.Begins.{planned, first_bodies, first_sizes, first_room, first_newer, count_of}
+use Rattle.xa_manager.proofs.Begins.{planned, first_bodies, first_sizes, first_room, first_newer, count_of, logs_boot}
+use Rattle.xa_manager.proofs.FirstRecords.{not_kept}
 use Rattle.xa_manager.proofs.NewBoots.{new_stands}
 use Rattle.xa_manager.proofs.opening.begin_on.Goals as goal
 
@@ -61,3 +64,28 @@ returns-clause-begun g c = λ found sized.
           (c.log_first.ensures.kept h c.in-Kept.is (bodies_of c.args.bodies.now) c.requires.made (found h)))
           plan.limits plan.form (omega arith) room;
     }
+
+pub returns-clause-logs : goal.returns-clause-logs
+returns-clause-logs g c =
+    let plan = planned (bodies_of c.args.bodies.now) c.in_ok-durable.field-0 c.in-Some.next c.in_ok-durable.ensures.0 c.in_ok-durable.ensures.1 c.in-Some.is in
+    let d = c.in_ok-durable.field-0.durable in
+    logs_boot g.D.Disk c.args.is_new (bodies_of c.args.bodies.now) c.args.log_bytes Kept c.args.log.now c.log_first.new.log d c.in-Some.next c.deref-2.result.now plan c.deref-2.ensures.value
+    (first_room _ d c.in-Some.next c.deref.result.now c.args.log_bytes c.len-prepared.result c.len-completed.result true plan c.deref.ensures.value
+    (count_of as_prepared c.prepared.result.now.entries _ d.prepared c.len-prepared.result c.len-prepared.ensures.len c.prepared.ensures refl)
+    (count_of as_decided c.decided.result.now.entries _ d.decided c.len-completed.result c.len-completed.ensures.len c.decided.ensures refl)
+    (sym c.if-not-begins_with_room.false ∙ c.begins_with_room.ensures))
+    (subst (λ a. LogsFirst g.D.Disk c.args.is_new a (bodies_of c.deref-2.result.now) c.args.log.now c.log_first.new.log) c.in-Kept.is c.log_first.ensures.logs)
+
+pub returns-in-Refused-clause-leaves : goal.returns-in-Refused-clause-leaves
+returns-in-Refused-clause-leaves g c =
+    let plan = planned (bodies_of c.args.bodies.now) c.in_ok-durable.field-0 c.in-Some.next c.in_ok-durable.ensures.0 c.in_ok-durable.ensures.1 c.in-Some.is in
+    let d = c.in_ok-durable.field-0.durable in (
+      c.log_first.result,
+      not_kept c.log_first.result c.in-Refused.is,
+      logs_boot g.D.Disk c.args.is_new (bodies_of c.args.bodies.now) c.args.log_bytes c.log_first.result c.args.log.now c.log_first.new.log d c.in-Some.next c.deref-2.result.now plan c.deref-2.ensures.value
+          (first_room _ d c.in-Some.next c.deref.result.now c.args.log_bytes c.len-prepared.result c.len-completed.result true plan c.deref.ensures.value
+          (count_of as_prepared c.prepared.result.now.entries _ d.prepared c.len-prepared.result c.len-prepared.ensures.len c.prepared.ensures refl)
+          (count_of as_decided c.decided.result.now.entries _ d.decided c.len-completed.result c.len-completed.ensures.len c.decided.ensures refl)
+          (sym c.if-not-begins_with_room.false ∙ c.begins_with_room.ensures))
+          c.log_first.ensures.logs,
+    )

@@ -32,3 +32,8 @@ pub returns-in_err-opened-2-clause-leaves : goal.returns-in_err-opened-2-clause-
 returns-in_err-opened-2-clause-leaves g c = λ h.
     finding_read g.D.Disk _ _ _ _ _ _ (c.length.ensures.same h) (c.length.ensures.time h) (c.length-2.ensures.same h) (c.length-2.ensures.time h)
     (c.open_on.ensures.same h) (c.open_on.ensures.time h) (c.open_on.ensures.same_second h) (c.open_on.ensures.time_second h)
+
+pub returns-then-other_len-eq0-clause-made_of : goal.returns-then-other_len-eq0-clause-made_of
+returns-then-other_len-eq0-clause-made_of g c = λ h new.
+    let empty = c.in_ok-opened.ensures.empty h in
+    (sym (c.length.ensures.same h) ∙ empty.0, sym (c.length-2.ensures.same h) ∙ empty.1)

@@ -1,15 +1,17 @@
 use Rattle.std.proofs.Common.{◌≡◌, ℕ, List, ap, sym, ◌∙◌, subst}
-use Rattle.std.specs.Prelude.{Vec}
+use Rattle.std.specs.Prelude.{Vec, Err}
 use Rattle.std.specs.declared.alloc.Global.{Global}
 use Rattle.xa_log.specs.Pair.{generation}
 use Rattle.xa_log.specs.Reading.{bodies_of}
 use Rattle.xa_log.specs.Stands.{EndsBehind}
 use Rattle.xa_log.specs.TwoFiles.{second_of}
+use Rattle.xa_manager.specs.declared.fault.ManagerFault.TheVariants as fault
 use Rattle.xa_manager.specs.Opening.{IsFound}
 use Rattle.xa_manager.specs.Refused.{LeavesFinding}
+use Rattle.xa_manager.proofs.CrashOpenings.{crash_opening}
 use Rattle.xa_manager.proofs.FoundLogs.{found_log}
 use Rattle.xa_manager.proofs.OpenedStates.{begun_on, begun_read, fresh_opened, reopens_opened}
-use Rattle.xa_manager.proofs.Refusing.{refused_by, refused_left}
+use Rattle.xa_manager.proofs.Refusing.{refused_by, begun_logs, refused_left}
 use Rattle.xa_manager.proofs.manager.Manager.open_returning.Goals as goal
 
 pub begin-requires-clause-number : goal.begin-requires-clause-number
@@ -59,6 +61,27 @@ returns-in-Ok-clause-refused g c = λ h.
     refused_by c.begin.result (bodies_of c.deref.result.now) c.args.settings.name c.args.settings.log_bytes (g.D.Disk.seen c.args.first) (g.D.Disk.seen c.args.second)
     c.begin.ensures.refused (c.in-Ok.ensures.whole h) (c.in-Ok.ensures.logged h ∙ sym same)
 
+pub returns-in-Ok-clause-logs : goal.returns-in-Ok-clause-logs
+returns-in-Ok-clause-logs g c =
+    let same : bodies_of c.deref.result.now ≡ bodies_of c.in-Ok.opened.scan.bodies.items =
+    ap (λ (l : List (Vec ℕ Global)). bodies_of l) c.deref.ensures.value ∙ ap (λ (v : Vec (Vec ℕ Global) Global). bodies_of v.items) c.on-log.ensures.bodies in
+    let found : g.D.Disk.honest → IsFound g.D.Disk c.in-Ok.is_new (bodies_of c.deref.result.now) c.on-log.result.0 =
+    λ h. subst (λ (l : List (List ℕ)). IsFound g.D.Disk c.in-Ok.is_new l c.on-log.result.0) (ap (λ (l : List (Vec ℕ Global)). bodies_of l) (sym c.deref.ensures.value))
+    (found_log g.D.Disk c.in-Ok.is_new (bodies_of c.on-log.result.1.items) c.on-log.result.0 c.find_log.new.second
+    (c.on-log.ensures.log h (c.in-Ok.ensures.stands h))
+    (λ new. (
+      ap (λ (v : Vec (Vec ℕ Global) Global). bodies_of v.items) c.on-log.ensures.bodies ∙ ap (λ (l : List (Vec ℕ Global)). bodies_of l) (c.in-Ok.ensures.made new).0,
+      c.on-log.ensures.on_first ∙ (c.in-Ok.ensures.made new).1,
+      c.in-Ok.ensures.made_beside h new,
+    ))
+    c.on-log.ensures.disks.1) in
+    begun_logs g.D.Disk c.args.first c.args.second c.in-Ok.is_new (bodies_of c.deref.result.now) c.args.settings.log_bytes c.on-log.result.0
+    (λ h.
+    subst (λ d. LeavesFinding g.D.Disk c.args.first d c.args.second (second_of c.on-log.result.0)) (sym c.on-log.ensures.disks.0)
+    (subst (λ d. LeavesFinding g.D.Disk c.args.first c.find_log.new.first c.args.second d) (sym c.on-log.ensures.disks.1) (c.in-Ok.ensures.leaves h)))
+    (λ h. c.in-Ok.ensures.logged h ∙ sym same) found (c.on-log.ensures.settings ∙ c.in-Ok.ensures.settings) c.in-Ok.ensures.made_of
+    c.begin.result c.begin.ensures.logs
+
 pub returns-in-Ok-clause-leaves : goal.returns-in-Ok-clause-leaves
 returns-in-Ok-clause-leaves g c =
     let same : bodies_of c.deref.result.now ≡ bodies_of c.in-Ok.opened.scan.bodies.items =
@@ -73,12 +96,22 @@ returns-in-Ok-clause-leaves g c =
       c.in-Ok.ensures.made_beside h new,
     ))
     c.on-log.ensures.disks.1) in
-    refused_left g.D.Disk c.args.first c.args.second c.in-Ok.is_new c.on-log.result.0
+    refused_left g.D.Disk c.args.first c.args.second c.in-Ok.is_new (bodies_of c.deref.result.now) c.args.settings.log_bytes c.on-log.result.0
     (λ h.
     subst (λ d. LeavesFinding g.D.Disk c.args.first d c.args.second (second_of c.on-log.result.0)) (sym c.on-log.ensures.disks.0)
     (subst (λ d. LeavesFinding g.D.Disk c.args.first c.find_log.new.first c.args.second d) (sym c.on-log.ensures.disks.1) (c.in-Ok.ensures.leaves h)))
-    (λ h. subst (λ (l : List (List ℕ)). IsFound g.D.Disk c.in-Ok.is_new l c.on-log.result.0) (same ∙ sym (c.in-Ok.ensures.logged h)) (found h))
-    c.begin.result (bodies_of c.deref.result.now) c.args.settings.log_bytes c.begin.ensures.refused c.begin.ensures.leaves
+    (λ h. c.in-Ok.ensures.logged h ∙ sym same) found (c.on-log.ensures.settings ∙ c.in-Ok.ensures.settings) c.in-Ok.ensures.made_of
+    c.begin.result c.begin.ensures.refused c.begin.ensures.leaves
+
+pub returns-in-Ok-clause-crash : goal.returns-in-Ok-clause-crash
+returns-in-Ok-clause-crash g c =
+    crash_opening g.D.Disk g.met.D.Disk.only_now c.args.first c.args.second c.args.settings.name c.args.settings.log_bytes c.begin.result
+    (returns-in-Ok-clause-logs g c) (returns-in-Ok-clause-leaves g c)
+
+pub returns-in-Err-clause-crash : goal.returns-in-Err-clause-crash
+returns-in-Err-clause-crash g c =
+    crash_opening g.D.Disk g.met.D.Disk.only_now c.args.first c.args.second c.args.settings.name c.args.settings.log_bytes
+    (Err (record { fault = fault.Log c.in-Err.fault; first = c.find_log.new.first; second = c.find_log.new.second })) tt c.in-Err.ensures.leaves
 
 pub returns-in-Err-clause-leaves : goal.returns-in-Err-clause-leaves
 returns-in-Err-clause-leaves g c = c.in-Err.ensures.leaves
