@@ -62,7 +62,8 @@ LeavesOpening disks first second s name log_bytes (Err r) =
 
 -- So it is of each state for which the two files stand, unless one begins as no log and has stray records behind its
 -- first 8 bytes, which would come before those of the other one.
-abbrev pub CrashesOpening : {D : Type 0} → Ghosts D → D → D → List ℕ → ℕ → Result (Manager D) (RefusedOpening D) → Type 0
+abbrev pub CrashesOpening : {D : Type 0} → Ghosts D → D → D → List ℕ → ℕ
+    → Result (Manager D) (RefusedOpening D) → Type 0
 CrashesOpening disks first second name log_bytes result =
     (s : State) → Trusts disks → IsRecoverable s → FilesStandFor log_bytes (disks.seen first) (disks.seen second) s
     → NoStray (disks.seen first) (disks.seen second)

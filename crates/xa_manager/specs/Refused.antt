@@ -44,7 +44,8 @@ LeavesFinding disks first first' second second' =
 
 -- The append of the only one, to a log that was made: the other file isn't touched, and at each moment the current one
 -- has without chance this record or none.
-pub record AppendsFirst {D : Type 0} (disks : Ghosts D) (a : Appended) (fresh : List (List ℕ)) (old new : Log D) : Type 0 where
+pub record AppendsFirst {D : Type 0} (disks : Ghosts D) (a : Appended) (fresh : List (List ℕ))
+    (old new : Log D) : Type 0 where
   pub on_first : new.on_first ≡ old.on_first
   pub other : new.other ≡ old.other
   pub body : List ℕ
@@ -61,7 +62,8 @@ KeepsCurrent Lost old new = (new.disk ≡ old.disk) × (new.on_first ≡ old.on_
 KeepsCurrent Full old new = (new.disk ≡ old.disk) × (new.on_first ≡ old.on_first)
 
 -- A checkpoint of them: at each moment the file that it writes is what a checkpoint leaves.
-pub record SnapshotsFirst {D : Type 0} (disks : Ghosts D) (a : Appended) (fresh : List (List ℕ)) (old new : Log D) : Type 0 where
+pub record SnapshotsFirst {D : Type 0} (disks : Ghosts D) (a : Appended) (fresh : List (List ℕ))
+    (old new : Log D) : Type 0 where
   pub current : KeepsCurrent a old new
   pub log_bytes : new.log_bytes ≡ old.log_bytes
   pub left : disks.honest → (bodies stood : List (List ℕ)) → Pair disks bodies stood old
@@ -103,8 +105,8 @@ pub record LeavesLogging {D : Type 0} (disks : Ghosts D) (log_bytes : ℕ) (firs
   pub made : disks.honest → is_new ≡ true → (disks.seen first ≡ []) × (disks.seen second ≡ [])
   pub logs : LogsBoot disks is_new bodies log_bytes a log after
 
--- What an opening leaves of the two disks that it gives back, by the fault that it tells: of a bad setting they are what
--- they were.
+-- What an opening leaves of the two disks that it gives back, by the fault that it tells: of a bad setting they are
+-- what they were.
 abbrev pub LeavesRefused : {D : Type 0} → Ghosts D → ManagerFault → ℕ → D → D → D → D → Type 0
 LeavesRefused disks fault.Setting log_bytes first first' second second' = (first' ≡ first) × (second' ≡ second)
 LeavesRefused {D} disks fault.Device log_bytes first first' second second' =

@@ -90,9 +90,10 @@ impl<D: Disk + Drop> Manager<D> {
         // What it did to the disks: to those that it gives back, and to those of a manager's log.
         ensures logs { IfOk result
             (λ m. LeavesLogging D.Disk settings.log_bytes first second Appended.Kept m.log) }
+        ensures leaves { IfErr result
+            (λ r. LeavesRefused D.Disk r.fault settings.log_bytes first r.first second r.second) }
         // What a crash at any moment of it leaves of files that stand for a state.
         ensures crash { CrashesOpening D.Disk first second settings.name settings.log_bytes result }
-        ensures leaves { IfErr result (λ r. LeavesRefused D.Disk r.fault settings.log_bytes first r.first second r.second) }
     {
         let Settings { name, log_bytes } = settings;
         if name.as_slice().len() > MOST_INFO || log_bytes < LEAST_LOG || log_bytes > MOST_LOG {
