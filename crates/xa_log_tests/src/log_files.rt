@@ -294,3 +294,26 @@ fn openings_of_other_files(rt: HostRuntime) {
     assert!(rt; fault_of(alloc, b"XARMLOG2") == Some(newer));
     assert!(rt; fault_of(alloc, b"").is_none());
 }
+
+// Whether an opening of these bytes and an empty file is refused, and gives both back as they were.
+fn gives_back(alloc: Global, bytes: &[u8]) -> Option<bool> {
+    let name = Bytes::from_slice(alloc, b"xarm").ok()?;
+    let settings = Settings {
+        name,
+        log_bytes: LOG_BYTES,
+    };
+    let first = disk_of(alloc, bytes)?;
+    match Manager::open_returning(alloc, first, MemDisk::new(alloc), settings) {
+        Ok(_manager) => Some(false),
+        Err(refused) => {
+            let (mut first, mut second) = (refused.first, refused.second);
+            let same = bytes_on(alloc, &mut first)?.as_slice() == bytes;
+            Some(same && bytes_on(alloc, &mut second)?.is_empty())
+        }
+    }
+}
+
+#[test]
+fn a_refused_opening_gives_its_files_back(rt: HostRuntime) {
+    assert!(rt; gives_back(rt.alloc(), b"XARMLOG2") == Some(true));
+}
