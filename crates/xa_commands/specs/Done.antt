@@ -1,7 +1,9 @@
 -- What a command did, with some reader or disk: no clause says that it is the one that the runtime gave.
 use Rattle.std.specs.Prelude.{◌≡◌, ◌⊎◌, ℕ, List, Option, Result, Ok, Err}
 use Rattle.xa_commands.specs.declared.scanning_fault.ScanningFault.{ScanningFault}
-use Rattle.xa_commands.specs.declared.scanning_fault.ScanningFault.TheVariants.{Scan}
+use Rattle.xa_commands.specs.declared.scanning_fault.ScanningFault.TheVariants.{InUse, File, Scan}
+use Rattle.xa_disk.specs.declared.file_fault.FileFault.{FileFault}
+use Rattle.xa_disk.specs.declared.file_fault.FileFault.TheVariants as file
 use Rattle.xa_play.specs.Plays.{Plays}
 use Rattle.xa_play.specs.Runs.{IsLawful}
 use Rattle.xa_play.specs.declared.fault.PlayFault.{PlayFault}
@@ -25,13 +27,14 @@ HasScanned {D} honest seen opened path end =
     (disk : D) × opened disk path × ((output : Option (List ℕ)) × (output' : Option (List ℕ))
     × Scans honest end (seen disk) output output')
 
--- the same by what is told: it was scanned, or there was no memory, or no file was opened
-abbrev pub Scanned : {D X : Type 0} → Type 0 → (D → List ℕ) → (D → List ℕ → Type 0) → List ℕ
-    → Result X ScanningFault → Type 0
-Scanned honest seen opened path (Ok x) = HasScanned {X = Unit {0}} honest seen opened path (Ok tt)
-Scanned honest seen opened path (Err (Scan fault)) =
+-- the same by what is told: it was scanned, or there was no memory, or the file was refused for the reason that is told
+abbrev pub Scanned : {D X : Type 0} → Type 0 → (D → List ℕ) → (D → List ℕ → Type 0) → (List ℕ → FileFault → Type 0)
+    → List ℕ → Result X ScanningFault → Type 0
+Scanned honest seen opened refused path (Ok x) = HasScanned {X = Unit {0}} honest seen opened path (Ok tt)
+Scanned honest seen opened refused path (Err (Scan fault)) =
     (fault ≡ Memory) ⊎ HasScanned {X = Unit {0}} honest seen opened path (Err fault)
-Scanned honest seen opened path (Err fault) = Unit {0}
+Scanned honest seen opened refused path (Err InUse) = refused path file.InUse
+Scanned honest seen opened refused path (Err (File told fault)) = (told.now ≡ path) × refused path fault
 
 -- what a reader gave was sent over connections, with this end
 abbrev pub HasTalked : {I C X : Type 0} → Style → (I → Option (List ℕ)) → (C → Option (List ℕ)) → (C → Option (List ℕ))

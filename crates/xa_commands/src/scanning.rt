@@ -10,7 +10,7 @@ pub fn scan<'a, R: AllocGlobal + Print + Opens>(
     rt: &R,
     path: &'a str,
 ) -> Result<(), ScanningFault<'a>>
-    ensures { Scanned R.Disk.honest R.Disk.seen R.opened path.now result }
+    ensures { Scanned R.Disk.honest R.Disk.seen R.opened R.refused path.now result }
 {
     let mut disk = match rt.read_disk(path) {
         Ok(disk) => disk,

@@ -1,10 +1,19 @@
 -- As which fault of a server others are told.
+use Rattle.xa_disk.specs.declared.file_fault.FileFault.{FileFault}
+use Rattle.xa_disk.specs.declared.file_fault.FileFault.TheVariants as file
 use Rattle.xa_manager.specs.declared.fault.ManagerFault.{ManagerFault}
 use Rattle.xa_manager.specs.declared.fault.ManagerFault.TheVariants as opening
 use Rattle.xa_server.specs.declared.fault.ServerFault.{ServerFault}
 use Rattle.xa_server.specs.declared.fault.ServerFault.TheVariants as serving
+use Rattle.xa_server.specs.declared.log_file.LogFile.{LogFile}
 use Rattle.xa_server.specs.declared.serve_fault.ServeFault.{ServeFault}
-use Rattle.xa_server.specs.declared.serve_fault.ServeFault.TheVariants.{Memory, Start, Manager}
+use Rattle.xa_server.specs.declared.serve_fault.ServeFault.TheVariants.{Memory, Start, InUse, File, Manager}
+
+-- why a file of the log wasn't opened
+abbrev pub file_fault : LogFile → FileFault → ServeFault
+file_fault log_file file.Memory = Memory
+file_fault log_file file.InUse = InUse
+file_fault log_file fault = File log_file fault
 
 -- why a manager couldn't be opened
 abbrev pub opening_fault : ManagerFault → ServeFault

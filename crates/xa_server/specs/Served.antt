@@ -1,7 +1,9 @@
 -- What a server that ended did, and what is known where it failed.
-use Rattle.std.specs.Prelude.{◌≡◌, ◌⊎◌, ◌<◌, ◌++◌, ℕ, Bool, if◌then◌else◌, List, [], IsSomeAnd, Some, codes}
+use Rattle.std.specs.Prelude.{◌≡◌, ◌⊎◌, ◌<◌, ◌++◌, ℕ, Bool, true, false, if◌then◌else◌, List, [], IsSomeAnd, Some, codes}
 use Rattle.std.specs.declared.net.TcpListener.{TcpListener}
 use Rattle.xa_disk.specs.declared.disk.Disk as disk
+use Rattle.xa_disk.specs.declared.file_fault.FileFault.{FileFault}
+use Rattle.xa_disk.specs.declared.file_fault.FileFault.TheVariants as file
 use Rattle.xa_log.specs.Missing.{missing_of}
 use Rattle.xa_log.specs.declared.missing.Missing.TheVariants.{Neither, First, Second}
 use Rattle.xa_manager.specs.declared.manager.Manager.{Manager}
@@ -80,12 +82,20 @@ pub record HasServed {D R : Type 0} (L : Type 0) (disks : disk.Ghosts D) (m : ro
 
 -- ---- where it failed
 
+-- One of the two files at a path was refused for this reason: the first one; or the second one, once the first was opened.
+abbrev pub IsRefused : {D : Type 0} → (D → List ℕ → Type 0) → (List ℕ → FileFault → Type 0) → List ℕ → Bool → FileFault
+    → Type 0
+IsRefused opened refused path false why = refused path why
+IsRefused {D} opened refused path true why = (first : D) × opened first path × refused (second_path path) why
+
 -- a fault of opening files
-abbrev pub IsFileFault : List ℕ → ServeFault → Type 0
-IsFileFault path fault.Memory = Unit {0}
-IsFileFault path fault.InUse = Unit {0}
-IsFileFault path (fault.File file why) = file.path.now ≡ path
-IsFileFault path _ = ⊥
+abbrev pub IsFileFault : {D : Type 0} → (D → List ℕ → Type 0) → (List ℕ → FileFault → Type 0) → List ℕ → ServeFault
+    → Type 0
+IsFileFault opened refused path fault.Memory = Unit {0}
+IsFileFault opened refused path fault.InUse = (is_second : Bool) × IsRefused opened refused path is_second file.InUse
+IsFileFault opened refused path (fault.File log_file why) =
+    (log_file.path.now ≡ path) × IsRefused opened refused path log_file.is_second why
+IsFileFault opened refused path _ = ⊥
 
 -- What is known of two disks where a server failed on them: no manager was opened on them, for a reason that it tells;
 -- or the one that it names is missing.
@@ -110,20 +120,23 @@ abbrev pub WasReady : {D R : Type 0} → disk.Ghosts D → (D → List ℕ → T
 WasReady {D} disks opened net log_bytes service =
     (listener : TcpListener) × (manager : Manager D) × IsReady disks opened net log_bytes service listener manager
 
--- What was asked before it failed, and how that ended: no manager was opened on the files, or one of them is missing;
--- the files were there, and the port was refused; all was ready, and it couldn't print, or there are no such workers.
-abbrev pub HasFailed : {D R : Type 0} → disk.Ghosts D → (D → List ℕ → Type 0) → listens.Ghosts R → ℕ → Service
-    → ServeFault → Type 0
-HasFailed disks opened net log_bytes service fault.Memory = Unit {0}
-HasFailed disks opened net log_bytes service fault.InUse = Unit {0}
-HasFailed disks opened net log_bytes service (fault.File file why) = file.path.now ≡ service.path.now
-HasFailed disks opened net log_bytes service (fault.Manager e) =
+-- What was asked before it failed, and how that ended: a file was refused; no manager was opened on the files, or one of
+-- them is missing; the files were there, and the port was refused; all was ready, and it couldn't print, or there are no
+-- such workers.
+abbrev pub HasFailed : {D R : Type 0} → disk.Ghosts D → (D → List ℕ → Type 0) → (List ℕ → FileFault → Type 0)
+    → listens.Ghosts R → ℕ → Service → ServeFault → Type 0
+HasFailed disks opened refused net log_bytes service fault.Memory = Unit {0}
+HasFailed disks opened refused net log_bytes service fault.InUse =
+    IsFileFault opened refused service.path.now fault.InUse
+HasFailed disks opened refused net log_bytes service (fault.File log_file why) =
+    IsFileFault opened refused service.path.now (fault.File log_file why)
+HasFailed disks opened refused net log_bytes service (fault.Manager e) =
     HasRefused disks opened log_bytes service (fault.Manager e)
-HasFailed disks opened net log_bytes service (fault.Missing file) =
+HasFailed disks opened refused net log_bytes service (fault.Missing file) =
     HasRefused disks opened log_bytes service (fault.Missing file)
-HasFailed {D} disks opened net log_bytes service fault.Listen =
+HasFailed {D} disks opened refused net log_bytes service fault.Listen =
     (first : D) × (second : D) × AreWhole disks opened service.path.now first second
     × net.refuses address service.port
-HasFailed disks opened net log_bytes service fault.Write = WasReady disks opened net log_bytes service
-HasFailed disks opened net log_bytes service fault.Start =
+HasFailed disks opened refused net log_bytes service fault.Write = WasReady disks opened net log_bytes service
+HasFailed disks opened refused net log_bytes service fault.Start =
     WasReady disks opened net log_bytes service × ((service.workers ≡ 0) ⊎ (MOST_WORKERS < service.workers))

@@ -5,6 +5,7 @@ ghost use Rattle.xa_limits.specs.declared.TheConstants.{MOST_LOG};
 ghost use Rattle.xa_log.specs.Missing.{missing_of};
 ghost use Rattle.xa_log.specs.declared.missing.Missing.TheVariants.{Neither};
 ghost use Rattle.xa_manager.specs.Opening.{IsBadSetting, OpenRefused};
+ghost use Rattle.xa_server.specs.Faults.{file_fault};
 ghost use Rattle.xa_server.specs.Served.{AreFiles, HasFailed, HasOpened, HasServed, IsFileFault, IsReady, Refuses, second_path};
 
 use crate::audited::audited_lines;
@@ -50,7 +51,7 @@ pub fn serve<'a, R: AllocGlobal + Print + Opens + Listens + Threads + Wait + Syn
 ) -> Result<bool, ServeFault<'a>>
     ensures served { IfOk result (HasServed Brand ⟦<R::Disk as Disk>⟧ ⟦<Manager<R::Disk> as Manages>⟧ R.opened
         R.Listens MOST_LOG service.now) }
-    ensures failed { IfErr result (HasFailed ⟦<R::Disk as Disk>⟧ R.opened R.Listens MOST_LOG service.now) }
+    ensures failed { IfErr result (HasFailed ⟦<R::Disk as Disk>⟧ R.opened R.refused R.Listens MOST_LOG service.now) }
 {
     let (listener, manager) = make_ready(rt, service)?;
     if rt.println("ready").is_err() {
@@ -71,7 +72,7 @@ fn make_ready<'a, R: AllocGlobal + Opens + Listens>(
 ) -> Result<(TcpListener, Manager<R::Disk>), ServeFault<'a>>
     ensures ready { IfOk result (λ made. IsReady ⟦<R::Disk as Disk>⟧ R.opened R.Listens MOST_LOG service.now
         made.0 made.1) }
-    ensures failed { IfErr result (HasFailed ⟦<R::Disk as Disk>⟧ R.opened R.Listens MOST_LOG service.now) }
+    ensures failed { IfErr result (HasFailed ⟦<R::Disk as Disk>⟧ R.opened R.refused R.Listens MOST_LOG service.now) }
 {
     let settings = Settings::new(rt.alloc(), service.name, MOST_LOG)?;
     let (mut first, mut second) = open_files(rt, service.path)?;
@@ -127,7 +128,7 @@ fn open_files<'a, R: AllocGlobal + Opens>(
     path: &'a str,
 ) -> Result<(R::Disk, R::Disk), ServeFault<'a>>
     ensures opened { IfOk result (λ disks. AreFiles R.opened path.now disks.0 disks.1) }
-    ensures failed { IfErr result (IsFileFault path.now) }
+    ensures failed { IfErr result (IsFileFault R.opened R.refused path.now) }
 {
     let second_path = second_path(rt.alloc(), path)?;
     let first = match rt.open_disk(path) {
@@ -148,7 +149,7 @@ fn open_files<'a, R: AllocGlobal + Opens>(
 
 /// Why a file of the log wasn't opened.
 fn refused(file: LogFile<'_>, fault: FileFault) -> ServeFault<'_>
-    ensures { IsFileFault file.entry.path.now result }
+    ensures { result ≡ file_fault file.entry fault }
 {
     match fault {
         FileFault::Memory => ServeFault::Memory,

@@ -32,6 +32,6 @@ returns-in_err-none_missing-clause-failed g c =
     err_from_is_err_and c.from_residual-in_err-none_missing.result
     c.from_residual-in_err-none_missing.ensures.1 in
     rw (told.1, told.2)
-    (failed_on_files g.R.Disk.Disk g.R.Opens.opened g.R.Listens MOST_LOG c.args.service.now
+    (failed_on_files g.R.Disk.Disk g.R.Opens.opened g.R.Opens.refused g.R.Listens MOST_LOG c.args.service.now
     c.in_ok-first.first c.in_ok-first.second c.in_err-none_missing.field-0.0
     c.in_ok-first.ensures.opened (c.in_err-none_missing.ensures.failed c.args.service.now.name.now MOST_LOG))

@@ -25,6 +25,6 @@ pub returns-in_err-told-clause-failed : goal.returns-in_err-told-clause-failed
 returns-in_err-told-clause-failed g c =
     let told = err_from_is_err_and c.from_residual-in_err-told.result c.from_residual-in_err-told.ensures.1 in
     rw (told.1, told.2)
-    (failed_when_ready g.R.Disk.Disk g.R.Opens.opened g.R.Listens MOST_LOG c.args.service.now c.in_err-told.field-0.0
+    (failed_when_ready g.R.Disk.Disk g.R.Opens.opened g.R.Opens.refused g.R.Listens MOST_LOG c.args.service.now c.in_err-told.field-0.0
     (c.in_ok-listener.listener, c.in_ok-listener.manager, c.in_ok-listener.ensures.ready)
     c.in_err-told.ensures.fault (λ same. c.in_err-told.ensures.workers.0 (ap Err same)))
