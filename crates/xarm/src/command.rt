@@ -1,5 +1,17 @@
-use crate::words::{Asked, read_words};
+//! What is done of a command line.
+ghost use Rattle.std.specs.IoError.{error_kind};
+ghost use Rattle.std.specs.Prelude.{IfErr, IfOk, map, string_bytes};
+ghost use Rattle.std.specs.Process.{exit_status};
+ghost use Rattle.clap.specs.Values.{kind_of};
+ghost use Rattle.xarm.specs.Runs.{HasDone, HasRun, IsRefusal, IsUnread};
+ghost use Rattle.xa_talk.specs.declared.dial.Connection.{Connection};
+
+use crate::asked::Asked;
+use crate::ran::Ran;
+use crate::words::read_words;
 use clap::Error;
+use clap::error::ErrorKind;
+use std::io::{Read, Write};
 use std::net::{Net, TcpStream};
 use std::process::ExitCode;
 use std::rt::Env;
@@ -7,31 +19,41 @@ use std::{env, io};
 use xa_commands::{ended, play, scan, talk, words_fault};
 use xa_disk::Opens;
 use xa_play::PlayFault;
-use xa_server::Service;
-
-/// What a command line came to: a status, or a server that is to run.
-#[derive(Debug, Drop)]
-pub enum Ran<'a> {
-    Ended(ExitCode),
-    Serves(Service<'a>),
-}
 
 /// Does what the command line says, but that it serves. Status 0: done. 1: a fault, its line on standard error. 2: the
 /// command line was refused.
 pub fn run<'a, R: AllocGlobal + Input + Print + Eprint + Opens + Net<Stream = TcpStream>>(
     rt: &R,
     words: &'a io::Result<Vec<String>>,
-) -> Ran<'a> {
+) -> Ran<'a>
+    ensures run { IfOk words.now (λ words. HasRun {C = Connection TcpStream TcpStream} R.Reader.remaining R.Disk.honest
+        R.Disk.seen R.opened R.refused (λ c. ⟦<TcpStream as Write>⟧.contents c.writer)
+        (λ c. ⟦<TcpStream as Read>⟧.remaining c.reader) (map string_bytes words.items) result) }
+    ensures unread { IfErr words.now (λ error. IsUnread (error_kind error) result) }
+{
     let words = match words {
         Ok(words) => words,
         Err(error) => return Ran::Ended(words_fault(rt, error)),
     };
-    Ran::Ended(match read_words(rt.alloc(), words.as_slice()) {
-        Ok(Asked::Play { name, log_bytes }) => ended(rt, &play(rt, name, log_bytes)),
-        Ok(Asked::Scan { path }) => ended(rt, &scan(rt, path)),
-        Ok(Asked::Serve(service)) => return Ran::Serves(service),
-        Ok(Asked::Talk { port, style }) => ended(rt, &talk(rt, port, style)),
-        Err(error) => refused(rt, &error),
+    match read_words(rt.alloc(), words.as_slice()) {
+        Ok(asked) => done(rt, asked),
+        Err(error) => Ran::Ended(refused(rt, &error)),
+    }
+}
+
+// Does what is asked for, but that it serves.
+fn done<'a, R: AllocGlobal + Input + Print + Eprint + Opens + Net<Stream = TcpStream>>(
+    rt: &R,
+    asked: Asked<'a>,
+) -> Ran<'a>
+    ensures { HasDone {C = Connection TcpStream TcpStream} R.Reader.remaining R.Disk.honest R.Disk.seen R.opened R.refused
+        (λ c. ⟦<TcpStream as Write>⟧.contents c.writer) (λ c. ⟦<TcpStream as Read>⟧.remaining c.reader) asked.entry result }
+{
+    Ran::Ended(match asked {
+        Asked::Play { name, log_bytes } => ended(rt, &play(rt, name, log_bytes)),
+        Asked::Scan { path } => ended(rt, &scan(rt, path)),
+        Asked::Serve(service) => return Ran::Serves(service),
+        Asked::Talk { port, style } => ended(rt, &talk(rt, port, style)),
     })
 }
 
@@ -40,8 +62,10 @@ pub fn words<R: AllocGlobal + Env>(rt: &R) -> io::Result<Vec<String>> {
     Ok(env::args(rt)?.collect(rt.alloc())?)
 }
 
-fn refused<R: Print + Eprint>(rt: &R, error: &Error) -> ExitCode {
-    if error.kind() == clap::error::ErrorKind::OutOfMemory {
+fn refused<R: Print + Eprint>(rt: &R, error: &Error) -> ExitCode
+    ensures { IsRefusal (kind_of error.now) (exit_status result) }
+{
+    if error.kind() == ErrorKind::OutOfMemory {
         return ended(rt, &Err(PlayFault::Memory));
     }
     match error.print(rt) {

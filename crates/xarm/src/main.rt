@@ -5,13 +5,18 @@
 //! - `talk` sends the calls of a script to a server, and prints the same
 //! - `scan` prints the records of a log
 //!
-//! `words` reads the command line, `command` hands it on: to `xa_commands`, and to `xa_server`.
+//! `words` reads the command line, by `line` and its `arguments`, as `asked`; `command` hands that on, to `xa_commands` and
+//! to `xa_server`, and says what it came to (`ran`).
 #![tactic(auto)]
 
+mod arguments;
+mod asked;
 mod command;
+mod line;
+mod ran;
 mod words;
 
-use command::Ran;
+use ran::Ran;
 use std::process::ExitCode;
 use xa_commands::served;
 use xa_server::serve;

@@ -1,0 +1,12 @@
+use Rattle.std.proofs.Common.{codes, refl}
+use Rattle.clap.specs.Matches.{found_of}
+use Rattle.xarm.proofs.Reading.{flag_read}
+use Rattle.xarm.proofs.words.talk_of.Goals as goal
+
+pub returns : goal.returns
+returns c = (
+  refl,
+  c.port_of.ensures,
+  flag_read (found_of c.args.matches.now) (codes "names") c.get_flag.result c.style_of.result c.style_of.ensures
+      c.get_flag.ensures.none c.get_flag.ensures.value c.get_flag.ensures.other,
+)

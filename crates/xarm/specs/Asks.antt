@@ -1,0 +1,64 @@
+-- What the words of a command ask for.
+use Rattle.std.specs.Prelude.{◌≡◌, ◌⊎◌, ℕ, List, [], Option, Some, None, codes, if◌then◌else◌, unwrap_or}
+use Rattle.std.specs.Option.{option_map_or}
+use Rattle.std.specs.Str.Parse.{digits_value, without_leading_plus}
+use Rattle.clap.specs.ValueTests.{is_unsigned_in}
+use Rattle.clap.specs.Walk.{Row, Text, first_of, one_of}
+use Rattle.xa_limits.specs.declared.TheConstants.{MOST_LOG}
+use Rattle.xa_script.specs.declared.style.Style.{Style}
+use Rattle.xa_script.specs.declared.style.Style.TheVariants.{Codes, Names}
+use Rattle.xarm.specs.declared.asked.Asked.{Asked}
+use Rattle.xarm.specs.declared.asked.Asked.TheVariants.{Play, Scan, Serve, Talk}
+
+-- the text of an argument, or the one that stands for none
+abbrev pub text_in : List Row → Text → Text → Text
+text_in rows id absent = unwrap_or (first_of id rows) absent
+
+-- the number that a text spells, where it is at most `most`, or the one that stands for none
+abbrev pub number_or : ℕ → ℕ → Text → ℕ
+number_or most absent text =
+    if is_unsigned_in 0 most text then digits_value 10 (without_leading_plus text) else absent
+
+-- the greatest numbers of 16 and of 64 bits
+abbrev pub most_16 : ℕ
+most_16 = 65535
+
+abbrev pub most_64 : ℕ
+most_64 = 18446744073709551615
+
+-- the number of an argument, or the one that stands for none
+abbrev pub number_in : List Row → Text → ℕ → ℕ → ℕ
+number_in rows id most absent = option_map_or (number_or most absent) (one_of id rows) absent
+
+-- a flag is set
+pub record IsFlag (text : Option Text) (style : Style) : Type 0 where
+  pub absent : text ≡ None → style ≡ Codes
+  pub set : text ≡ Some (codes "true") → style ≡ Names
+  pub unset : text ≡ Some (codes "false") → style ≡ Codes
+
+-- the command is one of the four
+abbrev pub IsCommand : Text → Type 0
+IsCommand command =
+    (command ≡ codes "play") ⊎ ((command ≡ codes "scan") ⊎ ((command ≡ codes "serve") ⊎ (command ≡ codes "talk")))
+
+-- each field of what a command asks for is that of its own argument
+abbrev pub AsksBy : Text → List Row → Asked → Type 0
+AsksBy command rows (Play name log_bytes) =
+    (command ≡ codes "play") × (name.now ≡ text_in rows (codes "name") (codes "xarm"))
+    × (log_bytes ≡ number_in rows (codes "log-bytes") most_64 MOST_LOG)
+AsksBy command rows (Scan path) = (command ≡ codes "scan") × (path.now ≡ text_in rows (codes "path") [])
+AsksBy command rows (Talk port style) =
+    (command ≡ codes "talk") × (port ≡ number_in rows (codes "port") most_16 0)
+    × IsFlag (one_of (codes "names") rows) style
+AsksBy command rows (Serve service) =
+    (command ≡ codes "serve")
+    × (service.path.now ≡ text_in rows (codes "log") [])
+    × (service.name.now ≡ text_in rows (codes "name") [])
+    × (service.port ≡ number_in rows (codes "port") most_16 0)
+    × (service.workers ≡ number_in rows (codes "workers") most_64 0)
+    × (service.connections ≡ number_in rows (codes "connections") most_64 0)
+
+-- the same of the command that the words name, and its matches
+abbrev pub AsksOf : Option (Text × List Row) → Asked → Type 0
+AsksOf None asked = ⊥
+AsksOf (Some found) asked = AsksBy found.0 found.1 asked

@@ -1,0 +1,20 @@
+use xa_script::Style;
+use xa_server::Service;
+
+/// What a command line asks for.
+#[derive(Debug, Drop)]
+pub enum Asked<'a> {
+    Play {
+        name: &'a str,
+        /// How many bytes each of the log's two files may have.
+        log_bytes: u64,
+    },
+    Scan {
+        path: &'a str,
+    },
+    Talk {
+        port: u16,
+        style: Style,
+    },
+    Serve(Service<'a>),
+}

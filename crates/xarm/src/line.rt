@@ -1,0 +1,68 @@
+//! The command line, as `clap` reads it.
+ghost use Rattle.std.specs.Prelude.{IfOk};
+ghost use Rattle.xarm.specs.Line.{HasShape, IsApp, play_shape, scan_shape, serve_shape, talk_shape, xarm};
+
+use crate::arguments::{connections, log, log_bytes, name, names, path, play_name, port, workers};
+use clap::Command;
+use std::alloc::{AllocError, Global};
+
+/// The command line with its four commands.
+pub fn command_line<'a>(alloc: Global) -> Result<Command<'a>, AllocError>
+    ensures { IfOk result (IsApp xarm) }
+{
+    Command::new(alloc, "xarm")
+        .version("0.1.0\nlog: reads and writes XARMLOG1\nkit: rattle-kit-13 logic dac8208d650f15bf")
+        .about("An XA resource manager")
+        .subcommand_required(true)
+        .subcommand(play_command(alloc)?)?
+        .subcommand(scan_command(alloc)?)?
+        .subcommand(serve_command(alloc)?)?
+        .subcommand(talk_command(alloc)?)
+}
+
+fn play_command<'a>(alloc: Global) -> Result<Command<'a>, AllocError>
+    ensures { IfOk result (HasShape play_shape) }
+{
+    Command::new(alloc, "play")
+        .about("Runs a script of calls from standard input and prints the replies")
+        .after_help(
+            "Example: xarm play < examples/first_branch.xa\nA script has at most 16777216 bytes.",
+        )
+        .arg(play_name(alloc))?
+        .arg(log_bytes(alloc))
+}
+
+fn scan_command<'a>(alloc: Global) -> Result<Command<'a>, AllocError>
+    ensures { IfOk result (HasShape scan_shape) }
+{
+    Command::new(alloc, "scan")
+        .about("Prints the records of a log, one per line, and where the next one would begin")
+        .after_help("Example: xarm scan bank.log")
+        .arg(path(alloc))
+}
+
+fn talk_command<'a>(alloc: Global) -> Result<Command<'a>, AllocError>
+    ensures { IfOk result (HasShape talk_shape) }
+{
+    Command::new(alloc, "talk")
+        .about("Sends the calls of a script from standard input to a server and prints the replies")
+        .after_help(
+            "Example: xarm talk --port 4100\nA connect opens a connection, of at most 1024. \
+             Each line is answered before the next one is read.",
+        )
+        .arg(port(alloc))?
+        .arg(names(alloc))
+}
+
+fn serve_command<'a>(alloc: Global) -> Result<Command<'a>, AllocError>
+    ensures { IfOk result (HasShape serve_shape) }
+{
+    Command::new(alloc, "serve")
+        .about("Serves a resource manager on 127.0.0.1, and prints ready once it can be reached")
+        .after_help("Example: xarm serve --log bank.log --name bank --port 4100 --workers 16")
+        .arg(log(alloc))?
+        .arg(name(alloc))?
+        .arg(port(alloc))?
+        .arg(workers(alloc))?
+        .arg(connections(alloc))
+}
