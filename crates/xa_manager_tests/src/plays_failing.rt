@@ -91,20 +91,7 @@ const UNREAD: [Line; 8] = [
     ),
 ];
 
-// A new boot that is refused is none. The other file is empty: a sync and a length, and then 7 calls write the new log.
-const BOOT_REFUSED: [Line; 3] = [
-    ("fail other 3 lost", ""),
-    ("1 restart", "-7 Device"),
-    ("1 get 6b", "-7 Nothing"),
-];
-
-const SEAL_REFUSED: [Line; 3] = [
-    ("fail other 8 kept", ""),
-    ("1 restart", "-7 Device"),
-    ("1 get 6b", "-7 Nothing"),
-];
-
-// One that is lost: its seal isn't there, or it is and its repair isn't. Then the boot is used up.
+// A new boot that is lost: its seal isn't there, or it is and its repair isn't. Then the boot is used up.
 const BOOT_LOST: [Line; 4] = [
     ("fail other 8 lost", ""),
     ("fail other 9 lost", ""),
@@ -124,32 +111,12 @@ const THIRD_BOOT: [Line; 2] = [
     ("1 get 6b", "0 Nothing value 76"),
 ];
 
-const RESTARTS: [Play; 6] = [
+const RESTARTS: [Play; 4] = [
     &[
         &P1,
         &WRITTEN,
         &PREPARED,
         &UNREAD,
-        &COMMITTED,
-        &READ_IN_SECOND,
-    ],
-    &[
-        &P1,
-        &WRITTEN,
-        &PREPARED,
-        &BOOT_REFUSED,
-        &RESTART,
-        &LISTED,
-        &COMMITTED,
-        &READ_IN_SECOND,
-    ],
-    &[
-        &P1,
-        &WRITTEN,
-        &PREPARED,
-        &SEAL_REFUSED,
-        &RESTART,
-        &LISTED,
         &COMMITTED,
         &READ_IN_SECOND,
     ],
@@ -229,12 +196,8 @@ fn a_manager_that_is_down(rt: HostRuntime) {
     none_wrong(&rt, wrong_play(rt.alloc(), &DOWNS));
 }
 
-// Where a play couldn't open its manager, it ends: at its look at either file, or as the new boot is logged.
+// Where a play couldn't open its manager, it ends: at its first look, or as the new boot is logged.
 const FAIL: [Line; 2] = [("fail 1 lost", ""), ("reopen", "")];
-
-const FAIL_OTHER: [Line; 2] = [("fail other 2 kept", ""), ("reopen", "")];
-
-const FAIL_BOOT: [Line; 2] = [("fail other 5 lost", ""), ("reopen", "")];
 
 const FAIL_SEAL: [Line; 3] = [
     ("fail other 9 lost", ""),
@@ -245,11 +208,9 @@ const FAIL_SEAL: [Line; 3] = [
 // No line behind it is played.
 const BEHIND: [Line; 2] = [("connect", ""), ("nothing", "")];
 
-const DEVICE_FAULTS: [Play; 5] = [
+const DEVICE_FAULTS: [Play; 3] = [
     &[&P1, &WRITTEN, &FAIL],
     &[&P2, &FAIL, &BEHIND],
-    &[&P1, &WRITTEN, &PREPARED, &FAIL_OTHER, &BEHIND],
-    &[&P1, &WRITTEN, &PREPARED, &LISTED, &FAIL_BOOT],
     &[&P1, &WRITTEN, &PREPARED, &FAIL_SEAL],
 ];
 

@@ -190,31 +190,36 @@ fn restarts_that_stop(rt: HostRuntime) {
     none_wrong(&rt, wrong_stop(rt.alloc(), &second, &SECOND_RESTART));
 }
 
-/// What was played before an opening, the file whose disk stops in it, how many calls it makes of that disk, and what is
-/// found after it and a crash.
-type Opening = (Play, &'static str, u64, Play);
+/// What was played before an opening; what is planned of one of its calls, before its number and behind it; how many
+/// calls it makes of that disk, and what is found after it and a crash.
+type Opening = (Play, &'static str, &'static str, u64, Play);
 
-// The file's length, then a sync, a length and a read, where it isn't empty; and of the other file a checkpoint.
-const OPENINGS: [Opening; 4] = [
-    (VOTED, "stop", 4, IN_THIRD),
-    (VOTED, "stop other", 10, IN_THIRD),
-    (RESTARTED, "stop", 4, IN_FOURTH),
-    (RESTARTED, "stop other", 11, IN_FOURTH),
+// The file's length, then a sync, a length and a read, where it isn't empty; and of the other file a checkpoint. A disk
+// stops in it, or one call of it fails.
+const OPENINGS: [Opening; 8] = [
+    (VOTED, "stop", "", 4, IN_THIRD),
+    (VOTED, "stop other", "", 10, IN_THIRD),
+    (RESTARTED, "stop", "", 4, IN_FOURTH),
+    (RESTARTED, "stop other", "", 11, IN_FOURTH),
+    (VOTED, "fail", " lost", 4, IN_THIRD),
+    (VOTED, "fail other", " lost", 10, IN_THIRD),
+    (RESTARTED, "fail", " kept", 4, IN_FOURTH),
+    (RESTARTED, "fail other", " kept", 11, IN_FOURTH),
 ];
 
 fn is_opening(alloc: Global, row: &Opening, call: u64) -> Result<bool, AllocError> {
-    let (before, stop, calls, found) = *row;
-    let stop = format!(in alloc; "{stop} {call}")?;
+    let (before, plan, effect, calls, found) = *row;
+    let plan = format!(in alloc; "{plan} {call}{effect}")?;
     if call <= calls {
-        let lines = [(stop.as_str(), ""), ("reopen", "")];
+        let lines = [(plan.as_str(), ""), ("reopen", "")];
         return plays_parts(alloc, before, &lines, &[], "xarm: device fault");
     }
-    let lines = [(stop.as_str(), ""), ("reopen", OK), ("crash", OK)];
+    let lines = [(plan.as_str(), ""), ("reopen", OK), ("crash", OK)];
     plays_parts(alloc, before, &lines, found, "")
 }
 
 fn wrong_call(alloc: Global, row: &Opening) -> Option<u64> {
-    for call in 1..row.2.saturating_add(2) {
+    for call in 1..row.3.saturating_add(2) {
         if is_opening(alloc, row, call) != Ok(true) {
             return Some(call);
         }
@@ -231,9 +236,9 @@ fn wrong_opening(alloc: Global, rows: &[Opening]) -> Option<usize> {
     None
 }
 
-// An opening stops at each of its calls, or after them.
+// At each of its calls, or after them.
 #[test]
-fn openings_that_stop(rt: HostRuntime) {
+fn openings_that_fail(rt: HostRuntime) {
     none_wrong(&rt, wrong_opening(rt.alloc(), &OPENINGS));
 }
 

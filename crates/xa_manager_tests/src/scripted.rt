@@ -1,26 +1,6 @@
-use crate::plays::ends_as;
+use crate::script::{Script, is_played};
 use std::alloc::{AllocError, Global};
-use xa_rows::{LOG_BYTES, Line, Play};
-
-fn push_line(text: &mut String, line: &str) -> Result<(), AllocError> {
-    if line.is_empty() {
-        return Ok(());
-    }
-    text.push_str(line)?;
-    text.push_str("\n")
-}
-
-fn push_part(
-    script: &mut String,
-    want: &mut String,
-    part: &[(&str, &str)],
-) -> Result<(), AllocError> {
-    for (line, reply) in part {
-        push_line(script, line)?;
-        push_line(want, reply)?;
-    }
-    Ok(())
-}
+use xa_rows::{LOG_BYTES, Play};
 
 /// Whether lines are played with these parts before and after them, print what stands beside them, and end so.
 pub fn plays_parts(
@@ -30,35 +10,16 @@ pub fn plays_parts(
     after: Play,
     fault: &str,
 ) -> Result<bool, AllocError> {
-    let (mut script, mut want) = texts(alloc, before)?;
-    push_part(&mut script, &mut want, lines)?;
-    for part in after {
-        push_part(&mut script, &mut want, part)?;
-    }
-    Ok(ends_as(alloc, LOG_BYTES, script.as_str(), want.as_str(), fault))
-}
-
-/// The script of a play, and what it prints.
-fn texts(alloc: Global, play: &[&[Line]]) -> Result<(String, String), AllocError> {
-    let mut script = String::new(alloc);
-    let mut want = String::new(alloc);
-    for part in play {
-        push_part(&mut script, &mut want, part)?;
-    }
-    Ok((script, want))
-}
-
-fn is_played(alloc: Global, log_bytes: u64, play: &[&[Line]], fault: &str) -> bool {
-    match texts(alloc, play) {
-        Ok((script, want)) => ends_as(alloc, log_bytes, script.as_str(), want.as_str(), fault),
-        Err(_) => false,
-    }
+    let mut script = Script::new(alloc, before)?;
+    script.part(lines)?;
+    script.play(after)?;
+    Ok(is_played(alloc, LOG_BYTES, Ok(script), fault))
 }
 
 /// The index of the first play, of a log of so many bytes, that doesn't print what stands in it, or doesn't end so.
 pub fn wrong_end(alloc: Global, log_bytes: u64, plays: &[Play], fault: &str) -> Option<usize> {
     for (index, play) in plays.iter().enumerate() {
-        if !is_played(alloc, log_bytes, play, fault) {
+        if !is_played(alloc, log_bytes, Script::new(alloc, play), fault) {
             return Some(index);
         }
     }
