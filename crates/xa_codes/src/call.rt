@@ -1,5 +1,5 @@
-/// The calls of a session: C193's entry points that a resource manager has, reads and writes of records, and the
-/// operator's calls.
+/// The calls of a session: C193's entry points that a resource manager has, reads and writes of records, the operator's
+/// calls, and those of branches' time limits.
 #[derive(Clone, Copy, Debug, PartialEq, Eq)]
 pub enum Call {
     Open,
@@ -17,4 +17,8 @@ pub enum Call {
     Decide,
     Doom,
     Restart,
+    /// Sets the limit of branches that the session begins later.
+    Timeout,
+    /// Tells the moment, and ends what has passed its limit.
+    Tick,
 }

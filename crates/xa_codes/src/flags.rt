@@ -50,9 +50,14 @@ pub fn legal_flags(call: Call, flags: u32) -> bool
         }
         Call::Commit => rest & !(TMONEPHASE | TMNOWAIT) == 0,
         Call::Recover => flags & !(TMSTARTRSCAN | TMENDRSCAN) == 0,
-        Call::Get | Call::Put | Call::Delete | Call::Decide | Call::Doom | Call::Restart => {
-            rest == 0
-        }
+        Call::Get
+        | Call::Put
+        | Call::Delete
+        | Call::Decide
+        | Call::Doom
+        | Call::Restart
+        | Call::Timeout
+        | Call::Tick => rest == 0,
     }
 }
 
