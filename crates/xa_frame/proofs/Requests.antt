@@ -1,6 +1,6 @@
 -- What is read is a request's content, a request's content is read again, and which fault the others have.
 use Rattle.std.proofs.Common.{◌≡◌, ℕ, ◌≤◌, Bool, true, false, cond, eqb, ltb, List, [], ◌∷◌, ◌++◌, length, Option, Some, None, Result, Ok, Err, refl, sym, ap, subst, ◌∙◌, arith}
-use Rattle.std.specs.Int.{w16, w32, to_be_bytes}
+use Rattle.std.specs.Int.{w16, w32, w64, to_be_bytes}
 use Rattle.std.proofs.lemmas.Bool.{le-ltb}
 use Rattle.std.proofs.lemmas.List.{length-append}
 use Rattle.xa_codes.specs.declared.call.Call.{Call}
@@ -20,7 +20,7 @@ use Rattle.xa_frame.specs.Reading.{Reads, one_of, two_of, made, number_at, info_
 use Rattle.xa_bytes.proofs.Digits.{IsBytes, IsBytes-rest}
 use Rattle.xa_fields.proofs.Results.{bind_ok, guard_ok, ok_is}
 use Rattle.xa_frame.proofs.Digits.{done}
-use Rattle.xa_frame.proofs.Readers.{IsField, number32, info, key, value, direction, name, found_holds, eqb_true}
+use Rattle.xa_frame.proofs.Readers.{IsField, number32, number64, info, key, value, direction, name, found_holds, eqb_true}
 use Rattle.xa_frame.proofs.Whole.{fault_of, ended_is, ended_fault, one_takes, one_again, one_fault, two_takes, two_again, two_fault, made_ok, made_fault}
 
 -- these bytes are the fields of this request, which is of this call
@@ -67,6 +67,8 @@ fields_take call.Doom = of_one name (λ x. request.Doom x) call.Doom (λ x h. re
 fields_take call.Restart = λ bytes r small e.
     let p = ended_is request.Restart r bytes e in
     moved call.Restart [] bytes request.Restart r (record { call = refl; limits = tt; holds = tt; bytes_are = refl }) p.0 p.1
+fields_take call.Timeout = of_one number32 (λ x. request.Timeout x) call.Timeout (λ x h. record { call = refl; limits = tt; holds = h; bytes_are = refl })
+fields_take call.Tick = of_one number64 (λ x. request.Tick x) call.Tick (λ x h. record { call = refl; limits = tt; holds = h; bytes_are = refl })
 
 fields_again : (r : Request) → IsRequest r → Holds r → fields_at (call_of r) (fields_bytes r) ≡ Ok r
 unfolding fields_at
@@ -85,6 +87,8 @@ fields_again (request.Delete bytes) h k = ap (made (λ x. request.Delete x)) (on
 fields_again (request.Decide d xid) h k = ap (made (λ x. request.Decide x.0 x.1)) (two_again direction name d xid tt k)
 fields_again (request.Doom xid) h k = ap (made (λ x. request.Doom x)) (one_again name xid k)
 fields_again request.Restart h k = refl
+fields_again (request.Timeout seconds) h k = ap (made (λ x. request.Timeout x)) (one_again number32 seconds k)
+fields_again (request.Tick moment) h k = ap (made (λ x. request.Tick x)) (one_again number64 moment k)
 
 fields_fault : (c : Call) (bytes : List ℕ) → fault_of (fields_at c bytes) ≡ fault_in (fields c) bytes
 unfolding fields_at
@@ -103,6 +107,8 @@ fields_fault call.Delete bytes = made_fault (λ x. request.Delete x) (one_of key
 fields_fault call.Decide bytes = made_fault (λ x. request.Decide x.0 x.1) (two_of direction_at name_at bytes) ∙ two_fault direction name bytes
 fields_fault call.Doom bytes = made_fault (λ x. request.Doom x) (one_of name_at bytes) ∙ one_fault name bytes
 fields_fault call.Restart bytes = ended_fault request.Restart bytes
+fields_fault call.Timeout bytes = made_fault (λ x. request.Timeout x) (one_of (number_at w32) bytes) ∙ one_fault number32 bytes
+fields_fault call.Tick bytes = made_fault (λ x. request.Tick x) (one_of (number_at w64) bytes) ∙ one_fault number64 bytes
 
 -- ---- the operation
 
@@ -122,6 +128,8 @@ numbered_again call.Delete = refl
 numbered_again call.Decide = refl
 numbered_again call.Doom = refl
 numbered_again call.Restart = refl
+numbered_again call.Timeout = refl
+numbered_again call.Tick = refl
 
 record IsOperation (bytes : List ℕ) (r : Request) : Type 0 where
   limits : IsRequest r
@@ -226,6 +234,8 @@ fields_short (request.Delete bytes) h k = omega (arith, h.1)
 fields_short (request.Decide d xid) h k = omega (arith, name_short xid k, length-append (direction_bytes d) (bytes_of xid))
 fields_short (request.Doom xid) h k = omega (arith, name_short xid k)
 fields_short request.Restart h k = omega arith
+fields_short (request.Timeout seconds) h k = omega arith
+fields_short (request.Tick moment) h k = omega arith
 
 pub request_takes : (bytes : List ℕ) (r : Request) → IsBytes bytes → request_at bytes ≡ Ok r → SpellsRequest bytes r
 unfolding request_at

@@ -135,6 +135,8 @@ each call.Delete = (sound_key, tt)
 each call.Decide = (sound_direction, (sound_xid, tt))
 each call.Doom = (sound_xid, tt)
 each call.Restart = tt
+each call.Timeout = (sound_bytes 4, tt)
+each call.Tick = (sound_bytes 8, tt)
 
 of_call : (o : Option Call) (bytes : List ℕ) → IsNoMemory (fault_of_fields o bytes)
 of_call None bytes = λ e. absurd cc

@@ -109,6 +109,8 @@ fields call.Delete = after_key ∷ []
 fields call.Decide = after_direction ∷ after_xid ∷ []
 fields call.Doom = after_xid ∷ []
 fields call.Restart = []
+fields call.Timeout = after_bytes 4 ∷ []
+fields call.Tick = after_bytes 8 ∷ []
 
 abbrev pub fault_of_fields : Option Call → List ℕ → Option FrameFault
 fault_of_fields None bytes = Some Operation

@@ -4,7 +4,7 @@ use Rattle.std.specs.Int.{w32}
 use Rattle.xa_xid.specs.Triple.{IsWithinLimits}
 pub use Rattle.xa_fields.specs.Limits.{IsKey, IsValue}
 use Rattle.xa_frame.specs.declared.request.Request.{Request}
-use Rattle.xa_frame.specs.declared.request.Request.TheVariants.{Open, Close, Start, End, Prepare, Commit, Rollback, Forget, Recover, Get, Put, Delete, Decide, Doom}
+use Rattle.xa_frame.specs.declared.request.Request.TheVariants.{Open, Close, Start, End, Prepare, Commit, Rollback, Forget, Recover, Get, Put, Delete, Decide, Doom, Timeout, Tick}
 use Rattle.xa_frame.specs.declared.body.Body.{Body}
 use Rattle.xa_frame.specs.declared.body.Body.TheVariants.{Number, Value, Xids}
 use Rattle.xa_frame.specs.declared.reply.Reply.{Reply}
@@ -42,6 +42,8 @@ Holds (Forget flags xid) = (flags < 2 ^ 32) × IsWithinLimits xid
 Holds (Recover flags count) = (flags < 2 ^ 32) × (count < 2 ^ 32)
 Holds (Decide direction xid) = IsWithinLimits xid
 Holds (Doom xid) = IsWithinLimits xid
+Holds (Timeout seconds) = seconds < 2 ^ 32
+Holds (Tick moment) = moment < 2 ^ 64
 Holds _ = Unit {0}
 
 abbrev pub HoldsBody : Body → Type 0

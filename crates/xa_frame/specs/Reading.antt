@@ -110,6 +110,8 @@ fields_at call.Delete bytes = made (λ x. request.Delete x) (one_of key_at bytes
 fields_at call.Decide bytes = made (λ x. request.Decide x.0 x.1) (two_of direction_at name_at bytes)
 fields_at call.Doom bytes = made (λ x. request.Doom x) (one_of name_at bytes)
 fields_at call.Restart bytes = ended request.Restart bytes
+fields_at call.Timeout bytes = made (λ x. request.Timeout x) (one_of (number_at w32) bytes)
+fields_at call.Tick bytes = made (λ x. request.Tick x) (one_of (number_at w64) bytes)
 
 abbrev pub fields_of : Option Call → List ℕ → Result Request FrameFault
 fields_of None bytes = Err Operation

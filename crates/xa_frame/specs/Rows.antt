@@ -5,7 +5,7 @@ use Rattle.xa_codes.specs.declared.detail.Detail.TheVariants as detail
 use Rattle.xa_codes.specs.declared.direction.Direction.TheVariants as direction
 use Rattle.xa_xid.specs.Triple.{Triple}
 use Rattle.xa_fields.specs.Spelling.{direction_byte}
-use Rattle.xa_frame.specs.declared.request.Request.TheVariants.{Start}
+use Rattle.xa_frame.specs.declared.request.Request.TheVariants.{Start, Timeout, Tick}
 use Rattle.xa_frame.specs.declared.body.Body.TheVariants as body
 use Rattle.xa_frame.specs.declared.reply.Reply.{Reply}
 use Rattle.xa_frame.specs.declared.fault.FrameFault.TheVariants.{Short, Version, Operation, Field, Trailing}
@@ -19,9 +19,11 @@ HasNumbers =
     (map operation
     (call.Open ∷ call.Close ∷ call.Start ∷ call.End ∷ call.Prepare ∷ call.Commit ∷ call.Rollback ∷ call.Recover ∷ [])
     ≡ 1 ∷ 2 ∷ 3 ∷ 4 ∷ 5 ∷ 6 ∷ 7 ∷ 8 ∷ [])
-    × (map operation (call.Forget ∷ call.Get ∷ call.Put ∷ call.Delete ∷ call.Decide ∷ call.Doom ∷ call.Restart ∷ [])
-    ≡ 9 ∷ 10 ∷ 11 ∷ 12 ∷ 13 ∷ 14 ∷ 15 ∷ [])
-    × (map numbered (0 ∷ 1 ∷ 15 ∷ 16 ∷ []) ≡ None ∷ Some call.Open ∷ Some call.Restart ∷ None ∷ [])
+    × (map operation
+    (call.Forget ∷ call.Get ∷ call.Put ∷ call.Delete ∷ call.Decide ∷ call.Doom ∷ call.Restart ∷ call.Timeout ∷ call.Tick
+    ∷ [])
+    ≡ 9 ∷ 10 ∷ 11 ∷ 12 ∷ 13 ∷ 14 ∷ 15 ∷ 16 ∷ 17 ∷ [])
+    × (map numbered (0 ∷ 1 ∷ 17 ∷ 18 ∷ []) ≡ None ∷ Some call.Open ∷ Some call.Tick ∷ None ∷ [])
     × (map detail_byte
     (detail.Nothing ∷ detail.Memory ∷ detail.Device ∷ detail.Busy ∷ detail.Late ∷ detail.Limit ∷ detail.Frame
     ∷ detail.LogFull ∷ [])
@@ -49,6 +51,9 @@ bad_frame_bytes = 1 ∷ 255 ∷ 255 ∷ 255 ∷ 251 ∷ 6 ∷ 0 ∷ 0 ∷ 0 ∷ 
 abbrev pub SpelledSo : Type 0
 SpelledSo =
     (bytes_of_request (Start 0 branch) ≡ start_bytes)
+    -- a limit of 10 seconds, and the moment 4,294,967,297
+    × (bytes_of_request (Timeout 10) ≡ 1 ∷ 16 ∷ 0 ∷ 0 ∷ 0 ∷ 10 ∷ [])
+    × (bytes_of_request (Tick 4294967297) ≡ 1 ∷ 17 ∷ 0 ∷ 0 ∷ 0 ∷ 1 ∷ 0 ∷ 0 ∷ 0 ∷ 1 ∷ [])
     × (bytes_of_reply begun ≡ begun_bytes)
     × (bytes_of_reply bad_frame ≡ bad_frame_bytes)
 
@@ -59,7 +64,9 @@ FaultyRequests =
     × (fault_of_request [] ≡ Some Short)
     × (fault_of_request (2 ∷ []) ≡ Some Version)
     × (fault_of_request (1 ∷ []) ≡ Some Short)
-    -- operation 255, a byte behind a restart
+    -- operations 0, 18 and 255, a byte behind a restart
+    × (fault_of_request (1 ∷ 0 ∷ []) ≡ Some Operation)
+    × (fault_of_request (1 ∷ 18 ∷ []) ≡ Some Operation)
     × (fault_of_request (1 ∷ 255 ∷ []) ≡ Some Operation)
     × (fault_of_request (1 ∷ 15 ∷ 0 ∷ []) ≡ Some Trailing)
     -- a doom without an XID, a decision with direction 0, and without one
@@ -70,6 +77,10 @@ FaultyRequests =
     × (fault_of_request (1 ∷ 10 ∷ 0 ∷ []) ≡ Some Field)
     × (fault_of_request (1 ∷ 10 ∷ 65 ∷ []) ≡ Some Field)
     × (fault_of_request (1 ∷ 10 ∷ 2 ∷ 107 ∷ []) ≡ Some Short)
+    -- a limit whose seconds are cut, a moment that is cut, and one with a byte behind it
+    × (fault_of_request (1 ∷ 16 ∷ 0 ∷ 0 ∷ 0 ∷ []) ≡ Some Short)
+    × (fault_of_request (1 ∷ 17 ∷ 0 ∷ 0 ∷ 0 ∷ 10 ∷ []) ≡ Some Short)
+    × (fault_of_request (1 ∷ 17 ∷ 0 ∷ 0 ∷ 0 ∷ 0 ∷ 0 ∷ 0 ∷ 0 ∷ 10 ∷ 0 ∷ []) ≡ Some Trailing)
 
 abbrev pub FaultyReplies : Type 0
 FaultyReplies =

@@ -36,11 +36,14 @@ operation call.Delete = 12
 operation call.Decide = 13
 operation call.Doom = 14
 operation call.Restart = 15
+operation call.Timeout = 16
+operation call.Tick = 17
 
 abbrev pub calls : List Call
 calls =
     call.Open ∷ call.Close ∷ call.Start ∷ call.End ∷ call.Prepare ∷ call.Commit ∷ call.Rollback ∷ call.Recover
-    ∷ call.Forget ∷ call.Get ∷ call.Put ∷ call.Delete ∷ call.Decide ∷ call.Doom ∷ call.Restart ∷ []
+    ∷ call.Forget ∷ call.Get ∷ call.Put ∷ call.Delete ∷ call.Decide ∷ call.Doom ∷ call.Restart ∷ call.Timeout
+    ∷ call.Tick ∷ []
 
 -- the call with this number
 abbrev pub numbered : ℕ → Option Call
@@ -62,6 +65,8 @@ call_of (request.Delete key) = call.Delete
 call_of (request.Decide direction xid) = call.Decide
 call_of (request.Doom xid) = call.Doom
 call_of request.Restart = call.Restart
+call_of (request.Timeout seconds) = call.Timeout
+call_of (request.Tick moment) = call.Tick
 
 abbrev pub fields_bytes : Request → List ℕ
 fields_bytes (request.Open flags info) = to_be_bytes w32 flags ++ short_bytes info
@@ -79,6 +84,8 @@ fields_bytes (request.Delete key) = short_bytes key
 fields_bytes (request.Decide direction xid) = direction_bytes direction ++ bytes_of xid
 fields_bytes (request.Doom xid) = bytes_of xid
 fields_bytes request.Restart = []
+fields_bytes (request.Timeout seconds) = to_be_bytes w32 seconds
+fields_bytes (request.Tick moment) = to_be_bytes w64 moment
 
 -- the version, the operation, the fields
 abbrev pub bytes_of_request : Request → List ℕ

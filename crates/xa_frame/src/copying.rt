@@ -63,18 +63,20 @@ impl Request {
             },
             Request::Doom { xid } => Request::Doom { xid: xid.copied() },
             Request::Restart => Request::Restart,
+            Request::Timeout { seconds } => Request::Timeout { seconds: *seconds },
+            Request::Tick { moment } => Request::Tick { moment: *moment },
         })
     }
 
-    /// What the types of its parts hold: numbers of 32 bits, and XIDs. It does nothing.
+    /// What the types of its parts hold: numbers of 32 and of 64 bits, and XIDs. It does nothing.
     pub fn hold(&self)
         ensures { Holds self.now }
     {
         match self {
-            Request::Open { flags, .. } | Request::Close { flags } => hold_flags(*flags),
+            Request::Open { flags, .. } | Request::Close { flags } => hold_number(*flags),
             Request::Recover { flags, count } => {
-                hold_flags(*flags);
-                hold_flags(*count);
+                hold_number(*flags);
+                hold_number(*count);
             }
             Request::Start { flags, xid }
             | Request::End { flags, xid }
@@ -82,10 +84,12 @@ impl Request {
             | Request::Commit { flags, xid }
             | Request::Rollback { flags, xid }
             | Request::Forget { flags, xid } => {
-                hold_flags(*flags);
+                hold_number(*flags);
                 hold_name(xid);
             }
             Request::Decide { xid, .. } | Request::Doom { xid } => hold_name(xid),
+            Request::Timeout { seconds } => hold_number(*seconds),
+            Request::Tick { moment } => hold_moment(*moment),
             Request::Get { .. } | Request::Put { .. } | Request::Delete { .. } | Request::Restart =>
                 {}
         }
@@ -93,10 +97,17 @@ impl Request {
 }
 
 /// What a number of 32 bits holds.
-fn hold_flags(flags: u32)
-    ensures { flags < 2 ^ 32 }
+fn hold_number(number: u32)
+    ensures { number < 2 ^ 32 }
 {
-    let _flags = flags;
+    let _number = number;
+}
+
+/// What a number of 64 bits holds.
+fn hold_moment(moment: u64)
+    ensures { moment < 2 ^ 64 }
+{
+    let _moment = moment;
 }
 
 /// What an XID holds.

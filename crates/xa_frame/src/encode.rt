@@ -51,6 +51,8 @@ fn put_fields(out: &mut Vec<u8>, request: &Request) -> Result<(), AllocError>
         }
         Request::Doom { xid } => put_xid(out, xid),
         Request::Restart => Ok(()),
+        Request::Timeout { seconds } => put_u32(out, *seconds),
+        Request::Tick { moment } => put_u64(out, *moment),
     }
 }
 
@@ -62,7 +64,11 @@ fn room_of(request: &Request) -> usize
         Request::Open { info, .. } => 7 + info.as_slice().len(),
         Request::Get { key } | Request::Delete { key } => 3 + key.as_slice().len(),
         Request::Put { key, value } => 5 + key.as_slice().len() + value.as_slice().len(),
-        Request::Close { .. } | Request::Recover { .. } | Request::Restart => 10,
+        Request::Close { .. }
+        | Request::Recover { .. }
+        | Request::Restart
+        | Request::Timeout { .. }
+        | Request::Tick { .. } => 10,
         _ => 6 + XID_BYTES,
     }
 }

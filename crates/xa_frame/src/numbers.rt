@@ -25,6 +25,8 @@ impl Request {
             Request::Decide { .. } => Call::Decide,
             Request::Doom { .. } => Call::Doom,
             Request::Restart => Call::Restart,
+            Request::Timeout { .. } => Call::Timeout,
+            Request::Tick { .. } => Call::Tick,
         }
     }
 }
@@ -49,6 +51,8 @@ pub(crate) fn operation_of(call: Call) -> u8
         Call::Decide => 13,
         Call::Doom => 14,
         Call::Restart => 15,
+        Call::Timeout => 16,
+        Call::Tick => 17,
     }
 }
 
@@ -72,6 +76,8 @@ pub(crate) fn call_numbered(byte: u8) -> Option<Call>
         13 => Call::Decide,
         14 => Call::Doom,
         15 => Call::Restart,
+        16 => Call::Timeout,
+        17 => Call::Tick,
         _ => return None,
     })
 }

@@ -2,8 +2,8 @@ use xa_codes::{Bytes, Direction};
 use xa_xid::Xid;
 
 /// What a session asks for: C193's calls of a resource manager (`xa_open` to `xa_recover`), gets, puts and deletes of
-/// records, and the operator's calls. Flags are C193's, or-ed. A key has 1 to `MOST_KEY` bytes, a value at most
-/// `MOST_VALUE`, an open info at most `MOST_INFO`.
+/// records, the operator's calls, and branches' time limits. Flags are C193's, or-ed. A key has 1 to `MOST_KEY` bytes, a
+/// value at most `MOST_VALUE`, an open info at most `MOST_INFO`.
 #[derive(Debug, Drop)]
 pub enum Request {
     Open { flags: u32, info: Bytes },
@@ -21,4 +21,8 @@ pub enum Request {
     Decide { direction: Direction, xid: Xid },
     Doom { xid: Xid },
     Restart,
+    /// Branches that the session begins later may be at work for so many seconds; 0 sets no limit.
+    Timeout { seconds: u32 },
+    /// What the clock says, in seconds from an instant that all who tell it share.
+    Tick { moment: u64 },
 }

@@ -1,4 +1,4 @@
-ghost use Rattle.std.specs.Int.{w32};
+ghost use Rattle.std.specs.Int.{w32, w64};
 ghost use Rattle.std.specs.Prelude.{◌≡◌, IfOk, IfErr, Err, None};
 ghost use Rattle.xa_fields.specs.Answers.{Gives};
 ghost use Rattle.xa_frame.specs.declared.fault.FrameFault.TheVariants.{Memory};
@@ -10,7 +10,7 @@ ghost use Rattle.xa_frame.specs.Spelling.{SpellsRequest};
 
 use crate::encode::VERSION;
 use crate::fault::FrameFault;
-use crate::fields::{end, u32_at};
+use crate::fields::{end, u32_at, u64_at};
 use crate::numbers::call_numbered;
 use crate::request::Request;
 use std::alloc::Global;
@@ -19,12 +19,21 @@ use xa_fields::{take_direction, take_key, take_short, take_value, take_xid};
 use xa_limits::MOST_CONTENT;
 use xa_xid::Xid;
 
-fn flags_alone(bytes: &[u8]) -> Result<u32, FrameFault>
+/// Flags or seconds.
+fn number_alone(bytes: &[u8]) -> Result<u32, FrameFault>
     ensures { result ≡ one_of (number_at w32) bytes.now }
 {
-    let (flags, rest) = u32_at(bytes)?;
+    let (number, rest) = u32_at(bytes)?;
     end(rest)?;
-    Ok(flags)
+    Ok(number)
+}
+
+fn moment_alone(bytes: &[u8]) -> Result<u64, FrameFault>
+    ensures { result ≡ one_of (number_at w64) bytes.now }
+{
+    let (moment, rest) = u64_at(bytes)?;
+    end(rest)?;
+    Ok(moment)
 }
 
 fn flags_and_info(bytes: &[u8]) -> Result<(u32, &[u8]), FrameFault>
@@ -100,7 +109,7 @@ fn fields_of(alloc: Global, call: Call, bytes: &[u8]) -> Result<Request, FrameFa
             Ok(Request::Open { flags, info })
         }
         Call::Close => {
-            let flags = flags_alone(bytes)?;
+            let flags = number_alone(bytes)?;
             Ok(Request::Close { flags })
         }
         Call::Recover => {
@@ -132,6 +141,14 @@ fn fields_of(alloc: Global, call: Call, bytes: &[u8]) -> Result<Request, FrameFa
         Call::Doom => {
             let xid = xid_alone(bytes)?;
             Ok(Request::Doom { xid })
+        }
+        Call::Timeout => {
+            let seconds = number_alone(bytes)?;
+            Ok(Request::Timeout { seconds })
+        }
+        Call::Tick => {
+            let moment = moment_alone(bytes)?;
+            Ok(Request::Tick { moment })
         }
         Call::Start | Call::End | Call::Prepare | Call::Commit | Call::Rollback | Call::Forget => {
             let (flags, xid) = flags_and_xid(bytes)?;
