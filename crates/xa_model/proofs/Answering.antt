@@ -57,7 +57,7 @@ early_bad c request reply e ok =
     ∷ (is_none c.session, plain XAER_PROTO)
     ∷ (needs_open (call_of request) && not (is_opened c.session), plain XAER_PROTO)
     ∷ (is_async (call_of request) (flags_of request), plain XAER_ASYNC)
-    ∷ (is_invalid c.name request, plain XAER_INVAL)
+    ∷ (is_invalid c.name c.moment request, plain XAER_INVAL)
     ∷ []) reply ((λ ok. cc ok), ((λ ok. cc ok), ((λ ok. cc ok), ((λ ok. cc ok), ((λ ok. cc ok), tt))))) e ok
 
 other_bad : (k : Known) (reply : Reply) → heuristic_refusal k ≡ Some reply → IsDone reply → ⊥

@@ -6,7 +6,7 @@ use Rattle.xa_codes.specs.declared.codes.TheConstants.{XAER_RMERR, XA_RETRY, XA_
 use Rattle.xa_codes.specs.declared.direction.Direction.TheVariants as direction
 use Rattle.xa_frame.specs.declared.reply.Reply.{Reply}
 use Rattle.xa_frame.specs.declared.request.Request.{Request}
-use Rattle.xa_frame.specs.declared.request.Request.TheVariants.{Open, Close, Start, End, Prepare, Commit, Rollback, Forget, Recover, Get, Put, Delete, Decide, Doom, Restart}
+use Rattle.xa_frame.specs.declared.request.Request.TheVariants.{Open, Close, Start, End, Prepare, Commit, Rollback, Forget, Recover, Get, Put, Delete, Decide, Doom, Restart, Timeout, Tick}
 use Rattle.xa_record.specs.declared.record.Record.{Record}
 use Rattle.xa_record.specs.declared.record.Record.TheVariants as logged
 use Rattle.xa_xid.specs.Triple.{Triple, xid_eq}
@@ -105,6 +105,8 @@ row_logs s n (Decide way x) =
     unless_logs (IsAsked (Asked (event.Call n (Decide way x)))) (decide_refusal (known_as s x)) s (logs s (logged.Decided x way) XAER_RMERR s) tt
 row_logs s n (Doom x) = tt
 row_logs s n Restart = tt
+row_logs s n (Timeout seconds) = tt
+row_logs s n (Tick moment) = tt
 
 event_logs : (s : State) (e : Event) → Logs (IsAsked (Asked e)) (respond s e)
 event_logs s event.Connect = tt

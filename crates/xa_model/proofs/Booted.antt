@@ -26,14 +26,21 @@ use Rattle.xa_model.proofs.Restarts.{booted_lasts}
 use Rattle.xa_model.proofs.Newer.{AreUnused}
 use Rattle.xa_model.proofs.Appended.{appended_backed}
 
--- what logs stand behind says nothing of settings, sessions, standing and the open record
-abbrev with_others : State → List ℕ → ℕ → List Session → List Association → Standing → Option Record → State
-with_others s name log_bytes sessions associations standing o =
-    record s { name = name; log_bytes = log_bytes; sessions = sessions; associations = associations; standing = standing; open_record = o }
+-- what logs stand behind says nothing of settings, sessions, standing, the open record and the moment
+abbrev with_others : State → List ℕ → ℕ → List Session → List Association → Standing → Option Record → ℕ → State
+with_others s name log_bytes sessions associations standing o moment = record s {
+  name = name;
+  log_bytes = log_bytes;
+  sessions = sessions;
+  associations = associations;
+  standing = standing;
+  open_record = o;
+  moment = moment;
+}
 
-pub same_backed : (rs : List Record) (s : State) (name : List ℕ) (log_bytes : ℕ) (sessions : List Session) (associations : List Association) (standing : Standing) (o : Option Record)
-    → Backs rs s → Backs rs (with_others s name log_bytes sessions associations standing o)
-same_backed rs s name log_bytes sessions associations standing o k = record {
+pub same_backed : (rs : List Record) (s : State) (name : List ℕ) (log_bytes : ℕ) (sessions : List Session) (associations : List Association) (standing : Standing) (o : Option Record) (moment : ℕ)
+    → Backs rs s → Backs rs (with_others s name log_bytes sessions associations standing o moment)
+same_backed rs s name log_bytes sessions associations standing o moment k = record {
   records = k.records;
   lasts = k.lasts;
   end = k.end;
@@ -41,14 +48,14 @@ same_backed rs s name log_bytes sessions associations standing o k = record {
 }
 
 down_backed : (rs : List Record) (s : State) (o : Option Record) → Backs rs s → Backs rs (record (down s) { open_record = o })
-down_backed rs s o k = same_backed rs s s.name s.log_bytes s.sessions s.associations _ o k
+down_backed rs s o k = same_backed rs s s.name s.log_bytes s.sessions s.associations _ o s.moment k
 
 pub lost_backed : (rs : List Record) (s : State) (r : Record) → Backs rs s → Backs rs (record (down s) { open_record = Some r })
 lost_backed rs s r k = down_backed rs s (Some r) k
 
 ended_backed : (rs : List Record) (s : State) (name : List ℕ) (log_bytes : ℕ) (o : Option Record) → Backs rs s
     → Backs rs (record (refused_opening s name log_bytes) { open_record = o })
-ended_backed rs s name log_bytes o k = same_backed rs s name log_bytes [] [] _ o k
+ended_backed rs s name log_bytes o k = same_backed rs s name log_bytes [] [] _ o s.moment k
 
 -- the timestamps of a snapshot are those of its branches
 
@@ -123,7 +130,7 @@ reopened_backed : (rs : List Record) (s : State) (name : List ℕ) (log_bytes : 
     → Backs (snapshot (durable s) (s.logged_boot + 1)) (reopened s name log_bytes (s.logged_boot + 1))
 reopened_backed rs s name log_bytes k less =
     let t = restarted s (s.logged_boot + 1) in
-    same_backed (snapshot (durable s) (s.logged_boot + 1)) t name log_bytes [] t.associations t.standing t.open_record (booted_backed rs s k less)
+    same_backed (snapshot (durable s) (s.logged_boot + 1)) t name log_bytes [] t.associations t.standing t.open_record 0 (booted_backed rs s k less)
 
 reopens_by : (rs : List Record) (s : State) (name : List ℕ) (log_bytes : ℕ) (c : Bool)
     → (nat_lt s.logged_boot 4294967295 && can_open s log_bytes (s.logged_boot + 1)) ≡ c → Backs rs s
@@ -142,7 +149,7 @@ reopens rs s name log_bytes k = reopens_by rs s name log_bytes (nat_lt s.logged_
 -- the open record is settled
 
 missed_backed : (rs : List Record) (s : State) (o : Option Record) → Backs rs s → Backs rs (record s { open_record = o })
-missed_backed rs s o k = same_backed rs s s.name s.log_bytes s.sessions s.associations s.standing o k
+missed_backed rs s o k = same_backed rs s s.name s.log_bytes s.sessions s.associations s.standing o s.moment k
 
 opened_backed : (rs : List Record) (s : State) (boot : ℕ) → IsRecoverable s → Backs rs s → MayBeLast s (logged.Opened boot)
     → Backs (snapshot (durable s) boot) (applied (logged.Opened boot) s)

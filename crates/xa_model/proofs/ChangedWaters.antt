@@ -3,16 +3,17 @@ use Rattle.std.proofs.Common.{◌≡◌, ℕ, ℤ, ◌+◌, ◌≤◌, Bool, tru
 use Rattle.xa_codes.specs.declared.direction.Direction.{Direction}
 use Rattle.xa_codes.specs.declared.direction.Direction.TheVariants as direction
 use Rattle.xa_xid.specs.Triple.{Triple}
-use Rattle.xa_model.specs.State.{State, Branch, Operation, Association, name_of, is_known_as, is_with, known_of, timestamp_of, change}
+use Rattle.xa_model.specs.State.{State, Branch, Operation, Association, name_of, is_known_as, is_with, known_of, timestamp_of, change, limit_of}
 use Rattle.xa_model.specs.Associations.{begun, with_mark, left_behind}
 use Rattle.xa_model.specs.Branches.{rolled_back, committed, as_prepared, decided_by}
+use Rattle.xa_model.specs.TimeLimits.{timed_out}
 use Rattle.xa_model.specs.Records.{having_done}
 use Rattle.xa_model.specs.Sound.{IsSound}
 use Rattle.xa_model.specs.LowWater.{is_known, least_known, low_water}
 use Rattle.xa_model.proofs.Doubts.{prepared_name}
 use Rattle.xa_model.proofs.Lists.{found_all, found_passes}
 use Rattle.xa_model.proofs.LowWaters.{below_known, below_next, rises}
-use Rattle.xa_model.proofs.Marks.{mark_keeps, left_keeps}
+use Rattle.xa_model.proofs.Marks.{mark_keeps, left_keeps, timed_keeps}
 use Rattle.xa_model.proofs.Moves.{begins}
 use Rattle.xa_model.proofs.MovingRows.{gone, commits}
 
@@ -33,7 +34,7 @@ water_next s h = omega (arith, below_next s (s.given + 1) h (omega arith))
 -- a branch begins, or is completed
 
 pub begun_water : (s : State) (n : ℕ) (xid : Triple) → IsSound s → low_water s ≤ low_water (begun s n xid).after
-begun_water s n xid h = rises s (begun s n xid).after h (begins xid)
+begun_water s n xid h = rises s (begun s n xid).after h (begins xid s.moment (limit_of s n))
 
 pub committed_water : (s : State) (xid : Triple) → IsSound s → low_water s ≤ low_water (committed s xid)
 committed_water s xid h = rises s (committed s xid) h (commits s xid)
@@ -72,6 +73,9 @@ marked_water s code xid = ap (water_of s) (least_change (is_known_as xid) (with_
 
 pub left_water : (s : State) (held : List Association) (n : ℕ) → low_water (record s { branches = map (left_behind held n) s.branches }) ≡ low_water s
 left_water s held n = ap (water_of s) (least_map (left_behind held n) ((left_keeps held n).name, (left_keeps held n).time.same) s.branches)
+
+pub timed_water : (s : State) (moment : ℕ) → low_water (record s { branches = map (timed_out moment) s.branches }) ≡ low_water s
+timed_water s moment = ap (water_of s) (least_map (timed_out moment) ((timed_keeps moment).name, (timed_keeps moment).time.same) s.branches)
 
 pub prepared_water : (s : State) (xid : Triple) → low_water (record s { branches = change (is_known_as xid) as_prepared s.branches }) ≡ low_water s
 prepared_water s xid = ap (water_of s) (least_change (is_known_as xid) as_prepared ((λ b. prepared_name b.phase), (λ b. refl)) s.branches)

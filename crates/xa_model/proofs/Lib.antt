@@ -24,6 +24,7 @@ pub mod WorkedRefusals
 pub mod WorkedEarly
 pub mod WorkedBranches
 pub mod WorkedLimits
+pub mod WorkedTimeLimits
 pub mod Inserts
 pub mod LastWrites
 pub mod Folds
@@ -85,6 +86,7 @@ pub mod ReadsAndWrites
 pub mod OneByOne
 pub mod MovingRows
 pub mod MovingTurns
+pub mod RisingMoments
 pub mod Preparing
 pub mod Unlisted
 pub mod Crashes

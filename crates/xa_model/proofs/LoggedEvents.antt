@@ -3,11 +3,11 @@ use Rattle.std.proofs.Common.{◌≡◌, ℕ, ℤ, ◌+◌, Bool, true, false, c
 use Rattle.std.specs.Prelude.{find, map, filter_map, reverse, is_some, option_map, option_and_then}
 use Rattle.std.specs.List.{list_any, AllByRecursion}
 use Rattle.xa_codes.specs.Flags.{has}
-use Rattle.xa_codes.specs.declared.codes.TheConstants.{XA_RBTRANSIENT, XA_RBOTHER, XA_RBROLLBACK, XA_RBCOMMFAIL}
+use Rattle.xa_codes.specs.declared.codes.TheConstants.{XA_RBTRANSIENT, XA_RBOTHER, XA_RBROLLBACK, XA_RBCOMMFAIL, XA_RBTIMEOUT}
 use Rattle.xa_codes.specs.declared.flags.TheConstants.{TMONEPHASE, TMJOIN, TMRESUME, TMSUSPEND, TMMIGRATE, TMFAIL}
 use Rattle.xa_frame.specs.declared.reply.Reply.{Reply}
 use Rattle.xa_frame.specs.declared.request.Request.{Request}
-use Rattle.xa_frame.specs.declared.request.Request.TheVariants.{Open, Close, Start, End, Prepare, Commit, Rollback, Forget, Recover, Get, Put, Delete, Decide, Doom, Restart}
+use Rattle.xa_frame.specs.declared.request.Request.TheVariants.{Open, Close, Start, End, Prepare, Commit, Rollback, Forget, Recover, Get, Put, Delete, Decide, Doom, Restart, Timeout, Tick}
 use Rattle.xa_xid.specs.Triple.{Triple, xid_eq}
 use Rattle.xa_xid.proofs.Same.{xid_eq_itself}
 use Rattle.xa_model.specs.declared.event.Event.TheVariants as event
@@ -19,6 +19,7 @@ use Rattle.xa_model.specs.Associations.{connect_refusal, connected, connect_by, 
 use Rattle.xa_model.specs.Branches.{doom_refusal, doomed, doom_by}
 use Rattle.xa_model.specs.Records.{having_done, got, get_from, get_by, busy_refusal, is_full, limit_refusal, came_late, written, in_time, put_from, put_by}
 use Rattle.xa_model.specs.Completions.{commit_one_phase_turn, commit_two_phase_turn}
+use Rattle.xa_model.specs.TimeLimits.{runs_out, timed_out, ticked, tick_by, timeout_by}
 use Rattle.xa_model.specs.Recovering.{scan_of, scan_from, recovered_from, recover_by}
 use Rattle.xa_model.specs.Step.{row, context_of}
 use Rattle.xa_model.specs.Events.{asks_restart}
@@ -30,7 +31,7 @@ use Rattle.xa_model.proofs.Splits.{split, uncounted, parts, parts_none}
 use Rattle.xa_model.proofs.Applied.{committed_of, prepared_of, same_durable}
 use Rattle.xa_model.proofs.Seats.{connected_sound, seat_sound, hung_up_sound}
 use Rattle.xa_model.proofs.Working.{start_sound, end_sound}
-use Rattle.xa_model.proofs.Soundness.{close_sound, doom_sound, get_sound, put_sound, recover_sound, reached}
+use Rattle.xa_model.proofs.Soundness.{close_sound, doom_sound, get_sound, put_sound, recover_sound, tick_sound, timeout_sound, reached}
 use Rattle.xa_model.proofs.LoggedTurns.{unless_logs, cond_logs, prepares, commits, commits_in_doubt, rolls_back, decides, forgets}
 use Rattle.xa_model.proofs.LoggedTurns.{itself as logged_itself}
 
@@ -111,19 +112,26 @@ with_mark_same s given sessions held xid code reads =
     (ap reverse (change_made committed_of (is_known_as xid) (with_mark code) (λ b. mark_committed code b b.phase) s.branches))
     (ap reverse (change_made prepared_of (is_known_as xid) (with_mark code) (λ b. mark_prepared code b b.phase) s.branches))
 
-behind_committed : (b : Branch) (c : Bool) → committed_of (cond c (with_mark XA_RBCOMMFAIL b) b) ≡ committed_of b
-behind_committed b true = mark_committed XA_RBCOMMFAIL b b.phase
-behind_committed b false = refl
+maybe_committed : (code : ℤ) (b : Branch) (c : Bool) → committed_of (cond c (with_mark code b) b) ≡ committed_of b
+maybe_committed code b true = mark_committed code b b.phase
+maybe_committed code b false = refl
 
-behind_prepared : (b : Branch) (c : Bool) → prepared_of (cond c (with_mark XA_RBCOMMFAIL b) b) ≡ prepared_of b
-behind_prepared b true = mark_prepared XA_RBCOMMFAIL b b.phase
-behind_prepared b false = refl
+maybe_prepared : (code : ℤ) (b : Branch) (c : Bool) → prepared_of (cond c (with_mark code b) b) ≡ prepared_of b
+maybe_prepared code b true = mark_prepared code b b.phase
+maybe_prepared code b false = refl
 
 hung_up_same : (s : State) (n : ℕ) (sessions : List Session) (held : List Association) → IsSame s (with_all s s.given sessions held (map (left_behind s.associations n) s.branches) s.reads)
 hung_up_same s n sessions held =
     kept s s.given sessions held (map (left_behind s.associations n) s.branches) s.reads
-    (ap reverse (map_made committed_of (left_behind s.associations n) (λ b. behind_committed b (is_worked_by s.associations n b.phase)) s.branches))
-    (ap reverse (map_made prepared_of (left_behind s.associations n) (λ b. behind_prepared b (is_worked_by s.associations n b.phase)) s.branches))
+    (ap reverse (map_made committed_of (left_behind s.associations n) (λ b. maybe_committed XA_RBCOMMFAIL b (is_worked_by s.associations n b.phase)) s.branches))
+    (ap reverse (map_made prepared_of (left_behind s.associations n) (λ b. maybe_prepared XA_RBCOMMFAIL b (is_worked_by s.associations n b.phase)) s.branches))
+
+ticked_same : (s : State) (moment : ℕ) → IsSame s (ticked s moment)
+ticked_same s moment =
+    let same = kept s s.given s.sessions s.associations (map (timed_out moment) s.branches) s.reads
+    (ap reverse (map_made committed_of (timed_out moment) (λ b. maybe_committed XA_RBTIMEOUT b (runs_out moment b)) s.branches))
+    (ap reverse (map_made prepared_of (timed_out moment) (λ b. maybe_prepared XA_RBTIMEOUT b (runs_out moment b)) s.branches)) in
+    record { lasts = same.lasts; end = refl; boot = refl; logged_boot = refl; open_record = refl; standing = refl }
 
 -- the association table
 
@@ -276,6 +284,8 @@ row_logs s n (Decide direction xid) h seated other = decides s direction xid h
 row_logs s n (Doom xid) h seated other =
     keeps s (doom_by s xid).after (unless_same (doom_refusal (known_as s xid)) s (ok (doomed s xid)) (λ none. with_mark_same s s.given s.sessions s.associations xid XA_RBOTHER s.reads)) (doom_sound s xid h)
 row_logs s n Restart h seated other = absurd (cc other)
+row_logs s n (Timeout seconds) h seated other = keeps s (timeout_by s n seconds).after (alike s s.given _ s.associations s.reads) (timeout_sound s n seconds h)
+row_logs s n (Tick moment) h seated other = keeps s (tick_by s moment).after (ticked_same s moment) (tick_sound s moment h)
 
 pub events_log_what_lasts : EventsLogWhatLasts
 events_log_what_lasts s event.Connect h other = keeps s (connect_by s).after (unless_same (connect_refusal _) s (connected s) (λ none. alike s s.given _ s.associations s.reads)) (connected_sound s h)

@@ -3,7 +3,7 @@ use Rattle.std.proofs.Common.{◌≡◌, ℕ, ◌+◌, ◌<◌, ◌≤◌, ◌==
 use Rattle.std.specs.List.{AllByRecursion}
 use Rattle.std.proofs.lemmas.Bool.Decides.{nat_tests}
 use Rattle.xa_xid.specs.Triple.{Triple}
-use Rattle.xa_model.specs.State.{State, Branch, Operation, Phase, Working, Prepared, Committed, is_known_as, is_committed, name_of, known_count, timestamp_of, new_branch}
+use Rattle.xa_model.specs.State.{State, Branch, Operation, Work, Phase, Working, Prepared, Committed, is_known_as, is_committed, name_of, known_count, timestamp_of, new_work, new_branch}
 use Rattle.xa_model.specs.Records.{having_done, did}
 use Rattle.xa_model.specs.Sound.{IsSound}
 use Rattle.xa_model.specs.Step.{turn}
@@ -176,14 +176,14 @@ restarts_rise : (c : Core) (boot : ℕ) (bs : List Branch) → c.boot < boot →
 restarts_rise c boot bs less r o =
     at_most (water c) (timestamp_of boot 0) bs (remain_above (water c) r (known_above (timestamp_of c.boot c.given) c.branches)) (omega (arith, water_given c o, less, o.few))
 
-begins_rise : (c : Core) (xid : Triple) → IsOrdered c
+begins_rise : (c : Core) (xid : Triple) (work : Work) → IsOrdered c
     → water c ≤ water (record c {
       given = c.given + 1;
-      branches = new_branch (timestamp_of c.boot (c.given + 1)) xid ∷ c.branches;
+      branches = new_branch (timestamp_of c.boot (c.given + 1)) xid work ∷ c.branches;
     })
-begins_rise c xid o =
+begins_rise c xid work o =
     let next : water c ≤ timestamp_of c.boot (c.given + 1) = omega (arith, water_given c o) in
-    at_most (water c) (timestamp_of c.boot (c.given + 1)) (new_branch (timestamp_of c.boot (c.given + 1)) xid ∷ c.branches)
+    at_most (water c) (timestamp_of c.boot (c.given + 1)) (new_branch (timestamp_of c.boot (c.given + 1)) xid work ∷ c.branches)
     ((λ known. next), known_above (timestamp_of c.boot c.given) c.branches) next
 
 -- what a branch does changes neither its timestamp nor its phase
@@ -199,7 +199,7 @@ done_rises c xid op o =
 pub moves_rise : {c d : Core} → Moves c d → IsOrdered c → water c ≤ water d
 moves_rise (remains bs r) o = remains_rise _ bs r o
 moves_rise (restarts boot bs less r) o = restarts_rise _ boot bs less r o
-moves_rise (begins xid) o = begins_rise _ xid o
+moves_rise (begins xid start limit) o = begins_rise _ xid (new_work start limit) o
 moves_rise (gets key xid b found free) o = done_rises _ xid _ o
 moves_rise (puts key value xid b found new on_time) o = done_rises _ xid _ o
 

@@ -1,8 +1,10 @@
 -- Marks, operations and other changes that leave a branch its name and its work.
 use Rattle.std.proofs.Common.{◌≡◌, ℕ, ℤ, Bool, true, false, cond, List, refl}
+use Rattle.xa_codes.specs.declared.codes.TheConstants.{XA_RBTIMEOUT}
 use Rattle.xa_xid.specs.Triple.{Triple}
 use Rattle.xa_model.specs.State.{State, Branch, Phase, Working, Prepared, Committed, Operation, Association, name_of, is_known_as, change}
 use Rattle.xa_model.specs.Associations.{with_mark, marked_phase, left_behind, is_worked_by}
+use Rattle.xa_model.specs.TimeLimits.{runs_out, timed_out}
 use Rattle.xa_model.specs.Records.{having_done}
 use Rattle.xa_model.specs.Sound.{IsSound, is_working}
 use Rattle.xa_model.proofs.Order.{KeepsTimestamp}
@@ -41,6 +43,12 @@ left_times held n = record { same = λ b. left_time _ b (is_worked_by held n b.p
 
 pub left_keeps : (held : List Association) (n : ℕ) → KeepsName (left_behind held n)
 left_keeps held n = record { time = left_times held n; name = λ b. left_name _ b (is_worked_by held n b.phase); working = λ b. left_working _ b (is_worked_by held n b.phase) }
+
+timed_times : (moment : ℕ) → KeepsTimestamp (timed_out moment)
+timed_times moment = record { same = λ b. left_time XA_RBTIMEOUT b (runs_out moment b) }
+
+pub timed_keeps : (moment : ℕ) → KeepsName (timed_out moment)
+timed_keeps moment = record { time = timed_times moment; name = λ b. left_name XA_RBTIMEOUT b (runs_out moment b); working = λ b. left_working XA_RBTIMEOUT b (runs_out moment b) }
 
 done_time : (op : Operation) → KeepsTimestamp (having_done op)
 done_time op = record { same = λ b. refl }

@@ -3,7 +3,7 @@ use Rattle.std.proofs.Common.{◌≡◌, ℕ, ◌+◌, ◌<◌, Bool, true, fals
 use Rattle.std.specs.Prelude.{filter}
 use Rattle.xa_codes.specs.declared.codes.TheConstants.{XA_OK}
 use Rattle.xa_xid.specs.Triple.{Triple}
-use Rattle.xa_model.specs.State.{State, Branch, Read, Got, Wrote, Phase, Working, Prepared, Committed, is_committed, is_known_as, is_with, name_of, known_of, mark_of, timestamp_of, change, without, new_branch}
+use Rattle.xa_model.specs.State.{State, Branch, Read, Got, Wrote, Phase, Working, Prepared, Committed, is_committed, is_known_as, is_with, name_of, known_of, mark_of, timestamp_of, change, without, new_work, new_branch}
 use Rattle.xa_model.specs.Source.{source, is_busy, is_late}
 use Rattle.xa_model.specs.Sound.{is_working}
 use Rattle.xa_model.specs.Records.{did}
@@ -38,10 +38,10 @@ pub data Moves : Core → Core → Type 0 where
   -- a new boot has a greater number, and begins without reads
   restarts : {c : Core} (boot : ℕ) (bs : List Branch) → c.boot < boot → Remain c.branches bs
       → Moves c (record { boot = boot; given = 0; branches = bs; reads = [] })
-  begins : {c : Core} (xid : Triple)
+  begins : {c : Core} (xid : Triple) (start limit : ℕ)
       → Moves c (record c {
         given = c.given + 1;
-        branches = new_branch (timestamp_of c.boot (c.given + 1)) xid ∷ c.branches;
+        branches = new_branch (timestamp_of c.boot (c.given + 1)) xid (new_work start limit) ∷ c.branches;
       })
   gets : {c : Core} (key : List ℕ) (xid : Triple) (b : Branch) → known_of c.branches xid ≡ Some b
       → is_busy b.timestamp (source key b.timestamp c.branches) ≡ false

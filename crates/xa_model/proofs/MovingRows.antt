@@ -5,12 +5,12 @@ use Rattle.std.specs.Prelude.{map, is_some, find, option_map, option_and_then}
 use Rattle.std.specs.List.{list_any}
 use Rattle.std.proofs.lemmas.Bool.Decides.{nat_tests}
 use Rattle.xa_codes.specs.Flags.{has}
-use Rattle.xa_codes.specs.declared.codes.TheConstants.{XA_OK, XAER_RMERR, XA_RETRY, XA_RDONLY, XA_RBTRANSIENT, XA_RBOTHER, XA_RBROLLBACK, XA_RBCOMMFAIL}
+use Rattle.xa_codes.specs.declared.codes.TheConstants.{XA_OK, XAER_RMERR, XA_RETRY, XA_RDONLY, XA_RBTRANSIENT, XA_RBOTHER, XA_RBROLLBACK, XA_RBCOMMFAIL, XA_RBTIMEOUT}
 use Rattle.xa_codes.specs.declared.direction.Direction.TheVariants as direction
 use Rattle.xa_codes.specs.declared.flags.TheConstants.{TMONEPHASE, TMJOIN, TMRESUME, TMSUSPEND, TMMIGRATE, TMFAIL}
 use Rattle.xa_frame.specs.declared.reply.Reply.{Reply}
 use Rattle.xa_frame.specs.declared.request.Request.{Request}
-use Rattle.xa_frame.specs.declared.request.Request.TheVariants.{Open, Close, Start, End, Prepare, Commit, Rollback, Forget, Recover, Get, Put, Delete, Decide, Doom, Restart}
+use Rattle.xa_frame.specs.declared.request.Request.TheVariants.{Open, Close, Start, End, Prepare, Commit, Rollback, Forget, Recover, Get, Put, Delete, Decide, Doom, Restart, Timeout, Tick}
 use Rattle.xa_record.specs.declared.record.Record.{Record}
 use Rattle.xa_record.specs.declared.record.Record.TheVariants as logged
 use Rattle.xa_xid.specs.Triple.{Triple, xid_eq}
@@ -19,13 +19,14 @@ use Rattle.xa_model.specs.declared.event.Event.{Event}
 use Rattle.xa_model.specs.declared.event.Event.TheVariants as event
 use Rattle.xa_model.specs.declared.outcome.Appending.{Appending}
 use Rattle.xa_model.specs.declared.outcome.Appending.TheVariants.{Kept, Refused, Lost}
-use Rattle.xa_model.specs.State.{State, Association, Branch, Phase, Working, Prepared, Committed, Known, Unknown, AtWork, InDoubt, Completed, count, known_as, known_in, known_of, is_known_as, is_committed, active_of, is_active, branch_with, own_branch, mark_of, change, without, suspends, is_loose_with, loose_of, holders_of, is_with, timestamp_of}
+use Rattle.xa_model.specs.State.{State, Association, Branch, Phase, Working, Prepared, Committed, Known, Unknown, AtWork, InDoubt, Completed, count, known_as, known_in, known_of, is_known_as, is_committed, active_of, is_active, branch_with, own_branch, mark_of, change, without, suspends, is_loose_with, loose_of, holders_of, is_with, timestamp_of, limit_of}
 use Rattle.xa_model.specs.Source.{source, is_late}
 use Rattle.xa_model.specs.Answer.{Answer, plain, answer, ok, unless, marked}
 use Rattle.xa_model.specs.Early.{early_refusal}
 use Rattle.xa_model.specs.Associations.{connect_refusal, connected, close_refusal, is_anyones, with_mark, marked_phase, or_mark, left_behind, is_worked_by, start_refusal, begun, begin_by, is_taken, join_refusal, joined, join_by, resume_refusal, resumed, not_resumed, resume_by, start_by, end_refusal, loose_refusal, suspended, not_suspended, suspend_by, can_end, ended, failed, leave_by, end_by, mark_in, timestamp_in}
 use Rattle.xa_model.specs.Branches.{rolled_back, committed, as_committed, as_prepared, prepared_phase, one_phase_refusal, two_phase_refusal, rollback_refusal, heuristic_refusal, doom_refusal, doomed, is_associated}
 use Rattle.xa_model.specs.Records.{got, get_from, get_by, busy_refusal, is_full, limit_refusal, came_late, written, in_time, put_from, put_by}
+use Rattle.xa_model.specs.TimeLimits.{runs_out, timed_out}
 use Rattle.xa_model.specs.Recovering.{recovered_from, scan_from, scan_of}
 use Rattle.xa_model.specs.Step.{row, respond, context_of}
 use Rattle.xa_model.specs.Turn.{Turn, Now, unless_now}
@@ -67,12 +68,15 @@ marked_ok code Committed bad e = e
 mark_goes : (code : ℤ) → (code ≡ XA_OK → ⊥) → (b : Branch) → GoesOn b (with_mark code b)
 mark_goes code bad b = record { timestamp = refl; operations = refl; committed = marked_committed code b.phase; mark = marked_ok code b.phase bad }
 
-left_goes_by : (b : Branch) (c : Bool) → GoesOn b (cond c (with_mark XA_RBCOMMFAIL b) b)
-left_goes_by b true = mark_goes XA_RBCOMMFAIL (λ e. cc e) b
-left_goes_by b false = as_it_is b
+maybe_goes : (code : ℤ) → (code ≡ XA_OK → ⊥) → (b : Branch) (c : Bool) → GoesOn b (cond c (with_mark code b) b)
+maybe_goes code bad b true = mark_goes code bad b
+maybe_goes code bad b false = as_it_is b
 
 left_goes : (held : List Association) (n : ℕ) (b : Branch) → GoesOn b (left_behind held n b)
-left_goes held n b = left_goes_by b (is_worked_by held n b.phase)
+left_goes held n b = maybe_goes XA_RBCOMMFAIL (λ e. cc e) b (is_worked_by held n b.phase)
+
+timed_goes : (moment : ℕ) (b : Branch) → GoesOn b (timed_out moment b)
+timed_goes moment b = maybe_goes XA_RBTIMEOUT (λ e. cc e) b (runs_out moment b)
 
 committed_goes : (b : Branch) → GoesOn b (as_committed b)
 committed_goes b = record { timestamp = refl; operations = refl; committed = λ e. refl; mark = λ e. absurd (cc e) }
@@ -173,7 +177,7 @@ start_moved s n flags xid =
     (list_any (is_loose_with xid) s.associations)) s _
     (λ none. marked_moved (mark_in (known_as s xid)) s (not_resumed s n xid) (resumed s n xid) (itself s) (itself s)))
     (unless_moved (start_refusal (is_some (active_of s.associations n)) (is_taken (known_as s xid)) (known_in s) s.given) s (begun s n xid)
-    (λ none. begins xid)))
+    (λ none. begins xid s.moment (limit_of s n))))
 
 suspend_moved : (s : State) (n : ℕ) (migrates : Bool) (xid : Triple) → Moved s (suspend_by s n migrates xid)
 suspend_moved s n migrates xid =
@@ -330,6 +334,8 @@ row_moved s n (Decide way xid) h e =
     (logs_moved s (logged.Decided xid way) XAER_RMERR s (itself s))
 row_moved s n (Doom xid) h e = unless_moved (doom_refusal (known_as s xid)) s (ok (doomed s xid)) (λ none. marks s XA_RBOTHER xid (λ e. cc e))
 row_moved s n Restart h e = absurd (cc e)
+row_moved s n (Timeout seconds) h e = itself s
+row_moved s n (Tick moment) h e = remains (map (timed_out moment) s.branches) (mapped_remain (timed_out moment) (timed_goes moment) s.branches)
 
 pub event_moved : (s : State) (e : Event) → IsRecoverable s → is_restart e ≡ false → AllOf (Moved s) (respond s e)
 event_moved s event.Connect h e = unless_moved (connect_refusal _) s (connected s) (λ none. itself s)

@@ -4,12 +4,12 @@ use Rattle.std.specs.Prelude.{map, is_some}
 use Rattle.std.specs.List.{list_any, AllByRecursion}
 use Rattle.std.proofs.lemmas.Bool.Decides.{nat_tests}
 use Rattle.xa_codes.specs.Flags.{has}
-use Rattle.xa_codes.specs.declared.codes.TheConstants.{XAER_RMERR, XA_RETRY, XA_RDONLY, XA_RBTRANSIENT, XA_RBOTHER, XA_RBROLLBACK, XA_RBCOMMFAIL}
+use Rattle.xa_codes.specs.declared.codes.TheConstants.{XAER_RMERR, XA_RETRY, XA_RDONLY, XA_RBTRANSIENT, XA_RBOTHER, XA_RBROLLBACK, XA_RBCOMMFAIL, XA_RBTIMEOUT}
 use Rattle.xa_codes.specs.declared.direction.Direction.TheVariants as direction
 use Rattle.xa_codes.specs.declared.flags.TheConstants.{TMONEPHASE, TMJOIN, TMRESUME, TMSUSPEND, TMMIGRATE, TMFAIL}
 use Rattle.xa_frame.specs.declared.reply.Reply.{Reply}
 use Rattle.xa_frame.specs.declared.request.Request.{Request}
-use Rattle.xa_frame.specs.declared.request.Request.TheVariants.{Open, Close, Start, End, Prepare, Commit, Rollback, Forget, Recover, Get, Put, Delete, Decide, Doom, Restart}
+use Rattle.xa_frame.specs.declared.request.Request.TheVariants.{Open, Close, Start, End, Prepare, Commit, Rollback, Forget, Recover, Get, Put, Delete, Decide, Doom, Restart, Timeout, Tick}
 use Rattle.xa_record.specs.declared.record.Record.TheVariants as logged
 use Rattle.xa_xid.specs.Triple.{Triple}
 use Rattle.xa_model.specs.declared.event.Event.{Event}
@@ -22,6 +22,7 @@ use Rattle.xa_model.specs.Early.{early_refusal}
 use Rattle.xa_model.specs.Associations.{connect_refusal, connected, close_refusal, is_anyones, with_mark, marked_phase, left_behind, is_worked_by, start_refusal, begun, begin_by, is_taken, join_refusal, joined, join_by, resume_refusal, resumed, not_resumed, resume_by, start_by, end_refusal, loose_refusal, suspended, not_suspended, suspend_by, can_end, ended, failed, leave_by, end_by, mark_in, timestamp_in}
 use Rattle.xa_model.specs.Branches.{rolled_back, committed, as_committed, one_phase_refusal, two_phase_refusal, rollback_refusal, heuristic_refusal, doom_refusal, doomed, is_associated}
 use Rattle.xa_model.specs.Records.{having_done, got, get_from, get_by, busy_refusal, is_full, limit_refusal, came_late, written, in_time, put_from, put_by}
+use Rattle.xa_model.specs.TimeLimits.{runs_out, timed_out, ticked}
 use Rattle.xa_model.specs.Recovering.{recovered_from, scan_from, scan_of}
 use Rattle.xa_model.specs.Step.{row, respond, context_of}
 use Rattle.xa_model.specs.Turn.{Turn, Nobody, Now, Appends, Rereads, unless_now, marked_now}
@@ -95,16 +96,21 @@ mark_works code Committed e = e
 mark_still : (code : ℤ) → IsStill (with_mark code)
 mark_still code = record { time = λ b. refl; work = λ b e. mark_works code b.phase e }
 
-behind_still : (held : List Association) (n : ℕ) → IsStill (left_behind held n)
-behind_still held n = record { time = λ b. time_by b (is_worked_by held n b.phase); work = λ b e. work_by b (is_worked_by held n b.phase) e }
-  where
-    time_by : (b : Branch) (c : Bool) → (cond c (with_mark XA_RBCOMMFAIL b) b).timestamp ≡ b.timestamp
-    time_by b true = refl
-    time_by b false = refl
+-- a branch that may be marked
 
-    work_by : (b : Branch) (c : Bool) → is_working (cond c (with_mark XA_RBCOMMFAIL b) b).phase ≡ true → is_working b.phase ≡ true
-    work_by b true e = mark_works XA_RBCOMMFAIL b.phase e
-    work_by b false e = e
+time_by : (code : ℤ) (b : Branch) (c : Bool) → (cond c (with_mark code b) b).timestamp ≡ b.timestamp
+time_by code b true = refl
+time_by code b false = refl
+
+work_by : (code : ℤ) (b : Branch) (c : Bool) → is_working (cond c (with_mark code b) b).phase ≡ true → is_working b.phase ≡ true
+work_by code b true e = mark_works code b.phase e
+work_by code b false e = e
+
+behind_still : (held : List Association) (n : ℕ) → IsStill (left_behind held n)
+behind_still held n = record { time = λ b. time_by XA_RBCOMMFAIL b (is_worked_by held n b.phase); work = λ b e. work_by XA_RBCOMMFAIL b (is_worked_by held n b.phase) e }
+
+timed_still : (moment : ℕ) → IsStill (timed_out moment)
+timed_still moment = record { time = λ b. time_by XA_RBTIMEOUT b (runs_out moment b); work = λ b e. work_by XA_RBTIMEOUT b (runs_out moment b) e }
 
 done_still : (op : Operation) → IsStill (having_done op)
 done_still op = record { time = λ b. refl; work = λ b e. e }
@@ -122,6 +128,12 @@ with_mark_newer : (s : State) (sessions : List Session) (held : List Association
     → IsNewer s (with_all s sessions held (change (is_known_as xid) (with_mark code) s.branches) reads)
 with_mark_newer s sessions held code xid reads =
     moved s sessions held _ reads (λ ts h. changed_unused xid (with_mark code) (mark_still code) ts s.branches h)
+
+ticked_newer : (s : State) (moment : ℕ) → IsNewer s (ticked s moment)
+ticked_newer s moment = record {
+  given = omega arith;
+  unused = λ ts given h. mapped_unused (timed_out moment) (timed_still moment) ts s.branches h;
+}
 
 -- a timestamp above all that were given is none of them
 pub unused_above : (limit t : ℕ) (ts : List ℕ) → limit < t → AllByRecursion (λ u. u ≤ limit) ts → is_used t ts ≡ false
@@ -280,6 +292,8 @@ row_continues s n (Decide way xid) e = unless_continues (decide_refusal (known_a
 row_continues s n (Doom xid) e =
     unless_newer (doom_refusal (known_as s xid)) s (ok (doomed s xid)) (with_mark_newer s s.sessions s.associations XA_RBOTHER xid s.reads)
 row_continues s n Restart e = absurd (cc e)
+row_continues s n (Timeout seconds) e = alike s _ s.associations s.reads
+row_continues s n (Tick moment) e = ticked_newer s moment
 
 pub event_continues : (s : State) (e : Event) → is_restart e ≡ false → Continues s (respond s e)
 event_continues s event.Connect e = unless_newer (connect_refusal _) s (connected s) (alike s _ s.associations s.reads)

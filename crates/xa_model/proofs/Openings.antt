@@ -302,4 +302,5 @@ opens_fresh name log_bytes = record {
   standing = refl;
   end = refl;
   open_record = refl;
+  moment = refl;
 }

@@ -45,7 +45,7 @@ Refuse c = AllByRecursion IsRefusal c.branches
 moves_refuse : {c d : Core} → Moves c d → Refuse c → Refuse d
 moves_refuse (remains bs r) h = remain_all IsRefusal IsRefusal (λ b c g k e. k (g.mark e)) r h
 moves_refuse (restarts boot bs less r) h = remain_all IsRefusal IsRefusal (λ b c g k e. k (g.mark e)) r h
-moves_refuse (begins xid) h = ((λ e. cc e), h)
+moves_refuse (begins xid start limit) h = ((λ e. cc e), h)
 moves_refuse (gets key xid b found free) h = change_all IsRefusal (is_known_as xid) (having_done _) (λ x k. k) _ h
 moves_refuse (puts key value xid b found new on_time) h = change_all IsRefusal (is_known_as xid) (having_done _) (λ x k. k) _ h
 

@@ -198,6 +198,6 @@ module _ (c : Core) (key : List ℕ) (value : Option (List ℕ)) (xid : Triple) 
 pub moves_settled : {c d : Core} → Moves c d → IsOrdered c → AreSettled c → AreSettled d
 moves_settled (remains bs r) o h = remains_settled _ bs r o h
 moves_settled (restarts boot bs less r) o h = restarts_settled _ boot bs less r o h
-moves_settled (begins xid) o h = begins_settled _ _ refl h
+moves_settled (begins xid start limit) o h = begins_settled _ _ refl h
 moves_settled (gets key xid b found free) o h = gets_settled _ key xid b found free o h
 moves_settled (puts key value xid b found new on_time) o h = puts_settled _ key value xid b found new on_time h

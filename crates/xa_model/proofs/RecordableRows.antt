@@ -5,13 +5,13 @@ use Rattle.std.specs.List.{list_any, AllByRecursion}
 use Rattle.std.proofs.lemmas.Bool.{or_parts}
 use Rattle.std.proofs.lemmas.Bool.Decides.{nat_tests}
 use Rattle.xa_codes.specs.Flags.{has}
-use Rattle.xa_codes.specs.declared.codes.TheConstants.{XAER_RMERR, XA_RETRY, XA_RDONLY, XA_RBTRANSIENT, XA_RBOTHER, XA_RBROLLBACK, XA_RBCOMMFAIL}
+use Rattle.xa_codes.specs.declared.codes.TheConstants.{XAER_RMERR, XA_RETRY, XA_RDONLY, XA_RBTRANSIENT, XA_RBOTHER, XA_RBROLLBACK, XA_RBCOMMFAIL, XA_RBTIMEOUT}
 use Rattle.xa_codes.specs.declared.detail.Detail.TheVariants as detail
 use Rattle.xa_codes.specs.declared.direction.Direction.TheVariants as direction
 use Rattle.xa_codes.specs.declared.flags.TheConstants.{TMONEPHASE, TMJOIN, TMRESUME, TMSUSPEND, TMMIGRATE, TMFAIL}
 use Rattle.xa_frame.specs.declared.reply.Reply.{Reply}
 use Rattle.xa_frame.specs.declared.request.Request.{Request}
-use Rattle.xa_frame.specs.declared.request.Request.TheVariants.{Open, Close, Start, End, Prepare, Commit, Rollback, Forget, Recover, Get, Put, Delete, Decide, Doom, Restart}
+use Rattle.xa_frame.specs.declared.request.Request.TheVariants.{Open, Close, Start, End, Prepare, Commit, Rollback, Forget, Recover, Get, Put, Delete, Decide, Doom, Restart, Timeout, Tick}
 use Rattle.xa_record.specs.Limits.{IsWrite, IsStamped, IsBranch, IsRecord}
 use Rattle.xa_record.specs.declared.record.Record.{Record}
 use Rattle.xa_record.specs.declared.record.Record.TheVariants as logged
@@ -27,6 +27,7 @@ use Rattle.xa_model.specs.Associations.{connect_refusal, connected, close_refusa
 use Rattle.xa_limits.specs.declared.TheConstants.{MOST_BOOTS, MOST_BRANCHES, MOST_GIVEN}
 use Rattle.xa_model.specs.Branches.{as_committed, rolled_back, committed, one_phase_refusal, two_phase_refusal, heuristic_refusal, rollback_refusal, doom_refusal, doomed, is_associated}
 use Rattle.xa_model.specs.Records.{having_done, got, get_from, get_by, busy_refusal, is_full, limit_refusal, came_late, written, in_time, put_from, put_by}
+use Rattle.xa_model.specs.TimeLimits.{runs_out, timed_out}
 use Rattle.xa_model.specs.Recovering.{recovered_from, scan_from, scan_of}
 use Rattle.xa_model.specs.Sound.{is_working}
 use Rattle.xa_model.specs.Durable.{boot_of, is_past}
@@ -92,13 +93,17 @@ marked_works code Committed e = e
 marked_recordable : (code : ℤ) (boot logged_boot : ℕ) (b : Branch) → IsRecordable boot logged_boot b → IsRecordable boot logged_boot (with_mark code b)
 marked_recordable code boot logged_boot b h = with_phase boot logged_boot b (marked_phase code b.phase) (marked_works code b.phase) h
 
-left_recordable_by : (boot logged_boot : ℕ) (b : Branch) (c : Bool) → IsRecordable boot logged_boot b → IsRecordable boot logged_boot (cond c (with_mark XA_RBCOMMFAIL b) b)
-left_recordable_by boot logged_boot b true h = marked_recordable XA_RBCOMMFAIL boot logged_boot b h
-left_recordable_by boot logged_boot b false h = h
+maybe_recordable : (code : ℤ) (boot logged_boot : ℕ) (b : Branch) (c : Bool) → IsRecordable boot logged_boot b → IsRecordable boot logged_boot (cond c (with_mark code b) b)
+maybe_recordable code boot logged_boot b true h = marked_recordable code boot logged_boot b h
+maybe_recordable code boot logged_boot b false h = h
 
 left_recordable : (held : List Association) (n boot logged_boot : ℕ) (bs : List Branch) → AreRecordable boot logged_boot bs → AreRecordable boot logged_boot (map (left_behind held n) bs)
 left_recordable held n boot logged_boot [] h = tt
-left_recordable held n boot logged_boot (b ∷ bs) h = (left_recordable_by boot logged_boot b (is_worked_by held n b.phase) h.0, left_recordable held n boot logged_boot bs h.1)
+left_recordable held n boot logged_boot (b ∷ bs) h = (maybe_recordable XA_RBCOMMFAIL boot logged_boot b (is_worked_by held n b.phase) h.0, left_recordable held n boot logged_boot bs h.1)
+
+timed_recordable : (moment boot logged_boot : ℕ) (bs : List Branch) → AreRecordable boot logged_boot bs → AreRecordable boot logged_boot (map (timed_out moment) bs)
+timed_recordable moment boot logged_boot [] h = tt
+timed_recordable moment boot logged_boot (b ∷ bs) h = (maybe_recordable XA_RBTIMEOUT boot logged_boot b (runs_out moment b) h.0, timed_recordable moment boot logged_boot bs h.1)
 
 mark_fits : (s : State) (xid : Triple) (code : ℤ) → Fits s s → AreRecordable s.boot s.logged_boot (change (is_known_as xid) (with_mark code) s.branches)
 mark_fits s xid code h = change_all (IsRecordable s.boot s.logged_boot) (is_known_as xid) (with_mark code) (marked_recordable code s.boot s.logged_boot) s.branches h
@@ -297,6 +302,8 @@ row_keeps s n (Decide direction xid) is h other =
     unless_keeps (decide_refusal (known_as s xid)) s _ (recordable s h) (λ allowed. logs_keeps s (logged.Decided xid direction) XAER_RMERR s is.held refl (recordable s h))
 row_keeps s n (Doom xid) is h other = unless_fits (doom_refusal (known_as s xid)) s (ok (doomed s xid)) (recordable s h) (λ none. mark_fits s xid XA_RBOTHER (recordable s h))
 row_keeps s n Restart is h other = absurd (cc other)
+row_keeps s n (Timeout seconds) is h other = recordable s h
+row_keeps s n (Tick moment) is h other = timed_recordable moment s.boot s.logged_boot s.branches (recordable s h)
 
 pub events_keep_recordable : (s : State) (e : Event) → IsEvent e → IsLoggable s → is_restart e ≡ false → KeepsRecordable s (respond s e)
 events_keep_recordable s event.Connect is h other = unless_fits (connect_refusal (length s.sessions)) s (connected s) (recordable s h) (λ none. recordable s h)

@@ -92,7 +92,10 @@ booted_sound s next h less = record {
 }
 
 reopened_sound : (s : State) (name : List ℕ) (log_bytes next : ℕ) → IsSound s → s.boot < next → IsSound (reopened s name log_bytes next)
-reopened_sound s name log_bytes next h less = left_sound (restarted s next) name log_bytes (booted_sound s next h less)
+reopened_sound s name log_bytes next h less =
+    let t = restarted s next in
+    let left : State = record t { name = name; log_bytes = log_bytes; sessions = []; associations = [] } in
+    sound_beside left left.reads left.logged_boot left.end left.standing left.open_record 0 (left_sound t name log_bytes (booted_sound s next h less))
 
 -- a manager that is down, or ended
 
@@ -239,7 +242,7 @@ reopens s name log_bytes h settled = reopens_by s name log_bytes (nat_lt s.logge
 -- the open record is settled
 
 settled_sound : (s : State) → IsSound s → IsSound (missed s)
-settled_sound s h = sound_beside s s.reads s.logged_boot s.end s.standing None h
+settled_sound s h = sound_beside s s.reads s.logged_boot s.end s.standing None s.moment h
 
 pub applied_standing : (s : State) (r : Record) → (applied r s).standing ≡ s.standing
 applied_standing s (logged.Opened boot) = refl

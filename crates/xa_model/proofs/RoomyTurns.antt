@@ -228,7 +228,7 @@ restarts : (rs : List Record) (s : State) → IsRecoverable s → Backs rs s →
 restarts rs s h k none room = restarts_by rs s (nat_lt s.logged_boot 4294967295) h k none room
 
 settled_backed : (rs : List Record) (s : State) (o : Option Record) → Backs rs s → Backs rs (record s { open_record = o })
-settled_backed rs s o k = same_backed rs s s.name s.log_bytes s.sessions s.associations s.standing o k
+settled_backed rs s o k = same_backed rs s s.name s.log_bytes s.sessions s.associations s.standing o s.moment k
 
 applied_standing_room : (s : State) (r : Record) → HasRoom (applied r s) → HasRoom (survived s r)
 applied_standing_room s r h = h

@@ -93,7 +93,7 @@ early_bare c request reply e =
     ∷ (is_none c.session, plain XAER_PROTO)
     ∷ (needs_open (call_of request) && not (is_opened c.session), plain XAER_PROTO)
     ∷ (is_async (call_of request) (flags_of request), plain XAER_ASYNC)
-    ∷ (is_invalid c.name request, plain XAER_INVAL)
+    ∷ (is_invalid c.name c.moment request, plain XAER_INVAL)
     ∷ []) reply (refl, (refl, (refl, (refl, (refl, tt))))) e
 
 no_list : (reply : Reply) (xids : List Triple) → reply.body ≡ body.Nothing → reply ≡ listing xids → ⊥

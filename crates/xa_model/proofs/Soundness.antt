@@ -1,6 +1,6 @@
 -- What the rows that log nothing leave of a sound state is sound.
 use Rattle.std.proofs.Common.{◌≡◌, ℕ, ◌==◌, Bool, true, false, not, ◌&&◌, List, Option, Some, None, refl}
-use Rattle.std.specs.Prelude.{is_some, option_map}
+use Rattle.std.specs.Prelude.{is_some, map, option_map}
 use Rattle.std.specs.List.{list_any}
 use Rattle.xa_codes.specs.declared.codes.TheConstants.{XA_RBTRANSIENT, XA_RBOTHER}
 use Rattle.xa_frame.specs.declared.request.Request.{Request}
@@ -14,10 +14,11 @@ use Rattle.xa_model.specs.Branches.{doom_refusal, doomed, doom_by}
 use Rattle.xa_model.specs.Records.{having_done, got, get_from, get_by, busy_refusal, is_full, limit_refusal, came_late, written, in_time, put_from, put_by}
 use Rattle.xa_model.specs.Durable.{durable}
 use Rattle.xa_model.specs.Listed.{list_after}
+use Rattle.xa_model.specs.TimeLimits.{timed_out, with_limit, tick_by, timeout_by}
 use Rattle.xa_model.specs.Recovering.{scan_of, scan_from, scan_after, with_scan, recovered_from, recover_by}
 use Rattle.xa_model.specs.Sound.{IsSound}
-use Rattle.xa_model.proofs.Parts.{sound_beside}
-use Rattle.xa_model.proofs.Marks.{mark_keeps, done_keeps, changed_sound}
+use Rattle.xa_model.proofs.Parts.{sound_beside, with_branches, mapped_kept}
+use Rattle.xa_model.proofs.Marks.{mark_keeps, done_keeps, timed_keeps, changed_sound}
 use Rattle.xa_model.proofs.Rows.{unless_sound, marked_sound, passed}
 use Rattle.xa_model.proofs.Seats.{seat_sound}
 use Rattle.xa_model.specs.Step.{context_of}
@@ -28,11 +29,19 @@ pub doom_sound : (s : State) (xid : Triple) → IsSound s → IsSound (doom_by s
 doom_sound s xid h =
     unless_sound (doom_refusal (known_as s xid)) s (ok (doomed s xid)) h (λ allowed. changed_sound s (with_mark XA_RBOTHER) xid (mark_keeps XA_RBOTHER) h)
 
+-- a moment
+
+pub tick_sound : (s : State) (moment : ℕ) → IsSound s → IsSound (tick_by s moment).after
+tick_sound s moment h =
+    let t : State = record s { branches = map (timed_out moment) s.branches } in
+    sound_beside t t.reads t.logged_boot t.end t.standing t.open_record moment
+    (with_branches s (map (timed_out moment) s.branches) h (mapped_kept s (timed_out moment) (timed_keeps moment) h))
+
 -- gets and puts
 
 -- reads are no part of what is sound
 more_reads : (s : State) (reads : List _) → IsSound s → IsSound (record s { reads = reads })
-more_reads s reads h = sound_beside s reads s.logged_boot s.end s.standing s.open_record h
+more_reads s reads h = sound_beside s reads s.logged_boot s.end s.standing s.open_record s.moment h
 
 got_sound : (s : State) (key : List ℕ) (xid : Triple) (b : Branch) (v : Version) → IsSound s → IsSound (got s key xid b v).after
 got_sound s key xid b v h = more_reads _ _ (changed_sound s (having_done (Got key v.value v.timestamp)) xid (done_keeps (Got key v.value v.timestamp)) h)
@@ -63,6 +72,9 @@ pub close_sound : (s : State) (n : ℕ) → IsSound s → IsSound (close_by s n)
 close_sound s n h =
     unless_sound (close_refusal (list_any (is_anyones n) s.associations)) s (ok (record s { sessions = change (λ x. x.number == n) as_closed s.sessions })) h
     (λ allowed. seat_sound s n as_closed (λ x. refl) h)
+
+pub timeout_sound : (s : State) (n limit : ℕ) → IsSound s → IsSound (timeout_by s n limit).after
+timeout_sound s n limit h = seat_sound s n (with_limit limit) (λ x. refl) h
 
 recovered_sound : (s : State) (n flags count : ℕ) (scan : Option (Option Triple)) → IsSound s → IsSound (recovered_from s n flags count scan).after
 recovered_sound s n flags count None h = h

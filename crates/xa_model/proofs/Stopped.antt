@@ -12,12 +12,12 @@ use Rattle.xa_model.specs.MayLog.{MayLog}
 use Rattle.xa_model.proofs.Parts.{sound_beside, left_sound}
 
 pub down_sound : (s : State) (r : Option Record) → IsSound s → IsSound (record (down s) { open_record = r })
-down_sound s r h = sound_beside s s.reads s.logged_boot s.end Down r h
+down_sound s r h = sound_beside s s.reads s.logged_boot s.end Down r s.moment h
 
 pub ended_sound : (s : State) (name : List ℕ) (log_bytes : ℕ) (r : Option Record) → IsSound s → IsSound (record (refused_opening s name log_bytes) { open_record = r })
 ended_sound s name log_bytes r h =
     let left : State = record s { name = name; log_bytes = log_bytes; sessions = []; associations = [] } in
-    sound_beside left s.reads s.logged_boot s.end Ended r (left_sound s name log_bytes h)
+    sound_beside left s.reads s.logged_boot s.end Ended r s.moment (left_sound s name log_bytes h)
 
 -- what may be logged still may
 

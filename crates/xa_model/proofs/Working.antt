@@ -7,7 +7,7 @@ use Rattle.xa_codes.specs.declared.codes.TheConstants.{XA_RBROLLBACK}
 use Rattle.xa_codes.specs.declared.flags.TheConstants.{TMJOIN, TMRESUME, TMSUSPEND, TMMIGRATE, TMFAIL}
 use Rattle.xa_xid.specs.Triple.{Triple, xid_eq}
 use Rattle.xa_xid.proofs.Same.{xid_same, xid_eq_itself}
-use Rattle.xa_model.specs.State.{State, Branch, Association, count, change, without, is_with, is_known_as, owns, works_in, suspends, is_loose_with, active_of, known_of, known_as, known_in, session_of, holders_of, loose_of, timestamp_of, new_branch}
+use Rattle.xa_model.specs.State.{State, Branch, Association, count, change, without, is_with, is_known_as, owns, works_in, suspends, is_loose_with, active_of, known_of, known_as, known_in, session_of, holders_of, loose_of, timestamp_of, Work, new_work, new_branch, limit_of}
 use Rattle.xa_model.specs.Answer.{ok, unless, marked}
 use Rattle.xa_model.specs.Associations.{is_taken, mark_in, start_refusal, begun, begin_by, join_refusal, joined, join_by, resume_refusal, resumable, resumed, not_resumed, resume_by, start_by, end_refusal, loose_refusal, suspended, not_suspended, suspend_by, can_end, without_one, ended, failed, leave_by, end_by, with_mark, held_by}
 use Rattle.xa_limits.specs.declared.TheConstants.{MOST_BRANCHES, MOST_GIVEN, MOST_LOOSE}
@@ -38,18 +38,18 @@ new_works b o true e works = works
 new_works b o false e works = absurd (cc e)
 
 -- before the session is at work for it
-abbrev opened_branch : State → Triple → State
-opened_branch s xid = record s { given = s.given + 1; branches = new_branch (timestamp_of s.boot (s.given + 1)) xid ∷ s.branches }
+abbrev opened_branch : State → Triple → Work → State
+opened_branch s xid work = record s { given = s.given + 1; branches = new_branch (timestamp_of s.boot (s.given + 1)) xid work ∷ s.branches }
 
-opened_sound : (s : State) (xid : Triple) → IsSound s → named s xid ≡ 0 → known_in s < MOST_BRANCHES → s.given < MOST_GIVEN → IsSound (opened_branch s xid)
-opened_sound s xid h free room left = record {
+opened_sound : (s : State) (xid : Triple) (work : Work) → IsSound s → named s xid ≡ 0 → known_in s < MOST_BRANCHES → s.given < MOST_GIVEN → IsSound (opened_branch s xid work)
+opened_sound s xid work h free room left = record {
   descends = (omega arith, omega arith, descends_below (timestamp_of s.boot s.given + 1) (timestamp_of s.boot (s.given + 1)) s.branches (omega arith) h.descends);
   distinct = λ q. new_distinct s xid q (xid_eq xid q) refl free (h.distinct q);
   numbered = h.numbered;
   active = h.active;
   own = h.own;
   connected = h.connected;
-  bound = λ q none. new_bound s xid q (new_branch (timestamp_of s.boot (s.given + 1)) xid) (xid_eq xid q) refl (h.bound q) none;
+  bound = λ q none. new_bound s xid q (new_branch (timestamp_of s.boot (s.given + 1)) xid work) (xid_eq xid q) refl (h.bound q) none;
   sessions = h.sessions;
   known = omega arith;
   given = omega arith;
@@ -69,8 +69,9 @@ unheld s n xid h free =
 begun_sound : (s : State) (n : ℕ) (xid : Triple) → IsSound s → is_some (session_of s.sessions n) ≡ true → is_some (active_of s.associations n) ≡ false
     → named s xid ≡ 0 → known_in s < MOST_BRANCHES → s.given < MOST_GIVEN → IsSound (begun s n xid).after
 begun_sound s n xid h seated idle free room left =
-    one_more_sound (opened_branch s xid) n xid (opened_sound s xid h free room left) seated
-    (new_works (new_branch (timestamp_of s.boot (s.given + 1)) xid) (known_of s.branches xid) (xid_eq xid xid) (xid_eq_itself xid) refl)
+    let work = new_work s.moment (limit_of s n) in
+    one_more_sound (opened_branch s xid work) n xid (opened_sound s xid work h free room left) seated
+    (new_works (new_branch (timestamp_of s.boot (s.given + 1)) xid work) (known_of s.branches xid) (xid_eq xid xid) (xid_eq_itself xid) refl)
     (idle_count n s.associations idle) (unheld s n xid h free)
 
 pub begin_sound : (s : State) (n : ℕ) (xid : Triple) → IsSound s → is_some (session_of s.sessions n) ≡ true → IsSound (begin_by s n xid).after

@@ -14,7 +14,8 @@ use Rattle.xa_limits.specs.declared.TheConstants.{MOST_BRANCHES, MOST_GIVEN, MOS
 use Rattle.xa_model.specs.State.{State, Session, Branch, Phase, Working, Prepared, Committed, Association, Holder}
 use Rattle.xa_model.specs.State.{Active, Suspended, Loose, Known, Unknown, AtWork, InDoubt, Completed, known_as}
 use Rattle.xa_model.specs.State.{known_in, known_of, active_of, is_own, is_with, is_known_as, owns, works_in, suspends}
-use Rattle.xa_model.specs.State.{is_loose_with, loose_of, without, change, free_number, timestamp_of, new_branch, new_session}
+use Rattle.xa_model.specs.State.{is_loose_with, loose_of, without, change, free_number, timestamp_of}
+use Rattle.xa_model.specs.State.{new_work, new_branch, new_session, limit_of}
 use Rattle.xa_model.specs.Answer.{Answer, plain, detailed, carrying, answer, ok, first, unless, marked}
 
 -- Connect: the session gets the least number that is free
@@ -105,7 +106,7 @@ begun s n xid =
     answer (carrying (body.Number t)) (record s {
       given = s.given + 1;
       associations = record { xid = xid; holder = Active n } ∷ s.associations;
-      branches = new_branch t xid ∷ s.branches;
+      branches = new_branch t xid (new_work s.moment (limit_of s n)) ∷ s.branches;
     })
 
 abbrev pub begin_by : State → ℕ → Triple → Answer

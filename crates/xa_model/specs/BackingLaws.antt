@@ -63,7 +63,7 @@ OpensRestored =
     → IsRestored d (d.boot + 1) (opening d name log_bytes (d.boot + 1))
     × Backs (snapshot d (d.boot + 1)) (opening d name log_bytes (d.boot + 1))
 
--- Up, with these settings, in its first boot, whose record ends at byte 49; and nothing was asked of it.
+-- Up, with these settings, in its first boot, whose record ends at byte 49, at moment 0; and nothing was asked of it.
 pub record IsNew (named : List ℕ) (most : ℕ) (s : State) : Type 0 where
   pub name : s.name ≡ named
   pub log_bytes : s.log_bytes ≡ most
@@ -78,6 +78,7 @@ pub record IsNew (named : List ℕ) (most : ℕ) (s : State) : Type 0 where
   pub standing : s.standing ≡ Up
   pub end : s.end ≡ 49
   pub open_record : s.open_record ≡ None
+  pub moment : s.moment ≡ 0
 
 -- a manager that was opened on a log of no records is new
 abbrev pub OpensFresh : Type 0

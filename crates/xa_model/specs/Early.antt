@@ -12,7 +12,7 @@ use Rattle.xa_frame.specs.declared.reply.Reply.{Reply}
 use Rattle.xa_frame.specs.declared.request.Request.{Request}
 use Rattle.xa_frame.specs.declared.request.Request.TheVariants.{Open, Close, Start, End, Prepare, Commit, Rollback}
 use Rattle.xa_frame.specs.declared.request.Request.TheVariants.{Forget, Recover, Get, Put, Delete, Decide, Doom}
-use Rattle.xa_frame.specs.declared.request.Request.TheVariants.{Restart}
+use Rattle.xa_frame.specs.declared.request.Request.TheVariants.{Restart, Timeout, Tick}
 use Rattle.xa_limits.specs.declared.TheConstants.{MOST_XIDS}
 use Rattle.xa_model.specs.Answer.{plain, first}
 
@@ -33,6 +33,8 @@ flags_of (Delete key) = 0
 flags_of (Decide direction xid) = 0
 flags_of (Doom xid) = 0
 flags_of Restart = 0
+flags_of (Timeout seconds) = 0
+flags_of (Tick moment) = 0
 
 -- these pass while the manager is down
 abbrev pub passes_down : Call → Bool
@@ -48,6 +50,7 @@ needs_open call.Close = false
 needs_open call.Decide = false
 needs_open call.Doom = false
 needs_open call.Restart = false
+needs_open call.Tick = false
 needs_open _ = true
 
 -- on Recover TMASYNC is an illegal flag, and no more
@@ -65,19 +68,26 @@ abbrev pub has_wrong_count : Request → Bool
 has_wrong_count (Recover flags count) = nat_lt MOST_XIDS count
 has_wrong_count _ = false
 
-abbrev pub is_invalid : List ℕ → Request → Bool
-is_invalid name request =
-    not (legal (call_of request) (flags_of request)) || (has_wrong_info name request || has_wrong_count request)
+-- moments don't go back
+abbrev pub has_wrong_moment : ℕ → Request → Bool
+has_wrong_moment last (Tick moment) = nat_lt moment last
+has_wrong_moment last _ = false
+
+abbrev pub is_invalid : List ℕ → ℕ → Request → Bool
+is_invalid name moment request =
+    not (legal (call_of request) (flags_of request))
+    || (has_wrong_info name request || (has_wrong_count request || has_wrong_moment moment request))
 
 abbrev pub is_opened : Option Bool → Bool
 is_opened (Some opened) = opened
 is_opened None = false
 
--- What these refusals look at: whether the manager is up, its name, and whether the session is opened, if it is
--- connected.
+-- What these refusals look at: whether the manager is up, its name, the last moment that was told, and whether the
+-- session is opened, if it is connected.
 pub record Context : Type 0 where
   pub up : Bool
   pub name : List ℕ
+  pub moment : ℕ
   pub session : Option Bool
 
 abbrev pub early_refusal : Context → Request → Option Reply
@@ -87,5 +97,5 @@ early_refusal c request =
     ∷ (is_none c.session, plain XAER_PROTO)
     ∷ (needs_open (call_of request) && not (is_opened c.session), plain XAER_PROTO)
     ∷ (is_async (call_of request) (flags_of request), plain XAER_ASYNC)
-    ∷ (is_invalid c.name request, plain XAER_INVAL)
+    ∷ (is_invalid c.name c.moment request, plain XAER_INVAL)
     ∷ [])

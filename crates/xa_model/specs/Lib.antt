@@ -3,6 +3,7 @@ pub mod Source
 pub mod Answer
 pub mod Early
 pub mod Associations
+pub mod TimeLimits
 pub mod Branches
 pub mod Records
 pub mod Sound
@@ -32,6 +33,7 @@ pub mod ScanLaw
 pub mod RestartLaw
 pub mod LowWater
 pub mod LowWaterLaws
+pub mod TimeLaws
 pub mod OneCopy
 pub mod DurableLaws
 pub mod LoggingLaws
@@ -44,6 +46,7 @@ pub mod WorkedRefusals
 pub mod WorkedEarly
 pub mod WorkedBranches
 pub mod WorkedLimits
+pub mod WorkedTimeLimits
 pub mod WorkedLog
 pub mod WorkedTurns
 pub mod WorkedDevice

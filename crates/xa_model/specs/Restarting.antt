@@ -41,7 +41,8 @@ without_scan x = record x { scan = None }
 abbrev pub lasts : Branch → Bool
 lasts b = not (is_working b.phase)
 
--- Branches at work, associations, scans and reads are gone. Sessions stay connected, and opened as they were.
+-- Branches at work, associations, scans and reads are gone. Sessions stay connected, opened as they were, and with
+-- their time limits. The moment stays.
 abbrev pub restarted : State → ℕ → State
 restarted s boot = record s {
   boot = boot;
@@ -79,11 +80,12 @@ abbrev pub refused_opening : State → List ℕ → ℕ → State
 refused_opening s name log_bytes =
     record s { name = name; log_bytes = log_bytes; sessions = []; associations = []; standing = Ended }
 
--- Opened again: as a restart, without sessions, and with the settings handed in. A log that leaves no room for its
--- snapshot isn't opened.
+-- Opened again: as a restart, without sessions, with the settings handed in, and at moment 0. A log that leaves no room
+-- for its snapshot isn't opened.
 
 abbrev pub reopened : State → List ℕ → ℕ → ℕ → State
-reopened s name log_bytes boot = record (restarted s boot) { name = name; log_bytes = log_bytes; sessions = [] }
+reopened s name log_bytes boot =
+    record (restarted s boot) { name = name; log_bytes = log_bytes; sessions = []; moment = 0 }
 
 abbrev pub reopen_became : State → List ℕ → ℕ → ℕ → Appending → Answer
 reopen_became s name log_bytes boot Kept = ok (reopened s name log_bytes boot)
@@ -139,4 +141,5 @@ opening d name log_bytes boot = record {
   standing = Up;
   end = FIRST_OFFSET + sizes (snapshot d boot);
   open_record = None;
+  moment = 0;
 }

@@ -12,9 +12,12 @@ pub data Operation : Type 0 where
   Got : (key : List ℕ) (answer : Option (List ℕ)) (source : ℕ) → Operation
   Wrote : (key : List ℕ) (value : Option (List ℕ)) → Operation
 
--- What a branch has only while it is at work: the mark that it may have.
+-- What a branch has only while it is at work: the mark that it may have, the moment at which it began, and its time
+-- limit in seconds, 0 for none.
 pub record Work : Type 0 where
   pub mark : Option ℤ
+  pub start : ℕ
+  pub limit : ℕ
 
 -- Where a branch stands: it is known under an XID, at work or prepared; or it is committed and known no more. A branch
 -- that was rolled back stands nowhere.
@@ -44,11 +47,13 @@ pub record Association : Type 0 where
   pub xid : Triple
   pub holder : Holder
 
--- `scan` is the cursor of the recovery scan: no scan is open, or it stands before all XIDs (None), or at one.
+-- `scan` is the cursor of the recovery scan: no scan is open, or it stands before all XIDs (None), or at one. `limit`
+-- is the time limit, in seconds, of the branches that the session begins from now on, 0 for none.
 pub record Session : Type 0 where
   pub number : ℕ
   pub opened : Bool
   pub scan : Option (Option Triple)
+  pub limit : ℕ
 
 -- An answered read: who read, what, and the timestamp of the answer's source.
 pub record Read : Type 0 where
@@ -66,7 +71,8 @@ pub data Standing : Type 0 where
 -- Known and committed branches stand in one list, the greatest timestamp first; beside it stand the XIDs that the
 -- operator completed. `given` counts the timestamps that this boot has given. `logged_boot` is the greatest boot number
 -- in the log, which a restart that failed may have left above `boot`. `end` is where the log's next record would begin.
--- `open_record` is the record whose append was lost, and whose fate no restart has settled.
+-- `open_record` is the record whose append was lost, and whose fate no restart has settled. `moment` is the last moment
+-- that was told, in seconds: no clock is read.
 pub record State : Type 0 where
   pub name : List ℕ
   pub log_bytes : ℕ
@@ -81,6 +87,7 @@ pub record State : Type 0 where
   pub standing : Standing
   pub end : ℕ
   pub open_record : Option Record
+  pub moment : ℕ
 
 -- the n-th timestamp of a boot
 abbrev pub timestamp_of : ℕ → ℕ → ℕ
@@ -93,12 +100,13 @@ count p (x ∷ xs) = (if p x then 1 else 0) + count p xs
 
 -- Branches
 
-abbrev pub unmarked : Work
-unmarked = record { mark = None }
+-- the work of a branch that begins at this moment with this time limit
+abbrev pub new_work : ℕ → ℕ → Work
+new_work start limit = record { mark = None; start = start; limit = limit }
 
 -- a branch that begins
-abbrev pub new_branch : ℕ → Triple → Branch
-new_branch timestamp xid = record { timestamp = timestamp; operations = []; phase = Working xid unmarked }
+abbrev pub new_branch : ℕ → Triple → Work → Branch
+new_branch timestamp xid work = record { timestamp = timestamp; operations = []; phase = Working xid work }
 
 -- the XID that a branch is known under, from its start until it is gone
 abbrev pub name_of : Phase → Option Triple
@@ -229,10 +237,18 @@ own_branch s n = option_and_then (branch_with s.branches) (active_of s.associati
 
 -- a session that connects
 abbrev pub new_session : ℕ → Session
-new_session n = record { number = n; opened = false; scan = None }
+new_session n = record { number = n; opened = false; scan = None; limit = 0 }
 
 abbrev pub session_of : List Session → ℕ → Option Session
 session_of sessions n = find (λ s. s.number == n) sessions
+
+-- the time limit of the branches that the session begins
+abbrev pub limit_by : Option Session → ℕ
+limit_by (Some x) = x.limit
+limit_by None = 0
+
+abbrev pub limit_of : State → ℕ → ℕ
+limit_of s n = limit_by (session_of s.sessions n)
 
 -- the least number from n on, within so many, that is not connected
 abbrev pub free_from : List Session → ℕ → ℕ → ℕ

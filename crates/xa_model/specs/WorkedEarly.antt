@@ -1,4 +1,4 @@
--- Worked rows: what each of the fifteen calls is refused before its row.
+-- Worked rows: what each of the seventeen calls is refused before its row.
 use Rattle.std.specs.Prelude.{ℕ, false, ℤ, List, [], ◌∷◌, ◌++◌, map}
 use Rattle.xa_codes.specs.declared.codes.TheConstants.{XAER_ASYNC, XAER_PROTO, XAER_INVAL, XAER_NOTA, XAER_RMFAIL}
 use Rattle.xa_codes.specs.declared.direction.Direction.TheVariants as direction
@@ -6,15 +6,15 @@ use Rattle.xa_codes.specs.declared.flags.TheConstants.{TMNOFLAGS, TMASYNC, TMMUL
 use Rattle.xa_frame.specs.declared.request.Request.{Request}
 use Rattle.xa_frame.specs.declared.request.Request.TheVariants.{Open, Close, Start, End, Prepare, Commit, Rollback}
 use Rattle.xa_frame.specs.declared.request.Request.TheVariants.{Forget, Recover, Get, Put, Delete, Decide, Doom}
-use Rattle.xa_frame.specs.declared.request.Request.TheVariants.{Restart}
+use Rattle.xa_frame.specs.declared.request.Request.TheVariants.{Restart, Timeout, Tick}
 use Rattle.xa_model.specs.State.{Down}
 use Rattle.xa_model.specs.Answer.{plain}
 use Rattle.xa_model.specs.History.{Entry}
 use Rattle.xa_model.specs.Worked.{xarm, byte, done, number}
 use Rattle.xa_model.specs.WorkedScripts.{Replied, new_manager, xid_a, connects, asks_by, opens, closes, session}
-use Rattle.xa_model.specs.WorkedScripts.{restarts}
+use Rattle.xa_model.specs.WorkedScripts.{restarts, ticks}
 
--- the calls that need an opened session: of branches, of recovery, and of keys
+-- the calls that need an opened session: of branches, of recovery, of keys, and of time limits
 abbrev pub of_opened : List Request
 of_opened =
     Start TMNOFLAGS xid_a
@@ -27,6 +27,7 @@ of_opened =
     ∷ Get (byte 0x6b)
     ∷ Put (byte 0x6b) (byte 0x76)
     ∷ Delete (byte 0x6b)
+    ∷ Timeout 10
     ∷ []
 
 abbrev pub of_operator : List Request
@@ -53,10 +54,10 @@ all_refused code requests = map (λ (request : Request). asks_by 1 request (plai
 abbrev pub NotConnected : Type 0
 NotConnected =
     Replied new_manager
-    (all_refused XAER_PROTO (Open TMNOFLAGS xarm ∷ Close TMNOFLAGS ∷ Restart ∷ of_opened)
+    (all_refused XAER_PROTO (Open TMNOFLAGS xarm ∷ Close TMNOFLAGS ∷ Restart ∷ Tick 10 ∷ of_opened)
     ++ all_refused XAER_PROTO of_operator)
 
--- of one that isn't opened the operator's calls are served, and Open, Close and Restart
+-- of one that isn't opened the operator's calls are served, and Open, Close, Restart and Tick
 abbrev pub NotOpened : Type 0
 NotOpened =
     Replied new_manager (
@@ -64,6 +65,7 @@ NotOpened =
     ∷ all_refused XAER_PROTO of_opened
     ++ all_refused XAER_NOTA of_operator
     ++ closes 1 done
+    ∷ ticks 1 10 (number 0)
     ∷ opens 1 done
     ∷ restarts 1 false done
     ∷ [])
@@ -76,7 +78,7 @@ IsDown =
     ++ all_refused XAER_PROTO (Open TMNOFLAGS xarm ∷ Close TMNOFLAGS ∷ Restart ∷ [])
     ++ session 1
     ++ all_refused XAER_RMFAIL of_opened
-    ++ all_refused XAER_RMFAIL of_operator
+    ++ all_refused XAER_RMFAIL (Tick 10 ∷ of_operator)
     ++ closes 1 done
     ∷ restarts 1 false done
     ∷ [])

@@ -6,7 +6,8 @@ use Rattle.xa_codes.specs.declared.detail.Detail.TheVariants as detail
 use Rattle.xa_xid.specs.Triple.{Triple}
 use Rattle.xa_frame.specs.declared.reply.Reply.{Reply}
 use Rattle.xa_frame.specs.declared.request.Request.TheVariants.{Put, Delete}
-use Rattle.xa_model.specs.State.{State, Session, Branch, Association, Operation, Wrote, Loose, new_branch, new_session}
+use Rattle.xa_model.specs.State.{State, Session, Branch, Association, Operation, Wrote, Loose}
+use Rattle.xa_model.specs.State.{new_work, new_branch, new_session}
 use Rattle.xa_model.specs.Associations.{as_opened}
 use Rattle.xa_model.specs.Answer.{plain, detailed}
 use Rattle.xa_model.specs.Worked.{byte, done, number}
@@ -37,7 +38,7 @@ formatted k = record { format = pos k; gtrid = byte 0x67; bqual = [] }
 
 -- n branches, which no session works for
 abbrev pub branches_to : ℕ → List Branch
-branches_to n = map (λ k. new_branch (4294967296 + (n - k)) (formatted k)) (range_with_len 0 n)
+branches_to n = map (λ k. new_branch (4294967296 + (n - k)) (formatted k) (new_work 0 0)) (range_with_len 0 n)
 
 -- 4,096 XIDs are known at most, those that the operator completed among them; a branch that is committed makes room
 abbrev pub ManyBranches : Type 0
@@ -76,7 +77,7 @@ ManyTimestamps =
 
 -- the one branch 1:aa:, which has done this
 abbrev pub having : List Operation → List Branch
-having operations = record (new_branch 4294967297 xid_a) { operations = operations } ∷ []
+having operations = record (new_branch 4294967297 xid_a (new_work 0 0)) { operations = operations } ∷ []
 
 abbrev pub loose : Association
 loose = record { xid = xid_a; holder = Loose }

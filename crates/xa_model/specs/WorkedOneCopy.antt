@@ -4,7 +4,8 @@ use Rattle.xa_frame.specs.declared.body.Body.TheVariants as body
 use Rattle.xa_frame.specs.declared.request.Request.TheVariants.{Get}
 use Rattle.xa_model.specs.declared.event.Event.TheVariants.{Call}
 use Rattle.xa_model.specs.declared.outcome.Outcome.TheVariants.{Quiet}
-use Rattle.xa_model.specs.State.{State, Branch, Operation, Got, Wrote, Committed, Active, Read, new_branch, new_session}
+use Rattle.xa_model.specs.State.{State, Branch, Operation, Got, Wrote, Committed, Active, Read}
+use Rattle.xa_model.specs.State.{new_work, new_branch, new_session}
 use Rattle.xa_model.specs.Associations.{as_opened}
 use Rattle.xa_model.specs.Answer.{carrying}
 use Rattle.xa_model.specs.Turn.{Asked}
@@ -54,7 +55,9 @@ abbrev at_work : List Operation → List Read → State
 at_work operations reads = record new_manager {
   sessions = as_opened (new_session 1) ∷ [];
   associations = record { xid = xid_a; holder = Active 1 } ∷ [];
-  branches = record (new_branch 2 xid_a) { operations = operations } ∷ branch_at 1 (Wrote key written ∷ []) ∷ [];
+  branches =
+      record (new_branch 2 xid_a (new_work 0 0)) { operations = operations }
+      ∷ branch_at 1 (Wrote key written ∷ []) ∷ [];
   reads = reads;
 }
 

@@ -9,7 +9,7 @@ use Rattle.xa_frame.specs.declared.reply.Reply.{Reply}
 use Rattle.xa_frame.specs.declared.request.Request.{Request}
 use Rattle.xa_frame.specs.declared.request.Request.TheVariants.{Open, Close, Start, End, Prepare, Commit, Rollback}
 use Rattle.xa_frame.specs.declared.request.Request.TheVariants.{Forget, Recover, Get, Put, Delete, Decide, Doom}
-use Rattle.xa_frame.specs.declared.request.Request.TheVariants.{Restart}
+use Rattle.xa_frame.specs.declared.request.Request.TheVariants.{Restart, Timeout, Tick}
 use Rattle.xa_model.specs.declared.event.Event.{Event}
 use Rattle.xa_model.specs.declared.event.Event.TheVariants.{Connect, Hangup, Call}
 use Rattle.xa_model.specs.declared.outcome.Outcome.{Outcome}
@@ -144,6 +144,13 @@ recovers n flags count reply = asks_by n (Recover flags count) reply
 -- the record whose fate was unknown is there, or isn't, and the new boot is logged
 abbrev pub restarts : ℕ → Bool → Reply → Entry
 restarts n survived reply = with_outcome (Reread survived (Some Kept)) (asks_by n Restart reply)
+
+-- the time limit of the branches that the session begins from now on, and the moment that it tells
+abbrev pub limits : ℕ → ℕ → Reply → Entry
+limits n seconds reply = asks_by n (Timeout seconds) reply
+
+abbrev pub ticks : ℕ → ℕ → Reply → Entry
+ticks n moment reply = asks_by n (Tick moment) reply
 
 -- What session n asks of the one key that the rows are about, 6b
 

@@ -15,7 +15,7 @@ use Rattle.xa_model.specs.declared.event.Event.TheVariants.{Call}
 use Rattle.xa_model.specs.declared.outcome.Appending.TheVariants.{Kept, Refused, Lost}
 use Rattle.xa_model.specs.declared.outcome.Outcome.{Outcome}
 use Rattle.xa_model.specs.declared.outcome.Outcome.TheVariants.{Quiet, Appended, Failed, Reread}
-use Rattle.xa_model.specs.State.{State, Wrote, Working, Prepared, Committed, Phase, Down, Ended, unmarked, new_branch}
+use Rattle.xa_model.specs.State.{State, Wrote, Working, Prepared, Committed, Phase, Down, Ended, new_work, new_branch}
 use Rattle.xa_model.specs.State.{new_session}
 use Rattle.xa_model.specs.Associations.{as_opened}
 use Rattle.xa_model.specs.Answer.{plain, detailed, answer}
@@ -51,11 +51,11 @@ with_branch phase end = record new_manager {
 }
 
 abbrev pub idle : State
-idle = with_branch (Working xid_1 unmarked) 49
+idle = with_branch (Working xid_1 (new_work 0 0)) 49
 
 -- the operator has marked it
 abbrev pub marked_idle : State
-marked_idle = with_branch (Working xid_1 (record unmarked { mark = Some XA_RBOTHER })) 49
+marked_idle = with_branch (Working xid_1 (record (new_work 0 0) { mark = Some XA_RBOTHER })) 49
 
 abbrev pub in_doubt : State
 in_doubt = with_branch (Prepared xid_1) 110
@@ -66,7 +66,7 @@ without_branch = record idle { branches = [] }
 
 -- a branch that wrote nothing
 abbrev pub read_only : State
-read_only = record idle { branches = new_branch 4294967297 xid_1 ∷ [] }
+read_only = record idle { branches = new_branch 4294967297 xid_1 (new_work 0 0) ∷ [] }
 
 abbrev pub prepared_1 : Record
 prepared_1 = logged.Prepared xid_1 4294967297 put_1

@@ -19,6 +19,7 @@ ghost use Rattle.xa_model.specs.CrashLaws.{BootLists};
 ghost use Rattle.xa_model.specs.ScanLaw.{ListedAscends, ScanListsFirst, ScanListsAll, ScanIsAnswered};
 ghost use Rattle.xa_model.specs.RestartLaw.{RestartLeads, RestartHappens};
 ghost use Rattle.xa_model.specs.LowWaterLaws.{BelowKnown, IsReached, BelowNext, NeverFalls};
+ghost use Rattle.xa_model.specs.TimeLaws.{MomentsRise, OpensAtZero};
 ghost use Rattle.xa_model.specs.WorkedLowWater.{WaterRises};
 ghost use Rattle.xa_model.specs.WorkedLog.{HeldAndCommitted, DecidedAndForgotten, RolledBack, LastWrites, InOrder};
 ghost use Rattle.xa_model.specs.WorkedLog.{BootsInOrder, TimestampsInOrder, NamesInOrder, SnapshotsInOrder};
@@ -39,6 +40,8 @@ ghost use Rattle.xa_model.specs.WorkedRefusals.{SuspendRefused, EndRefused};
 ghost use Rattle.xa_model.specs.WorkedEarly.{NotConnected, NotOpened, IsDown, FlagsOfEach};
 ghost use Rattle.xa_model.specs.WorkedBranches.{OnePhaseRefused, TwoPhaseRefused, RollbackRefused, PrepareRefused};
 ghost use Rattle.xa_model.specs.WorkedBranches.{DoomRefused, RecordsRefused};
+ghost use Rattle.xa_model.specs.WorkedTimeLimits.{TimedOut, AgeFromStart, MarkedByTime, LimitNeedsOpen, NoTimeDown};
+ghost use Rattle.xa_model.specs.WorkedTimeLimits.{LimitLasts, MarkedAtMoment, NeverMarked, LimitOfSession, MomentLasts};
 ghost use Rattle.xa_model.specs.WorkedLimits.{ManySessions, ManyBranches, MoreBranches, ManyTimestamps, ManyLoose, ManyKeys};
 
 /// From a given start, given events and outcomes have at most one legal history.
@@ -141,6 +144,20 @@ pub fn worked_limits()
     ensures timestamps { ManyTimestamps }
     ensures loose { ManyLoose }
     ensures keys { ManyKeys }
+{}
+
+/// Worked rows of time limits: which branches a moment marks, when it is refused, and how long limits and moments last.
+pub fn worked_time_limits()
+    ensures timed_out { TimedOut }
+    ensures age { AgeFromStart }
+    ensures marked { MarkedByTime }
+    ensures refused { LimitNeedsOpen }
+    ensures down { NoTimeDown }
+    ensures limit_lasts { LimitLasts }
+    ensures at_moment { MarkedAtMoment }
+    ensures never { NeverMarked }
+    ensures limit { LimitOfSession }
+    ensures moment_lasts { MomentLasts }
 {}
 
 /// What the log's records come to, and the snapshot that a new file begins with: one record more, the first that is out
@@ -365,6 +382,13 @@ pub fn low_water()
     ensures reached { IsReached }
     ensures next { BelowNext }
     ensures never_falls { NeverFalls }
+{}
+
+/// Moments don't go back, whatever is asked, and whatever the device did: a restart keeps the last one. Only a manager
+/// that is opened again begins at moment 0.
+pub fn moments()
+    ensures rise { MomentsRise }
+    ensures opening { OpensAtZero }
 {}
 
 /// Worked rows of the low water: a branch that is prepared holds it, and one that is completed doesn't.

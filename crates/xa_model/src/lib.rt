@@ -6,7 +6,8 @@
 //! The definitions, in an order to read; docs/MODEL.md retells them:
 //!
 //! - `State`, the state; `Source`, which version of a key a timestamp reads
-//! - `Early`, the refusals before a call's row. The rows: `Associations`, `Branches`, `Records`, `Recovering`
+//! - `Early`, the refusals before a call's row. The rows: `Associations`, `TimeLimits`, `Branches`, `Records`,
+//!   `Recovering`
 //! - `Turn`, what is asked of the device, and what comes of its answers; `Completions` and `Logging`, of the calls that
 //!   log
 //! - `Fold` and `Durable`, what lasts; `Restarting`, restarts and openings; `Room`, the room that the log keeps
@@ -20,10 +21,10 @@
 //!
 //! - `event`: `Event`, what is asked; `outcome`: `Outcome` and `Appending`, what the device did
 //! - `laws`: functions that do nothing, and whose contracts are theorems on the definitions. Of histories
-//!   `one_history`, `total`, `restart_leads`, `sound`, `recoverable`, `low_water`, `one_copy`, `listed_until_asked`,
-//!   `unlisted_until_prepared` and `scan_lists_all`; of crashes `crash_at_any_moment`, `crash_in_history` and
-//!   `crash_keeps_promises`; of what lasts `lasting`, `sound_lasting`, `logged_lasts`, `backed`, `restored` and
-//!   `roomy`. Those that begin with `worked_` are worked rows: replies that the definitions compute
+//!   `one_history`, `total`, `restart_leads`, `sound`, `recoverable`, `low_water`, `moments`, `one_copy`,
+//!   `listed_until_asked`, `unlisted_until_prepared` and `scan_lists_all`; of crashes `crash_at_any_moment`,
+//!   `crash_in_history` and `crash_keeps_promises`; of what lasts `lasting`, `sound_lasting`, `logged_lasts`, `backed`,
+//!   `restored` and `roomy`. Those that begin with `worked_` are worked rows: replies that the definitions compute
 #![tactic(auto)]
 
 mod event;
@@ -33,9 +34,10 @@ mod outcome;
 pub use event::Event;
 pub use laws::{
     backed, crash_at_any_moment, crash_in_history, crash_keeps_promises, lasting,
-    listed_until_asked, logged_lasts, low_water, one_copy, one_history, recoverable, restart_leads,
-    restored, roomy, scan_lists_all, sound, sound_lasting, total, unlisted_until_prepared,
-    worked_associations, worked_copies, worked_limits, worked_logs, worked_low_water, worked_marks,
-    worked_recovery, worked_refusals, worked_rows, worked_turns, worked_versions,
+    listed_until_asked, logged_lasts, low_water, moments, one_copy, one_history, recoverable,
+    restart_leads, restored, roomy, scan_lists_all, sound, sound_lasting, total,
+    unlisted_until_prepared, worked_associations, worked_copies, worked_limits, worked_logs,
+    worked_low_water, worked_marks, worked_recovery, worked_refusals, worked_rows,
+    worked_time_limits, worked_turns, worked_versions,
 };
 pub use outcome::{Appending, Outcome};

@@ -1,0 +1,286 @@
+-- The moment: nothing that is asked puts it back, and an opening that succeeds begins at 0.
+use Rattle.std.proofs.Common.{◌≡◌, ℕ, ℤ, ◌+◌, ◌≤◌, Bool, true, false, not, ◌&&◌, cond, List, Option, Some, None, refl, arith, nat_lt}
+use Rattle.std.specs.Prelude.{IfSome, is_none, is_some, option_map}
+use Rattle.std.specs.List.{list_any}
+use Rattle.std.proofs.lemmas.Bool.Decides.{nat_tests}
+use Rattle.xa_codes.specs.Flags.{has}
+use Rattle.xa_codes.specs.declared.call.Call.TheVariants as call
+use Rattle.xa_codes.specs.declared.codes.TheConstants.{XAER_RMERR, XAER_RMFAIL, XAER_PROTO, XAER_ASYNC, XAER_INVAL, XA_RETRY, XA_RDONLY}
+use Rattle.xa_codes.specs.declared.detail.Detail.TheVariants as detail
+use Rattle.xa_codes.specs.declared.direction.Direction.TheVariants as direction
+use Rattle.xa_codes.specs.declared.flags.TheConstants.{TMONEPHASE, TMJOIN, TMRESUME, TMSUSPEND, TMMIGRATE, TMFAIL}
+use Rattle.xa_frame.specs.declared.reply.Reply.{Reply}
+use Rattle.xa_frame.specs.declared.request.Request.{Request}
+use Rattle.xa_frame.specs.declared.request.Request.TheVariants.{Open, Close, Start, End, Prepare, Commit, Rollback, Forget, Recover, Get, Put, Delete, Decide, Doom, Restart, Timeout, Tick}
+use Rattle.xa_limits.specs.declared.TheConstants.{MOST_BOOTS}
+use Rattle.xa_record.specs.declared.record.Record.{Record}
+use Rattle.xa_record.specs.declared.record.Record.TheVariants as logged
+use Rattle.xa_xid.specs.Triple.{Triple}
+use Rattle.xa_model.specs.declared.event.Event.{Event}
+use Rattle.xa_model.specs.declared.event.Event.TheVariants as event
+use Rattle.xa_model.specs.declared.outcome.Appending.{Appending}
+use Rattle.xa_model.specs.declared.outcome.Appending.TheVariants.{Kept, Refused, Lost}
+use Rattle.xa_model.specs.State.{State, Branch, Known, Unknown, AtWork, InDoubt, Completed, Up, known_as, known_in, active_of, own_branch, mark_of, suspends, is_loose_with, loose_of, is_with}
+use Rattle.xa_model.specs.Source.{source, is_late}
+use Rattle.xa_model.specs.Answer.{Answer, plain, detailed, answer, ok, unless, marked}
+use Rattle.xa_model.specs.Early.{Context, early_refusal, passes_down, needs_open, is_opened, is_async, is_invalid}
+use Rattle.xa_model.specs.Associations.{connect_refusal, connected, close_refusal, is_anyones, start_refusal, begun, begin_by, is_taken, join_refusal, joined, join_by, resume_refusal, resumed, not_resumed, resume_by, start_by, end_refusal, loose_refusal, suspended, not_suspended, suspend_by, can_end, ended, failed, leave_by, end_by, mark_in, timestamp_in}
+use Rattle.xa_model.specs.Branches.{rolled_back, committed, one_phase_refusal, two_phase_refusal, rollback_refusal, heuristic_refusal, doom_refusal, doomed, is_associated}
+use Rattle.xa_model.specs.Records.{got, get_from, get_by, busy_refusal, is_full, limit_refusal, came_late, written, in_time, put_from, put_by}
+use Rattle.xa_model.specs.Recovering.{recovered_from, scan_from, scan_of}
+use Rattle.xa_model.specs.Step.{row, respond, turn, context_of}
+use Rattle.xa_model.specs.Turn.{Asked, Reopened, Turn, Now, Stops, Opens, unless_now}
+use Rattle.xa_model.specs.Logging.{logs, has_room, log_full, writes_in, applied, append_became, down}
+use Rattle.xa_model.specs.Completions.{prepare_turn, prepare_written, commit_one_phase_turn, commit_two_phase_turn, commit_written, rollback_turn, roll_back_turn, decide_refusal, forget_refusal}
+use Rattle.xa_model.specs.Restarting.{missed, survived, boot_became, restarting, restart_turn, refused_opening, reopen_became, reopening, can_open}
+use Rattle.xa_model.specs.Fold.{is_empty}
+use Rattle.xa_model.specs.TimeLaws.{MomentsRise, OpensAtZero}
+use Rattle.xa_model.proofs.Rows.{passed}
+use Rattle.xa_model.proofs.Replies.{AllOf, AllOfReading, taken_all, asked_all, marked_all, cond_all}
+
+abbrev Rises : State → Answer → Type 0
+Rises s a = s.moment ≤ a.after.moment
+
+itself : (s : State) → s.moment ≤ s.moment
+itself s = omega arith
+
+-- answers
+
+unless_rises : (o : Option Reply) (s : State) (a : Answer) → Rises s a → Rises s (unless o s a)
+unless_rises None s a h = h
+unless_rises (Some reply) s a h = itself s
+
+marked_rises : (o : Option ℤ) (s left : State) (a : Answer) → s.moment ≤ left.moment → Rises s a → Rises s (marked o left a)
+marked_rises None s left a h k = k
+marked_rises (Some code) s left a h k = h
+
+cond_rises : (c : Bool) (s : State) (a b : Answer) → Rises s a → Rises s b → Rises s (cond c a b)
+cond_rises true s a b h k = h
+cond_rises false s a b h k = k
+
+in_time_rises : (late : Bool) (s : State) (a b : Answer) → Rises s a → Rises s b → Rises s (in_time late a b)
+in_time_rises true s a b h k = h
+in_time_rises false s a b h k = k
+
+-- turns
+
+unless_turns : (o : Option Reply) (s : State) (t : Turn) → (o ≡ None → AllOf (Rises s) t) → AllOf (Rises s) (unless_now o s t)
+unless_turns None s t h = h refl
+unless_turns (Some reply) s t h = itself s
+
+applied_moment : (s : State) (r : Record) → (applied r s).moment ≡ s.moment
+applied_moment s (logged.Opened boot) = refl
+applied_moment s (logged.Prepared xid t ws) = refl
+applied_moment s (logged.Committed xid t ws) = refl
+applied_moment s (logged.Completed xid direction.Commit) = refl
+applied_moment s (logged.Completed xid direction.Rollback) = refl
+applied_moment s (logged.Decided xid direction.Commit) = refl
+applied_moment s (logged.Decided xid direction.Rollback) = refl
+applied_moment s (logged.Forgotten xid) = refl
+applied_moment s (logged.Base t ws) = refl
+applied_moment s (logged.Held xid t ws) = refl
+applied_moment s (logged.Known xid direction) = refl
+
+applied_rises : (s : State) (r : Record) → s.moment ≤ (applied r s).moment
+applied_rises s r = let same = applied_moment s r in omega (arith, same)
+
+logs_rises : (s : State) (r : Record) (code : ℤ) (left : State) → s.moment ≤ left.moment → AllOf (Rises s) (logs s r code left)
+logs_rises s r code left h = by_fate
+  where
+    by_fate : (x : Appending) → Rises s (append_became s r code left x)
+    by_fate Kept = applied_rises s r
+    by_fate Refused = h
+    by_fate Lost = itself s
+
+-- the association table
+
+start_rises : (s : State) (n flags : ℕ) (xid : Triple) → Rises s (start_by s n flags xid)
+start_rises s n flags xid =
+    cond_rises (has flags TMJOIN) s (join_by s n xid) (cond (has flags TMRESUME) (resume_by s n xid) (begin_by s n xid))
+    (unless_rises (join_refusal (is_some (active_of s.associations n)) (list_any (suspends n xid) s.associations) (known_as s xid)) s _
+    (marked_rises (mark_in (known_as s xid)) s s (joined s n xid) (itself s) (itself s)))
+    (cond_rises (has flags TMRESUME) s (resume_by s n xid) (begin_by s n xid)
+    (unless_rises (resume_refusal (is_some (active_of s.associations n)) (known_as s xid) (list_any (suspends n xid) s.associations)
+    (list_any (is_loose_with xid) s.associations)) s _
+    (marked_rises (mark_in (known_as s xid)) s (not_resumed s n xid) (resumed s n xid) (itself s) (itself s)))
+    (unless_rises (start_refusal (is_some (active_of s.associations n)) (is_taken (known_as s xid)) (known_in s) s.given) s (begun s n xid)
+    (itself s)))
+
+suspend_rises : (s : State) (n : ℕ) (migrates : Bool) (xid : Triple) → Rises s (suspend_by s n migrates xid)
+suspend_rises s n migrates xid =
+    unless_rises (end_refusal (known_as s xid) (is_with xid (active_of s.associations n))) s _
+    (marked_rises (mark_in (known_as s xid)) s (not_suspended s n xid) _ (itself s)
+    (unless_rises (loose_refusal migrates (loose_of s.associations xid)) s (ok (suspended s n migrates xid)) (itself s)))
+
+leave_rises : (s : State) (n : ℕ) (fails : Bool) (xid : Triple) → Rises s (leave_by s n fails xid)
+leave_rises s n fails xid =
+    unless_rises (end_refusal (known_as s xid) (can_end s.associations n xid)) s _
+    (marked_rises (mark_in (known_as s xid)) s (ended s n xid) (cond fails (failed s n xid) (ok (ended s n xid))) (itself s)
+    (cond_rises fails s (failed s n xid) (ok (ended s n xid)) (itself s) (itself s)))
+
+end_rises : (s : State) (n flags : ℕ) (xid : Triple) → Rises s (end_by s n flags xid)
+end_rises s n flags xid =
+    cond_rises (has flags TMSUSPEND) s (suspend_by s n (has flags TMMIGRATE) xid) (leave_by s n (has flags TMFAIL) xid)
+    (suspend_rises s n (has flags TMMIGRATE) xid) (leave_rises s n (has flags TMFAIL) xid)
+
+-- recoveries, gets and puts
+
+recovered_rises : (s : State) (n flags count : ℕ) (scan : Option (Option Triple)) → Rises s (recovered_from s n flags count scan)
+recovered_rises s n flags count None = itself s
+recovered_rises s n flags count (Some cursor) = itself s
+
+get_rises : (s : State) (key : List ℕ) (o : Option (Triple × Branch)) → Rises s (get_by s key o)
+get_rises s key None = itself s
+get_rises s key (Some (xid, b)) =
+    let v = source key b.timestamp s.branches in
+    marked_rises (mark_of b.phase) s s (get_from s key xid b v) (itself s)
+    (unless_rises (busy_refusal b.timestamp v) s (got s key xid b v) (itself s))
+
+put_rises : (s : State) (key : List ℕ) (value : Option (List ℕ)) (o : Option (Triple × Branch)) → Rises s (put_by s key value o)
+put_rises s key value None = itself s
+put_rises s key value (Some (xid, b)) =
+    marked_rises (mark_of b.phase) s s (put_from s key value xid b) (itself s)
+    (unless_rises (limit_refusal (is_full key b.operations)) s (in_time (is_late key b.timestamp s.reads) (came_late s xid) (written s key value xid))
+    (in_time_rises (is_late key b.timestamp s.reads) s (came_late s xid) (written s key value xid) (itself s) (itself s)))
+
+-- the calls that log
+
+prepare_rises : (s : State) (xid : Triple) → AllOf (Rises s) (prepare_turn s xid)
+prepare_rises s xid =
+    let r = logged.Prepared xid (timestamp_in s xid) (writes_in s xid) in
+    unless_turns (one_phase_refusal (known_as s xid) (is_associated s xid)) s _
+    (λ none. marked_all (Rises s) (mark_in (known_as s xid)) (rolled_back s xid) _ (λ code e. itself s)
+    (cond_all (Rises s) (is_empty (writes_in s xid)) (Now (answer (plain XA_RDONLY) (committed s xid))) (prepare_written s xid) (itself s)
+    (cond_all (Rises s) (has_room s r 1) (logs s r XAER_RMERR s) (Now (log_full s xid)) (logs_rises s r XAER_RMERR s (itself s)) (itself s))))
+
+one_phase_rises : (s : State) (xid : Triple) → AllOf (Rises s) (commit_one_phase_turn s xid)
+one_phase_rises s xid =
+    let r = logged.Committed xid (timestamp_in s xid) (writes_in s xid) in
+    unless_turns (one_phase_refusal (known_as s xid) (is_associated s xid)) s _
+    (λ none. marked_all (Rises s) (mark_in (known_as s xid)) (rolled_back s xid) _ (λ code e. itself s)
+    (cond_all (Rises s) (is_empty (writes_in s xid)) (Now (ok (committed s xid))) (commit_written s xid) (itself s)
+    (cond_all (Rises s) (has_room s r 0) (logs s r XAER_RMERR (rolled_back s xid)) (Now (log_full s xid))
+    (logs_rises s r XAER_RMERR (rolled_back s xid) (itself s)) (itself s))))
+
+two_phase_rises : (s : State) (xid : Triple) → AllOf (Rises s) (commit_two_phase_turn s xid)
+two_phase_rises s xid =
+    unless_turns (two_phase_refusal (known_as s xid)) s _
+    (λ none. unless_turns (heuristic_refusal (known_as s xid)) s (logs s (logged.Completed xid direction.Commit) XA_RETRY s)
+    (λ other. logs_rises s (logged.Completed xid direction.Commit) XA_RETRY s (itself s)))
+
+roll_back_rises : (s : State) (xid : Triple) (k : Known) → AllOf (Rises s) (roll_back_turn s xid k)
+roll_back_rises s xid InDoubt = logs_rises s (logged.Completed xid direction.Rollback) XAER_RMERR s (itself s)
+roll_back_rises s xid Unknown = itself s
+roll_back_rises s xid (AtWork mark) =
+    marked_all (Rises s) mark (rolled_back s xid) (Now (ok (rolled_back s xid))) (λ code e. itself s) (itself s)
+roll_back_rises s xid (Completed way) = itself s
+
+rollback_rises : (s : State) (xid : Triple) → AllOf (Rises s) (rollback_turn s xid)
+rollback_rises s xid =
+    unless_turns (rollback_refusal (known_as s xid) (is_associated s xid)) s _
+    (λ none. unless_turns (heuristic_refusal (known_as s xid)) s (roll_back_turn s xid (known_as s xid))
+    (λ other. roll_back_rises s xid (known_as s xid)))
+
+-- restarts
+
+boots : (s x : State) (c : Bool) → x.moment ≡ s.moment
+    → AllOfReading (Rises s)
+    (cond c (Opens (logged.Opened (x.logged_boot + 1)) (boot_became x (x.logged_boot + 1)))
+    (Stops (answer (detailed XAER_RMFAIL detail.Limit) (down x))))
+boots s x true same = by_fate
+  where
+    by_fate : (a : Appending) → Rises s (boot_became x (x.logged_boot + 1) a)
+    by_fate Kept = omega (arith, same)
+    by_fate Refused = omega (arith, same)
+    by_fate Lost = omega (arith, same)
+boots s x false same = omega (arith, same)
+
+survivor_boots : (s : State) (o : Option Record) → IfSome (option_map (λ r. restarting (survived s r)) o) (AllOfReading (Rises s))
+survivor_boots s None = tt
+survivor_boots s (Some r) =
+    boots s (survived s r) (nat_lt (survived s r).logged_boot MOST_BOOTS) (applied_moment s r)
+
+restart_rises : (s : State) → AllOf (Rises s) (restart_turn s)
+restart_rises s = (itself s, survivor_boots s s.open_record, boots s (missed s) (nat_lt s.logged_boot MOST_BOOTS) refl)
+
+-- a moment below the last one is refused
+
+last_passed : (a b c d f : Bool) (p q r s t : Reply)
+    → cond a (Some p) (cond b (Some q) (cond c (Some r) (cond d (Some s) (cond f (Some t) None)))) ≡ None → f ≡ false
+last_passed a b c d f p q r s t e =
+    (passed f t None (passed d s _ (passed c r _ (passed b q _ (passed a p _ e).1).1).1).1).0
+
+not_before : (c : Context) (moment : ℕ) → early_refusal c (Tick moment) ≡ None → c.moment ≤ moment
+not_before c moment e =
+    let in_time : nat_lt moment c.moment ≡ false
+    = last_passed (not c.up && not (passes_down call.Tick)) (is_none c.session) (needs_open call.Tick && not (is_opened c.session))
+    (is_async call.Tick 0) (is_invalid c.name c.moment (Tick moment))
+    (plain XAER_RMFAIL) (plain XAER_PROTO) (plain XAER_PROTO) (plain XAER_ASYNC) (plain XAER_INVAL) e in
+    grind (arith, nat_tests, in_time)
+
+-- all rows
+
+row_rises : (s : State) (n : ℕ) (request : Request) → early_refusal (context_of s n) request ≡ None → AllOf (Rises s) (row s n request)
+row_rises s n (Open flags info) e = itself s
+row_rises s n (Close flags) e = unless_rises (close_refusal (list_any (is_anyones n) s.associations)) s _ (itself s)
+row_rises s n (Start flags xid) e = start_rises s n flags xid
+row_rises s n (End flags xid) e = end_rises s n flags xid
+row_rises s n (Prepare flags xid) e = prepare_rises s xid
+row_rises s n (Commit flags xid) e =
+    cond_all (Rises s) (has flags TMONEPHASE) (commit_one_phase_turn s xid) (commit_two_phase_turn s xid) (one_phase_rises s xid)
+    (two_phase_rises s xid)
+row_rises s n (Rollback flags xid) e = rollback_rises s xid
+row_rises s n (Forget flags xid) e =
+    unless_turns (forget_refusal (known_as s xid)) s (logs s (logged.Forgotten xid) XAER_RMERR s)
+    (λ none. logs_rises s (logged.Forgotten xid) XAER_RMERR s (itself s))
+row_rises s n (Recover flags count) e = recovered_rises s n flags count (scan_from flags (scan_of s.sessions n))
+row_rises s n (Get key) e = get_rises s key (own_branch s n)
+row_rises s n (Put key value) e = put_rises s key (Some value) (own_branch s n)
+row_rises s n (Delete key) e = put_rises s key None (own_branch s n)
+row_rises s n (Decide way xid) e =
+    unless_turns (decide_refusal (known_as s xid)) s (logs s (logged.Decided xid way) XAER_RMERR s)
+    (λ none. logs_rises s (logged.Decided xid way) XAER_RMERR s (itself s))
+row_rises s n (Doom xid) e = unless_rises (doom_refusal (known_as s xid)) s (ok (doomed s xid)) (itself s)
+row_rises s n Restart e = restart_rises s
+row_rises s n (Timeout seconds) e = itself s
+row_rises s n (Tick moment) e = not_before (context_of s n) moment e
+
+respond_rises : (s : State) (e : Event) → AllOf (Rises s) (respond s e)
+respond_rises s event.Connect = unless_rises (connect_refusal _) s (connected s) (itself s)
+respond_rises s (event.Hangup n) = itself s
+respond_rises s (event.Call n request) =
+    unless_turns (early_refusal (context_of s n) request) s (row s n request) (row_rises s n request)
+
+pub moments_rise : MomentsRise
+moments_rise s e outcome a steps =
+    taken_all (Rises s) (turn s (Asked e)) outcome a (asked_all (Rises s) s.standing (respond s e) (respond_rises s e)) steps
+
+-- openings
+
+abbrev BeginsAtZero : Answer → Type 0
+BeginsAtZero a = a.after.standing ≡ Up → a.after.moment ≡ 0
+
+opens_by : (x : State) (name : List ℕ) (log_bytes : ℕ) (c : Bool)
+    → AllOfReading BeginsAtZero
+    (cond c (Opens (logged.Opened (x.logged_boot + 1)) (reopen_became x name log_bytes (x.logged_boot + 1)))
+    (Stops (ok (refused_opening x name log_bytes))))
+opens_by x name log_bytes true = by_fate
+  where
+    by_fate : (a : Appending) → BeginsAtZero (reopen_became x name log_bytes (x.logged_boot + 1) a)
+    by_fate Kept = λ up. refl
+    by_fate Refused = λ up. absurd (cc up)
+    by_fate Lost = λ up. absurd (cc up)
+opens_by x name log_bytes false = λ up. absurd (cc up)
+
+opens : (x : State) (name : List ℕ) (log_bytes : ℕ) → AllOfReading BeginsAtZero (reopening name log_bytes x)
+opens x name log_bytes = opens_by x name log_bytes (nat_lt x.logged_boot MOST_BOOTS && can_open x log_bytes (x.logged_boot + 1))
+
+survivor_opens : (s : State) (name : List ℕ) (log_bytes : ℕ) (o : Option Record)
+    → IfSome (option_map (λ r. reopening name log_bytes (survived s r)) o) (AllOfReading BeginsAtZero)
+survivor_opens s name log_bytes None = tt
+survivor_opens s name log_bytes (Some r) = opens (survived s r) name log_bytes
+
+pub opens_at_zero : OpensAtZero
+opens_at_zero s name log_bytes outcome a steps =
+    taken_all BeginsAtZero (turn s (Reopened name log_bytes)) outcome a
+    ((λ up. absurd (cc up)), survivor_opens s name log_bytes s.open_record, opens (missed s) name log_bytes) steps
