@@ -1,16 +1,17 @@
 -- A table of sessions where a session opens, closes, connects or hangs up.
-use Rattle.std.proofs.Common.{◌≡◌, ℕ, zero, suc, ◌+◌, ◌-◌, ◌<◌, ◌≤◌, ◌==◌, nat_lt, Bool, true, false, not, cond, List, length, Option, Some, None, refl, ap, sym, ◌∙◌, subst, arith}
+use Rattle.std.proofs.Common.{◌≡◌, ℕ, zero, suc, ◌+◌, ◌-◌, ◌<◌, ◌≤◌, ◌==◌, nat_lt, Bool, true, false, not, cond, List, [], ◌∷◌, length, Option, Some, None, refl, ap, sym, ◌∙◌, subst, arith}
 use Rattle.std.specs.Prelude.{option_map, option_and_then, is_some}
 use Rattle.std.proofs.lemmas.Bool.Decides.{nat_tests}
-use Rattle.xa_model.specs.State.{State, Session, session_of, free_from, free_number, change}
+use Rattle.xa_model.specs.State.{State, Session, session_of, free_from, free_number, change, limit_by}
 use Rattle.xa_model.specs.Associations.{as_opened, as_closed, open_by}
 use Rattle.xa_model.specs.Recovering.{with_scan, scanning}
+use Rattle.xa_model.specs.TimeLimits.{with_limit, timeout_by}
 use Rattle.xa_xid.specs.Triple.{Triple}
 use Rattle.xa_model.proofs.Lists.{find_change_same, find_change_other, length-change}
 use Rattle.xa_model.proofs.Numbers.{free_number_free}
 use Rattle.xa_assoc.specs.declared.sessions.Sessions.{Sessions}
 use Rattle.xa_assoc.specs.Free.{is_free}
-use Rattle.xa_assoc.specs.Seats.{opened_at, scan_at}
+use Rattle.xa_assoc.specs.Seats.{opened_at, scan_at, limit_at}
 use Rattle.xa_assoc.specs.Changes.{Sets}
 use Rattle.xa_assoc.specs.Sessions.{SessionsStandFor, Follows}
 use Rattle.xa_assoc.proofs.Moves.{same_number}
@@ -21,10 +22,11 @@ pub apart_numbers : (n k a : ℕ) → (n == k) ≡ false → (a == n) ≡ true �
 apart_numbers n k a apart is = grind (arith, nat_tests)
 
 -- what a change of sessions makes of one
-pub record Makes (opens : Bool → Bool) (scans : Option (Option Triple) → Option (Option Triple)) (f : Session → Session) : Type 0 where
+pub record Makes (opens : Bool → Bool) (scans : Option (Option Triple) → Option (Option Triple)) (limits : ℕ → ℕ) (f : Session → Session) : Type 0 where
   pub number : (x : Session) → (f x).number ≡ x.number
   pub opened : (x : Session) → (f x).opened ≡ opens x.opened
   pub scan : (x : Session) → (f x).scan ≡ scans x.scan
+  pub limit : (x : Session) → (f x).limit ≡ limits x.limit
 
 -- whatever is looked up of a session
 changed_by : {A : Type 0} (g : Option Session → A) (n k : ℕ) (f : Session → Session) (xs : List Session) (c : Bool) → (n == k) ≡ c → ((x : Session) → (f x).number ≡ x.number)
@@ -45,9 +47,15 @@ set_scan : (scans : Option (Option Triple) → Option (Option Triple)) (f : Sess
 set_scan scans f None h = refl
 set_scan scans f (Some x) h = sym (h x)
 
-sets_follow : (m m' : Sessions) (n : ℕ) (opens : Bool → Bool) (scans : Option (Option Triple) → Option (Option Triple)) (f : Session → Session) (s : State) → Sets m n opens scans m' → Makes opens scans f
+set_limit : (limits : ℕ → ℕ) (f : Session → Session) (o : Option Session) → ((x : Session) → (f x).limit ≡ limits x.limit)
+    → cond (is_some (option_map (λ x. x.opened) o)) (limits (limit_by o)) 0 ≡ limit_by (option_map f o)
+set_limit limits f None h = refl
+set_limit limits f (Some x) h = sym (h x)
+
+sets_follow : (m m' : Sessions) (n : ℕ) (opens : Bool → Bool) (scans : Option (Option Triple) → Option (Option Triple)) (limits : ℕ → ℕ) (f : Session → Session) (s : State)
+    → Sets m n opens scans limits m' → Makes opens scans limits f
     → SessionsStandFor m s → SessionsStandFor m' (record s { sessions = change (λ x. x.number == n) f s.sessions })
-sets_follow m m' n opens scans f s d makes st = record {
+sets_follow m m' n opens scans limits f s d makes st = record {
   opened = λ k. d.opened k ∙ ap (λ (o : Option Bool). cond (n == k) (option_map opens o) o) (st.opened k)
       ∙ ap (λ (o : Option Bool). cond (n == k) o (option_map (λ (x : Session). x.opened) (session_of s.sessions k))) (set_opened opens f (session_of s.sessions k) makes.opened)
       ∙ sym (changed_by (option_map (λ (x : Session). x.opened)) n k f s.sessions (n == k) refl makes.number);
@@ -58,6 +66,11 @@ sets_follow m m' n opens scans f s d makes st = record {
       ∙ ap (λ (o : Option (Option Triple)). cond (n == k) (option_and_then (λ (_ : Bool). scans o) (option_map (λ (x : Session). x.opened) (session_of s.sessions k))) o) (st.scan k)
       ∙ ap (λ (o : Option (Option Triple)). cond (n == k) o (option_and_then (λ (x : Session). x.scan) (session_of s.sessions k))) (set_scan scans f (session_of s.sessions k) makes.scan)
       ∙ sym (changed_by (option_and_then (λ (x : Session). x.scan)) n k f s.sessions (n == k) refl makes.number);
+  limit = λ k. d.limit k
+      ∙ ap (λ (o : Option Bool). cond (n == k) (cond (is_some o) (limits (limit_at m k)) 0) (limit_at m k)) (st.opened k)
+      ∙ ap (λ (l : ℕ). cond (n == k) (cond (is_some (option_map (λ (x : Session). x.opened) (session_of s.sessions k))) (limits l) 0) l) (st.limit k)
+      ∙ ap (λ (l : ℕ). cond (n == k) l (limit_by (session_of s.sessions k))) (set_limit limits f (session_of s.sessions k) makes.limit)
+      ∙ sym (changed_by limit_by n k f s.sessions (n == k) refl makes.number);
   connected = d.connected ∙ st.connected ∙ sym (length-change (λ (x : Session). x.number == n) f s.sessions);
   free = λ k below. ap (λ (words : List ℕ). is_free words k) d.free ∙ st.free k below
       ∙ ap not (still (n == k + 1) (opened_at m (k + 1))) ∙ ap (λ (o : Option Bool). not (is_some o)) (sym (d.opened (k + 1)));
@@ -68,14 +81,36 @@ sets_follow m m' n opens scans f s d makes st = record {
     still true (Some a) = refl
     still false o = refl
 
-pub open_follows : (m m' : Sessions) (n : ℕ) → Sets m n (λ _. true) (λ scan. scan) m' → Follows m (λ s. (open_by s n).after) m'
-open_follows m m' n d = λ s sound st. sets_follow m m' n (λ _. true) (λ scan. scan) as_opened s d (record { number = λ x. refl; opened = λ x. refl; scan = λ x. refl }) st
+pub open_follows : (m m' : Sessions) (n : ℕ) → Sets m n (λ _. true) (λ scan. scan) (λ limit. limit) m' → Follows m (λ s. (open_by s n).after) m'
+open_follows m m' n d = λ s sound st. sets_follow m m' n (λ _. true) (λ scan. scan) (λ limit. limit) as_opened s d (record { number = λ x. refl; opened = λ x. refl; scan = λ x. refl; limit = λ x. refl }) st
 
-pub closed_follows : (m m' : Sessions) (n : ℕ) (s : State) → Sets m n (λ _. false) (λ _. None) m' → SessionsStandFor m s → SessionsStandFor m' (record s { sessions = change (λ x. x.number == n) as_closed s.sessions })
-closed_follows m m' n s d st = sets_follow m m' n (λ _. false) (λ _. None) as_closed s d (record { number = λ x. refl; opened = λ x. refl; scan = λ x. refl }) st
+pub closed_follows : (m m' : Sessions) (n : ℕ) (s : State) → Sets m n (λ _. false) (λ _. None) (λ limit. limit) m' → SessionsStandFor m s → SessionsStandFor m' (record s { sessions = change (λ x. x.number == n) as_closed s.sessions })
+closed_follows m m' n s d st = sets_follow m m' n (λ _. false) (λ _. None) (λ limit. limit) as_closed s d (record { number = λ x. refl; opened = λ x. refl; scan = λ x. refl; limit = λ x. refl }) st
 
-pub scan_follows : (m m' : Sessions) (n : ℕ) (scan : Option (Option Triple)) (s : State) → Sets m n (λ opened. opened) (λ _. scan) m' → SessionsStandFor m s → SessionsStandFor m' (scanning s n scan)
-scan_follows m m' n scan s d st = sets_follow m m' n (λ opened. opened) (λ _. scan) (with_scan scan) s d (record { number = λ x. refl; opened = λ x. refl; scan = λ x. refl }) st
+pub scan_follows : (m m' : Sessions) (n : ℕ) (scan : Option (Option Triple)) (s : State) → Sets m n (λ opened. opened) (λ _. scan) (λ limit. limit) m' → SessionsStandFor m s → SessionsStandFor m' (scanning s n scan)
+scan_follows m m' n scan s d st = sets_follow m m' n (λ opened. opened) (λ _. scan) (λ limit. limit) (with_scan scan) s d (record { number = λ x. refl; opened = λ x. refl; scan = λ x. refl; limit = λ x. refl }) st
+
+pub limit_follows : (m m' : Sessions) (n limit : ℕ) (s : State) → Sets m n (λ opened. opened) (λ scan. scan) (λ _. limit) m' → SessionsStandFor m s → SessionsStandFor m' (timeout_by s n limit).after
+limit_follows m m' n limit s d st = sets_follow m m' n (λ opened. opened) (λ scan. scan) (λ _. limit) (with_limit limit) s d (record { number = λ x. refl; opened = λ x. refl; scan = λ x. refl; limit = λ x. refl }) st
+
+-- where it isn't connected nothing changes
+nobody_by : (n : ℕ) (f : Session → Session) (x : Session) (xs ys : List Session) (c : Bool) → cond c (Some x) (session_of xs n) ≡ None → (session_of xs n ≡ None → ys ≡ xs)
+    → cond c (f x ∷ xs) (x ∷ ys) ≡ x ∷ xs
+nobody_by n f x xs ys true none rest = absurd (cc none)
+nobody_by n f x xs ys false none rest = ap (λ (zs : List Session). x ∷ zs) (rest none)
+
+nobody : (n : ℕ) (f : Session → Session) (xs : List Session) → session_of xs n ≡ None → change (λ x. x.number == n) f xs ≡ xs
+nobody n f [] none = refl
+nobody n f (x ∷ xs) none = nobody_by n f x xs (change (λ y. y.number == n) f xs) (x.number == n) none (nobody n f xs)
+
+unopened : (o : Option Session) → option_map (λ (x : Session). x.opened) o ≡ None → o ≡ None
+unopened None e = refl
+unopened (Some x) e = absurd (cc e)
+
+pub limit_stays : (m : Sessions) (n limit : ℕ) (s : State) → opened_at m n ≡ None → SessionsStandFor m s → SessionsStandFor m (timeout_by s n limit).after
+limit_stays m n limit s none st =
+    let absent : session_of s.sessions n ≡ None = unopened (session_of s.sessions n) (sym (st.opened n) ∙ none) in
+    subst (λ (xs : List Session). SessionsStandFor m (record s { sessions = xs })) (sym (nobody n (with_limit limit) s.sessions absent)) st
 
 -- The number of a session that connects
 

@@ -7,13 +7,13 @@ use Rattle.std.specs.Map.Calls.{RetainsPairs}
 use Rattle.std.specs.List.{list_any}
 use Rattle.std.specs.Ordering.{nat_cmp}
 use Rattle.xa_xid.specs.Triple.{Triple, xid_cmp}
-use Rattle.xa_model.specs.State.{State, Session, Association, session_of, active_of, owns}
+use Rattle.xa_model.specs.State.{State, Session, Association, session_of, active_of, owns, limit_by}
 use Rattle.xa_model.specs.Recovering.{scan_of}
 use Rattle.xa_model.specs.Restarting.{without_scan}
 use Rattle.xa_assoc.specs.declared.seat.Seat.{Seat}
 use Rattle.xa_assoc.specs.declared.sessions.Sessions.{Sessions}
 use Rattle.xa_assoc.specs.Free.{is_free}
-use Rattle.xa_assoc.specs.Seats.{holds}
+use Rattle.xa_assoc.specs.Seats.{holds, limit_in}
 use Rattle.xa_assoc.specs.Changes.{Clears}
 use Rattle.xa_assoc.specs.Sessions.{SessionsStandFor}
 
@@ -24,6 +24,7 @@ pub record IsCleared (x x' : Seat) : Type 0 where
   pub active : x'.active ≡ None
   pub own : x'.own.keys ≡ []
   pub scan : x'.scan ≡ None
+  pub limit : x'.limit ≡ x.limit
 
 -- what look-ups see of a seat, and of it when it is cleared
 pub record AreSeenCleared (o o' : Option Seat) : Type 0 where
@@ -31,12 +32,19 @@ pub record AreSeenCleared (o o' : Option Seat) : Type 0 where
   pub active : option_and_then (λ x. x.active) o' ≡ None
   pub own : (q : Triple) → holds q o' ≡ false
   pub scan : option_and_then (λ x. x.scan) o' ≡ None
+  pub limit : limit_in o' ≡ limit_in o
 
 none_seen : AreSeenCleared None None
-none_seen = record { opened = refl; active = refl; own = λ q. refl; scan = refl }
+none_seen = record { opened = refl; active = refl; own = λ q. refl; scan = refl; limit = refl }
 
 some_seen : (x x' : Seat) → IsCleared x x' → AreSeenCleared (Some x) (Some x')
-some_seen x x' h = record { opened = ap Some h.opened; active = h.active; own = λ q. ap (λ (keys : List Triple). list_any (is_at (xid_cmp q)) keys) h.own; scan = h.scan }
+some_seen x x' h = record {
+  opened = ap Some h.opened;
+  active = h.active;
+  own = λ q. ap (λ (keys : List Triple). list_any (is_at (xid_cmp q)) keys) h.own;
+  scan = h.scan;
+  limit = h.limit;
+}
 
 seen_by : (x x' : Seat) (o o' : Option Seat) (c : Bool) → IsCleared x x' → AreSeenCleared o o' → AreSeenCleared (cond c (Some x) o) (cond c (Some x') o')
 seen_by x x' o o' true h rest = some_seen x x' h
@@ -67,6 +75,7 @@ clears m m' all free = record {
   active = λ k. (all.seen (is_at (nat_cmp k))).active;
   own = λ k q. (all.seen (is_at (nat_cmp k))).own q;
   scan = λ k. (all.seen (is_at (nat_cmp k))).scan;
+  limit = λ k. (all.seen (is_at (nat_cmp k))).limit;
   connected = all.length;
   free = free;
 }
@@ -91,6 +100,15 @@ no_scan : (n : ℕ) (xs : List Session) → scan_of (map without_scan xs) n ≡ 
 no_scan n [] = refl
 no_scan n (x ∷ xs) = scan_by n x xs (x.number == n) (no_scan n xs)
 
+limit_still : (n : ℕ) (x : Session) (xs : List Session) (c : Bool) → limit_by (session_of (map without_scan xs) n) ≡ limit_by (session_of xs n)
+    → limit_by (cond c (Some (without_scan x)) (session_of (map without_scan xs) n)) ≡ limit_by (cond c (Some x) (session_of xs n))
+limit_still n x xs true rest = refl
+limit_still n x xs false rest = rest
+
+still_limited : (n : ℕ) (xs : List Session) → limit_by (session_of (map without_scan xs) n) ≡ limit_by (session_of xs n)
+still_limited n [] = refl
+still_limited n (x ∷ xs) = limit_still n x xs (x.number == n) (still_limited n xs)
+
 length-without_scan : (xs : List Session) → length (map without_scan xs) ≡ length xs
 length-without_scan [] = refl
 length-without_scan (x ∷ xs) = ap (λ n. suc n) (length-without_scan xs)
@@ -101,6 +119,7 @@ cleared_follows m m' s t d sessions nobody st = record {
   active = λ n. d.active n ∙ ap (λ (held : List Association). active_of held n) (sym nobody);
   own = λ n q. d.own n q ∙ ap (λ (held : List Association). list_any (owns n q) held) (sym nobody);
   scan = λ n. d.scan n ∙ sym (no_scan n s.sessions) ∙ ap (λ (xs : List Session). scan_of xs n) (sym sessions);
+  limit = λ n. d.limit n ∙ st.limit n ∙ sym (still_limited n s.sessions) ∙ ap (λ (xs : List Session). limit_by (session_of xs n)) (sym sessions);
   connected = d.connected ∙ st.connected ∙ sym (length-without_scan s.sessions) ∙ ap (λ (xs : List Session). length xs) (sym sessions);
   free = λ k below. ap (λ (words : List ℕ). is_free words k) d.free ∙ st.free k below ∙ ap (λ (o : Option Bool). not (is_some o)) (sym (d.opened (k + 1)));
 }

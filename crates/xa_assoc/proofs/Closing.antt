@@ -30,5 +30,5 @@ close_passes m s n st e =
 pub close_succeeds : (m : Sessions) (s : State) (n : ℕ) → SessionsStandFor m s → close_refusal (holds_any_at m n) ≡ None → (close_by s n).reply ≡ plain (pos 0)
 close_succeeds m s n st e = ap (λ (a : Answer). a.reply) (close_passes m s n st e)
 
-pub close_follows : (m m' : Sessions) (n : ℕ) → close_refusal (holds_any_at m n) ≡ None → Sets m n (λ _. false) (λ _. None) m' → Follows m (λ s. (close_by s n).after) m'
+pub close_follows : (m m' : Sessions) (n : ℕ) → close_refusal (holds_any_at m n) ≡ None → Sets m n (λ _. false) (λ _. None) (λ limit. limit) m' → Follows m (λ s. (close_by s n).after) m'
 close_follows m m' n e d = λ s sound st. subst (λ (a : Answer). SessionsStandFor m' a.after) (sym (close_passes m s n st e)) (closed_follows m m' n s d st)

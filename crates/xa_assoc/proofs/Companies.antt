@@ -24,8 +24,8 @@ cond_same false f o = refl
 pub room_company : (m m' : Sessions) → IsSameRoom m m' → company_of m' ≡ company_of m
 room_company m m' r = same_company m m' (λ n. ap (λ (o : Option Bool). is_some o) (r.opened n)) r.connected
 
-pub set_company : (m m' : Sessions) (n : ℕ) (f : Bool → Bool) (g : Option (Option Triple) → Option (Option Triple)) → Sets m n f g m' → company_of m' ≡ company_of m
-set_company m m' n f g s = same_company m m' (λ k. ap (λ (o : Option Bool). is_some o) (s.opened k) ∙ cond_same (n == k) f (opened_at m k)) s.connected
+pub set_company : (m m' : Sessions) (n : ℕ) (f : Bool → Bool) (g : Option (Option Triple) → Option (Option Triple)) (h : ℕ → ℕ) → Sets m n f g h m' → company_of m' ≡ company_of m
+set_company m m' n f g h s = same_company m m' (λ k. ap (λ (o : Option Bool). is_some o) (s.opened k) ∙ cond_same (n == k) f (opened_at m k)) s.connected
 
 pub cleared_company : (m m' : Sessions) → Clears m m' → company_of m' ≡ company_of m
 cleared_company m m' c = same_company m m' (λ n. ap (λ (o : Option Bool). is_some o) (c.opened n)) c.connected

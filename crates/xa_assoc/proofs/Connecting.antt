@@ -7,7 +7,7 @@ use Rattle.xa_codes.specs.declared.detail.Detail.TheVariants as detail
 use Rattle.xa_xid.specs.Triple.{Triple}
 use Rattle.xa_frame.specs.declared.body.Body.TheVariants as body
 use Rattle.xa_frame.specs.declared.reply.Reply.{Reply}
-use Rattle.xa_model.specs.State.{State, Session, session_of, free_number, new_session}
+use Rattle.xa_model.specs.State.{State, Session, session_of, free_number, new_session, limit_by}
 use Rattle.xa_model.specs.Answer.{Answer, answer, carrying, detailed, first, unless}
 use Rattle.xa_model.specs.Associations.{connected, connect_by, connect_refusal}
 use Rattle.xa_limits.specs.declared.TheConstants.{MOST_SESSIONS}
@@ -98,6 +98,10 @@ came_scan : (n k : ℕ) (xs : List Session) (c : Bool)
 came_scan n k xs true = refl
 came_scan n k xs false = refl
 
+came_limit : (n k : ℕ) (xs : List Session) (c : Bool) → limit_by (cond c (Some (new_session n)) (session_of xs k)) ≡ cond c 0 (limit_by (session_of xs k))
+came_limit n k xs true = refl
+came_limit n k xs false = refl
+
 came_free : (b c : Bool) (o : Option Bool) → b ≡ not (is_some o) → cond c false b ≡ not (is_some (cond c (Some false) o))
 came_free b true o e = refl
 came_free b false o e = e
@@ -109,6 +113,7 @@ came m m' n s d none st = record {
   active = λ k. d.active k ∙ nothing_at n k None (active_at m) (n == k) refl (ap (option_and_then (λ x. x.active)) (unseated m n none)) ∙ st.active k;
   own = λ k q. d.own k q ∙ nothing_at n k false (λ (i : ℕ). owns_at m i q) (n == k) refl (ap (holds q) (unseated m n none)) ∙ st.own k q;
   scan = λ k. d.scan k ∙ ap (λ (o : Option (Option Triple)). cond (n == k) None o) (st.scan k) ∙ sym (came_scan n k s.sessions (n == k));
+  limit = λ k. d.limit k ∙ ap (λ (l : ℕ). cond (n == k) 0 l) (st.limit k) ∙ sym (came_limit n k s.sessions (n == k));
   connected = omega (arith, d.connected none, st.connected);
   free = λ k below. d.free k below ∙ came_free (is_free m.free k) (n == k + 1) (opened_at m (k + 1)) (st.free k below) ∙ ap (λ (o : Option Bool). not (is_some o)) (sym (d.opened (k + 1)));
 }

@@ -4,7 +4,7 @@ use Rattle.std.specs.Prelude.{find, option_map, is_some, OnOk, Result, Ok, Err}
 use Rattle.std.specs.List.{list_any}
 use Rattle.xa_xid.specs.Triple.{Triple, xid_eq}
 use Rattle.xa_frame.specs.declared.reply.Reply.{Reply}
-use Rattle.xa_model.specs.State.{State, Session, Association, Active, is_with, is_active, owns, suspends, is_loose_with, active_of, session_of, known_as, change}
+use Rattle.xa_model.specs.State.{State, Session, Association, Active, is_with, is_active, owns, suspends, is_loose_with, active_of, session_of, known_as, change, limit_by}
 use Rattle.xa_codes.specs.declared.codes.TheConstants.{XAER_PROTO, XAER_NOTA}
 use Rattle.xa_model.specs.Answer.{first, plain}
 use Rattle.xa_model.specs.Associations.{begun, joined, resumed, not_resumed, suspended, not_suspended, ended, failed, held_by, is_unknown}
@@ -26,6 +26,7 @@ room_follows m m' s s' st room same active own = record {
   active = active;
   own = own;
   scan = λ n. room.scan n ∙ st.scan n ∙ ap (λ (xs : List Session). scan_of xs n) (sym same);
+  limit = λ n. room.limit n ∙ st.limit n ∙ ap (λ (xs : List Session). limit_by (session_of xs n)) (sym same);
   connected = room.connected ∙ st.connected ∙ ap (λ (xs : List Session). length xs) (sym same);
   free = λ k below. ap (λ (words : List ℕ). is_free words k) room.free ∙ st.free k below ∙ ap (λ (o : Option Bool). not (is_some o)) (sym (room.opened (k + 1)));
 }
@@ -33,7 +34,7 @@ room_follows m m' s s' st room same active own = record {
 -- what changes neither sessions nor associations is no concern of the table
 pub unmoved : (m : Sessions) (s s' : State) → s'.sessions ≡ s.sessions → s'.associations ≡ s.associations → SessionsStandFor m s → SessionsStandFor m s'
 unmoved m s s' same held st =
-    room_follows m m s s' st (record { opened = λ n. refl; scan = λ n. refl; connected = refl; free = refl }) same
+    room_follows m m s s' st (record { opened = λ n. refl; scan = λ n. refl; limit = λ n. refl; connected = refl; free = refl }) same
     (λ n. st.active n ∙ ap (λ (xs : List Association). active_of xs n) (sym held))
     (λ n xid. st.own n xid ∙ ap (λ (xs : List Association). list_any (owns n xid) xs) (sym held))
 

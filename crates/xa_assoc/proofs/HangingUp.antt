@@ -5,7 +5,7 @@ use Rattle.std.specs.List.{list_any}
 use Rattle.std.proofs.lemmas.Bool.Decides.{nat_tests}
 use Rattle.xa_xid.specs.Triple.{Triple, xid_eq}
 use Rattle.xa_model.proofs.Xids.{both_true}
-use Rattle.xa_model.specs.State.{Session, Association, count, is_active, is_own, owns, active_of, session_of, without}
+use Rattle.xa_model.specs.State.{Session, Association, count, is_active, is_own, owns, active_of, session_of, without, limit_by}
 use Rattle.xa_model.specs.Associations.{hang_up_by, is_anyones}
 use Rattle.xa_model.proofs.Finds.{find_without}
 use Rattle.xa_model.proofs.Counts.{found_none, count_out, count_less, count_without, count_nowhere}
@@ -98,6 +98,7 @@ hang_up_follows m m' n d = λ s sound st. record {
   active = λ k. d.active k ∙ ap (λ (o : Option Triple). cond (n == k) None o) (st.active k) ∙ out_active n k s.associations (n == k) refl;
   own = λ k q. d.own k q ∙ ap (λ (b : Bool). cond (n == k) false b) (st.own k q) ∙ out_own n k q s.associations (n == k) refl;
   scan = λ k. d.scan k ∙ ap (λ (o : Option (Option Triple)). cond (n == k) None o) (st.scan k) ∙ gone_by (option_and_then (λ (x : Session). x.scan)) n k s.sessions (n == k) refl (sound.numbered n);
+  limit = λ k. d.limit k ∙ ap (λ (l : ℕ). cond (n == k) 0 l) (st.limit k) ∙ gone_by limit_by n k s.sessions (n == k) refl (sound.numbered n);
   connected =
       fewer_by (length m'.seats.entries) (length (without (has_number n) s.sessions)) (is_some (opened_at m n)) (is_some (session_of s.sessions n)) (length m.seats.entries) (length s.sessions)
       (ap (λ (o : Option Bool). is_some o) (st.opened n) ∙ opened_some (session_of s.sessions n)) st.connected d.connected (length-without n s.sessions);

@@ -11,7 +11,7 @@ use Rattle.xa_model.proofs.Xids.{cmp_is_eq}
 use Rattle.xa_assoc.specs.declared.seat.Seat.{Seat}
 use Rattle.xa_assoc.specs.declared.sessions.Sessions.{Sessions}
 use Rattle.xa_assoc.specs.Own.{SetsOne}
-use Rattle.xa_assoc.specs.Seats.{seat_at, opened_at, active_at, owns_at, scan_at, holds}
+use Rattle.xa_assoc.specs.Seats.{seat_at, opened_at, active_at, owns_at, scan_at, limit_at, limit_in, holds}
 use Rattle.xa_assoc.specs.Changes.{ComesToWork, ComesToRest, LosesOwn, IsSameRoom}
 
 pub number_is : (n k : ℕ) → is_eq (nat_cmp n k) ≡ (n == k)
@@ -23,6 +23,7 @@ pub record Reseats (m m' : Sessions) (n : ℕ) (x x' : Seat) : Type 0 where
   pub at : (k : ℕ) → seat_at m' k ≡ cond (is_eq (nat_cmp n k)) (Some x') (seat_at m k)
   pub opened : x'.opened ≡ x.opened
   pub scan : x'.scan ≡ x.scan
+  pub limit : x'.limit ≡ x.limit
   pub connected : length m'.seats.entries ≡ length m.seats.entries
   pub free : m'.free ≡ m.free
 
@@ -45,6 +46,7 @@ same_room m m' n x x' r = record {
       ∙ here_by (opened_at m) n k (Some x.opened) (Some x'.opened) (n == k) refl (ap (λ (o : Option Seat). option_map (λ y. y.opened) o) r.was) (λ h. ap Some r.opened);
   scan = λ k. seen (λ o. option_and_then (λ y. y.scan) o) m m' n x x' r k
       ∙ here_by (scan_at m) n k x.scan x'.scan (n == k) refl (ap (λ (o : Option Seat). option_and_then (λ y. y.scan) o) r.was) (λ h. r.scan);
+  limit = λ k. seen limit_in m m' n x x' r k ∙ here_by (limit_at m) n k x.limit x'.limit (n == k) refl (ap limit_in r.was) (λ h. r.limit);
   connected = r.connected;
   free = r.free;
 }

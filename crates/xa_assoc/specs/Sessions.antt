@@ -3,7 +3,7 @@ use Rattle.std.specs.Prelude.{ℕ, ◌≡◌, ◌+◌, ◌<◌, Bool, not, Optio
 use Rattle.std.specs.List.{list_any}
 use Rattle.xa_xid.specs.Triple.{Triple}
 use Rattle.xa_frame.specs.declared.reply.Reply.{Reply}
-use Rattle.xa_model.specs.State.{State, active_of, owns, suspends, is_with, is_loose_with, known_as, known_in}
+use Rattle.xa_model.specs.State.{State, active_of, owns, suspends, is_with, is_loose_with, known_as, known_in, limit_of}
 use Rattle.xa_model.specs.Answer.{Answer, answer}
 use Rattle.xa_model.specs.Associations.{is_taken, is_unknown, is_lasting, can_end, start_refusal, join_refusal, resume_refusal, end_refusal}
 use Rattle.xa_model.specs.Sound.{IsSound}
@@ -11,17 +11,18 @@ use Rattle.xa_model.specs.Step.{opened_of}
 use Rattle.xa_limits.specs.declared.TheConstants.{MOST_SESSIONS}
 use Rattle.xa_model.specs.Recovering.{scan_of}
 use Rattle.xa_assoc.specs.declared.sessions.Sessions.{Sessions}
-use Rattle.xa_assoc.specs.Seats.{connected_in, opened_at, active_at, owns_at, scan_at}
+use Rattle.xa_assoc.specs.Seats.{connected_in, opened_at, active_at, owns_at, scan_at, limit_at}
 use Rattle.xa_assoc.specs.Free.{is_free}
 
 -- The same sessions are connected and opened, and each is at work for the same branch and has the same associations of
--- its own. What it has and isn't at work in is suspended. Each session's recovery scan stands at the same cursor. Of
--- the numbers from 1 to `MOST_SESSIONS` the array tells which are free.
+-- its own. What it has and isn't at work in is suspended. Each session's recovery scan stands at the same cursor,
+-- and its time limit is the same. Of the numbers from 1 to `MOST_SESSIONS` the array tells which are free.
 pub record SessionsStandFor (m : Sessions) (s : State) : Type 0 where
   pub opened : (n : ℕ) → opened_at m n ≡ opened_of s n
   pub active : (n : ℕ) → active_at m n ≡ active_of s.associations n
   pub own : (n : ℕ) (xid : Triple) → owns_at m n xid ≡ list_any (owns n xid) s.associations
   pub scan : (n : ℕ) → scan_at m n ≡ scan_of s.sessions n
+  pub limit : (n : ℕ) → limit_at m n ≡ limit_of s n
   pub connected : connected_in m ≡ length s.sessions
   pub free : (k : ℕ) → k < MOST_SESSIONS → is_free m.free k ≡ not (is_some (opened_at m (k + 1)))
 

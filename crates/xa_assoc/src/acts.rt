@@ -27,6 +27,7 @@ impl Sessions {
             active: None,
             own: BTreeSet::new(self.alloc),
             scan: None,
+            limit: 0,
         };
         self.seats.insert(index + 1, seat)?;
         make_taken(&mut self.free, index);
@@ -45,7 +46,7 @@ impl Sessions {
     }
 
     pub(crate) fn set_opened(&mut self, session: u64)
-        ensures { Sets self.old session (λ _. true) (λ scan. scan) self.new }
+        ensures { Sets self.old session (λ _. true) (λ scan. scan) (λ limit. limit) self.new }
     {
         if let Some(seat) = self.seats.get_mut(&session) {
             seat.opened = true;
@@ -54,7 +55,7 @@ impl Sessions {
 
     /// The session isn't opened, and its scan is over.
     pub(crate) fn set_closed(&mut self, session: u64)
-        ensures { Sets self.old session (λ _. false) (λ _. None) self.new }
+        ensures { Sets self.old session (λ _. false) (λ _. None) (λ limit. limit) self.new }
     {
         if let Some(seat) = self.seats.get_mut(&session) {
             seat.opened = false;
@@ -63,10 +64,18 @@ impl Sessions {
     }
 
     pub(crate) fn put_scan(&mut self, session: u64, scan: Option<Option<Xid>>)
-        ensures { Sets self.old session (λ opened. opened) (λ _. scan) self.new }
+        ensures { Sets self.old session (λ opened. opened) (λ _. scan) (λ limit. limit) self.new }
     {
         if let Some(seat) = self.seats.get_mut(&session) {
             seat.scan = scan;
+        }
+    }
+
+    pub(crate) fn put_limit(&mut self, session: u64, limit: u32)
+        ensures { Sets self.old session (λ opened. opened) (λ scan. scan) (λ _. limit) self.new }
+    {
+        if let Some(seat) = self.seats.get_mut(&session) {
+            seat.limit = limit;
         }
     }
 

@@ -7,8 +7,8 @@
 //! - `refusals`: the same by facts alone, as `connect_refusal`, `close_refusal`, `start_refusal`, `join_refusal`,
 //!   `resume_refusal`, `end_refusal` and `loose_refusal`
 //! - what changes, once nothing is refused: `coming`, how sessions come and go, with `ConnectFault` of `fault`; `work`,
-//!   how they come to work for branches and leave them; `scans`, their recovery scans; `restarts`, what a restart
-//!   leaves
+//!   how they come to work for branches and leave them; `scans`, their recovery scans; `timeouts`, their time limits;
+//!   `restarts`, what a restart leaves
 //! - below these: `acts`, a seat changes; `free`, the numbers that no session has, a bit each
 #![tactic(auto)]
 
@@ -22,6 +22,7 @@ mod restarts;
 mod scans;
 mod seat;
 mod sessions;
+mod timeouts;
 mod work;
 
 pub use fault::ConnectFault;

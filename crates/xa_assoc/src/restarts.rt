@@ -8,7 +8,8 @@ use crate::sessions::Sessions;
 
 /// How a restart leaves the sessions.
 impl Sessions {
-    /// All associations are gone, and all scans. Sessions stay connected, and opened as they were. Takes no memory.
+    /// All associations are gone, and all scans. Sessions stay connected, opened as they were, and
+    /// keep their time limits. Takes no memory.
     #[tactic(auto, using(crate::proofs::Companies::cleared_company))]
     pub fn restart(&mut self)
         ensures any { (s t : State) → t.sessions ≡ map without_scan s.sessions → t.associations ≡ []

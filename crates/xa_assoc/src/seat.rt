@@ -10,13 +10,15 @@ use xa_xid::Xid;
 
 /// What is kept of a connected session: whether it is opened, the branch that it is at work for, and all branches that
 /// it is associated with. Those that it isn't at work for are suspended. `scan` is the cursor of its recovery scan: no
-/// scan is open, or it stands before all XIDs (None), or at one.
+/// scan is open, or it stands before all XIDs (None), or at one. `limit` is the time limit, in seconds, of the branches
+/// that it begins, 0 for none.
 #[derive(Debug, Drop)]
 pub struct Seat {
     pub opened: bool,
     pub active: Option<Xid>,
     pub own: BTreeSet<Xid>,
     pub scan: Option<Option<Xid>>,
+    pub limit: u32,
 }
 
 impl Seat {
@@ -26,6 +28,7 @@ impl Seat {
         ensures active { OnOk result (self.new.active ≡ Some xid) }
         ensures own { OnOk result (SetsOne self.old.own xid true self.new.own) }
         ensures scan { self.new.scan ≡ self.old.scan }
+        ensures limit { self.new.limit ≡ self.old.limit }
         ensures err { OnErr result (self.new ≡ self.old) }
         ensures absent { OnErr result (contains xid_cmp self.old.own xid ≡ false) }
     {
@@ -41,6 +44,7 @@ impl Seat {
         ensures active { self.new.active ≡ None }
         ensures own { self.new.own ≡ self.old.own }
         ensures scan { self.new.scan ≡ self.old.scan }
+        ensures limit { self.new.limit ≡ self.old.limit }
     {
         self.active = None;
     }
@@ -51,6 +55,7 @@ impl Seat {
         ensures active { self.new.active ≡ cond (is_with xid.now self.old.active) None self.old.active }
         ensures own { SetsOne self.old.own xid.now false self.new.own }
         ensures scan { self.new.scan ≡ self.old.scan }
+        ensures limit { self.new.limit ≡ self.old.limit }
     {
         self.own.remove(xid);
         if is_for(&self.active, xid) {
@@ -58,12 +63,13 @@ impl Seat {
         }
     }
 
-    /// The session's associations end, and its scan. It stays opened, if it was.
+    /// The session's associations end, and its scan. It stays opened, if it was, and keeps its time limit.
     pub(crate) fn clear(&mut self)
         ensures opened { self.new.opened ≡ self.old.opened }
         ensures active { self.new.active ≡ None }
         ensures own { self.new.own.keys ≡ [] }
         ensures scan { self.new.scan ≡ None }
+        ensures limit { self.new.limit ≡ self.old.limit }
     {
         self.active = None;
         self.own.clear();

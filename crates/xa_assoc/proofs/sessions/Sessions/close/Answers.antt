@@ -26,4 +26,4 @@ returns-clause-after c =
     close_follows c.args.self.now c.set_closed.new.self c.args.session e c.set_closed.ensures
 
 pub returns-clause-company : goal.returns-clause-company
-returns-clause-company c = set_company _ _ c.args.session _ _ c.set_closed.ensures
+returns-clause-company c = set_company _ _ c.args.session _ _ _ c.set_closed.ensures

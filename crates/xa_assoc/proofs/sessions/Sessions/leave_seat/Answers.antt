@@ -7,4 +7,4 @@ pub returns-in-Some-clause-seat : goal.returns-in-Some-clause-seat
 returns-in-Some-clause-seat c =
     let was : seat_at c.args.self.now c.args.session ≡ Some c.in-Some.seat.now = search rules in
     left c.args.self.now (record c.args.self.now { seats = c.get_mut.follows.lender c.leave.new.self }) c.args.session c.args.xid.now c.in-Some.seat.now c.leave.new.self
-    (record { was = was; at = search rules; opened = c.leave.ensures.opened; scan = c.leave.ensures.scan; connected = search rules; free = refl }) c.leave.ensures.active c.leave.ensures.own
+    (record { was = was; at = search rules; opened = c.leave.ensures.opened; scan = c.leave.ensures.scan; limit = c.leave.ensures.limit; connected = search rules; free = refl }) c.leave.ensures.active c.leave.ensures.own
