@@ -43,14 +43,16 @@ empty : (ds : List Decided) → length ds ≡ 0 → ds ≡ []
 empty [] e = refl
 empty (d ∷ ds) e = absurd (omega arith)
 
-pub new_stands : (m : Branches) (s : State) → m.boot ≡ s.boot → m.given ≡ s.given → m.working.entries ≡ [] → m.lasting.entries ≡ [] → m.times.keys ≡ [] → m.prepared ≡ 0 → m.completed ≡ 0 → known_in s ≡ 0
+pub new_stands : (m : Branches) (s : State) → m.boot ≡ s.boot → m.given ≡ s.given → m.moment ≡ s.moment → m.working.entries ≡ [] → m.lasting.entries ≡ [] → m.times.keys ≡ [] → m.due.keys ≡ [] → m.prepared ≡ 0 → m.completed ≡ 0 → known_in s ≡ 0
     → BranchesStandFor m s
-new_stands m s boot given none nor never prepared completed unknown_ = record {
+new_stands m s boot given moment none nor never undue prepared completed unknown_ = record {
   boot = boot;
   given = given;
+  moment = moment;
   working = λ xid. rw (none, unknown s xid unknown_) refl;
   lasting = λ xid. let nothing : s.decided ≡ [] = empty s.decided (omega arith) in rw (nor, unknown s xid unknown_, nothing) refl;
   times = λ t. rw never (sym (times_none t s.branches (omega (arith, unknown_))));
+  due = λ t xid. rw (undue, unknown s xid unknown_) refl;
   known = rw (none, nor) (omega arith);
   prepared = omega (arith, prepared_known s.branches);
   completed = omega arith;

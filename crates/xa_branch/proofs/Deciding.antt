@@ -22,7 +22,8 @@ use Rattle.xa_branch.specs.declared.working.Working.{Working as Kept}
 use Rattle.xa_branch.specs.Branches.{BranchesStandFor, working_at, lasting_at, lasting_among}
 use Rattle.xa_branch.specs.Changes.{Sets, SetsTime}
 use Rattle.xa_branch.proofs.Finding.{found_left, all_counted}
-use Rattle.xa_branch.proofs.Finishing.{Leaves, left_look, left_times, rolled_leaves, committed_leaves, undecided, is_doubtful}
+use Rattle.xa_branch.proofs.Dues.{stayed_due, unworking_due}
+use Rattle.xa_branch.proofs.Finishing.{Leaves, left_look, left_times, left_named, rolled_leaves, committed_leaves, undecided, is_doubtful}
 use Rattle.xa_branch.proofs.Looks.{IsPrepared, Seen, Nowhere, There, Doubtful, Done, seen_at, fact_at, known_is}
 use Rattle.xa_branch.proofs.Setting.{none_at}
 
@@ -50,9 +51,11 @@ completed_stands : (m : Branches) (after : BTreeMap Triple Lasting) (ts : BTreeS
 completed_stands m after ts n k s d xid t bs h st e sets fewer more idle is leaves timed = record {
   boot = st.boot;
   given = st.given;
+  moment = st.moment;
   working = λ q. none_at (working_at m) xid q (xid_eq xid q) refl idle ∙ left_look m s xid q bs is.branch (xid_eq xid q) refl st leaves;
   lasting = λ q. sets.at q ∙ rw (cmp_is_eq xid q) (decided_look m s xid q bs is.branch d (xid_eq xid q) refl st leaves);
   times = left_times m ts s xid bs is.branch t st leaves timed (sym is.time);
+  due = stayed_due m.due s.branches bs xid st.due (unworking_due m s xid (st.working xid) idle) (λ q. left_named xid q s.branches bs is.branch (xid_eq xid q) refl leaves);
   known = let same = rw e at sets.number in omega (arith, same, leaves.known, st.known);
   prepared = let less = rw is.phase at leaves.prepared in omega (arith, less, fewer, st.prepared);
   completed = omega (arith, more, st.completed, h.known);
@@ -136,8 +139,10 @@ forget_by m after n s xid d None (Some l) h st f e sets fewer (Done direction no
     let is = forgotten_is s xid found.0 h found.1 in record {
       boot = st.boot;
       given = st.given;
+      moment = st.moment;
       working = st.working;
       times = st.times;
+      due = st.due;
       lasting = λ q. sets.at q ∙ rw (cmp_is_eq xid q) (forgotten_look m s xid q (xid_eq xid q) refl st none is);
       known = let less = rw f at sets.number in omega (arith, less, is.fewer, st.known);
       prepared = st.prepared;

@@ -10,17 +10,21 @@ use Rattle.xa_model.proofs.Lists.{find_change_same, find_change_other}
 use Rattle.xa_model.proofs.Names.{called_apart}
 use Rattle.xa_branch.specs.declared.branches.Branches.{Branches}
 use Rattle.xa_branch.specs.Branches.{BranchesStandFor, working_in}
+use Rattle.xa_branch.specs.Due.{is_then}
+use Rattle.xa_branch.proofs.Dues.{due_change}
 use Rattle.xa_branch.proofs.Lastings.{KeepsLasting, lasting_change, prepared_change, timed_change}
 
 -- a state with the same parts: sessions, reads and the rest may be others
-pub stands_elsewhere : (m : Branches) (s t : State) → t.boot ≡ s.boot → t.given ≡ s.given → t.associations ≡ s.associations → t.branches ≡ s.branches → t.decided ≡ s.decided → BranchesStandFor m s
+pub stands_elsewhere : (m : Branches) (s t : State) → t.boot ≡ s.boot → t.given ≡ s.given → t.moment ≡ s.moment → t.associations ≡ s.associations → t.branches ≡ s.branches → t.decided ≡ s.decided → BranchesStandFor m s
     → BranchesStandFor m t
-stands_elsewhere m s t boot given associations branches decided st = record {
+stands_elsewhere m s t boot given moment associations branches decided st = record {
   boot = st.boot ∙ sym boot;
   given = st.given ∙ sym given;
+  moment = st.moment ∙ sym moment;
   working = λ xid. rw (associations, branches) (st.working xid);
   lasting = λ xid. rw (branches, decided) (st.lasting xid);
   times = λ u. rw branches (st.times u);
+  due = λ u xid. rw branches (st.due u xid);
   known = rw (branches, decided) st.known;
   prepared = rw branches st.prepared;
   completed = rw decided st.completed;
@@ -50,12 +54,14 @@ pub done_stands : (m : Branches) (s : State) (xid : Triple) (op : Operation) →
 done_stands m s xid op st = record {
   boot = st.boot;
   given = st.given;
+  moment = st.moment;
   working = λ q. st.working q ∙ sym (done_look op s xid q (xid_eq xid q) refl);
   known =
       let names : known_count (did xid op s.branches) ≡ known_count s.branches = count_same (is_known_as xid) (having_done op) (λ b. is_some (name_of b.phase)) (λ b. refl) s.branches in
       st.known ∙ ap (λ (n : ℕ). n + length s.decided) (sym names);
   lasting = λ q. st.lasting q ∙ sym (lasting_change (is_known_as xid) (having_done op) (done_keeps op) q (decided_of s.decided q) s.branches);
   times = λ t. st.times t ∙ sym (timed_change (is_known_as xid) (having_done op) (done_keeps op) t s.branches);
+  due = λ t q. st.due t q ∙ ap (λ (o : Option ℕ). is_then o t) (sym (due_change (is_known_as xid) (having_done op) (λ b. refl) (λ b. refl) q s.branches));
   prepared = st.prepared ∙ sym (prepared_change (is_known_as xid) (having_done op) (done_keeps op) s.branches);
   completed = st.completed;
 }

@@ -25,6 +25,8 @@ use Rattle.xa_branch.specs.Branches.{BranchesStandFor, working_at, working_in, l
 use Rattle.xa_branch.specs.Changes.{Sets, SetsTime}
 use Rattle.xa_branch.proofs.Beginning.{named as is_named}
 use Rattle.xa_branch.proofs.Finding.{found_left, found_turned}
+use Rattle.xa_branch.specs.Due.{due_of, due_in, due_named, work_of, LosesDue}
+use Rattle.xa_branch.proofs.Dues.{lost_stands, stayed_due, working_due, unworking_due}
 use Rattle.xa_branch.proofs.Looks.{Seen, Nowhere, There, Doubtful, Done, seen_at, works_at}
 use Rattle.xa_branch.proofs.Setting.{none_at}
 use Rattle.xa_branch.proofs.Timed.{times_left, times_committed}
@@ -97,16 +99,23 @@ pub left_times : (m : Branches) (ts : BTreeSet ℕ) (s : State) (xid : Triple) (
     → (u : ℕ) → timed_at (record m { times = ts }) u ≡ is_known_at u bs
 left_times m ts s xid bs b t st leaves timed same u = timed u ∙ rw (same, st.times u) (sym (leaves.times u))
 
+pub left_named : (xid q : Triple) (bs after : List Branch) (b : Branch) (c : Bool) → xid_eq xid q ≡ c → Leaves xid bs after b → due_named after q ≡ cond c None (due_named bs q)
+left_named xid q bs after b true e leaves =
+    let gone : known_of after q ≡ None = subst (λ (x : Triple). known_of after x ≡ None) (xid_same xid q e) leaves.here in rw gone refl
+left_named xid q bs after b false e leaves = ap (option_and_then due_in) (leaves.others q e)
+
 -- A branch at work leaves
 
-working_left : (m : Branches) (after : BTreeMap Triple Kept) (ts : BTreeSet ℕ) (s : State) (xid : Triple) (bs : List Branch) (b : Branch) (w : Kept) → BranchesStandFor m s → Leaves xid s.branches bs b → working_at m xid ≡ Some w
+working_left : (m : Branches) (after : BTreeMap Triple Kept) (ts : BTreeSet ℕ) (due : BTreeSet (ℕ × Triple)) (s : State) (xid : Triple) (bs : List Branch) (b : Branch) (w : Kept) → BranchesStandFor m s → Leaves xid s.branches bs b → working_at m xid ≡ Some w
     → lasting_at m xid ≡ None → decided_of s.decided xid ≡ None → is_in_doubt b.phase ≡ false → Sets m.working xid None after → SetsTime m.times w.timestamp false ts → w.timestamp ≡ b.timestamp
-    → BranchesStandFor (record m { working = after; times = ts }) (record s { branches = bs })
-working_left m after ts s xid bs b w st leaves there nor none plain sets timed same = record {
+    → LosesDue m.due xid (due_of (work_of w)) due → BranchesStandFor (record m { working = after; times = ts; due = due }) (record s { branches = bs })
+working_left m after ts due s xid bs b w st leaves there nor none plain sets timed same loses = record {
   boot = st.boot;
   given = st.given;
+  moment = st.moment;
   working = λ q. sets.at q ∙ rw (cmp_is_eq xid q) (left_look m s xid q bs b (xid_eq xid q) refl st leaves);
   times = left_times m ts s xid bs b w.timestamp st leaves timed same;
+  due = lost_stands m.due due s.branches bs xid (due_of (work_of w)) st.due (working_due m s xid w (st.working xid) there) loses (λ q. left_named xid q s.branches bs b (xid_eq xid q) refl leaves);
   lasting = λ q. none_at (lasting_at m) xid q (xid_eq xid q) refl nor ∙ left_lasting m s xid q bs b (xid_eq xid q) refl st leaves none;
   known = let fewer = rw there at sets.number in omega (arith, fewer, leaves.known, st.known);
   prepared = let same = rw plain at leaves.prepared in omega (arith, same, st.prepared);
@@ -120,8 +129,10 @@ prepared_left : (m : Branches) (after : BTreeMap Triple Lasting) (ts : BTreeSet 
 prepared_left m after ts n t s xid bs b l st leaves nor there none prepared fewer sets timed same = record {
   boot = st.boot;
   given = st.given;
+  moment = st.moment;
   working = λ q. none_at (working_at m) xid q (xid_eq xid q) refl nor ∙ left_look m s xid q bs b (xid_eq xid q) refl st leaves;
   times = left_times m ts s xid bs b t st leaves timed same;
+  due = stayed_due m.due s.branches bs xid st.due (unworking_due m s xid (st.working xid) nor) (λ q. left_named xid q s.branches bs b (xid_eq xid q) refl leaves);
   lasting = λ q. sets.at q ∙ rw (cmp_is_eq xid q) (left_lasting m s xid q bs b (xid_eq xid q) refl st leaves none);
   known = let less = rw there at sets.number in omega (arith, less, leaves.known, st.known);
   prepared = let less = rw prepared at leaves.prepared in omega (arith, less, st.prepared);
@@ -158,13 +169,13 @@ stayed_stands m s xid bs l st finishes plain e = stayed_by m s xid bs l (working
 
 -- one that is at work leaves, or none is known
 
-pub finished_stands : (m : Branches) (after : BTreeMap Triple Kept) (ts : BTreeSet ℕ) (s : State) (xid : Triple) (bs : List Branch) (w : Kept) → IsSound s → BranchesStandFor m s → Finishes s xid bs
+pub finished_stands : (m : Branches) (after : BTreeMap Triple Kept) (ts : BTreeSet ℕ) (due : BTreeSet (ℕ × Triple)) (s : State) (xid : Triple) (bs : List Branch) (w : Kept) → IsSound s → BranchesStandFor m s → Finishes s xid bs
     → working_at m xid ≡ Some w → lasting_at m xid ≡ None → Sets m.working xid None after → SetsTime m.times w.timestamp false ts
-    → BranchesStandFor (record m { working = after; times = ts }) (record s { branches = bs })
-finished_stands m after ts s xid bs w h st finishes e nor sets timed =
+    → LosesDue m.due xid (due_of (work_of w)) due → BranchesStandFor (record m { working = after; times = ts; due = due }) (record s { branches = bs })
+finished_stands m after ts due s xid bs w h st finishes e nor sets timed loses =
     let is = works_at m s xid w st e in
     let same : w.timestamp ≡ is.branch.timestamp = ap (λ (k : Kept). k.timestamp) is.kept in
-    working_left m after ts s xid bs is.branch w st (finishes.leaves is.branch is.found) e nor (undecided s xid is.branch h is.found) (rw is.phase refl) sets timed same
+    working_left m after ts due s xid bs is.branch w st (finishes.leaves is.branch is.found) e nor (undecided s xid is.branch h is.found) (rw is.phase refl) sets timed same loses
 
 unknown_by : (s : State) (xid : Triple) (o : Option Kept) (l : Option Lasting) → o ≡ None → l ≡ None → Seen s xid o l → known_of s.branches xid ≡ None
 unknown_by s xid None None e f (Nowhere none nor) = none

@@ -19,12 +19,14 @@ use Rattle.xa_branch.specs.declared.branches.Branches.{Branches}
 use Rattle.xa_branch.specs.declared.kind.Kind.TheVariants as kind
 use Rattle.xa_branch.specs.declared.working.Working.{Working as Kept}
 use Rattle.xa_branch.specs.Kinds.{kind_of, same_kind, is_as, held_as, own_kind}
-use Rattle.xa_branch.specs.Branches.{BranchesStandFor, kept_of, working_by, working_in, lasting_in}
+use Rattle.xa_branch.specs.Branches.{BranchesStandFor, kept_of, working_at, working_by, working_in, lasting_in}
+use Rattle.xa_branch.specs.Due.{due_of, due_phase, due_in, due_named, due_kept, is_then, LosesAllDue}
 use Rattle.xa_branch.specs.Changes.{LeavesAll, marked, less_one, left_behind}
 use Rattle.xa_model.proofs.Leaving.{any_counts, none_counted}
 use Rattle.xa_branch.proofs.Begun.{kept_same}
 use Rattle.xa_branch.proofs.Lastings.{KeepsLasting, lasting_map, prepared_map, timed_map}
-use Rattle.xa_branch.proofs.Marking.{marked_keeps}
+use Rattle.xa_branch.proofs.Dues.{kept_due}
+use Rattle.xa_branch.proofs.Marking.{marked_keeps, marked_due}
 use Rattle.xa_branch.proofs.Owners.{never}
 use Rattle.xa_branch.proofs.Turning.{less}
 
@@ -198,6 +200,49 @@ behind_look n q held bs d works one =
     find_map (is_known_as q) (left_by_session held n) (same_known held n q) bs in
     behind_in n q held (known_of bs q) d (λ b e. found_passes (is_known_as q) b bs e) works one ∙ sym (ap (option_and_then (working_in (left_of n held) q)) found)
 
+-- those that the session leaves behind don't run out of time
+
+no_due : (c : Bool) → ◌≡◌ {A = Option ℕ} None (cond c None None)
+no_due true = refl
+no_due false = refl
+
+behind_work : (n : ℕ) (x : Triple) (work : Work) (c : Bool) → due_phase (cond c (marked_phase XA_RBCOMMFAIL (Working x work)) (Working x work)) ≡ cond c None (due_of work)
+behind_work n x work true = marked_due XA_RBCOMMFAIL (Working x work)
+behind_work n x work false = refl
+
+due_behind : (n : ℕ) (q : Triple) (held : List Association) (p : Phase) → is_with q (name_of p) ≡ true
+    → due_phase (cond (is_worked_by held n p) (marked_phase XA_RBCOMMFAIL p) p) ≡ cond (list_any (owns n q) held) None (due_phase p)
+due_behind n q held (Working x work) named =
+    behind_work n x work (list_any (owns n x) held) ∙ ap (λ (z : Triple). cond (list_any (owns n z) held) None (due_of work)) (xid_same x q named)
+due_behind n q held (Prepared x) named = no_due (list_any (owns n q) held)
+due_behind n q held Committed named = no_due (list_any (owns n q) held)
+
+phase_or : (b : Branch) (c : Bool) → due_in (cond c (with_mark XA_RBCOMMFAIL b) b) ≡ due_phase (cond c (marked_phase XA_RBCOMMFAIL b.phase) b.phase)
+phase_or b true = refl
+phase_or b false = refl
+
+due_in_behind : (n : ℕ) (q : Triple) (held : List Association) (o : Option Branch) → ((b : Branch) → o ≡ Some b → is_known_as q b ≡ true)
+    → option_and_then due_in (option_map (left_by_session held n) o) ≡ cond (list_any (owns n q) held) None (option_and_then due_in o)
+due_in_behind n q held None named = no_due (list_any (owns n q) held)
+due_in_behind n q held (Some b) named = phase_or b (is_worked_by held n b.phase) ∙ due_behind n q held b.phase (named b refl)
+
+due_named_behind : (n : ℕ) (q : Triple) (held : List Association) (bs : List Branch) → due_named (map (left_by_session held n) bs) q ≡ cond (list_any (owns n q) held) None (due_named bs q)
+due_named_behind n q held bs =
+    ap (option_and_then due_in) (find_map (is_known_as q) (left_by_session held n) (same_known held n q) bs) ∙ due_in_behind n q held (known_of bs q) (λ b e. found_passes (is_known_as q) b bs e)
+
+out_due : (c : Bool) (o : Option ℕ) (t : ℕ) → (is_then o t && not (c && is_then o t)) ≡ is_then (cond c None o) t
+out_due c o t = by_test c (is_then o t) ∙ back c
+  where
+    by_test : (c b : Bool) → (b && not (c && b)) ≡ cond c false b
+    by_test true true = refl
+    by_test true false = refl
+    by_test false true = refl
+    by_test false false = refl
+
+    back : (c : Bool) → cond c false (is_then o t) ≡ is_then (cond c None o) t
+    back true = refl
+    back false = refl
+
 lasts_by : (b : Branch) (c : Bool) → lasting_in (cond c (with_mark XA_RBCOMMFAIL b) b) ≡ lasting_in b
 lasts_by b true = (marked_keeps XA_RBCOMMFAIL).lasts b
 lasts_by b false = refl
@@ -213,12 +258,13 @@ time_by b false = refl
 behind_keeps : (held : List Association) (n : ℕ) → KeepsLasting (left_by_session held n)
 behind_keeps held n = record { name = (left_keeps held n).name; lasts = λ b. lasts_by b (is_worked_by held n b.phase); plain = λ b. plain_by b (is_worked_by held n b.phase); time = λ b. time_by b (is_worked_by held n b.phase) }
 
-pub hung_up_stands : (m : Branches) (kept : BTreeMap Triple Kept) (s : State) (n : ℕ) (own : BTreeSet Triple) (active : Option Triple) → IsSound s
+pub hung_up_stands : (m : Branches) (kept : BTreeMap Triple Kept) (due : BTreeSet (ℕ × Triple)) (s : State) (n : ℕ) (own : BTreeSet Triple) (active : Option Triple) → IsSound s
     → ((q : Triple) → contains xid_cmp own q ≡ list_any (owns n q) s.associations) → active ≡ active_of s.associations n → BranchesStandFor m s → LeavesAll m.working own active kept
-    → BranchesStandFor (record m { working = kept }) (hang_up_by s n).after
-hung_up_stands m kept s n own active h owned_ active_ st all = record {
+    → LosesAllDue m.working m.due own due → BranchesStandFor (record m { working = kept; due = due }) (hang_up_by s n).after
+hung_up_stands m kept due s n own active h owned_ active_ st all loses = record {
   boot = st.boot;
   given = st.given;
+  moment = st.moment;
   working = λ q.
       let works : list_any (works_in n q) s.associations ≡ is_with q active = sym (ap (is_with q) active_ ∙ works_is n q s.associations (h.active n)) in
       all.at q
@@ -230,6 +276,13 @@ hung_up_stands m kept s n own active h owned_ active_ st all = record {
       ap (λ (k : ℕ). k + btree_map_len m.lasting) all.number ∙ st.known ∙ ap (λ (k : ℕ). k + length s.decided) (sym names);
   lasting = λ q. st.lasting q ∙ sym (lasting_map (left_by_session s.associations n) (behind_keeps s.associations n) q (decided_of s.decided q) s.branches);
   times = λ t. st.times t ∙ sym (timed_map (left_by_session s.associations n) (behind_keeps s.associations n) t s.branches);
+  due = λ t q.
+      loses t q
+      ∙ ap (λ (a : Bool). a && not (contains xid_cmp own q && is_then (due_kept (working_at m q)) t)) (st.due t q)
+      ∙ ap (λ (o : Option ℕ). is_then (due_named s.branches q) t && not (contains xid_cmp own q && is_then o t)) (kept_due m s q (st.working q))
+      ∙ ap (λ (c : Bool). is_then (due_named s.branches q) t && not (c && is_then (due_named s.branches q) t)) (owned_ q)
+      ∙ out_due (list_any (owns n q) s.associations) (due_named s.branches q) t
+      ∙ sym (ap (λ (o : Option ℕ). is_then o t) (due_named_behind n q s.associations s.branches));
   prepared = st.prepared ∙ sym (prepared_map (left_by_session s.associations n) (behind_keeps s.associations n) s.branches);
   completed = st.completed;
 }

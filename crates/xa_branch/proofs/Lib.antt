@@ -5,6 +5,7 @@ pub mod Listing
 pub mod Knowing
 pub mod Beginning
 pub mod Timed
+pub mod Dues
 pub mod Lastings
 pub mod Marking
 pub mod Finding
@@ -21,3 +22,4 @@ pub mod HangingUp
 pub mod Retimed
 pub mod Oldest
 pub mod Returning
+pub mod RunningOut

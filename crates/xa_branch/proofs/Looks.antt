@@ -3,18 +3,15 @@ use Rattle.std.proofs.Common.{◌≡◌, ℕ, true, false, Option, Some, None, r
 use Rattle.std.specs.Prelude.{option_map, option_and_then}
 use Rattle.xa_codes.specs.declared.direction.Direction.{Direction}
 use Rattle.xa_xid.specs.Triple.{Triple}
-use Rattle.xa_model.specs.State.{State, Branch, Phase, Working, Prepared, Committed, Known, Unknown, AtWork, InDoubt, Completed, is_known_as, known_of, known_as, decided_of, Work}
+use Rattle.xa_model.specs.State.{State, Branch, Phase, Working, Prepared, Committed, Known, Unknown, AtWork, InDoubt, Completed, is_known_as, known_of, known_as, decided_of}
 use Rattle.xa_model.specs.Sound.{is_at_work}
 use Rattle.xa_model.proofs.Lists.{found_passes}
 use Rattle.xa_branch.specs.declared.branches.Branches.{Branches}
 use Rattle.xa_branch.specs.declared.lasting.Lasting.{Lasting}
 use Rattle.xa_branch.specs.declared.lasting.Lasting.TheVariants as lasts
 use Rattle.xa_branch.specs.declared.working.Working.{Working as Kept}
+use Rattle.xa_branch.specs.Due.{work_of}
 use Rattle.xa_branch.specs.Branches.{BranchesStandFor, kept_of, working_at, working_by, working_in, working_known, lasting_at, lasting_by, lasting_among, lasting_known}
-
--- what it has while it is at work
-abbrev pub work_of : Kept → Work
-work_of w = record { mark = w.mark }
 
 -- a known branch at work
 pub record IsWorking (s : State) (xid : Triple) (w : Kept) : Type 0 where

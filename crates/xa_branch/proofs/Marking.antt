@@ -2,11 +2,12 @@
 use Rattle.std.proofs.Common.{◌≡◌, ℕ, ℤ, ◌+◌, Bool, true, false, cond, Option, Some, None, List, length, refl, ap, sym, ◌∙◌, subst, arith}
 use Rattle.std.specs.Prelude.{is_some, option_map, option_and_then}
 use Rattle.std.specs.BTreeMap.{BTreeMap, btree_map_len}
+use Rattle.std.specs.BTreeSet.{BTreeSet}
 use Rattle.xa_xid.specs.Triple.{Triple, xid_eq}
 use Rattle.xa_xid.proofs.Same.{xid_same}
 use Rattle.xa_model.specs.State.{State, Branch, Phase, Working, Prepared, Committed, Association, name_of, is_with, is_known_as, known_of, known_count, decided_of, change}
 use Rattle.xa_model.specs.Logging.{is_in_doubt}
-use Rattle.xa_model.specs.Associations.{marked_phase, with_mark}
+use Rattle.xa_model.specs.Associations.{or_mark, marked_phase, with_mark}
 use Rattle.xa_model.proofs.Xids.{cmp_is_eq}
 use Rattle.xa_model.proofs.Counts.{count_same}
 use Rattle.xa_model.proofs.Lists.{find_change_same, find_change_other}
@@ -16,6 +17,8 @@ use Rattle.xa_branch.specs.declared.working.Working.{Working as Kept}
 use Rattle.xa_branch.specs.Branches.{BranchesStandFor, working_at, working_by, working_in, lasting_by}
 use Rattle.xa_branch.specs.Calls.{marked_with}
 use Rattle.xa_branch.specs.Changes.{Sets, marked}
+use Rattle.xa_branch.specs.Due.{due_phase, due_in, due_named, LosesDue}
+use Rattle.xa_branch.proofs.Dues.{lost_stands}
 use Rattle.xa_branch.proofs.Lastings.{KeepsLasting, lasting_change, prepared_change, timed_change}
 
 -- a change that finds something leaves as many as it found
@@ -25,7 +28,7 @@ same_number f (Some w) n k e = omega arith
 
 -- A mark
 
-marked_name : (code : ℤ) (p : Phase) → name_of (marked_phase code p) ≡ name_of p
+pub marked_name : (code : ℤ) (p : Phase) → name_of (marked_phase code p) ≡ name_of p
 marked_name code (Working x work) = refl
 marked_name code (Prepared x) = refl
 marked_name code Committed = refl
@@ -74,11 +77,36 @@ marked_look m s xid q code false e st =
     find_change_other (is_known_as xid) (is_known_as q) (with_mark code) (λ b is. (called_apart xid q b e is, marked_known code q b ∙ called_apart xid q b e is)) s.branches in
     st.working q ∙ sym (ap (option_and_then (working_in s.associations q)) other)
 
-pub marked_stands : (m : Branches) (after : BTreeMap Triple Kept) (s : State) (xid : Triple) (code : ℤ) → BranchesStandFor m s → Sets m.working xid (option_map (marked code) (working_at m xid)) after
-    → BranchesStandFor (record m { working = after }) (marked_with code s xid)
-marked_stands m after s xid code st sets = record {
+-- one that is marked doesn't run out of time
+
+some_mark : (o : Option ℤ) (code : ℤ) → is_some (or_mark o code) ≡ true
+some_mark None code = refl
+some_mark (Some other) code = refl
+
+pub marked_due : (code : ℤ) (p : Phase) → due_phase (marked_phase code p) ≡ None
+marked_due code (Working x work) = rw (some_mark work.mark code) refl
+marked_due code (Prepared x) = refl
+marked_due code Committed = refl
+
+due_here : (code : ℤ) (o : Option Branch) → option_and_then due_in (option_map (with_mark code) o) ≡ None
+due_here code None = refl
+due_here code (Some b) = marked_due code b.phase
+
+marked_named : (code : ℤ) (xid q : Triple) (bs : List Branch) (c : Bool) → xid_eq xid q ≡ c → due_named (change (is_known_as xid) (with_mark code) bs) q ≡ cond c None (due_named bs q)
+marked_named code xid q bs true e =
+    let found : known_of (change (is_known_as xid) (with_mark code) bs) xid ≡ option_map (with_mark code) (known_of bs xid) =
+    find_change_same (is_known_as xid) (with_mark code) (λ b is. marked_known code xid b ∙ is) bs in
+    subst (λ (x : Triple). due_named (change (is_known_as xid) (with_mark code) bs) x ≡ None) (xid_same xid q e) (ap (option_and_then due_in) found ∙ due_here code (known_of bs xid))
+marked_named code xid q bs false e =
+    ap (option_and_then due_in)
+    (find_change_other (is_known_as xid) (is_known_as q) (with_mark code) (λ b is. (called_apart xid q b e is, marked_known code q b ∙ called_apart xid q b e is)) bs)
+
+pub marked_stands : (m : Branches) (after : BTreeMap Triple Kept) (due : BTreeSet (ℕ × Triple)) (s : State) (xid : Triple) (code : ℤ) → BranchesStandFor m s → Sets m.working xid (option_map (marked code) (working_at m xid)) after
+    → LosesDue m.due xid (due_named s.branches xid) due → BranchesStandFor (record m { working = after; due = due }) (marked_with code s xid)
+marked_stands m after due s xid code st sets loses = record {
   boot = st.boot;
   given = st.given;
+  moment = st.moment;
   working = λ q. sets.at q ∙ rw (cmp_is_eq xid q) (marked_look m s xid q code (xid_eq xid q) refl st);
   known =
       let same : btree_map_len after ≡ btree_map_len m.working = same_number (marked code) (working_at m xid) (btree_map_len after) (btree_map_len m.working) sets.number in
@@ -87,6 +115,7 @@ marked_stands m after s xid code st sets = record {
       ap (λ (n : ℕ). n + btree_map_len m.lasting) same ∙ st.known ∙ ap (λ (n : ℕ). n + length s.decided) (sym names);
   lasting = λ q. st.lasting q ∙ sym (lasting_change (is_known_as xid) (with_mark code) (marked_keeps code) q (decided_of s.decided q) s.branches);
   times = λ t. st.times t ∙ sym (timed_change (is_known_as xid) (with_mark code) (marked_keeps code) t s.branches);
+  due = lost_stands m.due due s.branches (change (is_known_as xid) (with_mark code) s.branches) xid (due_named s.branches xid) st.due refl loses (λ q. marked_named code xid q s.branches (xid_eq xid q) refl);
   prepared = st.prepared ∙ sym (prepared_change (is_known_as xid) (with_mark code) (marked_keeps code) s.branches);
   completed = st.completed;
 }

@@ -2,6 +2,7 @@
 use Rattle.std.proofs.Common.{◌≡◌, ℕ, ◌+◌, ◌-◌, ◌^◌, Bool, true, false, cond, min, Option, Some, None, List, refl, ap, sym, ◌∙◌, subst, arith}
 use Rattle.std.specs.Prelude.{is_some, option_map, option_and_then}
 use Rattle.std.specs.BTreeMap.{BTreeMap}
+use Rattle.std.specs.BTreeSet.{BTreeSet}
 use Rattle.xa_xid.specs.Triple.{Triple, xid_eq}
 use Rattle.xa_xid.proofs.Same.{xid_same}
 use Rattle.xa_model.specs.State.{State, Branch, Phase, Prepared, name_of, is_known_as, known_of, known_count, decided_of, change}
@@ -22,6 +23,8 @@ use Rattle.xa_branch.specs.declared.working.Working.{Working as Kept}
 use Rattle.xa_branch.specs.Branches.{BranchesStandFor, working_at, working_in, working_known, lasting_at, lasting_among, lasting_known, prepared_among}
 use Rattle.xa_branch.specs.Changes.{Sets}
 use Rattle.xa_branch.specs.Room.{HasRoom, kept_twice}
+use Rattle.xa_branch.specs.Due.{due_of, due_in, due_named, work_of, is_then, LosesDue}
+use Rattle.xa_branch.proofs.Dues.{lost_stands, working_due}
 use Rattle.xa_branch.proofs.Beginning.{prepared_known as prepared_are_known}
 use Rattle.xa_branch.proofs.Finding.{found_turned, found_fixed}
 use Rattle.xa_branch.proofs.Looks.{IsWorking, Seen, Nowhere, There, Doubtful, Done, seen, works, idle}
@@ -81,6 +84,13 @@ prepared_lasting s xid q w o true e same is =
     rw (found, is.phase) (ap (λ (t : ℕ). Some (lasts.Prepared t)) time)
 prepared_lasting s xid q w o false e same is = same ∙ sym (ap (λ (o : Option Branch). lasting_among o (decided_of s.decided q)) (there s xid q e))
 
+-- it doesn't run out of time any more
+prepared_named : (s : State) (xid q : Triple) (w : Kept) (c : Bool) → xid_eq xid q ≡ c → IsWorking s xid w → due_named (after_of s xid) q ≡ cond c None (due_named s.branches q)
+prepared_named s xid q w true e is =
+    let found : known_of (after_of s xid) q ≡ Some (as_prepared is.branch) = subst (λ (x : Triple). known_of (after_of s xid) x ≡ Some (as_prepared is.branch)) (xid_same xid q e) (here s xid w is) in
+    rw (found, is.phase) refl
+prepared_named s xid q w false e is = ap (option_and_then due_in) (there s xid q e)
+
 -- what is taken away again
 unprepared_lasting : (s : State) (xid q : Triple) (c : Bool) → xid_eq xid q ≡ c → lasting_known s xid ≡ None → cond c None (lasting_known (prepared s xid) q) ≡ lasting_known s q
 unprepared_lasting s xid q true e none = sym (subst (λ (x : Triple). lasting_known s x ≡ None) (xid_same xid q e) none)
@@ -119,8 +129,10 @@ room_made m lasting s xid w st e adds =
     record {
       boot = st.boot;
       given = st.given;
+      moment = st.moment;
       working = st.working;
       times = st.times;
+      due = st.due;
       lasting = λ q. adds.at q ∙ rw (cmp_is_eq xid q) (prepared_lasting s xid q w (lasting_at m q) (xid_eq xid q) refl (st.lasting q) is);
       known =
           let nor : lasting_at m xid ≡ None = st.lasting xid ∙ nor_lasting s xid w works in
@@ -136,8 +148,10 @@ no_room_made m s xid st e =
     record {
       boot = st.boot;
       given = st.given;
+      moment = st.moment;
       working = st.working;
       times = st.times;
+      due = st.due;
       lasting = λ q. st.lasting q ∙ sym (ap (λ (bs : List Branch). lasting_among (known_of bs q) (decided_of s.decided q)) (there_none s xid none));
       known = omega (arith, st.known, once_of s xid none);
       prepared = st.prepared;
@@ -146,16 +160,19 @@ no_room_made m s xid st e =
 
 -- the branch is prepared
 
-pub prepared_stands : (m : Branches) (working : BTreeMap Triple Kept) (n : ℕ) (s : State) (xid : Triple) (w : Kept) → IsSound s → HasRoom xid m s → working_at m xid ≡ Some w
-    → Sets m.working xid None working → n ≡ min (m.prepared + 1) (2 ^ 64 - 1) → BranchesStandFor (record m { working = working; prepared = n }) (prepared s xid)
-prepared_stands m working n s xid w h st e takes more =
+pub prepared_stands : (m : Branches) (working : BTreeMap Triple Kept) (due : BTreeSet (ℕ × Triple)) (n : ℕ) (s : State) (xid : Triple) (w : Kept) → IsSound s → HasRoom xid m s → working_at m xid ≡ Some w
+    → Sets m.working xid None working → LosesDue m.due xid (due_of (work_of w)) due → n ≡ min (m.prepared + 1) (2 ^ 64 - 1)
+    → BranchesStandFor (record m { working = working; due = due; prepared = n }) (prepared s xid)
+prepared_stands m working due n s xid w h st e takes loses more =
     let is : IsWorking s xid w = works_of s xid w (sym (st.working xid) ∙ e) in
     record {
       boot = st.boot;
       given = st.given;
+      moment = st.moment;
       working = λ q. takes.at q ∙ rw (cmp_is_eq xid q) (prepared_look m s xid q w (xid_eq xid q) refl st is);
       lasting = st.lasting;
       times = λ t. st.times t ∙ sym (same_times s xid t);
+      due = lost_stands m.due due s.branches (after_of s xid) xid (due_of (work_of w)) st.due (working_due m s xid w (st.working xid) e) loses (λ q. prepared_named s xid q w (xid_eq xid q) refl is);
       known = let less = rw e at takes.number in omega (arith, less, twice s xid w is, as_many s xid, st.known);
       prepared = omega (arith, more, st.prepared, one_more s xid w is, h.known, prepared_are_known s.branches);
       completed = st.completed;
@@ -168,9 +185,11 @@ unprepared_stands m s xid st e =
     record {
       boot = st.boot;
       given = st.given;
+      moment = st.moment;
       working = λ q. st.working q ∙ sym (ap (λ (bs : List Branch). option_and_then (working_in s.associations q) (known_of bs q)) same);
       lasting = st.lasting;
       times = λ t. st.times t ∙ sym (same_times s xid t);
+      due = λ t q. st.due t q ∙ sym (ap (λ (bs : List Branch). is_then (due_named bs q) t) same);
       known = omega (arith, st.known, once_of s xid none, as_many s xid);
       prepared = st.prepared ∙ sym (ap prepared_among same);
       completed = st.completed;
@@ -186,8 +205,10 @@ given_back m lasting s xid w st e takes =
     record {
       boot = st.boot;
       given = st.given;
+      moment = st.moment;
       working = st.working;
       times = st.times;
+      due = st.due;
       lasting = λ q. takes.at q ∙ rw (cmp_is_eq xid q, st.lasting q) (unprepared_lasting s xid q (xid_eq xid q) refl (nor_lasting s xid w works));
       known =
           let there : lasting_at m xid ≡ Some (lasts.Prepared is.branch.timestamp) = st.lasting xid ∙ rw (here s xid w is, is.phase) refl in
@@ -203,8 +224,10 @@ nothing_back m s xid st e =
     record {
       boot = st.boot;
       given = st.given;
+      moment = st.moment;
       working = st.working;
       times = st.times;
+      due = st.due;
       lasting = λ q. st.lasting q ∙ ap (λ (bs : List Branch). lasting_among (known_of bs q) (decided_of s.decided q)) (there_none s xid none);
       known = omega (arith, st.known, once_of s xid none);
       prepared = st.prepared;

@@ -26,6 +26,8 @@ use Rattle.xa_branch.specs.declared.lasting.Lasting.TheVariants as lasts
 use Rattle.xa_branch.specs.Branches.{working_in, lasting_at, lasting_in, lasting_by, lasting_among, lasting_known, prepared_among}
 use Rattle.xa_branch.specs.Changes.{Sets, SetsTime}
 use Rattle.xa_branch.specs.Restored.{HasRestored, RestoredStand, restored_by, restored_at}
+use Rattle.xa_branch.specs.Due.{due_in, is_then}
+use Rattle.xa_branch.proofs.Dues.{idle_phase as idle_phase_due}
 use Rattle.xa_branch.proofs.Retimed.{is_held_at, held_last, held_times}
 use Rattle.xa_branch.proofs.Timed.{begun_time}
 
@@ -51,48 +53,52 @@ unfound name xs xid q e fresh =
 one_longer : {A : Type 0} (xs : List A) (x : A) → length (xs ++ x ∷ []) ≡ length xs + 1
 one_longer xs x = length-append xs (x ∷ [])
 
-not_there : (m : Branches) (n : ℕ) (ps : List PreparedBranch) (ds : List Decided) (xid : Triple) → xid_eq xid xid ≡ true → is_prepared xid ps ≡ false → is_decided xid ds ≡ false → HasRestored m n ps ds → lasting_at m xid ≡ None
-not_there m n ps ds xid itself a b h = h.lasting xid ∙ rw (unfound (λ p. p.xid) ps xid xid itself a, unfound (λ d. d.xid) ds xid xid itself b) refl
+not_there : (m : Branches) (n moment : ℕ) (ps : List PreparedBranch) (ds : List Decided) (xid : Triple) → xid_eq xid xid ≡ true → is_prepared xid ps ≡ false → is_decided xid ds ≡ false → HasRestored m n moment ps ds → lasting_at m xid ≡ None
+not_there m n moment ps ds xid itself a b h = h.lasting xid ∙ rw (unfound (λ p. p.xid) ps xid xid itself a, unfound (λ d. d.xid) ds xid xid itself b) refl
 
-prepared_look : (m : Branches) (n : ℕ) (ps : List PreparedBranch) (ds : List Decided) (p : PreparedBranch) (q : Triple) (c : Bool) → xid_eq p.xid q ≡ c → HasRestored m n ps ds
+prepared_look : (m : Branches) (n moment : ℕ) (ps : List PreparedBranch) (ds : List Decided) (p : PreparedBranch) (q : Triple) (c : Bool) → xid_eq p.xid q ≡ c → HasRestored m n moment ps ds
     → cond c (Some (lasts.Prepared p.timestamp)) (lasting_at m q) ≡ restored_by (cond c (Some p) (find (λ x. xid_eq x.xid q) ps)) (find (λ d. xid_eq d.xid q) ds)
-prepared_look m n ps ds p q true e h = refl
-prepared_look m n ps ds p q false e h = h.lasting q
+prepared_look m n moment ps ds p q true e h = refl
+prepared_look m n moment ps ds p q false e h = h.lasting q
 
-pub prepared_more : (m : Branches) (lasting : BTreeMap Triple Lasting) (ts : BTreeSet ℕ) (k n : ℕ) (ps : List PreparedBranch) (ds : List Decided) (p : PreparedBranch) → is_prepared p.xid ps ≡ false → is_decided p.xid ds ≡ false
-    → HasRestored m n ps ds → Sets m.lasting p.xid (Some (lasts.Prepared p.timestamp)) lasting → btree_map_len m.lasting < 2 ^ 63 → k ≡ min (m.prepared + 1) (2 ^ 64 - 1) → SetsTime m.times p.timestamp true ts
-    → HasRestored (record m { lasting = lasting; times = ts; prepared = k }) n (ps ++ p ∷ []) ds
-prepared_more m lasting ts k n ps ds p a b h adds few more timed = record {
+pub prepared_more : (m : Branches) (lasting : BTreeMap Triple Lasting) (ts : BTreeSet ℕ) (k n moment : ℕ) (ps : List PreparedBranch) (ds : List Decided) (p : PreparedBranch) → is_prepared p.xid ps ≡ false → is_decided p.xid ds ≡ false
+    → HasRestored m n moment ps ds → Sets m.lasting p.xid (Some (lasts.Prepared p.timestamp)) lasting → btree_map_len m.lasting < 2 ^ 63 → k ≡ min (m.prepared + 1) (2 ^ 64 - 1) → SetsTime m.times p.timestamp true ts
+    → HasRestored (record m { lasting = lasting; times = ts; prepared = k }) n moment (ps ++ p ∷ []) ds
+prepared_more m lasting ts k n moment ps ds p a b h adds few more timed = record {
   boot = h.boot;
   given = h.given;
+  moment = h.moment;
   working = h.working;
-  lasting = λ q. adds.at q ∙ rw (cmp_is_eq p.xid q, found_last (λ x. x.xid) ps p q (xid_eq p.xid q) refl a) (prepared_look m n ps ds p q (xid_eq p.xid q) refl h);
+  lasting = λ q. adds.at q ∙ rw (cmp_is_eq p.xid q, found_last (λ x. x.xid) ps p q (xid_eq p.xid q) refl a) (prepared_look m n moment ps ds p q (xid_eq p.xid q) refl h);
   times = λ t.
       timed t ∙ ap (λ (q : Bool). cond (p.timestamp == t) true q) (h.times t) ∙ sym (held_last t ps p ∙ begun_time p.timestamp t (is_held_at t ps));
+  due = h.due;
   number =
-      let none : lasting_at m p.xid ≡ None = not_there m n ps ds p.xid (xid_eq_itself p.xid) a b h in
+      let none : lasting_at m p.xid ≡ None = not_there m n moment ps ds p.xid (xid_eq_itself p.xid) a b h in
       let counted = rw none at adds.number in
       omega (arith, counted, h.number, one_longer ps p);
   prepared = omega (arith, more, few, h.number, h.prepared, one_longer ps p);
   completed = h.completed;
 }
 
-completed_look : (m : Branches) (n : ℕ) (ps : List PreparedBranch) (ds : List Decided) (d : Decided) (q : Triple) (c : Bool) → xid_eq d.xid q ≡ c → is_prepared d.xid ps ≡ false → HasRestored m n ps ds
+completed_look : (m : Branches) (n moment : ℕ) (ps : List PreparedBranch) (ds : List Decided) (d : Decided) (q : Triple) (c : Bool) → xid_eq d.xid q ≡ c → is_prepared d.xid ps ≡ false → HasRestored m n moment ps ds
     → cond c (Some (lasts.Completed d.direction)) (lasting_at m q) ≡ restored_by (find (λ p. xid_eq p.xid q) ps) (cond c (Some d) (find (λ x. xid_eq x.xid q) ds))
-completed_look m n ps ds d q true e a h = rw (unfound (λ p. p.xid) ps d.xid q e a) refl
-completed_look m n ps ds d q false e a h = h.lasting q
+completed_look m n moment ps ds d q true e a h = rw (unfound (λ p. p.xid) ps d.xid q e a) refl
+completed_look m n moment ps ds d q false e a h = h.lasting q
 
-pub completed_more : (m : Branches) (lasting : BTreeMap Triple Lasting) (k n : ℕ) (ps : List PreparedBranch) (ds : List Decided) (d : Decided) → is_prepared d.xid ps ≡ false → is_decided d.xid ds ≡ false
-    → HasRestored m n ps ds → Sets m.lasting d.xid (Some (lasts.Completed d.direction)) lasting → btree_map_len m.lasting < 2 ^ 63 → k ≡ min (m.completed + 1) (2 ^ 64 - 1)
-    → HasRestored (record m { lasting = lasting; completed = k }) n ps (ds ++ d ∷ [])
-completed_more m lasting k n ps ds d a b h adds few more = record {
+pub completed_more : (m : Branches) (lasting : BTreeMap Triple Lasting) (k n moment : ℕ) (ps : List PreparedBranch) (ds : List Decided) (d : Decided) → is_prepared d.xid ps ≡ false → is_decided d.xid ds ≡ false
+    → HasRestored m n moment ps ds → Sets m.lasting d.xid (Some (lasts.Completed d.direction)) lasting → btree_map_len m.lasting < 2 ^ 63 → k ≡ min (m.completed + 1) (2 ^ 64 - 1)
+    → HasRestored (record m { lasting = lasting; completed = k }) n moment ps (ds ++ d ∷ [])
+completed_more m lasting k n moment ps ds d a b h adds few more = record {
   boot = h.boot;
   given = h.given;
+  moment = h.moment;
   working = h.working;
-  lasting = λ q. adds.at q ∙ rw (cmp_is_eq d.xid q, found_last (λ x. x.xid) ds d q (xid_eq d.xid q) refl b) (completed_look m n ps ds d q (xid_eq d.xid q) refl a h);
+  lasting = λ q. adds.at q ∙ rw (cmp_is_eq d.xid q, found_last (λ x. x.xid) ds d q (xid_eq d.xid q) refl b) (completed_look m n moment ps ds d q (xid_eq d.xid q) refl a h);
   times = h.times;
+  due = h.due;
   number =
-      let none : lasting_at m d.xid ≡ None = not_there m n ps ds d.xid (xid_eq_itself d.xid) a b h in
+      let none : lasting_at m d.xid ≡ None = not_there m n moment ps ds d.xid (xid_eq_itself d.xid) a b h in
       let counted = rw none at adds.number in
       omega (arith, counted, h.number, one_longer ds d);
   prepared = h.prepared;
@@ -219,6 +225,10 @@ idle_look : (s : State) (xid : Triple) (o : Option Branch) → AllByRecursion (�
 idle_look s xid None idle e = refl
 idle_look s xid (Some b) idle e = idle_phase s xid b b.phase refl (found_all (λ c. is_working c.phase ≡ false) (is_known_as xid) b s.branches idle e)
 
+idle_due_look : (xid : Triple) (o : Option Branch) (bs : List Branch) → AllByRecursion (λ b. is_working b.phase ≡ false) bs → known_of bs xid ≡ o → option_and_then due_in o ≡ None
+idle_due_look xid None bs idle e = refl
+idle_due_look xid (Some b) bs idle e = idle_phase_due b.phase (found_all (λ c. is_working c.phase ≡ false) (is_known_as xid) b bs idle e)
+
 pub restored_stand : RestoredStand
 restored_stand m d next s h r =
     let sound : IsSound s = r.recoverable.sound in
@@ -229,9 +239,11 @@ restored_stand m d next s h r =
     record {
       boot = h.boot ∙ sym r.boot;
       given = h.given ∙ sym r.given;
+      moment = h.moment;
       working = λ xid. rw h.working (sym (idle_look s xid (known_of s.branches xid) r.idle refl));
       lasting = λ xid. h.lasting xid ∙ rw (← ps, ← ds) (found_lasting s xid sound);
       times = λ t. h.times t ∙ sym (ap (is_held_at t) ps) ∙ held_times t s.branches r.idle;
+      due = λ t xid. rw h.due (sym (ap (λ (o : Option ℕ). is_then o t) (idle_due_look xid (known_of s.branches xid) s.branches r.idle refl)));
       known =
           let empty : btree_map_len m.working ≡ 0 = ap length h.working in
           omega (arith, empty, h.number, h.prepared, h.completed, prepared, completed, idle_count s.branches r.idle);

@@ -83,9 +83,11 @@ pub turned_stands : (m : Branches) (kept : BTreeMap Triple Kept) (s : State) (xi
 turned_stands m kept s xid after f st turns sets = record {
   boot = st.boot;
   given = st.given;
+  moment = st.moment;
   working = λ q. sets.at q ∙ rw (cmp_is_eq xid q) (turned_look m s xid q after f (xid_eq xid q) refl st turns);
   lasting = st.lasting;
   times = st.times;
+  due = st.due;
   known = ap (λ (k : ℕ). k + btree_map_len m.lasting) (same_number f (working_at m xid) (btree_map_len kept) (btree_map_len m.working) sets.number) ∙ st.known;
   prepared = st.prepared;
   completed = st.completed;

@@ -13,6 +13,7 @@ use Rattle.xa_branch.specs.declared.kind.Kind.TheVariants as kind
 use Rattle.xa_branch.specs.declared.lasting.Lasting.{Lasting}
 use Rattle.xa_branch.specs.declared.lasting.Lasting.TheVariants as lasting
 use Rattle.xa_branch.specs.declared.working.Working.{Working as Kept}
+use Rattle.xa_branch.specs.Due.{due_named, due_among, is_then}
 use Rattle.xa_branch.specs.Kinds.{held_as}
 
 -- what is kept of the branch at work with this XID
@@ -31,11 +32,13 @@ timed_at m t = contains nat_cmp m.times t
 abbrev pub number_of : Branches → ℕ
 number_of m = btree_map_len m.working + btree_map_len m.lasting
 
--- a branch at work: its timestamp and mark, and how many active, suspended and loose associations it has
+-- a branch at work: its timestamp, what it has while it is at work, and how many active, suspended and loose associations
 abbrev pub kept_with : ℕ → Work → ℕ → ℕ → ℕ → Kept
 kept_with timestamp work active suspended loose = record {
   timestamp = timestamp;
   mark = work.mark;
+  start = work.start;
+  limit = work.limit;
   active = active;
   suspended = suspended;
   loose = loose;
@@ -79,13 +82,16 @@ lasting_known s xid = lasting_among (known_of s.branches xid) (decided_of s.deci
 abbrev pub prepared_among : List Branch → ℕ
 prepared_among branches = count (λ b. is_in_doubt b.phase) branches
 
--- Nothing is said of what branches did, of sessions or of reads.
+-- The branches that will run out of time are kept in the order in which they do: these and no others. Nothing is said of
+-- what branches did, of sessions or of reads.
 pub record BranchesStandFor (m : Branches) (s : State) : Type 0 where
   pub boot : m.boot ≡ s.boot
   pub given : m.given ≡ s.given
+  pub moment : m.moment ≡ s.moment
   pub working : (xid : Triple) → working_at m xid ≡ working_known s xid
   pub lasting : (xid : Triple) → lasting_at m xid ≡ lasting_known s xid
   pub times : (t : ℕ) → timed_at m t ≡ is_known_at t s.branches
+  pub due : (t : ℕ) (xid : Triple) → due_among m.due t xid ≡ is_then (due_named s.branches xid) t
   pub known : number_of m ≡ known_in s
   pub prepared : m.prepared ≡ prepared_count s
   pub completed : m.completed ≡ length s.decided

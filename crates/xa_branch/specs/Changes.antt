@@ -1,5 +1,5 @@
 -- What calls change of what is kept.
-use Rattle.std.specs.Prelude.{ℕ, ◌≡◌, ◌+◌, ◌-◌, ◌^◌, ◌==◌, ℤ, min, Bool, Option, None, cond, is_some, option_map}
+use Rattle.std.specs.Prelude.{ℕ, ◌≡◌, ◌+◌, ◌-◌, ◌^◌, ◌==◌, ℤ, min, Bool, true, Option, Some, None, cond, is_some, option_map}
 use Rattle.std.specs.BTreeMap.{BTreeMap, get, btree_map_len}
 use Rattle.std.specs.BTreeSet.{BTreeSet, contains}
 use Rattle.std.specs.Ordering.{nat_cmp, is_eq}
@@ -8,7 +8,9 @@ use Rattle.xa_xid.specs.Triple.{Triple, xid_cmp}
 use Rattle.xa_model.specs.Associations.{or_mark}
 use Rattle.xa_branch.specs.declared.kind.Kind.{Kind}
 use Rattle.xa_branch.specs.declared.kind.Kind.TheVariants as kind
+use Rattle.xa_branch.specs.declared.branches.Branches.{Branches}
 use Rattle.xa_branch.specs.declared.working.Working.{Working as Kept}
+use Rattle.xa_branch.specs.Due.{GainsDue, due_of, work_of}
 use Rattle.xa_branch.specs.Kinds.{own_kind}
 
 -- what is at one XID is another, and nothing else is
@@ -22,9 +24,17 @@ pub record Sets
 abbrev pub SetsTime : BTreeSet ℕ → ℕ → Bool → BTreeSet ℕ → Type 0
 SetsTime ts t b ts' = (u : ℕ) → contains nat_cmp ts' u ≡ cond (t == u) b (contains nat_cmp ts u)
 
--- a branch that has just begun
-abbrev pub new_kept : ℕ → Kept
-new_kept timestamp = record { timestamp = timestamp; mark = None; active = 1; suspended = 0; loose = 0 }
+-- a branch that has just begun, with this timestamp, at this moment and with this time limit
+abbrev pub new_kept : ℕ → ℕ → ℕ → Kept
+new_kept timestamp start limit = record {
+  timestamp = timestamp;
+  mark = None;
+  start = start;
+  limit = limit;
+  active = 1;
+  suspended = 0;
+  loose = 0;
+}
 
 -- the first mark stays
 abbrev pub marked : ℤ → Kept → Kept
@@ -57,3 +67,15 @@ pub record LeavesAll
       → get xid_cmp m' q
       ≡ cond (contains xid_cmp own q) (option_map (left_behind (own_kind active q)) (get xid_cmp m q)) (get xid_cmp m q)
   pub number : btree_map_len m' ≡ btree_map_len m
+
+-- one more branch at work is kept
+pub record Keeps (m : Branches) (xid : Triple) (w : Kept) (m' : Branches) : Type 0 where
+  pub working : Sets m.working xid (Some w) m'.working
+  pub times : SetsTime m.times w.timestamp true m'.times
+  pub due : GainsDue m.due xid (due_of (work_of w)) m'.due
+  pub boot : m'.boot ≡ m.boot
+  pub given : m'.given ≡ m.given
+  pub moment : m'.moment ≡ m.moment
+  pub lasting : m'.lasting ≡ m.lasting
+  pub prepared : m'.prepared ≡ m.prepared
+  pub completed : m'.completed ≡ m.completed

@@ -1,4 +1,5 @@
 pub mod Kinds
+pub mod Due
 pub mod Facts
 pub mod Branches
 pub mod Follows

@@ -9,6 +9,7 @@ ghost use Rattle.xa_branch.specs.Kinds.{ended_kind, resumed_kind};
 
 use crate::branches::Branches;
 use crate::changes::{leave_all, set};
+use crate::due::take_all_due;
 use crate::kind::Kind;
 use std::collections::BTreeSet;
 use xa_xid::Xid;
@@ -79,10 +80,12 @@ impl Branches {
     /// XA_RBCOMMFAIL, unless it was marked. `own` are the XIDs of these associations, and `active` the one that the
     /// session was at work for.
     pub fn hang_up(&mut self, own: &BTreeSet<Xid>, active: Option<&Xid>)
-        ensures { (s : ModelState) (n : ℕ) → IsSound s → AreOwn own.now s n
+        ensures follows { (s : ModelState) (n : ℕ) → IsSound s → AreOwn own.now s n
             → option_copied active.entry ≡ active_of s.associations n
             → BranchesStandFor self.old s → BranchesStandFor self.new (hang_up_by s n).after }
+        ensures moment { self.new.moment ≡ self.old.moment }
     {
+        take_all_due(&self.working, &mut self.due, own);
         leave_all(&mut self.working, own, active);
     }
 }

@@ -13,21 +13,25 @@ use std::collections::{BTreeMap, BTreeSet};
 use xa_codes::{Code, Direction, XAER_NOTA, XAER_PROTO};
 use xa_xid::Xid;
 
-/// The known branches, by their XIDs, and how many timestamps this boot gave. What lasts over a restart stands by
+/// The known branches, by their XIDs, how many timestamps this boot gave, and the last moment that was told. What lasts over a restart stands by
 /// itself: the prepared branches, and the XIDs whose branches the operator completed, with how many there are of each.
-/// The timestamps of the branches at work and of the prepared ones stand in order, for the least of them.
+/// The timestamps of the branches at work and of the prepared ones stand in order, for the least of them; so do the
+/// branches at work that will run out of time, by the moment at which they do.
 ///
 /// What a call promises holds for every state of the sequential resource manager that the branches stood for. Each call
 /// takes time that grows with the logarithm of the number of branches, `hang_up` that for each branch that the session
-/// leaves behind, and `list_after` also time for each XID that it lists. Only calls that can fail for want of memory
+/// leaves behind, `tick` that for each branch that runs out of time, and `list_after` also time for each XID that it
+/// lists. Only calls that can fail for want of memory
 /// take it.
 #[derive(Debug, Drop)]
 pub struct Branches {
     pub(crate) boot: u32,
     pub(crate) given: u64,
+    pub(crate) moment: u64,
     pub(crate) working: BTreeMap<Xid, Working>,
     pub(crate) lasting: BTreeMap<Xid, Lasting>,
     pub(crate) times: BTreeSet<u64>,
+    pub(crate) due: BTreeSet<(u64, Xid)>,
     pub(crate) prepared: usize,
     pub(crate) completed: usize,
 }
@@ -41,18 +45,21 @@ impl Branches {
     ghost use Rattle.xa_branch.specs.State.{state_of};
 
     /// No branch is known in this boot, and `next` is the number of the boot's next timestamp: 1 where it gave none,
-    /// else one more than how many it gave. 0 counts as 1. Takes no memory.
-    pub fn new(alloc: Global, boot: u32, next: u64) -> Branches
-        ensures fresh { (s : ModelState) → s.boot ≡ boot → s.given + 1 ≡ next → known_in s ≡ 0
+    /// else one more than how many it gave. 0 counts as 1. `moment` is the last moment that was told, in seconds. Takes
+    /// no memory.
+    pub fn new(alloc: Global, boot: u32, next: u64, moment: u64) -> Branches
+        ensures fresh { (s : ModelState) → s.boot ≡ boot → s.given + 1 ≡ next → s.moment ≡ moment → known_in s ≡ 0
             → BranchesStandFor result s }
-        ensures restored { next ≡ 1 → HasRestored result boot [] [] }
+        ensures restored { next ≡ 1 → HasRestored result boot moment [] [] }
     {
         Branches {
             boot,
             given: next.saturating_sub(1),
+            moment,
             working: BTreeMap::new(alloc),
             lasting: BTreeMap::new(alloc),
             times: BTreeSet::new(alloc),
+            due: BTreeSet::new(alloc),
             prepared: 0,
             completed: 0,
         }
@@ -84,6 +91,14 @@ impl Branches {
         ensures { InEach self.now (λ s. result ≡ s.given) }
     {
         self.given
+    }
+
+    /// The last moment that was told, in seconds.
+    pub fn moment(&self) -> u64
+        ensures value { result ≡ self.now.moment }
+        ensures state { InEach self.now (λ s. result ≡ s.moment) }
+    {
+        self.moment
     }
 
     /// The branch at work with this XID.

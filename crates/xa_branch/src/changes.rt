@@ -1,13 +1,13 @@
 ghost use Rattle.std.specs.Prelude.{◌≡◌, true, false, None, Some, OnOk, OnErr, option_map, option_copied};
 ghost use Rattle.std.specs.BTreeMap.{get};
 ghost use Rattle.xa_xid.specs.Triple.{xid_cmp};
-ghost use Rattle.xa_branch.specs.Changes.{Sets, SetsTime, LeavesAll, left_behind};
+ghost use Rattle.xa_branch.specs.Changes.{Sets, SetsTime, LeavesAll, left_behind, marked};
 
 use crate::kind::Kind;
 use crate::working::Working;
 use std::alloc::AllocError;
 use std::collections::{BTreeMap, BTreeSet};
-use xa_codes::XA_RBCOMMFAIL;
+use xa_codes::{Code, XA_RBCOMMFAIL};
 use xa_xid::Xid;
 
 /// Adds what is kept of a branch, or puts it in the place of what was kept at its XID.
@@ -49,6 +49,15 @@ pub fn take_time(times: &mut BTreeSet<u64>, timestamp: u64)
     ensures { SetsTime times.old timestamp false times.new }
 {
     times.remove(&timestamp);
+}
+
+/// Marks a branch at work, unless it is marked.
+pub fn mark(working: &mut BTreeMap<Xid, Working>, xid: &Xid, code: Code)
+    ensures { Sets working.old xid.now (option_map (marked code) (get xid_cmp working.old xid.now)) working.new }
+{
+    if let Some(was) = working.get(xid).copied() {
+        set(working, xid, was.marked(code));
+    }
 }
 
 /// A session leaves a branch behind: its association of this kind ends, and the branch is marked.

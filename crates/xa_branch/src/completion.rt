@@ -8,6 +8,7 @@ ghost use Rattle.xa_branch.specs.Room.{HasRoom};
 
 use crate::branches::Branches;
 use crate::changes::{add, set, take, take_time};
+use crate::due::take_due;
 use crate::lasting::Lasting;
 use std::alloc::AllocError;
 use xa_codes::Direction;
@@ -39,8 +40,9 @@ impl Branches {
             → BranchesStandFor self.new (prepared s xid.now) }
     {
         match self.working_of(xid) {
-            Some(_) => {
+            Some(working) => {
                 take(&mut self.working, xid);
+                take_due(&mut self.due, xid, &working);
                 self.prepared = self.prepared.saturating_add(1);
             }
             None => {}
@@ -92,6 +94,7 @@ impl Branches {
                 if let Some(working) = self.working_of(xid) {
                     take(&mut self.working, xid);
                     take_time(&mut self.times, working.timestamp);
+                    take_due(&mut self.due, xid, &working);
                 }
             }
         }

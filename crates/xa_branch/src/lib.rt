@@ -16,6 +16,7 @@
 //! What changes:
 //!
 //! - `acts`: a branch begins, or is marked; `fault`: `BeginFault`, why it doesn't begin
+//! - `ticking`: the moment is told, and branches run out of time; `due`: when they do, in order
 //! - `associations`: joins, suspensions, resumes, ends, and what a broken session leaves behind
 //! - `completion`: a branch is prepared, completed, forgotten. Room is made first, so that what follows the log can't
 //!   fail
@@ -29,6 +30,7 @@ mod associations;
 mod branches;
 mod changes;
 mod completion;
+mod due;
 mod fault;
 mod kind;
 mod known;
@@ -39,6 +41,7 @@ mod recovery;
 mod refusals;
 mod restoring;
 mod state;
+mod ticking;
 mod working;
 
 pub use branches::Branches;

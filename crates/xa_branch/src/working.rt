@@ -1,18 +1,21 @@
 ghost use Rattle.std.specs.Prelude.{◌≡◌, ◌||◌, nat_lt, None, Some, MatchResult};
 ghost use Rattle.xa_model.specs.State.{AtWork};
 ghost use Rattle.xa_branch.specs.Changes.{new_kept, marked, with_one, less_one};
+ghost use Rattle.xa_branch.specs.Due.{due_of, work_of};
 ghost use Rattle.xa_branch.specs.State.{state_by};
 
 use crate::kind::Kind;
 use crate::state::State;
 use xa_codes::Code;
 
-/// A branch at work: its timestamp, the mark that it may have, and how many active, suspended and loose associations it
-/// has.
+/// A branch at work: its timestamp, the mark that it may have, the moment at which it began and its time limit, both in
+/// seconds and the limit 0 for none, and how many active, suspended and loose associations it has.
 #[derive(Clone, Copy, Debug, PartialEq, Eq)]
 pub struct Working {
     pub timestamp: u64,
     pub mark: Option<Code>,
+    pub start: u64,
+    pub limit: u32,
     pub active: u64,
     pub suspended: u64,
     pub loose: u64,
@@ -20,12 +23,14 @@ pub struct Working {
 
 impl Working {
     /// A branch that has just begun: the session that began it is at work for it.
-    pub(crate) fn new(timestamp: u64) -> Working
-        ensures { result ≡ new_kept timestamp }
+    pub(crate) fn new(timestamp: u64, start: u64, limit: u32) -> Working
+        ensures { result ≡ new_kept timestamp start limit }
     {
         Working {
             timestamp,
             mark: None,
+            start,
+            limit,
             active: 1,
             suspended: 0,
             loose: 0,
@@ -87,6 +92,16 @@ impl Working {
         ensures { result ≡ (nat_lt 0 self.now.active || (nat_lt 0 self.now.suspended || nat_lt 0 self.now.loose)) }
     {
         self.active > 0 || self.suspended > 0 || self.loose > 0
+    }
+
+    /// The moment at which it runs out of time: it isn't marked, and has a limit. One above all that can be told is none.
+    pub(crate) fn due(&self) -> Option<u64>
+        ensures { result ≡ due_of (work_of self.now) }
+    {
+        if self.mark.is_some() || self.limit == 0 {
+            return None;
+        }
+        self.start.checked_add(u64::from(self.limit))
     }
 
     /// The mark, if there is one, as what refuses.
