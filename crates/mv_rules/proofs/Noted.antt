@@ -127,7 +127,7 @@ found_noted t ts n (e ∷ es) = at (nat_cmp ts e.0) refl (found_noted t ts n es)
         apart false y a b up = refl
 
 -- what is noted as written, once one timestamp's notes have changed
-own_noted : (t ts : ℕ) (ws ds rs : List Own) (old new : BTreeMap ℕ Notes) → NotesAt ts ws ds rs old new → own_in t new ≡ (if t == ts then ws else own_in t old)
+pub own_noted : (t ts : ℕ) (ws ds rs : List Own) (old new : BTreeMap ℕ Notes) → NotesAt ts ws ds rs old new → own_in t new ≡ (if t == ts then ws else own_in t old)
 own_noted t ts ws ds rs old new at =
     ap (own_at t) at.entries ∙ (ap (λ (o : Option Notes). option_map_or (λ n. n.written.items) o []) (found_noted t ts at.noted old.entries) ∙ told (t == ts))
   where

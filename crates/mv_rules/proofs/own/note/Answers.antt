@@ -2,7 +2,7 @@ use Rattle.std.proofs.Common.{◌≡◌, ◌∙◌, ◌∷◌, ◌++◌, [], Som
 use Rattle.std.specs.BTreeMap.{get_by}
 use Rattle.std.specs.Ordering.{nat_cmp}
 use Rattle.mv_rules.specs.declared.own.Notes.{Notes}
-use Rattle.mv_rules.proofs.Noted.{noted_over, lists_there, lists_nowhere}
+use Rattle.mv_rules.proofs.Noted.{noted_over, own_noted, lists_there, lists_nowhere}
 use Rattle.mv_rules.proofs.own.note.Goals as goal
 
 pub returns-in-Some-clause-noted : goal.returns-in-Some-clause-noted
@@ -25,3 +25,10 @@ returns-clause-noted c =
       entries = rw c.get_mut.follows.holds-at-none at c.in_ok-insert.ensures.entries;
       ordered = c.in_default.ensures.ordered;
     }
+
+-- what each branch has written then
+pub returns-in-Some-clause-ok : goal.returns-in-Some-clause-ok
+returns-in-Some-clause-ok c = λ t. own_noted t c.args.ts _ _ _ c.args.notes.now _ (returns-in-Some-clause-noted c)
+
+pub returns-clause-ok : goal.returns-clause-ok
+returns-clause-ok c = λ t. own_noted t c.args.ts _ _ _ c.args.notes.now _ (returns-clause-noted c)
