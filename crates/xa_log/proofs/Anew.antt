@@ -8,6 +8,7 @@ use Rattle.xa_log.specs.Pair.{beats, has_log, IsCalm, CalmTears, logged_of}
 use Rattle.xa_log.specs.Checkpoint.{IsQuiet, SealTears}
 use Rattle.xa_log.specs.Laws.{IsLogOf}
 use Rattle.xa_log.specs.TwoFiles.{Pair, MayStandPair, MaySeal, IsOpenPair, IsReadPair}
+use Rattle.xa_log.specs.LogStates.{LogState, Whole, LostAppend, LostCheckpoint, IsIn, MayFind, LostTears, IsCalmBeside}
 use Rattle.xa_log.proofs.Again.{no_fault, rests_front, fits_of}
 use Rattle.xa_log.proofs.Choosing.{no_fault_log, no_fault_newer}
 use Rattle.xa_log.proofs.Pair.{pair_log, calm_logged, beats_read}
@@ -44,14 +45,14 @@ module _ {D : Type 0} (disks : Ghosts D) (old new : Log D) (found : List (List �
   calm : (stood : List (List ℕ)) → (CalmTears disks.tears → IsCalm stood (disks.seen old.other)) → CalmTears disks.tears ⊎ IsQuiet disks stood old.other → IsCalm stood (disks.seen old.other)
   calm stood on quiet = ⊎_elim on (λ q. q.calm) quiet
 
-  pub pair_anew : (bodies stood : List (List ℕ)) → Pair disks bodies stood old → CalmTears disks.tears ⊎ IsQuiet disks stood old.other → (found ≡ bodies) × Read
+  pair_anew : (bodies stood : List (List ℕ)) → Pair disks bodies stood old → CalmTears disks.tears ⊎ IsQuiet disks stood old.other → (found ≡ bodies) × Read
   pair_anew bodies stood p quiet =
       let s = p.current in
       let k = calm stood p.calm_on quiet in
       anew bodies (no_fault old.log_bytes old.format (disks.seen old.disk) bodies s.fits (rests_front old.format bodies (disks.seen old.disk) s.file)) (rests_logged old.format bodies (disks.seen old.disk) s.file) p.other.fits k.known
       (beats_read old.on_first bodies stood (disks.seen old.other) p.older (calm_logged stood (disks.seen old.other) p.other.behind k))
 
-  pub may_stand_anew : (bodies : List (List ℕ)) (body : List ℕ) (stood : List (List ℕ)) → MayStandPair disks bodies body stood old → NoChance disks.tears → CalmTears disks.tears ⊎ IsQuiet disks stood old.other
+  may_stand_anew : (bodies : List (List ℕ)) (body : List ℕ) (stood : List (List ℕ)) → MayStandPair disks bodies body stood old → NoChance disks.tears → CalmTears disks.tears ⊎ IsQuiet disks stood old.other
       → ((found ≡ bodies) ⊎ (found ≡ bodies ++ body ∷ [])) × Read
   may_stand_anew bodies body stood p plain quiet =
       let k = calm stood p.calm_on quiet in
@@ -72,7 +73,7 @@ module _ {D : Type 0} (disks : Ghosts D) (old new : Log D) (found : List (List �
       by false true x y = ap (λ (l : List ℕ). has_log l) y ∙ log
       by false false x y = ap (λ (l : List ℕ). has_log l) x ∙ front
 
-  pub may_seal_anew : (bodies fresh : List (List ℕ)) → MaySeal disks bodies fresh old → SealTears disks.tears ⊎ IsQuiet disks fresh old.other
+  may_seal_anew : (bodies fresh : List (List ℕ)) → MaySeal disks bodies fresh old → SealTears disks.tears ⊎ IsQuiet disks fresh old.other
       → ((found ≡ bodies) ⊎ (found ≡ fresh)) × Read
   may_seal_anew bodies fresh p quiet =
       let k : IsCalm fresh (disks.seen old.other) = ⊎_elim p.calm_on (λ q. q.calm) quiet in
@@ -83,3 +84,8 @@ module _ {D : Type 0} (disks : Ghosts D) (old new : Log D) (found : List (List �
         ⊎_elim (λ one. inl (sym is ∙ one)) (λ one. inr (sym is ∙ one)) read.1,
         (record { current = it.current; other = it.other; calm_on = λ lucky. it.quiet.calm; older = it.older (both log p.front) }, it.quiet),
       )
+
+  pub state_anew : (state : LogState) → IsIn disks state old → LostTears disks.tears state → IsCalmBeside disks state old → MayFind state found × Read
+  state_anew (Whole bodies stood) p lucky calm = pair_anew bodies stood p calm
+  state_anew (LostAppend bodies body stood) p lucky calm = may_stand_anew bodies body stood p lucky calm
+  state_anew (LostCheckpoint bodies fresh) p lucky calm = may_seal_anew bodies fresh p calm

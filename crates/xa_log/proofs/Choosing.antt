@@ -15,6 +15,7 @@ use Rattle.xa_log.specs.Chain.{magic, start, format_of, format_in, is_record, bo
 use Rattle.xa_log.specs.Reading.{is_newer, fault_unless, front_fault, fault_of, Explains}
 use Rattle.xa_log.specs.Pair.{number_in, generation, is_nil, beats, has_log, on_first, pair_fault}
 use Rattle.xa_log.specs.Looking.{AreShort, Numbers, Tells, IsHead, Chooses}
+use Rattle.xa_log.specs.Missing.{generation_in}
 use Rattle.xa_log.proofs.Records.{one_format, record_to, bodies_closed}
 
 -- ---- how a file begins
@@ -73,6 +74,15 @@ told file format number is numbers = subst (λ k. Tells (bodies_from (length fil
 pub told_number : (bodies : List (List ℕ)) (o : Option ℕ) → Tells bodies o → generation bodies ≡ unwrap_or o 0
 told_number bodies None is = ap (λ (l : List (List ℕ)). generation l) is
 told_number bodies (Some n) is = is.1
+
+-- the generation of the log that a file is
+pub head_generation : (file : List ℕ) (head : Head) → IsHead file (Some head) → unwrap_or head.number 0 ≡ generation_in file
+head_generation file head it =
+    sym (told_number (logged file) head.number it.1)
+    ∙ sym (ap (λ (b : Bool). cond b (generation (logged file)) 0) (ap (λ (o : Option Format). is_some o) it.0))
+
+pub no_generation : (file : List ℕ) → IsHead file None → 0 ≡ generation_in file
+no_generation file it = sym (ap (λ (b : Bool). cond b (generation (logged file)) 0) (ap (λ (o : Option Format). is_some o) it))
 
 pub told_nil : (bodies : List (List ℕ)) (o : Option ℕ) → Tells bodies o → is_nil bodies ≡ is_none o
 told_nil bodies None is = ap (λ (l : List (List ℕ)). is_nil l) is

@@ -28,3 +28,4 @@ pub mod Still
 pub mod Looks
 pub mod Plans
 pub mod Anew
+pub mod States

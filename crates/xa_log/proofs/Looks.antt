@@ -8,6 +8,11 @@ use Rattle.xa_log.specs.declared.fault.OpenFault.{OpenFault}
 use Rattle.xa_log.specs.declared.fault.OpenFault.TheVariants.{NotALog, TooNew, TooLong, Device, Memory}
 use Rattle.xa_log.proofs.Fetch.{reads_none}
 
+-- a fault that is handed on
+pub handed_on : {T : Type 0} (P : T → Type 0) (Q : OpenFault → Type 0) (r : Result T OpenFault) (e : OpenFault) → IsErr r × IsErrAnd r (λ k. k ≡ e) → Q e → MatchResult r P Q
+handed_on P Q (Ok x) e is q = absurd (search (is.0, rules))
+handed_on P Q (Err k) e is q = subst Q (sym is.1) q
+
 -- a device call that failed
 pub on_device : {T : Type 0} (P : T → Type 0) (Q : OpenFault → Type 0) (r : Result T OpenFault) → IsErr r × IsErrAnd r (λ e. e ≡ Device) → Q Device → MatchResult r P Q
 on_device P Q (Ok x) is q = absurd (search (is.0, rules))

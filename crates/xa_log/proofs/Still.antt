@@ -2,7 +2,6 @@
 use Rattle.std.proofs.Common.{◌≡◌, ◌⊎◌, ⊎_elim, inl, inr, ℕ, ◌≤◌, Bool, true, false, List, ◌∷◌, [], ◌++◌, length, take, refl, sym, ◌∙◌, ap, subst, arith, cond, None, Result, Ok, Err, IfErr}
 use Rattle.std.specs.Result.{IsErrAnd}
 use Rattle.xa_disk.specs.Disk.{Same, Passes}
-use Rattle.xa_disk.specs.Time.{TimePasses, LeavesOnly}
 use Rattle.xa_disk.specs.declared.disk.Disk.{Ghosts}
 use Rattle.xa_log.specs.declared.log.Log.{Log}
 use Rattle.xa_log.specs.declared.fault.OpenFault.{OpenFault}
@@ -13,8 +12,9 @@ use Rattle.xa_log.specs.Pair.{beats, has_log, Behind, IsCalm, CalmTears, pair_fa
 use Rattle.xa_log.specs.Checkpoint.{IsOther, IsQuiet, LeavesOf, SealTears}
 use Rattle.xa_log.specs.Ahead.{IsKnown}
 use Rattle.xa_log.specs.Stands.{Stands, MayStand, Leaves, LeavesLog, Untouched}
-use Rattle.xa_log.specs.TwoFiles.{Pair, MayStandPair, MaySeal, KeepsAll}
-use Rattle.xa_log.proofs.Again.{no_fault, rests_front, fits_of, nothing_new}
+use Rattle.xa_log.specs.TwoFiles.{Pair, MayStandPair, MaySeal}
+use Rattle.xa_log.specs.LogStates.{LogState, Whole, LostAppend, LostCheckpoint, IsIn, KeepsAll}
+use Rattle.xa_log.proofs.Again.{no_fault, rests_front, fits_of}
 use Rattle.xa_log.proofs.Pair.{no_pair_fault, calm_logged}
 use Rattle.xa_log.proofs.Choosing.{no_fault_log, no_fault_newer}
 
@@ -91,16 +91,13 @@ module _ {D : Type 0} (disks : Ghosts D) (old new : Log D) (u : Untouched old ne
     other = omega (arith, u.other_known, k.other, ap (λ (l : List ℕ). length l) same_other);
   }
 
+  state_kept : (state : LogState) → IsIn disks state old → IsIn disks state new
+  state_kept (Whole bodies stood) p = pair_kept bodies stood p
+  state_kept (LostAppend bodies body stood) p = may_stand_pair_kept bodies body stood p
+  state_kept (LostCheckpoint bodies fresh) p = may_seal_kept bodies fresh p
+
   pub keeps_all : KeepsAll disks old new
-  keeps_all = record {
-    stands = stands_kept;
-    pair = pair_kept;
-    quiet = quiet_kept;
-    may_stand = may_stand_kept;
-    may_stand_pair = may_stand_pair_kept;
-    may_seal = may_seal_kept;
-    known = known_kept;
-  }
+  keeps_all = record { state = state_kept; quiet = quiet_kept; known = known_kept; stands = stands_kept; may_stand = may_stand_kept }
 
 -- ---- what a crash may leave of each file
 
@@ -155,11 +152,6 @@ pub in_turn : {D : Type 0} (P : D → D → Type 0) (f : Bool) (d o e q x y : D)
 in_turn P true d o e q x y a b p r = (subst (λ z. P d z) (sym a) p, subst (λ z. P o z) (sym b) r)
 in_turn P false d o e q x y a b p r = (subst (λ z. P o z) (sym a) r, subst (λ z. P d z) (sym b) p)
 
--- where each of the two has come to stand
-pub came_back : {D : Type 0} (f : Bool) (x y d o : D) → x ≡ cond f d o → y ≡ cond f o d → (d ≡ cond f x y) × (o ≡ cond f y x)
-came_back true x y d o a b = (sym a, sym b)
-came_back false x y d o a b = (sym b, sym a)
-
 -- what holds of each of the two holds of the one and of the other
 pub of_both : {D : Type 0} (Q : D → Type 0) (t f : Bool) (n m d o : D) → cond t n m ≡ cond f d o → cond t m n ≡ cond f o d → Q d → Q o → Q n × Q m
 of_both Q true true n m d o a b p r = (subst Q (sym a) p, subst Q (sym b) r)
@@ -179,10 +171,3 @@ fault_order seen most false d o = refl
 pub logged_order : {D : Type 0} (seen : D → List ℕ) (f : Bool) (d o : D) → logged_of f (seen d) (seen o) ≡ logged_pair (seen (cond f d o)) (seen (cond f o d))
 logged_order seen true d o = refl
 logged_order seen false d o = refl
-
--- ---- the moments of a look
-
-module _ {D : Type 0} (disks : Ghosts D) (only_now : (d : D) (c : List ℕ) → disks.left_since d (disks.moment d) c → disks.may_leave d c) where
-  -- of a file that was looked at, wherever its disk stands then
-  pub look : (d e z : D) → TimePasses disks Same d e → e ≡ z → (P : List ℕ → Type 0) → ((c : List ℕ) → disks.may_leave d c → P c) → LeavesOnly disks d z P
-  look d e z time is P all = subst (λ x. LeavesOnly disks d x P) is (nothing_new disks d e (only_now d) time P all)

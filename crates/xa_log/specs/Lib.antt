@@ -11,6 +11,7 @@ pub mod Pair
 pub mod Checkpoint
 pub mod Laws
 pub mod TwoFiles
+pub mod LogStates
 pub mod Looking
 pub mod Worked
 pub mod Missing

@@ -3,7 +3,6 @@ use Rattle.std.specs.Prelude.{◌≡◌, ◌⊎◌, ◌+◌, ◌≤◌, ◌<◌,
 use Rattle.xa_disk.specs.Disk.{Only}
 use Rattle.xa_disk.specs.declared.disk.Disk.{Ghosts}
 use Rattle.xa_limits.specs.declared.TheConstants.{LENGTH_BYTES}
-use Rattle.xa_log.specs.Ahead.{IsKnown}
 use Rattle.xa_log.specs.Chain.{newest, start, last, text, Rests, logged}
 use Rattle.xa_log.specs.Pair.{generation, beats, has_log, IsCalm, CalmTears}
 use Rattle.xa_log.specs.Checkpoint.{IsOther, IsQuiet, LeavesOf, SealTears}
@@ -98,18 +97,6 @@ abbrev pub IsReadPair : {D : Type 0} → Ghosts D → List (List ℕ) → Log D 
 IsReadPair disks bodies log =
     Pair disks bodies (logged (disks.seen log.other)) log × IsQuiet disks (logged (disks.seen log.other)) log.other
 
--- what a log stood for it stands for
-pub record KeepsAll {D : Type 0} (disks : Ghosts D) (old new : Log D) : Type 0 where
-  pub stands : (bodies : List (List ℕ)) → Stands disks bodies old → Stands disks bodies new
-  pub pair : (bodies stood : List (List ℕ)) → Pair disks bodies stood old → Pair disks bodies stood new
-  pub quiet : (stood : List (List ℕ)) → IsQuiet disks stood old.other → IsQuiet disks stood new.other
-  pub may_stand : (bodies : List (List ℕ)) (body : List ℕ)
-      → MayStand disks bodies body old → MayStand disks bodies body new
-  pub may_stand_pair : (bodies : List (List ℕ)) (body : List ℕ) (stood : List (List ℕ))
-      → MayStandPair disks bodies body stood old → MayStandPair disks bodies body stood new
-  pub may_seal : (bodies fresh : List (List ℕ)) → MaySeal disks bodies fresh old → MaySeal disks bodies fresh new
-  pub known : IsKnown disks old → IsKnown disks new
-
 -- The premise of an opening on the first and the second file: where one begins as no log, the records that chain behind
 -- its first 8 bytes, if any do, come behind those of the other one.
 abbrev pub NoStray : List ℕ → List ℕ → Type 0
@@ -123,10 +110,3 @@ first_of log = if log.on_first then log.disk else log.other
 
 abbrev pub second_of : {D : Type 0} → Log D → D
 second_of log = if log.on_first then log.other else log.disk
-
--- where a look has put the disk of the file that was the current one, and that of the other
-abbrev pub disk_after : {D : Type 0} → Log D → Log D → D
-disk_after old new = if old.on_first then first_of new else second_of new
-
-abbrev pub other_after : {D : Type 0} → Log D → Log D → D
-other_after old new = if old.on_first then second_of new else first_of new

@@ -1,16 +1,14 @@
 //! Reading a log again, and giving its disks back.
-ghost use Rattle.std.specs.Prelude.{◌≡◌, ◌⊎◌, ◌++◌, ◌∷◌, [], List, ℕ, true, false, if◌then◌else◌, length, OnOk, OnErr, IfOk, IfErr, MatchResult, None};
-ghost use Rattle.xa_disk.specs.Disk.{Same};
-ghost use Rattle.xa_disk.specs.Time.{TimePasses, LeavesOnly};
+ghost use Rattle.std.specs.Prelude.{◌≡◌, ◌⊎◌, List, ℕ, length, OnOk, OnErr, IfOk, IfErr};
 ghost use Rattle.xa_log.specs.Ahead.{IsMeasured};
 ghost use Rattle.xa_log.specs.Answers.{CountsDeviceOf};
 ghost use Rattle.xa_log.specs.Calls.{Looks, LooksSecond, ReadsLittle};
-ghost use Rattle.xa_log.specs.Chain.{NoChance, logged};
-ghost use Rattle.xa_log.specs.Checkpoint.{IsOther, IsQuiet, LeavesOf, SealTears};
-ghost use Rattle.xa_log.specs.Pair.{generation, IsCalm, CalmTears, fault_pair, logged_of};
+ghost use Rattle.xa_log.specs.Chain.{logged};
+ghost use Rattle.xa_log.specs.LogStates.{LogState, IsIn, MayFind, LostTears, IsCalmBeside, LeavesBoth, LooksTo, LeftByLook, KeepsAll};
+ghost use Rattle.xa_log.specs.Pair.{generation, fault_pair, logged_of};
 ghost use Rattle.xa_log.specs.Reading.{bodies_of, TellsFault};
-ghost use Rattle.xa_log.specs.Stands.{Stands, EndsBehind, MayStand, Leaves, LeavesLog, Untouched};
-ghost use Rattle.xa_log.specs.TwoFiles.{Pair, MayStandPair, MaySeal, IsOpenPair, IsReadPair, KeepsAll, first_of, second_of, disk_after, other_after};
+ghost use Rattle.xa_log.specs.Stands.{EndsBehind, Untouched};
+ghost use Rattle.xa_log.specs.TwoFiles.{IsOpenPair, IsReadPair, first_of, second_of};
 
 use crate::generation::generation_of_bodies;
 use crate::looking::{arrange, in_order, read_again};
@@ -45,11 +43,7 @@ impl<D: Disk> Log<D> {
         ensures logged { D.honest
             → IfOk result
             (λ r. logged_of self.old.on_first (D.seen self.old.disk) (D.seen self.old.other) ≡ bodies_of r.items) }
-        ensures same { D.honest
-            → (D.seen (first_of self.new) ≡ D.seen (first_of self.old))
-            × (D.seen (second_of self.new) ≡ D.seen (second_of self.old)) }
-        ensures time { D.honest → TimePasses D.Disk Same (first_of self.old) (first_of self.new) }
-        ensures time_second { D.honest → TimePasses D.Disk Same (second_of self.old) (second_of self.new) }
+        ensures looks { D.honest → LooksTo D.Disk self.old self.new }
         ensures count { CountsDeviceOf D.failures result (first_of self.old) (first_of self.new)
             (second_of self.old) (second_of self.new) }
         ensures calls { Looks result self.old.log_bytes (D.counts (first_of self.old)) (D.counts (first_of self.new)) }
@@ -64,53 +58,22 @@ impl<D: Disk> Log<D> {
         ensures little { OnOk result (ReadsLittle D.counts self.new.on_first (first_of self.old) (first_of self.new)
             (second_of self.old) (second_of self.new)) }
         ensures settings { self.new.log_bytes ≡ self.old.log_bytes }
-        ensures alive { OnOk result (self.new.lost ≡ false) }
         ensures measured { D.honest → OnOk result (IsMeasured D.Disk self.new) }
         ensures as_before { OnErr result (Untouched self.old self.new) }
         ensures keeps { D.honest → OnErr result (KeepsAll D.Disk self.old self.new) }
-        // What was left to chance comes out well: then a rescan that succeeds finds what the log stood for, and the
-        // other file behind it.
-        ensures anew { D.honest → (bodies stood : List (List ℕ)) → Pair D.Disk bodies stood self.old
-            → CalmTears D.tears ⊎ IsQuiet D.Disk stood self.old.other
-            → IfOk result (λ r. (bodies_of r.items ≡ bodies)
-            × IsReadPair D.Disk (bodies_of r.items) self.new) }
-        ensures anew_lost { D.honest → (bodies : List (List ℕ)) (body : List ℕ) (stood : List (List ℕ))
-            → MayStandPair D.Disk bodies body stood self.old
-            → NoChance D.tears → CalmTears D.tears ⊎ IsQuiet D.Disk stood self.old.other
-            → IfOk result (λ r. ((bodies_of r.items ≡ bodies) ⊎ (bodies_of r.items ≡ bodies ++ body ∷ []))
-            × IsReadPair D.Disk (bodies_of r.items) self.new) }
-        ensures anew_sealed { D.honest → (bodies fresh : List (List ℕ)) → MaySeal D.Disk bodies fresh self.old
-            → SealTears D.tears ⊎ IsQuiet D.Disk fresh self.old.other
-            → IfOk result (λ r. ((bodies_of r.items ≡ bodies) ⊎ (bodies_of r.items ≡ fresh))
-            × IsReadPair D.Disk (bodies_of r.items) self.new) }
-        // A crash at any moment of the call leaves of each file what one before the call could have left.
-        ensures any_moment { D.honest → (bodies : List (List ℕ)) → Stands D.Disk bodies self.old
-            → LeavesOnly D.Disk self.old.disk (disk_after self.old self.new)
-            (LeavesLog self.old.log_bytes self.old.format bodies) }
-        ensures any_moment_other { D.honest → (stood : List (List ℕ))
-            → IsOther D.Disk self.old.log_bytes stood self.old.other
-            → LeavesOnly D.Disk self.old.other (other_after self.old self.new) (LeavesOf self.old.log_bytes stood) }
-        ensures any_moment_lost { D.honest → (bodies : List (List ℕ)) (body : List ℕ)
-            → MayStand D.Disk bodies body self.old
-            → LeavesOnly D.Disk self.old.disk (disk_after self.old self.new)
-            (Leaves self.old.log_bytes self.old.format bodies body) }
-        ensures any_moment_sealed { D.honest → (bodies fresh : List (List ℕ)) → MaySeal D.Disk bodies fresh self.old
-            → LeavesOnly D.Disk self.old.disk (disk_after self.old self.new)
-            (LeavesLog self.old.log_bytes self.old.format bodies) }
-        ensures any_moment_sealed_other { D.honest → (bodies fresh : List (List ℕ))
-            → MaySeal D.Disk bodies fresh self.old
-            → LeavesOnly D.Disk self.old.other (other_after self.old self.new) (LeavesOf self.old.log_bytes fresh) }
-        // The same: then it finds a log, if device and memory serve.
-        ensures readable { D.honest → (bodies stood : List (List ℕ)) → Pair D.Disk bodies stood self.old
-            → CalmTears D.tears ⊎ IsQuiet D.Disk stood self.old.other
+        // Whichever state the log was in. What was left to chance comes out well: then a rescan that succeeds finds
+        // what it may find, and the other file behind it.
+        ensures anew { D.honest → (state : LogState) → IsIn D.Disk state self.old → LostTears D.tears state
+            → IsCalmBeside D.Disk state self.old
+            → IfOk result
+            (λ r. MayFind state (bodies_of r.items) × IsReadPair D.Disk (bodies_of r.items) self.new) }
+        // And it finds a log, if device and memory serve.
+        ensures readable { D.honest → (state : LogState) → IsIn D.Disk state self.old
+            → IsCalmBeside D.Disk state self.old
             → IfErr result (λ e. (e ≡ OpenFault.Device) ⊎ (e ≡ OpenFault.Memory)) }
-        ensures readable_lost { D.honest → (bodies : List (List ℕ)) (body : List ℕ) (stood : List (List ℕ))
-            → MayStandPair D.Disk bodies body stood self.old
-            → CalmTears D.tears ⊎ IsQuiet D.Disk stood self.old.other
-            → IfErr result (λ e. (e ≡ OpenFault.Device) ⊎ (e ≡ OpenFault.Memory)) }
-        ensures readable_sealed { D.honest → (bodies fresh : List (List ℕ)) → MaySeal D.Disk bodies fresh self.old
-            → SealTears D.tears ⊎ IsQuiet D.Disk fresh self.old.other
-            → IfErr result (λ e. (e ≡ OpenFault.Device) ⊎ (e ≡ OpenFault.Memory)) }
+        // A crash at any moment of the call leaves of both files what one before the call could have left.
+        ensures any_moment { D.honest → (state : LogState) → IsIn D.Disk state self.old → (first second : List ℕ)
+            → LeftByLook D.Disk self.old self.new first second → LeavesBoth state self.old first second }
     {
         let alloc = *self.buffer.allocator();
         let mut other_window = new_buffer(alloc)?;

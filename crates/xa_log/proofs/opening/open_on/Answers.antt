@@ -1,4 +1,5 @@
 use Rattle.std.proofs.Common.{◌∙◌}
+use Rattle.xa_log.proofs.Looks.{handed_on}
 use Rattle.xa_log.proofs.Opens.{current_logged, opened_leaves}
 use Rattle.xa_log.proofs.opening.open_on.Goals as goal
 
@@ -12,3 +13,21 @@ returns-clause-leaves g c h x y left left_second =
 
 pub returns-clause-end : goal.returns-clause-end
 returns-clause-end g c = c.in_ok-on_first.ensures.end
+
+pub returns-in_err-on_first-clause-value : goal.returns-in_err-on_first-clause-value
+returns-in_err-on_first-clause-value g c h = handed_on _ _ c.from_residual-in_err-on_first.result _ c.from_residual-in_err-on_first.ensures (c.in_err-on_first.ensures.value h)
+
+pub returns-in_err-on_first-clause-count : goal.returns-in_err-on_first-clause-count
+returns-in_err-on_first-clause-count g c = handed_on _ _ c.from_residual-in_err-on_first.result _ c.from_residual-in_err-on_first.ensures c.in_err-on_first.ensures.count
+
+pub returns-in_err-on_first-clause-calls : goal.returns-in_err-on_first-clause-calls
+returns-in_err-on_first-clause-calls g c = handed_on _ _ c.from_residual-in_err-on_first.result _ c.from_residual-in_err-on_first.ensures c.in_err-on_first.ensures.calls
+
+pub returns-in_err-on_first-clause-calls_second : goal.returns-in_err-on_first-clause-calls_second
+returns-in_err-on_first-clause-calls_second g c = handed_on _ _ c.from_residual-in_err-on_first.result _ c.from_residual-in_err-on_first.ensures c.in_err-on_first.ensures.calls_second
+
+pub returns-in_err-on_first-clause-calls_once : goal.returns-in_err-on_first-clause-calls_once
+returns-in_err-on_first-clause-calls_once g c h = handed_on _ _ c.from_residual-in_err-on_first.result _ c.from_residual-in_err-on_first.ensures (c.in_err-on_first.ensures.calls_once h)
+
+pub returns-in_err-on_first-clause-calls_once_second : goal.returns-in_err-on_first-clause-calls_once_second
+returns-in_err-on_first-clause-calls_once_second g c h = handed_on _ _ c.from_residual-in_err-on_first.result _ c.from_residual-in_err-on_first.ensures (c.in_err-on_first.ensures.calls_once_second h)
