@@ -13,25 +13,25 @@ use Rattle.xa_manager.specs.declared.boots.NextBoot.{NextBoot}
 use Rattle.xa_manager.specs.Rereading.{IsNext, IsReady}
 use Rattle.xa_manager.proofs.NextBoots.{are_bodies}
 
-pub next_sizes : (d : Durable) (o : Option NextBoot) (next : NextBoot) → o ≡ Some next → IsNext d o → AllByRecursion IsBody (bodies_of next.bodies.items)
-next_sizes d None next e h = absurd (cc e)
-next_sizes d (Some n) next e h =
+pub next_sizes : (moment : ℕ) (d : Durable) (o : Option NextBoot) (next : NextBoot) → o ≡ Some next → IsNext d moment o → AllByRecursion IsBody (bodies_of next.bodies.items)
+next_sizes moment d None next e h = absurd (cc e)
+next_sizes moment d (Some n) next e h =
     let same : n ≡ next = cc e in
     let all : AllByRecursion IsBody (bodies_of n.bodies.items) = subst (λ (b : List (List ℕ)). AllByRecursion IsBody b) (sym h.2.bodies) (are_bodies (snapshot d (d.boot + 1)) h.3) in
     subst (λ (x : NextBoot). AllByRecursion IsBody (bodies_of x.bodies.items)) same all
 
-pub next_short : (d : Durable) (o : Option NextBoot) (next : NextBoot) → o ≡ Some next → IsNext d o → IsWithin MOST_VALUE next.records
-next_short d None next e h = absurd (cc e)
-next_short d (Some n) next e h = let same : n ≡ next = cc e in subst (λ (x : NextBoot). IsWithin MOST_VALUE x.records) same h.4
+pub next_short : (moment : ℕ) (d : Durable) (o : Option NextBoot) (next : NextBoot) → o ≡ Some next → IsNext d moment o → IsWithin MOST_VALUE next.records
+next_short moment d None next e h = absurd (cc e)
+next_short moment d (Some n) next e h = let same : n ≡ next = cc e in subst (λ (x : NextBoot). IsWithin MOST_VALUE x.records) same h.4
 
-pub next_keys : (d : Durable) (o : Option NextBoot) (next : NextBoot) → o ≡ Some next → IsNext d o → HasKeys next.records
-next_keys d None next e h = absurd (cc e)
-next_keys d (Some n) next e h = let same : n ≡ next = cc e in subst (λ (x : NextBoot). HasKeys x.records) same h.5
+pub next_keys : (moment : ℕ) (d : Durable) (o : Option NextBoot) (next : NextBoot) → o ≡ Some next → IsNext d moment o → HasKeys next.records
+next_keys moment d None next e h = absurd (cc e)
+next_keys moment d (Some n) next e h = let same : n ≡ next = cc e in subst (λ (x : NextBoot). HasKeys x.records) same h.5
 
-pub record IsNextOf (d : Durable) (next : NextBoot) : Type 0 where
+pub record IsNextOf (d : Durable) (moment : ℕ) (next : NextBoot) : Type 0 where
   pub less : nat_lt d.boot MOST_BOOTS ≡ true
   pub number : next.boot ≡ d.boot + 1
-  pub ready : IsReady d (d.boot + 1) next
+  pub ready : IsReady d (d.boot + 1) moment next
 
 is_less : (a b : ℕ) → a < b → nat_lt a b ≡ true
 is_less a b h = grind (arith, nat_tests)
@@ -39,10 +39,10 @@ is_less a b h = grind (arith, nat_tests)
 isnt_less : (a b : ℕ) → b ≤ a → nat_lt a b ≡ false
 isnt_less a b h = grind (arith, nat_tests)
 
-pub next_is : (d : Durable) (o : Option NextBoot) (next : NextBoot) → o ≡ Some next → IsNext d o → IsNextOf d next
-next_is d None next e h = absurd (cc e)
-next_is d (Some n) next e h = let same : n ≡ next = cc e in subst (λ (x : NextBoot). IsNextOf d x) same (record { less = is_less d.boot MOST_BOOTS h.1; number = h.0; ready = h.2 })
+pub next_is : (moment : ℕ) (d : Durable) (o : Option NextBoot) (next : NextBoot) → o ≡ Some next → IsNext d moment o → IsNextOf d moment next
+next_is moment d None next e h = absurd (cc e)
+next_is moment d (Some n) next e h = let same : n ≡ next = cc e in subst (λ (x : NextBoot). IsNextOf d moment x) same (record { less = is_less d.boot MOST_BOOTS h.1; number = h.0; ready = h.2 })
 
-pub none_next : (d : Durable) (o : Option NextBoot) → o ≡ None → IsNext d o → nat_lt d.boot MOST_BOOTS ≡ false
-none_next d None e h = isnt_less d.boot MOST_BOOTS h
-none_next d (Some n) e h = absurd (cc e)
+pub none_next : (moment : ℕ) (d : Durable) (o : Option NextBoot) → o ≡ None → IsNext d moment o → nat_lt d.boot MOST_BOOTS ≡ false
+none_next moment d None e h = isnt_less d.boot MOST_BOOTS h
+none_next moment d (Some n) e h = absurd (cc e)

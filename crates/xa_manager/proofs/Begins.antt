@@ -28,37 +28,37 @@ use Rattle.xa_manager.proofs.LogLengths.{text_size}
 use Rattle.xa_manager.proofs.NextBoots.{are_bodies}
 
 -- a plan, taken apart
-pub record IsPlanned (bodies : List (List ℕ)) (d : Durable) (next : NextBoot) : Type 0 where
+pub record IsPlanned (bodies : List (List ℕ)) (d : Durable) (moment : ℕ) (next : NextBoot) : Type 0 where
   pub comes : ComeTo bodies d
   pub form : IsDurable d
   pub boots : d.boot < MOST_BOOTS
-  pub ready : IsReady d (d.boot + 1) next
+  pub ready : IsReady d (d.boot + 1) moment next
   pub limits : AllByRecursion IsRecord (snapshot d (d.boot + 1))
 
 comes_to : (bodies : List (List ℕ)) (d : Durable) → LogRebuilt bodies (Ok d) → ComeTo bodies d
 comes_to bodies d (rs, are, folds) = record { records = rs; bodies_are = are; folded = folds }
 
-pub planned : (bodies : List (List ℕ)) (p : Planned) (next : NextBoot) → LogRebuilt bodies (Ok p.durable) → IsNext p.durable p.next → p.next ≡ Some next → IsPlanned bodies p.durable next
-planned bodies p next rebuilt is_next e =
-    let n : IsNext p.durable (Some next) = subst (λ (x : Option NextBoot). IsNext p.durable x) e is_next in
+pub planned : (moment : ℕ) (bodies : List (List ℕ)) (p : Planned) (next : NextBoot) → LogRebuilt bodies (Ok p.durable) → IsNext p.durable moment p.next → p.next ≡ Some next → IsPlanned bodies p.durable moment next
+planned moment bodies p next rebuilt is_next e =
+    let n : IsNext p.durable moment (Some next) = subst (λ (x : Option NextBoot). IsNext p.durable moment x) e is_next in
     let c : ComeTo bodies p.durable = comes_to bodies p.durable rebuilt in
     record { comes = c; form = fold_is_durable c.records p.durable c.folded; boots = n.1; ready = n.2; limits = n.3 }
 
 -- its bodies
-pub first_bodies : (bodies : List (List ℕ)) (d : Durable) (next : NextBoot) (xs : List (Vec ℕ Global)) → IsPlanned bodies d next → xs ≡ next.bodies.items
+pub first_bodies : (moment : ℕ) (bodies : List (List ℕ)) (d : Durable) (next : NextBoot) (xs : List (Vec ℕ Global)) → IsPlanned bodies d moment next → xs ≡ next.bodies.items
     → bodies_of xs ≡ map spelled (snapshot d (d.boot + 1))
-first_bodies bodies d next xs it e = ap (λ (l : List (Vec ℕ Global)). bodies_of l) e ∙ it.ready.bodies
+first_bodies moment bodies d next xs it e = ap (λ (l : List (Vec ℕ Global)). bodies_of l) e ∙ it.ready.bodies
 
-pub first_sizes : (bodies : List (List ℕ)) (d : Durable) (next : NextBoot) (xs : List (Vec ℕ Global)) → IsPlanned bodies d next → xs ≡ next.bodies.items → AllByRecursion IsBody (bodies_of xs)
-first_sizes bodies d next xs it e =
-    subst (λ (l : List (List ℕ)). AllByRecursion IsBody l) (sym (first_bodies bodies d next xs it e)) (are_bodies (snapshot d (d.boot + 1)) it.limits)
+pub first_sizes : (moment : ℕ) (bodies : List (List ℕ)) (d : Durable) (next : NextBoot) (xs : List (Vec ℕ Global)) → IsPlanned bodies d moment next → xs ≡ next.bodies.items → AllByRecursion IsBody (bodies_of xs)
+first_sizes moment bodies d next xs it e =
+    subst (λ (l : List (List ℕ)). AllByRecursion IsBody l) (sym (first_bodies moment bodies d next xs it e)) (are_bodies (snapshot d (d.boot + 1)) it.limits)
 
 -- the room that they leave
-pub first_room : (bodies : List (List ℕ)) (d : Durable) (next : NextBoot) (xs : List (Vec ℕ Global)) (log_bytes p c : ℕ) (b : Bool) → IsPlanned bodies d next → xs ≡ next.bodies.items
+pub first_room : (moment : ℕ) (bodies : List (List ℕ)) (d : Durable) (next : NextBoot) (xs : List (Vec ℕ Global)) (log_bytes p c : ℕ) (b : Bool) → IsPlanned bodies d moment next → xs ≡ next.bodies.items
     → p ≡ length d.prepared → c ≡ length d.decided → b ≡ log_room log_bytes (length (text newest (bodies_of xs))) p c → has_boot_room log_bytes d (d.boot + 1) ≡ b
-first_room bodies d next xs log_bytes p c b it e ep ec room =
+first_room moment bodies d next xs log_bytes p c b it e ep ec room =
     sym (room
-    ∙ ap (λ (n : ℕ). log_room log_bytes n p c) (ap (λ (l : List (List ℕ)). length (text newest l)) (first_bodies bodies d next xs it e) ∙ text_size newest (snapshot d (d.boot + 1)))
+    ∙ ap (λ (n : ℕ). log_room log_bytes n p c) (ap (λ (l : List (List ℕ)). length (text newest l)) (first_bodies moment bodies d next xs it e) ∙ text_size newest (snapshot d (d.boot + 1)))
     ∙ ap (λ (n : ℕ). log_room log_bytes (8 + sizes (snapshot d (d.boot + 1))) n c) ep ∙ ap (λ (n : ℕ). log_room log_bytes (8 + sizes (snapshot d (d.boot + 1))) (length d.prepared) n) ec)
 
 -- how many of a map's entries there are
@@ -66,19 +66,19 @@ pub count_of : {K V B : Type 0} (f : K × V → B) (xs : List (K × V)) (bs cs :
 count_of f xs bs cs n e m same = e ∙ sym (length-map xs f) ∙ ap length m ∙ ap length (sym same)
 
 -- they come before those that were read
-pub first_newer : (bodies : List (List ℕ)) (d : Durable) (next : NextBoot) (xs : List (Vec ℕ Global)) → IsPlanned bodies d next → xs ≡ next.bodies.items
+pub first_newer : (moment : ℕ) (bodies : List (List ℕ)) (d : Durable) (next : NextBoot) (xs : List (Vec ℕ Global)) → IsPlanned bodies d moment next → xs ≡ next.bodies.items
     → generation bodies < generation (bodies_of xs)
-first_newer bodies d next xs it e =
+first_newer moment bodies d next xs it e =
     subst (λ (l : List (List ℕ)). generation l < generation (bodies_of xs)) it.comes.bodies_are.spelling
-    (subst (λ (l : List (List ℕ)). generation (map spelled it.comes.records) < generation l) (sym (first_bodies bodies d next xs it e)) (newer it.comes.records d it.comes.folded it.boots))
+    (subst (λ (l : List (List ℕ)). generation (map spelled it.comes.records) < generation l) (sym (first_bodies moment bodies d next xs it e)) (newer it.comes.records d it.comes.folded it.boots))
 
 -- so do those of each boot that is planned
-pub next_newer : (bodies : List (List ℕ)) (d : Durable) (o : Option NextBoot) → LogRebuilt bodies (Ok d) → IsNext d o
+pub next_newer : (moment : ℕ) (bodies : List (List ℕ)) (d : Durable) (o : Option NextBoot) → LogRebuilt bodies (Ok d) → IsNext d moment o
     → IfSome o (λ next. generation bodies < generation (bodies_of next.bodies.items))
-next_newer bodies d None rebuilt n = tt
-next_newer bodies d (Some next) rebuilt n =
+next_newer moment bodies d None rebuilt n = tt
+next_newer moment bodies d (Some next) rebuilt n =
     let c : ComeTo bodies d = comes_to bodies d rebuilt in
-    first_newer bodies d next next.bodies.items (record { comes = c; form = fold_is_durable c.records d c.folded; boots = n.1; ready = n.2; limits = n.3 }) refl
+    first_newer moment bodies d next next.bodies.items (record { comes = c; form = fold_is_durable c.records d c.folded; boots = n.1; ready = n.2; limits = n.3 }) refl
 
 -- of a log of this generation
 pub next_above : (g : ℕ) (bodies : List (List ℕ)) (o : Option NextBoot) → g ≡ generation bodies
@@ -87,13 +87,13 @@ pub next_above : (g : ℕ) (bodies : List (List ℕ)) (o : Option NextBoot) → 
 next_above g bodies o is above = subst (λ (n : ℕ). IfSome o (λ next. n < generation (bodies_of next.bodies.items))) (sym is) above
 
 -- what became of its first records
-pub logs_boot : {D : Type 0} (disks : Ghosts D) (is_new : Bool) (bodies : List (List ℕ)) (log_bytes : ℕ) (a : Appended) (old new : Log D) (d : Durable) (next : NextBoot) (xs : List (Vec ℕ Global))
-    → IsPlanned bodies d next → xs ≡ next.bodies.items → has_boot_room log_bytes d (d.boot + 1) ≡ true → LogsFirst disks is_new a (bodies_of xs) old new
+pub logs_boot : {D : Type 0} (disks : Ghosts D) (moment : ℕ) (is_new : Bool) (bodies : List (List ℕ)) (log_bytes : ℕ) (a : Appended) (old new : Log D) (d : Durable) (next : NextBoot) (xs : List (Vec ℕ Global))
+    → IsPlanned bodies d moment next → xs ≡ next.bodies.items → has_boot_room log_bytes d (d.boot + 1) ≡ true → LogsFirst disks is_new a (bodies_of xs) old new
     → LogsBoot disks is_new bodies log_bytes a old new
-logs_boot disks is_new bodies log_bytes a old new d next xs it e room logs = record {
+logs_boot disks moment is_new bodies log_bytes a old new d next xs it e room logs = record {
   durable = d;
   comes = it.comes;
   boots = it.boots;
   room = room;
-  logs = subst (λ (l : List (List ℕ)). LogsFirst disks is_new a l old new) (first_bodies bodies d next xs it e) logs;
+  logs = subst (λ (l : List (List ℕ)). LogsFirst disks is_new a l old new) (first_bodies moment bodies d next xs it e) logs;
 }

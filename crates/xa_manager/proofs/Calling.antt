@@ -1,6 +1,6 @@
 -- What a call has done, by its refusals and its row.
 use Rattle.std.proofs.Common.{◌≡◌, ⊎_elim, ℕ, Bool, true, false, List, Option, Some, None, IsSomeAnd, MatchBool, if◌then◌else◌, refl, ap, sym, ◌∙◌, subst, w32, to_z, of_z}
-use Rattle.std.specs.Prelude.{Result, Ok, Err, IsOk, IfOk}
+use Rattle.std.specs.Prelude.{Result, Ok, Err, IsOk, IfOk, OnErr}
 use Rattle.std.specs.declared.alloc.AllocError.{AllocError}
 use Rattle.xa_disk.specs.declared.disk.Disk.{Ghosts}
 use Rattle.xa_codes.specs.Flags.{has}
@@ -25,7 +25,7 @@ use Rattle.xa_model.specs.Restarting.{restart_turn}
 use Rattle.xa_model.specs.Turn.{Turn, Now, Asked, taken}
 use Rattle.xa_model.specs.Step.{row, respond, is_up, step}
 use Rattle.xa_model.specs.Step.{turn as turn_of, context_of}
-use Rattle.xa_assoc.specs.Refusals.{is_memory}
+use Rattle.xa_assoc.specs.Refusals.{is_memory, IsBare}
 use Rattle.xa_assoc.specs.declared.fault.ConnectFault.TheVariants.{Memory}
 use Rattle.xa_manager.specs.declared.manager.Manager.{Manager}
 use Rattle.xa_manager.specs.declared.done.Done.{Done}
@@ -35,20 +35,24 @@ use Rattle.xa_manager.specs.Answered.{FullyAnswered, HasCalled, StaysFor, NoneRi
 use Rattle.xa_manager.specs.View.{View, context_at}
 use Rattle.xa_manager.specs.Managed.{view, ManagerStandsFor, AnswersAs}
 use Rattle.xa_manager.specs.Stands.{TablesStandFor, Follows, FollowsDown, Stays, StaysDown}
-use Rattle.xa_manager.specs.Turns.{Takes, TakesTurn, HasDone}
+use Rattle.xa_manager.specs.Replies.{IsFresh}
+use Rattle.xa_manager.specs.Turns.{Takes, TakesTurn, HasDone, HasRestarted, HasWanted}
 use Rattle.xa_manager.proofs.OnePhase.{refused_turn, passed_turn}
 use Rattle.xa_manager.proofs.Stepping.{asked_by, has_done, now_leaves, quiet_crash}
-use Rattle.xa_manager.proofs.Taking.{takes_row}
+use Rattle.xa_manager.proofs.Replying.{bare_fresh}
+use Rattle.xa_manager.proofs.Taking.{takes_row, stays_up}
 
 context_by : (b : Bool) (k : View) (s : State) (n : ℕ) → TablesStandFor b k s → context_of s n ≡ context_at b k n
 context_by true k s n st =
     ap (λ (standing : Standing). record (context_of s n) { up = is_up standing }) st.up
     ∙ ap (λ (name : List ℕ). record (context_of s n) { up = true; name = name }) (sym st.name)
-    ∙ ap (λ (o : Option Bool). record (context_at true k n) { session = o }) (sym (st.sessions.opened n))
+    ∙ ap (λ (o : Option Bool). record (context_of s n) { up = true; name = k.name; session = o }) (sym (st.sessions.opened n))
+    ∙ ap (λ (moment : ℕ). record (context_at true k n) { moment = moment }) (sym st.branches.moment)
 context_by false k s n st =
     ap (λ (standing : Standing). record (context_of s n) { up = is_up standing }) st.down
     ∙ ap (λ (name : List ℕ). record (context_of s n) { up = false; name = name }) (sym st.name)
-    ∙ ap (λ (o : Option Bool). record (context_at false k n) { session = o }) (sym (st.sessions.opened n))
+    ∙ ap (λ (o : Option Bool). record (context_of s n) { up = false; name = k.name; session = o }) (sym (st.sessions.opened n))
+    ∙ ap (λ (moment : ℕ). record (context_at false k n) { moment = moment }) (sym st.moment)
 
 never : (b : Bool) (A : Type 0) → b ≡ false → b ≡ true → A
 never true A e h = absurd (cc e)
@@ -63,17 +67,18 @@ either_stays : (b : Bool) (k k' : View) (s : State) → Stays k k' → StaysDown
 either_stays true k k' s f d st = f s st
 either_stays false k k' s f d st = d s st
 
-wants_by : {T E : Type 0} (r : Result T E) (e : E) (b : Bool) → r ≡ Err e → (b ≡ false → IsOk r) → b ≡ true
-wants_by r e true is h = refl
-wants_by (Ok x) e false is h = absurd (cc is)
-wants_by (Err x) e false is h = absurd (cc (h refl))
+wants : {T E : Type 0} (r : Result T E) (e : E) (b : Bool) → r ≡ Err e → (b ≡ false → IsOk r) → b ≡ true
+wants r e true is h = refl
+wants (Ok x) e false is h = absurd (cc is)
+wants (Err x) e false is h = absurd (cc (h refl))
 
 up_by : (up passes : Bool) → passes ≡ false → (up ≡ false → passes ≡ true) → up ≡ true
 up_by true passes stops h = refl
 up_by false passes stops h = absurd (cc (stops, h refl))
 
-pub wants : {T E : Type 0} (r : Result T E) (e : E) (b : Bool) → r ≡ Err e → (b ≡ false → IsOk r) → b ≡ true
-wants r e b is h = wants_by r e b is h
+pub wanted_is : (b : Bool) (A B : Type 0) → b ≡ true → A → MatchBool b A B
+wanted_is true A B e h = h
+wanted_is false A B e h = absurd (cc e)
 
 -- a code of the standard is a word of its own
 one_phase_kept : (b : Bool) → to_z w32 (of_z w32 (if b then XAER_RMFAIL else XA_RETRY)) ≡ (if b then XAER_RMFAIL else XA_RETRY)
@@ -96,6 +101,8 @@ code_kept (request.Delete key) = refl
 code_kept (request.Decide direction xid) = refl
 code_kept (request.Doom xid) = refl
 code_kept request.Restart = refl
+code_kept (request.Timeout seconds) = refl
+code_kept (request.Tick moment) = refl
 
 module _ {D : Type 0} (disks : Ghosts D) where
   answers_by : (m : Manager D) (s : State) (n : ℕ) (request : Request) → ManagerStandsFor disks m s → step s (Asked (Call n request)) ≡ taken (respond s (Call n request))
@@ -162,10 +169,11 @@ module _ {D : Type 0} (disks : Ghosts D) where
 
   pub turns_done : (m m' : Manager D) (n : ℕ) (request handed : Request) (o : Option Reply) (turn : State → Turn) (r : Result Done AllocError) → IsAsked request → request ≡ handed
       → asks_restart handed ≡ false → passes_down (call_of handed) ≡ false → o ≡ None → o ≡ early_refusal (context_at m.up (view m) n) request
-      → (o ≡ None → m.up ≡ false → passes_down (call_of request) ≡ true) → ((s : State) → row s n handed ≡ turn s) → IfOk r (λ d. TakesTurn disks m turn d.reply d.outcome m')
-      → IfOk r (λ d. HasDone disks m (Call n request) d.reply d.outcome m')
-  turns_done m m' n request handed o turn (Ok d) event same other stops none h passes is x = turn_done m m' n request handed o turn d.reply d.outcome event same other stops none h passes is x
-  turns_done m m' n request handed o turn (Err e) event same other stops none h passes is x = tt
+      → (o ≡ None → m.up ≡ false → passes_down (call_of request) ≡ true) → ((s : State) → row s n handed ≡ turn s) → IfOk r (λ d. TakesTurn disks m turn d.reply d.outcome m') → IfOk r (λ d. IsBare d.reply)
+      → IfOk r (λ d. HasDone disks m (Call n request) d.reply d.outcome m' × IsFresh d.reply)
+  turns_done m m' n request handed o turn (Ok d) event same other stops none h passes is x bare =
+      (turn_done m m' n request handed o turn d.reply d.outcome event same other stops none h passes is x, bare_fresh d.reply bare)
+  turns_done m m' n request handed o turn (Err e) event same other stops none h passes is x bare = tt
 
   -- the same of a row of the tables
   pub follows_done : (m m' : Manager D) (n : ℕ) (request handed : Request) (o : Option Reply) (act : State → Answer) (reply : Reply) → IsAsked request → request ≡ handed
@@ -177,39 +185,33 @@ module _ {D : Type 0} (disks : Ghosts D) where
 
   -- a restart, of whichever state the manager stood for, up or down
   restarted_done : (m m' : Manager D) (n : ℕ) (reply : Reply) (outcome : Outcome) → None ≡ early_refusal (context_at m.up (view m) n) Restart
-      → ((s : State) → ManagerStandsFor disks m s → Trusts disks → AnswersAs disks (taken (restart_turn s) outcome) reply m') → HasCalled disks outcome m.log m'.log → is_memory reply.detail ≡ false
-      → ((s : State) → ManagerStandsFor disks m s → Trusts disks → LeavesBy disks m.log (restart_turn s) outcome m'.log s)
-      → HasDone disks m (Call n Restart) reply outcome m'
-  restarted_done m m' n reply outcome h turn called served crash = record {
+      → HasRestarted disks m reply outcome m' → HasDone disks m (Call n Restart) reply outcome m'
+  restarted_done m m' n reply outcome h x = record {
     steps = λ s st premises.
         let steps : step s (Asked (Call n Restart)) outcome ≡ taken (restart_turn s) outcome =
         ap (λ (t : Turn). taken t outcome) (asked_by m.up (view m) s (respond s (Call n Restart)) st.tables ∙ passed_row m s n Restart h st) in
         subst (λ (o : Option Answer). IsSomeAnd o (λ a. (a.reply ≡ reply) × ManagerStandsFor disks m' a.after)) (sym steps)
-        (⊎_elim (λ trusts. turn s st trusts) (λ no. absurd (cc no)) premises);
-    called = λ s st premises. called;
+        (⊎_elim (λ trusts. x.turn s st trusts) (λ no. absurd (cc no)) premises);
+    called = λ s st premises. x.called;
     crash = λ s st trusts.
         let is : turn_of s (Asked (Call n Restart)) ≡ restart_turn s =
         asked_by m.up (view m) s (respond s (Call n Restart)) st.tables ∙ passed_row m s n Restart h st in
-        subst (λ (t : Turn). LeavesBy disks m.log t outcome m'.log s) (sym is) (crash s st trusts);
-    served = served;
+        subst (λ (t : Turn). LeavesBy disks m.log t outcome m'.log s) (sym is) (x.leaves s st trusts);
+    served = x.served;
   }
 
   restart_by : (m m' : Manager D) (n : ℕ) (r : Result Done AllocError) → None ≡ early_refusal (context_at m.up (view m) n) Restart
-      → IfOk r (λ d. (s : State) → ManagerStandsFor disks m s → Trusts disks → AnswersAs disks (taken (restart_turn s) d.outcome) d.reply m')
-      → IfOk r (λ d. HasCalled disks d.outcome m.log m'.log) → IfOk r (λ d. is_memory d.reply.detail ≡ false)
-      → IfOk r (λ d. (s : State) → ManagerStandsFor disks m s → Trusts disks → LeavesBy disks m.log (restart_turn s) d.outcome m'.log s)
-      → IfOk r (λ d. HasDone disks m (Call n Restart) d.reply d.outcome m')
-  restart_by m m' n (Ok d) h turn called served crash = restarted_done m m' n d.reply d.outcome h turn called served crash
-  restart_by m m' n (Err e) h turn called served crash = tt
+      → IfOk r (λ d. HasRestarted disks m d.reply d.outcome m') → IfOk r (λ d. IsBare d.reply)
+      → IfOk r (λ d. HasDone disks m (Call n Restart) d.reply d.outcome m' × IsFresh d.reply)
+  restart_by m m' n (Ok d) h x bare = (restarted_done m m' n d.reply d.outcome h x, bare_fresh d.reply bare)
+  restart_by m m' n (Err e) h x bare = tt
 
   pub restart_done : (m m' : Manager D) (n : ℕ) (request : Request) (r : Result Done AllocError) → request ≡ Restart → None ≡ early_refusal (context_at m.up (view m) n) request
-      → IfOk r (λ d. (s : State) → ManagerStandsFor disks m s → Trusts disks → AnswersAs disks (taken (restart_turn s) d.outcome) d.reply m')
-      → IfOk r (λ d. HasCalled disks d.outcome m.log m'.log) → IfOk r (λ d. is_memory d.reply.detail ≡ false)
-      → IfOk r (λ d. (s : State) → ManagerStandsFor disks m s → Trusts disks → LeavesBy disks m.log (restart_turn s) d.outcome m'.log s)
-      → IfOk r (λ d. HasDone disks m (Call n request) d.reply d.outcome m')
-  restart_done m m' n request r same h turn called served crash =
-      subst (λ (q : Request). IfOk r (λ d. HasDone disks m (Call n q) d.reply d.outcome m')) (sym same)
-      (restart_by m m' n r (subst (λ (q : Request). None ≡ early_refusal (context_at m.up (view m) n) q) same h) turn called served crash)
+      → IfOk r (λ d. HasRestarted disks m d.reply d.outcome m') → IfOk r (λ d. IsBare d.reply)
+      → IfOk r (λ d. HasDone disks m (Call n request) d.reply d.outcome m' × IsFresh d.reply)
+  restart_done m m' n request r same h x bare =
+      subst (λ (q : Request). IfOk r (λ d. HasDone disks m (Call n q) d.reply d.outcome m' × IsFresh d.reply)) (sym same)
+      (restart_by m m' n r (subst (λ (q : Request). None ≡ early_refusal (context_at m.up (view m) n) q) same h) x bare)
 
   -- the outcome is no part of what a manager stands for
   told : (m : Manager D) (o : Outcome) (s : State) → ManagerStandsFor disks m s → ManagerStandsFor disks (record m { outcome = o }) s
@@ -247,20 +249,41 @@ module _ {D : Type 0} (disks : Ghosts D) where
   wanting_by m m' true looks s st trusts = looks refl s st trusts
   wanting_by m m' false looks s st trusts = now_leaves disks m s st
 
-  pub wanted_answered : (m m' : Manager D) (n : ℕ) (request : Request) (reply : Reply) → reply ≡ detailed (memory_code request) detail.Memory → StaysFor disks m m' → m'.outcome ≡ m.outcome → NoneRises disks.failures m.log m'.log
-      → (asks_restart request ≡ false → m'.log ≡ m.log)
-      → (asks_restart request ≡ true → (s : State) → ManagerStandsFor disks m s → Trusts disks → LeavesLook disks m.log m'.log s)
-      → may_want request ≡ true
+  wanted_of : (m m' : Manager D) (request : Request) → may_want request ≡ true → asks_restart request ≡ false → StaysFor disks m m' → m'.log ≡ m.log → HasWanted disks m request m'
+  wanted_of m m' request may other stays log = record {
+    may = may;
+    stays = stays;
+    quiet = rw log (refl, refl);
+    untouched = λ is. log;
+    leaves = λ restart. absurd (cc (restart, other));
+  }
+
+  -- a row of the tables, of a request that a manager which is down refuses
+  pub follows_wanted : (m m' : Manager D) (request handed : Request) (o : Option Reply) → request ≡ handed → may_want handed ≡ true → asks_restart handed ≡ false → passes_down (call_of handed) ≡ false
+      → o ≡ None → (o ≡ None → m.up ≡ false → passes_down (call_of request) ≡ true) → m'.up ≡ m.up → m'.log ≡ m.log → m'.doubt ≡ m.doubt → Stays (view m) (view m') → HasWanted disks m request m'
+  follows_wanted m m' request handed o same may other stops none passes up log doubt stays =
+      let is_up = up_by m.up (passes_down (call_of request)) (ap (λ (r : Request). passes_down (call_of r)) same ∙ stops) (passes none) in
+      wanted_of m m' request (ap may_want same ∙ may) (ap asks_restart same ∙ other) (stays_up disks m m' is_up up log doubt stays) log
+
+  -- a row of the manager
+  pub turns_wanted : (m m' : Manager D) (request handed : Request) (r : Result Done AllocError) → request ≡ handed → asks_restart handed ≡ false → (may_want handed ≡ false → IsOk r)
+      → OnErr r (StaysFor disks m m') → OnErr r (m'.log ≡ m.log) → OnErr r (HasWanted disks m request m')
+  turns_wanted m m' request handed (Ok d) same other room stays log = tt
+  turns_wanted m m' request handed (Err e) same other room stays log =
+      let r : Result Done AllocError = Err e in
+      wanted_of m m' request (ap may_want same ∙ wants r e (may_want handed) refl room) (ap asks_restart same ∙ other) stays log
+
+  pub wanted_answered : (m m' : Manager D) (n : ℕ) (request : Request) (reply : Reply) → reply ≡ detailed (memory_code request) detail.Memory → HasWanted disks m request m' → m'.outcome ≡ m.outcome
       → FullyAnswered disks m (Call n request) reply m'
-  wanted_answered m m' n request reply is stays outcome quiet untouched looks may =
+  wanted_answered m m' n request reply is x outcome =
       rw is (record {
-        answered = (stays, outcome);
-        pinned = λ w. (may, refl);
+        answered = (x.stays, outcome);
+        pinned = λ w. (x.may, refl);
         called = λ served. absurd (cc served);
         crash = λ served. absurd (cc served);
-        quiet = λ w. quiet;
-        untouched = λ w. untouched;
-        wanting = λ w. wanting_by m m' (asks_restart request) looks;
+        quiet = λ w. x.quiet;
+        untouched = λ w. x.untouched;
+        wanting = λ w. wanting_by m m' (asks_restart request) x.leaves;
       })
 
   pub either_stays_for : (m m' : Manager D) → m'.up ≡ m.up → m'.log ≡ m.log → m'.doubt ≡ m.doubt → Stays (view m) (view m') → StaysDown (view m) (view m') → StaysFor disks m m'
@@ -305,5 +328,11 @@ module _ {D : Type 0} (disks : Ghosts D) where
     served = x.served;
   }
 
-  pub given_stays : (m mid m' : Manager D) → StaysFor disks m mid → StaysFor disks mid m' → StaysFor disks m m'
-  given_stays m mid m' x y s st = y s (x s st)
+  pub given_wanted : (m mid m' : Manager D) (request : Request) → HasWanted disks m request mid → StaysFor disks mid m' → m'.log ≡ mid.log → HasWanted disks m request m'
+  given_wanted m mid m' request x stays log = record {
+    may = x.may;
+    stays = λ s st. stays s (x.stays s st);
+    quiet = rw log x.quiet;
+    untouched = λ other. log ∙ x.untouched other;
+    leaves = λ restart s st trusts. rw log (x.leaves restart s st trusts);
+  }

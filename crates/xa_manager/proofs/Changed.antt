@@ -66,7 +66,7 @@ done_stands m m' s xid op reads st same records recoverable = record {
   up = st.up;
   sessions = rw same.sessions (unmoved m.sessions s (record s { branches = did xid op s.branches; reads = reads }) refl refl st.sessions);
   branches =
-      rw same.branches (stands_elsewhere m.branches (record s { branches = did xid op s.branches }) (record s { branches = did xid op s.branches; reads = reads }) refl refl refl refl refl
+      rw same.branches (stands_elsewhere m.branches (record s { branches = did xid op s.branches }) (record s { branches = did xid op s.branches; reads = reads }) refl refl refl refl refl refl
       (branch_done m.branches s xid op st.branches));
   records =
       low_rises (record { low = low_of s; writes = writes_in (did xid op s.branches); reads = map read_as reads }) m'.records (low_of (record s { branches = did xid op s.branches; reads = reads })) records

@@ -153,5 +153,5 @@ pub small_appends : (m m' : View) (s : State) (turn : Turn) (r : Record) (code :
 small_appends m m' s turn r code body a st is body_is fits kept_ left =
     logs_answers s turn r code s body a m' is body_is
     (by_answer m' s r code s a kept_ (λ e recoverable. subst (λ (k : View). StandsFor k s) (sym (left (refused_is a e))) st)
-    (λ e recoverable. let same = left (lost_is a e) in lost_stands m m' s r st (ap (λ (k : View). k.name) same) (ap (λ (k : View). k.log_bytes) same) (ap (λ (k : View). k.sessions) same) recoverable))
+    (λ e recoverable. let same = left (lost_is a e) in lost_stands m m' s r st (ap (λ (k : View). k.name) same) (ap (λ (k : View). k.log_bytes) same) (ap (λ (k : View). k.sessions) same) (ap (λ (k : View). k.branches.moment) same) recoverable))
     (subst (λ (b : List ℕ). s.end + 40 + length b ≤ s.log_bytes) body_is fits)

@@ -77,10 +77,6 @@ boot_by disks old mid s (Appended a) new look boot = absurd boot
 boot_by disks old mid s Failed new look boot = absurd boot
 boot_by disks old mid s (Reread survived appended) new look boot = (mid, look, boot)
 
-pub stopped_leaves : {D : Type 0} (disks : Ghosts D) (old new : Log D) (s : State) (o : Outcome) → o ≡ Reread false None → LeavesLook disks old new s
-    → LeavesBy disks old (restart_turn s) o new s
-stopped_leaves disks old new s o is look = subst (λ (x : Outcome). LeavesBy disks old (restart_turn s) x new s) (sym is) (new, look, refl)
-
 pub failed_leaves : {D : Type 0} (disks : Ghosts D) (old new : Log D) (s : State) (o : Outcome) → o ≡ Failed → LeavesLook disks old new s
     → LeavesBy disks old (restart_turn s) o new s
 failed_leaves disks old new s o is look = subst (λ (x : Outcome). LeavesBy disks old (restart_turn s) x new s) (sym is) look

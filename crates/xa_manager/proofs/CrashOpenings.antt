@@ -6,6 +6,7 @@ use Rattle.xa_disk.specs.declared.disk.Disk.{Ghosts}
 use Rattle.xa_record.specs.Spelling.{spelled}
 use Rattle.xa_record.specs.declared.record.Record.{Record}
 use Rattle.xa_record.specs.declared.record.Record.TheVariants as logged_as
+use Rattle.xa_log.proofs.States.{same_left}
 use Rattle.xa_log.specs.Chain.{newest, logged}
 use Rattle.xa_log.specs.Checkpoint.{LeavesAny}
 use Rattle.xa_log.specs.Pair.{pair_fault}
@@ -42,7 +43,6 @@ use Rattle.xa_manager.specs.Opening.{IsFound, has_boot_room}
 use Rattle.xa_manager.specs.Refused.{LeavesFinding, KeepsCurrent, SnapshotsFirst, LogsFirst, LeavesLogging, LeavesRefused}
 use Rattle.xa_manager.specs.Rereading.{IsFate}
 use Rattle.xa_manager.proofs.CrashBoots.{snapshot_leaves}
-use Rattle.xa_manager.proofs.CrashFiles.{same_left}
 use Rattle.xa_manager.proofs.Generations.{newer, rebuilt_is}
 use Rattle.xa_manager.proofs.OpenedStates.{below_limit, both_hold}
 
@@ -169,7 +169,7 @@ module _ {D : Type 0} (disks : Ghosts D) (only_now : (d : D) (c : List ℕ) → 
         boot = subst (λ (o : Option Answer). IsSomeAnd o (λ x. LeavesCheckpoint disks l.log (became a) after x.after)) (sym is)
             (snapshot_leaves disks l.log after lost (t.logged_boot + 1) files.records (became a)
             (keeps_recoverable s (Reopened name log_bytes) (Reread f.survives (Some Lost)) (reopen_became t name log_bytes (t.logged_boot + 1) Lost) tt h is)
-            refl (same_backed files.records t name log_bytes [] [] Ended (Some (logged_as.Opened (t.logged_boot + 1))) f.backs) has
+            refl (same_backed files.records t name log_bytes [] [] Ended (Some (logged_as.Opened (t.logged_boot + 1))) t.moment f.backs) has
             (newer files.records (durable t) f.backs.lasts less) snap.log_bytes (same_current a l.log after snap.current) left);
       }
 

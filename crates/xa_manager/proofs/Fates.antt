@@ -30,20 +30,21 @@ pub record IsSameOutside (s t : State) : Type 0 where
   pub log_bytes : t.log_bytes ≡ s.log_bytes
   pub sessions : t.sessions ≡ s.sessions
   pub associations : t.associations ≡ s.associations
+  pub moment : t.moment ≡ s.moment
   pub standing : t.standing ≡ s.standing
 
 applied_same : (r : Record) (s : State) → IsSameOutside s (survived s r)
-applied_same (logged.Opened boot) s = record { name = refl; log_bytes = refl; sessions = refl; associations = refl; standing = refl }
-applied_same (logged.Prepared xid t ws) s = record { name = refl; log_bytes = refl; sessions = refl; associations = refl; standing = refl }
-applied_same (logged.Committed xid t ws) s = record { name = refl; log_bytes = refl; sessions = refl; associations = refl; standing = refl }
-applied_same (logged.Completed xid direction.Commit) s = record { name = refl; log_bytes = refl; sessions = refl; associations = refl; standing = refl }
-applied_same (logged.Completed xid direction.Rollback) s = record { name = refl; log_bytes = refl; sessions = refl; associations = refl; standing = refl }
-applied_same (logged.Decided xid direction.Commit) s = record { name = refl; log_bytes = refl; sessions = refl; associations = refl; standing = refl }
-applied_same (logged.Decided xid direction.Rollback) s = record { name = refl; log_bytes = refl; sessions = refl; associations = refl; standing = refl }
-applied_same (logged.Forgotten xid) s = record { name = refl; log_bytes = refl; sessions = refl; associations = refl; standing = refl }
-applied_same (logged.Base t ws) s = record { name = refl; log_bytes = refl; sessions = refl; associations = refl; standing = refl }
-applied_same (logged.Held xid t ws) s = record { name = refl; log_bytes = refl; sessions = refl; associations = refl; standing = refl }
-applied_same (logged.Known xid d) s = record { name = refl; log_bytes = refl; sessions = refl; associations = refl; standing = refl }
+applied_same (logged.Opened boot) s = record { name = refl; log_bytes = refl; sessions = refl; associations = refl; moment = refl; standing = refl }
+applied_same (logged.Prepared xid t ws) s = record { name = refl; log_bytes = refl; sessions = refl; associations = refl; moment = refl; standing = refl }
+applied_same (logged.Committed xid t ws) s = record { name = refl; log_bytes = refl; sessions = refl; associations = refl; moment = refl; standing = refl }
+applied_same (logged.Completed xid direction.Commit) s = record { name = refl; log_bytes = refl; sessions = refl; associations = refl; moment = refl; standing = refl }
+applied_same (logged.Completed xid direction.Rollback) s = record { name = refl; log_bytes = refl; sessions = refl; associations = refl; moment = refl; standing = refl }
+applied_same (logged.Decided xid direction.Commit) s = record { name = refl; log_bytes = refl; sessions = refl; associations = refl; moment = refl; standing = refl }
+applied_same (logged.Decided xid direction.Rollback) s = record { name = refl; log_bytes = refl; sessions = refl; associations = refl; moment = refl; standing = refl }
+applied_same (logged.Forgotten xid) s = record { name = refl; log_bytes = refl; sessions = refl; associations = refl; moment = refl; standing = refl }
+applied_same (logged.Base t ws) s = record { name = refl; log_bytes = refl; sessions = refl; associations = refl; moment = refl; standing = refl }
+applied_same (logged.Held xid t ws) s = record { name = refl; log_bytes = refl; sessions = refl; associations = refl; moment = refl; standing = refl }
+applied_same (logged.Known xid d) s = record { name = refl; log_bytes = refl; sessions = refl; associations = refl; moment = refl; standing = refl }
 
 last_is : (s : State) (r : Record) (o : Option Record) → IfSome o (MayBeLast s) → o ≡ Some r → MayBeLast s r
 last_is s r None h e = absurd (cc e)
@@ -54,7 +55,7 @@ last_record s r h e = last_is s r s.open_record h.open_record e
 
 pub fate_same : (b : Bool) (s t : State) → IsFate b s t → IsSameOutside s t
 fate_same true s t (r, found, is) = subst (λ (x : State). IsSameOutside s x) (sym is) (applied_same r s)
-fate_same false s t is = subst (λ (x : State). IsSameOutside s x) (sym is) (record { name = refl; log_bytes = refl; sessions = refl; associations = refl; standing = refl })
+fate_same false s t is = subst (λ (x : State). IsSameOutside s x) (sym is) (record { name = refl; log_bytes = refl; sessions = refl; associations = refl; moment = refl; standing = refl })
 
 pub fate_settled : (b : Bool) (s t : State) → IsFate b s t → t.open_record ≡ None
 fate_settled true s t (r, found, is) = ap (λ (x : State). x.open_record) is
@@ -75,7 +76,7 @@ fate_room false s t h is = subst HasRoom (sym is) h.room
 -- the log's records stand behind the state, whichever its fate
 
 down_again : (rs : List Record) (t : State) → Backs rs (down t) → Backs rs t
-down_again rs t k = same_backed rs (down t) t.name t.log_bytes t.sessions t.associations t.standing t.open_record k
+down_again rs t k = same_backed rs (down t) t.name t.log_bytes t.sessions t.associations t.standing t.open_record t.moment k
 
 reading_backed : (rs : List Record) (t : State) (c : Bool)
     → BacksReading rs t (cond c (Opens (logged.Opened (t.logged_boot + 1)) (boot_became t (t.logged_boot + 1))) (Stops (answer (detailed XAER_RMFAIL detail.Limit) (down t)))) → Backs rs t
@@ -93,12 +94,12 @@ pub survived_backed : (rs : List Record) (s : State) (r : Record) → IsRecovera
 survived_backed rs s r h k found = found_backed rs s r s.open_record found (restart_backed rs s h k).1
 
 pub missed_backed : (rs : List Record) (s : State) → Backs rs s → Backs rs (missed s)
-missed_backed rs s k = same_backed rs s s.name s.log_bytes s.sessions s.associations s.standing None k
+missed_backed rs s k = same_backed rs s s.name s.log_bytes s.sessions s.associations s.standing None s.moment k
 
 -- the states that a restart leads to
 
 pub down_backed : (rs : List Record) (t : State) (o : Option Record) → Backs rs t → Backs rs (record (down t) { open_record = o })
-down_backed rs t o k = same_backed rs t t.name t.log_bytes t.sessions t.associations _ o k
+down_backed rs t o k = same_backed rs t t.name t.log_bytes t.sessions t.associations _ o t.moment k
 
 missed_is : (t : State) → t.open_record ≡ None → missed t ≡ t
 missed_is t none = ap (λ (o : Option Record). record t { open_record = o }) (sym none)

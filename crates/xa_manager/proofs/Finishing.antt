@@ -89,7 +89,7 @@ gone_records s xid t r r' sound here time st settles =
 
 -- where the log ends says nothing of branches
 pub moved_end : (m : Branches) (s : State) (end : ℕ) → BranchesStandFor m s → BranchesStandFor m (ending s end)
-moved_end m s end st = stands_elsewhere m s (ending s end) refl refl refl refl refl st
+moved_end m s end st = stands_elsewhere m s (ending s end) refl refl refl refl refl refl st
 
 -- The operator completes a prepared branch.
 

@@ -8,11 +8,12 @@ use Rattle.mv_rules.specs.Records.{StandsFor as RecordsStandFor}
 use Rattle.mv_rules.specs.Ties.{history_of, low_of, writes_in, writes_by, writes_one, fate_of, read_as}
 use Rattle.mv_rules.proofs.Branches.{unwritten}
 use Rattle.mv_rules.proofs.Remade.{low_rises}
-use Rattle.xa_codes.specs.declared.codes.TheConstants.{XA_RBCOMMFAIL}
-use Rattle.xa_model.specs.State.{State, Branch, Read, Phase, Working, Prepared, Committed, Association, is_known_as, change}
+use Rattle.xa_codes.specs.declared.codes.TheConstants.{XA_RBCOMMFAIL, XA_RBTIMEOUT}
+use Rattle.xa_model.specs.State.{State, Branch, Read, Phase, Working, Prepared, Committed, is_known_as, change}
 use Rattle.xa_model.specs.Branches.{prepared, prepared_phase, as_prepared}
 use Rattle.xa_model.specs.Associations.{with_mark, marked_phase, left_behind, is_worked_by}
-use Rattle.xa_model.proofs.ChangedWaters.{marked_water, left_water, prepared_water}
+use Rattle.xa_model.specs.TimeLimits.{runs_out, ticked}
+use Rattle.xa_model.proofs.ChangedWaters.{marked_water, left_water, timed_water, prepared_water}
 use Rattle.xa_manager.proofs.Lows.{stays_with}
 
 -- the low water may have risen
@@ -38,21 +39,31 @@ marked_records code xid s r st =
     let t : State = record s { branches = change (is_known_as xid) (with_mark code) s.branches } in
     same_writes s t r refl (unwritten (is_known_as xid) (with_mark code) (marked_one code) s.branches) (stays_with s t refl (marked_water s code xid)) st
 
-left_one : (c : Bool) (b : Branch) → writes_one (cond c (with_mark XA_RBCOMMFAIL b) b) ≡ writes_one b
-left_one true b = marked_one XA_RBCOMMFAIL b
-left_one false b = refl
+-- some branches are marked
 
-left_writes : (held : List Association) (n : ℕ) (bs : List Branch) → writes_in (map (left_behind held n) bs) ≡ writes_in bs
-left_writes held n [] = refl
-left_writes held n (b ∷ bs) =
-    ap (λ (ws : List Written). ws ++ writes_in (map (left_behind held n) bs)) (left_one (is_worked_by held n b.phase) b) ∙ ap (λ (ws : List Written). writes_one b ++ ws) (left_writes held n bs)
+abbrev marking : ℤ → (Branch → Bool) → Branch → Branch
+marking code p b = cond (p b) (with_mark code b) b
+
+marking_one : (code : ℤ) (c : Bool) (b : Branch) → writes_one (cond c (with_mark code b) b) ≡ writes_one b
+marking_one code true b = marked_one code b
+marking_one code false b = refl
+
+marking_writes : (code : ℤ) (p : Branch → Bool) (bs : List Branch) → writes_in (map (marking code p) bs) ≡ writes_in bs
+marking_writes code p [] = refl
+marking_writes code p (b ∷ bs) =
+    ap (λ (ws : List Written). ws ++ writes_in (map (marking code p) bs)) (marking_one code (p b) b) ∙ ap (λ (ws : List Written). writes_one b ++ ws) (marking_writes code p bs)
 
 -- a session hangs up
 pub left_records : (n : ℕ) (s : State) (r : Records) → RecordsStandFor (history_of s) r
     → RecordsStandFor (history_of (record s { branches = map (left_behind s.associations n) s.branches })) r
 left_records n s r st =
     let t : State = record s { branches = map (left_behind s.associations n) s.branches } in
-    same_writes s t r refl (left_writes s.associations n s.branches) (stays_with s t refl (left_water s s.associations n)) st
+    same_writes s t r refl (marking_writes XA_RBCOMMFAIL (λ b. is_worked_by s.associations n b.phase) s.branches) (stays_with s t refl (left_water s s.associations n)) st
+
+-- a moment is told
+pub ticked_records : (moment : ℕ) (s : State) (r : Records) → RecordsStandFor (history_of s) r → RecordsStandFor (history_of (ticked s moment)) r
+ticked_records moment s r st =
+    same_writes s (ticked s moment) r refl (marking_writes XA_RBTIMEOUT (runs_out moment) s.branches) (stays_with s (ticked s moment) refl (timed_water s moment)) st
 
 -- a branch is prepared
 

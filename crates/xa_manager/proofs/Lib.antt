@@ -17,6 +17,7 @@ pub mod Taking
 pub mod Written
 pub mod OnePhase
 pub mod Completing
+pub mod LogsBehind
 pub mod Stepping
 pub mod Calling
 pub mod Appending
@@ -44,6 +45,7 @@ pub mod Replying
 pub mod ShortWrites
 pub mod KeysBack
 pub mod WritesWithin
+pub mod Rereads
 pub mod Rescanned
 pub mod Results
 pub mod Standing

@@ -46,7 +46,7 @@ recover_follows m m' n flags count cursor xids reply few goes lists says moves s
         log_bytes = moves.log_bytes ∙ st.log_bytes;
         up = st.up;
         sessions = subst (λ (ys : List Triple). SessionsStandFor m'.sessions (scanning s n (scan_after flags cursor ys))) same (moves.sessions s st.sessions);
-        branches = rw moves.branches (stands_elsewhere m.branches s (scanning s n (scan_after flags cursor (list_after cursor count (durable s)))) refl refl refl refl refl st.branches);
+        branches = rw moves.branches (stands_elsewhere m.branches s (scanning s n (scan_after flags cursor (list_after cursor count (durable s)))) refl refl refl refl refl refl st.branches);
         records = rw moves.records st.records;
         recoverable = recoverable;
       },

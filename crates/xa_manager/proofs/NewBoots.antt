@@ -24,6 +24,7 @@ use Rattle.xa_manager.specs.declared.manager.Manager.{Manager}
 use Rattle.xa_manager.specs.Managed.{view, ManagerStandsFor}
 use Rattle.xa_manager.specs.Opening.{HasBodies, has_boot_room}
 use Rattle.xa_manager.specs.Stands.{TablesStandFor}
+use Rattle.xa_manager.proofs.LogsBehind.{stands_whole}
 use Rattle.xa_manager.proofs.LogLengths.{text_size}
 
 idle_unused : (ts : List ℕ) (bs : List Branch) → AllByRecursion (λ b. is_working b.phase ≡ false) bs
@@ -61,19 +62,19 @@ restored_room d next log_bytes s it bytes room =
 pub new_stands : {D : Type 0} (disks : Ghosts D) (m : Manager D) (d : Durable) (next : ℕ) (name : List ℕ) (log_bytes : ℕ)
     → m.up ≡ true → m.doubt ≡ None → (view m).name ≡ name → (view m).log_bytes ≡ log_bytes → m.log.log_bytes ≡ log_bytes
     → ((s : State) → s.sessions ≡ [] → s.associations ≡ [] → SessionsStandFor (view m).sessions s)
-    → ((s : State) → IsRestored d next s → BranchesStandFor (view m).branches s)
-    → ((s : State) → IsRestored d next s → RecordsStandFor (history_of s) (view m).records)
+    → ((s : State) → IsRestored d next s → s.moment ≡ 0 → BranchesStandFor (view m).branches s)
+    → ((s : State) → IsRestored d next s → s.moment ≡ 0 → RecordsStandFor (history_of s) (view m).records)
     → EndsBehind (map spelled (snapshot d next)) m.log → (disks.honest → HasBodies disks (map spelled (snapshot d next)) m.log)
     → AllByRecursion IsRecord (snapshot d next) → IsDurable d → d.boot < next → has_boot_room log_bytes d next ≡ true
-    → (s : State) → IsRestored d next s → s.name ≡ name → s.log_bytes ≡ log_bytes → s.sessions ≡ [] → ManagerStandsFor disks m s
-new_stands disks m d next name log_bytes up doubt named sized bytes sessions branches records ends has limits form less room s it name_is bytes_is none = record {
+    → (s : State) → IsRestored d next s → s.name ≡ name → s.log_bytes ≡ log_bytes → s.sessions ≡ [] → s.moment ≡ 0 → ManagerStandsFor disks m s
+new_stands disks m d next name log_bytes up doubt named sized bytes sessions branches records ends has limits form less room s it name_is bytes_is none now = record {
   tables = subst (λ (b : Bool). TablesStandFor b (view m) s) (sym up) (record {
     name = named ∙ sym name_is;
     log_bytes = sized ∙ sym bytes_is;
     up = it.standing;
     sessions = sessions s none it.associations;
-    branches = branches s it;
-    records = records s it;
+    branches = branches s it now;
+    records = records s it now;
     recoverable = it.recoverable;
   });
   roomy = λ alive. record { room = restored_room d next log_bytes s it bytes_is room; found = rw it.open_record tt };
@@ -81,5 +82,5 @@ new_stands disks m d next name log_bytes up doubt named sized bytes sessions bra
   alive = λ is_up. ends.alive;
   log_bytes = bytes ∙ sym bytes_is;
   doubt = rw doubt it.open_record;
-  log = λ trusts. record { records = snapshot d next; backs = restored_backed d next s form less limits it; has = rw it.open_record (has trusts.disk) };
+  log = λ trusts. stands_whole disks m.log s (snapshot d next) (restored_backed d next s form less limits it) (has trusts.disk);
 }

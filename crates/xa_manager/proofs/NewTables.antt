@@ -85,10 +85,10 @@ append_none : {A : Type 0} (xs : List A) → xs ++ [] ≡ xs
 append_none [] = refl
 append_none (x ∷ xs) = ap (λ ys. x ∷ ys) (append_none xs)
 
-pub prepared_more : (boot : ℕ) (all rest left : List PreparedBranch) (p : PreparedBranch) (m m' : Branches) → left ≡ p ∷ rest → Pairwise named_apart all
-    → ((ps : List PreparedBranch) → is_prepared p.xid ps ≡ false → is_decided p.xid [] ≡ false → HasRestored m boot ps [] → HasRestored m' boot (ps ++ p ∷ []) [])
-    → PreparedUpto boot all left m → PreparedUpto boot all rest m'
-prepared_more boot all rest left p m m' is apart adds upto =
+pub prepared_more : (boot moment : ℕ) (all rest left : List PreparedBranch) (p : PreparedBranch) (m m' : Branches) → left ≡ p ∷ rest → Pairwise named_apart all
+    → ((ps : List PreparedBranch) → is_prepared p.xid ps ≡ false → is_decided p.xid [] ≡ false → HasRestored m boot moment ps [] → HasRestored m' boot moment (ps ++ p ∷ []) [])
+    → PreparedUpto boot moment all left m → PreparedUpto boot moment all rest m'
+prepared_more boot moment all rest left p m m' is apart adds upto =
     let split : upto.done ++ p ∷ rest ≡ all = sym (ap (λ (ps : List PreparedBranch). upto.done ++ ps) is) ∙ upto.split in
     let before = pairwise_before named_apart upto.done p rest (subst (λ (ps : List PreparedBranch). Pairwise named_apart ps) (sym split) apart) in
     record {
@@ -97,20 +97,20 @@ prepared_more boot all rest left p m m' is apart adds upto =
       stands = adds upto.done (none_named p.xid upto.done (each_apart p upto.done before)) refl upto.stands;
     }
 
-pub prepared_all : (boot : ℕ) (all left : List PreparedBranch) (m : Branches) → left ≡ [] → PreparedUpto boot all left m → HasRestored m boot all []
-prepared_all boot all left m is upto =
+pub prepared_all : (boot moment : ℕ) (all left : List PreparedBranch) (m : Branches) → left ≡ [] → PreparedUpto boot moment all left m → HasRestored m boot moment all []
+prepared_all boot moment all left m is upto =
     let e : upto.done ≡ all = sym (append_none upto.done) ∙ (sym (ap (λ (ps : List PreparedBranch). upto.done ++ ps) is) ∙ upto.split) in
-    subst (λ (ps : List PreparedBranch). HasRestored m boot ps []) e upto.stands
+    subst (λ (ps : List PreparedBranch). HasRestored m boot moment ps []) e upto.stands
 
 all_back : {A : Type 0} (P : A → Type 0) (xs ys : List A) → AllByRecursion P (xs ++ ys) → AllByRecursion P ys
 all_back P [] ys h = h
 all_back P (x ∷ xs) ys h = all_back P xs ys h.1
 
-pub completed_more : (boot : ℕ) (ps : List PreparedBranch) (all rest left : List Decided) (d : Decided) (m m' : Branches) → left ≡ d ∷ rest → Pairwise named_before all
+pub completed_more : (boot moment : ℕ) (ps : List PreparedBranch) (all rest left : List Decided) (d : Decided) (m m' : Branches) → left ≡ d ∷ rest → Pairwise named_before all
     → AllByRecursion (λ e. is_prepared e.xid ps ≡ false) all
-    → ((ds : List Decided) → is_prepared d.xid ps ≡ false → is_decided d.xid ds ≡ false → HasRestored m boot ps ds → HasRestored m' boot ps (ds ++ d ∷ []))
-    → CompletedUpto boot ps all left m → CompletedUpto boot ps all rest m'
-completed_more boot ps all rest left d m m' is apart unknown adds upto =
+    → ((ds : List Decided) → is_prepared d.xid ps ≡ false → is_decided d.xid ds ≡ false → HasRestored m boot moment ps ds → HasRestored m' boot moment ps (ds ++ d ∷ []))
+    → CompletedUpto boot moment ps all left m → CompletedUpto boot moment ps all rest m'
+completed_more boot moment ps all rest left d m m' is apart unknown adds upto =
     let split : upto.done ++ d ∷ rest ≡ all = sym (ap (λ (ds : List Decided). upto.done ++ ds) is) ∙ upto.split in
     let before = pairwise_before named_before upto.done d rest (subst (λ (ds : List Decided). Pairwise named_before ds) (sym split) apart) in
     let here = all_back (λ e. is_prepared e.xid ps ≡ false) upto.done (d ∷ rest) (subst (λ (ds : List Decided). AllByRecursion (λ e. is_prepared e.xid ps ≡ false) ds) (sym split) unknown) in
@@ -120,10 +120,10 @@ completed_more boot ps all rest left d m m' is apart unknown adds upto =
       stands = adds upto.done here.0 (none_decided d.xid upto.done (each_below d upto.done before)) upto.stands;
     }
 
-pub completed_all : (boot : ℕ) (ps : List PreparedBranch) (all left : List Decided) (m : Branches) → left ≡ [] → CompletedUpto boot ps all left m → HasRestored m boot ps all
-completed_all boot ps all left m is upto =
+pub completed_all : (boot moment : ℕ) (ps : List PreparedBranch) (all left : List Decided) (m : Branches) → left ≡ [] → CompletedUpto boot moment ps all left m → HasRestored m boot moment ps all
+completed_all boot moment ps all left m is upto =
     let e : upto.done ≡ all = sym (append_none upto.done) ∙ (sym (ap (λ (ds : List Decided). upto.done ++ ds) is) ∙ upto.split) in
-    subst (λ (ds : List Decided). HasRestored m boot ps ds) e upto.stands
+    subst (λ (ds : List Decided). HasRestored m boot moment ps ds) e upto.stands
 
 -- what is restored is of the one form
 pub restored_form : (d : Durable) (next : ℕ) (s : State) → IsRestored d next s → IsDurable (record d { boot = next })
@@ -172,17 +172,18 @@ prepared_new boot cs (p ∷ ps) h past apart =
     let both = apart_from p cs ps apart in
     (past_positive boot p.timestamp past.0, later_prepared p ps h.0, unwritten p.timestamp cs [] both.0 tt, prepared_new boot cs ps h.1 past.1 both.1)
 
-pub branches_stand : (d : Durable) (next : ℕ) (s : State) (ps : List PreparedBranch) (ds : List Decided) (m m' m'' : Branches) → ps ≡ d.prepared → ds ≡ d.decided → HasRestored m next [] []
-    → ((boot : ℕ) → Pairwise named_apart ps → HasRestored m boot [] [] → HasRestored m' boot ps [])
-    → ((boot : ℕ) (qs : List PreparedBranch) → Pairwise named_before ds → AllByRecursion (λ e. is_prepared e.xid qs ≡ false) ds → HasRestored m' boot qs [] → HasRestored m'' boot qs ds)
-    → IsRestored d next s → BranchesStandFor m'' s
-branches_stand d next s ps ds m m' m'' p e start prepares completes h =
+pub branches_stand : (d : Durable) (next moment : ℕ) (s : State) (ps : List PreparedBranch) (ds : List Decided) (m m' m'' : Branches) → ps ≡ d.prepared → ds ≡ d.decided → HasRestored m next moment [] []
+    → ((boot moment : ℕ) → Pairwise named_apart ps → HasRestored m boot moment [] [] → HasRestored m' boot moment ps [])
+    → ((boot moment : ℕ) (qs : List PreparedBranch) → Pairwise named_before ds → AllByRecursion (λ e. is_prepared e.xid qs ≡ false) ds → HasRestored m' boot moment qs [] → HasRestored m'' boot moment qs ds)
+    → IsRestored d next s → s.moment ≡ moment → BranchesStandFor m'' s
+branches_stand d next moment s ps ds m m' m'' p e start prepares completes h now =
     let form = restored_form d next s h in
-    let first = prepares next (subst (λ (qs : List PreparedBranch). Pairwise named_apart qs) (sym p) form.distinct) start in
-    let at : HasRestored m' next d.prepared [] = subst (λ (qs : List PreparedBranch). HasRestored m' next qs []) p first in
-    let second = completes next d.prepared (subst (λ (es : List Decided). Pairwise named_before es) (sym e) form.decided)
+    let first = prepares next moment (subst (λ (qs : List PreparedBranch). Pairwise named_apart qs) (sym p) form.distinct) start in
+    let at : HasRestored m' next moment d.prepared [] = subst (λ (qs : List PreparedBranch). HasRestored m' next moment qs []) p first in
+    let second = completes next moment d.prepared (subst (λ (es : List Decided). Pairwise named_before es) (sym e) form.decided)
     (subst (λ (es : List Decided). AllByRecursion (λ e. is_prepared e.xid d.prepared ≡ false) es) (sym e) form.unknown) at in
-    restored_stand m'' d next s (subst (λ (es : List Decided). HasRestored m'' next d.prepared es) e second) h
+    let at_now : HasRestored m'' next moment d.prepared d.decided = subst (λ (es : List Decided). HasRestored m'' next moment d.prepared es) e second in
+    restored_stand m'' d next s (subst (λ (n : ℕ). HasRestored m'' next n d.prepared d.decided) (sym now) at_now) h
 
 pub records_stand : (d : Durable) (next : ℕ) (s : State) (cs : List CommittedBranch) (ps : List PreparedBranch) (m m' m'' : Records) → cs ≡ d.committed → ps ≡ d.prepared → HaveWrites [] m
     → (AreNew (map (λ c. c.timestamp) cs) [] → HaveWrites [] m → HaveWrites (fold with_committed [] cs) m')

@@ -35,20 +35,20 @@ next_limits bodies d n (rs, are, folds) e =
 pub next_form : (bodies : List (List ℕ)) (d : Durable) → LogRebuilt bodies (Ok d) → IsDurable d
 next_form bodies d (rs, are, folds) = fold_is_durable rs d folds
 
-pub is_next : (bodies : List (List ℕ)) (d : Durable) (n : ℕ) (next : NextBoot) → LogRebuilt bodies (Ok d) → Some n ≡ cond (nat_lt d.boot MOST_BOOTS) (Some (d.boot + 1)) None
-    → next.boot ≡ n → IsReady d n next → IsWithin MOST_VALUE next.records → HasKeys next.records → IsNext d (Some next)
-is_next bodies d n next rebuilt e boot ready short keys =
+pub is_next : (moment : ℕ) (bodies : List (List ℕ)) (d : Durable) (n : ℕ) (next : NextBoot) → LogRebuilt bodies (Ok d) → Some n ≡ cond (nat_lt d.boot MOST_BOOTS) (Some (d.boot + 1)) None
+    → next.boot ≡ n → IsReady d n moment next → IsWithin MOST_VALUE next.records → HasKeys next.records → IsNext d moment (Some next)
+is_next moment bodies d n next rebuilt e boot ready short keys =
     let number = some_by d.boot n (nat_lt d.boot MOST_BOOTS) refl e in (
       boot ∙ number.0,
       number.1,
-      subst (λ (m : ℕ). IsReady d m next) number.0 ready,
+      subst (λ (m : ℕ). IsReady d m moment next) number.0 ready,
       subst (λ (m : ℕ). AllByRecursion IsRecord (snapshot d m)) number.0 (next_limits bodies d n rebuilt e),
       short,
       keys,
     )
 
-pub no_next : (d : Durable) → ◌≡◌ {A = Option ℕ} None (cond (nat_lt d.boot MOST_BOOTS) (Some (d.boot + 1)) None) → IsNext d None
-no_next d e = none_by d.boot (nat_lt d.boot MOST_BOOTS) refl e
+pub no_next : (moment : ℕ) (d : Durable) → ◌≡◌ {A = Option ℕ} None (cond (nat_lt d.boot MOST_BOOTS) (Some (d.boot + 1)) None) → IsNext d moment None
+no_next moment d e = none_by d.boot (nat_lt d.boot MOST_BOOTS) refl e
 
 -- the bodies of records within their limits
 pub are_bodies : (rs : List Record) → AllByRecursion IsRecord rs → AllByRecursion IsBody (map spelled rs)

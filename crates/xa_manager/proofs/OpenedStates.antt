@@ -83,7 +83,7 @@ module _ {D : Type 0} (disks : Ghosts D) where
       let none : begun.comes.records ≡ [] = no_records begun.comes.records begun.comes.bodies_are.spelling in
       let same : nothing ≡ begun.durable = cc (begun.comes.folded, ap (λ (rs : List Record). fold rs) none) in
       let it = (opens_restored [] nothing name log_bytes tt refl (omega arith) (omega arith)).0 in
-      begun.stands (fresh name log_bytes) (subst (λ (x : Durable). IsRestored x (x.boot + 1) (fresh name log_bytes)) same it) refl refl refl
+      begun.stands (fresh name log_bytes) (subst (λ (x : Durable). IsRestored x (x.boot + 1) (fresh name log_bytes)) same it) refl refl refl refl
 
   pub fresh_opened : {E : Type 0} (r : Result (Manager D) E) (name : List ℕ) (log_bytes : ℕ) (a b : List ℕ)
       → IfOk r (HasBegun disks (logged_pair a b) name log_bytes) → a ≡ [] → b ≡ [] → IfOk r (λ m. ManagerStandsFor disks m (fresh name log_bytes))
@@ -103,7 +103,7 @@ module _ {D : Type 0} (disks : Ghosts D) where
       let it : IsRestored begun.durable (begun.durable.boot + 1) (reopened t name log_bytes (t.logged_boot + 1)) =
       subst (λ (x : Durable). IsRestored x (x.boot + 1) (reopened t name log_bytes (t.logged_boot + 1))) (sym d_is) (reopens_restored t name log_bytes rec none less) in
       let opens : can_open t log_bytes (t.logged_boot + 1) ≡ true = rw (← prepared_lasting t, ← decided_lasting t) room in
-      (both_hold (nat_lt t.logged_boot MOST_BOOTS) (can_open t log_bytes (t.logged_boot + 1)) (below_limit t.logged_boot less) opens, begun.stands (reopened t name log_bytes (t.logged_boot + 1)) it refl refl refl)
+      (both_hold (nat_lt t.logged_boot MOST_BOOTS) (can_open t log_bytes (t.logged_boot + 1)) (below_limit t.logged_boot less) opens, begun.stands (reopened t name log_bytes (t.logged_boot + 1)) it refl refl refl refl)
 
   opened_some : (m : Manager D) (o : Option Answer) (a : Answer) → o ≡ Some a → ManagerStandsFor disks m a.after → IsSomeAnd o (λ x. ManagerStandsFor disks m x.after)
   opened_some m o a e st = subst (λ (x : Option Answer). IsSomeAnd x (λ y. ManagerStandsFor disks m y.after)) (sym e) st

@@ -150,4 +150,4 @@ module _ {D : Type 0} (disks : Ghosts D) where
         few = few;
         opened = refl;
       } in
-      (first, record { opens = opens; happened = tt; leads = refl }, begun.stands first restored refl refl refl)
+      (first, record { opens = opens; happened = tt; leads = refl }, begun.stands first restored refl refl refl refl)

@@ -1,6 +1,4 @@
 -- Replies without a place, within the limits.
-use Rattle.std.specs.Prelude.{IfOk, Result, Ok, Err}
-use Rattle.std.specs.declared.alloc.AllocError.{AllocError}
 use Rattle.std.proofs.Common.{◌≡◌, ◌≤◌, ℕ, List, length, refl, sym, subst}
 use Rattle.xa_limits.specs.declared.TheConstants.{MOST_VALUE, MOST_XIDS}
 use Rattle.xa_assoc.specs.Refusals.{IsBare}
@@ -11,9 +9,7 @@ use Rattle.xa_frame.specs.declared.reply.Reply.{Reply}
 use Rattle.xa_model.specs.Answer.{carrying}
 use Rattle.xa_model.specs.Recovering.{listing}
 use Rattle.xa_xid.specs.Triple.{Triple}
-use Rattle.xa_model.specs.declared.outcome.Outcome.{Outcome}
 use Rattle.xa_manager.specs.Replies.{IsFresh}
-use Rattle.xa_manager.specs.declared.done.Done.{Done}
 
 pub bare_fresh : (r : Reply) → IsBare r → IsFresh r
 bare_fresh r b = record { place = b.0; limits = subst (λ (x : Body). IsBody x) (sym b.1) tt }
@@ -30,18 +26,5 @@ value_fresh r v short e = subst (λ (x : Reply). IsFresh x) (sym e) (record { pl
 pub listing_fresh : (r : Reply) (xids : List Triple) → length xids ≤ MOST_XIDS → r ≡ listing xids → IsFresh r
 listing_fresh r xids few e = subst (λ (x : Reply). IsFresh x) (sym e) (record { place = refl; limits = few })
 
-pub now_fresh : (d : Done) (r : Reply) (o : Outcome) → d ≡ record { reply = r; outcome = o } → IsFresh r → IsFresh d.reply
-now_fresh d r o e h = subst (λ (x : Done). IsFresh x.reply) (sym e) h
-
-pub now_bare : (d : Done) (r : Reply) (o : Outcome) → d ≡ record { reply = r; outcome = o } → IsBare r → IsFresh d.reply
-now_bare d r o e h = now_fresh d r o e (bare_fresh r h)
-
-pub done_bare : (result : Result Done AllocError) → IfOk result (λ d. IsBare d.reply) → IfOk result (λ d. IsFresh d.reply)
-done_bare (Ok d) h = bare_fresh d.reply h
-done_bare (Err e) h = tt
-
 -- of what a get answers
 pub ruleset get_replies = (bare_fresh, value_fresh, absent_fresh)
-
--- of what a request comes to: a refusal before its row, or the row
-pub ruleset request_replies = (now_bare, now_fresh, done_bare)

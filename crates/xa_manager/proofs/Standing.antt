@@ -36,9 +36,10 @@ use Rattle.xa_manager.specs.declared.manager.Manager.{Manager}
 use Rattle.xa_manager.specs.declared.tables.Tables.{Tables}
 use Rattle.xa_manager.specs.View.{View, view_of}
 use Rattle.xa_manager.specs.Stands.{StandsFor, StandsDown, TablesStandFor}
-use Rattle.xa_manager.specs.LogStands.{Trusts, HasRecords, HasRecordsOf, LogStandsFor}
+use Rattle.xa_manager.specs.LogStands.{Trusts, HasRecords, LogStandsFor}
 use Rattle.xa_manager.specs.Managed.{view, Doubts, ManagerStandsFor}
 use Rattle.xa_manager.specs.Rereading.{IsFate, Found}
+use Rattle.xa_manager.proofs.LogsBehind.{stands_whole, stands_seal, stands_alike}
 use Rattle.xa_manager.proofs.Fates.{fate_same, fate_settled, fate_recoverable, fate_room, down_backed, lost_room, begun_backed, begun_room}
 
 -- what the tables say whether or not the manager is up
@@ -46,12 +47,13 @@ pub record IsOutside (k : View) (s : State) : Type 0 where
   pub name : k.name ≡ s.name
   pub log_bytes : k.log_bytes ≡ s.log_bytes
   pub sessions : SessionsStandFor k.sessions s
+  pub moment : k.branches.moment ≡ s.moment
   pub recoverable : IsRecoverable s
   pub standing : s.standing ≢ Ended
 
 pub outside : (up : Bool) (k : View) (s : State) → TablesStandFor up k s → IsOutside k s
-outside true k s h = record { name = h.name; log_bytes = h.log_bytes; sessions = h.sessions; recoverable = h.recoverable; standing = λ e. absurd (cc (e, h.up)) }
-outside false k s h = record { name = h.name; log_bytes = h.log_bytes; sessions = h.sessions; recoverable = h.recoverable; standing = λ e. absurd (cc (e, h.down)) }
+outside true k s h = record { name = h.name; log_bytes = h.log_bytes; sessions = h.sessions; moment = h.branches.moment; recoverable = h.recoverable; standing = λ e. absurd (cc (e, h.up)) }
+outside false k s h = record { name = h.name; log_bytes = h.log_bytes; sessions = h.sessions; moment = h.moment; recoverable = h.recoverable; standing = λ e. absurd (cc (e, h.down)) }
 
 pub is_up : (up : Bool) (k : View) (s : State) → TablesStandFor up k s → up ≡ true → s.standing ≡ Up
 is_up true k s h e = h.up
@@ -93,6 +95,7 @@ tables_down k s t o b h fate last =
       log_bytes = h.log_bytes ∙ sym same.log_bytes;
       down = refl;
       sessions = unmoved k.sessions s (record (down t) { open_record = o }) same.sessions same.associations h.sessions;
+      moment = h.moment ∙ sym same.moment;
       recoverable = down_recoverable t o (fate_recoverable b s t h.recoverable fate) last;
     }
 
@@ -109,7 +112,7 @@ down_stands disks m m' s t b rs tables up doubt bytes st fate backs has =
       alive = λ is. absurd (cc (is, up));
       log_bytes = bytes ∙ (st.log_bytes ∙ sym (fate_same b s t fate).log_bytes);
       doubt = subst (λ (d : Option Doubt). Doubts d (down t)) (sym doubt) none;
-      log = λ trusts. record { records = rs; backs = down_backed rs t t.open_record backs; has = subst (λ (o : Option Record). HasRecordsOf disks rs (down t) o m'.log) (sym none) has };
+      log = λ trusts. stands_whole disks m'.log (down t) rs (down_backed rs t t.open_record backs) has;
     }
 
 -- a checkpoint was lost
@@ -130,7 +133,7 @@ lost_stands disks m m' s t b rs tables up doubt bytes st fate backs less seal =
       alive = λ is. absurd (cc (is, up));
       log_bytes = bytes ∙ (st.log_bytes ∙ sym (fate_same b s t fate).log_bytes);
       doubt = subst (λ (d : Option Doubt). Doubts d after) (sym doubt) refl;
-      log = λ trusts. record { records = rs; backs = down_backed rs t (Some (logged.Opened boot)) backs; has = inl seal };
+      log = λ trusts. stands_seal disks m'.log after rs boot (down_backed rs t (Some (logged.Opened boot)) backs) refl seal;
     }
 
 -- so a restart may begin from there
@@ -155,8 +158,8 @@ pub begun_stands : {D : Type 0} (disks : Ghosts D) (m m' : Manager D) (s t : Sta
     → m'.tables.name ≡ m.tables.name → m'.tables.log_bytes ≡ m.tables.log_bytes → m'.up ≡ true → m'.doubt ≡ None → m'.log.log_bytes ≡ m.log.log_bytes
     → ManagerStandsFor disks m s → IsFate b s t → Backs rs t → nat_lt t.logged_boot MOST_BOOTS ≡ true
     → ((x y : State) → y.sessions ≡ map without_scan x.sessions → y.associations ≡ [] → SessionsStandFor m.tables.sessions x → SessionsStandFor m'.tables.sessions y)
-    → ((x : State) → IsRestored (durable t) (t.logged_boot + 1) x → BranchesStandFor m'.tables.branches x)
-    → ((x : State) → IsRestored (durable t) (t.logged_boot + 1) x → RecordsStandFor (history_of x) m'.tables.records)
+    → ((x : State) → IsRestored (durable t) (t.logged_boot + 1) x → x.moment ≡ m.tables.branches.moment → BranchesStandFor m'.tables.branches x)
+    → ((x : State) → IsRestored (durable t) (t.logged_boot + 1) x → x.moment ≡ m.tables.branches.moment → RecordsStandFor (history_of x) m'.tables.records)
     → m'.log.end ≡ 8 + sizes (snapshot (durable t) (t.logged_boot + 1)) → m'.log.lost ≡ false → HasRecords disks (snapshot (durable t) (t.logged_boot + 1)) m'.log
     → ManagerStandsFor disks m' (restarted t (t.logged_boot + 1))
 begun_stands disks m m' s t b rs name log_bytes up doubt bytes st fate backs less sessions branches records end alive has =
@@ -173,8 +176,8 @@ begun_stands disks m m' s t b rs name log_bytes up doubt bytes st fate backs les
       log_bytes = log_bytes ∙ (h.log_bytes ∙ sym same.log_bytes);
       up = refl;
       sessions = sessions s after (ap (λ xs. map without_scan xs) same.sessions) refl h.sessions;
-      branches = branches after restored;
-      records = records after restored;
+      branches = branches after restored (same.moment ∙ sym h.moment);
+      records = records after restored (same.moment ∙ sym h.moment);
       recoverable = restored.recoverable;
     } in record {
       tables = subst (λ (b : Bool). TablesStandFor b (view m') after) (sym up) stands;
@@ -183,7 +186,7 @@ begun_stands disks m m' s t b rs name log_bytes up doubt bytes st fate backs les
       alive = λ is. alive;
       log_bytes = bytes ∙ (st.log_bytes ∙ sym same.log_bytes);
       doubt = subst (λ (d : Option Doubt). Doubts d after) (sym doubt) none;
-      log = λ trusts. record { records = snapshot (durable t) boot; backs = begun_backed rs t recoverable none backs less; has = subst (λ (o : Option Record). HasRecordsOf disks (snapshot (durable t) boot) after o m'.log) (sym none) has };
+      log = λ trusts. stands_whole disks m'.log after (snapshot (durable t) boot) (begun_backed rs t recoverable none backs less) has;
     }
 
 -- a log that has the records has room for the new boot
@@ -202,29 +205,6 @@ refused_pair disks bodies stood log (inl pair) = (stood, pair)
 refused_pair disks bodies stood log (inr both) = ([], both.0)
 
 -- the log could not be read
-
-has_down : {D : Type 0} (disks : Ghosts D) (log : Log D) (rs : List Record) (s : State) (o : Option Record)
-    → HasRecordsOf disks rs s o log → HasRecordsOf disks rs (down s) o log
-has_down disks log rs s None has = has
-has_down disks log rs s (Some r) (inr (inl has)) = inr (inl has)
-has_down disks log rs s (Some (logged.Opened boot)) (inl may) = inl may
-has_down disks log rs s (Some (logged.Prepared xid t ws)) (inl may) = inl may
-has_down disks log rs s (Some (logged.Committed xid t ws)) (inl may) = inl may
-has_down disks log rs s (Some (logged.Completed xid d)) (inl may) = inl may
-has_down disks log rs s (Some (logged.Decided xid d)) (inl may) = inl may
-has_down disks log rs s (Some (logged.Forgotten xid)) (inl may) = inl may
-has_down disks log rs s (Some (logged.Base t ws)) (inl may) = inl may
-has_down disks log rs s (Some (logged.Held xid t ws)) (inl may) = inl may
-has_down disks log rs s (Some (logged.Known xid d)) (inl may) = inl may
-has_down disks log rs s (Some (logged.Opened boot)) (inr (inr has)) = inr (inr has)
-has_down disks log rs s (Some (logged.Prepared xid t ws)) (inr (inr has)) = inr (inr has)
-has_down disks log rs s (Some (logged.Committed xid t ws)) (inr (inr has)) = inr (inr has)
-has_down disks log rs s (Some (logged.Completed xid d)) (inr (inr has)) = inr (inr has)
-has_down disks log rs s (Some (logged.Decided xid d)) (inr (inr has)) = inr (inr has)
-has_down disks log rs s (Some (logged.Forgotten xid)) (inr (inr has)) = inr (inr has)
-has_down disks log rs s (Some (logged.Base t ws)) (inr (inr has)) = inr (inr has)
-has_down disks log rs s (Some (logged.Held xid t ws)) (inr (inr has)) = inr (inr has)
-has_down disks log rs s (Some (logged.Known xid d)) (inr (inr has)) = inr (inr has)
 
 doubts_down : (d : Option Doubt) (s : State) → Doubts d s → Doubts d (down s)
 doubts_down None s h = h
@@ -260,6 +240,7 @@ failed_stands {D} disks m m' s is st =
         log_bytes = h.log_bytes;
         down = refl;
         sessions = unmoved m.tables.sessions s (down s) refl refl h.sessions;
+        moment = h.moment;
         recoverable = down_recoverable s s.open_record h.recoverable (last_down s s.open_record h.recoverable.open_record);
       };
       roomy = λ standing. record { room = room.room; found = room_down s s.open_record room.found };
@@ -267,5 +248,5 @@ failed_stands {D} disks m m' s is st =
       alive = λ up. absurd (cc up);
       log_bytes = st.log_bytes;
       doubt = doubts_down m.doubt s st.doubt;
-      log = λ trusts. let l = st.log trusts in record { records = l.records; backs = down_backed l.records s s.open_record l.backs; has = has_down disks m.log l.records s s.open_record l.has };
+      log = λ trusts. stands_alike disks m.log s (down s) refl refl (λ rs backs. down_backed rs s s.open_record backs) (st.log trusts);
     })

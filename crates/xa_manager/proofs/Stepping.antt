@@ -1,12 +1,12 @@
 -- A turn that a manager took is a step, and the manager stands for the step's state.
-use Rattle.std.proofs.Common.{◌≡◌, ◌+◌, arith, inl, inr, ℕ, Bool, true, false, List, [], ◌∷◌, ◌++◌, map, length, Option, Some, None, IsSomeAnd, refl, ap, sym, ◌∙◌, subst}
+use Rattle.std.proofs.Common.{◌≡◌, ◌+◌, arith, ℕ, Bool, true, false, List, [], ◌∷◌, ◌++◌, map, length, Option, Some, None, IsSomeAnd, refl, ap, sym, ◌∙◌, subst}
 use Rattle.std.proofs.lemmas.List.{map-append}
 use Rattle.xa_disk.specs.declared.disk.Disk.{Ghosts}
 use Rattle.xa_frame.specs.declared.reply.Reply.{Reply}
 use Rattle.xa_record.specs.Spelling.{spelled}
 use Rattle.xa_record.specs.declared.record.Record.{Record}
 use Rattle.xa_record.specs.declared.record.Record.TheVariants as logged
-use Rattle.xa_log.specs.TwoFiles.{Pair, MayStandPair, MaySeal}
+use Rattle.xa_log.specs.TwoFiles.{Pair}
 use Rattle.xa_log.specs.declared.log.Log.{Log}
 use Rattle.xa_model.specs.declared.event.Event.{Event}
 use Rattle.xa_model.specs.declared.outcome.Outcome.{Outcome}
@@ -18,8 +18,6 @@ use Rattle.xa_model.specs.Answer.{Answer, ok}
 use Rattle.xa_model.specs.Turn.{Turn, Nobody, Now, Appends, Rereads, Asked, taken}
 use Rattle.xa_model.specs.Step.{respond, asked, turn, step}
 use Rattle.xa_model.specs.Events.{IsEvent, is_restart}
-use Rattle.xa_model.specs.Durable.{Durable, durable}
-use Rattle.xa_model.specs.Fold.{snapshot}
 use Rattle.xa_model.specs.Logging.{applied, lost}
 use Rattle.xa_model.specs.Branches.{completed}
 use Rattle.xa_model.specs.MayLog.{MayLog}
@@ -27,7 +25,7 @@ use Rattle.xa_codes.specs.declared.direction.Direction.{Direction}
 use Rattle.xa_codes.specs.declared.direction.Direction.TheVariants.{Commit, Rollback}
 use Rattle.xa_xid.specs.Triple.{Triple}
 use Rattle.xa_model.specs.LoggingLaws.{KeepsLog, LogsWhatLasts}
-use Rattle.xa_model.specs.Backing.{Backs, BacksTurn, settled}
+use Rattle.xa_model.specs.Backing.{Backs, BacksTurn}
 use Rattle.xa_model.specs.Loggable.{IsRecoverable, is_boot}
 use Rattle.xa_model.proofs.LoggedEvents.{events_log_what_lasts}
 use Rattle.xa_model.proofs.LogBehind.{keeps_backed}
@@ -41,10 +39,11 @@ use Rattle.xa_manager.specs.declared.manager.Manager.{Manager}
 use Rattle.xa_manager.specs.Answered.{HasCalled}
 use Rattle.xa_manager.specs.View.{View as Tables}
 use Rattle.xa_manager.specs.Crash.{LeavesAppend, LeavesBy, LeavesNow}
-use Rattle.xa_manager.specs.LogStands.{Trusts, HasRecords, MayHaveRecord, HasRecordsOf, LogStandsFor}
+use Rattle.xa_manager.specs.LogStands.{Trusts, HasRecords, LogStandsFor}
 use Rattle.xa_manager.specs.Managed.{view, Doubts, ManagerStandsFor}
 use Rattle.xa_manager.specs.Stands.{StandsFor, TablesStandFor}
 use Rattle.xa_manager.proofs.CrashFiles.{append_files, crash_leaves}
+use Rattle.xa_manager.proofs.LogsBehind.{only_records, stands_whole, stands_append, stands_alike}
 use Rattle.xa_manager.specs.Turns.{HasDone, HasAppended, TakesNow, TakesAppending, Takes, up_after, doubt_after}
 
 -- what the tables say of a state, up or down
@@ -69,81 +68,25 @@ doubts_same (Some (doubt.Boot boot)) s t e f h = e ∙ h
 doubts_same (Some (doubt.Record end)) s t e f h = (h.0, e ∙ h.1, h.2, h.3 ∙ sym f)
 
 module _ {D : Type 0} (disks : Ghosts D) where
-  may_same : (rs : List Record) (s t : State) (r : Record) (log : Log D) → durable t ≡ durable s → MayHaveRecord disks rs s r log → MayHaveRecord disks rs t r log
-  may_same rs s t (logged.Opened boot) log e h = subst (λ (d : Durable). MaySeal disks (map spelled rs) (map spelled (snapshot d boot)) log) (sym e) h
-  may_same rs s t (logged.Prepared xid ts ws) log e h = h
-  may_same rs s t (logged.Committed xid ts ws) log e h = h
-  may_same rs s t (logged.Completed xid direction) log e h = h
-  may_same rs s t (logged.Decided xid direction) log e h = h
-  may_same rs s t (logged.Forgotten xid) log e h = h
-  may_same rs s t (logged.Base ts ws) log e h = h
-  may_same rs s t (logged.Held xid ts ws) log e h = h
-  may_same rs s t (logged.Known xid direction) log e h = h
-
-  settled_same : (rs : List Record) (s t : State) (r : Record) → durable t ≡ durable s → settled rs t r ≡ settled rs s r
-  settled_same rs s t (logged.Opened boot) e = ap (λ (d : Durable). snapshot d boot) e
-  settled_same rs s t (logged.Prepared xid ts ws) e = refl
-  settled_same rs s t (logged.Committed xid ts ws) e = refl
-  settled_same rs s t (logged.Completed xid direction) e = refl
-  settled_same rs s t (logged.Decided xid direction) e = refl
-  settled_same rs s t (logged.Forgotten xid) e = refl
-  settled_same rs s t (logged.Base ts ws) e = refl
-  settled_same rs s t (logged.Held xid ts ws) e = refl
-  settled_same rs s t (logged.Known xid direction) e = refl
-
-  records_same : (rs : List Record) (s t : State) (o : Option Record) (log : Log D) → durable t ≡ durable s → HasRecordsOf disks rs s o log → HasRecordsOf disks rs t o log
-  records_same rs s t None log e h = h
-  records_same rs s t (Some r) log e (inl h) = inl (may_same rs s t r log e h)
-  records_same rs s t (Some r) log e (inr (inl h)) = inr (inl h)
-  records_same rs s t (Some r) log e (inr (inr h)) = inr (inr (subst (λ (us : List Record). HasRecords disks us log) (sym (settled_same rs s t r e)) h))
-
-  -- the record that was lost is no boot's
-  may_have : (rs : List Record) (s : State) (r : Record) (stood : List (List ℕ)) (log : Log D) → is_boot r ≡ false → MayStandPair disks (map spelled rs) (spelled r) stood log → MayHaveRecord disks rs s r log
-  may_have rs s (logged.Opened boot) stood log e h = absurd (cc e)
-  may_have rs s (logged.Prepared xid ts ws) stood log e h = (stood, h)
-  may_have rs s (logged.Committed xid ts ws) stood log e h = (stood, h)
-  may_have rs s (logged.Completed xid direction) stood log e h = (stood, h)
-  may_have rs s (logged.Decided xid direction) stood log e h = (stood, h)
-  may_have rs s (logged.Forgotten xid) stood log e h = (stood, h)
-  may_have rs s (logged.Base ts ws) stood log e h = (stood, h)
-  may_have rs s (logged.Held xid ts ws) stood log e h = (stood, h)
-  may_have rs s (logged.Known xid direction) stood log e h = (stood, h)
-
   pub log_same : (log : Log D) (s t : State) → KeepsLog s t → ((rs : List Record) → Backs rs s → Backs rs t) → LogStandsFor disks log s → LogStandsFor disks log t
-  log_same log s t k backs l = record {
-    records = l.records;
-    backs = backs l.records l.backs;
-    has = subst (λ (o : Option Record). HasRecordsOf disks l.records t o log) (sym k.open_record) (records_same l.records s t s.open_record log k.lasts l.has);
-  }
+  log_same log s t k backs l = stands_alike disks log s t k.lasts k.open_record backs l
 
   -- the log behind the state, after an append
   log_after : (log log' : Log D) (s t : State) (r : Record) (a : Appending) → s.open_record ≡ None → is_boot r ≡ false → HasAppended disks (spelled r) a log log' → disks.honest
-      → (a ≡ Kept → t.open_record ≡ None) → (a ≡ Refused → t.open_record ≡ None) → (a ≡ Lost → t.open_record ≡ Some r)
+      → (a ≡ Lost → t.open_record ≡ Some r)
       → (a ≡ Kept → (rs : List Record) → Backs rs s → Backs (rs ++ r ∷ []) t) → (a ≡ Refused → (rs : List Record) → Backs rs s → Backs rs t) → (a ≡ Lost → (rs : List Record) → Backs rs s → Backs rs t)
       → LogStandsFor disks log s → LogStandsFor disks log' t
-  log_after log log' s t r Kept none boot h disk ok_ refused_ lost_ backs bref blost l =
-      let here : HasRecords disks l.records log = subst (λ (o : Option Record). HasRecordsOf disks l.records s o log) none l.has in
+  log_after log log' s t r Kept none boot h disk lost_ backs bref blost l =
+      let here : HasRecords disks l.records log = only_records disks log s none l in
       let there : Pair disks (map spelled l.records ++ spelled r ∷ []) here.0 log' = h.pair disk (map spelled l.records) here.0 here.1 in
-      record {
-        records = l.records ++ r ∷ [];
-        backs = backs refl l.records l.backs;
-        has = subst (λ (o : Option Record). HasRecordsOf disks (l.records ++ r ∷ []) t o log') (sym (ok_ refl))
-            (here.0, subst (λ (bs : List (List ℕ)). Pair disks bs here.0 log') (sym (map-append spelled l.records (r ∷ []))) there);
-      }
-  log_after log log' s t r Refused none boot h disk ok_ refused_ lost_ backs bref blost l =
-      let here : HasRecords disks l.records log = subst (λ (o : Option Record). HasRecordsOf disks l.records s o log) none l.has in
-      record {
-        records = l.records;
-        backs = bref refl l.records l.backs;
-        has = subst (λ (o : Option Record). HasRecordsOf disks l.records t o log') (sym (refused_ refl)) (here.0, h.pair disk (map spelled l.records) here.0 here.1);
-      }
-  log_after log log' s t r Lost none boot h disk ok_ refused_ lost_ backs bref blost l =
-      let here : HasRecords disks l.records log = subst (λ (o : Option Record). HasRecordsOf disks l.records s o log) none l.has in
-      record {
-        records = l.records;
-        backs = blost refl l.records l.backs;
-        has = subst (λ (o : Option Record). HasRecordsOf disks l.records t o log') (sym (lost_ refl)) (inl (may_have l.records t r here.0 log' boot (h.pair disk (map spelled l.records) here.0 here.1)));
-      }
+      stands_whole disks log' t (l.records ++ r ∷ []) (backs refl l.records l.backs)
+      (here.0, subst (λ (bs : List (List ℕ)). Pair disks bs here.0 log') (sym (map-append spelled l.records (r ∷ []))) there)
+  log_after log log' s t r Refused none boot h disk lost_ backs bref blost l =
+      let here : HasRecords disks l.records log = only_records disks log s none l in
+      stands_whole disks log' t l.records (bref refl l.records l.backs) (here.0, h.pair disk (map spelled l.records) here.0 here.1)
+  log_after log log' s t r Lost none boot h disk lost_ backs bref blost l =
+      let here : HasRecords disks l.records log = only_records disks log s none l in
+      stands_append disks log' t l.records r here.0 (blost refl l.records l.backs) (lost_ refl) boot (h.pair disk (map spelled l.records) here.0 here.1)
 
   bytes_by : (s : State) (direction : Direction) (xid : Triple) → (completed s direction xid).log_bytes ≡ s.log_bytes
   bytes_by s Commit xid = refl
@@ -278,7 +221,7 @@ module _ {D : Type 0} (disks : Ghosts D) where
               (doubt_stands s next r a m.log.end last.1 (st.end is_up) opens.0 opens.1 (λ q. ap (λ (u : State). u.open_record) (lost_ q)) (λ q. ap (λ (u : State). u.end) (lost_ q)));
           log = λ trusts.
               let backed = λ (rs : List Record) (b : Backs rs s). subst (BacksTurn rs s) t (keeps_backed rs s (Asked e) event before b) in
-              log_after m.log m'.log s next r a none last.1 x.log trusts.disk opens.0 opens.1 (λ q. ap (λ (u : State). u.open_record) (lost_ q))
+              log_after m.log m'.log s next r a none last.1 x.log trusts.disk (λ q. ap (λ (u : State). u.open_record) (lost_ q))
               (λ q rs b. of_answer after (λ y. Backs (rs ++ r ∷ []) y.after) a Kept q (backed rs b).0) (λ q rs b. of_answer after (λ y. Backs rs y.after) a Refused q (backed rs b).1)
               (λ q rs b. of_answer after (λ y. Backs rs y.after) a Lost q (backed rs b).2) (st.log trusts);
         };

@@ -49,17 +49,19 @@ reply_by s r code left Refused = refl
 reply_by s r code left Lost = refl
 
 -- where the record is lost the manager is down
-pub lost_stands : (m m' : View) (s : State) (r : Record) → StandsFor m s → m'.name ≡ m.name → m'.log_bytes ≡ m.log_bytes → m'.sessions ≡ m.sessions → IsRecoverable (lost s r).after → StandsDown m' (lost s r).after
-lost_stands m m' s r st name bytes sessions recoverable = record {
+pub lost_stands : (m m' : View) (s : State) (r : Record) → StandsFor m s → m'.name ≡ m.name → m'.log_bytes ≡ m.log_bytes → m'.sessions ≡ m.sessions → m'.branches.moment ≡ m.branches.moment
+    → IsRecoverable (lost s r).after → StandsDown m' (lost s r).after
+lost_stands m m' s r st name bytes sessions moment recoverable = record {
   name = name ∙ st.name;
   log_bytes = bytes ∙ st.log_bytes;
   down = refl;
   sessions = rw sessions (unmoved m.sessions s (lost s r).after refl refl st.sessions);
+  moment = moment ∙ st.branches.moment;
   recoverable = recoverable;
 }
 
 pub down_after : (m' : View) (s : State) (r : Record) → StandsFor m' s → IsRecoverable (lost s r).after → StandsDown m' (lost s r).after
-down_after m' s r st recoverable = lost_stands m' m' s r st refl refl refl recoverable
+down_after m' s r st recoverable = lost_stands m' m' s r st refl refl refl refl recoverable
 
 -- what an append is answered doesn't say that memory was wanted
 pub served_by : (code : ℤ) (a : Appending) → is_memory (reply_to code a).detail ≡ false

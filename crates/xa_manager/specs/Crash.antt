@@ -1,12 +1,12 @@
 -- What a crash at any moment of a call leaves of the log's two files.
 use Rattle.std.specs.Prelude.{◌≡◌, ◌⊎◌, ℕ, Bool, true, false, not, if◌then◌else◌, List, map, Some, None, IsSomeAnd}
-use Rattle.xa_disk.specs.Disk.{Same}
-use Rattle.xa_disk.specs.Time.{TimePasses, LeavesOnly}
+use Rattle.xa_disk.specs.Time.{LeavesOnly}
 use Rattle.xa_disk.specs.declared.disk.Disk.{Ghosts}
 use Rattle.xa_record.specs.Spelling.{spelled}
 use Rattle.xa_record.specs.declared.record.Record.{Record}
 use Rattle.xa_record.specs.declared.record.Record.TheVariants as logged
 use Rattle.xa_log.specs.Chain.{IsPlain}
+use Rattle.xa_log.specs.LogStates.{LooksTo, LeftByLook}
 use Rattle.xa_log.specs.Pair.{IsCalm}
 use Rattle.xa_log.specs.TwoFiles.{Pair, first_of, second_of}
 use Rattle.xa_log.specs.declared.log.Log.{Log}
@@ -39,18 +39,7 @@ LeavesNow disks log s =
     (first second : List ℕ) → disks.may_leave (first_of log) first → disks.may_leave (second_of log) second
     → StandsWithoutChance disks log s first second → FilesStandFor log.log_bytes first second s
 
--- A look at a log leads to another: for each of the two files time passes, and nothing is written.
-pub record LooksTo {D : Type 0} (disks : Ghosts D) (old new : Log D) : Type 0 where
-  pub log_bytes : new.log_bytes ≡ old.log_bytes
-  pub first : TimePasses disks Same (first_of old) (first_of new)
-  pub second : TimePasses disks Same (second_of old) (second_of new)
-
--- images of the first and of the second file at moments of it
-pub record LeftByLook {D : Type 0} (disks : Ghosts D) (old new : Log D) (first second : List ℕ) : Type 0 where
-  pub first_left : disks.left_since (first_of new) (disks.moment (first_of old)) first
-  pub second_left : disks.left_since (second_of new) (disks.moment (second_of old)) second
-
--- so they stand for the state for which the log stood
+-- images of the two files at moments of a look stand for the state for which the log stood
 abbrev pub LeavesLook : {D : Type 0} → Ghosts D → Log D → Log D → State → Type 0
 LeavesLook disks old new s =
     LooksTo disks old new

@@ -1,13 +1,13 @@
 -- What states of the sequential resource manager a log of two files stands behind.
-use Rattle.std.specs.Prelude.{◌⊎◌, ℕ, Option, Some, None, List, map}
+use Rattle.std.specs.Prelude.{◌≡◌, ◌⊎◌, ℕ, Some, List, map}
 use Rattle.xa_disk.specs.declared.disk.Disk.{Ghosts}
 use Rattle.xa_record.specs.Spelling.{spelled}
 use Rattle.xa_record.specs.declared.record.Record.{Record}
-use Rattle.xa_record.specs.declared.record.Record.TheVariants as logged
 use Rattle.xa_log.specs.Chain.{NoChance}
 use Rattle.xa_log.specs.Pair.{CalmTears}
 use Rattle.xa_log.specs.Checkpoint.{SealTears}
-use Rattle.xa_log.specs.TwoFiles.{Pair, MayStandPair, MaySeal}
+use Rattle.xa_log.specs.LogStates.{LogState, IsIn, MayFind}
+use Rattle.xa_log.specs.TwoFiles.{Pair}
 use Rattle.xa_log.specs.declared.log.Log.{Log}
 use Rattle.xa_model.specs.State.{State}
 use Rattle.xa_model.specs.Durable.{durable}
@@ -30,20 +30,17 @@ HasRecords disks rs log = (stood : List (List ℕ)) × Pair disks (map spelled r
 abbrev pub snapshot_bodies : State → ℕ → List (List ℕ)
 snapshot_bodies s boot = map spelled (snapshot (durable s) boot)
 
--- a record was lost, and the files weren't read since; an opened record stands first in a snapshot, which a checkpoint
--- lost
-abbrev pub MayHaveRecord : {D : Type 0} → Ghosts D → List Record → State → Record → Log D → Type 0
-MayHaveRecord disks rs s (logged.Opened boot) log =
-    MaySeal disks (map spelled rs) (snapshot_bodies s boot) log
-MayHaveRecord disks rs s r log = (stood : List (List ℕ)) × MayStandPair disks (map spelled rs) (spelled r) stood log
+-- these are the bodies of the records, or where a record was lost, of those that settle its fate
+abbrev pub IsSettled : List Record → State → List (List ℕ) → Type 0
+IsSettled rs s found =
+    (found ≡ map spelled rs)
+    ⊎ ((r : Record) × (s.open_record ≡ Some r) × (found ≡ map spelled (settled rs s r)))
 
--- a restart that wanted memory may have read the files, and so have settled the fate of the record that was lost
-abbrev pub HasRecordsOf : {D : Type 0} → Ghosts D → List Record → State → Option Record → Log D → Type 0
-HasRecordsOf disks rs s None log = HasRecords disks rs log
-HasRecordsOf disks rs s (Some r) log =
-    MayHaveRecord disks rs s r log ⊎ HasRecords disks rs log ⊎ HasRecords disks (settled rs s r) log
-
+-- The log is in a state in which a look may find no others, whatever was lost. A restart that wanted memory may have
+-- read the files, and so have settled the fate of the record that was lost.
 pub record LogStandsFor {D : Type 0} (disks : Ghosts D) (log : Log D) (s : State) : Type 0 where
   pub records : List Record
   pub backs : Backs records s
-  pub has : HasRecordsOf disks records s s.open_record log
+  pub state : LogState
+  pub is_in : IsIn disks state log
+  pub finds : (found : List (List ℕ)) → MayFind state found → IsSettled records s found

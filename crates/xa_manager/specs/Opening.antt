@@ -68,7 +68,7 @@ pub record HasBegun {D : Type 0} (disks : Ghosts D) (bodies : List (List ℕ)) (
   pub limit : log_bytes ≤ MOST_LOG
   pub room : has_boot_room log_bytes durable (durable.boot + 1) ≡ true
   pub stands : (s : State) → IsRestored durable (durable.boot + 1) s → s.name ≡ name → s.log_bytes ≡ log_bytes
-      → s.sessions ≡ []
+      → s.sessions ≡ [] → s.moment ≡ 0
       → ManagerStandsFor disks m s
 
 -- the manager of these tables and this log, as a boot begins

@@ -30,16 +30,16 @@ pub record AddedUpto {B : Type 0} (add : List Written → B → List Written) (t
   pub stands : HaveWrites writes m
 
 -- the branches in doubt up to one of them are known
-pub record PreparedUpto (boot : ℕ) (all left : List PreparedBranch) (m : Branches) : Type 0 where
+pub record PreparedUpto (boot moment : ℕ) (all left : List PreparedBranch) (m : Branches) : Type 0 where
   pub done : List PreparedBranch
   pub split : done ++ left ≡ all
-  pub stands : HasRestored m boot done []
+  pub stands : HasRestored m boot moment done []
 
 -- and what the operator completed, up to one of them
-pub record CompletedUpto (boot : ℕ) (ps : List PreparedBranch) (all left : List Decided) (m : Branches) : Type 0 where
+pub record CompletedUpto (boot moment : ℕ) (ps : List PreparedBranch) (all left : List Decided) (m : Branches) : Type 0 where
   pub done : List Decided
   pub split : done ++ left ≡ all
-  pub stands : HasRestored m boot ps done
+  pub stands : HasRestored m boot moment ps done
 
 -- what these branches wrote has no value over MOST_VALUE bytes
 

@@ -40,20 +40,20 @@ pub record Found {D : Type 0} (disks : Ghosts D) (bodies : List (List ℕ)) (log
   pub end : log.end ≡ state.end
   pub alive : log.lost ≡ false
 
--- the boot of this number, for what lasted
-pub record IsReady (d : Durable) (boot : ℕ) (next : NextBoot) : Type 0 where
-  pub branches : (s : State) → IsRestored d boot s → BranchesStandFor next.branches s
-  pub records : (s : State) → IsRestored d boot s → RecordsStandFor (history_of s) next.records
+-- the boot of this number, for what lasted, at this moment
+pub record IsReady (d : Durable) (boot moment : ℕ) (next : NextBoot) : Type 0 where
+  pub branches : (s : State) → IsRestored d boot s → s.moment ≡ moment → BranchesStandFor next.branches s
+  pub records : (s : State) → IsRestored d boot s → s.moment ≡ moment → RecordsStandFor (history_of s) next.records
   pub bodies : bodies_of next.bodies.items ≡ map spelled (snapshot d boot)
 
 -- the boot after those that were logged, unless their numbers are used up
-abbrev pub IsNext : Durable → Option NextBoot → Type 0
-IsNext d None = MOST_BOOTS ≤ d.boot
-IsNext d (Some next) =
-    (next.boot ≡ d.boot + 1) × (d.boot < MOST_BOOTS) × IsReady d (d.boot + 1) next
+abbrev pub IsNext : Durable → ℕ → Option NextBoot → Type 0
+IsNext d moment None = MOST_BOOTS ≤ d.boot
+IsNext d moment (Some next) =
+    (next.boot ≡ d.boot + 1) × (d.boot < MOST_BOOTS) × IsReady d (d.boot + 1) moment next
     × AllByRecursion IsRecord (snapshot d (d.boot + 1)) × IsWithin MOST_VALUE next.records × HasKeys next.records
 
 -- what the bodies of a log come to, and what the next boot begins with
-abbrev pub Plans : List (List ℕ) → Result Planned LogFault → Type 0
-Plans bodies (Ok p) = LogRebuilt bodies (Ok p.durable) × IsNext p.durable p.next
-Plans bodies (Err e) = LogRebuilt bodies (Err e)
+abbrev pub Plans : ℕ → List (List ℕ) → Result Planned LogFault → Type 0
+Plans moment bodies (Ok p) = LogRebuilt bodies (Ok p.durable) × IsNext p.durable moment p.next
+Plans moment bodies (Err e) = LogRebuilt bodies (Err e)

@@ -35,13 +35,14 @@ pub record StandsWithRoom (xid : Triple) (m : View) (s : State) : Type 0 where
   pub records : RecordsStandFor (history_of s) m.records
   pub recoverable : IsRecoverable s
 
--- Of a manager that is down only the sessions count: nothing is answered of branches and records, and the next restart
--- makes them anew from the log.
+-- Of a manager that is down only the sessions and the moment count: nothing is answered of branches and records, and the
+-- next restart makes them anew from the log.
 pub record StandsDown (m : View) (s : State) : Type 0 where
   pub name : m.name ≡ s.name
   pub log_bytes : m.log_bytes ≡ s.log_bytes
   pub down : s.standing ≡ Down
   pub sessions : SessionsStandFor m.sessions s
+  pub moment : m.branches.moment ≡ s.moment
   pub recoverable : IsRecoverable s
 
 abbrev pub TablesStandFor : Bool → View → State → Type 0

@@ -5,6 +5,7 @@ use Rattle.xa_disk.specs.declared.disk.Disk.{Ghosts}
 use Rattle.xa_codes.specs.declared.codes.TheConstants.{XAER_RMFAIL}
 use Rattle.xa_codes.specs.declared.detail.Detail.TheVariants as detail
 use Rattle.xa_frame.specs.declared.reply.Reply.{Reply}
+use Rattle.xa_frame.specs.declared.request.Request.{Request}
 use Rattle.xa_record.specs.Spelling.{spelled}
 use Rattle.xa_record.specs.declared.record.Record.{Record}
 use Rattle.xa_log.specs.Ahead.{AppendsBy}
@@ -18,17 +19,18 @@ use Rattle.xa_model.specs.declared.outcome.Appending.{Appending}
 use Rattle.xa_model.specs.declared.outcome.Appending.TheVariants.{Kept, Refused, Lost}
 use Rattle.xa_model.specs.State.{State}
 use Rattle.xa_model.specs.Answer.{Answer, plain, detailed}
-use Rattle.xa_model.specs.Turn.{Turn, Asked, Nobody, Now, Appends, Rereads}
+use Rattle.xa_model.specs.Restarting.{restart_turn}
+use Rattle.xa_model.specs.Turn.{Turn, Asked, Nobody, Now, Appends, Rereads, taken}
 use Rattle.xa_model.specs.declared.event.Event.{Event}
 use Rattle.xa_model.specs.Step.{step}
-use Rattle.xa_model.specs.Events.{is_restart}
+use Rattle.xa_model.specs.Events.{asks_restart, is_restart}
 use Rattle.xa_model.specs.Loggable.{IsRecoverable}
 use Rattle.xa_assoc.specs.Refusals.{is_memory}
 use Rattle.xa_manager.specs.declared.doubt.Doubt.{Doubt}
 use Rattle.xa_manager.specs.declared.doubt.Doubt.TheVariants as doubt
 use Rattle.xa_manager.specs.declared.manager.Manager.{Manager}
-use Rattle.xa_manager.specs.Answered.{as_appended, CallsAs}
-use Rattle.xa_manager.specs.Crash.{CrashesAs}
+use Rattle.xa_manager.specs.Answered.{as_appended, may_want, CallsAs, HasCalled, NoneRises, StaysFor}
+use Rattle.xa_manager.specs.Crash.{CrashesAs, LeavesBy, LeavesLook}
 use Rattle.xa_manager.specs.LogStands.{Trusts}
 use Rattle.xa_manager.specs.Managed.{view, ManagerStandsFor, AnswersAs}
 use Rattle.xa_manager.specs.Stands.{TablesStandFor}
@@ -116,3 +118,25 @@ pub record HasDone {D : Type 0} (disks : Ghosts D) (m : Manager D) (event : Even
   pub called : CallsAs disks m event outcome m'
   pub crash : CrashesAs disks m event outcome m'
   pub served : is_memory reply.detail ≡ false
+
+-- What a restart has done, of whichever state the manager stood for: as HasDone of its turn.
+pub record HasRestarted {D : Type 0} (disks : Ghosts D) (m : Manager D) (reply : Reply) (outcome : Outcome)
+    (m' : Manager D) : Type 0 where
+  pub turn : (s : State) → ManagerStandsFor disks m s → Trusts disks
+      → AnswersAs disks (taken (restart_turn s) outcome) reply m'
+  -- what a crash at any moment of it leaves
+  pub leaves : (s : State) → ManagerStandsFor disks m s → Trusts disks
+      → LeavesBy disks m.log (restart_turn s) outcome m'.log s
+  pub called : HasCalled disks outcome m.log m'.log
+  pub served : is_memory reply.detail ≡ false
+
+-- What a request leaves that wanted memory, as it may.
+pub record HasWanted {D : Type 0} (disks : Ghosts D) (m : Manager D) (request : Request) (m' : Manager D) : Type 0 where
+  pub may : may_want request ≡ true
+  pub stays : StaysFor disks m m'
+  -- no device call failed, and none was made but by a restart
+  pub quiet : NoneRises disks.failures m.log m'.log
+  pub untouched : asks_restart request ≡ false → m'.log ≡ m.log
+  -- what a crash at any moment of it leaves
+  pub leaves : asks_restart request ≡ true → (s : State) → ManagerStandsFor disks m s → Trusts disks
+      → LeavesLook disks m.log m'.log s

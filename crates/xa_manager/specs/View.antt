@@ -24,7 +24,8 @@ view_of t =
 
 -- what the refusals before a session's row look at, of a manager that is up or isn't
 abbrev pub context_at : Bool → View → ℕ → Context
-context_at up m n = record { up = up; name = m.name; session = opened_at m.sessions n }
+context_at up m n =
+    record { up = up; name = m.name; session = opened_at m.sessions n; moment = m.branches.moment }
 
 -- the branch that a session is at work for
 abbrev pub with_working : View → Triple → Option (Triple × Working)

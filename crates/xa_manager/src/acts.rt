@@ -30,7 +30,8 @@ impl Tables {
         ensures company { company_of self.new.sessions ≡ company_of self.old.sessions }
     {
         self.sessions.begin(session, xid.copied())?;
-        match self.branches.begin(xid) {
+        let limit = self.sessions.timeout(session);
+        match self.branches.begin(xid, limit) {
             Ok(timestamp) => Ok(timestamp),
             Err(_) => {
                 self.sessions.leave(session, xid);

@@ -30,17 +30,17 @@ pub struct Planned {
     pub next: Option<NextBoot>,
 }
 
-/// Makes ready what the boot of this number begins with.
-fn ready(alloc: Global, durable: &Durable, boot: u32) -> Result<NextBoot, AllocError>
+/// Makes ready what the boot of this number begins with, at this moment.
+fn ready(alloc: Global, durable: &Durable, boot: u32, moment: u64) -> Result<NextBoot, AllocError>
     requires limits { AllByRecursion IsRecord (snapshot durable.now boot) }
     requires form { IsDurable durable.now }
-    ensures ready { IfOk result (IsReady durable.now boot) }
+    ensures ready { IfOk result (IsReady durable.now boot moment) }
     ensures boot { IfOk result (λ next. next.boot ≡ boot) }
     ensures drained { IfOk result (λ next. GivesBack next.branches next.records) }
     ensures short { IfOk result (λ next. IsWithin MOST_VALUE next.records) }
     ensures keys { IfOk result (λ next. HasKeys next.records) }
 {
-    let branches = branches_of(alloc, durable, boot)?;
+    let branches = branches_of(alloc, durable, boot, moment)?;
     let mut records = records_of(alloc, durable)?;
     records.low_water(branches.low_water());
     let bodies = snapshot(alloc, durable, boot)?;
@@ -52,14 +52,14 @@ fn ready(alloc: Global, durable: &Durable, boot: u32) -> Result<NextBoot, AllocE
     })
 }
 
-/// What the bodies of a log come to, with the next boot made ready. All memory of a restart and of an opening is taken
+/// What the bodies of a log come to, with the next boot made ready for this moment. All memory of a restart and of an opening is taken
 /// here, once the log was read.
-pub(crate) fn plan(alloc: Global, bodies: &[Vec<u8>]) -> Result<Planned, LogFault>
-    ensures { Plans (map (λ b. b.items) bodies.now) result }
+pub(crate) fn plan(alloc: Global, moment: u64, bodies: &[Vec<u8>]) -> Result<Planned, LogFault>
+    ensures { Plans moment (map (λ b. b.items) bodies.now) result }
 {
     let durable = rebuild_log(alloc, bodies)?;
     let next = match next_boot(&durable) {
-        Some(boot) => Some(ready(alloc, &durable, boot)?),
+        Some(boot) => Some(ready(alloc, &durable, boot, moment)?),
         None => None,
     };
     Ok(Planned { durable, next })

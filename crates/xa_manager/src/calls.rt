@@ -1,15 +1,10 @@
-ghost use Rattle.std.specs.Prelude.{◌≡◌, IfOk, OnErr, IfSome, IsOk, IsSome, None, true, false};
+ghost use Rattle.std.specs.Prelude.{◌≡◌, IfOk, OnErr, IfSome, IsSome, None, true, false};
 ghost use Rattle.xa_model.specs.declared.event.Event.{Event};
-ghost use Rattle.xa_model.specs.Early.{call_of, passes_down, has_wrong_count, early_refusal};
-ghost use Rattle.xa_model.specs.Events.{IsAsked, asks_restart};
-ghost use Rattle.xa_model.specs.State.{State};
+ghost use Rattle.xa_model.specs.Early.{call_of, passes_down, has_wrong_count, has_wrong_moment, early_refusal};
+ghost use Rattle.xa_model.specs.Events.{IsAsked};
 ghost use Rattle.xa_assoc.specs.Refusals.{is_memory, IsBare};
 ghost use Rattle.xa_assoc.specs.Seats.{opened_at};
-ghost use Rattle.xa_manager.specs.Answered.{StaysFor, NoneRises, may_want};
-ghost use Rattle.xa_manager.specs.Crash.{LeavesLook};
-ghost use Rattle.xa_manager.specs.LogStands.{Trusts};
-ghost use Rattle.xa_manager.specs.Managed.{ManagerStandsFor};
-ghost use Rattle.xa_manager.specs.Turns.{HasDone};
+ghost use Rattle.xa_manager.specs.Turns.{HasDone, HasWanted};
 ghost use Rattle.xa_manager.specs.View.{context_at, view_of};
 ghost use Rattle.xa_manager.specs.Connected.{connected_to};
 ghost use Rattle.xa_manager.specs.Replies.{IsFresh};
@@ -30,31 +25,24 @@ impl<D: Disk> Manager<D> {
         ensures served { IfSome result (λ r. is_memory r.detail ≡ false) }
         ensures connected { result ≡ None → IsSome (opened_at self.now.tables.sessions session) }
         ensures counted { result ≡ None → has_wrong_count request.now ≡ false }
+        ensures later { result ≡ None → has_wrong_moment self.now.tables.branches.moment request.now ≡ false }
         ensures answered { result ≡ None → self.now.up ≡ false → passes_down (call_of request.now) ≡ true }
         ensures bare { IfSome result IsBare }
     {
         let opened = self.tables.sessions.opened_of(session);
-        early_refusal(self.up, &self.tables.name, opened, request)
+        let moment = self.tables.branches.moment();
+        early_refusal(self.up, &self.tables.name, moment, opened, request)
     }
 
     /// Answers a request of a session: the refusals that come before its row, then the row. A manager that is down
     /// comes to the first three alone.
-    #[tactic(auto, using(crate::proofs::Replying::request_replies))]
     pub(crate) fn answer(&mut self, session: u64, request: Request) -> Result<Done, AllocError>
         requires { IsAsked request }
         ensures ok { IfOk result
-            (λ d. HasDone D.Disk self.old (Event.Call session request) d.reply d.outcome self.new) }
-        ensures err { OnErr result (StaysFor D.Disk self.old self.new) }
+            (λ d. HasDone D.Disk self.old (Event.Call session request) d.reply d.outcome self.new × IsFresh d.reply) }
+        ensures err { OnErr result (HasWanted D.Disk self.old request self.new) }
         ensures outcome { self.new.outcome ≡ self.old.outcome }
-        ensures room { may_want request ≡ false → IsOk result }
         ensures company { connected_to self.new ≡ connected_to self.old }
-        ensures fresh { IfOk result (λ d. IsFresh d.reply) }
-        ensures quiet { OnErr result (NoneRises D.failures self.old.log self.new.log) }
-        ensures untouched { OnErr result (asks_restart request ≡ false → self.new.log ≡ self.old.log) }
-        // What a crash at any moment of it leaves, where memory was wanted of a restart.
-        ensures leaves_read { OnErr result (asks_restart request ≡ true
-            → (s : State) → ManagerStandsFor D.Disk self.old s → Trusts D.Disk
-            → LeavesLook D.Disk self.old.log self.new.log s) }
     {
         if let Some(reply) = self.refusal(session, &request) {
             return Ok(Done::now(reply));
@@ -82,6 +70,8 @@ impl<D: Disk> Manager<D> {
             Request::Delete { key } => Ok(Done::now(self.tables.put(session, &key, None)?)),
             Request::Decide { direction, xid } => Ok(self.decide(direction, &xid)),
             Request::Doom { xid } => Ok(Done::now(self.tables.doom(&xid))),
+            Request::Timeout { seconds } => Ok(Done::now(self.tables.timeout(session, seconds))),
+            Request::Tick { moment } => Ok(Done::now(self.tables.tick(moment))),
         }
     }
 }

@@ -1,5 +1,5 @@
 ghost use Rattle.std.specs.Prelude.{◌≡◌, IfSome, IsSome, None, Option, Bool, true, false};
-ghost use Rattle.xa_model.specs.Early.{flags_of, call_of, needs_open, passes_down, is_async, has_wrong_info, has_wrong_count, is_invalid, is_opened, early_refusal};
+ghost use Rattle.xa_model.specs.Early.{flags_of, call_of, needs_open, passes_down, is_async, has_wrong_info, has_wrong_count, has_wrong_moment, is_invalid, is_opened, early_refusal};
 ghost use Rattle.xa_assoc.specs.Refusals.{is_memory, IsBare};
 
 use xa_codes::{
@@ -26,7 +26,9 @@ fn flags_of(request: &Request) -> u32
         | Request::Delete { .. }
         | Request::Decide { .. }
         | Request::Doom { .. }
-        | Request::Restart => 0,
+        | Request::Restart
+        | Request::Timeout { .. }
+        | Request::Tick { .. } => 0,
     }
 }
 
@@ -34,7 +36,7 @@ fn needs_open(call: Call) -> bool
     ensures { result ≡ needs_open call }
 {
     match call {
-        Call::Open | Call::Close | Call::Decide | Call::Doom | Call::Restart => false,
+        Call::Open | Call::Close | Call::Decide | Call::Doom | Call::Restart | Call::Tick => false,
         Call::Start
         | Call::End
         | Call::Prepare
@@ -44,7 +46,8 @@ fn needs_open(call: Call) -> bool
         | Call::Forget
         | Call::Get
         | Call::Put
-        | Call::Delete => true,
+        | Call::Delete
+        | Call::Timeout => true,
     }
 }
 
@@ -74,7 +77,9 @@ fn passes_down(call: Call) -> bool
         | Call::Put
         | Call::Delete
         | Call::Decide
-        | Call::Doom => false,
+        | Call::Doom
+        | Call::Timeout
+        | Call::Tick => false,
     }
 }
 
@@ -96,12 +101,25 @@ fn has_wrong_count(request: &Request) -> bool
     }
 }
 
-fn is_invalid(name: &Bytes, request: &Request) -> bool
-    ensures { result ≡ is_invalid name.now request.now }
+/// A moment that is told is not below the last one.
+fn has_wrong_moment(last: u64, request: &Request) -> bool
+    ensures { result ≡ has_wrong_moment last request.now }
+{
+    match request {
+        Request::Tick { moment } => *moment < last,
+        _ => false,
+    }
+}
+
+fn is_invalid(name: &Bytes, moment: u64, request: &Request) -> bool
+    ensures { result ≡ is_invalid name.now moment request.now }
 {
     let call = request.call();
     let flags = flags_of(request);
-    !legal_flags(call, flags) || has_wrong_info(name, request) || has_wrong_count(request)
+    !legal_flags(call, flags)
+        || has_wrong_info(name, request)
+        || has_wrong_count(request)
+        || has_wrong_moment(moment, request)
 }
 
 /// The refusals that come before the row of a call. The session is connected if there is a word on whether it is
@@ -109,15 +127,17 @@ fn is_invalid(name: &Bytes, request: &Request) -> bool
 pub fn early_refusal(
     up: bool,
     name: &Bytes,
+    moment: u64,
     session: Option<bool>,
     request: &Request,
 ) -> Option<Reply>
     ensures value { result
-        ≡ early_refusal (record { up = up; name = name.now; session = session }) request.now }
+        ≡ early_refusal (record { up = up; name = name.now; session = session; moment = moment }) request.now }
     ensures served { IfSome result (λ r. is_memory r.detail ≡ false) }
     ensures bare { IfSome result IsBare }
     ensures connected { result ≡ None → IsSome session }
     ensures counted { result ≡ None → has_wrong_count request.now ≡ false }
+    ensures later { result ≡ None → has_wrong_moment moment request.now ≡ false }
     ensures answered { result ≡ None → up ≡ false → passes_down (call_of request.now) ≡ true }
 {
     let call = request.call();
@@ -133,7 +153,7 @@ pub fn early_refusal(
     if is_async(call, flags_of(request)) {
         return Some(Reply::plain(XAER_ASYNC));
     }
-    if is_invalid(name, request) {
+    if is_invalid(name, moment, request) {
         return Some(Reply::plain(XAER_INVAL));
     }
     None

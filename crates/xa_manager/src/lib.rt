@@ -5,7 +5,7 @@
 //! - `manager`: `Manager`, its calls; `calls`, the way of a request; `early`, the refusals before its row; `replies`:
 //!   `connect_reply` and `memory_reply`, those to a connect and to want of memory
 //! - the rows, by table: of sessions in `coming`, of associations in `work`, of branches in `completion`, of the
-//!   operator in `operator`, of gets and puts in `data`, of recovery scans in `recovery`
+//!   operator in `operator`, of gets and puts in `data`, of recovery scans in `recovery`, of time limits in `time_limits`
 //! - `tables`: what a manager keeps; `facts` and `refusals`, what rows ask of it, `acts`, what they change
 //! - `journal`: how a record comes into the log; `room`, the room that the log keeps free; `doubt`: `Doubt`, what is
 //!   kept of a record that was lost; `answered`, what rows do by the device's answer; `done`, what a call comes to
@@ -46,6 +46,7 @@ mod restarting;
 mod room;
 mod settings;
 mod tables;
+mod time_limits;
 mod work;
 
 pub use doubt::Doubt;

@@ -178,7 +178,7 @@ fn begin_on<D: Disk>(
     ensures leaves { IfErr result
         (λ e. LeavesBegin D.Disk e is_new (bodies_of bodies.now) log_bytes log.old log.new) }
 {
-    let Planned { durable, next } = plan(alloc, bodies)?;
+    let Planned { durable, next } = plan(alloc, 0, bodies)?;
     let Some(next) = next else {
         return Err(ManagerFault::Boots);
     };

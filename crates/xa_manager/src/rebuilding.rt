@@ -32,9 +32,9 @@ fn put_prepared(
     branches: &mut Branches,
     prepared: &BTreeMap<u64, InDoubt>,
 ) -> Result<(), AllocError>
-    ensures { (boot : ℕ) → Pairwise named_apart (map as_prepared prepared.now.entries)
-        → HasRestored branches.old boot [] []
-        → OnOk result (HasRestored branches.new boot (map as_prepared prepared.now.entries) []) }
+    ensures { (boot moment : ℕ) → Pairwise named_apart (map as_prepared prepared.now.entries)
+        → HasRestored branches.old boot moment [] []
+        → OnOk result (HasRestored branches.new boot moment (map as_prepared prepared.now.entries) []) }
 {
     for (timestamp, branch) in prepared {
         branches.restore_prepared(branch.xid.copied(), *timestamp)?;
@@ -47,10 +47,10 @@ fn put_completed(
     branches: &mut Branches,
     decided: &BTreeMap<Xid, Direction>,
 ) -> Result<(), AllocError>
-    ensures { (boot : ℕ) (ps : List PreparedBranch) → Pairwise named_before (map as_decided decided.now.entries)
+    ensures { (boot moment : ℕ) (ps : List PreparedBranch) → Pairwise named_before (map as_decided decided.now.entries)
         → AllByRecursion (λ e. is_prepared e.xid ps ≡ false) (map as_decided decided.now.entries)
-        → HasRestored branches.old boot ps []
-        → OnOk result (HasRestored branches.new boot ps (map as_decided decided.now.entries)) }
+        → HasRestored branches.old boot moment ps []
+        → OnOk result (HasRestored branches.new boot moment ps (map as_decided decided.now.entries)) }
 {
     for (xid, direction) in decided {
         branches.restore_completed(xid.copied(), *direction)?;
@@ -58,15 +58,16 @@ fn put_completed(
     Ok(())
 }
 
-/// The branches that lasted, in the boot of this number: those in doubt, and what the operator completed.
+/// The branches that lasted, in the boot of this number at this moment: those in doubt, and what the operator completed.
 pub(crate) fn branches_of(
     alloc: Global,
     durable: &Durable,
     boot: u32,
+    moment: u64,
 ) -> Result<Branches, AllocError>
-    ensures { IfOk result (λ m. (s : State) → IsRestored durable.now boot s → BranchesStandFor m s) }
+    ensures { IfOk result (λ m. (s : State) → IsRestored durable.now boot s → s.moment ≡ moment → BranchesStandFor m s) }
 {
-    let mut branches = Branches::new(alloc, boot, 1);
+    let mut branches = Branches::new(alloc, boot, 1, moment);
     put_prepared(&mut branches, durable.prepared())?;
     put_completed(&mut branches, durable.decided())?;
     Ok(branches)

@@ -25,8 +25,10 @@ ghost use Rattle.xa_manager.specs.LogStands.{Trusts, HasRecords};
 ghost use Rattle.xa_manager.specs.Managed.{ManagerStandsFor, AnswersAs, Doubts};
 ghost use Rattle.xa_manager.specs.Promises.{RestartPromises};
 ghost use Rattle.xa_manager.specs.Rereading.{IsFate, Found, IsNext, IsReady};
+ghost use Rattle.xa_manager.specs.Turns.{HasRestarted, HasWanted};
 ghost use Rattle.xa_manager.specs.Connected.{connected_to};
 ghost use Rattle.xa_frame.specs.Limits.{IsReply};
+ghost use Rattle.xa_frame.specs.declared.request.Request.{Request};
 
 use crate::boots::{NextBoot, Planned, plan};
 use crate::done::Done;
@@ -109,12 +111,12 @@ impl<D: Disk> Manager<D> {
         ensures turn { (s t : State) (rs : List Record) → ManagerStandsFor D.Disk self.old s → Trusts D.Disk
             → IsFate survived s t → Backs rs t → HasRecords D.Disk rs self.old.log
             → self.old.log.lost ≡ false → nat_lt t.logged_boot MOST_BOOTS ≡ true
-            → next.boot ≡ t.logged_boot + 1 → IsReady (durable t) (t.logged_boot + 1) next
+            → next.boot ≡ t.logged_boot + 1 → IsReady (durable t) (t.logged_boot + 1) self.old.tables.branches.moment next
             → AnswersAs D.Disk (taken (restart_turn s) result.outcome) result.reply self.new }
         ensures leaves { (s t : State) (rs : List Record) → ManagerStandsFor D.Disk self.old s → Trusts D.Disk
             → IsFate survived s t → Backs rs t → HasRecords D.Disk rs self.old.log
             → self.old.log.lost ≡ false → nat_lt t.logged_boot MOST_BOOTS ≡ true
-            → IsReady (durable t) (t.logged_boot + 1) next
+            → IsReady (durable t) (t.logged_boot + 1) self.old.tables.branches.moment next
             → LeavesBoot D.Disk self.old.log (restart_turn s) result.outcome self.new.log }
         ensures outcome { self.new.outcome ≡ self.old.outcome }
         ensures called { self.old.log.lost ≡ false → (log : Log D) → NoneRises D.failures log self.old.log
@@ -156,7 +158,7 @@ impl<D: Disk> Manager<D> {
 
     /// A new boot begins with what the log came to.
     fn begin(&mut self, planned: Planned) -> Done
-        requires next { IsNext planned.durable planned.next }
+        requires next { IsNext planned.durable self.old.tables.branches.moment planned.next }
         requires above { IfSome planned.next
             (λ next. self.old.log.generation < generation (bodies_of next.bodies.items)) }
         ensures turn { (s : State) (bodies : List (List ℕ)) → ManagerStandsFor D.Disk self.old s → Trusts D.Disk
@@ -211,24 +213,16 @@ impl<D: Disk> Manager<D> {
 
     /// The row of the request Restart: as `restart`, where want of memory is an error.
     pub(crate) fn restarted(&mut self) -> Result<Done, AllocError>
-        ensures turn { IfOk result (λ d. (s : State) → ManagerStandsFor D.Disk self.old s → Trusts D.Disk
-            → AnswersAs D.Disk (taken (restart_turn s) d.outcome) d.reply self.new) }
-        // What a crash at any moment of it leaves, also where memory was wanted.
-        ensures leaves { IfOk result (λ d. (s : State) → ManagerStandsFor D.Disk self.old s → Trusts D.Disk
-            → LeavesBy D.Disk self.old.log (restart_turn s) d.outcome self.new.log s) }
-        ensures leaves_read { OnErr result ((s : State) → ManagerStandsFor D.Disk self.old s → Trusts D.Disk
-            → LeavesLook D.Disk self.old.log self.new.log s) }
-        ensures err { OnErr result (StaysFor D.Disk self.old self.new) }
+        ensures ok { IfOk result (λ d. HasRestarted D.Disk self.old d.reply d.outcome self.new) }
+        ensures err { OnErr result (HasWanted D.Disk self.old Request.Restart self.new) }
         ensures outcome { self.new.outcome ≡ self.old.outcome }
-        ensures called { IfOk result (λ d. HasCalled D.Disk d.outcome self.old.log self.new.log) }
-        ensures served { IfOk result (λ d. is_memory d.reply.detail ≡ false) }
         ensures company { connected_to self.new ≡ connected_to self.old }
         ensures bare { IfOk result (λ d. IsBare d.reply) }
-        ensures quiet { OnErr result (NoneRises D.failures self.old.log self.new.log) }
     {
         let end = self.log.end();
+        let moment = self.tables.branches.moment();
         match self.look() {
-            Ok(bodies) => match plan(self.tables.alloc, &bodies) {
+            Ok(bodies) => match plan(self.tables.alloc, moment, &bodies) {
                 Ok(planned) => Ok(self.begin(planned)),
                 Err(LogFault::Memory) => {
                     if self.up && self.log.end() != end {
@@ -241,9 +235,7 @@ impl<D: Disk> Manager<D> {
             },
             Err(OpenFault::Memory) => Err(AllocError),
             Err(OpenFault::Device) => Ok(self.failed()),
-            Err(OpenFault::NotALog) => Ok(self.unread()),
-            Err(OpenFault::TooNew) => Ok(self.unread()),
-            Err(OpenFault::TooLong) => Ok(self.unread()),
+            Err(OpenFault::NotALog | OpenFault::TooNew | OpenFault::TooLong) => Ok(self.unread()),
         }
     }
 

@@ -15,8 +15,8 @@ pub returns : goal.returns
 returns c = (
   c.in_ok-durable.ensures,
   elim c.match-next_boot.branch [
-    | in-Some+in_ok-ready-in-Some w ↦ subst (λ (o : Option NextBoot). IsNext c.in_ok-durable.durable o) (sym w.next-is)
-        (is_next (map (λ b. b.items) c.args.bodies.now) c.in_ok-durable.durable w.in-Some.boot w.in_ok-ready-in-Some.field-0 c.in_ok-durable.ensures (sym w.in-Some.is ∙ c.next_boot.ensures) w.in_ok-ready-in-Some.ensures.boot w.in_ok-ready-in-Some.ensures.ready w.in_ok-ready-in-Some.ensures.short w.in_ok-ready-in-Some.ensures.keys)
-    | in-None w ↦ subst (λ (o : Option NextBoot). IsNext c.in_ok-durable.durable o) (sym w.next-is) (no_next c.in_ok-durable.durable (sym w.in-None.is ∙ c.next_boot.ensures))
+    | in-Some+in_ok-ready-in-Some w ↦ subst (λ (o : Option NextBoot). IsNext c.in_ok-durable.durable c.args.moment o) (sym w.next-is)
+        (is_next c.args.moment (map (λ b. b.items) c.args.bodies.now) c.in_ok-durable.durable w.in-Some.boot w.in_ok-ready-in-Some.field-0 c.in_ok-durable.ensures (sym w.in-Some.is ∙ c.next_boot.ensures) w.in_ok-ready-in-Some.ensures.boot w.in_ok-ready-in-Some.ensures.ready w.in_ok-ready-in-Some.ensures.short w.in_ok-ready-in-Some.ensures.keys)
+    | in-None w ↦ subst (λ (o : Option NextBoot). IsNext c.in_ok-durable.durable c.args.moment o) (sym w.next-is) (no_next c.args.moment c.in_ok-durable.durable (sym w.in-None.is ∙ c.next_boot.ensures))
   ],
 )

@@ -13,16 +13,16 @@ use Rattle.xa_manager.proofs.opening.begin_on.Goals as goal
 
 pub begins_with_room-requires : goal.begins_with_room-requires
 begins_with_room-requires g c =
-    let plan = planned (bodies_of c.args.bodies.now) c.in_ok-durable.field-0 c.in-Some.next c.in_ok-durable.ensures.0 c.in_ok-durable.ensures.1 c.in-Some.is in
-    record { sizes = first_sizes _ c.in_ok-durable.field-0.durable c.in-Some.next c.deref.result.now plan c.deref.ensures.value }
+    let plan = planned 0 (bodies_of c.args.bodies.now) c.in_ok-durable.field-0 c.in-Some.next c.in_ok-durable.ensures.0 c.in_ok-durable.ensures.1 c.in-Some.is in
+    record { sizes = first_sizes 0 _ c.in_ok-durable.field-0.durable c.in-Some.next c.deref.result.now plan c.deref.ensures.value }
 
 pub returns-then-not-begins_with_room-clause-refused : goal.returns-then-not-begins_with_room-clause-refused
 returns-then-not-begins_with_room-clause-refused g c =
-    let plan = planned (bodies_of c.args.bodies.now) c.in_ok-durable.field-0 c.in-Some.next c.in_ok-durable.ensures.0 c.in_ok-durable.ensures.1 c.in-Some.is in (
+    let plan = planned 0 (bodies_of c.args.bodies.now) c.in_ok-durable.field-0 c.in-Some.next c.in_ok-durable.ensures.0 c.in_ok-durable.ensures.1 c.in-Some.is in (
       c.in_ok-durable.field-0.durable,
       plan.comes,
       plan.boots,
-      first_room _ c.in_ok-durable.field-0.durable c.in-Some.next c.deref.result.now c.args.log_bytes c.len-prepared.result c.len-completed.result false plan c.deref.ensures.value
+      first_room 0 _ c.in_ok-durable.field-0.durable c.in-Some.next c.deref.result.now c.args.log_bytes c.len-prepared.result c.len-completed.result false plan c.deref.ensures.value
           (count_of as_prepared c.prepared.result.now.entries _ c.in_ok-durable.field-0.durable.prepared c.len-prepared.result c.len-prepared.ensures.len c.prepared.ensures refl)
           (count_of as_decided c.decided.result.now.entries _ c.in_ok-durable.field-0.durable.decided c.len-completed.result c.len-completed.ensures.len c.decided.ensures refl)
           (sym c.if-not-begins_with_room.true ∙ c.begins_with_room.ensures),
@@ -30,26 +30,26 @@ returns-then-not-begins_with_room-clause-refused g c =
 
 pub log_first-requires-clause-sizes : goal.log_first-requires-clause-sizes
 log_first-requires-clause-sizes g c =
-    let plan = planned (bodies_of c.args.bodies.now) c.in_ok-durable.field-0 c.in-Some.next c.in_ok-durable.ensures.0 c.in_ok-durable.ensures.1 c.in-Some.is in
-    first_sizes _ c.in_ok-durable.field-0.durable c.in-Some.next _ plan c.deref-2.ensures.value
+    let plan = planned 0 (bodies_of c.args.bodies.now) c.in_ok-durable.field-0 c.in-Some.next c.in_ok-durable.ensures.0 c.in_ok-durable.ensures.1 c.in-Some.is in
+    first_sizes 0 _ c.in_ok-durable.field-0.durable c.in-Some.next _ plan c.deref-2.ensures.value
 
 pub log_first-requires-clause-above : goal.log_first-requires-clause-above
 log_first-requires-clause-above g c =
-    let plan = planned (bodies_of c.args.bodies.now) c.in_ok-durable.field-0 c.in-Some.next c.in_ok-durable.ensures.0 c.in_ok-durable.ensures.1 c.in-Some.is in
+    let plan = planned 0 (bodies_of c.args.bodies.now) c.in_ok-durable.field-0 c.in-Some.next c.in_ok-durable.ensures.0 c.in_ok-durable.ensures.1 c.in-Some.is in
     subst (λ (n : ℕ). n < generation (bodies_of c.deref-2.result.now)) (sym c.requires.number)
-    (first_newer _ c.in_ok-durable.field-0.durable c.in-Some.next c.deref-2.result.now plan c.deref-2.ensures.value)
+    (first_newer 0 _ c.in_ok-durable.field-0.durable c.in-Some.next c.deref-2.result.now plan c.deref-2.ensures.value)
 
 pub returns-clause-begun : goal.returns-clause-begun
 returns-clause-begun g c = λ found sized.
-    let plan = planned (bodies_of c.args.bodies.now) c.in_ok-durable.field-0 c.in-Some.next c.in_ok-durable.ensures.0 c.in_ok-durable.ensures.1 c.in-Some.is in
+    let plan = planned 0 (bodies_of c.args.bodies.now) c.in_ok-durable.field-0 c.in-Some.next c.in_ok-durable.ensures.0 c.in_ok-durable.ensures.1 c.in-Some.is in
     let d = c.in_ok-durable.field-0.durable in
     let xs = c.deref-2.result.now in
     let room : has_boot_room c.args.log_bytes d (d.boot + 1) ≡ true =
-    first_room _ d c.in-Some.next c.deref.result.now c.args.log_bytes c.len-prepared.result c.len-completed.result true plan c.deref.ensures.value
+    first_room 0 _ d c.in-Some.next c.deref.result.now c.args.log_bytes c.len-prepared.result c.len-completed.result true plan c.deref.ensures.value
     (count_of as_prepared c.prepared.result.now.entries _ d.prepared c.len-prepared.result c.len-prepared.ensures.len c.prepared.ensures refl)
     (count_of as_decided c.decided.result.now.entries _ d.decided c.len-completed.result c.len-completed.ensures.len c.decided.ensures refl)
     (sym c.if-not-begins_with_room.false ∙ c.begins_with_room.ensures) in
-    let same = first_bodies _ d c.in-Some.next xs plan c.deref-2.ensures.value in
+    let same = first_bodies 0 _ d c.in-Some.next xs plan c.deref-2.ensures.value in
     let ends = c.log_first.ensures.ends c.in-Kept.is (bodies_of c.args.bodies.now) c.requires.made c.requires.ends in
     record {
       durable = d;
@@ -67,10 +67,10 @@ returns-clause-begun g c = λ found sized.
 
 pub returns-clause-logs : goal.returns-clause-logs
 returns-clause-logs g c =
-    let plan = planned (bodies_of c.args.bodies.now) c.in_ok-durable.field-0 c.in-Some.next c.in_ok-durable.ensures.0 c.in_ok-durable.ensures.1 c.in-Some.is in
+    let plan = planned 0 (bodies_of c.args.bodies.now) c.in_ok-durable.field-0 c.in-Some.next c.in_ok-durable.ensures.0 c.in_ok-durable.ensures.1 c.in-Some.is in
     let d = c.in_ok-durable.field-0.durable in
-    logs_boot g.D.Disk c.args.is_new (bodies_of c.args.bodies.now) c.args.log_bytes Kept c.args.log.now c.log_first.new.log d c.in-Some.next c.deref-2.result.now plan c.deref-2.ensures.value
-    (first_room _ d c.in-Some.next c.deref.result.now c.args.log_bytes c.len-prepared.result c.len-completed.result true plan c.deref.ensures.value
+    logs_boot g.D.Disk 0 c.args.is_new (bodies_of c.args.bodies.now) c.args.log_bytes Kept c.args.log.now c.log_first.new.log d c.in-Some.next c.deref-2.result.now plan c.deref-2.ensures.value
+    (first_room 0 _ d c.in-Some.next c.deref.result.now c.args.log_bytes c.len-prepared.result c.len-completed.result true plan c.deref.ensures.value
     (count_of as_prepared c.prepared.result.now.entries _ d.prepared c.len-prepared.result c.len-prepared.ensures.len c.prepared.ensures refl)
     (count_of as_decided c.decided.result.now.entries _ d.decided c.len-completed.result c.len-completed.ensures.len c.decided.ensures refl)
     (sym c.if-not-begins_with_room.false ∙ c.begins_with_room.ensures))
@@ -78,12 +78,12 @@ returns-clause-logs g c =
 
 pub returns-in-Refused-clause-leaves : goal.returns-in-Refused-clause-leaves
 returns-in-Refused-clause-leaves g c =
-    let plan = planned (bodies_of c.args.bodies.now) c.in_ok-durable.field-0 c.in-Some.next c.in_ok-durable.ensures.0 c.in_ok-durable.ensures.1 c.in-Some.is in
+    let plan = planned 0 (bodies_of c.args.bodies.now) c.in_ok-durable.field-0 c.in-Some.next c.in_ok-durable.ensures.0 c.in_ok-durable.ensures.1 c.in-Some.is in
     let d = c.in_ok-durable.field-0.durable in (
       c.log_first.result,
       not_kept c.log_first.result c.in-Refused.is,
-      logs_boot g.D.Disk c.args.is_new (bodies_of c.args.bodies.now) c.args.log_bytes c.log_first.result c.args.log.now c.log_first.new.log d c.in-Some.next c.deref-2.result.now plan c.deref-2.ensures.value
-          (first_room _ d c.in-Some.next c.deref.result.now c.args.log_bytes c.len-prepared.result c.len-completed.result true plan c.deref.ensures.value
+      logs_boot g.D.Disk 0 c.args.is_new (bodies_of c.args.bodies.now) c.args.log_bytes c.log_first.result c.args.log.now c.log_first.new.log d c.in-Some.next c.deref-2.result.now plan c.deref-2.ensures.value
+          (first_room 0 _ d c.in-Some.next c.deref.result.now c.args.log_bytes c.len-prepared.result c.len-completed.result true plan c.deref.ensures.value
           (count_of as_prepared c.prepared.result.now.entries _ d.prepared c.len-prepared.result c.len-prepared.ensures.len c.prepared.ensures refl)
           (count_of as_decided c.decided.result.now.entries _ d.decided c.len-completed.result c.len-completed.ensures.len c.decided.ensures refl)
           (sym c.if-not-begins_with_room.false ∙ c.begins_with_room.ensures))

@@ -11,10 +11,10 @@ pub loop-xid-preserved : goal.loop-xid-preserved
 loop-xid-preserved c =
     let e : Triple × Direction = (c.in-Some.xid.now, c.in-Some.direction.now) in
     let more = rest_more deref_pair c.loop-xid.xid-iterator c.next.new.self c.next.result (c.in-Some.xid, c.in-Some.direction) c.in-Some.is c.next.ensures.steps in
-    λ boot ps apart unknown start.
-    completed_more boot ps (map as_decided c.args.decided.now.entries) (map as_decided c.next.new.self) (map as_decided c.loop-xid.xid-iterator) (as_decided e) c.loop-xid.branches c.restore_completed.new.self (ap (λ es. map as_decided es) more) apart unknown
-    (λ ds free none stands. c.in_ok-restore_completed.ensures boot ps ds (as_decided e) (sym c.copied.ensures) refl (rw c.copied.ensures free) (rw c.copied.ensures none) stands) (c.loop-xid.invariant boot ps apart unknown start)
+    λ boot moment ps apart unknown start.
+    completed_more boot moment ps (map as_decided c.args.decided.now.entries) (map as_decided c.next.new.self) (map as_decided c.loop-xid.xid-iterator) (as_decided e) c.loop-xid.branches c.restore_completed.new.self (ap (λ es. map as_decided es) more) apart unknown
+    (λ ds free none stands. c.in_ok-restore_completed.ensures boot moment ps ds (as_decided e) (sym c.copied.ensures) refl (rw c.copied.ensures free) (rw c.copied.ensures none) stands) (c.loop-xid.invariant boot moment ps apart unknown start)
 
 pub returns : goal.returns
-returns c = λ boot ps apart unknown start.
-    completed_all boot ps (map as_decided c.args.decided.now.entries) (map as_decided c.loop-xid.xid-iterator) c.loop-xid.branches (ap (λ es. map as_decided es) c.in-None.ensures.steps.0) (c.loop-xid.invariant boot ps apart unknown start)
+returns c = λ boot moment ps apart unknown start.
+    completed_all boot moment ps (map as_decided c.args.decided.now.entries) (map as_decided c.loop-xid.xid-iterator) c.loop-xid.branches (ap (λ es. map as_decided es) c.in-None.ensures.steps.0) (c.loop-xid.invariant boot moment ps apart unknown start)

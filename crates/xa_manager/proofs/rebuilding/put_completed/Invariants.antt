@@ -8,6 +8,6 @@ use Rattle.xa_manager.proofs.rebuilding.put_completed.Given as goal
 
 abbrev pub invariant-loop-xid : goal.invariant-loop-xid
 invariant-loop-xid l =
-    (boot : ℕ) (ps : List PreparedBranch) → Pairwise named_before (map as_decided l.decided.entries)
-    → AllByRecursion (λ e. is_prepared e.xid ps ≡ false) (map as_decided l.decided.entries) → HasRestored l.fn.branches boot ps []
-    → CompletedUpto boot ps (map as_decided l.decided.entries) (map as_decided l.xid-iterator) l.branches
+    (boot moment : ℕ) (ps : List PreparedBranch) → Pairwise named_before (map as_decided l.decided.entries)
+    → AllByRecursion (λ e. is_prepared e.xid ps ≡ false) (map as_decided l.decided.entries) → HasRestored l.fn.branches boot moment ps []
+    → CompletedUpto boot moment ps (map as_decided l.decided.entries) (map as_decided l.xid-iterator) l.branches

@@ -10,10 +10,10 @@ pub loop-timestamp-preserved : goal.loop-timestamp-preserved
 loop-timestamp-preserved c =
     let e : ℕ × InDoubt = (c.in-Some.timestamp.now, c.in-Some.branch.now) in
     let more = rest_more deref_pair c.loop-timestamp.timestamp-iterator c.next.new.self c.next.result (c.in-Some.timestamp, c.in-Some.branch) c.in-Some.is c.next.ensures.steps in
-    λ boot apart start.
-    prepared_more boot (map as_prepared c.args.prepared.now.entries) (map as_prepared c.next.new.self) (map as_prepared c.loop-timestamp.timestamp-iterator) (as_prepared e) c.loop-timestamp.branches c.restore_prepared.new.self (ap (λ es. map as_prepared es) more) apart
-    (λ ps free none stands. c.in_ok-restore_prepared.ensures boot ps _ (as_prepared e) (sym c.copied.ensures) refl (rw c.copied.ensures free) refl stands) (c.loop-timestamp.invariant boot apart start)
+    λ boot moment apart start.
+    prepared_more boot moment (map as_prepared c.args.prepared.now.entries) (map as_prepared c.next.new.self) (map as_prepared c.loop-timestamp.timestamp-iterator) (as_prepared e) c.loop-timestamp.branches c.restore_prepared.new.self (ap (λ es. map as_prepared es) more) apart
+    (λ ps free none stands. c.in_ok-restore_prepared.ensures boot moment ps _ (as_prepared e) (sym c.copied.ensures) refl (rw c.copied.ensures free) refl stands) (c.loop-timestamp.invariant boot moment apart start)
 
 pub returns : goal.returns
-returns c = λ boot apart start.
-    prepared_all boot (map as_prepared c.args.prepared.now.entries) (map as_prepared c.loop-timestamp.timestamp-iterator) c.loop-timestamp.branches (ap (λ es. map as_prepared es) c.in-None.ensures.steps.0) (c.loop-timestamp.invariant boot apart start)
+returns c = λ boot moment apart start.
+    prepared_all boot moment (map as_prepared c.args.prepared.now.entries) (map as_prepared c.loop-timestamp.timestamp-iterator) c.loop-timestamp.branches (ap (λ es. map as_prepared es) c.in-None.ensures.steps.0) (c.loop-timestamp.invariant boot moment apart start)

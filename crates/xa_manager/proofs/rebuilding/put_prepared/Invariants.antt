@@ -7,5 +7,5 @@ use Rattle.xa_manager.proofs.rebuilding.put_prepared.Given as goal
 
 abbrev pub invariant-loop-timestamp : goal.invariant-loop-timestamp
 invariant-loop-timestamp l =
-    (boot : ℕ) → Pairwise named_apart (map as_prepared l.prepared.entries) → HasRestored l.fn.branches boot [] []
-    → PreparedUpto boot (map as_prepared l.prepared.entries) (map as_prepared l.timestamp-iterator) l.branches
+    (boot moment : ℕ) → Pairwise named_apart (map as_prepared l.prepared.entries) → HasRestored l.fn.branches boot moment [] []
+    → PreparedUpto boot moment (map as_prepared l.prepared.entries) (map as_prepared l.timestamp-iterator) l.branches

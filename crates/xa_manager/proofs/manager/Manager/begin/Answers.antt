@@ -22,13 +22,13 @@ use Rattle.xa_manager.proofs.Standing.{outside, down_stands}
 use Rattle.xa_manager.proofs.manager.Manager.begin.Goals as goal
 
 pub log_boot-requires-clause-sizes : goal.log_boot-requires-clause-sizes
-log_boot-requires-clause-sizes g c = next_sizes c.args.planned.durable c.args.planned.next c.in-Some.next c.in-Some.is c.requires.next
+log_boot-requires-clause-sizes g c = next_sizes c.args.self.now.tables.branches.moment c.args.planned.durable c.args.planned.next c.in-Some.next c.in-Some.is c.requires.next
 
 pub log_boot-requires-clause-short : goal.log_boot-requires-clause-short
-log_boot-requires-clause-short g c = next_short c.args.planned.durable c.args.planned.next c.in-Some.next c.in-Some.is c.requires.next
+log_boot-requires-clause-short g c = next_short c.args.self.now.tables.branches.moment c.args.planned.durable c.args.planned.next c.in-Some.next c.in-Some.is c.requires.next
 
 pub log_boot-requires-clause-keys : goal.log_boot-requires-clause-keys
-log_boot-requires-clause-keys g c = next_keys c.args.planned.durable c.args.planned.next c.in-Some.next c.in-Some.is c.requires.next
+log_boot-requires-clause-keys g c = next_keys c.args.self.now.tables.branches.moment c.args.planned.durable c.args.planned.next c.in-Some.next c.in-Some.is c.requires.next
 
 pub log_boot-requires-clause-above : goal.log_boot-requires-clause-above
 log_boot-requires-clause-above g c =
@@ -41,10 +41,10 @@ returns-in-Some-clause-turn g c =
     let is : c.args.planned.durable ≡ durable f.state = rebuilt_is bodies f.records c.args.planned.durable (durable f.state) rebuilt f.spelled_as f.backs.records f.backs.lasts in
     let boot : c.boot.result ≡ f.state.logged_boot = c.boot.ensures ∙ ap (λ (d : Durable). d.boot) is in
     let fate = c.has_survived-survived.ensures s bodies f st.doubt h boot in
-    let next = next_is c.args.planned.durable c.args.planned.next c.in-Some.next c.in-Some.is c.requires.next in
+    let next = next_is c.args.self.now.tables.branches.moment c.args.planned.durable c.args.planned.next c.in-Some.next c.in-Some.is c.requires.next in
     let number : c.args.planned.durable.boot ≡ f.state.logged_boot = ap (λ (d : Durable). d.boot) is in
     c.log_boot.ensures.turn s f.state f.records st trusts fate f.backs f.has f.alive (subst (λ (n : ℕ). nat_lt n MOST_BOOTS ≡ true) number next.less) (next.number ∙ ap (λ (n : ℕ). n + 1) number)
-    (subst (λ (d : Durable). IsReady d (d.boot + 1) c.in-Some.next) is next.ready)
+    (subst (λ (d : Durable). IsReady d (d.boot + 1) c.args.self.now.tables.branches.moment c.in-Some.next) is next.ready)
 
 pub returns-clause-turn : goal.returns-clause-turn
 returns-clause-turn g c =
@@ -53,7 +53,7 @@ returns-clause-turn g c =
     let is : c.args.planned.durable ≡ durable f.state = rebuilt_is bodies f.records c.args.planned.durable (durable f.state) rebuilt f.spelled_as f.backs.records f.backs.lasts in
     let boot : c.boot.result ≡ f.state.logged_boot = c.boot.ensures ∙ ap (λ (d : Durable). d.boot) is in
     let fate = c.has_survived-survived.ensures s bodies f st.doubt h boot in
-    let used = none_next c.args.planned.durable c.args.planned.next c.in-None.is c.requires.next in
+    let used = none_next c.args.self.now.tables.branches.moment c.args.planned.durable c.args.planned.next c.in-None.is c.requires.next in
     let number : c.args.planned.durable.boot ≡ f.state.logged_boot = ap (λ (d : Durable). d.boot) is in
     is_answer _ (answer (detailed XAER_RMFAIL detail.Limit) (down f.state)) _ (ap (λ (o : Outcome). taken (restart_turn s) o) c.stopped.ensures.told ∙ turn_stops c.has_survived-survived.result s f.state fate (subst (λ (n : ℕ). nat_lt n MOST_BOOTS ≡ false) number used)) (
       sym c.stopped.ensures.reply,
@@ -69,10 +69,10 @@ returns-in-Some-clause-leaves g c =
     let is : c.args.planned.durable ≡ durable f.state = rebuilt_is bodies f.records c.args.planned.durable (durable f.state) rebuilt f.spelled_as f.backs.records f.backs.lasts in
     let boot : c.boot.result ≡ f.state.logged_boot = c.boot.ensures ∙ ap (λ (d : Durable). d.boot) is in
     let fate = c.has_survived-survived.ensures s bodies f st.doubt h boot in
-    let next = next_is c.args.planned.durable c.args.planned.next c.in-Some.next c.in-Some.is c.requires.next in
+    let next = next_is c.args.self.now.tables.branches.moment c.args.planned.durable c.args.planned.next c.in-Some.next c.in-Some.is c.requires.next in
     let number : c.args.planned.durable.boot ≡ f.state.logged_boot = ap (λ (d : Durable). d.boot) is in
     c.log_boot.ensures.leaves s f.state f.records st trusts fate f.backs f.has f.alive (subst (λ (n : ℕ). nat_lt n MOST_BOOTS ≡ true) number next.less)
-    (subst (λ (d : Durable). IsReady d (d.boot + 1) c.in-Some.next) is next.ready)
+    (subst (λ (d : Durable). IsReady d (d.boot + 1) c.args.self.now.tables.branches.moment c.in-Some.next) is next.ready)
 
 pub returns-clause-leaves : goal.returns-clause-leaves
 returns-clause-leaves g c =

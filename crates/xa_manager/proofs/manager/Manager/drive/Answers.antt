@@ -5,6 +5,7 @@ use Rattle.std.proofs.lemmas.List.{map-id}
 use Rattle.xa_model.specs.declared.event.Event.{Event}
 use Rattle.xa_model.specs.Events.{AreEvents}
 use Rattle.xa_manager.specs.Answered.{AnswersAll, RunsAll}
+use Rattle.xa_manager.specs.Counted.{CountsAll}
 use Rattle.xa_manager.proofs.Counting.{counts_more}
 use Rattle.xa_manager.proofs.Driving.{answers_more, pinned_each, pinned_more, runs_more}
 use Rattle.xa_manager.proofs.Promised.{promises_all}
@@ -39,15 +40,26 @@ loop-event-preserved g c = record {
   spelled = (subst AreEvents c.in-Some.ensures.steps.0 c.loop-event.invariant.spelled).1;
 }
 
-pub returns-clause-promises : goal.returns-clause-promises
-returns-clause-promises g c =
+pub returns-clause-history : goal.returns-clause-history
+returns-clause-history g c =
     let ended = YieldsList-end (YieldsList-from_vec c.args.events.items (cc) (cc)) c.loop-event.yielded c.loop-event.event-iterator c.loop-event.yielded_by
     c.next.result c.next.new.self c.in-None.is c.next.ensures.steps in
     let all : c.loop-event.yielded ≡ c.args.events.items = sym (map-id c.loop-event.yielded) ∙ ended.0 in
-    let history = subst (λ (events : List Event). AnswersAll g.D.Disk c.args.self.now events c.loop-event.replies.items c.loop-event.self)
-    all c.loop-event.invariant.answered in
+    subst (λ (events : List Event). AnswersAll g.D.Disk c.args.self.now events c.loop-event.replies.items c.loop-event.self)
+    all c.loop-event.invariant.answered
+
+pub returns-clause-counted : goal.returns-clause-counted
+returns-clause-counted g c =
+    let ended = YieldsList-end (YieldsList-from_vec c.args.events.items (cc) (cc)) c.loop-event.yielded c.loop-event.event-iterator c.loop-event.yielded_by
+    c.next.result c.next.new.self c.in-None.is c.next.ensures.steps in
+    let all : c.loop-event.yielded ≡ c.args.events.items = sym (map-id c.loop-event.yielded) ∙ ended.0 in
+    subst (λ (events : List Event). CountsAll g.D.Disk c.args.self.now events c.loop-event.replies.items c.loop-event.self)
+    all c.loop-event.invariant.counted
+
+pub returns-clause-promises : goal.returns-clause-promises
+returns-clause-promises g c =
     promises_all g.D.Disk c.args.self.now c.loop-event.self c.args.events.items
-    c.loop-event.replies.items c.requires history
+    c.loop-event.replies.items c.requires (returns-clause-history g c)
 
 pub returns-clause-each : goal.returns-clause-each
 returns-clause-each g c =

@@ -1,7 +1,6 @@
 use Rattle.std.proofs.Common.{ap, refl, Some}
 use Rattle.xa_limits.specs.declared.TheConstants.{AROUND_CLOSED}
-use Rattle.std.proofs.Common.{◌≡◌, length}
-use Rattle.xa_log.specs.declared.appending.Appended.TheVariants as appended
+use Rattle.std.proofs.Common.{length}
 use Rattle.xa_model.specs.declared.outcome.Appending.TheVariants.{Refused, Lost}
 use Rattle.xa_manager.specs.declared.doubt.Doubt.TheVariants as doubt
 use Rattle.xa_manager.proofs.Appending.{has_appended, refused_with_room}

@@ -3,7 +3,6 @@ use Rattle.xa_disk.specs.Time.{LeavesOnly}
 use Rattle.xa_record.specs.Spelling.{spelled}
 use Rattle.xa_log.specs.Checkpoint.{LeavesAny}
 use Rattle.xa_log.specs.Chain.{newest, text}
-use Rattle.xa_log.specs.Pair.{generation}
 use Rattle.xa_log.specs.Reading.{bodies_of}
 use Rattle.xa_log.specs.TwoFiles.{Pair, MaySeal, Checkpoints, Swaps, written}
 use Rattle.xa_log.specs.declared.appending.Appended.{Appended}
@@ -18,7 +17,6 @@ use Rattle.xa_manager.specs.declared.doubt.Doubt.TheVariants.{Boot}
 use Rattle.xa_manager.specs.Crash.{LeavesBoot, wrote}
 use Rattle.xa_manager.proofs.CrashBoots.{boot_leaves, swap_leaves}
 use Rattle.xa_manager.proofs.Fates.{is_answer, turn_opens}
-use Rattle.xa_manager.proofs.Generations.{newer}
 use Rattle.xa_manager.proofs.Rescanned.{text_size}
 use Rattle.xa_manager.proofs.Standing.{down_stands, lost_stands, lost_recoverable, begun_stands, never_full, refused_pair}
 use Rattle.xa_manager.proofs.manager.Manager.log_boot.Goals as goal

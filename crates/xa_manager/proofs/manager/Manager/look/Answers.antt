@@ -1,10 +1,11 @@
-use Rattle.std.proofs.Common.{inl, refl, sym, ◌∙◌}
+use Rattle.std.proofs.Common.{refl, sym, ◌∙◌}
 use Rattle.xa_log.specs.Chain.{logged}
 use Rattle.xa_log.specs.Reading.{bodies_of}
 use Rattle.xa_manager.specs.Managed.{view}
-use Rattle.xa_manager.proofs.Results.{on_err, on_ok, if_ok, if_err, at_err, at_ok, in_ok, in_err}
-use Rattle.xa_manager.proofs.CrashFiles.{look_leaves}
-use Rattle.xa_manager.proofs.Rescanned.{Finds, stands_kept, stands_found, found_state, has_gives}
+use Rattle.xa_manager.proofs.Results.{on_err, on_ok, if_ok, if_err, at_err, in_ok, in_err}
+use Rattle.xa_manager.proofs.CrashFiles.{look_files}
+use Rattle.xa_manager.proofs.LogsBehind.{lost_trusted, calm_trusted, stands_kept}
+use Rattle.xa_manager.proofs.Rescanned.{Finds, stands_found, found_state}
 use Rattle.xa_manager.proofs.Standing.{still_stands, outside, is_up, found_end}
 use Rattle.xa_manager.proofs.manager.Manager.look.Goals as goal
 
@@ -12,21 +13,18 @@ pub returns-clause-err : goal.returns-clause-err
 returns-clause-err g c = on_err c.rescan.result _ (λ e is s st.
     let same = at_err _ c.rescan.result e is c.rescan.ensures.as_before in
     still_stands g.D.Disk c.args.self.now _ s refl refl refl (λ up. same.end ∙ st.end up) (λ up. same.lost ∙ st.alive up) c.rescan.ensures.settings
-    (λ trusts. stands_kept g.D.Disk c.args.self.now.log c.rescan.new.self s (record {
-      pair = (at_err _ c.rescan.result e is (c.rescan.ensures.keeps trusts.disk)).pair;
-      append = (at_err _ c.rescan.result e is (c.rescan.ensures.keeps trusts.disk)).may_stand_pair;
-      seal = (at_err _ c.rescan.result e is (c.rescan.ensures.keeps trusts.disk)).may_seal;
-    }) (st.log trusts)) st)
+    (λ trusts. stands_kept g.D.Disk c.args.self.now.log c.rescan.new.self s (at_err _ c.rescan.result e is (c.rescan.ensures.keeps trusts.disk)).state (st.log trusts)) st)
+
+pub returns-clause-alive : goal.returns-clause-alive
+returns-clause-alive g c = on_ok c.rescan.result _ (λ v is. (in_ok _ c.rescan.result v is c.rescan.ensures.ends).alive)
 
 pub returns-clause-stays : goal.returns-clause-stays
 returns-clause-stays g c = on_ok c.rescan.result _ (λ v is ends s st.
-    let alive = at_ok _ c.rescan.result v is c.rescan.ensures.alive in
+    let alive = (in_ok _ c.rescan.result v is c.rescan.ensures.ends).alive in
     still_stands g.D.Disk c.args.self.now _ s refl refl refl (λ up. ends up ∙ st.end up) (λ up. alive) c.rescan.ensures.settings
     (λ trusts. let finds : Finds g.D.Disk (bodies_of v.items) c.args.self.now.log c.rescan.new.self = record {
       stood = logged (g.D.Disk.seen c.rescan.new.self.other);
-      pair = λ bodies stood p. let f = in_ok _ c.rescan.result v is (c.rescan.ensures.anew trusts.disk bodies stood p (inl trusts.headers)) in (f.0, f.1.0);
-      append = λ bodies body stood p. let f = in_ok _ c.rescan.result v is (c.rescan.ensures.anew_lost trusts.disk bodies body stood p trusts.appends (inl trusts.headers)) in (f.0, f.1.0);
-      seal = λ bodies fresh p. let f = in_ok _ c.rescan.result v is (c.rescan.ensures.anew_sealed trusts.disk bodies fresh p (inl trusts.seals)) in (f.0, f.1.0);
+      state = λ state it. let f = in_ok _ c.rescan.result v is (c.rescan.ensures.anew trusts.disk state it (lost_trusted g.D.Disk trusts state) (calm_trusted g.D.Disk trusts state c.args.self.now.log)) in (f.0, f.1.0);
     } in
     stands_found g.D.Disk (bodies_of v.items) c.args.self.now.log c.rescan.new.self s finds (st.log trusts)) st)
 
@@ -34,9 +32,7 @@ pub returns-clause-found : goal.returns-clause-found
 returns-clause-found g c = λ trusts. if_ok c.rescan.result _ (λ v is s st.
     let finds : Finds g.D.Disk (bodies_of v.items) c.args.self.now.log c.rescan.new.self = record {
       stood = logged (g.D.Disk.seen c.rescan.new.self.other);
-      pair = λ bodies stood p. let f = in_ok _ c.rescan.result v is (c.rescan.ensures.anew trusts.disk bodies stood p (inl trusts.headers)) in (f.0, f.1.0);
-      append = λ bodies body stood p. let f = in_ok _ c.rescan.result v is (c.rescan.ensures.anew_lost trusts.disk bodies body stood p trusts.appends (inl trusts.headers)) in (f.0, f.1.0);
-      seal = λ bodies fresh p. let f = in_ok _ c.rescan.result v is (c.rescan.ensures.anew_sealed trusts.disk bodies fresh p (inl trusts.seals)) in (f.0, f.1.0);
+      state = λ state it. let f = in_ok _ c.rescan.result v is (c.rescan.ensures.anew trusts.disk state it (lost_trusted g.D.Disk trusts state) (calm_trusted g.D.Disk trusts state c.args.self.now.log)) in (f.0, f.1.0);
     } in
     found_state g.D.Disk (bodies_of v.items) c.args.self.now.log c.rescan.new.self s finds (outside c.args.self.now.up (view c.args.self.now) s st.tables).recoverable (st.log trusts))
 
@@ -48,12 +44,9 @@ returns-clause-ends g c = λ trusts. on_ok c.rescan.result _ (λ v is s st up.
 pub returns-clause-readable : goal.returns-clause-readable
 returns-clause-readable g c = λ trusts. if_err c.rescan.result _ (λ e is s st.
     let log = st.log trusts in
-    has_gives g.D.Disk c.args.self.now.log log.records s s.open_record _
-    (λ bodies stood p. in_err _ c.rescan.result e is (c.rescan.ensures.readable trusts.disk bodies stood p (inl trusts.headers)))
-    (λ bodies body stood p. in_err _ c.rescan.result e is (c.rescan.ensures.readable_lost trusts.disk bodies body stood p (inl trusts.headers)))
-    (λ bodies fresh p. in_err _ c.rescan.result e is (c.rescan.ensures.readable_sealed trusts.disk bodies fresh p (inl trusts.seals))) log.has)
+    in_err _ c.rescan.result e is (c.rescan.ensures.readable trusts.disk log.state log.is_in (calm_trusted g.D.Disk trusts log.state c.args.self.now.log)))
 
 pub returns-clause-leaves : goal.returns-clause-leaves
 returns-clause-leaves g c = λ trusts s st.
-    look_leaves g.D.Disk c.args.self.now.log c.rescan.new.self s (outside c.args.self.now.up (view c.args.self.now) s st.tables).recoverable
-    g.met.D.Disk.only_now c.rescan.ensures.settings (c.rescan.ensures.time trusts.disk) (c.rescan.ensures.time_second trusts.disk)
+    look_files g.D.Disk c.args.self.now.log c.rescan.new.self s (outside c.args.self.now.up (view c.args.self.now) s st.tables).recoverable
+    (c.rescan.ensures.looks trusts.disk) (c.rescan.ensures.any_moment trusts.disk)

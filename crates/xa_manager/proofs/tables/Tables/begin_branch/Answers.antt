@@ -1,4 +1,4 @@
-use Rattle.std.proofs.Common.{refl, subst}
+use Rattle.std.proofs.Common.{refl, sym, subst}
 use Rattle.xa_xid.specs.Triple.{Triple}
 use Rattle.xa_assoc.specs.Sessions.{SessionsStandFor}
 use Rattle.xa_model.specs.Associations.{begun}
@@ -11,17 +11,18 @@ use Rattle.xa_manager.proofs.Lows.{rises_with}
 use Rattle.xa_manager.proofs.tables.Tables.begin_branch.Goals as goal
 
 pub returns-in-Ok-clause-ok : goal.returns-in-Ok-clause-ok
-returns-in-Ok-clause-ok c = λ s st recoverable. record {
-  name = st.name;
-  log_bytes = st.log_bytes;
-  up = st.up;
-  sessions = subst (λ (x : Triple). SessionsStandFor c.begin.new.self (begun s c.args.session x).after) c.copied.ensures (c.in_ok-begin.ensures.ok s st.recoverable.sound st.sessions);
-  branches = c.in-Ok.ensures.ok s c.args.session st.recoverable.sound st.branches;
-  records =
-      low_rises (history_of s) c.args.self.now.records (low_of (begun s c.args.session c.args.xid.now).after) st.records
-      (rises_with s (begun s c.args.session c.args.xid.now).after refl (begun_water s c.args.session c.args.xid.now st.recoverable.sound));
-  recoverable = recoverable;
-}
+returns-in-Ok-clause-ok c = λ s st recoverable.
+    let there = subst (λ (x : Triple). SessionsStandFor c.begin.new.self (begun s c.args.session x).after) c.copied.ensures (c.in_ok-begin.ensures.ok s st.recoverable.sound st.sessions) in record {
+      name = st.name;
+      log_bytes = st.log_bytes;
+      up = st.up;
+      sessions = there;
+      branches = c.in-Ok.ensures.ok s c.args.session st.recoverable.sound st.branches (sym (c.timeout-limit.ensures.state (begun s c.args.session c.args.xid.now).after there));
+      records =
+          low_rises (history_of s) c.args.self.now.records (low_of (begun s c.args.session c.args.xid.now).after) st.records
+          (rises_with s (begun s c.args.session c.args.xid.now).after refl (begun_water s c.args.session c.args.xid.now st.recoverable.sound));
+      recoverable = recoverable;
+    }
 
 pub returns-in-Err-clause-err : goal.returns-in-Err-clause-err
 returns-in-Err-clause-err c = λ s st.

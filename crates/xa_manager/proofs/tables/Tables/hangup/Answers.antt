@@ -19,7 +19,7 @@ returns-in-Some c = record {
           up = st.up;
           sessions = c.in-Some.ensures.after s st.recoverable.sound st.sessions;
           branches =
-              c.hang_up.ensures s n st.recoverable.sound (λ q. ap (holds q) c.in-Some.ensures.seat ∙ st.sessions.own n q)
+              c.hang_up.ensures.follows s n st.recoverable.sound (λ q. ap (holds q) c.in-Some.ensures.seat ∙ st.sessions.own n q)
               (copied ∙ ap (λ (o : Option Seat). option_and_then (λ x. x.active) o) c.in-Some.ensures.seat ∙ st.sessions.active n) st.branches;
           records = left_records n s c.args.self.now.records st.records;
           recoverable = recoverable;
@@ -33,6 +33,7 @@ returns-in-Some c = record {
       log_bytes = st.log_bytes;
       down = st.down;
       sessions = c.in-Some.ensures.after s st.recoverable.sound st.sessions;
+      moment = c.hang_up.ensures.moment ∙ st.moment;
       recoverable = recoverable;
     };
     served = refl;
@@ -64,6 +65,7 @@ returns-in_default c = record {
       log_bytes = st.log_bytes;
       down = st.down;
       sessions = c.hangup.ensures.after s st.recoverable.sound st.sessions;
+      moment = st.moment;
       recoverable = recoverable;
     };
     served = refl;
