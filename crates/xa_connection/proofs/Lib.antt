@@ -2,3 +2,4 @@ pub mod Carrying
 pub mod Ending
 pub mod Fronts
 pub mod Turning
+pub mod Inside

@@ -1,5 +1,5 @@
 -- What is at the front of bytes.
-use Rattle.std.specs.Prelude.{ℕ, ◌≡◌, ◌+◌, ◌≤◌, List, ◌++◌, length, take, drop}
+use Rattle.std.specs.Prelude.{ℕ, ◌≡◌, ◌≢◌, ◌+◌, ◌≤◌, List, [], ◌++◌, length, take, drop}
 use Rattle.xa_limits.specs.declared.TheConstants.{MOST_CONTENT}
 use Rattle.xa_desk.specs.Frames.{frame}
 use Rattle.xa_desk.specs.Serving.{IsCut, IsTooLong}
@@ -20,3 +20,7 @@ abbrev pub IsFront : List ℕ → Front → Type 0
 IsFront bytes (Whole count) = BeginsWhole bytes count
 IsFront bytes Cut = IsCut bytes
 IsFront bytes TooLong = BeginsTooLong bytes
+
+-- some bytes of a frame, and not all: neither are they none, nor is a whole frame at the front, nor a length too great
+abbrev pub IsInsideFrame : List ℕ → Type 0
+IsInsideFrame bytes = (bytes ≢ []) × IsCut bytes

@@ -1,6 +1,7 @@
 ghost use Rattle.std.specs.Prelude.{◌≡◌, ◌↔◌, [], drop, IfOk, OnErr, IsSome, IsTrue};
 ghost use Rattle.xa_frame.specs.Limits.{IsReply};
 ghost use Rattle.xa_connection.specs.Calls.{Feeds, Holds, Turns, new_connection, room_of};
+ghost use Rattle.xa_connection.specs.Fronts.{IsInsideFrame};
 
 use crate::answering::Answering;
 use crate::buffer::Buffer;
@@ -106,6 +107,20 @@ impl Connection {
         ensures { self.new ≡ record self.old { output = drop count self.old.output } }
     {
         self.output.take(count);
+    }
+
+    /// Whether what came in and isn't answered is a part of a frame, and not the whole of one: so at the end of what the
+    /// peer sends, once there is nothing more to answer, it says whether the peer ended inside a frame or between two.
+    pub fn is_inside_frame(&self) -> bool
+        ensures { IsTrue result ↔ IsInsideFrame self.now.input }
+    {
+        if self.input.len() == 0 {
+            return false;
+        }
+        match front_of(self.input.as_slice()) {
+            Front::Cut => true,
+            Front::Whole(_) | Front::TooLong => false,
+        }
     }
 
     /// Whether it is to end: it takes no more bytes, and answers nothing more.

@@ -1,4 +1,6 @@
+ghost use Rattle.std.specs.Prelude.{◌≡◌};
 ghost use Rattle.xa_connection.specs.Fronts.{IsFront};
+ghost use Rattle.xa_desk.specs.Serving.{IsCut};
 
 use xa_bytes::{one_number, take_u32};
 use xa_limits::MOST_CONTENT;
@@ -16,7 +18,8 @@ pub enum Front {
 
 /// What is at the front of these bytes. Of a length that is too great nothing behind it is looked at.
 pub fn front_of(bytes: &[u8]) -> Front
-    ensures { IsFront bytes.now result }
+    ensures front { IsFront bytes.now result }
+    ensures cut { IsCut bytes.now → result ≡ Front.Cut }
 {
     one_number();
     let Some((count, rest)) = take_u32(bytes) else {
