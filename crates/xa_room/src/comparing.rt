@@ -86,6 +86,8 @@ fn same_request(one: &Request, other: &Request) -> bool
         ) => { direction == d && xid == x }
         (Request::Doom { xid }, Request::Doom { xid: x }) => xid == x,
         (Request::Restart, Request::Restart) => true,
+        (Request::Timeout { seconds }, Request::Timeout { seconds: s }) => seconds == s,
+        (Request::Tick { moment }, Request::Tick { moment: m }) => moment == m,
         _ => false,
     }
 }

@@ -13,7 +13,8 @@
 //!
 //! On many threads:
 //!
-//! - `desk`: `Desk`, a room behind the one lock (`taking`); `counted`: the room and the ledger's book under it
+//! - `desk`: `Desk`, a room behind the one lock; `taking`: `take`, how that is taken; `counted`: the room and the
+//!   ledger's book under it
 //! - `share`: `Share`, some parts of the ledger, and how many events were recorded by it; `agree`
 //! - `auditing`: `audit`, whether receipts and shares fit the room, and `AuditFault`; `comparing`: a receipt and an
 //!   entry
@@ -40,6 +41,8 @@ pub use auditing::{AuditFault, audit};
 pub use book::{Entry, Receipt};
 pub use desk::Desk;
 pub use manages::Manages;
+pub use replies::{is_memory, placed};
 pub use room::Room;
 pub use share::{Share, agree};
 pub use start::Start;
+pub use taking::take;

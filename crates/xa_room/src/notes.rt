@@ -1,7 +1,9 @@
 ghost use Rattle.std.specs.Prelude.{◌≡◌, ℕ, ◌+◌, ◌<◌, ◌≤◌, [], ◌∷◌, ◌++◌, length, true, vec_len, vec_capacity};
 ghost use Rattle.xa_room.specs.Book.{entry_of, receipt_of};
+ghost use Rattle.xa_room.specs.Spare.{HasRoom};
 
 use crate::book::{Entry, Receipt};
+use crate::spare::Spare;
 use xa_frame::Reply;
 use xa_model::{Event, Outcome};
 
@@ -12,6 +14,22 @@ pub(crate) fn make_room(history: &mut Vec<Entry>, count: usize) -> bool
     ensures found { result ≡ true → length history.new.items + count ≤ vec_capacity history.new }
 {
     history.reserve(count).is_ok()
+}
+
+/// Makes room for so many entries more, and for two copies of a reply. Whether there was memory for all of it.
+pub(crate) fn make_ready(
+    history: &mut Vec<Entry>,
+    count: usize,
+    kept: &mut Spare,
+    given: &mut Spare,
+) -> bool
+    ensures items { history.new.items ≡ history.old.items }
+    ensures capacity { vec_capacity history.old ≤ vec_capacity history.new }
+    ensures found { result ≡ true → length history.new.items + count ≤ vec_capacity history.new }
+    ensures kept { result ≡ true → HasRoom kept.new }
+    ensures given { result ≡ true → HasRoom given.new }
+{
+    make_room(history, count) && kept.fill() && given.fill()
 }
 
 /// Puts an event with its reply behind a history that has room for it. The receipt takes the copies.

@@ -5,7 +5,8 @@ ghost use Rattle.xa_room.specs.Book.{placed};
 use xa_codes::Detail;
 use xa_frame::Reply;
 
-pub(crate) fn is_memory(reply: &Reply) -> bool
+/// Whether it tells that memory was wanted.
+pub fn is_memory(reply: &Reply) -> bool
     ensures { result ≡ is_memory reply.now.detail }
 {
     match reply.detail {
@@ -15,7 +16,7 @@ pub(crate) fn is_memory(reply: &Reply) -> bool
 }
 
 /// The reply, with its place in a history.
-pub(crate) fn placed(reply: Reply, place: u64) -> Reply
+pub fn placed(reply: Reply, place: u64) -> Reply
     ensures { result ≡ placed place reply }
 {
     Reply { place, ..reply }

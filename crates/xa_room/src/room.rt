@@ -12,7 +12,7 @@ ghost use Rattle.xa_room.specs.Promises.{Promises};
 use crate::book::{Entry, Receipt};
 use crate::copies::two_copies;
 use crate::manages::Manages;
-use crate::notes::{make_room, note};
+use crate::notes::{make_ready, make_room, note};
 use crate::replies::{is_memory, placed};
 use crate::spare::Spare;
 use crate::start::Start;
@@ -109,7 +109,7 @@ impl<M: Manages, S: Start> Room<M, S> {
         ensures limits { IsReply result.0 }
     {
         let count = self.manager.connected() as usize + 1;
-        if !make_room(&mut self.history, count) || !self.kept.fill() || !self.given.fill() {
+        if !make_ready(&mut self.history, count, &mut self.kept, &mut self.given) {
             return (memory_reply(&request), None);
         }
         let reply = self.manager.call(session, request);

@@ -27,8 +27,8 @@ invariant_of-self-2 g c =
     (subst (λ (r : Reply). Acts m.stands m.trusts m.told m.has_called m.crashes m.failures room.manager (Call c.args.session c.args.request) r c.call-reply.new.self) (sym kept) call.acts))
     (ap (λ (r : Reply). is_memory r.detail) kept ∙ sym c.if-is_memory.ensures) (ap (λ (r : Reply). r.place) kept ∙ call.place)
     (subst IsAsked (sym first) asked) c.outcome.ensures
-    c.make_room.ensures.items c.note-receipt.ensures.entries
-    (omega (arith, c.if-not-make_room.ensures.found refl, ap length c.make_room.ensures.items, c.connected.ensures, call.sessions, c.note-receipt.ensures.capacity))
+    c.make_ready.ensures.items c.note-receipt.ensures.entries
+    (omega (arith, c.if-not-make_ready.ensures.found refl, ap length c.make_ready.ensures.items, c.connected.ensures, call.sessions, c.note-receipt.ensures.capacity))
 
 pub returns-clause-recorded : goal.returns-clause-recorded
 returns-clause-recorded g c =
@@ -45,7 +45,7 @@ returns-clause-recorded g c =
           (subst (λ (q : Request). Adds m old new (Call c.args.session q) c.note-receipt.result.reply c.note-receipt.result) first
           (adds_noted m old new
           _ (Call c.args.session c.args.first) _ c.copied-kept.result c.note-receipt.result
-          c.make_room.ensures.items c.note-receipt.ensures.entries is c.outcome.ensures
+          c.make_ready.ensures.items c.note-receipt.ensures.entries is c.outcome.ensures
           (subst (λ (q : Request). Acts m.stands m.trusts m.told m.has_called m.crashes m.failures room.manager (Call c.args.session q) c.copied-kept.result c.call-reply.new.self) (sym first)
           (subst (λ (r : Reply). Acts m.stands m.trusts m.told m.has_called m.crashes m.failures room.manager (Call c.args.session c.args.request) r c.call-reply.new.self) (sym kept) call.acts))
           (ap (λ (r : Reply). is_memory r.detail) kept ∙ sym c.if-is_memory.ensures) (ap (λ (r : Reply). r.place) kept ∙ call.place))),
