@@ -1,0 +1,44 @@
+-- What a call says of a sequencer that many threads share.
+use Rattle.std.specs.Prelude.{ℕ, ◌≡◌, ◌+◌, ◌≤◌, Bool, not, MatchBool, Result}
+use Rattle.xa_assoc.specs.Refusals.{is_memory}
+use Rattle.xa_assoc.specs.declared.fault.ConnectFault.{ConnectFault}
+use Rattle.xa_frame.specs.declared.reply.Reply.{Reply}
+use Rattle.xa_frame.specs.declared.request.Request.{Request}
+use Rattle.xa_manager.specs.Answered.{connect_reply}
+use Rattle.xa_model.specs.State.{State}
+use Rattle.xa_room.specs.declared.manages.Manages.{Ghosts}
+use Rattle.xa_sequencer.specs.Numbers.{Called, Connected, Left}
+use Rattle.xa_sequencer.specs.Stands.{HasHistory, Numbered}
+
+-- There is a sequencer that stood for a history, of at least so many entries, and that did so next. Which one it was is
+-- not said: a proof over any manager can take none but the one that was asked.
+pub record Did {M : Type 0} (m : Ghosts M) (start : State → Type 0) (base : ℕ × ℕ) (least : ℕ)
+    (event : Numbered M → Numbered M → Type 0) : Type 0 where
+  pub old : Numbered M
+  pub new : Numbered M
+  pub history : HasHistory m start base old
+  pub behind : least ≤ old.count
+  pub did : event old new
+
+-- A share's parts and amount, before and behind an event: it counts one more, unless the event is no entry.
+abbrev pub Takes : Bool → ℕ × ℕ → ℕ × ℕ → Type 0
+Takes is_none old new = (new.0 ≡ old.0) × MatchBool is_none (new.1 ≡ old.1) (new.1 ≡ old.1 + 1)
+
+-- a connect, by a share
+abbrev pub ConnectedBy : {M : Type 0} → Ghosts M → (State → Type 0) → ℕ × ℕ → ℕ × ℕ → Result ℕ ConnectFault → ℕ × ℕ
+    → Type 0
+ConnectedBy m start base old result new =
+    Did m start base old.1 (λ a b. Connected m start base a result b)
+    × Takes (is_memory (connect_reply result).detail) old new
+
+-- a call, by a share
+abbrev pub CalledBy : {M : Type 0} → Ghosts M → (State → Type 0) → ℕ × ℕ → ℕ → ℕ × ℕ → Request → Reply → ℕ × ℕ
+    → Type 0
+CalledBy m start base session old request reply new =
+    Did m start base old.1 (λ a b. Called m start base session a request reply b) × Takes (is_memory reply.detail) old new
+
+-- a hang-up, by a share, and whether the session was connected
+abbrev pub LeftBy : {M : Type 0} → Ghosts M → (State → Type 0) → ℕ × ℕ → ℕ → ℕ × ℕ → Bool → ℕ × ℕ → Type 0
+LeftBy m start base session old was new =
+    Did m start base old.1 (λ a b. (was ≡ m.has_session a.now session) × Left m start base session a b)
+    × Takes (not was) old new

@@ -1,0 +1,87 @@
+ghost use Rattle.std.specs.Prelude.{◌≡◌, ◌<◌};
+
+use crate::shared::SharedSequencer;
+use std::fmt;
+use std::sync::Wait;
+use std::sync::ledger::{Ledger, Share};
+use xa_assoc::ConnectFault;
+use xa_desk::Door;
+use xa_frame::{Reply, Request};
+use xa_room::{Manages, Start};
+
+/// A thread's handle of a sequencer that it shares with others: a door, with a share that counts what is asked at it.
+#[derive(Drop)]
+pub struct Handle<'a, M: Manages, S: Start, L: Ledger, R> {
+    rt: &'a R,
+    sequencer: &'a SharedSequencer<M, S, L>,
+    pub share: Share<L>,
+    pub ghost some: { 0 < share.parts },
+}
+
+impl<'a, M: Manages, S: Start, L: Ledger, R: Wait> Handle<'a, M, S, L, R> {
+    ghost use Rattle.xa_sequencer.specs.Shared.{ConnectedBy};
+
+    pub fn new(
+        rt: &'a R,
+        sequencer: &'a SharedSequencer<M, S, L>,
+        share: Share<L>,
+    ) -> Handle<'a, M, S, L, R>
+        requires { 0 < share.parts }
+        ensures { result.share ≡ share }
+    {
+        Handle {
+            rt,
+            sequencer,
+            share,
+        }
+    }
+
+    /// Connects a session.
+    pub fn connect(&mut self) -> Result<u64, ConnectFault>
+        ensures { ConnectedBy M.Manages S.start S.base (self.old.share.parts, self.old.share.amount) result
+            (self.new.share.parts, self.new.share.amount) }
+    {
+        self.sequencer.connect(self.rt, &mut self.share)
+    }
+
+    /// The share.
+    pub fn into_share(self) -> Share<L>
+        ensures { result ≡ self.entry.share }
+    {
+        let Handle {
+            rt: _,
+            sequencer: _,
+            share,
+        } = self;
+        share
+    }
+}
+
+impl<M: Manages, S: Start, L: Ledger, R: Wait> Door for Handle<'_, M, S, L, R> {
+    ghost use Rattle.std.specs.Prelude.{Bool};
+    ghost use Rattle.xa_sequencer.specs.Shared.{CalledBy, LeftBy};
+
+    ghost called = { λ session a request reply b.
+        CalledBy M.Manages S.start S.base session (a.share.parts, a.share.amount) request reply
+        (b.share.parts, b.share.amount) };
+
+    ghost left = { λ session a b.
+        (was : Bool) × LeftBy M.Manages S.start S.base session (a.share.parts, a.share.amount) was
+        (b.share.parts, b.share.amount) };
+
+    fn call(&mut self, session: u64, request: Request) -> Reply {
+        self.sequencer
+            .call(self.rt, &mut self.share, session, request)
+    }
+
+    fn hangup(&mut self, session: u64) {
+        let _was_connected = self.sequencer.hangup(self.rt, &mut self.share, session);
+    }
+}
+
+/// Shows the name alone, so that it never waits for the lock.
+impl<M: Manages, S: Start, L: Ledger, R> fmt::Debug for Handle<'_, M, S, L, R> {
+    fn fmt<W: fmt::Write>(&self, f: &mut fmt::Formatter<W>) -> fmt::Result {
+        f.debug_struct("Handle").finish_non_exhaustive()
+    }
+}

@@ -1,0 +1,26 @@
+//! A sequencer: a manager whose events are numbered, one after another, as entries of one history. The history exists in
+//! proofs alone: what is kept of it is how many entries it has, so that an event takes no memory for it.
+//!
+//! - `sequencer`: `Sequencer`, which asks its manager and numbers each event; `door`: a sequencer as the door of a
+//!   connection
+//! - `shared`: `SharedSequencer`, a sequencer behind a lock, which many threads share; `booked`: the sequencer and the
+//!   ledger's book under it; `handle`: `Handle`, a thread's door of it
+//! - `numbers`: whether there are numbers left
+//! - `laws`: `goes_on_twice`, that histories go on with the entries of one event and of another; `talks_go_on`, with those
+//!   of a connection's calls
+//!
+//! A room of `xa_room` asks the same of a manager, and keeps each entry.
+#![tactic(auto)]
+
+mod booked;
+mod door;
+mod handle;
+mod laws;
+mod numbers;
+mod sequencer;
+mod shared;
+
+pub use handle::Handle;
+pub use laws::{goes_on_twice, talks_go_on};
+pub use sequencer::Sequencer;
+pub use shared::SharedSequencer;

@@ -1,0 +1,129 @@
+ghost use Rattle.std.specs.Prelude.{◌≡◌, ℕ, []};
+ghost use Rattle.xa_frame.specs.Limits.{IsRequest, IsReply};
+ghost use Rattle.xa_model.specs.State.{State};
+ghost use Rattle.xa_sequencer.specs.Numbers.{Called, Connected, Left};
+ghost use Rattle.xa_sequencer.specs.Stands.{AllPromise, HasHistory, Stands};
+
+use crate::numbers::are_left;
+use std::fmt;
+use std::marker::{Model, PhantomData};
+use xa_assoc::ConnectFault;
+use xa_frame::{Reply, Request};
+use xa_manager::{connect_reply, memory_reply, reached_promises};
+use xa_room::{Manages, Start, is_memory, placed};
+
+/// A manager whose events are numbered, from 1 on. To a contract it is the manager as it is now, and the count.
+///
+/// It stands for a history of so many entries: whichever state the manager stood for, of those that `S` picks, the
+/// entries are a legal history from there to a state that the manager stands for now. Each event that found its memory
+/// adds the one entry that it is, to whichever history the sequencer stood for. No entry is kept.
+#[derive(Drop)]
+pub struct Sequencer<M: Manages, S: Start> {
+    manager: M,
+    count: u64,
+    of: PhantomData<S>,
+}
+
+impl<M: Manages, S: Start> Model for Sequencer<M, S> {
+    ghost use Rattle.xa_sequencer.specs.Stands.{HasHistory, Numbered};
+
+    ghost Value = { Numbered M };
+
+    ghost view = { λ s. record { now = s.manager; count = s.count } };
+
+    ghost invariant = { λ s. HasHistory M.Manages S.start S.base (record { now = s.manager; count = s.count }) };
+}
+
+impl<M: Manages, S: Start> Sequencer<M, S> {
+    /// A sequencer with an empty history.
+    pub fn new(manager: M) -> Sequencer<M, S>
+        requires start { (s : State) → S.start s → M.stands manager s }
+        requires base { M.failures manager ≡ S.base }
+        ensures is { result ≡ record { now = manager; count = 0 } }
+        ensures stands { Stands M.Manages S.start S.base result [] }
+    {
+        // a number is left for the hang-up of each
+        let _sessions = manager.connected();
+        Sequencer {
+            manager,
+            count: 0,
+            of: PhantomData,
+        }
+    }
+
+    /// Connects a session.
+    pub fn connect(&mut self) -> Result<u64, ConnectFault>
+        ensures { Connected M.Manages S.start S.base self.old result self.new }
+    {
+        // one more for its hang-up
+        if !are_left(self.count, self.manager.connected(), 2) {
+            return Err(ConnectFault::Memory);
+        }
+        let session = self.manager.connect();
+        if is_memory(&connect_reply(session)) {
+            return session;
+        }
+        self.count += 1;
+        session
+    }
+
+    /// Answers a request of a session. The reply has its number, unless memory was wanted: then it has none, and there
+    /// is no entry.
+    pub fn call(&mut self, session: u64, request: Request) -> Reply
+        requires { IsRequest request }
+        ensures called { Called M.Manages S.start S.base session self.old request result self.new }
+        ensures limits { IsReply result }
+    {
+        request.hold();
+        if !are_left(self.count, self.manager.connected(), 1) {
+            return memory_reply(&request);
+        }
+        let reply = self.manager.call(session, request);
+        if is_memory(&reply) {
+            return reply;
+        }
+        self.count += 1;
+        placed(reply, self.count)
+    }
+
+    /// Hangs a session up, and says whether it was connected.
+    pub fn hangup(&mut self, session: u64) -> bool
+        ensures was { result ≡ M.has_session self.old.now session }
+        ensures left { Left M.Manages S.start S.base session self.old self.new }
+    {
+        if !self.manager.is_connected(session) {
+            return false;
+        }
+        self.manager.hangup(session);
+        self.count += 1;
+        true
+    }
+
+    /// How many events were numbered.
+    pub fn count(&self) -> u64
+        ensures { result ≡ self.now.count }
+    {
+        self.count
+    }
+
+    /// There is a history that it stands for, and each one keeps what is promised: the committed branches read what they
+    /// read as if each had been executed alone, in the order of timestamps; what was answered as prepared is listed by
+    /// recovery until its completion is asked for, and what was completed isn't until it is prepared again. It does
+    /// nothing.
+    pub fn promises(&self)
+        ensures history { HasHistory M.Manages S.start S.base self.now }
+        ensures promises { AllPromise M.Manages S.start S.base self.now }
+    {
+        reached_promises();
+        let _count = self.count;
+    }
+}
+
+/// Shows how many events were numbered.
+impl<M: Manages, S: Start> fmt::Debug for Sequencer<M, S> {
+    fn fmt<W: fmt::Write>(&self, f: &mut fmt::Formatter<W>) -> fmt::Result {
+        f.debug_struct("Sequencer")
+            .field("count", &self.count)
+            .finish_non_exhaustive()
+    }
+}
