@@ -1,7 +1,8 @@
 -- The sums over the workers' shares and reports.
-use Rattle.std.proofs.Common.{◌≡◌, ℕ, ◌+◌, List, [], ◌∷◌, length, refl, arith, suc}
+use Rattle.std.proofs.Common.{◌≡◌, ℕ, ◌+◌, List, [], ◌∷◌, ◌++◌, length, refl, arith, suc}
 use Rattle.std.specs.Prelude.{sum_by}
-use Rattle.std.proofs.lemmas.List.Sums.{sum_by-cons}
+use Rattle.std.proofs.lemmas.List.{length_push}
+use Rattle.std.proofs.lemmas.List.Sums.{sum_by-cons, sum_by_push}
 use Rattle.xa_room.specs.Share.{Held}
 use Rattle.xa_workers.specs.declared.report.Report.{Report}
 use Rattle.xa_workers.specs.Connections.{AllWork, AreReports}
@@ -36,3 +37,10 @@ all_work gone [] (r ∷ rs) len each = absurd (omega (arith, len))
 all_work gone (s ∷ ss) (r ∷ rs) len each =
     let here = each 0 r s (omega arith) in
     ((s, here.2), all_work gone ss rs (omega (arith, len)) (λ i d e lt. each (suc i) d e (omega arith)))
+
+-- a share more
+pub sum_more : (f : Held → ℕ) (shares shares' : List Held) (share : Held) → shares' ≡ shares ++ share ∷ [] → sum_by f shares' ≡ sum_by f shares + f share
+sum_more f shares shares' share is = rw is (sum_by_push f shares share)
+
+pub length_more : (shares shares' : List Held) (share : Held) → shares' ≡ shares ++ share ∷ [] → length shares' ≡ length shares + 1
+length_more shares shares' share is = rw is (length_push shares share)
