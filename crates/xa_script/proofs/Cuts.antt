@@ -1,6 +1,6 @@
 -- A text is cut at the first place of a separator.
-use Rattle.std.proofs.Common.{◌≡◌, ◌==◌, ℕ, ◌+◌, ◌≤◌, nat_lt, Bool, true, false, List, [], ◌∷◌, length, take, drop, Option, Some, None, refl, subst, arith, position, cond, if◌then◌else◌, codes}
-use Rattle.std.specs.Prelude.{bytes_eq, unwrap_or}
+use Rattle.std.proofs.Common.{◌≡◌, ◌==◌, ℕ, ◌+◌, ◌≤◌, nat_lt, Bool, true, false, List, [], ◌∷◌, length, take, drop, Option, Some, None, refl, subst, arith, position, cond}
+use Rattle.std.specs.Prelude.{unwrap_or}
 use Rattle.std.specs.List.{slice_split, position_or_len, onto_first}
 use Rattle.xa_script.specs.declared.line.Line.TheVariants.{Unknown}
 use Rattle.xa_script.specs.Lines.{asked_by, by_words}

@@ -26,9 +26,13 @@ number_of word = if begins_well word then below_limit (value_from 0 word) else N
 abbrev pub up_to : ℕ → List ℕ → Option ℕ
 up_to limit word = option_and_then (λ n. if nat_le n limit then Some n else None) (number_of word)
 
--- a count of XIDs: from 0 to 2^32 - 1
+-- a count of XIDs or of seconds: from 0 to 2^32 - 1
 abbrev pub count_of : List ℕ → Option ℕ
 count_of word = if bytes_eq word (codes "0") then Some 0 else up_to 4_294_967_295 word
+
+-- a moment: from 0 to 2^64 - 1
+abbrev pub moment_of : List ℕ → Option ℕ
+moment_of word = if bytes_eq word (codes "0") then Some 0 else number_of word
 
 -- which of a disk's calls is to fail, counted from now: the next one is 1, the last one 1,000
 abbrev pub call_number_of : List ℕ → Option ℕ

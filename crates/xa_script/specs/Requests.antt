@@ -5,7 +5,7 @@ use Rattle.std.specs.Option.{option_map}
 use Rattle.std.specs.List.{list_all}
 use Rattle.xa_script.specs.Flags.{flags_of}
 use Rattle.xa_script.specs.Hexadecimal.{bytes_of}
-use Rattle.xa_script.specs.Numbers.{count_of}
+use Rattle.xa_script.specs.Numbers.{count_of, moment_of}
 use Rattle.xa_script.specs.Parts.{alone, one_of, two_of, by_two}
 use Rattle.xa_script.specs.declared.verb.Verb.{Verb}
 use Rattle.xa_script.specs.declared.verb.Verb.TheVariants as verb
@@ -16,7 +16,7 @@ use Rattle.xa_xid.specs.Triple.{Triple, IsWithinLimits}
 use Rattle.xa_xid.specs.Spelling.{text_of}
 use Rattle.xa_frame.specs.declared.request.Request.{Request}
 use Rattle.xa_frame.specs.declared.request.Request.TheVariants.{Open, Close, Start, End, Prepare, Commit, Rollback, Forget}
-use Rattle.xa_frame.specs.declared.request.Request.TheVariants.{Recover, Get, Put, Delete, Decide, Doom, Restart}
+use Rattle.xa_frame.specs.declared.request.Request.TheVariants.{Recover, Get, Put, Delete, Decide, Doom, Restart, Timeout, Tick}
 
 -- the words that name a request
 abbrev pub named_verbs : List (List ℕ × Verb)
@@ -36,6 +36,8 @@ named_verbs =
     ∷ (codes "decide", verb.Decide)
     ∷ (codes "doom", verb.Doom)
     ∷ (codes "restart", verb.Restart)
+    ∷ (codes "timeout", verb.Timeout)
+    ∷ (codes "tick", verb.Tick)
     ∷ []
 
 abbrev pub verb_of : List ℕ → Option Verb
@@ -86,6 +88,14 @@ delete_by words = option_map (λ key. Delete key) (option_and_then key_of (one_o
 abbrev pub put_by : List (List ℕ) → Option Request
 put_by words = by_two key_of value_of (λ key value. Put key value) words
 
+-- what the words behind `timeout` ask
+abbrev pub timeout_by : List (List ℕ) → Option Request
+timeout_by words = option_map (λ seconds. Timeout seconds) (option_and_then count_of (one_of words))
+
+-- what the words behind `tick` ask
+abbrev pub tick_by : List (List ℕ) → Option Request
+tick_by words = option_map (λ moment. Tick moment) (option_and_then moment_of (one_of words))
+
 abbrev pub direction_of : List ℕ → Option Direction
 direction_of word =
     if bytes_eq word (codes "commit") then Some direction.Commit
@@ -127,3 +137,5 @@ module _ (xid_of : List ℕ → Option Triple) where
   request_of verb.Decide words = decide_by words
   request_of verb.Doom words = doom_by words
   request_of verb.Restart words = alone Restart words
+  request_of verb.Timeout words = timeout_by words
+  request_of verb.Tick words = tick_by words

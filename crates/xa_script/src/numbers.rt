@@ -1,5 +1,5 @@
 ghost use Rattle.std.specs.Prelude.{◌≡◌, ◌∷◌, [], ◌<◌, ◌^◌, IfSome, ◌+◌, ◌-◌, ◌*◌, if◌then◌else◌, None, Some};
-ghost use Rattle.xa_script.specs.Numbers.{below_limit, byte_count_of, call_number_of, count_of, is_digit, number_of, value_from};
+ghost use Rattle.xa_script.specs.Numbers.{below_limit, byte_count_of, call_number_of, count_of, is_digit, moment_of, number_of, value_from};
 
 /// A decimal number from 1 to 2^64 - 1: digits without a leading zero.
 pub fn read_number(word: &[u8]) -> Option<u64>
@@ -25,7 +25,7 @@ fn with_digit(number: u64, byte: u8) -> Option<u64>
     number.checked_mul(10)?.checked_add(u64::from(byte - b'0'))
 }
 
-/// A count of XIDs: 0, or a decimal number to 2^32 - 1.
+/// A count of XIDs or of seconds: 0, or a decimal number to 2^32 - 1.
 pub fn read_count(word: &[u8]) -> Option<u32>
     ensures { result ≡ count_of word.now }
 {
@@ -33,6 +33,16 @@ pub fn read_count(word: &[u8]) -> Option<u32>
         return Some(0);
     }
     u32::try_from(read_number(word)?).ok()
+}
+
+/// A moment: 0, or a decimal number to 2^64 - 1.
+pub fn read_moment(word: &[u8]) -> Option<u64>
+    ensures { result ≡ moment_of word.now }
+{
+    if word == b"0".as_slice() {
+        return Some(0);
+    }
+    read_number(word)
 }
 
 /// How many bytes a crash keeps: 0, or a decimal number to 16,777,216.

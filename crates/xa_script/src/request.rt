@@ -4,11 +4,11 @@ ghost use Rattle.xa_frame.specs.Limits.{IsKey, IsRequest, IsValue};
 ghost use Rattle.xa_frame.specs.declared.request.Request.TheVariants.{Restart};
 ghost use Rattle.xa_xid.specs.Triple.{Triple};
 ghost use Rattle.xa_script.specs.Parts.{alone, words_behind};
-ghost use Rattle.xa_script.specs.Requests.{ReadsTexts, branch_pair, close_by, decide_by, delete_by, direction_of, doom_by, get_by, is_graphic, is_name, key_of, open_by, put_by, recover_by, request_of, value_of};
+ghost use Rattle.xa_script.specs.Requests.{ReadsTexts, branch_pair, close_by, decide_by, delete_by, direction_of, doom_by, get_by, is_graphic, is_name, key_of, open_by, put_by, recover_by, request_of, tick_by, timeout_by, value_of};
 
 use crate::flags::read_flags;
 use crate::hexadecimal::read_bytes;
-use crate::numbers::read_count;
+use crate::numbers::{read_count, read_moment};
 use crate::parts::{only_word, two_words};
 use crate::verb::Verb;
 use std::alloc::{AllocError, Global};
@@ -45,6 +45,8 @@ pub fn read_request(
         Verb::Decide => Ok(read_decide(words)),
         Verb::Doom => Ok(read_doom(words)),
         Verb::Restart => Ok(read_restart(words)),
+        Verb::Timeout => Ok(read_timeout(words)),
+        Verb::Tick => Ok(read_tick(words)),
     }
 }
 
@@ -107,6 +109,22 @@ fn read_restart(words: Option<&[u8]>) -> Option<Request>
         None => Some(Request::Restart),
         Some(_) => None,
     }
+}
+
+fn read_timeout(words: Option<&[u8]>) -> Option<Request>
+    ensures value { result ≡ timeout_by (words_behind (option_copied words.entry)) }
+    ensures limits { IfSome result IsRequest }
+{
+    let seconds = read_count(only_word(words)?)?;
+    Some(Request::Timeout { seconds })
+}
+
+fn read_tick(words: Option<&[u8]>) -> Option<Request>
+    ensures value { result ≡ tick_by (words_behind (option_copied words.entry)) }
+    ensures limits { IfSome result IsRequest }
+{
+    let moment = read_moment(only_word(words)?)?;
+    Some(Request::Tick { moment })
 }
 
 fn read_doom(words: Option<&[u8]>) -> Option<Request>

@@ -19,6 +19,8 @@ pub enum Verb {
     Decide,
     Doom,
     Restart,
+    Timeout,
+    Tick,
 }
 
 /// The verb of a word.
@@ -44,6 +46,8 @@ pub fn read_verb(word: &[u8]) -> Option<Verb>
         "decide" => Some(Verb::Decide),
         "doom" => Some(Verb::Doom),
         "restart" => Some(Verb::Restart),
+        "timeout" => Some(Verb::Timeout),
+        "tick" => Some(Verb::Tick),
         _ => None,
     }
 }
