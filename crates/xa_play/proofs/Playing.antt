@@ -35,16 +35,11 @@ use Rattle.std.specs.declared.alloc.AllocError.{AllocError}
 use Rattle.xa_model.specs.declared.outcome.Outcome.{Outcome}
 use Rattle.xa_play.specs.Runs.{Run, IsRun, IsLawful, RunsAreLawful}
 use Rattle.xa_play.specs.Plays.{Steps, Shows, Reopens, IsOpening, PlaysLine, PlaysTo, Done, Stops, Cuts, Refuses, lines_of}
-use Rattle.xa_play.specs.Played.{IsLinesFault, AnswerFails, LineAnswered, StandsAs, LinePlayed, LineCut, LineEnds, ScriptEnds}
+use Rattle.xa_play.specs.Played.{IsLinesFault, AnswerFails, LineAnswered, StandsAs, LinePlayed, LineCut, LineEnds, ReplyEnds, ScriptEnds, printed}
 use Rattle.xa_play.specs.declared.fault.PlayFault.{PlayFault}
 use Rattle.xa_play.specs.declared.fault.PlayFault.TheVariants as faults
 use Rattle.xa_play.proofs.Lawful.{run_more}
 use Rattle.xa_play.proofs.Settings.{asked_keeps, reopened_as}
-
--- what an answer prints
-abbrev pub printed : Option Reply → List ℕ
-printed None = []
-printed (Some reply) = replies.line_of reply
 
 -- what an answer says, by whether memory was wanted
 abbrev Said : Run → Event → Reply → Bool → (Run → Type 0) → Type 0
@@ -218,3 +213,13 @@ pub line_unanswered : (fault : PlayFault) (name : List ℕ) (n : ℕ) (m : Manag
 line_unanswered fault name n m line said read (inl memory) = rw memory refl
 line_unanswered fault name n m line said read (inr (opening, (refused, is))) =
     rw is (refl, λ xid_of reads. subst IsOpening (read xid_of reads) opening)
+
+-- a line that was answered, and whose reply wasn't written whole
+pub line_unwritten : (fault : PlayFault) (name : List ℕ) (n : ℕ) (m m' : Manager MemDisk) (line text : List ℕ) (answer : Option Reply) → LinePlayed name n m line (printed answer) m'
+    → ReplyEnds (Err fault) answer text → LineEnds name n (Err fault) m line text
+line_unwritten faults.Memory name n m m' line text answer played h = h
+line_unwritten faults.Write name n m m' line text answer played h = line_cut name n m m' line (printed answer) text played h
+line_unwritten (faults.Manager fault) name n m m' line text answer played h = absurd h
+line_unwritten faults.Setting name n m m' line text answer played h = absurd h
+line_unwritten faults.TooLong name n m m' line text answer played h = absurd h
+line_unwritten faults.Read name n m m' line text answer played h = absurd h

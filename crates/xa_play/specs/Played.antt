@@ -12,7 +12,9 @@ use Rattle.xa_xid.specs.Triple.{Triple}
 use Rattle.xa_script.specs.declared.line.Line.{Line}
 use Rattle.xa_script.specs.declared.line.Line.TheVariants.{Silent, Unknown, Connect, Hangup, Call, Fail, Stop, Reopen, Crash}
 use Rattle.xa_script.specs.declared.log_file.LogFile.{LogFile}
+use Rattle.xa_output.specs.Output.{IsPart}
 use Rattle.xa_script.specs.Lines as lines
+use Rattle.xa_script.specs.Replies as replies
 use Rattle.xa_script.specs.Requests.{ReadsTexts}
 use Rattle.xa_play.specs.Runs.{Run, IsRun, IsLawful}
 use Rattle.xa_play.specs.Disks.{StandsFor, Answered, Planned, Stopped, CrashesTo, OpenedOn, first_seen, second_seen, seen}
@@ -35,6 +37,18 @@ IsLinesFault fault = (fault ≡ faults.Write) ⊎ IsOpeningFault fault
 -- a line found no memory, or it opens the manager again, and that was refused
 abbrev pub AnswerFails : Line → PlayFault → Type 0
 AnswerFails said fault = (fault ≡ faults.Memory) ⊎ (IsOpening said × IsRefusal fault)
+
+-- what an answer prints
+abbrev pub printed : Option Reply → List ℕ
+printed None = []
+printed (Some reply) = replies.line_of reply
+
+-- By its end, what was printed of an answer: no memory is found before anything of it is written.
+abbrev pub ReplyEnds : Result (Unit {0}) PlayFault → Option Reply → List ℕ → Type 0
+ReplyEnds (Ok x) answer text = text ≡ printed answer
+ReplyEnds (Err faults.Memory) answer text = text ≡ []
+ReplyEnds (Err faults.Write) answer text = IsPart text (printed answer)
+ReplyEnds (Err _) answer text = ⊥
 
 -- over the settings
 module _ (name : List ℕ) (log_bytes : ℕ) where

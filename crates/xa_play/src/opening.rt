@@ -12,7 +12,7 @@ use xa_manager::{Manager, Settings, memory_is_trusted};
 use xa_script::LogFile;
 
 /// A copy of the settings.
-pub fn copied(alloc: Global, settings: &Settings) -> Result<Settings, AllocError>
+fn copied(alloc: Global, settings: &Settings) -> Result<Settings, AllocError>
     ensures { IfOk result (λ copy. copy ≡ settings.now) }
 {
     Ok(Settings {
@@ -21,8 +21,25 @@ pub fn copied(alloc: Global, settings: &Settings) -> Result<Settings, AllocError
     })
 }
 
+/// A manager on two empty disks, and the settings with which it was opened: their copy is made before, and missed only
+/// once they were taken.
+pub fn open_first(
+    alloc: Global,
+    settings: Settings,
+) -> Result<(Manager<MemDisk>, Settings), PlayFault>
+    ensures stands { IfOk result (λ pair. StandsFor pair.0 (fresh settings.name settings.log_bytes)) }
+    ensures kept { IfOk result (λ pair. pair.1 ≡ settings) }
+    ensures setting { IsErrOf result PlayFault.Setting ↔ IsBadSetting settings.name settings.log_bytes }
+    ensures faults { IfErr result (λ fault. (fault ≡ PlayFault.Setting) ⊎ IsOpeningFault fault) }
+{
+    let kept = copied(alloc, &settings);
+    let manager = open_fresh(alloc, settings)?;
+    let kept = kept?;
+    Ok((manager, kept))
+}
+
 /// A manager on two empty disks.
-pub fn open_fresh(alloc: Global, settings: Settings) -> Result<Manager<MemDisk>, PlayFault>
+fn open_fresh(alloc: Global, settings: Settings) -> Result<Manager<MemDisk>, PlayFault>
     ensures stands { IfOk result (λ m. StandsFor m (fresh settings.name settings.log_bytes)) }
     ensures setting { IsErrOf result PlayFault.Setting ↔ IsBadSetting settings.name settings.log_bytes }
     ensures faults { IfErr result (λ fault. (fault ≡ PlayFault.Setting) ⊎ IsOpeningFault fault) }

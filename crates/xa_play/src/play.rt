@@ -2,18 +2,19 @@ ghost use Rattle.std.specs.Io.KnownBytes.{Appends};
 ghost use Rattle.std.specs.Prelude.{◌≡◌, ◌↔◌, ◌⊎◌, IfErr, IfSome, IsErrOf, List, true, ℕ};
 ghost use Rattle.xa_manager.specs.Opening.{IsBadSetting};
 ghost use Rattle.xa_play.specs.Faults.{end_of};
-ghost use Rattle.xa_play.specs.Played.{IsLinesFault, LineEnds, ScriptEnds};
+ghost use Rattle.xa_play.specs.Played.{IsLinesFault, LineEnds, ReplyEnds, ScriptEnds};
 ghost use Rattle.xa_play.specs.Plays.{IsTooLong, Plays, WasRead};
 ghost use Rattle.xa_play.specs.Runs.{IsLawful};
 
 use crate::answer::answer;
 use crate::fault::PlayFault;
 use crate::laws::{files_stand, runs_are_lawful};
-use crate::opening::{copied, open_fresh};
+use crate::opening::open_first;
 use crate::script::read_script;
 use std::alloc::Global;
 use std::io::{self, Read, Write};
 use xa_disk::MemDisk;
+use xa_frame::Reply;
 use xa_manager::{Manager, Settings, memory_is_trusted};
 use xa_output::write_text;
 use xa_script::{first_part, read_line, reply_line};
@@ -46,9 +47,7 @@ pub fn play_run<R: Read + Drop, W: Write>(
     ensures unwritten { IsErrOf result PlayFault.Read ⊎ IsErrOf result PlayFault.TooLong
         → writer.new ≡ writer.old }
 {
-    let kept = copied(alloc, &settings);
-    let manager = open_fresh(alloc, settings)?;
-    let kept = kept?;
+    let (manager, kept) = open_first(alloc, settings)?;
     let script = read_script(alloc, reader)?;
     files_stand();
     let played = play_lines(alloc, manager, &kept, writer, script.as_slice());
@@ -103,12 +102,25 @@ fn play_line<W: Write>(
     runs_are_lawful();
     let said = read_line(alloc, line)?;
     let (manager, reply) = answer(alloc, manager, settings, said)?;
+    write_reply(alloc, writer, reply)?;
+    Ok(manager)
+}
+
+/// Writes the reply that a line shows, if it shows one.
+fn write_reply<W: Write>(
+    alloc: Global,
+    writer: &mut W,
+    reply: Option<Reply>,
+) -> Result<(), PlayFault>
+    ensures { (text : List ℕ) × Appends (W.contents writer.old) (W.contents writer.new) text
+        × ReplyEnds result reply text }
+{
     let Some(reply) = reply else {
-        return Ok(manager);
+        return Ok(());
     };
     let text = reply_line(alloc, &reply)?;
     if write_text(writer, text.as_slice()) {
-        Ok(manager)
+        Ok(())
     } else {
         Err(PlayFault::Write)
     }

@@ -6,7 +6,7 @@ use Rattle.xa_manager.specs.declared.manager.Manager.{Manager}
 use Rattle.xa_manager.specs.declared.settings.Settings.{Settings}
 use Rattle.xa_play.specs.Played.{ScriptEnds}
 use Rattle.xa_play.specs.Faults.{end_of}
-use Rattle.xa_play.specs.declared.fault.PlayFault.TheVariants.{Memory, Read, Setting, TooLong}
+use Rattle.xa_play.specs.declared.fault.PlayFault.TheVariants.{Read, Setting, TooLong}
 use Rattle.xa_play.proofs.Ends.{fault_is, lines_are_played, opening_is_not_long, ran, refused_setting, script_is_no_setting, script_is_short, taken_setting, unopened, unplayed, unread, whichever}
 use Rattle.xa_play.proofs.play.play_run.Goals as goal
 
@@ -21,7 +21,7 @@ returns-in_err-manager-clause-played g c =
 pub returns-in_err-manager-clause-setting : goal.returns-in_err-manager-clause-setting
 returns-in_err-manager-clause-setting g c =
     let p = err_from_is_err_and c.from_residual.result c.from_residual.ensures.1 in
-    rw (p.1, p.2) (refused_setting (Unit {0}) (Manager MemDisk) c.in_err-manager.field-0.0
+    rw (p.1, p.2) (refused_setting (Unit {0}) (Manager MemDisk × Settings) c.in_err-manager.field-0.0
     (IsBadSetting c.args.settings.name c.args.settings.log_bytes) c.in_err-manager.ensures.setting)
 
 pub returns-in_err-manager-clause-unread : goal.returns-in_err-manager-clause-unread
@@ -40,35 +40,6 @@ returns-in_err-manager-clause-longer g c =
 pub returns-in_err-manager-clause-unwritten : goal.returns-in_err-manager-clause-unwritten
 returns-in_err-manager-clause-unwritten g c = λ e. refl
 
-pub returns-in_err-kept-clause-played : goal.returns-in_err-kept-clause-played
-returns-in_err-kept-clause-played g c =
-    let p = err_from_is_err_and c.from_residual-in_err-kept.result c.from_residual-in_err-kept.ensures.1 in
-    rw (p.1, p.2)
-    (unplayed (Unit {0}) Memory c.args.settings.name c.args.settings.log_bytes (g.R.Read.remaining c.args.reader.now) (g.W.Write.contents c.args.writer.now) (λ e. cc))
-
-pub returns-in_err-kept-clause-setting : goal.returns-in_err-kept-clause-setting
-returns-in_err-kept-clause-setting g c =
-    let p = err_from_is_err_and c.from_residual-in_err-kept.result c.from_residual-in_err-kept.ensures.1 in
-    rw (p.1, p.2)
-    (taken_setting (Unit {0}) (Manager MemDisk) c.in_ok-manager.manager (Err Memory) (IsBadSetting c.args.settings.name c.args.settings.log_bytes)
-    (λ e. cc) c.in_ok-manager.ensures.setting.1)
-
-pub returns-in_err-kept-clause-unread : goal.returns-in_err-kept-clause-unread
-returns-in_err-kept-clause-unread g c = λ e. (refl, refl)
-
-pub returns-in_err-kept-clause-too_long : goal.returns-in_err-kept-clause-too_long
-returns-in_err-kept-clause-too_long g c =
-    let p = err_from_is_err_and c.from_residual-in_err-kept.result c.from_residual-in_err-kept.ensures.1 in
-    rw (p.1, p.2) (λ e. absurd (opening_is_not_long (Unit {0}) Memory (inr (inl refl)) e))
-
-pub returns-in_err-kept-clause-longer : goal.returns-in_err-kept-clause-longer
-returns-in_err-kept-clause-longer g c =
-    let p = err_from_is_err_and c.from_residual-in_err-kept.result c.from_residual-in_err-kept.ensures.1 in
-    rw (p.1, p.2) (whichever (g.R.Read.remaining c.args.reader.now) _ (λ bytes long. (λ read. read, refl)))
-
-pub returns-in_err-kept-clause-unwritten : goal.returns-in_err-kept-clause-unwritten
-returns-in_err-kept-clause-unwritten g c = λ e. refl
-
 pub returns-in_err-script-clause-played : goal.returns-in_err-script-clause-played
 returns-in_err-script-clause-played g c =
     let p = err_from_is_err_and c.from_residual-in_err-script.result c.from_residual-in_err-script.ensures.1 in
@@ -86,7 +57,7 @@ pub returns-in_err-script-clause-setting : goal.returns-in_err-script-clause-set
 returns-in_err-script-clause-setting g c =
     let p = err_from_is_err_and c.from_residual-in_err-script.result c.from_residual-in_err-script.ensures.1 in
     rw (p.1, p.2)
-    (taken_setting (Unit {0}) (Manager MemDisk) c.in_ok-manager.manager (Err c.in_err-script.field-0.0) (IsBadSetting c.args.settings.name c.args.settings.log_bytes)
+    (taken_setting (Unit {0}) (Manager MemDisk × Settings) (c.in_ok-manager.manager, c.in_ok-manager.kept) (Err c.in_err-script.field-0.0) (IsBadSetting c.args.settings.name c.args.settings.log_bytes)
     (script_is_no_setting (Unit {0}) c.in_err-script.field-0.0 c.in_err-script.ensures.faults)
     c.in_ok-manager.ensures.setting.1)
 
@@ -109,8 +80,8 @@ returns-clause-played g c =
     let mid = g.W.Write.contents c.play_lines-played.new.writer in
     let new = g.W.Write.contents c.flush-flushed.new.self in
     let played = c.play_lines-played.ensures.played in
-    let at_script = subst (λ (script : List ℕ). ScriptEnds c.in_ok-kept.kept.name c.in_ok-kept.kept.log_bytes c.play_lines-played.result c.in_ok-manager.manager script played.0) c.as_slice.ensures.value played.2 in
-    let ends = subst (λ (kept : Settings). ScriptEnds kept.name kept.log_bytes c.play_lines-played.result c.in_ok-manager.manager c.in_ok-script.script.items played.0) c.in_ok-kept.ensures at_script in
+    let at_script = subst (λ (script : List ℕ). ScriptEnds c.in_ok-manager.kept.name c.in_ok-manager.kept.log_bytes c.play_lines-played.result c.in_ok-manager.manager script played.0) c.as_slice.ensures.value played.2 in
+    let ends = subst (λ (kept : Settings). ScriptEnds kept.name kept.log_bytes c.play_lines-played.result c.in_ok-manager.manager c.in_ok-script.script.items played.0) c.in_ok-manager.ensures.kept at_script in
     rw c.end_of.ensures
     (ran c.files_stand.ensures (Unit {0}) _ c.play_lines-played.result c.flush-flushed.result c.in_ok-manager.manager c.args.settings.name c.args.settings.log_bytes (g.R.Read.remaining c.args.reader.now) old mid new
     c.in_ok-script.script.items played.0 c.in_ok-script.ensures.all c.in_ok-script.ensures.limit played.1 c.flush-flushed.ensures.bytes ends c.in_ok-manager.ensures.stands)
@@ -118,7 +89,7 @@ returns-clause-played g c =
 pub returns-clause-setting : goal.returns-clause-setting
 returns-clause-setting g c =
     rw c.end_of.ensures
-    (taken_setting (Unit {0}) (Manager MemDisk) c.in_ok-manager.manager (end_of c.play_lines-played.result c.flush-flushed.result) (IsBadSetting c.args.settings.name c.args.settings.log_bytes)
+    (taken_setting (Unit {0}) (Manager MemDisk × Settings) (c.in_ok-manager.manager, c.in_ok-manager.kept) (end_of c.play_lines-played.result c.flush-flushed.result) (IsBadSetting c.args.settings.name c.args.settings.log_bytes)
     (lines_are_played (Unit {0}) _ c.play_lines-played.result c.flush-flushed.result c.play_lines-played.ensures.faults Setting (inl refl))
     c.in_ok-manager.ensures.setting.1)
 
