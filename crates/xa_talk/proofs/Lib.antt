@@ -2,3 +2,4 @@ pub mod Numbered
 pub mod Calls
 pub mod Lines
 pub mod Reading
+pub mod Ticking

@@ -2,3 +2,4 @@ pub mod Exchanges
 pub mod Numbers
 pub mod Answers
 pub mod Talks
+pub mod Ticks

@@ -1,4 +1,4 @@
-//! The lines of a script against a live server.
+//! The lines of a script against a live server, and moments that it is told.
 //!
 //! - `talk`: `talk_run`, which reads a script line by line, sends each line's request over a connection, and writes the
 //!   line of its reply as soon as it is there
@@ -7,6 +7,10 @@
 //! - `exchanging`: `exchange`, a request that goes over a connection, and its reply that comes back
 //! - `dial`: `Dial`, what opens connections, and `Connection`
 //! - `fault`: `TalkFault`, why a script wasn't talked to its end
+//!
+//! - `tick`: `tick_run`, which tells a server each moment that a ticker gives; `MOST_EVERY`
+//! - `ticker`: `Ticker`, what gives moments and tells refusals; `refusal`: `refusal_text`, what a refusal comes to
+//! - `tick_fault`: `TickFault`, why no more moments are told
 #![tactic(auto)]
 
 mod answer;
@@ -14,10 +18,18 @@ mod connections;
 mod dial;
 mod exchanging;
 mod fault;
+mod refusal;
 mod talk;
+mod tick;
+mod tick_fault;
+mod ticker;
 
 pub use answer::MOST_CONNECTIONS;
 pub use dial::{Connection, Dial};
 pub use exchanging::exchange;
 pub use fault::TalkFault;
+pub use refusal::refusal_text;
 pub use talk::talk_run;
+pub use tick::{MOST_EVERY, tick_run};
+pub use tick_fault::TickFault;
+pub use ticker::Ticker;
