@@ -12,7 +12,9 @@ use Rattle.xa_scan.specs.declared.fault.ScanFault.{ScanFault}
 use Rattle.xa_scan.specs.declared.fault.ScanFault.TheVariants.{Memory}
 use Rattle.xa_script.specs.declared.style.Style.{Style}
 use Rattle.xa_talk.specs.Talks.{Talks}
+use Rattle.xa_talk.specs.Ticks.{Ticked}
 use Rattle.xa_talk.specs.declared.fault.TalkFault.{TalkFault}
+use Rattle.xa_talk.specs.declared.tick_fault.TickFault.{TickFault}
 
 -- what a reader gave was played, with this end
 abbrev pub HasPlayed : {I X : Type 0} → (I → Option (List ℕ)) → List ℕ → ℕ → Result X PlayFault → Type 0
@@ -42,3 +44,9 @@ abbrev pub HasTalked : {I C X : Type 0} → Style → (I → Option (List ℕ)) 
 HasTalked {I} style remaining sent left end =
     (reader : I) × (reader' : I) × (output : Option (List ℕ)) × (output' : Option (List ℕ))
     × Talks style sent left end (remaining reader) (remaining reader') output output'
+
+-- moments that a clock of this type gave were told over a connection, with this end
+abbrev pub HasTicked : {C X : Type 0} → (T : Type 0) → (C → Option (List ℕ)) → (C → Option (List ℕ)) → Result X TickFault
+    → Type 0
+HasTicked T sent left end =
+    (ticker : T) × (ticker' : T) × Ticked {T = T} (λ _ _ _. Unit {0}) (λ _ _ _. Unit {0}) sent left end ticker ticker'

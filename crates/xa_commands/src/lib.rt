@@ -3,6 +3,7 @@
 //! - `playing`: `play`, a script from standard input is played
 //! - `scanning`: `scan`, the records of a log are printed; `scanning_fault`: `ScanningFault`, why they aren't
 //! - `talking`: `talk`, a script goes to a server; `Server`, one on 127.0.0.1
+//! - `ticking`: `tick`, a server is told what the clock says; `Watch`, the clock and standard error
 //! - `ending`: `ended`, `served` and `words_fault`, the status of an end, and its line on standard error
 #![tactic(auto)]
 
@@ -11,9 +12,11 @@ mod playing;
 mod scanning;
 mod scanning_fault;
 mod talking;
+mod ticking;
 
 pub use ending::{ended, served, words_fault};
 pub use playing::play;
 pub use scanning::scan;
 pub use scanning_fault::ScanningFault;
 pub use talking::{Server, talk};
+pub use ticking::{Watch, tick};

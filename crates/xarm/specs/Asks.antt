@@ -8,7 +8,7 @@ use Rattle.xa_limits.specs.declared.TheConstants.{MOST_LOG}
 use Rattle.xa_script.specs.declared.style.Style.{Style}
 use Rattle.xa_script.specs.declared.style.Style.TheVariants.{Codes, Names}
 use Rattle.xarm.specs.declared.asked.Asked.{Asked}
-use Rattle.xarm.specs.declared.asked.Asked.TheVariants.{Play, Scan, Serve, Talk}
+use Rattle.xarm.specs.declared.asked.Asked.TheVariants.{Play, Scan, Serve, Talk, Tick}
 
 -- the text of an argument, or the one that stands for none
 abbrev pub text_in : List Row → Text → Text → Text
@@ -36,10 +36,12 @@ pub record IsFlag (text : Option Text) (style : Style) : Type 0 where
   pub set : text ≡ Some (codes "true") → style ≡ Names
   pub unset : text ≡ Some (codes "false") → style ≡ Codes
 
--- the command is one of the four
+-- the command is one of the five
 abbrev pub IsCommand : Text → Type 0
 IsCommand command =
-    (command ≡ codes "play") ⊎ ((command ≡ codes "scan") ⊎ ((command ≡ codes "serve") ⊎ (command ≡ codes "talk")))
+    (command ≡ codes "play")
+    ⊎ ((command ≡ codes "scan")
+    ⊎ ((command ≡ codes "serve") ⊎ ((command ≡ codes "talk") ⊎ (command ≡ codes "tick"))))
 
 -- each field of what a command asks for is that of its own argument
 abbrev pub AsksBy : Text → List Row → Asked → Type 0
@@ -50,6 +52,9 @@ AsksBy command rows (Scan path) = (command ≡ codes "scan") × (path.now ≡ te
 AsksBy command rows (Talk port style) =
     (command ≡ codes "talk") × (port ≡ number_in rows (codes "port") most_16 0)
     × IsFlag (one_of (codes "names") rows) style
+AsksBy command rows (Tick port every) =
+    (command ≡ codes "tick") × (port ≡ number_in rows (codes "port") most_16 0)
+    × (every ≡ number_in rows (codes "every") most_64 1)
 AsksBy command rows (Serve service) =
     (command ≡ codes "serve")
     × (service.path.now ≡ text_in rows (codes "log") [])

@@ -9,6 +9,7 @@ use Rattle.clap.specs.declared.builder.command.Command.TheViews.{out-Command as 
 use Rattle.clap.specs.declared.builder.value_parser.ValueParser.TheVariants.{Unsigned}
 use Rattle.xa_server.specs.declared.service.TheConstants.{MOST_SERVED}
 use Rattle.xa_server.specs.declared.serving.TheConstants.{MOST_WORKERS}
+use Rattle.xa_talk.specs.declared.tick.TheConstants.{MOST_EVERY}
 
 -- ---- kinds of arguments
 
@@ -59,6 +60,9 @@ workers_rule = required (number 1 MOST_WORKERS (option (codes "workers")))
 abbrev pub connections_rule : Rule
 connections_rule = defaulting (codes "1000000") (number 1 MOST_SERVED (option (codes "connections")))
 
+abbrev pub every_rule : Rule
+every_rule = defaulting (codes "1") (number 1 MOST_EVERY (option (codes "every")))
+
 abbrev pub names_rule : Rule
 names_rule = flag (codes "names")
 
@@ -79,11 +83,14 @@ serve_shape = command_of (codes "serve") (log_rule ∷ name_rule ∷ port_rule �
 abbrev pub talk_shape : Shape
 talk_shape = command_of (codes "talk") (port_rule ∷ names_rule ∷ [])
 
--- the whole command line: one of the four, and its version
+abbrev pub tick_shape : Shape
+tick_shape = command_of (codes "tick") (port_rule ∷ every_rule ∷ [])
+
+-- the whole command line: one of the five, and its version
 abbrev pub xarm : App
 xarm = record {
   top = record (new_app (codes "xarm")).top { has_version = true; subcommand_required = true; is_leaf = false };
-  subs = play_shape ∷ scan_shape ∷ serve_shape ∷ talk_shape ∷ [];
+  subs = play_shape ∷ scan_shape ∷ serve_shape ∷ talk_shape ∷ tick_shape ∷ [];
 }
 
 -- ---- what is built

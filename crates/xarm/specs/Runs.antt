@@ -9,17 +9,18 @@ use Rattle.clap.specs.Simple.{subcommand_of}
 use Rattle.clap.specs.Walk.{Text}
 use Rattle.clap.specs.declared.error.kind.ErrorKind.{ErrorKind}
 use Rattle.clap.specs.declared.error.kind.ErrorKind.TheVariants.{OutOfMemory, DisplayHelp, DisplayVersion}
-use Rattle.xa_commands.specs.Done.{HasPlayed, HasTalked, Scanned}
+use Rattle.xa_commands.specs.Done.{HasPlayed, HasTalked, HasTicked, Scanned}
 use Rattle.xa_commands.specs.declared.scanning_fault.ScanningFault.{ScanningFault}
 use Rattle.xa_disk.specs.declared.file_fault.FileFault.{FileFault}
 use Rattle.xa_manager.specs.Opening.{IsBadSetting}
 use Rattle.xa_play.specs.declared.fault.PlayFault.{PlayFault}
 use Rattle.xa_play.specs.declared.fault.PlayFault.TheVariants as play
 use Rattle.xa_talk.specs.declared.fault.TalkFault.{TalkFault}
+use Rattle.xa_talk.specs.declared.tick_fault.TickFault.{TickFault}
 use Rattle.xarm.specs.Asks.{AsksOf}
 use Rattle.xarm.specs.Line.{xarm}
 use Rattle.xarm.specs.declared.asked.Asked.{Asked}
-use Rattle.xarm.specs.declared.asked.Asked.TheVariants.{Play, Scan, Serve, Talk}
+use Rattle.xarm.specs.declared.asked.Asked.TheVariants.{Play, Scan, Serve, Talk, Tick}
 use Rattle.xarm.specs.declared.ran.Ran.{Ran}
 use Rattle.xarm.specs.declared.ran.Ran.TheVariants.{Ended, Serves}
 
@@ -43,9 +44,9 @@ pub record IsPlayed {I X : Type 0} (remaining : I → Option Text) (name : Text)
   pub bad : IsBadSetting name log_bytes → IsErrOf end play.Setting ⊎ IsErrOf end play.Memory
   pub played : IsErrOf end play.Memory ⊎ HasPlayed remaining name log_bytes end
 
--- by what the runtime's readers, disks and connections are
-module _ {I D C : Type 0} (remaining : I → Option Text) (honest : Type 0) (seen : D → Text) (opened : D → Text → Type 0)
-    (refused : Text → FileFault → Type 0) (sent left : C → Option Text) where
+-- by what the runtime's readers, disks, connections and clocks are
+module _ {I D C : Type 0} (T : Type 0) (remaining : I → Option Text) (honest : Type 0) (seen : D → Text)
+    (opened : D → Text → Type 0) (refused : Text → FileFault → Type 0) (sent left : C → Option Text) where
   -- The command that was asked for was done, and that end's status is told; a server is handed on.
   abbrev pub HasDone : Asked → Ran → Type 0
   HasDone (Play name log_bytes) (Ended code) =
@@ -55,6 +56,8 @@ module _ {I D C : Type 0} (remaining : I → Option Text) (honest : Type 0) (see
       × (exit_status code ≡ status_of end)
   HasDone (Talk port style) (Ended code) =
       (end : Result (Unit {0}) TalkFault) × HasTalked style remaining sent left end × (exit_status code ≡ status_of end)
+  HasDone (Tick port every) (Ended code) =
+      (end : Result (Unit {0}) TickFault) × HasTicked T sent left end × (exit_status code ≡ status_of end)
   HasDone (Serve service) (Serves served) = served ≡ service
   HasDone _ _ = ⊥
 

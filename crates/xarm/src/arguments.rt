@@ -1,11 +1,12 @@
 //! The arguments of the commands. The help names limits in texts of its own, and `.ci/commands` compares these with
 //! the constants: a text that is made of a number would have to live as long as the words, since `clap` lends both alike.
-ghost use Rattle.xarm.specs.Line.{HasRule, connections_rule, log_bytes_rule, log_rule, name_rule, names_rule, path_rule, play_name_rule, port_rule, workers_rule};
+ghost use Rattle.xarm.specs.Line.{HasRule, connections_rule, every_rule, log_bytes_rule, log_rule, name_rule, names_rule, path_rule, play_name_rule, port_rule, workers_rule};
 
 use clap::builder::ValueParser;
 use clap::{Arg, ArgAction};
 use std::alloc::Global;
 use xa_server::{MOST_SERVED, MOST_WORKERS};
+use xa_talk::MOST_EVERY;
 
 /// The greatest number that a word may spell: `clap` reads numbers of 63 bits.
 const MOST_NUMBER: u64 = 9_223_372_036_854_775_807;
@@ -110,4 +111,16 @@ pub fn port<'a>(alloc: Global) -> Arg<'a>
         .required(true)
         .value_parser(ValueParser::unsigned(1, u64::from(u16::MAX)))
         .action(ArgAction::Set)
+}
+
+pub fn every<'a>(alloc: Global) -> Arg<'a>
+    ensures { HasRule every_rule result }
+{
+    Arg::new(alloc, "every")
+        .long("every")
+        .value_name("S")
+        .help("The number of seconds from one moment to the next: 1 to 3600")
+        .value_parser(ValueParser::unsigned(1, MOST_EVERY))
+        .action(ArgAction::Set)
+        .default_value("1")
 }

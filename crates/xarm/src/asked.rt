@@ -16,5 +16,10 @@ pub enum Asked<'a> {
         port: u16,
         style: Style,
     },
+    Tick {
+        port: u16,
+        /// How many seconds there are from one moment to the next.
+        every: u64,
+    },
     Serve(Service<'a>),
 }

@@ -4,6 +4,7 @@ ghost use Rattle.std.specs.Prelude.{IfErr, IfOk, map, string_bytes};
 ghost use Rattle.std.specs.Process.{exit_status};
 ghost use Rattle.clap.specs.Values.{kind_of};
 ghost use Rattle.xarm.specs.Runs.{HasDone, HasRun, IsRefusal, IsUnread};
+ghost use Rattle.xa_commands.specs.declared.ticking.Watch.{Watch};
 ghost use Rattle.xa_talk.specs.declared.dial.Connection.{Connection};
 
 use crate::asked::Asked;
@@ -14,20 +15,20 @@ use clap::error::ErrorKind;
 use std::io::{Read, Write};
 use std::net::{Net, TcpStream};
 use std::process::ExitCode;
-use std::rt::Env;
+use std::rt::{Clock, Env};
 use std::{env, io};
-use xa_commands::{ended, play, scan, talk, words_fault};
+use xa_commands::{ended, play, scan, talk, tick, words_fault};
 use xa_disk::Opens;
 use xa_play::PlayFault;
 
 /// Does what the command line says, but that it serves. Status 0: done. 1: a fault, its line on standard error. 2: the
 /// command line was refused.
-pub fn run<'a, R: AllocGlobal + Input + Print + Eprint + Opens + Net<Stream = TcpStream>>(
+pub fn run<'a, R: AllocGlobal + Input + Print + Eprint + Opens + Clock + Net<Stream = TcpStream>>(
     rt: &R,
     words: &'a io::Result<Vec<String>>,
 ) -> Ran<'a>
-    ensures run { IfOk words.now (λ words. HasRun {C = Connection TcpStream TcpStream} R.Reader.remaining R.Disk.honest
-        R.Disk.seen R.opened R.refused (λ c. ⟦<TcpStream as Write>⟧.contents c.writer)
+    ensures run { IfOk words.now (λ words. HasRun {C = Connection TcpStream TcpStream} (Watch R) R.Reader.remaining
+        R.Disk.honest R.Disk.seen R.opened R.refused (λ c. ⟦<TcpStream as Write>⟧.contents c.writer)
         (λ c. ⟦<TcpStream as Read>⟧.remaining c.reader) (map string_bytes words.items) result) }
     ensures unread { IfErr words.now (λ error. IsUnread (error_kind error) result) }
 {
@@ -42,18 +43,20 @@ pub fn run<'a, R: AllocGlobal + Input + Print + Eprint + Opens + Net<Stream = Tc
 }
 
 // Does what is asked for, but that it serves.
-fn done<'a, R: AllocGlobal + Input + Print + Eprint + Opens + Net<Stream = TcpStream>>(
+fn done<'a, R: AllocGlobal + Input + Print + Eprint + Opens + Clock + Net<Stream = TcpStream>>(
     rt: &R,
     asked: Asked<'a>,
 ) -> Ran<'a>
-    ensures { HasDone {C = Connection TcpStream TcpStream} R.Reader.remaining R.Disk.honest R.Disk.seen R.opened R.refused
-        (λ c. ⟦<TcpStream as Write>⟧.contents c.writer) (λ c. ⟦<TcpStream as Read>⟧.remaining c.reader) asked.entry result }
+    ensures { HasDone {C = Connection TcpStream TcpStream} (Watch R) R.Reader.remaining R.Disk.honest R.Disk.seen
+        R.opened R.refused (λ c. ⟦<TcpStream as Write>⟧.contents c.writer)
+        (λ c. ⟦<TcpStream as Read>⟧.remaining c.reader) asked.entry result }
 {
     Ran::Ended(match asked {
         Asked::Play { name, log_bytes } => ended(rt, &play(rt, name, log_bytes)),
         Asked::Scan { path } => ended(rt, &scan(rt, path)),
         Asked::Serve(service) => return Ran::Serves(service),
         Asked::Talk { port, style } => ended(rt, &talk(rt, port, style)),
+        Asked::Tick { port, every } => ended(rt, &tick(rt, port, every)),
     })
 }
 

@@ -1,12 +1,14 @@
 //! The command line, as `clap` reads it.
 ghost use Rattle.std.specs.Prelude.{IfOk};
-ghost use Rattle.xarm.specs.Line.{HasShape, IsApp, play_shape, scan_shape, serve_shape, talk_shape, xarm};
+ghost use Rattle.xarm.specs.Line.{HasShape, IsApp, play_shape, scan_shape, serve_shape, talk_shape, tick_shape, xarm};
 
-use crate::arguments::{connections, log, log_bytes, name, names, path, play_name, port, workers};
+use crate::arguments::{
+    connections, every, log, log_bytes, name, names, path, play_name, port, workers,
+};
 use clap::Command;
 use std::alloc::{AllocError, Global};
 
-/// The command line with its four commands.
+/// The command line with its five commands.
 pub fn command_line<'a>(alloc: Global) -> Result<Command<'a>, AllocError>
     ensures { IfOk result (IsApp xarm) }
 {
@@ -17,7 +19,8 @@ pub fn command_line<'a>(alloc: Global) -> Result<Command<'a>, AllocError>
         .subcommand(play_command(alloc)?)?
         .subcommand(scan_command(alloc)?)?
         .subcommand(serve_command(alloc)?)?
-        .subcommand(talk_command(alloc)?)
+        .subcommand(talk_command(alloc)?)?
+        .subcommand(tick_command(alloc)?)
 }
 
 fn play_command<'a>(alloc: Global) -> Result<Command<'a>, AllocError>
@@ -52,6 +55,19 @@ fn talk_command<'a>(alloc: Global) -> Result<Command<'a>, AllocError>
         )
         .arg(port(alloc))?
         .arg(names(alloc))
+}
+
+fn tick_command<'a>(alloc: Global) -> Result<Command<'a>, AllocError>
+    ensures { IfOk result (HasShape tick_shape) }
+{
+    Command::new(alloc, "tick")
+        .about("Tells a server what the clock says, so that branches reach their time limits")
+        .after_help(
+            "Example: xarm tick --port 4100\nIt takes one of the server's workers, and goes on until it is \
+             ended or the server is gone.",
+        )
+        .arg(port(alloc))?
+        .arg(every(alloc))
 }
 
 fn serve_command<'a>(alloc: Global) -> Result<Command<'a>, AllocError>

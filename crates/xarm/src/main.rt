@@ -3,6 +3,7 @@
 //! - `play` runs a script of calls on a resource manager in memory, and prints what each is answered
 //! - `serve` serves a resource manager on a port
 //! - `talk` sends the calls of a script to a server, and prints the same
+//! - `tick` tells a server what the clock says, again and again
 //! - `scan` prints the records of a log
 //!
 //! `words` reads the command line, by `line` and its `arguments`, as `asked`; `command` hands that on, to `xa_commands` and

@@ -51,6 +51,7 @@ fn read_command<'a>(command: &str, matches: &ArgMatches<'a>) -> Asked<'a>
         },
         "serve" => Asked::Serve(service_of(matches)),
         "talk" => talk_of(matches),
+        "tick" => tick_of(matches),
         _ => play_of(matches),
     }
 }
@@ -82,6 +83,15 @@ fn talk_of<'a>(matches: &ArgMatches<'a>) -> Asked<'a>
     Asked::Talk {
         port: port_of(matches),
         style: style_of(matches.get_flag("names")),
+    }
+}
+
+fn tick_of<'a>(matches: &ArgMatches<'a>) -> Asked<'a>
+    ensures { AsksBy (codes "tick") (rows_of (found_of matches.now)) result }
+{
+    Asked::Tick {
+        port: port_of(matches),
+        every: number_of(matches, "every", 1),
     }
 }
 

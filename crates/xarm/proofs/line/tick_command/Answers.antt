@@ -1,0 +1,12 @@
+use Rattle.std.proofs.Common.{rules, codes}
+use Rattle.clap.specs.Simple.{new_app}
+use Rattle.xarm.specs.Line.{IsApp, every_rule, port_rule}
+use Rattle.xarm.proofs.Building.{adds_rule, last_rule}
+use Rattle.xarm.proofs.line.tick_command.Goals as goal
+
+pub returns : goal.returns
+returns c =
+    let none = new_app (codes "tick") in
+    let first : IsApp none c.after_help.result = record { app_is = search rules; local = search rules } in
+    let reached = adds_rule c.after_help.result c.port.result c.in_ok-arg.field-0 none port_rule first c.port.ensures c.in_ok-arg.ensures in
+    last_rule c.in_ok-arg.field-0 c.every.result c.arg-2.result _ every_rule reached c.every.ensures c.arg-2.ensures
