@@ -2,8 +2,8 @@ use crate::rows::none_wrong;
 use std::alloc::{AllocError, Global};
 use std::cmp::Ordering;
 use xa_codes::{
-    Bytes, Call, Code, TMASYNC, TMJOIN, TMMIGRATE, TMNOFLAGS, TMRESUME, TMSUCCESS, TMSUSPEND,
-    XA_OK, XAER_OUTSIDE, code_name, legal_flags, worked_flags,
+    Bytes, Call, Code, TMASYNC, TMJOIN, TMMIGRATE, TMNOFLAGS, TMNOWAIT, TMRESUME, TMSUCCESS,
+    TMSUSPEND, XA_OK, XAER_OUTSIDE, code_name, legal_flags, worked_flags,
 };
 use xa_rows::first_wrong;
 
@@ -30,13 +30,16 @@ fn names(rt: HostRuntime) {
     none_wrong(&rt, wrong_name(&NAMES));
 }
 
-const FLAGS: [(Call, u32, bool); 6] = [
+const FLAGS: [(Call, u32, bool); 9] = [
     (Call::Start, TMJOIN | TMRESUME, false),
     (Call::End, TMNOFLAGS, false),
     (Call::End, TMSUCCESS | TMMIGRATE, false),
     (Call::End, TMSUSPEND | TMMIGRATE, true),
     (Call::Recover, TMASYNC, false),
     (Call::Get, TMASYNC, true),
+    (Call::Timeout, TMASYNC, true),
+    (Call::Tick, TMNOFLAGS, true),
+    (Call::Tick, TMNOWAIT, false),
 ];
 
 fn is_legal(call: Call, flags: u32) -> bool {

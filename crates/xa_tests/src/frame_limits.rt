@@ -4,10 +4,10 @@ use std::alloc::{AllocError, Global};
 use xa_frame::{decode_request, encode_request};
 use xa_rows::{INFO_BYTES, KEY_BYTES, PART_BYTES, VALUE_BYTES, XIDS};
 
-/// The fields of the requests 1 to 15 and of the bodies of kind 0 to 4, a letter each.
-const REQUESTS: [&[u8]; 15] = [
+/// The fields of the requests 1 to 17 and of the bodies of kind 0 to 4, a letter each.
+const REQUESTS: [&[u8]; 17] = [
     b"fi", b"f", b"fx", b"fx", b"fx", b"fx", b"fx", b"ff", b"fx", b"k", b"kv", b"k", b"dx", b"x",
-    b"",
+    b"", b"f", b"ff",
 ];
 
 const BODIES: [&[u8]; 5] = [b"", b"ff", b"v", b"", b"c"];
@@ -28,7 +28,7 @@ fn limit(letter: u8, greatest: bool) -> (&'static [u8], usize) {
         // how many XIDs
         (b'c', false) => (&[0, 0], 0),
         (b'c', true) => (&[1, 0], 0),
-        // flags and a count; two are a number of eight bytes
+        // flags, a count and seconds; two are a number of eight bytes
         _ => (&[], 4),
     }
 }
@@ -98,7 +98,7 @@ fn is_limit_reply(alloc: Global, kind: u8, letters: &[u8], greatest: bool) -> bo
 }
 
 fn wrong_request(alloc: Global, rows: &[&[u8]], greatest: bool) -> Option<usize> {
-    for (index, (operation, letters)) in (1..=15).zip(rows).enumerate() {
+    for (index, (operation, letters)) in (1..=17).zip(rows).enumerate() {
         if !is_limit_request(alloc, operation, letters, greatest) {
             return Some(index);
         }

@@ -123,9 +123,55 @@ fn puts(rt: HostRuntime) {
 
 type Content = (&'static [u8], &'static [u8], &'static [u8]);
 
+fn timeout_content(alloc: Global) -> Option<Vec<u8>> {
+    let seconds = 0x0102_0304;
+    encode_request(alloc, &Request::Timeout { seconds }).ok()
+}
+
+fn tick_content(alloc: Global) -> Option<Vec<u8>> {
+    let moment = 0x0102_0304_0506_0708;
+    encode_request(alloc, &Request::Tick { moment }).ok()
+}
+
+const TIMEOUT: [u8; 6] = [1, 16, 1, 2, 3, 4];
+
+const TICK: [u8; 10] = [1, 17, 1, 2, 3, 4, 5, 6, 7, 8];
+
+fn reads_timeout(alloc: Global) -> bool {
+    match decode_request(alloc, &TIMEOUT) {
+        Ok(read) => matches!(
+            read,
+            Request::Timeout {
+                seconds: 0x0102_0304
+            }
+        ),
+        Err(_) => false,
+    }
+}
+
+fn reads_tick(alloc: Global) -> bool {
+    match decode_request(alloc, &TICK) {
+        Ok(read) => matches!(
+            read,
+            Request::Tick {
+                moment: 0x0102_0304_0506_0708
+            }
+        ),
+        Err(_) => false,
+    }
+}
+
+#[test]
+fn limits_and_moments(rt: HostRuntime) {
+    assert!(rt; is_content(timeout_content(rt.alloc()), &TIMEOUT));
+    assert!(rt; is_content(tick_content(rt.alloc()), &TICK));
+    assert!(rt; reads_timeout(rt.alloc()));
+    assert!(rt; reads_tick(rt.alloc()));
+}
+
 /// A content of each operation; what each of its prefixes is, from the empty one to the whole; and what changes of each
 /// byte make of it. k: decoded, S: Short, V: Version, O: Operation, F: Field, T: Trailing.
-const CONTENTS: [Content; 15] = [
+const CONTENTS: [Content; 17] = [
     (&[1, 1, 0, 0, 0, 0, 1, 0x78], b"SSSSSSSSk", b"vokkkkik"),
     (&[1, 2, 0, 0, 0, 0], b"SSSSSSk", b"vokkkk"),
     (&START, b"SSSSSSFFFFFFFFk", b"vokkkkkkkkgqkk"),
@@ -173,6 +219,12 @@ const CONTENTS: [Content; 15] = [
         b"vokkkkgqkk",
     ),
     (&[1, 15], b"SSk", b"vo"),
+    (&[1, 16, 0, 0, 0, 10], b"SSSSSSk", b"vokkkk"),
+    (
+        &[1, 17, 0, 0, 0, 1, 0, 0, 0, 1],
+        b"SSSSSSSSSSk",
+        b"vokkkkkkkk",
+    ),
 ];
 
 /// What a byte of this kind makes of its content when it is changed to this value, by the table of fields.
@@ -180,7 +232,7 @@ fn changed(kind: u8, value: u8) -> u8 {
     match (kind, value) {
         (b'v', _) => b'V',
         // an operation that there isn't
-        (b'o', 0 | 16..) => b'O',
+        (b'o', 0 | 18..) => b'O',
         // a length of one or two bytes, of 1: a byte is left, or some are cut
         (b'i', 0) => b'T',
         (b'i', _) => b'S',
@@ -248,7 +300,7 @@ fn letter_with(alloc: Global, content: &[u8], at: usize, value: u8) -> u8 {
 }
 
 fn is_other(kind: u8, old: u8, value: u8) -> bool {
-    let is_operation = kind == b'o' && (1..=15).contains(&value);
+    let is_operation = kind == b'o' && (1..=17).contains(&value);
     value != old && !is_operation
 }
 
@@ -283,37 +335,46 @@ fn changes(rt: HostRuntime) {
     none_wrong(&rt, wrong_change(rt.alloc(), &CONTENTS));
 }
 
-/// What each content is with each of the operations 1 to 15 in place of its own.
-const OPERATIONS: [&[u8]; 15] = [
-    b"kTFFFFFSFFFFFFT",
-    b"SkFFFFFSFFFFFFT",
-    b"TTkkkkkTkFFFFFT",
-    b"TTkkkkkTkTTTFFT",
-    b"TTkkkkkTkFFFFFT",
-    b"TTkkkkkTkFFFFFT",
-    b"TTkkkkkTkFFFFFT",
-    b"TTFFFFFkFFFFFFT",
-    b"TTkkkkkTkFFFFFT",
-    b"SSSSSSSSSkSkFFT",
-    b"STFFFFFSFTkTFFT",
-    b"SSSSSSSSSkSkFFT",
-    b"TTFFFFFTFTTTkTT",
-    b"TTFFFFFkFFFFFkT",
-    b"SSSSSSSSSSSSSFk",
+/// What each content is with each of the operations 1 to 17 in place of its own.
+const OPERATIONS: [&[u8]; 17] = [
+    b"kTFFFFFSFFFFFFTTS",
+    b"SkFFFFFSFFFFFFTkS",
+    b"TTkkkkkTkFFFFFTTT",
+    b"TTkkkkkTkTTTFFTTT",
+    b"TTkkkkkTkFFFFFTTT",
+    b"TTkkkkkTkFFFFFTTT",
+    b"TTkkkkkTkFFFFFTTT",
+    b"TTFFFFFkFFFFFFTTk",
+    b"TTkkkkkTkFFFFFTTT",
+    b"SSSSSSSSSkSkFFTSS",
+    b"STFFFFFSFTkTFFTTS",
+    b"SSSSSSSSSkSkFFTSS",
+    b"TTFFFFFTFTTTkTTTT",
+    b"TTFFFFFkFFFFFkTTk",
+    b"SSSSSSSSSSSSSFkSS",
+    b"SkFFFFFSFFFFFFTkS",
+    b"TTFFFFFkFFFFFFTTk",
 ];
 
 fn are_operations(alloc: Global, content: &[u8], letters: &[u8]) -> bool {
-    for (operation, expected) in (1..=15).zip(letters.iter()) {
+    for (operation, expected) in (1..=17).zip(letters.iter()) {
         if letter_with(alloc, content, 1, operation) != *expected {
             return false;
         }
     }
-    letters.len() == 15
+    letters.len() == 17
+}
+
+fn has_operations(alloc: Global, rows: &[Content], at: usize, letters: &[u8]) -> bool {
+    match rows.get(at) {
+        Some((content, _, _)) => are_operations(alloc, content, letters),
+        None => false,
+    }
 }
 
 fn wrong_operation(alloc: Global, rows: &[Content], operations: &[&[u8]]) -> Option<usize> {
-    for (index, ((content, _, _), letters)) in rows.iter().zip(operations).enumerate() {
-        if !are_operations(alloc, content, letters) {
+    for (index, letters) in operations.iter().enumerate() {
+        if !has_operations(alloc, rows, index, letters) {
             return Some(index);
         }
     }

@@ -7,10 +7,10 @@
 //!   fault
 //! - `records`: bodies of records; `record_limits`: those at their limits
 //! - `chains`, `versions`: one key's versions, and all keys'
-//! - `sessions`, `tables`: the tables of sessions and of branches; `scans`: recovery scans; `heuristics`: the
-//!   operator's decisions
+//! - `sessions`, `tables`: the tables of sessions and of branches; `time_limits`: how branches run out of time; `scans`:
+//!   recovery scans; `heuristics`: the operator's decisions
 //! - `connections`: one connection in pieces, and broken; `cuts`: one without its socket; `doors`: what they are
-//!   served by; `talks`: scripts over connections
+//!   served by; `talks`: scripts over connections; `ticks`: moments over one
 //! - `rows`: `none_wrong`
 #![tactic(auto)]
 
@@ -46,6 +46,10 @@ mod sessions;
 mod tables;
 #[cfg(test)]
 mod talks;
+#[cfg(test)]
+mod ticks;
+#[cfg(test)]
+mod time_limits;
 #[cfg(test)]
 mod versions;
 #[cfg(test)]

@@ -31,9 +31,9 @@ fn sessions(rt: HostRuntime) -> Result<(), Fail> {
 #[test]
 fn branches(rt: HostRuntime) -> Result<(), Fail> {
     let xid = Xid::new(1, &[0xaa], &[0xbb]).ok().ok_or("an XID")?;
-    let mut branches = Branches::new(rt.alloc(), 1, 1);
-    assert_eq!(rt; branches.begin(&xid), Ok(4294967297));
-    assert_eq!(rt; branches.begin(&xid), Err(BeginFault::Duplicate));
+    let mut branches = Branches::new(rt.alloc(), 1, 1, 0);
+    assert_eq!(rt; branches.begin(&xid, 0), Ok(4294967297));
+    assert_eq!(rt; branches.begin(&xid, 0), Err(BeginFault::Duplicate));
     assert_eq!(rt; branches.state(&xid), Some(State::Active));
     branches.suspend(&xid, true);
     assert_eq!(rt; branches.state(&xid), Some(State::Suspended));
@@ -52,8 +52,8 @@ fn branches(rt: HostRuntime) -> Result<(), Fail> {
 #[test]
 fn lasting_branches(rt: HostRuntime) -> Result<(), Fail> {
     let xid = Xid::new(1, &[0xaa], &[0xbb]).ok().ok_or("an XID")?;
-    let mut branches = Branches::new(rt.alloc(), 1, 1);
-    assert_eq!(rt; branches.begin(&xid), Ok(4294967297));
+    let mut branches = Branches::new(rt.alloc(), 1, 1, 0);
+    assert_eq!(rt; branches.begin(&xid, 0), Ok(4294967297));
     branches.leave(&xid, Kind::Active);
     branches.make_room(&xid)?;
     branches.prepare(&xid);
@@ -62,10 +62,10 @@ fn lasting_branches(rt: HostRuntime) -> Result<(), Fail> {
         branches.lasting_of(&xid),
         Some(Lasting::Prepared(4294967297))
     );
-    assert_eq!(rt; branches.begin(&xid), Err(BeginFault::Duplicate));
+    assert_eq!(rt; branches.begin(&xid, 0), Err(BeginFault::Duplicate));
     branches.decide(&xid, Direction::Commit);
     assert_eq!(rt; branches.state(&xid), Some(State::HeurCommitted));
-    assert_eq!(rt; branches.begin(&xid), Err(BeginFault::Duplicate));
+    assert_eq!(rt; branches.begin(&xid, 0), Err(BeginFault::Duplicate));
     branches.forget(&xid);
     assert_eq!(rt; branches.known(&xid), Known::Unknown);
     Ok(())
@@ -76,9 +76,9 @@ fn lasting_branches(rt: HostRuntime) -> Result<(), Fail> {
 fn lasting_counts(rt: HostRuntime) -> Result<(), Fail> {
     let first = Xid::new(1, &[0xaa], &[0xbb]).ok().ok_or("an XID")?;
     let second = Xid::new(1, &[0xaa], &[0xbc]).ok().ok_or("an XID")?;
-    let mut branches = Branches::new(rt.alloc(), 1, 1);
-    assert_eq!(rt; branches.begin(&first), Ok(4294967297));
-    assert_eq!(rt; branches.begin(&second), Ok(4294967298));
+    let mut branches = Branches::new(rt.alloc(), 1, 1, 0);
+    assert_eq!(rt; branches.begin(&first, 0), Ok(4294967297));
+    assert_eq!(rt; branches.begin(&second, 0), Ok(4294967298));
     branches.make_room(&first)?;
     branches.prepare(&first);
     branches.make_room(&second)?;
@@ -101,10 +101,10 @@ const FIRST_BOOT: u64 = 1 << 32;
 fn low_water(rt: HostRuntime) -> Result<(), Fail> {
     let first = Xid::new(1, &[0xaa], &[0xbb]).ok().ok_or("an XID")?;
     let second = Xid::new(1, &[0xaa], &[0xbc]).ok().ok_or("an XID")?;
-    let mut branches = Branches::new(rt.alloc(), 1, 1);
+    let mut branches = Branches::new(rt.alloc(), 1, 1, 0);
     assert_eq!(rt; branches.low_water(), FIRST_BOOT);
-    assert_eq!(rt; branches.begin(&first), Ok(4294967297));
-    assert_eq!(rt; branches.begin(&second), Ok(4294967298));
+    assert_eq!(rt; branches.begin(&first, 0), Ok(4294967297));
+    assert_eq!(rt; branches.begin(&second, 0), Ok(4294967298));
     branches.make_room(&first)?;
     branches.prepare(&first);
     branches.finish(&second);
@@ -118,8 +118,8 @@ fn low_water(rt: HostRuntime) -> Result<(), Fail> {
 #[test]
 fn room_given_back(rt: HostRuntime) -> Result<(), Fail> {
     let xid = Xid::new(1, &[0xaa], &[0xbb]).ok().ok_or("an XID")?;
-    let mut branches = Branches::new(rt.alloc(), 1, 1);
-    assert_eq!(rt; branches.begin(&xid), Ok(4294967297));
+    let mut branches = Branches::new(rt.alloc(), 1, 1, 0);
+    assert_eq!(rt; branches.begin(&xid, 0), Ok(4294967297));
     branches.leave(&xid, Kind::Active);
     branches.make_room(&xid)?;
     branches.give_back(&xid);
@@ -154,7 +154,7 @@ fn lists(
 
 /// What lasted of the first boot, in the second: the first XID was rolled back by the operator, the second is in doubt.
 fn restored(alloc: Global, first: &Xid, second: &Xid) -> Option<Branches> {
-    let mut branches = Branches::new(alloc, 2, 1);
+    let mut branches = Branches::new(alloc, 2, 1, 0);
     branches.restore_prepared(second.copied(), 4294967297).ok()?;
     branches
         .restore_completed(first.copied(), Direction::Rollback)
@@ -174,8 +174,8 @@ fn restored_branches(rt: HostRuntime) -> Result<(), Fail> {
     assert_eq!(rt; branches.timestamp(&second), 4294967297);
     assert_eq!(rt; branches.prepared(), 1);
     assert_eq!(rt; branches.completed(), 1);
-    assert_eq!(rt; branches.begin(&second), Err(BeginFault::Duplicate));
-    assert_eq!(rt; branches.begin(&third), Ok(8589934593));
+    assert_eq!(rt; branches.begin(&second, 0), Err(BeginFault::Duplicate));
+    assert_eq!(rt; branches.begin(&third, 0), Ok(8589934593));
     Ok(())
 }
 
@@ -186,7 +186,7 @@ fn low_water_in_doubt(rt: HostRuntime) -> Result<(), Fail> {
     let second = Xid::new(1, &[0xaa], &[0xbc]).ok().ok_or("an XID")?;
     let third = Xid::new(1, &[0xaa], &[]).ok().ok_or("an XID")?;
     let mut branches = restored(rt.alloc(), &first, &second).ok_or("branches")?;
-    assert_eq!(rt; branches.begin(&third), Ok(8589934593));
+    assert_eq!(rt; branches.begin(&third, 0), Ok(8589934593));
     assert_eq!(rt; branches.low_water(), 4294967297);
     branches.finish(&second);
     assert_eq!(rt; branches.low_water(), 8589934593);
@@ -200,7 +200,7 @@ fn listed_branches(rt: HostRuntime) -> Result<(), Fail> {
     let second = Xid::new(1, &[0xaa], &[0xbc]).ok().ok_or("an XID")?;
     let third = Xid::new(1, &[0xaa], &[]).ok().ok_or("an XID")?;
     let mut branches = restored(rt.alloc(), &first, &second).ok_or("branches")?;
-    assert_eq!(rt; branches.begin(&third), Ok(8589934593));
+    assert_eq!(rt; branches.begin(&third, 0), Ok(8589934593));
     let alloc = rt.alloc();
     assert!(rt; lists(alloc, &branches, None, 5, &[&first, &second]));
     assert!(rt; lists(alloc, &branches, None, 1, &[&first]));

@@ -7,7 +7,7 @@ use xa_talk::{Connection, Dial, TalkFault, talk_run};
 
 /// Keeps what is sent over a connection.
 #[derive(Drop)]
-struct Tape<'a> {
+pub struct Tape<'a> {
     sent: &'a RefCell<Vec<u8>>,
 }
 
@@ -27,10 +27,10 @@ impl Write for Tape<'_> {
 
 /// A server whose connections give these bytes, one after another. Behind the last one nobody is reached.
 #[derive(Drop)]
-struct Server<'a> {
-    answers: &'a [&'a [u8]],
-    reached: usize,
-    sent: &'a RefCell<Vec<u8>>,
+pub struct Server<'a> {
+    pub answers: &'a [&'a [u8]],
+    pub reached: usize,
+    pub sent: &'a RefCell<Vec<u8>>,
 }
 
 impl<'a> Dial<&'a [u8], Tape<'a>> for Server<'a> {
@@ -71,7 +71,22 @@ const REPLIES: [u8; 46] = [
     0, 0, 0, 0x17, 1, 0, 0, 0, 0, 0, 0, 0, 0, 0, 0, 0, 0, 3, 1, 0, 0, 0, 1, 0, 0, 0, 1,
 ];
 
-const ROWS: [Row; 6] = [
+// Limits of 0 and of 2^32 - 1 seconds, and the moments 0 and 2^64 - 1.
+const LIMITS: [u8; 48] = [
+    0, 0, 0, 6, 1, 16, 0, 0, 0, 0, //
+    0, 0, 0, 6, 1, 16, 255, 255, 255, 255, //
+    0, 0, 0, 10, 1, 17, 0, 0, 0, 0, 0, 0, 0, 0, //
+    0, 0, 0, 10, 1, 17, 255, 255, 255, 255, 255, 255, 255, 255,
+];
+
+const LIMIT_REPLIES: [u8; 92] = [
+    0, 0, 0, 0x0f, 1, 0, 0, 0, 0, 0, 0, 0, 0, 0, 0, 0, 0, 2, 0, //
+    0, 0, 0, 0x0f, 1, 255, 255, 255, 250, 0, 0, 0, 0, 0, 0, 0, 0, 3, 0, //
+    0, 0, 0, 0x17, 1, 0, 0, 0, 0, 0, 0, 0, 0, 0, 0, 0, 0, 4, 1, 0, 0, 0, 0, 0, 0, 0, 0, //
+    0, 0, 0, 0x17, 1, 0, 0, 0, 0, 0, 0, 0, 0, 0, 0, 0, 0, 5, 1, 0, 0, 0, 0, 0, 0, 16, 0,
+];
+
+const ROWS: [Row; 9] = [
     Row {
         script: "connect\n1 open TMNOFLAGS xarm\n1 start TMNOFLAGS 1:aa:bb",
         answers: &[&REPLIES],
@@ -84,6 +99,30 @@ const ROWS: [Row; 6] = [
         script: "# nothing\n\n1 get 6b\n7 hangup\nfail 1 lost\nfail other 1 kept\nreopen\ncrash\nconnect x\n",
         answers: &[],
         printed: "-6 Nothing\n0 Nothing\n-5 Frame\n-5 Frame\n-5 Frame\n-5 Frame\n-5 Frame\n",
+        sent: &[],
+        end: Ok(()),
+    },
+    // Branches' time limits, and moments.
+    Row {
+        script: "connect\n1 timeout 0\n1 timeout 4294967295\n1 tick 0\n1 tick 18446744073709551615\n",
+        answers: &[&LIMIT_REPLIES],
+        printed: "0 Nothing number 1\n0 Nothing\n-6 Nothing\n0 Nothing number 0\n0 Nothing number 4096\n",
+        sent: &LIMITS,
+        end: Ok(()),
+    },
+    // What is no limit.
+    Row {
+        script: "connect\n1 timeout\n1 timeout 4294967296\n1 timeout 01\n1 timeout -1\n1 timeout +1\n1 timeout 1 2\n1 timeout TMNOFLAGS 1\n1 timeout 0x1\n1 timeouts 1\n",
+        answers: &[&[]],
+        printed: "0 Nothing number 1\n-5 Frame\n-5 Frame\n-5 Frame\n-5 Frame\n-5 Frame\n-5 Frame\n-5 Frame\n-5 Frame\n-5 Frame\n",
+        sent: &[],
+        end: Ok(()),
+    },
+    // What is no moment.
+    Row {
+        script: "connect\n1 tick\n1 tick 18446744073709551616\n1 tick 00\n1 tick 1x\n1 tick 1 2\n1 tick TMNOFLAGS 1\n1 tick \n1 Tick 1\n",
+        answers: &[&[]],
+        printed: "0 Nothing number 1\n-5 Frame\n-5 Frame\n-5 Frame\n-5 Frame\n-5 Frame\n-5 Frame\n-5 Frame\n-5 Frame\n",
         sent: &[],
         end: Ok(()),
     },
