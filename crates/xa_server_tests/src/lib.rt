@@ -1,9 +1,10 @@
-//! Tests of what no clause says, of rooms, desks, workers and servers: what many sessions are answered, what an audit finds,
-//! connections that break, and worked rows with each allocation refused.
+//! Tests of what no clause says, of rooms, desks, sequencers, workers and servers: what many sessions are answered, what an
+//! audit finds, connections that break, and worked rows with each allocation refused.
 //!
 //! - `desks`: what these tests begin with, a desk of a new room; `clients`: frames, and who sends them
 //! - `rooms`: receipts, shares and audits; `crews`: callers at once; `meetings`: sessions at once, over connections
 //! - `broken`: a connection that breaks; `broken_clients`: clients that break off
+//! - `sequencers`: what a sequencer numbers, for one thread and for two
 //! - `servers`: a manager behind a port answers as a play
 //! - `refused`: worked rows, with the lines in `refused_rows`, and audits; `refused_limits`: limits; all whichever one
 //!   allocation is refused
@@ -32,5 +33,7 @@ mod refused_rows;
 mod rooms;
 #[cfg(test)]
 mod rows;
+#[cfg(test)]
+mod sequencers;
 #[cfg(test)]
 mod servers;

@@ -1,0 +1,129 @@
+ghost use Rattle.std.specs.Prelude.{◌≡◌, ◌<◌, IfSome};
+ghost use Rattle.xa_frame.specs.Limits.{IsRequest};
+ghost use Rattle.xa_model.specs.State.{State};
+
+use crate::desks::{PARTS, open_request, opened};
+use std::alloc::Global;
+use std::marker::Brand;
+use std::sync::Wait;
+use std::sync::ledger::{Blank, Ledger, Share};
+use std::thread::{Threads, map_vec};
+use xa_codes::{Bytes, XA_OK, XAER_PROTO};
+use xa_desk::Door;
+use xa_disk::MemDisk;
+use xa_frame::Request;
+use xa_manager::Manager;
+use xa_room::{Manages, Start};
+use xa_sequencer::{Handle, Sequencer, SharedSequencer};
+
+fn get_request(alloc: Global) -> Option<Request>
+    ensures { IfSome result IsRequest }
+{
+    let key = Bytes::from_slice(alloc, b"k").ok()?;
+    Some(Request::Get { key })
+}
+
+// A connect, an Open, a get outside a branch, and two hang-ups, of which the second is of nobody.
+fn numbers_each<M: Manages, S: Start>(
+    alloc: Global,
+    sequencer: &mut Sequencer<M, S>,
+) -> Option<bool> {
+    let session = sequencer.connect().ok()?;
+    let opened = sequencer.call(session, open_request(alloc)?);
+    let refused = Door::call(sequencer, session, get_request(alloc)?);
+    let was_connected = sequencer.hangup(session);
+    let is_connected = sequencer.hangup(session);
+    sequencer.promises();
+    Some(
+        opened.code == XA_OK
+            && opened.place == 2
+            && refused.code == XAER_PROTO
+            && refused.place == 3
+            && was_connected
+            && !is_connected
+            && sequencer.count() == 4,
+    )
+}
+
+fn numbers_all<M: Manages + Drop, S: Start>(alloc: Global, manager: M) -> Option<bool>
+    requires start { (s : State) → S.start s → M.stands manager s }
+    requires base { M.failures manager ≡ S.base }
+{
+    let mut sequencer: Sequencer<M, S> = Sequencer::new(manager);
+    numbers_each(alloc, &mut sequencer)
+}
+
+#[test]
+fn a_sequencer_numbers_each_event(rt: HostRuntime) {
+    let manager = opened(rt.alloc()).expect(&rt, "a manager");
+    let found = numbers_all::<Manager<MemDisk>, Brand>(rt.alloc(), manager);
+    assert_eq!(rt; found, Some(true));
+}
+
+/// A part of the ledger, for a thread.
+#[derive(Drop)]
+struct Part<L: Ledger> {
+    share: Share<L>,
+    ghost some: { 0 < share.parts },
+}
+
+// A connect, an Open and a hang-up.
+fn opens<M: Manages, S: Start, L: Ledger, R: Wait>(
+    alloc: Global,
+    handle: &mut Handle<'_, M, S, L, R>,
+) -> Option<bool> {
+    let session = handle.connect().ok()?;
+    let reply = handle.call(session, open_request(alloc)?);
+    handle.hangup(session);
+    Some(reply.code == XA_OK && reply.place > 1)
+}
+
+fn visit<M: Manages, S: Start, L: Ledger, R: Wait>(
+    rt: &R,
+    alloc: Global,
+    sequencer: &SharedSequencer<M, S, L>,
+    part: Part<L>,
+) -> bool {
+    let Part { share } = part;
+    let mut handle = Handle::new(rt, sequencer, share);
+    let is_right = opens(alloc, &mut handle) == Some(true);
+    let _share = handle.into_share();
+    is_right
+}
+
+// Two visitors at once.
+fn counts_both<
+    M: Manages + Send + Drop,
+    S: Start + Send + Sync,
+    L: Ledger + Send + Sync,
+    R: Threads + Wait + Sync,
+>(rt: &R, alloc: Global, manager: M, blank: Blank) -> Option<bool>
+    requires start { (s : State) → S.start s → M.stands manager s }
+    requires base { M.failures manager ≡ S.base }
+    requires name { blank.name ≡ L.name }
+    requires parts { (blank.parts ≡ L.parts) × (blank.parts ≡ 8) }
+{
+    let sequencer: Sequencer<M, S> = Sequencer::new(manager);
+    let (shared, mut share) = SharedSequencer::<M, S, L>::new(sequencer, blank);
+    let other = share.split_off(1, 0);
+    let mut parts = Vec::new(alloc);
+    parts.push(Part { share }).ok()?;
+    parts.push(Part { share: other }).ok()?;
+    let mut visits = map_vec(rt, parts, &|part| visit(rt, alloc, &shared, part)).ok()?;
+    let second = visits.pop()?;
+    let first = visits.pop()?;
+    let (sequencer, _book) = shared.into_sequencer();
+    Some(first && second && sequencer.count() == 6)
+}
+
+#[test]
+fn a_sequencer_is_shared(rt: HostRuntime) {
+    let manager = opened(rt.alloc()).expect(&rt, "a manager");
+    let found = counts_both::<Manager<MemDisk>, Brand, Brand, HostRuntime>(
+        &rt,
+        rt.alloc(),
+        manager,
+        Blank::new(PARTS),
+    );
+    assert_eq!(rt; found, Some(true));
+}
