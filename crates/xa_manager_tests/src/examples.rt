@@ -256,6 +256,26 @@ const STOPPED_PREPARE: [Line; 32] = [
     ),
 ];
 
+const TIME_LIMIT: [Line; 17] = [
+    ("connect", "0 Nothing number 1"),
+    ("1 open TMNOFLAGS xarm", OK),
+    ("connect", "0 Nothing number 2"),
+    ("1 timeout 10", OK),
+    ("1 start TMNOFLAGS 1:aa:", "0 Nothing number 4294967297"),
+    ("2 tick 9", "0 Nothing number 0"),
+    ("2 tick 10", "0 Nothing number 1"),
+    ("1 put 6b 76", "106 Nothing"),
+    ("1 end TMSUCCESS 1:aa:", "106 Nothing"),
+    ("1 rollback TMNOFLAGS 1:aa:", "106 Nothing"),
+    ("2 tick 9", "-5 Nothing"),
+    ("1 start TMNOFLAGS 1:bb:", "0 Nothing number 4294967298"),
+    ("1 put 6b 76", OK),
+    ("1 end TMSUCCESS 1:bb:", OK),
+    ("1 prepare TMNOFLAGS 1:bb:", OK),
+    ("2 tick 100", "0 Nothing number 0"),
+    ("1 commit TMNOFLAGS 1:bb:", OK),
+];
+
 const TWO_SESSIONS: [Line; 20] = [
     ("connect", "0 Nothing number 1"),
     ("1 open TMNOFLAGS xarm", OK),
@@ -279,7 +299,7 @@ const TWO_SESSIONS: [Line; 20] = [
     ("1 commit TMONEPHASE 1:cc:", "-4 Nothing"),
 ];
 
-const EXAMPLES: [Play; 10] = [
+const EXAMPLES: [Play; 11] = [
     &[&BUSY_READ],
     &[&DEAD_CLIENT],
     &[&DOWN],
@@ -289,6 +309,7 @@ const EXAMPLES: [Play; 10] = [
     &[&OPERATOR],
     &[&PREPARED],
     &[&STOPPED_PREPARE],
+    &[&TIME_LIMIT],
     &[&TWO_SESSIONS],
 ];
 

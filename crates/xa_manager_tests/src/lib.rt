@@ -4,8 +4,8 @@
 //! - `managers`: calls of a manager, whichever one allocation is refused; `versions_kept`: how many versions it keeps
 //! - `lines`: what the lines of a script ask; `calls`: scripts of many calls, and those at limits
 //! - `plays`: ends of a play; `plays_calls`, `plays_failing`, `plays_recovered`: worked rows, by what befalls a branch;
-//!   `plays_stopped`: crashes after a disk has stopped at some device call; `device_calls`: each call that logs and each
-//!   restart, of which any device call fails
+//!   `plays_limits`: time limits of branches; `plays_stopped`: crashes after a disk has stopped at some device call;
+//!   `device_calls`: each call that logs and each restart, of which any device call fails
 //! - `examples`: the scripts of examples/; `scripted`: how a table of lines and replies is played; `script`: `Script`,
 //!   what is played; `faults`: `Fault`, a device call that fails
 //! - `one_copy`: runs by chance, whose branches are executed one at a time; `one_copy_branches`, `one_copy_scripts`:
@@ -37,6 +37,8 @@ mod plays;
 mod plays_calls;
 #[cfg(test)]
 mod plays_failing;
+#[cfg(test)]
+mod plays_limits;
 #[cfg(test)]
 mod plays_recovered;
 #[cfg(test)]
