@@ -14,7 +14,8 @@ enum Operation {
     FORGET(9),
     GET(10),
     PUT(11),
-    DELETE(12);
+    DELETE(12),
+    TIMEOUT(16);
 
     private final int number;
 

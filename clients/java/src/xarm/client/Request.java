@@ -34,6 +34,11 @@ final class Request {
         return this;
     }
 
+    Request seconds(int seconds) {
+        bytes.putInt(seconds);
+        return this;
+    }
+
     /** A key, or an open info: bytes behind their length of one byte. */
     Request name(byte[] name) {
         bytes.put((byte) name.length).put(name);

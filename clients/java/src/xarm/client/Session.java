@@ -32,6 +32,7 @@ final class Session {
     private int readTimeout;
     private final Branches branches = new Branches();
     private Socket socket; // null where there is no connection
+    private int timeLimit; // what the server was told of this connection
     private boolean isClosed;
 
     /** A session that isn't connected yet. The time-out is in milliseconds, and is one call's, its connect included. */
@@ -62,6 +63,15 @@ final class Session {
             throw new IllegalArgumentException("a read time-out of " + milliseconds + " ms");
         }
         return milliseconds;
+    }
+
+    /** Of the branches that this connection begins, in seconds: 0 for none, as the server has it of a new connection. */
+    synchronized int timeLimit() {
+        return timeLimit;
+    }
+
+    synchronized void setTimeLimit(int seconds) {
+        timeLimit = seconds;
     }
 
     synchronized boolean isConnected() {
@@ -130,6 +140,7 @@ final class Session {
             }
             socket = null;
         }
+        timeLimit = 0;
         branches.hangUp();
     }
 

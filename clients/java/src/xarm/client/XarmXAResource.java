@@ -34,13 +34,15 @@ public final class XarmXAResource implements XAResource {
 
     private final Session session;
     private boolean isScanning;
+    private int timeLimit;
 
     XarmXAResource(Session session) {
         this.session = session;
     }
 
     /**
-     * Sends Start: the session begins work for a branch, joins it (TMJOIN) or resumes it (TMRESUME).
+     * Sends Start: the session begins work for a branch, joins it (TMJOIN) or resumes it (TMRESUME). Sends Timeout before it, where
+     * a branch begins with another time limit than this connection's last one.
      *
      * <p>Throws XAER_DUPID where the server knows the XID, XAER_RMERR where it knows 4,096 XIDs or has given all its timestamps,
      * and XA_RB* where the branch to be joined or resumed is marked: it can only be rolled back.
@@ -53,6 +55,9 @@ public final class XarmXAResource implements XAResource {
     public void start(Xid xid, int flags) throws XAException {
         XarmXid branch = checked(xid);
         synchronized (session) {
+            if ((flags & (TMJOIN | TMRESUME)) == 0) {
+                sendTimeLimit();
+            }
             Branches branches = session.branches();
             Reply reply;
             try {
@@ -263,18 +268,42 @@ public final class XarmXAResource implements XAResource {
     }
 
     /**
-     * False: there is no request for a branch's time limit yet. Sends nothing. This is the place where one would be kept, for
-     * {@code start} to send.
+     * Sets the time limit of the branches that this session begins from now on, 0 for none. Sends nothing: {@code start} sends
+     * Timeout before Start where the server has another limit of this connection, so that it holds after a broken one too.
+     *
+     * <p>The server reads no clock: a branch runs out of time when it is told the time ({@code xarm tick}), and is XA_RBTIMEOUT then.
+     *
+     * <p>Throws XAER_INVAL where the limit is negative.
      */
     @Override
-    public boolean setTransactionTimeout(int seconds) {
-        return false;
+    public boolean setTransactionTimeout(int seconds) throws XAException {
+        if (seconds < 0) {
+            throw refusal(Operation.TIMEOUT, null, XAER_INVAL, Detail.NOTHING);
+        }
+        synchronized (session) {
+            timeLimit = seconds;
+        }
+        return true;
     }
 
-    /** Zero: there is no time limit. Sends nothing. */
+    /** The time limit of the branches that this session begins, in seconds; 0 for none. Sends nothing. */
     @Override
     public int getTransactionTimeout() {
-        return 0;
+        synchronized (session) {
+            return timeLimit;
+        }
+    }
+
+    /** A branch that begins has the time limit that was set. */
+    private void sendTimeLimit() throws XAException {
+        if (session.timeLimit() == timeLimit) {
+            return;
+        }
+        Reply reply = call(new Request(Operation.TIMEOUT).seconds(timeLimit));
+        if (reply.code() != XA_OK) {
+            throw refusal(Operation.TIMEOUT, null, reply.code(), reply.detail());
+        }
+        session.setTimeLimit(timeLimit);
     }
 
     /**

@@ -4,6 +4,7 @@ import static javax.transaction.xa.XAException.XAER_NOTA;
 import static javax.transaction.xa.XAException.XAER_PROTO;
 import static javax.transaction.xa.XAException.XAER_RMFAIL;
 import static javax.transaction.xa.XAException.XA_RBCOMMFAIL;
+import static javax.transaction.xa.XAException.XA_RBTIMEOUT;
 import static javax.transaction.xa.XAResource.TMNOFLAGS;
 import static javax.transaction.xa.XAResource.TMSUCCESS;
 import static javax.transaction.xa.XAResource.XA_OK;
@@ -57,6 +58,7 @@ final class BrokenTests implements Suite {
         tests.test("a rollback whose reply is cut was done, and is XAER_NOTA", this::rollbackCut);
         tests.test("recover whose reply is cut is asked again", this::recoverCut);
         tests.test("a completion before the old session's hang-up is asked again", this::beforeHangUp);
+        tests.test("a time limit is sent to a new connection too", this::timeLimit);
         tests.test("an answer that doesn't come ends with the read time-out", this::silent);
         tests.test("an answer that comes byte by byte ends with the read time-out", this::slow);
         tests.test("a server whose workers are all taken ends with the read time-out", this::noWorker);
@@ -72,6 +74,21 @@ final class BrokenTests implements Suite {
         code(XA_RBCOMMFAIL, () -> resource.prepare(branch));
         resource.rollback(branch);
         value(connection, key, null);
+    }
+
+    private void timeLimit() throws Exception {
+        resource.setTransactionTimeout(10);
+        Work.commit(connection, xid("limited"), "b0", "v");
+        relay.cutReply(0);
+        refusal(XAER_RMFAIL, Detail.NOTHING, () -> connection.getRecords().get(text("b0")));
+        XarmXid branch = xid("limited again");
+        Work.begin(connection, branch, "b0", "w");
+        equal("0 Nothing number 1", server.talk("connect", "1 tick 10"));
+        resource.end(branch, TMSUCCESS);
+        code(XA_RBTIMEOUT, () -> resource.prepare(branch));
+        resource.rollback(branch);
+        value(connection, "b0", "v");
+        resource.setTransactionTimeout(0);
     }
 
     private void putCut() throws Exception {

@@ -6,6 +6,7 @@ import static javax.transaction.xa.XAException.XAER_PROTO;
 import static javax.transaction.xa.XAException.XAER_RMFAIL;
 import static javax.transaction.xa.XAException.XA_RBCOMMFAIL;
 import static javax.transaction.xa.XAException.XA_RBROLLBACK;
+import static javax.transaction.xa.XAException.XA_RBTIMEOUT;
 import static javax.transaction.xa.XAResource.TMENDRSCAN;
 import static javax.transaction.xa.XAResource.TMFAIL;
 import static javax.transaction.xa.XAResource.TMJOIN;
@@ -60,7 +61,7 @@ final class ResourceTests implements Suite {
         tests.test("an end with TMFAIL is told by prepare, and the rollback behind it is XA_OK", this::failed);
         tests.test("recover is a scan, whose first call lists all", this::scans);
         tests.test("a session is the same resource manager as itself alone", this::sameManager);
-        tests.test("there is no time limit of a transaction yet", this::timeLimit);
+        tests.test("a branch runs out of time, and its rollback is told XA_RBTIMEOUT", this::timeLimit);
         tests.test("an XID of another class is taken, and its parts compared", this::xids);
         tests.test("a closed connection rolls back what it was at work for", this::closed);
         tests.test("a data source is a bean, and refuses what can't be", this::source);
@@ -195,8 +196,29 @@ final class ResourceTests implements Suite {
     }
 
     private void timeLimit() throws Exception {
-        holds(!resource.setTransactionTimeout(10), "it isn't set");
         equal(0, resource.getTransactionTimeout());
+        code(XAER_INVAL, () -> resource.setTransactionTimeout(-1));
+        holds(resource.setTransactionTimeout(10), "it is set");
+        equal(10, resource.getTransactionTimeout());
+        tick(9, 0);
+        Work.begin(connection, xid("limit"), "k-limit", "v");
+        tick(18, 0);
+        tick(19, 1);
+        refusal(XA_RBTIMEOUT, Detail.NOTHING, () -> records.put(text("k-limit"), text("w")));
+        resource.end(xid("limit"), TMSUCCESS);
+        code(XA_RBTIMEOUT, () -> resource.prepare(xid("limit")));
+        resource.rollback(xid("limit"));
+        value(connection, "k-limit", null);
+        resource.setTransactionTimeout(0);
+        Work.begin(connection, xid("no limit"), "k-limit", "v");
+        tick(1_000_000, 0);
+        resource.end(xid("no limit"), TMSUCCESS);
+        resource.commit(xid("no limit"), true);
+        value(connection, "k-limit", "v");
+    }
+
+    private void tick(long moment, int marked) throws Exception {
+        equal("0 Nothing number " + marked, server.talk("connect", "1 tick " + moment));
     }
 
     private void xids() throws Exception {
