@@ -6,7 +6,7 @@ use Rattle.xa_codes.specs.declared.flags.TheConstants.{TMSUCCESS, TMSUSPEND, TMS
 use Rattle.xa_codes.specs.declared.flags.TheConstants.{TMJOIN, TMMIGRATE}
 use Rattle.xa_codes.specs.declared.direction.TheConstants.{COMMIT, ROLLBACK}
 use Rattle.xa_codes.specs.declared.call.Call.TheVariants.{Open, Close, Start, End, Prepare, Commit, Rollback, Recover}
-use Rattle.xa_codes.specs.declared.call.Call.TheVariants.{Forget, Get, Put, Restart, Timeout, Tick}
+use Rattle.xa_codes.specs.declared.call.Call.TheVariants.{Forget, Get, Put, Restart, Timeout, Tick, Branches}
 
 -- the flags' values
 abbrev pub HasValues : Type 0
@@ -53,9 +53,11 @@ MayHave =
     × (legal Start 0x8000_0000 ≡ true)
     × (legal Get 0x8000_0000 ≡ true)
     × (legal Timeout 0x8000_0000 ≡ true)
+    × (legal Branches 0x8000_0000 ≡ true)
     -- no flags
     × (legal Timeout 0 ≡ true)
     × (legal Tick 0 ≡ true)
+    × (legal Branches 0 ≡ true)
 
 -- flags together that a call may not have
 abbrev pub MayNotHave : Type 0
@@ -81,3 +83,4 @@ MayNotHave =
     × (legal Restart 1 ≡ false)
     × (legal Timeout 1 ≡ false)
     × (legal Tick 1 ≡ false)
+    × (legal Branches 1 ≡ false)

@@ -21,4 +21,6 @@ pub enum Call {
     Timeout,
     /// Tells the moment, and ends what has passed its limit.
     Tick,
+    /// Lists the known branches.
+    Branches,
 }

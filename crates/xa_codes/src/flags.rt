@@ -57,7 +57,8 @@ pub fn legal_flags(call: Call, flags: u32) -> bool
         | Call::Doom
         | Call::Restart
         | Call::Timeout
-        | Call::Tick => rest == 0,
+        | Call::Tick
+        | Call::Branches => rest == 0,
     }
 }
 

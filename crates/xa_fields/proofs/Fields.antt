@@ -13,6 +13,7 @@ use Rattle.xa_xid.specs.Triple.{Triple, IsWithinLimits}
 use Rattle.xa_xid.specs.Spelling.{bytes_of}
 use Rattle.xa_xid.specs.Reading.{xid_at}
 use Rattle.xa_xid.proofs.Front.{xid_takes, xid_again}
+use Rattle.xa_limits.specs.declared.TheConstants.{MOST_VALUE}
 use Rattle.xa_fields.specs.declared.fault.FieldFault.{FieldFault}
 use Rattle.xa_fields.specs.declared.fault.FieldFault.TheVariants.{Cut, Limit}
 use Rattle.xa_fields.specs.Limits.{IsShort, IsKey, IsValue}
@@ -117,19 +118,19 @@ some_of_ok (Some y) x e = ap (λ (z : _). Some z) (ok_is y x e)
 value_found : (bytes text rest : List ℕ) → IsBytes bytes → value_at bytes ≡ Ok (text, rest) → (bytes ≡ value_bytes text ++ rest) × IsValue text
 unfolding value_at
 value_found bytes text rest small e =
-    let b = bind_ok (ok_or (number_at w16 bytes) Cut) (λ n. cond (ltb 1024 n.0) (Err Limit) (bytes_at n.0 n.1)) (text, rest) e in
+    let b = bind_ok (ok_or (number_at w16 bytes) Cut) (λ n. cond (ltb MOST_VALUE n.0) (Err Limit) (bytes_at n.0 n.1)) (text, rest) e in
     let t = number_takes w16 (2 ^ 16) wide16 bytes b.0.0 b.0.1 small (some_of_ok (number_at w16 bytes) b.0 b.1) in
-    let g = guard_ok (ltb 1024 b.0.0) Limit (bytes_at b.0.0 b.0.1) (text, rest) b.2 in
+    let g = guard_ok (ltb MOST_VALUE b.0.0) Limit (bytes_at b.0.0 b.0.1) (text, rest) b.2 in
     let f = bytes_take b.0.0 b.0.1 text rest g.1 in
-    let high : b.0.0 ≤ 1024 = ltb-false 1024 b.0.0 g.0 in
+    let high : b.0.0 ≤ MOST_VALUE = ltb-false MOST_VALUE b.0.0 g.0 in
     let whole : bytes ≡ to_be_bytes w16 b.0.0 ++ (text ++ rest) = t.0.parts ∙ ap (λ (s : List ℕ). to_be_bytes w16 b.0.0 ++ s) f.0 in
     (subst (λ (k : ℕ). bytes ≡ to_be_bytes w16 k ++ (text ++ rest)) (sym f.1) whole, omega (arith, f.1))
 
 value_again : (text rest : List ℕ) → IsValue text → value_at (value_bytes text ++ rest) ≡ Ok (text, rest)
 unfolding value_at
 value_again text rest h =
-    let high : ltb 1024 (length text) ≡ false = le-ltb 1024 (length text) h in
-    ap (λ (o : Option (ℕ × List ℕ)). ok_or o Cut >>= λ n. cond (ltb 1024 n.0) (Err Limit) (bytes_at n.0 n.1)) (number_again w16 (2 ^ 16) wide16 (length text) (text ++ rest) (omega (arith, h)))
+    let high : ltb MOST_VALUE (length text) ≡ false = le-ltb MOST_VALUE (length text) h in
+    ap (λ (o : Option (ℕ × List ℕ)). ok_or o Cut >>= λ n. cond (ltb MOST_VALUE n.0) (Err Limit) (bytes_at n.0 n.1)) (number_again w16 (2 ^ 16) wide16 (length text) (text ++ rest) (omega (arith, h)))
     ∙ rw high (bytes_again text rest)
 
 pub value : ReadsBack (List ℕ) value_at value_bytes IsValue

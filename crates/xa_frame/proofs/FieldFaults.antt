@@ -6,6 +6,7 @@ use Rattle.xa_codes.specs.declared.direction.Direction.{Direction}
 use Rattle.xa_codes.specs.declared.direction.Direction.TheVariants.{Commit, Rollback}
 use Rattle.xa_xid.specs.Triple.{Triple}
 use Rattle.xa_xid.specs.Reading.{xid_at}
+use Rattle.xa_limits.specs.declared.TheConstants.{MOST_VALUE}
 use Rattle.xa_fields.specs.declared.fault.FieldFault.{FieldFault}
 use Rattle.xa_fields.specs.declared.fault.FieldFault.TheVariants.{Cut, Limit}
 use Rattle.xa_fields.specs.Reading.{◌>>=◌, bytes_at, short_at, key_at, value_at, direction_at, named, name_at}
@@ -45,8 +46,8 @@ pub value_fault : (bytes : List ℕ) → rest_of (of_field (value_at bytes)) ≡
 unfolding value_at
 value_fault bytes =
     let n = from_be_bytes w16 (take 2 bytes) in
-    rest-number (ltb (length bytes) 2) (n, drop 2 bytes) (λ n. cond (ltb 1024 n.0) (Err Limit) (bytes_at n.0 n.1))
-    ∙ ap (λ (r : Result (List ℕ) FrameFault). cond (ltb (length bytes) 2) (Err Short) r) (rest-limit (ltb 1024 n) (bytes_at n (drop 2 bytes)) (after_bytes n (drop 2 bytes)) (bytes_fault n (drop 2 bytes)))
+    rest-number (ltb (length bytes) 2) (n, drop 2 bytes) (λ n. cond (ltb MOST_VALUE n.0) (Err Limit) (bytes_at n.0 n.1))
+    ∙ ap (λ (r : Result (List ℕ) FrameFault). cond (ltb (length bytes) 2) (Err Short) r) (rest-limit (ltb MOST_VALUE n) (bytes_at n (drop 2 bytes)) (after_bytes n (drop 2 bytes)) (bytes_fault n (drop 2 bytes)))
 
 abbrev found : Direction → List ℕ → Result (Direction × List ℕ) FieldFault
 found d bytes = Ok (d, bytes)

@@ -2,6 +2,8 @@ pub mod Loop
 pub mod Digits
 pub mod FieldFaults
 pub mod Readers
+pub mod BranchReaders
+pub mod Lists
 pub mod Whole
 pub mod Requests
 pub mod Replies

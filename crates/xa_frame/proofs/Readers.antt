@@ -24,11 +24,11 @@ use Rattle.xa_fields.proofs.Fields.{takes, short}
 use Rattle.xa_fields.proofs.Results.{bind_ok, guard_ok, ok_is}
 use Rattle.xa_frame.specs.declared.fault.FrameFault.{FrameFault}
 use Rattle.xa_frame.specs.declared.fault.FrameFault.TheVariants.{Short, Field}
-use Rattle.xa_frame.specs.Limits.{IsKey, IsValue, IsInfo}
-use Rattle.xa_frame.specs.Spelling.{xids_bytes, detail_byte, detail_bytes, details, detail_numbered}
-use Rattle.xa_frame.specs.Faults.{After, after_bytes, after_info, after_key, after_value, after_direction, after_detail, after_xid, and_then, after_each, after_xids, if_some}
+use Rattle.xa_frame.specs.Limits.{IsKey, IsValue, IsInfo, HoldsCursor}
+use Rattle.xa_frame.specs.Spelling.{counted_bytes, cursor_bytes, code_bytes, detail_byte, detail_bytes, details, detail_numbered}
+use Rattle.xa_frame.specs.Faults.{After, after_bytes, after_info, after_key, after_value, after_direction, after_detail, after_xid, and_then, after_both, after_cursor, after_each, after_counted, if_some}
 use Rattle.xa_frame.specs.Fields.{of_field}
-use Rattle.xa_frame.specs.Reading.{Reads, rest_of, number_at, info_at, key_at, value_at, direction_at, name_at, names_at, xids_at, code_at, detailed, detail_at}
+use Rattle.xa_frame.specs.Reading.{Reads, rest_of, number_at, info_at, key_at, value_at, direction_at, name_at, both_at, field_as, each_at, counted_at, cursor_at, code_at, standing_for, detail_at}
 use Rattle.xa_frame.proofs.Digits.{done, number_takes, number_again, number_fault}
 use Rattle.xa_frame.proofs.FieldFaults.{info_fault, key_fault, value_fault, direction_fault, name_fault}
 
@@ -97,84 +97,175 @@ one_byte {A} spell b bytes x y rest is fits e =
     let made : Takes (b ∷ bytes) (spell x ∷ []) bytes = record { parts = ap (λ (k : ℕ). k ∷ bytes) is; rest_fits = fits } in
     subst (λ (s : List ℕ). Takes (b ∷ bytes) (spell y ∷ []) s) p.1 (subst (λ (z : A). Takes (b ∷ bytes) (spell z ∷ []) bytes) p.0 made)
 
--- ---- XIDs
+-- ---- two fields as one, and what is made of a field
 
-names_take : (n : ℕ) (bytes : List ℕ) (xs : List Triple) (rest : List ℕ) → IsBytes bytes → names_at n bytes ≡ Ok (xs, rest)
-    → Takes bytes (flat_map bytes_of xs) rest × (length xs ≡ n) × AllByRecursion IsWithinLimits xs
-unfolding names_at
-names_take zero bytes xs rest fits e =
-    let p = pair_is [] xs bytes rest e in
-    subst (λ (s : List ℕ). Takes bytes (flat_map bytes_of xs) s × (length xs ≡ 0) × AllByRecursion IsWithinLimits xs) p.1
-    (subst (λ (ys : List Triple). Takes bytes (flat_map bytes_of ys) bytes × (length ys ≡ 0) × AllByRecursion IsWithinLimits ys) p.0 (record { parts = refl; rest_fits = fits }, refl, tt))
-names_take (suc n) bytes xs rest fits e =
-    let a = bind_ok (name_at bytes) (λ first. names_at n first.1 >>= λ others. Ok (first.0 ∷ others.0, others.1)) (xs, rest) e in
-    let b = bind_ok (names_at n a.0.1) (λ others. Ok (a.0.0 ∷ others.0, others.1)) (xs, rest) a.2 in
-    let first = name.takes bytes a.0.0 a.0.1 fits a.1 in
-    let second = names_take n a.0.1 b.0.0 b.0.1 first.0.rest_fits b.1 in
-    let both = Takes-then bytes (bytes_of a.0.0) a.0.1 (flat_map bytes_of b.0.0) b.0.1 first.0 second.0 in
-    let p = pair_is (a.0.0 ∷ b.0.0) xs b.0.1 rest b.2 in
-    subst (λ (s : List ℕ). Takes bytes (flat_map bytes_of xs) s × (length xs ≡ suc n) × AllByRecursion IsWithinLimits xs) p.1
-    (subst (λ (ys : List Triple). Takes bytes (flat_map bytes_of ys) b.0.1 × (length ys ≡ suc n) × AllByRecursion IsWithinLimits ys) p.0 (rw flat_map-cons both, ap suc second.1, (first.1, second.2)))
+rest-made : {A B : Type 0} (make : A → B) (r : Result (A × List ℕ) FrameFault) → rest_of (r >>= λ x. Ok (make x.0, x.1)) ≡ rest_of r
+rest-made make (Ok x) = refl
+rest-made make (Err e) = refl
 
-names_again : (xs : List Triple) (rest : List ℕ) → AllByRecursion IsWithinLimits xs → names_at (length xs) (flat_map bytes_of xs ++ rest) ≡ Ok (xs, rest)
-unfolding names_at
-names_again [] rest h = refl
-names_again (x ∷ xs) rest h =
-    let regrouped : flat_map bytes_of (x ∷ xs) ++ rest ≡ bytes_of x ++ (flat_map bytes_of xs ++ rest) = ap (λ (t : List ℕ). t ++ rest) (flat_map-cons bytes_of x xs) ∙ append_assoc (bytes_of x) (flat_map bytes_of xs) rest in
-    ap (names_at (suc (length xs))) regrouped
-    ∙ ap (λ (r : Result (Triple × List ℕ) FrameFault). r >>= λ first. names_at (length xs) first.1 >>= λ others. Ok (first.0 ∷ others.0, others.1)) (name.again x (flat_map bytes_of xs ++ rest) h.0)
-    ∙ ap (λ (r : Result (List Triple × List ℕ) FrameFault). r >>= λ others. Ok (x ∷ others.0, others.1)) (names_again xs rest h.1)
+rest-both : {A B : Type 0} (r : Result (A × List ℕ) FrameFault) (g : Reads B) (s : Result (List ℕ) FrameFault) (after : After) → rest_of r ≡ s → ((rest : List ℕ) → rest_of (g rest) ≡ after rest)
+    → rest_of {A = A × B} (r >>= λ x. g x.1 >>= λ y. Ok ((x.0, y.0), y.1)) ≡ and_then s after
+rest-both (Ok x) g s after e h = rest-made (λ y. (x.0, y)) (g x.1) ∙ h x.1 ∙ ap (λ t. and_then t after) e
+rest-both (Err d) g s after e h = ap (λ t. and_then t after) e
 
-rest-first : (x : Triple) (r : Result (List Triple × List ℕ) FrameFault) → rest_of (r >>= λ others. Ok (x ∷ others.0, others.1)) ≡ rest_of r
-rest-first x (Ok y) = refl
-rest-first x (Err e) = refl
+both_take : {A B : Type 0} {at : Reads A} {spell : A → List ℕ} {fits : A → Type 0} {after : After} {at' : Reads B} {spell' : B → List ℕ} {fits' : B → Type 0} {after' : After}
+    (F : IsField A at spell fits after) (G : IsField B at' spell' fits' after') (bytes : List ℕ) (x : A × B) (rest : List ℕ) → IsBytes bytes → both_at at at' bytes ≡ Ok (x, rest)
+    → Takes bytes (spell x.0 ++ spell' x.1) rest × (fits x.0 × fits' x.1)
+both_take {A} {B} {at = at} {spell = spell} {fits = fits} {at' = at'} {spell' = spell'} {fits' = fits'} F G bytes x rest small e =
+    let a = bind_ok (at bytes) (λ y. at' y.1 >>= λ z. Ok ((y.0, z.0), z.1)) (x, rest) e in
+    let b = bind_ok (at' a.0.1) (λ z. Ok ((a.0.0, z.0), z.1)) (x, rest) a.2 in
+    let made : A × B = (a.0.0, b.0.0) in
+    let p = pair_is made x b.0.1 rest b.2 in
+    let t = F.takes bytes a.0.0 a.0.1 small a.1 in
+    let u = G.takes a.0.1 b.0.0 b.0.1 t.0.rest_fits b.1 in
+    let both = Takes-then bytes (spell a.0.0) a.0.1 (spell' b.0.0) b.0.1 t.0 u.0 in
+    subst (λ (r : List ℕ). Takes bytes (spell x.0 ++ spell' x.1) r × (fits x.0 × fits' x.1)) p.1
+    (subst (λ (y : A × B). Takes bytes (spell y.0 ++ spell' y.1) b.0.1 × (fits y.0 × fits' y.1)) p.0 (both, (t.1, u.1)))
 
-names_after : (n : ℕ) (r : Result (Triple × List ℕ) FrameFault) (s : Result (List ℕ) FrameFault) → rest_of r ≡ s → ((rest : List ℕ) → rest_of (names_at n rest) ≡ after_each n rest)
-    → rest_of (r >>= λ first. names_at n first.1 >>= λ others. Ok (first.0 ∷ others.0, others.1)) ≡ and_then s (after_each n)
-names_after n (Ok x) s e h = rest-first x.0 (names_at n x.1) ∙ h x.1 ∙ ap (λ t. and_then t (after_each n)) e
-names_after n (Err d) s e h = ap (λ t. and_then t (after_each n)) e
+both_again : {A B : Type 0} {at : Reads A} {spell : A → List ℕ} {fits : A → Type 0} {after : After} {at' : Reads B} {spell' : B → List ℕ} {fits' : B → Type 0} {after' : After}
+    (F : IsField A at spell fits after) (G : IsField B at' spell' fits' after') (x : A × B) (rest : List ℕ) → fits x.0 × fits' x.1 → both_at at at' ((spell x.0 ++ spell' x.1) ++ rest) ≡ Ok (x, rest)
+both_again {A} {B} {at = at} {spell = spell} {at' = at'} {spell' = spell'} F G x rest h =
+    ap (both_at at at') (append_assoc (spell x.0) (spell' x.1) rest)
+    ∙ ap (λ (r : Result (A × List ℕ) FrameFault). r >>= λ y. at' y.1 >>= λ z. Ok ((y.0, z.0), z.1)) (F.again x.0 (spell' x.1 ++ rest) h.0)
+    ∙ ap (λ (r : Result (B × List ℕ) FrameFault). r >>= λ z. Ok ((x.0, z.0), z.1)) (G.again x.1 rest h.1)
 
-names_fault : (n : ℕ) (bytes : List ℕ) → rest_of (names_at n bytes) ≡ after_each n bytes
-unfolding names_at
-names_fault zero bytes = refl
-names_fault (suc n) bytes = names_after n (name_at bytes) (after_xid bytes) (name.fault bytes) (names_fault n)
+pub both : {A B : Type 0} {at : Reads A} {spell : A → List ℕ} {fits : A → Type 0} {after : After} {at' : Reads B} {spell' : B → List ℕ} {fits' : B → Type 0} {after' : After}
+    (F : IsField A at spell fits after) (G : IsField B at' spell' fits' after')
+    → IsField (A × B) (both_at at at') (λ x. spell x.0 ++ spell' x.1) (λ x. fits x.0 × fits' x.1) (after_both after after')
+both {at = at} {after = after} {at' = at'} {after' = after'} F G = record {
+  takes = both_take F G;
+  again = both_again F G;
+  fault = λ bytes. rest-both (at bytes) at' (after bytes) after' (F.fault bytes) G.fault;
+}
 
-pub record AreNames (xs : List Triple) : Type 0 where
+-- what is made of a field, and can be taken apart again
+pub as_made : {A B : Type 0} {at : Reads A} {spell : A → List ℕ} {fits : A → Type 0} {after : After} (make : A → B) (parts : B → A) → ((x : A) → parts (make x) ≡ x) → ((y : B) → make (parts y) ≡ y)
+    → IsField A at spell fits after → IsField B (field_as make at) (λ y. spell (parts y)) (λ y. fits (parts y)) after
+as_made {A} {B} {at = at} {spell = spell} {fits = fits} {after = after} make parts apart whole F = record {
+  takes = λ bytes y rest small e.
+      let b = bind_ok (at bytes) (λ x. Ok (make x.0, x.1)) (y, rest) e in
+      let p = pair_is (make b.0.0) y b.0.1 rest b.2 in
+      let same : b.0.0 ≡ parts y = sym (apart b.0.0) ∙ ap parts p.0 in
+      subst (λ (r : List ℕ). Takes bytes (spell (parts y)) r × fits (parts y)) p.1
+      (subst (λ (x : A). Takes bytes (spell x) b.0.1 × fits x) same (F.takes bytes b.0.0 b.0.1 small b.1));
+  again = λ y rest h.
+      ap (λ (r : Result (A × List ℕ) FrameFault). r >>= λ x. Ok (make x.0, x.1)) (F.again (parts y) rest h) ∙ ap (λ (z : B). Ok (z, rest)) (whole y);
+  fault = λ bytes. rest-made make (at bytes) ∙ F.fault bytes;
+}
+
+-- ---- fields of one sort
+
+module _ {A : Type 0} {at : Reads A} {spell : A → List ℕ} {fits : A → Type 0} {after : After} (F : IsField A at spell fits after) where
+  each_take : (n : ℕ) (bytes : List ℕ) (xs : List A) (rest : List ℕ) → IsBytes bytes → each_at at n bytes ≡ Ok (xs, rest)
+      → Takes bytes (flat_map spell xs) rest × (length xs ≡ n) × AllByRecursion fits xs
+  unfolding each_at
+  each_take zero bytes xs rest small e =
+      let p = pair_is [] xs bytes rest e in
+      subst (λ (s : List ℕ). Takes bytes (flat_map spell xs) s × (length xs ≡ 0) × AllByRecursion fits xs) p.1
+      (subst (λ (ys : List A). Takes bytes (flat_map spell ys) bytes × (length ys ≡ 0) × AllByRecursion fits ys) p.0 (record { parts = refl; rest_fits = small }, refl, tt))
+  each_take (suc n) bytes xs rest small e =
+      let a = bind_ok (at bytes) (λ first. each_at at n first.1 >>= λ others. Ok (first.0 ∷ others.0, others.1)) (xs, rest) e in
+      let b = bind_ok (each_at at n a.0.1) (λ others. Ok (a.0.0 ∷ others.0, others.1)) (xs, rest) a.2 in
+      let first = F.takes bytes a.0.0 a.0.1 small a.1 in
+      let second = each_take n a.0.1 b.0.0 b.0.1 first.0.rest_fits b.1 in
+      let both = Takes-then bytes (spell a.0.0) a.0.1 (flat_map spell b.0.0) b.0.1 first.0 second.0 in
+      let p = pair_is (a.0.0 ∷ b.0.0) xs b.0.1 rest b.2 in
+      subst (λ (s : List ℕ). Takes bytes (flat_map spell xs) s × (length xs ≡ suc n) × AllByRecursion fits xs) p.1
+      (subst (λ (ys : List A). Takes bytes (flat_map spell ys) b.0.1 × (length ys ≡ suc n) × AllByRecursion fits ys) p.0 (rw flat_map-cons both, ap suc second.1, (first.1, second.2)))
+
+  each_again : (xs : List A) (rest : List ℕ) → AllByRecursion fits xs → each_at at (length xs) (flat_map spell xs ++ rest) ≡ Ok (xs, rest)
+  unfolding each_at
+  each_again [] rest h = refl
+  each_again (x ∷ xs) rest h =
+      let regrouped : flat_map spell (x ∷ xs) ++ rest ≡ spell x ++ (flat_map spell xs ++ rest) = ap (λ (t : List ℕ). t ++ rest) (flat_map-cons spell x xs) ∙ append_assoc (spell x) (flat_map spell xs) rest in
+      ap (each_at at (suc (length xs))) regrouped
+      ∙ ap (λ (r : Result (A × List ℕ) FrameFault). r >>= λ first. each_at at (length xs) first.1 >>= λ others. Ok (first.0 ∷ others.0, others.1)) (F.again x (flat_map spell xs ++ rest) h.0)
+      ∙ ap (λ (r : Result (List A × List ℕ) FrameFault). r >>= λ others. Ok (x ∷ others.0, others.1)) (each_again xs rest h.1)
+
+  each_after : (n : ℕ) (r : Result (A × List ℕ) FrameFault) (s : Result (List ℕ) FrameFault) → rest_of r ≡ s → ((rest : List ℕ) → rest_of (each_at at n rest) ≡ after_each after n rest)
+      → rest_of (r >>= λ first. each_at at n first.1 >>= λ others. Ok (first.0 ∷ others.0, others.1)) ≡ and_then s (after_each after n)
+  each_after n (Ok x) s e h = rest-made (λ others. x.0 ∷ others) (each_at at n x.1) ∙ h x.1 ∙ ap (λ t. and_then t (after_each after n)) e
+  each_after n (Err d) s e h = ap (λ t. and_then t (after_each after n)) e
+
+  each_fault : (n : ℕ) (bytes : List ℕ) → rest_of (each_at at n bytes) ≡ after_each after n bytes
+  unfolding each_at
+  each_fault zero bytes = refl
+  each_fault (suc n) bytes = each_after n (at bytes) (after bytes) (F.fault bytes) (each_fault n)
+
+pub record AreFew {A : Type 0} (fits : A → Type 0) (xs : List A) : Type 0 where
   pub few : length xs ≤ 256
-  pub each : AllByRecursion IsWithinLimits xs
+  pub each : AllByRecursion fits xs
 
-xids_take : (bytes : List ℕ) (xs : List Triple) (rest : List ℕ) → IsBytes bytes → xids_at bytes ≡ Ok (xs, rest) → Takes bytes (xids_bytes xs) rest × AreNames xs
-unfolding xids_at
-xids_take bytes xs rest fits e =
-    let b = bind_ok (number_at w16 bytes) (λ n. cond (ltb 256 n.0) (Err Field) (names_at n.0 n.1)) (xs, rest) e in
-    let t = number_takes w16 (2 ^ 16) wide16 bytes b.0.0 b.0.1 fits b.1 in
-    let g = guard_ok (ltb 256 b.0.0) Field (names_at b.0.0 b.0.1) (xs, rest) b.2 in
-    let f = names_take b.0.0 b.0.1 xs rest t.0.rest_fits g.1 in
-    let high : b.0.0 ≤ 256 = ltb-false 256 b.0.0 g.0 in
-    let both = Takes-then bytes (to_be_bytes w16 b.0.0) b.0.1 (flat_map bytes_of xs) rest t.0 f.0 in
-    (subst (λ (k : ℕ). Takes bytes (to_be_bytes w16 k ++ flat_map bytes_of xs) rest) (sym f.1) both, record { few = omega (arith, f.1); each = f.2 })
+module _ {A : Type 0} {at : Reads A} {spell : A → List ℕ} {fits : A → Type 0} {after : After} (F : IsField A at spell fits after) where
+  counted_take : (bytes : List ℕ) (xs : List A) (rest : List ℕ) → IsBytes bytes → counted_at at bytes ≡ Ok (xs, rest) → Takes bytes (counted_bytes spell xs) rest × AreFew fits xs
+  unfolding counted_at
+  counted_take bytes xs rest small e =
+      let b = bind_ok (number_at w16 bytes) (λ n. cond (ltb 256 n.0) (Err Field) (each_at at n.0 n.1)) (xs, rest) e in
+      let t = number_takes w16 (2 ^ 16) wide16 bytes b.0.0 b.0.1 small b.1 in
+      let g = guard_ok (ltb 256 b.0.0) Field (each_at at b.0.0 b.0.1) (xs, rest) b.2 in
+      let f = each_take F b.0.0 b.0.1 xs rest t.0.rest_fits g.1 in
+      let high : b.0.0 ≤ 256 = ltb-false 256 b.0.0 g.0 in
+      let both = Takes-then bytes (to_be_bytes w16 b.0.0) b.0.1 (flat_map spell xs) rest t.0 f.0 in
+      (subst (λ (k : ℕ). Takes bytes (to_be_bytes w16 k ++ flat_map spell xs) rest) (sym f.1) both, record { few = omega (arith, f.1); each = f.2 })
 
-xids_again : (xs : List Triple) (rest : List ℕ) → AreNames xs → xids_at (xids_bytes xs ++ rest) ≡ Ok (xs, rest)
-unfolding xids_at
-xids_again xs rest h =
-    let high : ltb 256 (length xs) ≡ false = le-ltb 256 (length xs) h.few in
-    ap (λ (r : Result (ℕ × List ℕ) FrameFault). r >>= λ n. cond (ltb 256 n.0) (Err Field) (names_at n.0 n.1)) (number_again w16 (2 ^ 16) wide16 (length xs) (flat_map bytes_of xs ++ rest) (omega (arith, h.few)))
-    ∙ rw high (names_again xs rest h.each)
+  counted_again : (xs : List A) (rest : List ℕ) → AreFew fits xs → counted_at at (counted_bytes spell xs ++ rest) ≡ Ok (xs, rest)
+  unfolding counted_at
+  counted_again xs rest h =
+      let high : ltb 256 (length xs) ≡ false = le-ltb 256 (length xs) h.few in
+      ap (λ (r : Result (ℕ × List ℕ) FrameFault). r >>= λ n. cond (ltb 256 n.0) (Err Field) (each_at at n.0 n.1)) (number_again w16 (2 ^ 16) wide16 (length xs) (flat_map spell xs ++ rest) (omega (arith, h.few)))
+      ∙ rw high (each_again F xs rest h.each)
 
-xids_fault : (bytes : List ℕ) → rest_of (xids_at bytes) ≡ after_xids bytes
-unfolding xids_at number_at
-xids_fault bytes =
-    let n = from_be_bytes w16 (take 2 bytes) in
-    rest-number (ltb (length bytes) 2) (n, drop 2 bytes) (λ n. cond (ltb 256 n.0) (Err Field) (names_at n.0 n.1))
-    ∙ ap (λ (r : Result (List ℕ) FrameFault). cond (ltb (length bytes) 2) (Err Short) r) (rest-guard (ltb 256 n) Field (names_at n (drop 2 bytes)) (after_each n (drop 2 bytes)) (names_fault n (drop 2 bytes)))
+  counted_fault : (bytes : List ℕ) → rest_of (counted_at at bytes) ≡ after_counted after bytes
+  unfolding counted_at number_at
+  counted_fault bytes =
+      let n = from_be_bytes w16 (take 2 bytes) in
+      rest-number (ltb (length bytes) 2) (n, drop 2 bytes) (λ n. cond (ltb 256 n.0) (Err Field) (each_at at n.0 n.1))
+      ∙ ap (λ (r : Result (List ℕ) FrameFault). cond (ltb (length bytes) 2) (Err Short) r) (rest-guard (ltb 256 n) Field (each_at at n (drop 2 bytes)) (after_each after n (drop 2 bytes)) (each_fault F n (drop 2 bytes)))
 
-pub xids : IsField (List Triple) xids_at xids_bytes AreNames after_xids
-xids = record { takes = xids_take; again = xids_again; fault = xids_fault }
+  pub counted : IsField (List A) (counted_at at) (counted_bytes spell) (AreFew fits) (after_counted after)
+  counted = record { takes = counted_take; again = counted_again; fault = counted_fault }
+
+-- ---- a cursor
+
+cursor_tested : (n : ℕ) (a b : Bool) (bytes : List ℕ) (x : Option Triple) (rest : List ℕ) → eqb n 0 ≡ a → eqb n 1 ≡ b → IsBytes bytes
+    → cond a (done {A = Option Triple × List ℕ} (None, bytes)) (cond b (field_as (λ (y : Triple). Some y) name_at bytes) (Err Field)) ≡ Ok (x, rest) → Takes (n ∷ bytes) (cursor_bytes x) rest × HoldsCursor x
+cursor_tested n true b bytes x rest g h small e =
+    let p = pair_is None x bytes rest e in
+    let made : Takes (n ∷ bytes) (0 ∷ []) bytes = record { parts = ap (λ (k : ℕ). k ∷ bytes) (eqb_true n 0 g); rest_fits = small } in
+    subst (λ (r : List ℕ). Takes (n ∷ bytes) (cursor_bytes x) r × HoldsCursor x) p.1 (subst (λ (y : Option Triple). Takes (n ∷ bytes) (cursor_bytes y) bytes × HoldsCursor y) p.0 (made, tt))
+cursor_tested n false true bytes x rest g h small e =
+    let b = bind_ok (name_at bytes) (λ y. Ok (Some y.0, y.1)) (x, rest) e in
+    let p = pair_is (Some b.0.0) x b.0.1 rest b.2 in
+    let t = name.takes bytes b.0.0 b.0.1 small b.1 in
+    let whole : n ∷ bytes ≡ (1 ∷ bytes_of b.0.0) ++ b.0.1 = ap (λ (k : ℕ). k ∷ bytes) (eqb_true n 1 h) ∙ ap (λ (s : List ℕ). 1 ∷ s) t.0.parts in
+    let made : Takes (n ∷ bytes) (1 ∷ bytes_of b.0.0) b.0.1 = record { parts = whole; rest_fits = t.0.rest_fits } in
+    subst (λ (r : List ℕ). Takes (n ∷ bytes) (cursor_bytes x) r × HoldsCursor x) p.1 (subst (λ (y : Option Triple). Takes (n ∷ bytes) (cursor_bytes y) b.0.1 × HoldsCursor y) p.0 (made, t.1))
+cursor_tested n false false bytes x rest g h small e = absurd cc
+
+cursor_takes : (bytes : List ℕ) (x : Option Triple) (rest : List ℕ) → IsBytes bytes → cursor_at bytes ≡ Ok (x, rest) → Takes bytes (cursor_bytes x) rest × HoldsCursor x
+unfolding cursor_at
+cursor_takes [] x rest small e = absurd cc
+cursor_takes (n ∷ bytes) x rest small e = cursor_tested n (eqb n 0) (eqb n 1) bytes x rest refl refl (IsBytes-rest n bytes small) e
+
+cursor_again : (x : Option Triple) (rest : List ℕ) → HoldsCursor x → cursor_at (cursor_bytes x ++ rest) ≡ Ok (x, rest)
+unfolding cursor_at
+cursor_again None rest h = refl
+cursor_again (Some xid) rest h = ap (λ (r : Result (Triple × List ℕ) FrameFault). r >>= λ x. Ok (Some x.0, x.1)) (name.again xid rest h)
+
+cursor_kinds : (a b : Bool) (bytes : List ℕ) → rest_of (cond a (done {A = Option Triple × List ℕ} (None, bytes)) (cond b (field_as (λ (y : Triple). Some y) name_at bytes) (Err Field))) ≡ cond a (Ok bytes) (cond b (after_xid bytes) (Err Field))
+cursor_kinds true b bytes = refl
+cursor_kinds false true bytes = rest-made (λ (y : Triple). Some y) (name_at bytes) ∙ name.fault bytes
+cursor_kinds false false bytes = refl
+
+cursor_fault : (bytes : List ℕ) → rest_of (cursor_at bytes) ≡ after_cursor bytes
+unfolding cursor_at
+cursor_fault [] = refl
+cursor_fault (n ∷ bytes) = cursor_kinds (eqb n 0) (eqb n 1) bytes
+
+pub cursor : IsField (Option Triple) cursor_at cursor_bytes HoldsCursor after_cursor
+cursor = record { takes = cursor_takes; again = cursor_again; fault = cursor_fault }
 
 -- ---- codes and details
-
-abbrev pub code_bytes : ℤ → List ℕ
-code_bytes z = to_be_bytes w32 (cast_unsigned w32 z)
 
 unsigned_below : (z : ℤ) → FitsSigned w32 z → cast_unsigned w32 z < 2 ^ 32
 unsigned_below (pos n) h = omega (arith, h.sfits)
@@ -215,14 +306,20 @@ pub found_holds : {A : Type 0} (p : A → Bool) (xs : List A) (x : A) → find p
 found_holds p [] x e = absurd cc
 found_holds p (y ∷ xs) x e = found_first p y (p y) (find p xs) x refl (found_holds p xs x) e
 
-detail_found : (b : ℕ) (o : Option Detail) (bytes : List ℕ) (d : Detail) (rest : List ℕ) → detail_numbered b ≡ o → IsBytes bytes → detailed bytes o ≡ Ok (d, rest) → Takes (b ∷ bytes) (detail_bytes d) rest
-detail_found b None bytes d rest h fits e = absurd cc
-detail_found b (Some x) bytes d rest h fits e = one_byte detail_byte b bytes x d rest (sym (eqb_true (detail_byte x) b (found_holds (λ y. eqb (detail_byte y) b) details x h))) fits e
+-- a byte that stands for a member of a table
+pub byte_found : {A : Type 0} (spell : A → ℕ) (all : List A) (b : ℕ) (o : Option A) (bytes : List ℕ) (y : A) (rest : List ℕ) → find (λ x. eqb (spell x) b) all ≡ o → IsBytes bytes
+    → standing_for o bytes ≡ Ok (y, rest) → Takes (b ∷ bytes) (spell y ∷ []) rest
+byte_found spell all b None bytes y rest h fits e = absurd cc
+byte_found spell all b (Some x) bytes y rest h fits e = one_byte spell b bytes x y rest (sym (eqb_true (spell x) b (found_holds (λ z. eqb (spell z) b) all x h))) fits e
+
+pub standing_fault : {A : Type 0} (o : Option A) (bytes : List ℕ) → rest_of (standing_for o bytes) ≡ if_some o bytes
+standing_fault None bytes = refl
+standing_fault (Some x) bytes = refl
 
 detail_takes : (bytes : List ℕ) (d : Detail) (rest : List ℕ) → IsBytes bytes → detail_at bytes ≡ Ok (d, rest) → Takes bytes (detail_bytes d) rest × Unit {0}
 unfolding detail_at
 detail_takes [] d rest fits e = absurd cc
-detail_takes (b ∷ bytes) d rest fits e = (detail_found b (detail_numbered b) bytes d rest refl (IsBytes-rest b bytes fits) e, tt)
+detail_takes (b ∷ bytes) d rest fits e = (byte_found detail_byte details b (detail_numbered b) bytes d rest refl (IsBytes-rest b bytes fits) e, tt)
 
 detail_again : (d : Detail) (rest : List ℕ) → Unit {0} → detail_at (detail_bytes d ++ rest) ≡ Ok (d, rest)
 unfolding detail_at
@@ -235,14 +332,10 @@ detail_again detail.Limit rest h = refl
 detail_again detail.Frame rest h = refl
 detail_again detail.LogFull rest h = refl
 
-detailed_fault : (bytes : List ℕ) (o : Option Detail) → rest_of (detailed bytes o) ≡ if_some o bytes
-detailed_fault bytes None = refl
-detailed_fault bytes (Some d) = refl
-
 detail_fault : (bytes : List ℕ) → rest_of (detail_at bytes) ≡ after_detail bytes
 unfolding detail_at
 detail_fault [] = refl
-detail_fault (b ∷ bytes) = detailed_fault bytes (detail_numbered b)
+detail_fault (b ∷ bytes) = standing_fault (detail_numbered b) bytes
 
 pub about : IsField Detail detail_at detail_bytes (λ d. Unit {0}) after_detail
 about = record { takes = detail_takes; again = detail_again; fault = detail_fault }

@@ -1,5 +1,5 @@
 -- What is read is a request's content, a request's content is read again, and which fault the others have.
-use Rattle.std.proofs.Common.{◌≡◌, ℕ, ◌≤◌, Bool, true, false, cond, eqb, ltb, List, [], ◌∷◌, ◌++◌, length, Option, Some, None, Result, Ok, Err, refl, sym, ap, subst, ◌∙◌, arith}
+use Rattle.std.proofs.Common.{◌≡◌, ℕ, ◌+◌, ◌≤◌, Bool, true, false, cond, eqb, ltb, List, [], ◌∷◌, ◌++◌, length, Option, Some, None, Result, Ok, Err, refl, sym, ap, subst, ◌∙◌, arith}
 use Rattle.std.specs.Int.{w16, w32, w64, to_be_bytes}
 use Rattle.std.proofs.lemmas.Bool.{le-ltb}
 use Rattle.std.proofs.lemmas.List.{length-append}
@@ -9,18 +9,19 @@ use Rattle.xa_xid.specs.Triple.{Triple, IsWithinLimits}
 use Rattle.xa_xid.specs.Spelling.{bytes_of}
 use Rattle.xa_frame.specs.declared.fault.FrameFault.{FrameFault}
 use Rattle.xa_frame.specs.declared.fault.FrameFault.TheVariants.{Long, Version}
+use Rattle.xa_limits.specs.declared.TheConstants.{MOST_KEY, MOST_VALUE}
 use Rattle.xa_frame.specs.declared.request.Request.{Request}
 use Rattle.xa_frame.specs.declared.request.Request.TheVariants as request
-use Rattle.xa_frame.specs.Limits.{IsRequest, Holds}
+use Rattle.xa_frame.specs.Limits.{IsRequest, Holds, HoldsCursor}
 use Rattle.xa_fields.specs.Spelling.{short_bytes, value_bytes, direction_bytes}
-use Rattle.xa_frame.specs.Spelling.{operation, calls, numbered, call_of, fields_bytes, bytes_of_request, SpellsRequest}
+use Rattle.xa_frame.specs.Spelling.{operation, calls, numbered, call_of, cursor_bytes, fields_bytes, bytes_of_request, SpellsRequest}
 use Rattle.xa_frame.specs.Faults.{After, fault_in, fields, fault_of_fields, fault_of_operation, fault_behind_version, fault_of_request}
 use Rattle.xa_fields.specs.Reading.{◌>>=◌}
-use Rattle.xa_frame.specs.Reading.{Reads, one_of, two_of, made, number_at, info_at, key_at, value_at, direction_at, name_at, fields_at, fields_of, operation_at, behind_version, versioned_at, request_at}
+use Rattle.xa_frame.specs.Reading.{Reads, one_of, two_of, made, number_at, info_at, key_at, value_at, direction_at, name_at, cursor_at, fields_at, fields_of, operation_at, behind_version, versioned_at, request_at}
 use Rattle.xa_bytes.proofs.Digits.{IsBytes, IsBytes-rest}
 use Rattle.xa_fields.proofs.Results.{bind_ok, guard_ok, ok_is}
 use Rattle.xa_frame.proofs.Digits.{done}
-use Rattle.xa_frame.proofs.Readers.{IsField, number32, number64, info, key, value, direction, name, found_holds, eqb_true}
+use Rattle.xa_frame.proofs.Readers.{IsField, number32, number64, info, key, value, direction, name, cursor, found_holds, eqb_true}
 use Rattle.xa_frame.proofs.Whole.{fault_of, ended_is, ended_fault, one_takes, one_again, one_fault, two_takes, two_again, two_fault, made_ok, made_fault}
 
 -- these bytes are the fields of this request, which is of this call
@@ -69,6 +70,7 @@ fields_take call.Restart = λ bytes r small e.
     moved call.Restart [] bytes request.Restart r (record { call = refl; limits = tt; holds = tt; bytes_are = refl }) p.0 p.1
 fields_take call.Timeout = of_one number32 (λ x. request.Timeout x) call.Timeout (λ x h. record { call = refl; limits = tt; holds = h; bytes_are = refl })
 fields_take call.Tick = of_one number64 (λ x. request.Tick x) call.Tick (λ x h. record { call = refl; limits = tt; holds = h; bytes_are = refl })
+fields_take call.Branches = of_two number32 cursor (λ x. request.Branches x.0 x.1) call.Branches (λ x h k. record { call = refl; limits = tt; holds = (h, k); bytes_are = refl })
 
 fields_again : (r : Request) → IsRequest r → Holds r → fields_at (call_of r) (fields_bytes r) ≡ Ok r
 unfolding fields_at
@@ -89,6 +91,7 @@ fields_again (request.Doom xid) h k = ap (made (λ x. request.Doom x)) (one_agai
 fields_again request.Restart h k = refl
 fields_again (request.Timeout seconds) h k = ap (made (λ x. request.Timeout x)) (one_again number32 seconds k)
 fields_again (request.Tick moment) h k = ap (made (λ x. request.Tick x)) (one_again number64 moment k)
+fields_again (request.Branches count after) h k = ap (made (λ x. request.Branches x.0 x.1)) (two_again number32 cursor count after k.0 k.1)
 
 fields_fault : (c : Call) (bytes : List ℕ) → fault_of (fields_at c bytes) ≡ fault_in (fields c) bytes
 unfolding fields_at
@@ -109,6 +112,7 @@ fields_fault call.Doom bytes = made_fault (λ x. request.Doom x) (one_of name_at
 fields_fault call.Restart bytes = ended_fault request.Restart bytes
 fields_fault call.Timeout bytes = made_fault (λ x. request.Timeout x) (one_of (number_at w32) bytes) ∙ one_fault number32 bytes
 fields_fault call.Tick bytes = made_fault (λ x. request.Tick x) (one_of (number_at w64) bytes) ∙ one_fault number64 bytes
+fields_fault call.Branches bytes = made_fault (λ x. request.Branches x.0 x.1) (two_of (number_at w32) cursor_at bytes) ∙ two_fault number32 cursor bytes
 
 -- ---- the operation
 
@@ -130,6 +134,7 @@ numbered_again call.Doom = refl
 numbered_again call.Restart = refl
 numbered_again call.Timeout = refl
 numbered_again call.Tick = refl
+numbered_again call.Branches = refl
 
 record IsOperation (bytes : List ℕ) (r : Request) : Type 0 where
   limits : IsRequest r
@@ -218,7 +223,12 @@ name_short x h = omega (arith, length-append x.gtrid x.bqual, h.lengths.2, h.len
 flagged_short : (flags : ℕ) (x : Triple) → IsWithinLimits x → length (to_be_bytes w32 flags ++ bytes_of x) ≤ 138
 flagged_short flags x h = omega (arith, name_short x h, length-append (to_be_bytes w32 flags) (bytes_of x))
 
-fields_short : (r : Request) → IsRequest r → Holds r → length (fields_bytes r) ≤ 1100
+cursor_short : (x : Option Triple) → HoldsCursor x → length (cursor_bytes x) ≤ 135
+cursor_short None h = omega arith
+cursor_short (Some xid) h = omega (arith, name_short xid h)
+
+-- none has longer fields than a Put
+fields_short : (r : Request) → IsRequest r → Holds r → length (fields_bytes r) ≤ 1 + MOST_KEY + 2 + MOST_VALUE
 fields_short (request.Open flags bytes) h k = omega (arith, h, length-append (to_be_bytes w32 flags) (short_bytes bytes))
 fields_short (request.Close flags) h k = omega arith
 fields_short (request.Start flags xid) h k = omega (arith, flagged_short flags xid k.1)
@@ -236,6 +246,7 @@ fields_short (request.Doom xid) h k = omega (arith, name_short xid k)
 fields_short request.Restart h k = omega arith
 fields_short (request.Timeout seconds) h k = omega arith
 fields_short (request.Tick moment) h k = omega arith
+fields_short (request.Branches count after) h k = omega (arith, cursor_short after k.1, length-append (to_be_bytes w32 count) (cursor_bytes after))
 
 pub request_takes : (bytes : List ℕ) (r : Request) → IsBytes bytes → request_at bytes ≡ Ok r → SpellsRequest bytes r
 unfolding request_at

@@ -3,13 +3,13 @@ use Rattle.std.proofs.Common.{◌≡◌, ℕ, zero, suc, Bool, true, false, cond
 use Rattle.std.specs.Int.{w16, from_be_bytes}
 use Rattle.xa_codes.specs.declared.call.Call.{Call}
 use Rattle.xa_codes.specs.declared.call.Call.TheVariants as call
-use Rattle.xa_codes.specs.declared.detail.Detail.{Detail}
 use Rattle.xa_xid.specs.Triple.{Triple}
 use Rattle.xa_xid.specs.Reading.{xid_at}
+use Rattle.xa_limits.specs.declared.TheConstants.{MOST_VALUE}
 use Rattle.xa_frame.specs.declared.fault.FrameFault.{FrameFault}
 use Rattle.xa_frame.specs.declared.fault.FrameFault.TheVariants.{Short, Long, Version, Field, Trailing, Memory}
-use Rattle.xa_frame.specs.Spelling.{numbered, detail_numbered}
-use Rattle.xa_frame.specs.Faults.{After, after_bytes, after_info, after_key, after_value, after_direction, after_detail, behind, after_xid, and_then, after_each, after_xids, if_some, after_body, go_on, fault_in, fields, fault_of_fields, fault_of_operation, fault_behind_version, fault_unless_long, fault_of_request, fault_of_reply}
+use Rattle.xa_frame.specs.Spelling.{numbered, detail_numbered, state_numbered}
+use Rattle.xa_frame.specs.Faults.{After, after_bytes, after_info, after_key, after_value, after_direction, after_detail, behind, after_xid, and_then, after_both, after_cursor, after_state, after_counts, after_branch, after_each, after_counted, if_some, after_body, go_on, fault_in, fields, fault_of_fields, fault_of_operation, fault_behind_version, fault_unless_long, fault_of_request, fault_of_reply}
 
 abbrev IsSound : Result (List ℕ) FrameFault → Type 0
 IsSound r = r ≡ Err Memory → ⊥
@@ -44,16 +44,16 @@ sound_key (n ∷ rest) = either (eqb n 0 || ltb 64 n) (Err Field) (after_bytes n
 sound_value : AreSound after_value
 sound_value bytes =
     let n = from_be_bytes w16 (take 2 bytes) in
-    either (ltb (length bytes) 2) (Err Short) (cond (ltb 1024 n) (Err Field) (after_bytes n (drop 2 bytes))) short
-    (either (ltb 1024 n) (Err Field) (after_bytes n (drop 2 bytes)) field (sound_bytes n (drop 2 bytes)))
+    either (ltb (length bytes) 2) (Err Short) (cond (ltb MOST_VALUE n) (Err Field) (after_bytes n (drop 2 bytes))) short
+    (either (ltb MOST_VALUE n) (Err Field) (after_bytes n (drop 2 bytes)) field (sound_bytes n (drop 2 bytes)))
 
 sound_direction : AreSound after_direction
 sound_direction [] = short
 sound_direction (b ∷ rest) = either (eqb b 1 || eqb b 2) (Ok rest) (Err Field) (ok rest) field
 
-sound_some : (o : Option Detail) (rest : List ℕ) → IsSound (if_some o rest)
+sound_some : {A : Type 0} (o : Option A) (rest : List ℕ) → IsSound (if_some o rest)
 sound_some None rest = field
-sound_some (Some d) rest = ok rest
+sound_some (Some x) rest = ok rest
 
 sound_detail : AreSound after_detail
 sound_detail [] = short
@@ -70,27 +70,50 @@ sound_then : (r : Result (List ℕ) FrameFault) (f : After) → IsSound r → Ar
 sound_then (Ok rest) f h k = k rest
 sound_then (Err e) f h k = h
 
-sound_each : (n : ℕ) → AreSound (after_each n)
-sound_each zero bytes = ok bytes
-sound_each (suc n) bytes = sound_then (after_xid bytes) (after_each n) (sound_xid bytes) (sound_each n)
+sound_both : (first second : After) → AreSound first → AreSound second → AreSound (after_both first second)
+sound_both first second h k bytes = sound_then (first bytes) second (h bytes) k
 
-sound_xids : AreSound after_xids
-sound_xids bytes =
+sound_cursor : AreSound after_cursor
+sound_cursor [] = short
+sound_cursor (b ∷ rest) = either (eqb b 0) (Ok rest) (cond (eqb b 1) (after_xid rest) (Err Field)) (ok rest) (either (eqb b 1) (after_xid rest) (Err Field) (sound_xid rest) field)
+
+sound_state : AreSound after_state
+sound_state [] = short
+sound_state (b ∷ rest) = sound_some (state_numbered b) rest
+
+sound_counts : AreSound after_counts
+sound_counts = sound_both (after_bytes 2) (after_both (after_bytes 2) (after_bytes 2)) (sound_bytes 2) (sound_both (after_bytes 2) (after_bytes 2) (sound_bytes 2) (sound_bytes 2))
+
+sound_branch : AreSound after_branch
+sound_branch =
+    sound_both after_xid (after_both after_state (after_both (after_bytes 4) (after_both (after_bytes 8) after_counts))) sound_xid
+    (sound_both after_state (after_both (after_bytes 4) (after_both (after_bytes 8) after_counts)) sound_state
+    (sound_both (after_bytes 4) (after_both (after_bytes 8) after_counts) (sound_bytes 4) (sound_both (after_bytes 8) after_counts (sound_bytes 8) sound_counts)))
+
+sound_each : (after : After) → AreSound after → (n : ℕ) → AreSound (after_each after n)
+sound_each after h zero bytes = ok bytes
+sound_each after h (suc n) bytes = sound_then (after bytes) (after_each after n) (h bytes) (sound_each after h n)
+
+sound_counted : (after : After) → AreSound after → AreSound (after_counted after)
+sound_counted after h bytes =
     let n = from_be_bytes w16 (take 2 bytes) in
-    either (ltb (length bytes) 2) (Err Short) (cond (ltb 256 n) (Err Field) (after_each n (drop 2 bytes))) short
-    (either (ltb 256 n) (Err Field) (after_each n (drop 2 bytes)) field (sound_each n (drop 2 bytes)))
+    either (ltb (length bytes) 2) (Err Short) (cond (ltb 256 n) (Err Field) (after_each after n (drop 2 bytes))) short
+    (either (ltb 256 n) (Err Field) (after_each after n (drop 2 bytes)) field (sound_each after h n (drop 2 bytes)))
 
-sound_kinds : (a b c d e : Bool) (rest : List ℕ) → IsSound (cond a (Ok rest) (cond b (after_bytes 8 rest) (cond c (after_value rest) (cond d (Ok rest) (cond e (after_xids rest) (Err Field))))))
-sound_kinds true b c d e rest = ok rest
-sound_kinds false true c d e rest = sound_bytes 8 rest
-sound_kinds false false true d e rest = sound_value rest
-sound_kinds false false false true e rest = ok rest
-sound_kinds false false false false true rest = sound_xids rest
-sound_kinds false false false false false rest = field
+sound_kinds : (a b c d e f : Bool) (rest : List ℕ)
+    → IsSound (cond a (Ok rest) (cond b (after_bytes 8 rest) (cond c (after_value rest) (cond d (Ok rest)
+    (cond e (after_counted after_xid rest) (cond f (after_counted after_branch rest) (Err Field)))))))
+sound_kinds true b c d e f rest = ok rest
+sound_kinds false true c d e f rest = sound_bytes 8 rest
+sound_kinds false false true d e f rest = sound_value rest
+sound_kinds false false false true e f rest = ok rest
+sound_kinds false false false false true f rest = sound_counted after_xid sound_xid rest
+sound_kinds false false false false false true rest = sound_counted after_branch sound_branch rest
+sound_kinds false false false false false false rest = field
 
 sound_body : AreSound after_body
 sound_body [] = short
-sound_body (kind ∷ rest) = sound_kinds (eqb kind 0) (eqb kind 1) (eqb kind 2) (eqb kind 3) (eqb kind 4) rest
+sound_body (kind ∷ rest) = sound_kinds (eqb kind 0) (eqb kind 1) (eqb kind 2) (eqb kind 3) (eqb kind 4) (eqb kind 5) rest
 
 -- ---- fields one after another
 
@@ -137,6 +160,7 @@ each call.Doom = (sound_xid, tt)
 each call.Restart = tt
 each call.Timeout = (sound_bytes 4, tt)
 each call.Tick = (sound_bytes 8, tt)
+each call.Branches = (sound_bytes 4, (sound_cursor, tt))
 
 of_call : (o : Option Call) (bytes : List ℕ) → IsNoMemory (fault_of_fields o bytes)
 of_call None bytes = λ e. absurd cc

@@ -8,7 +8,7 @@ use Rattle.xa_xid.specs.Triple.{Triple}
 use Rattle.xa_xid.specs.Reading.{xid_at}
 use Rattle.xa_frame.specs.declared.fault.FrameFault.{FrameFault}
 use Rattle.xa_frame.specs.declared.fault.FrameFault.TheVariants.{Short, Long, Version, Operation, Field, Trailing}
-use Rattle.xa_frame.specs.Spelling.{numbered, detail_numbered}
+use Rattle.xa_frame.specs.Spelling.{numbered, detail_numbered, state_numbered}
 
 -- What stands behind a field, or the field's fault.
 abbrev pub After : Type 0
@@ -60,19 +60,42 @@ abbrev pub and_then : Result (List ℕ) FrameFault → After → Result (List �
 and_then (Ok rest) f = f rest
 and_then (Err e) f = Err e
 
--- so many XIDs
-abbrev pub after_each : ℕ → After
-after_each zero bytes = Ok bytes
-after_each (suc n) bytes = and_then (after_xid bytes) (after_each n)
+-- one field, and another
+abbrev pub after_both : After → After → After
+after_both first second bytes = and_then (first bytes) second
 
--- a count of two bytes, at most MOST_XIDS, and so many XIDs
-abbrev pub after_xids : After
-after_xids bytes =
+-- 0, or 1 and an XID
+abbrev pub after_cursor : After
+after_cursor [] = Err Short
+after_cursor (b ∷ rest) = if b == 0 then Ok rest else if b == 1 then after_xid rest else Err Field
+
+-- one byte, a state's
+abbrev pub after_state : After
+after_state [] = Err Short
+after_state (b ∷ rest) = if_some (state_numbered b) rest
+
+-- three counts
+abbrev pub after_counts : After
+after_counts = after_both (after_bytes 2) (after_both (after_bytes 2) (after_bytes 2))
+
+-- a known branch: XID, state, mark, timestamp, counts
+abbrev pub after_branch : After
+after_branch =
+    after_both after_xid (after_both after_state (after_both (after_bytes 4) (after_both (after_bytes 8) after_counts)))
+
+-- so many of them
+abbrev pub after_each : After → ℕ → After
+after_each after zero bytes = Ok bytes
+after_each after (suc n) bytes = and_then (after bytes) (after_each after n)
+
+-- a count of two bytes, at most MOST_XIDS, and so many of them
+abbrev pub after_counted : After → After
+after_counted after bytes =
     if nat_lt (length bytes) 2 then Err Short
     else if nat_lt MOST_XIDS (from_be_bytes w16 (take 2 bytes)) then Err Field
-    else after_each (from_be_bytes w16 (take 2 bytes)) (drop 2 bytes)
+    else after_each after (from_be_bytes w16 (take 2 bytes)) (drop 2 bytes)
 
--- a kind of 0 to 4, and what it carries
+-- a kind of 0 to 5, and what it carries
 abbrev pub after_body : After
 after_body [] = Err Short
 after_body (kind ∷ rest) =
@@ -80,7 +103,8 @@ after_body (kind ∷ rest) =
     else if kind == 1 then after_bytes 8 rest
     else if kind == 2 then after_value rest
     else if kind == 3 then Ok rest
-    else if kind == 4 then after_xids rest
+    else if kind == 4 then after_counted after_xid rest
+    else if kind == 5 then after_counted after_branch rest
     else Err Field
 
 abbrev pub go_on : Result (List ℕ) FrameFault → (List ℕ → Option FrameFault) → Option FrameFault
@@ -111,6 +135,7 @@ fields call.Doom = after_xid ∷ []
 fields call.Restart = []
 fields call.Timeout = after_bytes 4 ∷ []
 fields call.Tick = after_bytes 8 ∷ []
+fields call.Branches = after_bytes 4 ∷ after_cursor ∷ []
 
 abbrev pub fault_of_fields : Option Call → List ℕ → Option FrameFault
 fault_of_fields None bytes = Some Operation

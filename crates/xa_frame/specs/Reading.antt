@@ -12,6 +12,9 @@ use Rattle.xa_fields.specs.Reading as fields
 use Rattle.xa_fields.specs.Reading.{◌>>=◌}
 use Rattle.xa_frame.specs.declared.request.Request.{Request}
 use Rattle.xa_frame.specs.declared.request.Request.TheVariants as request
+use Rattle.xa_frame.specs.declared.known_branch.AssociationCounts.{AssociationCounts}
+use Rattle.xa_frame.specs.declared.known_branch.BranchState.{BranchState}
+use Rattle.xa_frame.specs.declared.known_branch.KnownBranch.{KnownBranch}
 use Rattle.xa_frame.specs.declared.body.Body.{Body}
 use Rattle.xa_frame.specs.declared.body.Body.TheVariants as body
 use Rattle.xa_frame.specs.declared.reply.Reply.{Reply}
@@ -19,7 +22,7 @@ use Rattle.xa_frame.specs.declared.fault.FrameFault.{FrameFault}
 use Rattle.xa_frame.specs.declared.fault.FrameFault.TheVariants.{Short, Long, Version, Operation, Field, Trailing}
 use Rattle.xa_limits.specs.declared.TheConstants.{MOST_CONTENT, MOST_XIDS}
 use Rattle.xa_frame.specs.Fields.{of_field}
-use Rattle.xa_frame.specs.Spelling.{numbered, detail_numbered}
+use Rattle.xa_frame.specs.Spelling.{numbered, detail_numbered, state_numbered}
 
 abbrev pub Reads : Type 0 → Type 0
 Reads A = List ℕ → Result (A × List ℕ) FrameFault
@@ -67,18 +70,38 @@ direction_at bytes = of_field (fields.direction_at bytes)
 abbrev pub name_at : Reads Triple
 name_at bytes = of_field (fields.name_at bytes)
 
--- so many XIDs
-unfoldable pub names_at : ℕ → Reads (List Triple)
-names_at zero bytes = Ok ([], bytes)
-names_at (suc n) bytes = do
-  first ← name_at bytes
-  others ← names_at n first.1
+-- one field, and another
+abbrev pub both_at : {A B : Type 0} → Reads A → Reads B → Reads (A × B)
+both_at f g bytes = do
+  x ← f bytes
+  y ← g x.1
+  Ok ((x.0, y.0), y.1)
+
+-- a field, as what is made of it
+abbrev pub field_as : {A B : Type 0} → (A → B) → Reads A → Reads B
+field_as make f bytes = do
+  x ← f bytes
+  Ok (make x.0, x.1)
+
+-- so many of them
+unfoldable pub each_at : {A : Type 0} → Reads A → ℕ → Reads (List A)
+each_at f zero bytes = Ok ([], bytes)
+each_at f (suc n) bytes = do
+  first ← f bytes
+  others ← each_at f n first.1
   Ok (first.0 ∷ others.0, others.1)
 
-unfoldable pub xids_at : Reads (List Triple)
-xids_at bytes = do
+-- at most MOST_XIDS of them, after how many they are
+unfoldable pub counted_at : {A : Type 0} → Reads A → Reads (List A)
+counted_at f bytes = do
   n ← number_at w16 bytes
-  if nat_lt MOST_XIDS n.0 then Err Field else names_at n.0 n.1
+  if nat_lt MOST_XIDS n.0 then Err Field else each_at f n.0 n.1
+
+-- an XID, or none
+unfoldable pub cursor_at : Reads (Option Triple)
+cursor_at [] = Err Short
+cursor_at (b ∷ rest) =
+    if b == 0 then Ok (None, rest) else if b == 1 then field_as (λ xid. Some xid) name_at rest else Err Field
 
 abbrev pub made : {A B : Type 0} → (A → B) → Result A FrameFault → Result B FrameFault
 made f (Ok x) = Ok (f x)
@@ -112,6 +135,7 @@ fields_at call.Doom bytes = made (λ x. request.Doom x) (one_of name_at bytes)
 fields_at call.Restart bytes = ended request.Restart bytes
 fields_at call.Timeout bytes = made (λ x. request.Timeout x) (one_of (number_at w32) bytes)
 fields_at call.Tick bytes = made (λ x. request.Tick x) (one_of (number_at w64) bytes)
+fields_at call.Branches bytes = made (λ x. request.Branches x.0 x.1) (two_of (number_at w32) cursor_at bytes)
 
 abbrev pub fields_of : Option Call → List ℕ → Result Request FrameFault
 fields_of None bytes = Err Operation
@@ -140,13 +164,38 @@ code_at bytes = do
   n ← number_at w32 bytes
   Ok (cast_signed w32 n.0, n.1)
 
-abbrev pub detailed : List ℕ → Option Detail → Result (Detail × List ℕ) FrameFault
-detailed bytes None = Err Field
-detailed bytes (Some d) = Ok (d, bytes)
+-- what a byte stands for, if anything, and the bytes after it
+abbrev pub standing_for : {A : Type 0} → Option A → List ℕ → Result (A × List ℕ) FrameFault
+standing_for None bytes = Err Field
+standing_for (Some x) bytes = Ok (x, bytes)
 
 unfoldable pub detail_at : Reads Detail
 detail_at [] = Err Short
-detail_at (b ∷ rest) = detailed rest (detail_numbered b)
+detail_at (b ∷ rest) = standing_for (detail_numbered b) rest
+
+-- Known branches
+
+unfoldable pub state_at : Reads BranchState
+state_at [] = Err Short
+state_at (b ∷ rest) = standing_for (state_numbered b) rest
+
+abbrev pub counts_of : ℕ × (ℕ × ℕ) → AssociationCounts
+counts_of x = record { active = x.0; suspended = x.1.0; loose = x.1.1 }
+
+unfoldable pub counts_at : Reads AssociationCounts
+counts_at = field_as counts_of (both_at (number_at w16) (both_at (number_at w16) (number_at w16)))
+
+abbrev pub branch_of : Triple × (BranchState × (ℤ × (ℕ × AssociationCounts))) → KnownBranch
+branch_of x = record {
+  xid = x.0;
+  state = x.1.0;
+  mark = x.1.1.0;
+  timestamp = x.1.1.1.0;
+  associations = x.1.1.1.1;
+}
+
+unfoldable pub branch_at : Reads KnownBranch
+branch_at = field_as branch_of (both_at name_at (both_at state_at (both_at code_at (both_at (number_at w64) counts_at))))
 
 -- the body that is all of the bytes
 unfoldable pub body_at : List ℕ → Result Body FrameFault
@@ -156,7 +205,8 @@ body_at (kind ∷ rest) =
     else if kind == 1 then made (λ x. body.Number x) (one_of (number_at w64) rest)
     else if kind == 2 then made (λ x. body.Value x) (one_of value_at rest)
     else if kind == 3 then ended body.Absent rest
-    else if kind == 4 then made (λ x. body.Xids x) (one_of xids_at rest)
+    else if kind == 4 then made (λ x. body.Xids x) (one_of (counted_at name_at) rest)
+    else if kind == 5 then made (λ x. body.Branches x) (one_of (counted_at branch_at) rest)
     else Err Field
 
 unfoldable pub answer_at : List ℕ → Result Reply FrameFault

@@ -1,19 +1,22 @@
 -- Worked contents: the numbers in them, how some requests and replies are spelled, and which fault some bytes have.
-use Rattle.std.specs.Prelude.{◌≡◌, ℕ, pos, List, [], ◌∷◌, map, Some, None}
+use Rattle.std.specs.Prelude.{◌≡◌, ℕ, pos, negsuc, List, [], ◌∷◌, ◌++◌, map, take, Some, None}
 use Rattle.xa_codes.specs.declared.call.Call.TheVariants as call
 use Rattle.xa_codes.specs.declared.detail.Detail.TheVariants as detail
 use Rattle.xa_codes.specs.declared.direction.Direction.TheVariants as direction
 use Rattle.xa_xid.specs.Triple.{Triple}
 use Rattle.xa_fields.specs.Spelling.{direction_byte}
-use Rattle.xa_frame.specs.declared.request.Request.TheVariants.{Start, Timeout, Tick}
+use Rattle.xa_frame.specs.declared.request.Request.TheVariants.{Start, Timeout, Tick, Branches}
 use Rattle.xa_frame.specs.declared.body.Body.TheVariants as body
+use Rattle.xa_frame.specs.declared.known_branch.BranchState.TheVariants as state
+use Rattle.xa_frame.specs.declared.known_branch.KnownBranch.{KnownBranch}
 use Rattle.xa_frame.specs.declared.reply.Reply.{Reply}
 use Rattle.xa_frame.specs.declared.fault.FrameFault.TheVariants.{Short, Version, Operation, Field, Trailing}
-use Rattle.xa_frame.specs.Spelling.{operation, numbered, detail_byte, detail_numbered, bytes_of_request, bytes_of_reply}
+use Rattle.xa_frame.specs.Spelling.{operation, numbered, detail_byte, detail_numbered, state_byte, state_numbered}
+use Rattle.xa_frame.specs.Spelling.{bytes_of_request, bytes_of_reply}
 use Rattle.xa_frame.specs.Faults.{fault_of_request, fault_of_reply}
 use Rattle.xa_frame.specs.Made.{bad_frame}
 
--- the numbers of the operations, the details and the directions, and numbers that none has
+-- the numbers of the operations, the details, the directions and the states, and numbers that none has
 abbrev pub HasNumbers : Type 0
 HasNumbers =
     (map operation
@@ -21,15 +24,18 @@ HasNumbers =
     ≡ 1 ∷ 2 ∷ 3 ∷ 4 ∷ 5 ∷ 6 ∷ 7 ∷ 8 ∷ [])
     × (map operation
     (call.Forget ∷ call.Get ∷ call.Put ∷ call.Delete ∷ call.Decide ∷ call.Doom ∷ call.Restart ∷ call.Timeout ∷ call.Tick
-    ∷ [])
-    ≡ 9 ∷ 10 ∷ 11 ∷ 12 ∷ 13 ∷ 14 ∷ 15 ∷ 16 ∷ 17 ∷ [])
-    × (map numbered (0 ∷ 1 ∷ 17 ∷ 18 ∷ []) ≡ None ∷ Some call.Open ∷ Some call.Tick ∷ None ∷ [])
+    ∷ call.Branches ∷ [])
+    ≡ 9 ∷ 10 ∷ 11 ∷ 12 ∷ 13 ∷ 14 ∷ 15 ∷ 16 ∷ 17 ∷ 66 ∷ [])
+    × (map numbered (0 ∷ 1 ∷ 17 ∷ 18 ∷ 65 ∷ 66 ∷ 67 ∷ [])
+    ≡ None ∷ Some call.Open ∷ Some call.Tick ∷ None ∷ None ∷ Some call.Branches ∷ None ∷ [])
     × (map detail_byte
     (detail.Nothing ∷ detail.Memory ∷ detail.Device ∷ detail.Busy ∷ detail.Late ∷ detail.Limit ∷ detail.Frame
     ∷ detail.LogFull ∷ [])
     ≡ 0 ∷ 1 ∷ 2 ∷ 3 ∷ 4 ∷ 5 ∷ 6 ∷ 7 ∷ [])
     × (map detail_numbered (0 ∷ 7 ∷ 8 ∷ []) ≡ Some detail.Nothing ∷ Some detail.LogFull ∷ None ∷ [])
     × (map direction_byte (direction.Commit ∷ direction.Rollback ∷ []) ≡ 1 ∷ 2 ∷ [])
+    × (map state_byte (state.Working ∷ state.Prepared ∷ state.Committed ∷ state.RolledBack ∷ []) ≡ 1 ∷ 2 ∷ 3 ∷ 4 ∷ [])
+    × (map state_numbered (0 ∷ 1 ∷ 4 ∷ 5 ∷ []) ≡ None ∷ Some state.Working ∷ Some state.RolledBack ∷ None ∷ [])
 
 -- 1:aa:bb
 abbrev pub branch : Triple
@@ -39,11 +45,53 @@ branch = record { format = pos 1; gtrid = 170 ∷ []; bqual = 187 ∷ [] }
 abbrev pub begun : Reply
 begun = record { code = pos 0; detail = detail.Nothing; place = 3; body = body.Number 4294967297 }
 
+-- 1:aa:bb is at work, with mark 101, timestamp 4,294,967,297, one active association and two loose ones; the operator
+-- rolled -2:aa: back
+abbrev pub known : List KnownBranch
+known =
+    record {
+      xid = branch;
+      state = state.Working;
+      mark = pos 101;
+      timestamp = 4294967297;
+      associations = record { active = 1; suspended = 0; loose = 2 };
+    }
+    ∷ record {
+      xid = record { format = negsuc 1; gtrid = 170 ∷ []; bqual = [] };
+      state = state.RolledBack;
+      mark = pos 0;
+      timestamp = 0;
+      associations = record { active = 0; suspended = 0; loose = 0 };
+    }
+    ∷ []
+
+abbrev pub listed : Reply
+listed = record { code = pos 0; detail = detail.Nothing; place = 3; body = body.Branches known }
+
 abbrev pub start_bytes : List ℕ
 start_bytes = 1 ∷ 3 ∷ 0 ∷ 0 ∷ 0 ∷ 0 ∷ 0 ∷ 0 ∷ 0 ∷ 1 ∷ 1 ∷ 1 ∷ 170 ∷ 187 ∷ []
 
 abbrev pub begun_bytes : List ℕ
 begun_bytes = 1 ∷ 0 ∷ 0 ∷ 0 ∷ 0 ∷ 0 ∷ 0 ∷ 0 ∷ 0 ∷ 0 ∷ 0 ∷ 0 ∷ 0 ∷ 3 ∷ 1 ∷ 0 ∷ 0 ∷ 0 ∷ 1 ∷ 0 ∷ 0 ∷ 0 ∷ 1 ∷ []
+
+-- up to the kind of the body
+abbrev pub front_bytes : List ℕ
+front_bytes = 1 ∷ 0 ∷ 0 ∷ 0 ∷ 0 ∷ 0 ∷ 0 ∷ 0 ∷ 0 ∷ 0 ∷ 0 ∷ 0 ∷ 0 ∷ 3 ∷ []
+
+-- the first of them
+abbrev pub working_bytes : List ℕ
+working_bytes =
+    0 ∷ 0 ∷ 0 ∷ 1 ∷ 1 ∷ 1 ∷ 170 ∷ 187 ∷ 1 ∷ 0 ∷ 0 ∷ 0 ∷ 101 ∷ 0 ∷ 0 ∷ 0 ∷ 1 ∷ 0 ∷ 0 ∷ 0 ∷ 1 ∷ 0 ∷ 1 ∷ 0 ∷ 0 ∷ 0
+    ∷ 2 ∷ []
+
+-- the second
+abbrev pub rolled_back_bytes : List ℕ
+rolled_back_bytes =
+    255 ∷ 255 ∷ 255 ∷ 254 ∷ 1 ∷ 0 ∷ 170 ∷ 4 ∷ 0 ∷ 0 ∷ 0 ∷ 0 ∷ 0 ∷ 0 ∷ 0 ∷ 0 ∷ 0 ∷ 0 ∷ 0 ∷ 0 ∷ 0 ∷ 0 ∷ 0 ∷ 0 ∷ 0
+    ∷ 0 ∷ []
+
+abbrev pub listed_bytes : List ℕ
+listed_bytes = front_bytes ++ 5 ∷ 0 ∷ 2 ∷ working_bytes ++ rolled_back_bytes
 
 abbrev pub bad_frame_bytes : List ℕ
 bad_frame_bytes = 1 ∷ 255 ∷ 255 ∷ 255 ∷ 251 ∷ 6 ∷ 0 ∷ 0 ∷ 0 ∷ 0 ∷ 0 ∷ 0 ∷ 0 ∷ 0 ∷ 0 ∷ []
@@ -54,7 +102,12 @@ SpelledSo =
     -- a limit of 10 seconds, and the moment 4,294,967,297
     × (bytes_of_request (Timeout 10) ≡ 1 ∷ 16 ∷ 0 ∷ 0 ∷ 0 ∷ 10 ∷ [])
     × (bytes_of_request (Tick 4294967297) ≡ 1 ∷ 17 ∷ 0 ∷ 0 ∷ 0 ∷ 1 ∷ 0 ∷ 0 ∷ 0 ∷ 1 ∷ [])
+    -- 256 of all branches, and one above 1:aa:bb
+    × (bytes_of_request (Branches 256 None) ≡ 1 ∷ 66 ∷ 0 ∷ 0 ∷ 1 ∷ 0 ∷ 0 ∷ [])
+    × (bytes_of_request (Branches 1 (Some branch))
+    ≡ 1 ∷ 66 ∷ 0 ∷ 0 ∷ 0 ∷ 1 ∷ 1 ∷ 0 ∷ 0 ∷ 0 ∷ 1 ∷ 1 ∷ 1 ∷ 170 ∷ 187 ∷ [])
     × (bytes_of_reply begun ≡ begun_bytes)
+    × (bytes_of_reply listed ≡ listed_bytes)
     × (bytes_of_reply bad_frame ≡ bad_frame_bytes)
 
 abbrev pub FaultyRequests : Type 0
@@ -64,9 +117,11 @@ FaultyRequests =
     × (fault_of_request [] ≡ Some Short)
     × (fault_of_request (2 ∷ []) ≡ Some Version)
     × (fault_of_request (1 ∷ []) ≡ Some Short)
-    -- operations 0, 18 and 255, a byte behind a restart
+    -- operations 0, 18, 65, 67 and 255, a byte behind a restart
     × (fault_of_request (1 ∷ 0 ∷ []) ≡ Some Operation)
     × (fault_of_request (1 ∷ 18 ∷ []) ≡ Some Operation)
+    × (fault_of_request (1 ∷ 65 ∷ []) ≡ Some Operation)
+    × (fault_of_request (1 ∷ 67 ∷ []) ≡ Some Operation)
     × (fault_of_request (1 ∷ 255 ∷ []) ≡ Some Operation)
     × (fault_of_request (1 ∷ 15 ∷ 0 ∷ []) ≡ Some Trailing)
     -- a doom without an XID, a decision with direction 0, and without one
@@ -81,11 +136,33 @@ FaultyRequests =
     × (fault_of_request (1 ∷ 16 ∷ 0 ∷ 0 ∷ 0 ∷ []) ≡ Some Short)
     × (fault_of_request (1 ∷ 17 ∷ 0 ∷ 0 ∷ 0 ∷ 10 ∷ []) ≡ Some Short)
     × (fault_of_request (1 ∷ 17 ∷ 0 ∷ 0 ∷ 0 ∷ 0 ∷ 0 ∷ 0 ∷ 0 ∷ 10 ∷ 0 ∷ []) ≡ Some Trailing)
+    -- of branches: a count that is cut, no word on a cursor, one that is neither, an XID that is cut, and a byte behind
+    × (fault_of_request (1 ∷ 66 ∷ 0 ∷ 0 ∷ 1 ∷ []) ≡ Some Short)
+    × (fault_of_request (1 ∷ 66 ∷ 0 ∷ 0 ∷ 1 ∷ 0 ∷ []) ≡ Some Short)
+    × (fault_of_request (1 ∷ 66 ∷ 0 ∷ 0 ∷ 1 ∷ 0 ∷ 2 ∷ []) ≡ Some Field)
+    × (fault_of_request (1 ∷ 66 ∷ 0 ∷ 0 ∷ 1 ∷ 0 ∷ 1 ∷ 0 ∷ []) ≡ Some Field)
+    × (fault_of_request (1 ∷ 66 ∷ 0 ∷ 0 ∷ 1 ∷ 0 ∷ 0 ∷ 0 ∷ []) ≡ Some Trailing)
+
+-- the bytes of a list of one known branch, of which this stands behind the XID
+abbrev pub behind_xid : List ℕ → List ℕ
+behind_xid bytes = front_bytes ++ 5 ∷ 0 ∷ 1 ∷ 0 ∷ 0 ∷ 0 ∷ 1 ∷ 1 ∷ 0 ∷ 170 ∷ bytes
 
 abbrev pub FaultyReplies : Type 0
 FaultyReplies =
     (fault_of_reply begun_bytes ≡ None)
-    -- detail 8, kind 5, 257 XIDs
+    × (fault_of_reply listed_bytes ≡ None)
+    -- detail 8, kind 6, 257 XIDs, 257 branches
     × (fault_of_reply (1 ∷ 0 ∷ 0 ∷ 0 ∷ 0 ∷ 8 ∷ []) ≡ Some Field)
-    × (fault_of_reply (1 ∷ 0 ∷ 0 ∷ 0 ∷ 0 ∷ 0 ∷ 0 ∷ 0 ∷ 0 ∷ 0 ∷ 0 ∷ 0 ∷ 0 ∷ 0 ∷ 5 ∷ []) ≡ Some Field)
-    × (fault_of_reply (1 ∷ 0 ∷ 0 ∷ 0 ∷ 0 ∷ 0 ∷ 0 ∷ 0 ∷ 0 ∷ 0 ∷ 0 ∷ 0 ∷ 0 ∷ 0 ∷ 4 ∷ 1 ∷ 1 ∷ []) ≡ Some Field)
+    × (fault_of_reply (front_bytes ++ 6 ∷ []) ≡ Some Field)
+    × (fault_of_reply (front_bytes ++ 4 ∷ 1 ∷ 1 ∷ []) ≡ Some Field)
+    × (fault_of_reply (front_bytes ++ 5 ∷ 1 ∷ 1 ∷ []) ≡ Some Field)
+    -- of a known branch: an XID that is cut, no state, states 0 and 5, a mark, a timestamp and a count that are cut, and
+    -- a byte behind
+    × (fault_of_reply (front_bytes ++ 5 ∷ 0 ∷ 1 ∷ 0 ∷ []) ≡ Some Field)
+    × (fault_of_reply (behind_xid []) ≡ Some Short)
+    × (fault_of_reply (behind_xid (0 ∷ [])) ≡ Some Field)
+    × (fault_of_reply (behind_xid (5 ∷ [])) ≡ Some Field)
+    × (fault_of_reply (behind_xid (2 ∷ 0 ∷ 0 ∷ 0 ∷ [])) ≡ Some Short)
+    × (fault_of_reply (behind_xid (2 ∷ 0 ∷ 0 ∷ 0 ∷ 0 ∷ 0 ∷ 0 ∷ 0 ∷ 0 ∷ 0 ∷ 0 ∷ 0 ∷ [])) ≡ Some Short)
+    × (fault_of_reply (front_bytes ++ 5 ∷ 0 ∷ 1 ∷ take 26 working_bytes) ≡ Some Short)
+    × (fault_of_reply (listed_bytes ++ 0 ∷ []) ≡ Some Trailing)

@@ -1,5 +1,5 @@
 -- The content of a frame: the one spelling of each request and of each reply. Numbers are big-endian.
-use Rattle.std.specs.Prelude.{◌≡◌, ℕ, List, [], ◌∷◌, ◌++◌, length, flat_map, Option, find, ◌==◌}
+use Rattle.std.specs.Prelude.{◌≡◌, ℕ, ℤ, List, [], ◌∷◌, ◌++◌, length, flat_map, Option, Some, None, find, ◌==◌}
 use Rattle.std.specs.Int.{w16, w32, w64, to_be_bytes, cast_unsigned}
 use Rattle.xa_codes.specs.declared.call.Call.{Call}
 use Rattle.xa_codes.specs.declared.call.Call.TheVariants as call
@@ -12,12 +12,20 @@ use Rattle.xa_frame.specs.declared.request.Request.{Request}
 use Rattle.xa_frame.specs.declared.request.Request.TheVariants as request
 use Rattle.xa_frame.specs.declared.body.Body.{Body}
 use Rattle.xa_frame.specs.declared.body.Body.TheVariants as body
+use Rattle.xa_frame.specs.declared.known_branch.AssociationCounts.{AssociationCounts}
+use Rattle.xa_frame.specs.declared.known_branch.BranchState.{BranchState}
+use Rattle.xa_frame.specs.declared.known_branch.BranchState.TheVariants as state
+use Rattle.xa_frame.specs.declared.known_branch.KnownBranch.{KnownBranch}
 use Rattle.xa_frame.specs.declared.reply.Reply.{Reply}
 use Rattle.xa_frame.specs.Limits.{IsRequest, IsReply, Holds, HoldsReply}
 
--- XIDs, after how many they are in two bytes
-abbrev pub xids_bytes : List Triple → List ℕ
-xids_bytes xids = to_be_bytes w16 (length xids) ++ flat_map bytes_of xids
+-- each of a list, after how many they are in two bytes
+abbrev pub counted_bytes : {A : Type 0} → (A → List ℕ) → List A → List ℕ
+counted_bytes spell xs = to_be_bytes w16 (length xs) ++ flat_map spell xs
+
+-- a code, in two's complement
+abbrev pub code_bytes : ℤ → List ℕ
+code_bytes code = to_be_bytes w32 (cast_unsigned w32 code)
 
 -- the number of an operation
 abbrev pub operation : Call → ℕ
@@ -38,12 +46,13 @@ operation call.Doom = 14
 operation call.Restart = 15
 operation call.Timeout = 16
 operation call.Tick = 17
+operation call.Branches = 66
 
 abbrev pub calls : List Call
 calls =
     call.Open ∷ call.Close ∷ call.Start ∷ call.End ∷ call.Prepare ∷ call.Commit ∷ call.Rollback ∷ call.Recover
     ∷ call.Forget ∷ call.Get ∷ call.Put ∷ call.Delete ∷ call.Decide ∷ call.Doom ∷ call.Restart ∷ call.Timeout
-    ∷ call.Tick ∷ []
+    ∷ call.Tick ∷ call.Branches ∷ []
 
 -- the call with this number
 abbrev pub numbered : ℕ → Option Call
@@ -67,6 +76,12 @@ call_of (request.Doom xid) = call.Doom
 call_of request.Restart = call.Restart
 call_of (request.Timeout seconds) = call.Timeout
 call_of (request.Tick moment) = call.Tick
+call_of (request.Branches count after) = call.Branches
+
+-- 0 for none, or 1 and an XID
+abbrev pub cursor_bytes : Option Triple → List ℕ
+cursor_bytes None = 0 ∷ []
+cursor_bytes (Some xid) = 1 ∷ bytes_of xid
 
 abbrev pub fields_bytes : Request → List ℕ
 fields_bytes (request.Open flags info) = to_be_bytes w32 flags ++ short_bytes info
@@ -86,6 +101,7 @@ fields_bytes (request.Doom xid) = bytes_of xid
 fields_bytes request.Restart = []
 fields_bytes (request.Timeout seconds) = to_be_bytes w32 seconds
 fields_bytes (request.Tick moment) = to_be_bytes w64 moment
+fields_bytes (request.Branches count after) = to_be_bytes w32 count ++ cursor_bytes after
 
 -- the version, the operation, the fields
 abbrev pub bytes_of_request : Request → List ℕ
@@ -113,19 +129,47 @@ detail_numbered n = find (λ d. detail_byte d == n) details
 abbrev pub detail_bytes : Detail → List ℕ
 detail_bytes d = detail_byte d ∷ []
 
+-- Known branches
+
+abbrev pub state_byte : BranchState → ℕ
+state_byte state.Working = 1
+state_byte state.Prepared = 2
+state_byte state.Committed = 3
+state_byte state.RolledBack = 4
+
+abbrev pub states : List BranchState
+states = state.Working ∷ state.Prepared ∷ state.Committed ∷ state.RolledBack ∷ []
+
+-- the state with this number
+abbrev pub state_numbered : ℕ → Option BranchState
+state_numbered n = find (λ s. state_byte s == n) states
+
+abbrev pub state_bytes : BranchState → List ℕ
+state_bytes s = state_byte s ∷ []
+
+abbrev pub counts_bytes : AssociationCounts → List ℕ
+counts_bytes counts =
+    to_be_bytes w16 counts.active ++ (to_be_bytes w16 counts.suspended ++ to_be_bytes w16 counts.loose)
+
+abbrev pub branch_bytes : KnownBranch → List ℕ
+branch_bytes b =
+    bytes_of b.xid
+    ++ (state_bytes b.state
+    ++ (code_bytes b.mark ++ (to_be_bytes w64 b.timestamp ++ counts_bytes b.associations)))
+
 -- the kind, and what is carried
 abbrev pub body_bytes : Body → List ℕ
 body_bytes body.Nothing = 0 ∷ []
 body_bytes (body.Number number) = 1 ∷ to_be_bytes w64 number
 body_bytes (body.Value value) = 2 ∷ value_bytes value
 body_bytes body.Absent = 3 ∷ []
-body_bytes (body.Xids xids) = 4 ∷ xids_bytes xids
+body_bytes (body.Xids xids) = 4 ∷ counted_bytes bytes_of xids
+body_bytes (body.Branches branches) = 5 ∷ counted_bytes branch_bytes branches
 
--- the version, the code in two's complement, the detail, the place, the body
+-- the version, the code, the detail, the place, the body
 abbrev pub bytes_of_reply : Reply → List ℕ
 bytes_of_reply r =
-    1 ∷ (to_be_bytes w32 (cast_unsigned w32 r.code)
-    ++ (detail_bytes r.detail ++ (to_be_bytes w64 r.place ++ body_bytes r.body)))
+    1 ∷ (code_bytes r.code ++ (detail_bytes r.detail ++ (to_be_bytes w64 r.place ++ body_bytes r.body)))
 
 -- these bytes are the content of this request
 pub record SpellsRequest (bytes : List ℕ) (r : Request) : Type 0 where

@@ -1,7 +1,9 @@
+use crate::known_branches::KnownBranches;
 use crate::xids::Xids;
 use xa_codes::Bytes;
 
-/// What a reply carries beside its code. A value has at most `MOST_VALUE` bytes; there are at most `MOST_XIDS` XIDs.
+/// What a reply carries beside its code. A value has at most `MOST_VALUE` bytes; there are at most `MOST_XIDS` XIDs or
+/// branches.
 #[derive(Debug, Drop)]
 pub enum Body {
     Nothing,
@@ -13,4 +15,6 @@ pub enum Body {
     Absent,
     /// What a Recover lists.
     Xids(Xids),
+    /// What a Branches lists.
+    Branches(KnownBranches),
 }

@@ -1,7 +1,8 @@
 ghost use Rattle.std.specs.Prelude.{◌≡◌, ◌<◌, ◌^◌, IfOk};
-ghost use Rattle.xa_frame.specs.Limits.{Holds};
+ghost use Rattle.xa_frame.specs.Limits.{Holds, HoldsCursor};
 ghost use Rattle.xa_xid.specs.Triple.{IsWithinLimits};
 
+use crate::known_branch::KnownBranch;
 use crate::request::Request;
 use arrayvec::ArrayVec;
 use std::alloc::{AllocError, Global};
@@ -65,6 +66,10 @@ impl Request {
             Request::Restart => Request::Restart,
             Request::Timeout { seconds } => Request::Timeout { seconds: *seconds },
             Request::Tick { moment } => Request::Tick { moment: *moment },
+            Request::Branches { count, after } => Request::Branches {
+                count: *count,
+                after: copied_cursor(after),
+            },
         })
     }
 
@@ -90,9 +95,37 @@ impl Request {
             Request::Decide { xid, .. } | Request::Doom { xid } => hold_name(xid),
             Request::Timeout { seconds } => hold_number(*seconds),
             Request::Tick { moment } => hold_moment(*moment),
+            Request::Branches { count, after } => {
+                hold_number(*count);
+                hold_cursor(after);
+            }
             Request::Get { .. } | Request::Put { .. } | Request::Delete { .. } | Request::Restart =>
                 {}
         }
+    }
+}
+
+impl KnownBranch {
+    /// A copy. Takes no memory.
+    pub fn copied(&self) -> KnownBranch
+        ensures { result ≡ self.now }
+    {
+        KnownBranch {
+            xid: self.xid.copied(),
+            state: self.state,
+            mark: self.mark,
+            timestamp: self.timestamp,
+            associations: self.associations,
+        }
+    }
+}
+
+fn copied_cursor(after: &Option<Xid>) -> Option<Xid>
+    ensures { result ≡ after.now }
+{
+    match after {
+        Some(xid) => Some(xid.copied()),
+        None => None,
     }
 }
 
@@ -116,4 +149,13 @@ fn hold_name(xid: &Xid)
 {
     let mut bytes: ArrayVec<u8, XID_BYTES> = ArrayVec::new();
     xid.put(&mut bytes);
+}
+
+/// What an XID holds, if there is one.
+fn hold_cursor(after: &Option<Xid>)
+    ensures { HoldsCursor after.now }
+{
+    if let Some(xid) = after {
+        hold_name(xid);
+    }
 }

@@ -1,21 +1,36 @@
 ghost use Rattle.std.specs.Prelude.{◌≡◌, ◌++◌, flat_map, All, IfOk, OnOk};
-ghost use Rattle.xa_frame.specs.Limits.{IsRequest, IsBody, IsReply, Holds, HoldsBody};
-ghost use Rattle.xa_frame.specs.Spelling.{xids_bytes, fields_bytes, body_bytes, SpellsRequest, SpellsReply};
+ghost use Rattle.xa_frame.specs.Limits.{IsRequest, IsBody, IsReply, Holds, HoldsCursor, HoldsCounts, HoldsBranch, HoldsBody};
+ghost use Rattle.xa_frame.specs.Spelling.{cursor_bytes, fields_bytes, counts_bytes, branch_bytes, body_bytes, SpellsRequest, SpellsReply};
 ghost use Rattle.xa_xid.specs.Spelling.{bytes_of};
 ghost use Rattle.xa_xid.specs.Triple.{IsWithinLimits};
 
 use crate::body::Body;
-use crate::numbers::{detail_number, operation_of};
+use crate::known_branch::{AssociationCounts, KnownBranch};
+use crate::numbers::{detail_number, operation_of, state_number};
 use crate::reply::Reply;
 use crate::request::Request;
 use std::alloc::{AllocError, Global};
-use xa_bytes::{put_u32, put_u64};
+use xa_bytes::{put_u16, put_u32, put_u64};
 use xa_fields::{put_direction, put_length, put_short, put_value, put_xid};
 use xa_limits::XID_BYTES;
 use xa_xid::Xid;
 
 /// What each content begins with.
 pub(crate) const VERSION: u8 = 1;
+
+/// Appends 0, or 1 and an XID.
+fn put_cursor(out: &mut Vec<u8>, after: &Option<Xid>) -> Result<(), AllocError>
+    ensures bytes { OnOk result (out.new.items ≡ out.old.items ++ cursor_bytes after.now) }
+    ensures holds { OnOk result (HoldsCursor after.now) }
+{
+    match after {
+        None => Ok(out.push(0)?),
+        Some(xid) => {
+            out.push(1)?;
+            put_xid(out, xid)
+        }
+    }
+}
 
 fn put_fields(out: &mut Vec<u8>, request: &Request) -> Result<(), AllocError>
     ensures bytes { OnOk result (out.new.items ≡ out.old.items ++ fields_bytes request.now) }
@@ -53,6 +68,10 @@ fn put_fields(out: &mut Vec<u8>, request: &Request) -> Result<(), AllocError>
         Request::Restart => Ok(()),
         Request::Timeout { seconds } => put_u32(out, *seconds),
         Request::Tick { moment } => put_u64(out, *moment),
+        Request::Branches { count, after } => {
+            put_u32(out, *count)?;
+            put_cursor(out, after)
+        }
     }
 }
 
@@ -69,7 +88,7 @@ fn room_of(request: &Request) -> usize
         | Request::Restart
         | Request::Timeout { .. }
         | Request::Tick { .. } => 10,
-        _ => 6 + XID_BYTES,
+        _ => 7 + XID_BYTES,
     }
 }
 
@@ -95,6 +114,37 @@ fn put_names(out: &mut Vec<u8>, xids: &[Xid]) -> Result<(), AllocError>
     Ok(())
 }
 
+fn put_counts(out: &mut Vec<u8>, counts: AssociationCounts) -> Result<(), AllocError>
+    ensures bytes { OnOk result (out.new.items ≡ out.old.items ++ counts_bytes counts) }
+    ensures holds { HoldsCounts counts }
+{
+    put_u16(out, counts.active)?;
+    put_u16(out, counts.suspended)?;
+    put_u16(out, counts.loose)
+}
+
+fn put_branch(out: &mut Vec<u8>, branch: &KnownBranch) -> Result<(), AllocError>
+    ensures bytes { OnOk result (out.new.items ≡ out.old.items ++ branch_bytes branch.now) }
+    ensures holds { OnOk result (HoldsBranch branch.now) }
+{
+    put_xid(out, &branch.xid)?;
+    out.push(state_number(branch.state))?;
+    out.extend_from_slice(&branch.mark.to_be_bytes())?;
+    put_u64(out, branch.timestamp)?;
+    put_counts(out, branch.associations)?;
+    Ok(())
+}
+
+fn put_branches(out: &mut Vec<u8>, branches: &[KnownBranch]) -> Result<(), AllocError>
+    ensures bytes { OnOk result (out.new.items ≡ out.old.items ++ flat_map branch_bytes branches.now) }
+    ensures holds { OnOk result (All HoldsBranch branches.now) }
+{
+    for branch in branches {
+        put_branch(out, branch)?;
+    }
+    Ok(())
+}
+
 fn put_body(out: &mut Vec<u8>, body: &Body) -> Result<(), AllocError>
     ensures bytes { OnOk result (out.new.items ≡ out.old.items ++ body_bytes body.now) }
     ensures holds { OnOk result (HoldsBody body.now) }
@@ -116,6 +166,12 @@ fn put_body(out: &mut Vec<u8>, body: &Body) -> Result<(), AllocError>
             put_length(out, xids.len())?;
             put_names(out, xids)
         }
+        Body::Branches(branches) => {
+            let branches = branches.as_slice();
+            out.push(5)?;
+            put_length(out, branches.len())?;
+            put_branches(out, branches)
+        }
     }
 }
 
@@ -126,6 +182,7 @@ fn reply_room(body: &Body) -> usize
     match body {
         Body::Value(value) => 17 + value.as_slice().len(),
         Body::Xids(xids) => 17 + 32 * xids.as_slice().len(),
+        Body::Branches(branches) => 17 + 51 * branches.as_slice().len(),
         Body::Nothing | Body::Number(_) | Body::Absent => 23,
     }
 }

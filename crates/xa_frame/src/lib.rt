@@ -5,15 +5,17 @@
 //!
 //! - `request`: `Request`, with what each call is given
 //! - `reply`: `Reply`; `body`: `Body`, what a reply carries; `xids`: `Xids`, that contracts see as a list
-//! - `making`: `Reply::plain`, `detailed`, `carrying` and `bad_frame`; `copying`: `Request::copied`, and `hold`, what
-//!   its parts hold
+//! - `known_branch`: `KnownBranch`, what is told of a branch, with its `BranchState` and `AssociationCounts`;
+//!   `known_branches`: `KnownBranches`, that contracts see as a list
+//! - `making`: `Reply::plain`, `detailed`, `carrying` and `bad_frame`; `copying`: `Request::copied` and
+//!   `KnownBranch::copied`, and `hold`, what a request's parts hold
 //!
 //! Their bytes:
 //!
-//! - `numbers`: the numbers that stand for calls and details; `Request::call`
+//! - `numbers`: the numbers that stand for calls, details and states; `Request::call`
 //! - `encode`: `encode_request` and `encode_reply`, of values within the limits
-//! - `fields`: what a content is made of, read from the front: numbers, codes, details; keys, values and XIDs are
-//!   `xa_fields`'
+//! - `fields`: what a content is made of, read from the front: numbers, codes, details, known branches; keys, values and
+//!   XIDs are `xa_fields`'
 //! - `request_decoder`: `decode_request`; `reply_decoder`: `decode_reply`
 //! - `fault`: `FrameFault`, the first fault of a content, read from left to right
 //! - `laws`: `one_request` and `one_reply`, one value and one content; `worked_contents`, worked rows
@@ -27,6 +29,8 @@ mod copying;
 mod encode;
 mod fault;
 mod fields;
+mod known_branch;
+mod known_branches;
 mod laws;
 mod making;
 mod numbers;
@@ -39,6 +43,8 @@ mod xids;
 pub use body::Body;
 pub use encode::{encode_reply, encode_request};
 pub use fault::FrameFault;
+pub use known_branch::{AssociationCounts, BranchState, KnownBranch};
+pub use known_branches::KnownBranches;
 pub use laws::{one_reply, one_request, worked_contents};
 pub use reply::Reply;
 pub use reply_decoder::decode_reply;

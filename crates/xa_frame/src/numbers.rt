@@ -1,6 +1,7 @@
 ghost use Rattle.std.specs.Prelude.{◌≡◌};
-ghost use Rattle.xa_frame.specs.Spelling.{operation, call_of, numbered, detail_byte, detail_numbered};
+ghost use Rattle.xa_frame.specs.Spelling.{operation, call_of, numbered, detail_byte, detail_numbered, state_byte, state_numbered};
 
+use crate::known_branch::BranchState;
 use crate::request::Request;
 use xa_codes::{Call, Detail};
 
@@ -27,6 +28,7 @@ impl Request {
             Request::Restart => Call::Restart,
             Request::Timeout { .. } => Call::Timeout,
             Request::Tick { .. } => Call::Tick,
+            Request::Branches { .. } => Call::Branches,
         }
     }
 }
@@ -53,6 +55,7 @@ pub(crate) fn operation_of(call: Call) -> u8
         Call::Restart => 15,
         Call::Timeout => 16,
         Call::Tick => 17,
+        Call::Branches => 66,
     }
 }
 
@@ -78,6 +81,7 @@ pub(crate) fn call_numbered(byte: u8) -> Option<Call>
         15 => Call::Restart,
         16 => Call::Timeout,
         17 => Call::Tick,
+        66 => Call::Branches,
         _ => return None,
     })
 }
@@ -111,6 +115,26 @@ pub(crate) fn detail_of(byte: u8) -> Option<Detail>
         5 => Some(Detail::Limit),
         6 => Some(Detail::Frame),
         7 => Some(Detail::LogFull),
+        _ => None,
+    }
+}
+
+/// The byte that stands for a state.
+pub(crate) fn state_number(state: BranchState) -> u8
+    ensures { result ≡ state_byte state }
+{
+    state as u8
+}
+
+/// The state that a byte stands for.
+pub(crate) fn state_of(byte: u8) -> Option<BranchState>
+    ensures { result ≡ state_numbered byte }
+{
+    match byte {
+        1 => Some(BranchState::Working),
+        2 => Some(BranchState::Prepared),
+        3 => Some(BranchState::Committed),
+        4 => Some(BranchState::RolledBack),
         _ => None,
     }
 }

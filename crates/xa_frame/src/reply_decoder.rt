@@ -6,11 +6,12 @@ ghost use Rattle.xa_frame.specs.declared.fault.FrameFault.TheVariants.{Memory};
 ghost use Rattle.xa_frame.specs.declared.reply.Reply.{Reply};
 ghost use Rattle.xa_frame.specs.Spelling.{SpellsReply};
 ghost use Rattle.xa_frame.specs.Faults.{fault_of_reply};
-ghost use Rattle.xa_frame.specs.Reading.{made, one_of, rest_of, value_of_first, number_at, value_at, names_at, xids_at, body_at, answer_at, reply_at};
+ghost use Rattle.xa_frame.specs.Reading.{made, one_of, rest_of, value_of_first, number_at, value_at, name_at, each_at, counted_at, branch_at, body_at, answer_at, reply_at};
 
 use crate::body::Body;
 use crate::fault::FrameFault;
-use crate::fields::{code_of, detail_front, end, u16_at, u64_at};
+use crate::fields::{branch_front, code_of, detail_front, end, u16_at, u64_at};
+use crate::known_branches::KnownBranches;
 use crate::reply::Reply;
 use crate::request_decoder::versioned;
 use crate::xids::Xids;
@@ -37,7 +38,7 @@ fn value_alone(bytes: &[u8]) -> Result<&[u8], FrameFault>
 
 /// What stands behind so many XIDs.
 fn behind_names(count: u16, bytes: &[u8]) -> Result<&[u8], FrameFault>
-    ensures { Gives (λ x. x.now) result (rest_of (names_at count bytes.now)) }
+    ensures { Gives (λ x. x.now) result (rest_of (each_at name_at count bytes.now)) }
 {
     let mut rest = bytes;
     for _ in 0..count {
@@ -49,8 +50,8 @@ fn behind_names(count: u16, bytes: &[u8]) -> Result<&[u8], FrameFault>
 
 /// So many XIDs, which stand there.
 fn names_of(alloc: Global, count: u16, bytes: &[u8]) -> Result<Xids, FrameFault>
-    requires { IsOk (names_at count bytes.now) }
-    ensures { Answers result (value_of_first (names_at count bytes.now)) }
+    requires { IsOk (each_at name_at count bytes.now) }
+    ensures { Answers result (value_of_first (each_at name_at count bytes.now)) }
 {
     let mut xids = Vec::with_capacity(alloc, usize::from(count))?;
     let mut rest = bytes;
@@ -62,9 +63,9 @@ fn names_of(alloc: Global, count: u16, bytes: &[u8]) -> Result<Xids, FrameFault>
     Ok(Xids::new(xids))
 }
 
-#[tactic(auto, unfolding(crate::specs::Reading::xids_at))]
+#[tactic(auto, unfolding(crate::specs::Reading::counted_at))]
 fn xids_alone(alloc: Global, bytes: &[u8]) -> Result<Xids, FrameFault>
-    ensures { Answers result (one_of xids_at bytes.now) }
+    ensures { Answers result (one_of (counted_at name_at) bytes.now) }
 {
     let (count, names) = u16_at(bytes)?;
     if usize::from(count) > MOST_XIDS {
@@ -72,6 +73,45 @@ fn xids_alone(alloc: Global, bytes: &[u8]) -> Result<Xids, FrameFault>
     }
     end(behind_names(count, names)?)?;
     names_of(alloc, count, names)
+}
+
+/// What stands behind so many known branches.
+fn behind_branches(count: u16, bytes: &[u8]) -> Result<&[u8], FrameFault>
+    ensures { Gives (λ x. x.now) result (rest_of (each_at branch_at count bytes.now)) }
+{
+    let mut rest = bytes;
+    for _ in 0..count {
+        let (_, after) = branch_front(rest)?;
+        rest = after;
+    }
+    Ok(rest)
+}
+
+/// So many known branches, which stand there.
+fn branches_of(alloc: Global, count: u16, bytes: &[u8]) -> Result<KnownBranches, FrameFault>
+    requires { IsOk (each_at branch_at count bytes.now) }
+    ensures { Answers result (value_of_first (each_at branch_at count bytes.now)) }
+{
+    let mut branches = Vec::with_capacity(alloc, usize::from(count))?;
+    let mut rest = bytes;
+    for _ in 0..count {
+        let (branch, after) = branch_front(rest)?;
+        branches.push(branch)?;
+        rest = after;
+    }
+    Ok(KnownBranches::new(branches))
+}
+
+#[tactic(auto, unfolding(crate::specs::Reading::counted_at))]
+fn branches_alone(alloc: Global, bytes: &[u8]) -> Result<KnownBranches, FrameFault>
+    ensures { Answers result (one_of (counted_at branch_at) bytes.now) }
+{
+    let (count, branches) = u16_at(bytes)?;
+    if usize::from(count) > MOST_XIDS {
+        return Err(FrameFault::Field);
+    }
+    end(behind_branches(count, branches)?)?;
+    branches_of(alloc, count, branches)
 }
 
 /// The body that is all of the bytes.
@@ -100,6 +140,10 @@ fn body_of(alloc: Global, bytes: &[u8]) -> Result<Body, FrameFault>
         [4, rest @ ..] => {
             let xids = xids_alone(alloc, rest)?;
             Ok(Body::Xids(xids))
+        }
+        [5, rest @ ..] => {
+            let branches = branches_alone(alloc, rest)?;
+            Ok(Body::Branches(branches))
         }
         [_, ..] => Err(FrameFault::Field),
     }

@@ -2,8 +2,8 @@ use xa_codes::{Bytes, Direction};
 use xa_xid::Xid;
 
 /// What a session asks for: C193's calls of a resource manager (`xa_open` to `xa_recover`), gets, puts and deletes of
-/// records, the operator's calls, and branches' time limits. Flags are C193's, or-ed. A key has 1 to `MOST_KEY` bytes, a
-/// value at most `MOST_VALUE`, an open info at most `MOST_INFO`.
+/// records, the operator's calls, branches' time limits, and a list of the known branches. Flags are C193's, or-ed. A key
+/// has 1 to `MOST_KEY` bytes, a value at most `MOST_VALUE`, an open info at most `MOST_INFO`.
 #[derive(Debug, Drop)]
 pub enum Request {
     Open { flags: u32, info: Bytes },
@@ -25,4 +25,6 @@ pub enum Request {
     Timeout { seconds: u32 },
     /// What the clock says, in seconds from an instant that all who tell it share.
     Tick { moment: u64 },
+    /// The first so many known branches above an XID, or of all.
+    Branches { count: u32, after: Option<Xid> },
 }

@@ -5,12 +5,12 @@ ghost use Rattle.xa_frame.specs.declared.fault.FrameFault.TheVariants.{Memory};
 ghost use Rattle.xa_frame.specs.declared.request.Request.{Request};
 ghost use Rattle.xa_frame.specs.Answers.{Answers, IsOrWants, IsFault};
 ghost use Rattle.xa_frame.specs.Faults.{fault_of_request};
-ghost use Rattle.xa_frame.specs.Reading.{made, one_of, two_of, number_at, info_at, key_at, value_at, direction_at, name_at, fields_at, operation_at, versioned_at, request_at, branch_request};
+ghost use Rattle.xa_frame.specs.Reading.{made, one_of, two_of, number_at, info_at, key_at, value_at, direction_at, name_at, cursor_at, fields_at, operation_at, versioned_at, request_at, branch_request};
 ghost use Rattle.xa_frame.specs.Spelling.{SpellsRequest};
 
 use crate::encode::VERSION;
 use crate::fault::FrameFault;
-use crate::fields::{end, u32_at, u64_at};
+use crate::fields::{cursor_of, end, u32_at, u64_at};
 use crate::numbers::call_numbered;
 use crate::request::Request;
 use std::alloc::Global;
@@ -61,6 +61,15 @@ fn flags_and_count(bytes: &[u8]) -> Result<(u32, u32), FrameFault>
     let (count, rest) = u32_at(rest)?;
     end(rest)?;
     Ok((flags, count))
+}
+
+fn count_and_cursor(bytes: &[u8]) -> Result<(u32, Option<Xid>), FrameFault>
+    ensures { result ≡ two_of (number_at w32) cursor_at bytes.now }
+{
+    let (count, rest) = u32_at(bytes)?;
+    let (after, rest) = cursor_of(rest)?;
+    end(rest)?;
+    Ok((count, after))
 }
 
 fn key_alone(bytes: &[u8]) -> Result<&[u8], FrameFault>
@@ -149,6 +158,10 @@ fn fields_of(alloc: Global, call: Call, bytes: &[u8]) -> Result<Request, FrameFa
         Call::Tick => {
             let moment = moment_alone(bytes)?;
             Ok(Request::Tick { moment })
+        }
+        Call::Branches => {
+            let (count, after) = count_and_cursor(bytes)?;
+            Ok(Request::Branches { count, after })
         }
         Call::Start | Call::End | Call::Prepare | Call::Commit | Call::Rollback | Call::Forget => {
             let (flags, xid) = flags_and_xid(bytes)?;

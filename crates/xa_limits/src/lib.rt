@@ -13,7 +13,7 @@ pub const MOST_INFO: usize = 255;
 /// The most bytes of a key; it has at least one.
 pub const MOST_KEY: usize = 64;
 /// The most bytes of a value.
-pub const MOST_VALUE: usize = 1024;
+pub const MOST_VALUE: usize = 16_384;
 /// The most XIDs that a Recover asks for and is answered.
 pub const MOST_XIDS: usize = 256;
 /// The most bytes of a frame's content, behind its length.
@@ -54,8 +54,10 @@ pub const DIGEST_BYTES: usize = 32;
 pub const AROUND_BODY: usize = LENGTH_BYTES + DIGEST_BYTES;
 /// The same, with a closing length behind the record.
 pub const AROUND_CLOSED: usize = AROUND_BODY + LENGTH_BYTES;
-/// The most bytes of a record's body.
-pub const MOST_BODY: usize = 524_288;
+/// The most bytes of a record's body in a file of format 1.
+pub const MOST_BODY_OF_ONE: usize = 524_288;
+/// The same in one of format 2, the newest.
+pub const MOST_BODY: usize = 8_388_608;
 /// The most bytes of the body of a record that has no writes: its kind and a direction, in 1 byte each, and an XID.
 pub const MOST_SMALL: usize = 2 + XID_BYTES;
 

@@ -1,10 +1,10 @@
 -- How long bodies are.
-use Rattle.std.proofs.Common.{◌≡◌, ℕ, ◌*◌, ◌<◌, ◌≤◌, List, [], ◌∷◌, length, Option, Some, None, refl, arith}
+use Rattle.std.proofs.Common.{◌≡◌, ℕ, ◌+◌, ◌*◌, ◌<◌, ◌≤◌, List, [], ◌∷◌, length, Option, Some, None, refl, arith}
 use Rattle.std.specs.List.{AllByRecursion}
 use Rattle.std.specs.Prelude.{IfSome, flat_map}
 use Rattle.std.proofs.lemmas.List.{length-append}
 use Rattle.xa_codes.specs.declared.direction.Direction.{Direction}
-use Rattle.xa_limits.specs.declared.TheConstants.{MOST_BODY, MOST_SMALL, MOST_VALUE, XID_BYTES}
+use Rattle.xa_limits.specs.declared.TheConstants.{MOST_BODY, MOST_KEY, MOST_SMALL, MOST_VALUE, MOST_WRITES, XID_BYTES}
 use Rattle.xa_codes.specs.declared.write.Write.{Write}
 use Rattle.xa_xid.specs.Triple.{Triple, IsWithinLimits}
 use Rattle.xa_xid.specs.Spelling.{bytes_of}
@@ -32,21 +32,35 @@ forgotten x h = omega (arith, name_short x h)
 pub known : (x : Triple) (d : Direction) → IsWithinLimits x → length (spelled (Known x d)) ≤ MOST_SMALL
 known x d h = omega (arith, name_short x h, length-append (bytes_of x) (direction_bytes d))
 
-left_short : (v : Option (List ℕ)) → IfSome v (λ s. length s ≤ MOST_VALUE) → length (left_bytes v) ≤ 1027
+-- what is left at a key, in bytes, at most; and a write, its key behind a length of 1
+abbrev most_left : ℕ
+most_left = 3 + MOST_VALUE
+
+abbrev most_write : ℕ
+most_write = 1 + MOST_KEY + most_left
+
+-- a timestamp, a count, and the writes; and an XID before them
+abbrev most_stamped : ℕ
+most_stamped = 10 + most_write * MOST_WRITES
+
+abbrev most_branch : ℕ
+most_branch = XID_BYTES + most_stamped
+
+left_short : (v : Option (List ℕ)) → IfSome v (λ s. length s ≤ MOST_VALUE) → length (left_bytes v) ≤ most_left
 left_short None h = omega arith
 left_short (Some s) h = omega (arith, h)
 
-write_short : (w : Write) → IsWrite w → length (write_bytes w) ≤ 1092
+write_short : (w : Write) → IsWrite w → length (write_bytes w) ≤ most_write
 write_short w h = omega (arith, h.short, left_short w.value h.value, length-append w.key (left_bytes w.value))
 
-writes_short : (ws : List Write) → AllByRecursion IsWrite ws → length (flat_map write_bytes ws) ≤ 1092 * length ws
+writes_short : (ws : List Write) → AllByRecursion IsWrite ws → length (flat_map write_bytes ws) ≤ most_write * length ws
 writes_short [] h = omega arith
 writes_short (w ∷ ws) h = omega (arith, write_short w h.0, writes_short ws h.1, length-append (write_bytes w) (flat_map write_bytes ws))
 
-stamped_short : (t : ℕ) (ws : List Write) → IsStamped t ws → length (stamped_bytes t ws) ≤ 279562
+stamped_short : (t : ℕ) (ws : List Write) → IsStamped t ws → length (stamped_bytes t ws) ≤ most_stamped
 stamped_short t ws h = omega (arith, writes_short ws h.writes.each, h.writes.few)
 
-branch_short : (x : Triple) (t : ℕ) (ws : List Write) → IsBranch x t ws → length (branch_bytes x t ws) ≤ 279696
+branch_short : (x : Triple) (t : ℕ) (ws : List Write) → IsBranch x t ws → length (branch_bytes x t ws) ≤ most_branch
 branch_short x t ws h = omega (arith, name_short x h.name, stamped_short t ws h.stamped, length-append (bytes_of x) (stamped_bytes t ws))
 
 pub any : (r : Record) → IsRecord r → (1 ≤ length (spelled r)) × (length (spelled r) ≤ MOST_BODY)

@@ -24,4 +24,4 @@ pub use laws::{body_sizes, one_record};
 pub use reading::read;
 pub use record::Record;
 pub use writes::Writes;
-pub use writing::{write, write_small};
+pub use writing::{write, write_base, write_held, write_small};

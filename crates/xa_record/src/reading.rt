@@ -93,7 +93,7 @@ fn writes_of(alloc: Global, count: u16, bytes: &[u8]) -> Result<Writes, RecordFa
     requires { IsSome (writes_at count [] bytes.now) }
     ensures { Answers result (writes_at count [] bytes.now) }
 {
-    let mut writes = Vec::new(alloc);
+    let mut writes = Vec::with_capacity(alloc, usize::from(count))?;
     let mut previous: &[u8] = &[];
     let mut rest = bytes;
     for _ in 0..count {

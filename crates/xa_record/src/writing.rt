@@ -1,6 +1,7 @@
 ghost use Rattle.arrayvec.specs.ArrayVec.{array_vec_len};
 ghost use Rattle.std.specs.Prelude.{◌≡◌, ◌<◌, [], ◌∷◌, ◌++◌, flat_map, IfOk, OnOk};
-ghost use Rattle.xa_record.specs.Limits.{IsRecord};
+ghost use Rattle.xa_record.specs.Limits.{IsRecord, IsStamped, IsBranch};
+ghost use Rattle.xa_record.specs.declared.record.Record.TheVariants.{Base, Held};
 ghost use Rattle.xa_record.specs.Spelling.{spelled, branch_bytes, stamped_bytes, write_bytes, left_bytes};
 ghost use Rattle.xa_record.specs.Small.{IsSmall};
 ghost use Rattle.xa_limits.specs.declared.TheConstants.{MOST_SMALL};
@@ -75,6 +76,27 @@ pub fn write_small(record: &Record, out: &mut ArrayVec<u8, MOST_SMALL>)
         | Record::Base { .. }
         | Record::Held { .. } => unreachable!(),
     }
+}
+
+/// The body of a base, whose writes are lent: that of `Record::Base`.
+pub fn write_base(alloc: Global, timestamp: u64, writes: &Writes) -> Result<Vec<u8>, AllocError>
+    requires { IsStamped timestamp writes.now }
+    ensures { IfOk result (λ v. v.items ≡ spelled (Base timestamp writes.now)) }
+{
+    base(alloc, timestamp, writes)
+}
+
+/// The body of a held branch, whose name and writes are lent: that of `Record::Held`.
+pub fn write_held(
+    alloc: Global,
+    xid: &Xid,
+    timestamp: u64,
+    writes: &Writes,
+) -> Result<Vec<u8>, AllocError>
+    requires { IsBranch xid.now timestamp writes.now }
+    ensures { IfOk result (λ v. v.items ≡ spelled (Held xid.now timestamp writes.now)) }
+{
+    branch(alloc, 8, xid, timestamp, writes)
 }
 
 fn put_named(out: &mut ArrayVec<u8, MOST_SMALL>, kind: u8, xid: &Xid)

@@ -7,7 +7,7 @@ pub const PART_BYTES: u8 = 64;
 
 pub const KEY_BYTES: u8 = 64;
 
-pub const VALUE_BYTES: u16 = 1_024;
+pub const VALUE_BYTES: u16 = 16_384;
 
 /// The bytes of a frame's content, and of a record's body.
 pub const CONTENT_BYTES: u16 = 65_535;
