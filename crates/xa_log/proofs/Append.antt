@@ -47,7 +47,7 @@ module _ (format : Format) (bodies : List (List ℕ)) (body file : List ℕ) (re
   front = ap (λ (l : List ℕ). take end l) rests.split ∙ take_at (text format bodies) rests.rest end refl
 
   -- what a write behind the log may have left
-  pub torn_leaves : (most n : ℕ) (c : List ℕ) → IsBody body → length file ≤ most → end + n ≤ most → Torn end n file c → Leaves most format bodies body c
+  pub torn_leaves : (most n : ℕ) (c : List ℕ) → IsBody format body → length file ≤ most → end + n ≤ most → Torn end n file c → Leaves most format bodies body c
   torn_leaves most n c ok whole room torn =
       let fits : length c ≤ most = omega (arith, torn.no_longer, whole, room) in
       let kept : take end c ≡ text format bodies = torn_front end n file c long torn ∙ front in
@@ -57,7 +57,7 @@ module _ (format : Format) (bodies : List (List ℕ)) (body file : List ℕ) (re
   pub torn_begins : (n : ℕ) (mid : List ℕ) → Torn end n file mid → (end ≤ length mid) × (take end mid ≡ text format bodies)
   torn_begins n mid torn = (omega (arith, long, torn.no_shorter), torn_front end n file mid long torn ∙ front)
 
-  pub kept : (more : ℕ) (mid new : List ℕ) → (end ≤ length mid) × (take end mid ≡ text format bodies) → IsBody body → new ≡ put mid end (closed_record more format bodies body)
+  pub kept : (more : ℕ) (mid new : List ℕ) → (end ≤ length mid) × (take end mid ≡ text format bodies) → IsBody format body → new ≡ put mid end (closed_record more format bodies body)
       → Rests format (bodies ++ body ∷ []) new
   kept more mid new begins ok is =
       let n = end + length (closed_record more format bodies body) in
@@ -93,7 +93,7 @@ module _ (format : Format) (bodies : List (List ℕ)) (body file : List ℕ) (re
           rest = 0 ∷ 0 ∷ 0 ∷ 0 ∷ (replicate n 0 ++ tail);
           split = whole ∙ ap (λ (l : List ℕ). text format bodies ++ (l ++ tail)) (zeros_split n);
           sizes = rests.sizes;
-          closed = closed_zeros (last (start format) bodies) (replicate n 0 ++ tail);
+          closed = closed_zeros format (last (start format) bodies) (replicate n 0 ++ tail);
         },
         ap (λ (l : List ℕ). take (4 + n) (drop end l)) whole
             ∙ ap (λ (l : List ℕ). take (4 + n) l) (drop_at (text format bodies) (zeros ++ tail) end refl)
@@ -102,7 +102,7 @@ module _ (format : Format) (bodies : List (List ℕ)) (body file : List ℕ) (re
 
   -- from a log at rest, whatever a write behind it left
   pub moments : {D : Type 0} (disks : Ghosts D) (old new : D) (most n : ℕ)
-      → IsBody body → length file ≤ most → end + n ≤ most → ((c : List ℕ) → disks.left_since old (disks.moment old) c → disks.may_leave old c) → Only file (disks.may_leave old)
+      → IsBody format body → length file ≤ most → end + n ≤ most → ((c : List ℕ) → disks.left_since old (disks.moment old) c → disks.may_leave old c) → Only file (disks.may_leave old)
       → TimePasses disks (Torn end n) old new → LeavesOnly disks old new (Leaves most format bodies body)
   moments disks old new most n ok whole room only_now durable time = record {
     later = time.later;
@@ -122,7 +122,7 @@ isnt_eight : (n : ℕ) → 8 < n → nat_eq n 8 ≡ false
 isnt_eight n h = grind (arith, nat_tests)
 
 -- of a log with one body more
-generation_more : (format : Format) (bodies : List (List ℕ)) (body : List ℕ) (end number : ℕ) → end ≡ length (text format bodies) → number ≡ generation bodies
+pub generation_more : (format : Format) (bodies : List (List ℕ)) (body : List ℕ) (end number : ℕ) → end ≡ length (text format bodies) → number ≡ generation bodies
     → cond (nat_eq end 8) (number_in body) number ≡ generation (bodies ++ body ∷ [])
 generation_more format [] body end number at is = ap (λ (t : Bool). cond t (number_in body) number) (eq-eqb end 8 (at ∙ length-text format []))
 generation_more format (b ∷ bodies) body end number at is =
@@ -163,7 +163,7 @@ module _ {D : Type 0} (disks : Ghosts D) (bodies : List (List ℕ)) (body : List
       (subst (λ e. Torn e (length (closed_by more old.digest body)) (disks.seen old.disk) mid) stands.end torn)
 
   -- whether the zeros went with the record or not
-  file_kept : IsBody body → Wrote disks old.end (closed old.digest body) (closed_by more old.digest body) old.disk new.disk → Rests format (bodies ++ body ∷ []) (disks.seen new.disk)
+  file_kept : IsBody format body → Wrote disks old.end (closed old.digest body) (closed_by more old.digest body) old.disk new.disk → Rests format (bodies ++ body ∷ []) (disks.seen new.disk)
   file_kept ok (inl is) =
       kept format bodies body (disks.seen old.disk) stands.file more (disks.seen old.disk) (disks.seen new.disk) (begins_same format bodies body (disks.seen old.disk) stands.file) ok
       (is ∙ (λ i. put (disks.seen old.disk) (stands.end i) (closed_by more (stands.digest i) body)))
@@ -174,7 +174,7 @@ module _ {D : Type 0} (disks : Ghosts D) (bodies : List (List ℕ)) (body : List
   abbrev Room : Type 0
   Room = (old.end + (40 + length body + more) ≤ old.log_bytes) × (new.log_bytes ≡ old.log_bytes) × (new.format ≡ old.format)
 
-  pub answer_kept : Room → IsBody body → Went_by Kept → new.end ≡ old.end + (36 + length body) → new.digest ≡ digest old.digest body → new.generation ≡ cond (nat_eq old.end 8) (number_in body) old.generation → new.lost ≡ old.lost → Stands disks (bodies ++ body ∷ []) new
+  pub answer_kept : Room → IsBody old.format body → Went_by Kept → new.end ≡ old.end + (36 + length body) → new.digest ≡ digest old.digest body → new.generation ≡ cond (nat_eq old.end 8) (number_in body) old.generation → new.lost ≡ old.lost → Stands disks (bodies ++ body ∷ []) new
   answer_kept room ok went end_is digest_is number_is lost_is = record {
     fits = fits_after room.0 room.1 (torn_wrote disks tears_torn old.end (closed old.digest body) (closed_by more old.digest body) old.disk new.disk went.0);
     file = subst (λ k. Rests k (bodies ++ body ∷ []) (disks.seen new.disk)) (sym room.2) (file_kept ok went.0);
@@ -207,7 +207,7 @@ module _ {D : Type 0} (disks : Ghosts D) (bodies : List (List ℕ)) (body : List
             ∙ take-replicate (40 + length body) (4 + n) 0 few),
       )
 
-  pub answer_lost : Room → IsBody body → Went_by Lost → new.lost ≡ true → ((c : List ℕ) → disks.may_leave new.disk c → (d : List ℕ) × disks.may_leave old.disk d × Torn old.end (length (closed_by more old.digest body)) d c) → MayStand disks bodies body new
+  pub answer_lost : Room → IsBody old.format body → Went_by Lost → new.lost ≡ true → ((c : List ℕ) → disks.may_leave new.disk c → (d : List ℕ) × disks.may_leave old.disk d × Torn old.end (length (closed_by more old.digest body)) d c) → MayStand disks bodies body new
   answer_lost room ok went lost_is follows = record {
     seen_is = its (disks.seen new.disk) (good (disks.seen new.disk) went.0);
     seen_on = λ lucky. subst (λ k. IsBeforeOrAfter k bodies body (disks.seen new.disk)) (sym room.2) ((good (disks.seen new.disk) went.0).reads (lucky format bodies body (disks.seen old.disk) went.1 (disks.seen new.disk) more stands.file ok first second));
@@ -245,19 +245,19 @@ module _ {D : Type 0} (disks : Ghosts D) (bodies : List (List ℕ)) (body : List
   abbrev Went_as : Appended → Type 0
   Went_as outcome = WentAhead disks outcome old.end (closed old.digest body) (closed_by more old.digest body) old.disk new.disk
 
-  pub answers_kept : Room → (o : Appended) → o ≡ Kept → IsBody body → Went_as o → new.end ≡ old.end + (36 + length body) → new.digest ≡ digest old.digest body → new.generation ≡ cond (nat_eq old.end 8) (number_in body) old.generation → new.lost ≡ old.lost → Answers disks o bodies body new
+  pub answers_kept : Room → (o : Appended) → o ≡ Kept → IsBody old.format body → Went_as o → new.end ≡ old.end + (36 + length body) → new.digest ≡ digest old.digest body → new.generation ≡ cond (nat_eq old.end 8) (number_in body) old.generation → new.lost ≡ old.lost → Answers disks o bodies body new
   answers_kept room o is ok went e d n l = subst (λ x. Answers disks x bodies body new) (sym is) (answer_kept room ok (subst Went_as is went) e d n l)
 
   pub answers_refused : Room → (o : Appended) → (o ≡ Refused) ⊎ (o ≡ Full) → o ≢ Full → Went_as o → new.end ≡ old.end → new.digest ≡ old.digest → new.generation ≡ old.generation → new.lost ≡ old.lost → Answers disks o bodies body new
   answers_refused room o (inl is) other went e d n l = subst (λ x. Answers disks x bodies body new) (sym is) (answer_refused room (subst Went_as is went) e d n l)
   answers_refused room o (inr is) other went e d n l = absurd (other is)
 
-  pub answers_lost : Room → (o : Appended) → o ≡ Lost → IsBody body → Went_as o → new.lost ≡ true → ((c : List ℕ) → disks.may_leave new.disk c → (d : List ℕ) × disks.may_leave old.disk d × Torn old.end (length (closed_by more old.digest body)) d c) → Answers disks o bodies body new
+  pub answers_lost : Room → (o : Appended) → o ≡ Lost → IsBody old.format body → Went_as o → new.lost ≡ true → ((c : List ℕ) → disks.may_leave new.disk c → (d : List ℕ) × disks.may_leave old.disk d × Torn old.end (length (closed_by more old.digest body)) d c) → Answers disks o bodies body new
   answers_lost room o is ok went l follows = subst (λ x. Answers disks x bodies body new) (sym is) (answer_lost room ok (subst Went_as is went) l follows)
 
 module _ {D : Type 0} (disks : Ghosts D) (bodies : List (List ℕ)) (body : List ℕ) (old : Log D) (stands : Stands disks bodies old)
     (only_now : (c : List ℕ) → disks.left_since old.disk (disks.moment old.disk) c → disks.may_leave old.disk c) where
-  pub answer_moments : (new : D) (n : ℕ) → IsBody body → old.end + n ≤ old.log_bytes
+  pub answer_moments : (new : D) (n : ℕ) → IsBody old.format body → old.end + n ≤ old.log_bytes
       → TimePasses disks (Torn old.end n) old.disk new
       → LeavesOnly disks old.disk new (Leaves old.log_bytes old.format bodies body)
   answer_moments new n ok room time =
@@ -265,13 +265,13 @@ module _ {D : Type 0} (disks : Ghosts D) (bodies : List (List ℕ)) (body : List
       (subst (λ e. TimePasses disks (Torn e n) old.disk new) stands.end time)
 
   -- the same, where the range is a record with its closing length
-  pub record_moments : (new : D) (more : ℕ) (range : List ℕ) → length range ≡ 4 + (36 + length body + more) → IsBody body → old.end + (40 + length body + more) ≤ old.log_bytes
+  pub record_moments : (new : D) (more : ℕ) (range : List ℕ) → length range ≡ 4 + (36 + length body + more) → IsBody old.format body → old.end + (40 + length body + more) ≤ old.log_bytes
       → TimePasses disks (Torn old.end (length range)) old.disk new
       → LeavesOnly disks old.disk new (Leaves old.log_bytes old.format bodies body)
   record_moments new more range long ok room time = answer_moments new (length range) ok (omega (arith, long, room)) time
 
   -- nothing was asked of the disk
-  pub no_moments : IsBody body → old.end ≤ old.log_bytes → LeavesOnly disks old.disk old.disk (Leaves old.log_bytes old.format bodies body)
+  pub no_moments : IsBody old.format body → old.end ≤ old.log_bytes → LeavesOnly disks old.disk old.disk (Leaves old.log_bytes old.format bodies body)
   no_moments ok room =
       answer_moments old.disk 0 ok (omega (arith, room))
       (record { later = omega arith; follows = λ c now. (c, now, torn_same old.end 0 c); nothing_else = λ t c le left. inl left; keeps = λ t c le left. left })

@@ -1,6 +1,8 @@
 -- Which of two files that were read is the current one.
 use Rattle.std.proofs.Common.{◌≡◌, ◌≢◌, ◌⊎◌, inl, inr, ⊎_elim, ℕ, zero, suc, ◌≤◌, ◌<◌, Bool, true, false, not, ◌||◌, List, [], ◌∷◌, length, take, drop, refl, sym, ◌∙◌, ap, subst, arith, cond, nat_lt, Option, Some, None, length-drop}
-use Rattle.std.specs.Prelude.{is_some, is_none, unwrap_or}
+use Rattle.std.specs.Prelude.{is_some, is_none, unwrap_or, Result, MatchResult}
+use Rattle.std.proofs.Common.{Ok, Err}
+use Rattle.std.specs.Result.{IfErr}
 use Rattle.std.specs.Str.{bytes_eq}
 use Rattle.std.proofs.lemmas.List.{length-take}
 use Rattle.std.proofs.lemmas.Bool.{cases_Bool, and_left, and_from, or_left, or_right, or_from}
@@ -9,23 +11,41 @@ use Rattle.std.proofs.lemmas.Slice.Eq.{bytes_eq-Decides}
 use Rattle.xa_log.specs.declared.fault.OpenFault.{OpenFault}
 use Rattle.xa_log.specs.declared.fault.OpenFault.TheVariants.{NotALog, TooNew, TooLong, Device, Memory}
 use Rattle.xa_log.specs.declared.format.Format.{Format}
-use Rattle.xa_log.specs.declared.format.Format.TheVariants.{One}
-use Rattle.xa_log.specs.declared.looking.Head.{Head}
+use Rattle.xa_log.specs.declared.format.Format.TheVariants.{One, Two}
+use Rattle.xa_log.specs.declared.found.Found.{Found}
+use Rattle.xa_log.specs.declared.heads.Head.{Head}
 use Rattle.xa_log.specs.Chain.{magic, start, format_of, format_in, is_record, body_at, rest_at, digest_at, bodies_from, logged}
-use Rattle.xa_log.specs.Reading.{is_newer, fault_unless, front_fault, fault_of, Explains}
+use Rattle.xa_log.specs.Reading.{is_newer, fault_unless, front_fault, fault_of, Explains, Finds}
 use Rattle.xa_log.specs.Pair.{number_in, generation, is_nil, beats, has_log, on_first, pair_fault}
-use Rattle.xa_log.specs.Looking.{AreShort, Numbers, Tells, IsHead, Chooses}
+use Rattle.xa_log.specs.Looking.{AreShort, either_log, Tells, IsHead}
 use Rattle.xa_log.specs.Missing.{generation_in}
-use Rattle.xa_log.proofs.Records.{one_format, record_to, bodies_closed}
+use Rattle.xa_log.proofs.Header.{magic_known}
+use Rattle.xa_log.proofs.Records.{length-magic, record_to, bodies_closed}
 
 -- ---- how a file begins
 
+-- the first eight bytes that name a format are its own
+pub magic_of : (x : List ℕ) (format : Format) → format_of x ≡ Some format → x ≡ magic format
+magic_of x format is = elim (cases_Bool (bytes_eq x (magic One))) [
+  | inl one ↦
+      let named : Some One ≡ Some format = sym (ap (λ (t : Bool). cond t (Some One) (cond (bytes_eq x (magic Two)) (Some Two) None)) one) ∙ is in
+      let same : One ≡ format = cc named in
+      (bytes_eq-Decides x (magic One)).0 one ∙ ap magic same
+  | inr other ↦
+      let rest : cond (bytes_eq x (magic Two)) (Some Two) None ≡ Some format =
+      sym (ap (λ (t : Bool). cond t (Some One) (cond (bytes_eq x (magic Two)) (Some Two) None)) other) ∙ is in
+      elim (cases_Bool (bytes_eq x (magic Two))) [
+        | inl two ↦
+            let named : Some Two ≡ Some format = sym (ap (λ (t : Bool). cond t (Some Two) None) two) ∙ rest in
+            let same : Two ≡ format = cc named in
+            (bytes_eq-Decides x (magic Two)).0 two ∙ ap magic same
+        | inr neither ↦ absurd (cc (sym (ap (λ (t : Bool). cond t (Some Two) None) neither) ∙ rest))
+      ]
+]
+
 -- the first eight bytes of a log are not those of a later format
 pub newer_not : (x : List ℕ) (format : Format) → format_of x ≡ Some format → is_newer x ≡ false
-newer_not x format is = elim (cases_Bool (bytes_eq x (magic One))) [
-  | inl same ↦ ap (λ (l : List ℕ). is_newer l) ((bytes_eq-Decides x (magic One)).0 same)
-  | inr other ↦ absurd (cc (sym (ap (λ (t : Bool). cond t (Some One) None) other) ∙ is))
-]
+newer_not x format is = ap (λ (l : List ℕ). is_newer l) (magic_of x format is) ∙ magic_known format
 
 pub record Fault (x : List ℕ) (e : OpenFault) : Type 0 where
   pub format : None ≡ format_of x
@@ -41,89 +61,86 @@ fault_says x e is = by (format_of x) refl (is_newer x) refl is
     by None p true q is = record { format = p; newer = λ new. q; older = λ other. absurd (other (cc is)) }
     by None p false q is = record { format = p; newer = λ new. absurd (cc (new, is)); older = λ other. q }
 
-short_front : (file : List ℕ) → length file < 8 → bytes_eq (take 8 file) (magic One) ≡ false
-short_front file short = elim (cases_Bool (bytes_eq (take 8 file) (magic One))) [
-  | inl same ↦
-      let is : take 8 file ≡ magic One = (bytes_eq-Decides (take 8 file) (magic One)).0 same in
-      absurd (omega (arith, ap (λ (l : List ℕ). length l) is, length-take 8 file))
-  | inr other ↦ other
-]
-
 -- fewer than eight bytes name no format
 pub short_format : (file : List ℕ) → length file < 8 → None ≡ format_of (take 8 file)
-short_format file short = sym (ap (λ (t : Bool). cond t (Some One) None) (short_front file short))
+short_format file short = by (format_of (take 8 file)) refl
+  where
+    by : (o : Option Format) → o ≡ format_of (take 8 file) → None ≡ format_of (take 8 file)
+    by None is = is
+    by (Some format) is =
+        let whole : take 8 file ≡ magic format = magic_of (take 8 file) format (sym is) in
+        absurd (omega (arith, ap (λ (l : List ℕ). length l) whole, length-take 8 file, length-magic format))
 
 -- ---- what a log's first record tells
 
-first_tells : (m : ℕ) (prev x : List ℕ) (n : ℕ) → 1 ≤ m → is_record prev x ≡ true → n ≡ number_in (body_at x) → Tells (bodies_from m prev x) (Some n)
-first_tells zero prev x n some there is = absurd (omega arith)
-first_tells (suc m) prev x n some there is =
-    let whole : bodies_from (suc m) prev x ≡ body_at x ∷ bodies_from m (digest_at prev x) (rest_at x) = ap (λ (b : Bool). cond b (body_at x ∷ bodies_from m (digest_at prev x) (rest_at x)) []) there in
-    (ap (λ (l : List (List ℕ)). is_nil l) whole, ap (λ (l : List (List ℕ)). generation l) whole ∙ sym is)
+-- a file is read by the format that it names
+pub own_format : (file : List ℕ) (format : Format) → format_of (take 8 file) ≡ Some format → format_in file ≡ format
+own_format file format is = ap (λ (o : Option Format). unwrap_or o Two) is
 
-pub told : (file : List ℕ) (format : Format) (number : Option ℕ) → format_of (take 8 file) ≡ Some format → Numbers (start format) (drop 8 file) number → Tells (logged file) number
-told file format number is numbers = subst (λ k. Tells (bodies_from (length file) (start k) (drop 8 file)) number) (sym own) (by number numbers)
+first_tells : (format : Format) (m : ℕ) (prev x : List ℕ) (found : Found) → 1 ≤ m → is_record format prev x ≡ true → found.body.items ≡ body_at x → Tells (bodies_from format m prev x) (Some found)
+first_tells format zero prev x found some there is = absurd (omega arith)
+first_tells format (suc m) prev x found some there is =
+    let whole : bodies_from format (suc m) prev x ≡ body_at x ∷ bodies_from format m (digest_at prev x) (rest_at x) = ap (λ (b : Bool). cond b (body_at x ∷ bodies_from format m (digest_at prev x) (rest_at x)) []) there in
+    (ap (λ (l : List (List ℕ)). is_nil l) whole, ap (λ (l : List (List ℕ)). generation l) whole ∙ ap number_in (sym is))
+
+pub told : (file window : List ℕ) (head : Head) → IsHead file window (Some head) → Tells (logged file) head.first
+told file window head it =
+    subst (λ k. Tells (bodies_from k (length file) (start k) (drop 8 file)) head.first) (sym (own_format file head.format it.0)) (by head.first it.1)
   where
-    own : format_in file ≡ format
-    own = ap (λ (o : Option Format). unwrap_or o One) is
-
-    by : (o : Option ℕ) → Numbers (start format) (drop 8 file) o → Tells (bodies_from (length file) (start format) (drop 8 file)) o
-    by None none = bodies_closed (length file) (start format) (drop 8 file) none
-    by (Some n) some = first_tells (length file) (start format) (drop 8 file) n (omega (arith, (record_to (start format) (drop 8 file) some.0).whole, length-drop 8 file)) some.0 some.1
-
-pub told_number : (bodies : List (List ℕ)) (o : Option ℕ) → Tells bodies o → generation bodies ≡ unwrap_or o 0
-told_number bodies None is = ap (λ (l : List (List ℕ)). generation l) is
-told_number bodies (Some n) is = is.1
+    by : (o : Option Found) → Finds head.format (start head.format) file 8 window o → Tells (bodies_from head.format (length file) (start head.format) (drop 8 file)) o
+    by None none = bodies_closed head.format (length file) (start head.format) (drop 8 file) none
+    by (Some found) some =
+        first_tells head.format (length file) (start head.format) (drop 8 file) found
+        (omega (arith, (record_to head.format (start head.format) (drop 8 file) some.0).whole, length-drop 8 file)) some.0 some.2
 
 -- the generation of the log that a file is
-pub head_generation : (file : List ℕ) (head : Head) → IsHead file (Some head) → unwrap_or head.number 0 ≡ generation_in file
-head_generation file head it =
-    sym (told_number (logged file) head.number it.1)
+pub head_generation : (file window : List ℕ) (head : Head) (n : ℕ) → IsHead file window (Some head) → ((bodies : List (List ℕ)) → Tells bodies head.first → n ≡ generation bodies) → n ≡ generation_in file
+head_generation file window head n it number =
+    number (logged file) (told file window head it)
     ∙ sym (ap (λ (b : Bool). cond b (generation (logged file)) 0) (ap (λ (o : Option Format). is_some o) it.0))
 
-pub no_generation : (file : List ℕ) → IsHead file None → 0 ≡ generation_in file
-no_generation file it = sym (ap (λ (b : Bool). cond b (generation (logged file)) 0) (ap (λ (o : Option Format). is_some o) it))
+pub no_generation : (file window : List ℕ) → IsHead file window None → 0 ≡ generation_in file
+no_generation file window it = sym (ap (λ (b : Bool). cond b (generation (logged file)) 0) (ap (λ (o : Option Format). is_some o) it))
 
-pub told_nil : (bodies : List (List ℕ)) (o : Option ℕ) → Tells bodies o → is_nil bodies ≡ is_none o
+pub told_nil : (bodies : List (List ℕ)) (o : Option Found) → Tells bodies o → is_nil bodies ≡ is_none o
 told_nil bodies None is = ap (λ (l : List (List ℕ)). is_nil l) is
-told_nil bodies (Some n) is = is.0
+told_nil bodies (Some found) is = is.0
 
-pub told_some : (bodies : List (List ℕ)) (o : Option ℕ) → Tells bodies o → not (is_nil bodies) ≡ is_some o
+pub told_some : (bodies : List (List ℕ)) (o : Option Found) → Tells bodies o → not (is_nil bodies) ≡ is_some o
 told_some bodies None is = ap (λ (l : List (List ℕ)). not (is_nil l)) is
-told_some bodies (Some n) is = ap not is.0
+told_some bodies (Some found) is = ap not is.0
 
 -- ---- which of two is the current one
 
-module _ (a b : List ℕ) where
-  log_a : (h : Head) → IsHead a (Some h) → has_log a ≡ true
+module _ (a window b other_window : List ℕ) where
+  log_a : (h : Head) → IsHead a window (Some h) → has_log a ≡ true
   log_a h is = ap (λ (o : Option Format). is_some o) is.0
 
-  log_b : (h : Head) → IsHead b (Some h) → has_log b ≡ true
+  log_b : (h : Head) → IsHead b other_window (Some h) → has_log b ≡ true
   log_b h is = ap (λ (o : Option Format). is_some o) is.0
 
-  none_a : IsHead a None → has_log a ≡ false
+  none_a : IsHead a window None → has_log a ≡ false
   none_a is = ap (λ (o : Option Format). is_some o) is
 
-  none_b : IsHead b None → has_log b ≡ false
+  none_b : IsHead b other_window None → has_log b ≡ false
   none_b is = ap (λ (o : Option Format). is_some o) is
 
-  on_both : (h k : Head) → IsHead a (Some h) → IsHead b (Some k) → on_first a b ≡ beats true (logged a) (logged b)
+  on_both : (h k : Head) → IsHead a window (Some h) → IsHead b other_window (Some k) → on_first a b ≡ beats true (logged a) (logged b)
   on_both h k x y = let ha = log_a h x in let hb = log_b k y in rw (ha, hb) refl
 
-  pub choose_first : (h k : Head) → IsHead a (Some h) → IsHead b (Some k) → beats true (logged a) (logged b) ≡ true → Chooses a b (Some (true, h.format))
-  choose_first h k x y wins = (or_left (has_log a) (has_log b) (log_a h x), sym (on_both h k x y ∙ wins), x.0)
+  pub choose_both : (h k : Head) (t : Bool) → IsHead a window (Some h) → IsHead b other_window (Some k)
+      → ((bodies stood : List (List ℕ)) → Tells bodies h.first → Tells stood k.first → t ≡ beats true bodies stood) → (either_log a b ≡ true) × (t ≡ on_first a b)
+  choose_both h k t x y is =
+      (or_left (has_log a) (has_log b) (log_a h x), is (logged a) (logged b) (told a window h x) (told b other_window k y) ∙ sym (on_both h k x y))
 
-  pub choose_second : (h k : Head) → IsHead a (Some h) → IsHead b (Some k) → beats true (logged a) (logged b) ≡ false → Chooses a b (Some (false, k.format))
-  choose_second h k x y loses = (or_left (has_log a) (has_log b) (log_a h x), sym (on_both h k x y ∙ loses), y.0)
-
-  pub choose_only_first : (h : Head) → IsHead a (Some h) → IsHead b None → Chooses a b (Some (true, h.format))
+  pub choose_only_first : (h : Head) → IsHead a window (Some h) → IsHead b other_window None → (either_log a b ≡ true) × (true ≡ on_first a b)
   choose_only_first h x y =
-      (or_left (has_log a) (has_log b) (log_a h x), sym (and_from (has_log a) _ (log_a h x) (or_left (not (has_log b)) _ (ap not (none_b y)))), x.0)
+      (or_left (has_log a) (has_log b) (log_a h x), sym (and_from (has_log a) _ (log_a h x) (or_left (not (has_log b)) _ (ap not (none_b y)))))
 
-  pub choose_only_second : (k : Head) → IsHead a None → IsHead b (Some k) → Chooses a b (Some (false, k.format))
-  choose_only_second k x y = (or_right (has_log a) (has_log b) (log_b k y), sym (and_left (has_log a) _ (none_a x)), y.0)
+  pub choose_only_second : (k : Head) → IsHead a window None → IsHead b other_window (Some k) → (either_log a b ≡ true) × (false ≡ on_first a b)
+  choose_only_second k x y = (or_right (has_log a) (has_log b) (log_b k y), sym (and_left (has_log a) _ (none_a x)))
 
-  pub choose_none : IsHead a None → IsHead b None → Chooses a b None
+  pub choose_none : IsHead a window None → IsHead b other_window None → either_log a b ≡ false
   choose_none x y = or_from (has_log a) (has_log b) (none_a x) (none_b y)
 
 -- ---- why two files have no log
@@ -150,6 +167,14 @@ module _ (most : ℕ) (a b : List ℕ) (m n : ℕ) (short : AreShort most a b m 
       ⊎_elim (λ is. subst (λ k. Explains k (pair_fault most a b)) (sym is) tt)
       (λ more. ⊎_elim (λ is. subst (λ k. Explains k (pair_fault most a b)) (sym is) tt) (λ is. subst (λ k. Explains k (pair_fault most a b)) (sym is) (fault_is old false (none is))) more) kind
 
+  -- what is found of them where both begin as no later format
+  pub pair_value : {X : Type 0} (r : Result X OpenFault) (P : X → Type 0) → (is_newer (take 8 a) || is_newer (take 8 b)) ≡ false
+      → IfErr r (λ e. (e ≡ Device) ⊎ (e ≡ Memory) ⊎ (e ≡ NotALog))
+      → MatchResult r (λ x. ((has_log a || has_log b) ≡ true) × P x) (λ e. e ≡ NotALog → (has_log a || has_log b) ≡ false)
+      → MatchResult r (λ x. (pair_fault most a b ≡ None) × P x) (λ e. Explains e (pair_fault most a b))
+  pair_value (Ok x) P old kinds it = (fault_is old true it.0, it.1)
+  pair_value (Err e) P old kinds it = explains_current e kinds old it
+
 -- ---- one file that opens
 
 log_front : (x : List ℕ) → front_fault x ≡ None → (format : Format) × (format_of x ≡ Some format)
@@ -170,10 +195,3 @@ no_fault_log most file none = ap (λ (o : Option Format). is_some o) (log_front 
 
 pub no_fault_newer : (most : ℕ) (file : List ℕ) → fault_of most file ≡ None → is_newer (take 8 file) ≡ false
 no_fault_newer most file none = let it = log_front (take 8 file) (opens_front most file none) in newer_not (take 8 file) it.0 it.1
-
--- the format names its first eight bytes
-pub magic_of : (x : List ℕ) (format : Format) → format_of x ≡ Some format → x ≡ magic format
-magic_of x format is = elim (cases_Bool (bytes_eq x (magic One))) [
-  | inl same ↦ (bytes_eq-Decides x (magic One)).0 same ∙ ap (λ (f : Format). magic f) (one_format One format)
-  | inr other ↦ absurd (cc (sym (ap (λ (t : Bool). cond t (Some One) None) other) ∙ is))
-]

@@ -1,16 +1,22 @@
 -- Reads of a file from its front, piece by piece.
-use Rattle.std.proofs.Common.{◌≡◌, ◌⊎◌, inl, inr, ⊎_elim, ℕ, zero, suc, ◌+◌, ◌-◌, ◌*◌, ◌^◌, ◌≤◌, ◌<◌, min, Bool, true, false, if◌then◌else◌, List, ◌++◌, length, take, drop, refl, sym, ◌∙◌, ap, subst, arith, append_assoc, length-append, length-take-le, length-drop, take-append-drop, rules, Option, None, Some, Result, Ok, Err, IsErr, MatchResult}
-use Rattle.std.proofs.lemmas.List.{take_at, take-take, drop-take, drop-drop}
+use Rattle.std.proofs.Common.{◌≡◌, ◌⊎◌, inl, inr, ⊎_elim, ℕ, zero, suc, ◌+◌, ◌-◌, ◌*◌, ◌^◌, ◌≤◌, ◌<◌, min, Bool, true, false, if◌then◌else◌, List, ◌++◌, length, take, drop, refl, sym, ◌∙◌, ap, subst, arith, append_assoc, length-append, length-take-le, length-drop, rules, Option, None, Some, Result, Ok, Err, IsErr, IfOk, MatchResult}
+use Rattle.std.proofs.lemmas.List.{take_at, drop-drop}
 use Rattle.std.specs.Result.{IfErr, IsErrAnd}
 use Rattle.xa_disk.specs.Counts.{plus, with_read, with_sync}
 use Rattle.xa_disk.specs.declared.counts.Counts.{Counts}
-use Rattle.xa_log.specs.Calls.{with_reads, Fetched, FetchedSome, FetchedNext, OnlyReads, Looks, LooksAt, asked}
+use Rattle.xa_log.specs.Calls.{with_reads, Fetched, FetchedSome, FetchedWithin, FetchedUpto, FetchedNext, Reaches, ReachesTo, OnlyReads, Looks, LooksAt, asked}
 use Rattle.xa_log.specs.declared.fault.OpenFault.{OpenFault}
 use Rattle.xa_log.specs.declared.fault.OpenFault.TheVariants.{Device, Memory, NotALog, TooNew, TooLong}
 use Rattle.xa_log.specs.declared.format.Format.{Format}
-use Rattle.xa_log.specs.declared.reading.Found.{Found}
+use Rattle.xa_log.specs.declared.found.Found.{Found}
+use Rattle.xa_log.specs.declared.heads.Head.{Head}
+use Rattle.xa_log.specs.Looking.{FetchedHead}
+use Rattle.xa_log.specs.declared.window.Span.{Span}
+use Rattle.xa_log.specs.Window.{Ahead}
+use Rattle.std.proofs.lemmas.Bool.{cases_lt}
 use Rattle.xa_log.specs.Reading.{fault_unless, front_fault, is_newer}
 use Rattle.xa_log.specs.Chain.{format_of}
+use Rattle.xa_log.proofs.Front.{take_both}
 
 plus_more : (x r k m : ℕ) → min (min (x + r) m + k) m ≡ min (x + (r + k)) m
 plus_more x r k m = omega arith
@@ -52,12 +58,6 @@ pub on_fault : {T E : Type 0} (P : T → Type 0) (Q : Type 0) (r : Result T E) �
 on_fault P Q (Ok x) is q = absurd (search (is, rules))
 on_fault P Q (Err e) is q = q
 
-take_both : (m n : ℕ) (x : List ℕ) → take m x ++ take n (drop m x) ≡ take (m + n) x
-take_both m n x =
-    ap (λ (l : List ℕ). l ++ take n (drop m x)) (sym (take-take m (m + n) x (omega arith)))
-    ∙ ap (λ (l : List ℕ). take m (take (m + n) x) ++ l) (sym (drop-take m n x))
-    ∙ take-append-drop m (take (m + n) x)
-
 -- what was kept at the front, and what was read behind it, is one piece of the file
 pub joined : (file window into rest : List ℕ) (at kept have : ℕ) → kept ≤ have → kept ≤ length window → take kept window ≡ take kept (drop at file) → length into ≡ have - kept → into ≡ take (length into) (drop (at + kept) file)
     → take have (take kept window ++ (into ++ rest)) ≡ take have (drop at file)
@@ -72,11 +72,87 @@ joined file window into rest at kept have le room same long is =
     ∙ take_both kept (have - kept) x
     ∙ ap (λ (k : ℕ). take k x) n
 
-pub next_none : (len : ℕ) (start now : Counts) (o : Option Found) → o ≡ None → FetchedNext len start now o → FetchedSome len start now
-next_none len start now o is f = subst (λ x. FetchedNext len start now x) is f
+pub fault_some : {T E : Type 0} (P : T → Type 0) (len most : ℕ) (start now : Counts) (r : Result T E)
+    → MatchResult r P (λ _. FetchedWithin len most start now) → MatchResult r P (λ _. FetchedSome len start now)
+fault_some P len most start now (Ok x) f = f
+fault_some P len most start now (Err e) f = record { upto = f.upto; fetched = f.fetched }
 
-pub next_found : (len : ℕ) (start now : Counts) (o : Option Found) (r : Found) → o ≡ Some r → FetchedNext len start now o → Fetched len (r.span.from + r.span.have) start now
-next_found len start now o r is f = subst (λ x. FetchedNext len start now x) is f
+-- ---- within a bound
+
+pub within_more : (len a b : ℕ) (start now : Counts) → a ≤ b → FetchedWithin len a start now → FetchedWithin len b start now
+within_more len a b start now le f = record { upto = f.upto; fetched = f.fetched; bounded = omega (arith, f.bounded, le) }
+
+-- pieces that were read straight into a body end before the record does
+pub ahead_reaches : (size : ℕ) (old : Span) (at have len done most : ℕ) (new : Span) → Ahead size old at have len done new → ReachesTo (at + size + 32) (old.from + old.have) most
+    → ReachesTo (at + size + 32) (new.from + new.have) most
+ahead_reaches size old at have len done most new a r = by a.bounded
+  where
+    by : (new ≡ old) ⊎ ((old.from + old.have < at + size) × (new.from + new.have ≤ at + size)) → ReachesTo (at + size + 32) (new.from + new.have) most
+    by (inl same) = subst (λ z. ReachesTo (at + size + 32) (z.from + z.have) most) (sym same) r
+    by (inr read) = let far : at + size + 32 + 1048576 ≤ most = r.1 (omega (arith, read.0)) in (omega (arith, read.1, far), λ short. far)
+
+-- the last read of a record, by way of a window
+pub rest_within : {E : Type 0} (r : Result Span E) (old : Span) (len end most : ℕ) (start now : Counts)
+    → MatchResult r (λ s. Fetched len (s.from + s.have) start now) (λ _. FetchedWithin len (end + 1048576) start now)
+    → IfOk r (λ s. (s ≡ old) ⊎ (s.from + s.have ≤ end + 1048576)) → (end + 32 ≤ old.from + old.have → r ≡ Ok old) → ReachesTo (end + 32) (old.from + old.have) most
+    → MatchResult r (λ s. FetchedUpto len most start now s) (λ _. FetchedWithin len most start now)
+rest_within (Ok s) old len end most start now f bounded covered reaches = (f, by (cases_lt (old.from + old.have) (end + 32)) bounded)
+  where
+    by : (old.from + old.have < end + 32) ⊎ (end + 32 ≤ old.from + old.have) → (s ≡ old) ⊎ (s.from + s.have ≤ end + 1048576) → s.from + s.have ≤ most
+    by k (inl same) = subst (λ z. z.from + z.have ≤ most) (sym same) reaches.0
+    by (inl short) (inr le) = omega (arith, le, reaches.1 short)
+    by (inr long) (inr le) = let same : s ≡ old = cc (covered long) in subst (λ z. z.from + z.have ≤ most) (sym same) reaches.0
+rest_within (Err e) old len end most start now f bounded covered reaches = elim (cases_lt (old.from + old.have) (end + 32)) [
+  | inl short ↦ within_more len (end + 1048576) most start now (omega (arith, reaches.1 short)) f
+  | inr long ↦ absurd (cc (covered long))
+]
+
+-- the read of a record's length, by way of a window
+pub record LengthRead (old s : Span) (at most : ℕ) : Type 0 where
+  pub bounded : s.from + s.have ≤ most
+  pub from : (s ≡ old) ⊎ (old.from + old.have < at + 4)
+
+pub length_read : (old s : Span) (at len most : ℕ) → at + 36 ≤ len → (s ≡ old) ⊎ ((s.from ≡ at) × (s.have ≡ min (len - at) 1048576)) → (at + 4 ≤ old.from + old.have → s ≡ old)
+    → old.from + old.have ≤ most → (at + 36 ≤ len → old.from + old.have < at + 4 → at + 1048576 ≤ most) → LengthRead old s at most
+length_read old s at len most fits whole covered within far = elim (cases_lt (old.from + old.have) (at + 4)) [
+  | inl short ↦ record {
+    bounded = ⊎_elim (λ same. subst (λ z. z.from + z.have ≤ most) (sym same) within) (λ read. omega (arith, read.0, read.1, far fits short)) whole;
+    from = inr short;
+  }
+  | inr long ↦ record { bounded = subst (λ z. z.from + z.have ≤ most) (sym (covered long)) within; from = inl (covered long) }
+]
+
+pub length_reaches : (old s : Span) (at most end : ℕ) → LengthRead old s at most → at + 36 ≤ end → ReachesTo end (old.from + old.have) most → ReachesTo end (s.from + s.have) most
+length_reaches old s at most end it le r = (it.bounded, λ short. ⊎_elim (λ same. r.1 (subst (λ z. z.from + z.have < end) same short)) (λ before. r.1 (omega (arith, before, le))) it.from)
+
+-- ---- a record that was found or wasn't
+
+pub some_within : (len most : ℕ) (start now : Counts) → FetchedWithin len most start now → FetchedSome len start now
+some_within len most start now f = record { upto = f.upto; fetched = f.fetched }
+
+pub next_some : (len most : ℕ) (start now : Counts) (o : Option Found) → FetchedNext len most start now o → FetchedSome len start now
+next_some len most start now None f = some_within len most start now f
+next_some len most start now (Some r) f = record { upto = r.span.from + r.span.have; fetched = f.0 }
+
+pub next_within : (len most : ℕ) (start now : Counts) (o : Option Found) → FetchedNext len most start now o → FetchedWithin len most start now
+next_within len most start now None f = f
+next_within len most start now (Some r) f = record { upto = r.span.from + r.span.have; fetched = f.0; bounded = f.1 }
+
+pub head_within : (len most : ℕ) (start now : Counts) (o : Option Head) → FetchedHead len most start now o → FetchedWithin len most start now
+head_within len most start now None f = f
+head_within len most start now (Some head) f = next_within len most start now head.first f
+
+pub head_some : (len most : ℕ) (start now : Counts) (o : Option Head) → FetchedHead len most start now o → FetchedSome len start now
+head_some len most start now o f = some_within len most start now (head_within len most start now o f)
+
+-- whatever is read, it is no more than a window behind the file's end
+pub any_reach : (IsSize : ℕ → Type 0) (limit len at upto : ℕ) → upto ≤ len → at ≤ len → Reaches IsSize limit len at upto (len + 1048576)
+any_reach IsSize limit len at upto le within = (omega (arith, le), (λ fits short. omega (arith, within)), λ size is small fits. (omega (arith, le), λ short. omega (arith, fits)))
+
+-- no more than the file's bytes are read
+pub next_any : (len most : ℕ) (start now : Counts) (o : Option Found) → FetchedNext len most start now o → FetchedNext len (len + 1048576) start now o
+next_any len most start now None f = record { upto = f.upto; fetched = f.fetched; bounded = omega (arith, f.fetched.within) }
+next_any len most start now (Some r) f = (f.0, omega (arith, f.0.within))
 
 -- no read, and reads within a file that isn't too long
 pub reads_none : (most : ℕ) (first now : Counts) → now ≡ first → OnlyReads most first now
@@ -119,6 +195,11 @@ no_format : (o : Option Format) (newer : Bool) (e : OpenFault) → fault_unless 
 no_format (Some format) newer e fault long = cc
 no_format None true e fault long = cc
 no_format None false e fault long = cc
+
+-- the reading of a record that failed
+pub read_kinds : {T : Type 0} (r : Result T OpenFault) (e : OpenFault) → IsErrAnd r (λ k. k ≡ e) → (e ≡ Device) ⊎ (e ≡ Memory) → IfErr r (λ k. (k ≡ Device) ⊎ (k ≡ Memory))
+read_kinds (Ok x) e is kind = tt
+read_kinds (Err k) e is kind = ⊎_elim (λ device. inl (is ∙ device)) (λ memory. inr (is ∙ memory)) kind
 
 -- a front that names no format
 pub looked_format : (front : List ℕ) (e : OpenFault) (most : ℕ) (first now : Counts) → front_fault front ≡ Some e → OnlyReads most (asked first) now → LooksAt e most first now

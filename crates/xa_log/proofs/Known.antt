@@ -1,7 +1,7 @@
 -- How far the two files are known to reach.
 use Rattle.std.proofs.Common.{◌≡◌, inl, inr, ℕ, ◌+◌, ◌≤◌, Bool, true, false, cond, List, ◌++◌, length, drop, replicate, sym, ◌∙◌, ap, subst, arith, length-append, length-drop, Result, Ok, Err, OnOk, OnErr, IfOk, rules}
 use Rattle.std.specs.Prelude.{max}
-use Rattle.std.proofs.lemmas.List.{places}
+use Rattle.std.proofs.lemmas.List.{places, length-replicate}
 use Rattle.xa_disk.specs.declared.disk.Disk.{Ghosts}
 use Rattle.xa_disk.specs.Disk.{put, Torn}
 use Rattle.xa_disk.specs.Images.{put_torn}
@@ -36,10 +36,20 @@ seal_grows tears Lost at bytes old new left went = went.0.no_shorter
 seal_grows tears Full at bytes old new left went = absurd went
 
 -- the records of a checkpoint reach up to their closing length
-pub records_reach : (format : Format) (bodies : List (List ℕ)) (mid new : List ℕ) → new ≡ put mid 12 (behind_front format bodies) → 12 + length (records (start format) bodies) ≤ length new
-records_reach format bodies mid new is =
+pub records_reach : (more : ℕ) (format : Format) (bodies : List (List ℕ)) (mid new : List ℕ) → new ≡ put mid 12 (behind_front format bodies ++ replicate more 0)
+    → 12 + length (records (start format) bodies) + more ≤ length new
+records_reach more format bodies mid new is =
     let all : List ℕ = records (start format) bodies in
-    omega (arith, ap (λ (l : List ℕ). length l) is, reaches mid 12 (behind_front format bodies), length-append (drop 4 all) closing, length-drop 4 all)
+    let zeros : List ℕ = replicate more 0 in
+    omega (
+      arith,
+      ap (λ (l : List ℕ). length l) is,
+      reaches mid 12 (behind_front format bodies ++ zeros),
+      length-append (behind_front format bodies) zeros,
+      length-replicate {A = ℕ} more 0,
+      length-append (drop 4 all) closing,
+      length-drop 4 all,
+    )
 
 pub header_long : (format : Format) (old new : List ℕ) → new ≡ preamble format ++ drop 12 old → 12 ≤ length new
 header_long format old new is = omega (arith, ap (λ (l : List ℕ). length l) is, length-append (preamble format) (drop 12 old), length-preamble format)
@@ -47,7 +57,7 @@ header_long format old new is = omega (arith, ap (λ (l : List ℕ). length l) i
 -- ---- an append
 
 module _ {D : Type 0} (disks : Ghosts D) (tears_torn : (old : List ℕ) (at : ℕ) (bytes new : List ℕ) → disks.tears old at bytes new → Torn at (length bytes) old new) where
-  append_grows : (at : ℕ) (few bytes : List ℕ) (old new : D) (o : Appended) → WentAhead disks o at few bytes old new → length (disks.seen old) ≤ length (disks.seen new)
+  pub append_grows : (at : ℕ) (few bytes : List ℕ) (old new : D) (o : Appended) → WentAhead disks o at few bytes old new → length (disks.seen old) ≤ length (disks.seen new)
   append_grows at few bytes old new Kept went = (torn_wrote disks tears_torn at few bytes old new went.0).no_shorter
   append_grows at few bytes old new Refused went =
       let zeros : List ℕ = replicate (length few) 0 in
@@ -55,7 +65,7 @@ module _ {D : Type 0} (disks : Ghosts D) (tears_torn : (old : List ℕ) (at : �
   append_grows at few bytes old new Lost went = went.0.no_shorter
   append_grows at few bytes old new Full went = absurd went
 
-  append_reaches : (at : ℕ) (few bytes : List ℕ) (old new : D) → length few ≤ length bytes → Wrote disks at few bytes old new → at + length few ≤ length (disks.seen new)
+  pub append_reaches : (at : ℕ) (few bytes : List ℕ) (old new : D) → length few ≤ length bytes → Wrote disks at few bytes old new → at + length few ≤ length (disks.seen new)
   append_reaches at few bytes old new less (inl is) = omega (arith, less, ap (λ (l : List ℕ). length l) is, reaches (disks.seen old) at bytes)
   append_reaches at few bytes old new less (inr x) = omega (arith, ap (λ (l : List ℕ). length l) x.4, reaches x.2 at few)
 

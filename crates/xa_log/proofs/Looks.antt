@@ -1,12 +1,15 @@
 -- The calls of a look at two files.
-use Rattle.std.proofs.Common.{◌≡◌, ◌≢◌, ◌⊎◌, inl, inr, ⊎_elim, ℕ, ◌≤◌, Bool, true, false, MatchBool, IfOk, refl, sym, ◌∙◌, ap, subst, rules, Result, Ok, Err, IsErr, IfErr, MatchResult}
+use Rattle.std.proofs.Common.{◌≡◌, ◌≢◌, ◌⊎◌, inl, inr, ⊎_elim, ℕ, ◌≤◌, List, Option, Bool, true, false, MatchBool, IfOk, refl, sym, ◌∙◌, ap, subst, rules, Result, Ok, Err, IsErr, IfErr, MatchResult}
 use Rattle.std.specs.Result.{IsErrAnd}
 use Rattle.xa_disk.specs.Counts.{with_sync}
 use Rattle.xa_disk.specs.declared.counts.Counts.{Counts}
-use Rattle.xa_log.specs.Calls.{with_reads, ReadsLittle, Fetched, OnlyReads, Looks, LooksAt, LooksSecond, LooksSecondAt, asked}
+use Rattle.xa_log.specs.Calls.{with_reads, ReadsLittle, LooksBriefly, MOST_BRIEF, brief, Fetched, FetchedWithin, OnlyReads, Looks, LooksAt, LooksSecond, LooksSecondAt, asked}
 use Rattle.xa_log.specs.declared.fault.OpenFault.{OpenFault}
 use Rattle.xa_log.specs.declared.fault.OpenFault.TheVariants.{NotALog, TooNew, TooLong, Device, Memory}
-use Rattle.xa_log.proofs.Fetch.{reads_none}
+use Rattle.xa_disk.specs.declared.disk.Disk.{Ghosts}
+use Rattle.xa_log.specs.declared.heads.Head.{Head}
+use Rattle.xa_log.specs.Looking.{FetchedHead}
+use Rattle.xa_log.proofs.Fetch.{reads_none, head_within}
 
 -- a fault that is handed on
 pub handed_on : {T : Type 0} (P : T → Type 0) (Q : OpenFault → Type 0) (r : Result T OpenFault) (e : OpenFault) → IsErr r × IsErrAnd r (λ k. k ≡ e) → Q e → MatchResult r P Q
@@ -44,6 +47,10 @@ pub fronts_short : {T : Type 0} (r : Result T OpenFault) (e : OpenFault) → IsE
 fronts_short (Ok x) e is kind = tt
 fronts_short (Err k) e is kind = λ long. ⊎_elim (λ device. absurd (cc (is, device, long))) (λ newer. absurd (cc (is, newer, long))) kind
 
+pub heads_short : {T : Type 0} (r : Result T OpenFault) (e : OpenFault) → IsErrAnd r (λ k. k ≡ e) → (e ≡ Device) ⊎ (e ≡ Memory) → IfErr r (λ k. k ≢ TooLong)
+heads_short (Ok x) e is kind = tt
+heads_short (Err k) e is kind = λ long. ⊎_elim (λ device. absurd (cc (is, device, long))) (λ memory. absurd (cc (is, memory, long))) kind
+
 pub current_short : {T : Type 0} (r : Result T OpenFault) → IfErr r (λ e. (e ≡ Device) ⊎ (e ≡ Memory) ⊎ (e ≡ NotALog)) → IfErr r (λ e. e ≢ TooLong)
 current_short (Ok x) kind = tt
 current_short (Err e) kind = λ long. ⊎_elim (λ device. absurd (cc (device, long))) (λ more. ⊎_elim (λ memory. absurd (cc (memory, long))) (λ none. absurd (cc (none, long))) more) kind
@@ -59,12 +66,23 @@ reads_window len upto most first first' now le is f = record {
   few = f.few;
 }
 
+-- no more than was read of its first record
+pub reads_within : (len most : ℕ) (first first' now : Counts) → first ≡ first' → FetchedWithin len most first now → OnlyReads most first' now
+reads_within len most first first' now is f = reads_window len f.upto most first first' now f.bounded is f.fetched
+
+pub briefly : {D : Type 0} (disks : Ghosts D) (x a : D) (len : ℕ) (first : Counts) (seen : List ℕ) (o : Option Head) → first ≡ asked (disks.counts x)
+    → FetchedHead len MOST_BRIEF first (disks.counts a) o → (disks.honest → FetchedHead len (brief seen) first (disks.counts a) o) → (disks.honest → seen ≡ disks.seen x) → LooksBriefly disks x a
+briefly disks x a len first seen o is most as_is same = record {
+  brief_at_all = reads_within len MOST_BRIEF first _ _ is (head_within len MOST_BRIEF first _ o most);
+  brief_as_is = λ h. subst (λ s. OnlyReads (brief s) (asked (disks.counts x)) (disks.counts a)) (same h) (reads_within len (brief seen) first _ _ is (head_within len (brief seen) first _ o (as_is h)));
+}
+
 -- where one of two was read on and the other wasn't
-pub little_by : {D T : Type 0} (counts : D → Counts) (r : Result (Bool × T × ℕ × ℕ) OpenFault) (x y a b c d : D) → IfOk r (λ v. MatchBool v.0 (b ≡ d) (a ≡ c)) → OnlyReads 1048576 (asked (counts x)) (counts c) → OnlyReads 1048576 (asked (counts y)) (counts d)
-    → IfOk r (λ v. ReadsLittle counts v.0 x a y b)
-little_by counts (Err e) x y a b c d other one two = tt
-little_by {D} {T} counts (Ok v) x y a b c d other one two = by v.0 other
+pub little_by : {D T : Type 0} (disks : Ghosts D) (r : Result (Bool × T × ℕ × ℕ) OpenFault) (x y a b c d : D) → IfOk r (λ v. MatchBool v.0 (b ≡ d) (a ≡ c)) → LooksBriefly disks x c → LooksBriefly disks y d
+    → IfOk r (λ v. ReadsLittle disks v.0 x a y b)
+little_by disks (Err e) x y a b c d other one two = tt
+little_by {D} {T} disks (Ok v) x y a b c d other one two = by v.0 other
   where
-    by : (t : Bool) → MatchBool t (b ≡ d) (a ≡ c) → ReadsLittle counts t x a y b
-    by true is = subst (λ z. OnlyReads 1048576 (asked (counts y)) (counts z)) (sym is) two
-    by false is = subst (λ z. OnlyReads 1048576 (asked (counts x)) (counts z)) (sym is) one
+    by : (t : Bool) → MatchBool t (b ≡ d) (a ≡ c) → ReadsLittle disks t x a y b
+    by true is = subst (λ z. LooksBriefly disks y z) (sym is) two
+    by false is = subst (λ z. LooksBriefly disks x z) (sym is) one

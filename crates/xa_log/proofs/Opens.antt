@@ -1,5 +1,5 @@
 -- Two files that were read or made.
-use Rattle.std.proofs.Common.{◌≡◌, ◌⊎◌, inl, inr, ⊎_elim, ℕ, zero, suc, ◌≤◌, Bool, true, false, not, ◌&&◌, ◌||◌, List, [], ◌∷◌, length, take, drop, refl, sym, ◌∙◌, ap, subst, arith, cond, nat_lt, nat_eq, Some, None, length-drop}
+use Rattle.std.proofs.Common.{◌≡◌, ◌⊎◌, inl, inr, ⊎_elim, ℕ, ◌≤◌, Bool, true, false, not, ◌&&◌, ◌||◌, List, [], ◌∷◌, length, take, refl, sym, ◌∙◌, ap, subst, arith, cond, nat_lt, nat_eq, Some, None}
 use Rattle.std.proofs.lemmas.Bool.{cases_Bool, and_parts, and_from, or_left, or_right, or_cases, or_parts, cases_order, ltb-false, eq-eqb, and_cases}
 use Rattle.std.proofs.lemmas.Bool.Decides.{nat_tests}
 use Rattle.xa_disk.specs.Disk.{Only}
@@ -8,7 +8,7 @@ use Rattle.xa_disk.specs.Images.{torn_same}
 use Rattle.xa_log.specs.declared.fault.OpenFault.TheVariants.{NotALog, TooNew, TooLong}
 use Rattle.xa_log.specs.declared.log.Log.{Log}
 use Rattle.xa_log.specs.declared.reading.Scan.{Scan}
-use Rattle.xa_log.specs.Chain.{start, last, text, format_in, is_record, body_at, rest_at, digest_at, bodies_from, Rests, logged}
+use Rattle.xa_log.specs.Chain.{start, last, text, Rests, logged}
 use Rattle.xa_log.specs.Reading.{is_newer, bodies_of, IsScan}
 use Rattle.xa_log.specs.Pair.{generation, is_nil, beats, has_log, logged_pair, pair_fault, Behind, IsCalm}
 use Rattle.xa_log.specs.Checkpoint.{IsOther, IsQuiet}
@@ -16,7 +16,8 @@ use Rattle.xa_log.specs.Looking.{IsCurrent}
 use Rattle.xa_log.specs.Stands.{Stands}
 use Rattle.xa_log.specs.TwoFiles.{Pair, IsOpenPair, NoStray}
 use Rattle.xa_log.specs.Laws.{OpenedLaw}
-use Rattle.xa_log.proofs.Records.{record_to, rests_logged}
+use Rattle.xa_log.proofs.Records.{rests_logged}
+use Rattle.xa_log.proofs.Parts.{calm_log}
 use Rattle.xa_log.proofs.Pair.{beats_nil}
 
 -- of two files without a fault
@@ -54,16 +55,9 @@ beats_other x y loses =
 
 -- ---- the other file, as it was read
 
-first_body : (m : ℕ) (prev x : List ℕ) → 1 ≤ m → is_record prev x ≡ true → take 1 (bodies_from m prev x) ≡ body_at x ∷ []
-first_body zero prev x some there = absurd (omega arith)
-first_body (suc m) prev x some there = ap (λ (b : Bool). take 1 (cond b (body_at x ∷ bodies_from m (digest_at prev x) (rest_at x)) [])) there
-
 -- a file that isn't a later format's is calm beside its own log
 own_calm : (file : List ℕ) → is_newer (take 8 file) ≡ false → IsCalm (logged file) file
-own_calm file known = record {
-  known = known;
-  only = λ there. first_body (length file) (start (format_in file)) (drop 8 file) (omega (arith, (record_to (start (format_in file)) (drop 8 file) there).whole, length-drop 8 file)) there;
-}
+own_calm file known = calm_log (logged file) file known refl
 
 module _ {D : Type 0} (disks : Ghosts D) (most : ℕ) (disk : D) (only : Only (disks.seen disk) (disks.may_leave disk)) (fits : length (disks.seen disk) ≤ most) (known : is_newer (take 8 (disks.seen disk)) ≡ false) where
   behind : Behind (logged (disks.seen disk)) (disks.seen disk)

@@ -1,15 +1,15 @@
 -- Which of two files has the log.
-use Rattle.std.proofs.Common.{◌≡◌, inl, inr, ⊎_elim, ℕ, zero, suc, ◌+◌, ◌≤◌, ◌<◌, Bool, true, false, not, List, [], ◌∷◌, ◌++◌, length, take, drop, refl, sym, ◌∙◌, ap, subst, arith, cond, nat_lt, nat_eq, Some, None, length-drop}
+use Rattle.std.proofs.Common.{◌≡◌, ◌⊎◌, inl, inr, ⊎_elim, ℕ, zero, suc, ◌+◌, ◌≤◌, ◌<◌, Bool, true, false, not, List, [], ◌∷◌, ◌++◌, length, take, drop, refl, sym, ◌∙◌, ap, subst, arith, cond, nat_lt, nat_eq, Some, None, length-drop}
 use Rattle.std.proofs.lemmas.Bool.{cases_Bool, or_left, or_right, or_cases, and_from, and_parts, cases_order, ltb-true, eqb-true}
 use Rattle.std.proofs.lemmas.Bool.Decides.{nat_tests}
 use Rattle.std.proofs.lemmas.List.{drop-drop, length-take-le, ext_get_or, get_or-drop}
 use Rattle.xa_disk.specs.Disk.{Torn, AllOrNone}
 use Rattle.xa_log.specs.declared.fault.OpenFault.TheVariants.{NotALog}
 use Rattle.xa_log.specs.declared.format.Format.{Format}
-use Rattle.xa_log.specs.Chain.{start, preamble, format_in, size_at, body_at, rest_at, digest_at, is_record, bodies_from, logged}
+use Rattle.xa_log.specs.Chain.{start, preamble, format_in, size_at, body_at, rest_at, digest_at, is_record, bodies_from, begins, logged}
 use Rattle.xa_log.specs.Reading.{is_newer}
 use Rattle.xa_log.specs.Pair.{generation, beats, has_log, on_first, logged_of, fault_pair, IsCalm, Behind, AllOrNoBodies, CalmTears}
-use Rattle.xa_log.proofs.Records.{one_format, record_to, bodies_closed, closed_zeros}
+use Rattle.xa_log.proofs.Records.{record_to, bodies_closed, closed_zeros}
 use Rattle.xa_log.proofs.Torn.{torn_then}
 use Rattle.xa_log.proofs.Header.{header_magic, header_closed, magic_known, put_header}
 
@@ -71,46 +71,69 @@ module _ (most : ℕ) (bodies : List (List ℕ)) (current other : List ℕ) (log
 -- ---- what the other file stands for
 
 -- what stands first
-record First (m : ℕ) (prev x body : List ℕ) : Type 0 where
-  pub is : is_record prev x ≡ true
+record First (format : Format) (m : ℕ) (prev x body : List ℕ) : Type 0 where
+  pub is : is_record format prev x ≡ true
   pub body_is : body_at x ≡ body
   pub some : 1 ≤ m
 
-first_of : (m : ℕ) (prev x body : List ℕ) → take 1 (bodies_from m prev x) ≡ body ∷ [] → First m prev x body
-first_of zero prev x body is = absurd (cc is)
-first_of (suc m) prev x body is = elim (cases_Bool (is_record prev x)) [
+whole_from : (format : Format) (m : ℕ) (prev x : List ℕ) → is_record format prev x ≡ true → bodies_from format (suc m) prev x ≡ body_at x ∷ bodies_from format m (digest_at prev x) (rest_at x)
+whole_from format m prev x is = ap (λ (b : Bool). cond b (body_at x ∷ bodies_from format m (digest_at prev x) (rest_at x)) []) is
+
+first_of : (format : Format) (m : ℕ) (prev x body : List ℕ) → take 1 (bodies_from format m prev x) ≡ body ∷ [] → First format m prev x body
+first_of format zero prev x body is = absurd (cc is)
+first_of format (suc m) prev x body is = elim (cases_Bool (is_record format prev x)) [
   | inl stands ↦
-      let whole : bodies_from (suc m) prev x ≡ body_at x ∷ bodies_from m (digest_at prev x) (rest_at x) =
-      ap (λ (b : Bool). cond b (body_at x ∷ bodies_from m (digest_at prev x) (rest_at x)) []) stands in
-      let one : body_at x ∷ [] ≡ body ∷ [] = sym (ap (λ (l : List (List ℕ)). take 1 l) whole) ∙ is in
+      let one : body_at x ∷ [] ≡ body ∷ [] = sym (ap (λ (l : List (List ℕ)). take 1 l) (whole_from format m prev x stands)) ∙ is in
       record { is = stands; body_is = cc one; some = omega arith }
   | inr other ↦
-      let none : bodies_from (suc m) prev x ≡ [] = bodies_closed (suc m) prev x other in
+      let none : bodies_from format (suc m) prev x ≡ [] = bodies_closed format (suc m) prev x other in
       absurd (cc (sym (ap (λ (l : List (List ℕ)). take 1 l) none) ∙ is))
 ]
 
 -- a record's body is as long as its length says
-length-body : (prev x : List ℕ) → is_record prev x ≡ true → length (body_at x) ≡ size_at x
-length-body prev x is = let r = record_to prev x is in length-take-le (size_at x) (drop 4 x) (omega (arith, r.whole, length-drop 4 x))
+length-body : (format : Format) (prev x : List ℕ) → is_record format prev x ≡ true → length (body_at x) ≡ size_at x
+length-body format prev x is = let r = record_to format prev x is in length-take-le (size_at x) (drop 4 x) (omega (arith, r.whole, length-drop 4 x))
 
--- two files that differ in the first length alone, and have one first body, have one log
-same_first : (m : ℕ) (prev x y : List ℕ) → drop 4 x ≡ drop 4 y → is_record prev x ≡ true → is_record prev y ≡ true → body_at x ≡ body_at y
-    → bodies_from m prev x ≡ bodies_from m prev y
-same_first zero prev x y tail p q same = refl
-same_first (suc m) prev x y tail p q same =
-    let n : size_at x ≡ size_at y = sym (length-body prev x p) ∙ ap (λ (l : List ℕ). length l) same ∙ length-body prev y q in
+-- by the limits of two formats the same bodies chain, where as many do
+same_many : (f g : Format) (m : ℕ) (prev x : List ℕ) → length (bodies_from f m prev x) ≡ length (bodies_from g m prev x) → bodies_from f m prev x ≡ bodies_from g m prev x
+same_many f g zero prev x same = refl
+same_many f g (suc m) prev x same = by (λ n. same_many f g m (digest_at prev x) (rest_at x) n) (cases_Bool (is_record f prev x)) (cases_Bool (is_record g prev x))
+  where
+    by : (length (bodies_from f m (digest_at prev x) (rest_at x)) ≡ length (bodies_from g m (digest_at prev x) (rest_at x)) → bodies_from f m (digest_at prev x) (rest_at x) ≡ bodies_from g m (digest_at prev x) (rest_at x))
+        → (is_record f prev x ≡ true) ⊎ (is_record f prev x ≡ false) → (is_record g prev x ≡ true) ⊎ (is_record g prev x ≡ false) → bodies_from f (suc m) prev x ≡ bodies_from g (suc m) prev x
+    by more (inl p) (inl q) =
+        let a = whole_from f m prev x p in
+        let b = whole_from g m prev x q in
+        let n : length (bodies_from f m (digest_at prev x) (rest_at x)) ≡ length (bodies_from g m (digest_at prev x) (rest_at x)) =
+        omega (arith, same, ap (λ (l : List (List ℕ)). length l) a, ap (λ (l : List (List ℕ)). length l) b) in
+        a ∙ ap (λ (l : List (List ℕ)). body_at x ∷ l) (more n) ∙ sym b
+    by more (inl p) (inr q) = absurd (omega (arith, same, ap (λ (l : List (List ℕ)). length l) (whole_from f m prev x p), ap (λ (l : List (List ℕ)). length l) (bodies_closed g (suc m) prev x q)))
+    by more (inr p) (inl q) = absurd (omega (arith, same, ap (λ (l : List (List ℕ)). length l) (bodies_closed f (suc m) prev x p), ap (λ (l : List (List ℕ)). length l) (whole_from g m prev x q)))
+    by more (inr p) (inr q) = bodies_closed f (suc m) prev x p ∙ sym (bodies_closed g (suc m) prev x q)
+
+-- two files that differ in what is before the first body alone, and have one first body, have one log, where they have as
+-- many records
+same_first : (f g : Format) (m : ℕ) (prev other x y : List ℕ) → drop 4 x ≡ drop 4 y → is_record f prev x ≡ true → is_record g other y ≡ true → body_at x ≡ body_at y
+    → length (bodies_from f m prev x) ≡ length (bodies_from g m other y) → bodies_from f m prev x ≡ bodies_from g m other y
+same_first f g zero prev other x y tail p q same many = refl
+same_first f g (suc m) prev other x y tail p q same many =
+    let n : size_at x ≡ size_at y = sym (length-body f prev x p) ∙ ap (λ (l : List ℕ). length l) same ∙ length-body g other y q in
     let k : 4 + (32 + size_at x) ≡ 36 + size_at x = omega arith in
     let j : 4 + (32 + size_at y) ≡ 36 + size_at y = omega arith in
-    let digest : digest_at prev x ≡ digest_at prev y =
-    sym (record_to prev x p).chains
+    let digest : digest_at prev x ≡ digest_at other y =
+    sym (record_to f prev x p).chains
     ∙ ap (λ (l : List ℕ). take 32 l) (sym (drop-drop (size_at x) 4 x) ∙ ap (λ (l : List ℕ). drop (size_at x) l) tail ∙ ap (λ (i : ℕ). drop i (drop 4 y)) n ∙ drop-drop (size_at y) 4 y)
-    ∙ (record_to prev y q).chains in
+    ∙ (record_to g other y q).chains in
     let rest : rest_at x ≡ rest_at y =
     ap (λ (i : ℕ). drop i x) (sym k) ∙ sym (drop-drop (32 + size_at x) 4 x) ∙ ap (λ (l : List ℕ). drop (32 + size_at x) l) tail
     ∙ ap (λ (i : ℕ). drop (32 + i) (drop 4 y)) n ∙ drop-drop (32 + size_at y) 4 y ∙ ap (λ (i : ℕ). drop i y) j in
-    ap (λ (b : Bool). cond b (body_at x ∷ bodies_from m (digest_at prev x) (rest_at x)) []) p
-    ∙ (λ i. same i ∷ bodies_from m (digest i) (rest i))
-    ∙ sym (ap (λ (b : Bool). cond b (body_at y ∷ bodies_from m (digest_at prev y) (rest_at y)) []) q)
+    let a = whole_from f m prev x p in
+    let b = whole_from g m other y q in
+    let mid : bodies_from f m (digest_at prev x) (rest_at x) ≡ bodies_from f m (digest_at other y) (rest_at y) = λ i. bodies_from f m (digest i) (rest i) in
+    let lens : length (bodies_from f m (digest_at other y) (rest_at y)) ≡ length (bodies_from g m (digest_at other y) (rest_at y)) =
+    omega (arith, many, ap (λ (l : List (List ℕ)). length l) a, ap (λ (l : List (List ℕ)). length l) b, ap (λ (l : List (List ℕ)). length l) mid) in
+    let behind : bodies_from f m (digest_at prev x) (rest_at x) ≡ bodies_from g m (digest_at other y) (rest_at y) = mid ∙ same_many f g m (digest_at other y) (rest_at y) lens in
+    a ∙ (λ i. same i ∷ behind i) ∙ sym b
 
 record SameBehind (base file : List ℕ) : Type 0 where
   pub long : length file ≡ length base
@@ -127,27 +150,29 @@ same_tail base file le t =
           get_or-drop 12 file i 0 ∙ t.above (12 + i) within (omega arith) ∙ sym (get_or-drop 12 base i 0));
     }
 
--- without chance it is what stood there, or nothing
+-- Without chance it is what stood there, or nothing. Old records behind the header of another format would chain by
+-- chance alone: then as many do, so by either's limit they are the same.
 pub calm_logged : (stood : List (List ℕ)) (file : List ℕ) → Behind stood file → IsCalm stood file → AllOrNoBodies stood file
-calm_logged stood file behind calm = elim (cases_Bool (is_record (start (format_in file)) (drop 8 file))) [
-  | inr other ↦ inr (bodies_closed (length file) (start (format_in file)) (drop 8 file) other)
+calm_logged stood file behind calm = elim (cases_Bool (begins file)) [
+  | inr other ↦ inr (bodies_closed (format_in file) (length file) (start (format_in file)) (drop 8 file) other)
   | inl there ↦ standing there behind
 ]
   where
-    standing : is_record (start (format_in file)) (drop 8 file) ≡ true → Behind stood file → AllOrNoBodies stood file
+    standing : begins file ≡ true → Behind stood file → AllOrNoBodies stood file
     standing there (inl nil) = absurd (cc (ap (λ (l : List (List ℕ)). take 1 l) (sym nil) ∙ calm.only there))
     standing there (inr it) =
-        let base = it.0 in
-        let prev = start (format_in file) in
-        -- old records behind the header of another format would chain by chance alone
-        let stood_is : bodies_from (length base) prev (drop 8 base) ≡ stood =
-        ap (λ (f : Format). bodies_from (length base) (start f) (drop 8 base)) (one_format (format_in file) (format_in base)) ∙ it.1 in
-        let f : First (length base) prev (drop 8 base) (body_at (drop 8 file)) =
-        first_of (length base) prev (drop 8 base) (body_at (drop 8 file)) (ap (λ (l : List (List ℕ)). take 1 l) stood_is ∙ calm.only there) in
-        let far : 12 ≤ length base = omega (arith, (record_to prev (drop 8 base) f.is).whole, length-drop 8 base) in
+        let base : List ℕ = it.0 in
+        let f : Format = format_in file in
+        let g : Format = format_in base in
+        let first : First g (length base) (start g) (drop 8 base) (body_at (drop 8 file)) =
+        first_of g (length base) (start g) (drop 8 base) (body_at (drop 8 file)) (ap (λ (l : List (List ℕ)). take 1 l) it.1 ∙ calm.only there) in
+        let far : 12 ≤ length base = omega (arith, (record_to g (start g) (drop 8 base) first.is).whole, length-drop 8 base) in
         let s : SameBehind base file = same_tail base file far it.2 in
         let tail : drop 4 (drop 8 file) ≡ drop 4 (drop 8 base) = drop-drop 4 8 file ∙ s.tail ∙ sym (drop-drop 4 8 base) in
-        inl (ap (λ (m : ℕ). bodies_from m prev (drop 8 file)) s.long ∙ same_first (length base) prev (drop 8 file) (drop 8 base) tail there f.is (sym f.body_is) ∙ stood_is)
+        let fuel : logged file ≡ bodies_from f (length base) (start f) (drop 8 file) = ap (λ (m : ℕ). bodies_from f m (start f) (drop 8 file)) s.long in
+        let many : length (bodies_from f (length base) (start f) (drop 8 file)) ≡ length (logged base) =
+        ap (λ (l : List (List ℕ)). length l) (sym fuel) ∙ calm.many there ∙ ap (λ (l : List (List ℕ)). length l) (sym it.1) in
+        inl (fuel ∙ same_first f g (length base) (start f) (start g) (drop 8 file) (drop 8 base) tail there first.is (sym first.body_is) many ∙ it.1)
 
 pub behind_torn : (stood : List (List ℕ)) (old new : List ℕ) → Behind stood old → Torn 0 12 old new → Behind stood new
 behind_torn stood old new (inl nil) t = inl nil
@@ -159,15 +184,17 @@ beats_read first bodies stood file wins (inl is) = ap (λ (l : List (List ℕ)).
 beats_read first bodies stood file wins (inr none) = ap (λ (l : List (List ℕ)). beats first bodies l) none ∙ beats_nil first bodies
 
 -- behind a whole header and a length 0 nothing chains
+pub header_none : (format : Format) (file rest : List ℕ) → file ≡ preamble format ++ rest → begins file ≡ false
+header_none format file rest is =
+    let f : Format = format_in file in
+    ap (λ (l : List ℕ). is_record f (start f) (drop 8 l)) is ∙ ap (λ (l : List ℕ). is_record f (start f) l) (header_closed format rest) ∙ closed_zeros f (start f) rest
+
+pub calm_none : (stood : List (List ℕ)) (file : List ℕ) → is_newer (take 8 file) ≡ false → begins file ≡ false → IsCalm stood file
+calm_none stood file known none = record { known = known; only = λ there. absurd (cc (there, none)); many = λ there. absurd (cc (there, none)) }
+
 pub calm_front : (format : Format) (stood : List (List ℕ)) (file rest : List ℕ) → file ≡ preamble format ++ rest → IsCalm stood file
 calm_front format stood file rest is =
-    let prev = start (format_in file) in
-    let closed : is_record prev (drop 8 file) ≡ false =
-    ap (λ (l : List ℕ). is_record prev (drop 8 l)) is ∙ ap (λ (l : List ℕ). is_record prev l) (header_closed format rest) ∙ closed_zeros prev rest in
-    record {
-      known = ap (λ (l : List ℕ). is_newer (take 8 l)) is ∙ ap (λ (l : List ℕ). is_newer l) (header_magic format rest) ∙ magic_known format;
-      only = λ there. absurd (cc (there, closed));
-    }
+    calm_none stood file (ap (λ (l : List ℕ). is_newer (take 8 l)) is ∙ ap (λ (l : List ℕ). is_newer l) (header_magic format rest) ∙ magic_known format) (header_none format file rest is)
 
 pub calm_in_memory : CalmTears AllOrNone
 calm_in_memory format stood old new calm (inl is) = subst (λ f. IsCalm stood f) (sym is) calm

@@ -1,5 +1,5 @@
 -- A checkpoint's parts, one behind the other.
-use Rattle.std.proofs.Common.{◌≡◌, ◌≢◌, inl, inr, ⊎_elim, ℕ, zero, suc, ◌+◌, ◌≤◌, Bool, true, false, List, [], ◌∷◌, ◌++◌, length, take, drop, refl, sym, ◌∙◌, ap, subst, arith, append_assoc, length-append, length-drop, cond, Option, is_some, Result, Err, OnErr}
+use Rattle.std.proofs.Common.{◌≡◌, ◌≢◌, inl, inr, ⊎_elim, ℕ, zero, suc, ◌+◌, ◌≤◌, Bool, true, false, List, [], ◌∷◌, ◌++◌, length, take, drop, replicate, refl, sym, ◌∙◌, ap, subst, arith, append_assoc, length-append, length-drop, cond, Option, is_some, Result, Err, OnErr}
 use Rattle.std.specs.List.{AllByRecursion}
 use Rattle.std.specs.Int.{w32, to_be_bytes}
 use Rattle.xa_disk.specs.Disk.{put, Torn, Only, AllOrNone}
@@ -7,7 +7,7 @@ use Rattle.xa_disk.specs.Time.{TimePasses, LeavesOnly}
 use Rattle.xa_disk.specs.declared.disk.Disk.{Ghosts}
 use Rattle.xa_disk.specs.Images.{torn_same, put_torn}
 use Rattle.xa_log.specs.declared.format.Format.{Format}
-use Rattle.xa_log.specs.Chain.{magic, start, preamble, format_of, format_in, records, IsBody, Rests, logged, is_record, body_at, rest_at, digest_at, bodies_from}
+use Rattle.xa_log.specs.Chain.{magic, start, preamble, format_of, format_in, records, IsBody, Rests, logged, begins, body_at, rest_at, digest_at, bodies_from}
 use Rattle.xa_log.specs.Reading.{is_newer}
 use Rattle.xa_log.specs.Answers.{Fell, Went}
 use Rattle.xa_log.specs.declared.appending.Appended.{Appended}
@@ -15,11 +15,10 @@ use Rattle.xa_log.specs.declared.appending.Appended.TheVariants.{Kept, Refused, 
 use Rattle.xa_log.specs.Pair.{has_log, IsCalm, Behind}
 use Rattle.xa_log.specs.Checkpoint.{behind_front, first_length, IsReady, IsOther, IsQuiet, LeavesOf, LeavesNone, LeavesSealed, LeavesAny, SealTears, Checkpointed}
 use Rattle.std.proofs.lemmas.List.{take_at}
-use Rattle.xa_log.proofs.Records.{length-magic, record_to, bodies_closed, closed_zeros, rests_logged}
+use Rattle.xa_log.proofs.Records.{format_magic, length-magic, record_to, bodies_closed, rests_logged}
 use Rattle.xa_log.proofs.Torn.{torn_front, put_within}
-use Rattle.xa_log.proofs.Header.{length-preamble, header_magic, header_split, header_closed, header_whole, magic_known}
-use Rattle.xa_log.proofs.Again.{format_magic}
-use Rattle.xa_log.proofs.Pair.{calm_front}
+use Rattle.xa_log.proofs.Header.{length-preamble, header_magic, header_split, header_whole, magic_known}
+use Rattle.xa_log.proofs.Pair.{calm_front, header_none}
 use Rattle.xa_log.proofs.Ready.{leaves_by, sealed_rests, seal_leaves, seal_cleared}
 
 -- one call behind another
@@ -47,13 +46,7 @@ pub none_calm : (format : Format) (stood : List (List ℕ)) (c : List ℕ) → t
 none_calm format stood c front = calm_front format stood c (drop 12 c) (header_split format c front)
 
 none_logged : (format : Format) (c : List ℕ) → take 12 c ≡ preamble format → logged c ≡ []
-none_logged format c front =
-    let prev = start (format_in c) in
-    let closed : is_record prev (drop 8 c) ≡ false =
-    ap (λ (l : List ℕ). is_record prev (drop 8 l)) (header_split format c front)
-    ∙ ap (λ (l : List ℕ). is_record prev l) (header_closed format (drop 12 c))
-    ∙ closed_zeros prev (drop 12 c) in
-    bodies_closed (length c) prev (drop 8 c) closed
+none_logged format c front = bodies_closed (format_in c) (length c) (start (format_in c)) (drop 8 c) (header_none format c (drop 12 c) (header_split format c front))
 
 pub none_of : (format : Format) (most : ℕ) (stood : List (List ℕ)) (c : List ℕ) → LeavesNone most format c → LeavesOf most stood c
 none_of format most stood c none = record { fits = none.fits; reads = λ calm. inr (none_logged format c none.front) }
@@ -111,18 +104,23 @@ opened_none format most old new room fits is = record {
 }
 
 -- the second's
-pub records_ready : (format : Format) (bodies : List (List ℕ)) (mid new : List ℕ) → take 12 mid ≡ preamble format → 12 ≤ length mid
-    → AllByRecursion IsBody bodies → 1 ≤ length bodies → new ≡ put mid 12 (behind_front format bodies) → IsReady format bodies new
-records_ready format bodies mid new front long sizes some is =
-    let tail : List ℕ = drop (12 + length (behind_front format bodies)) mid in
-    record {
-      rest = tail;
-      split = is ∙ put_within mid 12 (behind_front format bodies) long
-          ∙ ap (λ (l : List ℕ). l ++ behind_front format bodies ++ tail) front
-          ∙ append_assoc (preamble format) (behind_front format bodies) tail;
-      sizes = sizes;
-      some = some;
-    }
+pub records_ready : (more : ℕ) (format : Format) (bodies : List (List ℕ)) (mid new : List ℕ) → take 12 mid ≡ preamble format → 12 ≤ length mid
+    → AllByRecursion (IsBody format) bodies → 1 ≤ length bodies → new ≡ put mid 12 (behind_front format bodies ++ replicate more 0)
+    → (ready : IsReady format bodies new) × (ready.rest ≡ replicate more 0 ++ drop (12 + length (behind_front format bodies ++ replicate more 0)) mid)
+records_ready more format bodies mid new front long sizes some is =
+    let all : List ℕ = behind_front format bodies ++ replicate more 0 in
+    let tail : List ℕ = drop (12 + length all) mid in (
+      record {
+        rest = replicate more 0 ++ tail;
+        split = is ∙ put_within mid 12 all long
+            ∙ ap (λ (l : List ℕ). l ++ all ++ tail) front
+            ∙ append_assoc (preamble format) all tail
+            ∙ ap (λ (l : List ℕ). preamble format ++ l) (append_assoc (behind_front format bodies) (replicate more 0) tail);
+        sizes = sizes;
+        some = some;
+      },
+      refl,
+    )
 
 ready_front : (format : Format) (bodies : List (List ℕ)) (file : List ℕ) → IsReady format bodies file → take 12 file ≡ preamble format
 ready_front format bodies file ready = ap (λ (l : List ℕ). take 12 l) ready.split ∙ header_whole format (behind_front format bodies ++ ready.rest)
@@ -130,17 +128,18 @@ ready_front format bodies file ready = ap (λ (l : List ℕ). take 12 l) ready.s
 -- ---- a log's own bytes are no chance
 
 pub calm_log : (bodies : List (List ℕ)) (file : List ℕ) → is_newer (take 8 file) ≡ false → logged file ≡ bodies → IsCalm bodies file
-calm_log bodies file known is = record { known = known; only = λ there. first (length file) (start (format_in file)) bodies (drop 8 file) there (long there) is }
+calm_log bodies file known is = record { known = known; only = λ there. first (length file) bodies there (long there) is; many = λ there. ap (λ (l : List (List ℕ)). length l) is }
   where
-    long : is_record (start (format_in file)) (drop 8 file) ≡ true → 1 ≤ length file
-    long there = omega (arith, (record_to (start (format_in file)) (drop 8 file) there).whole, length-drop 8 file)
+    long : begins file ≡ true → 1 ≤ length file
+    long there = omega (arith, (record_to (format_in file) (start (format_in file)) (drop 8 file) there).whole, length-drop 8 file)
 
-    first : (m : ℕ) (prev : List ℕ) (bs : List (List ℕ)) (x : List ℕ) → is_record prev x ≡ true → 1 ≤ m → bodies_from m prev x ≡ bs
-        → take 1 bs ≡ body_at x ∷ []
-    first zero prev bs x there some same = absurd (omega arith)
-    first (suc m) prev bs x there some same =
+    first : (m : ℕ) (bs : List (List ℕ)) → begins file ≡ true → 1 ≤ m → bodies_from (format_in file) m (start (format_in file)) (drop 8 file) ≡ bs → take 1 bs ≡ body_at (drop 8 file) ∷ []
+    first zero bs there some same = absurd (omega arith)
+    first (suc m) bs there some same =
+        let x : List ℕ = drop 8 file in
+        let prev : List ℕ = start (format_in file) in
         ap (λ (l : List (List ℕ)). take 1 l) (sym same)
-        ∙ ap (λ (b : Bool). take 1 (cond b (body_at x ∷ bodies_from m (digest_at prev x) (rest_at x)) [])) there
+        ∙ ap (λ (b : Bool). take 1 (cond b (body_at x ∷ bodies_from (format_in file) m (digest_at prev x) (rest_at x)) [])) there
 
 pub rests_magic : (format : Format) (bodies : List (List ℕ)) (file : List ℕ) → Rests format bodies file → take 8 file ≡ magic format
 rests_magic format bodies file r =

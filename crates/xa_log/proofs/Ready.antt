@@ -87,7 +87,7 @@ module _ (format : Format) (bodies : List (List ℕ)) (file : List ℕ) (ready :
   long : 12 ≤ length file
   long = omega (arith, ap length ready.split, length-append (preamble format) behind, length-preamble format)
 
-  sealed_is : sealed ≡ text format bodies ++ (0 ∷ 0 ∷ 0 ∷ 0 ∷ ready.rest)
+  pub sealed_is : put file 8 (to_be_bytes w32 (first_length bodies)) ≡ text format bodies ++ (0 ∷ 0 ∷ 0 ∷ 0 ∷ ready.rest)
   sealed_is =
       let R : List ℕ = records (start format) bodies in
       put_within file 8 length_bytes (omega (arith, long))
@@ -100,7 +100,7 @@ module _ (format : Format) (bodies : List (List ℕ)) (file : List ℕ) (ready :
       ∙ sym (append_assoc (magic format) R (zeros ++ ready.rest))
 
   pub sealed_rests : Rests format bodies (put file 8 (to_be_bytes w32 (first_length bodies)))
-  sealed_rests = record { rest = 0 ∷ 0 ∷ 0 ∷ 0 ∷ ready.rest; split = sealed_is; sizes = ready.sizes; closed = closed_zeros (last (start format) bodies) ready.rest }
+  sealed_rests = record { rest = 0 ∷ 0 ∷ 0 ∷ 0 ∷ ready.rest; split = sealed_is; sizes = ready.sizes; closed = closed_zeros format (last (start format) bodies) ready.rest }
 
   -- a torn seal differs from the sealed file in the first 12 bytes alone
   pub torn_behind : (c : List ℕ) → Torn 8 4 file c → Behind bodies c

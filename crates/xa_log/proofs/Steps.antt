@@ -1,10 +1,11 @@
 -- A checkpoint's records, one more at a time.
-use Rattle.std.proofs.Common.{◌≡◌, ℕ, zero, suc, ◌+◌, ◌-◌, ◌≤◌, ◌<◌, List, [], ◌∷◌, ◌++◌, length, take, drop, get_or, refl, sym, ◌∙◌, ap, subst, arith, append_assoc, length-append, length-drop, ⊎_elim, inl, inr, Vec, Global}
+use Rattle.std.proofs.Common.{◌≡◌, ℕ, zero, suc, ◌+◌, ◌-◌, ◌≤◌, ◌<◌, List, [], ◌∷◌, ◌++◌, length, take, drop, replicate, get_or, refl, sym, ◌∙◌, ap, subst, arith, append_assoc, length-append, length-drop, ⊎_elim, inl, inr, Vec, Global}
 use Rattle.std.specs.List.{AllByRecursion}
 use Rattle.std.proofs.Math.Seq.{drop-append-add}
-use Rattle.std.proofs.lemmas.List.{append-nil, drop-append-le, drop-drop, length-take-le, take_more, take-map, map-append, take_all, length-take, length-map, get_or-take, take_at}
+use Rattle.std.proofs.lemmas.List.{append-nil, drop-append-le, drop-drop, length-take-le, take_more, take-map, map-append, take_all, length-take, length-map, get_or-take, take_at, replicate-append-replicate}
 use Rattle.xa_disk.specs.Disk.{put, Torn, Passes}
 use Rattle.xa_log.specs.declared.format.Format.{Format}
+use Rattle.xa_log.specs.Buffer.{EachFits}
 use Rattle.xa_log.specs.Chain.{start, last, text, records, record_of, digest, IsBody}
 use Rattle.xa_log.specs.Reading.{bodies_of}
 use Rattle.xa_log.specs.Checkpoint.{records_bytes, tailed, first_length}
@@ -29,12 +30,16 @@ put_put old at a b le =
     ∙ ap (λ (x : ℕ). take at old ++ (a ++ b) ++ drop x old) j
     ∙ sym (put_within old at (a ++ b) le)
 
+-- zeros behind the closing length go on with it
+pub zeros_more : (more : ℕ) → replicate {A = ℕ} (4 + more) 0 ≡ (0 ∷ 0 ∷ 0 ∷ 0 ∷ []) ++ replicate {A = ℕ} more 0
+zeros_more more = sym (replicate-append-replicate {A = ℕ} 4 more 0)
+
 pub step_seen : (format : Format) (done : List (List ℕ)) (body old a b : List ℕ) (at zeros : ℕ) → 12 ≤ length old → at ≡ length (text format done)
     → a ≡ put old 12 (drop 4 (records (start format) done))
     → b ≡ put a (at + (12 - at)) (drop (12 - at) (tailed (last (start format) done) body zeros))
-    → b ≡ put old 12 (drop 4 (records (start format) (done ++ body ∷ [])) ++ take zeros (0 ∷ 0 ∷ 0 ∷ 0 ∷ []))
+    → b ≡ put old 12 (drop 4 (records (start format) (done ++ body ∷ [])) ++ replicate zeros 0)
 step_seen format [] body old a b at zeros long here first then =
-    let z : List ℕ = take zeros (0 ∷ 0 ∷ 0 ∷ 0 ∷ []) in
+    let z : List ℕ = replicate zeros 0 in
     let r : List ℕ = record_of (start format) body in
     let here8 : at ≡ 8 = omega (arith, here, length-text format []) in
     let p : at + (12 - at) ≡ 12 + 0 = omega (arith, here8) in
@@ -45,7 +50,7 @@ step_seen format [] body old a b at zeros long here first then =
     ∙ ap (λ (l : List ℕ). put old 12 l) (drop-append-le 4 r z (omega (arith, length-record_of (start format) body)) ∙ ap (λ (l : List ℕ). drop 4 l ++ z) (sym (append-nil r)))
 step_seen format (d ∷ ds) body old a b at zeros long here first then =
     let done : List (List ℕ) = d ∷ ds in
-    let z : List ℕ = take zeros (0 ∷ 0 ∷ 0 ∷ 0 ∷ []) in
+    let z : List ℕ = replicate zeros 0 in
     let R : List ℕ = records (start format) (d ∷ ds) in
     let r : List ℕ = record_of (last (start format) (d ∷ ds)) body in
     let far : 36 ≤ length R =
@@ -102,11 +107,25 @@ next_body bodies i v lt is =
     ∙ map-append items (take i bodies) (v ∷ [])
     ∙ ap (λ (l : List (List ℕ)). l ++ v.items ∷ []) (sym (take-map items i bodies))
 
-pub body_ok : (bodies : List (Vec ℕ Global)) (i : ℕ) (v : Vec ℕ Global) → i < length bodies → v ≡ get_or bodies i v
-    → AllByRecursion IsBody (bodies_of bodies) → IsBody v.items
-body_ok (b ∷ bodies) zero v lt is all = subst (λ (x : Vec ℕ Global). IsBody x.items) (sym is) all.0
-body_ok (b ∷ bodies) (suc i) v lt is all = body_ok bodies i v (omega arith) is all.1
-body_ok [] i v lt is all = absurd (omega arith)
+-- what holds of each holds of it
+pub body_ok : (P : List ℕ → Type 0) (bodies : List (Vec ℕ Global)) (i : ℕ) (v : Vec ℕ Global) → i < length bodies → v ≡ get_or bodies i v
+    → AllByRecursion P (bodies_of bodies) → P v.items
+body_ok P (b ∷ bodies) zero v lt is all = subst (λ (x : Vec ℕ Global). P x.items) (sym is) all.0
+body_ok P (b ∷ bodies) (suc i) v lt is all = body_ok P bodies i v (omega arith) is all.1
+body_ok P [] i v lt is all = absurd (omega arith)
+
+-- a body of those that fit fits
+pub room_in : (room : ℕ) (bodies : List (Vec ℕ Global)) (n i : ℕ) (v : Vec ℕ Global) (body : List ℕ) → i < length (take n bodies) → v ≡ get_or (take n bodies) i v → body ≡ v.items
+    → EachFits room (bodies_of bodies) → 41 + length body ≤ room
+room_in room bodies n i v body lt is same all =
+    let few : i < n = omega (arith, lt, length-take n bodies) in
+    subst (λ (b : List ℕ). 41 + length b ≤ room) (sym same)
+    (body_ok (λ b. 41 + length b ≤ room) bodies i v (omega (arith, lt, length-take n bodies)) (is ∙ get_or-take n bodies i v few) all)
+
+pub room_last : (room : ℕ) (bodies : List (Vec ℕ Global)) (v : Vec ℕ Global) (body : List ℕ) → 1 ≤ length bodies → v ≡ get_or bodies (length bodies - 1) v → body ≡ v.items
+    → EachFits room (bodies_of bodies) → 41 + length body ≤ room
+room_last room bodies v body some is same all =
+    subst (λ (b : List ℕ). 41 + length b ≤ room) (sym same) (body_ok (λ b. 41 + length b ≤ room) bodies (length bodies - 1) v (omega (arith, some)) is all)
 
 -- where one record more fits
 pub record Next (format : Format) (bodies : List (List ℕ)) (done : List (List ℕ)) (body : List ℕ) (at : ℕ) : Type 0 where
@@ -138,19 +157,19 @@ next format bodies i body at is here =
 -- one body of those that are written
 pub record Item (format : Format) (bodies : List (List ℕ)) (i : ℕ) (body : List ℕ) (at : ℕ) : Type 0 where
   pub is : take (i + 1) bodies ≡ take i bodies ++ body ∷ []
-  pub ok : IsBody body
+  pub ok : IsBody format body
   pub offset : Next format bodies (take i bodies) body at
 
 pub item : (format : Format) (bodies : List (Vec ℕ Global)) (i : ℕ) (v : Vec ℕ Global) (body : List ℕ) (at : ℕ) → i < length bodies
-    → v ≡ get_or bodies i v → body ≡ v.items → AllByRecursion IsBody (bodies_of bodies) → at ≡ length (text format (take i (bodies_of bodies)))
+    → v ≡ get_or bodies i v → body ≡ v.items → AllByRecursion (IsBody format) (bodies_of bodies) → at ≡ length (text format (take i (bodies_of bodies)))
     → Item format (bodies_of bodies) i body at
 item format bodies i v body at lt is same all here =
     let n : take (i + 1) (bodies_of bodies) ≡ take i (bodies_of bodies) ++ body ∷ [] =
     next_body bodies i v lt is ∙ ap (λ (l : List ℕ). take i (bodies_of bodies) ++ l ∷ []) (sym same) in
-    record { is = n; ok = subst IsBody (sym same) (body_ok bodies i v lt is all); offset = next format (bodies_of bodies) i body at n here }
+    record { is = n; ok = subst (IsBody format) (sym same) (body_ok (IsBody format) bodies i v lt is all); offset = next format (bodies_of bodies) i body at n here }
 
 pub item_in : (format : Format) (bodies : List (Vec ℕ Global)) (n i : ℕ) (v : Vec ℕ Global) (body : List ℕ) (at : ℕ) → i < length (take n bodies)
-    → v ≡ get_or (take n bodies) i v → body ≡ v.items → AllByRecursion IsBody (bodies_of bodies)
+    → v ≡ get_or (take n bodies) i v → body ≡ v.items → AllByRecursion (IsBody format) (bodies_of bodies)
     → at ≡ length (text format (take i (bodies_of bodies))) → Item format (bodies_of bodies) i body at
 item_in format bodies n i v body at lt is same all here =
     let few : i < n = omega (arith, lt, length-take n bodies) in
@@ -159,41 +178,41 @@ item_in format bodies n i v body at lt is same all here =
 pub item_last : (format : Format) (bodies : List (Vec ℕ Global)) (i : ℕ) (v : Vec ℕ Global) (body : List ℕ) (at : ℕ) → 1 ≤ length bodies
     → length (take (length bodies - 1) bodies) ≤ i → i ≤ length (take (length bodies - 1) bodies) → v ≡ get_or bodies (length bodies - 1) v
     → body ≡ v.items
-    → AllByRecursion IsBody (bodies_of bodies) → at ≡ length (text format (take i (bodies_of bodies))) → Item format (bodies_of bodies) i body at
+    → AllByRecursion (IsBody format) (bodies_of bodies) → at ≡ length (text format (take i (bodies_of bodies))) → Item format (bodies_of bodies) i body at
 item_last format bodies i v body at some low high is same all here =
     let n : length bodies - 1 ≡ i = omega (arith, low, high, length-take (length bodies - 1) bodies) in
     item format bodies i v body at (omega (arith, n, some)) (is ∙ ap (λ (k : ℕ). get_or bodies k v) n) same all here
 
 -- a write of one record, with so many zeros behind it, within what all of them take
-module _ (format : Format) (bodies : List (List ℕ)) (i : ℕ) (body : List ℕ) (at zeros : ℕ) (few : zeros ≤ 4) (it : Item format bodies i body at) where
+module _ (format : Format) (bodies : List (List ℕ)) (i : ℕ) (body : List ℕ) (at zeros more : ℕ) (few : zeros ≤ 4 + more) (it : Item format bodies i body at) where
   abbrev Writes : List ℕ → List ℕ → Type 0
   Writes a b = Torn (at + (12 - at)) (36 + length body + zeros - (12 - at)) a b
 
-  inside : (a b : List ℕ) → Writes a b → Torn 12 (records_bytes format bodies) a b
+  inside : (a b : List ℕ) → Writes a b → Torn 12 (records_bytes format bodies + more) a b
   inside a b t =
-      wider (at + (12 - at)) (36 + length body + zeros - (12 - at)) 12 (records_bytes format bodies) a b
+      wider (at + (12 - at)) (36 + length body + zeros - (12 - at)) 12 (records_bytes format bodies + more) a b
       (omega (arith, it.offset.from)) (omega (arith, it.offset.within, it.offset.from, few)) t
 
-  pub torn_step : (old a b : List ℕ) → Torn 12 (records_bytes format bodies) old a → Writes a b → Torn 12 (records_bytes format bodies) old b
-  torn_step old a b so t = torn_then 12 (records_bytes format bodies) old a b so (inside a b t)
+  pub torn_step : (old a b : List ℕ) → Torn 12 (records_bytes format bodies + more) old a → Writes a b → Torn 12 (records_bytes format bodies + more) old b
+  torn_step old a b so t = torn_then 12 (records_bytes format bodies + more) old a b so (inside a b t)
 
-  pub time_step : (l m n : ℕ) (s0 s1 s2 : ℕ → List ℕ → Type 0) (m0 m1 m2 : List ℕ → Type 0) → Passes (Torn 12 (records_bytes format bodies)) l m s0 s1 m0 m1
+  pub time_step : (l m n : ℕ) (s0 s1 s2 : ℕ → List ℕ → Type 0) (m0 m1 m2 : List ℕ → Type 0) → Passes (Torn 12 (records_bytes format bodies + more)) l m s0 s1 m0 m1
       → Passes Writes m n s1 s2 m1 m2
-      → Passes (Torn 12 (records_bytes format bodies)) l n s0 s2 m0 m2
+      → Passes (Torn 12 (records_bytes format bodies + more)) l n s0 s2 m0 m2
   time_step l m n s0 s1 s2 m0 m1 m2 so now =
-      then (Torn 12 (records_bytes format bodies)) (torn_then 12 (records_bytes format bodies)) l m n s0 s1 s2 m0 m1 m2 so
-      (weaker Writes (Torn 12 (records_bytes format bodies)) inside m n s1 s2 m1 m2 now)
+      then (Torn 12 (records_bytes format bodies + more)) (torn_then 12 (records_bytes format bodies + more)) l m n s0 s1 s2 m0 m1 m2 so
+      (weaker Writes (Torn 12 (records_bytes format bodies + more)) inside m n s1 s2 m1 m2 now)
 
 -- the records written so far and one more, with zeros behind it
 pub seen_step : (format : Format) (bodies : List (List ℕ)) (i : ℕ) (body d : List ℕ) (at zeros : ℕ) (it : Item format bodies i body at)
     (old a b : List ℕ) → 12 ≤ length old → at ≡ length (text format (take i bodies))
     → d ≡ last (start format) (take i bodies) → a ≡ put old 12 (drop 4 (records (start format) (take i bodies)))
     → b ≡ put a (at + (12 - at)) (drop (12 - at) (tailed d body zeros))
-    → b ≡ put old 12 (drop 4 (records (start format) (take (i + 1) bodies)) ++ take zeros (0 ∷ 0 ∷ 0 ∷ 0 ∷ []))
+    → b ≡ put old 12 (drop 4 (records (start format) (take (i + 1) bodies)) ++ replicate zeros 0)
 seen_step format bodies i body d at zeros it old a b long here digest_is so now =
     step_seen format (take i bodies) body old a b at zeros long here so
     (now ∙ ap (λ (x : List ℕ). put a (at + (12 - at)) (drop (12 - at) (tailed x body zeros))) digest_is)
-    ∙ ap (λ (l : List (List ℕ)). put old 12 (drop 4 (records (start format) l) ++ take zeros (0 ∷ 0 ∷ 0 ∷ 0 ∷ []))) (sym it.is)
+    ∙ ap (λ (l : List (List ℕ)). put old 12 (drop 4 (records (start format) l) ++ replicate zeros 0)) (sym it.is)
 
 pub digest_step : (format : Format) (bodies : List (List ℕ)) (i : ℕ) (body d : List ℕ) (at : ℕ) (it : Item format bodies i body at)
     → d ≡ last (start format) (take i bodies) → digest d body ≡ last (start format) (take (i + 1) bodies)

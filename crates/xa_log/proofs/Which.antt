@@ -3,13 +3,12 @@ use Rattle.std.proofs.Common.{◌≡◌, ◌⊎◌, inl, inr, ⊎_elim, ℕ, zer
 use Rattle.std.proofs.lemmas.Bool.{cases_Bool, and_left, and_from, or_left}
 use Rattle.xa_disk.specs.Disk.{Torn}
 use Rattle.xa_log.specs.declared.format.Format.{Format}
-use Rattle.xa_log.specs.declared.format.Format.TheVariants.{One}
+use Rattle.xa_log.specs.declared.format.Format.TheVariants.{One, Two}
 use Rattle.xa_log.specs.Chain.{Rests, IsBeforeOrAfter, format_of, logged}
 use Rattle.xa_log.specs.Reading.{is_newer}
 use Rattle.xa_log.specs.Pair.{beats, has_log, on_first, logged_of, fault_pair}
 use Rattle.xa_log.specs.Laws.{IsLogOf, BehindLaw, PairLaw, AppendLaw, HeaderLaw, SealLaw, StrayLaw}
-use Rattle.xa_log.proofs.Records.{rests_logged}
-use Rattle.xa_log.proofs.Again.{format_magic}
+use Rattle.xa_log.proofs.Records.{format_magic, rests_logged}
 use Rattle.xa_log.proofs.Header.{magic_known}
 use Rattle.xa_log.proofs.Pair.{calm_logged, no_pair_fault, pair_log, beats_read, beats_nil, beats_above}
 use Rattle.xa_log.proofs.Two.{beats_more}
@@ -80,12 +79,16 @@ seal_law most first bodies fresh current other l leaves calm above = (
       (leaves.reads calm),
 )
 
+begins_with : (format : Format) (bodies : List (List ℕ)) (file : List ℕ) → Rests format bodies file → file ≡ 88 ∷ drop 1 file
+begins_with One bodies file rests = rests.split ∙ ap (λ (l : List ℕ). 88 ∷ drop 1 l) (sym rests.split)
+begins_with Two bodies file rests = rests.split ∙ ap (λ (l : List ℕ). 88 ∷ drop 1 l) (sym rests.split)
+
 -- Any log is a torn write away from a file that is none: one whose first byte differs.
 pub stray_law : StrayLaw
-stray_law One bodies file rests = (0 ∷ drop 1 file, refl, torn, rests_logged One bodies file rests)
+stray_law format bodies file rests = (0 ∷ drop 1 file, refl, torn, rests_logged format bodies file rests)
   where
     first : file ≡ 88 ∷ drop 1 file
-    first = rests.split ∙ ap (λ (l : List ℕ). 88 ∷ drop 1 l) (sym rests.split)
+    first = begins_with format bodies file rests
 
     from : Torn 0 12 (0 ∷ drop 1 file) (88 ∷ drop 1 file)
     from = record {

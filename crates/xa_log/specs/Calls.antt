@@ -1,15 +1,20 @@
 -- Which device calls a log makes. The counts of a disk say how many of each kind; they stay at their top.
-use Rattle.std.specs.Prelude.{◌≡◌, ◌⊎◌, ℕ, zero, suc, ◌+◌, ◌*◌, ◌≤◌, ◌<◌, Bool, true, false, Option, None, Some, Result}
-use Rattle.std.specs.Prelude.{MatchResult}
+use Rattle.std.specs.Prelude.{◌≡◌, ◌⊎◌, ℕ, zero, suc, ◌+◌, ◌*◌, ◌≤◌, ◌<◌, Bool, true, false, ◌&&◌, nat_le, nat_lt}
+use Rattle.std.specs.Prelude.{if◌then◌else◌, List, length, take, drop, Option, None, Some, is_some, Result, MatchResult}
 use Rattle.xa_disk.specs.Counts.{plus, with_length, with_write, with_sync}
 use Rattle.xa_disk.specs.Disk.{CountsFault}
 use Rattle.xa_disk.specs.declared.counts.Counts.{Counts}
+use Rattle.xa_disk.specs.declared.disk.Disk.{Ghosts}
+use Rattle.xa_limits.specs.declared.TheConstants.{AROUND_BODY, FIRST_OFFSET, FORMAT_BYTES, LENGTH_BYTES}
 use Rattle.xa_log.specs.Answers.{HasCause}
-use Rattle.xa_log.specs.declared.reading.Found.{Found}
+use Rattle.xa_log.specs.Chain.{most_body, format_of, format_in, size_at}
+use Rattle.xa_log.specs.declared.found.Found.{Found}
+use Rattle.xa_log.specs.declared.window.Span.{Span}
 use Rattle.xa_log.specs.declared.appending.Appended.{Appended}
 use Rattle.xa_log.specs.declared.appending.Appended.TheVariants.{Kept, Refused, Lost, Full}
 use Rattle.xa_log.specs.declared.fault.OpenFault.{OpenFault}
 use Rattle.xa_log.specs.declared.fault.OpenFault.TheVariants.{NotALog, TooNew, TooLong, Device, Memory}
+use Rattle.xa_log.specs.declared.record.TheConstants.{MOST_RECORD}
 use Rattle.xa_log.specs.declared.window.TheConstants.{WINDOW, LEAST_READ}
 
 -- so many reads more, of so many bytes together
@@ -31,10 +36,33 @@ pub record FetchedSome (len : ℕ) (first now : Counts) : Type 0 where
   pub upto : ℕ
   pub fetched : Fetched len upto first now
 
--- where a record is found, up to where the window has the file
-abbrev pub FetchedNext : ℕ → Counts → Counts → Option Found → Type 0
-FetchedNext len first now None = FetchedSome len first now
-FetchedNext len first now (Some found) = Fetched len (found.span.from + found.span.have) first now
+-- up to a bound
+pub record FetchedWithin (len most : ℕ) (first now : Counts) : Type 0 where
+  pub upto : ℕ
+  pub fetched : Fetched len upto first now
+  pub bounded : upto ≤ most
+
+-- up to where a window has the file, and no further than a bound
+abbrev pub FetchedUpto : ℕ → ℕ → Counts → Counts → Span → Type 0
+FetchedUpto len most first now span = Fetched len (span.from + span.have) first now × (span.from + span.have ≤ most)
+
+-- where a record is found, up to there
+abbrev pub FetchedNext : ℕ → ℕ → Counts → Counts → Option Found → Type 0
+FetchedNext len most first now None = FetchedWithin len most first now
+FetchedNext len most first now (Some found) = FetchedUpto len most first now found.span
+
+-- Where the first bytes of a file were read up to an offset, reading a record up to its end stays within a bound: no more
+-- is read if they have it, and at most a window behind it if they haven't.
+abbrev pub ReachesTo : ℕ → ℕ → ℕ → Type 0
+ReachesTo end upto most = (upto ≤ most) × (upto < end → end + WINDOW ≤ most)
+
+-- The same of the record that begins at an offset, whose size isn't known yet, but that it is at most so much: at most a
+-- window is read to learn it.
+abbrev pub Reaches : (ℕ → Type 0) → ℕ → ℕ → ℕ → ℕ → ℕ → Type 0
+Reaches IsSize limit len at upto most =
+    (upto ≤ most) × (at + AROUND_BODY ≤ len → upto < at + LENGTH_BYTES → at + WINDOW ≤ most)
+    × ((size : ℕ) → IsSize size → size ≤ limit → at + (AROUND_BODY + size) ≤ len
+    → ReachesTo (at + (AROUND_BODY + size)) upto most)
 
 -- Reads of at most so many bytes together, and no other call: pieces of at most WINDOW bytes, and at most one of
 -- them of less than LEAST_READ.
@@ -68,10 +96,34 @@ abbrev pub LooksSecond : {T : Type 0} → Result T OpenFault → ℕ → Counts 
 LooksSecond result most old new =
     MatchResult result (λ _. OnlyReads most (asked old) new) (λ e. LooksSecondAt e most old new)
 
--- of the file that isn't the current one at most one window is read, where the current one is the first or isn't
-abbrev pub ReadsLittle : {D : Type 0} → (D → Counts) → Bool → D → D → D → D → Type 0
-ReadsLittle counts true first first_new second second_new = OnlyReads WINDOW (asked (counts second)) (counts second_new)
-ReadsLittle counts false first first_new second second_new = OnlyReads WINDOW (asked (counts first)) (counts first_new)
+-- where the record ends that a file's first length tells of
+abbrev pub first_end : List ℕ → ℕ
+first_end file = FIRST_OFFSET + (AROUND_BODY + size_at (drop FORMAT_BYTES file))
+
+-- that record may be one of its log, and a window of the file's first bytes doesn't hold it
+abbrev pub begins_long : List ℕ → Bool
+begins_long file =
+    is_some (format_of (take FORMAT_BYTES file))
+    && (nat_le (size_at (drop FORMAT_BYTES file)) (most_body (format_in file))
+    && (nat_le (first_end file) (length file) && nat_lt WINDOW (first_end file)))
+
+-- how many bytes of a file are read at most to tell its first record: a window, and that record where it is longer
+abbrev pub brief : List ℕ → ℕ
+brief file = if begins_long file then WINDOW + first_end file else WINDOW
+
+-- the most that this is of any file
+abbrev pub MOST_BRIEF : ℕ
+MOST_BRIEF = WINDOW + (FORMAT_BYTES + MOST_RECORD)
+
+-- A look at no more of a file than its first record, whatever its disk gives. An honest one gives what the file holds.
+pub record LooksBriefly {D : Type 0} (disks : Ghosts D) (old new : D) : Type 0 where
+  pub brief_at_all : OnlyReads MOST_BRIEF (asked (disks.counts old)) (disks.counts new)
+  pub brief_as_is : disks.honest → OnlyReads (brief (disks.seen old)) (asked (disks.counts old)) (disks.counts new)
+
+-- of the file that isn't the current one no more is read, where the current one is the first or isn't
+abbrev pub ReadsLittle : {D : Type 0} → Ghosts D → Bool → D → D → D → D → Type 0
+ReadsLittle disks true first first_new second second_new = LooksBriefly disks second second_new
+ReadsLittle disks false first first_new second second_new = LooksBriefly disks first first_new
 
 -- a write and a sync, of which the first that failed is the last
 abbrev pub PutCalls : {T E : Type 0} → Result T E → Counts → Counts → Type 0

@@ -1,5 +1,5 @@
 -- What a checkpoint's parts do to the file that they write.
-use Rattle.std.specs.Prelude.{◌≡◌, ◌⊎◌, ℕ, ◌+◌, ◌-◌, ◌≤◌, true, List, [], ◌∷◌, ◌++◌, length, take, drop}
+use Rattle.std.specs.Prelude.{◌≡◌, ◌⊎◌, ℕ, ◌+◌, ◌-◌, ◌≤◌, min, true, List, [], ◌∷◌, ◌++◌, length, take, drop, replicate}
 use Rattle.std.specs.List.{AllByRecursion}
 use Rattle.std.specs.Int.{w32, to_be_bytes}
 use Rattle.xa_disk.specs.Disk.{Only}
@@ -10,18 +10,19 @@ use Rattle.xa_log.specs.Answers.{Fell}
 use Rattle.xa_log.specs.declared.format.Format.{Format}
 use Rattle.xa_log.specs.declared.format.TheConstants.{PREAMBLE_BYTES}
 use Rattle.xa_limits.specs.declared.TheConstants.{AROUND_BODY, FIRST_OFFSET, LENGTH_BYTES}
-use Rattle.xa_log.specs.Chain.{start, closing, preamble, record_of, records, IsBody, Rests}
+use Rattle.xa_log.specs.declared.checkpointing.TheConstants.{CLEARED_BYTES}
+use Rattle.xa_log.specs.Chain.{start, closing, preamble, record_of, records, text, behind_text, IsBody, Rests}
 use Rattle.xa_log.specs.Pair.{has_log, IsCalm, Behind, AllOrNoBodies, CalmTears}
 
--- a record, and so many bytes of a closing length
+-- a record, and so many zeros
 abbrev pub tailed : List ℕ → List ℕ → ℕ → List ℕ
-tailed prev body zeros = record_of prev body ++ take zeros closing
+tailed prev body zeros = record_of prev body ++ replicate zeros 0
 
 -- where the writing of a record at this offset begins: the preamble are left out
 abbrev pub behind_preamble : ℕ → ℕ
 behind_preamble at = at + (PREAMBLE_BYTES - at)
 
--- how many bytes of a body's record are then written, with so many of a closing length
+-- how many bytes of a body's record are then written, with so many zeros
 abbrev pub bytes_behind : ℕ → List ℕ → ℕ → ℕ
 bytes_behind at body zeros = AROUND_BODY + length body + zeros - (PREAMBLE_BYTES - at)
 
@@ -33,11 +34,18 @@ records_bytes format bodies = length (records (start format) bodies)
 abbrev pub behind_front : Format → List (List ℕ) → List ℕ
 behind_front format bodies = drop LENGTH_BYTES (records (start format) bodies) ++ closing
 
+-- Behind a log of these bodies stand zeros, as many as have room: its closing length, and the first byte of what would
+-- be a body.
+abbrev pub IsCleared : ℕ → Format → List (List ℕ) → List ℕ → Type 0
+IsCleared most format bodies file =
+    take (min CLEARED_BYTES (most - length (text format bodies))) (behind_text format bodies file)
+    ≡ replicate (min CLEARED_BYTES (most - length (text format bodies))) 0
+
 -- a log of these bodies that lacks its first length
 pub record IsReady (format : Format) (bodies : List (List ℕ)) (file : List ℕ) : Type 0 where
   pub rest : List ℕ
   pub split : file ≡ preamble format ++ (behind_front format bodies ++ rest)
-  pub sizes : AllByRecursion IsBody bodies
+  pub sizes : AllByRecursion (IsBody format) bodies
   pub some : 1 ≤ length bodies
 
 abbrev pub first_length : List (List ℕ) → ℕ

@@ -1,12 +1,14 @@
 -- Which log two files have, from what an image of each is.
-use Rattle.std.specs.Prelude.{◌≡◌, ◌⊎◌, ℕ, ◌≤◌, ◌<◌, Bool, true, false, List, [], ◌∷◌, ◌++◌, length, None}
+use Rattle.std.specs.Prelude.{◌≡◌, ◌⊎◌, ℕ, ◌+◌, ◌≤◌, ◌<◌, Bool, true, false, List, [], ◌∷◌, ◌++◌, length, take, None}
 use Rattle.xa_log.specs.declared.format.Format.{Format}
 use Rattle.xa_log.specs.declared.format.TheConstants.{PREAMBLE_BYTES}
-use Rattle.xa_disk.specs.Disk.{Torn}
+use Rattle.xa_disk.specs.Disk.{put, Torn}
 use Rattle.xa_disk.specs.declared.disk.Disk.{Ghosts}
-use Rattle.xa_log.specs.Chain.{Rests, IsPlain, logged}
+use Rattle.xa_log.specs.Chain.{text, Rests, IsPlain, body_at, behind_text, chains_on, logged}
 use Rattle.xa_log.specs.Pair.{generation, has_log, beats, logged_of, fault_pair, IsCalm, Behind}
-use Rattle.xa_log.specs.Checkpoint.{LeavesOf, LeavesNone}
+use Rattle.xa_log.specs.Checkpoint.{IsCleared, LeavesOf, LeavesNone}
+use Rattle.xa_log.specs.declared.checkpointing.TheConstants.{CLEARED_BYTES}
+use Rattle.xa_limits.specs.declared.TheConstants.{LENGTH_BYTES}
 use Rattle.xa_log.specs.Stands.{Leaves}
 use Rattle.xa_log.specs.TwoFiles.{Pair, IsOpenPair, NoStray, first_of, second_of}
 use Rattle.xa_log.specs.declared.log.Log.{Log}
@@ -65,3 +67,12 @@ OpenedLaw {D} disks = (bodies : List (List ℕ)) (log : Log D)
 abbrev pub StrayLaw : Type 0
 StrayLaw = (format : Format) (bodies : List (List ℕ)) (file : List ℕ) → Rests format bodies file
     → (old : List ℕ) × (has_log old ≡ false) × Torn 0 PREAMBLE_BYTES old file × (logged file ≡ bodies)
+
+-- No stale record follows a checkpoint: where its log has room for another record, whichever length is written over the
+-- closing length and nothing behind it, what chains there has a body that begins with 0. No record's body does; so
+-- nothing that was ever logged comes back when an append is torn behind its length.
+abbrev pub StaleLaw : Type 0
+StaleLaw = (most : ℕ) (format : Format) (bodies : List (List ℕ)) (size file : List ℕ)
+    → IsCleared most format bodies file → length (text format bodies) + CLEARED_BYTES ≤ most
+    → length size ≡ LENGTH_BYTES → chains_on format bodies (put file (length (text format bodies)) size) ≡ true
+    → take 1 (body_at (behind_text format bodies (put file (length (text format bodies)) size))) ≡ 0 ∷ []

@@ -1,5 +1,6 @@
 pub mod Chain
 pub mod Ahead
+pub mod Buffer
 pub mod Answers
 pub mod Calls
 pub mod Stands
@@ -11,6 +12,7 @@ pub mod Pair
 pub mod Checkpoint
 pub mod Laws
 pub mod TwoFiles
+pub mod Group
 pub mod LogStates
 pub mod Looking
 pub mod Worked

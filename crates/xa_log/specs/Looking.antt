@@ -1,15 +1,17 @@
 -- What reading two files finds.
 use Rattle.std.specs.Prelude.{◌≡◌, ◌≢◌, ℕ, ◌≤◌, min, Bool, true, false, ◌||◌, if◌then◌else◌, List, [], length, take}
-use Rattle.std.specs.Prelude.{Option, Some, None}
-use Rattle.xa_log.specs.declared.format.Format.{Format}
+use Rattle.std.specs.Prelude.{Option, Some, None, IfSome}
+use Rattle.xa_disk.specs.declared.counts.Counts.{Counts}
 use Rattle.xa_log.specs.declared.looking.Front.{Front}
-use Rattle.xa_log.specs.declared.looking.Head.{Head}
+use Rattle.xa_log.specs.declared.heads.Head.{Head}
+use Rattle.xa_log.specs.declared.found.Found.{Found}
 use Rattle.xa_log.specs.declared.reading.Scan.{Scan}
-use Rattle.xa_log.specs.Chain.{format_of, is_record, body_at, logged}
-use Rattle.xa_log.specs.Reading.{is_newer, IsScan}
+use Rattle.xa_log.specs.Chain.{start, format_of}
+use Rattle.xa_log.specs.Calls.{FetchedWithin, FetchedNext}
+use Rattle.xa_log.specs.Reading.{is_newer, Finds, Fits, IsScan}
 use Rattle.xa_log.specs.Pair.{number_in, generation, is_nil, has_log, on_first}
 use Rattle.xa_log.specs.Window.{Caches}
-use Rattle.xa_limits.specs.declared.TheConstants.{FORMAT_BYTES}
+use Rattle.xa_limits.specs.declared.TheConstants.{FIRST_OFFSET, FORMAT_BYTES}
 use Rattle.xa_log.specs.declared.window.TheConstants.{WINDOW}
 
 -- lengths of two files that aren't too long
@@ -39,26 +41,32 @@ either_newer first second = is_newer (take FORMAT_BYTES first) || is_newer (take
 abbrev pub either_log : List ℕ → List ℕ → Bool
 either_log first second = has_log first || has_log second
 
--- the number of the record that stands at the front, or that none does
-abbrev pub Numbers : List ℕ → List ℕ → Option ℕ → Type 0
-Numbers prev bytes None = is_record prev bytes ≡ false
-Numbers prev bytes (Some number) = (is_record prev bytes ≡ true) × (number ≡ number_in (body_at bytes))
-
 -- what a log's first record tells of it
-abbrev pub Tells : List (List ℕ) → Option ℕ → Type 0
+abbrev pub Tells : List (List ℕ) → Option Found → Type 0
 Tells bodies None = bodies ≡ []
-Tells bodies (Some number) = (is_nil bodies ≡ false) × (generation bodies ≡ number)
+Tells bodies (Some found) = (is_nil bodies ≡ false) × (generation bodies ≡ number_in found.body.items)
 
-abbrev pub IsHead : List ℕ → Option Head → Type 0
-IsHead file None = format_of (take FORMAT_BYTES file) ≡ None
-IsHead file (Some head) = (format_of (take FORMAT_BYTES file) ≡ Some head.format) × Tells (logged file) head.number
+-- how a file begins that is a log, with what a window has of it by then; or that it is none
+abbrev pub IsHead : List ℕ → List ℕ → Option Head → Type 0
+IsHead file window None = format_of (take FORMAT_BYTES file) ≡ None
+IsHead file window (Some head) =
+    (format_of (take FORMAT_BYTES file) ≡ Some head.format)
+    × Finds head.format (start head.format) file FIRST_OFFSET window head.first
 
--- which of two files is the current one, with its format
-abbrev pub Chooses : List ℕ → List ℕ → Option (Bool × Format) → Type 0
+-- that of a file of this length
+abbrev pub HasHead : ℕ → Option Head → Type 0
+HasHead len None = Unit {0}
+HasHead len (Some head) = (FORMAT_BYTES ≤ len) × IfSome head.first (Fits head.format FIRST_OFFSET len WINDOW)
+
+-- the first bytes that were read of a file, up to where a window has it behind its first record
+abbrev pub FetchedHead : ℕ → ℕ → Counts → Counts → Option Head → Type 0
+FetchedHead len most first now None = FetchedWithin len most first now
+FetchedHead len most first now (Some head) = FetchedNext len most first now head.first
+
+-- whether one of two files is a log, and which of them is the current one
+abbrev pub Chooses : List ℕ → List ℕ → Option (Bool × Head) → Type 0
 Chooses first second None = either_log first second ≡ false
-Chooses first second (Some choice) =
-    (either_log first second ≡ true) × (choice.0 ≡ on_first first second)
-    × (format_of (take FORMAT_BYTES (if choice.0 then first else second)) ≡ Some choice.1)
+Chooses first second (Some choice) = (either_log first second ≡ true) × (choice.0 ≡ on_first first second)
 
 -- the current file's log, of two
 pub record IsCurrent (first second : List ℕ) (is_first : Bool) (scan : Scan) : Type 0 where

@@ -9,7 +9,7 @@ use Rattle.xa_log.specs.declared.format.Format.{Format}
 use Rattle.xa_log.specs.declared.format.TheConstants.{PREAMBLE_BYTES}
 use Rattle.xa_limits.specs.declared.TheConstants.{FORMAT_BYTES}
 use Rattle.xa_log.specs.declared.looking.TheConstants.{NUMBER_OFFSET, NUMBER_END}
-use Rattle.xa_log.specs.Chain.{start, preamble, format_of, format_in, body_at, is_record, logged}
+use Rattle.xa_log.specs.Chain.{preamble, format_of, body_at, begins, logged}
 use Rattle.xa_log.specs.Reading.{is_newer}
 
 -- the number in bytes 1 to 4 of a body, 0 in a shorter one
@@ -62,11 +62,13 @@ fault_pair most first current other = if first then pair_fault most current othe
 
 -- ---- an image of the other file
 
--- Without chance: it isn't a later format's, and a record that chains at its front is the first of these.
+-- Without chance: it isn't a later format's, and if a record chains at its front, that is the first of these, and as
+-- many chain as these are: where the name of another format came before them, its limit of bodies cuts none off, and
+-- takes none more.
 pub record IsCalm (stood : List (List ℕ)) (file : List ℕ) : Type 0 where
   pub known : is_newer (take FORMAT_BYTES file) ≡ false
-  pub only : is_record (start (format_in file)) (drop FORMAT_BYTES file) ≡ true
-      → take 1 stood ≡ body_at (drop FORMAT_BYTES file) ∷ []
+  pub only : begins file ≡ true → take 1 stood ≡ body_at (drop FORMAT_BYTES file) ∷ []
+  pub many : begins file ≡ true → length (logged file) ≡ length stood
 
 -- what stands behind the first 12 bytes is what stood behind them in a log of these bodies, or they are none
 abbrev pub Behind : List (List ℕ) → List ℕ → Type 0

@@ -1,9 +1,9 @@
--- Worked logs of two files, in bytes: the first boot's record with a branch prepared, and behind the checkpoint of the
--- second boot its record with the branch held. The digests are sha256sum's.
+-- Worked logs of two files, in bytes: in one of format 1 the first boot's record with a branch prepared, and behind the
+-- checkpoint of the second boot, in one of format 2, its record with the branch held. The digests are sha256sum's.
 use Rattle.std.specs.Prelude.{◌≡◌, List, [], ◌∷◌, ◌++◌, ℕ, true, false, Some, None, slice_set}
 use Rattle.xa_log.specs.declared.fault.OpenFault.TheVariants.{NotALog, TooNew, TooLong}
-use Rattle.xa_log.specs.declared.format.Format.TheVariants.{One}
-use Rattle.xa_log.specs.Chain.{magic, preamble}
+use Rattle.xa_log.specs.declared.format.Format.TheVariants.{One, Two}
+use Rattle.xa_log.specs.Chain.{magic, preamble, logged}
 use Rattle.xa_log.specs.Pair.{beats, on_first, logged_pair, pair_fault}
 
 abbrev pub opened : List ℕ
@@ -45,27 +45,44 @@ held =
 
 abbrev pub again_record : List ℕ
 again_record =
-    0 ∷ 0 ∷ 0 ∷ 5 ∷ 1 ∷ 0 ∷ 0 ∷ 0 ∷ 2 ∷ 60 ∷ 252 ∷ 196 ∷ 89 ∷ 202 ∷ 80 ∷ 1 ∷
-    220 ∷ 72 ∷ 31 ∷ 88 ∷ 202 ∷ 88 ∷ 82 ∷ 236 ∷ 135 ∷ 132 ∷ 105 ∷ 91 ∷ 13 ∷ 168 ∷ 148 ∷ 101 ∷
-    7 ∷ 117 ∷ 214 ∷ 99 ∷ 159 ∷ 143 ∷ 243 ∷ 187 ∷ 24 ∷ []
+    0 ∷ 0 ∷ 0 ∷ 5 ∷ 1 ∷ 0 ∷ 0 ∷ 0 ∷ 2 ∷ 164 ∷ 232 ∷ 243 ∷ 118 ∷ 174 ∷ 177 ∷ 62 ∷
+    62 ∷ 2 ∷ 75 ∷ 124 ∷ 176 ∷ 202 ∷ 183 ∷ 118 ∷ 55 ∷ 44 ∷ 7 ∷ 167 ∷ 134 ∷ 245 ∷ 252 ∷ 29 ∷
+    102 ∷ 237 ∷ 250 ∷ 247 ∷ 143 ∷ 31 ∷ 225 ∷ 16 ∷ 131 ∷ []
 
 abbrev pub held_record : List ℕ
 held_record =
     0 ∷ 0 ∷ 0 ∷ 25 ∷ 8 ∷ 0 ∷ 0 ∷ 0 ∷ 1 ∷ 1 ∷ 1 ∷ 170 ∷ 187 ∷ 0 ∷ 0 ∷ 0 ∷
-    1 ∷ 0 ∷ 0 ∷ 0 ∷ 1 ∷ 0 ∷ 1 ∷ 1 ∷ 107 ∷ 1 ∷ 0 ∷ 1 ∷ 118 ∷ 120 ∷ 213 ∷ 184 ∷
-    199 ∷ 170 ∷ 80 ∷ 36 ∷ 249 ∷ 114 ∷ 14 ∷ 50 ∷ 158 ∷ 62 ∷ 17 ∷ 54 ∷ 89 ∷ 82 ∷ 205 ∷ 238 ∷
-    12 ∷ 211 ∷ 67 ∷ 107 ∷ 191 ∷ 90 ∷ 67 ∷ 237 ∷ 184 ∷ 228 ∷ 41 ∷ 242 ∷ 231 ∷ []
+    1 ∷ 0 ∷ 0 ∷ 0 ∷ 1 ∷ 0 ∷ 1 ∷ 1 ∷ 107 ∷ 1 ∷ 0 ∷ 1 ∷ 118 ∷ 196 ∷ 219 ∷ 239 ∷
+    99 ∷ 236 ∷ 120 ∷ 9 ∷ 193 ∷ 78 ∷ 34 ∷ 43 ∷ 161 ∷ 171 ∷ 220 ∷ 198 ∷ 128 ∷ 136 ∷ 63 ∷ 215 ∷
+    38 ∷ 231 ∷ 25 ∷ 194 ∷ 56 ∷ 68 ∷ 213 ∷ 55 ∷ 157 ∷ 8 ∷ 29 ∷ 118 ∷ 176 ∷ []
 
 abbrev pub second_file : List ℕ
-second_file = magic One ++ again_record ++ held_record ++ 0 ∷ 0 ∷ 0 ∷ 0 ∷ []
+second_file = magic Two ++ again_record ++ held_record ++ 0 ∷ 0 ∷ 0 ∷ 0 ∷ 0 ∷ []
 
 -- before its seal: the first length is 0
 abbrev pub unsealed : List ℕ
 unsealed = slice_set second_file 11 0
 
--- XARMLOG2
+-- ---- what an earlier checkpoint left behind these records
+
+abbrev pub known : List ℕ
+known = 9 ∷ 0 ∷ 0 ∷ 0 ∷ 1 ∷ 1 ∷ 1 ∷ 170 ∷ 187 ∷ 1 ∷ []
+
+-- the digest of the record that follows them, if it has that body
+abbrev pub known_digest : List ℕ
+known_digest =
+    138 ∷ 17 ∷ 255 ∷ 76 ∷ 220 ∷ 88 ∷ 205 ∷ 10 ∷ 252 ∷ 8 ∷ 161 ∷ 157 ∷ 49 ∷ 94 ∷ 117 ∷
+    174 ∷ 116 ∷ 220 ∷ 46 ∷ 211 ∷ 22 ∷ 31 ∷ 102 ∷ 62 ∷ 35 ∷ 237 ∷ 46 ∷ 246 ∷ 248 ∷ 109 ∷
+    174 ∷ 243 ∷ []
+
+-- The checkpoint of the second boot stands before the third record of an earlier one with the same two records, and an
+-- append was torn behind its length: what was left of that record's body is as given.
+abbrev pub torn_behind : List ℕ → List ℕ
+torn_behind left = magic Two ++ again_record ++ held_record ++ (0 ∷ 0 ∷ 0 ∷ 10 ∷ []) ++ left ++ known_digest
+
+-- XARMLOG3
 abbrev pub newer : List ℕ
-newer = 88 ∷ 65 ∷ 82 ∷ 77 ∷ 76 ∷ 79 ∷ 71 ∷ 50 ∷ []
+newer = 88 ∷ 65 ∷ 82 ∷ 77 ∷ 76 ∷ 79 ∷ 71 ∷ 51 ∷ []
 
 -- ---- which file is current
 
@@ -81,6 +98,12 @@ BeforeTheSeal =
     (on_first first_file unsealed ≡ true) × (logged_pair first_file unsealed ≡ opened ∷ prepared ∷ [])
     × (on_first unsealed first_file ≡ false) × (logged_pair unsealed first_file ≡ opened ∷ prepared ∷ [])
 
+-- With the closing length alone over it that record comes back; with its first byte cleared too it doesn't.
+abbrev pub StaleTail : Type 0
+StaleTail =
+    (logged (torn_behind known) ≡ again ∷ held ∷ known ∷ [])
+    × (logged (torn_behind (slice_set known 0 0)) ≡ again ∷ held ∷ [])
+
 -- On a tie the one that has records, and the first where both have or neither has. A first body of four bytes is
 -- generation 0. What the first file says of itself, and what the second one says.
 abbrev pub Ties : Type 0
@@ -95,10 +118,16 @@ OneLog =
     (on_first [] (preamble One) ≡ false) × (on_first (preamble One) [] ≡ true)
     × (logged_pair first_file [] ≡ opened ∷ prepared ∷ []) × (logged_pair [] first_file ≡ opened ∷ prepared ∷ [])
 
+-- XARMLOG2 alone is a log without records, and comes behind one of format 1 that has some
+abbrev pub SecondFormat : Type 0
+SecondFormat =
+    (pair_fault 114 (magic Two) [] ≡ None) × (logged_pair (magic Two) [] ≡ [])
+    × (on_first (magic Two) first_file ≡ false) × (logged_pair (magic Two) first_file ≡ opened ∷ prepared ∷ [])
+
 -- TooLong of either comes before TooNew of either, and that before none being a log
 abbrev pub Faults : Type 0
 Faults =
-    (pair_fault 114 first_file second_file ≡ None) × (pair_fault 114 [] second_file ≡ None)
-    × (pair_fault 113 first_file newer ≡ Some TooLong) × (pair_fault 113 newer second_file ≡ Some TooLong)
+    (pair_fault 115 first_file second_file ≡ None) × (pair_fault 115 [] second_file ≡ None)
+    × (pair_fault 113 first_file newer ≡ Some TooLong) × (pair_fault 114 newer second_file ≡ Some TooLong)
     × (pair_fault 114 first_file newer ≡ Some TooNew) × (pair_fault 114 newer [] ≡ Some TooNew)
     × (pair_fault 114 [] [] ≡ Some NotALog)

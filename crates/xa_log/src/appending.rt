@@ -2,13 +2,13 @@
 ghost use Rattle.std.specs.Prelude.{◌≡◌, ◌≢◌, ◌+◌, ◌-◌, ◌≤◌, length, take, OnOk, OnErr};
 ghost use Rattle.xa_disk.specs.Disk.{put, Torn, Only, CountsFault};
 ghost use Rattle.xa_disk.specs.Time.{TimePasses};
-ghost use Rattle.xa_log.specs.Chain.{digest, closed, closed_by, IsBody};
+ghost use Rattle.xa_log.specs.Chain.{digest, closed, closed_by};
 ghost use Rattle.xa_log.specs.Answers.{Went, Wrote, WentAhead, Fell, FellAhead, HasCause};
 ghost use Rattle.xa_log.specs.Calls.{PutCalls, WritesAhead, PutsAhead, AppendCalls, AppendsAhead};
 
 use crate::record::{clear, encode};
 use xa_disk::{Disk, DiskFault};
-use xa_limits::{AROUND_CLOSED, DIGEST_BYTES};
+use xa_limits::{AROUND_CLOSED, DIGEST_BYTES, MOST_BODY};
 
 /// What became of a record, or of a checkpoint.
 #[derive(Clone, Copy, Debug, PartialEq, Eq)]
@@ -139,7 +139,7 @@ pub(crate) fn append_at<D: Disk>(
     ready: usize,
 ) -> (Appended, [u8; DIGEST_BYTES])
     requires room { AROUND_CLOSED + length body.now + ready ≤ length buffer.old }
-    requires body { IsBody body.now }
+    requires small { length body.now ≤ MOST_BODY }
     ensures digest { result.1 ≡ digest prev.now body.now }
     ensures went { D.honest
         → WentAhead D.Disk result.0 at (closed prev.now body.now) (closed_by ready prev.now body.now)

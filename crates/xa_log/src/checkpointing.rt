@@ -1,23 +1,40 @@
 //! A checkpoint's three parts, each on the disk that it writes.
-ghost use Rattle.std.specs.Prelude.{◌≡◌, ◌≢◌, ◌⊎◌, ◌+◌, ◌-◌, ◌≤◌, ◌<◌, ◌^◌, ◌++◌, ◌∷◌, [], List, ℕ, length, take, drop, OnOk, OnErr, IfOk, IfSome, IfNone};
+ghost use Rattle.std.specs.Prelude.{◌≡◌, ◌≢◌, ◌⊎◌, ◌+◌, ◌-◌, ◌≤◌, ◌<◌, ◌^◌, ◌++◌, ◌∷◌, [], List, ℕ, length, min, take, drop, replicate, OnOk, OnErr, IfOk, IfSome, IfNone};
 ghost use Rattle.std.specs.Int.{w32, to_be_bytes};
 ghost use Rattle.std.specs.List.{AllByRecursion};
 ghost use Rattle.xa_disk.specs.Disk.{put, Torn, Only, CountsFault};
 ghost use Rattle.xa_disk.specs.Time.{TimePasses, LeavesOnly};
 ghost use Rattle.xa_disk.specs.Counts.{with_write};
 ghost use Rattle.xa_log.specs.declared.format.Format.{Format};
-ghost use Rattle.xa_log.specs.Chain.{start, preamble, last, digest, text, IsBody};
+ghost use Rattle.xa_log.specs.Chain.{start, preamble, last, digest, text, behind_text, IsBody};
 ghost use Rattle.xa_log.specs.Reading.{bodies_of};
 ghost use Rattle.xa_log.specs.Answers.{Went, Fell, HasCause};
+ghost use Rattle.xa_log.specs.Buffer.{EachFits};
 ghost use Rattle.xa_log.specs.Calls.{PutCalls, RecordsCalls, AppendCalls, CheckpointCalls};
 ghost use Rattle.xa_log.specs.Pair.{IsCalm, CalmTears};
 ghost use Rattle.xa_log.specs.Checkpoint.{behind_preamble, bytes_behind, tailed, records_bytes, behind_front, first_length, IsReady, IsOther, LeavesOf, LeavesNone, LeavesSealed, LeavesAny, Checkpointed};
 
 use crate::appending::{Appended, put_or_clear, put_synced};
 use crate::format::{Format, PREAMBLE_BYTES};
-use crate::record::encode;
+use crate::record::{clear, encode};
 use xa_disk::{Disk, DiskFault};
 use xa_limits::{AROUND_BODY, AROUND_CLOSED, DIGEST_BYTES, FIRST_OFFSET, LENGTH_BYTES, MOST_BODY};
+
+/// Bytes of zeros that a checkpoint writes behind its last record, where the limit leaves room: the closing length, and
+/// the first byte of what would be a body. What stood there before, of an earlier checkpoint that was refused, chains
+/// to the same digests; without its first byte it comes back by no length that an append leaves alone.
+pub const CLEARED_BYTES: usize = LENGTH_BYTES + 1;
+
+// How many zeros more than the closing length go behind a log that ends at `end`, in a file of at most so many bytes.
+pub(crate) fn zeros_behind(end: u64, most: u64) -> usize
+    requires { end + LENGTH_BYTES ≤ most }
+    ensures exact { LENGTH_BYTES + result ≡ min CLEARED_BYTES (most - end) }
+    ensures within { end + LENGTH_BYTES + result ≤ most }
+    ensures few { LENGTH_BYTES + result ≤ CLEARED_BYTES }
+{
+    let most_more = (CLEARED_BYTES - LENGTH_BYTES) as u64;
+    (most - end - LENGTH_BYTES as u64).min(most_more) as usize
+}
 
 // The first part: writes a log of no records, and syncs, so that the older log is gone for good before a byte of the
 // new one is written. A fault is not repaired: the older log may be there still, which comes behind the current one as
@@ -49,10 +66,10 @@ fn put_record<D: Disk>(
     body: &[u8],
     zeros: usize,
 ) -> Result<[u8; DIGEST_BYTES], DiskFault>
-    requires room { AROUND_CLOSED + length body.now ≤ length buffer.old }
-    requires body { IsBody body.now }
+    requires room { AROUND_BODY + CLEARED_BYTES + length body.now ≤ length buffer.old }
+    requires small { length body.now ≤ MOST_BODY }
     requires from { FIRST_OFFSET ≤ at }
-    requires zeros { zeros ≤ LENGTH_BYTES }
+    requires zeros { zeros ≤ CLEARED_BYTES }
     ensures digest { IfOk result (λ d. d ≡ digest prev.now body.now) }
     ensures written { D.honest
         → OnOk result (D.seen disk.new ≡ put (D.seen disk.old) (behind_preamble at)
@@ -65,14 +82,15 @@ fn put_record<D: Disk>(
     ensures calls { D.counts disk.new ≡ with_write (D.counts disk.old) }
 {
     let digest = encode(buffer, prev, body);
+    clear(buffer, AROUND_BODY + body.len(), zeros);
     let skip = (PREAMBLE_BYTES as u64).saturating_sub(at);
     let end = AROUND_BODY + body.len() + zeros;
     disk.write_at(at.max(PREAMBLE_BYTES as u64), &buffer[skip as usize..end])?;
     Ok(digest)
 }
 
-// The second part: writes the records behind the preamble, each in one write, a closing length behind the last,
-// and syncs. Gives the last record's digest. A fault is not repaired: the first length is still 0, and stable, so
+// The second part: writes the records behind the preamble, each in one write, a closing length and so many zeros more
+// behind the last, and syncs. Gives the last record's digest. A fault is not repaired: the first length is still 0, and stable, so
 // whatever was written here, the file has no record. The sync makes the records stable before the seal makes them
 // count.
 pub(crate) fn put_records<D: Disk>(
@@ -80,24 +98,27 @@ pub(crate) fn put_records<D: Disk>(
     format: Format,
     buffer: &mut [u8],
     bodies: &[Vec<u8>],
+    more: usize,
 ) -> Result<[u8; DIGEST_BYTES], DiskFault>
-    requires room { AROUND_CLOSED + MOST_BODY ≤ length buffer.old }
+    requires room { EachFits (length buffer.old) (bodies_of bodies.now) }
     requires some { 1 ≤ length bodies.now }
-    requires sizes { AllByRecursion IsBody (bodies_of bodies.now) }
-    requires fits { PREAMBLE_BYTES + records_bytes format (bodies_of bodies.now) < 2 ^ 64 }
+    requires sizes { AllByRecursion (IsBody format) (bodies_of bodies.now) }
+    requires few { LENGTH_BYTES + more ≤ CLEARED_BYTES }
+    requires fits { PREAMBLE_BYTES + (records_bytes format (bodies_of bodies.now) + more) < 2 ^ 64 }
     ensures digest { IfOk result (λ d. d ≡ last (start format) (bodies_of bodies.now)) }
     ensures written { D.honest → PREAMBLE_BYTES ≤ length (D.seen disk.old)
         → OnOk result
-        (D.seen disk.new ≡ put (D.seen disk.old) PREAMBLE_BYTES (behind_front format (bodies_of bodies.now))) }
+        (D.seen disk.new
+        ≡ put (D.seen disk.old) PREAMBLE_BYTES (behind_front format (bodies_of bodies.now) ++ replicate more 0)) }
     ensures durable { D.honest → OnOk result (Only (D.seen disk.new) (D.may_leave disk.new)) }
     ensures torn { D.honest
-        → Torn PREAMBLE_BYTES (records_bytes format (bodies_of bodies.now)) (D.seen disk.old) (D.seen disk.new) }
+        → Torn PREAMBLE_BYTES (records_bytes format (bodies_of bodies.now) + more) (D.seen disk.old) (D.seen disk.new) }
     // Whichever image is left: nothing.
-    ensures any_moment { D.honest → (most : ℕ) → PREAMBLE_BYTES + records_bytes format (bodies_of bodies.now) ≤ most
+    ensures any_moment { D.honest → (most : ℕ) → PREAMBLE_BYTES + (records_bytes format (bodies_of bodies.now) + more) ≤ most
         → LeavesNone most format (D.seen disk.old) → Only (D.seen disk.old) (D.may_leave disk.old)
         → LeavesOnly D.Disk disk.old disk.new (LeavesNone most format) }
     ensures time { D.honest
-        → TimePasses D.Disk (Torn PREAMBLE_BYTES (records_bytes format (bodies_of bodies.now))) disk.old disk.new }
+        → TimePasses D.Disk (Torn PREAMBLE_BYTES (records_bytes format (bodies_of bodies.now) + more)) disk.old disk.new }
     ensures count { CountsFault result (D.failures disk.old) (D.failures disk.new) }
     ensures calls { RecordsCalls result (length bodies.now) (D.counts disk.old) (D.counts disk.new) }
 {
@@ -108,7 +129,14 @@ pub(crate) fn put_records<D: Disk>(
         digest = put_record(disk, end, &digest, buffer, body, 0)?;
         end += AROUND_BODY as u64 + body.len() as u64;
     }
-    let digest = put_record(disk, end, &digest, buffer, &bodies[most], LENGTH_BYTES)?;
+    let digest = put_record(
+        disk,
+        end,
+        &digest,
+        buffer,
+        &bodies[most],
+        LENGTH_BYTES + more,
+    )?;
     disk.sync()?;
     Ok(digest)
 }
@@ -140,23 +168,28 @@ pub(crate) fn checkpoint_on<D: Disk>(
     format: Format,
     buffer: &mut [u8],
     bodies: &[Vec<u8>],
+    more: usize,
 ) -> (Appended, [u8; DIGEST_BYTES])
-    requires room { AROUND_CLOSED + MOST_BODY ≤ length buffer.old }
+    requires room { EachFits (length buffer.old) (bodies_of bodies.now) }
     requires some { 1 ≤ length bodies.now }
-    requires sizes { AllByRecursion IsBody (bodies_of bodies.now) }
-    requires fits { PREAMBLE_BYTES + records_bytes format (bodies_of bodies.now) < 2 ^ 64 }
+    requires sizes { AllByRecursion (IsBody format) (bodies_of bodies.now) }
+    requires few { LENGTH_BYTES + more ≤ CLEARED_BYTES }
+    requires fits { PREAMBLE_BYTES + (records_bytes format (bodies_of bodies.now) + more) < 2 ^ 64 }
     ensures digest { result.0 ≡ Appended.Kept → result.1 ≡ last (start format) (bodies_of bodies.now) }
     ensures answer { D.honest → (most : ℕ) (stood : List (List ℕ))
-        → PREAMBLE_BYTES + records_bytes format (bodies_of bodies.now) ≤ most
+        → PREAMBLE_BYTES + (records_bytes format (bodies_of bodies.now) + more) ≤ most
         → IsOther D.Disk most stood disk.old
         → Checkpointed D.Disk result.0 most format stood (bodies_of bodies.now) disk.old disk.new }
     ensures any_moment { D.honest → (most : ℕ) (stood : List (List ℕ))
-        → PREAMBLE_BYTES + records_bytes format (bodies_of bodies.now) ≤ most
+        → PREAMBLE_BYTES + (records_bytes format (bodies_of bodies.now) + more) ≤ most
         → IsOther D.Disk most stood disk.old
         → LeavesOnly D.Disk disk.old disk.new (LeavesAny most format stood (bodies_of bodies.now)) }
     ensures grows { D.honest → length (D.seen disk.old) ≤ length (D.seen disk.new) }
     ensures reaches { D.honest → result.0 ≡ Appended.Kept
-        → PREAMBLE_BYTES + records_bytes format (bodies_of bodies.now) ≤ length (D.seen disk.new) }
+        → PREAMBLE_BYTES + (records_bytes format (bodies_of bodies.now) + more) ≤ length (D.seen disk.new) }
+    ensures cleared { D.honest → result.0 ≡ Appended.Kept
+        → take (LENGTH_BYTES + more) (behind_text format (bodies_of bodies.now) (D.seen disk.new))
+        ≡ replicate (LENGTH_BYTES + more) 0 }
     ensures cause { HasCause result.0 (D.failures disk.old) (D.failures disk.new) }
     ensures calls { CheckpointCalls result.0 (length bodies.now) (D.counts disk.old) (D.counts disk.new) }
     ensures not_full { result.0 ≢ Appended.Full }
@@ -165,7 +198,7 @@ pub(crate) fn checkpoint_on<D: Disk>(
         Ok(()) => {}
         Err(_) => return (Appended::Refused, [0; DIGEST_BYTES]),
     }
-    match put_records(disk, format, buffer, bodies) {
+    match put_records(disk, format, buffer, bodies, more) {
         Ok(digest) => {
             let outcome = put_seal(disk, bodies[0].len() as u32);
             (outcome, digest)
@@ -174,10 +207,10 @@ pub(crate) fn checkpoint_on<D: Disk>(
     }
 }
 
-/// Where a log of these bodies, each of 1 to `MOST_BODY` bytes, ends in a format, if it fits into so many bytes with
-/// its closing length.
+/// Where a log of these bodies ends in a format that takes each of them, if it fits into so many bytes with its closing
+/// length.
 pub fn end_of(format: Format, bodies: &[Vec<u8>], most: u64) -> Option<u64>
-    requires sizes { AllByRecursion IsBody (bodies_of bodies.now) }
+    requires sizes { AllByRecursion (IsBody format) (bodies_of bodies.now) }
     ensures some { IfSome result
         (λ end. (end ≡ length (text format (bodies_of bodies.now))) × (end + LENGTH_BYTES ≤ most)) }
     ensures none { IfNone result (most < length (text format (bodies_of bodies.now)) + LENGTH_BYTES) }

@@ -1,10 +1,10 @@
-ghost use Rattle.std.specs.Prelude.{◌≡◌, length, MatchResult, Some};
-ghost use Rattle.xa_log.specs.Chain.{magic, newest, start, preamble, format_of};
+ghost use Rattle.std.specs.Prelude.{◌≡◌, ◌≤◌, length, MatchResult, Some};
+ghost use Rattle.xa_log.specs.Chain.{magic, newest, start, preamble, format_of, format_number, most_body};
 ghost use Rattle.xa_log.specs.Reading.{front_fault};
 
 use crate::OpenFault;
 use sha2::{Digest, Sha256};
-use xa_limits::{DIGEST_BYTES, FORMAT_BYTES, LENGTH_BYTES};
+use xa_limits::{DIGEST_BYTES, FORMAT_BYTES, LENGTH_BYTES, MOST_BODY, MOST_BODY_OF_ONE};
 
 // The offset of the name's last byte, which is a digit and tells the formats apart.
 const DIGIT: usize = FORMAT_BYTES - 1;
@@ -15,8 +15,10 @@ pub const PREAMBLE_BYTES: usize = FORMAT_BYTES + LENGTH_BYTES;
 /// A format of a log's file, which the file's first eight bytes name.
 #[derive(Clone, Copy, Debug, PartialEq, Eq)]
 pub enum Format {
-    /// `XARMLOG1`: bodies of at most `MOST_BODY` bytes.
+    /// `XARMLOG1`: bodies of at most `MOST_BODY_OF_ONE` bytes. It is read, and appended to.
     One,
+    /// `XARMLOG2`: bodies of at most `MOST_BODY` bytes.
+    Two,
 }
 
 impl Format {
@@ -24,7 +26,28 @@ impl Format {
     pub fn newest() -> Format
         ensures { result ≡ newest }
     {
-        Format::One
+        Format::Two
+    }
+
+    /// Its number, which is the digit that its name ends in.
+    pub fn number(self) -> u8
+        ensures { result ≡ format_number self }
+    {
+        match self {
+            Format::One => 1,
+            Format::Two => 2,
+        }
+    }
+
+    /// The most bytes of a record's body.
+    pub fn most_body(self) -> usize
+        ensures exact { result ≡ most_body self }
+        ensures bounded { result ≤ MOST_BODY }
+    {
+        match self {
+            Format::One => MOST_BODY_OF_ONE,
+            Format::Two => MOST_BODY,
+        }
     }
 
     // The format that the first eight bytes of a file name.
@@ -35,8 +58,11 @@ impl Format {
         if front == b"XARMLOG1".as_slice() {
             return Ok(Format::One);
         }
+        if front == b"XARMLOG2".as_slice() {
+            return Ok(Format::Two);
+        }
         if &front[..DIGIT] == b"XARMLOG".as_slice()
-            && front[DIGIT] >= b'2'
+            && front[DIGIT] >= b'3'
             && front[DIGIT] <= b'9'
         {
             return Err(OpenFault::TooNew);
@@ -50,6 +76,7 @@ impl Format {
     {
         match self {
             Format::One => *b"XARMLOG1\0\0\0\0",
+            Format::Two => *b"XARMLOG2\0\0\0\0",
         }
     }
 
@@ -59,6 +86,7 @@ impl Format {
     {
         match self {
             Format::One => Sha256::digest(b"XARMLOG1".as_slice()),
+            Format::Two => Sha256::digest(b"XARMLOG2".as_slice()),
         }
     }
 }

@@ -1,14 +1,20 @@
 //! What can be said of every log, and of logs on disks in memory.
 ghost use Rattle.xa_log.specs.Chain.{NoChance, PlainByBody};
+ghost use Rattle.xa_log.specs.Group.{NoChanceGroup};
 ghost use Rattle.xa_log.specs.Pair.{CalmTears};
 ghost use Rattle.xa_log.specs.Checkpoint.{SealTears};
-ghost use Rattle.xa_log.specs.Laws.{BehindLaw, PairLaw, AppendLaw, HeaderLaw, SealLaw, OpenedLaw, StrayLaw};
+ghost use Rattle.xa_log.specs.Laws.{BehindLaw, PairLaw, AppendLaw, HeaderLaw, SealLaw, OpenedLaw, StrayLaw, StaleLaw};
 
 use xa_disk::{Disk, MemDisk};
 
 /// What a failed write of a `MemDisk` leaves to a read is without chance.
 pub fn memory_without_chance()
     ensures { NoChance (⟦<MemDisk as Disk>⟧.tears) }
+{}
+
+/// Nor is what it leaves of a group.
+pub fn memory_without_chance_of_group()
+    ensures { NoChanceGroup (⟦<MemDisk as Disk>⟧.tears) }
 {}
 
 /// What failed writes of a `MemDisk` leave of a checkpoint to a read is without chance.
@@ -45,4 +51,9 @@ pub fn stray_is_possible()
 /// Of bytes it is enough that what chains behind the bodies has the new one's body: its length and digest follow.
 pub fn plain_by_body()
     ensures { PlainByBody }
+{}
+
+/// Behind a checkpoint no stale record comes back by a length alone.
+pub fn no_stale_record()
+    ensures { StaleLaw }
 {}

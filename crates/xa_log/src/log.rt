@@ -4,24 +4,26 @@ ghost use Rattle.xa_disk.specs.Counts.{top};
 ghost use Rattle.xa_disk.specs.Time.{LeavesOnly};
 ghost use Rattle.std.specs.List.{AllByRecursion};
 ghost use Rattle.xa_log.specs.Calls.{CheckpointCalls};
-ghost use Rattle.xa_log.specs.Chain.{newest, text, IsBody};
-ghost use Rattle.xa_log.specs.Checkpoint.{IsOther, IsQuiet, LeavesAny};
+ghost use Rattle.xa_log.specs.Chain.{newest, format_number, most_body, text, IsBody};
+ghost use Rattle.xa_log.specs.Checkpoint.{IsOther, IsQuiet, IsCleared, LeavesAny};
 ghost use Rattle.xa_log.specs.Pair.{generation};
 ghost use Rattle.xa_log.specs.Reading.{bodies_of};
 ghost use Rattle.xa_log.specs.Answers.{HasCause};
+ghost use Rattle.xa_log.specs.declared.ahead.TheConstants.{READY_BYTES};
 ghost use Rattle.xa_log.specs.declared.window.TheConstants.{WINDOW};
+ghost use Rattle.xa_limits.specs.declared.TheConstants.{AROUND_CLOSED, MOST_BODY};
 
 use crate::ahead::ready_behind;
 use crate::appending::{Appended, append_at};
-use crate::checkpointing::{checkpoint_on, end_of};
+use crate::checkpointing::{checkpoint_on, end_of, zeros_behind};
 use crate::format::Format;
 use crate::generation::{generation_of_bodies, generation_with};
 use std::mem;
 use xa_disk::Disk;
 use xa_limits::{AROUND_BODY, AROUND_CLOSED, DIGEST_BYTES, LENGTH_BYTES};
 
-/// A log on two disks: the current file has its records, with bodies of 1 to `MOST_BODY` bytes, at most `log_bytes`
-/// bytes in all; the other one is where a checkpoint goes.
+/// A log on two disks: the current file has its records, with bodies of at least a byte and no more than its format
+/// takes, at most `log_bytes` bytes in all; the other one is where a checkpoint goes.
 #[derive(Debug, Drop)]
 pub struct Log<D> {
     // The current file's disk and the other one's, and whether the current one is the first of the two.
@@ -39,25 +41,30 @@ pub struct Log<D> {
     // How far the current file and the other one are known to reach: they were measured, or written up to there since.
     pub(crate) known: u64,
     pub(crate) other_known: u64,
-    // The window when the log is read, and a record's bytes when one is appended.
+    // Its front is the window when the log is read, and a record's bytes when one is appended. It grows to the longest
+    // record that `reserve` was called for, and so at most to the longest that there is, with the zeros behind it.
     pub(crate) buffer: Vec<u8>,
     // An append or a checkpoint was lost, and no rescan has succeeded since: whether the last record stands, or which
     // file the next opening takes, isn't known, and a record that went to the wrong one would be passed over.
     pub(crate) lost: bool,
     ghost within: { end ≤ log_bytes },
-    ghost room: { length buffer.items ≡ WINDOW },
+    ghost room: { WINDOW ≤ length buffer.items },
+    ghost bounded: { length buffer.items ≤ AROUND_CLOSED + MOST_BODY + READY_BYTES },
 }
 
 impl<D: Disk> Log<D> {
     ghost use Rattle.xa_log.specs.Ahead.{Writes, AppendsBy, IsKnown};
+    ghost use Rattle.xa_log.specs.Buffer.{Holds, HoldsEach, KeepsRoom};
     ghost use Rattle.xa_log.specs.Stands.{Stands, Leaves, Moves, Renumbers, Answers};
     ghost use Rattle.xa_log.specs.TwoFiles.{Pair, AppendsTo, Checkpoints, Swaps, written};
 
-    /// Adds a record of a body of 1 to `MOST_BODY` bytes: one write and one sync where nothing fails; a write that goes
-    /// on with zeros, and fails, is followed by one of the record alone. Takes no memory. After `Lost`, its own or a
+    /// Adds a record of a body that the current file's format takes: one write and one sync where nothing fails; a write
+    /// that goes on with zeros, and fails, is followed by one of the record alone. Takes no memory: there is room for a
+    /// body of up to `MOST_BODY_OF_ONE` bytes, and for a longer one behind a `reserve`. After `Lost`, its own or a
     /// checkpoint's, every append answers so, and asks nothing of the disk, until a rescan succeeds.
     pub fn append(&mut self, body: &[u8]) -> Appended
-        requires { IsBody body.now }
+        requires body { IsBody self.old.format body.now }
+        requires holds { Holds self.old (length body.now) }
         ensures answer { D.honest → (bodies : List (List ℕ)) → Stands D.Disk bodies self.old
             → Answers D.Disk result bodies body.now self.new }
         // A crash at any moment of the call leaves a log; without chance, of the bodies with the new one or without.
@@ -81,6 +88,7 @@ impl<D: Disk> Log<D> {
             → AppendsTo D.Disk result bodies body.now stood self.new }
         ensures writes { D.honest → result ≡ Appended.Kept → Writes D.Disk body.now self.old self.new }
         ensures known { D.honest → IsKnown D.Disk self.old → IsKnown D.Disk self.new }
+        ensures room { KeepsRoom self.old self.new }
     {
         if self.lost {
             return Appended::Lost; // Until a rescan, whether the last record stands is open.
@@ -126,6 +134,21 @@ impl<D: Disk> Log<D> {
         self.generation
     }
 
+    /// The number of the current file's format: 1 or 2.
+    pub fn format(&self) -> u8
+        ensures { result ≡ format_number self.now.format }
+    {
+        self.format.number()
+    }
+
+    /// The most bytes of a body that the current file's format takes.
+    pub fn most_body(&self) -> usize
+        ensures exact { result ≡ most_body self.now.format }
+        ensures bounded { result ≤ MOST_BODY }
+    {
+        self.format.most_body()
+    }
+
     /// How many bytes are left for records: `log_bytes` less the log with its closing length, or 0.
     pub fn free(&self) -> u64
         ensures { result ≡ self.now.log_bytes - (self.now.end + LENGTH_BYTES) }
@@ -133,15 +156,18 @@ impl<D: Disk> Log<D> {
         (self.log_bytes - self.end).saturating_sub(LENGTH_BYTES as u64)
     }
 
-    /// Writes a log of these bodies, each of 1 to `MOST_BODY` bytes, to the other file, in the newest format. Their
+    /// Writes a log of these bodies, each of which the newest format takes, to the other file, in that format. Their
     /// generation is above the log's: an opening takes the file with the greater one, nothing else is written to say
-    /// which is current, and the old log stays where it is. `Kept`: that file is the current one from then on.
-    /// `Refused`: the current file stays in use. `Full`: they don't fit, with a closing length. Where nothing fails: a
-    /// write and a sync, a write a record and a sync, a write and a sync. Takes no memory. After `Lost`, its own or an
-    /// append's, every checkpoint answers so, and asks nothing of the disks, until a rescan succeeds.
+    /// which is current, and the old log stays where it is. Behind the last record go `CLEARED_BYTES` zeros, or as many
+    /// as the limit leaves room for. `Kept`: that file is the current one from then on. `Refused`: the current file
+    /// stays in use. `Full`: they don't fit, with a closing length. Where nothing fails: a
+    /// write and a sync, a write a record and a sync, a write and a sync. Takes no memory, as an append does. After
+    /// `Lost`, its own or an append's, every checkpoint answers so, and asks nothing of the disks, until a rescan
+    /// succeeds.
     pub fn checkpoint(&mut self, bodies: &[Vec<u8>]) -> Appended
         requires some { 1 ≤ length bodies.now }
-        requires sizes { AllByRecursion IsBody (bodies_of bodies.now) }
+        requires sizes { AllByRecursion (IsBody newest) (bodies_of bodies.now) }
+        requires holds { HoldsEach self.old (bodies_of bodies.now) }
         requires above { self.old.generation < generation (bodies_of bodies.now) }
         ensures answer { D.honest → (old stood : List (List ℕ)) → Pair D.Disk old stood self.old
             → Checkpoints D.Disk result old stood (bodies_of bodies.now) self.new }
@@ -153,6 +179,9 @@ impl<D: Disk> Log<D> {
         ensures any_moment { D.honest → (old stood : List (List ℕ)) → Pair D.Disk old stood self.old
             → LeavesOnly D.Disk self.old.other (written result self.new)
             (LeavesAny self.old.log_bytes newest stood (bodies_of bodies.now)) }
+        // Whichever length an append then leaves alone behind its records brings back nothing that stood there.
+        ensures cleared { D.honest → result ≡ Appended.Kept → self.old.lost ≡ false
+            → IsCleared self.new.log_bytes newest (bodies_of bodies.now) (D.seen self.new.disk) }
         ensures swaps { self.old.lost ≡ false → Swaps result (bodies_of bodies.now) self.old self.new }
         ensures lost { self.old.lost ≡ true → (result ≡ Appended.Lost) × (self.new ≡ self.old) }
         ensures full { self.old.lost ≡ false
@@ -169,6 +198,7 @@ impl<D: Disk> Log<D> {
             → result ≡ Appended.Kept }
         ensures settings { self.new.log_bytes ≡ self.old.log_bytes }
         ensures known { D.honest → IsKnown D.Disk self.old → IsKnown D.Disk self.new }
+        ensures room { KeepsRoom self.old self.new }
     {
         if self.lost {
             return Appended::Lost;
@@ -178,7 +208,14 @@ impl<D: Disk> Log<D> {
             Some(end) => end,
             None => return Appended::Full,
         };
-        let (outcome, digest) = checkpoint_on(&mut self.other, format, &mut self.buffer, bodies);
+        let more = zeros_behind(end, self.log_bytes);
+        let (outcome, digest) = checkpoint_on(
+            &mut self.other,
+            format,
+            &mut self.buffer,
+            bodies,
+            more,
+        );
         match outcome {
             Appended::Kept => {
                 mem::swap(&mut self.disk, &mut self.other);

@@ -7,18 +7,19 @@ ghost use Rattle.xa_log.specs.Answers.{CountsDeviceOf};
 ghost use Rattle.xa_log.specs.Calls.{Fetched, FetchedSome, Looks, LooksSecond, LooksAt, LooksSecondAt, ReadsLittle, asked};
 ghost use Rattle.xa_log.specs.Reading.{Ends, Explains};
 ghost use Rattle.xa_log.specs.Pair.{number_in, beats, pair_fault, fault_pair};
-ghost use Rattle.xa_log.specs.Looking.{AreShort, IsFront, HasFront, either_newer, either_log, Numbers, Tells, IsHead, Chooses, IsCurrent};
-ghost use Rattle.xa_log.specs.Window.{Caches};
+ghost use Rattle.xa_log.specs.Looking.{AreShort, IsFront, HasFront, either_newer, either_log, Tells, IsHead, HasHead, FetchedHead, Chooses, IsCurrent};
 
 use crate::OpenFault;
-use crate::format::{Format, PREAMBLE_BYTES};
+use crate::format::Format;
+use crate::found::Found;
+use crate::heads::{Head, number_in_first, read_heads};
 use crate::reading::{Scan, read_front, read_records, synced_length};
-use crate::record::{chained, size_of};
+use crate::record::size_of;
 use crate::window::{Span, WINDOW};
 use std::alloc::Global;
 use std::mem;
 use xa_disk::{Disk, DiskFault};
-use xa_limits::{AROUND_BODY, DIGEST_BYTES, FORMAT_BYTES, MOST_BODY};
+use xa_limits::FORMAT_BYTES;
 
 /// Where in a body its number stands, which in the first body is the log's generation.
 pub const NUMBER_OFFSET: usize = 1;
@@ -32,13 +33,6 @@ pub struct Front {
     pub format: Option<Format>,
     pub newer: bool,
     pub span: Span,
-}
-
-/// A file that is a log: its format, and the number of its first record, if it has one.
-#[derive(Clone, Copy)]
-pub struct Head {
-    pub format: Format,
-    pub number: Option<usize>,
 }
 
 // Syncs and measures one file and then the other, before a byte of either is read: so what is found outlasts a crash.
@@ -122,75 +116,32 @@ pub(crate) fn number_of(body: &[u8]) -> usize
     size_of(&body[NUMBER_OFFSET..NUMBER_END])
 }
 
-// The number of the record behind a log's format, if one stands there that chains. The window has the file's
-// first bytes, so all of it.
-fn first_number(window: &[u8], span: Span, len: u64, prev: &[u8; DIGEST_BYTES]) -> Option<usize>
-    requires room { length window.now ≡ WINDOW }
-    requires from { span.from ≡ 0 }
-    requires have { span.have ≡ min len WINDOW }
-    ensures { (file : List ℕ) → len ≡ length file → Caches file window.now span
-        → Numbers prev.now (drop FORMAT_BYTES file) result }
-{
-    let around = (FORMAT_BYTES + AROUND_BODY) as u64;
-    if len < around {
-        return None;
-    }
-    let size = size_of(&window[FORMAT_BYTES..PREAMBLE_BYTES]);
-    if size == 0 || size > MOST_BODY || len < around + size as u64 {
-        return None;
-    }
-    match chained(
-        &window[FORMAT_BYTES..FORMAT_BYTES + AROUND_BODY + size],
-        size,
-        prev,
-    ) {
-        Some(_digest) => Some(number_of(&window[PREAMBLE_BYTES..PREAMBLE_BYTES + size])),
-        None => None,
-    }
-}
-
-// What of a file tells whether it is the current one of two, if it is a log: its first record alone, which has the
-// generation, and without which the file has no bodies. So of the one that isn't current no more is read.
-pub(crate) fn head_of(window: &[u8], front: Front, len: u64) -> Option<Head>
-    requires room { length window.now ≡ WINDOW }
-    requires holds { HasFront len front }
-    ensures head { (file : List ℕ) → len ≡ length file → IsFront file window.now front → IsHead file result }
-    ensures some { result ≢ None → front.format ≢ None }
-{
-    match front.format {
-        None => None,
-        Some(format) => {
-            let number = first_number(window, front.span, len, &format.first_digest());
-            Some(Head { format, number })
-        }
-    }
-}
-
 // Whether a log is taken before that of the second file.
-fn is_before(mine: Option<usize>, other: Option<usize>) -> bool
-    ensures { (bodies stood : List (List ℕ)) → Tells bodies mine → Tells stood other
+fn is_before(mine: &Option<Found>, other: &Option<Found>) -> bool
+    ensures { (bodies stood : List (List ℕ)) → Tells bodies mine.now → Tells stood other.now
         → result ≡ beats true bodies stood }
 {
-    let generation = mine.unwrap_or(0);
-    let behind = other.unwrap_or(0);
+    let generation = number_in_first(mine);
+    let behind = number_in_first(other);
     behind < generation || (behind == generation && (other.is_none() || mine.is_some()))
 }
 
-// Which of two files is the current one, and its format.
-fn choose(first: Option<Head>, second: Option<Head>) -> Option<(bool, Format)>
-    ensures choice { (a b : List ℕ) → IsHead a first → IsHead b second → Chooses a b result }
-    ensures some { IfSome result (λ c. (if c.0 then first else second) ≢ None) }
+// Which of two files is the current one, with how it begins.
+fn choose(first: Option<Head>, second: Option<Head>) -> Option<(bool, Head)>
+    ensures choice { (a window b other_window : List ℕ) → IsHead a window first → IsHead b other_window second
+        → Chooses a b result }
+    ensures chosen { IfSome result (λ c. (if c.0 then first else second) ≡ Some c.1) }
 {
     match (first, second) {
         (Some(first), Some(second)) => {
-            if is_before(first.number, second.number) {
-                Some((true, first.format))
+            if is_before(&first.first, &second.first) {
+                Some((true, first))
             } else {
-                Some((false, second.format))
+                Some((false, second))
             }
         }
-        (Some(first), None) => Some((true, first.format)),
-        (None, Some(second)) => Some((false, second.format)),
+        (Some(first), None) => Some((true, first)),
+        (None, Some(second)) => Some((false, second)),
         (None, None) => None,
     }
 }
@@ -242,14 +193,14 @@ fn read_current<D: Disk>(
     window: &mut [u8],
     other_window: &mut [u8],
     lens: (u64, u64),
-    fronts: (Front, Front),
+    heads: (Option<Head>, Option<Head>),
 ) -> Result<(bool, Scan, u64, u64), OpenFault>
     requires room { length window.old ≡ WINDOW }
     requires other_room { length other_window.old ≡ WINDOW }
-    requires holds { HasFront lens.0 fronts.0 }
-    requires other_holds { HasFront lens.1 fronts.1 }
+    requires holds { HasHead lens.0 heads.0 }
+    requires other_holds { HasHead lens.1 heads.1 }
     ensures value { D.honest → lens.0 ≡ length (D.seen first.old) → lens.1 ≡ length (D.seen second.old)
-        → IsFront (D.seen first.old) window.old fronts.0 → IsFront (D.seen second.old) other_window.old fronts.1
+        → IsHead (D.seen first.old) window.old heads.0 → IsHead (D.seen second.old) other_window.old heads.1
         → MatchResult result (λ r. (either_log (D.seen first.old) (D.seen second.old) ≡ true)
         × IsCurrent (D.seen first.old) (D.seen second.old) r.0 r.1)
         (λ e. e ≡ OpenFault.NotALog → either_log (D.seen first.old) (D.seen second.old) ≡ false) }
@@ -263,22 +214,19 @@ fn read_current<D: Disk>(
     ensures time { D.honest → TimePasses D.Disk Same first.old first.new }
     ensures time_second { D.honest → TimePasses D.Disk Same second.old second.new }
     ensures count { CountsDeviceOf D.failures result first.old first.new second.old second.new }
-    ensures fetched { (start : Counts)
-        → Fetched lens.0 (fronts.0.span.from + fronts.0.span.have) start (D.counts first.old)
-        → FetchedSome lens.0 start (D.counts first.new) }
-    ensures fetched_second { (start : Counts)
-        → Fetched lens.1 (fronts.1.span.from + fronts.1.span.have) start (D.counts second.old)
-        → FetchedSome lens.1 start (D.counts second.new) }
+    ensures fetched { (begin : Counts) (most : ℕ) → FetchedHead lens.0 most begin (D.counts first.old) heads.0
+        → FetchedSome lens.0 begin (D.counts first.new) }
+    ensures fetched_second { (begin : Counts) (most : ℕ)
+        → FetchedHead lens.1 most begin (D.counts second.old) heads.1
+        → FetchedSome lens.1 begin (D.counts second.new) }
 {
-    let head = head_of(window, fronts.0, lens.0);
-    let other_head = head_of(other_window, fronts.1, lens.1);
-    match choose(head, other_head) {
-        Some((true, format)) => {
-            let scan = read_records(alloc, first, window, fronts.0.span, lens.0, format)?;
+    match choose(heads.0, heads.1) {
+        Some((true, head)) => {
+            let scan = read_records(alloc, first, window, head.format, head.first, lens.0)?;
             Ok((true, scan, lens.0, lens.1))
         }
-        Some((false, format)) => {
-            let scan = read_records(alloc, second, other_window, fronts.1.span, lens.1, format)?;
+        Some((false, head)) => {
+            let scan = read_records(alloc, second, other_window, head.format, head.first, lens.1)?;
             Ok((false, scan, lens.0, lens.1))
         }
         None => Err(OpenFault::NotALog),
@@ -317,24 +265,25 @@ pub(crate) fn read_pair<D: Disk>(
     ensures calls_once { D.honest → Looks result (length (D.seen first.old)) (D.counts first.old) (D.counts first.new) }
     ensures calls_once_second { D.honest
         → LooksSecond result (length (D.seen second.old)) (D.counts second.old) (D.counts second.new) }
-    ensures little { IfOk result (λ r. ReadsLittle D.counts r.0 first.old first.new second.old second.new) }
+    ensures little { IfOk result (λ r. ReadsLittle D.Disk r.0 first.old first.new second.old second.new) }
 {
     let lens = measure(first, second, log_bytes)?;
     let fronts = read_fronts(first, second, window, other_window, lens)?;
-    read_current(alloc, first, second, window, other_window, lens, fronts)
+    let heads = read_heads(alloc, first, second, window, other_window, lens, fronts)?;
+    read_current(alloc, first, second, window, other_window, lens, heads)
 }
 
-// The same of the current file and the other one, in the order of the two.
+// The same of the current file and the other one, in the order of the two, by way of the front of a buffer.
 pub(crate) fn read_again<D: Disk>(
     alloc: Global,
     disk: &mut D,
     other: &mut D,
     on_first: bool,
-    window: &mut [u8],
+    buffer: &mut [u8],
     other_window: &mut [u8],
     log_bytes: u64,
 ) -> Result<(bool, Scan, u64, u64), OpenFault>
-    requires room { length window.old ≡ WINDOW }
+    requires room { WINDOW ≤ length buffer.old }
     requires other_room { length other_window.old ≡ WINDOW }
     ensures value { D.honest → MatchResult result
         (λ r. (fault_pair log_bytes on_first (D.seen disk.old) (D.seen other.old) ≡ None)
@@ -364,10 +313,11 @@ pub(crate) fn read_again<D: Disk>(
     ensures calls_once_second { D.honest
         → LooksSecond result (length (D.seen (if on_first then other.old else disk.old)))
         (D.counts (if on_first then other.old else disk.old)) (D.counts (if on_first then other.new else disk.new)) }
-    ensures little { IfOk result (λ r. ReadsLittle D.counts r.0
+    ensures little { IfOk result (λ r. ReadsLittle D.Disk r.0
         (if on_first then disk.old else other.old) (if on_first then disk.new else other.new)
         (if on_first then other.old else disk.old) (if on_first then other.new else disk.new)) }
 {
+    let window = &mut buffer[..WINDOW];
     if on_first {
         return read_pair(alloc, disk, other, window, other_window, log_bytes);
     }

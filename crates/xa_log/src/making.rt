@@ -86,7 +86,7 @@ impl<D: Disk + Drop> Log<D> {
             → IfOk result (λ r. OnlyReads (length (D.seen second))
             (asked (D.counts second)) (D.counts (second_of r.0))) }
         ensures little { IfOk result
-            (λ r. ReadsLittle D.counts r.0.on_first first (first_of r.0) second (second_of r.0)) }
+            (λ r. ReadsLittle D.Disk r.0.on_first first (first_of r.0) second (second_of r.0)) }
     {
         let opened = open_on(alloc, &mut first, &mut second, log_bytes)?;
         Ok(Log::on(first, second, opened))

@@ -5,8 +5,10 @@ ghost use Rattle.xa_disk.specs.Time.{TimePasses};
 ghost use Rattle.xa_log.specs.Missing.{generation_in, missing_of};
 
 use crate::OpenFault;
-use crate::looking::{front_of, head_of};
+use crate::heads::{head_of, number_in_first};
+use crate::looking::front_of;
 use crate::opening::new_buffer;
+use crate::window::WINDOW;
 use std::alloc::Global;
 use xa_disk::Disk;
 
@@ -56,10 +58,10 @@ fn generation_of<D: Disk>(alloc: Global, disk: &mut D, len: u64) -> Result<usize
     ensures same { D.honest → D.seen disk.new ≡ D.seen disk.old }
     ensures time { D.honest → TimePasses D.Disk Same disk.old disk.new }
 {
-    let mut window = new_buffer(alloc)?;
+    let mut window = new_buffer(alloc, WINDOW)?;
     let front = front_of(disk, &mut window, len)?;
-    match head_of(&window, front, len) {
-        Some(head) => Ok(head.number.unwrap_or(0)),
+    match head_of(alloc, disk, &mut window, front, len)? {
+        Some(head) => Ok(number_in_first(&head.first)),
         None => Ok(0),
     }
 }

@@ -6,6 +6,7 @@ use std::alloc::AllocError;
 use xa_disk::{Disk, Effect, MemDisk};
 
 impl Log<MemDisk> {
+    ghost use Rattle.xa_log.specs.Buffer.{KeepsRoom};
     ghost use Rattle.xa_log.specs.Planned.{CrashesBoth, Plans, PlansStop};
     ghost use Rattle.xa_log.specs.Stands.{Untouched};
     ghost use Rattle.xa_log.specs.LogStates.{KeepsAll};
@@ -16,6 +17,7 @@ impl Log<MemDisk> {
         ensures planned { Plans result k effect self.old.disk self.new.disk }
         ensures other { self.new.other ≡ self.old.other }
         ensures untouched { Untouched self.old self.new }
+        ensures room { KeepsRoom self.old self.new }
         ensures state { KeepsAll ⟦<MemDisk as Disk>⟧ self.old self.new }
     {
         self.disk.fail(k, effect)
@@ -26,6 +28,7 @@ impl Log<MemDisk> {
         ensures planned { Plans result k effect self.old.other self.new.other }
         ensures current { self.new.disk ≡ self.old.disk }
         ensures untouched { Untouched self.old self.new }
+        ensures room { KeepsRoom self.old self.new }
         ensures state { KeepsAll ⟦<MemDisk as Disk>⟧ self.old self.new }
     {
         self.other.fail(k, effect)
@@ -36,6 +39,7 @@ impl Log<MemDisk> {
         ensures planned { PlansStop k self.old.disk self.new.disk }
         ensures other { self.new.other ≡ self.old.other }
         ensures untouched { Untouched self.old self.new }
+        ensures room { KeepsRoom self.old self.new }
         ensures state { KeepsAll ⟦<MemDisk as Disk>⟧ self.old self.new }
     {
         self.disk.stop(k);
@@ -46,6 +50,7 @@ impl Log<MemDisk> {
         ensures planned { PlansStop k self.old.other self.new.other }
         ensures current { self.new.disk ≡ self.old.disk }
         ensures untouched { Untouched self.old self.new }
+        ensures room { KeepsRoom self.old self.new }
         ensures state { KeepsAll ⟦<MemDisk as Disk>⟧ self.old self.new }
     {
         self.other.stop(k);

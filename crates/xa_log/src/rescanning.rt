@@ -2,6 +2,7 @@
 ghost use Rattle.std.specs.Prelude.{◌≡◌, ◌⊎◌, List, ℕ, length, OnOk, OnErr, IfOk, IfErr};
 ghost use Rattle.xa_log.specs.Ahead.{IsMeasured};
 ghost use Rattle.xa_log.specs.Answers.{CountsDeviceOf};
+ghost use Rattle.xa_log.specs.Buffer.{KeepsRoom};
 ghost use Rattle.xa_log.specs.Calls.{Looks, LooksSecond, ReadsLittle};
 ghost use Rattle.xa_log.specs.Chain.{logged};
 ghost use Rattle.xa_log.specs.LogStates.{LogState, IsIn, MayFind, LostTears, IsCalmBeside, LeavesBoth, LooksTo, LeftByLook, KeepsAll};
@@ -13,6 +14,7 @@ ghost use Rattle.xa_log.specs.TwoFiles.{IsOpenPair, IsReadPair, first_of, second
 use crate::generation::generation_of_bodies;
 use crate::looking::{arrange, in_order, read_again};
 use crate::opening::new_buffer;
+use crate::window::WINDOW;
 use crate::{Log, OpenFault};
 use xa_disk::Disk;
 
@@ -55,9 +57,10 @@ impl<D: Disk> Log<D> {
         ensures calls_once_second { D.honest
             → LooksSecond result (length (D.seen (second_of self.old)))
             (D.counts (second_of self.old)) (D.counts (second_of self.new)) }
-        ensures little { OnOk result (ReadsLittle D.counts self.new.on_first (first_of self.old) (first_of self.new)
+        ensures little { OnOk result (ReadsLittle D.Disk self.new.on_first (first_of self.old) (first_of self.new)
             (second_of self.old) (second_of self.new)) }
         ensures settings { self.new.log_bytes ≡ self.old.log_bytes }
+        ensures room { KeepsRoom self.old self.new }
         ensures measured { D.honest → OnOk result (IsMeasured D.Disk self.new) }
         ensures as_before { OnErr result (Untouched self.old self.new) }
         ensures keeps { D.honest → OnErr result (KeepsAll D.Disk self.old self.new) }
@@ -76,7 +79,7 @@ impl<D: Disk> Log<D> {
             → LeftByLook D.Disk self.old self.new first second → LeavesBoth state self.old first second }
     {
         let alloc = *self.buffer.allocator();
-        let mut other_window = new_buffer(alloc)?;
+        let mut other_window = new_buffer(alloc, WINDOW)?;
         let (on_first, scan, len, second_len) = read_again(
             alloc,
             &mut self.disk,

@@ -1,10 +1,13 @@
-ghost use Rattle.xa_log.specs.Worked.{GreaterGeneration, BeforeTheSeal, Ties, OneLog, Faults};
+ghost use Rattle.xa_log.specs.Worked.{GreaterGeneration, BeforeTheSeal, StaleTail, Ties, OneLog, SecondFormat, Faults};
 
-/// Worked rows of two files, computed on the definitions alone: which of them is current, and why none is.
+/// Worked rows of two files, computed on the definitions alone: which of them is current, what is left behind a
+/// checkpoint's records, and why none is.
 pub fn worked_pairs()
     ensures greater { GreaterGeneration }
     ensures unsealed { BeforeTheSeal }
+    ensures stale { StaleTail }
     ensures ties { Ties }
     ensures one_log { OneLog }
+    ensures second_format { SecondFormat }
     ensures faults { Faults }
 {}

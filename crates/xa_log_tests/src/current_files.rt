@@ -19,9 +19,11 @@ const SHORT: File = File::Bytes(b"XARMLOG");
 
 const OTHER: File = File::Bytes(b"XARMLOGx");
 
-const NEWER: File = File::Bytes(b"XARMLOG2");
+const NEWER: File = File::Bytes(b"XARMLOG3");
 
 const BARE: File = File::Bytes(b"XARMLOG1");
+
+const SECOND: File = File::Bytes(b"XARMLOG2");
 
 const EMPTY: File = File::Log(&[]);
 // The generation is the number in bytes 1 to 4 of the first body, or 0 where it is shorter.
@@ -46,7 +48,7 @@ const TOP: File = File::Log(&[&[1, 128, 0, 0, 0], &[5]]);
 /// Two files, and which of them is current with how many bodies, or why none is.
 type Row = (File, File, Result<(bool, usize), OpenFault>);
 
-const ROWS: [Row; 34] = [
+const ROWS: [Row; 37] = [
     // The greater generation.
     (ONE, TWO, Ok((false, 3))),
     (TWO, ONE, Ok((true, 3))),
@@ -70,6 +72,10 @@ const ROWS: [Row; 34] = [
     // Of two without the first.
     (EMPTY, BARE, Ok((true, 0))),
     (BARE, EMPTY, Ok((true, 0))),
+    // Of two formats.
+    (SECOND, BARE, Ok((true, 0))),
+    (BARE, SECOND, Ok((true, 0))),
+    (SECOND, ONE, Ok((false, 1))),
     // The one that is a log.
     (NOTHING, EMPTY, Ok((false, 0))),
     (EMPTY, NOTHING, Ok((true, 0))),
@@ -204,7 +210,7 @@ fn made(alloc: Global, first: File, second: File, most: u64) -> Option<Option<Op
     }
     first.crash().ok()?;
     let bytes = bytes_on(alloc, &mut first)?;
-    if bytes.as_slice() == b"XARMLOG1\0\0\0\0".as_slice() && second.length() == Ok(0) {
+    if bytes.as_slice() == b"XARMLOG2\0\0\0\0".as_slice() && second.length() == Ok(0) {
         Some(None)
     } else {
         None

@@ -7,11 +7,12 @@ use xa_codes::{Bytes, XA_OK};
 use xa_disk::MemDisk;
 use xa_frame::{Request, encode_request};
 use xa_log::{Log, OpenFault, read_log};
-use xa_manager::{Manager, ManagerFault, Settings};
+use xa_manager::{Manager, ManagerFault, RefusedOpening, Settings};
 use xa_rows::{LEAST_LOG_BYTES, LOG_BYTES, PREPARED_LOG_BYTES};
 use xa_script::{Line, read_line};
 
-fn open(
+/// A manager under the name `xarm` on these disks.
+pub fn open(
     alloc: Global,
     first: MemDisk,
     second: MemDisk,
@@ -34,8 +35,22 @@ fn is_ok(alloc: Global, manager: &mut Manager<MemDisk>, session: u64, request: R
     }
 }
 
-// Whether what a line asks is answered with XA_OK.
-fn is_done(alloc: Global, manager: &mut Manager<MemDisk>, line: &str) -> bool {
+/// The same of a log of any length, where a fault gives the disks back.
+pub fn open_returning(
+    alloc: Global,
+    first: MemDisk,
+    second: MemDisk,
+) -> Option<Result<Manager<MemDisk>, RefusedOpening<MemDisk>>> {
+    let name = Bytes::from_slice(alloc, b"xarm").ok()?;
+    let settings = Settings {
+        name,
+        log_bytes: LOG_BYTES,
+    };
+    Some(Manager::open_returning(alloc, first, second, settings))
+}
+
+/// Whether what a line asks is answered with XA_OK.
+pub fn is_done(alloc: Global, manager: &mut Manager<MemDisk>, line: &str) -> bool {
     let Ok(said) = read_line(alloc, line.as_bytes()) else {
         return false;
     };
@@ -46,7 +61,8 @@ fn is_done(alloc: Global, manager: &mut Manager<MemDisk>, line: &str) -> bool {
     }
 }
 
-fn are_done(alloc: Global, manager: &mut Manager<MemDisk>, lines: &[&str]) -> bool {
+/// Whether all lines are answered so.
+pub fn are_done(alloc: Global, manager: &mut Manager<MemDisk>, lines: &[&str]) -> bool {
     for line in lines {
         if !is_done(alloc, manager, line) {
             return false;
@@ -291,19 +307,14 @@ fn openings_of_other_files(rt: HostRuntime) {
     let other = ManagerFault::Log(OpenFault::NotALog);
     assert!(rt; fault_of(alloc, b"XARMLOGx") == Some(other));
     let newer = ManagerFault::Log(OpenFault::TooNew);
-    assert!(rt; fault_of(alloc, b"XARMLOG2") == Some(newer));
+    assert!(rt; fault_of(alloc, b"XARMLOG3") == Some(newer));
     assert!(rt; fault_of(alloc, b"").is_none());
 }
 
 // Whether an opening of these bytes and an empty file is refused, and gives both back as they were.
 fn gives_back(alloc: Global, bytes: &[u8]) -> Option<bool> {
-    let name = Bytes::from_slice(alloc, b"xarm").ok()?;
-    let settings = Settings {
-        name,
-        log_bytes: LOG_BYTES,
-    };
     let first = disk_of(alloc, bytes)?;
-    match Manager::open_returning(alloc, first, MemDisk::new(alloc), settings) {
+    match open_returning(alloc, first, MemDisk::new(alloc))? {
         Ok(_manager) => Some(false),
         Err(refused) => {
             let (mut first, mut second) = (refused.first, refused.second);
@@ -315,5 +326,5 @@ fn gives_back(alloc: Global, bytes: &[u8]) -> Option<bool> {
 
 #[test]
 fn a_refused_opening_gives_its_files_back(rt: HostRuntime) {
-    assert!(rt; gives_back(rt.alloc(), b"XARMLOG2") == Some(true));
+    assert!(rt; gives_back(rt.alloc(), b"XARMLOG3") == Some(true));
 }

@@ -44,7 +44,7 @@ fn put(disk: &mut MemDisk, at: usize, bytes: &[u8]) -> Option<()> {
 fn cut_off(alloc: Global, files: &Files, cut: usize) -> Option<MemDisk> {
     let new = files.new.as_slice();
     let mut disk = disk_of(alloc, &files.old)?;
-    let opening = b"XARMLOG1\0\0\0\0".as_slice();
+    let opening = b"XARMLOG2\0\0\0\0".as_slice();
     put(&mut disk, 0, front(opening, cut))?;
     if cut > FRONT {
         put(&mut disk, FRONT, front(new.get(FRONT..)?, cut - FRONT))?;

@@ -15,7 +15,8 @@ fn scanned(alloc: Global, disk: &mut MemDisk) -> (Result<(), ScanFault>, Vec<u8>
     (end, lines)
 }
 
-fn prints(alloc: Global, disk: &mut MemDisk, wanted: &str) -> bool {
+/// Whether that is printed of a disk's log, to its end.
+pub fn prints(alloc: Global, disk: &mut MemDisk, wanted: &str) -> bool {
     let (end, lines) = scanned(alloc, disk);
     end == Ok(()) && lines.as_slice() == wanted.as_bytes()
 }
@@ -129,7 +130,7 @@ fn fails_on_a_device(alloc: Global) -> Option<bool> {
 fn no_log_prints_nothing(rt: HostRuntime) {
     let alloc = rt.alloc();
     let empty = fails_as(alloc, b"", OpenFault::NotALog, "xarm: not a log");
-    let newer = fails_as(alloc, b"XARMLOG2", OpenFault::TooNew, "xarm: log too new");
+    let newer = fails_as(alloc, b"XARMLOG3", OpenFault::TooNew, "xarm: log too new");
     let device = fails_on_a_device(alloc);
     assert_eq!(rt;
         (empty, newer, device),

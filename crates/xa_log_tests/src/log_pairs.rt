@@ -1,12 +1,14 @@
 ghost use Rattle.std.specs.Prelude.{◌≡◌, true};
 ghost use Rattle.std.specs.List.{AllByRecursion};
-ghost use Rattle.xa_log.specs.Chain.{IsBody};
+ghost use Rattle.xa_log.specs.Buffer.{HoldsEach};
+ghost use Rattle.xa_log.specs.Chain.{IsBody, newest};
 ghost use Rattle.xa_log.specs.Reading.{bodies_of};
 
 use std::alloc::Global;
 use xa_disk::{Disk, MemDisk};
+use xa_limits::MOST_BODY_OF_ONE as BODY_OF_ONE;
 use xa_log::{Appended, Log, generation_of_bodies};
-use xa_rows::{BODY_BYTES, LOG_BYTES};
+use xa_rows::LOG_BYTES;
 
 // The first boot's record.
 pub const OPENED: [u8; 5] = [1, 0, 0, 0, 1];
@@ -31,11 +33,24 @@ pub const OLD: [&[u8]; 2] = [&OPENED, &PREPARED];
 
 pub const NEW: [&[u8]; 2] = [&AGAIN, &HELD];
 
+// Whether they are bodies of the newest format.
 fn are_bodies(bodies: &[Vec<u8>]) -> bool
-    ensures { result ≡ true → AllByRecursion IsBody (bodies_of bodies.now) }
+    ensures { result ≡ true → AllByRecursion (IsBody newest) (bodies_of bodies.now) }
 {
     for body in bodies {
-        if body.is_empty() || body.len() > BODY_BYTES {
+        if body.is_empty() || body.len() > BODY_OF_ONE {
+            return false;
+        }
+    }
+    true
+}
+
+// Whether a log has room for each without more being made.
+fn are_held<D>(log: &Log<D>, bodies: &[Vec<u8>]) -> bool
+    ensures { result ≡ true → HoldsEach log.now (bodies_of bodies.now) }
+{
+    for body in bodies {
+        if body.len() > BODY_OF_ONE {
             return false;
         }
     }
@@ -44,7 +59,7 @@ fn are_bodies(bodies: &[Vec<u8>]) -> bool
 
 /// What a checkpoint of these comes to, if they are bodies of a generation above the log's.
 pub fn checkpoints<D: Disk>(log: &mut Log<D>, bodies: &[Vec<u8>]) -> Option<Appended> {
-    if bodies.is_empty() || !are_bodies(bodies) {
+    if bodies.is_empty() || !are_bodies(bodies) || !are_held(log, bodies) {
         return None;
     }
     if generation_of_bodies(bodies) <= log.generation() {
@@ -55,9 +70,10 @@ pub fn checkpoints<D: Disk>(log: &mut Log<D>, bodies: &[Vec<u8>]) -> Option<Appe
 
 /// What an append of this comes to, if it is a body.
 pub fn appends<D: Disk>(log: &mut Log<D>, body: &[u8]) -> Option<Appended> {
-    if body.is_empty() || body.len() > BODY_BYTES {
+    if body.is_empty() || body.len() > log.most_body() {
         return None;
     }
+    log.reserve(body.len()).ok()?;
     Some(log.append(body))
 }
 

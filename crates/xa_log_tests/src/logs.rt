@@ -7,11 +7,11 @@ use xa_disk::{Disk, Effect, FileDisk, MemDisk};
 use xa_log::{Appended, Log, OpenFault, open_on, read_log};
 use xa_rows::{BODY_BYTES, LOG_BYTES, first_wrong};
 
-// SHA-256 of SHA-256 of "XARMLOG1", the length 00000005 and OPENED, by sha256sum:
-// (printf XARMLOG1 | sha256sum | cut -c-64 | xxd -r -p; echo 000000050100000001 | xxd -r -p) | sha256sum
+// SHA-256 of SHA-256 of "XARMLOG2", the length 00000005 and OPENED, by sha256sum:
+// (printf XARMLOG2 | sha256sum | cut -c-64 | xxd -r -p; echo 000000050100000001 | xxd -r -p) | sha256sum
 const DIGEST: [u8; 32] = [
-    0x7c, 0x84, 0x58, 0xee, 0x3a, 0x62, 0x10, 0xab, 0x2e, 0x6a, 0x5f, 0x80, 0xe3, 0x81, 0x8f, 0x93,
-    0x00, 0xf2, 0x67, 0x2b, 0x94, 0x6d, 0x2c, 0x74, 0x13, 0x21, 0x17, 0xed, 0xec, 0x1f, 0x91, 0xf2,
+    0x05, 0xfe, 0x3b, 0x57, 0x89, 0x14, 0x20, 0x26, 0x5e, 0x4d, 0x92, 0xf8, 0x7d, 0xd0, 0x19, 0xb0,
+    0xb1, 0x7c, 0x5c, 0x16, 0xc2, 0xea, 0xed, 0xd3, 0x20, 0x3b, 0xbd, 0x5f, 0x07, 0xfb, 0xab, 0x34,
 ];
 
 // The 114 bytes of a log of both.
@@ -91,7 +91,7 @@ fn is_too_long(alloc: Global, bytes: &[u8]) -> Option<bool> {
 
 // The same of the second of two, where the first has no read behind it either.
 fn is_second_too_long(alloc: Global, bytes: &[u8]) -> Option<bool> {
-    let mut first = disk_of(alloc, b"XARMLOG2")?;
+    let mut first = disk_of(alloc, b"XARMLOG3")?;
     let mut second = disk_of(alloc, bytes)?;
     first.fail(3, Effect::Lost).ok()?;
     second.fail(3, Effect::Lost).ok()?;
@@ -104,7 +104,8 @@ fn other_bytes_are_refused(rt: HostRuntime) {
     let alloc = rt.alloc();
     assert!(rt; fault_of(alloc, b"") == Some(OpenFault::NotALog));
     assert!(rt; fault_of(alloc, b"XARMLOGx") == Some(OpenFault::NotALog));
-    assert!(rt; fault_of(alloc, b"XARMLOG2") == Some(OpenFault::TooNew));
+    assert!(rt; fault_of(alloc, b"XARMLOG3") == Some(OpenFault::TooNew));
+    assert!(rt; bodies_in(alloc, b"XARMLOG2") == Ok(0));
     let bytes = two_records(alloc).expect(&rt, "two records");
     assert!(rt; is_too_long(alloc, &bytes) == Some(true));
     assert!(rt; is_second_too_long(alloc, &bytes) == Some(true));
@@ -120,7 +121,7 @@ fn with_plans(alloc: Global, plans: &[(u64, Effect)]) -> Result<Log<MemDisk>, Op
 }
 
 fn append(log: &mut Log<MemDisk>) -> Appended {
-    log.append(&OPENED)
+    appends(log, &OPENED).unwrap_or(Appended::Full)
 }
 
 // What two appends in a row come to.

@@ -69,7 +69,7 @@ fn are_bodies(bodies: &[Vec<u8>], wanted: &[&[u8]]) -> bool {
 
 // what a restart with boot 2 writes of the bodies
 fn leaves(alloc: Global, bodies: &[&[u8]], wanted: &[&[u8]]) -> Option<bool> {
-    match rebuild_log(alloc, &copies(alloc, bodies)?) {
+    match rebuild_log(alloc, copies(alloc, bodies)?) {
         Ok(durable) => {
             let left = snapshot(alloc, &durable, 2).ok()?;
             Some(are_bodies(left.as_slice(), wanted))
@@ -115,12 +115,12 @@ fn found(durable: &Durable) -> (u32, usize, usize) {
 }
 
 fn found_in(alloc: Global, bodies: &[&[u8]]) -> Option<(u32, usize, usize)> {
-    let durable = rebuild_log(alloc, &copies(alloc, bodies)?).ok()?;
+    let durable = rebuild_log(alloc, copies(alloc, bodies)?).ok()?;
     Some(found(&durable))
 }
 
 fn log_fault_of(alloc: Global, bodies: &[&[u8]]) -> Option<LogFault> {
-    rebuild_log(alloc, &copies(alloc, bodies)?).err()
+    rebuild_log(alloc, copies(alloc, bodies)?).err()
 }
 
 #[test]
@@ -130,6 +130,9 @@ fn bodies_of_logs(rt: HostRuntime) {
     assert!(rt; found_in(alloc, &[&OPENED, &PREPARED]) == Some((1, 0, 1)));
     assert!(rt; found_in(alloc, &[&OPENED, &PREPARED, &COMMITTED]) == Some((1, 1, 0)));
     assert!(rt; found_in(alloc, &[&OPENED_AGAIN, &BASE, &KNOWN]) == Some((2, 1, 0)));
+    // A branch of the first boot is prepared behind the second, also beside what is held.
+    assert!(rt; found_in(alloc, &[&OPENED_AGAIN, &PREPARED]) == Some((2, 0, 1)));
+    assert!(rt; found_in(alloc, &[&OPENED_AGAIN, &HELD, &SECOND]) == Some((2, 0, 2)));
 }
 
 // No record has the kind 10, and none is so short.
@@ -137,8 +140,17 @@ const NEW_KIND: [u8; 5] = [10, 0, 0, 0, 1];
 
 const SHORT: [u8; 4] = [1, 0, 0, 0];
 
+// 1:aa:bb at the first timestamp of the second boot, and at a timestamp that no boot gives
+const LATER: [u8; 25] = [
+    2, 0, 0, 0, 1, 1, 1, 0xaa, 0xbb, 0, 0, 0, 2, 0, 0, 0, 1, 0, 1, 1, 0x6b, 1, 0, 1, 0x76,
+];
+
+const NONE_GAVE: [u8; 25] = [
+    2, 0, 0, 0, 1, 1, 1, 0xaa, 0xbb, 0, 0, 0, 1, 0, 0, 0, 0, 0, 1, 1, 0x6b, 1, 0, 1, 0x76,
+];
+
 // A body that is no record's anywhere goes before a record out of order anywhere, and of either the first is told.
-const LOG_FAULTS: [(&[&[u8]], LogFault); 8] = [
+const LOG_FAULTS: [(&[&[u8]], LogFault); 11] = [
     (&[&NEW_KIND], LogFault::Malformed(0)),
     (&[&OPENED, &SHORT, &NEW_KIND], LogFault::Malformed(1)),
     (&[&PREPARED, &OPENED], LogFault::Order(0)),
@@ -147,6 +159,10 @@ const LOG_FAULTS: [(&[&[u8]], LogFault); 8] = [
         &[&OPENED, &PREPARED, &PREPARED, &OPENED],
         LogFault::Order(2),
     ),
+    // a later boot's, no boot's, and one that a base has
+    (&[&OPENED, &LATER], LogFault::Order(1)),
+    (&[&OPENED_AGAIN, &NONE_GAVE], LogFault::Order(1)),
+    (&[&OPENED_AGAIN, &BASE, &PREPARED], LogFault::Order(2)),
     (&[&PREPARED, &SHORT], LogFault::Malformed(1)),
     (
         &[&PREPARED, &COMMITTED, &OPENED, &NEW_KIND, &SHORT],

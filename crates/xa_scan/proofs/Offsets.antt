@@ -1,6 +1,6 @@
 -- Where lines stand, and the lines of lists that are joined.
 use Rattle.std.proofs.Common.{◌≡◌, ℕ, ◌+◌, ◌≤◌, List, [], ◌∷◌, ◌++◌, length, refl, sym, ap, ◌∙◌, arith, append_assoc, append-nil, length-append}
-use Rattle.xa_log.specs.declared.format.Format.TheVariants.{One}
+use Rattle.xa_log.specs.declared.format.Format.TheVariants.{One, Two}
 use Rattle.xa_log.specs.Chain.{digest, magic, record_of, records, start}
 use Rattle.xa_log.proofs.Records.{length-record_of}
 use Rattle.xa_scan.specs.Lines.{behind, line_at, lines_from}
@@ -37,3 +37,5 @@ behind_records offset prev (body ∷ bodies) =
 pub offsets_in_the_file : OffsetsInTheFile
 offsets_in_the_file One bodies =
     omega (arith, behind_records FIRST_OFFSET (start One) bodies, length-append (magic One) (records (start One) bodies))
+offsets_in_the_file Two bodies =
+    omega (arith, behind_records FIRST_OFFSET (start Two) bodies, length-append (magic Two) (records (start Two) bodies))

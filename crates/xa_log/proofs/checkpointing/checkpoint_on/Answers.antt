@@ -7,6 +7,7 @@ use Rattle.xa_log.specs.Answers.{Went}
 use Rattle.xa_log.specs.Reading.{bodies_of}
 use Rattle.xa_log.specs.Checkpoint.{IsReady, LeavesNone, first_length}
 use Rattle.xa_log.proofs.Steps.{first_len}
+use Rattle.xa_log.proofs.Cleared.{sealed_cleared}
 use Rattle.xa_log.proofs.Known.{seal_grows, records_reach, header_long}
 use Rattle.xa_log.proofs.Counted.{refused_front, refused_records, sealed_calls}
 use Rattle.xa_log.proofs.Parts.{first_part, second_part, third_part, none_torn, none_long, others_none, opened_none, records_ready, sealed, at_err}
@@ -41,7 +42,7 @@ returns-in-Err-put_records-clause-answer g c h most stood room other =
     let twelve : 12 ≤ most = omega arith in
     let first : LeavesNone most c.args.format (g.D.Disk.seen c.put_front.new.disk) =
     opened_none c.args.format most (g.D.Disk.seen c.args.disk.now) (g.D.Disk.seen c.put_front.new.disk) twelve other.fits (c.in-Ok.ensures.made h) in
-    let n = length (records (start c.args.format) (bodies_of c.args.bodies.now)) in
+    let n = length (records (start c.args.format) (bodies_of c.args.bodies.now)) + c.args.more in
     inr (others_none c.args.format g.D.Disk most c.put_records.new.disk
     (none_torn c.args.format most n (g.D.Disk.seen c.put_front.new.disk) (g.D.Disk.seen c.put_records.new.disk) room first (c.put_records.ensures.torn h))
     (λ x left. let y = (c.put_records.ensures.time h).follows x left in
@@ -63,9 +64,9 @@ returns-in-Ok-put_records-clause-any_moment g c h most stood room other =
     let some : 1 ≤ length (bodies_of c.args.bodies.now) =
     omega (arith, c.requires.some, length-map c.args.bodies.now (λ (b : Vec ℕ Global). b.items)) in
     let ready : IsReady c.args.format (bodies_of c.args.bodies.now) done =
-    records_ready c.args.format bodies mid done first.front long c.requires.sizes some (c.in-Ok-put_records.ensures.written h long) in
+    (records_ready c.args.more c.args.format bodies mid done first.front long c.requires.sizes some (c.in-Ok-put_records.ensures.written h long)).0 in
     let second : LeavesNone most c.args.format done =
-    none_torn c.args.format most (length (records (start c.args.format) bodies)) mid done room first (c.put_records.ensures.torn h) in
+    none_torn c.args.format most (length (records (start c.args.format) bodies) + c.args.more) mid done room first (c.put_records.ensures.torn h) in
     let size : c.len.result ≡ length c.index-bodies-0.result.items = search rules in
     let same : c.len.result ≡ first_length (bodies_of c.args.bodies.now) =
     size ∙ sym (first_len c.args.bodies.now c.index-bodies-0.result c.requires.some c.index-bodies-0.is) in
@@ -87,9 +88,9 @@ returns-in-Ok-put_records-clause-answer g c h most stood room other =
     let some : 1 ≤ length (bodies_of c.args.bodies.now) =
     omega (arith, c.requires.some, length-map c.args.bodies.now (λ (b : Vec ℕ Global). b.items)) in
     let ready : IsReady c.args.format (bodies_of c.args.bodies.now) done =
-    records_ready c.args.format bodies mid done first.front long c.requires.sizes some (c.in-Ok-put_records.ensures.written h long) in
+    (records_ready c.args.more c.args.format bodies mid done first.front long c.requires.sizes some (c.in-Ok-put_records.ensures.written h long)).0 in
     let second : LeavesNone most c.args.format done =
-    none_torn c.args.format most (length (records (start c.args.format) bodies)) mid done room first (c.put_records.ensures.torn h) in
+    none_torn c.args.format most (length (records (start c.args.format) bodies) + c.args.more) mid done room first (c.put_records.ensures.torn h) in
     let size : c.len.result ≡ length c.index-bodies-0.result.items = search rules in
     let same : c.len.result ≡ first_length (bodies_of c.args.bodies.now) =
     size ∙ sym (first_len c.args.bodies.now c.index-bodies-0.result c.requires.some c.index-bodies-0.is) in
@@ -117,5 +118,21 @@ returns-in-Ok-put_records-clause-reaches g c h kept =
     let mid : List ℕ = g.D.Disk.seen c.put_front.new.disk in
     let done : List ℕ = g.D.Disk.seen c.put_records.new.disk in
     let long : 12 ≤ length mid = header_long c.args.format (g.D.Disk.seen c.args.disk.now) mid (c.in-Ok.ensures.made h) in
-    let whole : 12 + length (records (start c.args.format) (bodies_of c.args.bodies.now)) ≤ length done = records_reach c.args.format (bodies_of c.args.bodies.now) mid done (c.in-Ok-put_records.ensures.written h long) in
+    let whole : 12 + length (records (start c.args.format) (bodies_of c.args.bodies.now)) + c.args.more ≤ length done = records_reach c.args.more c.args.format (bodies_of c.args.bodies.now) mid done (c.in-Ok-put_records.ensures.written h long) in
     omega (arith, whole, seal_grows _ _ _ _ _ _ _ (c.put_seal-outcome.ensures.went h))
+
+pub returns-in-Ok-put_records-clause-cleared : goal.returns-in-Ok-put_records-clause-cleared
+returns-in-Ok-put_records-clause-cleared g c h kept =
+    let bodies = bodies_of c.args.bodies.now in
+    let mid : List ℕ = g.D.Disk.seen c.put_front.new.disk in
+    let done : List ℕ = g.D.Disk.seen c.put_records.new.disk in
+    let old : List ℕ = g.D.Disk.seen c.args.disk.now in
+    let long : 12 ≤ length mid = header_long c.args.format old mid (c.in-Ok.ensures.made h) in
+    let some : 1 ≤ length (bodies_of c.args.bodies.now) =
+    omega (arith, c.requires.some, length-map c.args.bodies.now (λ (b : Vec ℕ Global). b.items)) in
+    let size : c.len.result ≡ length c.index-bodies-0.result.items = search rules in
+    let same : c.len.result ≡ first_length (bodies_of c.args.bodies.now) =
+    size ∙ sym (first_len c.args.bodies.now c.index-bodies-0.result c.requires.some c.index-bodies-0.is) in
+    sealed_cleared g.D.Disk.tears c.args.more c.args.format bodies old mid done (g.D.Disk.seen c.put_seal-outcome.new.disk) (g.D.Disk.may_leave c.put_seal-outcome.new.disk)
+    c.put_seal-outcome.result (c.in-Ok.ensures.made h) long c.requires.sizes some (c.in-Ok-put_records.ensures.written h long) kept
+    (subst (λ n. Went g.D.Disk.tears c.put_seal-outcome.result 8 (to_be_bytes w32 n) done (g.D.Disk.seen c.put_seal-outcome.new.disk) (g.D.Disk.may_leave c.put_seal-outcome.new.disk)) same (c.put_seal-outcome.ensures.went h))

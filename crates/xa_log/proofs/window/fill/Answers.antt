@@ -8,6 +8,7 @@ returns-in_err-read_at-clause-fetched g c start f =
     let r = c.requires in
     on_fault _ _ c.from_residual.result c.from_residual.ensures.0
     (record {
+      bounded = omega arith;
       upto = c.args.at + c.min-have.result;
       fetched = piece c.args.len c.args.span.from c.args.span.have c.args.at c.args.count c.keep_from-kept.result c.min-have.result _ _ start _ _ f r.begins r.reaches r.inside r.within r.fits
           (c.if-covers.ensures.no (search rules) r.begins r.reaches) c.keep_from-kept.ensures.kept (omega arith) (length-piece c.keep_from-kept.new.window c.keep_from-kept.result c.min-have.result (omega arith) (omega arith) (omega arith)) refl c.read_at.ensures.calls;

@@ -1,4 +1,4 @@
-use Rattle.xa_log.proofs.Rows.{row_greater, row_unsealed, row_ties, row_one, row_faults}
+use Rattle.xa_log.proofs.Rows.{row_greater, row_unsealed, row_stale, row_ties, row_one, row_second, row_faults}
 use Rattle.xa_log.proofs.worked.worked_pairs.Goals as goal
 
 pub returns-clause-greater : goal.returns-clause-greater
@@ -15,3 +15,9 @@ returns-clause-one_log c = row_one
 
 pub returns-clause-faults : goal.returns-clause-faults
 returns-clause-faults c = row_faults
+
+pub returns-clause-second_format : goal.returns-clause-second_format
+returns-clause-second_format c = row_second
+
+pub returns-clause-stale : goal.returns-clause-stale
+returns-clause-stale c = row_stale

@@ -6,23 +6,23 @@ use Rattle.xa_log.proofs.log.Log.append.Goals as goal
 
 pub returns-then-self-len-clause-any_moment : goal.returns-then-self-len-clause-any_moment
 returns-then-self-len-clause-any_moment g c h bodies s =
-    no_moments _ bodies _ c.args.self.now s (g.met.D.Disk.only_now c.args.self.now.disk) c.requires c.args.self.now.within
+    no_moments _ bodies _ c.args.self.now s (g.met.D.Disk.only_now c.args.self.now.disk) c.requires.body c.args.self.now.within
 
 pub returns-in-Kept-clause-any_moment : goal.returns-in-Kept-clause-any_moment
 returns-in-Kept-clause-any_moment g c h bodies s =
-    record_moments _ bodies _ c.args.self.now s (g.met.D.Disk.only_now c.args.self.now.disk) c.append_at-outcome.new.disk _ _ (length-closed_by _ _ _) c.requires (omega (arith, c.ready_behind-ready.ensures.within)) (c.append_at-outcome.ensures.time h)
+    record_moments _ bodies _ c.args.self.now s (g.met.D.Disk.only_now c.args.self.now.disk) c.append_at-outcome.new.disk _ _ (length-closed_by _ _ _) c.requires.body (omega (arith, c.ready_behind-ready.ensures.within)) (c.append_at-outcome.ensures.time h)
 
 pub returns-in-Refused-clause-any_moment : goal.returns-in-Refused-clause-any_moment
 returns-in-Refused-clause-any_moment g c h bodies s =
-    record_moments _ bodies _ c.args.self.now s (g.met.D.Disk.only_now c.args.self.now.disk) c.append_at-outcome.new.disk _ _ (length-closed_by _ _ _) c.requires (omega (arith, c.ready_behind-ready.ensures.within)) (c.append_at-outcome.ensures.time h)
+    record_moments _ bodies _ c.args.self.now s (g.met.D.Disk.only_now c.args.self.now.disk) c.append_at-outcome.new.disk _ _ (length-closed_by _ _ _) c.requires.body (omega (arith, c.ready_behind-ready.ensures.within)) (c.append_at-outcome.ensures.time h)
 
 pub returns-in-Lost-clause-any_moment : goal.returns-in-Lost-clause-any_moment
 returns-in-Lost-clause-any_moment g c h bodies s =
-    record_moments _ bodies _ c.args.self.now s (g.met.D.Disk.only_now c.args.self.now.disk) c.append_at-outcome.new.disk _ _ (length-closed_by _ _ _) c.requires (omega (arith, c.ready_behind-ready.ensures.within)) (c.append_at-outcome.ensures.time h)
+    record_moments _ bodies _ c.args.self.now s (g.met.D.Disk.only_now c.args.self.now.disk) c.append_at-outcome.new.disk _ _ (length-closed_by _ _ _) c.requires.body (omega (arith, c.ready_behind-ready.ensures.within)) (c.append_at-outcome.ensures.time h)
 
 pub returns-in-Kept-clause-answer : goal.returns-in-Kept-clause-answer
 returns-in-Kept-clause-answer g c h bodies s =
-    answers_kept _ bodies _ _ c.args.self.now _ g.met.D.Disk.tears_torn s (omega (arith, c.ready_behind-ready.ensures.within), refl, refl) _ c.in-Kept.is c.requires (c.append_at-outcome.ensures.went h) refl c.append_at-outcome.ensures.digest c.generation_with-self.ensures refl
+    answers_kept _ bodies _ _ c.args.self.now _ g.met.D.Disk.tears_torn s (omega (arith, c.ready_behind-ready.ensures.within), refl, refl) _ c.in-Kept.is c.requires.body (c.append_at-outcome.ensures.went h) refl c.append_at-outcome.ensures.digest c.generation_with-self.ensures refl
 
 pub returns-in-Refused-clause-answer : goal.returns-in-Refused-clause-answer
 returns-in-Refused-clause-answer g c h bodies s =
@@ -30,7 +30,7 @@ returns-in-Refused-clause-answer g c h bodies s =
 
 pub returns-in-Lost-clause-answer : goal.returns-in-Lost-clause-answer
 returns-in-Lost-clause-answer g c h bodies s =
-    answers_lost _ bodies _ _ c.args.self.now _ g.met.D.Disk.tears_torn s (omega (arith, c.ready_behind-ready.ensures.within), refl, refl) _ c.in-Lost.is c.requires (c.append_at-outcome.ensures.went h) refl (c.append_at-outcome.ensures.time h).follows
+    answers_lost _ bodies _ _ c.args.self.now _ g.met.D.Disk.tears_torn s (omega (arith, c.ready_behind-ready.ensures.within), refl, refl) _ c.in-Lost.is c.requires.body (c.append_at-outcome.ensures.went h) refl (c.append_at-outcome.ensures.time h).follows
 
 pub returns-in-Kept-clause-kept : goal.returns-in-Kept-clause-kept
 returns-in-Kept-clause-kept g c alive fits low same = kept_ahead _ _ _ _ _ _ c.append_at-outcome.ensures.calls low same c.append_at-outcome.ensures.not_full

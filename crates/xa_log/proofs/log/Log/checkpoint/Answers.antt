@@ -1,6 +1,7 @@
-use Rattle.std.proofs.Common.{rules, ◌≡◌, ◌+◌, ◌≤◌, length, refl, arith}
+use Rattle.std.proofs.Common.{rules, ◌≡◌, ◌∙◌, ap, ℕ, ◌+◌, ◌-◌, ◌≤◌, min, length, refl, arith}
 use Rattle.xa_log.specs.Chain.{newest, start, text, records}
 use Rattle.xa_log.specs.Reading.{bodies_of}
+use Rattle.xa_log.proofs.Cleared.{cleared_by}
 use Rattle.xa_log.proofs.Known.{known_swapped, known_beside}
 use Rattle.xa_log.proofs.Records.{length-text}
 use Rattle.xa_log.proofs.Two.{replaced, kept_pair, refused_pair, lost_pair, other_still, wrote_kept, wrote_lost, wrote_refused, moments_of, kept_by}
@@ -19,8 +20,8 @@ returns-in-Kept-clause-any_moment g c h old stood p =
     let wrote = c.checkpoint_on-outcome in
     let format = c.newest-format.result in
     let end : c.in-Some.end ≡ length (text format (bodies_of c.args.bodies.now)) = c.in-Some.ensures.some.0 in
-    let room : 12 + length (records (start format) (bodies_of c.args.bodies.now)) ≤ c.args.self.now.log_bytes =
-    omega (arith, c.in-Some.ensures.some.0, c.in-Some.ensures.some.1, length-text format (bodies_of c.args.bodies.now)) in
+    let room : 12 + (length (records (start format) (bodies_of c.args.bodies.now)) + c.zeros_behind-more.result) ≤ c.args.self.now.log_bytes =
+    omega (arith, c.in-Some.ensures.some.0, c.zeros_behind-more.ensures.within, length-text format (bodies_of c.args.bodies.now)) in
     moments_of g.D.Disk most format stood fresh old_log.other wrote.new.disk _ (wrote_kept _ _ wrote.new.disk c.in-Kept.is c.swap.ensures.x_after)
     c.newest-format.ensures (wrote.ensures.any_moment h most stood room p.other)
 
@@ -32,8 +33,8 @@ returns-in-Lost-clause-any_moment g c h old stood p =
     let wrote = c.checkpoint_on-outcome in
     let format = c.newest-format.result in
     let end : c.in-Some.end ≡ length (text format (bodies_of c.args.bodies.now)) = c.in-Some.ensures.some.0 in
-    let room : 12 + length (records (start format) (bodies_of c.args.bodies.now)) ≤ c.args.self.now.log_bytes =
-    omega (arith, c.in-Some.ensures.some.0, c.in-Some.ensures.some.1, length-text format (bodies_of c.args.bodies.now)) in
+    let room : 12 + (length (records (start format) (bodies_of c.args.bodies.now)) + c.zeros_behind-more.result) ≤ c.args.self.now.log_bytes =
+    omega (arith, c.in-Some.ensures.some.0, c.zeros_behind-more.ensures.within, length-text format (bodies_of c.args.bodies.now)) in
     moments_of g.D.Disk most format stood fresh old_log.other wrote.new.disk _ (wrote_lost _ _ wrote.new.disk c.in-Lost.is refl)
     c.newest-format.ensures (wrote.ensures.any_moment h most stood room p.other)
 
@@ -45,8 +46,8 @@ returns-in-Refused-clause-any_moment g c h old stood p =
     let wrote = c.checkpoint_on-outcome in
     let format = c.newest-format.result in
     let end : c.in-Some.end ≡ length (text format (bodies_of c.args.bodies.now)) = c.in-Some.ensures.some.0 in
-    let room : 12 + length (records (start format) (bodies_of c.args.bodies.now)) ≤ c.args.self.now.log_bytes =
-    omega (arith, c.in-Some.ensures.some.0, c.in-Some.ensures.some.1, length-text format (bodies_of c.args.bodies.now)) in
+    let room : 12 + (length (records (start format) (bodies_of c.args.bodies.now)) + c.zeros_behind-more.result) ≤ c.args.self.now.log_bytes =
+    omega (arith, c.in-Some.ensures.some.0, c.zeros_behind-more.ensures.within, length-text format (bodies_of c.args.bodies.now)) in
     moments_of g.D.Disk most format stood fresh old_log.other wrote.new.disk _ (wrote_refused _ _ wrote.new.disk c.in-Refused.is refl)
     c.newest-format.ensures (wrote.ensures.any_moment h most stood room p.other)
 
@@ -57,8 +58,8 @@ returns-in-Kept-clause-replaces g c h old stood s o kept =
     let wrote = c.checkpoint_on-outcome in
     let format = c.newest-format.result in
     let end : c.in-Some.end ≡ length (text format (bodies_of c.args.bodies.now)) = c.in-Some.ensures.some.0 in
-    let room : 12 + length (records (start format) (bodies_of c.args.bodies.now)) ≤ c.args.self.now.log_bytes =
-    omega (arith, c.in-Some.ensures.some.0, c.in-Some.ensures.some.1, length-text format (bodies_of c.args.bodies.now)) in
+    let room : 12 + (length (records (start format) (bodies_of c.args.bodies.now)) + c.zeros_behind-more.result) ≤ c.args.self.now.log_bytes =
+    omega (arith, c.in-Some.ensures.some.0, c.zeros_behind-more.ensures.within, length-text format (bodies_of c.args.bodies.now)) in
     replaced g.D.Disk old stood old_log _ s format fresh c.requires.above _ wrote.new.disk c.in-Kept.is
     (wrote.ensures.answer h old_log.log_bytes stood room o)
     c.swap.ensures.x_after c.swap.ensures.y_after refl refl end (wrote.ensures.digest c.in-Kept.is) c.generation_of_bodies-self.ensures refl
@@ -71,8 +72,8 @@ returns-in-Kept-clause-answer g c h old stood p =
     let wrote = c.checkpoint_on-outcome in
     let format = c.newest-format.result in
     let end : c.in-Some.end ≡ length (text format (bodies_of c.args.bodies.now)) = c.in-Some.ensures.some.0 in
-    let room : 12 + length (records (start format) (bodies_of c.args.bodies.now)) ≤ c.args.self.now.log_bytes =
-    omega (arith, c.in-Some.ensures.some.0, c.in-Some.ensures.some.1, length-text format (bodies_of c.args.bodies.now)) in
+    let room : 12 + (length (records (start format) (bodies_of c.args.bodies.now)) + c.zeros_behind-more.result) ≤ c.args.self.now.log_bytes =
+    omega (arith, c.in-Some.ensures.some.0, c.zeros_behind-more.ensures.within, length-text format (bodies_of c.args.bodies.now)) in
     kept_pair g.D.Disk old stood old_log _ p format fresh c.requires.above _ wrote.new.disk c.in-Kept.is
     (wrote.ensures.answer h most stood room p.other)
     c.swap.ensures.x_after c.swap.ensures.y_after refl refl end (wrote.ensures.digest c.in-Kept.is) c.generation_of_bodies-self.ensures refl
@@ -85,8 +86,8 @@ returns-in-Lost-clause-answer g c h old stood p =
     let wrote = c.checkpoint_on-outcome in
     let format = c.newest-format.result in
     let end : c.in-Some.end ≡ length (text format (bodies_of c.args.bodies.now)) = c.in-Some.ensures.some.0 in
-    let room : 12 + length (records (start format) (bodies_of c.args.bodies.now)) ≤ c.args.self.now.log_bytes =
-    omega (arith, c.in-Some.ensures.some.0, c.in-Some.ensures.some.1, length-text format (bodies_of c.args.bodies.now)) in
+    let room : 12 + (length (records (start format) (bodies_of c.args.bodies.now)) + c.zeros_behind-more.result) ≤ c.args.self.now.log_bytes =
+    omega (arith, c.in-Some.ensures.some.0, c.zeros_behind-more.ensures.within, length-text format (bodies_of c.args.bodies.now)) in
     lost_pair g.D.Disk old stood old_log _ p format fresh c.requires.above _ c.in-Lost.is
     (wrote.ensures.answer h most stood room p.other)
     refl refl refl refl
@@ -99,8 +100,8 @@ returns-in-Refused-clause-answer g c h old stood p =
     let wrote = c.checkpoint_on-outcome in
     let format = c.newest-format.result in
     let end : c.in-Some.end ≡ length (text format (bodies_of c.args.bodies.now)) = c.in-Some.ensures.some.0 in
-    let room : 12 + length (records (start format) (bodies_of c.args.bodies.now)) ≤ c.args.self.now.log_bytes =
-    omega (arith, c.in-Some.ensures.some.0, c.in-Some.ensures.some.1, length-text format (bodies_of c.args.bodies.now)) in
+    let room : 12 + (length (records (start format) (bodies_of c.args.bodies.now)) + c.zeros_behind-more.result) ≤ c.args.self.now.log_bytes =
+    omega (arith, c.in-Some.ensures.some.0, c.zeros_behind-more.ensures.within, length-text format (bodies_of c.args.bodies.now)) in
     refused_pair g.D.Disk old stood old_log _ p format fresh _ c.in-Refused.is wrote.ensures.not_full
     (wrote.ensures.answer h most stood room p.other)
     refl refl refl refl refl refl refl refl
@@ -140,3 +141,11 @@ pub returns-in-Lost-clause-known : goal.returns-in-Lost-clause-known
 returns-in-Lost-clause-known g c h k =
     let wrote = c.checkpoint_on-outcome in
     known_beside g.D.Disk c.args.self.now _ wrote.new.disk (wrote.ensures.grows h) k refl refl refl refl
+
+pub returns-in-Kept-clause-cleared : goal.returns-in-Kept-clause-cleared
+returns-in-Kept-clause-cleared g c h kept alive =
+    let wrote = c.checkpoint_on-outcome in
+    let format = c.newest-format.result in
+    let n : 4 + c.zeros_behind-more.result ≡ min 5 (c.args.self.now.log_bytes - length (text format (bodies_of c.args.bodies.now))) =
+    c.zeros_behind-more.ensures.exact ∙ ap (λ (e : ℕ). min 5 (c.args.self.now.log_bytes - e)) c.in-Some.ensures.some.0 in
+    cleared_by g.D.Disk format (bodies_of c.args.bodies.now) wrote.new.disk _ _ _ c.newest-format.ensures n c.swap.ensures.x_after (wrote.ensures.cleared h c.in-Kept.is)

@@ -1,0 +1,48 @@
+use crate::log_pairs::{AGAIN, DECIDED, HELD, NEW, OLD, appends, are, checkpoint_of, log_of};
+use std::alloc::Global;
+use xa_disk::Effect;
+use xa_log::{Appended, Log};
+use xa_rows::LOG_BYTES;
+
+// A completion as a snapshot has it, as long as the operator's.
+const KNOWN: [u8; 10] = [9, 0, 0, 0, 1, 1, 1, 0xaa, 0xbb, 1];
+
+// A checkpoint of the same boot as the one of two records, with one more.
+const LONGER: [&[u8]; 3] = [&AGAIN, &HELD, &KNOWN];
+
+const THREE: [&[u8]; 3] = [&AGAIN, &HELD, &DECIDED];
+
+// A checkpoint of three records is refused at its seal, its seventh call, and leaves them behind the header. One of the
+// first two, with the same boot, is kept: behind it stands what is left of the third. Then an append of a body of that
+// one's length is lost, and a crash keeps so many of its bytes. What an opening finds.
+fn found_after(alloc: Global, kept: u64) -> Option<Vec<Vec<u8>>> {
+    let mut log = log_of(alloc, &OLD)?;
+    log.fail_other(7, Effect::Lost).ok()?;
+    let refused = checkpoint_of(alloc, &mut log, &LONGER)?;
+    let short = checkpoint_of(alloc, &mut log, &NEW)?;
+    log.stop(2);
+    let lost = appends(&mut log, &DECIDED)?;
+    if (refused, short, lost) != (Appended::Refused, Appended::Kept, Appended::Lost) {
+        return None;
+    }
+    let (first, second) = log.into_crashed_disks(kept, 0).ok()?;
+    let (_log, bodies) = Log::open(alloc, first, second, LOG_BYTES).ok()?;
+    Some(bodies)
+}
+
+// The record takes 46 bytes: with fewer the log is the checkpoint's, and never has the third record of the other one.
+fn wrong_kept(alloc: Global) -> Option<u64> {
+    for kept in 0..51u64 {
+        let rows: &[&[u8]] = if kept < 46 { &NEW } else { &THREE };
+        match found_after(alloc, kept) {
+            Some(bodies) if are(&bodies, rows) => {}
+            _ => return Some(kept),
+        }
+    }
+    None
+}
+
+#[test]
+fn no_stale_record_behind_a_checkpoint(rt: HostRuntime) {
+    assert!(rt; wrong_kept(rt.alloc()) == None);
+}
