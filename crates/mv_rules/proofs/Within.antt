@@ -19,10 +19,17 @@ use Rattle.mv_rules.specs.Records.{own_of}
 use Rattle.mv_rules.specs.Verdict.{verdict_by, verdict_of}
 use Rattle.mv_rules.specs.Within.{AreShort, IsKey, AreKeys, HasKeys, KeepsOwnBut}
 
-pub write_short : (n i : ℕ) (ws : List Write) (w : Write) → i < length ws → w ≡ get_or ws i w → AreShort n ws → IsShort n w.value
-write_short n i [] w lt at h = absurd (omega arith)
-write_short n zero (x ∷ xs) w lt at h = rw at h.0
-write_short n (suc i) (x ∷ xs) w lt at h = write_short n i xs w (omega arith) at h.1
+pub none_of : (ws : List Write) → length ws ≡ 0 → ws ≡ []
+none_of [] e = refl
+none_of (w ∷ ws) e = absurd (omega (arith, e))
+
+-- one write among others
+pub each_at : (P : Write → Type 0) (all done rest : List Write) (w : Write) → all ≡ done ++ w ∷ rest → Each P all → P w
+each_at P all done rest w is h = at done (subst (λ (ws : List Write). Each P ws) is h)
+  where
+    at : (done : List Write) → Each P (done ++ w ∷ rest) → P w
+    at [] h = h.0
+    at (x ∷ xs) h = at xs h.1
 
 -- a map's values after an insert
 pub inserted_short : (n : ℕ) (cmp : List ℕ → List ℕ → Ordering) (es : List (List ℕ × Option (List ℕ))) (k : List ℕ) (v : Option (List ℕ)) → IsShort n v → AreShort n (map as_write es) → AreShort n (map as_write (insert_entry cmp es k v))
@@ -112,11 +119,6 @@ pub others_added : {T E : Type 0} (r : Result T E) (notes left : BTreeMap ℕ No
     → (t : ℕ) → t ≢ ts → own_in t left ≡ own_in t notes
 others_added (Ok x) notes left ts own ok err t other = others_stay notes left ts own ok t other
 others_added (Err x) notes left ts own ok err t other = err t
-
-pub write_key : (i : ℕ) (ws : List Write) (w : Write) → i < length ws → w ≡ get_or ws i w → Each (λ w. IsKey w.key) ws → IsKey w.key
-write_key i [] w lt at h = absurd (omega arith)
-write_key zero (x ∷ xs) w lt at h = rw at h.0
-write_key (suc i) (x ∷ xs) w lt at h = write_key i xs w (omega arith) at h.1
 
 pub own_key : (i : ℕ) (own : List Own) (o : Own) → i < length own → o ≡ get_or own i o → Each (λ o. IsKey o.key) own → IsKey o.key
 own_key i [] o lt at h = absurd (omega arith)

@@ -10,7 +10,7 @@ use crate::answers::{Got, Put};
 use crate::own::{Notes, Own, count, keep_decided, next_due};
 use crate::steps::{add, read, settle_all};
 use crate::verdict::{Verdict, judge};
-use crate::writes::{collect, copied, listed};
+use crate::writes::{collect, listed, taken};
 use mv_chain::{Chain, Fate, Pool};
 use slab::Slab;
 use std::alloc::{AllocError, Global};
@@ -296,6 +296,7 @@ impl Records {
         ensures drained { IsDrained low self.new }
         ensures within { KeepsWithin self.old self.new }
         ensures keys { KeepsKeys self.old self.new }
+        ensures own { OwnStays self.old.notes self.new.notes }
     {
         while let Some(noted) = next_due(&mut self.notes, low) {
             self.drain(&noted.decided, low);
@@ -360,29 +361,30 @@ impl Records {
     }
 
     /// Adds the writes of a branch that lasted, as the log was read, and decides its fate where that is known:
-    /// `None` leaves it undecided. Values are copied. Nobody may have read, and each branch is added once.
+    /// `None` leaves it undecided. Values are taken over and not copied. Nobody may have read, and each branch is added
+    /// once.
     ///
     /// # Errors
     /// Want of memory. Some of the writes are then missing, and the records stand for nothing: drop them.
     pub fn restore(
         &mut self,
         ts: u64,
-        writes: &[Write],
+        writes: Vec<Write>,
         fate: Option<Fate>,
     ) -> Result<(), AllocError>
         ensures stands { OnOk result (IfStood self.old (λ h. IsRestorable ts h
-            → StandsFor (record h { writes = with_branch ts fate writes.now h.writes }) self.new)) }
+            → StandsFor (record h { writes = with_branch ts fate writes.items h.writes }) self.new)) }
         ensures restores { OnOk result (IfStood self.old (λ h. IsRestorable ts h
-            → Restores ts writes.now fate self.old self.new)) }
-        ensures within { (n : ℕ) → IsWithin n self.old → AreShort n writes.now → IsWithin n self.new }
-        ensures keys { OnOk result (HasKeys self.old → own_of ts self.old ≡ [] → HaveKeys writes.now
+            → Restores ts writes.items fate self.old self.new)) }
+        ensures within { (n : ℕ) → IsWithin n self.old → AreShort n writes.items → IsWithin n self.new }
+        ensures keys { OnOk result (HasKeys self.old → own_of ts self.old ≡ [] → HaveKeys writes.items
             → HasKeys self.new) }
         ensures others { KeepsOwnBut ts self.old self.new }
         ensures decided { OnOk result (IsSome fate → own_of ts self.new ≡ []) }
     {
         for write in writes {
-            let value = copied(self.alloc, &write.value)?;
-            self.put_back(ts, write.key.as_slice(), value)?;
+            let Write { key, value } = write;
+            self.put_back(ts, key.as_slice(), taken(value))?;
         }
         if let Some(decided) = fate {
             self.settle(ts, decided);

@@ -16,13 +16,13 @@ use std::alloc::{AllocError, Global};
 use std::collections::BTreeMap;
 use xa_codes::{Bytes, Write};
 
-/// A copy of a value.
-pub(crate) fn copied(alloc: Global, value: &Option<Bytes>) -> Result<Option<Vec<u8>>, AllocError>
-    ensures { IfOk result (λ v. option_map (λ b. b.items) v ≡ value.now) }
+/// The bytes of a value.
+pub(crate) fn taken(value: Option<Bytes>) -> Option<Vec<u8>>
+    ensures { option_map (λ b. b.items) result ≡ value }
 {
     match value {
-        Some(bytes) => Ok(Some(bytes.as_slice().to_vec(alloc)?)),
-        None => Ok(None),
+        Some(bytes) => Some(bytes.into_vec()),
+        None => None,
     }
 }
 

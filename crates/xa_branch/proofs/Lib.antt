@@ -2,6 +2,8 @@ pub mod Counting
 pub mod Looks
 pub mod Setting
 pub mod Listing
+pub mod Merging
+pub mod KnownLists
 pub mod Knowing
 pub mod Beginning
 pub mod Timed

@@ -36,14 +36,14 @@ above after m = filter (is_above after) (keys m)
 
 -- order
 
-sorted_pairwise : (xs : List Triple) → IsStrictlySortedBy xid_cmp xs → Pairwise below xs
+pub sorted_pairwise : (xs : List Triple) → IsStrictlySortedBy xid_cmp xs → Pairwise below xs
 sorted_pairwise [] h = tt
 sorted_pairwise (x ∷ xs) h =
     (all_imply (λ y. xid_cmp x y ≡ Less) (λ y. below x y ≡ true) (λ y e. ap is_lt e) xs (sorted_head xid_cmp x xs h), sorted_pairwise xs (sorted_tail xid_cmp x xs h))
 
 -- members
 
-abbrev has : Triple → List Triple → Bool
+abbrev pub has : Triple → List Triple → Bool
 has q xs = list_any (λ x. xid_eq x q) xs
 
 or_false : (a : Bool) → a ≡ (a || false)
@@ -74,29 +74,29 @@ has_key : (q k : Triple) (xs : List Triple) → has q (insert_key xid_cmp xs k) 
 has_key q k [] = refl
 has_key q k (x ∷ xs) = has_key_by q k x xs (xid_cmp k x) refl (has_key q k xs)
 
-has_fold : (q : Triple) (done xs : List Triple) → has q (fold (insert_key xid_cmp) done xs) ≡ (has q done || has q xs)
+pub has_fold : (q : Triple) (done xs : List Triple) → has q (fold (insert_key xid_cmp) done xs) ≡ (has q done || has q xs)
 has_fold q done [] = or_false (has q done)
 has_fold q done (x ∷ xs) =
     has_fold q (insert_key xid_cmp done x) xs ∙ (ap (λ b. b || has q xs) (has_key q x done) ∙ or_moved (xid_eq x q) (has q done) (has q xs))
 
-some_or : {A : Type 0} (c : Bool) (x : A) (o : Option A) → (c || is_some o) ≡ is_some (cond c (Some x) o)
+pub some_or : {A : Type 0} (c : Bool) (x : A) (o : Option A) → (c || is_some o) ≡ is_some (cond c (Some x) o)
 some_or true x o = refl
 some_or false x o = refl
 
-has_map : {A : Type 0} (name : A → Triple) (q : Triple) (xs : List A) → has q (map name xs) ≡ is_some (find (λ y. xid_eq (name y) q) xs)
+pub has_map : {A : Type 0} (name : A → Triple) (q : Triple) (xs : List A) → has q (map name xs) ≡ is_some (find (λ y. xid_eq (name y) q) xs)
 has_map name q [] = refl
 has_map name q (x ∷ xs) = ap (λ b. xid_eq (name x) q || b) (has_map name q xs) ∙ some_or (xid_eq (name x) q) x (find (λ y. xid_eq (name y) q) xs)
 
 flipped : (x y : Triple) → xid_eq x y ≡ xid_eq y x
 flipped x y = both_ways (xid_eq x y) (xid_eq y x) (λ e. xid_eq_same y x (sym (xid_same x y e))) (λ e. xid_eq_same x y (sym (xid_same y x e)))
 
-has_keys : {V : Type 0} (q : Triple) (es : List (Triple × V)) → has q (keys_of es) ≡ is_some (lookup (is_at (xid_cmp q)) es)
+pub has_keys : {V : Type 0} (q : Triple) (es : List (Triple × V)) → has q (keys_of es) ≡ is_some (lookup (is_at (xid_cmp q)) es)
 has_keys q [] = refl
 has_keys q (e ∷ es) =
     let here : xid_eq e.0 q ≡ is_eq (xid_cmp q e.0) = flipped e.0 q ∙ sym (cmp_is_eq q e.0) in
     rw (here, has_keys q es) (some_or (is_eq (xid_cmp q e.0)) e.1 (lookup (is_at (xid_cmp q)) es))
 
-member_has : (z : Triple) (xs : List Triple) → Member z xs → has z xs ≡ true
+pub member_has : (z : Triple) (xs : List Triple) → Member z xs → has z xs ≡ true
 member_has z [] m = absurd m
 member_has z (x ∷ xs) (inl e) = rw (xid_eq_same x z (sym e)) refl
 member_has z (x ∷ xs) (inr m) = rw (member_has z xs m) (or_true (xid_eq x z))
@@ -109,7 +109,7 @@ has_member_by : (z x : Triple) (xs : List Triple) (c : Bool) → xid_eq x z ≡ 
 has_member_by z x xs true f e ih = inl (sym (xid_same x z f))
 has_member_by z x xs false f e ih = inr (ih e)
 
-has_member : (z : Triple) (xs : List Triple) → has z xs ≡ true → Member z xs
+pub has_member : (z : Triple) (xs : List Triple) → has z xs ≡ true → Member z xs
 has_member z [] e = absurd (cc e)
 has_member z (x ∷ xs) e = has_member_by z x xs (xid_eq x z) refl e (has_member z xs)
 
@@ -162,5 +162,5 @@ pub taken_all : {V : Type 0} (n : ℕ) (s : List (Triple × V)) → (0 < n → s
 taken_all zero s none = refl
 taken_all (suc n) s none = let empty : s ≡ [] = none (omega arith) in rw empty refl
 
-pub few_taken : (xs ys : List Triple) (n : ℕ) → xs ≡ take n ys → length xs ≤ n
-few_taken xs ys n e = subst (λ (l : List Triple). length l ≤ n) (sym e) (subst (λ (k : ℕ). k ≤ n) (sym (length-take n ys)) (omega arith))
+pub few_taken : {A : Type 0} (xs ys : List A) (n : ℕ) → xs ≡ take n ys → length xs ≤ n
+few_taken {A} xs ys n e = subst (λ (l : List A). length l ≤ n) (sym e) (subst (λ (k : ℕ). k ≤ n) (sym (length-take n ys)) (omega arith))

@@ -8,4 +8,5 @@ pub mod Restored
 pub mod State
 pub mod Calls
 pub mod Changes
+pub mod Told
 pub mod Worked

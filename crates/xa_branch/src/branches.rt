@@ -20,9 +20,8 @@ use xa_xid::Xid;
 ///
 /// What a call promises holds for every state of the sequential resource manager that the branches stood for. Each call
 /// takes time that grows with the logarithm of the number of branches, `hang_up` that for each branch that the session
-/// leaves behind, `tick` that for each branch that runs out of time, and `list_after` also time for each XID that it
-/// lists. Only calls that can fail for want of memory
-/// take it.
+/// leaves behind, `tick` that for each branch that runs out of time, and `list_after` and `known_after` also time for
+/// each XID that they list. Only calls that can fail for want of memory take it.
 #[derive(Debug, Drop)]
 pub struct Branches {
     pub(crate) boot: u32,

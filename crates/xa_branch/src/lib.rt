@@ -11,7 +11,7 @@
 //! - `refusals`: `one_phase_refusal`, `two_phase_refusal`, `rollback_refusal` and `doom_refusal`, by what is known of a
 //!   branch alone
 //! - `low_water`: `Branches::low_water`, the timestamp below which nobody works
-//! - `recovery`: `Branches::list_after`, what recovery lists
+//! - `recovery`: `Branches::list_after`, what recovery lists; `known_list`: `Branches::known_after`, the known branches
 //!
 //! What changes:
 //!
@@ -34,6 +34,7 @@ mod due;
 mod fault;
 mod kind;
 mod known;
+mod known_list;
 mod lasting;
 mod laws;
 mod low_water;

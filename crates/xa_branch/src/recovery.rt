@@ -12,7 +12,7 @@ use std::ops::Bound;
 use xa_xid::Xid;
 
 /// Where the XIDs above the given one begin, or all of them.
-fn above(after: Option<&Xid>) -> Bound<&Xid>
+pub(crate) fn above(after: Option<&Xid>) -> Bound<&Xid>
     ensures { (q : Triple) → is_from_start xid_cmp (bound_map (λ x. x.now) result) q
         ≡ is_above (option_copied after.entry) q }
 {

@@ -6,7 +6,7 @@ use Rattle.xa_codes.specs.declared.codes.TheConstants.{XAER_RMERR, XA_RETRY, XA_
 use Rattle.xa_codes.specs.declared.direction.Direction.TheVariants as direction
 use Rattle.xa_frame.specs.declared.reply.Reply.{Reply}
 use Rattle.xa_frame.specs.declared.request.Request.{Request}
-use Rattle.xa_frame.specs.declared.request.Request.TheVariants.{Open, Close, Start, End, Prepare, Commit, Rollback, Forget, Recover, Get, Put, Delete, Decide, Doom, Restart, Timeout, Tick}
+use Rattle.xa_frame.specs.declared.request.Request.TheVariants.{Open, Close, Start, End, Prepare, Commit, Rollback, Forget, Recover, Get, Put, Delete, Decide, Doom, Restart, Timeout, Tick, Branches}
 use Rattle.xa_record.specs.declared.record.Record.{Record}
 use Rattle.xa_record.specs.declared.record.Record.TheVariants as logged
 use Rattle.xa_xid.specs.Triple.{Triple, xid_eq}
@@ -107,6 +107,7 @@ row_logs s n (Doom x) = tt
 row_logs s n Restart = tt
 row_logs s n (Timeout seconds) = tt
 row_logs s n (Tick moment) = tt
+row_logs s n (Branches count after) = tt
 
 event_logs : (s : State) (e : Event) → Logs (IsAsked (Asked e)) (respond s e)
 event_logs s event.Connect = tt

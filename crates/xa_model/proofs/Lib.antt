@@ -25,6 +25,7 @@ pub mod WorkedEarly
 pub mod WorkedBranches
 pub mod WorkedLimits
 pub mod WorkedTimeLimits
+pub mod WorkedKnownBranches
 pub mod Inserts
 pub mod LastWrites
 pub mod Folds

@@ -13,9 +13,10 @@ use Rattle.xa_record.specs.declared.record.Record.{Record}
 use Rattle.xa_record.specs.declared.record.Record.TheVariants.{Opened, Prepared, Committed, Completed, Decided, Forgotten, Base, Held, Known}
 use Rattle.xa_model.specs.State.{without}
 use Rattle.xa_model.specs.Durable.{Durable, CommittedBranch, PreparedBranch, insert, commit, commits_before, prepares_before, named_before, is_written, left_by, with_writes, last_writes}
-use Rattle.xa_model.specs.Fold.{Reading, apply, complete, commit_prepared, prepared_as, read, fold_from, fold, unread, base, held, known, snapshot, size_of, sizes}
+use Rattle.xa_model.specs.Fold.{Reading, apply, complete, commit_prepared, prepared_as, read, is_new, fold_from, fold, unread, base, held, known, snapshot, size_of, sizes}
 use Rattle.xa_model.specs.DurableLaws.{SnapshotIsShort}
 use Rattle.xa_model.proofs.Folds.{stepped}
+use Rattle.xa_model.proofs.Tests.{none_past}
 
 -- the bytes that a snapshot has behind its first record
 abbrev lasts : Durable → ℕ
@@ -158,11 +159,15 @@ opened_first boot rs d e =
     let rest : lasts d ≤ sizes rs + 0 = fold_size 1 (read (Opened boot) unread) rs d both.1 in
     omega (arith, rest)
 
+-- before it there is no boot that could have given a timestamp
+new_before : (xid : Triple) (t : ℕ) → is_new xid t unread ≡ false
+new_before xid t = rw (none_past t) refl
+
 pub snapshot_is_short : SnapshotIsShort
 snapshot_is_short [] d boot some e = absurd (omega arith)
 snapshot_is_short (Opened first ∷ rs) d boot some e = omega (arith, snapshot_size d boot, opened_first first rs d e)
-snapshot_is_short (Prepared xid t ws ∷ rs) d boot some e = absurd (cc e)
-snapshot_is_short (Committed xid t ws ∷ rs) d boot some e = absurd (cc e)
+snapshot_is_short (Prepared xid t ws ∷ rs) d boot some e = absurd (cc (new_before xid t, (stepped (Prepared xid t ws) unread 0 rs d e).0))
+snapshot_is_short (Committed xid t ws ∷ rs) d boot some e = absurd (cc (new_before xid t, (stepped (Committed xid t ws) unread 0 rs d e).0))
 snapshot_is_short (Completed xid direction ∷ rs) d boot some e = absurd (cc e)
 snapshot_is_short (Decided xid direction ∷ rs) d boot some e = absurd (cc e)
 snapshot_is_short (Forgotten xid ∷ rs) d boot some e = absurd (cc e)

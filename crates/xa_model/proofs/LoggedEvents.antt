@@ -7,7 +7,7 @@ use Rattle.xa_codes.specs.declared.codes.TheConstants.{XA_RBTRANSIENT, XA_RBOTHE
 use Rattle.xa_codes.specs.declared.flags.TheConstants.{TMONEPHASE, TMJOIN, TMRESUME, TMSUSPEND, TMMIGRATE, TMFAIL}
 use Rattle.xa_frame.specs.declared.reply.Reply.{Reply}
 use Rattle.xa_frame.specs.declared.request.Request.{Request}
-use Rattle.xa_frame.specs.declared.request.Request.TheVariants.{Open, Close, Start, End, Prepare, Commit, Rollback, Forget, Recover, Get, Put, Delete, Decide, Doom, Restart, Timeout, Tick}
+use Rattle.xa_frame.specs.declared.request.Request.TheVariants.{Open, Close, Start, End, Prepare, Commit, Rollback, Forget, Recover, Get, Put, Delete, Decide, Doom, Restart, Timeout, Tick, Branches}
 use Rattle.xa_xid.specs.Triple.{Triple, xid_eq}
 use Rattle.xa_xid.proofs.Same.{xid_eq_itself}
 use Rattle.xa_model.specs.declared.event.Event.TheVariants as event
@@ -286,6 +286,7 @@ row_logs s n (Doom xid) h seated other =
 row_logs s n Restart h seated other = absurd (cc other)
 row_logs s n (Timeout seconds) h seated other = keeps s (timeout_by s n seconds).after (alike s s.given _ s.associations s.reads) (timeout_sound s n seconds h)
 row_logs s n (Tick moment) h seated other = keeps s (tick_by s moment).after (ticked_same s moment) (tick_sound s moment h)
+row_logs s n (Branches count after) h seated other = keeps s s (alike s s.given s.sessions s.associations s.reads) h
 
 pub events_log_what_lasts : EventsLogWhatLasts
 events_log_what_lasts s event.Connect h other = keeps s (connect_by s).after (unless_same (connect_refusal _) s (connected s) (λ none. alike s s.given _ s.associations s.reads)) (connected_sound s h)

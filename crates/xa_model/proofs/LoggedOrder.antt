@@ -1,6 +1,6 @@
 -- What a state may log fits behind the log that stands behind the state.
 use Rattle.std.proofs.Common.{◌≡◌, ℕ, ◌+◌, ◌<◌, ◌≤◌, ◌==◌, Bool, true, false, not, ◌&&◌, List, ◌++◌, Option, Some, None, refl, ap, sym, ◌∙◌, subst, arith}
-use Rattle.std.specs.Prelude.{find, nat_le, option_map}
+use Rattle.std.specs.Prelude.{find, option_map}
 use Rattle.std.specs.List.{AllByRecursion}
 use Rattle.std.proofs.lemmas.Bool.Decides.{nat_tests}
 use Rattle.xa_codes.specs.declared.direction.Direction.{Direction}
@@ -10,7 +10,7 @@ use Rattle.xa_record.specs.declared.record.Record.TheVariants as logged
 use Rattle.xa_xid.specs.Triple.{Triple, xid_eq}
 use Rattle.xa_model.specs.State.{State, Branch, Phase, Working, Prepared, Committed, InDoubt, Decided, count, known_among, known_by, known_of, decided_of, or_completed, is_known_as}
 use Rattle.xa_model.specs.Sound.{IsSound, is_working, is_at_work}
-use Rattle.xa_model.specs.Durable.{Durable, PreparedBranch, durable, by_name, is_prepared, is_decided, is_past, boot_of, number_of}
+use Rattle.xa_model.specs.Durable.{Durable, PreparedBranch, durable, by_name, is_prepared, is_decided, is_past}
 use Rattle.xa_model.specs.Fold.{Reading, fits, reading, unread, is_new, is_used, prepared_as}
 use Rattle.xa_model.specs.Completions.{is_completed}
 use Rattle.xa_model.specs.MayLog.{IsIdle}
@@ -89,20 +89,13 @@ working_by : (s : State) (xid : Triple) (b : Branch) → known_of s.branches xid
     → is_working b.phase ≡ true
 working_by s xid b found works = sym (ap is_at_work found) ∙ works
 
-one_at_least : (n : ℕ) → 1 ≤ n → nat_le 1 n ≡ true
-one_at_least n h = grind (arith, nat_tests)
-
-all_true : (a b c d e f : Bool) → a ≡ true → b ≡ true → c ≡ false → d ≡ false → e ≡ false → f ≡ false
-    → (a && b && not c && not d && (not e && not f)) ≡ true
-all_true a b c d e f ha hb hc hd he hf = rw (ha, hb, hc, hd, he, hf) refl
+all_true : (a b c d : Bool) → a ≡ true → b ≡ false → c ≡ false → d ≡ false → (a && not b && (not c && not d)) ≡ true
+all_true a b c d ha hb hc hd = rw (ha, hb, hc, hd) refl
 
 -- what is read of the log that stands behind a state
 record IsBehind (x : Reading) (s : State) : Type 0 where
   lasts : x.durable ≡ durable s
   new : IsNew s x.timestamps
-
-numbered : (next t : ℕ) → is_past next t ≡ true → (number_of t == 0) ≡ false
-numbered next t past = grind (arith, nat_tests)
 
 new_fits : (x : Reading) (s : State) (xid : Triple) (t : ℕ) (ws : List Write) → IsRecoverable s → s.logged_boot ≡ s.boot → IsBehind x s
     → IsIdle s xid t ws → is_new xid t x ≡ true
@@ -111,27 +104,19 @@ new_fits x s xid t ws h current k idle =
     let working : is_working i.branch.phase ≡ true = working_by s xid i.branch i.found idle.working in
     let there = found_all (λ (b : Branch). is_working b.phase ≡ true → is_used b.timestamp x.timestamps ≡ false)
     (is_known_as xid) i.branch s.branches k.new.unused i.found in
-    let given = found_all (λ (b : Branch). is_working b.phase ≡ true → boot_of b.timestamp ≡ s.boot)
-    (is_known_as xid) i.branch s.branches h.loggable.begun i.found in
     let past = found_all (λ (b : Branch). is_past (s.logged_boot + 1) b.timestamp ≡ true)
     (is_known_as xid) i.branch s.branches h.loggable.past i.found in
     let unused : is_used t x.timestamps ≡ false = subst (λ u. is_used u x.timestamps ≡ false) i.time (there working) in
-    let boot : boot_of t ≡ s.boot = subst (λ u. boot_of u ≡ s.boot) i.time (given working) in
-    let numbered : (number_of t == 0) ≡ false =
-    subst (λ u. (number_of u == 0) ≡ false) i.time (numbered (s.logged_boot + 1) i.branch.timestamp past) in
     let same : x.durable.boot ≡ s.logged_boot = ap (λ (d : Durable). d.boot) k.lasts in
-    let timely : (boot_of t == x.durable.boot) ≡ true = same_test (boot_of t) x.durable.boot (boot ∙ sym current ∙ sym same) in
-    let some : 1 ≤ x.durable.boot = omega (arith, same, current, h.loggable.first) in
+    let given : is_past (x.durable.boot + 1) t ≡ true =
+    subst (λ n. is_past (n + 1) t ≡ true) (sym same) (subst (λ u. is_past (s.logged_boot + 1) u ≡ true) i.time past) in
     let unprepared : is_prepared xid x.durable.prepared ≡ false =
     ap (λ (d : Durable). is_prepared xid d.prepared) k.lasts ∙ idle_unprepared s xid t ws h.sound idle in
     let undecided : is_decided xid x.durable.decided ≡ false =
     ap (λ (d : Durable). is_decided xid d.decided) k.lasts ∙ idle_undecided s xid t ws h.sound idle in
-    all_true (nat_le 1 x.durable.boot) (boot_of t == x.durable.boot) (number_of t == 0) (is_used t x.timestamps)
+    all_true (is_past (x.durable.boot + 1) t) (is_used t x.timestamps)
     (is_prepared xid x.durable.prepared) (is_decided xid x.durable.decided)
-    (one_at_least x.durable.boot some) timely numbered unused unprepared undecided
-  where
-    same_test : (m n : ℕ) → m ≡ n → (m == n) ≡ true
-    same_test m n e = grind (arith, nat_tests)
+    given unused unprepared undecided
 
 behind : (rs : List Record) (s : State) → Backs rs s → s.logged_boot ≡ s.boot → IsBehind (reading unread rs) s
 behind rs s k current = record { lasts = fold_reads rs (durable s) k.lasts; new = k.new current }

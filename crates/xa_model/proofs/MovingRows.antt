@@ -10,7 +10,7 @@ use Rattle.xa_codes.specs.declared.direction.Direction.TheVariants as direction
 use Rattle.xa_codes.specs.declared.flags.TheConstants.{TMONEPHASE, TMJOIN, TMRESUME, TMSUSPEND, TMMIGRATE, TMFAIL}
 use Rattle.xa_frame.specs.declared.reply.Reply.{Reply}
 use Rattle.xa_frame.specs.declared.request.Request.{Request}
-use Rattle.xa_frame.specs.declared.request.Request.TheVariants.{Open, Close, Start, End, Prepare, Commit, Rollback, Forget, Recover, Get, Put, Delete, Decide, Doom, Restart, Timeout, Tick}
+use Rattle.xa_frame.specs.declared.request.Request.TheVariants.{Open, Close, Start, End, Prepare, Commit, Rollback, Forget, Recover, Get, Put, Delete, Decide, Doom, Restart, Timeout, Tick, Branches}
 use Rattle.xa_record.specs.declared.record.Record.{Record}
 use Rattle.xa_record.specs.declared.record.Record.TheVariants as logged
 use Rattle.xa_xid.specs.Triple.{Triple, xid_eq}
@@ -336,6 +336,7 @@ row_moved s n (Doom xid) h e = unless_moved (doom_refusal (known_as s xid)) s (o
 row_moved s n Restart h e = absurd (cc e)
 row_moved s n (Timeout seconds) h e = itself s
 row_moved s n (Tick moment) h e = remains (map (timed_out moment) s.branches) (mapped_remain (timed_out moment) (timed_goes moment) s.branches)
+row_moved s n (Branches count after) h e = itself s
 
 pub event_moved : (s : State) (e : Event) → IsRecoverable s → is_restart e ≡ false → AllOf (Moved s) (respond s e)
 event_moved s event.Connect h e = unless_moved (connect_refusal _) s (connected s) (λ none. itself s)

@@ -9,7 +9,7 @@ use Rattle.xa_codes.specs.declared.direction.Direction.TheVariants as direction
 use Rattle.xa_codes.specs.declared.flags.TheConstants.{TMONEPHASE, TMJOIN, TMRESUME, TMSUSPEND, TMMIGRATE, TMFAIL}
 use Rattle.xa_frame.specs.declared.reply.Reply.{Reply}
 use Rattle.xa_frame.specs.declared.request.Request.{Request}
-use Rattle.xa_frame.specs.declared.request.Request.TheVariants.{Open, Close, Start, End, Prepare, Commit, Rollback, Forget, Recover, Get, Put, Delete, Decide, Doom, Restart, Timeout, Tick}
+use Rattle.xa_frame.specs.declared.request.Request.TheVariants.{Open, Close, Start, End, Prepare, Commit, Rollback, Forget, Recover, Get, Put, Delete, Decide, Doom, Restart, Timeout, Tick, Branches}
 use Rattle.xa_record.specs.declared.record.Record.TheVariants as logged
 use Rattle.xa_xid.specs.Triple.{Triple}
 use Rattle.xa_model.specs.declared.event.Event.{Event}
@@ -294,6 +294,7 @@ row_continues s n (Doom xid) e =
 row_continues s n Restart e = absurd (cc e)
 row_continues s n (Timeout seconds) e = alike s _ s.associations s.reads
 row_continues s n (Tick moment) e = ticked_newer s moment
+row_continues s n (Branches count after) e = itself s
 
 pub event_continues : (s : State) (e : Event) → is_restart e ≡ false → Continues s (respond s e)
 event_continues s event.Connect e = unless_newer (connect_refusal _) s (connected s) (alike s _ s.associations s.reads)

@@ -1,9 +1,9 @@
 -- What records come to is in the one form, whatever they are: a branch that is read has a timestamp that none has yet.
 use Rattle.std.proofs.Common.{◌≡◌, ℕ, ◌+◌, ◌==◌, Bool, true, false, not, ◌&&◌, Ok, List, [], ◌∷◌, Option, Some, None, refl, ap, subst, ◌∙◌}
-use Rattle.std.specs.Prelude.{find, nat_lt, nat_le}
+use Rattle.std.specs.Prelude.{find, nat_lt}
 use Rattle.std.specs.List.{AllByRecursion, list_all}
 use Rattle.std.specs.Ordering.{is_lt}
-use Rattle.std.proofs.lemmas.Bool.{and_parts, not-true, leb-true, ltb-true}
+use Rattle.std.proofs.lemmas.Bool.{and_parts, not-true, ltb-true}
 use Rattle.xa_codes.specs.declared.direction.Direction.{Direction}
 use Rattle.xa_codes.specs.declared.direction.Direction.TheVariants.{Commit, Rollback}
 use Rattle.xa_codes.specs.declared.write.Write.{Write}
@@ -11,13 +11,13 @@ use Rattle.xa_xid.specs.Triple.{Triple, xid_eq, xid_cmp}
 use Rattle.xa_record.specs.declared.record.Record.{Record}
 use Rattle.xa_record.specs.declared.record.Record.TheVariants.{Opened, Prepared, Committed, Completed, Decided, Forgotten, Base, Held, Known}
 use Rattle.xa_model.specs.State.{without}
-use Rattle.xa_model.specs.Durable.{Durable, CommittedBranch, PreparedBranch, IsDurable, insert, commit, commits_before, prepares_before, is_prepared, is_decided, is_past, boot_of, number_of}
+use Rattle.xa_model.specs.Durable.{Durable, CommittedBranch, PreparedBranch, IsDurable, insert, commit, commits_before, prepares_before, is_prepared, is_decided, is_past}
 use Rattle.xa_model.specs.Fold.{Reading, prepare, commit_writes, commit_prepared, complete, decide, prepared_as, read, fits, is_new, is_unknown, is_used, is_empty, fold_from, unread}
 use Rattle.xa_model.specs.DurableLaws.{FoldIsDurable}
 use Rattle.xa_model.proofs.Lists.{found_all, without_all}
 use Rattle.xa_model.proofs.Inserts.{all_imply, insert_all}
 use Rattle.xa_model.proofs.LastWrites.{last_all}
-use Rattle.xa_model.proofs.Tests.{past_next, new_past, used_apart, still_used, now_used, unused_above}
+use Rattle.xa_model.proofs.Tests.{past_next, used_apart, still_used, now_used, unused_above}
 use Rattle.xa_model.proofs.OneForm.{IsUnused, prepare_durable, commit_durable, complete_durable, complete_gone, complete_knows, decide_durable, forget_durable, open_durable, undecided, above_undecided}
 use Rattle.xa_model.proofs.Folds.{stepped}
 
@@ -51,11 +51,9 @@ unknown_is xid d e =
 pub new_is : (xid : Triple) (t : ℕ) (x : Reading) → is_new xid t x ≡ true → IsFresh x t × IsUnknown xid x.durable
 new_is xid t x e =
     let boot = x.durable.boot in
-    let unknown = and_parts (nat_le 1 boot && (boot_of t == boot) && not (number_of t == 0) && not (is_used t x.timestamps)) (is_unknown xid x.durable) e in
-    let unused = and_parts (nat_le 1 boot && (boot_of t == boot) && not (number_of t == 0)) (not (is_used t x.timestamps)) unknown.0 in
-    let number = and_parts (nat_le 1 boot && (boot_of t == boot)) (not (number_of t == 0)) unused.0 in
-    let given = and_parts (nat_le 1 boot) (boot_of t == boot) number.0 in
-    (record { past = new_past boot t (leb-true 1 boot given.0) given.1 number.1; unused = not-true (is_used t x.timestamps) unused.1 }, unknown_is xid x.durable unknown.1)
+    let unknown = and_parts (is_past (boot + 1) t && not (is_used t x.timestamps)) (is_unknown xid x.durable) e in
+    let unused = and_parts (is_past (boot + 1) t) (not (is_used t x.timestamps)) unknown.0 in
+    (record { past = unused.0; unused = not-true (is_used t x.timestamps) unused.1 }, unknown_is xid x.durable unknown.1)
 
 pub base_is : (t : ℕ) (ws : List Write) (x : Reading) → fits (Base t ws) x ≡ true → IsFresh x t
 base_is t ws x e =

@@ -11,7 +11,7 @@ use Rattle.xa_codes.specs.declared.direction.Direction.TheVariants as direction
 use Rattle.xa_codes.specs.declared.flags.TheConstants.{TMONEPHASE, TMJOIN, TMRESUME, TMSUSPEND, TMMIGRATE, TMFAIL}
 use Rattle.xa_frame.specs.declared.reply.Reply.{Reply}
 use Rattle.xa_frame.specs.declared.request.Request.{Request}
-use Rattle.xa_frame.specs.declared.request.Request.TheVariants.{Open, Close, Start, End, Prepare, Commit, Rollback, Forget, Recover, Get, Put, Delete, Decide, Doom, Restart, Timeout, Tick}
+use Rattle.xa_frame.specs.declared.request.Request.TheVariants.{Open, Close, Start, End, Prepare, Commit, Rollback, Forget, Recover, Get, Put, Delete, Decide, Doom, Restart, Timeout, Tick, Branches}
 use Rattle.xa_record.specs.Limits.{IsWrite, IsStamped, IsBranch, IsRecord}
 use Rattle.xa_record.specs.declared.record.Record.{Record}
 use Rattle.xa_record.specs.declared.record.Record.TheVariants as logged
@@ -304,6 +304,7 @@ row_keeps s n (Doom xid) is h other = unless_fits (doom_refusal (known_as s xid)
 row_keeps s n Restart is h other = absurd (cc other)
 row_keeps s n (Timeout seconds) is h other = recordable s h
 row_keeps s n (Tick moment) is h other = timed_recordable moment s.boot s.logged_boot s.branches (recordable s h)
+row_keeps s n (Branches count after) is h other = recordable s h
 
 pub events_keep_recordable : (s : State) (e : Event) → IsEvent e → IsLoggable s → is_restart e ≡ false → KeepsRecordable s (respond s e)
 events_keep_recordable s event.Connect is h other = unless_fits (connect_refusal (length s.sessions)) s (connected s) (recordable s h) (λ none. recordable s h)

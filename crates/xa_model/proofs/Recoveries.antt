@@ -3,7 +3,7 @@ use Rattle.std.proofs.Common.{◌≡◌, ℕ, Bool, true, false, List, [], ◌�
 use Rattle.std.specs.Prelude.{IfSome, option_map, option_and_then}
 use Rattle.xa_frame.specs.declared.reply.Reply.{Reply}
 use Rattle.xa_frame.specs.declared.request.Request.{Request}
-use Rattle.xa_frame.specs.declared.request.Request.TheVariants.{Open, Close, Start, End, Prepare, Commit, Rollback, Forget, Recover, Get, Put, Delete, Decide, Doom, Restart, Timeout, Tick}
+use Rattle.xa_frame.specs.declared.request.Request.TheVariants.{Open, Close, Start, End, Prepare, Commit, Rollback, Forget, Recover, Get, Put, Delete, Decide, Doom, Restart, Timeout, Tick, Branches}
 use Rattle.xa_record.specs.Limits.{IsRecord}
 use Rattle.xa_record.specs.declared.record.Record.{Record}
 use Rattle.xa_record.specs.declared.record.Record.TheVariants as logged
@@ -207,6 +207,7 @@ asked_to_restart s n (Decide direction xid) h e = absurd (cc e)
 asked_to_restart s n (Doom xid) h e = absurd (cc e)
 asked_to_restart s n (Timeout seconds) h e = absurd (cc e)
 asked_to_restart s n (Tick moment) h e = absurd (cc e)
+asked_to_restart s n (Branches count after) h e = absurd (cc e)
 asked_to_restart s n Restart h e = unless_stays (early_refusal (context_of s n) Restart) s (restart_turn s) h (restart_stays s h)
 
 restart_asked : (s : State) (e : Event) → IsRecoverable s → is_restart e ≡ true → StaysRecoverable (respond s e)
@@ -286,6 +287,7 @@ restart_logs s n (Decide direction xid) e = absurd (cc e)
 restart_logs s n (Doom xid) e = absurd (cc e)
 restart_logs s n (Timeout seconds) e = absurd (cc e)
 restart_logs s n (Tick moment) e = absurd (cc e)
+restart_logs s n (Branches count after) e = absurd (cc e)
 restart_logs s n Restart e = unless_logs (early_refusal (context_of s n) Restart) s (restart_turn s) tt
 
 event_logs : (s : State) (e : Event) → is_restart e ≡ true → LogsLast s (respond s e)

@@ -11,7 +11,7 @@ use Rattle.xa_codes.specs.declared.direction.Direction.TheVariants as direction
 use Rattle.xa_codes.specs.declared.flags.TheConstants.{TMONEPHASE, TMJOIN, TMRESUME, TMSUSPEND, TMMIGRATE, TMFAIL}
 use Rattle.xa_frame.specs.declared.reply.Reply.{Reply}
 use Rattle.xa_frame.specs.declared.request.Request.{Request}
-use Rattle.xa_frame.specs.declared.request.Request.TheVariants.{Open, Close, Start, End, Prepare, Commit, Rollback, Forget, Recover, Get, Put, Delete, Decide, Doom, Restart, Timeout, Tick}
+use Rattle.xa_frame.specs.declared.request.Request.TheVariants.{Open, Close, Start, End, Prepare, Commit, Rollback, Forget, Recover, Get, Put, Delete, Decide, Doom, Restart, Timeout, Tick, Branches}
 use Rattle.xa_limits.specs.declared.TheConstants.{MOST_BOOTS}
 use Rattle.xa_record.specs.declared.record.Record.{Record}
 use Rattle.xa_record.specs.declared.record.Record.TheVariants as logged
@@ -244,6 +244,7 @@ row_rises s n (Doom xid) e = unless_rises (doom_refusal (known_as s xid)) s (ok 
 row_rises s n Restart e = restart_rises s
 row_rises s n (Timeout seconds) e = itself s
 row_rises s n (Tick moment) e = not_before (context_of s n) moment e
+row_rises s n (Branches count after) e = itself s
 
 respond_rises : (s : State) (e : Event) → AllOf (Rises s) (respond s e)
 respond_rises s event.Connect = unless_rises (connect_refusal _) s (connected s) (itself s)

@@ -8,7 +8,7 @@ use Rattle.xa_codes.specs.declared.direction.Direction.TheVariants as direction
 use Rattle.xa_codes.specs.declared.flags.TheConstants.{TMONEPHASE, TMJOIN, TMRESUME, TMSUSPEND, TMMIGRATE, TMFAIL}
 use Rattle.xa_frame.specs.declared.reply.Reply.{Reply}
 use Rattle.xa_frame.specs.declared.request.Request.{Request}
-use Rattle.xa_frame.specs.declared.request.Request.TheVariants.{Open, Close, Start, End, Prepare, Commit, Rollback, Forget, Recover, Get, Put, Delete, Decide, Doom, Restart, Timeout, Tick}
+use Rattle.xa_frame.specs.declared.request.Request.TheVariants.{Open, Close, Start, End, Prepare, Commit, Rollback, Forget, Recover, Get, Put, Delete, Decide, Doom, Restart, Timeout, Tick, Branches}
 use Rattle.xa_record.specs.declared.record.Record.TheVariants as logged
 use Rattle.xa_xid.specs.Triple.{Triple}
 use Rattle.xa_model.specs.declared.event.Event.{Event}
@@ -177,6 +177,7 @@ row_asks s n (Doom xid) e = unless_same (doom_refusal (known_as s xid)) s (ok (d
 row_asks s n Restart e = absurd (cc e)
 row_asks s n (Timeout seconds) e = refl
 row_asks s n (Tick moment) e = refl
+row_asks s n (Branches count after) e = refl
 
 pub events_ask_room : (s : State) (e : Event) → is_restart e ≡ false → AsksRoom s (respond s e)
 events_ask_room s event.Connect e = unless_same (connect_refusal _) s (connected s) refl

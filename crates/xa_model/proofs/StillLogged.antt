@@ -6,7 +6,7 @@ use Rattle.xa_codes.specs.declared.codes.TheConstants.{XA_RBCOMMFAIL}
 use Rattle.xa_codes.specs.declared.direction.Direction.{Direction}
 use Rattle.xa_frame.specs.declared.reply.Reply.{Reply}
 use Rattle.xa_frame.specs.declared.request.Request.{Request}
-use Rattle.xa_frame.specs.declared.request.Request.TheVariants.{Open, Close, Start, End, Prepare, Commit, Rollback, Forget, Recover, Get, Put, Delete, Decide, Doom, Restart, Timeout, Tick}
+use Rattle.xa_frame.specs.declared.request.Request.TheVariants.{Open, Close, Start, End, Prepare, Commit, Rollback, Forget, Recover, Get, Put, Delete, Decide, Doom, Restart, Timeout, Tick, Branches}
 use Rattle.xa_record.specs.declared.record.Record.{Record}
 use Rattle.xa_record.specs.declared.record.Record.TheVariants as logged
 use Rattle.xa_xid.specs.Triple.{Triple, xid_eq}
@@ -158,6 +158,7 @@ down_calls s n false (Decide direction xid) down other = λ r may. may
 down_calls s n false (Doom xid) down other = λ r may. may
 down_calls s n false (Timeout seconds) down other = λ r may. may
 down_calls s n false (Tick moment) down other = λ r may. may
+down_calls s n false (Branches count after) down other = λ r may. may
 down_calls s n false Restart down other = absurd (cc other)
 
 pub down_still : (s : State) (e : Event) → s.standing ≡ Down → is_restart e ≡ false → StillMay s (respond s e)

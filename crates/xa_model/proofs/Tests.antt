@@ -12,6 +12,7 @@ use Rattle.std.proofs.lemmas.Cmp.{and_equiv, on_equiv, int_eq_equiv, nat_list_eq
 use Rattle.xa_xid.specs.Triple.{Triple, xid_eq, xid_cmp}
 use Rattle.xa_xid.proofs.Same.{xid_same, xid_eq_same, xid_cmp_same, xid_cmp_equal, xid_cmp_total}
 use Rattle.xa_model.specs.Durable.{commits_before, prepares_before, named_before, is_past, boot_of, number_of}
+use Rattle.xa_model.specs.DurableLaws.{TakesOwnBoot}
 use Rattle.xa_model.specs.Fold.{is_used}
 use Rattle.xa_model.proofs.Inserts.{IsTransitive}
 
@@ -51,8 +52,15 @@ past_more a b t less e = grind (arith, nat_tests)
 pub past_next : (a t : ℕ) → is_past a t ≡ true → is_past (a + 1) t ≡ true
 past_next a t e = grind (arith, nat_tests)
 
-pub new_past : (a t : ℕ) → 1 ≤ a → (boot_of t == a) ≡ true → not (number_of t == 0) ≡ true → is_past (a + 1) t ≡ true
+-- no boot below the first gave one
+pub none_past : (t : ℕ) → is_past 1 t ≡ false
+none_past t = grind (arith, nat_tests)
+
+new_past : (a t : ℕ) → 1 ≤ a → boot_of t ≡ a → (number_of t == 0) ≡ false → is_past (a + 1) t ≡ true
 new_past a t some boot number = grind (arith, nat_tests)
+
+pub takes_own_boot : TakesOwnBoot
+takes_own_boot t x some boot number unused = rw (new_past x.durable.boot t some boot number, unused) refl
 
 -- timestamps that records have, and those that none has
 

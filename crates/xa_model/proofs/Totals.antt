@@ -8,7 +8,7 @@ use Rattle.xa_record.specs.declared.record.Record.{Record}
 use Rattle.xa_record.specs.declared.record.Record.TheVariants as logged
 use Rattle.xa_frame.specs.declared.reply.Reply.{Reply}
 use Rattle.xa_frame.specs.declared.request.Request.{Request}
-use Rattle.xa_frame.specs.declared.request.Request.TheVariants.{Open, Close, Start, End, Prepare, Commit, Rollback, Forget, Recover, Get, Put, Delete, Decide, Doom, Restart, Timeout, Tick}
+use Rattle.xa_frame.specs.declared.request.Request.TheVariants.{Open, Close, Start, End, Prepare, Commit, Rollback, Forget, Recover, Get, Put, Delete, Decide, Doom, Restart, Timeout, Tick, Branches}
 use Rattle.xa_xid.specs.Triple.{Triple}
 use Rattle.xa_model.specs.declared.event.Event.{Event}
 use Rattle.xa_model.specs.declared.event.Event.TheVariants as event
@@ -139,6 +139,7 @@ row_taken s n (Doom xid) = now_taken _
 row_taken s n Restart = rereads_taken _ _ _
 row_taken s n (Timeout seconds) = now_taken _
 row_taken s n (Tick moment) = now_taken _
+row_taken s n (Branches count after) = now_taken _
 
 respond_taken : (s : State) (e : Event) → IsTaken (respond s e)
 respond_taken s event.Connect = now_taken _

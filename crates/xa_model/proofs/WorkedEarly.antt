@@ -1,6 +1,6 @@
 -- The worked refusals before the row of a call compute.
 use Rattle.std.proofs.Common.{refl}
-use Rattle.xa_model.specs.WorkedEarly.{NotConnected, NotOpened, IsDown, FlagsOfEach}
+use Rattle.xa_model.specs.WorkedEarly.{NotConnected, NotOpened, IsDown, FlagsOfEach, CountsOfEach}
 
 pub not_connected : NotConnected
 not_connected = refl
@@ -13,3 +13,6 @@ is_down = refl
 
 pub flags_of_each : FlagsOfEach
 flags_of_each = refl
+
+pub counts_of_each : CountsOfEach
+counts_of_each = refl

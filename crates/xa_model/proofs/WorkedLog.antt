@@ -1,6 +1,6 @@
 -- The worked rows of the log compute.
 use Rattle.std.proofs.Common.{refl}
-use Rattle.xa_model.specs.WorkedLog.{HeldAndCommitted, DecidedAndForgotten, RolledBack, LastWrites, InOrder, BootsInOrder, TimestampsInOrder, NamesInOrder, SnapshotsInOrder}
+use Rattle.xa_model.specs.WorkedLog.{HeldAndCommitted, DecidedAndForgotten, RolledBack, LastWrites, InOrder, BegunEarlier, BootsInOrder, TimestampsInOrder, NamesInOrder, SnapshotsInOrder}
 
 pub held_and_committed : HeldAndCommitted
 held_and_committed = (refl, refl, refl, refl, refl, refl, refl)
@@ -17,11 +17,14 @@ last_writes = (refl, refl)
 pub in_order : InOrder
 in_order = (refl, refl)
 
+pub begun_earlier : BegunEarlier
+begun_earlier = (refl, refl, refl, refl)
+
 pub boots_in_order : BootsInOrder
 boots_in_order = (refl, refl, refl, refl)
 
 pub timestamps_in_order : TimestampsInOrder
-timestamps_in_order = (refl, refl, refl, refl)
+timestamps_in_order = (refl, refl, refl, refl, refl, refl, refl, refl, refl, refl)
 
 pub names_in_order : NamesInOrder
 names_in_order = (refl, refl, refl, refl, refl)

@@ -1,5 +1,5 @@
 -- Laws on what lasts.
-use Rattle.std.specs.Prelude.{ℕ, ◌≡◌, ◌+◌, true, ◌<◌, ◌≤◌, ◌^◌, Ok, Err, List, [], ◌∷◌, ◌++◌, length, if◌then◌else◌}
+use Rattle.std.specs.Prelude.{ℕ, ◌≡◌, ◌+◌, ◌==◌, true, false, ◌<◌, ◌≤◌, ◌^◌, Ok, Err, List, [], ◌∷◌, ◌++◌, length, if◌then◌else◌}
 use Rattle.std.specs.List.{AllByRecursion}
 use Rattle.xa_record.specs.declared.record.Record.{Record}
 use Rattle.xa_record.specs.Limits.{IsRecord}
@@ -7,8 +7,8 @@ use Rattle.xa_model.specs.State.{State, Operation}
 use Rattle.xa_model.specs.Source.{write_of}
 use Rattle.xa_model.specs.Sound.{IsSound}
 use Rattle.xa_model.specs.Durable.{Durable, CommittedBranch, IsDurable, IsByKey, HasSame, Pairwise, keys_before}
-use Rattle.xa_model.specs.Durable.{is_past, value_in, writes_of, last_write, last_writes, durable}
-use Rattle.xa_model.specs.Fold.{apply, fits, fold, reading, unread, snapshot, sizes}
+use Rattle.xa_model.specs.Durable.{is_past, boot_of, number_of, value_in, writes_of, last_write, last_writes, durable}
+use Rattle.xa_model.specs.Fold.{Reading, apply, fits, fold, is_timely, is_used, reading, unread, snapshot, sizes}
 
 -- what records come to is what was read of them
 abbrev pub FoldReads : Type 0
@@ -23,6 +23,13 @@ OneMore =
 -- what stands behind a record that is out of order doesn't matter
 abbrev pub FirstFault : Type 0
 FirstFault = (rs more : List Record) (i : ℕ) → fold rs ≡ Err i → fold (rs ++ more) ≡ Err i
+
+-- a timestamp that the last boot gave comes in time, if no record has it: what is logged of branches of that boot alone
+-- is read as it always was
+abbrev pub TakesOwnBoot : Type 0
+TakesOwnBoot =
+    (t : ℕ) (x : Reading) → 1 ≤ x.durable.boot → boot_of t ≡ x.durable.boot → (number_of t == 0) ≡ false
+    → is_used t x.timestamps ≡ false → is_timely t x ≡ true
 
 -- what records come to is in the one form
 abbrev pub FoldIsDurable : Type 0

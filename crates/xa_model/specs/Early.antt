@@ -1,7 +1,7 @@
 -- The refusals that come before the row of a call: the manager is down, the session is not connected or not opened,
 -- TMASYNC, and arguments that the call may not have.
 use Rattle.std.specs.Prelude.{ℕ, Bool, true, false, not, ◌&&◌, ◌||◌, Option, Some, None, List, [], ◌∷◌, bytes_eq}
-use Rattle.std.specs.Prelude.{nat_lt, is_none}
+use Rattle.std.specs.Prelude.{nat_lt, is_none, ◌==◌}
 use Rattle.xa_codes.specs.Flags.{has, legal}
 use Rattle.xa_codes.specs.declared.codes.TheConstants.{XAER_PROTO, XAER_ASYNC, XAER_INVAL, XAER_RMFAIL}
 use Rattle.xa_codes.specs.declared.flags.TheConstants.{TMASYNC}
@@ -12,7 +12,7 @@ use Rattle.xa_frame.specs.declared.reply.Reply.{Reply}
 use Rattle.xa_frame.specs.declared.request.Request.{Request}
 use Rattle.xa_frame.specs.declared.request.Request.TheVariants.{Open, Close, Start, End, Prepare, Commit, Rollback}
 use Rattle.xa_frame.specs.declared.request.Request.TheVariants.{Forget, Recover, Get, Put, Delete, Decide, Doom}
-use Rattle.xa_frame.specs.declared.request.Request.TheVariants.{Restart, Timeout, Tick}
+use Rattle.xa_frame.specs.declared.request.Request.TheVariants.{Restart, Timeout, Tick, Branches}
 use Rattle.xa_limits.specs.declared.TheConstants.{MOST_XIDS}
 use Rattle.xa_model.specs.Answer.{plain, first}
 
@@ -35,6 +35,7 @@ flags_of (Doom xid) = 0
 flags_of Restart = 0
 flags_of (Timeout seconds) = 0
 flags_of (Tick moment) = 0
+flags_of (Branches count after) = 0
 
 -- these pass while the manager is down
 abbrev pub passes_down : Call → Bool
@@ -51,6 +52,7 @@ needs_open call.Decide = false
 needs_open call.Doom = false
 needs_open call.Restart = false
 needs_open call.Tick = false
+needs_open call.Branches = false
 needs_open _ = true
 
 -- on Recover TMASYNC is an illegal flag, and no more
@@ -63,9 +65,10 @@ abbrev pub has_wrong_info : List ℕ → Request → Bool
 has_wrong_info name (Open flags info) = not (bytes_eq info name)
 has_wrong_info name _ = false
 
--- a recovery lists at most MOST_XIDS
+-- a recovery lists at most MOST_XIDS, and so do branches, but at least one
 abbrev pub has_wrong_count : Request → Bool
 has_wrong_count (Recover flags count) = nat_lt MOST_XIDS count
+has_wrong_count (Branches count after) = (count == 0) || nat_lt MOST_XIDS count
 has_wrong_count _ = false
 
 -- moments don't go back

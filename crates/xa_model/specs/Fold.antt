@@ -15,7 +15,7 @@ use Rattle.xa_limits.specs.declared.TheConstants.{AROUND_BODY}
 use Rattle.xa_model.specs.State.{without}
 use Rattle.xa_model.specs.State.{Decided as Decision}
 use Rattle.xa_model.specs.Durable.{Durable, CommittedBranch, PreparedBranch, insert, commit, prepares_before}
-use Rattle.xa_model.specs.Durable.{named_before, is_prepared, is_decided, is_past, boot_of, number_of}
+use Rattle.xa_model.specs.Durable.{named_before, is_prepared, is_decided, is_past}
 
 -- What a record does
 
@@ -79,12 +79,13 @@ is_unknown xid d = not (is_prepared xid d.prepared) && not (is_decided xid d.dec
 abbrev pub is_used : ℕ → List ℕ → Bool
 is_used t timestamps = list_any (λ u. u == t) timestamps
 
--- a timestamp that the last boot gave, and that no record has yet
+-- A timestamp that a boot up to the last one gave, and that no record has yet. A branch keeps its timestamp for as long
+-- as it is at work, also while later boots begin, so it may come behind an Opened of a later boot than its own. Of each
+-- timestamp the log has at most one branch: those of all that was read are kept.
 abbrev pub is_timely : ℕ → Reading → Bool
-is_timely t x =
-    nat_le 1 x.durable.boot && (boot_of t == x.durable.boot) && not (number_of t == 0) && not (is_used t x.timestamps)
+is_timely t x = is_past (x.durable.boot + 1) t && not (is_used t x.timestamps)
 
--- a branch of this boot, of which nothing is known yet
+-- a branch of such a timestamp, of which nothing is known yet
 abbrev pub is_new : Triple → ℕ → Reading → Bool
 is_new xid t x = is_timely t x && is_unknown xid x.durable
 

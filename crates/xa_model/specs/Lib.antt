@@ -15,6 +15,7 @@ pub mod Logging
 pub mod Completions
 pub mod Restarting
 pub mod Recovering
+pub mod KnownBranches
 pub mod Step
 pub mod History
 pub mod Events
@@ -47,6 +48,7 @@ pub mod WorkedEarly
 pub mod WorkedBranches
 pub mod WorkedLimits
 pub mod WorkedTimeLimits
+pub mod WorkedKnownBranches
 pub mod WorkedLog
 pub mod WorkedTurns
 pub mod WorkedDevice

@@ -1,18 +1,20 @@
--- Worked rows: what each of the seventeen calls is refused before its row.
-use Rattle.std.specs.Prelude.{ℕ, false, ℤ, List, [], ◌∷◌, ◌++◌, map}
+-- Worked rows: what each of the eighteen calls is refused before its row.
+use Rattle.std.specs.Prelude.{ℕ, false, ℤ, None, Some, List, [], ◌∷◌, ◌++◌, map}
 use Rattle.xa_codes.specs.declared.codes.TheConstants.{XAER_ASYNC, XAER_PROTO, XAER_INVAL, XAER_NOTA, XAER_RMFAIL}
 use Rattle.xa_codes.specs.declared.direction.Direction.TheVariants as direction
 use Rattle.xa_codes.specs.declared.flags.TheConstants.{TMNOFLAGS, TMASYNC, TMMULTIPLE, TMSUCCESS, TMSTARTRSCAN}
 use Rattle.xa_frame.specs.declared.request.Request.{Request}
 use Rattle.xa_frame.specs.declared.request.Request.TheVariants.{Open, Close, Start, End, Prepare, Commit, Rollback}
 use Rattle.xa_frame.specs.declared.request.Request.TheVariants.{Forget, Recover, Get, Put, Delete, Decide, Doom}
-use Rattle.xa_frame.specs.declared.request.Request.TheVariants.{Restart, Timeout, Tick}
+use Rattle.xa_frame.specs.declared.request.Request.TheVariants.{Restart, Timeout, Tick, Branches}
+use Rattle.xa_frame.specs.declared.body.Body.TheVariants as body
 use Rattle.xa_model.specs.State.{Down}
-use Rattle.xa_model.specs.Answer.{plain}
+use Rattle.xa_model.specs.Answer.{plain, carrying}
 use Rattle.xa_model.specs.History.{Entry}
+use Rattle.xa_model.specs.Recovering.{listing}
 use Rattle.xa_model.specs.Worked.{xarm, byte, done, number}
 use Rattle.xa_model.specs.WorkedScripts.{Replied, new_manager, xid_a, connects, asks_by, opens, closes, session}
-use Rattle.xa_model.specs.WorkedScripts.{restarts, ticks}
+use Rattle.xa_model.specs.WorkedScripts.{restarts, ticks, branches}
 
 -- the calls that need an opened session: of branches, of recovery, of keys, and of time limits
 abbrev pub of_opened : List Request
@@ -54,10 +56,10 @@ all_refused code requests = map (λ (request : Request). asks_by 1 request (plai
 abbrev pub NotConnected : Type 0
 NotConnected =
     Replied new_manager
-    (all_refused XAER_PROTO (Open TMNOFLAGS xarm ∷ Close TMNOFLAGS ∷ Restart ∷ Tick 10 ∷ of_opened)
+    (all_refused XAER_PROTO (Open TMNOFLAGS xarm ∷ Close TMNOFLAGS ∷ Restart ∷ Tick 10 ∷ Branches 1 None ∷ of_opened)
     ++ all_refused XAER_PROTO of_operator)
 
--- of one that isn't opened the operator's calls are served, and Open, Close, Restart and Tick
+-- of one that isn't opened the operator's calls are served, and Open, Close, Restart, Tick and Branches
 abbrev pub NotOpened : Type 0
 NotOpened =
     Replied new_manager (
@@ -66,6 +68,7 @@ NotOpened =
     ++ all_refused XAER_NOTA of_operator
     ++ closes 1 done
     ∷ ticks 1 10 (number 0)
+    ∷ branches 1 1 None (carrying (body.Branches []))
     ∷ opens 1 done
     ∷ restarts 1 false done
     ∷ [])
@@ -78,7 +81,7 @@ IsDown =
     ++ all_refused XAER_PROTO (Open TMNOFLAGS xarm ∷ Close TMNOFLAGS ∷ Restart ∷ [])
     ++ session 1
     ++ all_refused XAER_RMFAIL of_opened
-    ++ all_refused XAER_RMFAIL (Tick 10 ∷ of_operator)
+    ++ all_refused XAER_RMFAIL (Tick 10 ∷ Branches 1 None ∷ Branches 0 None ∷ of_operator)
     ++ closes 1 done
     ∷ restarts 1 false done
     ∷ [])
@@ -91,4 +94,16 @@ FlagsOfEach =
     ++ all_refused XAER_INVAL (Recover TMMULTIPLE 1 ∷ Recover TMASYNC 1 ∷ with_flags TMMULTIPLE)
     ++ all_refused XAER_ASYNC (with_flags TMASYNC)
     ++ closes 1 done
+    ∷ [])
+
+-- a recovery lists at most 256, and so do branches, but one at least; whether there are so many makes no difference
+abbrev pub CountsOfEach : Type 0
+CountsOfEach =
+    Replied new_manager (
+    session 1
+    ++ all_refused XAER_INVAL (Recover TMSTARTRSCAN 257 ∷ Branches 0 None ∷ Branches 0 (Some xid_a) ∷ Branches 257 None ∷ [])
+    ++ all_refused XAER_INVAL (Branches 4294967295 (Some xid_a) ∷ [])
+    ++ branches 1 256 None (carrying (body.Branches []))
+    ∷ branches 1 1 (Some xid_a) (carrying (body.Branches []))
+    ∷ asks_by 1 (Recover TMSTARTRSCAN 0) (listing [])
     ∷ [])

@@ -105,11 +105,30 @@ BootsInOrder =
     × (fold (Opened 2 ∷ Opened 2 ∷ []) ≡ Err 1)
     × (fold (Opened 1 ∷ Opened 3 ∷ Opened 2 ∷ []) ≡ Err 2)
 
--- a branch's timestamp is of the last boot, isn't its 0th, and is no other branch's
+-- A branch that began before the last boot is logged behind it, prepared or committed at once. Its writes take their
+-- places by its timestamp: those of a branch of the last boot are later.
+abbrev pub BegunEarlier : Type 0
+BegunEarlier =
+    (restarted 3 (Opened 2 ∷ Prepared xid_1 4294967297 put_1 ∷ [])
+    ≡ Ok (Opened 3 ∷ Held xid_1 4294967297 put_1 ∷ []))
+    × (restarted 3 (Opened 2 ∷ Committed xid_1 4294967297 put_1 ∷ []) ≡ Ok (Opened 3 ∷ Base 4294967297 put_1 ∷ []))
+    × (restarted 4 (Opened 3 ∷ Committed xid_2 8589934593 (delete 0x6b ∷ []) ∷ Committed xid_1 4294967297 put_1 ∷ [])
+    ≡ Ok (Opened 4 ∷ Base 8589934593 (delete 0x6b ∷ []) ∷ []))
+    × (restarted 3 (
+    Opened 2 ∷ Base 4294967298 put_1 ∷ Prepared xid_1 4294967297 (write 0x6c 0x31 ∷ []) ∷ Completed xid_1 Commit ∷ [])
+    ≡ Ok (Opened 3 ∷ Base 4294967297 (write 0x6c 0x31 ∷ []) ∷ Base 4294967298 put_1 ∷ []))
+
+-- a branch's timestamp is of a boot from 1 to the last, isn't its 0th, and is no other branch's
 abbrev pub TimestampsInOrder : Type 0
 TimestampsInOrder =
-    (fold (Opened 2 ∷ Prepared xid_1 4294967297 put_1 ∷ []) ≡ Err 1)
+    (fold (Opened 2 ∷ Prepared xid_1 12884901889 put_1 ∷ []) ≡ Err 1)
+    × (fold (Opened 2 ∷ Committed xid_1 12884901889 put_1 ∷ []) ≡ Err 1)
+    × (fold (Opened 2 ∷ Prepared xid_1 1 put_1 ∷ []) ≡ Err 1)
     × (fold (Opened 1 ∷ Committed xid_1 4294967296 put_1 ∷ []) ≡ Err 1)
+    × (fold (Opened 2 ∷ Prepared xid_1 4294967296 put_1 ∷ []) ≡ Err 1)
+    × (fold (Opened 2 ∷ Base 4294967297 put_1 ∷ Committed xid_1 4294967297 put_1 ∷ []) ≡ Err 2)
+    × (fold (Opened 2 ∷ Held xid_1 4294967297 put_1 ∷ Prepared xid_2 4294967297 put_1 ∷ []) ≡ Err 2)
+    × (fold (Opened 2 ∷ Committed xid_1 4294967297 put_1 ∷ Committed xid_2 4294967297 put_1 ∷ []) ≡ Err 2)
     × (fold (Opened 1 ∷ Committed xid_1 4294967297 put_1 ∷ Prepared xid_1 4294967297 put_1 ∷ []) ≡ Err 2)
     × (fold (
     Opened 1 ∷ Prepared xid_1 4294967297 put_1 ∷ Completed xid_1 Rollback ∷ Prepared xid_1 4294967297 put_1 ∷ [])

@@ -1,5 +1,5 @@
 -- How worked rows of several sessions are written: each call beside its reply.
-use Rattle.std.specs.Prelude.{ℕ, ◌≡◌, ◌+◌, Bool, Some, List, [], ◌∷◌, map}
+use Rattle.std.specs.Prelude.{ℕ, ◌≡◌, ◌+◌, Bool, Option, Some, List, [], ◌∷◌, map}
 use Rattle.xa_codes.specs.declared.flags.TheConstants.{TMNOFLAGS, TMJOIN, TMRESUME, TMSUCCESS, TMFAIL, TMSUSPEND}
 use Rattle.xa_codes.specs.declared.flags.TheConstants.{TMMIGRATE, TMONEPHASE}
 use Rattle.xa_codes.specs.declared.direction.Direction.{Direction}
@@ -9,7 +9,7 @@ use Rattle.xa_frame.specs.declared.reply.Reply.{Reply}
 use Rattle.xa_frame.specs.declared.request.Request.{Request}
 use Rattle.xa_frame.specs.declared.request.Request.TheVariants.{Open, Close, Start, End, Prepare, Commit, Rollback}
 use Rattle.xa_frame.specs.declared.request.Request.TheVariants.{Forget, Recover, Get, Put, Delete, Decide, Doom}
-use Rattle.xa_frame.specs.declared.request.Request.TheVariants.{Restart, Timeout, Tick}
+use Rattle.xa_frame.specs.declared.request.Request.TheVariants.{Restart, Timeout, Tick, Branches}
 use Rattle.xa_model.specs.declared.event.Event.{Event}
 use Rattle.xa_model.specs.declared.event.Event.TheVariants.{Connect, Hangup, Call}
 use Rattle.xa_model.specs.declared.outcome.Outcome.{Outcome}
@@ -140,6 +140,9 @@ forgets n x reply = asks_by n (Forget TMNOFLAGS x) reply
 
 abbrev pub recovers : ℕ → ℕ → ℕ → Reply → Entry
 recovers n flags count reply = asks_by n (Recover flags count) reply
+
+abbrev pub branches : ℕ → ℕ → Option Triple → Reply → Entry
+branches n count after reply = asks_by n (Branches count after) reply
 
 -- the record whose fate was unknown is there, or isn't, and the new boot is logged
 abbrev pub restarts : ℕ → Bool → Reply → Entry

@@ -3,7 +3,7 @@ ghost use Rattle.xa_model.specs.Laws.{OneHistory, KeepsSound, KeepsSoundPrepared
 ghost use Rattle.xa_model.specs.Laws.{KeepsSoundForgotten};
 ghost use Rattle.xa_model.specs.DurableLaws.{FoldReads, OneMore, FirstFault, FoldIsByKey, FoldIsDurable};
 ghost use Rattle.xa_model.specs.DurableLaws.{LastWritesStay, LeavesDurable, OneValue, SnapshotFolds, SnapshotIsShort};
-ghost use Rattle.xa_model.specs.DurableLaws.{SnapshotIsWritten, WritesOf};
+ghost use Rattle.xa_model.specs.DurableLaws.{SnapshotIsWritten, TakesOwnBoot, WritesOf};
 ghost use Rattle.xa_model.specs.LoggingLaws.{KeepsSoundApplied, AppliedLasts, AppliedFits, EventsLogWhatLasts};
 ghost use Rattle.xa_model.specs.LoggingLaws.{RestartLasts, ReopenLasts};
 ghost use Rattle.xa_model.specs.BackingLaws.{KeepsRecoverable, AlwaysRecoverable, LoggedInOrder, KeepsBacked};
@@ -22,7 +22,7 @@ ghost use Rattle.xa_model.specs.LowWaterLaws.{BelowKnown, IsReached, BelowNext, 
 ghost use Rattle.xa_model.specs.TimeLaws.{MomentsRise, OpensAtZero};
 ghost use Rattle.xa_model.specs.WorkedLowWater.{WaterRises};
 ghost use Rattle.xa_model.specs.WorkedLog.{HeldAndCommitted, DecidedAndForgotten, RolledBack, LastWrites, InOrder};
-ghost use Rattle.xa_model.specs.WorkedLog.{BootsInOrder, TimestampsInOrder, NamesInOrder, SnapshotsInOrder};
+ghost use Rattle.xa_model.specs.WorkedLog.{BegunEarlier, BootsInOrder, TimestampsInOrder, NamesInOrder, SnapshotsInOrder};
 ghost use Rattle.xa_model.specs.WorkedLasting.{StatesLeave, CommittedLeaves};
 ghost use Rattle.xa_model.specs.WorkedOneCopy.{ReadsBelow, MissesDelete, MissesOwnDelete, ReadsAbove, RecordsRead};
 ghost use Rattle.xa_model.specs.WorkedTurns.{PreparedAndCommitted, RolledBackAgain, MarkedIsGone, ReadOnly, Room};
@@ -37,11 +37,12 @@ ghost use Rattle.xa_model.specs.WorkedVersions.{LateWrite, LateDelete, BlindWrit
 ghost use Rattle.xa_model.specs.WorkedVersions.{SharedBranch, NotBusyAbove, Deleted, DeletedAfterwards, ReadOver};
 ghost use Rattle.xa_model.specs.WorkedRefusals.{EarlyRefused, CloseRefused, StartRefused, JoinRefused, ResumeRefused};
 ghost use Rattle.xa_model.specs.WorkedRefusals.{SuspendRefused, EndRefused};
-ghost use Rattle.xa_model.specs.WorkedEarly.{NotConnected, NotOpened, IsDown, FlagsOfEach};
+ghost use Rattle.xa_model.specs.WorkedEarly.{NotConnected, NotOpened, IsDown, FlagsOfEach, CountsOfEach};
 ghost use Rattle.xa_model.specs.WorkedBranches.{OnePhaseRefused, TwoPhaseRefused, RollbackRefused, PrepareRefused};
 ghost use Rattle.xa_model.specs.WorkedBranches.{DoomRefused, RecordsRefused};
 ghost use Rattle.xa_model.specs.WorkedTimeLimits.{TimedOut, AgeFromStart, MarkedByTime, LimitNeedsOpen, NoTimeDown};
 ghost use Rattle.xa_model.specs.WorkedTimeLimits.{LimitLasts, MarkedAtMoment, NeverMarked, LimitOfSession, MomentLasts};
+ghost use Rattle.xa_model.specs.WorkedKnownBranches.{TellsHolders, TellsInOrder, TellsLasting, ChangesNothing};
 ghost use Rattle.xa_model.specs.WorkedLimits.{ManySessions, ManyBranches, MoreBranches, ManyTimestamps, ManyLoose, ManyKeys};
 
 /// From a given start, given events and outcomes have at most one legal history.
@@ -122,6 +123,7 @@ pub fn worked_refusals()
     ensures not_connected { NotConnected }
     ensures not_opened { NotOpened }
     ensures flags { FlagsOfEach }
+    ensures counts { CountsOfEach }
     ensures close { CloseRefused }
     ensures start { StartRefused }
     ensures join { JoinRefused }
@@ -160,6 +162,15 @@ pub fn worked_time_limits()
     ensures moment_lasts { MomentLasts }
 {}
 
+/// Worked rows of the list of known branches: who holds their associations, their order, what lasts of them, and that
+/// asking changes nothing.
+pub fn worked_known_branches()
+    ensures holders { TellsHolders }
+    ensures in_order { TellsInOrder }
+    ensures lasting { TellsLasting }
+    ensures nothing { ChangesNothing }
+{}
+
 /// What the log's records come to, and the snapshot that a new file begins with: one record more, the first that is out
 /// of order, the one form of what lasts, that a snapshot comes to the same and is no longer, and that a sound state
 /// would leave that form.
@@ -167,6 +178,7 @@ pub fn lasting()
     ensures reads { FoldReads }
     ensures one_more { OneMore }
     ensures first_fault { FirstFault }
+    ensures own_boot { TakesOwnBoot }
     ensures one_form { FoldIsDurable }
     ensures by_key { FoldIsByKey }
     ensures one_value { OneValue }
@@ -185,6 +197,7 @@ pub fn worked_logs()
     ensures rolled_back { RolledBack }
     ensures last_writes { LastWrites }
     ensures in_order { InOrder }
+    ensures begun { BegunEarlier }
     ensures boots { BootsInOrder }
     ensures timestamps { TimestampsInOrder }
     ensures names { NamesInOrder }

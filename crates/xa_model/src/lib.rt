@@ -36,8 +36,8 @@ pub use laws::{
     backed, crash_at_any_moment, crash_in_history, crash_keeps_promises, lasting,
     listed_until_asked, logged_lasts, low_water, moments, one_copy, one_history, recoverable,
     restart_leads, restored, roomy, scan_lists_all, sound, sound_lasting, total,
-    unlisted_until_prepared, worked_associations, worked_copies, worked_limits, worked_logs,
-    worked_low_water, worked_marks, worked_recovery, worked_refusals, worked_rows,
-    worked_time_limits, worked_turns, worked_versions,
+    unlisted_until_prepared, worked_associations, worked_copies, worked_known_branches,
+    worked_limits, worked_logs, worked_low_water, worked_marks, worked_recovery, worked_refusals,
+    worked_rows, worked_time_limits, worked_turns, worked_versions,
 };
 pub use outcome::{Appending, Outcome};

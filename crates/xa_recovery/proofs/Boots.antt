@@ -1,5 +1,5 @@
 -- Boots rise: what records come to has no boot below one that was read.
-use Rattle.std.proofs.Common.{◌≡◌, ◌<◌, ◌≤◌, ◌+◌, ℕ, true, Ok, List, [], ◌∷◌, Option, Some, None, refl, ap, sym, arith}
+use Rattle.std.proofs.Common.{◌≡◌, ◌<◌, ◌≤◌, ◌+◌, ℕ, true, false, Ok, List, [], ◌∷◌, Option, Some, None, refl, ap, sym, arith}
 use Rattle.std.specs.Prelude.{find}
 use Rattle.std.proofs.lemmas.Bool.{ltb-true}
 use Rattle.xa_codes.specs.declared.direction.Direction.{Direction}
@@ -9,8 +9,9 @@ use Rattle.xa_record.specs.declared.record.Record.{Record}
 use Rattle.xa_record.specs.declared.record.Record.TheVariants.{Opened, Prepared, Committed, Completed, Decided, Forgotten, Base, Held, Known}
 use Rattle.xa_model.specs.Durable.{Durable, PreparedBranch}
 use Rattle.xa_model.specs.State.{without}
-use Rattle.xa_model.specs.Fold.{Reading, apply, read, fits, complete, commit_prepared, prepared_as, fold_from, unread}
+use Rattle.xa_model.specs.Fold.{Reading, apply, read, fits, complete, commit_prepared, prepared_as, fold_from, is_new, unread}
 use Rattle.xa_model.proofs.Folds.{stepped}
+use Rattle.xa_model.proofs.Tests.{none_past}
 use Rattle.xa_recovery.specs.Log.{BeginsWithBoot}
 
 committed_boot : (o : Option PreparedBranch) (d : Durable) → (commit_prepared o d).boot ≡ d.boot
@@ -43,13 +44,17 @@ boots_rise i x (r ∷ rs) d e =
     let rest = boots_rise (i + 1) (read r x) rs d both.1 in
     omega (arith, here, rest)
 
+-- before the first boot nothing was given
+new_before : (xid : Triple) (t : ℕ) → is_new xid t unread ≡ false
+new_before xid t = rw (none_past t) refl
+
 pub begins_with_boot : BeginsWithBoot
 begins_with_boot (Opened boot) rs d e =
     let both = stepped (Opened boot) unread 0 rs d e in
     let some : 0 < boot = ltb-true 0 boot both.0 in
     (boot, refl, omega (arith, some), boots_rise 1 (read (Opened boot) unread) rs d both.1)
-begins_with_boot (Prepared xid t ws) rs d e = absurd (cc e)
-begins_with_boot (Committed xid t ws) rs d e = absurd (cc e)
+begins_with_boot (Prepared xid t ws) rs d e = absurd (cc (new_before xid t, (stepped (Prepared xid t ws) unread 0 rs d e).0))
+begins_with_boot (Committed xid t ws) rs d e = absurd (cc (new_before xid t, (stepped (Committed xid t ws) unread 0 rs d e).0))
 begins_with_boot (Completed xid direction) rs d e = absurd (cc e)
 begins_with_boot (Decided xid direction) rs d e = absurd (cc e)
 begins_with_boot (Forgotten xid) rs d e = absurd (cc e)

@@ -9,6 +9,8 @@ use Rattle.xa_model.specs.Durable.{Durable}
 use Rattle.xa_model.specs.Fold.{fold}
 use Rattle.xa_recovery.specs.declared.log_fault.LogFault.{LogFault}
 use Rattle.xa_recovery.specs.declared.log_fault.LogFault.TheVariants.{Memory, Malformed, Order}
+use Rattle.xa_recovery.specs.declared.bodies.Progress.{Progress}
+use Rattle.xa_recovery.specs.declared.bodies.Progress.TheVariants.{InOrder, OutOfOrder}
 use Rattle.xa_recovery.specs.declared.rebuilding.Rebuilding.{Rebuilding}
 use Rattle.xa_recovery.specs.Rebuilding.{HasRead}
 
@@ -45,10 +47,17 @@ pub record HasReadBodies (m : Rebuilding) (bodies : List (List ℕ)) : Type 0 wh
   pub are : AreBodiesOf records bodies
   pub read : HasRead m records
 
+-- so far they are those of records in order, or of records of which this is the first out of order
+abbrev pub HasComeTo : Progress → List (List ℕ) → Type 0
+HasComeTo (InOrder m) bodies = HasReadBodies m bodies
+HasComeTo (OutOfOrder i) bodies = LogRebuilt bodies (Err (Order i))
+
 -- the last of these bodies was read, or why they come to nothing
-abbrev pub BodyTaken : List (List ℕ) → Result Rebuilding LogFault → Type 0
-BodyTaken bodies (Ok m) = HasReadBodies m bodies
-BodyTaken bodies (Err e) = LogRebuilt bodies (Err e)
+abbrev pub BodyTaken : List (List ℕ) → Result Progress LogFault → Type 0
+BodyTaken bodies (Ok p) = HasComeTo p bodies
+BodyTaken bodies (Err Memory) = Unit {0}
+BodyTaken bodies (Err (Malformed i)) = IsFirstMalformed i bodies
+BodyTaken bodies (Err (Order i)) = ⊥
 
 -- a log's first record is that of a boot, and the last boot isn't below it
 abbrev pub BeginsWithBoot : Type 0

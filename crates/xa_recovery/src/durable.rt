@@ -66,6 +66,20 @@ impl Durable {
     {
         &self.decided
     }
+
+    /// Gives the committed branches and those in doubt, by timestamp, as `committed` and `prepared` lend them. Takes no
+    /// memory.
+    pub fn into_writes(self) -> (BTreeMap<u64, Writes>, BTreeMap<u64, InDoubt>)
+        ensures committed { committed_of result.0 ≡ self.committed }
+        ensures prepared { prepared_of result.1 ≡ self.prepared }
+    {
+        let Durable {
+            committed,
+            prepared,
+            ..
+        } = self;
+        (committed, prepared)
+    }
 }
 
 /// The number of the boot after those that were logged. None after `MOST_BOOTS`. Takes no memory.

@@ -10,16 +10,17 @@ use std::collections::{BTreeMap, BTreeSet};
 use xa_codes::{Bytes, Write};
 use xa_record::Writes;
 
-/// The writes of keys that aren't in the set.
+/// The writes of keys that aren't in the set, in no more memory than they need.
 fn unwritten(alloc: Global, written: &BTreeSet<Bytes>, writes: Writes) -> Result<Writes, AllocError>
     ensures { IfOk result (λ ws. ws ≡ filter (λ w. not (has_key written.now w.key)) writes) }
 {
-    let mut kept = Vec::new(alloc);
+    let mut kept = Vec::with_capacity(alloc, writes.as_slice().len())?;
     for write in writes.into_vec() {
         if !written.contains(&write.key) {
             kept.push(write)?;
         }
     }
+    kept.shrink_to_fit();
     Ok(Writes::new(kept))
 }
 

@@ -12,11 +12,11 @@ use xa_record::Record;
 use xa_xid::Xid;
 
 /// Whether the timestamp is one that a boot below this one gave.
-fn is_past(boot: u32, timestamp: u64) -> bool
+fn is_past(boot: u64, timestamp: u64) -> bool
     ensures { result ≡ is_past boot timestamp }
 {
     let of = timestamp / BOOT_TIMESTAMPS;
-    1 <= of && of < u64::from(boot) && timestamp % BOOT_TIMESTAMPS != 0
+    1 <= of && of < boot && timestamp % BOOT_TIMESTAMPS != 0
 }
 
 /// The order in which records may stand.
@@ -38,13 +38,11 @@ impl Rebuilding {
         }
     }
 
-    /// Whether a branch of the last boot may have this name and timestamp.
+    /// Whether a branch that a boot up to the last one began may have this name and timestamp.
     fn is_new(&self, xid: &Xid, timestamp: u64) -> bool
         ensures { InEach self.now (λ x. result ≡ is_new xid.now timestamp x) }
     {
-        1 <= self.boot
-            && timestamp / BOOT_TIMESTAMPS == u64::from(self.boot)
-            && timestamp % BOOT_TIMESTAMPS != 0
+        is_past(u64::from(self.boot) + 1, timestamp)
             && !self.is_used(timestamp)
             && self.is_unknown(xid)
     }
@@ -58,7 +56,7 @@ impl Rebuilding {
         self.is_snapshot
             && self.none_is_prepared()
             && self.none_is_decided()
-            && is_past(self.boot, timestamp)
+            && is_past(u64::from(self.boot), timestamp)
             && self.is_last(timestamp)
     }
 
@@ -79,7 +77,7 @@ impl Rebuilding {
     {
         self.is_snapshot
             && self.none_is_decided()
-            && is_past(self.boot, timestamp)
+            && is_past(u64::from(self.boot), timestamp)
             && !self.is_used(timestamp)
             && self.is_last_prepared(timestamp)
     }

@@ -6,20 +6,19 @@ ghost use Rattle.xa_record.specs.Spelling.{spelled};
 ghost use Rattle.xa_model.specs.Fold.{snapshot};
 ghost use Rattle.xa_recovery.specs.Snapshots.{Puts, bytes_of, base_body, held_body, known_body};
 
-use crate::copies::writes_copied;
 use crate::durable::{Durable, InDoubt};
 use std::alloc::{AllocError, Global};
 use std::collections::BTreeMap;
 use xa_codes::Direction;
-use xa_record::{Record, Writes, write};
+use xa_record::{Record, Writes, write, write_base, write_held};
 use xa_xid::Xid;
 
-/// Writes the body of a record behind the others.
-fn put(alloc: Global, bodies: &mut Vec<Vec<u8>>, said: &Record) -> Result<(), AllocError>
-    requires { IsRecord said.now }
-    ensures { OnOk result (Puts bodies.old (spelled said.now ∷ []) bodies.new) }
+/// Puts a body behind the others, in no more memory than it has bytes: all are kept until the last one is written.
+fn put(bodies: &mut Vec<Vec<u8>>, mut body: Vec<u8>) -> Result<(), AllocError>
+    ensures { OnOk result (Puts bodies.old (body.items ∷ []) bodies.new) }
 {
-    bodies.push(write(alloc, said)?)?;
+    body.shrink_to_fit();
+    bodies.push(body)?;
     Ok(())
 }
 
@@ -32,8 +31,7 @@ fn put_base(
     requires { IsStamped timestamp writes.now }
     ensures { OnOk result (Puts bodies.old (base_body (timestamp, writes.now) ∷ []) bodies.new) }
 {
-    let writes = writes_copied(alloc, writes)?;
-    put(alloc, bodies, &Record::Base { timestamp, writes })
+    put(bodies, write_base(alloc, timestamp, writes)?)
 }
 
 fn put_committed(
@@ -59,17 +57,8 @@ fn put_held(
     requires { IsBranch branch.now.xid timestamp branch.now.writes }
     ensures { OnOk result (Puts bodies.old (held_body (timestamp, branch.now) ∷ []) bodies.new) }
 {
-    let xid = branch.xid.copied();
-    let writes = writes_copied(alloc, &branch.writes)?;
-    put(
-        alloc,
-        bodies,
-        &Record::Held {
-            xid,
-            timestamp,
-            writes,
-        },
-    )
+    let body = write_held(alloc, &branch.xid, timestamp, &branch.writes)?;
+    put(bodies, body)
 }
 
 fn put_prepared(
@@ -96,7 +85,7 @@ fn put_known(
     ensures { OnOk result (Puts bodies.old (known_body (xid.now, direction) ∷ []) bodies.new) }
 {
     let xid = xid.copied();
-    put(alloc, bodies, &Record::Known { xid, direction })
+    put(bodies, write(alloc, &Record::Known { xid, direction })?)
 }
 
 fn put_decided(
@@ -114,10 +103,11 @@ fn put_decided(
 }
 
 /// The bodies of the records that a new file begins with, in the boot of this number: the boot, the committed branches,
-/// those in doubt, and what the operator completed. The boot stands first: its number is the file's generation, and the
-/// manager's step knows it as the one record that a restart appends. Of a log with a record they take no more room than
-/// its own records, so a restart has the room. They are within the limits of records where those were that the durable
-/// value comes from, as all are that were read, and the boot is above 0 (`lasting` of `xa_model`).
+/// those in doubt, and what the operator completed. Writes are spelled where they are, and not copied. The boot stands
+/// first: its number is the file's generation, and the manager's step knows it as the one record that a restart appends.
+/// Of a log with a record they take no more room than its own records, so a restart has the room. They are within the
+/// limits of records where those were that the durable value comes from, as all are that were read, and the boot is
+/// above 0 (`lasting` of `xa_model`).
 ///
 /// # Errors
 /// Want of memory.
@@ -125,8 +115,14 @@ pub fn snapshot(alloc: Global, durable: &Durable, boot: u32) -> Result<Vec<Vec<u
     requires { AllByRecursion IsRecord (snapshot durable.now boot) }
     ensures { IfOk result (λ v. bytes_of v.items ≡ map spelled (snapshot durable.now boot)) }
 {
-    let mut bodies = Vec::new(alloc);
-    put(alloc, &mut bodies, &Record::Opened { boot })?;
+    let branches = durable
+        .committed
+        .len()
+        .saturating_add(durable.prepared.len());
+    let others = durable.decided.len().saturating_add(1);
+    let mut bodies = Vec::with_capacity(alloc, branches.saturating_add(others))?;
+    let opened = write(alloc, &Record::Opened { boot })?;
+    put(&mut bodies, opened)?;
     put_committed(alloc, &mut bodies, &durable.committed)?;
     put_prepared(alloc, &mut bodies, &durable.prepared)?;
     put_decided(alloc, &mut bodies, &durable.decided)?;

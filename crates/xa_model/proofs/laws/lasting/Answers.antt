@@ -6,6 +6,7 @@ use Rattle.xa_model.proofs.Written.{fold_is_by_key, snapshot_is_written}
 use Rattle.xa_model.proofs.Keys.{last_writes_stay, one_value}
 use Rattle.xa_model.proofs.LeavesForm.{leaves_durable}
 use Rattle.xa_model.proofs.LastOfKeys.{writes_of_law}
+use Rattle.xa_model.proofs.Tests.{takes_own_boot}
 use Rattle.xa_model.proofs.laws.lasting.Goals as goal
 
 pub returns-clause-reads : goal.returns-clause-reads
@@ -43,3 +44,6 @@ returns-clause-leaves c = leaves_durable
 
 pub returns-clause-writes : goal.returns-clause-writes
 returns-clause-writes c = writes_of_law
+
+pub returns-clause-own_boot : goal.returns-clause-own_boot
+returns-clause-own_boot c = takes_own_boot

@@ -1,4 +1,4 @@
-use Rattle.xa_model.proofs.WorkedLog.{held_and_committed, decided_and_forgotten, rolled_back, last_writes, in_order, boots_in_order, timestamps_in_order, names_in_order, snapshots_in_order}
+use Rattle.xa_model.proofs.WorkedLog.{held_and_committed, decided_and_forgotten, rolled_back, last_writes, in_order, begun_earlier, boots_in_order, timestamps_in_order, names_in_order, snapshots_in_order}
 use Rattle.xa_model.proofs.WorkedLasting.{states_leave, committed_leaves}
 use Rattle.xa_model.proofs.laws.worked_logs.Goals as goal
 
@@ -34,3 +34,6 @@ returns-clause-states c = states_leave
 
 pub returns-clause-committed : goal.returns-clause-committed
 returns-clause-committed c = committed_leaves
+
+pub returns-clause-begun : goal.returns-clause-begun
+returns-clause-begun c = begun_earlier

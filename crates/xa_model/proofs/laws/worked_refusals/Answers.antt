@@ -1,5 +1,5 @@
 use Rattle.xa_model.proofs.WorkedRefusals.{early_refused, close_refused, start_refused, join_refused, resume_refused, suspend_refused, end_refused}
-use Rattle.xa_model.proofs.WorkedEarly.{not_connected, not_opened, is_down, flags_of_each}
+use Rattle.xa_model.proofs.WorkedEarly.{not_connected, not_opened, is_down, flags_of_each, counts_of_each}
 use Rattle.xa_model.proofs.WorkedBranches.{one_phase_refused, two_phase_refused, rollback_refused, prepare_refused, doom_refused, records_refused}
 use Rattle.xa_model.proofs.laws.worked_refusals.Goals as goal
 
@@ -53,3 +53,6 @@ returns-clause-not_opened c = not_opened
 
 pub returns-clause-flags : goal.returns-clause-flags
 returns-clause-flags c = flags_of_each
+
+pub returns-clause-counts : goal.returns-clause-counts
+returns-clause-counts c = counts_of_each

@@ -5,6 +5,7 @@ use Rattle.std.specs.BTreeMap.{BTreeMap}
 use Rattle.mv_rules.specs.declared.own.Own.{Own}
 use Rattle.mv_rules.specs.declared.own.Notes.{Notes}
 use Rattle.mv_rules.specs.declared.records.Records.{Records}
+use Rattle.mv_rules.specs.Own.{own_in}
 use Rattle.mv_rules.specs.Records.{StandsFor}
 use Rattle.mv_rules.specs.Tidy.{kept_of, names, due, not_due, tidied_if}
 use Rattle.mv_rules.proofs.Tidied.{tidied_three, none_left}
@@ -32,6 +33,7 @@ loop-noted-preserved c =
       notes = ap (λ (n : BTreeMap ℕ Notes). not_due low n.entries) same ∙ (sym c.in-Some.ensures.later ∙ c.loop-noted.invariant.notes);
       within = λ n h. c.drain-in-Some.ensures.within n (c.drain.ensures.within n (c.loop-noted.invariant.within n h));
       keys = λ h. keys_alike before c.drain-in-Some.new.self (notes_alike _ _ same) (keys_alike c.loop-noted.self before c.next_due.ensures.same (c.loop-noted.invariant.keys h));
+      own = λ t. ap (λ (n : BTreeMap ℕ Notes). own_in t n) same ∙ (c.next_due.ensures.same t ∙ c.loop-noted.invariant.own t);
     }
 
 pub returns-clause-stands : goal.returns-clause-stands
@@ -59,3 +61,6 @@ returns-clause-drained c = rw c.in_default.ensures.left (none_left c.args.low c.
 
 pub returns-clause-keys : goal.returns-clause-keys
 returns-clause-keys c = λ h. keys_stay c.loop-noted.self.notes c.next_due.new.notes c.next_due.ensures.same (c.loop-noted.invariant.keys h)
+
+pub returns-clause-own : goal.returns-clause-own
+returns-clause-own c = λ t. c.next_due.ensures.same t ∙ c.loop-noted.invariant.own t

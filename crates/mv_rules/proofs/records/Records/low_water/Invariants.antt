@@ -1,6 +1,7 @@
 use Rattle.std.proofs.Common.{◌≡◌, ℕ, ◌≤◌, List, length}
 use Rattle.mv_chain.specs.Accesses.{AreWhole}
 use Rattle.mv_rules.specs.Accesses.{Accesses}
+use Rattle.mv_rules.specs.Own.{OwnStays}
 use Rattle.mv_rules.specs.Records.{StandsFor}
 use Rattle.mv_rules.specs.Tidy.{kept_of, names, due, not_due, tidied_if}
 use Rattle.mv_rules.specs.Within.{KeepsWithin, KeepsKeys}
@@ -13,6 +14,7 @@ invariant-loop-noted l = record {
   notes : not_due l.low l.self.notes.entries ≡ not_due l.low l.fn.self.notes.entries;
   within : KeepsWithin l.fn.self l.self;
   keys : KeepsKeys l.fn.self l.self;
+  own : OwnStays l.fn.self.notes l.self.notes;
 }
 
 abbrev pub decreases-loop-noted : goal.decreases-loop-noted
