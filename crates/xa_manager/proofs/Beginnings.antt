@@ -1,11 +1,11 @@
 -- A boot that is planned, for the state that the log came to.
-use Rattle.std.proofs.Common.{◌≡◌, ◌<◌, ◌≤◌, ◌+◌, ℕ, true, false, List, Option, Some, None, sym, subst, arith}
-use Rattle.std.specs.Prelude.{nat_lt}
+use Rattle.std.proofs.Common.{◌≡◌, ◌<◌, ◌≤◌, ◌+◌, ℕ, true, false, List, Option, Some, None, refl, sym, subst, arith}
+use Rattle.std.specs.Prelude.{nat_lt, IfSome}
 use Rattle.std.specs.List.{AllByRecursion}
 use Rattle.std.proofs.lemmas.Bool.Decides.{nat_tests}
 use Rattle.xa_limits.specs.declared.TheConstants.{MOST_BOOTS, MOST_VALUE}
 use Rattle.mv_rules.specs.Within.{IsWithin, HasKeys}
-use Rattle.xa_log.specs.Chain.{IsBody}
+use Rattle.xa_log.specs.Chain.{IsBody, newest}
 use Rattle.xa_log.specs.Reading.{bodies_of}
 use Rattle.xa_model.specs.Durable.{Durable}
 use Rattle.xa_model.specs.Fold.{snapshot}
@@ -13,12 +13,16 @@ use Rattle.xa_manager.specs.declared.boots.NextBoot.{NextBoot}
 use Rattle.xa_manager.specs.Rereading.{IsNext, IsReady}
 use Rattle.xa_manager.proofs.NextBoots.{are_bodies}
 
-pub next_sizes : (moment : ℕ) (d : Durable) (o : Option NextBoot) (next : NextBoot) → o ≡ Some next → IsNext d moment o → AllByRecursion IsBody (bodies_of next.bodies.items)
+pub next_sizes : (moment : ℕ) (d : Durable) (o : Option NextBoot) (next : NextBoot) → o ≡ Some next → IsNext d moment o → AllByRecursion (IsBody newest) (bodies_of next.bodies.items)
 next_sizes moment d None next e h = absurd (cc e)
 next_sizes moment d (Some n) next e h =
     let same : n ≡ next = cc e in
-    let all : AllByRecursion IsBody (bodies_of n.bodies.items) = subst (λ (b : List (List ℕ)). AllByRecursion IsBody b) (sym h.2.bodies) (are_bodies (snapshot d (d.boot + 1)) h.3) in
-    subst (λ (x : NextBoot). AllByRecursion IsBody (bodies_of x.bodies.items)) same all
+    let all : AllByRecursion (IsBody newest) (bodies_of n.bodies.items) = subst (λ (b : List (List ℕ)). AllByRecursion (IsBody newest) b) (sym h.2.bodies) (are_bodies (snapshot d (d.boot + 1)) h.3) in
+    subst (λ (x : NextBoot). AllByRecursion (IsBody newest) (bodies_of x.bodies.items)) same all
+
+pub all_sizes : (moment : ℕ) (d : Durable) (o : Option NextBoot) → IsNext d moment o → IfSome o (λ next. AllByRecursion (IsBody newest) (bodies_of next.bodies.items))
+all_sizes moment d None h = tt
+all_sizes moment d (Some n) h = next_sizes moment d (Some n) n refl h
 
 pub next_short : (moment : ℕ) (d : Durable) (o : Option NextBoot) (next : NextBoot) → o ≡ Some next → IsNext d moment o → IsWithin MOST_VALUE next.records
 next_short moment d None next e h = absurd (cc e)

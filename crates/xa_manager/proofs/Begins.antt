@@ -38,20 +38,20 @@ pub record IsPlanned (bodies : List (List ℕ)) (d : Durable) (moment : ℕ) (ne
 comes_to : (bodies : List (List ℕ)) (d : Durable) → LogRebuilt bodies (Ok d) → ComeTo bodies d
 comes_to bodies d (rs, are, folds) = record { records = rs; bodies_are = are; folded = folds }
 
-pub planned : (moment : ℕ) (bodies : List (List ℕ)) (p : Planned) (next : NextBoot) → LogRebuilt bodies (Ok p.durable) → IsNext p.durable moment p.next → p.next ≡ Some next → IsPlanned bodies p.durable moment next
+pub planned : (moment : ℕ) (bodies : List (List ℕ)) (p : Planned) (next : NextBoot) → LogRebuilt bodies (Ok p.durable.value) → IsNext p.durable.value moment p.next → p.next ≡ Some next → IsPlanned bodies p.durable.value moment next
 planned moment bodies p next rebuilt is_next e =
-    let n : IsNext p.durable moment (Some next) = subst (λ (x : Option NextBoot). IsNext p.durable moment x) e is_next in
-    let c : ComeTo bodies p.durable = comes_to bodies p.durable rebuilt in
-    record { comes = c; form = fold_is_durable c.records p.durable c.folded; boots = n.1; ready = n.2; limits = n.3 }
+    let n : IsNext p.durable.value moment (Some next) = subst (λ (x : Option NextBoot). IsNext p.durable.value moment x) e is_next in
+    let c : ComeTo bodies p.durable.value = comes_to bodies p.durable.value rebuilt in
+    record { comes = c; form = fold_is_durable c.records p.durable.value c.folded; boots = n.1; ready = n.2; limits = n.3 }
 
 -- its bodies
 pub first_bodies : (moment : ℕ) (bodies : List (List ℕ)) (d : Durable) (next : NextBoot) (xs : List (Vec ℕ Global)) → IsPlanned bodies d moment next → xs ≡ next.bodies.items
     → bodies_of xs ≡ map spelled (snapshot d (d.boot + 1))
 first_bodies moment bodies d next xs it e = ap (λ (l : List (Vec ℕ Global)). bodies_of l) e ∙ it.ready.bodies
 
-pub first_sizes : (moment : ℕ) (bodies : List (List ℕ)) (d : Durable) (next : NextBoot) (xs : List (Vec ℕ Global)) → IsPlanned bodies d moment next → xs ≡ next.bodies.items → AllByRecursion IsBody (bodies_of xs)
+pub first_sizes : (moment : ℕ) (bodies : List (List ℕ)) (d : Durable) (next : NextBoot) (xs : List (Vec ℕ Global)) → IsPlanned bodies d moment next → xs ≡ next.bodies.items → AllByRecursion (IsBody newest) (bodies_of xs)
 first_sizes moment bodies d next xs it e =
-    subst (λ (l : List (List ℕ)). AllByRecursion IsBody l) (sym (first_bodies moment bodies d next xs it e)) (are_bodies (snapshot d (d.boot + 1)) it.limits)
+    subst (λ (l : List (List ℕ)). AllByRecursion (IsBody newest) l) (sym (first_bodies moment bodies d next xs it e)) (are_bodies (snapshot d (d.boot + 1)) it.limits)
 
 -- the room that they leave
 pub first_room : (moment : ℕ) (bodies : List (List ℕ)) (d : Durable) (next : NextBoot) (xs : List (Vec ℕ Global)) (log_bytes p c : ℕ) (b : Bool) → IsPlanned bodies d moment next → xs ≡ next.bodies.items

@@ -103,6 +103,7 @@ code_kept (request.Doom xid) = refl
 code_kept request.Restart = refl
 code_kept (request.Timeout seconds) = refl
 code_kept (request.Tick moment) = refl
+code_kept (request.Branches count after) = refl
 
 module _ {D : Type 0} (disks : Ghosts D) where
   answers_by : (m : Manager D) (s : State) (n : ℕ) (request : Request) → ManagerStandsFor disks m s → step s (Asked (Call n request)) ≡ taken (respond s (Call n request))
@@ -215,7 +216,7 @@ module _ {D : Type 0} (disks : Ghosts D) where
 
   -- the outcome is no part of what a manager stands for
   told : (m : Manager D) (o : Outcome) (s : State) → ManagerStandsFor disks m s → ManagerStandsFor disks (record m { outcome = o }) s
-  told m o s st = record { tables = st.tables; roomy = st.roomy; end = st.end; alive = st.alive; log_bytes = st.log_bytes; doubt = st.doubt; log = st.log }
+  told m o s st = record { tables = st.tables; roomy = st.roomy; end = st.end; alive = st.alive; modern = st.modern; log_bytes = st.log_bytes; doubt = st.doubt; log = st.log }
 
   and_then : (o : Option Answer) (P Q : Answer → Type 0) → ((a : Answer) → P a → Q a) → IsSomeAnd o P → IsSomeAnd o Q
   and_then None P Q f h = h
@@ -292,6 +293,7 @@ module _ {D : Type 0} (disks : Ghosts D) where
     roomy = st.roomy;
     end = λ e. ap (λ (l : Log D). l.end) log ∙ st.end (sym up ∙ e);
     alive = λ e. ap (λ (l : Log D). l.lost) log ∙ st.alive (sym up ∙ e);
+    modern = λ e. ap (λ (l : Log D). l.format) log ∙ st.modern (sym up ∙ e);
     log_bytes = ap (λ (l : Log D). l.log_bytes) log ∙ st.log_bytes;
     doubt = rw doubt st.doubt;
     log = λ trusts. rw log (st.log trusts);

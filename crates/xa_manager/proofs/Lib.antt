@@ -32,6 +32,7 @@ pub mod Fates
 pub mod FileFates
 pub mod Findings
 pub mod FirstRecords
+pub mod Formats
 pub mod FoundLogs
 pub mod Generations
 pub mod LogLengths
@@ -40,6 +41,7 @@ pub mod NewTables
 pub mod NextBoots
 pub mod OpenedStates
 pub mod PlannedLogs
+pub mod Reserved
 pub mod Refusing
 pub mod Replying
 pub mod ShortWrites

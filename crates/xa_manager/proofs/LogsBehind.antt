@@ -1,5 +1,5 @@
 -- The log behind a state, by the state that the log itself is in.
-use Rattle.std.proofs.Common.{◌≡◌, ⊎_elim, inl, inr, ℕ, false, List, [], ◌∷◌, ◌++◌, map, None, Some, refl, ap, sym, ◌∙◌}
+use Rattle.std.proofs.Common.{◌≡◌, ⊎_elim, inl, inr, ℕ, true, false, List, [], ◌∷◌, ◌++◌, map, None, Some, refl, ap, sym, ◌∙◌, subst}
 use Rattle.std.proofs.lemmas.List.{map_push}
 use Rattle.xa_disk.specs.declared.disk.Disk.{Ghosts}
 use Rattle.xa_record.specs.Spelling.{spelled}
@@ -48,6 +48,10 @@ settles_none : (rs : List Record) (s : State) (found : List (List ℕ)) → s.op
 settles_none rs s found none (inl is) = is
 settles_none rs s found none (inr (r, open_is, is)) = absurd (cc (open_is, none))
 
+-- one record is open at most
+same_open : (s : State) (r q : Record) → s.open_record ≡ Some r → s.open_record ≡ Some q → r ≡ q
+same_open s r q one other = cc (one, other)
+
 -- ---- under the premises on a type of disks
 
 pub lost_trusted : {D : Type 0} (disks : Ghosts D) → Trusts disks → (state : LogState) → LostTears disks.tears state
@@ -64,7 +68,14 @@ module _ {D : Type 0} (disks : Ghosts D) where
   only_records log s none l = whole_of disks log l.state l.is_in (map spelled l.records) (λ found may. settles_none l.records s found none (l.finds found may))
 
   pub stands_whole : (log : Log D) (s : State) (rs : List Record) → Backs rs s → HasRecords disks rs log → LogStandsFor disks log s
-  stands_whole log s rs backs (stood, p) = record { records = rs; backs = backs; state = Whole (map spelled rs) stood; is_in = p; finds = λ found is. inl is }
+  stands_whole log s rs backs (stood, p) = record {
+    records = rs;
+    backs = backs;
+    state = Whole (map spelled rs) stood;
+    is_in = p;
+    finds = λ found is. inl is;
+    lost_as = λ r is. _;
+  }
 
   -- the record that was lost is no boot's
   pub stands_append : (log : Log D) (s : State) (rs : List Record) (r : Record) (stood : List (List ℕ)) → Backs rs s → s.open_record ≡ Some r → is_boot r ≡ false
@@ -76,6 +87,7 @@ module _ {D : Type 0} (disks : Ghosts D) where
     is_in = p;
     finds = λ found may. ⊎_elim (λ is. inl is)
         (λ is. inr (r, open_is, is ∙ sym (ap (λ (us : List Record). map spelled us) (appended_only rs s r boot) ∙ map_push spelled rs r))) may;
+    lost_as = λ q is. subst (λ (x : Record). is_boot x ≡ false) (same_open s r q open_is is) boot;
   }
 
   -- it is a boot's, whose snapshot was to be the log
@@ -87,6 +99,7 @@ module _ {D : Type 0} (disks : Ghosts D) where
     state = LostCheckpoint (map spelled rs) (snapshot_bodies s boot);
     is_in = p;
     finds = λ found may. ⊎_elim (λ is. inl is) (λ is. inr (logged.Opened boot, open_is, is)) may;
+    lost_as = λ q is. subst (λ (x : Record). is_boot x ≡ true) (same_open s (logged.Opened boot) q open_is is) refl;
   }
 
   -- a state from which the same lasts
@@ -98,9 +111,17 @@ module _ {D : Type 0} (disks : Ghosts D) where
     state = l.state;
     is_in = l.is_in;
     finds = λ found may. settles_same l.records s t found lasts open_is (l.finds found may);
+    lost_as = λ r is. l.lost_as r (sym open_is ∙ is);
   }
 
   -- a log that is in whichever state it was in
   pub stands_kept : (log log' : Log D) (s : State) → ((state : LogState) → IsIn disks state log → IsIn disks state log')
       → LogStandsFor disks log s → LogStandsFor disks log' s
-  stands_kept log log' s kept l = record { records = l.records; backs = l.backs; state = l.state; is_in = kept l.state l.is_in; finds = l.finds }
+  stands_kept log log' s kept l = record {
+    records = l.records;
+    backs = l.backs;
+    state = l.state;
+    is_in = kept l.state l.is_in;
+    finds = l.finds;
+    lost_as = l.lost_as;
+  }

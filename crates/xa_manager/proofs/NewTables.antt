@@ -1,20 +1,20 @@
 -- The tables of a new boot, made branch by branch.
-use Rattle.std.proofs.Common.{◌≡◌, ◌<◌, ◌+◌, ◌++◌, ◌==◌, ℕ, zero, suc, Bool, true, false, List, [], ◌∷◌, map, Option, Some, refl, ap, sym, ◌∙◌, subst, arith}
+use Rattle.std.proofs.Common.{◌≡◌, ◌<◌, ◌≤◌, ◌+◌, ◌++◌, ◌==◌, ◌&&◌, ◌||◌, ℕ, zero, suc, Bool, true, false, List, [], ◌∷◌, map, length, max, min, bytes_eq, Option, Some, None, refl, ap, sym, ◌∙◌, subst, arith}
 use Rattle.std.proofs.lemmas.Bool.Decides.{nat_tests}
-use Rattle.std.specs.Prelude.{fold, nat_lt}
+use Rattle.std.specs.Prelude.{fold, nat_lt, slice_get}
 use Rattle.std.specs.List.{AllByRecursion}
 use Rattle.xa_codes.specs.declared.write.Write.{Write}
 use Rattle.xa_xid.specs.Triple.{Triple, xid_eq}
 use Rattle.mv_chain.specs.declared.fate.Fate.{Fate}
 use Rattle.mv_chain.specs.declared.fate.Fate.TheVariants.{Committed as kept}
-use Rattle.mv_chain.specs.Accesses.{Written}
+use Rattle.mv_chain.specs.Accesses.{Written, AreWhole, has_undecided}
 use Rattle.mv_rules.specs.declared.records.Records.{Records}
 use Rattle.mv_rules.specs.Accesses.{Accesses}
 use Rattle.mv_rules.specs.Records.{StandsFor as RecordsStandFor}
 use Rattle.mv_rules.proofs.Remade.{stands_restored}
 use Rattle.mv_rules.specs.Ties.{history_of}
 use Rattle.mv_rules.specs.Restoring.{with_write, with_branch, with_committed, with_prepared, IsRestorable}
-use Rattle.xa_model.specs.State.{State, Decided}
+use Rattle.xa_model.specs.State.{State, Decided, timestamp_of}
 use Rattle.xa_model.specs.Durable.{Durable, CommittedBranch, PreparedBranch, Pairwise, IsDurable, commits_before, prepares_before, named_apart, named_before, is_prepared, is_decided, is_past}
 use Rattle.xa_model.specs.Restored.{IsRestored}
 use Rattle.xa_model.proofs.Inserts.{pairwise_before}
@@ -24,7 +24,9 @@ use Rattle.xa_branch.specs.declared.branches.Branches.{Branches}
 use Rattle.xa_branch.specs.Branches.{BranchesStandFor}
 use Rattle.xa_branch.specs.Restored.{HasRestored}
 use Rattle.xa_branch.proofs.Returning.{restored_stand}
-use Rattle.xa_manager.specs.Rebuilding.{AreNew, HaveWrites, AddedUpto, PreparedUpto, CompletedUpto}
+use Rattle.xa_recovery.specs.declared.durable.InDoubt.{InDoubt}
+use Rattle.xa_recovery.specs.Durable.{as_prepared}
+use Rattle.xa_manager.specs.Rebuilding.{AreNew, HaveWrites, HaveLow, AddedUpto, CommittedUpto, PreparedUpto, CompletedUpto}
 
 branch_apart : (u t : ℕ) (fate : Option Fate) (ws : List Write) (older : List Written) → (u ≡ t → ⊥) → AllByRecursion (λ w. w.timestamp ≡ u → ⊥) older
     → AllByRecursion (λ w. w.timestamp ≡ u → ⊥) (with_branch t fate ws older)
@@ -35,26 +37,101 @@ still_new : (t : ℕ) (fate : Option Fate) (ws : List Write) (us : List ℕ) (ol
 still_new t fate ws [] older apart h = tt
 still_new t fate ws (u ∷ us) older apart h = (h.0, h.1, branch_apart u t fate ws older apart.0 h.2, still_new t fate ws us older apart.1 h.3)
 
--- one branch more is added
-pub added_more : {B : Type 0} (add : List Written → B → List Written) (time : B → ℕ) (older : List Written) (all rest left : List B) (b : B) (fate : Option Fate) (ws : List Write) (m m' : Records)
-    → left ≡ b ∷ rest → ((written : List Written) → add written b ≡ with_branch (time b) fate ws written)
-    → ((h : Accesses) → RecordsStandFor h m → IsRestorable (time b) h → RecordsStandFor (record h { writes = with_branch (time b) fate ws h.writes }) m')
-    → AddedUpto add time older all left m → AddedUpto add time older all rest m'
-added_more {B} add time older all rest left b fate ws m m' is adds restores upto =
-    let new : AreNew (map time (b ∷ rest)) upto.writes = subst (λ (bs : List B). AreNew (map time bs) upto.writes) is upto.new in
-    let h : Accesses = record { low = 0; writes = upto.writes; reads = [] } in
+-- one branch in doubt more is added
+pub prepared_added : (low : ℕ) (older : List Written) (all rest left : List PreparedBranch) (b : PreparedBranch) (m m' : Records) → left ≡ b ∷ rest
+    → ((h : Accesses) → RecordsStandFor h m → IsRestorable b.timestamp h → RecordsStandFor (record h { writes = with_branch b.timestamp None b.writes h.writes }) m')
+    → AddedUpto low older all left m → AddedUpto low older all rest m'
+prepared_added low older all rest left b m m' is restores upto =
+    let here : AddedUpto low older all (b ∷ rest) m = subst (λ (bs : List PreparedBranch). AddedUpto low older all bs m) is upto in
+    let h : Accesses = record { low = low; writes = here.writes; reads = [] } in
     record {
-      writes = with_branch (time b) fate ws upto.writes;
-      leads = ap (λ (ws : List Written). fold add ws rest) (sym (adds upto.writes)) ∙ (sym (ap (λ (bs : List B). fold add upto.writes bs) is) ∙ upto.leads);
-      new = still_new (time b) fate ws (map time rest) upto.writes new.1 new.3;
-      stands = restores h upto.stands (record { positive = new.0; above = omega arith; unread = refl; unwritten = new.2 });
+      writes = with_branch b.timestamp None b.writes here.writes;
+      leads = here.leads;
+      new = still_new b.timestamp None b.writes (map (λ p. p.timestamp) rest) here.writes here.new.1 here.new.3;
+      above = here.above.1;
+      stands = restores h here.stands (record { positive = here.new.0; above = here.above.0; unread = refl; unwritten = here.new.2 });
     }
 
-pub added_all : {B : Type 0} (add : List Written → B → List Written) (time : B → ℕ) (older : List Written) (all left : List B) (m : Records)
-    → left ≡ [] → AddedUpto add time older all left m → HaveWrites (fold add older all) m
-added_all {B} add time older all left m is upto =
-    let e : upto.writes ≡ fold add older all = sym (ap (λ (bs : List B). fold add upto.writes bs) is) ∙ upto.leads in
-    subst (λ (ws : List Written). HaveWrites ws m) e upto.stands
+pub prepared_whole : (low : ℕ) (older : List Written) (all left : List PreparedBranch) (m : Records) → left ≡ [] → AddedUpto low older all left m → HaveWrites low (fold with_prepared older all) m
+prepared_whole low older all left m is upto =
+    let e : upto.writes ≡ fold with_prepared older all = sym (ap (λ (bs : List PreparedBranch). fold with_prepared upto.writes bs) is) ∙ upto.leads in
+    subst (λ (ws : List Written). HaveWrites low ws m) e upto.stands
+
+-- one committed branch more is added, and the low water rises
+
+off : (a b c : Bool) → c ≡ false → ((a && (b && false)) || c) ≡ false
+off false b c e = e
+off true false c e = e
+off true true c e = e
+
+still_decided : (t : ℕ) (ws : List Write) (older : List Written) → ((u : ℕ) (key : List ℕ) → has_undecided key u older ≡ false) → (u : ℕ) (key : List ℕ) → has_undecided key u (with_branch t (Some kept) ws older) ≡ false
+still_decided t [] older h u key = h u key
+still_decided t (w ∷ ws) older h u key = still_decided t ws (with_write t (Some kept) older w) (λ v k. off (bytes_eq k w.key) (t == v) (has_undecided k v older) (h v k)) u key
+
+raised : (low given : ℕ) (b : CommittedBranch) (cs : List CommittedBranch) → given ≤ b.timestamp → AllByRecursion (λ c. low ≤ c.timestamp) cs → AllByRecursion (λ c. commits_before b c ≡ true) cs
+    → AllByRecursion (λ c. max low given ≤ c.timestamp) cs
+raised low given b [] le above later = tt
+raised low given b (c ∷ cs) le above later =
+    let below : b.timestamp < c.timestamp = grind (arith, nat_tests, later.0) in
+    (omega (arith, le, above.0, below), raised low given b cs le above.1 later.1)
+
+pub committed_added : (least given : ℕ) (all rest left : List CommittedBranch) (b : CommittedBranch) (m m' m'' : Records) → left ≡ b ∷ rest → given ≡ min b.timestamp least
+    → ((h : Accesses) → RecordsStandFor h m → IsRestorable b.timestamp h → RecordsStandFor (record h { writes = with_branch b.timestamp (Some kept) b.writes h.writes }) m')
+    → ((h : Accesses) → RecordsStandFor h m' → AreWhole h.writes → RecordsStandFor (record h { low = max h.low given }) m'')
+    → CommittedUpto least all left m → CommittedUpto least all rest m''
+committed_added least given all rest left b m m' m'' is given_is restores gives upto =
+    let here : CommittedUpto least all (b ∷ rest) m = subst (λ (bs : List CommittedBranch). CommittedUpto least all bs m) is upto in
+    let h : Accesses = record { low = here.low; writes = here.writes; reads = [] } in
+    let writes : List Written = with_branch b.timestamp (Some kept) b.writes here.writes in
+    let none = still_decided b.timestamp b.writes here.writes here.decided in
+    let stands = restores h here.stands (record { positive = here.new.0; above = here.above.0; unread = refl; unwritten = here.new.2 }) in
+    record {
+      writes = writes;
+      low = max here.low given;
+      leads = here.leads;
+      new = still_new b.timestamp (Some kept) b.writes (map (λ c. c.timestamp) rest) here.writes here.new.1 here.new.3;
+      ordered = here.ordered.1;
+      above = raised here.low given b rest (omega (arith, given_is)) here.above.1 here.ordered.0;
+      under = omega (arith, given_is, here.under);
+      decided = none;
+      stands = gives (record h { writes = writes }) stands (λ t key yes. absurd (cc (none t key, yes)));
+    }
+
+pub committed_whole : (least : ℕ) (all left : List CommittedBranch) (m : Records) → left ≡ [] → CommittedUpto least all left m → HaveLow least (fold with_committed [] all) m
+committed_whole least all left m is upto =
+    let e : upto.writes ≡ fold with_committed [] all = sym (ap (λ (bs : List CommittedBranch). fold with_committed upto.writes bs) is) ∙ upto.leads in
+    (upto.low, upto.under, subst (λ (ws : List Written). HaveWrites upto.low ws m) e upto.stands)
+
+all_zero : (cs : List CommittedBranch) → AllByRecursion (λ c. 0 ≤ c.timestamp) cs
+all_zero [] = tt
+all_zero (c ∷ cs) = (omega arith, all_zero cs)
+
+pub committed_first : (least : ℕ) (all : List CommittedBranch) (m : Records) → AreNew (map (λ c. c.timestamp) all) [] → Pairwise commits_before all → HaveWrites 0 [] m → CommittedUpto least all all m
+committed_first least all m new ordered start =
+    record { writes = []; low = 0; leads = refl; new = new; ordered = ordered; above = all_zero all; under = omega arith; decided = λ t key. refl; stands = start }
+
+-- the least timestamp of the branches in doubt
+
+later_above : (n k : ℕ) (p : PreparedBranch) (ps : List PreparedBranch) → n ≤ p.timestamp → AllByRecursion (λ q. prepares_before p q ≡ true) ps → AllByRecursion (λ q. n ≤ q.timestamp) ps
+later_above n k p [] le h = tt
+later_above n k p (q ∷ ps) le h =
+    let below : p.timestamp < q.timestamp = grind (arith, nat_tests, h.0) in
+    (omega (arith, le, below), later_above n k p ps le h.1)
+
+pub least_below : (n : ℕ) (es : List (ℕ × InDoubt)) (first : ℕ × InDoubt) → slice_get es 0 ≡ Some first → n ≤ first.0 → Pairwise prepares_before (map as_prepared es) → AllByRecursion (λ p. n ≤ p.timestamp) (map as_prepared es)
+least_below n [] first at le h = tt
+least_below n (e ∷ es) first at le h =
+    let same : e ≡ first = cc at in
+    let here : n ≤ e.0 = subst (λ (x : ℕ × InDoubt). n ≤ x.0) (sym same) le in
+    (here, later_above n e.0 (as_prepared e) (map as_prepared es) here h.0)
+
+pub none_below : (n : ℕ) (es : List (ℕ × InDoubt)) → (0 < length es → ⊥) → AllByRecursion (λ p. n ≤ p.timestamp) (map as_prepared es)
+none_below n [] none = tt
+none_below n (e ∷ es) none = absurd (none (omega arith))
+
+low_above : (low least : ℕ) (ps : List PreparedBranch) → low ≤ least → AllByRecursion (λ p. least ≤ p.timestamp) ps → AllByRecursion (λ p. low ≤ p.timestamp) ps
+low_above low least [] le h = tt
+low_above low least (p ∷ ps) le h = (omega (arith, le, h.0), low_above low least ps le h.1)
 
 -- a member that is apart from each is none of them
 none_named : (xid : Triple) (ps : List PreparedBranch) → AllByRecursion (λ p. xid_eq p.xid xid ≡ false) ps → is_prepared xid ps ≡ false
@@ -185,14 +262,18 @@ branches_stand d next moment s ps ds m m' m'' p e start prepares completes h now
     let at_now : HasRestored m'' next moment d.prepared d.decided = subst (λ (es : List Decided). HasRestored m'' next moment d.prepared es) e second in
     restored_stand m'' d next s (subst (λ (n : ℕ). HasRestored m'' next n d.prepared d.decided) (sym now) at_now) h
 
-pub records_stand : (d : Durable) (next : ℕ) (s : State) (cs : List CommittedBranch) (ps : List PreparedBranch) (m m' m'' : Records) → cs ≡ d.committed → ps ≡ d.prepared → HaveWrites [] m
-    → (AreNew (map (λ c. c.timestamp) cs) [] → HaveWrites [] m → HaveWrites (fold with_committed [] cs) m')
-    → ((older : List Written) → AreNew (map (λ p. p.timestamp) ps) older → HaveWrites older m' → HaveWrites (fold with_prepared older ps) m'')
+pub records_stand : (d : Durable) (next least : ℕ) (s : State) (cs : List CommittedBranch) (ps : List PreparedBranch) (m m' m'' : Records) → cs ≡ d.committed → ps ≡ d.prepared → HaveWrites 0 [] m
+    → (AreNew (map (λ c. c.timestamp) cs) [] → Pairwise commits_before cs → HaveWrites 0 [] m → HaveLow least (fold with_committed [] cs) m')
+    → ((low : ℕ) (older : List Written) → AreNew (map (λ p. p.timestamp) ps) older → AllByRecursion (λ p. low ≤ p.timestamp) ps → HaveWrites low older m' → HaveWrites low (fold with_prepared older ps) m'')
+    → (Pairwise prepares_before ps → AllByRecursion (λ p. least ≤ p.timestamp) ps) → least ≤ timestamp_of next 0
     → IsRestored d next s → RecordsStandFor (history_of s) m''
-records_stand d next s cs ps m m' m'' c p start commits prepares h =
+records_stand d next least s cs ps m m' m'' c p start commits prepares below past h =
     let form = restored_form d next s h in
-    let first = commits (subst (λ (bs : List CommittedBranch). AreNew (map (λ c. c.timestamp) bs) []) (sym c) (committed_new (next + 1) d.committed form.committed form.committed_past)) start in
-    let at : HaveWrites (fold with_committed [] d.committed) m' = subst (λ (bs : List CommittedBranch). HaveWrites (fold with_committed [] bs) m') c first in
-    let second = prepares (fold with_committed [] d.committed)
-    (subst (λ (qs : List PreparedBranch). AreNew (map (λ p. p.timestamp) qs) (fold with_committed [] d.committed)) (sym p) (prepared_new (next + 1) d.committed d.prepared form.prepared form.prepared_past form.apart)) at in
-    stands_restored d next s m'' 0 h (omega arith) (subst (λ (qs : List PreparedBranch). HaveWrites (fold with_prepared (fold with_committed [] d.committed) qs) m'') p second)
+    let first : HaveLow least (fold with_committed [] cs) m' =
+    commits (subst (λ (bs : List CommittedBranch). AreNew (map (λ c. c.timestamp) bs) []) (sym c) (committed_new (next + 1) d.committed form.committed form.committed_past)) (subst (λ (bs : List CommittedBranch). Pairwise commits_before bs) (sym c) form.committed) start in
+    let low : ℕ = first.0 in
+    let at : HaveWrites low (fold with_committed [] d.committed) m' = subst (λ (bs : List CommittedBranch). HaveWrites low (fold with_committed [] bs) m') c first.2 in
+    let second = prepares low (fold with_committed [] d.committed)
+    (subst (λ (qs : List PreparedBranch). AreNew (map (λ p. p.timestamp) qs) (fold with_committed [] d.committed)) (sym p) (prepared_new (next + 1) d.committed d.prepared form.prepared form.prepared_past form.apart))
+    (low_above low least ps first.1 (below (subst (λ (qs : List PreparedBranch). Pairwise prepares_before qs) (sym p) form.prepared))) at in
+    stands_restored d next s m'' low h (omega (arith, first.1, past)) (subst (λ (qs : List PreparedBranch). HaveWrites low (fold with_prepared (fold with_committed [] d.committed) qs) m'') p second)

@@ -8,7 +8,7 @@ use Rattle.xa_record.specs.Limits.{IsRecord}
 use Rattle.xa_record.specs.Spelling.{spelled}
 use Rattle.xa_record.proofs.Sizes.{any}
 use Rattle.mv_rules.specs.Within.{IsWithin, HasKeys}
-use Rattle.xa_log.specs.Chain.{IsBody}
+use Rattle.xa_log.specs.Chain.{IsBody, newest}
 use Rattle.xa_model.specs.Durable.{Durable, IsDurable}
 use Rattle.xa_model.specs.Fold.{snapshot}
 use Rattle.xa_model.proofs.Readings.{fold_is_durable}
@@ -51,6 +51,6 @@ pub no_next : (moment : ℕ) (d : Durable) → ◌≡◌ {A = Option ℕ} None (
 no_next moment d e = none_by d.boot (nat_lt d.boot MOST_BOOTS) refl e
 
 -- the bodies of records within their limits
-pub are_bodies : (rs : List Record) → AllByRecursion IsRecord rs → AllByRecursion IsBody (map spelled rs)
+pub are_bodies : (rs : List Record) → AllByRecursion IsRecord rs → AllByRecursion (IsBody newest) (map spelled rs)
 are_bodies [] h = tt
 are_bodies (r ∷ rs) h = let size = any r h.0 in (record { some = size.0; small = size.1 }, are_bodies rs h.1)

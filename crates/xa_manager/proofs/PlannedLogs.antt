@@ -32,6 +32,7 @@ planned_stays disks m log u k s stands = record {
   roomy = stands.roomy;
   end = λ up. u.end ∙ stands.end up;
   alive = λ up. u.lost ∙ stands.alive up;
+  modern = λ up. u.format ∙ stands.modern up;
   log_bytes = u.log_bytes ∙ stands.log_bytes;
   doubt = stands.doubt;
   log = λ trusts. stands_kept disks m.log log s k.state (stands.log trusts);

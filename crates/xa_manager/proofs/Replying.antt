@@ -5,6 +5,7 @@ use Rattle.xa_assoc.specs.Refusals.{IsBare}
 use Rattle.xa_frame.specs.Limits.{IsBody}
 use Rattle.xa_frame.specs.declared.body.Body.{Body}
 use Rattle.xa_frame.specs.declared.body.Body.TheVariants as body
+use Rattle.xa_frame.specs.declared.known_branch.KnownBranch.{KnownBranch}
 use Rattle.xa_frame.specs.declared.reply.Reply.{Reply}
 use Rattle.xa_model.specs.Answer.{carrying}
 use Rattle.xa_model.specs.Recovering.{listing}
@@ -25,6 +26,9 @@ value_fresh r v short e = subst (λ (x : Reply). IsFresh x) (sym e) (record { pl
 
 pub listing_fresh : (r : Reply) (xids : List Triple) → length xids ≤ MOST_XIDS → r ≡ listing xids → IsFresh r
 listing_fresh r xids few e = subst (λ (x : Reply). IsFresh x) (sym e) (record { place = refl; limits = few })
+
+pub branches_fresh : (r : Reply) (known : List KnownBranch) → length known ≤ MOST_XIDS → r ≡ carrying (body.Branches known) → IsFresh r
+branches_fresh r known few e = subst (λ (x : Reply). IsFresh x) (sym e) (record { place = refl; limits = few })
 
 -- of what a get answers
 pub ruleset get_replies = (bare_fresh, value_fresh, absent_fresh)

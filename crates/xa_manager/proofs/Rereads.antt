@@ -1,5 +1,5 @@
 -- What a restart comes to that begins no boot.
-use Rattle.std.proofs.Common.{◌≡◌, ◌⊎◌, inl, inr, ℕ, false, None, refl, ap, sym, subst, arith}
+use Rattle.std.proofs.Common.{◌≡◌, ◌⊎◌, inl, inr, ℕ, false, None, refl, ap, sym, ◌∙◌, subst, arith}
 use Rattle.xa_disk.specs.declared.disk.Disk.{Ghosts}
 use Rattle.xa_codes.specs.declared.codes.TheConstants.{XAER_RMFAIL}
 use Rattle.xa_codes.specs.declared.detail.Detail.TheVariants as detail
@@ -38,6 +38,14 @@ unread_restarts {D} disks m mid m' reply o told replied is quiet never = record 
       (subst (λ (x : Manager D). NoneRises disks.failures m.log x.log) (sym is) quiet);
   served = ap (λ (r : Reply). is_memory r.detail) replied;
 }
+
+-- the same, once nothing more was made ready
+pub unread_ready : {D : Type 0} (disks : Ghosts D) (m mid ready m' : Manager D) (reply : Reply) (o : Outcome)
+    → o ≡ Reread false None → reply ≡ detailed XAER_RMFAIL detail.Nothing → m' ≡ record ready { up = false } → ready ≡ mid
+    → NoneRises disks.failures m.log mid.log → ((s : State) → ManagerStandsFor disks m s → Trusts disks → ⊥)
+    → HasRestarted disks m reply o m'
+unread_ready {D} disks m mid ready m' reply o told replied is same quiet never =
+    unread_restarts disks m mid m' reply o told replied (is ∙ ap (λ (x : Manager D). record x { up = false }) same) quiet never
 
 one_risen : (a b c d : ℕ) → BlamesOne Device a b c d → (HasRisen a b × (d ≡ c)) ⊎ ((b ≡ a) × HasRisen c d)
 one_risen a b c d (inl h) = inl ((λ low. omega (arith, low, h.0)), h.1)

@@ -48,6 +48,7 @@ stands_found disks found log log' s k st =
       state = Whole found k.stood;
       is_in = now.1;
       finds = λ again is. subst (λ (bodies : List (List ℕ)). IsSettled st.records s bodies) (sym is) (st.finds found now.0);
+      lost_as = λ r is. _;
     }
 
 -- a log of these records ends where they do

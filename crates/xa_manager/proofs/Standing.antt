@@ -6,6 +6,7 @@ use Rattle.xa_codes.specs.declared.direction.Direction.TheVariants as direction
 use Rattle.xa_record.specs.Spelling.{spelled}
 use Rattle.xa_record.specs.declared.record.Record.{Record}
 use Rattle.xa_record.specs.declared.record.Record.TheVariants as logged
+use Rattle.xa_log.specs.Chain.{newest}
 use Rattle.xa_log.specs.declared.log.Log.{Log}
 use Rattle.xa_log.specs.Checkpoint.{IsQuiet}
 use Rattle.xa_log.specs.TwoFiles.{Pair, MaySeal}
@@ -61,13 +62,15 @@ is_up false k s h e = absurd (cc e)
 
 -- the log alone changed
 pub still_stands : {D : Type 0} (disks : Ghosts D) (m m' : Manager D) (s : State)
-    → m'.tables ≡ m.tables → m'.up ≡ m.up → m'.doubt ≡ m.doubt → (m.up ≡ true → m'.log.end ≡ s.end) → (m.up ≡ true → m'.log.lost ≡ false) → m'.log.log_bytes ≡ m.log.log_bytes
+    → m'.tables ≡ m.tables → m'.up ≡ m.up → m'.doubt ≡ m.doubt → (m.up ≡ true → m'.log.end ≡ s.end) → (m.up ≡ true → m'.log.lost ≡ false)
+    → (m.up ≡ true → m'.log.format ≡ newest) → m'.log.log_bytes ≡ m.log.log_bytes
     → (Trusts disks → LogStandsFor disks m'.log s) → ManagerStandsFor disks m s → ManagerStandsFor disks m' s
-still_stands disks m m' s tables up doubt end alive bytes log st = record {
+still_stands disks m m' s tables up doubt end alive modern bytes log st = record {
   tables = subst (λ (b : Bool). TablesStandFor b (view m') s) (sym up) (subst (λ (t : Tables). TablesStandFor m.up (view_of t) s) (sym tables) st.tables);
   roomy = st.roomy;
   end = λ is. end (sym up ∙ is);
   alive = λ is. alive (sym up ∙ is);
+  modern = λ is. modern (sym up ∙ is);
   log_bytes = bytes ∙ st.log_bytes;
   doubt = subst (λ (d : Option Doubt). Doubts d s) (sym doubt) st.doubt;
   log = log;
@@ -110,6 +113,7 @@ down_stands disks m m' s t b rs tables up doubt bytes st fate backs has =
       roomy = λ standing. record { room = room; found = none_of t.open_record _ none };
       end = λ is. absurd (cc (is, up));
       alive = λ is. absurd (cc (is, up));
+      modern = λ is. absurd (cc (is, up));
       log_bytes = bytes ∙ (st.log_bytes ∙ sym (fate_same b s t fate).log_bytes);
       doubt = subst (λ (d : Option Doubt). Doubts d (down t)) (sym doubt) none;
       log = λ trusts. stands_whole disks m'.log (down t) rs (down_backed rs t t.open_record backs) has;
@@ -131,6 +135,7 @@ lost_stands disks m m' s t b rs tables up doubt bytes st fate backs less seal =
       roomy = λ standing. lost_room rs t boot recoverable backs room;
       end = λ is. absurd (cc (is, up));
       alive = λ is. absurd (cc (is, up));
+      modern = λ is. absurd (cc (is, up));
       log_bytes = bytes ∙ (st.log_bytes ∙ sym (fate_same b s t fate).log_bytes);
       doubt = subst (λ (d : Option Doubt). Doubts d after) (sym doubt) refl;
       log = λ trusts. stands_seal disks m'.log after rs boot (down_backed rs t (Some (logged.Opened boot)) backs) refl seal;
@@ -160,9 +165,10 @@ pub begun_stands : {D : Type 0} (disks : Ghosts D) (m m' : Manager D) (s t : Sta
     → ((x y : State) → y.sessions ≡ map without_scan x.sessions → y.associations ≡ [] → SessionsStandFor m.tables.sessions x → SessionsStandFor m'.tables.sessions y)
     → ((x : State) → IsRestored (durable t) (t.logged_boot + 1) x → x.moment ≡ m.tables.branches.moment → BranchesStandFor m'.tables.branches x)
     → ((x : State) → IsRestored (durable t) (t.logged_boot + 1) x → x.moment ≡ m.tables.branches.moment → RecordsStandFor (history_of x) m'.tables.records)
-    → m'.log.end ≡ 8 + sizes (snapshot (durable t) (t.logged_boot + 1)) → m'.log.lost ≡ false → HasRecords disks (snapshot (durable t) (t.logged_boot + 1)) m'.log
+    → m'.log.end ≡ 8 + sizes (snapshot (durable t) (t.logged_boot + 1)) → m'.log.lost ≡ false → m'.log.format ≡ newest
+    → HasRecords disks (snapshot (durable t) (t.logged_boot + 1)) m'.log
     → ManagerStandsFor disks m' (restarted t (t.logged_boot + 1))
-begun_stands disks m m' s t b rs name log_bytes up doubt bytes st fate backs less sessions branches records end alive has =
+begun_stands disks m m' s t b rs name log_bytes up doubt bytes st fate backs less sessions branches records end alive modern has =
     let h = outside m.up (view m) s st.tables in
     let same = fate_same b s t fate in
     let none = fate_settled b s t fate in
@@ -184,6 +190,7 @@ begun_stands disks m m' s t b rs name log_bytes up doubt bytes st fate backs les
       roomy = λ standing. record { room = begun_room rs t boot recoverable backs room; found = none_of t.open_record _ none };
       end = λ is. end;
       alive = λ is. alive;
+      modern = λ is. modern;
       log_bytes = bytes ∙ (st.log_bytes ∙ sym same.log_bytes);
       doubt = subst (λ (d : Option Doubt). Doubts d after) (sym doubt) none;
       log = λ trusts. stands_whole disks m'.log after (snapshot (durable t) boot) (begun_backed rs t recoverable none backs less) has;
@@ -246,6 +253,7 @@ failed_stands {D} disks m m' s is st =
       roomy = λ standing. record { room = room.room; found = room_down s s.open_record room.found };
       end = λ up. absurd (cc up);
       alive = λ up. absurd (cc up);
+      modern = λ up. absurd (cc up);
       log_bytes = st.log_bytes;
       doubt = doubts_down m.doubt s st.doubt;
       log = λ trusts. stands_alike disks m.log s (down s) refl refl (λ rs backs. down_backed rs s s.open_record backs) (st.log trusts);

@@ -146,6 +146,7 @@ module _ {D : Type 0} (disks : Ghosts D) where
           roomy = keeps_room s e outcome a event before st.roomy other steps;
           end = λ up. ap (λ (l : Log D). l.end) x.log ∙ st.end (sym x.up ∙ up) ∙ sym k.end;
           alive = λ up. ap (λ (l : Log D). l.lost) x.log ∙ st.alive (sym x.up ∙ up);
+          modern = λ up. ap (λ (l : Log D). l.format) x.log ∙ st.modern (sym x.up ∙ up);
           log_bytes = ap (λ (l : Log D). l.log_bytes) x.log ∙ st.log_bytes ∙ sym bytes;
           doubt = rw x.doubt (doubts_same m.doubt s a.after k.open_record k.end st.doubt);
           log = λ trusts.
@@ -165,6 +166,11 @@ module _ {D : Type 0} (disks : Ghosts D) where
   alive_after log log' r Kept same h up = h.moves.2 ∙ same
   alive_after log log' r Refused same h up = h.moves.3 ∙ same
   alive_after log log' r Lost same h up = absurd (cc up)
+
+  format_after : (log log' : Log D) (r : Record) (a : Appending) → HasAppended disks (spelled r) a log log' → log'.format ≡ log.format
+  format_after log log' r Kept h = h.moves.1
+  format_after log log' r Refused h = h.moves.1
+  format_after log log' r Lost h = h.moves.1
 
   doubt_stands : (s t : State) (r : Record) (a : Appending) (end : ℕ) → is_boot r ≡ false → end ≡ s.end → (a ≡ Kept → t.open_record ≡ None) → (a ≡ Refused → t.open_record ≡ None) → (a ≡ Lost → t.open_record ≡ Some r)
       → (a ≡ Lost → t.end ≡ s.end) → Doubts (doubt_after a end) t
@@ -216,6 +222,7 @@ module _ {D : Type 0} (disks : Ghosts D) where
           end = λ up. end_after m.log m'.log s next r a (st.end is_up) x.log (λ q. ap (λ (u : State). u.end) (kept_ q) ∙ applied_end s r logs.0 last.1)
               (λ q. of_answer after (λ y. y.after.end ≡ s.end) a Refused q logs.2.end) (sym x.up ∙ up);
           alive = λ up. alive_after m.log m'.log r a (st.alive is_up) x.log (sym x.up ∙ up);
+          modern = λ up. format_after m.log m'.log r a x.log ∙ st.modern is_up;
           log_bytes = x.log.log_bytes ∙ st.log_bytes ∙ sym (bytes_after s r after a logs.1 asks.1 logs.3);
           doubt = rw x.doubt
               (doubt_stands s next r a m.log.end last.1 (st.end is_up) opens.0 opens.1 (λ q. ap (λ (u : State). u.open_record) (lost_ q)) (λ q. ap (λ (u : State). u.end) (lost_ q)));

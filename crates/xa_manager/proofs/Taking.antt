@@ -122,6 +122,7 @@ module _ {D : Type 0} (disks : Ghosts D) where
     roomy = st.roomy;
     end = λ e. ap (λ (l : Log D). l.end) log ∙ st.end is_up;
     alive = λ e. ap (λ (l : Log D). l.lost) log ∙ st.alive is_up;
+    modern = λ e. ap (λ (l : Log D). l.format) log ∙ st.modern is_up;
     log_bytes = ap (λ (l : Log D). l.log_bytes) log ∙ st.log_bytes;
     doubt = rw doubt st.doubt;
     log = λ trusts. rw log (st.log trusts);

@@ -6,7 +6,7 @@ use Rattle.xa_codes.specs.declared.detail.Detail.TheVariants as detail
 use Rattle.xa_codes.specs.Flags.{has}
 use Rattle.xa_codes.specs.declared.flags.TheConstants.{TMONEPHASE}
 use Rattle.xa_frame.specs.declared.request.Request.{Request}
-use Rattle.xa_frame.specs.declared.request.Request.TheVariants.{Start, Prepare, Commit, Recover, Get, Put, Delete, Restart}
+use Rattle.xa_frame.specs.declared.request.Request.TheVariants.{Start, Prepare, Commit, Recover, Get, Put, Delete, Restart, Branches}
 use Rattle.xa_frame.specs.declared.reply.Reply.{Reply}
 use Rattle.xa_frame.specs.declared.body.Body.TheVariants as body
 use Rattle.xa_log.specs.Ahead.{AppendsBy}
@@ -103,6 +103,7 @@ may_want (Start flags xid) = true
 may_want (Prepare flags xid) = true
 may_want (Commit flags xid) = has flags TMONEPHASE
 may_want (Recover flags count) = true
+may_want (Branches count after) = true
 may_want (Get key) = true
 may_want (Put key value) = true
 may_want (Delete key) = true

@@ -14,6 +14,7 @@ pub mod Files
 pub mod Rebuilding
 pub mod Replies
 pub mod Rereading
+pub mod Reserving
 pub mod Opening
 pub mod Refused
 pub mod Faults

@@ -1,18 +1,19 @@
 -- What states of the sequential resource manager a log of two files stands behind.
-use Rattle.std.specs.Prelude.{◌≡◌, ◌⊎◌, ℕ, Some, List, map}
+use Rattle.std.specs.Prelude.{◌≡◌, ◌⊎◌, ℕ, true, false, Some, List, map}
 use Rattle.xa_disk.specs.declared.disk.Disk.{Ghosts}
 use Rattle.xa_record.specs.Spelling.{spelled}
 use Rattle.xa_record.specs.declared.record.Record.{Record}
 use Rattle.xa_log.specs.Chain.{NoChance}
 use Rattle.xa_log.specs.Pair.{CalmTears}
 use Rattle.xa_log.specs.Checkpoint.{SealTears}
-use Rattle.xa_log.specs.LogStates.{LogState, IsIn, MayFind}
+use Rattle.xa_log.specs.LogStates.{LogState, Whole, LostAppend, LostCheckpoint, IsIn, MayFind}
 use Rattle.xa_log.specs.TwoFiles.{Pair}
 use Rattle.xa_log.specs.declared.log.Log.{Log}
 use Rattle.xa_model.specs.State.{State}
 use Rattle.xa_model.specs.Durable.{durable}
 use Rattle.xa_model.specs.Fold.{snapshot}
 use Rattle.xa_model.specs.Backing.{Backs, settled}
+use Rattle.xa_model.specs.Loggable.{is_boot}
 
 -- The premises on a type of disks: it does what the trait says, and what a failed write leaves to a read is without
 -- chance. Those in memory meet them.
@@ -36,7 +37,13 @@ IsSettled rs s found =
     (found ≡ map spelled rs)
     ⊎ ((r : Record) × (s.open_record ≡ Some r) × (found ≡ map spelled (settled rs s r)))
 
--- The log is in a state in which a look may find no others, whatever was lost. A restart that wanted memory may have
+-- what was lost was this record: a boot's by a checkpoint of its snapshot, any other by an append
+abbrev pub IsLostAs : LogState → Record → Type 0
+IsLostAs (Whole bodies stood) r = Unit {0}
+IsLostAs (LostAppend bodies body stood) r = is_boot r ≡ false
+IsLostAs (LostCheckpoint bodies fresh) r = is_boot r ≡ true
+
+-- The log is in a state in which a look may find no others, whatever was lost. A restart that ran out of memory may have
 -- read the files, and so have settled the fate of the record that was lost.
 pub record LogStandsFor {D : Type 0} (disks : Ghosts D) (log : Log D) (s : State) : Type 0 where
   pub records : List Record
@@ -44,3 +51,4 @@ pub record LogStandsFor {D : Type 0} (disks : Ghosts D) (log : Log D) (s : State
   pub state : LogState
   pub is_in : IsIn disks state log
   pub finds : (found : List (List ℕ)) → MayFind state found → IsSettled records s found
+  pub lost_as : (r : Record) → s.open_record ≡ Some r → IsLostAs state r

@@ -1,6 +1,7 @@
 -- What states of the sequential resource manager a manager stands for.
 use Rattle.std.specs.Prelude.{◌≡◌, true, false, Option, Some, None, IsSomeAnd}
 use Rattle.xa_disk.specs.declared.disk.Disk.{Ghosts}
+use Rattle.xa_log.specs.Chain.{newest}
 use Rattle.xa_record.specs.declared.record.Record.{Record}
 use Rattle.xa_record.specs.declared.record.Record.TheVariants as logged
 use Rattle.xa_frame.specs.declared.reply.Reply.{Reply}
@@ -30,6 +31,8 @@ pub record ManagerStandsFor {D : Type 0} (disks : Ghosts D) (m : Manager D) (s :
   pub roomy : IsRoomy s
   pub end : m.up ≡ true → m.log.end ≡ s.end
   pub alive : m.up ≡ true → m.log.lost ≡ false
+  -- what it appends goes to a file of the newest format
+  pub modern : m.up ≡ true → m.log.format ≡ newest
   pub log_bytes : m.log.log_bytes ≡ s.log_bytes
   pub doubt : Doubts m.doubt s
   pub log : Trusts disks → LogStandsFor disks m.log s

@@ -1,13 +1,14 @@
 -- What the tables of a new boot are made of, branch by branch.
-use Rattle.std.specs.Prelude.{◌≡◌, ◌<◌, ◌++◌, ℕ, List, [], ◌∷◌, map, fold}
+use Rattle.std.specs.Prelude.{◌≡◌, ◌<◌, ◌≤◌, ◌++◌, ℕ, false, List, [], ◌∷◌, map, fold}
 use Rattle.std.specs.List.{AllByRecursion}
-use Rattle.mv_chain.specs.Accesses.{Written}
+use Rattle.mv_chain.specs.Accesses.{Written, has_undecided}
 use Rattle.mv_rules.specs.declared.records.Records.{Records}
 use Rattle.mv_rules.specs.Records.{own_of, StandsFor as RecordsStandFor}
+use Rattle.mv_rules.specs.Restoring.{with_committed, with_prepared}
 use Rattle.mv_rules.specs.Within.{AreShort, HasKeys, HaveKeys}
 use Rattle.xa_limits.specs.declared.TheConstants.{MOST_VALUE}
 use Rattle.xa_model.specs.State.{Decided}
-use Rattle.xa_model.specs.Durable.{CommittedBranch, PreparedBranch, Pairwise, prepares_before}
+use Rattle.xa_model.specs.Durable.{CommittedBranch, PreparedBranch, Pairwise, commits_before, prepares_before}
 use Rattle.xa_branch.specs.declared.branches.Branches.{Branches}
 use Rattle.xa_branch.specs.Restored.{HasRestored}
 
@@ -17,17 +18,33 @@ AreNew [] writes = Unit {0}
 AreNew (t ∷ ts) writes =
     (0 < t) × AllByRecursion (λ u. u ≡ t → ⊥) ts × AllByRecursion (λ w. w.timestamp ≡ t → ⊥) writes × AreNew ts writes
 
--- nobody has read, and these writes stand
-abbrev pub HaveWrites : List Written → Records → Type 0
-HaveWrites writes m = RecordsStandFor (record { low = 0; writes = writes; reads = [] }) m
+-- nobody has read, and these writes stand, from this low water on
+abbrev pub HaveWrites : ℕ → List Written → Records → Type 0
+HaveWrites low writes m = RecordsStandFor (record { low = low; writes = writes; reads = [] }) m
 
--- Branches that are added in turn: of those that are left, each is new.
-pub record AddedUpto {B : Type 0} (add : List Written → B → List Written) (time : B → ℕ) (older : List Written)
-    (all left : List B) (m : Records) : Type 0 where
+-- the same from some low water on, of at most this one
+abbrev pub HaveLow : ℕ → List Written → Records → Type 0
+HaveLow least writes m = (low : ℕ) × (low ≤ least) × HaveWrites low writes m
+
+-- Branches in doubt that are added in turn: of those that are left, each is new, and not below the low water.
+pub record AddedUpto (low : ℕ) (older : List Written) (all left : List PreparedBranch) (m : Records) : Type 0 where
   pub writes : List Written
-  pub leads : fold add writes left ≡ fold add older all
-  pub new : AreNew (map time left) writes
-  pub stands : HaveWrites writes m
+  pub leads : fold with_prepared writes left ≡ fold with_prepared older all
+  pub new : AreNew (map (λ p. p.timestamp) left) writes
+  pub above : AllByRecursion (λ p. low ≤ p.timestamp) left
+  pub stands : HaveWrites low writes m
+
+-- Committed branches that are added in turn, the low water rising with them to this one at most. None is undecided.
+pub record CommittedUpto (least : ℕ) (all left : List CommittedBranch) (m : Records) : Type 0 where
+  pub writes : List Written
+  pub low : ℕ
+  pub leads : fold with_committed writes left ≡ fold with_committed [] all
+  pub new : AreNew (map (λ c. c.timestamp) left) writes
+  pub ordered : Pairwise commits_before left
+  pub above : AllByRecursion (λ c. low ≤ c.timestamp) left
+  pub under : low ≤ least
+  pub decided : (t : ℕ) (key : List ℕ) → has_undecided key t writes ≡ false
+  pub stands : HaveWrites low writes m
 
 -- the branches in doubt up to one of them are known
 pub record PreparedUpto (boot moment : ℕ) (all left : List PreparedBranch) (m : Branches) : Type 0 where

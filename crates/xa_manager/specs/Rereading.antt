@@ -1,10 +1,12 @@
 -- What reading the log again finds, and what the new boot begins with.
-use Rattle.std.specs.Prelude.{◌≡◌, ◌⊎◌, ◌+◌, ◌<◌, ◌≤◌, ℕ, Bool, true, false, List, map, Option, Some, None, Result, Ok, Err}
+use Rattle.std.specs.Prelude.{◌≡◌, ◌⊎◌, ◌+◌, ◌<◌, ◌≤◌, ℕ, Bool, true, false, List, map, length, Option, Some, None, Result, Ok, Err}
 use Rattle.std.specs.List.{AllByRecursion}
 use Rattle.xa_disk.specs.declared.disk.Disk.{Ghosts}
 use Rattle.xa_record.specs.Limits.{IsRecord}
 use Rattle.xa_record.specs.Spelling.{spelled}
 use Rattle.xa_record.specs.declared.record.Record.{Record}
+use Rattle.xa_log.specs.Buffer.{HoldsEach}
+use Rattle.xa_log.specs.Chain.{newest}
 use Rattle.xa_log.specs.Reading.{bodies_of}
 use Rattle.xa_log.specs.declared.log.Log.{Log}
 use Rattle.xa_model.specs.State.{State}
@@ -40,6 +42,11 @@ pub record Found {D : Type 0} (disks : Ghosts D) (bodies : List (List ℕ)) (log
   pub end : log.end ≡ state.end
   pub alive : log.lost ≡ false
 
+-- The log that was read again goes on where it ended before, in a file of the newest format.
+pub record GoesOn {D : Type 0} (old new : Log D) : Type 0 where
+  pub end : new.end ≡ old.end
+  pub modern : new.format ≡ newest
+
 -- the boot of this number, for what lasted, at this moment
 pub record IsReady (d : Durable) (boot moment : ℕ) (next : NextBoot) : Type 0 where
   pub branches : (s : State) → IsRestored d boot s → s.moment ≡ moment → BranchesStandFor next.branches s
@@ -53,7 +60,19 @@ IsNext d moment (Some next) =
     (next.boot ≡ d.boot + 1) × (d.boot < MOST_BOOTS) × IsReady d (d.boot + 1) moment next
     × AllByRecursion IsRecord (snapshot d (d.boot + 1)) × IsWithin MOST_VALUE next.records × HasKeys next.records
 
+-- what is known of what a log came to without its values
+pub record IsCounted (p : Planned) : Type 0 where
+  pub boot : p.boot ≡ p.durable.value.boot
+  pub prepared : p.prepared ≡ length p.durable.value.prepared
+  pub completed : p.completed ≡ length p.durable.value.decided
+
 -- what the bodies of a log come to, and what the next boot begins with
 abbrev pub Plans : ℕ → List (List ℕ) → Result Planned LogFault → Type 0
-Plans moment bodies (Ok p) = LogRebuilt bodies (Ok p.durable) × IsNext p.durable moment p.next
+Plans moment bodies (Ok p) =
+    LogRebuilt bodies (Ok p.durable.value) × IsNext p.durable.value moment p.next × IsCounted p
 Plans moment bodies (Err e) = LogRebuilt bodies (Err e)
+
+-- the log's buffer has room for the records that the next boot begins with
+abbrev pub HoldsNext : {D : Type 0} → Log D → Option NextBoot → Type 0
+HoldsNext log None = Unit {0}
+HoldsNext log (Some next) = HoldsEach log (bodies_of next.bodies.items)

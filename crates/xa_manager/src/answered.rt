@@ -26,6 +26,14 @@ impl Tables {
         self.branches.make_room(xid)
     }
 
+    /// The branch isn't prepared: that room is given back.
+    pub fn give_room_back(&mut self, xid: &Xid)
+        ensures given { GivesRoomBack self.old xid.now self.new }
+        ensures company { company_of self.new.sessions ≡ company_of self.old.sessions }
+    {
+        self.branches.give_back(xid);
+    }
+
     pub fn take_prepared(&mut self, xid: &Xid, answer: Appending)
         ensures kept { answer ≡ Appending.Kept → TakesPrepared self.old xid.now self.new }
         ensures left { answer ≢ Appending.Kept → GivesRoomBack self.old xid.now self.new }

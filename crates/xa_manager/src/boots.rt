@@ -11,6 +11,7 @@ ghost use Rattle.xa_manager.specs.Rereading.{IsReady, Plans};
 use crate::rebuilding::{branches_of, records_of};
 use mv_rules::Records;
 use std::alloc::{AllocError, Global};
+use std::snapshot::Snapshot;
 use xa_branch::Branches;
 use xa_recovery::{Durable, LogFault, next_boot, rebuild_log, snapshot};
 
@@ -23,27 +24,33 @@ pub struct NextBoot {
     pub bodies: Vec<Vec<u8>>,
 }
 
-/// What a log came to, and the boot after those that it has, unless their numbers are used up.
+/// What a log came to, and the boot after those that it has, unless their numbers are used up. Its values are with the
+/// next boot's tables, so what it came to is here for clauses alone, with its boot, and how many branches are in doubt
+/// and how many XIDs were completed by the operator.
 #[derive(Drop)]
 pub struct Planned {
-    pub durable: Durable,
+    pub durable: Snapshot<Durable>,
+    pub boot: u32,
+    pub prepared: u64,
+    pub completed: u64,
     pub next: Option<NextBoot>,
 }
 
-/// Makes ready what the boot of this number begins with, at this moment.
-fn ready(alloc: Global, durable: &Durable, boot: u32, moment: u64) -> Result<NextBoot, AllocError>
-    requires limits { AllByRecursion IsRecord (snapshot durable.now boot) }
-    requires form { IsDurable durable.now }
-    ensures ready { IfOk result (IsReady durable.now boot moment) }
+/// Makes ready what the boot of this number begins with, at this moment. The snapshot is spelled first, and then the
+/// values go over into the tables.
+fn ready(alloc: Global, durable: Durable, boot: u32, moment: u64) -> Result<NextBoot, AllocError>
+    requires limits { AllByRecursion IsRecord (snapshot durable boot) }
+    requires form { IsDurable durable }
+    ensures ready { IfOk result (IsReady durable boot moment) }
     ensures boot { IfOk result (λ next. next.boot ≡ boot) }
     ensures drained { IfOk result (λ next. GivesBack next.branches next.records) }
     ensures short { IfOk result (λ next. IsWithin MOST_VALUE next.records) }
     ensures keys { IfOk result (λ next. HasKeys next.records) }
 {
-    let branches = branches_of(alloc, durable, boot, moment)?;
-    let mut records = records_of(alloc, durable)?;
+    let branches = branches_of(alloc, &durable, boot, moment)?;
+    let bodies = snapshot(alloc, &durable, boot)?;
+    let mut records = records_of(alloc, durable, boot)?;
     records.low_water(branches.low_water());
-    let bodies = snapshot(alloc, durable, boot)?;
     Ok(NextBoot {
         boot,
         branches,
@@ -52,15 +59,25 @@ fn ready(alloc: Global, durable: &Durable, boot: u32, moment: u64) -> Result<Nex
     })
 }
 
-/// What the bodies of a log come to, with the next boot made ready for this moment. All memory of a restart and of an opening is taken
-/// here, once the log was read.
-pub(crate) fn plan(alloc: Global, moment: u64, bodies: &[Vec<u8>]) -> Result<Planned, LogFault>
-    ensures { Plans moment (map (λ b. b.items) bodies.now) result }
+/// What the bodies of a log come to, with the next boot made ready for this moment. The bodies are let go one by one.
+/// All memory of a restart and of an opening is taken here, once the log was read, but for the log's buffer.
+pub(crate) fn plan(alloc: Global, moment: u64, bodies: Vec<Vec<u8>>) -> Result<Planned, LogFault>
+    ensures { Plans moment (map (λ b. b.items) bodies.items) result }
 {
     let durable = rebuild_log(alloc, bodies)?;
+    let came_to = Snapshot::of(&durable);
+    let boot = durable.boot();
+    let prepared = durable.prepared().len() as u64;
+    let completed = durable.decided().len() as u64;
     let next = match next_boot(&durable) {
-        Some(boot) => Some(ready(alloc, &durable, boot, moment)?),
+        Some(next) => Some(ready(alloc, durable, next, moment)?),
         None => None,
     };
-    Ok(Planned { durable, next })
+    Ok(Planned {
+        durable: came_to,
+        boot,
+        prepared,
+        completed,
+        next,
+    })
 }

@@ -72,6 +72,9 @@ impl<D: Disk> Manager<D> {
             Request::Doom { xid } => Ok(Done::now(self.tables.doom(&xid))),
             Request::Timeout { seconds } => Ok(Done::now(self.tables.timeout(session, seconds))),
             Request::Tick { moment } => Ok(Done::now(self.tables.tick(moment))),
+            Request::Branches { count, after } => Ok(Done::now(
+                self.tables.known_branches(count, after.as_ref())?,
+            )),
         }
     }
 }

@@ -60,7 +60,10 @@ impl<D: Disk> Manager<D> {
             return Ok(Done::now(self.tables.log_full(xid)));
         }
         self.tables.make_room(xid)?;
-        let answer = self.journal(&body);
+        let Ok(answer) = self.journal(&body) else {
+            self.tables.give_room_back(xid);
+            return Err(AllocError);
+        };
         self.tables.take_prepared(xid, answer);
         Ok(Done::appended(answer, XAER_RMERR))
     }
@@ -118,7 +121,7 @@ impl<D: Disk> Manager<D> {
         if !self.has_room(body.len(), 0) {
             return Ok(Done::now(self.tables.log_full(xid)));
         }
-        let answer = self.journal(&body);
+        let answer = self.journal(&body)?;
         self.tables.take_committed(xid, answer);
         Ok(Done::appended(answer, XAER_RMERR))
     }

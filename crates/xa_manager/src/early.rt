@@ -28,7 +28,8 @@ fn flags_of(request: &Request) -> u32
         | Request::Doom { .. }
         | Request::Restart
         | Request::Timeout { .. }
-        | Request::Tick { .. } => 0,
+        | Request::Tick { .. }
+        | Request::Branches { .. } => 0,
     }
 }
 
@@ -36,7 +37,13 @@ fn needs_open(call: Call) -> bool
     ensures { result ≡ needs_open call }
 {
     match call {
-        Call::Open | Call::Close | Call::Decide | Call::Doom | Call::Restart | Call::Tick => false,
+        Call::Open
+        | Call::Close
+        | Call::Decide
+        | Call::Doom
+        | Call::Restart
+        | Call::Tick
+        | Call::Branches => false,
         Call::Start
         | Call::End
         | Call::Prepare
@@ -79,7 +86,8 @@ fn passes_down(call: Call) -> bool
         | Call::Decide
         | Call::Doom
         | Call::Timeout
-        | Call::Tick => false,
+        | Call::Tick
+        | Call::Branches => false,
     }
 }
 
@@ -97,6 +105,7 @@ fn has_wrong_count(request: &Request) -> bool
 {
     match request {
         Request::Recover { count, .. } => *count as usize > MOST_XIDS,
+        Request::Branches { count, .. } => *count == 0 || *count as usize > MOST_XIDS,
         _ => false,
     }
 }

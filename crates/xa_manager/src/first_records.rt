@@ -1,5 +1,6 @@
-ghost use Rattle.std.specs.Prelude.{◌≡◌, ◌≤◌, ◌<◌, ◌+◌, List, ℕ, [], true, length};
+ghost use Rattle.std.specs.Prelude.{◌≡◌, ◌≤◌, ◌<◌, ◌+◌, List, ℕ, [], false, true, length, fold, max, vec_len, OnOk, OnErr};
 ghost use Rattle.std.specs.List.{AllByRecursion};
+ghost use Rattle.xa_log.specs.Buffer.{HoldsEach};
 ghost use Rattle.xa_log.specs.Chain.{IsBody, newest, text};
 ghost use Rattle.xa_log.specs.Pair.{generation};
 ghost use Rattle.xa_log.specs.Reading.{bodies_of};
@@ -7,14 +8,35 @@ ghost use Rattle.xa_limits.specs.declared.TheConstants.{LENGTH_BYTES};
 ghost use Rattle.xa_log.specs.Stands.{EndsBehind};
 ghost use Rattle.xa_manager.specs.Opening.{HasBodies, IsFound};
 ghost use Rattle.xa_manager.specs.Refused.{LogsFirst};
+ghost use Rattle.xa_manager.specs.Reserving.{HasReserved};
 
+use std::alloc::AllocError;
 use xa_disk::Disk;
 use xa_log::{Appended, Log};
+
+/// Has the log's buffer hold each of these bodies, so that to log them takes no memory.
+pub(crate) fn reserve_for<D: Disk>(log: &mut Log<D>, bodies: &[Vec<u8>]) -> Result<(), AllocError>
+    requires { AllByRecursion (IsBody newest) (bodies_of bodies.now) }
+    ensures holds { OnOk result (HoldsEach log.new (bodies_of bodies.now)) }
+    ensures ok { OnOk result (HasReserved D.Disk log.old log.new) }
+    ensures err { OnErr result (log.new ≡ log.old) }
+{
+    log.reserve(longest(bodies))
+}
+
+/// The length of the longest of these bodies, 0 of none.
+fn longest(bodies: &[Vec<u8>]) -> usize
+    ensures { result ≡ fold (λ most body. max most (vec_len body)) 0 bodies.now }
+{
+    bodies.iter().fold(0, |most, body| most.max(body.len()))
+}
 
 /// Logs the first records of a boot: a log that was just made gets its first one, and else a new file begins with them.
 pub(crate) fn log_first<D: Disk>(log: &mut Log<D>, is_new: bool, bodies: &[Vec<u8>]) -> Appended
     requires some { 1 ≤ length bodies.now }
-    requires sizes { AllByRecursion IsBody (bodies_of bodies.now) }
+    requires modern { is_new ≡ true → log.old.format ≡ newest }
+    requires sizes { AllByRecursion (IsBody newest) (bodies_of bodies.now) }
+    requires holds { HoldsEach log.old (bodies_of bodies.now) }
     requires above { log.old.generation < generation (bodies_of bodies.now) }
     ensures kept { D.honest → result ≡ Appended.Kept → (old : List (List ℕ)) → (is_new ≡ true → old ≡ [])
         → IsFound D.Disk is_new old log.old → HasBodies D.Disk (bodies_of bodies.now) log.new }
@@ -24,6 +46,7 @@ pub(crate) fn log_first<D: Disk>(log: &mut Log<D>, is_new: bool, bodies: &[Vec<u
         → EndsBehind old log.old
         → log.old.log_bytes < length (text newest (bodies_of bodies.now)) + LENGTH_BYTES }
     ensures logs { LogsFirst D.Disk is_new result (bodies_of bodies.now) log.old log.new }
+    ensures modern { result ≡ Appended.Kept → log.old.lost ≡ false → log.new.format ≡ newest }
     ensures settings { log.new.log_bytes ≡ log.old.log_bytes }
 {
     if is_new && bodies.len() == 1 {

@@ -5,7 +5,8 @@
 //! - `manager`: `Manager`, its calls; `calls`, the way of a request; `early`, the refusals before its row; `replies`:
 //!   `connect_reply` and `memory_reply`, those to a connect and to want of memory
 //! - the rows, by table: of sessions in `coming`, of associations in `work`, of branches in `completion`, of the
-//!   operator in `operator`, of gets and puts in `data`, of recovery scans in `recovery`, of time limits in `time_limits`
+//!   operator in `operator`, of gets and puts in `data`, of recovery scans in `recovery`, of time limits in `time_limits`,
+//!   of the list of known branches in `known_list`
 //! - `tables`: what a manager keeps; `facts` and `refusals`, what rows ask of it, `acts`, what they change
 //! - `journal`: how a record comes into the log; `room`, the room that the log keeps free; `doubt`: `Doubt`, what is
 //!   kept of a record that was lost; `answered`, what rows do by the device's answer; `done`, what a call comes to
@@ -32,6 +33,7 @@ mod facts;
 mod fault;
 mod first_records;
 mod journal;
+mod known_list;
 mod laws;
 mod manager;
 mod opening;

@@ -62,7 +62,7 @@ impl<D: Disk> Manager<D> {
 
     /// Answers a request of a session, by its number, with a code of C193. The reply has place 0. Its detail is Memory
     /// where there was no memory: then the code is XAER_RMFAIL, and nothing changed. Open, Close, End, a commit in two
-    /// phases, Rollback, Forget, Decide and Doom take no memory. Behind each call the records have given back what the
+    /// phases, Rollback, Forget, Decide, Doom, Timeout and Tick take no memory. Behind each call the records have given back what the
     /// low water lets go.
     #[tactic(auto, using(crate::proofs::Replying::bare_fresh))]
     pub fn call(&mut self, session: u64, request: Request) -> Reply

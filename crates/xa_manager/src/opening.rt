@@ -1,5 +1,6 @@
 ghost use Rattle.std.specs.Prelude.{◌≡◌, ◌≤◌, ◌<◌, ◌⊎◌, ◌↔◌, Bool, true, List, ℕ, [], IfOk, IfErr, OnOk, IsErrOf, IsErrAnd, IsSomeAnd, Some, None, length};
 ghost use Rattle.xa_limits.specs.declared.TheConstants.{MOST_LOG};
+ghost use Rattle.xa_log.specs.Chain.{newest};
 ghost use Rattle.xa_log.specs.Opened.{IsOpened};
 ghost use Rattle.xa_log.specs.Pair.{generation, pair_fault, logged_pair};
 ghost use Rattle.xa_log.specs.Reading.{Ends, bodies_of};
@@ -21,7 +22,7 @@ ghost use Rattle.xa_manager.specs.Refused.{LeavesFinding, LogsBoot, LeavesBegin,
 
 use crate::boots::{NextBoot, Planned, plan};
 use crate::fault::ManagerFault;
-use crate::first_records::log_first;
+use crate::first_records::{log_first, reserve_for};
 use crate::manager::Manager;
 use crate::refused::RefusedOpening;
 use crate::room::begins_with_room;
@@ -106,7 +107,7 @@ impl<D: Disk + Drop> Manager<D> {
         match find_log(alloc, &mut first, &mut second, log_bytes) {
             Ok((opened, is_new)) => {
                 let (log, bodies) = Log::on(first, second, opened);
-                begin(alloc, log, &bodies, is_new, name, log_bytes)
+                begin(alloc, log, bodies, is_new, name, log_bytes)
             }
             Err(fault) => Err(RefusedOpening {
                 fault: ManagerFault::Log(fault),
@@ -121,21 +122,22 @@ impl<D: Disk + Drop> Manager<D> {
 fn begin<D: Disk + Drop>(
     alloc: Global,
     mut log: Log<D>,
-    bodies: &[Vec<u8>],
+    bodies: Vec<Vec<u8>>,
     is_new: bool,
     name: Bytes,
     log_bytes: u64,
 ) -> Result<Manager<D>, RefusedOpening<D>>
     requires limit { log_bytes ≤ MOST_LOG }
-    requires number { log.generation ≡ generation (bodies_of bodies.now) }
-    requires made { is_new ≡ true → bodies_of bodies.now ≡ [] }
-    requires ends { EndsBehind (bodies_of bodies.now) log }
-    ensures begun { (D.honest → IsFound D.Disk is_new (bodies_of bodies.now) log) → log.log_bytes ≡ log_bytes
-        → IfOk result (HasBegun D.Disk (bodies_of bodies.now) name log_bytes) }
-    ensures refused { IfErr result (λ r. BootRefused r.fault (bodies_of bodies.now) log_bytes) }
-    ensures logs { IfOk result (λ m. LogsBoot D.Disk is_new (bodies_of bodies.now) log_bytes Appended.Kept log m.log) }
+    requires number { log.generation ≡ generation (bodies_of bodies.items) }
+    requires made { is_new ≡ true → bodies_of bodies.items ≡ [] }
+    requires modern { is_new ≡ true → log.format ≡ newest }
+    requires ends { EndsBehind (bodies_of bodies.items) log }
+    ensures begun { (D.honest → IsFound D.Disk is_new (bodies_of bodies.items) log) → log.log_bytes ≡ log_bytes
+        → IfOk result (HasBegun D.Disk (bodies_of bodies.items) name log_bytes) }
+    ensures refused { IfErr result (λ r. BootRefused r.fault (bodies_of bodies.items) log_bytes) }
+    ensures logs { IfOk result (λ m. LogsBoot D.Disk is_new (bodies_of bodies.items) log_bytes Appended.Kept log m.log) }
     ensures leaves { IfErr result
-        (λ r. (after : Log D) × LeavesBegin D.Disk r.fault is_new (bodies_of bodies.now) log_bytes log after
+        (λ r. (after : Log D) × LeavesBegin D.Disk r.fault is_new (bodies_of bodies.items) log_bytes log after
         × (r.first ≡ first_of after) × (r.second ≡ second_of after)) }
 {
     match begin_on(alloc, &mut log, bodies, is_new, name, log_bytes) {
@@ -161,24 +163,30 @@ fn begin<D: Disk + Drop>(
 fn begin_on<D: Disk>(
     alloc: Global,
     log: &mut Log<D>,
-    bodies: &[Vec<u8>],
+    bodies: Vec<Vec<u8>>,
     is_new: bool,
     name: Bytes,
     log_bytes: u64,
 ) -> Result<Tables, ManagerFault>
     requires limit { log_bytes ≤ MOST_LOG }
-    requires number { log.old.generation ≡ generation (bodies_of bodies.now) }
-    requires made { is_new ≡ true → bodies_of bodies.now ≡ [] }
-    requires ends { EndsBehind (bodies_of bodies.now) log.old }
-    ensures begun { (D.honest → IsFound D.Disk is_new (bodies_of bodies.now) log.old) → log.old.log_bytes ≡ log_bytes
-        → IfOk result (λ t. HasBegun D.Disk (bodies_of bodies.now) name log_bytes (begun_manager t log.new)) }
-    ensures refused { IfErr result (λ e. BootRefused e (bodies_of bodies.now) log_bytes) }
+    requires number { log.old.generation ≡ generation (bodies_of bodies.items) }
+    requires made { is_new ≡ true → bodies_of bodies.items ≡ [] }
+    requires modern { is_new ≡ true → log.old.format ≡ newest }
+    requires ends { EndsBehind (bodies_of bodies.items) log.old }
+    ensures begun { (D.honest → IsFound D.Disk is_new (bodies_of bodies.items) log.old) → log.old.log_bytes ≡ log_bytes
+        → IfOk result (λ t. HasBegun D.Disk (bodies_of bodies.items) name log_bytes (begun_manager t log.new)) }
+    ensures refused { IfErr result (λ e. BootRefused e (bodies_of bodies.items) log_bytes) }
     ensures logs { OnOk result
-        (LogsBoot D.Disk is_new (bodies_of bodies.now) log_bytes Appended.Kept log.old log.new) }
+        (LogsBoot D.Disk is_new (bodies_of bodies.items) log_bytes Appended.Kept log.old log.new) }
     ensures leaves { IfErr result
-        (λ e. LeavesBegin D.Disk e is_new (bodies_of bodies.now) log_bytes log.old log.new) }
+        (λ e. LeavesBegin D.Disk e is_new (bodies_of bodies.items) log_bytes log.old log.new) }
 {
-    let Planned { durable, next } = plan(alloc, 0, bodies)?;
+    let Planned {
+        prepared,
+        completed,
+        next,
+        ..
+    } = plan(alloc, 0, bodies)?;
     let Some(next) = next else {
         return Err(ManagerFault::Boots);
     };
@@ -188,11 +196,12 @@ fn begin_on<D: Disk>(
         bodies: first,
         ..
     } = next;
-    let prepared = durable.prepared().len() as u64;
-    let completed = durable.decided().len() as u64;
     if !begins_with_room(&first, prepared, completed, log_bytes) {
         return Err(ManagerFault::LogFull);
     }
+    let Ok(()) = reserve_for(log, &first) else {
+        return Err(ManagerFault::Memory);
+    };
     match log_first(log, is_new, &first) {
         Appended::Kept => {}
         Appended::Refused | Appended::Lost | Appended::Full => return Err(ManagerFault::Device),
@@ -219,6 +228,7 @@ fn find_log<D: Disk>(
         → IfOk result (λ r. logged_pair (D.seen first.old) (D.seen second.old) ≡ bodies_of r.0.scan.bodies.items) }
     ensures stands { D.honest → IfOk result (λ r. IsOpened D.Disk first.new second.new r.0) }
     ensures made { IfOk result (λ r. r.1 ≡ true → (r.0.scan.bodies.items ≡ []) × (r.0.on_first ≡ true)) }
+    ensures modern { IfOk result (λ r. r.1 ≡ true → r.0.scan.format ≡ newest) }
     ensures made_beside { D.honest → IfOk result (λ r. r.1 ≡ true → D.seen second.new ≡ []) }
     ensures made_of { D.honest
         → IfOk result (λ r. r.1 ≡ true → (D.seen first.old ≡ []) × (D.seen second.old ≡ [])) }

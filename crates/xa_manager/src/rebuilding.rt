@@ -1,4 +1,4 @@
-ghost use Rattle.std.specs.Prelude.{◌≡◌, ℕ, List, [], false, map, fold, OnOk, IfOk};
+ghost use Rattle.std.specs.Prelude.{◌≡◌, ◌≤◌, ℕ, List, [], false, map, fold, OnOk, IfOk};
 ghost use Rattle.std.specs.List.{AllByRecursion};
 ghost use Rattle.mv_chain.specs.Accesses.{Written};
 ghost use Rattle.mv_rules.specs.Records.{StandsFor as RecordsStandFor};
@@ -6,15 +6,15 @@ ghost use Rattle.mv_rules.specs.Restoring.{with_committed, with_prepared};
 ghost use Rattle.mv_rules.specs.Ties.{history_of};
 ghost use Rattle.xa_branch.specs.Branches.{BranchesStandFor};
 ghost use Rattle.xa_branch.specs.Restored.{HasRestored};
-ghost use Rattle.xa_model.specs.Durable.{PreparedBranch, Pairwise, named_apart, named_before, prepares_before, is_prepared};
+ghost use Rattle.xa_model.specs.Durable.{PreparedBranch, Pairwise, named_apart, named_before, prepares_before, commits_before, is_prepared};
 ghost use Rattle.xa_model.specs.Restored.{IsRestored};
-ghost use Rattle.xa_model.specs.State.{State};
+ghost use Rattle.xa_model.specs.State.{State, timestamp_of};
 ghost use Rattle.xa_recovery.specs.Durable.{as_committed, as_prepared, as_decided};
 ghost use Rattle.mv_rules.specs.Within.{IsWithin, HasKeys};
 ghost use Rattle.xa_limits.specs.declared.TheConstants.{MOST_VALUE};
 ghost use Rattle.xa_record.specs.Limits.{IsRecord};
 ghost use Rattle.xa_model.specs.Fold.{snapshot};
-ghost use Rattle.xa_manager.specs.Rebuilding.{AreNew, HaveWrites, CommittedAreShort, PreparedAreShort};
+ghost use Rattle.xa_manager.specs.Rebuilding.{AreNew, HaveWrites, HaveLow, CommittedAreShort, PreparedAreShort};
 ghost use Rattle.xa_manager.specs.Rebuilding.{PreparedHaveKeys, NoneHasWritten};
 
 use mv_chain::Fate;
@@ -23,6 +23,7 @@ use std::alloc::{AllocError, Global};
 use std::collections::BTreeMap;
 use xa_branch::Branches;
 use xa_codes::Direction;
+use xa_limits::BOOT_TIMESTAMPS;
 use xa_record::Writes;
 use xa_recovery::{Durable, InDoubt};
 use xa_xid::Xid;
@@ -73,50 +74,73 @@ pub(crate) fn branches_of(
     Ok(branches)
 }
 
-/// Adds the writes of committed branches to records without any.
-fn put_committed(records: &mut Records, committed: &BTreeMap<u64, Writes>) -> Result<(), AllocError>
-    ensures stands { AreNew (map (λ c. c.timestamp) (map as_committed committed.now.entries)) []
-        → HaveWrites [] records.old
-        → OnOk result (HaveWrites (fold with_committed [] (map as_committed committed.now.entries)) records.new) }
-    ensures short { CommittedAreShort (map as_committed committed.now.entries) → IsWithin MOST_VALUE records.old
+/// A timestamp that none of these branches in doubt stands below, of the boots before this one.
+fn least_of(prepared: &BTreeMap<u64, InDoubt>, boot: u32) -> u64
+    ensures below { Pairwise prepares_before (map as_prepared prepared.now.entries)
+        → AllByRecursion (λ p. result ≤ p.timestamp) (map as_prepared prepared.now.entries) }
+    ensures past { result ≤ timestamp_of boot 0 }
+{
+    let past = u64::from(boot) * BOOT_TIMESTAMPS;
+    match prepared.first_key_value() {
+        Some((first, _)) => past.min(*first),
+        None => past,
+    }
+}
+
+/// Moves the writes of committed branches into records without any, up to a low water of at most `least`: what is noted
+/// of a branch below it is let go again at once.
+fn put_committed(
+    records: &mut Records,
+    committed: BTreeMap<u64, Writes>,
+    least: u64,
+) -> Result<(), AllocError>
+    ensures stands { AreNew (map (λ c. c.timestamp) (map as_committed committed.entries)) []
+        → Pairwise commits_before (map as_committed committed.entries)
+        → HaveWrites 0 [] records.old
+        → OnOk result (HaveLow least (fold with_committed [] (map as_committed committed.entries)) records.new) }
+    ensures short { CommittedAreShort (map as_committed committed.entries) → IsWithin MOST_VALUE records.old
         → OnOk result (IsWithin MOST_VALUE records.new) }
     ensures unwritten { NoneHasWritten records.old → OnOk result (NoneHasWritten records.new) }
 {
     for (timestamp, writes) in committed {
-        records.restore(*timestamp, writes.as_slice(), Some(Fate::Committed))?;
+        records.restore(timestamp, writes.into_vec(), Some(Fate::Committed))?;
+        records.low_water(timestamp.min(least));
     }
     Ok(())
 }
 
-/// Adds those of the branches in doubt.
-fn put_undecided(records: &mut Records, prepared: &BTreeMap<u64, InDoubt>) -> Result<(), AllocError>
-    ensures stands { (older : List Written)
-        → AreNew (map (λ p. p.timestamp) (map as_prepared prepared.now.entries)) older
-        → HaveWrites older records.old
-        → OnOk result (HaveWrites (fold with_prepared older (map as_prepared prepared.now.entries)) records.new) }
-    ensures short { PreparedAreShort (map as_prepared prepared.now.entries) → IsWithin MOST_VALUE records.old
+/// Moves those of the branches in doubt there.
+fn put_undecided(records: &mut Records, prepared: BTreeMap<u64, InDoubt>) -> Result<(), AllocError>
+    ensures stands { (low : ℕ) (older : List Written)
+        → AreNew (map (λ p. p.timestamp) (map as_prepared prepared.entries)) older
+        → AllByRecursion (λ p. low ≤ p.timestamp) (map as_prepared prepared.entries)
+        → HaveWrites low older records.old
+        → OnOk result (HaveWrites low (fold with_prepared older (map as_prepared prepared.entries)) records.new) }
+    ensures short { PreparedAreShort (map as_prepared prepared.entries) → IsWithin MOST_VALUE records.old
         → OnOk result (IsWithin MOST_VALUE records.new) }
-    ensures keys { PreparedHaveKeys (map as_prepared prepared.now.entries)
-        → Pairwise prepares_before (map as_prepared prepared.now.entries) → NoneHasWritten records.old
+    ensures keys { PreparedHaveKeys (map as_prepared prepared.entries)
+        → Pairwise prepares_before (map as_prepared prepared.entries) → NoneHasWritten records.old
         → OnOk result (HasKeys records.new) }
 {
     for (timestamp, branch) in prepared {
-        records.restore(*timestamp, branch.writes.as_slice(), None)?;
+        let InDoubt { writes, .. } = branch;
+        records.restore(timestamp, writes.into_vec(), None)?;
     }
     Ok(())
 }
 
-/// The versions that lasted.
-pub(crate) fn records_of(alloc: Global, durable: &Durable) -> Result<Records, AllocError>
-    ensures stands { IfOk result (λ m. (s : State) (next : ℕ)
-        → IsRestored durable.now next s → RecordsStandFor (history_of s) m) }
-    ensures short { (boot : ℕ) → AllByRecursion IsRecord (snapshot durable.now boot)
+/// The versions that lasted, in the boot of this number. Values are moved, and what they lasted in is let go branch by
+/// branch.
+pub(crate) fn records_of(alloc: Global, durable: Durable, boot: u32) -> Result<Records, AllocError>
+    ensures stands { IfOk result (λ m. (s : State) → IsRestored durable boot s → RecordsStandFor (history_of s) m) }
+    ensures short { (boot : ℕ) → AllByRecursion IsRecord (snapshot durable boot)
         → IfOk result (IsWithin MOST_VALUE) }
-    ensures keys { (boot : ℕ) → AllByRecursion IsRecord (snapshot durable.now boot)
-        → Pairwise prepares_before durable.now.prepared → IfOk result HasKeys }
+    ensures keys { (boot : ℕ) → AllByRecursion IsRecord (snapshot durable boot)
+        → Pairwise prepares_before durable.prepared → IfOk result HasKeys }
 {
+    let (committed, prepared) = durable.into_writes();
     let mut records = Records::new(alloc);
-    put_committed(&mut records, durable.committed())?;
-    put_undecided(&mut records, durable.prepared())?;
+    put_committed(&mut records, committed, least_of(&prepared, boot))?;
+    put_undecided(&mut records, prepared)?;
     Ok(records)
 }

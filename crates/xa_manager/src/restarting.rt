@@ -4,7 +4,8 @@ ghost use Rattle.xa_assoc.specs.Refusals.{is_memory, IsBare};
 ghost use Rattle.xa_codes.specs.declared.codes.TheConstants.{XAER_RMFAIL};
 ghost use Rattle.xa_record.specs.declared.record.Record.{Record};
 ghost use Rattle.xa_log.specs.Answers.{CountsDeviceOf};
-ghost use Rattle.xa_log.specs.Chain.{IsBody};
+ghost use Rattle.xa_log.specs.Buffer.{HoldsEach};
+ghost use Rattle.xa_log.specs.Chain.{IsBody, newest};
 ghost use Rattle.xa_log.specs.Pair.{generation};
 ghost use Rattle.xa_log.specs.Reading.{bodies_of};
 ghost use Rattle.xa_log.specs.declared.log.Log.{Log};
@@ -24,7 +25,8 @@ ghost use Rattle.xa_manager.specs.Crash.{LeavesLook, LeavesBoot, LeavesBy};
 ghost use Rattle.xa_manager.specs.LogStands.{Trusts, HasRecords};
 ghost use Rattle.xa_manager.specs.Managed.{ManagerStandsFor, AnswersAs, Doubts};
 ghost use Rattle.xa_manager.specs.Promises.{RestartPromises};
-ghost use Rattle.xa_manager.specs.Rereading.{IsFate, Found, IsNext, IsReady};
+ghost use Rattle.xa_manager.specs.Rereading.{IsFate, Found, GoesOn, HoldsNext, IsNext, IsReady, Plans};
+ghost use Rattle.xa_manager.specs.Reserving.{HasReserved};
 ghost use Rattle.xa_manager.specs.Turns.{HasRestarted, HasWanted};
 ghost use Rattle.xa_manager.specs.Connected.{connected_to};
 ghost use Rattle.xa_frame.specs.Limits.{IsReply};
@@ -33,12 +35,13 @@ ghost use Rattle.xa_frame.specs.declared.request.Request.{Request};
 use crate::boots::{NextBoot, Planned, plan};
 use crate::done::Done;
 use crate::doubt::Doubt;
+use crate::first_records::reserve_for;
 use crate::manager::Manager;
 use std::alloc::AllocError;
 use xa_codes::{Detail, XA_OK, XAER_RMFAIL};
 use xa_disk::Disk;
 use xa_frame::Reply;
-use xa_log::{Appended, OpenFault};
+use xa_log::{Appended, Format, Log, OpenFault};
 use xa_model::{Appending, Outcome};
 use xa_recovery::LogFault;
 
@@ -47,11 +50,11 @@ impl<D: Disk> Manager<D> {
     /// it was.
     fn look(&mut self) -> Result<Vec<Vec<u8>>, OpenFault>
         ensures err { OnErr result (StaysFor D.Disk self.old self.new) }
-        ensures stays { OnOk result ((self.old.up ≡ true → self.new.log.end ≡ self.old.log.end)
+        ensures stays { OnOk result ((self.old.up ≡ true → GoesOn self.old.log self.new.log)
             → StaysFor D.Disk self.old self.new) }
-        ensures ends { Trusts D.Disk
+        ensures goes_on { Trusts D.Disk
             → OnOk result ((s : State) → ManagerStandsFor D.Disk self.old s → self.old.up ≡ true
-            → self.new.log.end ≡ self.old.log.end) }
+            → GoesOn self.old.log self.new.log) }
         ensures found { Trusts D.Disk
             → IfOk result (λ v. (s : State) → ManagerStandsFor D.Disk self.old s
             → Found D.Disk (bodies_of v.items) self.new.log s) }
@@ -70,6 +73,29 @@ impl<D: Disk> Manager<D> {
         ensures outcome { self.new.outcome ≡ self.old.outcome }
     {
         self.log.rescan()
+    }
+
+    /// Whether the log that was read again goes on behind this offset, in a file of the newest format.
+    fn goes_on(&self, end: u64) -> bool
+        ensures end { result ≡ true → self.now.log.end ≡ end }
+        ensures modern { result ≡ true → self.now.log.format ≡ newest }
+        ensures other { self.now.log.end ≡ end → self.now.log.format ≡ newest → result ≡ true }
+    {
+        self.log.end() == end && self.log.format() == Format::newest().number()
+    }
+
+    /// Makes ready what the next boot begins with, of the bodies of the log that was read again. All memory of a restart
+    /// is taken by then.
+    fn make_ready(&mut self, bodies: Vec<Vec<u8>>) -> Result<Planned, LogFault>
+        ensures plans { Plans self.old.tables.branches.moment (bodies_of bodies.items) result }
+        ensures holds { IfOk result (λ planned. HoldsNext self.new.log planned.next) }
+        ensures log { OnOk result (HasReserved D.Disk self.old.log self.new.log) }
+        ensures rest { self.new ≡ record self.old { log = self.new.log } }
+        ensures err { OnErr result (self.new ≡ self.old) }
+    {
+        let planned = plan(self.tables.alloc, self.tables.branches.moment(), bodies)?;
+        reserve_next(&mut self.log, &planned.next)?;
+        Ok(planned)
     }
 
     /// Whether the record that was lost stands in the log that was read again, which came to this boot.
@@ -104,7 +130,8 @@ impl<D: Disk> Manager<D> {
     /// The boot that was made ready is logged, and begins.
     fn log_boot(&mut self, survived: bool, next: NextBoot) -> Done
         requires some { 1 ≤ length next.bodies.items }
-        requires sizes { AllByRecursion IsBody (bodies_of next.bodies.items) }
+        requires sizes { AllByRecursion (IsBody newest) (bodies_of next.bodies.items) }
+        requires holds { HoldsEach self.old.log (bodies_of next.bodies.items) }
         requires short { IsWithin MOST_VALUE next.records }
         requires keys { HasKeys next.records }
         requires above { self.old.log.generation < generation (bodies_of next.bodies.items) }
@@ -158,14 +185,16 @@ impl<D: Disk> Manager<D> {
 
     /// A new boot begins with what the log came to.
     fn begin(&mut self, planned: Planned) -> Done
-        requires next { IsNext planned.durable self.old.tables.branches.moment planned.next }
+        requires next { IsNext planned.durable.value self.old.tables.branches.moment planned.next }
+        requires boot { planned.boot ≡ planned.durable.value.boot }
+        requires holds { HoldsNext self.old.log planned.next }
         requires above { IfSome planned.next
             (λ next. self.old.log.generation < generation (bodies_of next.bodies.items)) }
         ensures turn { (s : State) (bodies : List (List ℕ)) → ManagerStandsFor D.Disk self.old s → Trusts D.Disk
-            → Found D.Disk bodies self.old.log s → LogRebuilt bodies (Ok planned.durable)
+            → Found D.Disk bodies self.old.log s → LogRebuilt bodies (Ok planned.durable.value)
             → AnswersAs D.Disk (taken (restart_turn s) result.outcome) result.reply self.new }
         ensures leaves { (s : State) (bodies : List (List ℕ)) → ManagerStandsFor D.Disk self.old s → Trusts D.Disk
-            → Found D.Disk bodies self.old.log s → LogRebuilt bodies (Ok planned.durable)
+            → Found D.Disk bodies self.old.log s → LogRebuilt bodies (Ok planned.durable.value)
             → LeavesBoot D.Disk self.old.log (restart_turn s) result.outcome self.new.log }
         ensures outcome { self.new.outcome ≡ self.old.outcome }
         ensures called { self.old.log.lost ≡ false → (log : Log D) → NoneRises D.failures log self.old.log
@@ -174,8 +203,8 @@ impl<D: Disk> Manager<D> {
         ensures company { connected_to self.new ≡ connected_to self.old }
         ensures bare { IsBare result.reply }
     {
-        let Planned { durable, next } = planned;
-        let survived = self.has_survived(durable.boot());
+        let Planned { boot, next, .. } = planned;
+        let survived = self.has_survived(boot);
         match next {
             Some(next) => self.log_boot(survived, next),
             None => self.stopped(survived, Detail::Limit),
@@ -220,12 +249,11 @@ impl<D: Disk> Manager<D> {
         ensures bare { IfOk result (λ d. IsBare d.reply) }
     {
         let end = self.log.end();
-        let moment = self.tables.branches.moment();
         match self.look() {
-            Ok(bodies) => match plan(self.tables.alloc, moment, &bodies) {
+            Ok(bodies) => match self.make_ready(bodies) {
                 Ok(planned) => Ok(self.begin(planned)),
                 Err(LogFault::Memory) => {
-                    if self.up && self.log.end() != end {
+                    if self.up && !self.goes_on(end) {
                         return Ok(self.unread());
                     }
                     Err(AllocError)
@@ -268,6 +296,19 @@ impl<D: Disk> Manager<D> {
             }
             Err(_) => Reply::detailed(XAER_RMFAIL, Detail::Memory),
         }
+    }
+}
+
+/// Has the log's buffer hold what the next boot begins with, if there is one.
+fn reserve_next<D: Disk>(log: &mut Log<D>, next: &Option<NextBoot>) -> Result<(), AllocError>
+    requires { IfSome next.now (λ n. AllByRecursion (IsBody newest) (bodies_of n.bodies.items)) }
+    ensures holds { OnOk result (HoldsNext log.new next.now) }
+    ensures ok { OnOk result (HasReserved D.Disk log.old log.new) }
+    ensures err { OnErr result (log.new ≡ log.old) }
+{
+    match next {
+        Some(next) => reserve_for(log, &next.bodies),
+        None => Ok(()),
     }
 }
 

@@ -40,7 +40,7 @@ pub(crate) fn begins_with_room(
     completed: u64,
     log_bytes: u64,
 ) -> bool
-    requires sizes { AllByRecursion IsBody (bodies_of bodies.now) }
+    requires sizes { AllByRecursion (IsBody newest) (bodies_of bodies.now) }
     ensures { result ≡ log_room log_bytes (length (text newest (bodies_of bodies.now))) prepared completed }
 {
     match end_of(Format::newest(), bodies, log_bytes) {

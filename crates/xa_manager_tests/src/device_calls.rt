@@ -74,17 +74,11 @@ const FORGET: &str = "1 forget TMNOFLAGS 1:aa:bb";
 /// again then; what is found without the record, and with it.
 type Logging = (Play, &'static str, &'static str, &'static str, Play, Play);
 
-const VOTES: [Logging; 2] = [
+const LOGGING: &[Logging] = &[
     (AT_WORK, PREPARE, REFUSED, OK, GONE, IN_DOUBT),
     (AT_WORK, COMMIT_AT_ONCE, REFUSED, "-4 Nothing", GONE, DONE),
-];
-
-const COMPLETIONS: [Logging; 2] = [
     (VOTED, COMMIT, "4 Device", OK, IN_DOUBT, DONE),
     (VOTED, ROLLBACK, REFUSED, OK, IN_DOUBT, GONE),
-];
-
-const DECISIONS: [Logging; 2] = [
     (VOTED, DECIDE, REFUSED, OK, IN_DOUBT, COMPLETED),
     (BY_OPERATOR, FORGET, REFUSED, OK, COMPLETED, DONE),
 ];
@@ -94,7 +88,7 @@ type Failing = ([&'static str; 2], Appending, Play, bool);
 
 // The record is written and synced; a repair writes zeros over it and syncs them. Where a plan outlives the append, a
 // crash drops it.
-const FAILING: [Failing; 32] = [
+const FAILING: &[Failing] = &[
     (["fail 1 lost", ""], Refused, REOPENED, false),
     (["fail 1 lost", ""], Refused, CRASHED, false),
     (["fail 1 kept", ""], Refused, REOPENED, false),
@@ -191,18 +185,8 @@ fn wrong_logging(alloc: Global, rows: &[Logging]) -> Option<usize> {
 }
 
 #[test]
-fn votes(rt: HostRuntime) {
-    none_wrong(&rt, wrong_logging(rt.alloc(), &VOTES));
-}
-
-#[test]
-fn completions(rt: HostRuntime) {
-    none_wrong(&rt, wrong_logging(rt.alloc(), &COMPLETIONS));
-}
-
-#[test]
-fn decisions(rt: HostRuntime) {
-    none_wrong(&rt, wrong_logging(rt.alloc(), &DECISIONS));
+fn calls_that_log(rt: HostRuntime) {
+    none_wrong(&rt, wrong_logging(rt.alloc(), LOGGING));
 }
 
 /// What is played before a restart; how many device calls it makes of the current file and of the other one; what comes
@@ -213,7 +197,7 @@ type Restarting = (Play, (u64, u64), Play, Play, Play);
 // a sync, the first length and a sync.
 const FIRST: Restarting = (VOTED, (3, 9), REOPENED, IN_DOUBT, IN_DOUBT);
 
-const LATER: [Restarting; 2] = [
+const LATER: &[Restarting] = &[
     (COMMITTING, (3, 10), RESTARTED, DONE, DONE),
     (COMMITTING, (3, 10), CRASHED, DONE, IN_DOUBT),
 ];
@@ -289,5 +273,5 @@ fn wrong_later(alloc: Global, rows: &[Restarting]) -> Option<usize> {
 
 #[test]
 fn restarts_of_later_boots(rt: HostRuntime) {
-    none_wrong(&rt, wrong_later(rt.alloc(), &LATER));
+    none_wrong(&rt, wrong_later(rt.alloc(), LATER));
 }

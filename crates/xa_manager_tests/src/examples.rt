@@ -22,7 +22,7 @@ const BUSY_READ: [Line; 14] = [
     ("1  get 6b", "-5 Frame"),
 ];
 
-const DEAD_CLIENT: [Line; 23] = [
+const DEAD_CLIENT: [Line; 25] = [
     ("connect", "0 Nothing number 1"),
     ("1 open TMNOFLAGS xarm", OK),
     ("connect", "0 Nothing number 2"),
@@ -36,6 +36,10 @@ const DEAD_CLIENT: [Line; 23] = [
     ("1 start TMNOFLAGS 1:aa:03", "0 Nothing number 4294967299"),
     ("1 put 6d 76", OK),
     ("1 hangup", OK),
+    (
+        "2 branches 256",
+        "0 Nothing branches 1:aa:01 working 0 4294967297 0 0 0 1:aa:02 working 0 4294967298 0 0 1 1:aa:03 working 101 4294967299 0 0 0",
+    ),
     ("2 start TMNOFLAGS 1:bb:", "0 Nothing number 4294967300"),
     ("2 get 6b", "4 Busy"),
     ("2 rollback TMNOFLAGS 1:aa:01", OK),
@@ -46,6 +50,10 @@ const DEAD_CLIENT: [Line; 23] = [
     ("2 get 6d", "4 Busy"),
     ("2 rollback TMNOFLAGS 1:aa:03", "101 Nothing"),
     ("2 get 6d", "0 Nothing absent"),
+    (
+        "2 branches 256",
+        "0 Nothing branches 1:bb: working 0 4294967300 1 0 0",
+    ),
 ];
 
 const DOWN: [Line; 19] = [

@@ -2,9 +2,10 @@
 //! copy, and scripts that are played, with what they print.
 //!
 //! - `managers`: calls of a manager, whichever one allocation is refused; `versions_kept`: how many versions it keeps
-//! - `lines`: what the lines of a script ask; `calls`: scripts of many calls, and those at limits
+//! - `lines`: what the lines of a script ask; `calls`: scripts of many calls, and those at limits; `long_values`:
+//!   values at their limit, and branches that write as much as one may
 //! - `plays`: ends of a play; `plays_calls`, `plays_failing`, `plays_recovered`: worked rows, by what befalls a branch;
-//!   `plays_limits`: time limits of branches; `plays_stopped`: crashes after a disk has stopped at some device call;
+//!   `plays_known`: the list of known branches; `plays_limits`: time limits of branches; `plays_stopped`: crashes after a disk has stopped at some device call;
 //!   `device_calls`: each call that logs and each restart, of which any device call fails
 //! - `examples`: the scripts of examples/; `scripted`: how a table of lines and replies is played; `script`: `Script`,
 //!   what is played; `faults`: `Fault`, a device call that fails
@@ -24,6 +25,8 @@ mod faults;
 #[cfg(test)]
 mod lines;
 #[cfg(test)]
+mod long_values;
+#[cfg(test)]
 mod managers;
 #[cfg(test)]
 mod one_copy;
@@ -37,6 +40,8 @@ mod plays;
 mod plays_calls;
 #[cfg(test)]
 mod plays_failing;
+#[cfg(test)]
+mod plays_known;
 #[cfg(test)]
 mod plays_limits;
 #[cfg(test)]

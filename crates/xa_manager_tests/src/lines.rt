@@ -5,7 +5,7 @@ use xa_rows::{KEY_BYTES, PART_BYTES, VALUE_BYTES, first_wrong};
 use xa_script::read_line;
 
 /// Lines that are no commands, each a script.
-const OTHERS: [&str; 128] = [
+const OTHERS: [&str; 136] = [
     // Words and blanks.
     "connect x",
     "connect ",
@@ -141,6 +141,15 @@ const OTHERS: [&str; 128] = [
     "1 decide commit TMNOFLAGS 1:aa:",
     "1 prepare 1:aa:",
     "1 forget TMNOFLAGS",
+    // A list of branches.
+    "1 branches",
+    "branches 1",
+    "1 branches 01",
+    "1 branches 4294967296",
+    "1 branches 1:aa:",
+    "1 branches TMNOFLAGS 1",
+    "1 branches 1 1:aa: 1:bb:",
+    "1 branches 1 ",
     // No ASCII.
     "1 open TMNOFLAGS \u{e4}",
     "1 get \u{e4}",
@@ -163,7 +172,7 @@ const SILENT: [&str; 11] = [
 ];
 
 /// Lines that ask something, each with what it says.
-const ASKED: [(&str, &str); 19] = [
+const ASKED: [(&str, &str); 21] = [
     ("9 hangup", "Hangup(9)"),
     (
         "18446744073709551615 hangup",
@@ -198,6 +207,14 @@ const ASKED: [(&str, &str); 19] = [
         "Call(9, Forget { flags: 0, xid: Xid { format: 1, gtrid: [170], bqual: [] } })",
     ),
     ("9 restart", "Call(9, Restart)"),
+    (
+        "9 branches 4294967295",
+        "Call(9, Branches { count: 4294967295, after: None })",
+    ),
+    (
+        "9 branches 0 1:aa:",
+        "Call(9, Branches { count: 0, after: Some(Xid { format: 1, gtrid: [170], bqual: [] }) })",
+    ),
     (
         "fail 1000 kept",
         "Fail { file: Current, call: 1000, effect: Kept }",

@@ -71,6 +71,10 @@ fn request(alloc: Global, first: &Xid, second: &Xid, index: usize) -> Result<Req
             flags: TMNOFLAGS,
             xid: second.copied(),
         },
+        7 => Request::Branches {
+            count: 2,
+            after: None,
+        },
         _ => Request::Get {
             key: Bytes::from_slice(alloc, b"k")?,
         },
@@ -121,6 +125,7 @@ fn asked(
 fn shown(reply: &Reply) -> (Code, u64) {
     let body = match &reply.body {
         Body::Number(number) => *number,
+        Body::Branches(branches) => branches.as_slice().len() as u64,
         Body::Value(value) if value.as_slice() == b"v".as_slice() => 0x76,
         _ => 0,
     };
@@ -167,7 +172,7 @@ fn a_write_is_read_back(rt: HostRuntime) {
     let first = xid(&[0xaa], &[0xbb]).expect(&rt, "an XID");
     let second = xid(&[0xab], &[]).expect(&rt, "an XID");
     let mut manager = session(rt.alloc()).expect(&rt, "session 1");
-    let bodies = [0, 4294967297, 0, 0, 0, 0, 4294967298, 0x76];
+    let bodies = [0, 4294967297, 0, 0, 0, 0, 4294967298, 1, 0x76];
     none_wrong(
         &rt,
         wrong_reply(&mut manager, rt.alloc(), &first, &second, &bodies),

@@ -24,7 +24,7 @@ const COMPLETED: Play = &[&P1, &LISTED, &HEURISTIC, &FORGOTTEN, &READ_IN_SECOND]
 
 // The first call writes the record, and the second one syncs it. Where the write has its effect, a crash may leave any
 // front of the record; a prepared one has 61 bytes, and so has one that is committed in one phase.
-const PREPARE: [Stop; 8] = [
+const PREPARE: &[Stop] = &[
     ("stop 1", LOST, "crash", GONE),
     ("stop 1", LOST, "crash 16777216", GONE),
     ("stop 2", LOST, "crash", GONE),
@@ -35,7 +35,7 @@ const PREPARE: [Stop; 8] = [
     ("stop other 1", OK, "crash 0", IN_DOUBT),
 ];
 
-const COMMIT_AT_ONCE: [Stop; 6] = [
+const COMMIT_AT_ONCE: &[Stop] = &[
     ("stop 1", LOST, "crash", GONE),
     ("stop 2", LOST, "crash", GONE),
     ("stop 2", LOST, "crash 60", GONE),
@@ -45,7 +45,7 @@ const COMMIT_AT_ONCE: [Stop; 6] = [
 ];
 
 // The record of a completion or a decision has 46 bytes, and that of a forgotten one 45.
-const COMMIT: [Stop; 6] = [
+const COMMIT: &[Stop] = &[
     ("stop 1", LOST, "crash", IN_DOUBT),
     ("stop 2", LOST, "crash", IN_DOUBT),
     ("stop 2", LOST, "crash 45", IN_DOUBT),
@@ -54,7 +54,7 @@ const COMMIT: [Stop; 6] = [
     ("stop other 1", OK, "crash", DONE),
 ];
 
-const ROLLBACK: [Stop; 6] = [
+const ROLLBACK: &[Stop] = &[
     ("stop 1", LOST, "crash", IN_DOUBT),
     ("stop 2", LOST, "crash", IN_DOUBT),
     ("stop 2", LOST, "crash 45", IN_DOUBT),
@@ -63,7 +63,7 @@ const ROLLBACK: [Stop; 6] = [
     ("stop other 1", OK, "crash", GONE),
 ];
 
-const DECIDE: [Stop; 6] = [
+const DECIDE: &[Stop] = &[
     ("stop 1", LOST, "crash", IN_DOUBT),
     ("stop 2", LOST, "crash", IN_DOUBT),
     ("stop 2", LOST, "crash 45", IN_DOUBT),
@@ -72,7 +72,7 @@ const DECIDE: [Stop; 6] = [
     ("stop other 1", OK, "crash", COMPLETED),
 ];
 
-const FORGET: [Stop; 6] = [
+const FORGET: &[Stop] = &[
     ("stop 1", LOST, "crash", COMPLETED),
     ("stop 2", LOST, "crash", COMPLETED),
     ("stop 2", LOST, "crash 44", COMPLETED),
@@ -99,7 +99,7 @@ const IN_FOURTH: Play = &[&P1, &LISTED, &COMMITTED, &READ_IN_FOURTH];
 // A restart syncs, measures and reads the current file. The other one, which is empty, is synced and measured, and then
 // the new log is written to it: its front with a length 0 and a sync, two records and a sync, the first length, which has
 // 4 bytes, and a sync.
-const FIRST_RESTART: [Stop; 20] = [
+const FIRST_RESTART: &[Stop] = &[
     ("stop 1", LOST, "crash", IN_DOUBT),
     ("stop 2", LOST, "crash", IN_DOUBT),
     ("stop 3", LOST, "crash", IN_DOUBT),
@@ -123,7 +123,7 @@ const FIRST_RESTART: [Stop; 20] = [
 ];
 
 // The next one finds a log in the other file, and reads its front too.
-const SECOND_RESTART: [Stop; 9] = [
+const SECOND_RESTART: &[Stop] = &[
     ("stop 3", LOST, "crash", IN_THIRD),
     ("stop 4", OK, "crash", IN_FOURTH),
     ("stop other 3", LOST, "crash", IN_THIRD),
@@ -135,7 +135,7 @@ const SECOND_RESTART: [Stop; 9] = [
     ("stop other 11", OK, "crash", IN_FOURTH),
 ];
 
-/// A call, and what was played before it.
+/// What was played before a call, and the call.
 type Call = (Play, &'static str);
 
 fn is_stopped(alloc: Global, call: &Call, row: &Stop) -> Result<bool, AllocError> {
@@ -163,31 +163,83 @@ const BY_OPERATOR: Play = &[&P1, &WRITTEN, &PREPARED, &DECIDED];
 const RESTARTED: Play = &[&P1, &WRITTEN, &PREPARED, &RESTART];
 
 #[test]
-fn votes_that_stop(rt: HostRuntime) {
-    let prepare = (AT_WORK, "1 prepare TMNOFLAGS 1:aa:bb");
-    none_wrong(&rt, wrong_stop(rt.alloc(), &prepare, &PREPARE));
-    let commit = (AT_WORK, "1 commit TMONEPHASE 1:aa:bb");
-    none_wrong(&rt, wrong_stop(rt.alloc(), &commit, &COMMIT_AT_ONCE));
+fn prepares_that_stop(rt: HostRuntime) {
+    none_wrong(
+        &rt,
+        wrong_stop(
+            rt.alloc(),
+            &(AT_WORK, "1 prepare TMNOFLAGS 1:aa:bb"),
+            PREPARE,
+        ),
+    );
 }
 
 #[test]
-fn completions_that_stop(rt: HostRuntime) {
-    let commit = (VOTED, "1 commit TMNOFLAGS 1:aa:bb");
-    none_wrong(&rt, wrong_stop(rt.alloc(), &commit, &COMMIT));
-    let rollback = (VOTED, "1 rollback TMNOFLAGS 1:aa:bb");
-    none_wrong(&rt, wrong_stop(rt.alloc(), &rollback, &ROLLBACK));
-    let decide = (VOTED, "1 decide commit 1:aa:bb");
-    none_wrong(&rt, wrong_stop(rt.alloc(), &decide, &DECIDE));
-    let forget = (BY_OPERATOR, "1 forget TMNOFLAGS 1:aa:bb");
-    none_wrong(&rt, wrong_stop(rt.alloc(), &forget, &FORGET));
+fn commits_at_once_that_stop(rt: HostRuntime) {
+    none_wrong(
+        &rt,
+        wrong_stop(
+            rt.alloc(),
+            &(AT_WORK, "1 commit TMONEPHASE 1:aa:bb"),
+            COMMIT_AT_ONCE,
+        ),
+    );
 }
 
 #[test]
-fn restarts_that_stop(rt: HostRuntime) {
-    let first = (VOTED, "1 restart");
-    none_wrong(&rt, wrong_stop(rt.alloc(), &first, &FIRST_RESTART));
-    let second = (RESTARTED, "1 restart");
-    none_wrong(&rt, wrong_stop(rt.alloc(), &second, &SECOND_RESTART));
+fn commits_that_stop(rt: HostRuntime) {
+    none_wrong(
+        &rt,
+        wrong_stop(rt.alloc(), &(VOTED, "1 commit TMNOFLAGS 1:aa:bb"), COMMIT),
+    );
+}
+
+#[test]
+fn rollbacks_that_stop(rt: HostRuntime) {
+    none_wrong(
+        &rt,
+        wrong_stop(
+            rt.alloc(),
+            &(VOTED, "1 rollback TMNOFLAGS 1:aa:bb"),
+            ROLLBACK,
+        ),
+    );
+}
+
+#[test]
+fn decisions_that_stop(rt: HostRuntime) {
+    none_wrong(
+        &rt,
+        wrong_stop(rt.alloc(), &(VOTED, "1 decide commit 1:aa:bb"), DECIDE),
+    );
+}
+
+#[test]
+fn forgets_that_stop(rt: HostRuntime) {
+    none_wrong(
+        &rt,
+        wrong_stop(
+            rt.alloc(),
+            &(BY_OPERATOR, "1 forget TMNOFLAGS 1:aa:bb"),
+            FORGET,
+        ),
+    );
+}
+
+#[test]
+fn first_restarts_that_stop(rt: HostRuntime) {
+    none_wrong(
+        &rt,
+        wrong_stop(rt.alloc(), &(VOTED, "1 restart"), FIRST_RESTART),
+    );
+}
+
+#[test]
+fn later_restarts_that_stop(rt: HostRuntime) {
+    none_wrong(
+        &rt,
+        wrong_stop(rt.alloc(), &(RESTARTED, "1 restart"), SECOND_RESTART),
+    );
 }
 
 /// What was played before an opening; what is planned of one of its calls, before its number and behind it; how many
@@ -196,7 +248,7 @@ type Opening = (Play, &'static str, &'static str, u64, Play);
 
 // The file's length, then a sync, a length and a read, where it isn't empty; and of the other file a checkpoint. A disk
 // stops in it, or one call of it fails.
-const OPENINGS: [Opening; 8] = [
+const OPENINGS: &[Opening] = &[
     (VOTED, "stop", "", 4, IN_THIRD),
     (VOTED, "stop other", "", 10, IN_THIRD),
     (RESTARTED, "stop", "", 4, IN_FOURTH),
@@ -218,7 +270,7 @@ fn is_opening(alloc: Global, row: &Opening, call: u64) -> Result<bool, AllocErro
     plays_parts(alloc, before, &lines, found, "")
 }
 
-fn wrong_call(alloc: Global, row: &Opening) -> Option<u64> {
+fn wrong_opening_call(alloc: Global, row: &Opening) -> Option<u64> {
     for call in 1..row.3.saturating_add(2) {
         if is_opening(alloc, row, call) != Ok(true) {
             return Some(call);
@@ -229,7 +281,7 @@ fn wrong_call(alloc: Global, row: &Opening) -> Option<u64> {
 
 fn wrong_opening(alloc: Global, rows: &[Opening]) -> Option<usize> {
     for (index, row) in rows.iter().enumerate() {
-        if wrong_call(alloc, row).is_some() {
+        if wrong_opening_call(alloc, row).is_some() {
             return Some(index);
         }
     }
@@ -239,7 +291,7 @@ fn wrong_opening(alloc: Global, rows: &[Opening]) -> Option<usize> {
 // At each of its calls, or after them.
 #[test]
 fn openings_that_fail(rt: HostRuntime) {
-    none_wrong(&rt, wrong_opening(rt.alloc(), &OPENINGS));
+    none_wrong(&rt, wrong_opening(rt.alloc(), OPENINGS));
 }
 
 // A record that was refused is taken back whole: a later one of its length, of which a crash leaves the length alone,
@@ -275,7 +327,7 @@ const STAYS: [Line; 5] = [
     ("crash 46", OK),
 ];
 
-const PLANS: [Play; 3] = [
+const PLANS: &[Play] = &[
     &[&P1, &WRITTEN, &TAKEN_BACK, &P1, &NONE_LISTED],
     &[&P1, &WRITTEN, &EARLIER, &P1, &NONE_LISTED],
     &[&P1, &WRITTEN, &STAYS, &P1, &LISTED],
@@ -283,5 +335,5 @@ const PLANS: [Play; 3] = [
 
 #[test]
 fn plans_of_stops(rt: HostRuntime) {
-    none_wrong(&rt, wrong_play(rt.alloc(), &PLANS));
+    none_wrong(&rt, wrong_play(rt.alloc(), PLANS));
 }

@@ -9,7 +9,7 @@ use Rattle.xa_codes.specs.declared.direction.Direction.TheVariants as direction
 use Rattle.xa_codes.specs.declared.flags.TheConstants.{TMONEPHASE}
 use Rattle.xa_frame.specs.declared.reply.Reply.{Reply}
 use Rattle.xa_frame.specs.declared.request.Request.{Request}
-use Rattle.xa_frame.specs.declared.request.Request.TheVariants.{Open, Close, Start, End, Prepare, Commit, Rollback, Forget, Recover, Get, Put, Delete, Decide, Doom, Restart, Timeout, Tick}
+use Rattle.xa_frame.specs.declared.request.Request.TheVariants.{Open, Close, Start, End, Prepare, Commit, Rollback, Forget, Recover, Get, Put, Delete, Decide, Doom, Restart, Timeout, Tick, Branches}
 use Rattle.xa_record.specs.declared.record.Record.{Record}
 use Rattle.xa_record.specs.declared.record.Record.TheVariants as logged
 use Rattle.xa_xid.specs.Triple.{Triple}
@@ -213,6 +213,7 @@ call_keeps s n (Doom xid) o = asked_call s n (Doom xid) o refl (record { each = 
 call_keeps s n Restart o = restart_keeps s (early_refusal (context_of s n) Restart) o
 call_keeps s n (Timeout seconds) o = asked_call s n (Timeout seconds) o refl (record { each = tt })
 call_keeps s n (Tick moment) o = asked_call s n (Tick moment) o refl (record { each = tt })
+call_keeps s n (Branches count after) o = asked_call s n (Branches count after) o refl (record { each = tt })
 
 respond_keeps : (s : State) (e : Event) (o : Outcome) → IfSome (taken (respond s e) o) (Keeps s.log_bytes)
 respond_keeps s event.Connect o = taken_keeps s (respond s event.Connect) o (events_ask_room s event.Connect refl) tt

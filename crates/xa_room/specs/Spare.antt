@@ -9,3 +9,5 @@ pub record HasRoom (s : Spare) : Type 0 where
   pub value : MOST_VALUE ≤ vec_capacity s.value
   pub list_empty : s.list.items ≡ []
   pub list : MOST_XIDS ≤ vec_capacity s.list
+  pub known_empty : s.known.items ≡ []
+  pub known : MOST_XIDS ≤ vec_capacity s.known

@@ -2,7 +2,7 @@ ghost use Rattle.std.specs.Prelude.{◌≡◌, ◌↔◌, IsTrue};
 ghost use Rattle.xa_room.specs.Book.{receipt_of};
 
 use crate::book::{Entry, Receipt};
-use xa_frame::{Body, Reply, Request};
+use xa_frame::{Body, KnownBranch, Reply, Request};
 use xa_model::Event;
 use xa_xid::Xid;
 
@@ -45,6 +45,9 @@ fn same_body(one: &Body, other: &Body) -> bool
         (Body::Number(number), Body::Number(wanted)) => number == wanted,
         (Body::Value(value), Body::Value(wanted)) => value == wanted,
         (Body::Xids(xids), Body::Xids(wanted)) => same_xids(xids.as_slice(), wanted.as_slice()),
+        (Body::Branches(branches), Body::Branches(wanted)) => {
+            same_branches(branches.as_slice(), wanted.as_slice())
+        }
         _ => false,
     }
 }
@@ -53,6 +56,31 @@ fn same_xids(one: &[Xid], other: &[Xid]) -> bool
     ensures { IsTrue result ↔ (one.now ≡ other.now) }
 {
     one == other
+}
+
+fn same_branches(one: &[KnownBranch], other: &[KnownBranch]) -> bool
+    ensures { IsTrue result ↔ (one.now ≡ other.now) }
+{
+    if one.len() != other.len() {
+        return false;
+    }
+    for i in 0..one.len() {
+        let same = same_branch(&one[i], &other[i]);
+        if !same {
+            return false;
+        }
+    }
+    true
+}
+
+fn same_branch(one: &KnownBranch, other: &KnownBranch) -> bool
+    ensures { IsTrue result ↔ (one.now ≡ other.now) }
+{
+    one.xid == other.xid
+        && one.state == other.state
+        && one.mark == other.mark
+        && one.timestamp == other.timestamp
+        && one.associations == other.associations
 }
 
 fn same_request(one: &Request, other: &Request) -> bool
@@ -88,6 +116,19 @@ fn same_request(one: &Request, other: &Request) -> bool
         (Request::Restart, Request::Restart) => true,
         (Request::Timeout { seconds }, Request::Timeout { seconds: s }) => seconds == s,
         (Request::Tick { moment }, Request::Tick { moment: m }) => moment == m,
+        (Request::Branches { count, after }, Request::Branches { count: c, after: a }) => {
+            count == c && same_cursor(after, a)
+        }
+        _ => false,
+    }
+}
+
+fn same_cursor(one: &Option<Xid>, other: &Option<Xid>) -> bool
+    ensures { IsTrue result ↔ (one.now ≡ other.now) }
+{
+    match (one, other) {
+        (None, None) => true,
+        (Some(xid), Some(wanted)) => xid == wanted,
         _ => false,
     }
 }

@@ -6,17 +6,18 @@ ghost use Rattle.xa_room.specs.Spare.{HasRoom};
 use std::alloc::{AllocError, Global};
 use std::mem;
 use xa_codes::Bytes;
-use xa_frame::{Body, Reply, Xids};
+use xa_frame::{Body, KnownBranch, KnownBranches, Reply, Xids};
 use xa_limits::{MOST_VALUE, MOST_XIDS};
 use xa_xid::Xid;
 
-/// Room for a copy of a reply: for the longest value, and for the most XIDs. It is made before a call acts and stays,
+/// Room for a copy of a reply: for the longest value, and for the most XIDs and known branches. It is made before a call acts and stays,
 /// since the copy is made of memory of its own length where there is some: so what keeps the copies holds no more than
 /// they are long, and no call makes this room twice.
 #[derive(Debug, Drop)]
 pub(crate) struct Spare {
     pub(crate) value: Vec<u8>,
     pub(crate) list: Vec<Xid>,
+    pub(crate) known: Vec<KnownBranch>,
 }
 
 impl Spare {
@@ -25,6 +26,7 @@ impl Spare {
         Spare {
             value: Vec::new(alloc),
             list: Vec::new(alloc),
+            known: Vec::new(alloc),
         }
     }
 
@@ -34,7 +36,10 @@ impl Spare {
     {
         self.value.clear();
         self.list.clear();
-        self.value.reserve(MOST_VALUE).is_ok() && self.list.reserve(MOST_XIDS).is_ok()
+        self.known.clear();
+        self.value.reserve(MOST_VALUE).is_ok()
+            && self.list.reserve(MOST_XIDS).is_ok()
+            && self.known.reserve(MOST_XIDS).is_ok()
     }
 
     /// A copy of a reply.
@@ -49,6 +54,7 @@ impl Spare {
             Body::Value(value) => Body::Value(self.copied_value(alloc, value)),
             Body::Absent => Body::Absent,
             Body::Xids(xids) => Body::Xids(self.copied_xids(alloc, xids)),
+            Body::Branches(branches) => Body::Branches(self.copied_branches(alloc, branches)),
         };
         Reply {
             code: reply.code,
@@ -83,6 +89,19 @@ impl Spare {
         copy_into(&mut list, xids.as_slice());
         Xids::new(list)
     }
+
+    fn copied_branches(&mut self, alloc: Global, branches: &KnownBranches) -> KnownBranches
+        requires room { HasRoom self.old }
+        requires few { length branches.now ≤ MOST_XIDS }
+        ensures { result ≡ branches.now }
+    {
+        let mut known = match Vec::with_capacity(alloc, branches.as_slice().len()) {
+            Ok(known) => known,
+            Err(_) => mem::replace(&mut self.known, Vec::new(alloc)),
+        };
+        copy_branches(&mut known, branches.as_slice());
+        KnownBranches::new(known)
+    }
 }
 
 // Copies XIDs into a list that has room for them.
@@ -93,5 +112,16 @@ fn copy_into(list: &mut Vec<Xid>, xids: &[Xid])
 {
     for xid in xids {
         list.push_reserved(xid.copied());
+    }
+}
+
+// The same of known branches.
+fn copy_branches(list: &mut Vec<KnownBranch>, branches: &[KnownBranch])
+    requires empty { list.old.items ≡ [] }
+    requires room { length branches.now ≤ vec_capacity list.old }
+    ensures { list.new.items ≡ branches.now }
+{
+    for branch in branches {
+        list.push_reserved(branch.copied());
     }
 }

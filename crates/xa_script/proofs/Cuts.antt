@@ -1,10 +1,12 @@
 -- A text is cut at the first place of a separator.
 use Rattle.std.proofs.Common.{◌≡◌, ◌==◌, ℕ, ◌+◌, ◌≤◌, nat_lt, Bool, true, false, List, [], ◌∷◌, length, take, drop, Option, Some, None, refl, subst, arith, position, cond}
-use Rattle.std.specs.Prelude.{unwrap_or}
+use Rattle.std.specs.Prelude.{unwrap_or, option_and_then}
+use Rattle.std.specs.Option.{option_map}
 use Rattle.std.specs.List.{slice_split, position_or_len, onto_first}
 use Rattle.xa_script.specs.declared.line.Line.TheVariants.{Unknown}
 use Rattle.xa_script.specs.Lines.{asked_by, by_words}
 use Rattle.xa_script.specs.Parts.{alone, one_of, words}
+use Rattle.xa_script.specs.Requests.{cursor_of}
 use Rattle.xa_xid.specs.Triple.{Triple}
 use Rattle.std.proofs.lemmas.Bool.{ltb-true, ltb-false}
 use Rattle.std.proofs.lemmas.List.Splits.{slice_split_first, slice_split_none}
@@ -50,6 +52,15 @@ not_one p first text = of_parts (λ parts. one_of (first ∷ parts) ≡ None) (�
 -- the parts of a text are one or more, so that nothing is alone in front of them
 pub not_alone : {X : Type 0} (asked : X) (p : ℕ → Bool) (text : List ℕ) → alone asked (slice_split p text) ≡ None
 not_alone asked p text = of_parts (λ parts. alone asked parts ≡ None) (λ first others. refl) p text
+
+-- of the parts of a text the only one is the XID's
+cursor_parts : (xid_of : List ℕ → Option Triple) (first : List ℕ) (others : List (List ℕ)) → cursor_of xid_of (first ∷ others) ≡ option_map (λ xid. Some xid) (option_and_then xid_of (one_of (first ∷ others)))
+cursor_parts xid_of first [] = refl
+cursor_parts xid_of first (second ∷ others) = refl
+
+pub cursor_words : (xid_of : List ℕ → Option Triple) (text : List ℕ) → cursor_of xid_of (words text) ≡ option_map (λ xid. Some xid) (option_and_then xid_of (one_of (words text)))
+cursor_words xid_of text =
+    of_parts (λ parts. cursor_of xid_of parts ≡ option_map (λ xid. Some xid) (option_and_then xid_of (one_of parts))) (cursor_parts xid_of) (λ byte. byte == 32) text
 
 -- a word and the words of a text
 pub more_words : (xid_of : List ℕ → Option Triple) (first text : List ℕ) → by_words xid_of (first ∷ words text)

@@ -5,7 +5,11 @@ use Rattle.xa_codes.specs.Names as names
 use Rattle.xa_codes.specs.declared.detail.Detail.{Detail}
 use Rattle.xa_codes.specs.declared.detail.Detail.TheVariants as detail
 use Rattle.xa_frame.specs.declared.body.Body.{Body}
-use Rattle.xa_frame.specs.declared.body.Body.TheVariants.{Nothing, Number, Value, Absent, Xids}
+use Rattle.xa_frame.specs.declared.body.Body.TheVariants.{Nothing, Number, Value, Absent, Xids, Branches}
+use Rattle.xa_frame.specs.declared.known_branch.AssociationCounts.{AssociationCounts}
+use Rattle.xa_frame.specs.declared.known_branch.BranchState.{BranchState}
+use Rattle.xa_frame.specs.declared.known_branch.BranchState.TheVariants as state
+use Rattle.xa_frame.specs.declared.known_branch.KnownBranch.{KnownBranch}
 use Rattle.xa_frame.specs.declared.reply.Reply.{Reply}
 use Rattle.xa_script.specs.declared.style.Style.{Style}
 use Rattle.xa_script.specs.declared.style.Style.TheVariants.{Codes, Names}
@@ -31,12 +35,31 @@ value_text (byte ∷ bytes) = hex (byte ∷ bytes)
 abbrev pub xids_text : List Triple → List ℕ
 xids_text xids = flat_map (λ xid. 32 ∷ text_of xid) xids
 
+abbrev pub state_name : BranchState → List ℕ
+state_name state.Working = codes "working"
+state_name state.Prepared = codes "prepared"
+state_name state.Committed = codes "committed"
+state_name state.RolledBack = codes "rolledback"
+
+abbrev pub counts_text : AssociationCounts → List ℕ
+counts_text counts = (32 ∷ decimal counts.active) ++ (32 ∷ decimal counts.suspended) ++ (32 ∷ decimal counts.loose)
+
+-- the XID's text, the state's name, the mark, the timestamp and the counts, each behind a blank
+abbrev pub branch_text : KnownBranch → List ℕ
+branch_text b =
+    (32 ∷ text_of b.xid) ++ (32 ∷ state_name b.state) ++ (32 ∷ signed_decimal b.mark) ++ (32 ∷ decimal b.timestamp)
+    ++ counts_text b.associations
+
+abbrev pub branches_text : List KnownBranch → List ℕ
+branches_text branches = flat_map branch_text branches
+
 abbrev pub body_text : Body → List ℕ
 body_text Nothing = []
 body_text (Number n) = codes " number " ++ decimal n
 body_text (Value value) = codes " value " ++ value_text value
 body_text Absent = codes " absent"
 body_text (Xids xids) = codes " xids" ++ xids_text xids
+body_text (Branches branches) = codes " branches" ++ branches_text branches
 
 -- the code, and behind it C193's name of it where the style has names
 abbrev pub code_text : Style → ℤ → List ℕ

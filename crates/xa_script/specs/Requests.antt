@@ -16,7 +16,7 @@ use Rattle.xa_xid.specs.Triple.{Triple, IsWithinLimits}
 use Rattle.xa_xid.specs.Spelling.{text_of}
 use Rattle.xa_frame.specs.declared.request.Request.{Request}
 use Rattle.xa_frame.specs.declared.request.Request.TheVariants.{Open, Close, Start, End, Prepare, Commit, Rollback, Forget}
-use Rattle.xa_frame.specs.declared.request.Request.TheVariants.{Recover, Get, Put, Delete, Decide, Doom, Restart, Timeout, Tick}
+use Rattle.xa_frame.specs.declared.request.Request.TheVariants.{Recover, Get, Put, Delete, Decide, Doom, Restart, Timeout, Tick, Branches}
 
 -- the words that name a request
 abbrev pub named_verbs : List (List ℕ × Verb)
@@ -38,6 +38,7 @@ named_verbs =
     ∷ (codes "restart", verb.Restart)
     ∷ (codes "timeout", verb.Timeout)
     ∷ (codes "tick", verb.Tick)
+    ∷ (codes "branches", verb.Branches)
     ∷ []
 
 abbrev pub verb_of : List ℕ → Option Verb
@@ -121,6 +122,18 @@ module _ (xid_of : List ℕ → Option Triple) where
   abbrev pub doom_by : List (List ℕ) → Option Request
   doom_by words = option_map (λ xid. Doom xid) (option_and_then xid_of (one_of words))
 
+  -- one word is an XID, no word none
+  abbrev pub cursor_of : List (List ℕ) → Option (Option Triple)
+  cursor_of [] = Some None
+  cursor_of (word ∷ []) = option_map (λ xid. Some xid) (xid_of word)
+  cursor_of _ = None
+
+  -- what the words behind `branches` ask
+  abbrev pub branches_by : List (List ℕ) → Option Request
+  branches_by [] = None
+  branches_by (word ∷ words) =
+      option_and_then (λ count. option_map (λ after. Branches count after) (cursor_of words)) (count_of word)
+
   abbrev pub request_of : Verb → List (List ℕ) → Option Request
   request_of verb.Open words = open_by words
   request_of verb.Close words = close_by words
@@ -139,3 +152,4 @@ module _ (xid_of : List ℕ → Option Triple) where
   request_of verb.Restart words = alone Restart words
   request_of verb.Timeout words = timeout_by words
   request_of verb.Tick words = tick_by words
+  request_of verb.Branches words = branches_by words

@@ -1,13 +1,13 @@
 ghost use Rattle.std.specs.Prelude.{◌≡◌, ◌∷◌, ◌++◌, IfOk, OnOk, codes};
-ghost use Rattle.std.specs.Fmt.{signed_decimal};
-ghost use Rattle.xa_script.specs.Replies.{body_text, code_text, line_in, line_of, name_of, value_text, xids_text};
+ghost use Rattle.std.specs.Fmt.{decimal, signed_decimal};
+ghost use Rattle.xa_script.specs.Replies.{body_text, branch_text, branches_text, code_text, counts_text, line_in, line_of, name_of, state_name, value_text, xids_text};
 
 use crate::hexadecimal::push_digits;
 use crate::style::Style;
 use arrayvec::ArrayVec;
 use std::alloc::{AllocError, Global};
 use xa_codes::{Code, Detail, code_name};
-use xa_frame::{Body, Reply};
+use xa_frame::{AssociationCounts, Body, BranchState, KnownBranch, Reply};
 use xa_xid::{MOST_TEXT, Xid};
 
 /// The line that shows a reply: the code, the detail's name and the body, with the line's end.
@@ -63,6 +63,10 @@ fn push_body(alloc: Global, line: &mut Vec<u8>, body: &Body) -> Result<(), Alloc
         Body::Value(value) => push_value(line, value.as_slice()),
         Body::Absent => line.extend_from_slice(b" absent"),
         Body::Xids(xids) => push_xids(line, xids.as_slice()),
+        Body::Branches(branches) => {
+            line.extend_from_slice(b" branches")?;
+            push_branches(alloc, line, branches.as_slice())
+        }
     }
 }
 
@@ -88,6 +92,78 @@ fn push_xids(line: &mut Vec<u8>, xids: &[Xid]) -> Result<(), AllocError>
         line.extend_from_slice(text.as_slice())?;
     }
     Ok(())
+}
+
+fn push_branches(
+    alloc: Global,
+    line: &mut Vec<u8>,
+    branches: &[KnownBranch],
+) -> Result<(), AllocError>
+    ensures { OnOk result (line.new.items ≡ line.old.items ++ branches_text branches.now) }
+{
+    for branch in branches {
+        push_branch(alloc, line, branch)?;
+    }
+    Ok(())
+}
+
+fn push_branch(alloc: Global, line: &mut Vec<u8>, branch: &KnownBranch) -> Result<(), AllocError>
+    ensures { OnOk result (line.new.items ≡ line.old.items ++ branch_text branch.now) }
+{
+    let mut text: ArrayVec<u8, MOST_TEXT> = ArrayVec::new();
+    branch.xid.put_text(&mut text);
+    push_word(line, text.as_slice())?;
+    push_word(line, state_name(branch.state).as_bytes())?;
+    push_mark(alloc, line, branch.mark)?;
+    push_number(alloc, line, branch.timestamp)?;
+    push_counts(alloc, line, branch.associations)?;
+    Ok(())
+}
+
+fn push_counts(
+    alloc: Global,
+    line: &mut Vec<u8>,
+    counts: AssociationCounts,
+) -> Result<(), AllocError>
+    ensures { OnOk result (line.new.items ≡ line.old.items ++ counts_text counts) }
+{
+    push_number(alloc, line, u64::from(counts.active))?;
+    push_number(alloc, line, u64::from(counts.suspended))?;
+    push_number(alloc, line, u64::from(counts.loose))?;
+    Ok(())
+}
+
+/// Appends a word behind a blank.
+fn push_word(line: &mut Vec<u8>, word: &[u8]) -> Result<(), AllocError>
+    ensures { OnOk result (line.new.items ≡ line.old.items ++ 32 ∷ word.now) }
+{
+    line.push(b' ')?;
+    line.extend_from_slice(word)
+}
+
+fn push_number(alloc: Global, line: &mut Vec<u8>, number: u64) -> Result<(), AllocError>
+    ensures { OnOk result (line.new.items ≡ line.old.items ++ 32 ∷ decimal number) }
+{
+    let text = format!(in alloc; " {number}")?;
+    line.extend_from_slice(text.as_bytes())
+}
+
+fn push_mark(alloc: Global, line: &mut Vec<u8>, mark: Code) -> Result<(), AllocError>
+    ensures { OnOk result (line.new.items ≡ line.old.items ++ 32 ∷ signed_decimal mark) }
+{
+    let text = format!(in alloc; " {mark}")?;
+    line.extend_from_slice(text.as_bytes())
+}
+
+fn state_name(state: BranchState) -> &'static str
+    ensures { result.now ≡ state_name state }
+{
+    match state {
+        BranchState::Working => "working",
+        BranchState::Prepared => "prepared",
+        BranchState::Committed => "committed",
+        BranchState::RolledBack => "rolledback",
+    }
 }
 
 fn detail_name(detail: Detail) -> &'static str

@@ -1,15 +1,15 @@
 ghost use Rattle.std.specs.Option.{option_copied, option_map};
-ghost use Rattle.std.specs.Prelude.{◌≡◌, ℕ, IfOk, IfSome, List, Option};
+ghost use Rattle.std.specs.Prelude.{◌≡◌, ℕ, IfOk, IfSome, List, Option, option_and_then};
 ghost use Rattle.xa_frame.specs.Limits.{IsKey, IsRequest, IsValue};
 ghost use Rattle.xa_frame.specs.declared.request.Request.TheVariants.{Restart};
 ghost use Rattle.xa_xid.specs.Triple.{Triple};
-ghost use Rattle.xa_script.specs.Parts.{alone, words_behind};
-ghost use Rattle.xa_script.specs.Requests.{ReadsTexts, branch_pair, close_by, decide_by, delete_by, direction_of, doom_by, get_by, is_graphic, is_name, key_of, open_by, put_by, recover_by, request_of, tick_by, timeout_by, value_of};
+ghost use Rattle.xa_script.specs.Parts.{alone, one_of, words_behind};
+ghost use Rattle.xa_script.specs.Requests.{ReadsTexts, branch_pair, branches_by, close_by, cursor_of, decide_by, delete_by, direction_of, doom_by, get_by, is_graphic, is_name, key_of, open_by, put_by, recover_by, request_of, tick_by, timeout_by, value_of};
 
 use crate::flags::read_flags;
 use crate::hexadecimal::read_bytes;
 use crate::numbers::{read_count, read_moment};
-use crate::parts::{only_word, two_words};
+use crate::parts::{first_part, only_word, two_words};
 use crate::verb::Verb;
 use std::alloc::{AllocError, Global};
 use xa_codes::{Bytes, Direction};
@@ -47,6 +47,7 @@ pub fn read_request(
         Verb::Restart => Ok(read_restart(words)),
         Verb::Timeout => Ok(read_timeout(words)),
         Verb::Tick => Ok(read_tick(words)),
+        Verb::Branches => Ok(read_branches(words)),
     }
 }
 
@@ -125,6 +126,38 @@ fn read_tick(words: Option<&[u8]>) -> Option<Request>
 {
     let moment = read_moment(only_word(words)?)?;
     Some(Request::Tick { moment })
+}
+
+/// A count, and an XID or none.
+fn read_branches(words: Option<&[u8]>) -> Option<Request>
+    ensures value { (xid_of : List ℕ → Option Triple) → ReadsTexts xid_of →
+        result ≡ branches_by xid_of (words_behind (option_copied words.entry)) }
+    ensures limits { IfSome result IsRequest }
+{
+    let (count, rest) = first_part(words?, b' ');
+    let count = read_count(count)?;
+    let after = read_cursor(rest)?;
+    Some(Request::Branches { count, after })
+}
+
+fn read_cursor(words: Option<&[u8]>) -> Option<Option<Xid>>
+    ensures { (xid_of : List ℕ → Option Triple) → ReadsTexts xid_of →
+        result ≡ cursor_of xid_of (words_behind (option_copied words.entry)) }
+{
+    match words {
+        None => Some(None),
+        Some(_) => {
+            let xid = read_xid(words)?;
+            Some(Some(xid))
+        }
+    }
+}
+
+fn read_xid(words: Option<&[u8]>) -> Option<Xid>
+    ensures { (xid_of : List ℕ → Option Triple) → ReadsTexts xid_of →
+        result ≡ option_and_then xid_of (one_of (words_behind (option_copied words.entry))) }
+{
+    Xid::take_text(only_word(words)?)
 }
 
 fn read_doom(words: Option<&[u8]>) -> Option<Request>

@@ -21,6 +21,7 @@ pub enum Verb {
     Restart,
     Timeout,
     Tick,
+    Branches,
 }
 
 /// The verb of a word.
@@ -48,6 +49,7 @@ pub fn read_verb(word: &[u8]) -> Option<Verb>
         "restart" => Some(Verb::Restart),
         "timeout" => Some(Verb::Timeout),
         "tick" => Some(Verb::Tick),
+        "branches" => Some(Verb::Branches),
         _ => None,
     }
 }

@@ -30,7 +30,7 @@ fn names(rt: HostRuntime) {
     none_wrong(&rt, wrong_name(&NAMES));
 }
 
-const FLAGS: [(Call, u32, bool); 9] = [
+const FLAGS: [(Call, u32, bool); 11] = [
     (Call::Start, TMJOIN | TMRESUME, false),
     (Call::End, TMNOFLAGS, false),
     (Call::End, TMSUCCESS | TMMIGRATE, false),
@@ -40,6 +40,8 @@ const FLAGS: [(Call, u32, bool); 9] = [
     (Call::Timeout, TMASYNC, true),
     (Call::Tick, TMNOFLAGS, true),
     (Call::Tick, TMNOWAIT, false),
+    (Call::Branches, TMNOFLAGS, true),
+    (Call::Branches, TMNOWAIT, false),
 ];
 
 fn is_legal(call: Call, flags: u32) -> bool {

@@ -4,13 +4,22 @@ use std::alloc::{AllocError, Global};
 use xa_frame::{decode_request, encode_request};
 use xa_rows::{INFO_BYTES, KEY_BYTES, PART_BYTES, VALUE_BYTES, XIDS};
 
-/// The fields of the requests 1 to 17 and of the bodies of kind 0 to 4, a letter each.
-const REQUESTS: [&[u8]; 17] = [
+/// The fields of the requests 1 to 17 and 66, and of the bodies of kind 0 to 5, a letter each.
+const REQUESTS: [&[u8]; 18] = [
     b"fi", b"f", b"fx", b"fx", b"fx", b"fx", b"fx", b"ff", b"fx", b"k", b"kv", b"k", b"dx", b"x",
-    b"", b"f", b"ff",
+    b"", b"f", b"ff", b"fn",
 ];
 
-const BODIES: [&[u8]; 5] = [b"", b"ff", b"v", b"", b"c"];
+const OPERATIONS: [u8; 18] = [
+    1, 2, 3, 4, 5, 6, 7, 8, 9, 10, 11, 12, 13, 14, 15, 16, 17, 66,
+];
+
+const BODIES: [&[u8]; 6] = [b"", b"ff", b"v", b"", b"c", b"c"];
+
+/// What a list has of each of its members, by the kind of the body.
+fn member(kind: u8) -> &'static [u8] {
+    if kind == 4 { b"x" } else { b"xs" }
+}
 
 /// A field at its least and at its greatest: how it begins, and how many bytes follow.
 fn limit(letter: u8, greatest: bool) -> (&'static [u8], usize) {
@@ -20,12 +29,18 @@ fn limit(letter: u8, greatest: bool) -> (&'static [u8], usize) {
         (b'k', false) => (&[1], 1),
         (b'k', true) => (&[64], KEY_BYTES as usize),
         (b'v', false) => (&[0, 0], 0),
-        (b'v', true) => (&[4, 0], VALUE_BYTES as usize),
+        (b'v', true) => (&[64, 0], VALUE_BYTES as usize),
         (b'x', false) => (&[128, 0, 0, 0, 1, 0], 1),
         (b'x', true) => (&[127, 255, 255, 255, 64, 64], 2 * PART_BYTES as usize),
         (b'd', false) => (&[1], 0),
         (b'd', true) => (&[2], 0),
-        // how many XIDs
+        // an XID, or none
+        (b'n', false) => (&[0], 0),
+        (b'n', true) => (&[1, 127, 255, 255, 255, 64, 64], 2 * PART_BYTES as usize),
+        // a state, and with it a mark, a timestamp and three counts
+        (b's', false) => (&[1], 18),
+        (b's', true) => (&[4], 18),
+        // how many XIDs or branches
         (b'c', false) => (&[0, 0], 0),
         (b'c', true) => (&[1, 0], 0),
         // flags, a count and seconds; two are a number of eight bytes
@@ -76,9 +91,9 @@ fn limit_reply(
     let mut content = HEAD.to_vec(alloc)?;
     content.push(kind)?;
     put_fields(&mut content, letters, greatest)?;
-    let xids = if kind == 4 && greatest { XIDS } else { 0 };
-    for _ in 0..xids {
-        put_fields(&mut content, b"x", greatest)?;
+    let members = if kind >= 4 && greatest { XIDS } else { 0 };
+    for _ in 0..members {
+        put_fields(&mut content, member(kind), greatest)?;
     }
     Ok(content)
 }
@@ -98,8 +113,8 @@ fn is_limit_reply(alloc: Global, kind: u8, letters: &[u8], greatest: bool) -> bo
 }
 
 fn wrong_request(alloc: Global, rows: &[&[u8]], greatest: bool) -> Option<usize> {
-    for (index, (operation, letters)) in (1..=17).zip(rows).enumerate() {
-        if !is_limit_request(alloc, operation, letters, greatest) {
+    for (index, (operation, letters)) in OPERATIONS.iter().zip(rows).enumerate() {
+        if !is_limit_request(alloc, *operation, letters, greatest) {
             return Some(index);
         }
     }
@@ -107,7 +122,7 @@ fn wrong_request(alloc: Global, rows: &[&[u8]], greatest: bool) -> Option<usize>
 }
 
 fn wrong_reply(alloc: Global, rows: &[&[u8]], greatest: bool) -> Option<usize> {
-    for (index, (kind, letters)) in (0..=4).zip(rows).enumerate() {
+    for (index, (kind, letters)) in (0..=5).zip(rows).enumerate() {
         if !is_limit_reply(alloc, kind, letters, greatest) {
             return Some(index);
         }

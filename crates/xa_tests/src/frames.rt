@@ -121,7 +121,7 @@ fn puts(rt: HostRuntime) {
     assert!(rt; is_content(put_content(rt.alloc()), &[1, 11, 1, 0x6b, 0, 1, 0x76]));
 }
 
-type Content = (&'static [u8], &'static [u8], &'static [u8]);
+pub type Content = (&'static [u8], &'static [u8], &'static [u8]);
 
 fn timeout_content(alloc: Global) -> Option<Vec<u8>> {
     let seconds = 0x0102_0304;
@@ -171,7 +171,7 @@ fn limits_and_moments(rt: HostRuntime) {
 
 /// A content of each operation; what each of its prefixes is, from the empty one to the whole; and what changes of each
 /// byte make of it. k: decoded, S: Short, V: Version, O: Operation, F: Field, T: Trailing.
-const CONTENTS: [Content; 17] = [
+pub const CONTENTS: [Content; 19] = [
     (&[1, 1, 0, 0, 0, 0, 1, 0x78], b"SSSSSSSSk", b"vokkkkik"),
     (&[1, 2, 0, 0, 0, 0], b"SSSSSSk", b"vokkkk"),
     (&START, b"SSSSSSFFFFFFFFk", b"vokkkkkkkkgqkk"),
@@ -225,6 +225,12 @@ const CONTENTS: [Content; 17] = [
         b"SSSSSSSSSSk",
         b"vokkkkkkkk",
     ),
+    (&[1, 66, 0, 0, 1, 0, 0], b"SSSSSSSk", b"vokkkkn"),
+    (
+        &[1, 66, 0, 0, 1, 0, 1, 0, 0, 0, 1, 1, 1, 0xaa, 0xbb],
+        b"SSSSSSSFFFFFFFFk",
+        b"vokkkkckkkkgqkk",
+    ),
 ];
 
 /// What a byte of this kind makes of its content when it is changed to this value, by the table of fields.
@@ -232,18 +238,22 @@ fn changed(kind: u8, value: u8) -> u8 {
     match (kind, value) {
         (b'v', _) => b'V',
         // an operation that there isn't
-        (b'o', 0 | 18..) => b'O',
+        (b'o', 0 | 18..=65 | 67..) => b'O',
         // a length of one or two bytes, of 1: a byte is left, or some are cut
         (b'i', 0) => b'T',
         (b'i', _) => b'S',
-        // the upper byte of a value's length, which is at most 1,024
-        (b'h', 1..=3) => b'S',
+        // the upper byte of a value's length, which is at most 16,384
+        (b'h', 1..=63) => b'S',
         (b'h', _) => b'F',
         // a key's length
         (b'y', 2..=64) => b'S',
         (b'y', _) => b'F',
         (b'd', 2) => b'k',
         (b'd', _) => b'F',
+        // no cursor, or an XID
+        (b'n', _) => b'F',
+        (b'c', 0) => b'T',
+        (b'c', _) => b'F',
         // the lengths of an XID's parts, of 1 each
         (b'g', _) => b'F',
         (b'q', 0) => b'T',
@@ -283,7 +293,12 @@ fn prefixes(rt: HostRuntime) {
     none_wrong(&rt, wrong_prefix(rt.alloc(), &CONTENTS));
 }
 
-fn with_byte(alloc: Global, content: &[u8], at: usize, value: u8) -> Result<Vec<u8>, AllocError> {
+pub fn with_byte(
+    alloc: Global,
+    content: &[u8],
+    at: usize,
+    value: u8,
+) -> Result<Vec<u8>, AllocError> {
     let mut bytes = content.to_vec(alloc)?;
     if let Some(byte) = bytes.get_mut(at) {
         *byte = value;
@@ -292,7 +307,7 @@ fn with_byte(alloc: Global, content: &[u8], at: usize, value: u8) -> Result<Vec<
 }
 
 /// What the content is with this byte in place of its own.
-fn letter_with(alloc: Global, content: &[u8], at: usize, value: u8) -> u8 {
+pub fn letter_with(alloc: Global, content: &[u8], at: usize, value: u8) -> u8 {
     match with_byte(alloc, content, at, value) {
         Ok(bytes) => letter(alloc, &bytes),
         Err(_) => b'?',
@@ -300,7 +315,7 @@ fn letter_with(alloc: Global, content: &[u8], at: usize, value: u8) -> u8 {
 }
 
 fn is_other(kind: u8, old: u8, value: u8) -> bool {
-    let is_operation = kind == b'o' && (1..=17).contains(&value);
+    let is_operation = kind == b'o' && (value == 66 || (1..=17).contains(&value));
     value != old && !is_operation
 }
 
@@ -335,7 +350,7 @@ fn changes(rt: HostRuntime) {
     none_wrong(&rt, wrong_change(rt.alloc(), &CONTENTS));
 }
 
-/// What each content is with each of the operations 1 to 17 in place of its own.
+/// What each of the first 17 contents is with each of the operations 1 to 17 in place of its own.
 const OPERATIONS: [&[u8]; 17] = [
     b"kTFFFFFSFFFFFFTTS",
     b"SkFFFFFSFFFFFFTkS",

@@ -5,6 +5,7 @@
 //! - `codes`: names of codes and flags, strings of bytes; `xids`: bytes, texts and order of XIDs
 //! - `frames`: contents of requests and replies; `frame_limits`: those at their limits; `refused_frames`: those with a
 //!   fault
+//! - `known_branches`: the list of known branches, in its frames and of the table
 //! - `records`: bodies of records; `record_limits`: those at their limits
 //! - `chains`, `versions`: one key's versions, and all keys'
 //! - `sessions`, `tables`: the tables of sessions and of branches; `time_limits`: how branches run out of time; `scans`:
@@ -30,6 +31,8 @@ mod frame_limits;
 mod frames;
 #[cfg(test)]
 mod heuristics;
+#[cfg(test)]
+mod known_branches;
 #[cfg(test)]
 mod record_limits;
 #[cfg(test)]

@@ -1,34 +1,41 @@
-use Rattle.std.proofs.Common.{ℕ, List, [], map, ap, refl, Some}
-use Rattle.std.specs.Map.Iter.{deref_pair}
-use Rattle.std.proofs.lemmas.Map.Iter.{rest_more}
+use Rattle.std.proofs.Common.{ℕ, List, map, ap, refl, sym, subst, ◌∙◌}
 use Rattle.xa_codes.specs.declared.write.Write.{Write}
 use Rattle.xa_limits.specs.declared.TheConstants.{MOST_VALUE}
-use Rattle.mv_chain.specs.declared.fate.Fate.TheVariants.{Committed as kept}
-use Rattle.mv_rules.specs.Restoring.{with_committed}
 use Rattle.xa_recovery.specs.Durable.{as_committed}
-use Rattle.xa_manager.proofs.NewTables.{added_more, added_all}
+use Rattle.xa_manager.specs.Rebuilding.{CommittedUpto, CommittedAreShort}
+use Rattle.xa_manager.proofs.NewTables.{committed_added, committed_whole, committed_first}
 use Rattle.xa_manager.proofs.KeysBack.{none_more}
 use Rattle.xa_manager.proofs.ShortWrites.{committed_next}
 use Rattle.xa_manager.proofs.rebuilding.put_committed.Goals as goal
 
 pub loop-timestamp-preserved : goal.loop-timestamp-preserved
 loop-timestamp-preserved c =
-    let e : ℕ × List Write = (c.in-Some.timestamp.now, c.in-Some.writes.now) in
-    let more = rest_more deref_pair c.loop-timestamp.timestamp-iterator c.next.new.self c.next.result (c.in-Some.timestamp, c.in-Some.writes) c.in-Some.is c.next.ensures.steps in record {
-      stands = λ new start.
-          added_more with_committed (λ c. c.timestamp) [] (map as_committed c.args.committed.now.entries) (map as_committed c.next.new.self) (map as_committed c.loop-timestamp.timestamp-iterator) (as_committed e) (Some kept) c.in-Some.writes.now c.loop-timestamp.records c.restore.new.self
-          (ap (λ es. map as_committed es) more) (λ w. refl) (rw (← c.as_slice.ensures) c.in_ok-restore.ensures.stands) (c.loop-timestamp.invariant.stands new start);
+    let e : ℕ × List Write = (c.in-Some.timestamp, c.in-Some.writes) in
+    let more = c.in-Some.ensures.steps in record {
+      stands = λ new ordered start.
+          committed_added c.args.least c.min.result (map as_committed c.args.committed.entries) (map as_committed c.next.new.self) (map as_committed c.loop-timestamp.timestamp-iterator) (as_committed e) c.loop-timestamp.records c.restore.new.self c.low_water.new.self
+          (ap (λ es. map as_committed es) more) c.min.ensures (rw (← c.into_vec.ensures) c.in_ok-restore.ensures.stands) c.low_water.ensures.stands (c.loop-timestamp.invariant.stands new ordered start);
       short = λ all start.
           let i = c.loop-timestamp.invariant.short all start in
           let next = committed_next (map as_committed c.loop-timestamp.timestamp-iterator) (map as_committed c.next.new.self) (as_committed e) (ap (λ es. map as_committed es) more) i.0 in
-          (next.1, c.in_ok-restore.ensures.within MOST_VALUE i.1 (rw c.as_slice.ensures next.0));
-      unwritten = λ none.
-          none_more c.loop-timestamp.records c.restore.new.self c.in-Some.timestamp.now (c.in_ok-restore.ensures.decided refl) c.in_ok-restore.ensures.others (c.loop-timestamp.invariant.unwritten none);
+          (next.1, c.low_water.ensures.within MOST_VALUE (c.restore.ensures.within MOST_VALUE i.1 (rw c.into_vec.ensures next.0)));
+      unwritten = λ none t.
+          c.low_water.ensures.own t ∙ none_more c.loop-timestamp.records c.restore.new.self c.in-Some.timestamp (c.in_ok-restore.ensures.decided refl) c.restore.ensures.others (c.loop-timestamp.invariant.unwritten none) t;
+    }
+
+pub loop-timestamp-init : goal.loop-timestamp-init
+loop-timestamp-init c =
+    let is = sym c.into_iter-timestamp-iterator.ensures.into_iter_gives.0 in record {
+      stands = λ new ordered start.
+          subst (λ (es : List (ℕ × List Write)). CommittedUpto c.args.least (map as_committed c.args.committed.entries) (map as_committed es) c.args.records.now) is
+          (committed_first c.args.least (map as_committed c.args.committed.entries) c.args.records.now new ordered start);
+      short = λ all start. (subst (λ (es : List (ℕ × List Write)). CommittedAreShort (map as_committed es)) is all, start);
+      unwritten = λ none. none;
     }
 
 pub returns-clause-stands : goal.returns-clause-stands
-returns-clause-stands c = λ new start.
-    added_all with_committed (λ c. c.timestamp) [] (map as_committed c.args.committed.now.entries) (map as_committed c.loop-timestamp.timestamp-iterator) c.loop-timestamp.records (ap (λ es. map as_committed es) c.in-None.ensures.steps.0) (c.loop-timestamp.invariant.stands new start)
+returns-clause-stands c = λ new ordered start.
+    committed_whole c.args.least (map as_committed c.args.committed.entries) (map as_committed c.loop-timestamp.timestamp-iterator) c.loop-timestamp.records (ap (λ es. map as_committed es) c.in-None.ensures.steps.0) (c.loop-timestamp.invariant.stands new ordered start)
 
 pub returns-clause-short : goal.returns-clause-short
 returns-clause-short c = λ all start. (c.loop-timestamp.invariant.short all start).1

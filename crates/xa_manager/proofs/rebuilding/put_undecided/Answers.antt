@@ -1,37 +1,34 @@
-use Rattle.std.proofs.Common.{ℕ, map, ap, refl, None}
-use Rattle.std.specs.Map.Iter.{deref_pair}
-use Rattle.std.proofs.lemmas.Map.Iter.{rest_more}
+use Rattle.std.proofs.Common.{ℕ, map, ap}
 use Rattle.xa_limits.specs.declared.TheConstants.{MOST_VALUE}
-use Rattle.mv_rules.specs.Restoring.{with_prepared}
 use Rattle.xa_recovery.specs.declared.durable.InDoubt.{InDoubt}
 use Rattle.xa_recovery.specs.Durable.{as_prepared}
-use Rattle.xa_manager.proofs.NewTables.{added_more, added_all}
+use Rattle.xa_manager.proofs.NewTables.{prepared_added, prepared_whole}
 use Rattle.xa_manager.proofs.KeysBack.{keys_first, keys_more}
 use Rattle.xa_manager.proofs.ShortWrites.{prepared_next}
 use Rattle.xa_manager.proofs.rebuilding.put_undecided.Goals as goal
 
 pub loop-timestamp-preserved : goal.loop-timestamp-preserved
 loop-timestamp-preserved c =
-    let e : ℕ × InDoubt = (c.in-Some.timestamp.now, c.in-Some.branch.now) in
-    let more = rest_more deref_pair c.loop-timestamp.timestamp-iterator c.next.new.self c.next.result (c.in-Some.timestamp, c.in-Some.branch) c.in-Some.is c.next.ensures.steps in record {
-      stands = λ older new start.
-          added_more with_prepared (λ p. p.timestamp) older (map as_prepared c.args.prepared.now.entries) (map as_prepared c.next.new.self) (map as_prepared c.loop-timestamp.timestamp-iterator) (as_prepared e) None c.in-Some.branch.now.writes c.loop-timestamp.records c.restore.new.self
-          (ap (λ es. map as_prepared es) more) (λ w. refl) (rw (← c.as_slice.ensures) c.in_ok-restore.ensures.stands) (c.loop-timestamp.invariant.stands older new start);
+    let e : ℕ × InDoubt = (c.in-Some.timestamp, c.in-Some.branch) in
+    let more = c.in-Some.ensures.steps in record {
+      stands = λ low older new above start.
+          prepared_added low older (map as_prepared c.args.prepared.entries) (map as_prepared c.next.new.self) (map as_prepared c.loop-timestamp.timestamp-iterator) (as_prepared e) c.loop-timestamp.records c.restore.new.self
+          (ap (λ es. map as_prepared es) more) (rw (← c.into_vec.ensures) c.in_ok-restore.ensures.stands) (c.loop-timestamp.invariant.stands low older new above start);
       short = λ all start.
           let i = c.loop-timestamp.invariant.short all start in
           let next = prepared_next (map as_prepared c.loop-timestamp.timestamp-iterator) (map as_prepared c.next.new.self) (as_prepared e) (ap (λ es. map as_prepared es) more) i.0 in
-          (next.1, c.in_ok-restore.ensures.within MOST_VALUE i.1 (rw c.as_slice.ensures next.0));
+          (next.1, c.restore.ensures.within MOST_VALUE i.1 (rw c.into_vec.ensures next.0));
       keys = λ start.
-          keys_more c.loop-timestamp.records c.restore.new.self (map as_prepared c.loop-timestamp.timestamp-iterator) (map as_prepared c.next.new.self) (as_prepared e) (ap (λ es. map as_prepared es) more) c.in_ok-restore.ensures.others
-          (rw c.as_slice.ensures at c.in_ok-restore.ensures.keys) (c.loop-timestamp.invariant.keys start);
+          keys_more c.loop-timestamp.records c.restore.new.self (map as_prepared c.loop-timestamp.timestamp-iterator) (map as_prepared c.next.new.self) (as_prepared e) (ap (λ es. map as_prepared es) more) c.restore.ensures.others
+          (rw c.into_vec.ensures at c.in_ok-restore.ensures.keys) (c.loop-timestamp.invariant.keys start);
     }
 
 pub returns-clause-stands : goal.returns-clause-stands
-returns-clause-stands c = λ older new start.
-    added_all with_prepared (λ p. p.timestamp) older (map as_prepared c.args.prepared.now.entries) (map as_prepared c.loop-timestamp.timestamp-iterator) c.loop-timestamp.records (ap (λ es. map as_prepared es) c.in-None.ensures.steps.0) (c.loop-timestamp.invariant.stands older new start)
+returns-clause-stands c = λ low older new above start.
+    prepared_whole low older (map as_prepared c.args.prepared.entries) (map as_prepared c.loop-timestamp.timestamp-iterator) c.loop-timestamp.records (ap (λ es. map as_prepared es) c.in-None.ensures.steps.0) (c.loop-timestamp.invariant.stands low older new above start)
 
 pub returns-clause-short : goal.returns-clause-short
 returns-clause-short c = λ all start. (c.loop-timestamp.invariant.short all start).1
 
 pub returns-clause-keys : goal.returns-clause-keys
-returns-clause-keys c = λ all apart none. (c.loop-timestamp.invariant.keys (keys_first c.args.records.now (map as_prepared c.args.prepared.now.entries) all apart none)).keys
+returns-clause-keys c = λ all apart none. (c.loop-timestamp.invariant.keys (keys_first c.args.records.now (map as_prepared c.args.prepared.entries) all apart none)).keys

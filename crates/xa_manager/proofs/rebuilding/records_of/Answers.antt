@@ -8,20 +8,20 @@ use Rattle.xa_manager.proofs.ShortWrites.{snapshot_short, snapshot_keys}
 use Rattle.xa_manager.proofs.rebuilding.records_of.Goals as goal
 
 pub returns-clause-stands : goal.returns-clause-stands
-returns-clause-stands c = λ s next h.
-    records_stand c.args.durable.now next s (map as_committed c.committed.result.now.entries) (map as_prepared c.prepared.result.now.entries) c.new-records.result c.put_committed.new.records c.put_undecided.new.records
-    c.committed.ensures c.prepared.ensures (c.new-records.ensures.stands 0) c.in_ok-put_committed.ensures.stands c.in_ok-put_undecided.ensures.stands h
+returns-clause-stands c = λ s h.
+    records_stand c.args.durable c.args.boot c.least_of.result s (map as_committed c.into_writes-committed.result.0.entries) (map as_prepared c.into_writes-committed.result.1.entries) c.new-records.result c.put_committed.new.records c.put_undecided.new.records
+    c.into_writes-committed.ensures.committed c.into_writes-committed.ensures.prepared (c.new-records.ensures.stands 0) c.in_ok-put_committed.ensures.stands c.in_ok-put_undecided.ensures.stands c.least_of.ensures.below c.least_of.ensures.past h
 
 pub returns-clause-short : goal.returns-clause-short
 returns-clause-short c = λ boot limits.
-    let short = snapshot_short c.args.durable.now boot limits in
-    let committed = subst (λ (bs : List CommittedBranch). CommittedAreShort bs) (sym c.committed.ensures) short.0 in
-    let prepared = subst (λ (ps : List PreparedBranch). PreparedAreShort ps) (sym c.prepared.ensures) short.1 in
+    let short = snapshot_short c.args.durable boot limits in
+    let committed = subst (λ (bs : List CommittedBranch). CommittedAreShort bs) (sym c.into_writes-committed.ensures.committed) short.0 in
+    let prepared = subst (λ (ps : List PreparedBranch). PreparedAreShort ps) (sym c.into_writes-committed.ensures.prepared) short.1 in
     c.in_ok-put_undecided.ensures.short prepared (c.in_ok-put_committed.ensures.short committed (c.new-records.ensures.within MOST_VALUE))
 
 pub returns-clause-keys : goal.returns-clause-keys
 returns-clause-keys c = λ boot limits apart.
-    let same = sym c.prepared.ensures in
-    let keys = subst (λ (ps : List PreparedBranch). PreparedHaveKeys ps) same (snapshot_keys c.args.durable.now boot limits) in
+    let same = sym c.into_writes-committed.ensures.prepared in
+    let keys = subst (λ (ps : List PreparedBranch). PreparedHaveKeys ps) same (snapshot_keys c.args.durable boot limits) in
     let order = subst (λ (ps : List PreparedBranch). Pairwise prepares_before ps) same apart in
     c.in_ok-put_undecided.ensures.keys keys order (c.in_ok-put_committed.ensures.unwritten c.new-records.ensures.own)

@@ -1,9 +1,12 @@
-use Rattle.std.proofs.Common.{◌≡◌, ℕ, List, false, Some, None, refl, ap, sym, ◌∙◌, rules}
+use Rattle.std.proofs.Common.{◌≡◌, ℕ, List, false, Option, Some, None, refl, ap, sym, ◌∙◌, rules}
+use Rattle.std.specs.Prelude.{option_copied}
+use Rattle.xa_xid.specs.Triple.{Triple}
 use Rattle.xa_model.specs.Associations.{open_by, close_by, start_by, end_by}
 use Rattle.xa_model.specs.Branches.{doom_by}
 use Rattle.xa_model.specs.Completions.{prepare_turn, rollback_turn, decide_turn, forget_turn}
 use Rattle.xa_model.specs.Events.{asks_restart}
 use Rattle.xa_model.specs.Records.{get_by, put_by}
+use Rattle.xa_model.specs.KnownBranches.{branches_by}
 use Rattle.xa_model.specs.Recovering.{recover_by}
 use Rattle.xa_model.specs.State.{own_branch}
 use Rattle.xa_model.specs.Step.{row, commit_turn}
@@ -167,6 +170,16 @@ returns-in-Tick-clause-ok g c =
       c.tick.ensures.fresh,
     )
 
+pub returns-in_ok-known_branches-in-Branches-clause-ok : goal.returns-in_ok-known_branches-in-Branches-clause-ok
+returns-in_ok-known_branches-in-Branches-clause-ok g c =
+    let none : c.refusal.result ≡ None = search rules in
+    let after : option_copied c.as_ref.result ≡ c.in-Branches.after = search rules in
+    rw c.now-in-Branches.ensures (
+      follows_done _ c.args.self.now c.args.self.now c.args.session c.args.request _ c.refusal.result (λ s. branches_by s c.in-Branches.count (option_copied c.as_ref.result)) c.in_ok-known_branches-in-Branches.field-0
+          c.requires c.in-Branches.is refl refl none c.refusal.ensures.value c.refusal.ensures.answered (λ s. ap (λ (o : Option Triple). Now (branches_by s c.in-Branches.count o)) (sym after)) refl refl refl c.in_ok-known_branches-in-Branches.ensures.ok,
+      c.in_ok-known_branches-in-Branches.ensures.fresh,
+    )
+
 -- ---- memory was wanted
 
 pub returns-in-Restart-clause-err : goal.returns-in-Restart-clause-err
@@ -210,3 +223,9 @@ returns-in_err-put-in-Delete-clause-err g c =
     let none : c.refusal.result ≡ None = search rules in
     on_err c.from_residual-in_err-put-in-Delete.result _ (follows_wanted _ c.args.self.now (record c.args.self.now { tables = c.put-in-Delete.new.self }) c.args.request _ c.refusal.result
     c.in-Delete.is refl refl refl none c.refusal.ensures.answered refl refl refl c.in_err-put-in-Delete.ensures.err)
+
+pub returns-in_err-known_branches-in-Branches-clause-err : goal.returns-in_err-known_branches-in-Branches-clause-err
+returns-in_err-known_branches-in-Branches-clause-err g c =
+    let none : c.refusal.result ≡ None = search rules in
+    on_err c.from_residual-in_err-known_branches-in-Branches.result _ (follows_wanted _ c.args.self.now c.args.self.now c.args.request _ c.refusal.result
+    c.in-Branches.is refl refl refl none c.refusal.ensures.answered refl refl refl (λ s st. st))

@@ -82,12 +82,12 @@ pub returns-clause-ok : goal.returns-clause-ok
 returns-clause-ok g c =
     let m = c.args.self.now in
     let mid = c.args.self.now in
-    let mid' = c.journal-answer.new.self in
+    let mid' = c.journal.new.self in
     let m' = record mid' { tables = c.take_committed.new.self } in
     let xid = c.args.xid.now in
     let t = c.timestamp-timestamp.result in
     let ws = c.in_ok-writes.writes.items in
-    let a = c.journal-answer.result in
+    let a = c.in_ok-answer.answer in
     let free : c.one_phase_refusal.result ≡ None = search rules in
     let unmarked : c.mark_of.result ≡ None = search rules in
     let some : 1 ≤ length ws = grind (arith, nat_tests, c.is_empty.ensures, c.if-is_empty.false) in
@@ -103,9 +103,9 @@ returns-clause-ok g c =
     c.in_ok-body.ensures ∙ ap (λ x. spelled (logged.Committed x t c.new.result)) c.copied.ensures ∙ ap (λ us. spelled (logged.Committed xid t us)) c.new.ensures in
     let size : c.len.result ≡ length c.in_ok-body.body.items = grind (arith, c.len.ensures, c.in_ok-body.body.ok.0) in
     let fits : c.has_room.result ≡ true = search rules in
-    let same : c.journal-answer.new.self.tables ≡ mid.tables = c.journal-answer.ensures.tables in
+    let same : c.journal.new.self.tables ≡ mid.tables = c.in_ok-answer.ensures.ok.tables in
     rw c.appended.ensures
-    (takes_appending _ m mid mid' m' (λ (s : State). commit_one_phase_turn s xid) c.deref.result.now a _ _ (served_by XAER_RMERR a) refl refl refl c.journal-answer.ensures refl refl refl
+    (takes_appending _ m mid mid' m' (λ (s : State). commit_one_phase_turn s xid) c.deref.result.now a _ _ (served_by XAER_RMERR a) refl refl refl c.in_ok-answer.ensures.ok refl refl refl
     (λ s whole is_up.
     let st = tables_up _ m s is_up whole in
     let r = logged.Committed xid (timestamp_in s xid) (writes_in s xid) in

@@ -33,7 +33,7 @@ returns-in-Kept-clause-turn g c =
     is_answer _ (boot_became t (t.logged_boot + 1) Kept) _ (ap (λ (o : Outcome). taken (restart_turn s) o) c.begun.ensures.told ∙ turn_opens c.args.survived s t Kept fate less) (
       cc,
       begun_stands g.D.Disk c.args.self.now _ s t c.args.survived rs refl refl refl refl c.checkpoint.ensures.settings st fate backs less c.restart.ensures.any ready.branches ready.records
-          (pair.current.end ∙ text_size _ (snapshot (durable t) (t.logged_boot + 1))) pair.current.alive (map spelled rs, pair),
+          (pair.current.end ∙ text_size _ (snapshot (durable t) (t.logged_boot + 1))) pair.current.alive swaps.2 (map spelled rs, pair),
     )
 
 pub returns-in-Refused-clause-turn : goal.returns-in-Refused-clause-turn

@@ -14,33 +14,27 @@ use Rattle.xa_manager.proofs.OpenedStates.{begun_on, begun_read, fresh_opened, r
 use Rattle.xa_manager.proofs.Refusing.{refused_by, begun_logs, refused_left}
 use Rattle.xa_manager.proofs.manager.Manager.open_returning.Goals as goal
 
-pub begin-requires-clause-number : goal.begin-requires-clause-number
-begin-requires-clause-number g c = c.on-log.ensures.number ∙ ap (λ (l : List (Vec ℕ Global)). generation (bodies_of l)) (sym c.deref.ensures.value)
-
 pub begin-requires-clause-made : goal.begin-requires-clause-made
 begin-requires-clause-made g c = λ new.
-    ap (λ (l : List (Vec ℕ Global)). bodies_of l) c.deref.ensures.value ∙ ap (λ (v : Vec (Vec ℕ Global) Global). bodies_of v.items) c.on-log.ensures.bodies
-    ∙ ap (λ (l : List (Vec ℕ Global)). bodies_of l) (c.in-Ok.ensures.made new).0
+    ap (λ (v : Vec (Vec ℕ Global) Global). bodies_of v.items) c.on-log.ensures.bodies ∙ ap (λ (l : List (Vec ℕ Global)). bodies_of l) (c.in-Ok.ensures.made new).0
 
-pub begin-requires-clause-ends : goal.begin-requires-clause-ends
-begin-requires-clause-ends g c =
-    subst (λ (l : List (Vec ℕ Global)). EndsBehind (bodies_of l) c.on-log.result.0) (sym c.deref.ensures.value) (c.on-log.ensures.ends c.in-Ok.ensures.ends)
+pub begin-requires-clause-modern : goal.begin-requires-clause-modern
+begin-requires-clause-modern g c = λ new. c.on-log.ensures.format ∙ c.in-Ok.ensures.modern new
 
 pub returns-in-Ok-clause-begun : goal.returns-in-Ok-clause-begun
 returns-in-Ok-clause-begun g c =
-    let same : bodies_of c.deref.result.now ≡ bodies_of c.in-Ok.opened.scan.bodies.items =
-    ap (λ (l : List (Vec ℕ Global)). bodies_of l) c.deref.ensures.value ∙ ap (λ (v : Vec (Vec ℕ Global) Global). bodies_of v.items) c.on-log.ensures.bodies in
-    let found : g.D.Disk.honest → IsFound g.D.Disk c.in-Ok.is_new (bodies_of c.deref.result.now) c.on-log.result.0 =
-    λ h. subst (λ (l : List (List ℕ)). IsFound g.D.Disk c.in-Ok.is_new l c.on-log.result.0) (ap (λ (l : List (Vec ℕ Global)). bodies_of l) (sym c.deref.ensures.value))
-    (found_log g.D.Disk c.in-Ok.is_new (bodies_of c.on-log.result.1.items) c.on-log.result.0 c.find_log.new.second
+    let same : bodies_of c.on-log.result.1.items ≡ bodies_of c.in-Ok.opened.scan.bodies.items = ap (λ (v : Vec (Vec ℕ Global) Global). bodies_of v.items) c.on-log.ensures.bodies in
+    let found : g.D.Disk.honest → IsFound g.D.Disk c.in-Ok.is_new (bodies_of c.on-log.result.1.items) c.on-log.result.0 =
+    λ h.
+    found_log g.D.Disk c.in-Ok.is_new (bodies_of c.on-log.result.1.items) c.on-log.result.0 c.find_log.new.second
     (c.on-log.ensures.log h (c.in-Ok.ensures.stands h))
     (λ new. (
       ap (λ (v : Vec (Vec ℕ Global) Global). bodies_of v.items) c.on-log.ensures.bodies ∙ ap (λ (l : List (Vec ℕ Global)). bodies_of l) (c.in-Ok.ensures.made new).0,
       c.on-log.ensures.on_first ∙ (c.in-Ok.ensures.made new).1,
       c.in-Ok.ensures.made_beside h new,
     ))
-    c.on-log.ensures.disks.1) in
-    begun_on g.D.Disk c.begin.result (g.D.Disk.seen c.args.first) (g.D.Disk.seen c.args.second) (bodies_of c.deref.result.now) c.args.settings.name c.args.settings.log_bytes
+    c.on-log.ensures.disks.1 in
+    begun_on g.D.Disk c.begin.result (g.D.Disk.seen c.args.first) (g.D.Disk.seen c.args.second) (bodies_of c.on-log.result.1.items) c.args.settings.name c.args.settings.log_bytes
     (λ h. c.in-Ok.ensures.logged h ∙ sym same)
     (c.begin.ensures.begun found (c.on-log.ensures.settings ∙ c.in-Ok.ensures.settings))
 
@@ -56,26 +50,24 @@ returns-in-Ok-clause-reopens g c = λ trusts s rec files.
 
 pub returns-in-Ok-clause-refused : goal.returns-in-Ok-clause-refused
 returns-in-Ok-clause-refused g c = λ h.
-    let same : bodies_of c.deref.result.now ≡ bodies_of c.in-Ok.opened.scan.bodies.items =
-    ap (λ (l : List (Vec ℕ Global)). bodies_of l) c.deref.ensures.value ∙ ap (λ (v : Vec (Vec ℕ Global) Global). bodies_of v.items) c.on-log.ensures.bodies in
-    refused_by c.begin.result (bodies_of c.deref.result.now) c.args.settings.name c.args.settings.log_bytes (g.D.Disk.seen c.args.first) (g.D.Disk.seen c.args.second)
+    let same : bodies_of c.on-log.result.1.items ≡ bodies_of c.in-Ok.opened.scan.bodies.items = ap (λ (v : Vec (Vec ℕ Global) Global). bodies_of v.items) c.on-log.ensures.bodies in
+    refused_by c.begin.result (bodies_of c.on-log.result.1.items) c.args.settings.name c.args.settings.log_bytes (g.D.Disk.seen c.args.first) (g.D.Disk.seen c.args.second)
     c.begin.ensures.refused (c.in-Ok.ensures.whole h) (c.in-Ok.ensures.logged h ∙ sym same)
 
 pub returns-in-Ok-clause-logs : goal.returns-in-Ok-clause-logs
 returns-in-Ok-clause-logs g c =
-    let same : bodies_of c.deref.result.now ≡ bodies_of c.in-Ok.opened.scan.bodies.items =
-    ap (λ (l : List (Vec ℕ Global)). bodies_of l) c.deref.ensures.value ∙ ap (λ (v : Vec (Vec ℕ Global) Global). bodies_of v.items) c.on-log.ensures.bodies in
-    let found : g.D.Disk.honest → IsFound g.D.Disk c.in-Ok.is_new (bodies_of c.deref.result.now) c.on-log.result.0 =
-    λ h. subst (λ (l : List (List ℕ)). IsFound g.D.Disk c.in-Ok.is_new l c.on-log.result.0) (ap (λ (l : List (Vec ℕ Global)). bodies_of l) (sym c.deref.ensures.value))
-    (found_log g.D.Disk c.in-Ok.is_new (bodies_of c.on-log.result.1.items) c.on-log.result.0 c.find_log.new.second
+    let same : bodies_of c.on-log.result.1.items ≡ bodies_of c.in-Ok.opened.scan.bodies.items = ap (λ (v : Vec (Vec ℕ Global) Global). bodies_of v.items) c.on-log.ensures.bodies in
+    let found : g.D.Disk.honest → IsFound g.D.Disk c.in-Ok.is_new (bodies_of c.on-log.result.1.items) c.on-log.result.0 =
+    λ h.
+    found_log g.D.Disk c.in-Ok.is_new (bodies_of c.on-log.result.1.items) c.on-log.result.0 c.find_log.new.second
     (c.on-log.ensures.log h (c.in-Ok.ensures.stands h))
     (λ new. (
       ap (λ (v : Vec (Vec ℕ Global) Global). bodies_of v.items) c.on-log.ensures.bodies ∙ ap (λ (l : List (Vec ℕ Global)). bodies_of l) (c.in-Ok.ensures.made new).0,
       c.on-log.ensures.on_first ∙ (c.in-Ok.ensures.made new).1,
       c.in-Ok.ensures.made_beside h new,
     ))
-    c.on-log.ensures.disks.1) in
-    begun_logs g.D.Disk c.args.first c.args.second c.in-Ok.is_new (bodies_of c.deref.result.now) c.args.settings.log_bytes c.on-log.result.0
+    c.on-log.ensures.disks.1 in
+    begun_logs g.D.Disk c.args.first c.args.second c.in-Ok.is_new (bodies_of c.on-log.result.1.items) c.args.settings.log_bytes c.on-log.result.0
     (λ h.
     subst (λ d. LeavesFinding g.D.Disk c.args.first d c.args.second (second_of c.on-log.result.0)) (sym c.on-log.ensures.disks.0)
     (subst (λ d. LeavesFinding g.D.Disk c.args.first c.find_log.new.first c.args.second d) (sym c.on-log.ensures.disks.1) (c.in-Ok.ensures.leaves h)))
@@ -84,19 +76,18 @@ returns-in-Ok-clause-logs g c =
 
 pub returns-in-Ok-clause-leaves : goal.returns-in-Ok-clause-leaves
 returns-in-Ok-clause-leaves g c =
-    let same : bodies_of c.deref.result.now ≡ bodies_of c.in-Ok.opened.scan.bodies.items =
-    ap (λ (l : List (Vec ℕ Global)). bodies_of l) c.deref.ensures.value ∙ ap (λ (v : Vec (Vec ℕ Global) Global). bodies_of v.items) c.on-log.ensures.bodies in
-    let found : g.D.Disk.honest → IsFound g.D.Disk c.in-Ok.is_new (bodies_of c.deref.result.now) c.on-log.result.0 =
-    λ h. subst (λ (l : List (List ℕ)). IsFound g.D.Disk c.in-Ok.is_new l c.on-log.result.0) (ap (λ (l : List (Vec ℕ Global)). bodies_of l) (sym c.deref.ensures.value))
-    (found_log g.D.Disk c.in-Ok.is_new (bodies_of c.on-log.result.1.items) c.on-log.result.0 c.find_log.new.second
+    let same : bodies_of c.on-log.result.1.items ≡ bodies_of c.in-Ok.opened.scan.bodies.items = ap (λ (v : Vec (Vec ℕ Global) Global). bodies_of v.items) c.on-log.ensures.bodies in
+    let found : g.D.Disk.honest → IsFound g.D.Disk c.in-Ok.is_new (bodies_of c.on-log.result.1.items) c.on-log.result.0 =
+    λ h.
+    found_log g.D.Disk c.in-Ok.is_new (bodies_of c.on-log.result.1.items) c.on-log.result.0 c.find_log.new.second
     (c.on-log.ensures.log h (c.in-Ok.ensures.stands h))
     (λ new. (
       ap (λ (v : Vec (Vec ℕ Global) Global). bodies_of v.items) c.on-log.ensures.bodies ∙ ap (λ (l : List (Vec ℕ Global)). bodies_of l) (c.in-Ok.ensures.made new).0,
       c.on-log.ensures.on_first ∙ (c.in-Ok.ensures.made new).1,
       c.in-Ok.ensures.made_beside h new,
     ))
-    c.on-log.ensures.disks.1) in
-    refused_left g.D.Disk c.args.first c.args.second c.in-Ok.is_new (bodies_of c.deref.result.now) c.args.settings.log_bytes c.on-log.result.0
+    c.on-log.ensures.disks.1 in
+    refused_left g.D.Disk c.args.first c.args.second c.in-Ok.is_new (bodies_of c.on-log.result.1.items) c.args.settings.log_bytes c.on-log.result.0
     (λ h.
     subst (λ d. LeavesFinding g.D.Disk c.args.first d c.args.second (second_of c.on-log.result.0)) (sym c.on-log.ensures.disks.0)
     (subst (λ d. LeavesFinding g.D.Disk c.args.first c.find_log.new.first c.args.second d) (sym c.on-log.ensures.disks.1) (c.in-Ok.ensures.leaves h)))

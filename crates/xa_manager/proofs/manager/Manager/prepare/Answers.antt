@@ -52,6 +52,14 @@ pub returns-in_err-make_room-clause-err : goal.returns-in_err-make_room-clause-e
 returns-in_err-make_room-clause-err g c =
     on_err c.from_residual-in_err-make_room.result _ (stays_up _ c.args.self.now (record c.args.self.now { tables = c.make_room.new.self }) c.requires.up refl refl refl c.in_err-make_room.ensures.err)
 
+-- where the buffer found no memory, the branch's room is given back
+pub returns-in_default-journal-clause-err : goal.returns-in_default-journal-clause-err
+returns-in_default-journal-clause-err g c =
+    let m = c.args.self.now in
+    let same = c.in_default-journal.ensures.err in
+    stays_up _ m (record c.journal.new.self { tables = c.give_room_back.new.self }) c.requires.up (ap (λ x. x.up) same) (ap (λ x. x.log) same) (ap (λ x. x.doubt) same)
+    (λ s st. c.give_room_back.ensures.given s (subst (λ (k : Tables). StandsWithRoom c.args.xid.now (view_of k) s) (sym (ap (λ x. x.tables) same)) (c.in_ok-make_room.ensures.ok s st)))
+
 pub returns-then-not-has_room-clause-ok : goal.returns-then-not-has_room-clause-ok
 returns-then-not-has_room-clause-ok g c =
     let m = c.args.self.now in
@@ -86,12 +94,12 @@ pub returns-clause-ok : goal.returns-clause-ok
 returns-clause-ok g c =
     let m = c.args.self.now in
     let mid = record c.args.self.now { tables = c.make_room.new.self } in
-    let mid' = c.journal-answer.new.self in
+    let mid' = c.journal.new.self in
     let m' = record mid' { tables = c.take_prepared.new.self } in
     let xid = c.args.xid.now in
     let t = c.timestamp-timestamp.result in
     let ws = c.in_ok-writes.writes.items in
-    let a = c.journal-answer.result in
+    let a = c.in-Ok.answer in
     let free : c.one_phase_refusal.result ≡ None = search rules in
     let unmarked : c.mark_of.result ≡ None = search rules in
     let some : 1 ≤ length ws = grind (arith, nat_tests, c.is_empty.ensures, c.if-is_empty.false) in
@@ -107,9 +115,9 @@ returns-clause-ok g c =
     c.in_ok-body.ensures ∙ ap (λ x. spelled (logged.Prepared x t c.new.result)) c.copied.ensures ∙ ap (λ us. spelled (logged.Prepared xid t us)) c.new.ensures in
     let size : c.len.result ≡ length c.in_ok-body.body.items = grind (arith, c.len.ensures, c.in_ok-body.body.ok.0) in
     let fits : c.has_room.result ≡ true = search rules in
-    let same : c.journal-answer.new.self.tables ≡ mid.tables = c.journal-answer.ensures.tables in
+    let same : c.journal.new.self.tables ≡ mid.tables = c.in-Ok.ensures.ok.tables in
     rw c.appended.ensures
-    (takes_appending _ m mid mid' m' (λ (s : State). prepare_turn s xid) c.deref.result.now a _ _ (served_by XAER_RMERR a) refl refl refl c.journal-answer.ensures refl refl refl
+    (takes_appending _ m mid mid' m' (λ (s : State). prepare_turn s xid) c.deref.result.now a _ _ (served_by XAER_RMERR a) refl refl refl c.in-Ok.ensures.ok refl refl refl
     (λ s whole is_up.
     let st = tables_up _ m s is_up whole in
     let r = logged.Prepared xid (timestamp_in s xid) (writes_in s xid) in

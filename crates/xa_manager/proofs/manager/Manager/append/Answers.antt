@@ -4,7 +4,7 @@ use Rattle.std.proofs.Common.{length}
 use Rattle.xa_model.specs.declared.outcome.Appending.TheVariants.{Refused, Lost}
 use Rattle.xa_manager.specs.declared.doubt.Doubt.TheVariants as doubt
 use Rattle.xa_manager.proofs.Appending.{has_appended, refused_with_room}
-use Rattle.xa_manager.proofs.manager.Manager.journal.Goals as goal
+use Rattle.xa_manager.proofs.manager.Manager.append.Goals as goal
 
 pub returns-in-Refused : goal.returns-in-Refused
 returns-in-Refused g c =

@@ -1,0 +1,145 @@
+use crate::frames::{CONTENTS, Content, is_content, letter_with, reply_again, with_byte};
+use crate::rows::none_wrong;
+use std::alloc::Global;
+use xa_branch::Branches;
+use xa_codes::{XA_OK, XA_RBOTHER};
+use xa_frame::{
+    BranchState, FrameFault, KnownBranch, Request, decode_reply, decode_request, encode_request,
+};
+use xa_xid::Xid;
+
+/// What each of the first 17 contents is with operation 66 in place of its own.
+const AS_BRANCHES: &[u8] = b"FSTTTTTTTSFSFFSST";
+
+fn wrong_branches(alloc: Global, rows: &[Content], letters: &[u8]) -> Option<usize> {
+    for (index, ((content, _, _), expected)) in rows.iter().zip(letters).enumerate() {
+        if letter_with(alloc, content, 1, 66) != *expected {
+            return Some(index);
+        }
+    }
+    None
+}
+
+#[test]
+fn operation(rt: HostRuntime) {
+    none_wrong(&rt, wrong_branches(rt.alloc(), &CONTENTS, AS_BRANCHES));
+}
+
+const ASKED: [u8; 15] = [1, 66, 1, 2, 3, 4, 1, 0, 0, 0, 1, 1, 1, 0xaa, 0xbb];
+
+fn asked_content(alloc: Global) -> Option<Vec<u8>> {
+    let request = Request::Branches {
+        count: 0x0102_0304,
+        after: Xid::take_text(b"1:aa:bb"),
+    };
+    encode_request(alloc, &request).ok()
+}
+
+fn is_asked(request: &Request) -> bool {
+    match request {
+        Request::Branches { count, after } => {
+            *count == 0x0102_0304 && *after == Xid::take_text(b"1:aa:bb")
+        }
+        _ => false,
+    }
+}
+
+fn reads_asked(alloc: Global) -> bool {
+    match decode_request(alloc, &ASKED) {
+        Ok(request) => is_asked(&request),
+        Err(_) => false,
+    }
+}
+
+#[test]
+fn asked(rt: HostRuntime) {
+    assert!(rt; is_content(asked_content(rt.alloc()), &ASKED));
+    assert!(rt; reads_asked(rt.alloc()));
+}
+
+/// 1:aa:bb is at work, with mark 101, timestamp 4,294,967,297, one active association and two loose ones.
+const LISTED: [u8; 44] = [
+    1, 0, 0, 0, 0, 0, 0, 0, 0, 0, 0, 0, 0, 3, 5, 0, 1, 0, 0, 0, 1, 1, 1, 0xaa, 0xbb, 1, 0, 0, 0,
+    101, 0, 0, 0, 1, 0, 0, 0, 1, 0, 1, 0, 0, 0, 2,
+];
+
+/// Where its state stands.
+const STATE: usize = 25;
+
+/// What each of its prefixes is, from the empty one to the whole.
+const PREFIXES: &[u8] = b"SSSSSSSSSSSSSSSSSFFFFFFFFSSSSSSSSSSSSSSSSSSSk";
+
+fn reply_letter(alloc: Global, content: &[u8]) -> u8 {
+    match decode_reply(alloc, content) {
+        Ok(_) => b'k',
+        Err(FrameFault::Short) => b'S',
+        Err(FrameFault::Field) => b'F',
+        Err(_) => b'?',
+    }
+}
+
+fn wrong_prefix(alloc: Global, content: &[u8], letters: &[u8]) -> Option<usize> {
+    for (n, expected) in letters.iter().enumerate() {
+        if reply_letter(alloc, content.get(..n).unwrap_or_default()) != *expected {
+            return Some(n);
+        }
+    }
+    None
+}
+
+fn wrong_state(alloc: Global, content: &[u8]) -> Option<usize> {
+    for value in 0..=255 {
+        let expected = if (1..=4).contains(&value) { b'k' } else { b'F' };
+        let letter = match with_byte(alloc, content, STATE, value) {
+            Ok(bytes) => reply_letter(alloc, &bytes),
+            Err(_) => b'?',
+        };
+        if letter != expected {
+            return Some(usize::from(value));
+        }
+    }
+    None
+}
+
+#[test]
+fn listed(rt: HostRuntime) {
+    assert!(rt; is_content(reply_again(rt.alloc(), &LISTED), &LISTED));
+    none_wrong(&rt, wrong_prefix(rt.alloc(), &LISTED, PREFIXES));
+    none_wrong(&rt, wrong_state(rt.alloc(), &LISTED));
+}
+
+// A branch at work whose one session is at work for it.
+fn is_begun(branch: &KnownBranch, xid: &Xid, mark: i32, timestamp: u64) -> bool {
+    let counts = branch.associations;
+    branch.xid == *xid
+        && branch.state == BranchState::Working
+        && branch.mark == mark
+        && branch.timestamp == timestamp
+        && (counts.active, counts.suspended, counts.loose) == (1, 0, 0)
+}
+
+fn knows(alloc: Global) -> Option<bool> {
+    let first = Xid::take_text(b"1:aa:")?;
+    let second = Xid::take_text(b"1:bb:")?;
+    let mut branches = Branches::new(alloc, 1, 1, 0);
+    let none = branches.known_after(alloc, None, 256).ok()?;
+    branches.begin(&second, 0).ok()?;
+    branches.begin(&first, 0).ok()?;
+    branches.doom(&second, XA_RBOTHER);
+    let all = branches.known_after(alloc, None, 256).ok()?;
+    let above = branches.known_after(alloc, Some(&first), 1).ok()?;
+    let one = all.first()?;
+    let other = above.first()?;
+    Some(
+        none.is_empty()
+            && all.len() == 2
+            && above.len() == 1
+            && is_begun(one, &first, XA_OK, 0x1_0000_0002)
+            && is_begun(other, &second, XA_RBOTHER, 0x1_0000_0001),
+    )
+}
+
+#[test]
+fn known(rt: HostRuntime) {
+    assert!(rt; knows(rt.alloc()) == Some(true));
+}
