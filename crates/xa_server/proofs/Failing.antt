@@ -1,41 +1,77 @@
 -- What is known where a server failed.
-use Rattle.std.proofs.Common.{ℕ, ◌≡◌, ◌<◌, ◌⊎◌, List, inl, inr}
+use Rattle.std.proofs.Common.{ℕ, zero, suc, ◌≡◌, ◌<◌, ◌⊎◌, List, inl, inr, arith}
 use Rattle.xa_disk.specs.declared.disk.Disk as disk
 use Rattle.xa_disk.specs.declared.file_fault.FileFault.{FileFault}
 use Rattle.xa_server.specs.declared.listens.Listens as listens
-use Rattle.xa_server.specs.declared.service.Service.{Service}
+use Rattle.xa_server.specs.declared.engine.TheConstants.{MOST_LOOPS}
 use Rattle.xa_server.specs.declared.fault.ServerFault.{ServerFault}
 use Rattle.xa_server.specs.declared.fault.ServerFault.TheVariants as serving
 use Rattle.xa_server.specs.declared.serving.TheConstants.{MOST_WORKERS}
 use Rattle.xa_server.specs.Faults.{serving_fault}
-use Rattle.xa_server.specs.Served.{AreFiles, HasFailed, Refuses, WasReady}
+use Rattle.xa_server.specs.Served.{AreFiles, AreLoops, HasFailedBy, NoLoops, NoWorkers, Place, Refuses, WasReady, never}
 use Rattle.xa_server.specs.declared.serve_fault.ServeFault.{ServeFault}
 use Rattle.xa_server.specs.declared.serve_fault.ServeFault.TheVariants as fault
 
 -- it failed on the files at a path
 pub failed_on_files : {D R : Type 0} (disks : disk.Ghosts D) (opened : D → List ℕ → Type 0)
-    (refused : List ℕ → FileFault → Type 0) (net : listens.Ghosts R) (log_bytes : ℕ) (service : Service)
-    (first second : D) (why : ServeFault)
-    → AreFiles opened service.path.now first second
-    → Refuses disks service.path.now service.name.now log_bytes first second why
-    → HasFailed disks opened refused net log_bytes service why
-failed_on_files disks opened refused net log_bytes service first second fault.Memory files h = tt
-failed_on_files disks opened refused net log_bytes service first second fault.Write files h = absurd h
-failed_on_files disks opened refused net log_bytes service first second fault.Listen files h = absurd h
-failed_on_files disks opened refused net log_bytes service first second fault.Start files h = absurd h
-failed_on_files disks opened refused net log_bytes service first second fault.InUse files h = absurd h
-failed_on_files disks opened refused net log_bytes service first second (fault.File log_file cause) files h = absurd h
-failed_on_files disks opened refused net log_bytes service first second (fault.Missing log_file) files h =
+    (refused : List ℕ → FileFault → Type 0) (net : listens.Ghosts R) (log_bytes : ℕ) (place : Place)
+    (late : ServeFault → Type 0) (first second : D) (why : ServeFault)
+    → AreFiles opened place.path first second → Refuses disks place.path place.name log_bytes first second why
+    → HasFailedBy disks opened refused net log_bytes place late why
+failed_on_files disks opened refused net log_bytes place late first second fault.Memory files h = tt
+failed_on_files disks opened refused net log_bytes place late first second fault.Write files h = absurd h
+failed_on_files disks opened refused net log_bytes place late first second fault.Listen files h = absurd h
+failed_on_files disks opened refused net log_bytes place late first second fault.Start files h = absurd h
+failed_on_files disks opened refused net log_bytes place late first second fault.Wait files h = absurd h
+failed_on_files disks opened refused net log_bytes place late first second fault.InUse files h = absurd h
+failed_on_files disks opened refused net log_bytes place late first second (fault.File log_file cause) files h = absurd h
+failed_on_files disks opened refused net log_bytes place late first second (fault.Missing log_file) files h =
     (first, second, files, h)
-failed_on_files disks opened refused net log_bytes service first second (fault.Manager e) files h =
+failed_on_files disks opened refused net log_bytes place late first second (fault.Manager e) files h =
     (first, second, files, h)
 
--- all was ready, and its sessions weren't served
+-- it failed before it served, whatever may be said later
+pub failed_early : {D R : Type 0} (disks : disk.Ghosts D) (opened : D → List ℕ → Type 0)
+    (refused : List ℕ → FileFault → Type 0) (net : listens.Ghosts R) (log_bytes : ℕ) (place : Place)
+    (late : ServeFault → Type 0) (why : ServeFault)
+    → HasFailedBy disks opened refused net log_bytes place never why → HasFailedBy disks opened refused net log_bytes place late why
+failed_early disks opened refused net log_bytes place late fault.Memory h = tt
+failed_early disks opened refused net log_bytes place late fault.Write h = h
+failed_early disks opened refused net log_bytes place late fault.Listen h = h
+failed_early disks opened refused net log_bytes place late fault.Start h = absurd h.1
+failed_early disks opened refused net log_bytes place late fault.Wait h = absurd h.1
+failed_early disks opened refused net log_bytes place late fault.InUse h = h
+failed_early disks opened refused net log_bytes place late (fault.File log_file cause) h = h
+failed_early disks opened refused net log_bytes place late (fault.Missing log_file) h = h
+failed_early disks opened refused net log_bytes place late (fault.Manager e) h = h
+
+-- all was ready, and its sessions weren't served by workers
 pub failed_when_ready : {D R : Type 0} (disks : disk.Ghosts D) (opened : D → List ℕ → Type 0)
-    (refused : List ℕ → FileFault → Type 0) (net : listens.Ghosts R) (log_bytes : ℕ) (service : Service) (why : ServerFault)
-    → WasReady disks opened net log_bytes service
-    → (why ≡ serving.Memory) ⊎ (why ≡ serving.Workers service.workers)
-    → (why ≡ serving.Workers service.workers → (service.workers ≡ 0) ⊎ (MOST_WORKERS < service.workers))
-    → HasFailed disks opened refused net log_bytes service (serving_fault why)
-failed_when_ready disks opened refused net log_bytes service why ready (inl memory) workers = rw memory tt
-failed_when_ready disks opened refused net log_bytes service why ready (inr none) workers = rw none (ready, workers none)
+    (refused : List ℕ → FileFault → Type 0) (net : listens.Ghosts R) (log_bytes : ℕ) (place : Place) (workers : ℕ)
+    (why : ServerFault)
+    → WasReady disks opened net log_bytes place
+    → (why ≡ serving.Memory) ⊎ (why ≡ serving.Workers workers)
+    → (why ≡ serving.Workers workers → (workers ≡ 0) ⊎ (MOST_WORKERS < workers))
+    → HasFailedBy disks opened refused net log_bytes place (NoWorkers workers) (serving_fault why)
+failed_when_ready disks opened refused net log_bytes place workers why ready (inl memory) none = rw memory tt
+failed_when_ready disks opened refused net log_bytes place workers why ready (inr is) none = rw is (ready, none is)
+
+-- a number of loops that is none is more than there may be
+too_many : (asked loops : ℕ) → AreLoops asked loops → (loops ≡ 0) ⊎ (MOST_LOOPS < loops) → MOST_LOOPS < asked
+too_many zero loops are (inl none) = absurd (omega (arith, are.0, none))
+too_many zero loops are (inr many) = absurd (omega (arith, are.1, many))
+too_many (suc n) loops are (inl none) = absurd (omega (arith, are, none))
+too_many (suc n) loops are (inr many) = omega (arith, are, many)
+
+-- all was ready, and its sessions weren't served by loops
+pub loops_failed : {D R : Type 0} (disks : disk.Ghosts D) (opened : D → List ℕ → Type 0)
+    (refused : List ℕ → FileFault → Type 0) (net : listens.Ghosts R) (log_bytes : ℕ) (place : Place) (asked loops : ℕ)
+    (why : ServerFault)
+    → WasReady disks opened net log_bytes place → AreLoops asked loops
+    → (why ≡ serving.Memory) ⊎ ((why ≡ serving.Wait) ⊎ (why ≡ serving.Loops loops))
+    → (why ≡ serving.Loops loops → (loops ≡ 0) ⊎ (MOST_LOOPS < loops))
+    → HasFailedBy disks opened refused net log_bytes place (NoLoops asked) (serving_fault why)
+loops_failed disks opened refused net log_bytes place asked loops why ready are (inl memory) none = rw memory tt
+loops_failed disks opened refused net log_bytes place asked loops why ready are (inr (inl wait)) none = rw wait (ready, tt)
+loops_failed disks opened refused net log_bytes place asked loops why ready are (inr (inr is)) none =
+    rw is (ready, too_many asked loops are (none is))

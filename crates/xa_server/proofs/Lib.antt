@@ -1,3 +1,4 @@
 pub mod Opening
 pub mod Promising
 pub mod Failing
+pub mod Sharing

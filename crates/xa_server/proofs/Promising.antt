@@ -5,6 +5,7 @@ use Rattle.xa_manager.specs.Managed.{ManagerStandsFor}
 use Rattle.xa_manager.proofs.Promised as promised
 use Rattle.xa_model.specs.State.{State}
 use Rattle.xa_room.specs.declared.manages.Manages.{Ghosts}
+use Rattle.xa_server.specs.Loops.{LoopedPromises}
 use Rattle.xa_server.specs.Serves.{ServedPromises}
 
 -- of a manager that is what `stands` says, where that says no less than the manager's own relation
@@ -20,6 +21,24 @@ served_promises L disks m stands manager bodies name log_bytes begun base worker
       stood = stood;
       entries = serves.entries;
       calls_are = serves.tells.calls_are;
+      promised = λ trusted.
+          let after = serves.promises opened.0 stood opened.1.opens trusted in
+          (after.0, after.1, after.3, after.4, after.5);
+    }
+
+-- the same of what loops served
+pub looped_promises : {D : Type 0} (disks : disk.Ghosts D) (m : Ghosts (Manager D))
+    → ((manager : Manager D) (s : State) → ManagerStandsFor disks manager s → m.stands manager s)
+    → LoopedPromises disks m
+looped_promises disks m stands manager bodies name log_bytes begun base loops told serves =
+    let opened = promised.begun_is_reached disks manager bodies name log_bytes begun in
+    let stood = stands manager opened.0 opened.2 in
+    record {
+      first = opened.0;
+      opens = opened.1.opens;
+      stood = stood;
+      entries = serves.entries;
+      calls_are = serves.calls_are;
       promised = λ trusted.
           let after = serves.promises opened.0 stood opened.1.opens trusted in
           (after.0, after.1, after.3, after.4, after.5);

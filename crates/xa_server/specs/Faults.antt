@@ -3,11 +3,13 @@ use Rattle.xa_disk.specs.declared.file_fault.FileFault.{FileFault}
 use Rattle.xa_disk.specs.declared.file_fault.FileFault.TheVariants as file
 use Rattle.xa_manager.specs.declared.fault.ManagerFault.{ManagerFault}
 use Rattle.xa_manager.specs.declared.fault.ManagerFault.TheVariants as opening
+use Rattle.xa_reactor.specs.declared.loops.LoopFault.{LoopFault}
+use Rattle.xa_reactor.specs.declared.loops.LoopFault.TheVariants as loop
 use Rattle.xa_server.specs.declared.fault.ServerFault.{ServerFault}
 use Rattle.xa_server.specs.declared.fault.ServerFault.TheVariants as serving
 use Rattle.xa_server.specs.declared.log_file.LogFile.{LogFile}
 use Rattle.xa_server.specs.declared.serve_fault.ServeFault.{ServeFault}
-use Rattle.xa_server.specs.declared.serve_fault.ServeFault.TheVariants.{Memory, Start, InUse, File, Manager}
+use Rattle.xa_server.specs.declared.serve_fault.ServeFault.TheVariants.{Memory, Start, Wait, InUse, File, Manager}
 
 -- why a file of the log wasn't opened
 abbrev pub file_fault : LogFile → FileFault → ServeFault
@@ -24,3 +26,10 @@ opening_fault fault = Manager fault
 abbrev pub serving_fault : ServerFault → ServeFault
 serving_fault serving.Memory = Memory
 serving_fault (serving.Workers n) = Start
+serving_fault (serving.Loops n) = Start
+serving_fault serving.Wait = Wait
+
+-- why loops didn't run
+abbrev pub loop_fault : LoopFault → ServerFault
+loop_fault loop.Memory = serving.Memory
+loop_fault loop.Wait = serving.Wait

@@ -2,3 +2,4 @@ pub mod Faults
 pub mod Lines
 pub mod Served
 pub mod Serves
+pub mod Loops

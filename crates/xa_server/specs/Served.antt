@@ -1,5 +1,5 @@
 -- What a server that ended did, and what is known where it failed.
-use Rattle.std.specs.Prelude.{◌≡◌, ◌⊎◌, ◌<◌, ◌++◌, ℕ, Bool, true, false, if◌then◌else◌, List, [], IsSomeAnd, Some, codes}
+use Rattle.std.specs.Prelude.{◌≡◌, ◌⊎◌, ◌<◌, ◌≤◌, ◌++◌, ◌&&◌, ℕ, zero, suc, Bool, true, false, not, if◌then◌else◌, List, [], IsSomeAnd, Some, codes}
 use Rattle.std.specs.declared.net.TcpListener.{TcpListener}
 use Rattle.xa_disk.specs.declared.disk.Disk as disk
 use Rattle.xa_disk.specs.declared.file_fault.FileFault.{FileFault}
@@ -20,9 +20,13 @@ use Rattle.xa_model.specs.Step.{step}
 use Rattle.xa_model.specs.Turn.{Reopened}
 use Rattle.xa_room.specs.declared.manages.Manages as room
 use Rattle.xa_server.specs.declared.audited.Audited.{Audited}
+use Rattle.xa_server.specs.declared.engine.Looped.{Looped}
+use Rattle.xa_server.specs.declared.engine.TheConstants.{MOST_LOOPS}
 use Rattle.xa_server.specs.declared.listens.Listens as listens
+use Rattle.xa_server.specs.declared.looping.LoopService.{LoopService}
 use Rattle.xa_server.specs.declared.service.Service.{Service}
 use Rattle.xa_server.specs.declared.serving.TheConstants.{MOST_WORKERS}
+use Rattle.xa_server.specs.Loops.{ServesByLoops}
 use Rattle.xa_server.specs.Serves.{Serves}
 use Rattle.xa_server.specs.declared.serve_fault.ServeFault.{ServeFault}
 use Rattle.xa_server.specs.declared.serve_fault.ServeFault.TheVariants as fault
@@ -41,9 +45,28 @@ pub record HasOpened {D : Type 0} (disks : disk.Ghosts D) (first second : D) (na
       × IsSomeAnd (step s (Reopened name log_bytes) (Reread survived (Some Kept)))
       (λ a. ManagerStandsFor disks m a.after)
 
--- the address that a server listens at
-abbrev pub address : List ℕ
-address = codes "127.0.0.1"
+-- where the log is that a server is to open, by which name, and where it is to listen
+pub record Place : Type 0 where
+  pub path : List ℕ
+  pub name : List ℕ
+  pub address : List ℕ
+  pub port : ℕ
+
+abbrev pub place_of : Service → Place
+place_of service = record {
+  path = service.path.now;
+  name = service.name.now;
+  address = codes "127.0.0.1";
+  port = service.port;
+}
+
+abbrev pub loop_place_of : LoopService → Place
+loop_place_of service = record {
+  path = service.path.now;
+  name = service.name.now;
+  address = service.address.now;
+  port = service.port;
+}
 
 abbrev pub second_path : List ℕ → List ℕ
 second_path path = path ++ codes ".2"
@@ -58,15 +81,15 @@ pub record AreWhole {D : Type 0} (disks : disk.Ghosts D) (opened : D → List �
   pub files : AreFiles opened path first second
   pub whole : disks.honest → missing_of (disks.seen first) (disks.seen second) ≡ Neither
 
--- The log's two files were opened at the path that was asked for; the listener listens on the port; and this manager
--- was opened on the files.
+-- The log's two files were opened at the path that was asked for; the listener listens at the address, on the port; and
+-- this manager was opened on the files.
 pub record IsReady {D R : Type 0} (disks : disk.Ghosts D) (opened : D → List ℕ → Type 0) (net : listens.Ghosts R)
-    (log_bytes : ℕ) (service : Service) (listener : TcpListener) (manager : Manager D) : Type 0 where
+    (log_bytes : ℕ) (place : Place) (listener : TcpListener) (manager : Manager D) : Type 0 where
   pub first : D
   pub second : D
-  pub files : AreWhole disks opened service.path.now first second
-  pub listening : net.listens listener address service.port
-  pub has_opened : HasOpened disks first second service.name.now log_bytes manager
+  pub files : AreWhole disks opened place.path first second
+  pub listening : net.listens listener place.address place.port
+  pub has_opened : HasOpened disks first second place.name log_bytes manager
 
 -- All was ready, and the manager's sessions were served by so many workers, from each state that it stood for. The
 -- audit of their history found this.
@@ -75,10 +98,29 @@ pub record HasServed {D R : Type 0} (L : Type 0) (disks : disk.Ghosts D) (m : ro
     : Type 0 where
   pub listener : TcpListener
   pub manager : Manager D
-  pub ready : IsReady disks opened net log_bytes service listener manager
+  pub ready : IsReady disks opened net log_bytes (place_of service) listener manager
   pub told : Audited
   pub serves : Serves L m (m.stands manager) (m.failures manager) service.workers told
   pub found : is_whole ≡ told.is_whole
+
+-- how many loops are to run: as many as were asked for, or 1 to 4 where none were
+abbrev pub AreLoops : ℕ → ℕ → Type 0
+AreLoops zero loops = (0 < loops) × (loops ≤ 4)
+AreLoops (suc n) loops = loops ≡ suc n
+
+-- All was ready, and the manager's sessions were served by loops, from each state that it stood for. All is well, unless
+-- the manager is down and a server that is down was to end.
+pub record HasLooped {D R : Type 0} (disks : disk.Ghosts D) (m : room.Ghosts (Manager D)) (opened : D → List ℕ → Type 0)
+    (net : listens.Ghosts R) (log_bytes : ℕ) (service : LoopService) (is_well : Bool) : Type 0 where
+  pub listener : TcpListener
+  pub manager : Manager D
+  pub ready : IsReady disks opened net log_bytes (loop_place_of service) listener manager
+  pub loops : ℕ
+  pub loops_are : AreLoops service.loops loops
+  pub told : Looped
+  pub serves : ServesByLoops m (m.stands manager) (m.failures manager) loops told
+  pub whole : told.is_whole ≡ true
+  pub well : is_well ≡ not (service.ends_when_down && told.is_down)
 
 -- ---- where it failed
 
@@ -110,33 +152,60 @@ Refuses disks path name log_bytes first second (fault.Missing file) =
 Refuses disks path name log_bytes first second _ = ⊥
 
 -- the disks that it failed on were opened on the files at a path
-abbrev pub HasRefused : {D : Type 0} → disk.Ghosts D → (D → List ℕ → Type 0) → ℕ → Service → ServeFault → Type 0
-HasRefused {D} disks opened log_bytes service why =
-    (first : D) × (second : D) × AreFiles opened service.path.now first second
-    × Refuses disks service.path.now service.name.now log_bytes first second why
+abbrev pub HasRefused : {D : Type 0} → disk.Ghosts D → (D → List ℕ → Type 0) → ℕ → Place → ServeFault → Type 0
+HasRefused {D} disks opened log_bytes place why =
+    (first : D) × (second : D) × AreFiles opened place.path first second
+    × Refuses disks place.path place.name log_bytes first second why
 
 -- all was ready
-abbrev pub WasReady : {D R : Type 0} → disk.Ghosts D → (D → List ℕ → Type 0) → listens.Ghosts R → ℕ → Service → Type 0
-WasReady {D} disks opened net log_bytes service =
-    (listener : TcpListener) × (manager : Manager D) × IsReady disks opened net log_bytes service listener manager
+abbrev pub WasReady : {D R : Type 0} → disk.Ghosts D → (D → List ℕ → Type 0) → listens.Ghosts R → ℕ → Place → Type 0
+WasReady {D} disks opened net log_bytes place =
+    (listener : TcpListener) × (manager : Manager D) × IsReady disks opened net log_bytes place listener manager
 
 -- What was asked before it failed, and how that ended: a file was refused; no manager was opened on the files, or one of
--- them is missing; the files were there, and the port was refused; all was ready, and it couldn't print, or there are no
--- such workers.
+-- them is missing; the files were there, and the port was refused; all was ready, and it couldn't print, or it didn't
+-- serve for what `late` says.
+abbrev pub HasFailedBy : {D R : Type 0} → disk.Ghosts D → (D → List ℕ → Type 0) → (List ℕ → FileFault → Type 0)
+    → listens.Ghosts R → ℕ → Place → (ServeFault → Type 0) → ServeFault → Type 0
+HasFailedBy disks opened refused net log_bytes place late fault.Memory = Unit {0}
+HasFailedBy disks opened refused net log_bytes place late fault.InUse =
+    IsFileFault opened refused place.path fault.InUse
+HasFailedBy disks opened refused net log_bytes place late (fault.File log_file why) =
+    IsFileFault opened refused place.path (fault.File log_file why)
+HasFailedBy disks opened refused net log_bytes place late (fault.Manager e) =
+    HasRefused disks opened log_bytes place (fault.Manager e)
+HasFailedBy disks opened refused net log_bytes place late (fault.Missing file) =
+    HasRefused disks opened log_bytes place (fault.Missing file)
+HasFailedBy {D} disks opened refused net log_bytes place late fault.Listen =
+    (first : D) × (second : D) × AreWhole disks opened place.path first second
+    × net.refuses place.address place.port
+HasFailedBy disks opened refused net log_bytes place late fault.Write = WasReady disks opened net log_bytes place
+HasFailedBy disks opened refused net log_bytes place late fault.Start =
+    WasReady disks opened net log_bytes place × late fault.Start
+HasFailedBy disks opened refused net log_bytes place late fault.Wait =
+    WasReady disks opened net log_bytes place × late fault.Wait
+
+-- before it serves, nothing
+abbrev pub never : ServeFault → Type 0
+never why = ⊥
+
+-- workers: there are no such
+abbrev pub NoWorkers : ℕ → ServeFault → Type 0
+NoWorkers workers fault.Start = (workers ≡ 0) ⊎ (MOST_WORKERS < workers)
+NoWorkers workers _ = ⊥
+
+-- loops: there are none such, or the system gave nothing to wait for connections by
+abbrev pub NoLoops : ℕ → ServeFault → Type 0
+NoLoops loops fault.Start = MOST_LOOPS < loops
+NoLoops loops fault.Wait = Unit {0}
+NoLoops loops _ = ⊥
+
 abbrev pub HasFailed : {D R : Type 0} → disk.Ghosts D → (D → List ℕ → Type 0) → (List ℕ → FileFault → Type 0)
     → listens.Ghosts R → ℕ → Service → ServeFault → Type 0
-HasFailed disks opened refused net log_bytes service fault.Memory = Unit {0}
-HasFailed disks opened refused net log_bytes service fault.InUse =
-    IsFileFault opened refused service.path.now fault.InUse
-HasFailed disks opened refused net log_bytes service (fault.File log_file why) =
-    IsFileFault opened refused service.path.now (fault.File log_file why)
-HasFailed disks opened refused net log_bytes service (fault.Manager e) =
-    HasRefused disks opened log_bytes service (fault.Manager e)
-HasFailed disks opened refused net log_bytes service (fault.Missing file) =
-    HasRefused disks opened log_bytes service (fault.Missing file)
-HasFailed {D} disks opened refused net log_bytes service fault.Listen =
-    (first : D) × (second : D) × AreWhole disks opened service.path.now first second
-    × net.refuses address service.port
-HasFailed disks opened refused net log_bytes service fault.Write = WasReady disks opened net log_bytes service
-HasFailed disks opened refused net log_bytes service fault.Start =
-    WasReady disks opened net log_bytes service × ((service.workers ≡ 0) ⊎ (MOST_WORKERS < service.workers))
+HasFailed disks opened refused net log_bytes service why =
+    HasFailedBy disks opened refused net log_bytes (place_of service) (NoWorkers service.workers) why
+
+abbrev pub LoopsHaveFailed : {D R : Type 0} → disk.Ghosts D → (D → List ℕ → Type 0) → (List ℕ → FileFault → Type 0)
+    → listens.Ghosts R → ℕ → LoopService → ServeFault → Type 0
+LoopsHaveFailed disks opened refused net log_bytes service why =
+    HasFailedBy disks opened refused net log_bytes (loop_place_of service) (NoLoops service.loops) why

@@ -1,17 +1,25 @@
+use crate::engine::MOST_LOOPS;
 use crate::serving::MOST_WORKERS;
 use std::alloc::AllocError;
 use thiserror::Error;
+use xa_reactor::LoopFault;
 use xa_workers::WorkFault;
 
 /// Why nothing is told of what was served.
 #[derive(Clone, Copy, Debug, PartialEq, Eq, Error)]
 pub enum ServerFault {
-    /// There was no memory for the room, the workers or the audit.
+    /// There was no memory for the room, the workers or the audit, or for the loops.
     #[error("no memory")]
     Memory,
     /// So many workers: not 1 to `MOST_WORKERS`. Nobody was served.
     #[error("{0} workers, not 1 to {most}", most = MOST_WORKERS)]
     Workers(u64),
+    /// So many loops: not 1 to `MOST_LOOPS`. Nobody was served.
+    #[error("{0} loops, not 1 to {most}", most = MOST_LOOPS)]
+    Loops(u64),
+    /// The system gives the loops nothing to wait for connections by. Nobody was served.
+    #[error("cannot wait for connections")]
+    Wait,
 }
 
 impl From<AllocError> for ServerFault {
@@ -34,6 +42,20 @@ impl From<WorkFault> for ServerFault {
     fn from(fault: WorkFault) -> ServerFault {
         match fault {
             WorkFault::Memory => ServerFault::Memory,
+        }
+    }
+}
+
+impl From<LoopFault> for ServerFault {
+    ghost use Rattle.std.specs.Prelude.{◌≡◌};
+    ghost use Rattle.xa_server.specs.Faults.{loop_fault};
+
+    ghost from_gives = { λ fault told. told ≡ loop_fault fault };
+
+    fn from(fault: LoopFault) -> ServerFault {
+        match fault {
+            LoopFault::Memory => ServerFault::Memory,
+            LoopFault::Wait => ServerFault::Wait,
         }
     }
 }

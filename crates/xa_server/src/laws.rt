@@ -1,4 +1,5 @@
 //! What is promised of what a server served.
+ghost use Rattle.xa_server.specs.Loops.{LoopedPromises};
 ghost use Rattle.xa_server.specs.Serves.{ServedPromises};
 
 use std::sync::ledger::Ledger;
@@ -11,4 +12,9 @@ use xa_room::Manages;
 /// Restart it is so under the manager's premises.
 pub fn served_promises<D: Disk, L: Ledger>()
     ensures { ServedPromises L D.Disk ⟦<Manager<D> as Manages>⟧ }
+{}
+
+/// The same of what loops served.
+pub fn looped_promises<D: Disk>()
+    ensures { LoopedPromises D.Disk ⟦<Manager<D> as Manages>⟧ }
 {}

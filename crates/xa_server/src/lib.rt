@@ -4,26 +4,34 @@
 //! - `listens`: `Listens`, what listens on the ports of a machine
 //! - `serving`: `serve_manager`, which has workers serve a manager's sessions at one desk, and then audits the desk's
 //!   history; `MOST_WORKERS`
+//! - `looping`: `serve_loops`, which does the same by event loops, by its `LoopService`
+//! - `engine`: `loop_manager`, which has event loops serve a manager's sessions, each at its `post`; `Looped`, what they
+//!   tell; `MOST_LOOPS`
 //! - `audited`: `Audited`, what it tells of the history; `audited_lines`, the lines that show it
 //! - `serve_fault`: `ServeFault`, why nothing was served; `log_file`: `LogFile`, a file that it names; `fault`:
 //!   `ServerFault`, why nothing is told of it
-//! - `laws`: `served_promises`, what is promised of what was served
+//! - `laws`: `served_promises`, `looped_promises`, what is promised of what was served
 #![tactic(auto)]
 
 mod audited;
+mod engine;
 mod fault;
 mod laws;
 mod listens;
 mod log_file;
+mod looping;
+mod post;
 mod serve_fault;
 mod service;
 mod serving;
 
 pub use audited::{Audited, audited_lines};
+pub use engine::{Looped, MOST_LOOPS, loop_manager};
 pub use fault::ServerFault;
-pub use laws::served_promises;
+pub use laws::{looped_promises, served_promises};
 pub use listens::Listens;
 pub use log_file::LogFile;
+pub use looping::{LoopService, serve_loops};
 pub use serve_fault::ServeFault;
 pub use service::{MOST_SERVED, Service, serve};
 pub use serving::{MOST_WORKERS, serve_manager};

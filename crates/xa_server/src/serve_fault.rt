@@ -16,6 +16,8 @@ pub enum ServeFault<'a> {
     Listen,
     #[error("cannot start workers")]
     Start,
+    #[error("cannot wait for connections")]
+    Wait,
     /// A server has the log, or a scan reads it.
     #[error("log in use")]
     InUse,
@@ -65,7 +67,8 @@ impl From<ServerFault> for ServeFault<'_> {
         match fault {
             ServerFault::Memory => ServeFault::Memory,
             // the command line takes no such number
-            ServerFault::Workers(_) => ServeFault::Start,
+            ServerFault::Workers(_) | ServerFault::Loops(_) => ServeFault::Start,
+            ServerFault::Wait => ServeFault::Wait,
         }
     }
 }

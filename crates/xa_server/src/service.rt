@@ -6,7 +6,7 @@ ghost use Rattle.xa_log.specs.Missing.{missing_of};
 ghost use Rattle.xa_log.specs.declared.missing.Missing.TheVariants.{Neither};
 ghost use Rattle.xa_manager.specs.Opening.{IsBadSetting, OpenRefused};
 ghost use Rattle.xa_server.specs.Faults.{file_fault};
-ghost use Rattle.xa_server.specs.Served.{AreFiles, HasFailed, HasOpened, HasServed, IsFileFault, IsReady, Refuses, second_path};
+ghost use Rattle.xa_server.specs.Served.{AreFiles, HasFailed, HasFailedBy, HasOpened, HasServed, IsFileFault, IsReady, Refuses, never, second_path};
 
 use crate::audited::audited_lines;
 use crate::listens::Listens;
@@ -53,7 +53,13 @@ pub fn serve<'a, R: AllocGlobal + Print + Opens + Listens + Threads + Wait + Syn
         R.Listens MOST_LOG service.now) }
     ensures failed { IfErr result (HasFailed ⟦<R::Disk as Disk>⟧ R.opened R.refused R.Listens MOST_LOG service.now) }
 {
-    let (listener, manager) = make_ready(rt, service)?;
+    let (listener, manager) = make_ready(
+        rt,
+        service.path,
+        service.name,
+        "127.0.0.1",
+        service.port,
+    )?;
     if rt.println("ready").is_err() {
         return Err(ServeFault::Write);
     }
@@ -65,19 +71,23 @@ pub fn serve<'a, R: AllocGlobal + Print + Opens + Listens + Threads + Wait + Syn
     }
 }
 
-// The listener, and the manager that the log's two files open to.
-fn make_ready<'a, R: AllocGlobal + Opens + Listens>(
+/// What listens at an address on a port, and the manager that the log's two files open to.
+pub(crate) fn make_ready<'a, R: AllocGlobal + Opens + Listens>(
     rt: &R,
-    service: &Service<'a>,
+    path: &'a str,
+    name: &str,
+    address: &str,
+    port: u16,
 ) -> Result<(TcpListener, Manager<R::Disk>), ServeFault<'a>>
-    ensures ready { IfOk result (λ made. IsReady ⟦<R::Disk as Disk>⟧ R.opened R.Listens MOST_LOG service.now
-        made.0 made.1) }
-    ensures failed { IfErr result (HasFailed ⟦<R::Disk as Disk>⟧ R.opened R.refused R.Listens MOST_LOG service.now) }
+    ensures ready { IfOk result (λ made. IsReady ⟦<R::Disk as Disk>⟧ R.opened R.Listens MOST_LOG
+        (record { path = path.now; name = name.now; address = address.now; port = port }) made.0 made.1) }
+    ensures failed { IfErr result (HasFailedBy ⟦<R::Disk as Disk>⟧ R.opened R.refused R.Listens MOST_LOG
+        (record { path = path.now; name = name.now; address = address.now; port = port }) never) }
 {
-    let settings = Settings::new(rt.alloc(), service.name, MOST_LOG)?;
-    let (mut first, mut second) = open_files(rt, service.path)?;
-    none_missing(rt.alloc(), &mut first, &mut second, service.path)?;
-    let Ok(listener) = rt.listen("127.0.0.1", service.port) else {
+    let settings = Settings::new(rt.alloc(), name, MOST_LOG)?;
+    let (mut first, mut second) = open_files(rt, path)?;
+    none_missing(rt.alloc(), &mut first, &mut second, path)?;
+    let Ok(listener) = rt.listen(address, port) else {
         return Err(ServeFault::Listen);
     };
     let manager = open_manager(rt.alloc(), first, second, settings)?;

@@ -84,7 +84,7 @@ fn is_short(reply: &Reply) -> bool
     match &reply.body {
         Body::Nothing | Body::Number(_) | Body::Absent => true,
         Body::Value(value) => value.as_slice().len() <= MOST_VALUE,
-        Body::Xids(_) => false,
+        Body::Xids(_) | Body::Branches(_) => false,
     }
 }
 

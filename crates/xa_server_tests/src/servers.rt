@@ -59,7 +59,7 @@ impl<'a, R: Net<Stream = TcpStream>> Dial<Tap<'a>, TcpStream> for Caller<'a, R> 
 
 // Each call of a session, and each way of those that have several. Each line is the event of its own number: a
 // connection's first call is answered before the next connection is opened.
-const CALLS: [&str; 55] = [
+pub const EACH_CALL: &[&str] = &[
     "connect",
     "1 open TMNOFLAGS xarm",
     "connect",
@@ -119,7 +119,7 @@ const CALLS: [&str; 55] = [
     "2 hangup",
 ];
 
-fn script_of(alloc: Global, lines: &[&str]) -> Result<Vec<u8>, AllocError> {
+pub fn script_of(alloc: Global, lines: &[&str]) -> Result<Vec<u8>, AllocError> {
     let mut script = Vec::new(alloc);
     for line in lines {
         script.extend_from_slice(line.as_bytes())?;
@@ -129,7 +129,7 @@ fn script_of(alloc: Global, lines: &[&str]) -> Result<Vec<u8>, AllocError> {
 }
 
 // What `xarm play` prints.
-fn played(alloc: Global, script: &[u8]) -> Option<Vec<u8>> {
+pub fn played(alloc: Global, script: &[u8]) -> Option<Vec<u8>> {
     let settings = Settings {
         name: Bytes::from_slice(alloc, b"xarm").ok()?,
         log_bytes: LOG_BYTES,
@@ -141,7 +141,7 @@ fn played(alloc: Global, script: &[u8]) -> Option<Vec<u8>> {
 }
 
 // What `xarm talk` prints of a server, and the bytes that came from there.
-fn talked<R: Net<Stream = TcpStream>>(
+pub fn talked<R: Net<Stream = TcpStream>>(
     rt: &R,
     alloc: Global,
     address: SocketAddr,
@@ -184,7 +184,7 @@ fn asks_a_session(line: &str) -> bool {
 }
 
 // Whether each frame that came is the reply that play prints for its line, at the place of the line's number.
-fn are_replies(alloc: Global, lines: &[&str], printed: &[u8], came: &[u8]) -> Option<bool> {
+pub fn are_replies(alloc: Global, lines: &[&str], printed: &[u8], came: &[u8]) -> Option<bool> {
     let mut printed = printed;
     let mut came = came;
     for (i, line) in lines.iter().enumerate() {
@@ -239,7 +239,7 @@ fn answers_as_play<
 
 #[test]
 fn a_server_answers_as_play(rt: HostRuntime) {
-    assert_eq!(rt; answers_as_play(&rt, &CALLS), Some(true));
+    assert_eq!(rt; answers_as_play(&rt, EACH_CALL), Some(true));
 }
 
 // Five connections at once, each with its requests sent.

@@ -13,7 +13,7 @@ use Rattle.clap.proofs.ValueTestLemmas.{accepts-Accepts, Accepts-accepts}
 use Rattle.clap.proofs.WalkLemmas.{first_value-rows, one_text-rows}
 use Rattle.xa_script.specs.declared.style.Style.{Style}
 use Rattle.xa_script.specs.declared.style.Style.TheVariants.{Codes, Names}
-use Rattle.xarm.specs.Asks.{IsFlag, most_16, most_64, number_in, number_or, text_in}
+use Rattle.xarm.specs.Asks.{IsFlag, IsSet, most_16, most_64, number_in, number_or, text_in}
 
 -- a type of so many bits, whose greatest number is `most`
 pub record Holds (bits most : ℕ) : Type 0 where
@@ -84,4 +84,15 @@ flag_read found id flag style is none value other = record {
   absent = λ e. is ∙ ap (λ b. cond b Names Codes) (none (one_text-rows found id ∙ e));
   set = λ e. is ∙ ap (λ b. cond b Names Codes) (value (one_text-rows found id ∙ e));
   unset = λ e. is ∙ ap (λ b. cond b Names Codes) (other (one_text-rows found id ∙ e));
+}
+
+pub set_read : (found : Found) (id : Text) (flag : Bool)
+    → (one_text found id ≡ None → flag ≡ false)
+    → (one_text found id ≡ Some (codes "true") → flag ≡ true)
+    → (one_text found id ≡ Some (codes "false") → flag ≡ false)
+    → IsSet (one_of id (rows_of found)) flag
+set_read found id flag none value other = record {
+  absent = λ e. none (one_text-rows found id ∙ e);
+  set = λ e. value (one_text-rows found id ∙ e);
+  unset = λ e. other (one_text-rows found id ∙ e);
 }

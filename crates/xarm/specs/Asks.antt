@@ -1,5 +1,5 @@
 -- What the words of a command ask for.
-use Rattle.std.specs.Prelude.{◌≡◌, ◌⊎◌, ℕ, List, [], Option, Some, None, codes, if◌then◌else◌, unwrap_or}
+use Rattle.std.specs.Prelude.{◌≡◌, ◌≢◌, ◌⊎◌, ℕ, Bool, true, false, List, [], Option, Some, None, codes, if◌then◌else◌, unwrap_or}
 use Rattle.std.specs.Option.{option_map_or}
 use Rattle.std.specs.Str.Parse.{digits_value, without_leading_plus}
 use Rattle.clap.specs.ValueTests.{is_unsigned_in}
@@ -8,7 +8,8 @@ use Rattle.xa_limits.specs.declared.TheConstants.{MOST_LOG}
 use Rattle.xa_script.specs.declared.style.Style.{Style}
 use Rattle.xa_script.specs.declared.style.Style.TheVariants.{Codes, Names}
 use Rattle.xarm.specs.declared.asked.Asked.{Asked}
-use Rattle.xarm.specs.declared.asked.Asked.TheVariants.{Play, Scan, Serve, Talk, Tick}
+use Rattle.xa_server.specs.declared.service.TheConstants.{MOST_SERVED}
+use Rattle.xarm.specs.declared.asked.Asked.TheVariants.{Play, Scan, Serve, Loop, Talk, Tick}
 
 -- the text of an argument, or the one that stands for none
 abbrev pub text_in : List Row → Text → Text → Text
@@ -36,6 +37,11 @@ pub record IsFlag (text : Option Text) (style : Style) : Type 0 where
   pub set : text ≡ Some (codes "true") → style ≡ Names
   pub unset : text ≡ Some (codes "false") → style ≡ Codes
 
+pub record IsSet (text : Option Text) (flag : Bool) : Type 0 where
+  pub absent : text ≡ None → flag ≡ false
+  pub set : text ≡ Some (codes "true") → flag ≡ true
+  pub unset : text ≡ Some (codes "false") → flag ≡ false
+
 -- the command is one of the five
 abbrev pub IsCommand : Text → Type 0
 IsCommand command =
@@ -55,13 +61,27 @@ AsksBy command rows (Talk port style) =
 AsksBy command rows (Tick port every) =
     (command ≡ codes "tick") × (port ≡ number_in rows (codes "port") most_16 0)
     × (every ≡ number_in rows (codes "every") most_64 1)
+-- by workers, where their number is given
 AsksBy command rows (Serve service) =
     (command ≡ codes "serve")
+    × (number_in rows (codes "workers") most_64 0 ≢ 0)
     × (service.path.now ≡ text_in rows (codes "log") [])
     × (service.name.now ≡ text_in rows (codes "name") [])
     × (service.port ≡ number_in rows (codes "port") most_16 0)
     × (service.workers ≡ number_in rows (codes "workers") most_64 0)
+    × (service.connections ≡ number_in rows (codes "connections") most_64 MOST_SERVED)
+-- else by loops
+AsksBy command rows (Loop service) =
+    (command ≡ codes "serve")
+    × (number_in rows (codes "workers") most_64 0 ≡ 0)
+    × (service.path.now ≡ text_in rows (codes "log") [])
+    × (service.name.now ≡ text_in rows (codes "name") [])
+    × (service.address.now ≡ text_in rows (codes "listen") (codes "127.0.0.1"))
+    × (service.port ≡ number_in rows (codes "port") most_16 0)
+    × (service.loops ≡ number_in rows (codes "loops") most_64 0)
     × (service.connections ≡ number_in rows (codes "connections") most_64 0)
+    × (service.frame_seconds ≡ number_in rows (codes "frame-seconds") most_64 30)
+    × IsSet (one_of (codes "exit-when-down") rows) service.ends_when_down
 
 -- the same of the command that the words name, and its matches
 abbrev pub AsksOf : Option (Text × List Row) → Asked → Type 0

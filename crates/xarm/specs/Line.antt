@@ -7,6 +7,7 @@ use Rattle.clap.specs.declared.builder.arg.Arg.{Arg}
 use Rattle.clap.specs.declared.builder.command.Command.{Command}
 use Rattle.clap.specs.declared.builder.command.Command.TheViews.{out-Command as fields_of}
 use Rattle.clap.specs.declared.builder.value_parser.ValueParser.TheVariants.{Unsigned}
+use Rattle.xa_server.specs.declared.engine.TheConstants.{MOST_LOOPS}
 use Rattle.xa_server.specs.declared.service.TheConstants.{MOST_SERVED}
 use Rattle.xa_server.specs.declared.serving.TheConstants.{MOST_WORKERS}
 use Rattle.xa_talk.specs.declared.tick.TheConstants.{MOST_EVERY}
@@ -55,10 +56,22 @@ abbrev pub port_rule : Rule
 port_rule = required (number 1 65535 (option (codes "port")))
 
 abbrev pub workers_rule : Rule
-workers_rule = required (number 1 MOST_WORKERS (option (codes "workers")))
+workers_rule = number 1 MOST_WORKERS (option (codes "workers"))
 
 abbrev pub connections_rule : Rule
-connections_rule = defaulting (codes "1000000") (number 1 MOST_SERVED (option (codes "connections")))
+connections_rule = number 1 MOST_SERVED (option (codes "connections"))
+
+abbrev pub loops_rule : Rule
+loops_rule = number 1 MOST_LOOPS (option (codes "loops"))
+
+abbrev pub listen_rule : Rule
+listen_rule = defaulting (codes "127.0.0.1") (option (codes "listen"))
+
+abbrev pub frame_seconds_rule : Rule
+frame_seconds_rule = defaulting (codes "30") (number 0 3600 (option (codes "frame-seconds")))
+
+abbrev pub exit_when_down_rule : Rule
+exit_when_down_rule = flag (codes "exit-when-down")
 
 abbrev pub every_rule : Rule
 every_rule = defaulting (codes "1") (number 1 MOST_EVERY (option (codes "every")))
@@ -78,7 +91,10 @@ abbrev pub scan_shape : Shape
 scan_shape = command_of (codes "scan") (path_rule ∷ [])
 
 abbrev pub serve_shape : Shape
-serve_shape = command_of (codes "serve") (log_rule ∷ name_rule ∷ port_rule ∷ workers_rule ∷ connections_rule ∷ [])
+serve_shape =
+    command_of (codes "serve")
+    (log_rule ∷ name_rule ∷ port_rule ∷ workers_rule ∷ connections_rule ∷ loops_rule ∷ listen_rule ∷ frame_seconds_rule
+    ∷ exit_when_down_rule ∷ [])
 
 abbrev pub talk_shape : Shape
 talk_shape = command_of (codes "talk") (port_rule ∷ names_rule ∷ [])

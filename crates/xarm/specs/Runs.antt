@@ -20,9 +20,9 @@ use Rattle.xa_talk.specs.declared.tick_fault.TickFault.{TickFault}
 use Rattle.xarm.specs.Asks.{AsksOf}
 use Rattle.xarm.specs.Line.{xarm}
 use Rattle.xarm.specs.declared.asked.Asked.{Asked}
-use Rattle.xarm.specs.declared.asked.Asked.TheVariants.{Play, Scan, Serve, Talk, Tick}
+use Rattle.xarm.specs.declared.asked.Asked.TheVariants.{Play, Scan, Serve, Loop, Talk, Tick}
 use Rattle.xarm.specs.declared.ran.Ran.{Ran}
-use Rattle.xarm.specs.declared.ran.Ran.TheVariants.{Ended, Serves}
+use Rattle.xarm.specs.declared.ran.Ran.TheVariants.{Ended, Serves, Loops}
 
 -- the status of an end: 0 where all is done, else 1
 abbrev pub status_of : {X E : Type 0} → Result X E → ℕ
@@ -59,13 +59,14 @@ module _ {I D C : Type 0} (T : Type 0) (remaining : I → Option Text) (honest :
   HasDone (Tick port every) (Ended code) =
       (end : Result (Unit {0}) TickFault) × HasTicked T sent left end × (exit_status code ≡ status_of end)
   HasDone (Serve service) (Serves served) = served ≡ service
+  HasDone (Loop service) (Loops served) = served ≡ service
   HasDone _ _ = ⊥
 
   -- The words were refused for one of these reasons, or for want of memory.
   abbrev pub HasRefused : Kinds → Ran → Type 0
   HasRefused kinds (Ended code) =
       (kind : ErrorKind) × ((kind ≡ OutOfMemory) ⊎ IsAmong kind kinds) × IsRefusal kind (exit_status code)
-  HasRefused kinds (Serves served) = ⊥
+  HasRefused kinds _ = ⊥
 
   -- what the words ask for was done, or they were refused
   abbrev pub HasRun : List Text → Ran → Type 0
@@ -80,4 +81,4 @@ pub record IsUnreadStatus (kind : IoKind) (status : ℕ) : Type 0 where
 
 abbrev pub IsUnread : IoKind → Ran → Type 0
 IsUnread kind (Ended code) = IsUnreadStatus kind (exit_status code)
-IsUnread kind (Serves service) = ⊥
+IsUnread kind _ = ⊥

@@ -1,15 +1,18 @@
 //! The arguments of the commands. The help names limits in texts of its own, and `.ci/commands` compares these with
 //! the constants: a text that is made of a number would have to live as long as the words, since `clap` lends both alike.
-ghost use Rattle.xarm.specs.Line.{HasRule, connections_rule, every_rule, log_bytes_rule, log_rule, name_rule, names_rule, path_rule, play_name_rule, port_rule, workers_rule};
+ghost use Rattle.xarm.specs.Line.{HasRule, connections_rule, every_rule, exit_when_down_rule, frame_seconds_rule, listen_rule, log_bytes_rule, log_rule, loops_rule, name_rule, names_rule, path_rule, play_name_rule, port_rule, workers_rule};
 
 use clap::builder::ValueParser;
 use clap::{Arg, ArgAction};
 use std::alloc::Global;
-use xa_server::{MOST_SERVED, MOST_WORKERS};
+use xa_server::{MOST_LOOPS, MOST_SERVED, MOST_WORKERS};
 use xa_talk::MOST_EVERY;
 
 /// The greatest number that a word may spell: `clap` reads numbers of 63 bits.
 const MOST_NUMBER: u64 = 9_223_372_036_854_775_807;
+
+/// The most seconds that a connection may be quiet inside a frame, where that has an end.
+const MOST_FRAME_SECONDS: u64 = 3_600;
 
 pub fn play_name<'a>(alloc: Global) -> Arg<'a>
     ensures { HasRule play_name_rule result }
@@ -77,14 +80,28 @@ pub fn name<'a>(alloc: Global) -> Arg<'a>
         .action(ArgAction::Set)
 }
 
+pub fn loops<'a>(alloc: Global) -> Arg<'a>
+    ensures { HasRule loops_rule result }
+{
+    Arg::new(alloc, "loops")
+        .long("loops")
+        .value_name("N")
+        .help(
+            "The number of threads, each with connections of its own: 1 to 16. If not given, one for each core, at most 4",
+        )
+        .value_parser(ValueParser::unsigned(1, MOST_LOOPS))
+        .action(ArgAction::Set)
+}
+
 pub fn workers<'a>(alloc: Global) -> Arg<'a>
     ensures { HasRule workers_rule result }
 {
     Arg::new(alloc, "workers")
         .long("workers")
         .value_name("N")
-        .help("The number of connections that are served at a time: 1 to 64")
-        .required(true)
+        .help(
+            "Serves with an audit in place of loops, so many connections at a time: 1 to 64. The options after --connections are not used then",
+        )
         .value_parser(ValueParser::unsigned(1, MOST_WORKERS))
         .action(ArgAction::Set)
 }
@@ -95,10 +112,47 @@ pub fn connections<'a>(alloc: Global) -> Arg<'a>
     Arg::new(alloc, "connections")
         .long("connections")
         .value_name("C")
-        .help("The number of connections after which the server ends: 1 to 1000000")
+        .help(
+            "The number of connections after which the server ends: 1 to 1000000. If not given, 1000000 with --workers, and else no number",
+        )
         .value_parser(ValueParser::unsigned(1, MOST_SERVED))
         .action(ArgAction::Set)
-        .default_value("1000000")
+}
+
+pub fn listen<'a>(alloc: Global) -> Arg<'a>
+    ensures { HasRule listen_rule result }
+{
+    Arg::new(alloc, "listen")
+        .long("listen")
+        .value_name("ADDR")
+        .help(
+            "The address that the server listens at. There is no authentication: whoever reaches it can do anything",
+        )
+        .action(ArgAction::Set)
+        .default_value("127.0.0.1")
+}
+
+pub fn frame_seconds<'a>(alloc: Global) -> Arg<'a>
+    ensures { HasRule frame_seconds_rule result }
+{
+    Arg::new(alloc, "frame-seconds")
+        .long("frame-seconds")
+        .value_name("S")
+        .help(
+            "The number of seconds after which a connection is closed that stopped inside a frame: 0 (never) to 3600",
+        )
+        .value_parser(ValueParser::unsigned(0, MOST_FRAME_SECONDS))
+        .action(ArgAction::Set)
+        .default_value("30")
+}
+
+pub fn exit_when_down<'a>(alloc: Global) -> Arg<'a>
+    ensures { HasRule exit_when_down_rule result }
+{
+    Arg::new(alloc, "exit-when-down")
+        .long("exit-when-down")
+        .help("Ends the server, with status 1, when its resource manager has gone down")
+        .action(ArgAction::SetTrue)
 }
 
 pub fn port<'a>(alloc: Global) -> Arg<'a>

@@ -1,5 +1,5 @@
 use xa_script::Style;
-use xa_server::Service;
+use xa_server::{LoopService, Service};
 
 /// What a command line asks for.
 #[derive(Debug, Drop)]
@@ -21,5 +21,7 @@ pub enum Asked<'a> {
         /// How many seconds there are from one moment to the next.
         every: u64,
     },
+    /// By workers, with an audit.
     Serve(Service<'a>),
+    Loop(LoopService<'a>),
 }

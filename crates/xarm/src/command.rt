@@ -55,6 +55,7 @@ fn done<'a, R: AllocGlobal + Input + Print + Eprint + Opens + Clock + Net<Stream
         Asked::Play { name, log_bytes } => ended(rt, &play(rt, name, log_bytes)),
         Asked::Scan { path } => ended(rt, &scan(rt, path)),
         Asked::Serve(service) => return Ran::Serves(service),
+        Asked::Loop(service) => return Ran::Loops(service),
         Asked::Talk { port, style } => ended(rt, &talk(rt, port, style)),
         Asked::Tick { port, every } => ended(rt, &tick(rt, port, every)),
     })

@@ -3,7 +3,8 @@ ghost use Rattle.std.specs.Prelude.{IfOk};
 ghost use Rattle.xarm.specs.Line.{HasShape, IsApp, play_shape, scan_shape, serve_shape, talk_shape, tick_shape, xarm};
 
 use crate::arguments::{
-    connections, every, log, log_bytes, name, names, path, play_name, port, workers,
+    connections, every, exit_when_down, frame_seconds, listen, log, log_bytes, loops, name, names,
+    path, play_name, port, workers,
 };
 use clap::Command;
 use std::alloc::{AllocError, Global};
@@ -13,7 +14,9 @@ pub fn command_line<'a>(alloc: Global) -> Result<Command<'a>, AllocError>
     ensures { IfOk result (IsApp xarm) }
 {
     Command::new(alloc, "xarm")
-        .version("0.1.0\nlog: reads and writes XARMLOG1\nkit: rattle-kit-13 logic dac8208d650f15bf")
+        .version(
+            "0.1.0\nlog: reads XARMLOG1 and XARMLOG2, writes XARMLOG2\nkit: rattle-kit-13 logic dac8208d650f15bf",
+        )
         .about("An XA resource manager")
         .subcommand_required(true)
         .subcommand(play_command(alloc)?)?
@@ -63,7 +66,7 @@ fn tick_command<'a>(alloc: Global) -> Result<Command<'a>, AllocError>
     Command::new(alloc, "tick")
         .about("Tells a server what the clock says, so that branches reach their time limits")
         .after_help(
-            "Example: xarm tick --port 4100\nIt takes one of the server's workers, and goes on until it is \
+            "Example: xarm tick --port 4100\nIt takes one of the server's connections, and goes on until it is \
              ended or the server is gone.",
         )
         .arg(port(alloc))?
@@ -74,11 +77,15 @@ fn serve_command<'a>(alloc: Global) -> Result<Command<'a>, AllocError>
     ensures { IfOk result (HasShape serve_shape) }
 {
     Command::new(alloc, "serve")
-        .about("Serves a resource manager on 127.0.0.1, and prints ready once it can be reached")
-        .after_help("Example: xarm serve --log bank.log --name bank --port 4100 --workers 16")
+        .about("Serves a resource manager on a port, and prints ready once it can be reached")
+        .after_help("Example: xarm serve --log bank.log --name bank --port 4100")
         .arg(log(alloc))?
         .arg(name(alloc))?
         .arg(port(alloc))?
         .arg(workers(alloc))?
-        .arg(connections(alloc))
+        .arg(connections(alloc))?
+        .arg(loops(alloc))?
+        .arg(listen(alloc))?
+        .arg(frame_seconds(alloc))?
+        .arg(exit_when_down(alloc))
 }

@@ -1,9 +1,10 @@
 use std::process::ExitCode;
-use xa_server::Service;
+use xa_server::{LoopService, Service};
 
 /// What a command line came to: a status, or a server that is to run.
 #[derive(Debug, Drop)]
 pub enum Ran<'a> {
     Ended(ExitCode),
     Serves(Service<'a>),
+    Loops(LoopService<'a>),
 }

@@ -4,11 +4,11 @@ ghost use Rattle.clap.specs.Faults.{fault_of};
 ghost use Rattle.clap.specs.Kinds.{FailsBy};
 ghost use Rattle.clap.specs.Matches.{found_of};
 ghost use Rattle.clap.specs.Simple.{subcommand_of, subcommand_rows_of};
-ghost use Rattle.clap.specs.Walk.{rows_of};
-ghost use Rattle.xarm.specs.Asks.{AsksBy, AsksOf, IsCommand, most_16, most_64, number_in, text_in};
+ghost use Rattle.clap.specs.Walk.{one_of, rows_of};
+ghost use Rattle.xarm.specs.Asks.{AsksBy, AsksOf, IsCommand, IsSet, most_16, most_64, number_in, text_in};
 ghost use Rattle.xarm.specs.Line.{xarm};
 ghost use Rattle.xa_script.specs.declared.style.Style.TheVariants.{Codes, Names};
-ghost use Rattle.xarm.specs.declared.asked.Asked.TheVariants.{Serve};
+ghost use Rattle.xarm.specs.declared.asked.Asked.TheVariants.{Loop};
 
 use crate::asked::Asked;
 use crate::line::command_line;
@@ -16,15 +16,17 @@ use clap::{ArgMatches, Error};
 use std::alloc::Global;
 use xa_limits::MOST_LOG;
 use xa_script::Style;
-use xa_server::Service;
+use xa_server::{LoopService, MOST_SERVED, Service};
 
 /// What the words of a command line ask for, the program's name first.
 pub fn read_words<'a>(alloc: Global, words: &'a [String]) -> Result<Asked<'a>, Error>
     ensures fails { FailsBy (fault_of xarm (map string_bytes words.now)) result }
     ensures asks { IfOk result (AsksOf (subcommand_of xarm (map string_bytes words.now))) }
 {
-    let matches = command_line(alloc)?.try_get_matches_from(words)?;
-    Ok(read_matches(&matches))
+    match command_line(alloc)?.try_get_matches_from(words) {
+        Ok(matches) => Ok(read_matches(&matches)),
+        Err(fault) => Err(fault),
+    }
 }
 
 // What the words that a command takes ask for. `clap` has refused a word that is missing or out of its range.
@@ -49,7 +51,7 @@ fn read_command<'a>(command: &str, matches: &ArgMatches<'a>) -> Asked<'a>
         "scan" => Asked::Scan {
             path: text_of(matches, "path", ""),
         },
-        "serve" => Asked::Serve(service_of(matches)),
+        "serve" => serve_of(matches),
         "talk" => talk_of(matches),
         "tick" => tick_of(matches),
         _ => play_of(matches),
@@ -65,15 +67,35 @@ fn play_of<'a>(matches: &ArgMatches<'a>) -> Asked<'a>
     }
 }
 
-fn service_of<'a>(matches: &ArgMatches<'a>) -> Service<'a>
-    ensures { AsksBy (codes "serve") (rows_of (found_of matches.now)) (Serve result) }
+fn serve_of<'a>(matches: &ArgMatches<'a>) -> Asked<'a>
+    ensures { AsksBy (codes "serve") (rows_of (found_of matches.now)) result }
 {
-    Service {
+    let workers = number_of(matches, "workers", 0);
+    if workers == 0 {
+        return Asked::Loop(loops_of(matches));
+    }
+    Asked::Serve(Service {
         path: text_of(matches, "log", ""),
         name: text_of(matches, "name", ""),
         port: port_of(matches),
-        workers: number_of(matches, "workers", 0),
+        workers,
+        connections: number_of(matches, "connections", MOST_SERVED),
+    })
+}
+
+fn loops_of<'a>(matches: &ArgMatches<'a>) -> LoopService<'a>
+    ensures { number_in (rows_of (found_of matches.now)) (codes "workers") most_64 0 ≡ 0
+        → AsksBy (codes "serve") (rows_of (found_of matches.now)) (Loop result) }
+{
+    LoopService {
+        path: text_of(matches, "log", ""),
+        name: text_of(matches, "name", ""),
+        address: text_of(matches, "listen", "127.0.0.1"),
+        port: port_of(matches),
+        loops: number_of(matches, "loops", 0),
         connections: number_of(matches, "connections", 0),
+        frame_seconds: number_of(matches, "frame-seconds", 30),
+        ends_when_down: flag_of(matches, "exit-when-down"),
     }
 }
 
@@ -93,6 +115,12 @@ fn tick_of<'a>(matches: &ArgMatches<'a>) -> Asked<'a>
         port: port_of(matches),
         every: number_of(matches, "every", 1),
     }
+}
+
+fn flag_of(matches: &ArgMatches<'_>, id: &str) -> bool
+    ensures { IsSet (one_of id.now (rows_of (found_of matches.now))) result }
+{
+    matches.get_flag(id)
 }
 
 fn style_of(is_named: bool) -> Style

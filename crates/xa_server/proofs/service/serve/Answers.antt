@@ -1,7 +1,8 @@
 use Rattle.std.proofs.Common.{ap, refl, Err}
 use Rattle.std.proofs.lemmas.Result.{err_from_is_err_and}
 use Rattle.xa_limits.specs.declared.TheConstants.{MOST_LOG}
-use Rattle.xa_server.proofs.Failing.{failed_when_ready}
+use Rattle.xa_server.specs.Served.{NoWorkers, place_of}
+use Rattle.xa_server.proofs.Failing.{failed_early, failed_when_ready}
 use Rattle.xa_server.proofs.service.serve.Goals as goal
 
 pub returns-in-Ok-clause-served : goal.returns-in-Ok-clause-served
@@ -21,10 +22,18 @@ returns-then-is_err-clause-failed g c =
 pub returns-clause-failed : goal.returns-clause-failed
 returns-clause-failed g c = (c.in_ok-listener.listener, c.in_ok-listener.manager, c.in_ok-listener.ensures.ready)
 
+pub returns-in_err-listener-clause-failed : goal.returns-in_err-listener-clause-failed
+returns-in_err-listener-clause-failed g c =
+    let told = err_from_is_err_and c.from_residual.result c.from_residual.ensures.1 in
+    rw (told.1, told.2)
+    (failed_early g.R.Disk.Disk g.R.Opens.opened g.R.Opens.refused g.R.Listens MOST_LOG (place_of c.args.service.now)
+    (NoWorkers c.args.service.now.workers) c.in_err-listener.field-0.0 c.in_err-listener.ensures.failed)
+
 pub returns-in_err-told-clause-failed : goal.returns-in_err-told-clause-failed
 returns-in_err-told-clause-failed g c =
     let told = err_from_is_err_and c.from_residual-in_err-told.result c.from_residual-in_err-told.ensures.1 in
     rw (told.1, told.2)
-    (failed_when_ready g.R.Disk.Disk g.R.Opens.opened g.R.Opens.refused g.R.Listens MOST_LOG c.args.service.now c.in_err-told.field-0.0
+    (failed_when_ready g.R.Disk.Disk g.R.Opens.opened g.R.Opens.refused g.R.Listens MOST_LOG (place_of c.args.service.now)
+    c.args.service.now.workers c.in_err-told.field-0.0
     (c.in_ok-listener.listener, c.in_ok-listener.manager, c.in_ok-listener.ensures.ready)
     c.in_err-told.ensures.fault (λ same. c.in_err-told.ensures.workers.0 (ap Err same)))

@@ -1,15 +1,22 @@
-use Rattle.std.proofs.Common.{rules, codes}
-use Rattle.clap.specs.Simple.{new_app}
-use Rattle.xarm.specs.Line.{IsApp, connections_rule, log_rule, name_rule, port_rule, workers_rule}
+use Rattle.std.proofs.Common.{◌∙◌, ap, codes}
+use Rattle.clap.specs.Simple.{app_of_fields, new_app}
+use Rattle.xarm.specs.Line.{IsApp, connections_rule, exit_when_down_rule, frame_seconds_rule, listen_rule, log_rule, loops_rule, name_rule, port_rule, workers_rule}
 use Rattle.xarm.proofs.Building.{adds_rule, last_rule}
 use Rattle.xarm.proofs.line.serve_command.Goals as goal
 
 pub returns : goal.returns
 returns c =
     let none = new_app (codes "serve") in
-    let first : IsApp none c.after_help.result = record { app_is = search rules; local = search rules } in
+    let first : IsApp none c.after_help.result = record {
+      app_is = ap app_of_fields c.after_help.ensures ∙ (ap app_of_fields c.about.ensures ∙ c.new.ensures.app);
+      local = ap (λ f. f.has_globals) c.after_help.ensures ∙ (ap (λ f. f.has_globals) c.about.ensures ∙ c.new.ensures.local);
+    } in
     let one = adds_rule c.after_help.result c.log.result c.in_ok-arg.field-0 none log_rule first c.log.ensures c.in_ok-arg.ensures in
     let two = adds_rule c.in_ok-arg.field-0 c.name.result c.in_ok-arg-2.field-0 _ name_rule one c.name.ensures c.in_ok-arg-2.ensures in
     let three = adds_rule c.in_ok-arg-2.field-0 c.port.result c.in_ok-arg-3.field-0 _ port_rule two c.port.ensures c.in_ok-arg-3.ensures in
     let four = adds_rule c.in_ok-arg-3.field-0 c.workers.result c.in_ok-arg-4.field-0 _ workers_rule three c.workers.ensures c.in_ok-arg-4.ensures in
-    last_rule c.in_ok-arg-4.field-0 c.connections.result c.arg-5.result _ connections_rule four c.connections.ensures c.arg-5.ensures
+    let five = adds_rule c.in_ok-arg-4.field-0 c.connections.result c.in_ok-arg-5.field-0 _ connections_rule four c.connections.ensures c.in_ok-arg-5.ensures in
+    let six = adds_rule c.in_ok-arg-5.field-0 c.loops.result c.in_ok-arg-6.field-0 _ loops_rule five c.loops.ensures c.in_ok-arg-6.ensures in
+    let seven = adds_rule c.in_ok-arg-6.field-0 c.listen.result c.in_ok-arg-7.field-0 _ listen_rule six c.listen.ensures c.in_ok-arg-7.ensures in
+    let eight = adds_rule c.in_ok-arg-7.field-0 c.frame_seconds.result c.in_ok-arg-8.field-0 _ frame_seconds_rule seven c.frame_seconds.ensures c.in_ok-arg-8.ensures in
+    last_rule c.in_ok-arg-8.field-0 c.exit_when_down.result c.arg-9.result _ exit_when_down_rule eight c.exit_when_down.ensures c.arg-9.ensures

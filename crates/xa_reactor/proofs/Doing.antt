@@ -1,0 +1,138 @@
+-- What a loop does, one thing behind the other.
+use Rattle.std.proofs.Common.{◌≡◌, ◌≢◌, ◌∙◌, ◌<◌, ◌≤◌, ℕ, zero, suc, Bool, true, false, arith, length, map, List, [], ◌∷◌, ◌++◌, Option, Some, None, Result, Ok, Err, get_or, set, refl, sym, ap, subst, inl, inr}
+use Rattle.std.proofs.Math.Path.{fun_ext}
+use Rattle.std.specs.Option.{option_map}
+use Rattle.std.specs.Prelude.{nat_lt}
+use Rattle.std.proofs.lemmas.Bool.Decides.{nat_tests}
+use Rattle.std.proofs.lemmas.List.{get_or_past, length-map}
+use Rattle.slab.specs.Slab.{Slab, Updates, get, with_value}
+use Rattle.xa_assoc.specs.declared.fault.ConnectFault.{ConnectFault}
+use Rattle.xa_desk.specs.Serving.{AnswersAll}
+use Rattle.xa_frame.specs.declared.reply.Reply.{Reply}
+use Rattle.xa_frame.specs.declared.request.Request.{Request}
+use Rattle.xa_reactor.specs.declared.loops.Ended.{Ended}
+use Rattle.xa_reactor.specs.declared.loops.Seed.{Seed}
+use Rattle.xa_reactor.specs.declared.peer.Peer.{Peer}
+use Rattle.xa_reactor.specs.Turning.{HasAnswered}
+use Rattle.xa_reactor.specs.Tending.{Does, DoesAll, Puts, Table, Tends, HasTended, HaveTended, SeedsHaveTended, nobody, sessions_of}
+
+pub same_table : (a b : Table) → ((key : ℕ) → b key ≡ a key) → a ≡ b
+same_table a b h = fun_ext (λ (key : ℕ). sym (h key))
+
+-- ---- the slab
+
+-- the session under a key
+abbrev session_in : Option Peer → Option ℕ
+session_in slot = option_map (λ p. p.session) slot
+
+-- a peer with a session more, or one less
+pub puts_slot : (old new : Slab Peer) (key : ℕ) (slot : Option Peer) (session : Option ℕ) → Updates old new key slot
+    → session_in slot ≡ session → Puts (sessions_of old) (sessions_of new) key session
+puts_slot old new key slot session updates is = record {
+  changed = ap session_in updates.changed ∙ is;
+  others = λ other ne. ap session_in (updates.others other ne);
+}
+
+-- a peer with the same session in place of one
+in_place : (slots : List (Option Peer)) (key : ℕ) (old new : Peer) → get_or slots key None ≡ Some old → new.session ≡ old.session
+    → (other : ℕ) → session_in (get_or (set slots key (Some new)) other None) ≡ session_in (get_or slots other None)
+in_place [] key old new there same other = refl
+in_place (slot ∷ slots) zero old new there same zero = ap Some same ∙ sym (ap session_in there)
+in_place (slot ∷ slots) zero old new there same (suc other) = refl
+in_place (slot ∷ slots) (suc key) old new there same zero = refl
+in_place (slot ∷ slots) (suc key) old new there same (suc other) = in_place slots key old new there same other
+
+pub same_sessions : (peers : Slab Peer) (key : ℕ) (old new : Peer) → get peers key ≡ Some old → new.session ≡ old.session
+    → sessions_of peers ≡ sessions_of (with_value peers key new)
+same_sessions peers key old new there same =
+    same_table (sessions_of peers) (sessions_of (with_value peers key new)) (in_place peers.slots key old new there same)
+
+pub no_sessions : (peers : Slab Peer) → ((key : ℕ) → get peers key ≡ None) → sessions_of peers ≡ nobody
+no_sessions peers none = sym (same_table nobody (sessions_of peers) (λ key. ap session_in (none key)))
+
+-- nothing is under the keys below a number, and no slot behind them
+pub none_beyond : (slots : List (Option Peer)) (n : ℕ) → ((key : ℕ) → key < n → get_or slots key None ≡ None) → length slots ≤ n
+    → (key : ℕ) → get_or slots key None ≡ None
+none_beyond slots n below few key = at (nat_lt key n) refl
+  where
+    at : (x : Bool) → nat_lt key n ≡ x → get_or slots key None ≡ None
+    at true is = below key (grind (arith, nat_tests, is))
+    at false is = get_or_past slots key None (grind (arith, nat_tests, is, few))
+
+-- ---- the loops
+
+-- one of some
+one_of : {A : Type 0} (xs : List A) (i : ℕ) → i < length xs → A
+one_of [] i lt = absurd (omega (arith, lt))
+one_of (x ∷ xs) i lt = x
+
+at_map : {A B : Type 0} (f : A → B) (xs : List A) (i : ℕ) (a : A) (b : B) → i < length xs → get_or (map f xs) i b ≡ f (get_or xs i a)
+at_map f [] i a b lt = absurd (omega (arith, lt))
+at_map f (x ∷ xs) zero a b lt = refl
+at_map f (x ∷ xs) (suc i) a b lt = at_map f xs i a b (omega (arith, lt))
+
+-- ---- one thing behind the other
+
+module _ {D : Type 0} (connected : D → Result ℕ ConnectFault → D → Type 0)
+    (called : ℕ → D → Request → Reply → D → Type 0) (left : ℕ → D → D → Type 0) where
+  pub tends_none : (a b : Table) (d : D) → a ≡ b → Tends connected called left a d b d
+  tends_none a b d same = ([], (same, refl))
+
+  pub tends_one : (a b : Table) (d e : D) → Does connected called left a b d e → Tends connected called left a d b e
+  tends_one a b d e does = ((a, d) ∷ [], ((refl, refl), does))
+
+  does_twice : (a b c : Table) (d e f : D) (ms ns : List (Table × D)) → DoesAll connected called left a d ms b e
+      → DoesAll connected called left b e ns c f → DoesAll connected called left a d (ns ++ ms) c f
+  does_twice a b c d e f ms [] h k =
+      subst (λ (t : Table). DoesAll connected called left a d ms t f) k.0
+      (subst (λ (x : D). DoesAll connected called left a d ms b x) k.1 h)
+  does_twice a b c d e f ms (n ∷ ns) h k = (does_twice a b n.0 d e n.1 ms ns h k.0, k.1)
+
+  pub tends_twice : (a b c : Table) (d e f : D) → Tends connected called left a d b e → Tends connected called left b e c f
+      → Tends connected called left a d c f
+  tends_twice a b c d e f h k = (k.0 ++ h.0, does_twice a b c d e f h.0 k.0 h.1 k.1)
+
+  pub tends_thrice : (a b c t : Table) (d e f x : D) → Tends connected called left a d b e → Tends connected called left b e c f
+      → Tends connected called left c f t x → Tends connected called left a d t x
+  tends_thrice a b c t d e f x h k l = tends_twice a c t d f x (tends_twice a b c d e f h k) l
+
+  -- a session was connected
+  pub tends_connected : (a b : Table) (d e : D) (key session : ℕ) → a key ≡ None → connected d (Ok session) e
+      → Puts a b key (Some session) → Tends connected called left a d b e
+  tends_connected a b d e key session free connects puts =
+      tends_one a b d e (inl (record { key = key; session = session; free = free; connects = connects; puts = puts }))
+
+  -- none was
+  pub tends_refused : (a b : Table) (d e : D) (fault : ConnectFault) → connected d (Err fault) e → a ≡ b
+      → Tends connected called left a d b e
+  tends_refused a b d e fault refuses same =
+      tends_one a b d e (inr (inl (record { fault = fault; refuses = refuses; same = same })))
+
+  -- a session was answered
+  pub tends_answered : (a b : Table) (d e : D) (key session : ℕ) → a key ≡ Some session → HasAnswered (called session) d e
+      → a ≡ b → Tends connected called left a d b e
+  tends_answered a b d e key session has answered same =
+      tends_one a b d e (inr (inr (inl (record {
+        key = key;
+        session = session;
+        has = has;
+        contents = answered.0;
+        replies = answered.1;
+        answers = answered.2;
+        same = same;
+      }))))
+
+  -- a session was hung up
+  pub tends_left : (a b : Table) (d e : D) (key session : ℕ) → a key ≡ Some session → left session d e → Puts a b key None
+      → Tends connected called left a d b e
+  tends_left a b d e key session has leaves puts =
+      tends_one a b d e (inr (inr (inr (record { key = key; session = session; has = has; leaves = leaves; puts = puts }))))
+
+  -- of each seed's door
+  pub have_tended : (seeds : List (Seed D)) (doors : List D) (ended : List (Ended D)) → map (λ s. s.door) seeds ≡ doors
+      → SeedsHaveTended connected called left seeds ended → HaveTended connected called left doors ended
+  have_tended seeds doors ended is tended i d e lt =
+      let within : i < length seeds = omega (arith, lt, ap (λ (xs : List D). length xs) is, length-map seeds (λ (s : Seed D). s.door)) in
+      let seed : Seed D = one_of seeds i within in
+      subst (λ (x : D). HasTended connected called left x (get_or ended i e).door)
+      (sym (at_map (λ (s : Seed D). s.door) seeds i seed d within) ∙ ap (λ (xs : List D). get_or xs i d) is) (tended i seed e within)

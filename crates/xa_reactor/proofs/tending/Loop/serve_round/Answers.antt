@@ -1,0 +1,10 @@
+use Rattle.xa_reactor.specs.Tending.{sessions_of}
+use Rattle.xa_reactor.proofs.Doing.{tends_thrice}
+use Rattle.xa_reactor.proofs.tending.Loop.serve_round.Goals as goal
+
+pub returns : goal.returns
+returns g c =
+    tends_thrice g.D.Reception.connected g.D.Door.called g.D.Door.left (sessions_of c.args.peers.now.all) (sessions_of c.notice_all-accepts.new.peers.all)
+    (sessions_of c.give_turns.new.peers.all) (sessions_of c.take_in.new.peers.all)
+    c.args.door.now c.notice_all-accepts.new.door c.give_turns.new.door c.take_in.new.door
+    c.notice_all-accepts.ensures c.give_turns.ensures c.take_in.ensures

@@ -1,0 +1,8 @@
+use Rattle.xa_reactor.specs.Tending.{sessions_of}
+use Rattle.xa_reactor.proofs.Doing.{tends_twice}
+use Rattle.xa_reactor.proofs.tending.notice_all.Goals as goal
+
+pub loop-event-preserved : goal.loop-event-preserved
+loop-event-preserved g c =
+    tends_twice g.D.Reception.connected g.D.Door.called g.D.Door.left (sessions_of c.args.peers.now.all) (sessions_of c.loop-event.peers.all) (sessions_of c.notice-told.new.peers.all)
+    c.args.door.now c.loop-event.door c.notice-told.new.door c.loop-event.invariant c.notice-told.ensures

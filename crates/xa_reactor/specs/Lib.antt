@@ -1,0 +1,3 @@
+pub mod Turning
+pub mod Tending
+pub mod Timing

@@ -1,0 +1,116 @@
+use crate::common::{Common, MOST_OPEN};
+use crate::listener::Listener;
+use crate::timing::{LOOK, PAUSE};
+use std::io::ErrorKind;
+use std::sync::Wait;
+
+/// The most accepts behind one another, before connections have their turns.
+const MOST_ACCEPTS: u32 = 64;
+
+/// What accepts connections, and hands them to the loops in turn.
+#[derive(Drop)]
+pub(crate) struct Acceptor {
+    listener: Listener,
+    /// How many were accepted, and after how many no more are.
+    accepted: u64,
+    most: u64,
+    /// The loop that has the next one.
+    turn: usize,
+    /// Whether connections may wait of which no further event tells.
+    waits: bool,
+    /// When accepting goes on behind a pause, if no connection closes.
+    resumes: u64,
+    /// How many were refused of which nobody was told, and when that may be told.
+    refused: u64,
+    tells: u64,
+}
+
+impl Acceptor {
+    /// Of so many connections, 0 for any number.
+    pub(crate) fn new(listener: Listener, connections: u64) -> Acceptor {
+        Acceptor {
+            listener,
+            accepted: 0,
+            most: if connections == 0 {
+                u64::MAX
+            } else {
+                connections
+            },
+            turn: 0,
+            waits: true,
+            resumes: 0,
+            refused: 0,
+            tells: 0,
+        }
+    }
+
+    /// An event told of a connection that waits.
+    pub(crate) fn notice(&mut self) {
+        self.waits = true;
+    }
+
+    /// Whether it pauses: an accept failed, since then no connection closed, and the pause isn't over.
+    pub(crate) fn is_pausing(&self, common: &Common<'_>, now: u64) -> bool {
+        now < self.resumes && common.pauses()
+    }
+
+    /// Whether there may be a connection to accept.
+    pub(crate) fn waits(&self) -> bool {
+        self.waits
+    }
+
+    /// Accepts what waits, so many at most.
+    pub(crate) fn accept_all<R: Wait>(&mut self, rt: &R, common: &Common<'_>, now: u64) {
+        if !self.waits || self.is_pausing(common, now) {
+            return;
+        }
+        for _ in 0..MOST_ACCEPTS {
+            if !self.accept_one(rt, common, now) {
+                return;
+            }
+        }
+    }
+
+    // Whether another may wait that is to be accepted now.
+    fn accept_one<R: Wait>(&mut self, rt: &R, common: &Common<'_>, now: u64) -> bool {
+        if self.accepted >= self.most {
+            self.waits = false;
+            common.end();
+            return false;
+        }
+        match self.listener.accept() {
+            Ok(socket) => {
+                self.accepted += 1;
+                if common.admit() {
+                    self.turn = common.hand(rt, self.turn, socket).saturating_add(1);
+                } else {
+                    self.refused = self.refused.saturating_add(1);
+                }
+                true
+            }
+            Err(error) => match error.kind() {
+                ErrorKind::WouldBlock => {
+                    self.waits = false;
+                    false
+                }
+                ErrorKind::Interrupted | ErrorKind::ConnectionAborted => true,
+                _ => {
+                    self.resumes = now.saturating_add(PAUSE);
+                    common.pause();
+                    false
+                }
+            },
+        }
+    }
+
+    /// Tells how many were refused, at most once a second.
+    pub(crate) fn tell<R: Eprint>(&mut self, rt: &R, now: u64) {
+        if self.refused == 0 || now < self.tells {
+            return;
+        }
+        let refused = self.refused;
+        let _ = eprintln!(rt; "xarm: connections refused: {refused}, since {MOST_OPEN} are open");
+        self.refused = 0;
+        self.tells = now.saturating_add(LOOK);
+    }
+}

@@ -1,0 +1,165 @@
+use crate::listener::Listener;
+use crate::mailbox::Mailbox;
+use crate::socket::Socket;
+use crate::watch::Watch;
+use std::sync::atomic::{AtomicBool, AtomicU64, Ordering};
+use std::sync::{Mutex, Wait};
+
+/// The most connections that are open at a time. With one session more the manager has as many as it may.
+pub const MOST_OPEN: u64 = 1_023;
+
+/// What is asked of the loops.
+#[derive(Clone, Copy, Debug)]
+pub struct Settings {
+    /// After how many connections they end, 0 for never.
+    pub connections: u64,
+    /// For how many seconds a connection may bring no byte inside a frame, 0 for ever.
+    pub frame_seconds: u64,
+    /// Whether they end when the manager has gone down.
+    pub ends_when_down: bool,
+}
+
+/// What the loops of a server share, beside its manager.
+#[derive(Drop)]
+pub(crate) struct Common<'a> {
+    pub(crate) settings: Settings,
+    /// Of each loop.
+    boxes: Vec<Mailbox>,
+    pub(crate) watch: &'a Watch,
+    /// Until a loop has taken it, the first one that begins.
+    listener: Mutex<Option<Listener>>,
+    /// How many connections are open, or handed to a loop.
+    open: AtomicU64,
+    /// Whether accepting pauses until a connection closes.
+    pauses: AtomicBool,
+    /// Whether no more connections come: a loop without one ends.
+    is_over: AtomicBool,
+    /// Whether each loop ends at once.
+    is_stopped: AtomicBool,
+}
+
+impl<'a> Common<'a> {
+    pub(crate) fn new(
+        settings: Settings,
+        boxes: Vec<Mailbox>,
+        watch: &'a Watch,
+        listener: Listener,
+    ) -> Common<'a> {
+        Common {
+            settings,
+            boxes,
+            watch,
+            listener: Mutex::new(Some(listener)),
+            open: AtomicU64::new(0),
+            pauses: AtomicBool::new(false),
+            is_over: AtomicBool::new(false),
+            is_stopped: AtomicBool::new(false),
+        }
+    }
+
+    /// A loop begins. It is to accept, where it is given the listener.
+    pub(crate) fn begin<R: Wait>(&self, rt: &R, index: usize) -> Option<Listener> {
+        if let Some(mailbox) = self.boxes.get(index) {
+            mailbox.begin();
+        }
+        self.listener.lock(rt).take()
+    }
+
+    /// Takes up a connection, where fewer than `MOST_OPEN` are open.
+    pub(crate) fn admit(&self) -> bool {
+        if self.open.load(Ordering::SeqCst) >= MOST_OPEN {
+            return false;
+        }
+        self.open.fetch_add(1, Ordering::SeqCst);
+        true
+    }
+
+    /// So many connections have closed.
+    pub(crate) fn leave(&self, count: u64) {
+        if count == 0 {
+            return;
+        }
+        self.open.fetch_sub(count, Ordering::SeqCst);
+        if self.pauses.swap(false, Ordering::SeqCst) {
+            self.wake_all();
+        }
+    }
+
+    /// Accepting pauses until a connection closes.
+    pub(crate) fn pause(&self) {
+        self.pauses.store(true, Ordering::SeqCst);
+    }
+
+    pub(crate) fn pauses(&self) -> bool {
+        self.pauses.load(Ordering::SeqCst)
+    }
+
+    /// Hands a connection to one of the loops that have begun, the next one in turn from this one on; says which.
+    pub(crate) fn hand<R: Wait>(&self, rt: &R, from: usize, socket: Socket) -> usize {
+        let index = self.next_loop(from);
+        let is_put = match self.boxes.get(index) {
+            Some(mailbox) => mailbox.put(rt, socket),
+            None => false,
+        };
+        if !is_put {
+            self.leave(1);
+        }
+        index
+    }
+
+    // The loop in turn, or the next one behind it that has begun.
+    fn next_loop(&self, from: usize) -> usize {
+        for index in from..self.boxes.len() {
+            if self.has_begun(index) {
+                return index;
+            }
+        }
+        for index in 0..self.boxes.len() {
+            if self.has_begun(index) {
+                return index;
+            }
+        }
+        self.boxes.len()
+    }
+
+    fn has_begun(&self, index: usize) -> bool {
+        match self.boxes.get(index) {
+            Some(mailbox) => mailbox.has_begun(),
+            None => false,
+        }
+    }
+
+    /// The next connection that was handed to a loop.
+    pub(crate) fn take<R: Wait>(&self, rt: &R, index: usize) -> Option<Socket> {
+        match self.boxes.get(index) {
+            Some(mailbox) => mailbox.take(rt),
+            None => None,
+        }
+    }
+
+    /// No more connections come.
+    pub(crate) fn end(&self) {
+        self.is_over.store(true, Ordering::SeqCst);
+        self.wake_all();
+    }
+
+    pub(crate) fn is_over(&self) -> bool {
+        self.is_over.load(Ordering::SeqCst)
+    }
+
+    /// Each loop is to end at once.
+    pub(crate) fn stop(&self) {
+        self.is_stopped.store(true, Ordering::SeqCst);
+        self.wake_all();
+    }
+
+    pub(crate) fn is_stopped(&self) -> bool {
+        self.is_stopped.load(Ordering::SeqCst)
+    }
+
+    fn wake_all(&self) {
+        for mailbox in self.boxes.iter() {
+            mailbox.wake();
+        }
+    }
+}

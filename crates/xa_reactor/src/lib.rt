@@ -1,0 +1,31 @@
+//! Event loops: few threads that serve the connections of a listener, each those that it is handed, at a door of its own.
+//!
+//! - `reception`: `Reception`, a door at which sessions connect; `watch`: `Watch`, whether replies told that the manager
+//!   behind the doors went down
+//! - `loops`: `run_loops`, a thread for each door; `LoopFault`, why it didn't, or not to the end
+//! - `socket`, `listener`: a connection's socket, and what connections come from
+//! - `peer`: a connection with its socket, and its turn; `peers`: those of a loop, whose turns come one behind the other
+//! - `tending`: a loop, round by round (`round`, `timing`); `acceptor`: the one that accepts; `common`: what the loops
+//!   share, with a `mailbox` for each
+#![tactic(auto)]
+
+mod acceptor;
+mod common;
+mod listener;
+mod loops;
+mod mailbox;
+mod peer;
+mod peers;
+mod reception;
+mod round;
+mod socket;
+mod tending;
+mod timing;
+mod watch;
+
+pub use common::{MOST_OPEN, Settings};
+pub use listener::Listener;
+pub use loops::{Ended, LoopFault, run_loops};
+pub use reception::Reception;
+pub use socket::Socket;
+pub use watch::Watch;

@@ -1,0 +1,146 @@
+//! Several loops.
+ghost use Rattle.std.specs.Prelude.{◌≡◌, IfOk, length, map};
+ghost use Rattle.xa_reactor.specs.Tending.{HasTended, HaveTended, SeedsHaveTended};
+
+use crate::common::{Common, Settings};
+use crate::listener::Listener;
+use crate::mailbox::Mailbox;
+use crate::reception::Reception;
+use crate::tending::{WAKER, tend};
+use crate::watch::Watch;
+use mio::{Poll, Waker};
+use std::alloc::AllocError;
+use std::io;
+use std::net::Net;
+use std::rt::Clock;
+use std::sync::Wait;
+use std::thread::{Threads, map_vec};
+use thiserror::Error;
+
+/// Why no loop has run, or what they ended with is lost.
+#[derive(Clone, Copy, Debug, PartialEq, Eq, Error)]
+pub enum LoopFault {
+    #[error("no memory")]
+    Memory,
+    /// The system gives nothing to wait for connections by.
+    #[error("cannot wait for connections")]
+    Wait,
+}
+
+impl From<AllocError> for LoopFault {
+    ghost use Rattle.std.specs.Prelude.{◌≡◌};
+    ghost use Rattle.xa_reactor.specs.declared.loops.LoopFault.TheVariants.{Memory};
+
+    ghost from_gives = { λ _ fault. fault ≡ Memory };
+
+    fn from(_: AllocError) -> LoopFault {
+        LoopFault::Memory
+    }
+}
+
+impl From<io::Error> for LoopFault {
+    ghost use Rattle.std.specs.Prelude.{◌≡◌};
+    ghost use Rattle.xa_reactor.specs.declared.loops.LoopFault.TheVariants.{Wait};
+
+    ghost from_gives = { λ _ fault. fault ≡ Wait };
+
+    fn from(_: io::Error) -> LoopFault {
+        LoopFault::Wait
+    }
+}
+
+/// What a loop begins with.
+#[derive(Drop)]
+struct Seed<D> {
+    index: usize,
+    poll: Poll,
+    door: D,
+}
+
+/// What a loop ended with: its door, and whether it could wait for events to the end.
+#[derive(Debug, Drop)]
+pub struct Ended<D> {
+    pub door: D,
+    pub is_whole: bool,
+}
+
+/// Serves the connections of a listener by a loop for each door, each in a thread of its own, or not at all where no
+/// thread can be made: the first one that begins accepts, and hands connections to those that have begun, in turn. They
+/// end behind so many connections, when the manager is down, or when one of them can't wait for events; if none of these
+/// is asked or comes, never.
+///
+/// Each session that a loop connected at its door it hung up there, once, and answered only in between.
+pub fn run_loops<
+    D: Reception + Send + Drop,
+    R: AllocGlobal + Clock + Eprint + Net + Threads + Wait + Sync,
+>(
+    rt: &R,
+    listener: Listener,
+    watch: &Watch,
+    doors: Vec<D>,
+    settings: Settings,
+) -> Result<Vec<Ended<D>>, LoopFault>
+    ensures count { IfOk result (λ ended. length ended.items ≡ length doors.items) }
+    ensures tended { IfOk result (λ ended. HaveTended D.connected D.called D.left doors.items ended.items) }
+{
+    let (seeds, boxes) = prepare(rt, doors)?;
+    let common = Common::new(settings, boxes, watch, listener);
+    Ok(run_all(rt, &common, seeds)?)
+}
+
+// Each loop runs in a thread of its own, or behind another where no thread can be made.
+fn run_all<D: Reception + Send + Drop, R: AllocGlobal + Clock + Eprint + Threads + Wait + Sync>(
+    rt: &R,
+    common: &Common<'_>,
+    seeds: Vec<Seed<D>>,
+) -> Result<Vec<Ended<D>>, AllocError>
+    ensures count { IfOk result (λ ended. length ended.items ≡ length seeds.items) }
+    ensures tended { IfOk result (λ ended. SeedsHaveTended D.connected D.called D.left seeds.items ended.items) }
+{
+    map_vec(
+        rt,
+        seeds,
+        &|seed: Seed<D>| -> Ended<D>
+            ensures { HasTended D.connected D.called D.left seed.door result.door }
+        { run_loop(rt, common, seed) },
+    )
+}
+
+fn run_loop<D: Reception, R: AllocGlobal + Clock + Eprint + Wait>(
+    rt: &R,
+    common: &Common<'_>,
+    seed: Seed<D>,
+) -> Ended<D>
+    ensures { HasTended D.connected D.called D.left seed.door result.door }
+{
+    let Seed {
+        index,
+        poll,
+        mut door,
+    } = seed;
+    let is_whole = tend(rt, common, index, poll, &mut door);
+    Ended { door, is_whole }
+}
+
+// A seed for each door, and a mailbox for each seed.
+fn prepare<D: Drop, R: AllocGlobal + Net>(
+    rt: &R,
+    doors: Vec<D>,
+) -> Result<(Vec<Seed<D>>, Vec<Mailbox>), LoopFault>
+    ensures { IfOk result (λ made. map (λ s. s.door) made.0.items ≡ doors.items) }
+{
+    let mut seeds = Vec::new(rt.alloc());
+    let mut boxes = Vec::new(rt.alloc());
+    for door in doors {
+        let poll = Poll::new(rt)?;
+        let waker = Waker::new(poll.registry(), WAKER)?;
+        let index = boxes.len();
+        boxes
+            .push(Mailbox::new(rt.alloc(), waker))
+            .map_err(AllocError::from)?;
+        seeds
+            .push(Seed { index, poll, door })
+            .map_err(AllocError::from)?;
+    }
+    Ok((seeds, boxes))
+}

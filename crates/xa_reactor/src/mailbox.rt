@@ -1,0 +1,49 @@
+use crate::socket::Socket;
+use mio::Waker;
+use std::alloc::Global;
+use std::collections::VecDeque;
+use std::sync::atomic::{AtomicBool, Ordering};
+use std::sync::{Mutex, Wait};
+
+/// The connections that were handed to a loop and that it hasn't yet taken.
+#[derive(Drop)]
+pub(crate) struct Mailbox {
+    waker: Waker,
+    sockets: Mutex<VecDeque<Socket>>,
+    /// Whether the loop has begun: one for which there is no thread may never.
+    has_begun: AtomicBool,
+}
+
+impl Mailbox {
+    pub(crate) fn new(alloc: Global, waker: Waker) -> Mailbox {
+        Mailbox {
+            waker,
+            sockets: Mutex::new(VecDeque::new(alloc)),
+            has_begun: AtomicBool::new(false),
+        }
+    }
+
+    pub(crate) fn begin(&self) {
+        self.has_begun.store(true, Ordering::SeqCst);
+    }
+
+    pub(crate) fn has_begun(&self) -> bool {
+        self.has_begun.load(Ordering::SeqCst)
+    }
+
+    /// Hands a connection to the loop. Whether there was memory for that; else it is closed.
+    pub(crate) fn put<R: Wait>(&self, rt: &R, socket: Socket) -> bool {
+        let is_put = self.sockets.lock(rt).push_back(socket).is_ok();
+        self.wake();
+        is_put
+    }
+
+    pub(crate) fn take<R: Wait>(&self, rt: &R) -> Option<Socket> {
+        self.sockets.lock(rt).pop_front()
+    }
+
+    /// Ends a wait of the loop.
+    pub(crate) fn wake(&self) {
+        let _ = self.waker.wake();
+    }
+}

@@ -1,0 +1,197 @@
+ghost use Rattle.std.specs.Prelude.{◌≡◌};
+ghost use Rattle.xa_connection.specs.Calls.{new_connection};
+ghost use Rattle.xa_reactor.specs.Turning.{CarriesOn, HasAnswered, HasFed, HasSent};
+
+use crate::socket::Socket;
+use mio::event::Event;
+use mio::{Registry, Token};
+use std::alloc::Global;
+use std::io::ErrorKind;
+use xa_connection::{Connection, MOST_INPUT};
+use xa_desk::Door;
+
+/// A connection with its socket, and the session that is served on it.
+#[derive(Drop)]
+pub(crate) struct Peer {
+    socket: Socket,
+    pub(crate) connection: Connection,
+    pub(crate) session: u64,
+    /// Whether there may be bytes to read of which no further event tells.
+    reads: bool,
+    /// Whether the peer sends no more: what it sent is read to its end.
+    is_ending: bool,
+    /// Whether events tell when the socket takes more.
+    writes: bool,
+    /// Whether it waits for its turn.
+    is_queued: bool,
+    /// When bytes last came or went, in milliseconds since the loop began.
+    since: u64,
+}
+
+/// What comes behind a turn.
+#[derive(Clone, Copy, Debug, PartialEq, Eq)]
+pub(crate) enum Step {
+    /// An event tells when there is more to do.
+    Waits,
+    /// There is more to do, of which no event tells.
+    Goes,
+    /// The connection is over.
+    Ends,
+}
+
+impl Peer {
+    pub(crate) fn new(alloc: Global, socket: Socket, session: u64, now: u64) -> Peer
+        ensures { (result.session ≡ session) × (result.connection ≡ new_connection) }
+    {
+        Peer {
+            socket,
+            connection: Connection::new(alloc),
+            session,
+            reads: false,
+            is_ending: false,
+            writes: false,
+            is_queued: false,
+            since: now,
+        }
+    }
+
+    /// An event told of the socket. Whether the peer is to be put into the queue of turns, where it isn't yet.
+    pub(crate) fn notice(&mut self, event: &Event) -> bool
+        ensures { (self.new.session ≡ self.old.session) × (self.new.connection ≡ self.old.connection) }
+    {
+        if event.is_read_closed() || event.is_error() {
+            self.is_ending = true;
+            self.reads = true;
+        }
+        if event.is_readable() {
+            self.reads = true;
+        }
+        let was_queued = self.is_queued;
+        self.is_queued = true;
+        !was_queued
+    }
+
+    /// A turn: what is to be sent is sent; one read, where no whole frame came in; one frame is answered; and its reply
+    /// is sent. While a reply isn't sent nothing is read, and nothing answered.
+    pub(crate) fn turn<D: Door>(
+        &mut self,
+        alloc: Global,
+        door: &mut D,
+        scratch: &mut [u8],
+        registry: &Registry,
+        token: Token,
+        now: u64,
+    ) -> Step
+        ensures session { self.new.session ≡ self.old.session }
+        ensures answers { HasAnswered (D.called self.old.session) door.old door.new }
+        ensures carries { CarriesOn (D.called self.old.session) self.old.connection door.old self.new.connection door.new }
+    {
+        self.is_queued = false;
+        if !self.flush(now) {
+            return Step::Ends;
+        }
+        if !self.take_in(scratch, now) {
+            return Step::Ends;
+        }
+        let _answering = self.connection.answer(alloc, door, self.session);
+        if !self.flush(now) {
+            return Step::Ends;
+        }
+        self.rest(registry, token)
+    }
+
+    // Writes once what is to be sent. Whether the socket is whole.
+    fn flush(&mut self, now: u64) -> bool
+        ensures session { self.new.session ≡ self.old.session }
+        ensures sent { HasSent self.old.connection self.new.connection }
+    {
+        if self.connection.unsent().is_empty() {
+            return true;
+        }
+        match self.socket.write(self.connection.unsent()) {
+            Ok(0) => false,
+            Ok(count) => {
+                self.connection.sent(count);
+                self.since = now;
+                true
+            }
+            Err(error) => is_passing(error.kind()),
+        }
+    }
+
+    // Reads once, where no whole frame came in. Whether more may come.
+    fn take_in(&mut self, scratch: &mut [u8], now: u64) -> bool
+        ensures session { self.new.session ≡ self.old.session }
+        ensures fed { HasFed self.old.connection self.new.connection }
+    {
+        self.is_asked() || self.receive(scratch, now)
+    }
+
+    // Reads once, as far as the connection takes bytes and there may be some. Whether more may come. A read that gives
+    // less than it was asked for is the last, as an event tells of what comes then; but not where the peer sends no
+    // more, of which there was an event already.
+    fn receive(&mut self, scratch: &mut [u8], now: u64) -> bool
+        ensures session { self.new.session ≡ self.old.session }
+        ensures fed { HasFed self.old.connection self.new.connection }
+    {
+        let most = self.connection.room().min(scratch.len());
+        if most == 0 || !self.reads {
+            return true;
+        }
+        match self.socket.read(&mut scratch[..most]) {
+            Ok(0) => false,
+            Ok(count) => {
+                self.since = now;
+                self.reads = self.is_ending || count == most;
+                self.connection.feed(&scratch[..count]).is_ok()
+            }
+            Err(error) => {
+                let kind = error.kind();
+                self.reads = kind != ErrorKind::WouldBlock;
+                is_passing(kind)
+            }
+        }
+    }
+
+    /// Whether it owes the rest of a frame, and is owed nothing itself: while a reply isn't sent nothing is read of it.
+    pub(crate) fn is_inside_frame(&self) -> bool {
+        self.connection.is_inside_frame() && self.connection.unsent().is_empty()
+    }
+
+    /// For how long no byte came or went, in milliseconds.
+    pub(crate) fn quiet(&self, now: u64) -> u64 {
+        now.saturating_sub(self.since)
+    }
+
+    // What comes behind a turn, with events of what it waits for.
+    fn rest(&mut self, registry: &Registry, token: Token) -> Step
+        ensures { (self.new.session ≡ self.old.session) × (self.new.connection ≡ self.old.connection) }
+    {
+        if self.connection.is_done() {
+            return Step::Ends;
+        }
+        let is_full = !self.connection.unsent().is_empty();
+        if is_full != self.writes {
+            self.writes = is_full;
+            if !self.socket.watch(registry, token, is_full) {
+                return Step::Ends;
+            }
+        }
+        if !is_full && (self.reads || self.is_asked()) {
+            self.is_queued = true;
+            Step::Goes
+        } else {
+            Step::Waits
+        }
+    }
+
+    // Whether a whole frame came in that isn't answered, or a length that is too great, where nothing is to be sent.
+    fn is_asked(&self) -> bool {
+        self.connection.room() < MOST_INPUT && !self.connection.is_inside_frame()
+    }
+}
+
+// Whether a read or a write that failed so may go on later.
+fn is_passing(kind: ErrorKind) -> bool {
+    kind == ErrorKind::WouldBlock || kind == ErrorKind::Interrupted
+}

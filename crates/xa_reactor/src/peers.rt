@@ -1,0 +1,212 @@
+ghost use Rattle.std.specs.Prelude.{◌≡◌, ℕ, None, length};
+ghost use Rattle.slab.specs.Slab.{get};
+ghost use Rattle.xa_reactor.specs.Tending.{Tends, nobody, sessions_of};
+
+use crate::peer::{Peer, Step};
+use crate::reception::Reception;
+use crate::round::Round;
+use crate::socket::Socket;
+use crate::timing::is_overdue;
+use mio::Token;
+use mio::event::Event;
+use slab::Slab;
+use std::alloc::Global;
+use std::collections::VecDeque;
+
+/// The connections of a loop, under the keys that are their tokens.
+#[derive(Drop)]
+pub(crate) struct Peers {
+    pub(crate) all: Slab<Peer>,
+    /// The keys of those that have a turn next, in their order.
+    queue: VecDeque<usize>,
+}
+
+impl Peers {
+    pub(crate) fn new(alloc: Global) -> Peers
+        ensures { sessions_of result.all ≡ nobody }
+    {
+        Peers {
+            all: Slab::new(alloc),
+            queue: VecDeque::new(alloc),
+        }
+    }
+
+    pub(crate) fn len(&self) -> usize {
+        self.all.len()
+    }
+
+    /// Whether one of them has a turn next.
+    pub(crate) fn is_queued(&self) -> bool {
+        !self.queue.is_empty()
+    }
+
+    /// Serves a session on a connection. Where there is no memory, or no session is connected, the connection is closed,
+    /// and the answer is false.
+    pub(crate) fn add<D: Reception>(
+        &mut self,
+        round: Round<'_>,
+        door: &mut D,
+        socket: Socket,
+    ) -> bool
+        ensures { Tends D.connected D.called D.left (sessions_of self.old.all) door.old (sessions_of self.new.all) door.new }
+    {
+        if self.queue.reserve(1).is_err() {
+            return false;
+        }
+        add_to(&mut self.all, round, door, socket)
+    }
+
+    /// An event told of a connection, which has a turn.
+    pub(crate) fn notice<D: Reception>(&mut self, door: &mut D, event: &Event)
+        ensures { Tends D.connected D.called D.left (sessions_of self.old.all) door.old (sessions_of self.new.all) door.new }
+    {
+        let key = event.token().0;
+        if notice_in(&mut self.all, event, key) {
+            self.go_on(door, key, Step::Goes);
+        }
+    }
+
+    /// Each connection that has a turn has it.
+    pub(crate) fn give_turns<D: Reception>(
+        &mut self,
+        round: Round<'_>,
+        scratch: &mut [u8],
+        door: &mut D,
+    )
+        ensures { Tends D.connected D.called D.left (sessions_of self.old.all) door.old (sessions_of self.new.all) door.new }
+    {
+        for _ in 0..self.queue.len() {
+            self.give_turn(round, scratch, door);
+        }
+    }
+
+    // The next one that has a turn has it.
+    fn give_turn<D: Reception>(&mut self, round: Round<'_>, scratch: &mut [u8], door: &mut D)
+        ensures { Tends D.connected D.called D.left (sessions_of self.old.all) door.old (sessions_of self.new.all) door.new }
+    {
+        let Some(key) = self.queue.pop_front() else {
+            return;
+        };
+        let step = turn_in(&mut self.all, round, scratch, door, key);
+        self.go_on(door, key, step);
+    }
+
+    // Has a turn next, or ends, also where there is no memory for that.
+    fn go_on<D: Reception>(&mut self, door: &mut D, key: usize, step: Step)
+        ensures { Tends D.connected D.called D.left (sessions_of self.old.all) door.old (sessions_of self.new.all) door.new }
+    {
+        let ends = match step {
+            Step::Waits => false,
+            Step::Goes => self.queue.push_back(key).is_err(),
+            Step::Ends => true,
+        };
+        if ends {
+            end_in(&mut self.all, door, key);
+        }
+    }
+
+    /// Ends those that are overdue.
+    pub(crate) fn end_overdue<D: Reception>(&mut self, door: &mut D, now: u64, limit: u64)
+        ensures { Tends D.connected D.called D.left (sessions_of self.old.all) door.old (sessions_of self.new.all) door.new }
+    {
+        for key in 0..self.all.capacity() {
+            end_if_overdue(&mut self.all, door, key, now, limit);
+        }
+    }
+
+    /// Ends all of them.
+    pub(crate) fn end_all<D: Reception>(&mut self, door: &mut D)
+        ensures { Tends D.connected D.called D.left (sessions_of self.old.all) door.old nobody door.new }
+    {
+        for key in 0..self.all.capacity() {
+            end_in(&mut self.all, door, key);
+        }
+    }
+}
+
+fn add_to<D: Reception>(
+    all: &mut Slab<Peer>,
+    round: Round<'_>,
+    door: &mut D,
+    socket: Socket,
+) -> bool
+    ensures { Tends D.connected D.called D.left (sessions_of all.old) door.old (sessions_of all.new) door.new }
+{
+    if all.reserve(1).is_err() {
+        return false;
+    }
+    let mut socket = socket;
+    if !socket.register(round.registry, Token(all.vacant_key())) {
+        return false;
+    }
+    let Ok(session) = door.connect() else {
+        return false;
+    };
+    let _key = all.insert_reserved(Peer::new(round.alloc, socket, session, round.now));
+    true
+}
+
+// Whether the connection under this key is to be put into the queue.
+fn notice_in(all: &mut Slab<Peer>, event: &Event, key: usize) -> bool
+    ensures { (other : ℕ) → sessions_of all.new other ≡ sessions_of all.old other }
+{
+    match all.get_mut(key) {
+        Some(peer) => peer.notice(event),
+        None => false,
+    }
+}
+
+fn turn_in<D: Reception>(
+    all: &mut Slab<Peer>,
+    round: Round<'_>,
+    scratch: &mut [u8],
+    door: &mut D,
+    key: usize,
+) -> Step
+    ensures { Tends D.connected D.called D.left (sessions_of all.old) door.old (sessions_of all.new) door.new }
+{
+    match all.get_mut(key) {
+        Some(peer) => peer.turn(
+            round.alloc,
+            door,
+            scratch,
+            round.registry,
+            Token(key),
+            round.now,
+        ),
+        None => Step::Waits,
+    }
+}
+
+fn end_if_overdue<D: Reception>(
+    all: &mut Slab<Peer>,
+    door: &mut D,
+    key: usize,
+    now: u64,
+    limit: u64,
+)
+    ensures { Tends D.connected D.called D.left (sessions_of all.old) door.old (sessions_of all.new) door.new }
+{
+    if is_overdue_in(all, key, now, limit) {
+        end_in(all, door, key);
+    }
+}
+
+fn is_overdue_in(all: &Slab<Peer>, key: usize, now: u64, limit: u64) -> bool {
+    match all.get(key) {
+        Some(peer) => is_overdue(peer.is_inside_frame(), peer.quiet(now), limit),
+        None => false,
+    }
+}
+
+// Ends the connection under this key, if there is one, and hangs its session up.
+fn end_in<D: Reception>(all: &mut Slab<Peer>, door: &mut D, key: usize)
+    ensures tends { Tends D.connected D.called D.left (sessions_of all.old) door.old (sessions_of all.new) door.new }
+    ensures none { get all.new key ≡ None }
+    ensures others { (other : ℕ) → get all.old other ≡ None → get all.new other ≡ None }
+    ensures slots { length all.new.slots ≡ length all.old.slots }
+{
+    if let Some(peer) = all.try_remove(key) {
+        door.hangup(peer.session);
+    }
+}

@@ -1,0 +1,15 @@
+use xa_assoc::ConnectFault;
+use xa_desk::Door;
+
+/// A door at which sessions connect, too.
+pub trait Reception: Door {
+    ghost use Rattle.std.specs.Prelude.{ℕ, Result};
+    ghost use Rattle.xa_assoc.specs.declared.fault.ConnectFault.{ConnectFault};
+
+    /// A connect took it from one to the other, with this result.
+    ghost connected: { Self → Result ℕ ConnectFault → Self → Type 0 };
+
+    /// Connects a session.
+    fn connect(&mut self) -> Result<u64, ConnectFault>
+        ensures { connected self.old result self.new };
+}

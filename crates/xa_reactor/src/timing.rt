@@ -1,0 +1,33 @@
+//! The times of a loop, in milliseconds.
+ghost use Rattle.std.specs.Prelude.{◌≡◌};
+ghost use Rattle.xa_reactor.specs.Timing.{is_overdue, wait_of};
+
+/// For how long accepting pauses where an accept failed.
+pub(crate) const PAUSE: u64 = 100;
+
+/// How long it is from one look for connections that are overdue to the next.
+pub(crate) const LOOK: u64 = 1_000;
+
+/// Whether a connection is overdue: it brought a part of a frame, and for so long, if there is such a limit, no byte
+/// more.
+pub(crate) fn is_overdue(is_inside: bool, quiet: u64, limit: u64) -> bool
+    ensures { result ≡ is_overdue is_inside quiet limit }
+{
+    is_inside && limit > 0 && quiet >= limit
+}
+
+/// How long to wait for an event, None until one comes: not at all where a connection has a turn; so long as accepting
+/// pauses; until the next look, where there are connections.
+pub(crate) fn wait_of(has_turn: bool, pauses: bool, has_connections: bool) -> Option<u64>
+    ensures { result ≡ wait_of has_turn pauses has_connections }
+{
+    if has_turn {
+        Some(0)
+    } else if pauses {
+        Some(PAUSE)
+    } else if has_connections {
+        Some(LOOK)
+    } else {
+        None
+    }
+}

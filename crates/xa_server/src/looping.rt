@@ -1,0 +1,116 @@
+//! A manager over two files, whose sessions are the connections of a port, by event loops.
+ghost use Rattle.std.specs.Prelude.{◌≡◌, ◌&&◌, IfErr, IfOk, not};
+ghost use Rattle.xa_limits.specs.declared.TheConstants.{MOST_LOG};
+ghost use Rattle.xa_server.specs.Served.{AreLoops, HasLooped, LoopsHaveFailed};
+
+use crate::engine::loop_manager;
+use crate::listens::Listens;
+use crate::serve_fault::ServeFault;
+use crate::service::make_ready;
+use std::io;
+use std::io::Print;
+use std::net::{IpAddr, Net};
+use std::rt::Clock;
+use std::sync::Wait;
+use std::thread::{Threads, available_parallelism};
+use xa_disk::{Disk, Opens};
+use xa_manager::Manager;
+use xa_reactor::{Listener, Settings};
+use xa_room::Manages;
+
+/// What is to be served by loops.
+#[derive(Clone, Copy, Debug, Drop)]
+pub struct LoopService<'a> {
+    /// Of the log's first file. The second one's has `.2` after it.
+    pub path: &'a str,
+    pub name: &'a str,
+    pub address: &'a str,
+    pub port: u16,
+    /// 1 to `MOST_LOOPS`, or 0 for as many as the machine has cores, at most 4.
+    pub loops: u64,
+    /// After how many connections it ends, 0 for never.
+    pub connections: u64,
+    /// For how many seconds a connection may bring no byte inside a frame, 0 for ever.
+    pub frame_seconds: u64,
+    /// Whether it ends when the manager has gone down.
+    pub ends_when_down: bool,
+}
+
+/// Opens the log's two files, listens, and opens the manager; then it serves by loops, until they end. Whether the manager
+/// is up then, or a server that is down was not to end.
+///
+/// Nobody is answered before the manager is open. Where the port can't be had, or a file of the log is missing, the
+/// manager isn't opened, so that nothing is written to the log.
+pub fn serve_loops<
+    'a,
+    R: AllocGlobal + Print + Eprint + Opens + Listens + Clock + Net + Threads + Wait + Sync,
+>(rt: &R, service: &LoopService<'a>) -> Result<bool, ServeFault<'a>>
+    ensures served { IfOk result (HasLooped ⟦<R::Disk as Disk>⟧ ⟦<Manager<R::Disk> as Manages>⟧ R.opened R.Listens
+        MOST_LOG service.now) }
+    ensures failed { IfErr result (LoopsHaveFailed ⟦<R::Disk as Disk>⟧ R.opened R.refused R.Listens MOST_LOG
+        service.now) }
+{
+    warn(rt, service.address);
+    let (listener, manager) = make_ready(
+        rt,
+        service.path,
+        service.name,
+        service.address,
+        service.port,
+    )?;
+    let Ok(()) = listener.set_nonblocking(true) else {
+        return Err(ServeFault::Wait);
+    };
+    if rt.println("ready").is_err() {
+        return Err(ServeFault::Write);
+    }
+    let loops = loops_of(rt, service.loops);
+    let listener = Listener::Tcp(mio::net::TcpListener::from_std(listener));
+    let settings = Settings {
+        connections: service.connections,
+        frame_seconds: service.frame_seconds,
+        ends_when_down: service.ends_when_down,
+    };
+    let told = loop_manager(rt, listener, manager, loops, settings)?;
+    if !told.is_whole {
+        return Err(ServeFault::Wait);
+    }
+    let calls = told.calls;
+    match println!(rt; "calls {calls}") {
+        Ok(()) => Ok(is_well(service.ends_when_down, told.is_down)),
+        Err(_) => Err(ServeFault::Write),
+    }
+}
+
+// Unless the manager is down, and a server that is down was to end.
+fn is_well(ends_when_down: bool, is_down: bool) -> bool
+    ensures { result ≡ not (ends_when_down && is_down) }
+{
+    !(ends_when_down && is_down)
+}
+
+// How many loops are to run.
+fn loops_of<R: Threads>(rt: &R, asked: u64) -> u64
+    ensures { AreLoops asked result }
+{
+    if asked != 0 {
+        return asked;
+    }
+    match available_parallelism(rt) {
+        Ok(cores) => (cores.get() as u64).min(4),
+        Err(_) => 1,
+    }
+}
+
+// Tells that whoever can connect may do anything, where others than this machine can.
+fn warn<R: Eprint>(rt: &R, address: &str) {
+    let is_own = match address.parse::<IpAddr>() {
+        Ok(address) => address.is_loopback(),
+        Err(_) => false,
+    };
+    if !is_own {
+        let _ = eprintln!(rt;
+            "xarm: warning: there is no authentication, and {address} is not a loopback address"
+        );
+    }
+}

@@ -1,0 +1,157 @@
+use crate::clients::{CALLS, OPEN, are_answered, client, listening, opened_at, reach};
+use crate::desks::opened;
+use crate::servers::{EACH_CALL, are_replies, played, script_of, talked};
+use std::alloc::Global;
+use std::io::{Read, Write};
+use std::net::{Net, SocketAddr, TcpListener, TcpStream};
+use std::rt::Clock;
+use std::sync::Wait;
+use std::thread::{Threads, join};
+use xa_reactor::{Listener, Settings};
+use xa_server::{Looped, loop_manager};
+
+// Event loops: what connections are answered, wherever they are cut, and which of them are closed.
+
+// What is to be served: so many connections. One that stops inside a frame is closed a second later.
+fn settings_of(connections: u64) -> Settings {
+    Settings {
+        connections,
+        frame_seconds: 1,
+        ends_when_down: false,
+    }
+}
+
+// A listener for loops, and where it is reached.
+fn loop_listener<R: Net<Listener = TcpListener, Stream = TcpStream>>(
+    rt: &R,
+) -> Option<(Listener, SocketAddr)> {
+    let (listener, address) = listening(rt)?;
+    listener.set_nonblocking(true).ok()?;
+    let listener = mio::net::TcpListener::from_std(listener);
+    Some((Listener::Tcp(listener), address))
+}
+
+// Whether loops that ended tell of so many events, and of a manager that is up.
+fn is_told(told: Looped, calls: u64) -> bool {
+    told.calls == calls && told.is_whole && !told.is_down
+}
+
+// Each call once, over two loops.
+fn loops_answer<
+    R: AllocGlobal
+        + Clock
+        + Eprint
+        + Net<Listener = TcpListener, Stream = TcpStream>
+        + Threads
+        + Wait
+        + Sync,
+>(rt: &R, lines: &[&str]) -> Option<bool> {
+    let alloc = rt.alloc();
+    let script = script_of(alloc, lines).ok()?;
+    let wanted = played(alloc, script.as_slice())?;
+    let (listener, address) = loop_listener(rt)?;
+    let manager = opened(alloc)?;
+    let (told, talked) = join(
+        rt,
+        || loop_manager(rt, listener, manager, 2, settings_of(2)),
+        || talked(rt, alloc, address, script.as_slice()),
+    );
+    let (printed, came) = talked?;
+    let is_printed = printed.as_slice() == wanted.as_slice();
+    let are_replies = are_replies(alloc, lines, wanted.as_slice(), came.as_slice())?;
+    Some(is_printed && are_replies && is_told(told.ok()?, 55))
+}
+
+#[test]
+fn loops_answer_as_play(rt: HostRuntime) {
+    assert_eq!(rt; loops_answer(&rt, EACH_CALL), Some(true));
+}
+
+// The k-th client breaks off behind the k-th byte of its second frame. It has the reply to its first one.
+fn is_cut_off<R: Net<Stream = TcpStream>>(
+    rt: &R,
+    alloc: Global,
+    address: SocketAddr,
+    k: u8,
+) -> bool {
+    let place = k.saturating_mul(3).saturating_add(2);
+    let Some(bytes) = CALLS.get(..OPEN.len() + k as usize) else {
+        return false;
+    };
+    match client(rt, alloc, address, bytes) {
+        Some(replies) => replies.as_slice() == opened_at(place).as_slice(),
+        None => false,
+    }
+}
+
+// One that sends byte by byte, and takes its replies so.
+fn trickles<R: Net<Stream = TcpStream>>(
+    rt: &R,
+    alloc: Global,
+    address: SocketAddr,
+) -> Option<bool> {
+    let mut stream = reach(rt, address).ok()?;
+    stream.set_nodelay(true).ok()?;
+    for byte in &CALLS {
+        stream.write_all(&[*byte]).ok()?;
+    }
+    let mut replies = Vec::new(alloc);
+    for _ in 0..46u8 {
+        let mut byte = [0u8];
+        stream.read_exact(&mut byte).ok()?;
+        replies.extend_from_slice(&byte).ok()?;
+    }
+    Some(are_answered(replies.as_slice(), 50))
+}
+
+// One that stops inside a frame is closed, and nothing came.
+fn is_hung_up<R: Net<Stream = TcpStream>>(
+    rt: &R,
+    alloc: Global,
+    address: SocketAddr,
+) -> Option<bool> {
+    let mut stream = reach(rt, address).ok()?;
+    stream.write_all(&[0, 0, 0]).ok()?;
+    let mut bytes = Vec::new(alloc);
+    stream.read_to_end(&mut bytes).ok()?;
+    Some(bytes.is_empty())
+}
+
+fn are_right<R: Net<Stream = TcpStream>>(
+    rt: &R,
+    alloc: Global,
+    address: SocketAddr,
+) -> Option<bool> {
+    for k in 0..16u8 {
+        if !is_cut_off(rt, alloc, address, k) {
+            return Some(false);
+        }
+    }
+    Some(trickles(rt, alloc, address)? && is_hung_up(rt, alloc, address)?)
+}
+
+fn loops_serve_the_cut<
+    R: AllocGlobal
+        + Clock
+        + Eprint
+        + Net<Listener = TcpListener, Stream = TcpStream>
+        + Threads
+        + Wait
+        + Sync,
+>(rt: &R) -> Option<bool> {
+    let alloc = rt.alloc();
+    let (listener, address) = loop_listener(rt)?;
+    let manager = opened(alloc)?;
+    let (told, are_right) = join(
+        rt,
+        || loop_manager(rt, listener, manager, 1, settings_of(18)),
+        || are_right(rt, alloc, address),
+    );
+    // three events of each of the first sixteen, four of the next, and two of the one that is hung up
+    Some(are_right? && is_told(told.ok()?, 54))
+}
+
+#[test]
+fn connections_that_are_cut(rt: HostRuntime) {
+    assert_eq!(rt; loops_serve_the_cut(&rt), Some(true));
+}
