@@ -20,7 +20,7 @@ import static javax.transaction.xa.XAResource.XA_OK;
  */
 public final class Records {
     private static final int MOST_KEY = 64;
-    private static final int MOST_VALUE = 1_024;
+    private static final int MOST_VALUE = 16_384;
 
     private final Session session;
 
@@ -44,7 +44,7 @@ public final class Records {
      * Sends Put.
      *
      * @param key 1 to 64 bytes
-     * @param value 0 to 1,024 bytes
+     * @param value 0 to 16,384 bytes
      * @throws XarmException as above
      */
     public void put(byte[] key, byte[] value) throws XarmException {

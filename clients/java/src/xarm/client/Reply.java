@@ -15,7 +15,7 @@ final class Reply {
     static final int XIDS = 4;
 
     private static final byte VERSION = 1;
-    private static final int MOST_VALUE = 1_024;
+    private static final int MOST_VALUE = 16_384;
     private static final int MOST_XIDS = 256;
 
     private final int code;

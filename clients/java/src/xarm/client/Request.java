@@ -7,11 +7,11 @@ import java.util.Arrays;
 final class Request {
     private static final byte VERSION = 1;
     private static final int LENGTH_BYTES = 4;
-    // the longest is a Put: a key of 64 bytes and a value of 1,024, with what stands before them
-    private static final int MOST_BYTES = LENGTH_BYTES + 2 + 1 + 64 + 2 + 1_024;
+    // without a value the longest is an Open: flags, and an info of 255 bytes behind its length
+    private static final int MOST_BYTES = LENGTH_BYTES + 2 + 4 + 1 + 255;
 
     private final Operation operation;
-    private final ByteBuffer bytes = ByteBuffer.allocate(MOST_BYTES);
+    private ByteBuffer bytes = ByteBuffer.allocate(MOST_BYTES);
 
     Request(Operation operation) {
         this.operation = operation;
@@ -45,8 +45,9 @@ final class Request {
         return this;
     }
 
-    /** A value: bytes behind their length of two bytes. */
+    /** A value: bytes behind their length of two bytes. Room is made for it here, so that only a Put takes so much. */
     Request value(byte[] value) {
+        bytes = ByteBuffer.allocate(bytes.position() + 2 + value.length).put(bytes.flip());
         bytes.putShort((short) value.length).put(value);
         return this;
     }

@@ -14,7 +14,7 @@ import xarm.client.XarmXAConnection;
 final class BitronixReadmeTests implements Suite {
     private static final String FIRST = "    import bitronix";
     private static final String LAST = "    }";
-    private static final int LIMIT_SECONDS = 40;
+    private static final int LIMIT_SECONDS = 120;
 
     @Override
     public void run(Tests tests) throws Exception {

@@ -33,8 +33,8 @@ final class BitronixTests implements Suite {
     private static final long BALANCE = 1_000_000;
     private static final int MOST = 100;
     private static final int LONGEST_WORK = 150; // milliseconds between a first commit and a kill
-    private static final int LIMIT_SECONDS = 100;
-    private static final int CLERK_SECONDS = 20;
+    private static final int LIMIT_SECONDS = 600;
+    private static final int CLERK_SECONDS = 60;
 
     private final AtomicInteger commits = new AtomicInteger();
     private final AtomicInteger rollbacks = new AtomicInteger();

@@ -141,7 +141,7 @@ final class DeviceTests implements Suite {
                 Fake.reply(XA_OK, Detail.NOTHING, 0, new byte[1]), // a byte behind it
                 Fake.reply(XA_OK, Detail.NOTHING, 1, new byte[8]), // a number, where none is answered
                 Fake.reply(XA_OK, Detail.NOTHING, 1, new byte[7]), // a number that is cut
-                Fake.reply(XA_OK, Detail.NOTHING, 2, new byte[] {4, 1}), // a value of 1,025 bytes
+                Fake.reply(XA_OK, Detail.NOTHING, 2, new byte[] {64, 1}), // a value of 16,385 bytes
                 Fake.reply(1, Detail.NOTHING, 4, new byte[] {0, 1, 0, 0, 0, 1, 0, 0}), // an XID without a global part
                 new byte[4], // a frame of no bytes
                 ByteBuffer.allocate(4).putInt(65_536).array(), // a length that no frame has

@@ -4,7 +4,7 @@ import javax.transaction.xa.XAException;
 
 /** What comes about a moment later, as a server's hang-up of a connection that was closed. */
 final class Eventually {
-    private static final int TRIES = 1_000;
+    private static final int TRIES = 6_000;
     private static final int PAUSE = 10;
 
     private Eventually() {}

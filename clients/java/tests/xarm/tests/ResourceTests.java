@@ -103,7 +103,7 @@ final class ResourceTests implements Suite {
 
     private void recordsInBranch() throws Exception {
         resource.start(xid("records"), TMNOFLAGS);
-        byte[] longest = new byte[1_024];
+        byte[] longest = new byte[16_384];
         Arrays.fill(longest, (byte) 0xfe);
         records.put(new byte[64], longest);
         holds(Arrays.equals(longest, records.get(new byte[64])), "its own write is read");
@@ -120,7 +120,7 @@ final class ResourceTests implements Suite {
     private void recordsOutOfLimits() throws Exception {
         illegal(() -> records.get(new byte[0]));
         illegal(() -> records.put(new byte[65], new byte[0]));
-        illegal(() -> records.put(text("k"), new byte[1_025]));
+        illegal(() -> records.put(text("k"), new byte[16_385]));
         illegal(() -> records.delete(new byte[0]));
         refusal(XAER_PROTO, Detail.NOTHING, () -> records.get(text("k")));
         refusal(XAER_PROTO, Detail.NOTHING, () -> records.put(text("k"), text("v")));

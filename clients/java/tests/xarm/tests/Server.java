@@ -17,7 +17,7 @@ import xarm.client.XarmXADataSource;
 
 /** A live {@code xarm serve} on a port of 127.0.0.1, which is started again at the same port and log. It ends with the tests. */
 final class Server implements AutoCloseable {
-    private static final int LIMIT_SECONDS = 20;
+    private static final int LIMIT_SECONDS = 60;
     private static final int TRIES = 100;
     private static final int LEAST_PORT = 10_000;
     private static final int MOST_PORT = 32_000;
