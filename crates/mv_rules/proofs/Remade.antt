@@ -11,10 +11,10 @@ use Rattle.mv_chain.specs.declared.version.Version.{Version as ChainVersion}
 use Rattle.mv_chain.specs.Accesses.{Written, Answered, Seen, seen_without, has_undecided, stands}
 use Rattle.mv_chain.specs.Chain.{has_base, StandsFor as ChainStandsFor}
 use Rattle.mv_chain.specs.declared.fate.Fate.{Fate}
-use Rattle.xa_model.specs.State.{Branch, Phase, Working, Prepared, Committed, timestamp_of}
+use Rattle.xa_model.specs.State.{Branch, Phase, Working, Prepared, Committed, timestamp_of, is_working}
 use Rattle.xa_model.specs.Source.{write_of, written_keys}
-use Rattle.xa_model.specs.Sound.{Descends, is_working}
-use Rattle.xa_model.specs.Durable.{Durable, CommittedBranch, Pairwise, keys_before, is_written, left_by, with_writes, last_writes, value_in, last_write, writes_of, committed_part, prepared_part}
+use Rattle.xa_model.specs.Sound.{Descends}
+use Rattle.xa_model.specs.Durable.{Durable, CommittedBranch, Pairwise, keys_before, is_written, not_overwritten, with_writes, last_writes, value_in, last_write, writes_of, committed_part, prepared_part}
 use Rattle.xa_model.proofs.Ascending.{parts, add, parts-cons, parts_below, parts_pairwise, all_add}
 use Rattle.xa_model.proofs.Inserts.{all_imply}
 use Rattle.xa_model.proofs.Keys.{last_writes_stay}
@@ -256,7 +256,7 @@ with_keys t (w ∷ ws) cs h k = (h, k)
 
 last_keys : (cs : List CommittedBranch) → Each (λ c. Pairwise keys_before c.writes) cs → Each (λ c. Pairwise keys_before c.writes) (last_writes cs)
 last_keys [] h = tt
-last_keys (c ∷ later) h = with_keys c.timestamp (left_by later c.writes) (last_writes later) (pairs_kept keys_before (λ w. not (is_written w.key later)) c.writes h.0) (last_keys later h.1)
+last_keys (c ∷ later) h = with_keys c.timestamp (not_overwritten later c.writes) (last_writes later) (pairs_kept keys_before (λ w. not (is_written w.key later)) c.writes h.0) (last_keys later h.1)
 
 part_keys : (t : ℕ) (ws : List Write) (phase : Phase) (c : CommittedBranch) → committed_part t ws phase ≡ Some c → Pairwise keys_before ws → Pairwise keys_before c.writes
 part_keys t ws (Working xid work) c e h = absurd (cc e)

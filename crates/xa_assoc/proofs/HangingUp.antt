@@ -6,7 +6,7 @@ use Rattle.std.proofs.lemmas.Bool.Decides.{nat_tests}
 use Rattle.xa_xid.specs.Triple.{Triple, xid_eq}
 use Rattle.xa_model.proofs.Xids.{both_true}
 use Rattle.xa_model.specs.State.{Session, Association, count, is_active, is_own, owns, active_of, session_of, without, limit_by}
-use Rattle.xa_model.specs.Associations.{hang_up_by, is_anyones}
+use Rattle.xa_model.specs.Associations.{hang_up_by, is_of_session}
 use Rattle.xa_model.proofs.Finds.{find_without}
 use Rattle.xa_model.proofs.Counts.{found_none, count_out, count_less, count_without, count_nowhere}
 use Rattle.xa_assoc.specs.declared.sessions.Sessions.{Sessions}
@@ -59,28 +59,28 @@ apart_own n k a e is = own_number k n a.holder is ∙ other_way n k e
     other_way : (i j : ℕ) → (i == j) ≡ false → (j == i) ≡ false
     other_way i j h = grind (arith, nat_tests)
 
-out_active : (n k : ℕ) (held : List Association) (c : Bool) → (n == k) ≡ c → cond c None (active_of held k) ≡ active_of (filter (λ a. not (is_anyones n a)) held) k
+out_active : (n k : ℕ) (held : List Association) (c : Bool) → (n == k) ≡ c → cond c None (active_of held k) ≡ active_of (filter (λ a. not (is_of_session n a)) held) k
 out_active n k held true e =
-    let out : count (is_anyones n) (filter (λ a. not (is_anyones n a)) held) ≡ 0 = count_out (is_anyones n) held in
-    let fewer = count_less (λ (a : Association). is_active n a.holder) (is_anyones n) (λ a is. active_own n a.holder is) (filter (λ a. not (is_anyones n a)) held) in
-    let none : count (λ a. is_active n a.holder) (filter (λ a. not (is_anyones n a)) held) ≡ 0 = omega (arith, fewer) in
-    let gone : active_of (filter (λ a. not (is_anyones n a)) held) n ≡ None = ap (option_map (λ (a : Association). a.xid)) (found_none (λ (a : Association). is_active n a.holder) (filter (λ a. not (is_anyones n a)) held) none) in
-    sym (subst (λ (i : ℕ). active_of (filter (λ a. not (is_anyones n a)) held) i ≡ None) (same_number n k e) gone)
+    let out : count (is_of_session n) (filter (λ a. not (is_of_session n a)) held) ≡ 0 = count_out (is_of_session n) held in
+    let fewer = count_less (λ (a : Association). is_active n a.holder) (is_of_session n) (λ a is. active_own n a.holder is) (filter (λ a. not (is_of_session n a)) held) in
+    let none : count (λ a. is_active n a.holder) (filter (λ a. not (is_of_session n a)) held) ≡ 0 = omega (arith, fewer) in
+    let gone : active_of (filter (λ a. not (is_of_session n a)) held) n ≡ None = ap (option_map (λ (a : Association). a.xid)) (found_none (λ (a : Association). is_active n a.holder) (filter (λ a. not (is_of_session n a)) held) none) in
+    sym (subst (λ (i : ℕ). active_of (filter (λ a. not (is_of_session n a)) held) i ≡ None) (same_number n k e) gone)
 out_active n k held false e =
     sym (ap (option_map (λ (a : Association). a.xid))
-    (find_filter (λ (a : Association). is_active k a.holder) (λ (a : Association). not (is_anyones n a)) (λ a is. flip (is_own n a.holder) (apart_own n k a e (active_own k a.holder is))) held))
+    (find_filter (λ (a : Association). is_active k a.holder) (λ (a : Association). not (is_of_session n a)) (λ a is. flip (is_own n a.holder) (apart_own n k a e (active_own k a.holder is))) held))
 
 own_holder : (k : ℕ) (q : Triple) (a : Association) → owns k q a ≡ true → is_own k a.holder ≡ true
 own_holder k q a is = (both_true (is_own k a.holder) (xid_eq a.xid q) is).0
 
-out_own : (n k : ℕ) (q : Triple) (held : List Association) (c : Bool) → (n == k) ≡ c → cond c false (list_any (owns k q) held) ≡ list_any (owns k q) (filter (λ a. not (is_anyones n a)) held)
+out_own : (n k : ℕ) (q : Triple) (held : List Association) (c : Bool) → (n == k) ≡ c → cond c false (list_any (owns k q) held) ≡ list_any (owns k q) (filter (λ a. not (is_of_session n a)) held)
 out_own n k q held true e =
-    let out : count (is_anyones n) (filter (λ a. not (is_anyones n a)) held) ≡ 0 = count_out (is_anyones n) held in
-    let fewer = count_less (owns n q) (is_anyones n) (own_holder n q) (filter (λ a. not (is_anyones n a)) held) in
-    let none : count (owns n q) (filter (λ a. not (is_anyones n a)) held) ≡ 0 = omega (arith, fewer) in
-    sym (subst (λ (i : ℕ). list_any (owns i q) (filter (λ a. not (is_anyones n a)) held) ≡ false) (same_number n k e) (nowhere (owns n q) (filter (λ a. not (is_anyones n a)) held) none))
+    let out : count (is_of_session n) (filter (λ a. not (is_of_session n a)) held) ≡ 0 = count_out (is_of_session n) held in
+    let fewer = count_less (owns n q) (is_of_session n) (own_holder n q) (filter (λ a. not (is_of_session n a)) held) in
+    let none : count (owns n q) (filter (λ a. not (is_of_session n a)) held) ≡ 0 = omega (arith, fewer) in
+    sym (subst (λ (i : ℕ). list_any (owns i q) (filter (λ a. not (is_of_session n a)) held) ≡ false) (same_number n k e) (nowhere (owns n q) (filter (λ a. not (is_of_session n a)) held) none))
 out_own n k q held false e =
-    sym (any_filter (owns k q) (λ (a : Association). not (is_anyones n a)) (λ a is. flip (is_own n a.holder) (apart_own n k a e (own_holder k q a is))) held)
+    sym (any_filter (owns k q) (λ (a : Association). not (is_of_session n a)) (λ a is. flip (is_own n a.holder) (apart_own n k a e (own_holder k q a is))) held)
 
 gone_free : (b c : Bool) (o : Option Bool) → b ≡ not (is_some o) → cond c true b ≡ not (is_some (cond c None o))
 gone_free b true o e = refl

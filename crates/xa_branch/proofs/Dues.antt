@@ -8,8 +8,7 @@ use Rattle.std.specs.Ordering.{nat_cmp, ordering_then, is_eq, is_gt}
 use Rattle.std.proofs.lemmas.Bool.Decides.{nat_tests}
 use Rattle.xa_xid.specs.Triple.{Triple, xid_eq, xid_cmp}
 use Rattle.xa_xid.proofs.Same.{xid_same}
-use Rattle.xa_model.specs.State.{State, Branch, Phase, Working, Prepared, Committed, Association, name_of, is_with, is_known_as, known_of, change}
-use Rattle.xa_model.specs.Sound.{is_working, is_at_work}
+use Rattle.xa_model.specs.State.{State, Branch, Phase, Working, Prepared, Committed, Association, name_of, is_with, is_known_as, known_of, change, is_working, is_at_work}
 use Rattle.xa_model.proofs.Xids.{cmp_is_eq}
 use Rattle.xa_branch.specs.declared.branches.Branches.{Branches}
 use Rattle.xa_branch.specs.declared.working.Working.{Working as Kept}

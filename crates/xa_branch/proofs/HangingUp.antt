@@ -9,7 +9,7 @@ use Rattle.xa_xid.specs.Triple.{Triple, xid_eq, xid_cmp}
 use Rattle.xa_xid.proofs.Same.{xid_same}
 use Rattle.xa_model.specs.State.{State, Branch, Phase, Working, Prepared, Committed, Association, Holder, Active, Suspended, Loose, count, name_of, is_with, is_active, is_own, is_suspended, is_known_as, known_of, known_count, decided_of, owns, works_in, suspends, active_of, Work}
 use Rattle.xa_model.specs.Logging.{is_in_doubt}
-use Rattle.xa_model.specs.Associations.{is_anyones, is_worked_by, marked_phase, with_mark, left_behind as left_by_session, hang_up_by}
+use Rattle.xa_model.specs.Associations.{is_of_session, is_worked_by, marked_phase, with_mark, left_behind as left_by_session, hang_up_by}
 use Rattle.xa_model.specs.Sound.{IsSound}
 use Rattle.xa_model.proofs.Counts.{count_less, count_nowhere, count_map}
 use Rattle.xa_model.proofs.Lists.{found_passes}
@@ -104,7 +104,7 @@ works_is n q (a ∷ held) one = works_by n q a held (is_active n a.holder) one (
 -- Associations after a hang-up
 
 abbrev left_of : ℕ → List Association → List Association
-left_of n held = filter (λ a. not (is_anyones n a)) held
+left_of n held = filter (λ a. not (is_of_session n a)) held
 
 -- How many of each kind are left with an XID: fewer by the session's own.
 record IsLeft (n : ℕ) (q : Triple) (held : List Association) : Type 0 where
@@ -115,16 +115,16 @@ record IsLeft (n : ℕ) (q : Triple) (held : List Association) : Type 0 where
 is_left : (n : ℕ) (q : Triple) (held : List Association) → IsLeft n q held
 is_left n q held = record {
   active =
-      let own : count (λ a. is_anyones n a && is_as kind.Active q a) held ≡ count (works_in n q) held =
-      count_as (λ a. is_anyones n a && is_as kind.Active q a) (works_in n q) (λ a. own_active n a.holder (xid_eq a.xid q)) held in
-      omega (arith, own, count_out (is_anyones n) (is_as kind.Active q) held);
+      let own : count (λ a. is_of_session n a && is_as kind.Active q a) held ≡ count (works_in n q) held =
+      count_as (λ a. is_of_session n a && is_as kind.Active q a) (works_in n q) (λ a. own_active n a.holder (xid_eq a.xid q)) held in
+      omega (arith, own, count_out (is_of_session n) (is_as kind.Active q) held);
   suspended =
-      let own : count (λ a. is_anyones n a && is_as kind.Suspended q a) held ≡ count (suspends n q) held =
-      count_as (λ a. is_anyones n a && is_as kind.Suspended q a) (suspends n q) (λ a. own_suspended n a.holder (xid_eq a.xid q)) held in
-      omega (arith, own, count_out (is_anyones n) (is_as kind.Suspended q) held);
+      let own : count (λ a. is_of_session n a && is_as kind.Suspended q a) held ≡ count (suspends n q) held =
+      count_as (λ a. is_of_session n a && is_as kind.Suspended q a) (suspends n q) (λ a. own_suspended n a.holder (xid_eq a.xid q)) held in
+      omega (arith, own, count_out (is_of_session n) (is_as kind.Suspended q) held);
   loose =
-      let own : count (λ a. is_anyones n a && is_as kind.Loose q a) held ≡ 0 = never (λ a. is_anyones n a && is_as kind.Loose q a) (λ a. own_loose n a.holder (xid_eq a.xid q)) held in
-      omega (arith, own, count_out (is_anyones n) (is_as kind.Loose q) held);
+      let own : count (λ a. is_of_session n a && is_as kind.Loose q a) held ≡ 0 = never (λ a. is_of_session n a && is_as kind.Loose q a) (λ a. own_loose n a.holder (xid_eq a.xid q)) held in
+      omega (arith, own, count_out (is_of_session n) (is_as kind.Loose q) held);
 }
 
 -- an XID that the session has no association with

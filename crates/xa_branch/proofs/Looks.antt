@@ -3,8 +3,7 @@ use Rattle.std.proofs.Common.{◌≡◌, ℕ, true, false, Option, Some, None, r
 use Rattle.std.specs.Prelude.{option_map, option_and_then}
 use Rattle.xa_codes.specs.declared.direction.Direction.{Direction}
 use Rattle.xa_xid.specs.Triple.{Triple}
-use Rattle.xa_model.specs.State.{State, Branch, Phase, Working, Prepared, Committed, Known, Unknown, AtWork, InDoubt, Completed, is_known_as, known_of, known_as, decided_of}
-use Rattle.xa_model.specs.Sound.{is_at_work}
+use Rattle.xa_model.specs.State.{State, Branch, Phase, Working, Prepared, Committed, Known, Unknown, AtWork, InDoubt, Completed, is_known_as, known_of, known_as, decided_of, is_at_work}
 use Rattle.xa_model.proofs.Lists.{found_passes}
 use Rattle.xa_branch.specs.declared.branches.Branches.{Branches}
 use Rattle.xa_branch.specs.declared.lasting.Lasting.{Lasting}

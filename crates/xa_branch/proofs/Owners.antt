@@ -4,7 +4,7 @@ use Rattle.std.specs.Prelude.{is_some}
 use Rattle.std.proofs.lemmas.Bool.Decides.{nat_tests}
 use Rattle.xa_xid.specs.Triple.{Triple, xid_eq}
 use Rattle.xa_model.specs.State.{State, Session, Association, Holder, Active, Suspended, Loose, count, session_of, is_own, owns, is_loose, is_loose_with}
-use Rattle.xa_model.specs.Associations.{is_anyones}
+use Rattle.xa_model.specs.Associations.{is_of_session}
 use Rattle.xa_model.specs.Sound.{IsSound}
 use Rattle.xa_model.proofs.Counts.{count_less, count_either}
 use Rattle.xa_branch.specs.declared.kind.Kind.{Kind}
@@ -76,7 +76,7 @@ own_by sessions kind.Active Loose b no_loose h = omega arith
 own_by sessions kind.Suspended Loose b no_loose h = omega arith
 own_by sessions kind.Loose Loose b no_loose h = absurd (cc no_loose)
 
-own_held : (sessions : List Session) (k : Kind) (xid : Triple) (held : List Association) → same_kind k kind.Loose ≡ false → ((n : ℕ) → session_of sessions n ≡ None → count (is_anyones n) held ≡ 0)
+own_held : (sessions : List Session) (k : Kind) (xid : Triple) (held : List Association) → same_kind k kind.Loose ≡ false → ((n : ℕ) → session_of sessions n ≡ None → count (is_of_session n) held ≡ 0)
     → count (is_as k xid) held ≤ count (holds_in sessions xid) held
 own_held sessions k xid [] no_loose h = omega arith
 own_held sessions k xid (a ∷ held) no_loose h =

@@ -2,10 +2,9 @@
 use Rattle.std.proofs.Common.{◌≡◌, ℕ, ◌==◌, Bool, true, false, ◌&&◌, ◌||◌, List, [], ◌∷◌, ◌++◌, refl, ap, ◌∙◌}
 use Rattle.std.specs.List.{AllByRecursion, list_any}
 use Rattle.std.proofs.lemmas.List.Folds.{list_any-append}
-use Rattle.xa_model.specs.State.{Branch, Phase, Working, Prepared, Committed}
+use Rattle.xa_model.specs.State.{Branch, Phase, Working, Prepared, Committed, is_working}
 use Rattle.xa_model.specs.Durable.{PreparedBranch}
 use Rattle.xa_model.specs.LowWater.{is_known, is_known_at}
-use Rattle.xa_model.specs.Sound.{is_working}
 use Rattle.xa_model.proofs.Ascending.{parts, add, parts-cons}
 use Rattle.xa_model.proofs.Remains.{held_of, held_as}
 

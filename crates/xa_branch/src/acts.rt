@@ -8,7 +8,7 @@ ghost use Rattle.xa_branch.specs.Changes.{Keeps};
 ghost use Rattle.xa_branch.specs.Follows.{FollowsAlways, InEach, InSoundOf, Stays};
 
 use crate::branches::Branches;
-use crate::changes::{add, add_time, mark, take};
+use crate::changes::{add, add_time, mark_working, take};
 use crate::due::{add_due, take_due};
 use crate::fault::BeginFault;
 use crate::working::Working;
@@ -86,12 +86,12 @@ impl Branches {
     }
 
     /// Marks a branch at work, unless it is marked: then it can only be rolled back. Of another XID nothing changes.
-    pub fn doom(&mut self, xid: &Xid, code: Code)
+    pub fn mark(&mut self, xid: &Xid, code: Code)
         ensures { FollowsAlways self.old (λ s. marked_with code s xid.now) self.new }
     {
         if let Some(working) = self.working_of(xid) {
             take_due(&mut self.due, xid, &working);
-            mark(&mut self.working, xid, code);
+            mark_working(&mut self.working, xid, code);
         }
     }
 }

@@ -52,7 +52,7 @@ pub fn take_time(times: &mut BTreeSet<u64>, timestamp: u64)
 }
 
 /// Marks a branch at work, unless it is marked.
-pub fn mark(working: &mut BTreeMap<Xid, Working>, xid: &Xid, code: Code)
+pub fn mark_working(working: &mut BTreeMap<Xid, Working>, xid: &Xid, code: Code)
     ensures { Sets working.old xid.now (option_map (marked code) (get xid_cmp working.old xid.now)) working.new }
 {
     if let Some(was) = working.get(xid).copied() {

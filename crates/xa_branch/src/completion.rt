@@ -18,7 +18,7 @@ use xa_xid::Xid;
 impl Branches {
     /// Makes room for what will be kept of a branch at work once it is prepared, so that `prepare` takes no memory and
     /// can't fail. Either that or `give_back` has to follow. Whether the branch may be prepared is to be asked before
-    /// (`one_phase_refusal`, and its mark; `ready_to_prepare` tells both). Of another XID nothing changes, nor where
+    /// (`unprepared_refusal`, and its mark; `ready_to_prepare` tells both). Of another XID nothing changes, nor where
     /// there is no memory.
     pub fn make_room(&mut self, xid: &Xid) -> Result<(), AllocError>
         ensures ok { OnOk result (InEach self.old (λ s. HasRoom xid.now self.new s)) }

@@ -8,7 +8,7 @@
 //! - `working`: `Working`, a branch at work; `kind`: `Kind`, of one association
 //! - `lasting`: `Lasting`, what of a branch outlives the boot: it is in doubt, or was completed by the operator
 //! - `known`: `Known`, what is known of an XID; `state`: `State`, the state that follows
-//! - `refusals`: `one_phase_refusal`, `two_phase_refusal`, `rollback_refusal` and `doom_refusal`, by what is known of a
+//! - `refusals`: `unprepared_refusal`, `two_phase_refusal`, `rollback_refusal` and `doom_refusal`, by what is known of a
 //!   branch alone
 //! - `low_water`: `Branches::low_water`, the timestamp below which nobody works
 //! - `recovery`: `Branches::list_after`, what recovery lists; `known_list`: `Branches::known_after`, the known branches
@@ -51,6 +51,6 @@ pub use kind::Kind;
 pub use known::Known;
 pub use lasting::Lasting;
 pub use laws::{restored_stand, worked_states};
-pub use refusals::{doom_refusal, one_phase_refusal, rollback_refusal, two_phase_refusal};
+pub use refusals::{doom_refusal, rollback_refusal, two_phase_refusal, unprepared_refusal};
 pub use state::State;
 pub use working::Working;

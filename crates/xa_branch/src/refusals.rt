@@ -1,5 +1,5 @@
 ghost use Rattle.std.specs.Prelude.{◌≡◌};
-ghost use Rattle.xa_model.specs.Branches.{one_phase_refusal, two_phase_refusal, rollback_refusal, doom_refusal};
+ghost use Rattle.xa_model.specs.Branches.{unprepared_refusal, two_phase_refusal, rollback_refusal, doom_refusal};
 ghost use Rattle.xa_branch.specs.Facts.{fact_of};
 
 use crate::known::Known;
@@ -8,8 +8,8 @@ use xa_frame::Reply;
 
 /// Why a branch can be neither prepared nor committed in one phase: its XID isn't known, it is associated, or it is
 /// prepared or completed.
-pub fn one_phase_refusal(known: Known, is_associated: bool) -> Option<Reply>
-    ensures value { result ≡ one_phase_refusal (fact_of known) is_associated }
+pub fn unprepared_refusal(known: Known, is_associated: bool) -> Option<Reply>
+    ensures value { result ≡ unprepared_refusal (fact_of known) is_associated }
 {
     match known {
         Known::Unknown => Some(Reply::plain(XAER_NOTA)),

@@ -5,7 +5,7 @@ ghost use Rattle.xa_model.specs.TimeLimits.{runs_out, ticked};
 ghost use Rattle.xa_branch.specs.Follows.{Follows, InEach, InSound};
 
 use crate::branches::Branches;
-use crate::changes::mark;
+use crate::changes::mark_working;
 use crate::due::next_due;
 use xa_codes::{Code, XA_RBTIMEOUT, XAER_INVAL};
 
@@ -26,7 +26,7 @@ impl Branches {
         }
         let mut number: u64 = 0;
         while let Some(xid) = next_due(&mut self.due, moment) {
-            mark(&mut self.working, &xid, XA_RBTIMEOUT);
+            mark_working(&mut self.working, &xid, XA_RBTIMEOUT);
             number = number.saturating_add(1);
         }
         self.moment = moment;

@@ -12,7 +12,7 @@ use Rattle.xa_log.specs.declared.format.Format.{Format}
 use Rattle.xa_disk.specs.Counts.{plus}
 use Rattle.xa_disk.specs.declared.counts.Counts.{Counts}
 use Rattle.xa_log.specs.Ahead.{ready_for, appended}
-use Rattle.xa_log.specs.Answers.{Wrote, WentAhead, Fell, FellAhead, HasCause}
+use Rattle.xa_log.specs.Answers.{Wrote, PutAheadBecame, FailedPut, FailedPutAhead, HasCause}
 use Rattle.xa_log.specs.Calls.{AppendsAhead}
 use Rattle.xa_log.specs.Pair.{number_in, generation}
 use Rattle.xa_log.specs.Stands.{Stands, MayStand, Leaves, Answers}
@@ -138,7 +138,7 @@ module _ {D : Type 0} (disks : Ghosts D) (bodies : List (List ℕ)) (body : List
   format = old.format
 
   abbrev Went_by : Appended → Type 0
-  Went_by outcome = WentAhead disks outcome old.end (closed old.digest body) (closed_by more old.digest body) old.disk new.disk
+  Went_by outcome = PutAheadBecame disks outcome old.end (closed old.digest body) (closed_by more old.digest body) old.disk new.disk
 
   length-range : length (closed_by more old.digest body) ≡ 4 + (36 + length body + more)
   length-range = length-closed_by more old.digest body
@@ -215,10 +215,10 @@ module _ {D : Type 0} (disks : Ghosts D) (bodies : List (List ℕ)) (body : List
     lost = lost_is;
   }
     where
-      first : FellAhead disks.tears (disks.seen old.disk) (length (text format bodies)) (closed (last (start format) bodies) body) (closed_record more format bodies body) went.1
+      first : FailedPutAhead disks.tears (disks.seen old.disk) (length (text format bodies)) (closed (last (start format) bodies) body) (closed_record more format bodies body) went.1
       first =
-          subst (λ d. FellAhead disks.tears (disks.seen old.disk) (length (text format bodies)) (closed d body) (closed_by more d body) went.1) stands.digest
-          (subst (λ e. FellAhead disks.tears (disks.seen old.disk) e (closed old.digest body) (closed_by more old.digest body) went.1) stands.end went.2)
+          subst (λ d. FailedPutAhead disks.tears (disks.seen old.disk) (length (text format bodies)) (closed d body) (closed_by more d body) went.1) stands.digest
+          (subst (λ e. FailedPutAhead disks.tears (disks.seen old.disk) e (closed old.digest body) (closed_by more old.digest body) went.1) stands.end went.2)
 
       forty : length (closed_by more old.digest body) ≡ 40 + length body + more
       forty = omega (arith, length-range)
@@ -226,10 +226,10 @@ module _ {D : Type 0} (disks : Ghosts D) (bodies : List (List ℕ)) (body : List
       few : length (closed old.digest body) ≡ 40 + length body
       few = omega (arith, length-alone old.digest body)
 
-      second : Fell disks.tears went.1 (length (text format bodies)) (replicate (40 + length body) 0) (disks.seen new.disk)
+      second : FailedPut disks.tears went.1 (length (text format bodies)) (replicate (40 + length body) 0) (disks.seen new.disk)
       second =
-          subst (λ e. Fell disks.tears went.1 e (replicate (40 + length body) 0) (disks.seen new.disk)) stands.end
-          (subst (λ n. Fell disks.tears went.1 old.end (replicate n 0) (disks.seen new.disk)) few went.3)
+          subst (λ e. FailedPut disks.tears went.1 e (replicate (40 + length body) 0) (disks.seen new.disk)) stands.end
+          (subst (λ n. FailedPut disks.tears went.1 old.end (replicate n 0) (disks.seen new.disk)) few went.3)
 
       range : ℕ
       range = length (closed_by more old.digest body)
@@ -243,7 +243,7 @@ module _ {D : Type 0} (disks : Ghosts D) (bodies : List (List ℕ)) (body : List
       its c it = subst (λ k. Leaves new.log_bytes k bodies body c) (sym room.2) it
 
   abbrev Went_as : Appended → Type 0
-  Went_as outcome = WentAhead disks outcome old.end (closed old.digest body) (closed_by more old.digest body) old.disk new.disk
+  Went_as outcome = PutAheadBecame disks outcome old.end (closed old.digest body) (closed_by more old.digest body) old.disk new.disk
 
   pub answers_kept : Room → (o : Appended) → o ≡ Kept → IsBody old.format body → Went_as o → new.end ≡ old.end + (36 + length body) → new.digest ≡ digest old.digest body → new.generation ≡ cond (nat_eq old.end 8) (number_in body) old.generation → new.lost ≡ old.lost → Answers disks o bodies body new
   answers_kept room o is ok went e d n l = subst (λ x. Answers disks x bodies body new) (sym is) (answer_kept room ok (subst Went_as is went) e d n l)
@@ -293,10 +293,10 @@ kept_ahead more Full a b c d (inr x) low same other = absurd (other refl)
 
 module _ {D : Type 0} (disks : Ghosts D) (body : List ℕ) (old : Log D) (new : D) (more : ℕ) (o : Appended) (exact : more ≡ ready_for old (length body)) where
   -- what an append that was kept has written
-  pub writes_kept : o ≡ Kept → WentAhead disks o old.end (closed old.digest body) (closed_by more old.digest body) old.disk new → Wrote disks old.end (closed old.digest body) (appended old body) old.disk new
+  pub writes_kept : o ≡ Kept → PutAheadBecame disks o old.end (closed old.digest body) (closed_by more old.digest body) old.disk new → Wrote disks old.end (closed old.digest body) (appended old body) old.disk new
   writes_kept is went =
-      let it : WentAhead disks Kept old.end (closed old.digest body) (closed_by more old.digest body) old.disk new =
-      subst (λ x. WentAhead disks x old.end (closed old.digest body) (closed_by more old.digest body) old.disk new) is went in
+      let it : PutAheadBecame disks Kept old.end (closed old.digest body) (closed_by more old.digest body) old.disk new =
+      subst (λ x. PutAheadBecame disks x old.end (closed old.digest body) (closed_by more old.digest body) old.disk new) is went in
       subst (λ n. Wrote disks old.end (closed old.digest body) (closed_by n old.digest body) old.disk new) exact it.0
 
   -- and how an append called the disk

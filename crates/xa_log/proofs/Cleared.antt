@@ -9,7 +9,7 @@ use Rattle.xa_disk.specs.declared.disk.Disk.{Ghosts}
 use Rattle.xa_log.specs.declared.appending.Appended.{Appended}
 use Rattle.xa_log.specs.declared.appending.Appended.TheVariants.{Kept, Refused, Lost, Full}
 use Rattle.xa_log.specs.declared.format.Format.{Format}
-use Rattle.xa_log.specs.Answers.{Went}
+use Rattle.xa_log.specs.Answers.{PutBecame}
 use Rattle.xa_log.specs.Chain.{newest, start, last, preamble, records, text, size_at, behind_text, body_at, is_record, IsBody, chains_on}
 use Rattle.xa_log.specs.Checkpoint.{behind_front, first_length, IsReady, IsCleared}
 use Rattle.xa_log.specs.Laws.{StaleLaw}
@@ -28,7 +28,7 @@ behind_is format bodies file rest is =
 pub sealed_cleared : (tears : List ℕ → ℕ → List ℕ → List ℕ → Type 0) (more : ℕ) (format : Format) (bodies : List (List ℕ)) (old mid done new : List ℕ) (left : List ℕ → Type 0) (o : Appended)
     → mid ≡ preamble format ++ drop 12 old → 12 ≤ length mid → AllByRecursion (IsBody format) bodies → 1 ≤ length bodies
     → done ≡ put mid 12 (behind_front format bodies ++ replicate more 0) → o ≡ Kept
-    → Went tears o 8 (to_be_bytes w32 (first_length bodies)) done new left
+    → PutBecame tears o 8 (to_be_bytes w32 (first_length bodies)) done new left
     → take (4 + more) (behind_text format bodies new) ≡ replicate (4 + more) 0
 sealed_cleared tears more format bodies old mid done new left Kept made long sizes some is kept went =
     let front : take 12 mid ≡ preamble format = ap (λ (l : List ℕ). take 12 l) made ∙ header_whole format (drop 12 old) in

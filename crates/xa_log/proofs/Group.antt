@@ -7,7 +7,7 @@ use Rattle.xa_disk.specs.Disk.{put, Torn, Only}
 use Rattle.xa_disk.specs.Time.{TimePasses, LeavesOnly}
 use Rattle.xa_disk.specs.declared.disk.Disk.{Ghosts}
 use Rattle.xa_disk.specs.Images.{torn_same, put_torn}
-use Rattle.xa_log.specs.Answers.{Wrote, WentAhead, Fell, FellAhead}
+use Rattle.xa_log.specs.Answers.{Wrote, PutAheadBecame, FailedPut, FailedPutAhead}
 use Rattle.xa_log.specs.Chain.{start, last, text, closing, IsBody, digest, record_of, records, is_record, digest_at, rest_at, Rests}
 use Rattle.xa_log.specs.Group.{group_bytes, as_one, first_of_group, closed_group, closed_group_by, IsPlainGroup, IsFirstPart, LeavesGroup, NoChanceGroup, MayStandGroup, AnswersGroup}
 use Rattle.xa_log.specs.Pair.{number_in, generation, beats}
@@ -193,7 +193,7 @@ module _ {D : Type 0} (disks : Ghosts D) (bodies group : List (List ℕ)) (more 
   bytes = closed_group_by more old.digest group
 
   abbrev Went_by : Appended → Type 0
-  Went_by outcome = WentAhead disks outcome old.end (closed_group old.digest group) (closed_group_by more old.digest group) old.disk new.disk
+  Went_by outcome = PutAheadBecame disks outcome old.end (closed_group old.digest group) (closed_group_by more old.digest group) old.disk new.disk
 
   length-range : length (closed_group_by more old.digest group) ≡ 40 + as_one group + more
   length-range = omega (arith, length-closed_by more old.digest group, bytes_as_one group some)
@@ -276,15 +276,15 @@ module _ {D : Type 0} (disks : Ghosts D) (bodies group : List (List ℕ)) (more 
     lost = lost_is;
   }
     where
-      first : FellAhead disks.tears (disks.seen old.disk) (length (text format bodies)) (closed_group (last (start format) bodies) group) (closed_group_by more (last (start format) bodies) group) went.1
+      first : FailedPutAhead disks.tears (disks.seen old.disk) (length (text format bodies)) (closed_group (last (start format) bodies) group) (closed_group_by more (last (start format) bodies) group) went.1
       first =
-          subst (λ d. FellAhead disks.tears (disks.seen old.disk) (length (text format bodies)) (closed_group d group) (closed_group_by more d group) went.1) stands.digest
-          (subst (λ e. FellAhead disks.tears (disks.seen old.disk) e (closed_group old.digest group) (closed_group_by more old.digest group) went.1) stands.end went.2)
+          subst (λ d. FailedPutAhead disks.tears (disks.seen old.disk) (length (text format bodies)) (closed_group d group) (closed_group_by more d group) went.1) stands.digest
+          (subst (λ e. FailedPutAhead disks.tears (disks.seen old.disk) e (closed_group old.digest group) (closed_group_by more old.digest group) went.1) stands.end went.2)
 
-      second : Fell disks.tears went.1 (length (text format bodies)) (replicate (group_bytes group + 4) 0) (disks.seen new.disk)
+      second : FailedPut disks.tears went.1 (length (text format bodies)) (replicate (group_bytes group + 4) 0) (disks.seen new.disk)
       second =
-          subst (λ e. Fell disks.tears went.1 e (replicate (group_bytes group + 4) 0) (disks.seen new.disk)) stands.end
-          (subst (λ n. Fell disks.tears went.1 old.end (replicate n 0) (disks.seen new.disk)) (length-closed old.digest group) went.3)
+          subst (λ e. FailedPut disks.tears went.1 e (replicate (group_bytes group + 4) 0) (disks.seen new.disk)) stands.end
+          (subst (λ n. FailedPut disks.tears went.1 old.end (replicate n 0) (disks.seen new.disk)) (length-closed old.digest group) went.3)
 
       good : (c : List ℕ) → Torn old.end (length (closed_group_by more old.digest group)) (disks.seen old.disk) c → LeavesGroup new.log_bytes format bodies group c
       good c torn =

@@ -4,7 +4,7 @@ use Rattle.std.specs.List.{AllByRecursion}
 use Rattle.std.proofs.lemmas.List.{drop_at, take_at}
 use Rattle.xa_disk.specs.Disk.{put, Torn, AllOrNone}
 use Rattle.xa_disk.specs.Images.{put_torn}
-use Rattle.xa_log.specs.Answers.{Fell, FellAhead}
+use Rattle.xa_log.specs.Answers.{FailedPut, FailedPutAhead}
 use Rattle.xa_log.specs.Chain.{start, last, text, closing, IsBody, digest, record_of, records, is_record, Rests}
 use Rattle.xa_log.specs.Group.{group_bytes, closed_group, closed_group_by, IsPlainGroup, NoChanceGroup}
 use Rattle.xa_log.specs.declared.format.Format.{Format}
@@ -83,19 +83,19 @@ module _ (format : Format) (bodies group : List (List ℕ)) (old : List ℕ) (r 
             ∙ append_assoc (text format bodies) bytes (drop (e + length bytes) file)),
       )
 
-  good_fell : (more : ℕ) (file new : List ℕ) → Good file → Fell AllOrNone file (length (text format bodies)) (closed_group_by more (last (start format) bodies) group) new → Good new
+  good_fell : (more : ℕ) (file new : List ℕ) → Good file → FailedPut AllOrNone file (length (text format bodies)) (closed_group_by more (last (start format) bodies) group) new → Good new
   good_fell more file new good (inl is) = good_put more file new good is
   good_fell more file new good (inr (inl same)) = subst Good (sym same) good
   good_fell more file new good (inr (inr is)) = good_put more file new good is
 
   good_ahead : (more : ℕ) (new : List ℕ)
-      → FellAhead AllOrNone old (length (text format bodies)) (closed_group (last (start format) bodies) group) (closed_group_by more (last (start format) bodies) group) new → Good new
+      → FailedPutAhead AllOrNone old (length (text format bodies)) (closed_group (last (start format) bodies) group) (closed_group_by more (last (start format) bodies) group) new → Good new
   good_ahead more new (inl fell) = good_fell more old new good_old fell
   good_ahead more new (inr x) =
       good_fell 0 x.1 new (good_fell more old x.1 good_old (inr x.2))
-      (subst (λ l. Fell AllOrNone x.1 (length (text format bodies)) l new) (alone (last (start format) bodies) group) x.3)
+      (subst (λ l. FailedPut AllOrNone x.1 (length (text format bodies)) l new) (alone (last (start format) bodies) group) x.3)
 
-  plain_cleared : (mid new : List ℕ) → Good mid → Fell AllOrNone mid (length (text format bodies)) (replicate (group_bytes group + 4) 0) new → IsPlainGroup format bodies group new
+  plain_cleared : (mid new : List ℕ) → Good mid → FailedPut AllOrNone mid (length (text format bodies)) (replicate (group_bytes group + 4) 0) new → IsPlainGroup format bodies group new
   plain_cleared mid new good fell = by fell
     where
       n : group_bytes group + 4 ≡ 4 + group_bytes group
@@ -104,7 +104,7 @@ module _ (format : Format) (bodies group : List (List ℕ)) (old : List ℕ) (r 
       cleared : new ≡ put mid (length (text format bodies)) (replicate (group_bytes group + 4) 0) → IsPlainGroup format bodies group new
       cleared is = plain_rests format bodies group new (refused format bodies [] old r (group_bytes group) mid new good.0 (is ∙ ap (λ (k : ℕ). put mid (length (text format bodies)) (replicate k 0)) n)).0
 
-      by : Fell AllOrNone mid (length (text format bodies)) (replicate (group_bytes group + 4) 0) new → IsPlainGroup format bodies group new
+      by : FailedPut AllOrNone mid (length (text format bodies)) (replicate (group_bytes group + 4) 0) new → IsPlainGroup format bodies group new
       by (inl is) = cleared is
       by (inr (inl same)) = subst (λ f. IsPlainGroup format bodies group f) (sym same) good.1
       by (inr (inr is)) = cleared is

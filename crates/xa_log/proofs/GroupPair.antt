@@ -5,7 +5,7 @@ use Rattle.xa_disk.specs.declared.disk.Disk.{Ghosts}
 use Rattle.xa_disk.specs.Disk.{Torn}
 use Rattle.xa_disk.specs.declared.counts.Counts.{Counts}
 use Rattle.xa_log.specs.Ahead.{ready_for, IsKnown}
-use Rattle.xa_log.specs.Answers.{Wrote, WentAhead}
+use Rattle.xa_log.specs.Answers.{Wrote, PutAheadBecame}
 use Rattle.xa_log.specs.Calls.{AppendsAhead}
 use Rattle.xa_log.specs.Checkpoint.{IsOther}
 use Rattle.xa_log.specs.Group.{as_one, closed_group, closed_group_by, AnswersGroup, AppendsGroupTo}
@@ -35,7 +35,7 @@ appends_group disks bodies group stood old new p Full a other first most = pair_
 
 module _ {D : Type 0} (disks : Ghosts D) (tears_torn : (old : List ℕ) (at : ℕ) (bytes new : List ℕ) → disks.tears old at bytes new → Torn at (length bytes) old new)
     (group : List (List ℕ)) (more : ℕ) (old new : Log D) (other : new.other ≡ old.other) (other_known : new.other_known ≡ old.other_known) (o : Appended)
-    (went : WentAhead disks o old.end (closed_group old.digest group) (closed_group_by more old.digest group) old.disk new.disk) (k : IsKnown disks old) where
+    (went : PutAheadBecame disks o old.end (closed_group old.digest group) (closed_group_by more old.digest group) old.disk new.disk) (k : IsKnown disks old) where
   grows : length (disks.seen old.disk) ≤ length (disks.seen new.disk)
   grows = append_grows disks tears_torn old.end (closed_group old.digest group) (closed_group_by more old.digest group) old.disk new.disk o went
 
@@ -44,8 +44,8 @@ module _ {D : Type 0} (disks : Ghosts D) (tears_torn : (old : List ℕ) (at : �
 
   pub known_group : 1 ≤ length group → o ≡ Kept → new.known ≡ max old.known (old.end + 40 + as_one group) → IsKnown disks new
   known_group some kept is =
-      let it : WentAhead disks Kept old.end (closed_group old.digest group) (closed_group_by more old.digest group) old.disk new.disk =
-      subst (λ x. WentAhead disks x old.end (closed_group old.digest group) (closed_group_by more old.digest group) old.disk new.disk) kept went in
+      let it : PutAheadBecame disks Kept old.end (closed_group old.digest group) (closed_group_by more old.digest group) old.disk new.disk =
+      subst (λ x. PutAheadBecame disks x old.end (closed_group old.digest group) (closed_group_by more old.digest group) old.disk new.disk) kept went in
       let less : length (closed_group old.digest group) ≤ length (closed_group_by more old.digest group) = omega (arith, length-closed old.digest group, length-closed_by more old.digest group) in
       let long = append_reaches disks tears_torn old.end (closed_group old.digest group) (closed_group_by more old.digest group) old.disk new.disk less it.0 in
       record { current = omega (arith, is, k.current, grows, long, length-closed old.digest group, bytes_as_one group some); other = beside }
@@ -56,11 +56,11 @@ module _ {D : Type 0} (disks : Ghosts D) (tears_torn : (old : List ℕ) (at : �
 -- ---- what was written, and by which calls
 
 module _ {D : Type 0} (disks : Ghosts D) (group : List (List ℕ)) (old : Log D) (new : D) (more : ℕ) (o : Appended) (exact : more ≡ ready_for old (as_one group)) where
-  pub writes_group : o ≡ Kept → WentAhead disks o old.end (closed_group old.digest group) (closed_group_by more old.digest group) old.disk new
+  pub writes_group : o ≡ Kept → PutAheadBecame disks o old.end (closed_group old.digest group) (closed_group_by more old.digest group) old.disk new
       → Wrote disks old.end (closed_group old.digest group) (closed_group_by (ready_for old (as_one group)) old.digest group) old.disk new
   writes_group is went =
-      let it : WentAhead disks Kept old.end (closed_group old.digest group) (closed_group_by more old.digest group) old.disk new =
-      subst (λ x. WentAhead disks x old.end (closed_group old.digest group) (closed_group_by more old.digest group) old.disk new) is went in
+      let it : PutAheadBecame disks Kept old.end (closed_group old.digest group) (closed_group_by more old.digest group) old.disk new =
+      subst (λ x. PutAheadBecame disks x old.end (closed_group old.digest group) (closed_group_by more old.digest group) old.disk new) is went in
       subst (λ n. Wrote disks old.end (closed_group old.digest group) (closed_group_by n old.digest group) old.disk new) exact it.0
 
   pub group_by : AppendsAhead more o (disks.failures old.disk) (disks.failures new) (disks.counts old.disk) (disks.counts new)

@@ -7,7 +7,7 @@ use Rattle.xa_disk.specs.Disk.{put, Torn}
 use Rattle.xa_disk.specs.Images.{put_torn}
 use Rattle.xa_log.specs.declared.format.Format.{Format}
 use Rattle.xa_log.specs.Ahead.{IsKnown}
-use Rattle.xa_log.specs.Answers.{Went, Wrote, WentAhead}
+use Rattle.xa_log.specs.Answers.{PutBecame, Wrote, PutAheadBecame}
 use Rattle.xa_log.specs.Chain.{start, closing, preamble, records, closed, closed_by}
 use Rattle.xa_log.specs.Checkpoint.{behind_front}
 use Rattle.xa_log.specs.declared.appending.Appended.{Appended}
@@ -26,7 +26,7 @@ pub put_grows : {T E : Type 0} (r : Result T E) (at n : ℕ) (bytes old new : Li
 put_grows (Ok x) at n bytes old new is torn = omega (arith, (put_torn old at bytes).no_shorter, ap (λ (l : List ℕ). length l) is)
 put_grows (Err e) at n bytes old new is torn = torn.no_shorter
 
-pub seal_grows : (tears : List ℕ → ℕ → List ℕ → List ℕ → Type 0) (o : Appended) (at : ℕ) (bytes old new : List ℕ) (left : List ℕ → Type 0) → Went tears o at bytes old new left
+pub seal_grows : (tears : List ℕ → ℕ → List ℕ → List ℕ → Type 0) (o : Appended) (at : ℕ) (bytes old new : List ℕ) (left : List ℕ → Type 0) → PutBecame tears o at bytes old new left
     → length old ≤ length new
 seal_grows tears Kept at bytes old new left went = omega (arith, (put_torn old at bytes).no_shorter, ap (λ (l : List ℕ). length l) went.0)
 seal_grows tears Refused at bytes old new left went =
@@ -57,7 +57,7 @@ header_long format old new is = omega (arith, ap (λ (l : List ℕ). length l) i
 -- ---- an append
 
 module _ {D : Type 0} (disks : Ghosts D) (tears_torn : (old : List ℕ) (at : ℕ) (bytes new : List ℕ) → disks.tears old at bytes new → Torn at (length bytes) old new) where
-  pub append_grows : (at : ℕ) (few bytes : List ℕ) (old new : D) (o : Appended) → WentAhead disks o at few bytes old new → length (disks.seen old) ≤ length (disks.seen new)
+  pub append_grows : (at : ℕ) (few bytes : List ℕ) (old new : D) (o : Appended) → PutAheadBecame disks o at few bytes old new → length (disks.seen old) ≤ length (disks.seen new)
   append_grows at few bytes old new Kept went = (torn_wrote disks tears_torn at few bytes old new went.0).no_shorter
   append_grows at few bytes old new Refused went =
       let zeros : List ℕ = replicate (length few) 0 in
@@ -70,7 +70,7 @@ module _ {D : Type 0} (disks : Ghosts D) (tears_torn : (old : List ℕ) (at : �
   append_reaches at few bytes old new less (inr x) = omega (arith, ap (λ (l : List ℕ). length l) x.4, reaches x.2 at few)
 
   module _ (body : List ℕ) (more : ℕ) (old new : Log D) (other : new.other ≡ old.other) (other_known : new.other_known ≡ old.other_known) (o : Appended)
-      (went : WentAhead disks o old.end (closed old.digest body) (closed_by more old.digest body) old.disk new.disk) (k : IsKnown disks old) where
+      (went : PutAheadBecame disks o old.end (closed old.digest body) (closed_by more old.digest body) old.disk new.disk) (k : IsKnown disks old) where
     abbrev few : List ℕ
     few = closed old.digest body
 
@@ -85,7 +85,7 @@ module _ {D : Type 0} (disks : Ghosts D) (tears_torn : (old : List ℕ) (at : �
 
     pub known_kept : o ≡ Kept → new.known ≡ max old.known (old.end + 40 + length body) → IsKnown disks new
     known_kept kept is =
-        let it : WentAhead disks Kept old.end few bytes old.disk new.disk = subst (λ x. WentAhead disks x old.end few bytes old.disk new.disk) kept went in
+        let it : PutAheadBecame disks Kept old.end few bytes old.disk new.disk = subst (λ x. PutAheadBecame disks x old.end few bytes old.disk new.disk) kept went in
         let less : length few ≤ length bytes = omega (arith, length-alone old.digest body, length-closed_by more old.digest body) in
         let long = append_reaches old.end few bytes old.disk new.disk less it.0 in
         record { current = omega (arith, is, k.current, grows, long, length-alone old.digest body); other = beside }

@@ -9,7 +9,7 @@ use Rattle.xa_disk.specs.Images.{torn_same, put_torn}
 use Rattle.xa_log.specs.declared.format.Format.{Format}
 use Rattle.xa_log.specs.Chain.{magic, start, preamble, format_of, format_in, records, IsBody, Rests, logged, begins, body_at, rest_at, digest_at, bodies_from}
 use Rattle.xa_log.specs.Reading.{is_newer}
-use Rattle.xa_log.specs.Answers.{Fell, Went}
+use Rattle.xa_log.specs.Answers.{FailedPut, PutBecame}
 use Rattle.xa_log.specs.declared.appending.Appended.{Appended}
 use Rattle.xa_log.specs.declared.appending.Appended.TheVariants.{Kept, Refused, Lost, Full}
 use Rattle.xa_log.specs.Pair.{has_log, IsCalm, Behind}
@@ -189,7 +189,7 @@ module _ {D : Type 0} (format : Format) (disks : Ghosts D)
   long : 12 ≤ length (disks.seen mid)
   long = ready_long format bodies (disks.seen mid) ready
 
-  pub sealed : (o : Appended) → o ≢ Full → Went disks.tears o 8 (to_be_bytes w32 (first_length bodies)) (disks.seen mid) (disks.seen new) (disks.may_leave new)
+  pub sealed : (o : Appended) → o ≢ Full → PutBecame disks.tears o 8 (to_be_bytes w32 (first_length bodies)) (disks.seen mid) (disks.seen new) (disks.may_leave new)
       → ((c : List ℕ) → disks.may_leave new c → (d : List ℕ) × disks.may_leave mid d × Torn 8 4 d c)
       → Checkpointed disks o most format stood bodies old new
   sealed Kept other went follows =
@@ -223,12 +223,12 @@ seal_in_memory format bodies old mid new ready first second = after second
     calm_sealed : mid ≡ put old 8 (to_be_bytes w32 (first_length bodies)) → IsCalm bodies mid
     calm_sealed is = subst (λ f. IsCalm bodies f) (sym is) (calm_rests format bodies (put old 8 (to_be_bytes w32 (first_length bodies))) (sealed_rests format bodies old ready))
 
-    torn_mid : Fell AllOrNone old 8 (to_be_bytes w32 (first_length bodies)) mid → Torn 8 4 old mid
+    torn_mid : FailedPut AllOrNone old 8 (to_be_bytes w32 (first_length bodies)) mid → Torn 8 4 old mid
     torn_mid (inl is) = subst (λ f. Torn 8 4 old f) (sym is) (put_torn old 8 (to_be_bytes w32 (first_length bodies)))
     torn_mid (inr (inl is)) = subst (λ f. Torn 8 4 old f) (sym is) (torn_same 8 4 old)
     torn_mid (inr (inr is)) = subst (λ f. Torn 8 4 old f) (sym is) (put_torn old 8 (to_be_bytes w32 (first_length bodies)))
 
-    calm_mid : Fell AllOrNone old 8 (to_be_bytes w32 (first_length bodies)) mid → IsCalm bodies mid
+    calm_mid : FailedPut AllOrNone old 8 (to_be_bytes w32 (first_length bodies)) mid → IsCalm bodies mid
     calm_mid (inl is) = calm_sealed is
     calm_mid (inr (inl is)) = subst (λ f. IsCalm bodies f) (sym is) calm_old
     calm_mid (inr (inr is)) = calm_sealed is
@@ -236,7 +236,7 @@ seal_in_memory format bodies old mid new ready first second = after second
     cleared : new ≡ put mid 8 (0 ∷ 0 ∷ 0 ∷ 0 ∷ []) → IsCalm bodies new
     cleared is = subst (λ f. IsCalm bodies f) (sym (seal_cleared format bodies old ready mid new (torn_mid first) is)) calm_old
 
-    after : Fell AllOrNone mid 8 (0 ∷ 0 ∷ 0 ∷ 0 ∷ []) new → IsCalm bodies new
+    after : FailedPut AllOrNone mid 8 (0 ∷ 0 ∷ 0 ∷ 0 ∷ []) new → IsCalm bodies new
     after (inl is) = cleared is
     after (inr (inl is)) = subst (λ f. IsCalm bodies f) (sym is) (calm_mid first)
     after (inr (inr is)) = cleared is

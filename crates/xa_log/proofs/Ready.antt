@@ -8,7 +8,7 @@ use Rattle.xa_disk.specs.declared.disk.Disk.{Ghosts}
 use Rattle.xa_disk.specs.Images.{put_torn}
 use Rattle.xa_log.specs.declared.format.Format.{Format}
 use Rattle.xa_log.specs.Chain.{magic, start, preamble, last, text, records, headed, Rests}
-use Rattle.xa_log.specs.Answers.{Fell}
+use Rattle.xa_log.specs.Answers.{FailedPut}
 use Rattle.xa_log.specs.Pair.{IsCalm, Behind, CalmTears}
 use Rattle.xa_log.specs.Checkpoint.{behind_front, first_length, IsReady, IsOther, LeavesOf}
 use Rattle.xa_log.proofs.Records.{closed_zeros, rests_logged}
@@ -39,7 +39,7 @@ leaves_by disks old new step P only_now same good time = record {
 -- ---- the first part
 
 pub fell_calm : (tears : List ℕ → ℕ → List ℕ → List ℕ → Type 0) (format : Format) (stood : List (List ℕ)) (old new : List ℕ) → CalmTears tears
-    → IsCalm stood old → Fell tears old 0 (preamble format) new → IsCalm stood new
+    → IsCalm stood old → FailedPut tears old 0 (preamble format) new → IsCalm stood new
 fell_calm tears format stood old new lucky calm (inl is) = calm_front format stood new (drop 12 old) (is ∙ put_header format old)
 fell_calm tears format stood old new lucky calm (inr torn) = lucky format stood old new calm torn
 

@@ -6,7 +6,7 @@ use Rattle.xa_disk.specs.Disk.{put, Torn, Only, Passes}
 use Rattle.xa_disk.specs.Time.{TimePasses}
 use Rattle.xa_disk.specs.Images.{put_torn}
 use Rattle.xa_disk.specs.declared.counts.Counts.{Counts}
-use Rattle.xa_log.specs.Answers.{Fell, Wrote, FellAhead, Went, WentAhead, HasCause}
+use Rattle.xa_log.specs.Answers.{FailedPut, Wrote, FailedPutAhead, PutBecame, PutAheadBecame, HasCause}
 use Rattle.xa_log.specs.Calls.{AppendCalls, AppendsAhead}
 use Rattle.xa_log.specs.declared.appending.Appended.{Appended}
 use Rattle.xa_log.specs.declared.appending.Appended.TheVariants.{Kept, Refused, Lost, Full}
@@ -42,7 +42,7 @@ steps step wider by m n past since old new p = record {
 module _ {D : Type 0} (disks : Ghosts D) where
   -- what was written may be left by a sync that fails
   pub fell_wrote : (at : ℕ) (few bytes : List ℕ) (old new last : D) → disks.seen last ≡ disks.seen new → Wrote disks at few bytes old new
-      → FellAhead disks.tears (disks.seen old) at few bytes (disks.seen last)
+      → FailedPutAhead disks.tears (disks.seen old) at few bytes (disks.seen last)
   fell_wrote at few bytes old new last same (inl is) = inl (inl (same ∙ is))
   fell_wrote at few bytes old new last same (inr x) = inr (x.0, x.2, x.3, inl (same ∙ x.4))
 
@@ -51,11 +51,11 @@ module _ {D : Type 0} (disks : Ghosts D) where
       then (Torn at n) (torn_then at n) _ _ _ _ _ _ _ _ _ p (steps (Torn at m) (Torn at n) (λ d c t. torn_wider at m n d c le t) _ _ _ _ _ _ q)
 
   module _ (tears_torn : (old : List ℕ) (at : ℕ) (bytes new : List ℕ) → disks.tears old at bytes new → Torn at (length bytes) old new) where
-    pub torn_fell : (at : ℕ) (bytes old new : List ℕ) → Fell disks.tears old at bytes new → Torn at (length bytes) old new
+    pub torn_fell : (at : ℕ) (bytes old new : List ℕ) → FailedPut disks.tears old at bytes new → Torn at (length bytes) old new
     torn_fell at bytes old new (inl is) = subst (λ f. Torn at (length bytes) old f) (sym is) (put_torn old at bytes)
     torn_fell at bytes old new (inr t) = tears_torn old at bytes new t
 
-    pub torn_ahead : (at : ℕ) (few bytes old new : List ℕ) → FellAhead disks.tears old at few bytes new → Torn at (length bytes) old new
+    pub torn_ahead : (at : ℕ) (few bytes old new : List ℕ) → FailedPutAhead disks.tears old at few bytes new → Torn at (length bytes) old new
     torn_ahead at few bytes old new (inl fell) = torn_fell at bytes old new fell
     torn_ahead at few bytes old new (inr x) =
         torn_then at (length bytes) old x.1 new (tears_torn old at bytes x.1 x.2)
@@ -67,25 +67,25 @@ module _ {D : Type 0} (disks : Ghosts D) where
     -- ---- what zeros over those that count make of it
 
     module _ (at : ℕ) (few bytes zeros : List ℕ) (old mid new : D) (less : length few ≤ length bytes) (cleared : zeros ≡ replicate (length few) 0)
-        (fell : FellAhead disks.tears (disks.seen old) at few bytes (disks.seen mid)) where
-      pub went_refused : disks.seen new ≡ put (disks.seen mid) at zeros → Only (disks.seen new) (disks.may_leave new) → WentAhead disks Refused at few bytes old new
+        (fell : FailedPutAhead disks.tears (disks.seen old) at few bytes (disks.seen mid)) where
+      pub went_refused : disks.seen new ≡ put (disks.seen mid) at zeros → Only (disks.seen new) (disks.may_leave new) → PutAheadBecame disks Refused at few bytes old new
       went_refused is only =
           (disks.seen mid, torn_ahead at few bytes (disks.seen old) (disks.seen mid) fell, is ∙ ap (λ (l : List ℕ). put (disks.seen mid) at l) cleared, only)
 
-      pub went_lost : Fell disks.tears (disks.seen mid) at zeros (disks.seen new) → WentAhead disks Lost at few bytes old new
+      pub went_lost : FailedPut disks.tears (disks.seen mid) at zeros (disks.seen new) → PutAheadBecame disks Lost at few bytes old new
       went_lost last =
           let n : length zeros ≤ length bytes = omega (arith, less, ap length cleared, length-replicate {A = ℕ} (length few) 0) in (
             torn_then at (length bytes) (disks.seen old) (disks.seen mid) (disks.seen new) (torn_ahead at few bytes (disks.seen old) (disks.seen mid) fell)
                 (torn_wider at (length zeros) (length bytes) (disks.seen mid) (disks.seen new) n (torn_fell at zeros (disks.seen mid) (disks.seen new) last)),
             disks.seen mid,
             fell,
-            subst (λ (l : List ℕ). Fell disks.tears (disks.seen mid) at l (disks.seen new)) cleared last,
+            subst (λ (l : List ℕ). FailedPut disks.tears (disks.seen mid) at l (disks.seen new)) cleared last,
           )
 
   -- ---- where all the bytes count
 
   module _ (at : ℕ) (few bytes : List ℕ) (old new : D) (all : few ≡ bytes) where
-    pub fell_alone : (mid : List ℕ) → FellAhead disks.tears (disks.seen old) at few bytes mid → Fell disks.tears (disks.seen old) at bytes mid
+    pub fell_alone : (mid : List ℕ) → FailedPutAhead disks.tears (disks.seen old) at few bytes mid → FailedPut disks.tears (disks.seen old) at bytes mid
     fell_alone mid (inl fell) = fell
     fell_alone mid (inr x) = absurd (omega (arith, x.0, ap length all))
 
@@ -93,11 +93,11 @@ module _ {D : Type 0} (disks : Ghosts D) where
     wrote_alone (inl is) = is
     wrote_alone (inr x) = absurd (omega (arith, x.0, ap length all))
 
-    pub went_alone : (o : Appended) → WentAhead disks o at few bytes old new → Went disks.tears o at bytes (disks.seen old) (disks.seen new) (disks.may_leave new)
+    pub went_alone : (o : Appended) → PutAheadBecame disks o at few bytes old new → PutBecame disks.tears o at bytes (disks.seen old) (disks.seen new) (disks.may_leave new)
     went_alone Kept went = (wrote_alone went.0, went.1)
     went_alone Refused went = (went.0, went.1, went.2 ∙ ap (λ (l : List ℕ). put went.0 at (replicate (length l) 0)) all, went.3)
     went_alone Lost went =
-        (went.0, went.1, fell_alone went.1 went.2, subst (λ (l : List ℕ). Fell disks.tears went.1 at (replicate (length l) 0) (disks.seen new)) all went.3)
+        (went.0, went.1, fell_alone went.1 went.2, subst (λ (l : List ℕ). FailedPut disks.tears went.1 at (replicate (length l) 0) (disks.seen new)) all went.3)
     went_alone Full went = went
 
 pub calls_alone : (more : ℕ) (o : Appended) (a b : ℕ) (c d : Counts) → more ≡ 0 → AppendsAhead more o a b c d → HasCause o a b × AppendCalls o c d

@@ -6,7 +6,7 @@ use Rattle.xa_disk.specs.Disk.{Only}
 use Rattle.xa_disk.specs.declared.disk.Disk.{Ghosts}
 use Rattle.xa_log.specs.declared.appending.Appended.{Appended}
 use Rattle.xa_log.specs.declared.appending.Appended.TheVariants.{Kept, Refused, Lost, Full}
-use Rattle.xa_log.specs.Answers.{Fell}
+use Rattle.xa_log.specs.Answers.{FailedPut}
 use Rattle.xa_log.specs.declared.format.Format.{Format}
 use Rattle.xa_log.specs.declared.format.TheConstants.{PREAMBLE_BYTES}
 use Rattle.xa_limits.specs.declared.TheConstants.{AROUND_BODY, FIRST_OFFSET, LENGTH_BYTES}
@@ -88,7 +88,7 @@ LeavesAny most format stood bodies c = LeavesOf most stood c ⊎ LeavesNone most
 -- The premise on a disk's failed writes: a seal that was lost leaves nothing by chance to a read.
 abbrev pub SealTears : (List ℕ → ℕ → List ℕ → List ℕ → Type 0) → Type 0
 SealTears tears = (format : Format) (bodies : List (List ℕ)) (old mid new : List ℕ) → IsReady format bodies old
-    → Fell tears old FIRST_OFFSET (to_be_bytes w32 (first_length bodies)) mid → Fell tears mid FIRST_OFFSET closing new
+    → FailedPut tears old FIRST_OFFSET (to_be_bytes w32 (first_length bodies)) mid → FailedPut tears mid FIRST_OFFSET closing new
     → IsCalm bodies new
 
 -- what a checkpoint left of the file that it wrote

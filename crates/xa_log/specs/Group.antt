@@ -4,7 +4,7 @@ use Rattle.std.specs.List.{AllByRecursion}
 use Rattle.xa_disk.specs.declared.disk.Disk.{Ghosts}
 use Rattle.xa_limits.specs.declared.TheConstants.{AROUND_BODY, LENGTH_BYTES}
 use Rattle.xa_log.specs.Ahead.{ready_for}
-use Rattle.xa_log.specs.Answers.{Fell, FellAhead, Wrote}
+use Rattle.xa_log.specs.Answers.{FailedPut, FailedPutAhead, Wrote}
 use Rattle.xa_log.specs.Chain.{start, last, text, closing, record_of, records, chains_on, behind_text, IsBody, Rests}
 use Rattle.xa_log.specs.Checkpoint.{IsOther}
 use Rattle.xa_log.specs.Pair.{beats, IsCalm, CalmTears}
@@ -66,9 +66,9 @@ pub record LeavesGroup (most : ℕ) (format : Format) (bodies group : List (List
 abbrev pub NoChanceGroup : (List ℕ → ℕ → List ℕ → List ℕ → Type 0) → Type 0
 NoChanceGroup tears = (format : Format) (bodies group : List (List ℕ)) (old mid new : List ℕ) (more : ℕ)
     → Rests format bodies old → AllByRecursion (IsBody format) group
-    → FellAhead tears old (length (text format bodies))
+    → FailedPutAhead tears old (length (text format bodies))
     (closed_group (last (start format) bodies) group) (closed_group_by more (last (start format) bodies) group) mid
-    → Fell tears mid (length (text format bodies)) (replicate (group_bytes group + LENGTH_BYTES) 0) new
+    → FailedPut tears mid (length (text format bodies)) (replicate (group_bytes group + LENGTH_BYTES) 0) new
     → IsPlainGroup format bodies group new
 
 -- The append of a group to these was lost: without chance, a read and a crash give the bodies and some first part of it.

@@ -3,7 +3,7 @@ ghost use Rattle.std.specs.Prelude.{◌≡◌, ◌≢◌, ◌+◌, ◌-◌, ◌�
 ghost use Rattle.xa_disk.specs.Disk.{put, Torn, Only, CountsFault};
 ghost use Rattle.xa_disk.specs.Time.{TimePasses};
 ghost use Rattle.xa_log.specs.Chain.{digest, closed, closed_by};
-ghost use Rattle.xa_log.specs.Answers.{Went, Wrote, WentAhead, Fell, FellAhead, HasCause};
+ghost use Rattle.xa_log.specs.Answers.{PutBecame, Wrote, PutAheadBecame, FailedPut, FailedPutAhead, HasCause};
 ghost use Rattle.xa_log.specs.Calls.{PutCalls, WritesAhead, PutsAhead, AppendCalls, AppendsAhead};
 
 use crate::record::{clear, encode};
@@ -30,7 +30,7 @@ pub(crate) fn put_synced<D: Disk>(disk: &mut D, at: u64, bytes: &[u8]) -> Result
     ensures written { D.honest → OnOk result (D.seen disk.new ≡ put (D.seen disk.old) at bytes.now) }
     ensures durable { D.honest → OnOk result (Only (D.seen disk.new) (D.may_leave disk.new)) }
     ensures failed { D.honest → OnErr result (Torn at (length bytes.now) (D.seen disk.old) (D.seen disk.new)) }
-    ensures fell { D.honest → OnErr result (Fell D.tears (D.seen disk.old) at bytes.now (D.seen disk.new)) }
+    ensures fell { D.honest → OnErr result (FailedPut D.tears (D.seen disk.old) at bytes.now (D.seen disk.new)) }
     ensures time { D.honest → TimePasses D.Disk (Torn at (length bytes.now)) disk.old disk.new }
     ensures count { CountsFault result (D.failures disk.old) (D.failures disk.new) }
     ensures calls { PutCalls result (D.counts disk.old) (D.counts disk.new) }
@@ -46,7 +46,7 @@ fn write_ahead<D: Disk>(disk: &mut D, at: u64, bytes: &[u8], len: usize) -> Resu
     requires within { len ≤ length bytes.now }
     ensures written { D.honest → OnOk result (Wrote D.Disk at (take len bytes.now) bytes.now disk.old disk.new) }
     ensures fell { D.honest
-        → OnErr result (FellAhead D.tears (D.seen disk.old) at (take len bytes.now) bytes.now (D.seen disk.new)) }
+        → OnErr result (FailedPutAhead D.tears (D.seen disk.old) at (take len bytes.now) bytes.now (D.seen disk.new)) }
     ensures time { D.honest → TimePasses D.Disk (Torn at (length bytes.now)) disk.old disk.new }
     ensures calls { WritesAhead (length bytes.now - len) result
         (D.failures disk.old) (D.failures disk.new) (D.counts disk.old) (D.counts disk.new) }
@@ -74,7 +74,7 @@ fn put_ahead_synced<D: Disk>(
     ensures written { D.honest → OnOk result (Wrote D.Disk at (take len bytes.now) bytes.now disk.old disk.new) }
     ensures durable { D.honest → OnOk result (Only (D.seen disk.new) (D.may_leave disk.new)) }
     ensures fell { D.honest
-        → OnErr result (FellAhead D.tears (D.seen disk.old) at (take len bytes.now) bytes.now (D.seen disk.new)) }
+        → OnErr result (FailedPutAhead D.tears (D.seen disk.old) at (take len bytes.now) bytes.now (D.seen disk.new)) }
     ensures time { D.honest → TimePasses D.Disk (Torn at (length bytes.now)) disk.old disk.new }
     ensures calls { PutsAhead (length bytes.now - len) result
         (D.failures disk.old) (D.failures disk.new) (D.counts disk.old) (D.counts disk.new) }
@@ -96,7 +96,7 @@ pub(crate) fn put_ahead_or_clear<D: Disk>(
 ) -> Appended
     requires some { 1 ≤ len }
     requires within { len ≤ length bytes.old }
-    ensures went { D.honest → WentAhead D.Disk result at (take len bytes.old) bytes.old disk.old disk.new }
+    ensures went { D.honest → PutAheadBecame D.Disk result at (take len bytes.old) bytes.old disk.old disk.new }
     ensures time { D.honest → TimePasses D.Disk (Torn at (length bytes.old)) disk.old disk.new }
     ensures calls { AppendsAhead (length bytes.old - len) result
         (D.failures disk.old) (D.failures disk.new) (D.counts disk.old) (D.counts disk.new) }
@@ -117,7 +117,7 @@ pub(crate) fn put_ahead_or_clear<D: Disk>(
 pub(crate) fn put_or_clear<D: Disk>(disk: &mut D, at: u64, bytes: &mut [u8]) -> Appended
     requires { 1 ≤ length bytes.old }
     ensures went { D.honest
-        → Went D.tears result at bytes.old (D.seen disk.old) (D.seen disk.new) (D.may_leave disk.new) }
+        → PutBecame D.tears result at bytes.old (D.seen disk.old) (D.seen disk.new) (D.may_leave disk.new) }
     ensures time { D.honest → TimePasses D.Disk (Torn at (length bytes.old)) disk.old disk.new }
     ensures cause { HasCause result (D.failures disk.old) (D.failures disk.new) }
     ensures calls { AppendCalls result (D.counts disk.old) (D.counts disk.new) }
@@ -142,7 +142,7 @@ pub(crate) fn append_at<D: Disk>(
     requires small { length body.now ≤ MOST_BODY }
     ensures digest { result.1 ≡ digest prev.now body.now }
     ensures went { D.honest
-        → WentAhead D.Disk result.0 at (closed prev.now body.now) (closed_by ready prev.now body.now)
+        → PutAheadBecame D.Disk result.0 at (closed prev.now body.now) (closed_by ready prev.now body.now)
         disk.old disk.new }
     ensures time { D.honest
         → TimePasses D.Disk (Torn at (length (closed_by ready prev.now body.now))) disk.old disk.new }

@@ -8,7 +8,7 @@ ghost use Rattle.xa_disk.specs.Counts.{with_write};
 ghost use Rattle.xa_log.specs.declared.format.Format.{Format};
 ghost use Rattle.xa_log.specs.Chain.{start, preamble, last, digest, text, behind_text, IsBody};
 ghost use Rattle.xa_log.specs.Reading.{bodies_of};
-ghost use Rattle.xa_log.specs.Answers.{Went, Fell, HasCause};
+ghost use Rattle.xa_log.specs.Answers.{PutBecame, FailedPut, HasCause};
 ghost use Rattle.xa_log.specs.Buffer.{EachFits};
 ghost use Rattle.xa_log.specs.Calls.{PutCalls, RecordsCalls, AppendCalls, CheckpointCalls};
 ghost use Rattle.xa_log.specs.Pair.{IsCalm, CalmTears};
@@ -146,7 +146,7 @@ pub(crate) fn put_records<D: Disk>(
 // there can make this file the current one.
 pub(crate) fn put_seal<D: Disk>(disk: &mut D, size: u32) -> Appended
     ensures went { D.honest
-        → Went D.tears result FIRST_OFFSET (to_be_bytes w32 size)
+        → PutBecame D.tears result FIRST_OFFSET (to_be_bytes w32 size)
         (D.seen disk.old) (D.seen disk.new) (D.may_leave disk.new) }
     ensures any_moment { D.honest → (most : ℕ) (format : Format) (bodies : List (List ℕ))
         → IsReady format bodies (D.seen disk.old)

@@ -3,7 +3,7 @@ ghost use Rattle.std.specs.Prelude.{◌≡◌, ◌≢◌, ◌+◌, ◌≤◌, �
 ghost use Rattle.std.specs.List.{AllByRecursion};
 ghost use Rattle.xa_disk.specs.Disk.{Torn};
 ghost use Rattle.xa_disk.specs.Time.{TimePasses};
-ghost use Rattle.xa_log.specs.Answers.{WentAhead};
+ghost use Rattle.xa_log.specs.Answers.{PutAheadBecame};
 ghost use Rattle.xa_log.specs.Calls.{AppendsAhead};
 ghost use Rattle.xa_log.specs.Chain.{closing, digest, last, record_of, records};
 ghost use Rattle.xa_log.specs.Group.{closed_group, closed_group_by, group_bytes};
@@ -71,7 +71,7 @@ pub(crate) fn append_group_at<D: Disk>(
     requires small { AllByRecursion (λ body. length body ≤ MOST_BODY) (bodies_of bodies.now) }
     ensures digest { result.1 ≡ last prev.now (bodies_of bodies.now) }
     ensures went { D.honest
-        → WentAhead D.Disk result.0 at (closed_group prev.now (bodies_of bodies.now))
+        → PutAheadBecame D.Disk result.0 at (closed_group prev.now (bodies_of bodies.now))
         (closed_group_by ready prev.now (bodies_of bodies.now)) disk.old disk.new }
     ensures time { D.honest
         → TimePasses D.Disk (Torn at (length (closed_group_by ready prev.now (bodies_of bodies.now)))) disk.old disk.new }

@@ -5,8 +5,7 @@ use Rattle.xa_disk.specs.declared.disk.Disk.{Ghosts}
 use Rattle.xa_record.specs.Limits.{IsRecord}
 use Rattle.xa_record.specs.Spelling.{spelled}
 use Rattle.xa_record.specs.declared.record.Record.{Record}
-use Rattle.xa_model.specs.State.{State, Branch, timestamp_of}
-use Rattle.xa_model.specs.Sound.{is_working}
+use Rattle.xa_model.specs.State.{State, Branch, timestamp_of, is_working}
 use Rattle.xa_model.specs.Durable.{Durable, IsDurable, durable}
 use Rattle.xa_model.specs.Fold.{snapshot, sizes, reading, unread, is_used}
 use Rattle.xa_model.specs.Logging.{log_room, prepared_count}

@@ -18,13 +18,13 @@ use Rattle.xa_record.specs.Spelling.{spelled}
 use Rattle.xa_record.specs.declared.record.Record.{Record}
 use Rattle.xa_record.specs.declared.record.Record.TheVariants as logged
 use Rattle.xa_record.proofs.Sizes.{any}
-use Rattle.xa_model.specs.State.{State, Branch, is_known_as, known_of, known_as, timestamp_of}
+use Rattle.xa_model.specs.State.{State, Branch, is_known_as, known_of, known_as, timestamp_of, is_at_work}
 use Rattle.xa_model.specs.Answer.{Answer, plain, detailed, answer}
 use Rattle.xa_model.specs.Associations.{is_unknown, is_lasting, mark_in, timestamp_in, timestamp_by}
-use Rattle.xa_model.specs.Branches.{rolled_back, one_phase_refusal, is_associated}
+use Rattle.xa_model.specs.Branches.{rolled_back, unprepared_refusal, is_associated}
 use Rattle.xa_model.specs.Durable.{writes_of}
 use Rattle.xa_model.specs.Fold.{is_empty, size_of}
-use Rattle.xa_model.specs.Sound.{IsSound, is_at_work}
+use Rattle.xa_model.specs.Sound.{IsSound}
 use Rattle.xa_model.specs.Logging.{applied, lost, logs, has_room, log_full, log_room, writes_by, writes_in, prepared_count}
 use Rattle.xa_model.specs.Loggable.{IsRecoverable, IsLoggable, AreShort}
 use Rattle.xa_model.specs.Turn.{Turn, Now, unless_now, marked_now}
@@ -44,7 +44,7 @@ use Rattle.xa_manager.proofs.Written.{listed_writes}
 -- both rows
 abbrev pub one_phase_turn : State → Triple → Answer → Turn → Turn
 one_phase_turn s xid empty written =
-    unless_now (one_phase_refusal (known_as s xid) (is_associated s xid)) s
+    unless_now (unprepared_refusal (known_as s xid) (is_associated s xid)) s
     (marked_now (mark_in (known_as s xid)) (rolled_back s xid) (cond (is_empty (writes_in s xid)) (Now empty) written))
 
 -- what refuses, and what doesn't, over plain variables
@@ -67,33 +67,33 @@ first_turn b t u e = rw e refl
 pub second_turn : (b : Bool) (t u : Turn) → b ≡ false → cond b t u ≡ u
 second_turn b t u e = rw e refl
 
-pub now_refused : (m : View) (s : State) (xid : Triple) (empty : Answer) (written : Turn) (reply : Reply) → StandsFor m s → Some reply ≡ one_phase_refusal (known_as s xid) (is_associated s xid)
+pub now_refused : (m : View) (s : State) (xid : Triple) (empty : Answer) (written : Turn) (reply : Reply) → StandsFor m s → Some reply ≡ unprepared_refusal (known_as s xid) (is_associated s xid)
     → AnswersNow s (one_phase_turn s xid empty written) reply m
 now_refused m s xid empty written reply st refused = record {
   answer = answer reply s;
-  turn_is = refused_turn (one_phase_refusal (known_as s xid) (is_associated s xid)) s (marked_now (mark_in (known_as s xid)) (rolled_back s xid) (cond (is_empty (writes_in s xid)) (Now empty) written)) reply refused;
+  turn_is = refused_turn (unprepared_refusal (known_as s xid) (is_associated s xid)) s (marked_now (mark_in (known_as s xid)) (rolled_back s xid) (cond (is_empty (writes_in s xid)) (Now empty) written)) reply refused;
   reply_is = refl;
   tables = λ recoverable. st;
 }
 
-pub now_marked : (m' : View) (s : State) (xid : Triple) (empty : Answer) (written : Turn) (code : ℤ) → None ≡ one_phase_refusal (known_as s xid) (is_associated s xid) → mark_in (known_as s xid) ≡ Some code
+pub now_marked : (m' : View) (s : State) (xid : Triple) (empty : Answer) (written : Turn) (code : ℤ) → None ≡ unprepared_refusal (known_as s xid) (is_associated s xid) → mark_in (known_as s xid) ≡ Some code
     → (IsRecoverable (rolled_back s xid) → StandsFor m' (rolled_back s xid)) → AnswersNow s (one_phase_turn s xid empty written) (plain code) m'
 now_marked m' s xid empty written code free marked stands = record {
   answer = answer (plain code) (rolled_back s xid);
   turn_is =
-      passed_turn (one_phase_refusal (known_as s xid) (is_associated s xid)) s (marked_now (mark_in (known_as s xid)) (rolled_back s xid) (cond (is_empty (writes_in s xid)) (Now empty) written)) free
+      passed_turn (unprepared_refusal (known_as s xid) (is_associated s xid)) s (marked_now (mark_in (known_as s xid)) (rolled_back s xid) (cond (is_empty (writes_in s xid)) (Now empty) written)) free
       ∙ marked_turn (mark_in (known_as s xid)) (rolled_back s xid) (cond (is_empty (writes_in s xid)) (Now empty) written) code marked;
   reply_is = refl;
   tables = stands;
 }
 
-goes_on : (s : State) (xid : Triple) (empty : Answer) (written : Turn) → None ≡ one_phase_refusal (known_as s xid) (is_associated s xid) → mark_in (known_as s xid) ≡ None
+goes_on : (s : State) (xid : Triple) (empty : Answer) (written : Turn) → None ≡ unprepared_refusal (known_as s xid) (is_associated s xid) → mark_in (known_as s xid) ≡ None
     → one_phase_turn s xid empty written ≡ cond (is_empty (writes_in s xid)) (Now empty) written
 goes_on s xid empty written free unmarked =
-    passed_turn (one_phase_refusal (known_as s xid) (is_associated s xid)) s (marked_now (mark_in (known_as s xid)) (rolled_back s xid) (cond (is_empty (writes_in s xid)) (Now empty) written)) free
+    passed_turn (unprepared_refusal (known_as s xid) (is_associated s xid)) s (marked_now (mark_in (known_as s xid)) (rolled_back s xid) (cond (is_empty (writes_in s xid)) (Now empty) written)) free
     ∙ unmarked_turn (mark_in (known_as s xid)) (rolled_back s xid) (cond (is_empty (writes_in s xid)) (Now empty) written) unmarked
 
-pub now_empty : (m' : View) (s : State) (xid : Triple) (empty : Answer) (written : Turn) → None ≡ one_phase_refusal (known_as s xid) (is_associated s xid) → mark_in (known_as s xid) ≡ None → is_empty (writes_in s xid) ≡ true
+pub now_empty : (m' : View) (s : State) (xid : Triple) (empty : Answer) (written : Turn) → None ≡ unprepared_refusal (known_as s xid) (is_associated s xid) → mark_in (known_as s xid) ≡ None → is_empty (writes_in s xid) ≡ true
     → (IsRecoverable empty.after → StandsFor m' empty.after) → AnswersNow s (one_phase_turn s xid empty written) empty.reply m'
 now_empty m' s xid empty written free unmarked none stands = record {
   answer = empty;
@@ -102,11 +102,11 @@ now_empty m' s xid empty written free unmarked none stands = record {
   tables = stands;
 }
 
-pub goes_written : (s : State) (xid : Triple) (empty : Answer) (written : Turn) → None ≡ one_phase_refusal (known_as s xid) (is_associated s xid) → mark_in (known_as s xid) ≡ None → is_empty (writes_in s xid) ≡ false
+pub goes_written : (s : State) (xid : Triple) (empty : Answer) (written : Turn) → None ≡ unprepared_refusal (known_as s xid) (is_associated s xid) → mark_in (known_as s xid) ≡ None → is_empty (writes_in s xid) ≡ false
     → one_phase_turn s xid empty written ≡ written
 goes_written s xid empty written free unmarked some = goes_on s xid empty written free unmarked ∙ second_turn (is_empty (writes_in s xid)) (Now empty) written some
 
-pub now_full : (m' : View) (s : State) (xid : Triple) (empty : Answer) (room : Bool) (written : Turn) → None ≡ one_phase_refusal (known_as s xid) (is_associated s xid) → mark_in (known_as s xid) ≡ None
+pub now_full : (m' : View) (s : State) (xid : Triple) (empty : Answer) (room : Bool) (written : Turn) → None ≡ unprepared_refusal (known_as s xid) (is_associated s xid) → mark_in (known_as s xid) ≡ None
     → is_empty (writes_in s xid) ≡ false → room ≡ false → (IsRecoverable (rolled_back s xid) → StandsFor m' (rolled_back s xid))
     → AnswersNow s (one_phase_turn s xid empty (cond room written (Now (log_full s xid)))) (detailed XA_RBOTHER detail.LogFull) m'
 now_full m' s xid empty room written free unmarked some none stands = record {
@@ -118,7 +118,7 @@ now_full m' s xid empty room written free unmarked some none stands = record {
 
 -- a branch that isn't refused is at work
 
-pub worked : (s : State) (xid : Triple) → None ≡ one_phase_refusal (known_as s xid) (is_associated s xid) → is_at_work (known_of s.branches xid) ≡ true
+pub worked : (s : State) (xid : Triple) → None ≡ unprepared_refusal (known_as s xid) (is_associated s xid) → is_at_work (known_of s.branches xid) ≡ true
 worked s xid free =
     let known = passed (is_unknown (known_as s xid)) (plain XAER_NOTA) _ (sym free) in
     let idle = passed (is_associated s xid || is_lasting (known_as s xid)) (plain XAER_PROTO) _ known.1 in
@@ -128,7 +128,7 @@ known_by : (o : Option Branch) → is_at_work o ≡ true → IsSome o
 known_by None h = absurd (cc h)
 known_by (Some b) h = refl
 
-pub worked_known : (s : State) (xid : Triple) → None ≡ one_phase_refusal (known_as s xid) (is_associated s xid) → IsSome (known_of s.branches xid)
+pub worked_known : (s : State) (xid : Triple) → None ≡ unprepared_refusal (known_as s xid) (is_associated s xid) → IsSome (known_of s.branches xid)
 worked_known s xid free = known_by (known_of s.branches xid) (worked s xid free)
 
 -- its writes, as the records list them
@@ -181,7 +181,7 @@ fits_by bytes end n kept decided e = grind (arith, nat_tests, e)
 
 -- a branch with writes, the record of them, and whether the log has room for it
 pub record HasRecord (s : State) (xid : Triple) (r : Record) (more : ℕ) (body : List ℕ) (room : Bool) : Type 0 where
-  pub free : None ≡ one_phase_refusal (known_as s xid) (is_associated s xid)
+  pub free : None ≡ unprepared_refusal (known_as s xid) (is_associated s xid)
   pub unmarked : mark_in (known_as s xid) ≡ None
   pub some : is_empty (writes_in s xid) ≡ false
   pub body_is : spelled r ≡ body
@@ -191,7 +191,7 @@ pub record HasRecord (s : State) (xid : Triple) (r : Record) (more : ℕ) (body 
 pub record WasTold (m : View) (xid : Triple) (t : ℕ) (ws : List Write) : Type 0 where
   pub name : IsWithinLimits xid
   pub some : is_empty ws ≡ false
-  pub free : (s : State) → StandsFor m s → None ≡ one_phase_refusal (known_as s xid) (is_associated s xid)
+  pub free : (s : State) → StandsFor m s → None ≡ unprepared_refusal (known_as s xid) (is_associated s xid)
   pub unmarked : (s : State) → StandsFor m s → mark_in (known_as s xid) ≡ None
   pub time : (s : State) → StandsFor m s → t ≡ timestamp_in s xid
   pub writes : (h : Accesses) → RecordsStandFor h m.records → IsUndecided t h.writes → IsWritesOf t h.writes ws

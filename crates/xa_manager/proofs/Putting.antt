@@ -19,7 +19,7 @@ use Rattle.mv_rules.proofs.Undecided.{at_work, unsettled}
 use Rattle.xa_model.specs.State.{State, Operation, Wrote, is_known_as, own_branch, change, timestamp_of}
 use Rattle.xa_model.specs.Source.{write_of, written_keys, is_late as is_late_among}
 use Rattle.xa_model.specs.Answer.{Answer, plain, detailed, answer, unless, marked}
-use Rattle.xa_model.specs.Records.{having_done, is_full, limit_refusal, came_late, written, in_time, put_from, put_by as put_row}
+use Rattle.xa_model.specs.Records.{having_done, is_full, limit_refusal, came_late, written, if_late, put_from, put_by as put_row}
 use Rattle.xa_model.specs.Loggable.{IsRecoverable}
 use Rattle.xa_branch.specs.declared.working.Working.{Working as Kept_branch}
 use Rattle.xa_branch.specs.Branches.{working_at}
@@ -56,7 +56,7 @@ put_unmarked m s n key value xid w st h e x =
 judge_full : (full : Bool) (s : State) (a : Answer) → full ≡ true → unless (limit_refusal full) s a ≡ answer (detailed XAER_INVAL detail.Limit) s
 judge_full full s a e = rw e refl
 
-judge_rest : (full late : Bool) (s : State) (a b : Answer) (c : Bool) → full ≡ false → late ≡ c → unless (limit_refusal full) s (in_time late a b) ≡ cond c a b
+judge_rest : (full late : Bool) (s : State) (a b : Answer) (c : Bool) → full ≡ false → late ≡ c → unless (limit_refusal full) s (if_late late a b) ≡ cond c a b
 judge_rest full late s a b true e h = rw (e, h) refl
 judge_rest full late s a b false e h = rw (e, h) refl
 

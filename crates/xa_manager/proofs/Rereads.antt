@@ -5,7 +5,7 @@ use Rattle.xa_codes.specs.declared.codes.TheConstants.{XAER_RMFAIL}
 use Rattle.xa_codes.specs.declared.detail.Detail.TheVariants as detail
 use Rattle.xa_frame.specs.declared.reply.Reply.{Reply}
 use Rattle.xa_frame.specs.declared.request.Request.TheVariants.{Restart}
-use Rattle.xa_log.specs.Answers.{BlamesOne, HasRisen}
+use Rattle.xa_log.specs.Answers.{CountsFailureOfOne, HasRisen}
 use Rattle.xa_log.specs.declared.fault.OpenFault.TheVariants.{Device}
 use Rattle.xa_log.specs.TwoFiles.{first_of, second_of}
 use Rattle.xa_model.specs.declared.outcome.Outcome.{Outcome}
@@ -47,14 +47,14 @@ pub unread_ready : {D : Type 0} (disks : Ghosts D) (m mid ready m' : Manager D) 
 unread_ready {D} disks m mid ready m' reply o told replied is same quiet never =
     unread_restarts disks m mid m' reply o told replied (is ∙ ap (λ (x : Manager D). record x { up = false }) same) quiet never
 
-one_risen : (a b c d : ℕ) → BlamesOne Device a b c d → (HasRisen a b × (d ≡ c)) ⊎ ((b ≡ a) × HasRisen c d)
+one_risen : (a b c d : ℕ) → CountsFailureOfOne Device a b c d → (HasRisen a b × (d ≡ c)) ⊎ ((b ≡ a) × HasRisen c d)
 one_risen a b c d (inl h) = inl ((λ low. omega (arith, low, h.0)), h.1)
 one_risen a b c d (inr h) = inr (h.0, (λ low. omega (arith, low, h.1)))
 
 -- the device failed as the log was read
 pub failed_restarts : {D : Type 0} (disks : Ghosts D) (m mid m' : Manager D) (reply : Reply) (o : Outcome)
     → o ≡ Failed → reply ≡ detailed XAER_RMFAIL detail.Device → m' ≡ record mid { up = false }
-    → BlamesOne Device (disks.failures (first_of m.log)) (disks.failures (first_of mid.log)) (disks.failures (second_of m.log)) (disks.failures (second_of mid.log)) → StaysFor disks m mid
+    → CountsFailureOfOne Device (disks.failures (first_of m.log)) (disks.failures (first_of mid.log)) (disks.failures (second_of m.log)) (disks.failures (second_of mid.log)) → StaysFor disks m mid
     → ((s : State) → ManagerStandsFor disks m s → Trusts disks → LeavesLook disks m.log mid.log s)
     → HasRestarted disks m reply o m'
 failed_restarts {D} disks m mid m' reply o told replied is blames stays look = record {

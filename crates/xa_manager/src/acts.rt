@@ -100,7 +100,7 @@ impl Tables {
     {
         self.sessions.leave(session, xid);
         self.branches.leave(xid, kind);
-        self.branches.doom(xid, XA_RBROLLBACK);
+        self.branches.mark(xid, XA_RBROLLBACK);
     }
 }
 
@@ -111,7 +111,7 @@ impl Tables {
         ensures marks { TablesMove self.old (λ s. marked_with code s xid.now) self.new }
         ensures company { company_of self.new.sessions ≡ company_of self.old.sessions }
     {
-        self.branches.doom(xid, code);
+        self.branches.mark(xid, code);
     }
 
     /// The fate of a branch at work or of a prepared one is decided, and it is known no more.

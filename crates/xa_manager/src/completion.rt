@@ -37,7 +37,7 @@ impl<D: Disk> Manager<D> {
         ensures bare { IfOk result (λ d. IsBare d.reply) }
         ensures untouched { OnErr result (self.new.log ≡ self.old.log) }
     {
-        if let Some(reply) = self.tables.one_phase_refusal(xid) {
+        if let Some(reply) = self.tables.unprepared_refusal(xid) {
             return Ok(Done::now(reply));
         }
         if let Some(code) = self.tables.mark_of(xid) {
@@ -99,7 +99,7 @@ impl<D: Disk> Manager<D> {
         ensures bare { IfOk result (λ d. IsBare d.reply) }
         ensures untouched { OnErr result (self.new.log ≡ self.old.log) }
     {
-        if let Some(reply) = self.tables.one_phase_refusal(xid) {
+        if let Some(reply) = self.tables.unprepared_refusal(xid) {
             return Ok(Done::now(reply));
         }
         if let Some(code) = self.tables.mark_of(xid) {

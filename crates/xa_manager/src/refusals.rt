@@ -2,7 +2,7 @@ ghost use Rattle.std.specs.Prelude.{◌≡◌, IfSome, IfOk, false};
 ghost use Rattle.xa_record.specs.declared.record.Record.TheVariants as logged;
 ghost use Rattle.xa_model.specs.State.{known_as, loose_of};
 ghost use Rattle.xa_model.specs.Associations.{loose_refusal};
-ghost use Rattle.xa_model.specs.Branches.{one_phase_refusal, two_phase_refusal, rollback_refusal, doom_refusal, is_associated};
+ghost use Rattle.xa_model.specs.Branches.{unprepared_refusal, two_phase_refusal, rollback_refusal, doom_refusal, is_associated};
 ghost use Rattle.xa_model.specs.Completions.{decide_refusal, forget_refusal};
 ghost use Rattle.xa_assoc.specs.Refusals.{is_memory, IsBare};
 ghost use Rattle.xa_assoc.specs.Sessions.{begin_refusal_of, join_refusal_of, resume_refusal_of, suspend_refusal_of, leave_refusal_of};
@@ -11,7 +11,7 @@ ghost use Rattle.xa_manager.specs.Tables.{TablesSay};
 
 use crate::tables::Tables;
 use xa_assoc::loose_refusal;
-use xa_branch::{doom_refusal, one_phase_refusal, rollback_refusal, two_phase_refusal};
+use xa_branch::{doom_refusal, rollback_refusal, two_phase_refusal, unprepared_refusal};
 use xa_codes::{Call, Code, Direction, XAER_NOTA};
 use xa_frame::Reply;
 use xa_heur::{answer_completed, decide, forget};
@@ -88,13 +88,13 @@ impl Tables {
 
 /// How the completion of a branch is refused, and what the operator asks.
 impl Tables {
-    pub fn one_phase_refusal(&self, xid: &Xid) -> Option<Reply>
-        ensures value { TablesSay self.now (λ s. result ≡ one_phase_refusal (known_as s xid.now)
+    pub fn unprepared_refusal(&self, xid: &Xid) -> Option<Reply>
+        ensures value { TablesSay self.now (λ s. result ≡ unprepared_refusal (known_as s xid.now)
             (is_associated s xid.now)) }
         ensures served { IfSome result (λ r. is_memory r.detail ≡ false) }
         ensures bare { IfSome result IsBare }
     {
-        one_phase_refusal(self.branches.known(xid), self.branches.is_associated(xid))
+        unprepared_refusal(self.branches.known(xid), self.branches.is_associated(xid))
     }
 
     pub fn two_phase_refusal(&self, xid: &Xid) -> Option<Reply>

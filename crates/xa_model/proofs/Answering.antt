@@ -14,7 +14,7 @@ use Rattle.xa_model.specs.State.{State, Standing, Up, Down, Ended, Known, Unknow
 use Rattle.xa_model.specs.Answer.{Answer, plain, first}
 use Rattle.xa_model.specs.Early.{early_refusal, passes_down, call_of, needs_open, is_opened, is_async, flags_of, is_invalid, Context}
 use Rattle.xa_model.specs.Associations.{is_unknown, is_lasting}
-use Rattle.xa_model.specs.Branches.{one_phase_refusal, two_phase_refusal, rollback_refusal, heuristic_refusal}
+use Rattle.xa_model.specs.Branches.{unprepared_refusal, two_phase_refusal, rollback_refusal, heuristic_refusal}
 use Rattle.xa_model.specs.Completions.{forget_refusal, is_completed}
 use Rattle.xa_model.specs.Durable.{Durable, durable}
 use Rattle.xa_model.specs.Fold.{apply}
@@ -46,7 +46,7 @@ pub refused : (checks : List (Bool × Reply)) (reply : Reply) → AllByRecursion
 refused [] reply h e ok = cc e
 refused (check ∷ checks) reply h e ok = refused_by check.0 check.1 reply (first checks) e h.0 (λ rest. refused checks reply h.1 rest) ok
 
-pub one_phase_bad : (k : Known) (held : Bool) (reply : Reply) → one_phase_refusal k held ≡ Some reply → reply.code ≡ XA_OK → ⊥
+pub one_phase_bad : (k : Known) (held : Bool) (reply : Reply) → unprepared_refusal k held ≡ Some reply → reply.code ≡ XA_OK → ⊥
 one_phase_bad k held reply e ok =
     refused ((is_unknown k, plain XAER_NOTA) ∷ (held || is_lasting k, plain XAER_PROTO) ∷ []) reply ((λ ok. cc ok), ((λ ok. cc ok), tt)) e ok
 

@@ -17,7 +17,7 @@ use Rattle.xa_model.specs.State.{State, Standing, Up, Down, Ended, Known, Unknow
 use Rattle.xa_model.specs.Answer.{plain, answer, ok}
 use Rattle.xa_model.specs.Early.{early_refusal}
 use Rattle.xa_model.specs.Associations.{mark_in, timestamp_in}
-use Rattle.xa_model.specs.Branches.{rolled_back, committed, one_phase_refusal, two_phase_refusal, rollback_refusal, heuristic_refusal, is_associated}
+use Rattle.xa_model.specs.Branches.{rolled_back, committed, unprepared_refusal, two_phase_refusal, rollback_refusal, heuristic_refusal, is_associated}
 use Rattle.xa_model.specs.Fold.{is_empty}
 use Rattle.xa_model.specs.Turn.{Happening, Asked, Reopened, Turn, Now, Appends, unless_now, marked_now}
 use Rattle.xa_model.specs.Step.{row, respond, asked, turn, context_of}
@@ -58,7 +58,7 @@ prepare_logs : (s : State) (n flags : ℕ) (x : Triple) → Logs (IsAsked (Asked
 prepare_logs s n flags x =
     let Q = IsAsked (Asked (event.Call n (Prepare flags x))) in
     let r = logged.Prepared x (timestamp_in s x) (writes_in s x) in
-    unless_logs Q (one_phase_refusal (known_as s x) (is_associated s x)) s _
+    unless_logs Q (unprepared_refusal (known_as s x) (is_associated s x)) s _
     (marked_logs Q (mark_in (known_as s x)) (rolled_back s x) _
     (cond_logs Q (is_empty (writes_in s x)) (Now (answer (plain XA_RDONLY) (committed s x))) (prepare_written s x) tt
     (cond_logs Q (has_room s r 1) (logs s r XAER_RMERR s) (Now (log_full s x)) (xid_eq_itself x) tt)))
@@ -66,7 +66,7 @@ prepare_logs s n flags x =
 one_phase_logs : (s : State) (h : Happening) (x : Triple) → Logs (IsAsked h) (commit_one_phase_turn s x)
 one_phase_logs s h x =
     let r = logged.Committed x (timestamp_in s x) (writes_in s x) in
-    unless_logs (IsAsked h) (one_phase_refusal (known_as s x) (is_associated s x)) s _
+    unless_logs (IsAsked h) (unprepared_refusal (known_as s x) (is_associated s x)) s _
     (marked_logs (IsAsked h) (mark_in (known_as s x)) (rolled_back s x) _
     (cond_logs (IsAsked h) (is_empty (writes_in s x)) (Now (ok (committed s x))) (commit_written s x) tt
     (cond_logs (IsAsked h) (has_room s r 0) (logs s r XAER_RMERR (rolled_back s x)) (Now (log_full s x)) tt tt)))

@@ -6,8 +6,8 @@ use Rattle.xa_codes.specs.declared.direction.Direction.{Direction}
 use Rattle.xa_xid.specs.Triple.{Triple, xid_eq}
 use Rattle.xa_record.specs.declared.record.Record.{Record}
 use Rattle.xa_record.specs.declared.record.Record.TheVariants as logged
-use Rattle.xa_model.specs.State.{State, Branch, Phase, Working, Prepared, Committed, InDoubt, Decided, count, is_known_as, known_of, known_by, known_as, known_among, decided_of, or_completed}
-use Rattle.xa_model.specs.Sound.{IsSound, is_working, is_at_work}
+use Rattle.xa_model.specs.State.{State, Branch, Phase, Working, Prepared, Committed, InDoubt, Decided, count, is_known_as, known_of, known_by, known_as, known_among, decided_of, or_completed, is_working, is_at_work}
+use Rattle.xa_model.specs.Sound.{IsSound}
 use Rattle.xa_model.specs.Durable.{Durable, durable, writes_of, insert, named_before, by_name, is_prepared, is_decided}
 use Rattle.xa_model.specs.Fold.{Reading, apply, fits, reading, unread, is_new, is_timely, is_unknown, prepared_as}
 use Rattle.xa_model.specs.Completions.{is_completed}

@@ -8,9 +8,8 @@ use Rattle.xa_codes.specs.declared.codes.TheConstants.{XAER_RMFAIL}
 use Rattle.xa_codes.specs.declared.detail.Detail.TheVariants as detail
 use Rattle.xa_record.specs.declared.record.Record.{Record}
 use Rattle.xa_record.specs.declared.record.Record.TheVariants as logged
-use Rattle.xa_model.specs.State.{State, Session, Association, Branch, Decided, Standing, timestamp_of}
+use Rattle.xa_model.specs.State.{State, Session, Association, Branch, Decided, Standing, timestamp_of, is_working}
 use Rattle.xa_model.specs.Answer.{answer, detailed, ok}
-use Rattle.xa_model.specs.Sound.{is_working}
 use Rattle.xa_model.specs.Durable.{Durable, CommittedBranch, PreparedBranch, IsDurable, durable, is_past}
 use Rattle.xa_model.specs.Fold.{Reading, read, reading, unread, base, held, known, snapshot}
 use Rattle.xa_model.specs.Turn.{Stops, Opens}

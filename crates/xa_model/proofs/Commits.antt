@@ -4,7 +4,7 @@ use Rattle.std.specs.Prelude.{nat_lt}
 use Rattle.std.specs.List.{AllByRecursion}
 use Rattle.std.proofs.lemmas.Bool.Decides.{nat_tests}
 use Rattle.xa_codes.specs.declared.write.Write.{Write}
-use Rattle.xa_model.specs.Durable.{CommittedBranch, Pairwise, commits_before, insert, is_written_in, is_written, left_by, with_writes, last_writes}
+use Rattle.xa_model.specs.Durable.{CommittedBranch, Pairwise, commits_before, insert, is_written_in, is_written, not_overwritten, with_writes, last_writes}
 use Rattle.xa_model.proofs.Inserts.{all_imply}
 use Rattle.xa_model.proofs.LastWrites.{last_written, last_are_last, last_same, last_all}
 use Rattle.xa_model.proofs.Splits.{insert_front}
@@ -29,19 +29,19 @@ same_written : (key : List ℕ) (c : CommittedBranch) (bs : List CommittedBranch
 same_written key c bs = insert_written key c (last_writes bs) ∙ ap (λ w. is_written_in key c.writes || w) (last_written key bs) ∙ sym (insert_written key c bs)
 
 -- what is left of writes, by branches that write the same keys
-left_alike : (xs ys : List CommittedBranch) → ((key : List ℕ) → is_written key xs ≡ is_written key ys) → (ws : List Write) → left_by xs ws ≡ left_by ys ws
+left_alike : (xs ys : List CommittedBranch) → ((key : List ℕ) → is_written key xs ≡ is_written key ys) → (ws : List Write) → not_overwritten xs ws ≡ not_overwritten ys ws
 left_alike xs ys same [] = refl
-left_alike xs ys same (w ∷ ws) = let rest : left_by xs ws ≡ left_by ys ws = left_alike xs ys same ws in rw (same w.key, rest) refl
+left_alike xs ys same (w ∷ ws) = let rest : not_overwritten xs ws ≡ not_overwritten ys ws = left_alike xs ys same ws in rw (same w.key, rest) refl
 
 -- by branches and then by more
 left_twice_by : (xs ys : List CommittedBranch) (w : Write) (ws : List Write) (c d : Bool) → is_written w.key xs ≡ c → is_written w.key ys ≡ d → (c ≡ true → d ≡ true)
-    → left_by ys (left_by xs ws) ≡ left_by ys ws → left_by ys (cond (not c) (w ∷ left_by xs ws) (left_by xs ws)) ≡ cond (not d) (w ∷ left_by ys ws) (left_by ys ws)
+    → not_overwritten ys (not_overwritten xs ws) ≡ not_overwritten ys ws → not_overwritten ys (cond (not c) (w ∷ not_overwritten xs ws) (not_overwritten xs ws)) ≡ cond (not d) (w ∷ not_overwritten ys ws) (not_overwritten ys ws)
 left_twice_by xs ys w ws true true e f more rest = rest
 left_twice_by xs ys w ws true false e f more rest = absurd (cc (more refl))
 left_twice_by xs ys w ws false true e f more rest = rw f rest
 left_twice_by xs ys w ws false false e f more rest = rw (f, rest) refl
 
-left_twice : (xs ys : List CommittedBranch) → ((key : List ℕ) → is_written key xs ≡ true → is_written key ys ≡ true) → (ws : List Write) → left_by ys (left_by xs ws) ≡ left_by ys ws
+left_twice : (xs ys : List CommittedBranch) → ((key : List ℕ) → is_written key xs ≡ true → is_written key ys ≡ true) → (ws : List Write) → not_overwritten ys (not_overwritten xs ws) ≡ not_overwritten ys ws
 left_twice xs ys more [] = refl
 left_twice xs ys more (w ∷ ws) = left_twice_by xs ys w ws (is_written w.key xs) (is_written w.key ys) refl refl (more w.key) (left_twice xs ys more ws)
 
@@ -54,7 +54,7 @@ still_written c bs key e = insert_written key c bs ∙ or_right (is_written_in k
 
 -- a branch before the new one, of which something is left or nothing
 insert_with : (c : CommittedBranch) (t : ℕ) (ws : List Write) (bs : List CommittedBranch) → nat_lt t c.timestamp ≡ true
-    → last_writes (insert commits_before c (with_writes t ws bs)) ≡ with_writes t (left_by (insert commits_before c bs) ws) (last_writes (insert commits_before c bs))
+    → last_writes (insert commits_before c (with_writes t ws bs)) ≡ with_writes t (not_overwritten (insert commits_before c bs) ws) (last_writes (insert commits_before c bs))
 insert_with c t [] bs less = refl
 insert_with c t (w ∷ ws) bs less = rw less refl
 
@@ -69,19 +69,19 @@ commit_first c b later e all =
     let none : AllByRecursion (λ u. nat_lt u.timestamp c.timestamp ≡ false) bs = (e, all_imply (λ u. commits_before b u ≡ true) (λ u. nat_lt u.timestamp c.timestamp ≡ false) (λ u f. behind b.timestamp c.timestamp e u.timestamp f) later all) in
     let front : insert commits_before c (last_writes bs) ≡ c ∷ last_writes bs = insert_front commits_before c (last_writes bs) (last_all (λ u. nat_lt u c.timestamp ≡ false) bs none) in
     let twice : last_writes (last_writes bs) ≡ last_writes bs = last_same (last_writes bs) (last_are_last bs) in
-    let left : left_by (last_writes bs) c.writes ≡ left_by bs c.writes = left_alike (last_writes bs) bs (λ key. last_written key bs) c.writes in
-    ap last_writes front ∙ ap (λ l. with_writes c.timestamp (left_by (last_writes bs) c.writes) l) twice ∙ ap (λ l. with_writes c.timestamp l (last_writes bs)) left
+    let left : not_overwritten (last_writes bs) c.writes ≡ not_overwritten bs c.writes = left_alike (last_writes bs) bs (λ key. last_written key bs) c.writes in
+    ap last_writes front ∙ ap (λ l. with_writes c.timestamp (not_overwritten (last_writes bs) c.writes) l) twice ∙ ap (λ l. with_writes c.timestamp l (last_writes bs)) left
 
 commit_by : (c b : CommittedBranch) (later : List CommittedBranch) (before : Bool) → commits_before b c ≡ before → AllByRecursion (λ u. commits_before b u ≡ true) later
     → last_writes (insert commits_before c (last_writes later)) ≡ last_writes (insert commits_before c later)
     → last_writes (insert commits_before c (last_writes (b ∷ later))) ≡ last_writes (cond before (b ∷ insert commits_before c later) (c ∷ b ∷ later))
 commit_by c b later true e all rest =
-    let left : left_by (insert commits_before c (last_writes later)) (left_by later b.writes) ≡ left_by (insert commits_before c later) b.writes =
-    left_alike (insert commits_before c (last_writes later)) (insert commits_before c later) (λ key. same_written key c later) (left_by later b.writes)
+    let left : not_overwritten (insert commits_before c (last_writes later)) (not_overwritten later b.writes) ≡ not_overwritten (insert commits_before c later) b.writes =
+    left_alike (insert commits_before c (last_writes later)) (insert commits_before c later) (λ key. same_written key c later) (not_overwritten later b.writes)
     ∙ left_twice later (insert commits_before c later) (still_written c later) b.writes in
-    insert_with c b.timestamp (left_by later b.writes) (last_writes later) e
+    insert_with c b.timestamp (not_overwritten later b.writes) (last_writes later) e
     ∙ ap (λ l. with_writes b.timestamp l (last_writes (insert commits_before c (last_writes later)))) left
-    ∙ ap (λ l. with_writes b.timestamp (left_by (insert commits_before c later) b.writes) l) rest
+    ∙ ap (λ l. with_writes b.timestamp (not_overwritten (insert commits_before c later) b.writes) l) rest
 commit_by c b later false e all rest = commit_first c b later e all
 
 pub commit_last : (c : CommittedBranch) (bs : List CommittedBranch) → Pairwise commits_before bs → last_writes (insert commits_before c (last_writes bs)) ≡ last_writes (insert commits_before c bs)
@@ -96,7 +96,7 @@ nothing_by : (t : ℕ) (b : CommittedBranch) (later : List CommittedBranch) (bef
 nothing_by t b later true rest =
     let c : CommittedBranch = record { timestamp = t; writes = [] } in
     ap (λ l. with_writes b.timestamp l (last_writes (insert commits_before c later))) (left_alike (insert commits_before c later) later (λ key. insert_written key c later) b.writes)
-    ∙ ap (λ l. with_writes b.timestamp (left_by later b.writes) l) rest
+    ∙ ap (λ l. with_writes b.timestamp (not_overwritten later b.writes) l) rest
 nothing_by t b later false rest = refl
 
 pub commit_nothing : (t : ℕ) (bs : List CommittedBranch) → last_writes (insert commits_before (record { timestamp = t; writes = [] }) bs) ≡ last_writes bs

@@ -4,15 +4,15 @@ use Rattle.std.specs.Prelude.{is_some}
 use Rattle.std.proofs.lemmas.Bool.Decides.{nat_tests}
 use Rattle.xa_xid.specs.Triple.{Triple, xid_eq}
 use Rattle.xa_xid.proofs.Same.{xid_same}
-use Rattle.xa_model.specs.State.{State, Association, Active, count, is_active, owns, known_of, session_of, holders_of, loose_of}
-use Rattle.xa_model.specs.Associations.{is_anyones}
-use Rattle.xa_model.specs.Sound.{IsSound, is_at_work}
+use Rattle.xa_model.specs.State.{State, Association, Active, count, is_active, owns, known_of, session_of, holders_of, loose_of, is_at_work}
+use Rattle.xa_model.specs.Associations.{is_of_session}
+use Rattle.xa_model.specs.Sound.{IsSound}
 
 -- what soundness asks of the associations
 pub record AreHeld (s : State) (held : List Association) : Type 0 where
   pub active : (n : ℕ) → count (λ a. is_active n a.holder) held ≤ 1
   pub own : (n : ℕ) (xid : Triple) → count (owns n xid) held ≤ 1
-  pub connected : (n : ℕ) → session_of s.sessions n ≡ None → count (is_anyones n) held ≡ 0
+  pub connected : (n : ℕ) → session_of s.sessions n ≡ None → count (is_of_session n) held ≡ 0
   pub bound : (xid : Triple) → is_at_work (known_of s.branches xid) ≡ false → holders_of held xid ≡ 0
   pub loose : (xid : Triple) → loose_of held xid ≤ 64
 
@@ -66,7 +66,7 @@ pub one_more_sound : (s : State) (n : ℕ) (xid : Triple) → IsSound s → is_s
 one_more_sound s n xid h seated works idle free = with_held s (record { xid = xid; holder = Active n } ∷ s.associations) h (record {
   active = λ m. active_more s.associations n m idle (h.active m);
   own = λ m y. own_more_by s.associations n m xid y (n == m) (xid_eq xid y) refl refl free (h.own m y);
-  connected = λ m none. seated_more_by s n m (n == m) refl seated none (count (is_anyones m) s.associations) (h.connected m none);
+  connected = λ m none. seated_more_by s n m (n == m) refl seated none (count (is_of_session m) s.associations) (h.connected m none);
   bound = λ y none. bound_more_by s xid y (xid_eq xid y) refl works none (holders_of s.associations y) (h.bound y none);
   loose = λ y. omega (arith, h.loose y);
 })

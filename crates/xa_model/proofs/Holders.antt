@@ -6,7 +6,7 @@ use Rattle.std.proofs.lemmas.Bool.Decides.{nat_tests}
 use Rattle.xa_xid.specs.Triple.{Triple, xid_eq}
 use Rattle.xa_xid.proofs.Same.{xid_same}
 use Rattle.xa_model.specs.State.{State, Association, Holder, Active, Suspended, Loose, count, change, is_active, is_own, is_suspended, is_loose, owns, works_in, suspends, is_loose_with, session_of, holders_of, loose_of}
-use Rattle.xa_model.specs.Associations.{is_anyones, held_by}
+use Rattle.xa_model.specs.Associations.{is_of_session, held_by}
 use Rattle.xa_model.specs.Sound.{IsSound}
 use Rattle.xa_model.proofs.Counts.{count_changed, count_change, count_same, count_either, count_nowhere}
 use Rattle.xa_model.proofs.Held.{AreHeld}
@@ -63,11 +63,11 @@ active_changed p n m held true e idle most =
     omega (arith, count_change p (held_by (Active n)) (λ a. is_active m a.holder) held)
 active_changed p n m held false e idle most = omega (arith, count_changed p (held_by (Active n)) (λ a. is_active m a.holder) (λ a is now. absurd (cc (now, e))) held)
 
-seated_changed : (s : State) (p : Association → Bool) (n m : ℕ) → is_some (session_of s.sessions n) ≡ true → session_of s.sessions m ≡ None → count (is_anyones m) s.associations ≡ 0
-    → count (is_anyones m) (change p (held_by (Active n)) s.associations) ≡ 0
+seated_changed : (s : State) (p : Association → Bool) (n m : ℕ) → is_some (session_of s.sessions n) ≡ true → session_of s.sessions m ≡ None → count (is_of_session m) s.associations ≡ 0
+    → count (is_of_session m) (change p (held_by (Active n)) s.associations) ≡ 0
 seated_changed s p n m seated none zero_ =
     let other : (n == m) ≡ false = apart s n m seated none (n == m) refl in
-    omega (arith, count_changed p (held_by (Active n)) (is_anyones m) (λ a is now. absurd (cc (now, other))) s.associations)
+    omega (arith, count_changed p (held_by (Active n)) (is_of_session m) (λ a is now. absurd (cc (now, other))) s.associations)
 
 own_kept : (n m : ℕ) (y : Triple) (a : Association) → is_own n a.holder ≡ true → ((n == m) && xid_eq a.xid y) ≡ true → owns m y a ≡ true
 own_kept n m y a own now =
@@ -140,14 +140,14 @@ pub suspended_held : (s : State) (n : ℕ) (xid : Triple) (migrates : Bool) → 
 suspended_held s n xid true h room = record {
   active = λ m. omega (arith, h.active m, count_changed (works_in n xid) (held_by Loose) (λ a. is_active m a.holder) (λ a is now. absurd (cc now)) s.associations);
   own = λ m y. omega (arith, h.own m y, count_changed (works_in n xid) (held_by Loose) (owns m y) (λ a is now. absurd (cc now)) s.associations);
-  connected = λ m none. omega (arith, h.connected m none, count_changed (works_in n xid) (held_by Loose) (is_anyones m) (λ a is now. absurd (cc now)) s.associations);
+  connected = λ m none. omega (arith, h.connected m none, count_changed (works_in n xid) (held_by Loose) (is_of_session m) (λ a is now. absurd (cc now)) s.associations);
   bound = λ y none. omega (arith, h.bound y none, holders_same s (works_in n xid) Loose y);
   loose = λ y. loosened xid y n s.associations (xid_eq xid y) refl (room refl) (h.loose y);
 }
 suspended_held s n xid false h room = record {
   active = λ m. omega (arith, h.active m, count_changed (works_in n xid) (held_by (Suspended n)) (λ a. is_active m a.holder) (λ a is now. absurd (cc now)) s.associations);
   own = λ m y. omega (arith, h.own m y, count_changed (works_in n xid) (held_by (Suspended n)) (owns m y) (λ a is now. own_kept n m y a (works_own n xid a is) now) s.associations);
-  connected = λ m none. omega (arith, h.connected m none, count_changed (works_in n xid) (held_by (Suspended n)) (is_anyones m) (λ a is now. seated_own n m a (works_own n xid a is) now) s.associations);
+  connected = λ m none. omega (arith, h.connected m none, count_changed (works_in n xid) (held_by (Suspended n)) (is_of_session m) (λ a is now. seated_own n m a (works_own n xid a is) now) s.associations);
   bound = λ y none. omega (arith, h.bound y none, holders_same s (works_in n xid) (Suspended n) y);
   loose = λ y. omega (arith, h.loose y, count_changed (works_in n xid) (held_by (Suspended n)) (is_loose_with y) (λ a is now. absurd (cc now)) s.associations);
 }

@@ -11,7 +11,7 @@ use Rattle.std.proofs.lemmas.Cmp.{nat_list_eq_equiv}
 use Rattle.std.proofs.lemmas.Slice.Eq.{bytes_eq-Decides}
 use Rattle.xa_codes.specs.declared.write.Write.{Write}
 use Rattle.xa_model.specs.State.{Decided}
-use Rattle.xa_model.specs.Durable.{Durable, CommittedBranch, PreparedBranch, Pairwise, AreLast, commits_before, keys_before, is_written_in, is_written, left_by, with_writes, last_writes, value_in, last_write}
+use Rattle.xa_model.specs.Durable.{Durable, CommittedBranch, PreparedBranch, Pairwise, AreLast, commits_before, keys_before, is_written_in, is_written, not_overwritten, with_writes, last_writes, value_in, last_write}
 use Rattle.xa_model.specs.DurableLaws.{OneValue, LastWritesStay}
 use Rattle.xa_model.proofs.Tests.{commits_transitive}
 use Rattle.xa_model.proofs.Members.{Member, member_all, same_members, same_place_by, commits_strict, keys_strict, keys_transitive, same_prepared, same_decided}
@@ -113,22 +113,22 @@ left_value_by key w ws vs true false e f rest = rw e rest
 left_value_by key w ws vs false true e f rest = let no : false ≡ true = f refl in absurd (cc no)
 left_value_by key w ws vs false false e f rest = rest
 
-left_value : (key : List ℕ) (later : List CommittedBranch) (ws : List Write) → is_written key later ≡ false → value_in key (left_by later ws) ≡ value_in key ws
+left_value : (key : List ℕ) (later : List CommittedBranch) (ws : List Write) → is_written key later ≡ false → value_in key (not_overwritten later ws) ≡ value_in key ws
 left_value key later [] none = refl
 left_value key later (w ∷ ws) none =
-    left_value_by key w ws (left_by later ws) (not (is_written w.key later)) (bytes_eq w.key key) refl
+    left_value_by key w ws (not_overwritten later ws) (not (is_written w.key later)) (bytes_eq w.key key) refl
     (λ e. not_from_false (is_written w.key later) (ap (λ k. is_written k later) ((bytes_eq-Decides w.key key).0 e) ∙ none)) (left_value key later ws none)
 
 stay_by : (key : List ℕ) (b : CommittedBranch) (later : List CommittedBranch) (o : Option (ℕ × Option (List ℕ))) → last_write key later ≡ o
-    → option_or o (option_map (λ v. (b.timestamp, v)) (value_in key (left_by later b.writes))) ≡ option_or o (option_map (λ v. (b.timestamp, v)) (value_in key b.writes))
+    → option_or o (option_map (λ v. (b.timestamp, v)) (value_in key (not_overwritten later b.writes))) ≡ option_or o (option_map (λ v. (b.timestamp, v)) (value_in key b.writes))
 stay_by key b later (Some x) e = refl
 stay_by key b later None e = ap (option_map (λ v. (b.timestamp, v))) (left_value key later b.writes (not_found key later e))
 
 pub last_writes_stay : LastWritesStay
 last_writes_stay key [] = refl
 last_writes_stay key (b ∷ later) =
-    with_value key b.timestamp (left_by later b.writes) (last_writes later)
-    ∙ ap (λ o. option_or o (option_map (λ v. (b.timestamp, v)) (value_in key (left_by later b.writes)))) (last_writes_stay key later)
+    with_value key b.timestamp (not_overwritten later b.writes) (last_writes later)
+    ∙ ap (λ o. option_or o (option_map (λ v. (b.timestamp, v)) (value_in key (not_overwritten later b.writes)))) (last_writes_stay key later)
     ∙ stay_by key b later (last_write key later) refl
 
 -- a write of a branch is found by its key

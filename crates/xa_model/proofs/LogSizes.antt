@@ -12,7 +12,7 @@ use Rattle.xa_record.specs.Spelling.{spelled, write_bytes}
 use Rattle.xa_record.specs.declared.record.Record.{Record}
 use Rattle.xa_record.specs.declared.record.Record.TheVariants.{Opened, Prepared, Committed, Completed, Decided, Forgotten, Base, Held, Known}
 use Rattle.xa_model.specs.State.{without}
-use Rattle.xa_model.specs.Durable.{Durable, CommittedBranch, PreparedBranch, insert, commit, commits_before, prepares_before, named_before, is_written, left_by, with_writes, last_writes}
+use Rattle.xa_model.specs.Durable.{Durable, CommittedBranch, PreparedBranch, insert, commit, commits_before, prepares_before, named_before, is_written, not_overwritten, with_writes, last_writes}
 use Rattle.xa_model.specs.Fold.{Reading, apply, complete, commit_prepared, prepared_as, read, is_new, fold_from, fold, unread, base, held, known, snapshot, size_of, sizes}
 use Rattle.xa_model.specs.DurableLaws.{SnapshotIsShort}
 use Rattle.xa_model.proofs.Folds.{stepped}
@@ -75,7 +75,7 @@ with_size t (w ∷ ws) bs = omega arith
 last_size : (bs : List CommittedBranch) → sizes (map base (last_writes bs)) ≤ sizes (map base bs)
 last_size [] = omega arith
 last_size (b ∷ later) =
-    let kept = left_by later b.writes in
+    let kept = not_overwritten later b.writes in
     let here : sizes (map base (with_writes b.timestamp kept (last_writes later))) ≤ size_of (Base b.timestamp kept) + sizes (map base (last_writes later)) = with_size b.timestamp kept (last_writes later) in
     let fewer : length (flat_map write_bytes kept) ≤ length (flat_map write_bytes b.writes) = fewer_bytes (λ w. not (is_written w.key later)) b.writes in
     let rest : sizes (map base (last_writes later)) ≤ sizes (map base later) = last_size later in

@@ -11,19 +11,19 @@ use Rattle.xa_frame.specs.declared.request.Request.TheVariants.{Open, Close, Sta
 use Rattle.xa_xid.specs.Triple.{Triple, xid_eq}
 use Rattle.xa_xid.proofs.Same.{xid_eq_itself}
 use Rattle.xa_model.specs.declared.event.Event.TheVariants as event
-use Rattle.xa_model.specs.State.{State, Session, Association, Read, Branch, Got, Wrote, Phase, Working, Prepared, Committed, known_as, known_of, is_known_as, is_active, active_of, branch_with, own_branch, mark_of, change, session_of, suspends, is_loose_with, known_in}
+use Rattle.xa_model.specs.State.{State, Session, Association, Read, Branch, Got, Wrote, Phase, Working, Prepared, Committed, known_as, known_of, is_known_as, is_active, active_of, branch_with, own_branch, mark_of, change, session_of, suspends, is_loose_with, known_in, is_working, is_at_work}
 use Rattle.xa_model.specs.Source.{Version, source, is_late}
 use Rattle.xa_model.specs.Answer.{Answer, ok, unless, marked}
 use Rattle.xa_model.specs.Early.{early_refusal}
-use Rattle.xa_model.specs.Associations.{connect_refusal, connected, connect_by, hang_up_by, open_by, close_refusal, close_by, as_opened, is_anyones, with_mark, marked_phase, left_behind, is_worked_by, start_refusal, begun, begin_by, is_taken, join_refusal, joined, join_by, resume_refusal, resumed, not_resumed, resume_by, start_by, end_refusal, loose_refusal, suspended, not_suspended, suspend_by, can_end, ended, failed, leave_by, end_by, mark_in}
+use Rattle.xa_model.specs.Associations.{connect_refusal, connected, connect_by, hang_up_by, open_by, close_refusal, close_by, as_opened, is_of_session, with_mark, marked_phase, left_behind, is_worked_by, start_refusal, begun, begin_by, is_taken, join_refusal, joined, join_by, resume_refusal, resumed, not_resumed, resume_by, start_by, end_refusal, loose_refusal, suspended, not_suspended, suspend_by, can_end, ended, failed, leave_by, end_by, mark_in}
 use Rattle.xa_model.specs.Branches.{doom_refusal, doomed, doom_by}
-use Rattle.xa_model.specs.Records.{having_done, got, get_from, get_by, busy_refusal, is_full, limit_refusal, came_late, written, in_time, put_from, put_by}
+use Rattle.xa_model.specs.Records.{having_done, got, get_from, get_by, busy_refusal, is_full, limit_refusal, came_late, written, if_late, put_from, put_by}
 use Rattle.xa_model.specs.Completions.{commit_one_phase_turn, commit_two_phase_turn}
 use Rattle.xa_model.specs.TimeLimits.{runs_out, timed_out, ticked, tick_by, timeout_by}
 use Rattle.xa_model.specs.Recovering.{scan_of, scan_from, recovered_from, recover_by}
 use Rattle.xa_model.specs.Step.{row, context_of}
 use Rattle.xa_model.specs.Events.{asks_restart}
-use Rattle.xa_model.specs.Sound.{IsSound, is_working, is_at_work}
+use Rattle.xa_model.specs.Sound.{IsSound}
 use Rattle.xa_model.specs.Durable.{durable, last_writes, by_name, writes_of, committed_part, prepared_part}
 use Rattle.xa_model.specs.LoggingLaws.{KeepsLog, LogsWhatLasts, EventsLogWhatLasts}
 use Rattle.xa_model.proofs.Lists.{found_all}
@@ -237,16 +237,16 @@ written_same s key value xid b own =
     (unmade committed_of (having_done (Wrote key value)) xid b s.branches own.found none.0 still.0)
     (unmade prepared_of (having_done (Wrote key value)) xid b s.branches own.found none.1 still.1)
 
-in_time_same : (late : Bool) (s : State) (a b : Answer) → IsSame s a.after → IsSame s b.after → IsSame s (in_time late a b).after
-in_time_same true s a b h k = h
-in_time_same false s a b h k = k
+if_late_same : (late : Bool) (s : State) (a b : Answer) → IsSame s a.after → IsSame s b.after → IsSame s (if_late late a b).after
+if_late_same true s a b h k = h
+if_late_same false s a b h k = k
 
 put_same : (s : State) (n : ℕ) (key : List ℕ) (value : Option (List ℕ)) (o : Option (Triple × Branch)) → own_branch s n ≡ o → IsSound s → IsSame s (put_by s key value o).after
 put_same s n key value None e h = itself s
 put_same s n key value (Some (xid, b)) e h =
     marked_same (mark_of b.phase) s s (put_from s key value xid b) (itself s)
-    (unless_same (limit_refusal (is_full key b.operations)) s (in_time (is_late key b.timestamp s.reads) (came_late s xid) (written s key value xid))
-    (λ none. in_time_same (is_late key b.timestamp s.reads) s (came_late s xid) (written s key value xid)
+    (unless_same (limit_refusal (is_full key b.operations)) s (if_late (is_late key b.timestamp s.reads) (came_late s xid) (written s key value xid))
+    (λ none. if_late_same (is_late key b.timestamp s.reads) s (came_late s xid) (written s key value xid)
     (with_mark_same s s.given s.sessions s.associations xid XA_RBTRANSIENT s.reads) (written_same s key value xid b (owned s n xid b e h))))
 
 -- all rows, of a session that is connected
@@ -265,7 +265,7 @@ keeps s t same sound = record {
 row_logs : (s : State) (n : ℕ) (request : Request) → IsSound s → is_some (session_of s.sessions n) ≡ true → asks_restart request ≡ false → LogsWhatLasts s (row s n request)
 row_logs s n (Open flags info) h seated other = keeps s (open_by s n).after (alike s s.given _ s.associations s.reads) (seat_sound s n as_opened (λ x. refl) h)
 row_logs s n (Close flags) h seated other =
-    keeps s (close_by s n).after (unless_same (close_refusal (list_any (is_anyones n) s.associations)) s _ (λ none. alike s s.given _ s.associations s.reads)) (close_sound s n h)
+    keeps s (close_by s n).after (unless_same (close_refusal (list_any (is_of_session n) s.associations)) s _ (λ none. alike s s.given _ s.associations s.reads)) (close_sound s n h)
 row_logs s n (Start flags xid) h seated other = keeps s (start_by s n flags xid).after (start_same s n flags xid) (start_sound s n flags xid h seated)
 row_logs s n (End flags xid) h seated other = keeps s (end_by s n flags xid).after (end_same s n flags xid) (end_sound s n flags xid h)
 row_logs s n (Prepare flags xid) h seated other = prepares s xid h

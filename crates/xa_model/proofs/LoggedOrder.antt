@@ -8,8 +8,8 @@ use Rattle.xa_codes.specs.declared.write.Write.{Write}
 use Rattle.xa_record.specs.declared.record.Record.{Record}
 use Rattle.xa_record.specs.declared.record.Record.TheVariants as logged
 use Rattle.xa_xid.specs.Triple.{Triple, xid_eq}
-use Rattle.xa_model.specs.State.{State, Branch, Phase, Working, Prepared, Committed, InDoubt, Decided, count, known_among, known_by, known_of, decided_of, or_completed, is_known_as}
-use Rattle.xa_model.specs.Sound.{IsSound, is_working, is_at_work}
+use Rattle.xa_model.specs.State.{State, Branch, Phase, Working, Prepared, Committed, InDoubt, Decided, count, known_among, known_by, known_of, decided_of, or_completed, is_known_as, is_working, is_at_work}
+use Rattle.xa_model.specs.Sound.{IsSound}
 use Rattle.xa_model.specs.Durable.{Durable, PreparedBranch, durable, by_name, is_prepared, is_decided, is_past}
 use Rattle.xa_model.specs.Fold.{Reading, fits, reading, unread, is_new, is_used, prepared_as}
 use Rattle.xa_model.specs.Completions.{is_completed}

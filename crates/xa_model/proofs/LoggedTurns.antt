@@ -13,7 +13,7 @@ use Rattle.xa_xid.specs.Triple.{Triple}
 use Rattle.xa_model.specs.State.{State, Known, Unknown, AtWork, InDoubt, Completed, known_as, holders_of}
 use Rattle.xa_model.specs.Answer.{plain, answer, ok}
 use Rattle.xa_model.specs.Associations.{is_unknown, is_lasting, mark_in, timestamp_in}
-use Rattle.xa_model.specs.Branches.{is_associated, one_phase_refusal, two_phase_refusal, rollback_refusal, heuristic_refusal, rolled_back, committed}
+use Rattle.xa_model.specs.Branches.{is_associated, unprepared_refusal, two_phase_refusal, rollback_refusal, heuristic_refusal, rolled_back, committed}
 use Rattle.xa_model.specs.Sound.{IsSound}
 use Rattle.xa_model.specs.Durable.{durable}
 use Rattle.xa_model.specs.Fold.{is_empty, commit_writes}
@@ -57,7 +57,7 @@ idle_of s xid known free unsettled = record { free = unheld s xid free; working 
     unheld : (s : State) (xid : Triple) → is_associated s xid ≡ false → holders_of s.associations xid ≡ 0
     unheld s xid e = grind (arith, nat_tests)
 
-pub allowed_idle : (s : State) (xid : Triple) → one_phase_refusal (known_as s xid) (is_associated s xid) ≡ None → IsIdle s xid (timestamp_in s xid) (writes_in s xid)
+pub allowed_idle : (s : State) (xid : Triple) → unprepared_refusal (known_as s xid) (is_associated s xid) ≡ None → IsIdle s xid (timestamp_in s xid) (writes_in s xid)
 allowed_idle s xid allowed =
     let first = passed _ _ _ allowed in
     let second = neither _ _ (passed _ _ _ first.1).0 in
@@ -95,7 +95,7 @@ read_only_keeps s xid h idle empty = record {
 
 pub prepares : (s : State) (xid : Triple) → IsSound s → LogsWhatLasts s (prepare_turn s xid)
 prepares s xid h =
-    unless_logs (one_phase_refusal (known_as s xid) (is_associated s xid)) s _ (itself s h)
+    unless_logs (unprepared_refusal (known_as s xid) (is_associated s xid)) s _ (itself s h)
     (λ allowed. let idle = allowed_idle s xid allowed in
     marked_logs (mark_in (known_as s xid)) s (rolled_back s xid) _ (gone_keeps s xid h idle)
     (cond_logs (is_empty (writes_in s xid)) s (Now (answer (plain XA_RDONLY) (committed s xid))) (prepare_written s xid) (λ empty. read_only_keeps s xid h idle empty)
@@ -104,7 +104,7 @@ prepares s xid h =
 
 pub commits : (s : State) (xid : Triple) → IsSound s → LogsWhatLasts s (commit_one_phase_turn s xid)
 commits s xid h =
-    unless_logs (one_phase_refusal (known_as s xid) (is_associated s xid)) s _ (itself s h)
+    unless_logs (unprepared_refusal (known_as s xid) (is_associated s xid)) s _ (itself s h)
     (λ allowed. let idle = allowed_idle s xid allowed in
     marked_logs (mark_in (known_as s xid)) s (rolled_back s xid) _ (gone_keeps s xid h idle)
     (cond_logs (is_empty (writes_in s xid)) s (Now (ok (committed s xid))) (commit_written s xid) (λ empty. read_only_keeps s xid h idle empty)

@@ -19,20 +19,20 @@ use Rattle.xa_model.specs.declared.event.Event.{Event}
 use Rattle.xa_model.specs.declared.event.Event.TheVariants as event
 use Rattle.xa_model.specs.declared.outcome.Appending.{Appending}
 use Rattle.xa_model.specs.declared.outcome.Appending.TheVariants.{Kept, Refused, Lost}
-use Rattle.xa_model.specs.State.{State, Association, Branch, Phase, Working, Prepared, Committed, Known, Unknown, AtWork, InDoubt, Completed, count, known_as, known_in, known_of, is_known_as, is_committed, active_of, is_active, branch_with, own_branch, mark_of, change, without, suspends, is_loose_with, loose_of, holders_of, is_with, timestamp_of, limit_of}
+use Rattle.xa_model.specs.State.{State, Association, Branch, Phase, Working, Prepared, Committed, Known, Unknown, AtWork, InDoubt, Completed, count, known_as, known_in, known_of, is_known_as, is_committed, active_of, is_active, branch_with, own_branch, mark_of, change, without, suspends, is_loose_with, loose_of, holders_of, is_with, timestamp_of, limit_of, is_working, is_at_work}
 use Rattle.xa_model.specs.Source.{source, is_late}
 use Rattle.xa_model.specs.Answer.{Answer, plain, answer, ok, unless, marked}
 use Rattle.xa_model.specs.Early.{early_refusal}
-use Rattle.xa_model.specs.Associations.{connect_refusal, connected, close_refusal, is_anyones, with_mark, marked_phase, or_mark, left_behind, is_worked_by, start_refusal, begun, begin_by, is_taken, join_refusal, joined, join_by, resume_refusal, resumed, not_resumed, resume_by, start_by, end_refusal, loose_refusal, suspended, not_suspended, suspend_by, can_end, ended, failed, leave_by, end_by, mark_in, timestamp_in}
-use Rattle.xa_model.specs.Branches.{rolled_back, committed, as_committed, as_prepared, prepared_phase, one_phase_refusal, two_phase_refusal, rollback_refusal, heuristic_refusal, doom_refusal, doomed, is_associated}
-use Rattle.xa_model.specs.Records.{got, get_from, get_by, busy_refusal, is_full, limit_refusal, came_late, written, in_time, put_from, put_by}
+use Rattle.xa_model.specs.Associations.{connect_refusal, connected, close_refusal, is_of_session, with_mark, marked_phase, or_mark, left_behind, is_worked_by, start_refusal, begun, begin_by, is_taken, join_refusal, joined, join_by, resume_refusal, resumed, not_resumed, resume_by, start_by, end_refusal, loose_refusal, suspended, not_suspended, suspend_by, can_end, ended, failed, leave_by, end_by, mark_in, timestamp_in}
+use Rattle.xa_model.specs.Branches.{rolled_back, committed, as_committed, as_prepared, prepared_phase, unprepared_refusal, two_phase_refusal, rollback_refusal, heuristic_refusal, doom_refusal, doomed, is_associated}
+use Rattle.xa_model.specs.Records.{got, get_from, get_by, busy_refusal, is_full, limit_refusal, came_late, written, if_late, put_from, put_by}
 use Rattle.xa_model.specs.TimeLimits.{runs_out, timed_out}
 use Rattle.xa_model.specs.Recovering.{recovered_from, scan_from, scan_of}
 use Rattle.xa_model.specs.Step.{row, respond, context_of}
 use Rattle.xa_model.specs.Turn.{Turn, Now, unless_now}
 use Rattle.xa_model.specs.Logging.{logs, has_room, log_full, writes_in, applied, append_became}
 use Rattle.xa_model.specs.Completions.{prepare_turn, prepare_written, commit_one_phase_turn, commit_two_phase_turn, commit_written, rollback_turn, roll_back_turn, decide_refusal, forget_refusal}
-use Rattle.xa_model.specs.Sound.{IsSound, is_working, is_at_work}
+use Rattle.xa_model.specs.Sound.{IsSound}
 use Rattle.xa_model.specs.Durable.{boot_of, is_past}
 use Rattle.xa_model.specs.Fold.{is_empty}
 use Rattle.xa_model.specs.Loggable.{IsRecoverable}
@@ -150,9 +150,9 @@ cond_moved : (c : Bool) (s : State) (a b : Answer) → Moved s a → Moved s b �
 cond_moved true s a b h k = h
 cond_moved false s a b h k = k
 
-in_time_moved : (late : Bool) (s : State) (a b : Answer) → Moved s a → (late ≡ false → Moved s b) → Moved s (in_time late a b)
-in_time_moved true s a b h k = h
-in_time_moved false s a b h k = k refl
+if_late_moved : (late : Bool) (s : State) (a b : Answer) → Moved s a → (late ≡ false → Moved s b) → Moved s (if_late late a b)
+if_late_moved true s a b h k = h
+if_late_moved false s a b h k = k refl
 
 logs_moved : (s : State) (r : Record) (code : ℤ) (left : State) → Moves (core s) (core left) → AllOf (Moved s) (logs s r code left)
 logs_moved s r code left h = by_fate
@@ -266,8 +266,8 @@ put_moved : (s : State) (n : ℕ) (key : List ℕ) (value : Option (List ℕ)) (
 put_moved s n key value None e h = itself s
 put_moved s n key value (Some (xid, b)) e h =
     marked_moved (mark_of b.phase) s s (put_from s key value xid b) (itself s)
-    (unless_moved (limit_refusal (is_full key b.operations)) s (in_time (is_late key b.timestamp s.reads) (came_late s xid) (written s key value xid))
-    (λ none. in_time_moved (is_late key b.timestamp s.reads) s (came_late s xid) (written s key value xid) (marks s XA_RBTRANSIENT xid (λ e. cc e))
+    (unless_moved (limit_refusal (is_full key b.operations)) s (if_late (is_late key b.timestamp s.reads) (came_late s xid) (written s key value xid))
+    (λ none. if_late_moved (is_late key b.timestamp s.reads) s (came_late s xid) (written s key value xid) (marks s XA_RBTRANSIENT xid (λ e. cc e))
     (λ on_time. puts key value xid b (own s n xid b e).found (own_new s n xid b h (own s n xid b e)) on_time)))
 
 -- the calls that log
@@ -275,7 +275,7 @@ put_moved s n key value (Some (xid, b)) e h =
 prepare_moved : (s : State) (xid : Triple) → AllOf (Moved s) (prepare_turn s xid)
 prepare_moved s xid =
     let r = logged.Prepared xid (timestamp_in s xid) (writes_in s xid) in
-    unless_turns (one_phase_refusal (known_as s xid) (is_associated s xid)) s _
+    unless_turns (unprepared_refusal (known_as s xid) (is_associated s xid)) s _
     (marked_all (Moved s) (mark_in (known_as s xid)) (rolled_back s xid) _ (λ code e. gone s xid)
     (cond_all (Moved s) (is_empty (writes_in s xid)) (Now (answer (plain XA_RDONLY) (committed s xid))) (prepare_written s xid) (commits s xid)
     (cond_all (Moved s) (has_room s r 1) (logs s r XAER_RMERR s) (Now (log_full s xid)) (logs_moved s r XAER_RMERR s (itself s)) (gone s xid))))
@@ -283,7 +283,7 @@ prepare_moved s xid =
 one_phase_moved : (s : State) (xid : Triple) → AllOf (Moved s) (commit_one_phase_turn s xid)
 one_phase_moved s xid =
     let r = logged.Committed xid (timestamp_in s xid) (writes_in s xid) in
-    unless_turns (one_phase_refusal (known_as s xid) (is_associated s xid)) s _
+    unless_turns (unprepared_refusal (known_as s xid) (is_associated s xid)) s _
     (marked_all (Moved s) (mark_in (known_as s xid)) (rolled_back s xid) _ (λ code e. gone s xid)
     (cond_all (Moved s) (is_empty (writes_in s xid)) (Now (ok (committed s xid))) (commit_written s xid) (commits s xid)
     (cond_all (Moved s) (has_room s r 0) (logs s r XAER_RMERR (rolled_back s xid)) (Now (log_full s xid))
@@ -314,7 +314,7 @@ recovered_moved s n flags count (Some cursor) = itself s
 row_moved : (s : State) (n : ℕ) (request : Request) → IsRecoverable s → is_restart (event.Call n request) ≡ false
     → AllOf (Moved s) (row s n request)
 row_moved s n (Open flags info) h e = itself s
-row_moved s n (Close flags) h e = unless_moved (close_refusal (list_any (is_anyones n) s.associations)) s _ (λ none. itself s)
+row_moved s n (Close flags) h e = unless_moved (close_refusal (list_any (is_of_session n) s.associations)) s _ (λ none. itself s)
 row_moved s n (Start flags xid) h e = start_moved s n flags xid
 row_moved s n (End flags xid) h e = end_moved s n flags xid
 row_moved s n (Prepare flags xid) h e = prepare_moved s xid

@@ -15,20 +15,19 @@ use Rattle.xa_xid.specs.Triple.{Triple}
 use Rattle.xa_model.specs.declared.event.Event.{Event}
 use Rattle.xa_model.specs.declared.event.Event.TheVariants as event
 use Rattle.xa_model.specs.declared.outcome.Appending.TheVariants.{Refused}
-use Rattle.xa_model.specs.State.{State, Session, Association, Read, Branch, Operation, Got, Wrote, Phase, Working, Prepared, Committed, Known, Unknown, AtWork, InDoubt, Completed, known_as, known_in, is_known_as, active_of, own_branch, mark_of, change, without, suspends, is_loose_with, loose_of, is_with, timestamp_of}
+use Rattle.xa_model.specs.State.{State, Session, Association, Read, Branch, Operation, Got, Wrote, Phase, Working, Prepared, Committed, Known, Unknown, AtWork, InDoubt, Completed, known_as, known_in, is_known_as, active_of, own_branch, mark_of, change, without, suspends, is_loose_with, loose_of, is_with, timestamp_of, is_working}
 use Rattle.xa_model.specs.Source.{source, is_late}
 use Rattle.xa_model.specs.Answer.{Answer, plain, answer, ok, unless, marked}
 use Rattle.xa_model.specs.Early.{early_refusal}
-use Rattle.xa_model.specs.Associations.{connect_refusal, connected, close_refusal, is_anyones, with_mark, marked_phase, left_behind, is_worked_by, start_refusal, begun, begin_by, is_taken, join_refusal, joined, join_by, resume_refusal, resumed, not_resumed, resume_by, start_by, end_refusal, loose_refusal, suspended, not_suspended, suspend_by, can_end, ended, failed, leave_by, end_by, mark_in, timestamp_in}
-use Rattle.xa_model.specs.Branches.{rolled_back, committed, as_committed, one_phase_refusal, two_phase_refusal, rollback_refusal, heuristic_refusal, doom_refusal, doomed, is_associated}
-use Rattle.xa_model.specs.Records.{having_done, got, get_from, get_by, busy_refusal, is_full, limit_refusal, came_late, written, in_time, put_from, put_by}
+use Rattle.xa_model.specs.Associations.{connect_refusal, connected, close_refusal, is_of_session, with_mark, marked_phase, left_behind, is_worked_by, start_refusal, begun, begin_by, is_taken, join_refusal, joined, join_by, resume_refusal, resumed, not_resumed, resume_by, start_by, end_refusal, loose_refusal, suspended, not_suspended, suspend_by, can_end, ended, failed, leave_by, end_by, mark_in, timestamp_in}
+use Rattle.xa_model.specs.Branches.{rolled_back, committed, as_committed, unprepared_refusal, two_phase_refusal, rollback_refusal, heuristic_refusal, doom_refusal, doomed, is_associated}
+use Rattle.xa_model.specs.Records.{having_done, got, get_from, get_by, busy_refusal, is_full, limit_refusal, came_late, written, if_late, put_from, put_by}
 use Rattle.xa_model.specs.TimeLimits.{runs_out, timed_out, ticked}
 use Rattle.xa_model.specs.Recovering.{recovered_from, scan_from, scan_of}
 use Rattle.xa_model.specs.Step.{row, respond, context_of}
 use Rattle.xa_model.specs.Turn.{Turn, Nobody, Now, Appends, Rereads, unless_now, marked_now}
 use Rattle.xa_model.specs.Logging.{logs, has_room, log_full, writes_in}
 use Rattle.xa_model.specs.Completions.{prepare_turn, prepare_written, commit_one_phase_turn, commit_two_phase_turn, commit_written, rollback_turn, roll_back_turn, decide_refusal, forget_refusal}
-use Rattle.xa_model.specs.Sound.{is_working}
 use Rattle.xa_model.specs.Fold.{is_empty, is_used}
 use Rattle.xa_model.specs.Events.{is_restart}
 use Rattle.xa_model.proofs.Lists.{change_all, without_all}
@@ -166,9 +165,9 @@ cond_newer : (c : Bool) (s : State) (a b : Answer) → IsNewer s a.after → IsN
 cond_newer true s a b h k = h
 cond_newer false s a b h k = k
 
-in_time_newer : (late : Bool) (s : State) (a b : Answer) → IsNewer s a.after → IsNewer s b.after → IsNewer s (in_time late a b).after
-in_time_newer true s a b h k = h
-in_time_newer false s a b h k = k
+if_late_newer : (late : Bool) (s : State) (a b : Answer) → IsNewer s a.after → IsNewer s b.after → IsNewer s (if_late late a b).after
+if_late_newer true s a b h k = h
+if_late_newer false s a b h k = k
 
 -- the association table
 
@@ -217,8 +216,8 @@ put_newer : (s : State) (key : List ℕ) (value : Option (List ℕ)) (o : Option
 put_newer s key value None = itself s
 put_newer s key value (Some (xid, b)) =
     marked_newer (mark_of b.phase) s s (put_from s key value xid b) (itself s)
-    (unless_newer (limit_refusal (is_full key b.operations)) s (in_time (is_late key b.timestamp s.reads) (came_late s xid) (written s key value xid))
-    (in_time_newer (is_late key b.timestamp s.reads) s (came_late s xid) (written s key value xid)
+    (unless_newer (limit_refusal (is_full key b.operations)) s (if_late (is_late key b.timestamp s.reads) (came_late s xid) (written s key value xid))
+    (if_late_newer (is_late key b.timestamp s.reads) s (came_late s xid) (written s key value xid)
     (with_mark_newer s s.sessions s.associations XA_RBTRANSIENT xid s.reads)
     (moved s s.sessions s.associations _ s.reads
     (λ ts h. changed_unused xid (having_done (Wrote key value)) (done_still (Wrote key value)) ts s.branches h))))
@@ -240,7 +239,7 @@ cond_continues false s t u h k = k
 prepare_continues : (s : State) (xid : Triple) → Continues s (prepare_turn s xid)
 prepare_continues s xid =
     let r = logged.Prepared xid (timestamp_in s xid) (writes_in s xid) in
-    unless_continues (one_phase_refusal (known_as s xid) (is_associated s xid)) s _
+    unless_continues (unprepared_refusal (known_as s xid) (is_associated s xid)) s _
     (marked_continues (mark_in (known_as s xid)) s (rolled_back s xid) _ (gone s xid)
     (cond_continues (is_empty (writes_in s xid)) s (Now (answer (plain XA_RDONLY) (committed s xid))) (prepare_written s xid) (stays s xid)
     (cond_continues (has_room s r 1) s (logs s r XAER_RMERR s) (Now (log_full s xid)) (itself s) (gone s xid))))
@@ -248,7 +247,7 @@ prepare_continues s xid =
 one_phase_continues : (s : State) (xid : Triple) → Continues s (commit_one_phase_turn s xid)
 one_phase_continues s xid =
     let r = logged.Committed xid (timestamp_in s xid) (writes_in s xid) in
-    unless_continues (one_phase_refusal (known_as s xid) (is_associated s xid)) s _
+    unless_continues (unprepared_refusal (known_as s xid) (is_associated s xid)) s _
     (marked_continues (mark_in (known_as s xid)) s (rolled_back s xid) _ (gone s xid)
     (cond_continues (is_empty (writes_in s xid)) s (Now (ok (committed s xid))) (commit_written s xid) (stays s xid)
     (cond_continues (has_room s r 0) s (logs s r XAER_RMERR (rolled_back s xid)) (Now (log_full s xid)) (gone s xid) (gone s xid))))
@@ -275,7 +274,7 @@ recovered_newer s n flags count (Some cursor) = alike s _ s.associations s.reads
 
 row_continues : (s : State) (n : ℕ) (request : Request) → is_restart (event.Call n request) ≡ false → Continues s (row s n request)
 row_continues s n (Open flags info) e = alike s _ s.associations s.reads
-row_continues s n (Close flags) e = unless_newer (close_refusal (list_any (is_anyones n) s.associations)) s _ (alike s _ s.associations s.reads)
+row_continues s n (Close flags) e = unless_newer (close_refusal (list_any (is_of_session n) s.associations)) s _ (alike s _ s.associations s.reads)
 row_continues s n (Start flags xid) e = start_newer s n flags xid
 row_continues s n (End flags xid) e = end_newer s n flags xid
 row_continues s n (Prepare flags xid) e = prepare_continues s xid

@@ -5,7 +5,7 @@ use Rattle.std.specs.List.{AllByRecursion}
 use Rattle.xa_model.specs.State.{Branch, Operation, Got, Wrote, is_committed, committed_of}
 use Rattle.xa_model.specs.Source.{write_of}
 use Rattle.xa_model.specs.Sound.{Descends}
-use Rattle.xa_model.specs.OneCopy.{Map, after, FindsAnswers, left_by, IsOneCopy, HasNoGet}
+use Rattle.xa_model.specs.OneCopy.{Map, after, FindsAnswers, map_after, IsOneCopy, HasNoGet}
 use Rattle.xa_model.proofs.Inserts.{all_both}
 use Rattle.xa_model.proofs.Pins.{Has, IsSource, IsOutside, IsRight, Settled, settled_weaker, below_limit}
 use Rattle.xa_model.proofs.Sources.{has_each}
@@ -68,31 +68,31 @@ from_behind b bs key answer from isnt (inr (inr there)) = inr there
 
 left_at : (limit : ℕ) (bs : List Branch) (key : List ℕ) (answer : Option (List ℕ)) (from : ℕ) → Descends limit bs
     → AllByRecursion (AtMost key from) bs
-    → IsFrom bs key answer from → left_by (committed_of bs) key ≡ answer
+    → IsFrom bs key answer from → map_after (committed_of bs) key ≡ answer
 left_at limit [] key answer from d most (inl zero) = sym zero.1
 left_at limit [] key answer from d most (inr there) = absurd there
 left_at limit (b ∷ bs) key answer from d most src =
     by_phase (is_committed b.phase) (write_of key b.operations) refl refl (left_at b.timestamp bs key answer from d.2 most.1)
   where
     by_phase : (c : Bool) (w : Option (Option (List ℕ))) → is_committed b.phase ≡ c → write_of key b.operations ≡ w
-        → (IsFrom bs key answer from → left_by (committed_of bs) key ≡ answer)
-        → left_by (cond c (b ∷ committed_of bs) (committed_of bs)) key ≡ answer
+        → (IsFrom bs key answer from → map_after (committed_of bs) key ≡ answer)
+        → map_after (cond c (b ∷ committed_of bs) (committed_of bs)) key ≡ answer
     by_phase true (Some x) e f rest =
-        after_written b.operations (left_by (committed_of bs)) key x f ∙ writer_is limit b bs key answer from x d f most.0 src
+        after_written b.operations (map_after (committed_of bs)) key x f ∙ writer_is limit b bs key answer from x d f most.0 src
     by_phase true None e f rest =
-        after_unwritten b.operations (left_by (committed_of bs)) key f ∙ rest (from_behind b bs key answer from (λ s. cc (s.2, f)) src)
+        after_unwritten b.operations (map_after (committed_of bs)) key f ∙ rest (from_behind b bs key answer from (λ s. cc (s.2, f)) src)
     by_phase false w e f rest = rest (from_behind b bs key answer from (λ s. cc (s.1, e)) src)
 
 -- so each branch finds its answers
 
 finds : (bs : List Branch) (t : ℕ) (ops : List Operation) → Descends t bs → Settled (IsRight bs t) ops
-    → FindsAnswers ops (left_by (committed_of bs))
+    → FindsAnswers ops (map_after (committed_of bs))
 finds bs t [] d h = tt
 finds bs t (Wrote k value ∷ older) d h = finds bs t older d h
 finds bs t (Got k answer from ∷ older) d h = (
   elim h.0 [
-    | inl own ↦ after_written older (left_by (committed_of bs)) k answer own
-    | inr other ↦ after_unwritten older (left_by (committed_of bs)) k other.0 ∙ left_at t bs k answer from d (at_most other.1) other.1.source
+    | inl own ↦ after_written older (map_after (committed_of bs)) k answer own
+    | inr other ↦ after_unwritten older (map_after (committed_of bs)) k other.0 ∙ left_at t bs k answer from d (at_most other.1) other.1.source
   ],
   finds bs t older d h.1,
 )

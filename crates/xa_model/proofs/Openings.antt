@@ -9,8 +9,8 @@ use Rattle.xa_record.specs.Limits.{AreWrites, IsStamped, IsBranch, IsRecord}
 use Rattle.xa_record.specs.declared.record.Record.{Record}
 use Rattle.xa_xid.specs.Triple.{Triple, xid_eq}
 use Rattle.xa_xid.proofs.Same.{xid_same}
-use Rattle.xa_model.specs.State.{Branch, Decided, count, is_known_as, known_count, name_of, timestamp_of}
-use Rattle.xa_model.specs.Sound.{IsSound, is_working, most_known}
+use Rattle.xa_model.specs.State.{Branch, Decided, count, is_known_as, known_count, name_of, timestamp_of, is_working}
+use Rattle.xa_model.specs.Sound.{IsSound, most_known}
 use Rattle.xa_model.specs.Durable.{Durable, CommittedBranch, PreparedBranch, IsDurable, Pairwise, durable, last_writes, by_name, writes_of, keys_before, named_before, named_apart, is_prepared, is_past, boot_of}
 use Rattle.xa_model.specs.Fold.{fold, reading, unread, is_used, snapshot, sizes}
 use Rattle.xa_model.specs.Loggable.{AreShort, IsLoggable, IsRecoverable}

@@ -3,9 +3,9 @@ use Rattle.std.proofs.Common.{◌≡◌, ◌+◌, ℕ, ◌≤◌, Bool, false, L
 use Rattle.std.specs.Prelude.{is_some, map}
 use Rattle.xa_record.specs.declared.record.Record.{Record}
 use Rattle.xa_xid.specs.Triple.{Triple, xid_eq}
-use Rattle.xa_model.specs.State.{State, Branch, Association, Decided, Read, Standing, known_in, count, change, name_of, is_known_as, is_active, owns, is_loose_with, known_of, holders_of, timestamp_of}
-use Rattle.xa_model.specs.Associations.{is_anyones}
-use Rattle.xa_model.specs.Sound.{IsSound, Descends, is_working, is_at_work, named, most_known}
+use Rattle.xa_model.specs.State.{State, Branch, Association, Decided, Read, Standing, known_in, count, change, name_of, is_known_as, is_active, owns, is_loose_with, known_of, holders_of, timestamp_of, is_working, is_at_work}
+use Rattle.xa_model.specs.Associations.{is_of_session}
+use Rattle.xa_model.specs.Sound.{IsSound, Descends, named, most_known}
 use Rattle.xa_model.proofs.Counts.{count_same, count_map}
 use Rattle.xa_model.proofs.Finds.{told, told_change, told_map}
 use Rattle.xa_model.proofs.Order.{KeepsTimestamp, change_descends, map_descends}
@@ -40,7 +40,7 @@ with_fewer_held s held h fewer = record {
   numbered = h.numbered;
   active = λ n. omega (arith, h.active n, fewer (λ a. is_active n a.holder));
   own = λ n xid. omega (arith, h.own n xid, fewer (owns n xid));
-  connected = λ n none. omega (arith, h.connected n none, fewer (is_anyones n));
+  connected = λ n none. omega (arith, h.connected n none, fewer (is_of_session n));
   bound = λ xid none. omega (arith, h.bound xid none, fewer (λ a. xid_eq a.xid xid));
   sessions = h.sessions;
   known = h.known;

@@ -6,10 +6,10 @@ use Rattle.xa_frame.specs.declared.request.Request.TheVariants.{Prepare}
 use Rattle.xa_record.specs.declared.record.Record.TheVariants as logged
 use Rattle.xa_xid.specs.Triple.{Triple, xid_eq}
 use Rattle.xa_model.specs.declared.event.Event.TheVariants as event
-use Rattle.xa_model.specs.State.{State, Branch, Phase, Working, Prepared, Committed, is_known_as, known_of, known_by, known_among, known_as, decided_of, mark_of}
+use Rattle.xa_model.specs.State.{State, Branch, Phase, Working, Prepared, Committed, is_known_as, known_of, known_by, known_among, known_as, decided_of, mark_of, is_working}
 use Rattle.xa_model.specs.Answer.{Answer, plain, answer, first}
 use Rattle.xa_model.specs.Associations.{mark_in, timestamp_in}
-use Rattle.xa_model.specs.Branches.{rolled_back, committed, one_phase_refusal, is_associated}
+use Rattle.xa_model.specs.Branches.{rolled_back, committed, unprepared_refusal, is_associated}
 use Rattle.xa_model.specs.Durable.{durable}
 use Rattle.xa_model.specs.Fold.{is_empty}
 use Rattle.xa_model.specs.Turn.{Happening, Asked, Reopened, Now}
@@ -20,8 +20,7 @@ use Rattle.xa_model.specs.Records.{having_done}
 use Rattle.xa_model.specs.Events.{IsHappening, HaveHappened}
 use Rattle.xa_model.specs.History.{Entry, Leads}
 use Rattle.xa_model.specs.Loggable.{IsRecoverable}
-use Rattle.xa_model.specs.ListedLaw.{AreRefusals, HasPrepared, AsksCompletion, ListsUntilAsked, ListedUntilAsked, ListedSinceBoot, is_prepare, is_request}
-use Rattle.xa_model.specs.Sound.{is_working}
+use Rattle.xa_model.specs.ListedLaw.{HaveRealMarks, HasPrepared, AsksCompletion, ListsUntilAsked, ListedUntilAsked, ListedSinceBoot, is_prepare, is_request}
 use Rattle.xa_model.proofs.Inserts.{all_front, all_back, all_imply}
 use Rattle.xa_model.proofs.Lists.{found_all, change_all}
 use Rattle.xa_model.proofs.Recoveries.{keeps_recoverable, always_recoverable}
@@ -54,7 +53,7 @@ marked_as (Working xid work) = refl
 marked_as (Prepared xid) = refl
 marked_as Committed = refl
 
-mark_refuses : (s : State) (xid : Triple) (o : Option Branch) (code : ℤ) → known_of s.branches xid ≡ o → AreRefusals s
+mark_refuses : (s : State) (xid : Triple) (o : Option Branch) (code : ℤ) → known_of s.branches xid ≡ o → HaveRealMarks s
     → mark_in (known_among o (decided_of s.decided xid)) ≡ Some code → code ≡ XA_OK → ⊥
 mark_refuses s xid None code e h is ok = undecided (decided_of s.decided xid) is
   where
@@ -64,11 +63,11 @@ mark_refuses s xid None code e h is ok = undecided (decided_of s.decided xid) is
 mark_refuses s xid (Some b) code e h is ok =
     found_all IsRefusal (is_known_as xid) b s.branches h e (sym (marked_as b.phase) ∙ is ∙ ap (λ (x : ℤ). Some x) ok)
 
-prepares : (xid : Triple) (s : State) (x : Triple) → AreRefusals s → xid_eq x xid ≡ true → Settles (Holds xid) s (prepare_turn s x)
+prepares : (xid : Triple) (s : State) (x : Triple) → HaveRealMarks s → xid_eq x xid ≡ true → Settles (Holds xid) s (prepare_turn s x)
 prepares xid s x h same =
     let P = Holds xid in
     let r = logged.Prepared x (timestamp_in s x) (writes_in s x) in
-    unless_settles P s (one_phase_refusal (known_as s x) (is_associated s x)) _
+    unless_settles P s (unprepared_refusal (known_as s x) (is_associated s x)) _
     (λ reply e. one_phase_bad (known_as s x) (is_associated s x) reply e)
     (λ allowed. marked_settles P s (mark_in (known_as s x)) (rolled_back s x) _
     (λ code e ok. absurd (mark_refuses s x (known_of s.branches x) code refl h e ok))
@@ -76,7 +75,7 @@ prepares xid s x h same =
     (cond_settles P s (has_room s r 1) (logs s r XAER_RMERR s) (Now (log_full s x))
     (prepared_held xid x (durable s) _ same, (λ ok. cc ok)) (λ ok. absurd (cc ok)))))
 
-prepared_knows : (xid : Triple) (s : State) (happening : Happening) → IsHappening happening → IsRecoverable s → AreRefusals s
+prepared_knows : (xid : Triple) (s : State) (happening : Happening) → IsHappening happening → IsRecoverable s → HaveRealMarks s
     → is_request (is_prepare xid) happening ≡ true → AllOf (IsSettled (Holds xid)) (turn s happening)
 prepared_knows xid s (Asked event.Connect) happened h k is = absurd (cc is)
 prepared_knows xid s (Asked (event.Hangup n)) happened h k is = absurd (cc is)
@@ -86,7 +85,7 @@ prepared_knows xid s (Asked (event.Call n (Prepare flags x))) happened h k is =
 prepared_knows xid s (Asked (event.Call n request)) happened h k is = absurd (cc is)
 
 -- behind it every crash leaves it known, until its completion is asked for
-pub kept_since : (first last : State) (before later : List Entry) (prepare : Entry) (xid : Triple) → IsRecoverable first → AreRefusals first
+pub kept_since : (first last : State) (before later : List Entry) (prepare : Entry) (xid : Triple) → IsRecoverable first → HaveRealMarks first
     → HaveHappened (before ++ prepare ∷ later) → Leads first (before ++ prepare ∷ later) last → HasPrepared xid prepare
     → AllByRecursion (λ e. AsksCompletion xid e → ⊥) later
     → IsRecoverable last × IsFated (Holds xid) last
@@ -95,7 +94,7 @@ kept_since first last before later prepare xid h refusals happened leads is none
     let early = all_front (λ e. IsHappening e.happening) before (prepare ∷ later) happened in
     let late = all_back (λ e. IsHappening e.happening) before (prepare ∷ later) happened in
     let mid : IsRecoverable parts.mid = always_recoverable first parts.mid before early h parts.before in
-    let marks : AreRefusals parts.mid = always Refuse (λ s d r m k. moves_refuse m k) first parts.mid before early h parts.before refusals in
+    let marks : HaveRealMarks parts.mid = always Refuse (λ s d r m k. moves_refuse m k) first parts.mid before early h parts.before refusals in
     let a : Answer = record { reply = prepare.reply; after = parts.after.0 } in
     let next : IsRecoverable parts.after.0 = keeps_recoverable parts.mid prepare.happening prepare.outcome a late.0 mid parts.after.1 in
     let knows : IsSettled (Holds xid) a
@@ -115,7 +114,7 @@ idle_refuses (Working xid work) idle e = cc idle
 idle_refuses (Prepared xid) idle e = cc e
 idle_refuses Committed idle e = cc e
 
-pub idle_refusals : (first : State) → AllByRecursion (λ b. is_working b.phase ≡ false) first.branches → AreRefusals first
+pub idle_refusals : (first : State) → AllByRecursion (λ b. is_working b.phase ≡ false) first.branches → HaveRealMarks first
 idle_refusals first none = all_imply (λ (b : Branch). is_working b.phase ≡ false) IsRefusal (λ b idle. idle_refuses b.phase idle) first.branches none
 
 pub idle_lists : (first : State) → IsRecoverable first → AllByRecursion (λ b. is_working b.phase ≡ false) first.branches → ListsUntilAsked first

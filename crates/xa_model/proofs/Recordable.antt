@@ -7,9 +7,8 @@ use Rattle.xa_codes.specs.declared.direction.Direction.TheVariants as direction
 use Rattle.xa_record.specs.Limits.{IsRecord}
 use Rattle.xa_record.specs.declared.record.Record.{Record}
 use Rattle.xa_record.specs.declared.record.Record.TheVariants as logged
-use Rattle.xa_model.specs.State.{State, Branch, Phase, Working, Prepared, Committed, is_known_as}
+use Rattle.xa_model.specs.State.{State, Branch, Phase, Working, Prepared, Committed, is_known_as, is_working}
 use Rattle.xa_model.specs.Branches.{as_committed, as_prepared, prepared_phase}
-use Rattle.xa_model.specs.Sound.{is_working}
 use Rattle.xa_model.specs.Durable.{boot_of, is_past, writes_of}
 use Rattle.xa_model.specs.Logging.{applied}
 use Rattle.xa_model.specs.MayLog.{MayLog}

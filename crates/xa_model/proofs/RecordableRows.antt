@@ -19,17 +19,16 @@ use Rattle.xa_xid.specs.Triple.{Triple, IsWithinLimits}
 use Rattle.xa_model.specs.declared.event.Event.{Event}
 use Rattle.xa_model.specs.declared.event.Event.TheVariants as event
 use Rattle.xa_model.specs.declared.outcome.Appending.TheVariants.{Refused}
-use Rattle.xa_model.specs.State.{State, Association, Branch, Operation, Got, Wrote, Phase, Working, Prepared, Committed, Known, Unknown, AtWork, InDoubt, Completed, known_as, known_in, known_of, is_known_as, active_of, branch_with, own_branch, mark_of, change, suspends, is_loose_with, timestamp_of}
+use Rattle.xa_model.specs.State.{State, Association, Branch, Operation, Got, Wrote, Phase, Working, Prepared, Committed, Known, Unknown, AtWork, InDoubt, Completed, known_as, known_in, known_of, is_known_as, active_of, branch_with, own_branch, mark_of, change, suspends, is_loose_with, timestamp_of, is_working}
 use Rattle.xa_model.specs.Source.{Version, source, is_late}
 use Rattle.xa_model.specs.Answer.{Answer, plain, detailed, answer, ok, unless, marked}
 use Rattle.xa_model.specs.Early.{early_refusal}
-use Rattle.xa_model.specs.Associations.{connect_refusal, connected, close_refusal, is_anyones, with_mark, marked_phase, left_behind, is_worked_by, start_refusal, begun, begin_by, is_taken, join_refusal, joined, join_by, resume_refusal, resumed, not_resumed, resume_by, start_by, end_refusal, loose_refusal, suspended, not_suspended, suspend_by, can_end, ended, failed, leave_by, end_by, mark_in, timestamp_by, timestamp_in}
+use Rattle.xa_model.specs.Associations.{connect_refusal, connected, close_refusal, is_of_session, with_mark, marked_phase, left_behind, is_worked_by, start_refusal, begun, begin_by, is_taken, join_refusal, joined, join_by, resume_refusal, resumed, not_resumed, resume_by, start_by, end_refusal, loose_refusal, suspended, not_suspended, suspend_by, can_end, ended, failed, leave_by, end_by, mark_in, timestamp_by, timestamp_in}
 use Rattle.xa_limits.specs.declared.TheConstants.{MOST_BOOTS, MOST_BRANCHES, MOST_GIVEN}
-use Rattle.xa_model.specs.Branches.{as_committed, rolled_back, committed, one_phase_refusal, two_phase_refusal, heuristic_refusal, rollback_refusal, doom_refusal, doomed, is_associated}
-use Rattle.xa_model.specs.Records.{having_done, got, get_from, get_by, busy_refusal, is_full, limit_refusal, came_late, written, in_time, put_from, put_by}
+use Rattle.xa_model.specs.Branches.{as_committed, rolled_back, committed, unprepared_refusal, two_phase_refusal, heuristic_refusal, rollback_refusal, doom_refusal, doomed, is_associated}
+use Rattle.xa_model.specs.Records.{having_done, got, get_from, get_by, busy_refusal, is_full, limit_refusal, came_late, written, if_late, put_from, put_by}
 use Rattle.xa_model.specs.TimeLimits.{runs_out, timed_out}
 use Rattle.xa_model.specs.Recovering.{recovered_from, scan_from, scan_of}
-use Rattle.xa_model.specs.Sound.{is_working}
 use Rattle.xa_model.specs.Durable.{boot_of, is_past}
 use Rattle.xa_model.specs.Fold.{is_empty}
 use Rattle.xa_model.specs.Turn.{Turn, Now, Appends, unless_now, marked_now}
@@ -210,9 +209,9 @@ get_fits s n key (Some (xid, b)) e h =
     marked_fits (mark_of b.phase) s s (get_from s key xid b v) h
     (unless_fits (busy_refusal b.timestamp v) s (got s key xid b v) h (λ none. got_fits s key xid b v (owned_by xid b s.branches (active_of s.associations n) e) h))
 
-in_time_fits : (late : Bool) (s : State) (a b : Answer) → Fits s a.after → Fits s b.after → Fits s (in_time late a b).after
-in_time_fits true s a b h k = h
-in_time_fits false s a b h k = k
+if_late_fits : (late : Bool) (s : State) (a b : Answer) → Fits s a.after → Fits s b.after → Fits s (if_late late a b).after
+if_late_fits true s a b h k = h
+if_late_fits false s a b h k = k
 
 wrote_fits : (s : State) (key : List ℕ) (value : Option (List ℕ)) (xid : Triple) (b : Branch) → IsWrite (record { key = key; value = value }) → is_full key b.operations ≡ false
     → known_of s.branches xid ≡ Some b → Fits s s → Fits s (written s key value xid).after
@@ -224,8 +223,8 @@ put_fits : (s : State) (n : ℕ) (key : List ℕ) (value : Option (List ℕ)) (o
 put_fits s n key value None limits e h = h
 put_fits s n key value (Some (xid, b)) limits e h =
     marked_fits (mark_of b.phase) s s (put_from s key value xid b) h
-    (unless_fits (limit_refusal (is_full key b.operations)) s (in_time (is_late key b.timestamp s.reads) (came_late s xid) (written s key value xid)) h
-    (λ room. in_time_fits (is_late key b.timestamp s.reads) s (came_late s xid) (written s key value xid) (mark_fits s xid XA_RBTRANSIENT h)
+    (unless_fits (limit_refusal (is_full key b.operations)) s (if_late (is_late key b.timestamp s.reads) (came_late s xid) (written s key value xid)) h
+    (λ room. if_late_fits (is_late key b.timestamp s.reads) s (came_late s xid) (written s key value xid) (mark_fits s xid XA_RBTRANSIENT h)
     (wrote_fits s key value xid b limits (passed _ _ _ room).0 (owned_by xid b s.branches (active_of s.associations n) e) h)))
 
 -- the calls that log
@@ -251,7 +250,7 @@ prepare_keeps : (s : State) (xid : Triple) → IsLoggable s → IsWithinLimits x
 prepare_keeps s xid loggable name =
     let h = recordable s loggable in
     let r = logged.Prepared xid (timestamp_in s xid) (writes_in s xid) in
-    unless_keeps (one_phase_refusal (known_as s xid) (is_associated s xid)) s _ h
+    unless_keeps (unprepared_refusal (known_as s xid) (is_associated s xid)) s _ h
     (λ allowed. marked_keeps (mark_in (known_as s xid)) s (rolled_back s xid) _ (gone_fits s xid h)
     (cond_keeps (is_empty (writes_in s xid)) s (Now (answer (plain XA_RDONLY) (committed s xid))) (prepare_written s xid) (λ empty. committed_fits s xid h)
     (λ some. cond_keeps (has_room s r 1) s (logs s r XAER_RMERR s) (Now (log_full s xid)) (λ room. logs_keeps s r XAER_RMERR s (branch_limits s xid loggable name some) refl h) (λ full. gone_fits s xid h))))
@@ -260,7 +259,7 @@ commit_one_keeps : (s : State) (xid : Triple) → IsLoggable s → IsWithinLimit
 commit_one_keeps s xid loggable name =
     let h = recordable s loggable in
     let r = logged.Committed xid (timestamp_in s xid) (writes_in s xid) in
-    unless_keeps (one_phase_refusal (known_as s xid) (is_associated s xid)) s _ h
+    unless_keeps (unprepared_refusal (known_as s xid) (is_associated s xid)) s _ h
     (λ allowed. marked_keeps (mark_in (known_as s xid)) s (rolled_back s xid) _ (gone_fits s xid h)
     (cond_keeps (is_empty (writes_in s xid)) s (Now (ok (committed s xid))) (commit_written s xid) (λ empty. committed_fits s xid h)
     (λ some. cond_keeps (has_room s r 0) s (logs s r XAER_RMERR (rolled_back s xid)) (Now (log_full s xid))
@@ -283,7 +282,7 @@ roll_back_keeps s xid (Completed direction) name h = gone_fits s xid h
 
 row_keeps : (s : State) (n : ℕ) (request : Request) → IsAsked request → IsLoggable s → asks_restart request ≡ false → KeepsRecordable s (row s n request)
 row_keeps s n (Open flags info) is h other = recordable s h
-row_keeps s n (Close flags) is h other = unless_fits (close_refusal (list_any (is_anyones n) s.associations)) s _ (recordable s h) (λ none. recordable s h)
+row_keeps s n (Close flags) is h other = unless_fits (close_refusal (list_any (is_of_session n) s.associations)) s _ (recordable s h) (λ none. recordable s h)
 row_keeps s n (Start flags xid) is h other = start_fits s n flags xid h
 row_keeps s n (End flags xid) is h other = end_fits s n flags xid (recordable s h)
 row_keeps s n (Prepare flags xid) is h other = prepare_keeps s xid h is.held.1

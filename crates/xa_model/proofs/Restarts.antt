@@ -4,12 +4,12 @@ use Rattle.std.specs.Prelude.{filter, filter_map, map, reverse, is_some, nat_lt,
 use Rattle.xa_codes.specs.declared.direction.Direction.TheVariants as direction
 use Rattle.xa_record.specs.declared.record.Record.{Record}
 use Rattle.xa_record.specs.declared.record.Record.TheVariants as logged
-use Rattle.xa_model.specs.State.{State, Session, Branch, Phase, Working, Prepared, Committed, Up, is_known_as, name_of, timestamp_of}
+use Rattle.xa_model.specs.State.{State, Session, Branch, Phase, Working, Prepared, Committed, Up, is_known_as, name_of, timestamp_of, is_working}
 use Rattle.xa_codes.specs.declared.codes.TheConstants.{XAER_RMFAIL}
 use Rattle.xa_codes.specs.declared.detail.Detail.TheVariants as detail
 use Rattle.xa_model.specs.Answer.{answer, detailed, ok}
 use Rattle.xa_model.specs.Fold.{apply}
-use Rattle.xa_model.specs.Sound.{IsSound, Descends, is_working}
+use Rattle.xa_model.specs.Sound.{IsSound, Descends}
 use Rattle.xa_model.specs.Durable.{durable, last_writes, by_name, writes_of, committed_part, prepared_part}
 use Rattle.xa_model.specs.Turn.{Stops, Opens}
 use Rattle.xa_model.specs.Restarting.{refused_opening, fates_with, missed, survived, without_scan, lasts, restarted, boot_became, reopen_became, restarting, reopened, reopening, can_open}

@@ -3,8 +3,7 @@ use Rattle.std.proofs.Common.{◌≡◌, ℕ, ◌+◌, Bool, true, false, cond, 
 use Rattle.std.specs.Prelude.{filter}
 use Rattle.std.specs.List.{AllByRecursion}
 use Rattle.std.proofs.lemmas.Bool.{not-true}
-use Rattle.xa_model.specs.State.{State, Branch}
-use Rattle.xa_model.specs.Sound.{is_working}
+use Rattle.xa_model.specs.State.{State, Branch, is_working}
 use Rattle.xa_model.specs.Durable.{Durable, is_past}
 use Rattle.xa_model.specs.Fold.{snapshot, sizes}
 use Rattle.xa_model.specs.Logging.{snapshot_end}

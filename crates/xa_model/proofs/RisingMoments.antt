@@ -24,9 +24,9 @@ use Rattle.xa_model.specs.State.{State, Branch, Known, Unknown, AtWork, InDoubt,
 use Rattle.xa_model.specs.Source.{source, is_late}
 use Rattle.xa_model.specs.Answer.{Answer, plain, detailed, answer, ok, unless, marked}
 use Rattle.xa_model.specs.Early.{Context, early_refusal, passes_down, needs_open, is_opened, is_async, is_invalid}
-use Rattle.xa_model.specs.Associations.{connect_refusal, connected, close_refusal, is_anyones, start_refusal, begun, begin_by, is_taken, join_refusal, joined, join_by, resume_refusal, resumed, not_resumed, resume_by, start_by, end_refusal, loose_refusal, suspended, not_suspended, suspend_by, can_end, ended, failed, leave_by, end_by, mark_in, timestamp_in}
-use Rattle.xa_model.specs.Branches.{rolled_back, committed, one_phase_refusal, two_phase_refusal, rollback_refusal, heuristic_refusal, doom_refusal, doomed, is_associated}
-use Rattle.xa_model.specs.Records.{got, get_from, get_by, busy_refusal, is_full, limit_refusal, came_late, written, in_time, put_from, put_by}
+use Rattle.xa_model.specs.Associations.{connect_refusal, connected, close_refusal, is_of_session, start_refusal, begun, begin_by, is_taken, join_refusal, joined, join_by, resume_refusal, resumed, not_resumed, resume_by, start_by, end_refusal, loose_refusal, suspended, not_suspended, suspend_by, can_end, ended, failed, leave_by, end_by, mark_in, timestamp_in}
+use Rattle.xa_model.specs.Branches.{rolled_back, committed, unprepared_refusal, two_phase_refusal, rollback_refusal, heuristic_refusal, doom_refusal, doomed, is_associated}
+use Rattle.xa_model.specs.Records.{got, get_from, get_by, busy_refusal, is_full, limit_refusal, came_late, written, if_late, put_from, put_by}
 use Rattle.xa_model.specs.Recovering.{recovered_from, scan_from, scan_of}
 use Rattle.xa_model.specs.Step.{row, respond, turn, context_of}
 use Rattle.xa_model.specs.Turn.{Asked, Reopened, Turn, Now, Stops, Opens, unless_now}
@@ -58,9 +58,9 @@ cond_rises : (c : Bool) (s : State) (a b : Answer) → Rises s a → Rises s b �
 cond_rises true s a b h k = h
 cond_rises false s a b h k = k
 
-in_time_rises : (late : Bool) (s : State) (a b : Answer) → Rises s a → Rises s b → Rises s (in_time late a b)
-in_time_rises true s a b h k = h
-in_time_rises false s a b h k = k
+if_late_rises : (late : Bool) (s : State) (a b : Answer) → Rises s a → Rises s b → Rises s (if_late late a b)
+if_late_rises true s a b h k = h
+if_late_rises false s a b h k = k
 
 -- turns
 
@@ -140,15 +140,15 @@ put_rises : (s : State) (key : List ℕ) (value : Option (List ℕ)) (o : Option
 put_rises s key value None = itself s
 put_rises s key value (Some (xid, b)) =
     marked_rises (mark_of b.phase) s s (put_from s key value xid b) (itself s)
-    (unless_rises (limit_refusal (is_full key b.operations)) s (in_time (is_late key b.timestamp s.reads) (came_late s xid) (written s key value xid))
-    (in_time_rises (is_late key b.timestamp s.reads) s (came_late s xid) (written s key value xid) (itself s) (itself s)))
+    (unless_rises (limit_refusal (is_full key b.operations)) s (if_late (is_late key b.timestamp s.reads) (came_late s xid) (written s key value xid))
+    (if_late_rises (is_late key b.timestamp s.reads) s (came_late s xid) (written s key value xid) (itself s) (itself s)))
 
 -- the calls that log
 
 prepare_rises : (s : State) (xid : Triple) → AllOf (Rises s) (prepare_turn s xid)
 prepare_rises s xid =
     let r = logged.Prepared xid (timestamp_in s xid) (writes_in s xid) in
-    unless_turns (one_phase_refusal (known_as s xid) (is_associated s xid)) s _
+    unless_turns (unprepared_refusal (known_as s xid) (is_associated s xid)) s _
     (λ none. marked_all (Rises s) (mark_in (known_as s xid)) (rolled_back s xid) _ (λ code e. itself s)
     (cond_all (Rises s) (is_empty (writes_in s xid)) (Now (answer (plain XA_RDONLY) (committed s xid))) (prepare_written s xid) (itself s)
     (cond_all (Rises s) (has_room s r 1) (logs s r XAER_RMERR s) (Now (log_full s xid)) (logs_rises s r XAER_RMERR s (itself s)) (itself s))))
@@ -156,7 +156,7 @@ prepare_rises s xid =
 one_phase_rises : (s : State) (xid : Triple) → AllOf (Rises s) (commit_one_phase_turn s xid)
 one_phase_rises s xid =
     let r = logged.Committed xid (timestamp_in s xid) (writes_in s xid) in
-    unless_turns (one_phase_refusal (known_as s xid) (is_associated s xid)) s _
+    unless_turns (unprepared_refusal (known_as s xid) (is_associated s xid)) s _
     (λ none. marked_all (Rises s) (mark_in (known_as s xid)) (rolled_back s xid) _ (λ code e. itself s)
     (cond_all (Rises s) (is_empty (writes_in s xid)) (Now (ok (committed s xid))) (commit_written s xid) (itself s)
     (cond_all (Rises s) (has_room s r 0) (logs s r XAER_RMERR (rolled_back s xid)) (Now (log_full s xid))
@@ -212,17 +212,17 @@ last_passed a b c d f p q r s t e =
 
 not_before : (c : Context) (moment : ℕ) → early_refusal c (Tick moment) ≡ None → c.moment ≤ moment
 not_before c moment e =
-    let in_time : nat_lt moment c.moment ≡ false
+    let if_late : nat_lt moment c.moment ≡ false
     = last_passed (not c.up && not (passes_down call.Tick)) (is_none c.session) (needs_open call.Tick && not (is_opened c.session))
     (is_async call.Tick 0) (is_invalid c.name c.moment (Tick moment))
     (plain XAER_RMFAIL) (plain XAER_PROTO) (plain XAER_PROTO) (plain XAER_ASYNC) (plain XAER_INVAL) e in
-    grind (arith, nat_tests, in_time)
+    grind (arith, nat_tests, if_late)
 
 -- all rows
 
 row_rises : (s : State) (n : ℕ) (request : Request) → early_refusal (context_of s n) request ≡ None → AllOf (Rises s) (row s n request)
 row_rises s n (Open flags info) e = itself s
-row_rises s n (Close flags) e = unless_rises (close_refusal (list_any (is_anyones n) s.associations)) s _ (itself s)
+row_rises s n (Close flags) e = unless_rises (close_refusal (list_any (is_of_session n) s.associations)) s _ (itself s)
 row_rises s n (Start flags xid) e = start_rises s n flags xid
 row_rises s n (End flags xid) e = end_rises s n flags xid
 row_rises s n (Prepare flags xid) e = prepare_rises s xid

@@ -18,9 +18,9 @@ use Rattle.xa_model.specs.State.{State, Branch, Known, Unknown, AtWork, InDoubt,
 use Rattle.xa_model.specs.Source.{source, is_late}
 use Rattle.xa_model.specs.Answer.{Answer, plain, answer, ok, unless, marked}
 use Rattle.xa_model.specs.Early.{early_refusal}
-use Rattle.xa_model.specs.Associations.{connect_refusal, connected, close_refusal, is_anyones, start_refusal, begun, begin_by, is_taken, join_refusal, joined, join_by, resume_refusal, resumed, not_resumed, resume_by, start_by, end_refusal, loose_refusal, suspended, not_suspended, suspend_by, can_end, ended, failed, leave_by, end_by, mark_in, timestamp_in}
-use Rattle.xa_model.specs.Branches.{rolled_back, committed, one_phase_refusal, two_phase_refusal, rollback_refusal, heuristic_refusal, doom_refusal, doomed, is_associated}
-use Rattle.xa_model.specs.Records.{got, get_from, get_by, busy_refusal, is_full, limit_refusal, came_late, written, in_time, put_from, put_by}
+use Rattle.xa_model.specs.Associations.{connect_refusal, connected, close_refusal, is_of_session, start_refusal, begun, begin_by, is_taken, join_refusal, joined, join_by, resume_refusal, resumed, not_resumed, resume_by, start_by, end_refusal, loose_refusal, suspended, not_suspended, suspend_by, can_end, ended, failed, leave_by, end_by, mark_in, timestamp_in}
+use Rattle.xa_model.specs.Branches.{rolled_back, committed, unprepared_refusal, two_phase_refusal, rollback_refusal, heuristic_refusal, doom_refusal, doomed, is_associated}
+use Rattle.xa_model.specs.Records.{got, get_from, get_by, busy_refusal, is_full, limit_refusal, came_late, written, if_late, put_from, put_by}
 use Rattle.xa_model.specs.Recovering.{recovered_from, scan_from, scan_of}
 use Rattle.xa_model.specs.Step.{row, respond, context_of}
 use Rattle.xa_model.specs.Turn.{Turn, Now, Appends, unless_now, marked_now}
@@ -53,9 +53,9 @@ cond_same : (c : Bool) (s : State) (a b : Answer) → Same s a → Same s b → 
 cond_same true s a b h k = h
 cond_same false s a b h k = k
 
-in_time_same : (late : Bool) (s : State) (a b : Answer) → Same s a → Same s b → Same s (in_time late a b)
-in_time_same true s a b h k = h
-in_time_same false s a b h k = k
+if_late_same : (late : Bool) (s : State) (a b : Answer) → Same s a → Same s b → Same s (if_late late a b)
+if_late_same true s a b h k = h
+if_late_same false s a b h k = k
 
 -- the association table
 
@@ -104,8 +104,8 @@ put_same : (s : State) (key : List ℕ) (value : Option (List ℕ)) (o : Option 
 put_same s key value None = refl
 put_same s key value (Some (xid, b)) =
     marked_same (mark_of b.phase) s s (put_from s key value xid b) refl
-    (unless_same (limit_refusal (is_full key b.operations)) s (in_time (is_late key b.timestamp s.reads) (came_late s xid) (written s key value xid))
-    (in_time_same (is_late key b.timestamp s.reads) s (came_late s xid) (written s key value xid) refl refl))
+    (unless_same (limit_refusal (is_full key b.operations)) s (if_late (is_late key b.timestamp s.reads) (came_late s xid) (written s key value xid))
+    (if_late_same (is_late key b.timestamp s.reads) s (came_late s xid) (written s key value xid) refl refl))
 
 -- the calls that log
 
@@ -124,7 +124,7 @@ cond_asks false s t u h k = k
 prepare_asks : (s : State) (xid : Triple) → AsksRoom s (prepare_turn s xid)
 prepare_asks s xid =
     let r = logged.Prepared xid (timestamp_in s xid) (writes_in s xid) in
-    unless_asks (one_phase_refusal (known_as s xid) (is_associated s xid)) s _
+    unless_asks (unprepared_refusal (known_as s xid) (is_associated s xid)) s _
     (marked_asks (mark_in (known_as s xid)) s (rolled_back s xid) _ refl
     (cond_asks (is_empty (writes_in s xid)) s (Now (answer (plain XA_RDONLY) (committed s xid))) (prepare_written s xid) (λ empty. refl)
     (cond_asks (has_room s r 1) s (logs s r XAER_RMERR s) (Now (log_full s xid)) (λ room. (room, refl)) refl)))
@@ -132,7 +132,7 @@ prepare_asks s xid =
 one_phase_asks : (s : State) (xid : Triple) → AsksRoom s (commit_one_phase_turn s xid)
 one_phase_asks s xid =
     let r = logged.Committed xid (timestamp_in s xid) (writes_in s xid) in
-    unless_asks (one_phase_refusal (known_as s xid) (is_associated s xid)) s _
+    unless_asks (unprepared_refusal (known_as s xid) (is_associated s xid)) s _
     (marked_asks (mark_in (known_as s xid)) s (rolled_back s xid) _ refl
     (cond_asks (is_empty (writes_in s xid)) s (Now (ok (committed s xid))) (commit_written s xid) (λ empty. refl)
     (cond_asks (has_room s r 0) s (logs s r XAER_RMERR (rolled_back s xid)) (Now (log_full s xid)) (λ room. (room, refl)) refl)))
@@ -157,7 +157,7 @@ rollback_asks s xid =
 
 row_asks : (s : State) (n : ℕ) (request : Request) → asks_restart request ≡ false → AsksRoom s (row s n request)
 row_asks s n (Open flags info) e = refl
-row_asks s n (Close flags) e = unless_same (close_refusal (list_any (is_anyones n) s.associations)) s _ refl
+row_asks s n (Close flags) e = unless_same (close_refusal (list_any (is_of_session n) s.associations)) s _ refl
 row_asks s n (Start flags xid) e = start_same s n flags xid
 row_asks s n (End flags xid) e = end_same s n flags xid
 row_asks s n (Prepare flags xid) e = prepare_asks s xid

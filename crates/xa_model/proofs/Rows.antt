@@ -5,10 +5,10 @@ use Rattle.std.proofs.lemmas.Bool.Decides.{nat_tests}
 use Rattle.xa_codes.specs.declared.direction.Direction.{Direction}
 use Rattle.xa_frame.specs.declared.reply.Reply.{Reply}
 use Rattle.xa_xid.specs.Triple.{Triple, xid_eq}
-use Rattle.xa_model.specs.State.{State, Branch, Phase, Working, Prepared, Committed, Decided, Association, count, is_known_as, known_of, decided_of, known_by, known_among, known_as, active_of, is_active}
+use Rattle.xa_model.specs.State.{State, Branch, Phase, Working, Prepared, Committed, Decided, Association, count, is_known_as, known_of, decided_of, known_by, known_among, known_as, active_of, is_active, is_working, is_at_work}
 use Rattle.xa_model.specs.Answer.{Answer, unless, marked}
 use Rattle.xa_model.specs.Associations.{is_taken, is_unknown, is_lasting}
-use Rattle.xa_model.specs.Sound.{IsSound, is_working, is_at_work, named}
+use Rattle.xa_model.specs.Sound.{IsSound, named}
 use Rattle.xa_model.proofs.Counts.{count_none}
 use Rattle.xa_model.proofs.Lists.{found_passes}
 

@@ -3,7 +3,7 @@ use Rattle.std.proofs.Common.{◌≡◌, ℕ, ◌+◌, ◌≤◌, ◌<◌, ◌==
 use Rattle.std.specs.Prelude.{filter}
 use Rattle.std.proofs.lemmas.Bool.Decides.{nat_tests}
 use Rattle.xa_model.specs.State.{State, Session, count, change, without, session_of, free_number, new_session}
-use Rattle.xa_model.specs.Associations.{is_anyones, connect_refusal, connected, connect_by, hang_up_by, left_behind}
+use Rattle.xa_model.specs.Associations.{is_of_session, connect_refusal, connected, connect_by, hang_up_by, left_behind}
 use Rattle.xa_limits.specs.declared.TheConstants.{MOST_SESSIONS}
 use Rattle.xa_model.specs.Sound.{IsSound}
 use Rattle.xa_model.proofs.Counts.{count_none, count_same, count_without, count_filter, count_out}
@@ -17,7 +17,7 @@ use Rattle.xa_model.proofs.Rows.{unless_sound, passed, below}
 -- what soundness asks of the sessions
 pub record AreSeated (s : State) (sessions : List Session) : Type 0 where
   pub numbered : (n : ℕ) → count (λ x. x.number == n) sessions ≤ 1
-  pub connected : (n : ℕ) → session_of sessions n ≡ None → count (is_anyones n) s.associations ≡ 0
+  pub connected : (n : ℕ) → session_of sessions n ≡ None → count (is_of_session n) s.associations ≡ 0
   pub limit : length sessions ≤ MOST_SESSIONS
 
 pub with_sessions : (s : State) (sessions : List Session) → IsSound s → AreSeated s sessions → IsSound (record s { sessions = sessions })
@@ -74,14 +74,14 @@ length-without p (x ∷ xs) = by p x xs (p x) (length-without p xs)
     by p x xs false rest = omega arith
 
 left_seated : (s : State) (n m : ℕ) (c : Bool) → (n == m) ≡ c → IsSound s → session_of (without (λ x. x.number == n) s.sessions) m ≡ None
-    → count (is_anyones m) (filter (λ a. not (is_anyones n a)) s.associations) ≡ 0
+    → count (is_of_session m) (filter (λ a. not (is_of_session n a)) s.associations) ≡ 0
 left_seated s n m true e h none =
     let same : n ≡ m = grind (arith, nat_tests) in
-    subst (λ (k : ℕ). count (is_anyones k) (filter (λ a. not (is_anyones n a)) s.associations) ≡ 0) same (count_out (is_anyones n) s.associations)
+    subst (λ (k : ℕ). count (is_of_session k) (filter (λ a. not (is_of_session n a)) s.associations) ≡ 0) same (count_out (is_of_session n) s.associations)
 left_seated s n m false e h none =
     let others = find_without (λ x. x.number == n) (λ x. x.number == m) (λ x is. other x is) s.sessions in
     let before : session_of s.sessions m ≡ None = subst (λ (o : Option Session). o ≡ None) others none in
-    omega (arith, h.connected m before, count_filter (λ a. not (is_anyones n a)) (is_anyones m) s.associations)
+    omega (arith, h.connected m before, count_filter (λ a. not (is_of_session n a)) (is_of_session m) s.associations)
   where
     other : (x : Session) → (x.number == n) ≡ true → (x.number == m) ≡ false
     other x is = grind (arith, nat_tests)
@@ -89,7 +89,7 @@ left_seated s n m false e h none =
 pub hung_up_sound : (s : State) (n : ℕ) → IsSound s → IsSound (hang_up_by s n).after
 hung_up_sound s n h =
     let marked : IsSound _ = with_branches s _ h (mapped_kept s (left_behind s.associations n) (left_keeps s.associations n) h) in
-    let left = with_fewer_held (record s { branches = _ }) (filter (λ a. not (is_anyones n a)) s.associations) marked (λ q. count_filter (λ a. not (is_anyones n a)) q s.associations) in
+    let left = with_fewer_held (record s { branches = _ }) (filter (λ a. not (is_of_session n a)) s.associations) marked (λ q. count_filter (λ a. not (is_of_session n a)) q s.associations) in
     with_sessions _ (without (λ x. x.number == n) s.sessions) left (record {
       numbered = λ m. omega (arith, h.numbered m, count_without (λ x. x.number == n) (λ x. x.number == m) s.sessions);
       connected = λ m none. left_seated s n m (n == m) refl h none;

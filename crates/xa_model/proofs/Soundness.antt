@@ -9,9 +9,9 @@ use Rattle.xa_model.specs.State.{State, Branch, Got, Wrote, Session, known_as, m
 use Rattle.xa_model.specs.Source.{Version, source, is_late}
 use Rattle.xa_model.specs.Answer.{Answer, ok}
 use Rattle.xa_model.specs.Early.{early_refusal, call_of, passes_down, Context}
-use Rattle.xa_model.specs.Associations.{as_closed, close_refusal, close_by, with_mark, is_anyones}
+use Rattle.xa_model.specs.Associations.{as_closed, close_refusal, close_by, with_mark, is_of_session}
 use Rattle.xa_model.specs.Branches.{doom_refusal, doomed, doom_by}
-use Rattle.xa_model.specs.Records.{having_done, got, get_from, get_by, busy_refusal, is_full, limit_refusal, came_late, written, in_time, put_from, put_by}
+use Rattle.xa_model.specs.Records.{having_done, got, get_from, get_by, busy_refusal, is_full, limit_refusal, came_late, written, if_late, put_from, put_by}
 use Rattle.xa_model.specs.Durable.{durable}
 use Rattle.xa_model.specs.Listed.{list_after}
 use Rattle.xa_model.specs.TimeLimits.{timed_out, with_limit, tick_by, timeout_by}
@@ -52,17 +52,17 @@ get_sound s key (Some (xid, b)) h =
     let v = source key b.timestamp s.branches in
     marked_sound (mark_of b.phase) s (get_from s key xid b v) h (unless_sound (busy_refusal b.timestamp v) s (got s key xid b v) h (λ none. got_sound s key xid b v h))
 
-in_time_sound : (late : Bool) (a b : Answer) → IsSound a.after → IsSound b.after → IsSound (in_time late a b).after
-in_time_sound true a b h k = h
-in_time_sound false a b h k = k
+if_late_sound : (late : Bool) (a b : Answer) → IsSound a.after → IsSound b.after → IsSound (if_late late a b).after
+if_late_sound true a b h k = h
+if_late_sound false a b h k = k
 
 pub put_sound : (s : State) (key : List ℕ) (value : Option (List ℕ)) (o : Option (Triple × Branch)) → IsSound s → IsSound (put_by s key value o).after
 put_sound s key value None h = h
 put_sound s key value (Some (xid, b)) h =
     marked_sound (mark_of b.phase) s (put_from s key value xid b) h
-    (unless_sound (limit_refusal (is_full key b.operations)) s (in_time (is_late key b.timestamp s.reads) (came_late s xid) (written s key value xid)) h
+    (unless_sound (limit_refusal (is_full key b.operations)) s (if_late (is_late key b.timestamp s.reads) (came_late s xid) (written s key value xid)) h
     (λ none.
-    in_time_sound (is_late key b.timestamp s.reads) (came_late s xid) (written s key value xid)
+    if_late_sound (is_late key b.timestamp s.reads) (came_late s xid) (written s key value xid)
     (changed_sound s (with_mark XA_RBTRANSIENT) xid (mark_keeps XA_RBTRANSIENT) h)
     (changed_sound s (having_done (Wrote key value)) xid (done_keeps (Wrote key value)) h)))
 
@@ -70,7 +70,7 @@ put_sound s key value (Some (xid, b)) h =
 
 pub close_sound : (s : State) (n : ℕ) → IsSound s → IsSound (close_by s n).after
 close_sound s n h =
-    unless_sound (close_refusal (list_any (is_anyones n) s.associations)) s (ok (record s { sessions = change (λ x. x.number == n) as_closed s.sessions })) h
+    unless_sound (close_refusal (list_any (is_of_session n) s.associations)) s (ok (record s { sessions = change (λ x. x.number == n) as_closed s.sessions })) h
     (λ allowed. seat_sound s n as_closed (λ x. refl) h)
 
 pub timeout_sound : (s : State) (n limit : ℕ) → IsSound s → IsSound (timeout_by s n limit).after

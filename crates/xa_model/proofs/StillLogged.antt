@@ -15,7 +15,7 @@ use Rattle.xa_model.specs.declared.event.Event.TheVariants as event
 use Rattle.xa_model.specs.State.{State, Down, Session, Association, Branch, Phase, Working, Prepared, Committed, InDoubt, known_of, known_by, known_among, is_known_as, is_with, decided_of}
 use Rattle.xa_model.specs.Answer.{Answer, unless}
 use Rattle.xa_model.specs.Early.{early_refusal}
-use Rattle.xa_model.specs.Associations.{connect_refusal, connected, close_refusal, is_anyones, with_mark, marked_phase, left_behind, is_worked_by, timestamp_by}
+use Rattle.xa_model.specs.Associations.{connect_refusal, connected, close_refusal, is_of_session, with_mark, marked_phase, left_behind, is_worked_by, timestamp_by}
 use Rattle.xa_model.specs.Turn.{Turn, Now, unless_now}
 use Rattle.xa_model.specs.Step.{row, respond, is_up, context_of}
 use Rattle.xa_model.specs.Logging.{writes_by}
@@ -99,9 +99,9 @@ abbrev hung_up : State → ℕ → List Session → List Association → State
 hung_up s n sessions held = record s { sessions = sessions; associations = held; branches = map (left_behind s.associations n) s.branches }
 
 hung_up_idle : (s : State) (n : ℕ) (sessions : List Session) (xid : Triple) (t : ℕ) (ws : List _) → IsIdle s xid t ws
-    → IsIdle (hung_up s n sessions (filter (λ a. not (is_anyones n a)) s.associations)) xid t ws
+    → IsIdle (hung_up s n sessions (filter (λ a. not (is_of_session n a)) s.associations)) xid t ws
 hung_up_idle s n sessions xid t ws may = record {
-  free = let fewer = count_filter (λ (a : Association). not (is_anyones n a)) (λ (a : Association). xid_eq a.xid xid) s.associations in omega (arith, fewer, may.free);
+  free = let fewer = count_filter (λ (a : Association). not (is_of_session n a)) (λ (a : Association). xid_eq a.xid xid) s.associations in omega (arith, fewer, may.free);
   working = at_work_map (left_behind s.associations n) (left_keeps s.associations n) xid s.branches ∙ may.working;
   timestamp = ap timestamp_by (left_known s.associations n xid s.branches) ∙ left_time s.associations n (known_of s.branches xid) ∙ may.timestamp;
   writes = ap writes_by (left_known s.associations n xid s.branches) ∙ left_writes s.associations n (known_of s.branches xid) ∙ may.writes;
@@ -113,7 +113,7 @@ hung_up_doubtful s n xid may =
     ap (λ (o : Option Branch). known_among o (decided_of s.decided xid)) (left_known s.associations n xid s.branches)
     ∙ left_doubtful s.associations n (known_of s.branches xid) (decided_of s.decided xid) may
 
-hung_up_may : (s : State) (n : ℕ) (sessions : List Session) (r : Record) → MayLog s r → MayLog (hung_up s n sessions (filter (λ a. not (is_anyones n a)) s.associations)) r
+hung_up_may : (s : State) (n : ℕ) (sessions : List Session) (r : Record) → MayLog s r → MayLog (hung_up s n sessions (filter (λ a. not (is_of_session n a)) s.associations)) r
 hung_up_may s n sessions (logged.Opened boot) may = may
 hung_up_may s n sessions (logged.Prepared xid t ws) may = hung_up_idle s n sessions xid t ws may
 hung_up_may s n sessions (logged.Committed xid t ws) may = hung_up_idle s n sessions xid t ws may
@@ -143,7 +143,7 @@ down_calls s n false (Open flags info) down other =
     unless_still (early_refusal (record (context_of s n) { up = false }) (Open flags info)) s (row s n (Open flags info)) (λ r may. seated_may s _ r may)
 down_calls s n false (Close flags) down other =
     unless_still (early_refusal (record (context_of s n) { up = false }) (Close flags)) s (row s n (Close flags))
-    (λ r may. unless_may (close_refusal (list_any (is_anyones n) s.associations)) s _ r may (seated_may s _ r may))
+    (λ r may. unless_may (close_refusal (list_any (is_of_session n) s.associations)) s _ r may (seated_may s _ r may))
 down_calls s n false (Start flags xid) down other = λ r may. may
 down_calls s n false (End flags xid) down other = λ r may. may
 down_calls s n false (Prepare flags xid) down other = λ r may. may

@@ -19,7 +19,7 @@ use Rattle.xa_model.specs.declared.outcome.Appending.TheVariants.{Kept}
 use Rattle.xa_model.specs.State.{State, Standing, Up, Down, Ended, Known, Unknown, AtWork, InDoubt, Completed, known_as}
 use Rattle.xa_model.specs.Answer.{Answer, answer, plain, ok}
 use Rattle.xa_model.specs.Associations.{mark_in, timestamp_in}
-use Rattle.xa_model.specs.Branches.{is_associated, one_phase_refusal, two_phase_refusal, rollback_refusal, heuristic_refusal, rolled_back, committed}
+use Rattle.xa_model.specs.Branches.{is_associated, unprepared_refusal, two_phase_refusal, rollback_refusal, heuristic_refusal, rolled_back, committed}
 use Rattle.xa_model.specs.Completions.{prepare_turn, prepare_written, commit_one_phase_turn, commit_written, commit_two_phase_turn, rollback_turn, roll_back_turn, decide_refusal, forget_refusal}
 use Rattle.xa_model.specs.Early.{early_refusal}
 use Rattle.xa_model.specs.Fold.{is_empty}
@@ -92,14 +92,14 @@ written_taken b r after a = either_taken b (Appends r after) (Now a) (appends_ta
 prepare_taken : (s : State) (xid : Triple) → IsTaken (prepare_turn s xid)
 prepare_taken s xid =
     let r = logged.Prepared xid (timestamp_in s xid) (writes_in s xid) in
-    unless_taken (one_phase_refusal (known_as s xid) (is_associated s xid)) s _
+    unless_taken (unprepared_refusal (known_as s xid) (is_associated s xid)) s _
     (marked_taken (mark_in (known_as s xid)) _ _
     (either_taken (is_empty (writes_in s xid)) _ (prepare_written s xid) (now_taken (answer (plain XA_RDONLY) (committed s xid))) (written_taken (has_room s r 1) r (append_became s r XAER_RMERR s) (log_full s xid))))
 
 one_phase_taken : (s : State) (xid : Triple) → IsTaken (commit_one_phase_turn s xid)
 one_phase_taken s xid =
     let r = logged.Committed xid (timestamp_in s xid) (writes_in s xid) in
-    unless_taken (one_phase_refusal (known_as s xid) (is_associated s xid)) s _
+    unless_taken (unprepared_refusal (known_as s xid) (is_associated s xid)) s _
     (marked_taken (mark_in (known_as s xid)) _ _
     (either_taken (is_empty (writes_in s xid)) _ (commit_written s xid) (now_taken (ok (committed s xid))) (written_taken (has_room s r 0) r (append_became s r XAER_RMERR (rolled_back s xid)) (log_full s xid))))
 

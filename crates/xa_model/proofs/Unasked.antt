@@ -16,7 +16,7 @@ use Rattle.xa_model.specs.declared.outcome.Appending.{Appending}
 use Rattle.xa_model.specs.declared.outcome.Appending.TheVariants.{Kept, Refused, Lost}
 use Rattle.xa_model.specs.State.{State, Session, Branch, Phase, Working, Prepared, Committed, Association, Standing, Up, Down, Ended, count, owns, session_of, new_session}
 use Rattle.xa_model.specs.Answer.{Answer, answer, detailed, ok}
-use Rattle.xa_model.specs.Associations.{connect_by, hang_up_by, is_anyones, is_worked_by, left_behind, with_mark}
+use Rattle.xa_model.specs.Associations.{connect_by, hang_up_by, is_of_session, is_worked_by, left_behind, with_mark}
 use Rattle.xa_model.specs.Early.{early_refusal, Context}
 use Rattle.xa_model.specs.History.{Leads}
 use Rattle.xa_model.specs.Logging.{applied, down}
@@ -39,9 +39,9 @@ nobody_leaves p (x ∷ xs) none = nobody_by p x xs (filter (λ y. not (p y)) xs)
 
 -- and no branch is marked
 
-owned_by : (held : List Association) (n : ℕ) (p : Phase) → count (is_anyones n) held ≡ 0 → is_worked_by held n p ≡ false
+owned_by : (held : List Association) (n : ℕ) (p : Phase) → count (is_of_session n) held ≡ 0 → is_worked_by held n p ≡ false
 owned_by held n (Working xid work) none =
-    let fewer : count (owns n xid) held ≤ count (is_anyones n) held = count_less (owns n xid) (is_anyones n) (λ a is. (and_parts (is_anyones n a) _ is).0) held in
+    let fewer : count (owns n xid) held ≤ count (is_of_session n) held = count_less (owns n xid) (is_of_session n) (λ a is. (and_parts (is_of_session n a) _ is).0) held in
     let zero : count (owns n xid) held ≡ 0 = omega arith in
     none_counted (owns n xid) held zero
 owned_by held n (Prepared xid) none = refl
@@ -70,11 +70,11 @@ same_state : (s : State) (xs : List Session) (held : List Association) (bs : Lis
     → record s { sessions = xs; associations = held; branches = bs } ≡ s
 same_state s xs held bs d e f = rw (d, e, f) refl
 
-left_alone : (s : State) → s.sessions ≡ [] → count (is_anyones 1) s.associations ≡ 0 → hang_up_by (with_one s) 1 ≡ ok s
+left_alone : (s : State) → s.sessions ≡ [] → count (is_of_session 1) s.associations ≡ 0 → hang_up_by (with_one s) 1 ≡ ok s
 left_alone s none free =
     ap ok
-    (same_state s [] (filter (λ a. not (is_anyones 1 a)) s.associations) (map (left_behind s.associations 1) s.branches) (sym none)
-    (nobody_leaves (is_anyones 1) s.associations free)
+    (same_state s [] (filter (λ a. not (is_of_session 1 a)) s.associations) (map (left_behind s.associations 1) s.branches) (sym none)
+    (nobody_leaves (is_of_session 1) s.associations free)
     (all_same (left_behind s.associations 1) (λ b. unmarked_by b (is_worked_by s.associations 1 b.phase) (owned_by s.associations 1 b.phase free)) s.branches))
 
 -- a restart beside it
@@ -82,13 +82,13 @@ left_alone s none free =
 record WithOne (a : Answer) (o : Option Answer) : Type 0 where
   same : o ≡ Some (answer a.reply (with_one a.after))
   alone : a.after.sessions ≡ []
-  free : count (is_anyones 1) a.after.associations ≡ 0
+  free : count (is_of_session 1) a.after.associations ≡ 0
   answers : a.after.standing ≡ Ended → ⊥
 
 abbrev BothWays : Option Answer → Option Answer → Type 0
 BothWays o p = IfSome o (λ a. WithOne a p)
 
-boots_by : (s : State) (x : Option Appending) (boot : ℕ) (c : Bool) → count (is_anyones 1) s.associations ≡ 0
+boots_by : (s : State) (x : Option Appending) (boot : ℕ) (c : Bool) → count (is_of_session 1) s.associations ≡ 0
     → BothWays
     (going_on x (cond c (Opens (logged.Opened boot) (boot_became (among [] s) boot)) (Stops (answer (detailed XAER_RMFAIL detail.Limit) (down (among [] s))))))
     (going_on x (cond c (Opens (logged.Opened boot) (boot_became (with_one s) boot)) (Stops (answer (detailed XAER_RMFAIL detail.Limit) (down (with_one s))))))
@@ -99,7 +99,7 @@ boots_by s (Some Kept) boot true free = record { same = refl; alone = refl; free
 boots_by s (Some Refused) boot true free = record { same = refl; alone = refl; free = free; answers = λ e. absurd (cc e) }
 boots_by s (Some Lost) boot true free = record { same = refl; alone = refl; free = free; answers = λ e. absurd (cc e) }
 
-boots : (s : State) (x : Option Appending) → count (is_anyones 1) s.associations ≡ 0 → BothWays (going_on x (restarting (among [] s))) (going_on x (restarting (with_one s)))
+boots : (s : State) (x : Option Appending) → count (is_of_session 1) s.associations ≡ 0 → BothWays (going_on x (restarting (among [] s))) (going_on x (restarting (with_one s)))
 boots s x free = boots_by s x (s.logged_boot + 1) (nat_lt s.logged_boot MOST_BOOTS) free
 
 applied_among : (xs : List Session) (s : State) (r : Record) → applied r (among xs s) ≡ among xs (applied r s)
@@ -128,16 +128,16 @@ applied_held s (logged.Base t ws) = refl
 applied_held s (logged.Held xid t ws) = refl
 applied_held s (logged.Known xid direction) = refl
 
-survives : (s : State) (r : Record) (x : Option Appending) → count (is_anyones 1) s.associations ≡ 0
+survives : (s : State) (r : Record) (x : Option Appending) → count (is_of_session 1) s.associations ≡ 0
     → BothWays (going_on x (restarting (survived (among [] s) r))) (going_on x (restarting (survived (with_one s) r)))
 survives s r x free =
     let u : State = record (applied r s) { open_record = None } in
     let same = λ (xs : List Session). ap (λ (t : State). record t { open_record = None }) (sym (applied_among xs s r)) in
-    let held : count (is_anyones 1) u.associations ≡ 0 = ap (count (is_anyones 1)) (applied_held s r) ∙ free in
+    let held : count (is_of_session 1) u.associations ≡ 0 = ap (count (is_of_session 1)) (applied_held s r) ∙ free in
     subst (λ (t : State). BothWays (going_on x (restarting t)) (going_on x (restarting (survived (with_one s) r)))) (same [])
     (subst (λ (t : State). BothWays (going_on x (restarting (among [] u))) (going_on x (restarting t))) (same (one ∷ [])) (boots u x held))
 
-restarts_by : (s : State) (o : Option Record) (outcome : Outcome) → count (is_anyones 1) s.associations ≡ 0
+restarts_by : (s : State) (o : Option Record) (outcome : Outcome) → count (is_of_session 1) s.associations ≡ 0
     → BothWays
     (taken (Rereads (answer (detailed XAER_RMFAIL detail.Device) (down (among [] s))) (option_map (λ r. restarting (survived (among [] s) r)) o) (restarting (missed (among [] s)))) outcome)
     (taken (Rereads (answer (detailed XAER_RMFAIL detail.Device) (down (with_one s))) (option_map (λ r. restarting (survived (with_one s) r)) o) (restarting (missed (with_one s)))) outcome)
@@ -173,7 +173,7 @@ itself x xs = itself_by x.number x (session_of xs x.number) (x.number == x.numbe
 abbrev takes : Outcome → Turn → Option Answer
 takes outcome t = taken t outcome
 
-nobody : (s : State) (outcome : Outcome) (a : Answer) → count (is_anyones 1) s.associations ≡ 0 → (s.standing ≡ Ended → ⊥)
+nobody : (s : State) (outcome : Outcome) (a : Answer) → count (is_of_session 1) s.associations ≡ 0 → (s.standing ≡ Ended → ⊥)
     → taken (restart_turn (among [] s)) outcome ≡ Some a
     → Leads (among [] s) (comes ∷ asks 1 outcome a.reply ∷ goes ∷ []) a.after
 nobody s outcome a free answers e =
@@ -192,7 +192,7 @@ nobody s outcome a free answers e =
       ),
     )
 
-leads_by : (s : State) (xs : List Session) (outcome : Outcome) (a : Answer) → (session_of xs 1 ≡ None → count (is_anyones 1) s.associations ≡ 0)
+leads_by : (s : State) (xs : List Session) (outcome : Outcome) (a : Answer) → (session_of xs 1 ≡ None → count (is_of_session 1) s.associations ≡ 0)
     → (s.standing ≡ Ended → ⊥) → taken (restart_turn (among xs s)) outcome ≡ Some a → Leads (among xs s) (restart_entries xs outcome a.reply) a.after
 leads_by s [] outcome a free answers e = nobody s outcome a (free refl) answers e
 leads_by s (x ∷ xs) outcome a free answers e =

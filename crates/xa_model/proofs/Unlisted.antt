@@ -14,7 +14,7 @@ use Rattle.xa_model.specs.declared.event.Event.TheVariants as event
 use Rattle.xa_model.specs.State.{State, Up, Known, Unknown, AtWork, InDoubt, Completed, known_as}
 use Rattle.xa_model.specs.Answer.{Answer, ok}
 use Rattle.xa_model.specs.Associations.{is_unknown, is_lasting, mark_in, timestamp_in}
-use Rattle.xa_model.specs.Branches.{rolled_back, committed, one_phase_refusal, two_phase_refusal, rollback_refusal, heuristic_refusal, is_associated}
+use Rattle.xa_model.specs.Branches.{rolled_back, committed, unprepared_refusal, two_phase_refusal, rollback_refusal, heuristic_refusal, is_associated}
 use Rattle.xa_model.specs.Durable.{durable, is_prepared, is_decided}
 use Rattle.xa_model.specs.Fold.{is_empty}
 use Rattle.xa_model.specs.Turn.{Happening, Asked, Reopened, Now}
@@ -61,7 +61,7 @@ module _ (s : State) (xid : Triple) (h : IsRecoverable s) where
         let t = timestamp_in s xid in
         let ws = writes_in s xid in
         let r = logged.Committed xid t ws in
-        unless_settles P s (one_phase_refusal (known_as s xid) (is_associated s xid)) _
+        unless_settles P s (unprepared_refusal (known_as s xid) (is_associated s xid)) _
         (λ reply e. one_phase_bad (known_as s xid) (is_associated s xid) reply e)
         (λ allowed. let idle = allowed_idle s xid allowed in
         marked_settles P s (mark_in (known_as s xid)) (rolled_back s xid) _ (λ code e done. idle_fated t ws idle)

@@ -7,11 +7,11 @@ use Rattle.xa_codes.specs.declared.codes.TheConstants.{XA_RBROLLBACK}
 use Rattle.xa_codes.specs.declared.flags.TheConstants.{TMJOIN, TMRESUME, TMSUSPEND, TMMIGRATE, TMFAIL}
 use Rattle.xa_xid.specs.Triple.{Triple, xid_eq}
 use Rattle.xa_xid.proofs.Same.{xid_same, xid_eq_itself}
-use Rattle.xa_model.specs.State.{State, Branch, Association, count, change, without, is_with, is_known_as, owns, works_in, suspends, is_loose_with, active_of, known_of, known_as, known_in, session_of, holders_of, loose_of, timestamp_of, Work, new_work, new_branch, limit_of}
+use Rattle.xa_model.specs.State.{State, Branch, Association, count, change, without, is_with, is_known_as, owns, works_in, suspends, is_loose_with, active_of, known_of, known_as, known_in, session_of, holders_of, loose_of, timestamp_of, Work, new_work, new_branch, limit_of, is_at_work}
 use Rattle.xa_model.specs.Answer.{ok, unless, marked}
 use Rattle.xa_model.specs.Associations.{is_taken, mark_in, start_refusal, begun, begin_by, join_refusal, joined, join_by, resume_refusal, resumable, resumed, not_resumed, resume_by, start_by, end_refusal, loose_refusal, suspended, not_suspended, suspend_by, can_end, without_one, ended, failed, leave_by, end_by, with_mark, held_by}
 use Rattle.xa_limits.specs.declared.TheConstants.{MOST_BRANCHES, MOST_GIVEN, MOST_LOOSE}
-use Rattle.xa_model.specs.Sound.{IsSound, is_at_work, named}
+use Rattle.xa_model.specs.Sound.{IsSound, named}
 use Rattle.xa_model.proofs.Counts.{count_less, count_without, found_none}
 use Rattle.xa_model.proofs.Held.{one_more_sound, with_held}
 use Rattle.xa_model.proofs.Holders.{resumed_held, suspended_held, none_own}

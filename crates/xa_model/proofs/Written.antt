@@ -15,7 +15,7 @@ use Rattle.xa_record.specs.declared.record.Record.{Record}
 use Rattle.xa_record.specs.declared.record.Record.TheVariants.{Opened, Prepared, Committed, Completed, Decided, Forgotten, Base, Held, Known}
 use Rattle.xa_model.specs.State.{without}
 use Rattle.xa_model.specs.State.{Decided as Decision}
-use Rattle.xa_model.specs.Durable.{Durable, CommittedBranch, PreparedBranch, Pairwise, keys_before, insert, commit, commits_before, prepares_before, named_before, is_written, left_by, with_writes, last_writes}
+use Rattle.xa_model.specs.Durable.{Durable, CommittedBranch, PreparedBranch, Pairwise, keys_before, insert, commit, commits_before, prepares_before, named_before, is_written, not_overwritten, with_writes, last_writes}
 use Rattle.xa_model.specs.Fold.{Reading, apply, complete, commit_prepared, prepared_as, read, fold, fold_from, unread, base, held, known}
 use Rattle.xa_model.specs.DurableLaws.{FoldIsByKey, SnapshotIsWritten}
 use Rattle.xa_model.proofs.Lists.{found_all, without_all}
@@ -75,7 +75,7 @@ with_stamped t (w ∷ ws) bs here h = (here (omega arith), h)
 last_stamped : (bs : List CommittedBranch) → AreStamped bs → AreStamped (last_writes bs)
 last_stamped [] h = tt
 last_stamped (b ∷ later) h =
-    with_stamped b.timestamp (left_by later b.writes) (last_writes later) (λ some. some_stamped (λ w. not (is_written w.key later)) b.timestamp b.writes h.0 some) (last_stamped later h.1)
+    with_stamped b.timestamp (not_overwritten later b.writes) (last_writes later) (λ some. some_stamped (λ w. not (is_written w.key later)) b.timestamp b.writes h.0 some) (last_stamped later h.1)
 
 commit_stamped : (b : CommittedBranch) (bs : List CommittedBranch) → IsStamped b.timestamp b.writes → AreStamped bs → AreStamped (commit b bs)
 commit_stamped b bs here h = last_stamped (insert commits_before b bs) (insert_all (λ c. IsStamped c.timestamp c.writes) commits_before b bs here h)

@@ -41,8 +41,8 @@ open_by s n = ok (record s { sessions = change (λ x. x.number == n) as_opened s
 
 -- Close: no association of the session's own may be left
 
-abbrev pub is_anyones : ℕ → Association → Bool
-is_anyones n a = is_own n a.holder
+abbrev pub is_of_session : ℕ → Association → Bool
+is_of_session n a = is_own n a.holder
 
 abbrev pub close_refusal : Bool → Option Reply
 close_refusal holds = first ((holds, plain XAER_PROTO) ∷ [])
@@ -52,7 +52,7 @@ as_closed x = record x { opened = false; scan = None }
 
 abbrev pub close_by : State → ℕ → Answer
 close_by s n =
-    unless (close_refusal (list_any (is_anyones n) s.associations)) s
+    unless (close_refusal (list_any (is_of_session n) s.associations)) s
     (ok (record s { sessions = change (λ x. x.number == n) as_closed s.sessions }))
 
 -- Marks: the first stays, and only a branch that is at work has one
@@ -82,7 +82,7 @@ left_behind held n b = if is_worked_by held n b.phase then with_mark XA_RBCOMMFA
 abbrev pub hang_up_by : State → ℕ → Answer
 hang_up_by s n = ok (record s {
   sessions = without (λ x. x.number == n) s.sessions;
-  associations = filter (λ a. not (is_anyones n a)) s.associations;
+  associations = filter (λ a. not (is_of_session n a)) s.associations;
   branches = map (left_behind s.associations n) s.branches;
 })
 

@@ -6,8 +6,7 @@ use Rattle.xa_record.specs.declared.record.Record.{Record}
 use Rattle.xa_record.specs.declared.record.Record.TheVariants as logged
 use Rattle.xa_limits.specs.declared.TheConstants.{FIRST_OFFSET}
 use Rattle.xa_model.specs.declared.outcome.Appending.TheVariants.{Kept, Refused, Lost}
-use Rattle.xa_model.specs.State.{State, timestamp_of}
-use Rattle.xa_model.specs.Sound.{is_working}
+use Rattle.xa_model.specs.State.{State, timestamp_of, is_working}
 use Rattle.xa_model.specs.Durable.{durable}
 use Rattle.xa_model.specs.Fold.{fold, reading, unread, is_used, snapshot, sizes}
 use Rattle.xa_model.specs.Turn.{Turn, Nobody, Now, Appends, Rereads, Rereading, Stops, Opens}

@@ -37,8 +37,8 @@ heuristic_refusal _ = None
 -- Prepare, and Commit with TMONEPHASE: a branch that is associated, prepared or completed is neither prepared nor
 -- committed in one phase
 
-abbrev pub one_phase_refusal : Known → Bool → Option Reply
-one_phase_refusal known is_associated =
+abbrev pub unprepared_refusal : Known → Bool → Option Reply
+unprepared_refusal known is_associated =
     first ((is_unknown known, plain XAER_NOTA) ∷ (is_associated || is_lasting known, plain XAER_PROTO) ∷ [])
 
 -- Commit in two phases: a branch that is neither prepared nor completed is not committed so

@@ -9,7 +9,7 @@ use Rattle.xa_record.specs.declared.record.Record.TheVariants as logged
 use Rattle.xa_model.specs.State.{State, Known, InDoubt, Completed, known_as}
 use Rattle.xa_model.specs.Answer.{plain, answer, ok, first}
 use Rattle.xa_model.specs.Associations.{is_unknown, mark_in, timestamp_in}
-use Rattle.xa_model.specs.Branches.{is_associated, one_phase_refusal, two_phase_refusal, rollback_refusal}
+use Rattle.xa_model.specs.Branches.{is_associated, unprepared_refusal, two_phase_refusal, rollback_refusal}
 use Rattle.xa_model.specs.Branches.{heuristic_refusal, rolled_back, committed}
 use Rattle.xa_model.specs.Fold.{is_empty}
 use Rattle.xa_model.specs.Turn.{Turn, Now, unless_now, marked_now}
@@ -24,7 +24,7 @@ prepare_written s xid =
 
 abbrev pub prepare_turn : State → Triple → Turn
 prepare_turn s xid =
-    unless_now (one_phase_refusal (known_as s xid) (is_associated s xid)) s
+    unless_now (unprepared_refusal (known_as s xid) (is_associated s xid)) s
     (marked_now (mark_in (known_as s xid)) (rolled_back s xid)
     (if is_empty (writes_in s xid) then Now (answer (plain XA_RDONLY) (committed s xid)) else prepare_written s xid))
 
@@ -36,7 +36,7 @@ commit_written s xid =
 
 abbrev pub commit_one_phase_turn : State → Triple → Turn
 commit_one_phase_turn s xid =
-    unless_now (one_phase_refusal (known_as s xid) (is_associated s xid)) s
+    unless_now (unprepared_refusal (known_as s xid) (is_associated s xid)) s
     (marked_now (mark_in (known_as s xid)) (rolled_back s xid)
     (if is_empty (writes_in s xid) then Now (ok (committed s xid)) else commit_written s xid))
 

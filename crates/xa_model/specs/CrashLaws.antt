@@ -15,7 +15,7 @@ use Rattle.xa_model.specs.History.{Entry, Leads}
 use Rattle.xa_model.specs.Loggable.{IsRecoverable}
 use Rattle.xa_model.specs.Restored.{IsRestored}
 use Rattle.xa_model.specs.Restarting.{fates}
-use Rattle.xa_model.specs.ListedLaw.{lists, AreRefusals, HasPrepared, HasCompleted, AsksCompletion, CallsPrepare}
+use Rattle.xa_model.specs.ListedLaw.{lists, HaveRealMarks, HasPrepared, HasCompleted, AsksCompletion, CallsPrepare}
 use Rattle.xa_model.specs.ListedLaw.{is_prepare, is_completion, is_request}
 use Rattle.xa_model.specs.Crash.{with_append, appends, lost_of, IsFate, MayBeLeft, MayBeLeftIn}
 
@@ -127,7 +127,7 @@ CrashUnlists first =
     → MayBeLeftIn mid run d → lists xid d ≡ false
 
 abbrev pub CrashKeepsPrepared : Type 0
-CrashKeepsPrepared = (first : State) → IsRecoverable first → AreRefusals first → CrashLists first
+CrashKeepsPrepared = (first : State) → IsRecoverable first → HaveRealMarks first → CrashLists first
 
 abbrev pub CrashKeepsCompleted : Type 0
 CrashKeepsCompleted = (first : State) → IsRecoverable first → CrashUnlists first

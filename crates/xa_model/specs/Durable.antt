@@ -68,8 +68,8 @@ abbrev pub is_written : List ℕ → List CommittedBranch → Bool
 is_written key bs = list_any (λ b. is_written_in key b.writes) bs
 
 -- the writes of keys that none of these branches writes
-abbrev pub left_by : List CommittedBranch → List Write → List Write
-left_by later ws = filter (λ w. not (is_written w.key later)) ws
+abbrev pub not_overwritten : List CommittedBranch → List Write → List Write
+not_overwritten later ws = filter (λ w. not (is_written w.key later)) ws
 
 -- a branch without writes is left out
 abbrev pub with_writes : ℕ → List Write → List CommittedBranch → List CommittedBranch
@@ -79,7 +79,7 @@ with_writes t (w ∷ ws) bs = record { timestamp = t; writes = w ∷ ws } ∷ bs
 -- of branches that ascend by timestamp, the writes that are the last of their keys
 abbrev pub last_writes : List CommittedBranch → List CommittedBranch
 last_writes [] = []
-last_writes (b ∷ later) = with_writes b.timestamp (left_by later b.writes) (last_writes later)
+last_writes (b ∷ later) = with_writes b.timestamp (not_overwritten later b.writes) (last_writes later)
 
 -- what was last left at a key, by branches that ascend by timestamp, with the timestamp
 abbrev pub value_in : List ℕ → List Write → Option (Option (List ℕ))

@@ -71,8 +71,8 @@ abbrev pub CallsPrepare : Triple → Entry → Type 0
 CallsPrepare xid e = is_request (is_prepare xid) e.happening ≡ true
 
 -- no mark is the code of success
-abbrev pub AreRefusals : State → Type 0
-AreRefusals s = AllByRecursion (λ b. mark_of b.phase ≡ Some XA_OK → ⊥) s.branches
+abbrev pub HaveRealMarks : State → Type 0
+HaveRealMarks s = AllByRecursion (λ b. mark_of b.phase ≡ Some XA_OK → ⊥) s.branches
 
 -- in a history from this state: behind a prepare that was answered XA_OK recovery lists the XID as long as nobody asks
 -- for its completion, whatever else is asked, decided, restarted and opened again
@@ -85,7 +85,7 @@ ListsUntilAsked first =
     → IsListed xid last
 
 abbrev pub ListedUntilAsked : Type 0
-ListedUntilAsked = (first : State) → IsRecoverable first → AreRefusals first → ListsUntilAsked first
+ListedUntilAsked = (first : State) → IsRecoverable first → HaveRealMarks first → ListsUntilAsked first
 
 -- so it is from each restart and each opening on
 abbrev pub ListedSinceBoot : Type 0

@@ -5,8 +5,8 @@ use Rattle.xa_codes.specs.declared.write.Write.{Write}
 use Rattle.xa_record.specs.Limits.{IsRecord, IsWrite}
 use Rattle.xa_record.specs.declared.record.Record.{Record}
 use Rattle.xa_record.specs.declared.record.Record.TheVariants as logged
-use Rattle.xa_model.specs.State.{State, Up}
-use Rattle.xa_model.specs.Sound.{IsSound, is_working}
+use Rattle.xa_model.specs.State.{State, Up, is_working}
+use Rattle.xa_model.specs.Sound.{IsSound}
 use Rattle.xa_model.specs.Durable.{boot_of, is_past, writes_of}
 use Rattle.xa_limits.specs.declared.TheConstants.{MOST_BOOTS, MOST_WRITES}
 use Rattle.xa_model.specs.MayLog.{MayLog}

@@ -4,9 +4,8 @@ use Rattle.xa_codes.specs.declared.write.Write.{Write}
 use Rattle.xa_xid.specs.Triple.{Triple}
 use Rattle.xa_record.specs.declared.record.Record.{Record}
 use Rattle.xa_record.specs.declared.record.Record.TheVariants as logged
-use Rattle.xa_model.specs.State.{State, InDoubt, known_as, known_of, holders_of}
+use Rattle.xa_model.specs.State.{State, InDoubt, known_as, known_of, holders_of, is_at_work}
 use Rattle.xa_model.specs.Associations.{timestamp_in}
-use Rattle.xa_model.specs.Sound.{is_at_work}
 use Rattle.xa_model.specs.Logging.{writes_in}
 use Rattle.xa_model.specs.Completions.{is_completed}
 

@@ -30,13 +30,13 @@ FindsAnswers (Got k answer source ∷ older) map = (after older map k ≡ answer
 FindsAnswers (Wrote k value ∷ older) map = FindsAnswers older map
 
 -- what branches leave that are executed from the last of the list to the first, on a map that has nothing
-abbrev pub left_by : List Branch → Map
-left_by [] key = None
-left_by (b ∷ older) key = after b.operations (left_by older) key
+abbrev pub map_after : List Branch → Map
+map_after [] key = None
+map_after (b ∷ older) key = after b.operations (map_after older) key
 
 abbrev pub IsOneCopy : List Branch → Type 0
 IsOneCopy [] = Unit {0}
-IsOneCopy (b ∷ older) = FindsAnswers b.operations (left_by older) × IsOneCopy older
+IsOneCopy (b ∷ older) = FindsAnswers b.operations (map_after older) × IsOneCopy older
 
 -- the committed branches stand by timestamp, the greatest first, and are one copy
 abbrev pub HasOneCopy : State → Type 0

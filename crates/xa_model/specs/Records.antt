@@ -58,14 +58,14 @@ came_late s xid =
 abbrev pub written : State → List ℕ → Option (List ℕ) → Triple → Answer
 written s key value xid = ok (record s { branches = did xid (Wrote key value) s.branches })
 
-abbrev pub in_time : Bool → Answer → Answer → Answer
-in_time true late go_on = late
-in_time false late go_on = go_on
+abbrev pub if_late : Bool → Answer → Answer → Answer
+if_late true late go_on = late
+if_late false late go_on = go_on
 
 abbrev pub put_from : State → List ℕ → Option (List ℕ) → Triple → Branch → Answer
 put_from s key value xid b =
     unless (limit_refusal (is_full key b.operations)) s
-    (in_time (is_late key b.timestamp s.reads) (came_late s xid) (written s key value xid))
+    (if_late (is_late key b.timestamp s.reads) (came_late s xid) (written s key value xid))
 
 abbrev pub put_by : State → List ℕ → Option (List ℕ) → Option (Triple × Branch) → Answer
 put_by s key value None = answer (plain XAER_PROTO) s

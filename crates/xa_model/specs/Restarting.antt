@@ -9,9 +9,8 @@ use Rattle.xa_record.specs.declared.record.Record.TheVariants as logged
 use Rattle.xa_limits.specs.declared.TheConstants.{FIRST_OFFSET, MOST_BOOTS}
 use Rattle.xa_model.specs.declared.outcome.Appending.{Appending}
 use Rattle.xa_model.specs.declared.outcome.Appending.TheVariants.{Kept, Refused, Lost}
-use Rattle.xa_model.specs.State.{State, Session, Branch, Operation, Wrote, Prepared, Committed, Up, Ended}
+use Rattle.xa_model.specs.State.{State, Session, Branch, Operation, Wrote, Prepared, Committed, Up, Ended, is_working}
 use Rattle.xa_model.specs.Answer.{Answer, detailed, answer, ok}
-use Rattle.xa_model.specs.Sound.{is_working}
 use Rattle.xa_model.specs.Durable.{Durable, CommittedBranch, PreparedBranch, durable, insert}
 use Rattle.xa_model.specs.Fold.{snapshot, sizes}
 use Rattle.xa_model.specs.Turn.{Turn, Rereads, Rereading, Stops, Opens}

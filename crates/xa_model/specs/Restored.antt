@@ -1,8 +1,7 @@
 -- The states that a restart and an opening lead to, of what lasted.
 use Rattle.std.specs.Prelude.{ℕ, ◌≡◌, true, false, None, []}
 use Rattle.std.specs.List.{AllByRecursion}
-use Rattle.xa_model.specs.State.{State, Up}
-use Rattle.xa_model.specs.Sound.{is_working}
+use Rattle.xa_model.specs.State.{State, Up, is_working}
 use Rattle.xa_model.specs.Durable.{Durable, durable, is_past}
 use Rattle.xa_model.specs.Logging.{snapshot_end}
 use Rattle.xa_model.specs.Loggable.{IsRecoverable}

@@ -1,25 +1,15 @@
 -- What every state of a history has.
 use Rattle.std.specs.Prelude.{ℕ, ◌≡◌, ◌+◌, ◌<◌, ◌≤◌, ◌==◌, Bool, true, false, Option, Some, None, List, [], ◌∷◌, length}
 use Rattle.xa_xid.specs.Triple.{Triple, xid_eq}
-use Rattle.xa_model.specs.State.{State, Branch, Phase, Working, Prepared, Committed, count, is_active, is_known_as}
+use Rattle.xa_model.specs.State.{State, Branch, count, is_active, is_known_as, is_at_work}
 use Rattle.xa_model.specs.State.{owns, known_of, known_in, session_of, holders_of, loose_of, timestamp_of}
-use Rattle.xa_model.specs.Associations.{is_anyones}
+use Rattle.xa_model.specs.Associations.{is_of_session}
 use Rattle.xa_limits.specs.declared.TheConstants.{MOST_GIVEN, MOST_LOG, MOST_LOOSE, MOST_SESSIONS}
 
 -- the timestamps are above 0, below the limit, and descend
 abbrev pub Descends : ℕ → List Branch → Type 0
 Descends limit [] = Unit {0}
 Descends limit (b ∷ bs) = (0 < b.timestamp) × (b.timestamp < limit) × Descends b.timestamp bs
-
--- a known branch that is at work
-abbrev pub is_working : Phase → Bool
-is_working (Working xid work) = true
-is_working (Prepared xid) = false
-is_working Committed = false
-
-abbrev pub is_at_work : Option Branch → Bool
-is_at_work (Some b) = is_working b.phase
-is_at_work None = false
 
 -- how many of the known branches and of the completed ones have this XID
 abbrev pub named : State → Triple → ℕ
@@ -41,7 +31,7 @@ pub record IsSound (s : State) : Type 0 where
   pub active : (n : ℕ) → count (λ a. is_active n a.holder) s.associations ≤ 1
   pub own : (n : ℕ) (xid : Triple) → count (owns n xid) s.associations ≤ 1
   -- who holds one is connected
-  pub connected : (n : ℕ) → session_of s.sessions n ≡ None → count (is_anyones n) s.associations ≡ 0
+  pub connected : (n : ℕ) → session_of s.sessions n ≡ None → count (is_of_session n) s.associations ≡ 0
   -- an XID that is held is of a known branch at work
   pub bound : (xid : Triple) → is_at_work (known_of s.branches xid) ≡ false → holders_of s.associations xid ≡ 0
   -- the limits

@@ -138,6 +138,16 @@ known_count branches = count (λ b. is_some (name_of b.phase)) branches
 abbrev pub known_in : State → ℕ
 known_in s = known_count s.branches + length s.decided
 
+-- a known branch that is at work
+abbrev pub is_working : Phase → Bool
+is_working (Working xid work) = true
+is_working (Prepared xid) = false
+is_working Committed = false
+
+abbrev pub is_at_work : Option Branch → Bool
+is_at_work (Some b) = is_working b.phase
+is_at_work None = false
+
 -- what the branch wrote is committed
 abbrev pub is_committed : Phase → Bool
 is_committed (Working x work) = false

@@ -40,12 +40,12 @@ at_work =
     ∷ [])
 
 -- what a state leaves once it has appended these records, and where the next would begin
-abbrev pub left_by : List Record → State → Durable × ℕ
-left_by [] s = (durable s, s.end)
-left_by (r ∷ rs) s = left_by rs (applied r s)
+abbrev pub after_records : List Record → State → Durable × ℕ
+after_records [] s = (durable s, s.end)
+after_records (r ∷ rs) s = after_records rs (applied r s)
 
 abbrev pub leaves : List Record → Durable → ℕ → Type 0
-leaves rs d end = (option_map (left_by rs) at_work ≡ Some (d, end)) × (fold (Opened 1 ∷ rs) ≡ Ok d)
+leaves rs d end = (option_map (after_records rs) at_work ≡ Some (d, end)) × (fold (Opened 1 ∷ rs) ≡ Ok d)
 
 abbrev pub prepares : Record
 prepares = Prepared xid_1 4294967297 (delete 0x6a ∷ write 0x6b 0x76 ∷ [])

@@ -29,7 +29,7 @@ use Rattle.xa_model.proofs.RoomyRows.{AsksRoom, events_ask_room}
 use Rattle.xa_model.specs.Early.{early_refusal}
 use Rattle.xa_model.specs.Logging.{applied, append_became, logs, has_room, log_full, writes_in, down}
 use Rattle.xa_model.specs.Associations.{failed, mark_in, timestamp_in}
-use Rattle.xa_model.specs.Branches.{one_phase_refusal, two_phase_refusal, rollback_refusal, heuristic_refusal, is_associated, rolled_back, committed}
+use Rattle.xa_model.specs.Branches.{unprepared_refusal, two_phase_refusal, rollback_refusal, heuristic_refusal, is_associated, rolled_back, committed}
 use Rattle.xa_model.specs.Completions.{prepare_turn, commit_one_phase_turn, commit_two_phase_turn, rollback_turn, roll_back_turn, decide_turn, decide_refusal, forget_turn, forget_refusal}
 use Rattle.xa_model.specs.Restarting.{restart_turn, restarting, boot_became, survived, missed, reopening, can_open, reopen_became, refused_opening}
 
@@ -105,13 +105,13 @@ ends_keep s refusal mark gone empty room now full r left e =
 prepare_keeps : (s : State) (xid : Triple) → KeepsAppends s.log_bytes (prepare_turn s xid)
 prepare_keeps s xid =
     let r = logged.Prepared xid (timestamp_in s xid) (writes_in s xid) in
-    ends_keep s (one_phase_refusal (known_as s xid) (is_associated s xid)) (mark_in (known_as s xid)) (rolled_back s xid) (is_empty (writes_in s xid)) (has_room s r 1)
+    ends_keep s (unprepared_refusal (known_as s xid) (is_associated s xid)) (mark_in (known_as s xid)) (rolled_back s xid) (is_empty (writes_in s xid)) (has_room s r 1)
     (answer (plain XA_RDONLY) (committed s xid)) (log_full s xid) r s refl
 
 one_phase_keeps : (s : State) (xid : Triple) → KeepsAppends s.log_bytes (commit_one_phase_turn s xid)
 one_phase_keeps s xid =
     let r = logged.Committed xid (timestamp_in s xid) (writes_in s xid) in
-    ends_keep s (one_phase_refusal (known_as s xid) (is_associated s xid)) (mark_in (known_as s xid)) (rolled_back s xid) (is_empty (writes_in s xid)) (has_room s r 0)
+    ends_keep s (unprepared_refusal (known_as s xid) (is_associated s xid)) (mark_in (known_as s xid)) (rolled_back s xid) (is_empty (writes_in s xid)) (has_room s r 0)
     (ok (committed s xid)) (log_full s xid) r (rolled_back s xid) refl
 
 twice_keeps : (s : State) (refusal other : Option Reply) (t : Turn) → KeepsAppends s.log_bytes t → KeepsAppends s.log_bytes (unless_now refusal s (unless_now other s t))

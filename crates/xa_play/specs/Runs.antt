@@ -7,7 +7,7 @@ use Rattle.xa_model.specs.Loggable.{IsRecoverable}
 use Rattle.xa_model.specs.Events.{HaveHappened}
 use Rattle.xa_model.specs.History.{Entry, Leads}
 use Rattle.xa_model.specs.OneCopy.{HasNoGet, HasOneCopy}
-use Rattle.xa_model.specs.ListedLaw.{AreRefusals, AsksCompletion, HasPrepared, IsListed}
+use Rattle.xa_model.specs.ListedLaw.{HaveRealMarks, AsksCompletion, HasPrepared, IsListed}
 
 -- a history, and the state that it led to
 pub record Run : Type 0 where
@@ -50,7 +50,7 @@ pub record IsLawful (run : Run) : Type 0 where
   pub legal : IsRun run
   pub recoverable : IsRecoverable run.now
   pub one_copy : HasNoGets run.first → HasOneCopy run.now
-  pub listed : AreRefusals run.first → (xid : Triple) → Prepares xid run.entries → IsListed xid run.now
+  pub listed : HaveRealMarks run.first → (xid : Triple) → Prepares xid run.entries → IsListed xid run.now
 
 -- so it is of every run
 abbrev pub RunsAreLawful : Type 0

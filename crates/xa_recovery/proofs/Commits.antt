@@ -7,7 +7,7 @@ use Rattle.std.proofs.lemmas.Bool.Decides.{nat_tests}
 use Rattle.xa_codes.specs.declared.write.Write.{Write}
 use Rattle.xa_xid.specs.Triple.{Triple}
 use Rattle.xa_model.specs.State.{without}
-use Rattle.xa_model.specs.Durable.{CommittedBranch, PreparedBranch, Pairwise, insert, commits_before, prepares_before, is_written_in, is_written, left_by, with_writes, last_writes, commit}
+use Rattle.xa_model.specs.Durable.{CommittedBranch, PreparedBranch, Pairwise, insert, commits_before, prepares_before, is_written_in, is_written, not_overwritten, with_writes, last_writes, commit}
 use Rattle.xa_model.specs.Fold.{Reading, prepare, commit_writes, prepared_as, is_used}
 use Rattle.xa_model.proofs.Lists.{found_all, without_all}
 use Rattle.xa_model.proofs.Inserts.{all_imply, all_both, all_filtered, filter_all, insert_all, insert_pairwise, found_others, both_ways}
@@ -40,30 +40,30 @@ kept_by b w ws vs c true false is here rest = let all : c ≡ true = is in rw (a
 kept_by b w ws vs c false true is here rest = let all : c ≡ true = is in rw all rest
 kept_by b w ws vs c false false is here rest = let none : c ≡ false = is in rw (none, here) (ap (λ us. w ∷ us) rest)
 
-left_inserted : (b : CommittedBranch) (bs : List CommittedBranch) (ws : List Write) → left_by (insert commits_before b bs) ws ≡ drop b (left_by bs ws)
+left_inserted : (b : CommittedBranch) (bs : List CommittedBranch) (ws : List Write) → not_overwritten (insert commits_before b bs) ws ≡ drop b (not_overwritten bs ws)
 left_inserted b bs [] = refl
 left_inserted b bs (w ∷ ws) =
-    kept_by b w (left_by (insert commits_before b bs) ws) (left_by bs ws) (is_written w.key (insert commits_before b bs)) (is_written_in w.key b.writes) (is_written w.key bs)
+    kept_by b w (not_overwritten (insert commits_before b bs) ws) (not_overwritten bs ws) (is_written w.key (insert commits_before b bs)) (is_written_in w.key b.writes) (is_written w.key bs)
     (written_inserted w.key b bs) refl (left_inserted b bs ws)
 
 -- last writes are left by last writes
-still_left : (later : List CommittedBranch) (ws : List Write) → left_by (last_writes later) (left_by later ws) ≡ left_by later ws
+still_left : (later : List CommittedBranch) (ws : List Write) → not_overwritten (last_writes later) (not_overwritten later ws) ≡ not_overwritten later ws
 still_left later ws =
-    filter_all (λ w. not (is_written w.key (last_writes later))) (left_by later ws)
+    filter_all (λ w. not (is_written w.key (last_writes later))) (not_overwritten later ws)
     (all_filtered (λ w. not (is_written w.key (last_writes later)) ≡ true) (λ w. not (is_written w.key later)) (λ w e. ap not (last_written w.key later) ∙ e) ws)
 
-same_left : (later : List CommittedBranch) (ws : List Write) → left_by (last_writes later) ws ≡ left_by later ws
+same_left : (later : List CommittedBranch) (ws : List Write) → not_overwritten (last_writes later) ws ≡ not_overwritten later ws
 same_left later [] = refl
 same_left later (w ∷ ws) =
     let here : is_written w.key (last_writes later) ≡ is_written w.key later = last_written w.key later in
-    let rest : left_by (last_writes later) ws ≡ left_by later ws = same_left later ws in
+    let rest : not_overwritten (last_writes later) ws ≡ not_overwritten later ws = same_left later ws in
     rw (here, rest) refl
 
-commit_behind : (b : CommittedBranch) (t : ℕ) (ws : List Write) (bs : List CommittedBranch) → nat_lt t b.timestamp ≡ true → left_by bs ws ≡ ws
+commit_behind : (b : CommittedBranch) (t : ℕ) (ws : List Write) (bs : List CommittedBranch) → nat_lt t b.timestamp ≡ true → not_overwritten bs ws ≡ ws
     → commit b (with_writes t ws bs) ≡ with_writes t (drop b ws) (commit b bs)
 commit_behind b t [] bs below left = refl
 commit_behind b t (w ∷ ws) bs below left =
-    let here : left_by (insert commits_before b bs) (w ∷ ws) ≡ drop b (w ∷ ws) = left_inserted b bs (w ∷ ws) ∙ ap (drop b) left in
+    let here : not_overwritten (insert commits_before b bs) (w ∷ ws) ≡ drop b (w ∷ ws) = left_inserted b bs (w ∷ ws) ∙ ap (drop b) left in
     rw (below, here) refl
 
 insert_first : (b : CommittedBranch) (bs : List CommittedBranch) → AllByRecursion (λ c. nat_lt c.timestamp b.timestamp ≡ false) bs → insert commits_before b bs ≡ b ∷ bs
@@ -76,9 +76,9 @@ not_below t u v e f = grind (arith, nat_tests)
 commit_before : (b : CommittedBranch) (bs : List CommittedBranch) → AllByRecursion (λ c. nat_lt c.timestamp b.timestamp ≡ false) bs → last_writes (b ∷ bs) ≡ commit b (last_writes bs)
 commit_before b bs h =
     let first : insert commits_before b (last_writes bs) ≡ b ∷ last_writes bs = insert_first b (last_writes bs) (last_all (λ u. nat_lt u b.timestamp ≡ false) bs h) in
-    let left : left_by (last_writes bs) b.writes ≡ left_by bs b.writes = same_left bs b.writes in
+    let left : not_overwritten (last_writes bs) b.writes ≡ not_overwritten bs b.writes = same_left bs b.writes in
     let same : last_writes (last_writes bs) ≡ last_writes bs = last_same (last_writes bs) (last_are_last bs) in
-    let here : last_writes (b ∷ last_writes bs) ≡ last_writes (b ∷ bs) = ap (λ ws. with_writes b.timestamp ws (last_writes (last_writes bs))) left ∙ ap (λ cs. with_writes b.timestamp (left_by bs b.writes) cs) same in
+    let here : last_writes (b ∷ last_writes bs) ≡ last_writes (b ∷ bs) = ap (λ ws. with_writes b.timestamp ws (last_writes (last_writes bs))) left ∙ ap (λ cs. with_writes b.timestamp (not_overwritten bs b.writes) cs) same in
     sym (ap last_writes first ∙ here)
 
 commit_by : (b c : CommittedBranch) (later : List CommittedBranch) (d : Bool) → nat_lt c.timestamp b.timestamp ≡ d → AllByRecursion (λ z. commits_before c z ≡ true) later
@@ -86,8 +86,8 @@ commit_by : (b c : CommittedBranch) (later : List CommittedBranch) (d : Bool) �
     → last_writes (cond d (c ∷ insert commits_before b later) (b ∷ c ∷ later)) ≡ commit b (last_writes (c ∷ later))
 commit_by b c later true e behind rest =
     ap (λ ws. with_writes c.timestamp ws (last_writes (insert commits_before b later))) (left_inserted b later c.writes)
-    ∙ ap (λ cs. with_writes c.timestamp (drop b (left_by later c.writes)) cs) rest
-    ∙ sym (commit_behind b c.timestamp (left_by later c.writes) (last_writes later) e (still_left later c.writes))
+    ∙ ap (λ cs. with_writes c.timestamp (drop b (not_overwritten later c.writes)) cs) rest
+    ∙ sym (commit_behind b c.timestamp (not_overwritten later c.writes) (last_writes later) e (still_left later c.writes))
 commit_by b c later false e behind rest =
     commit_before b (c ∷ later) (e, all_imply (λ z. commits_before c z ≡ true) (λ z. nat_lt z.timestamp b.timestamp ≡ false) (λ z f. not_below c.timestamp z.timestamp b.timestamp e f) later behind)
 

@@ -11,7 +11,7 @@ use Rattle.std.proofs.lemmas.Cmp.{nat_list_eq_equiv}
 use Rattle.std.proofs.lemmas.List.Folds.{list_any-append}
 use Rattle.std.proofs.lemmas.Map.Text.{is_eq-slice_cmp}
 use Rattle.xa_codes.specs.declared.write.Write.{Write}
-use Rattle.xa_model.specs.Durable.{CommittedBranch, Pairwise, commits_before, is_written_in, is_written, left_by, with_writes, last_writes}
+use Rattle.xa_model.specs.Durable.{CommittedBranch, Pairwise, commits_before, is_written_in, is_written, not_overwritten, with_writes, last_writes}
 use Rattle.xa_model.proofs.Inserts.{pairwise_behind}
 use Rattle.xa_model.proofs.LastWrites.{left_or_later, last_all}
 use Rattle.xa_recovery.specs.Durable.{as_committed}
@@ -60,18 +60,18 @@ no_write (w ∷ ws) e = absurd (omega arith)
 
 -- what the branch before them leaves
 left_is : (written : BTreeSet (List ℕ)) (later : List CommittedBranch) (ws kept : List Write) → ((key : List ℕ) → has_key written key ≡ is_written key later)
-    → kept ≡ filter (λ w. not (has_key written w.key)) ws → kept ≡ left_by later ws
+    → kept ≡ filter (λ w. not (has_key written w.key)) ws → kept ≡ not_overwritten later ws
 left_is written later ws kept keys e = e ∙ same_filter (λ w. not (has_key written w.key)) (λ w. not (is_written w.key later)) (λ w. ap not (keys w.key)) ws
 
-now_written : (b : CommittedBranch) (later : List CommittedBranch) (kept : List Write) (key : List ℕ) → kept ≡ left_by later b.writes → (is_written_in key kept || is_written key later) ≡ is_written key (b ∷ later)
+now_written : (b : CommittedBranch) (later : List CommittedBranch) (kept : List Write) (key : List ℕ) → kept ≡ not_overwritten later b.writes → (is_written_in key kept || is_written key later) ≡ is_written key (b ∷ later)
 now_written b later kept key e = ap (λ ws. is_written_in key ws || is_written key later) e ∙ left_or_later key later b.writes
 
 -- a branch whose writes were all written over
 pub passed_over : (all : List CommittedBranch) (old rest : List (ℕ × List Write)) (e : ℕ × List Write) (written : BTreeSet (List ℕ)) (last : List (ℕ × List Write)) (kept : List Write)
     → Upto all old written last → old ≡ rest ++ e ∷ [] → kept ≡ filter (λ w. not (has_key written w.key)) e.1 → length kept ≡ 0 → Upto all rest written last
 passed_over all old rest e written last kept u is left none =
-    let here : kept ≡ left_by u.later e.1 = left_is written u.later e.1 kept u.keys left in
-    let empty : left_by u.later e.1 ≡ [] = sym here ∙ no_write kept none in
+    let here : kept ≡ not_overwritten u.later e.1 = left_is written u.later e.1 kept u.keys left in
+    let empty : not_overwritten u.later e.1 ≡ [] = sym here ∙ no_write kept none in
     record {
       later = as_committed e ∷ u.later;
       split = u.split ∙ (ap (λ es. map as_committed es ++ u.later) is ∙ moved rest e u.later);
@@ -85,7 +85,7 @@ pub taken : (all : List CommittedBranch) (old rest : List (ℕ × List Write)) (
     → Notes written kept new
     → more ≡ insert_entry nat_cmp last e.0 kept → Upto all rest new more
 taken all old rest e written new last more kept ordered u is left some noted entries =
-    let here : kept ≡ left_by u.later e.1 = left_is written u.later e.1 kept u.keys left in
+    let here : kept ≡ not_overwritten u.later e.1 = left_is written u.later e.1 kept u.keys left in
     let split : all ≡ map as_committed rest ++ as_committed e ∷ u.later = u.split ∙ (ap (λ es. map as_committed es ++ u.later) is ∙ moved rest e u.later) in
     let behind : AllByRecursion (λ b. commits_before (as_committed e) b ≡ true) u.later = pairwise_behind commits_before (map as_committed rest) (as_committed e) u.later (subst (λ (bs : List CommittedBranch). Pairwise commits_before bs) split ordered) in
     let below : AllByRecursion (λ b. nat_lt e.0 b.timestamp ≡ true) (map as_committed last) = subst (λ (bs : List CommittedBranch). AllByRecursion (λ b. nat_lt e.0 b.timestamp ≡ true) bs) (sym u.last_is) (last_all (λ t. nat_lt e.0 t ≡ true) u.later behind) in

@@ -125,7 +125,7 @@ fn knows(alloc: Global) -> Option<bool> {
     let none = branches.known_after(alloc, None, 256).ok()?;
     branches.begin(&second, 0).ok()?;
     branches.begin(&first, 0).ok()?;
-    branches.doom(&second, XA_RBOTHER);
+    branches.mark(&second, XA_RBOTHER);
     let all = branches.known_after(alloc, None, 256).ok()?;
     let above = branches.known_after(alloc, Some(&first), 1).ok()?;
     let one = all.first()?;

@@ -41,7 +41,7 @@ fn branches(rt: HostRuntime) -> Result<(), Fail> {
     branches.resume(&xid, Kind::Loose);
     branches.leave(&xid, Kind::Active);
     assert_eq!(rt; branches.state(&xid), Some(State::Idle));
-    branches.doom(&xid, XA_RBOTHER);
+    branches.mark(&xid, XA_RBOTHER);
     assert_eq!(rt; branches.known(&xid), Known::AtWork(Some(XA_RBOTHER)));
     branches.finish(&xid);
     assert_eq!(rt; branches.ready_to_prepare(&xid), Err(XAER_NOTA));

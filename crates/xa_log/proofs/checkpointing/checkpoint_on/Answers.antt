@@ -3,7 +3,7 @@ use Rattle.std.proofs.lemmas.List.{length-map}
 use Rattle.std.specs.Int.{w32, to_be_bytes}
 use Rattle.xa_disk.specs.Disk.{Only}
 use Rattle.xa_log.specs.Chain.{start, records}
-use Rattle.xa_log.specs.Answers.{Went}
+use Rattle.xa_log.specs.Answers.{PutBecame}
 use Rattle.xa_log.specs.Reading.{bodies_of}
 use Rattle.xa_log.specs.Checkpoint.{IsReady, LeavesNone, first_length}
 use Rattle.xa_log.proofs.Steps.{first_len}
@@ -98,7 +98,7 @@ returns-in-Ok-put_records-clause-answer g c h most stood room other =
     let new = c.put_seal-outcome.new.disk in
     sealed c.args.format g.D.Disk most stood bodies c.args.disk.now c.put_records.new.disk new ready second.fits durable
     c.put_seal-outcome.result c.put_seal-outcome.ensures.not_full
-    (subst (λ n. Went g.D.Disk.tears c.put_seal-outcome.result 8 (to_be_bytes w32 n) done (g.D.Disk.seen new) (g.D.Disk.may_leave new)) same (c.put_seal-outcome.ensures.went h))
+    (subst (λ n. PutBecame g.D.Disk.tears c.put_seal-outcome.result 8 (to_be_bytes w32 n) done (g.D.Disk.seen new) (g.D.Disk.may_leave new)) same (c.put_seal-outcome.ensures.went h))
     (c.put_seal-outcome.ensures.time h).follows
 
 pub returns-in-Ok-put_records-clause-calls : goal.returns-in-Ok-put_records-clause-calls
@@ -135,4 +135,4 @@ returns-in-Ok-put_records-clause-cleared g c h kept =
     size ∙ sym (first_len c.args.bodies.now c.index-bodies-0.result c.requires.some c.index-bodies-0.is) in
     sealed_cleared g.D.Disk.tears c.args.more c.args.format bodies old mid done (g.D.Disk.seen c.put_seal-outcome.new.disk) (g.D.Disk.may_leave c.put_seal-outcome.new.disk)
     c.put_seal-outcome.result (c.in-Ok.ensures.made h) long c.requires.sizes some (c.in-Ok-put_records.ensures.written h long) kept
-    (subst (λ n. Went g.D.Disk.tears c.put_seal-outcome.result 8 (to_be_bytes w32 n) done (g.D.Disk.seen c.put_seal-outcome.new.disk) (g.D.Disk.may_leave c.put_seal-outcome.new.disk)) same (c.put_seal-outcome.ensures.went h))
+    (subst (λ n. PutBecame g.D.Disk.tears c.put_seal-outcome.result 8 (to_be_bytes w32 n) done (g.D.Disk.seen c.put_seal-outcome.new.disk) (g.D.Disk.may_leave c.put_seal-outcome.new.disk)) same (c.put_seal-outcome.ensures.went h))

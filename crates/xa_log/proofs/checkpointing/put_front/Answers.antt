@@ -3,7 +3,7 @@ use Rattle.xa_disk.specs.Disk.{put, Torn}
 use Rattle.xa_disk.specs.Time.{TimePasses}
 use Rattle.xa_disk.specs.Images.{torn_same}
 use Rattle.xa_log.specs.Chain.{preamble}
-use Rattle.xa_log.specs.Answers.{Fell}
+use Rattle.xa_log.specs.Answers.{FailedPut}
 use Rattle.xa_log.proofs.Header.{length-preamble, put_header}
 use Rattle.xa_log.proofs.Known.{put_grows}
 use Rattle.xa_log.proofs.Ready.{map_ok, map_err, leaves_by, fell_calm, other_torn, front_leaves}
@@ -30,7 +30,7 @@ pub returns-clause-calm : goal.returns-clause-calm
 returns-clause-calm g c h lucky stood calm =
     map_err _ _ c.put_synced.result
     (λ fell. fell_calm g.D.Disk.tears c.args.format stood (g.D.Disk.seen c.args.disk.now) (g.D.Disk.seen c.put_synced.new.disk) lucky calm
-    (subst (λ bytes. Fell g.D.Disk.tears (g.D.Disk.seen c.args.disk.now) 0 bytes (g.D.Disk.seen c.put_synced.new.disk)) (c.as_slice.ensures ∙ c.preamble.ensures) fell))
+    (subst (λ bytes. FailedPut g.D.Disk.tears (g.D.Disk.seen c.args.disk.now) 0 bytes (g.D.Disk.seen c.put_synced.new.disk)) (c.as_slice.ensures ∙ c.preamble.ensures) fell))
     (c.put_synced.ensures.fell h)
 
 pub returns-clause-any_moment : goal.returns-clause-any_moment

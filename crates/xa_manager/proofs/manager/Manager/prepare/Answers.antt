@@ -36,13 +36,13 @@ returns-then-is_empty-clause-ok g c =
     let m = c.args.self.now in
     let m' = record c.args.self.now { tables = c.finish_branch-then-is_empty.new.self } in
     let xid = c.args.xid.now in
-    let free : c.one_phase_refusal.result ≡ None = search rules in
+    let free : c.unprepared_refusal.result ≡ None = search rules in
     let unmarked : c.mark_of.result ≡ None = search rules in
     let none : length c.in_ok-writes.writes.items ≡ 0 = grind (arith, nat_tests, c.is_empty.ensures, c.if-is_empty.true) in
     rw (c.now-then-is_empty.ensures, c.plain-then-is_empty.ensures)
     (takes_now _ m m' (λ (s : State). prepare_turn s xid) _ _ refl refl refl refl refl
     (λ s whole is_up st.
-    let passes = sym free ∙ c.one_phase_refusal.ensures.value s st in
+    let passes = sym free ∙ c.unprepared_refusal.ensures.value s st in
     let known = worked_known s xid passes in
     let writes = told_writes (view m) s xid c.timestamp-timestamp.result c.in_ok-writes.writes.items st known (c.timestamp-timestamp.ensures s st.branches) c.in_ok-writes.ensures.writes in
     now_empty (view m') s xid (answer (plain XA_RDONLY) (committed s xid)) (prepare_written s xid) passes (c.mark_of.ensures s st ∙ unmarked) (ap is_empty (sym writes) ∙ no_writes c.in_ok-writes.writes.items none)
@@ -67,13 +67,13 @@ returns-then-not-has_room-clause-ok g c =
     let xid = c.args.xid.now in
     let t = c.timestamp-timestamp.result in
     let ws = c.in_ok-writes.writes.items in
-    let free : c.one_phase_refusal.result ≡ None = search rules in
+    let free : c.unprepared_refusal.result ≡ None = search rules in
     let unmarked : c.mark_of.result ≡ None = search rules in
     let some : 1 ≤ length ws = grind (arith, nat_tests, c.is_empty.ensures, c.if-is_empty.false) in
     let told : WasTold (view m) xid t ws = record {
       name = c.requires.name;
       some = some_writes ws some;
-      free = λ s st. sym free ∙ c.one_phase_refusal.ensures.value s st;
+      free = λ s st. sym free ∙ c.unprepared_refusal.ensures.value s st;
       unmarked = λ s st. c.mark_of.ensures s st ∙ unmarked;
       time = λ s st. c.timestamp-timestamp.ensures s st.branches;
       writes = c.in_ok-writes.ensures.writes;
@@ -100,13 +100,13 @@ returns-clause-ok g c =
     let t = c.timestamp-timestamp.result in
     let ws = c.in_ok-writes.writes.items in
     let a = c.in-Ok.answer in
-    let free : c.one_phase_refusal.result ≡ None = search rules in
+    let free : c.unprepared_refusal.result ≡ None = search rules in
     let unmarked : c.mark_of.result ≡ None = search rules in
     let some : 1 ≤ length ws = grind (arith, nat_tests, c.is_empty.ensures, c.if-is_empty.false) in
     let told : WasTold (view m) xid t ws = record {
       name = c.requires.name;
       some = some_writes ws some;
-      free = λ s st. sym free ∙ c.one_phase_refusal.ensures.value s st;
+      free = λ s st. sym free ∙ c.unprepared_refusal.ensures.value s st;
       unmarked = λ s st. c.mark_of.ensures s st ∙ unmarked;
       time = λ s st. c.timestamp-timestamp.ensures s st.branches;
       writes = c.in_ok-writes.ensures.writes;
@@ -146,13 +146,13 @@ returns-in-Some-mark_of-clause-ok g c =
     let m = c.args.self.now in
     let m' = record c.args.self.now { tables = c.finish_branch.new.self } in
     let xid = c.args.xid.now in
-    let free : c.one_phase_refusal.result ≡ None = search rules in
+    let free : c.unprepared_refusal.result ≡ None = search rules in
     let marked : c.mark_of.result ≡ Some c.in-Some-mark_of.code = search rules in
     let kept : to_z w32 (of_z w32 c.in-Some-mark_of.code) ≡ c.in-Some-mark_of.code = first_of (search rules, grind (arith, common_steps)) in
     rw (c.now-in-Some-mark_of.ensures, c.plain.ensures, kept)
     (takes_now _ m m' (λ (s : State). prepare_turn s xid) _ _ refl refl refl refl refl
     (λ s whole is_up st.
-    let passes = sym free ∙ c.one_phase_refusal.ensures.value s st in
+    let passes = sym free ∙ c.unprepared_refusal.ensures.value s st in
     now_marked (view m') s xid (answer (plain XA_RDONLY) (committed s xid)) (prepare_written s xid) c.in-Some-mark_of.code passes (c.mark_of.ensures s st ∙ marked)
     (λ recoverable. c.finish_branch.ensures.rolled_back refl s s.end st (worked_known s xid passes) recoverable)))
 

@@ -7,13 +7,13 @@ use Rattle.xa_branch.specs.Due.{due_named, LosesDue}
 use Rattle.xa_branch.proofs.Dues.{working_due, unworking_due, loses_none}
 use Rattle.xa_branch.proofs.Setting.{unset_by_any}
 use Rattle.xa_branch.proofs.Marking.{marked_stands}
-use Rattle.xa_branch.proofs.branches.Branches.doom.Goals as goal
+use Rattle.xa_branch.proofs.branches.Branches.mark.Goals as goal
 
 pub returns-in-Some : goal.returns-in-Some
 returns-in-Some c = λ s st.
     let m = c.args.self.now in
     marked_stands m _ _ s c.args.xid.now c.args.code st
-    (subst (λ (z : ℤ). Sets m.working c.args.xid.now (option_map (marked z) (working_at m c.args.xid.now)) c.mark.new.working) (to_z-of_z w32 c.args.code c.ranges.code) c.mark.ensures)
+    (subst (λ (z : ℤ). Sets m.working c.args.xid.now (option_map (marked z) (working_at m c.args.xid.now)) c.mark_working.new.working) (to_z-of_z w32 c.args.code c.ranges.code) c.mark_working.ensures)
     (subst (λ (o : Option ℕ). LosesDue m.due c.args.xid.now o c.take_due.new.due) (working_due m s c.args.xid.now c.in-Some.working (st.working c.args.xid.now) (sym c.in-Some.ensures)) c.take_due.ensures)
 
 pub returns-in_default : goal.returns-in_default

@@ -1,5 +1,5 @@
 use Rattle.std.proofs.Common.{rules}
-use Rattle.xa_branch.proofs.refusals.one_phase_refusal.Goals as goal
+use Rattle.xa_branch.proofs.refusals.unprepared_refusal.Goals as goal
 
 pub returns-in-AtWork : goal.returns-in-AtWork
 returns-in-AtWork c = search rules
