@@ -8,7 +8,7 @@ use Rattle.xa_branch.proofs.branches.Branches.tick.Goals as goal
 
 pub loop-xid-preserved : goal.loop-xid-preserved
 loop-xid-preserved c = λ s h st.
-    ran_more c.args.moment c.loop-xid.self c.mark_working.new.working c.next_due.new.due s c.in-Some.xid c.loop-xid.number c.saturating_add-number.result h c.in-Some.ensures.due c.mark.ensures c.saturating_add-number.ensures
+    ran_more c.args.moment c.loop-xid.self c.mark_working.new.working c.next_due.new.due s c.in-Some.xid c.loop-xid.number c.saturating_add-number.result h c.in-Some.ensures.due c.mark_working.ensures c.saturating_add-number.ensures
     (c.loop-xid.invariant s h st)
 
 pub returns-clause-number : goal.returns-clause-number
