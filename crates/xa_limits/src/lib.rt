@@ -31,6 +31,8 @@ pub const MOST_WRITES: usize = 256;
 pub const MOST_LOOSE: u64 = 64;
 /// The most boots of a manager.
 pub const MOST_BOOTS: u32 = 4_294_967_295;
+/// The greatest boot that a trim begins: those above it are kept for restarts and openings.
+pub const MOST_TRIM_BOOTS: u32 = 2_147_483_648;
 /// How many timestamps a boot's number makes room for: the n-th of a boot is the boot's number times this, plus n.
 pub const BOOT_TIMESTAMPS: u64 = 4_294_967_296;
 /// The most timestamps that one boot gives: all that there is room for, but that with n = 0.

@@ -18,7 +18,7 @@ use Rattle.xa_model.specs.Branches.{unprepared_refusal, two_phase_refusal, rollb
 use Rattle.xa_model.specs.Completions.{forget_refusal, is_completed}
 use Rattle.xa_model.specs.Durable.{Durable, durable}
 use Rattle.xa_model.specs.Fold.{apply}
-use Rattle.xa_model.specs.Turn.{Turn, Nobody, Now, Appends, Rereads, Asked, unless_now, marked_now}
+use Rattle.xa_model.specs.Turn.{Turn, Nobody, Now, Appends, Checkpoints, Rereads, Asked, unless_now, marked_now}
 use Rattle.xa_model.specs.Step.{row, respond, asked, turn, is_up, context_of}
 use Rattle.xa_model.specs.Logging.{applied}
 use Rattle.xa_model.specs.Events.{IsEvent, asks_restart}
@@ -128,6 +128,7 @@ turn_settles : (P : Durable → Type 0) (s : State) (t : Turn) → IsRecoverable
 turn_settles P s Nobody h last p l = tt
 turn_settles P s (Now a) h last p l = λ ok k. quiet_is P s a.after h k l (p ok)
 turn_settles P s (Appends r after) h last p l = λ x. logged_settles P s r after h last.2 p l x
+turn_settles P s (Checkpoints r after) h last p l = absurd l
 turn_settles P s (Rereads failed found missing) h last p l = absurd l
 
 asked_settles : (P : Durable → Type 0) (s : State) (t : Turn) (standing : Standing) → s.standing ≡ standing → IsRecoverable s

@@ -1,5 +1,5 @@
 -- Restarts and openings: the records that are settled, and the snapshot of a new boot, stand behind the states that they lead to.
-use Rattle.std.proofs.Common.{◌≡◌, ℕ, ◌+◌, ◌<◌, ◌≤◌, Bool, true, false, not, ◌&&◌, cond, Ok, List, [], ◌∷◌, ◌++◌, Option, Some, None, refl, ap, sym, ◌∙◌, arith}
+use Rattle.std.proofs.Common.{◌≡◌, ℕ, ◌+◌, ◌<◌, ◌≤◌, ◌==◌, Bool, true, false, not, ◌&&◌, cond, Ok, List, [], ◌∷◌, ◌++◌, Option, Some, None, refl, ap, sym, ◌∙◌, subst, arith}
 use Rattle.std.specs.Prelude.{map, filter, option_map, nat_lt, IfSome}
 use Rattle.std.specs.List.{AllByRecursion}
 use Rattle.std.proofs.lemmas.Bool.{and_parts, ltb-true}
@@ -11,19 +11,24 @@ use Rattle.xa_record.specs.declared.record.Record.TheVariants as logged
 use Rattle.xa_model.specs.State.{State, Session, Association, Branch, Decided, Standing, timestamp_of, is_working}
 use Rattle.xa_model.specs.Answer.{answer, detailed, ok}
 use Rattle.xa_model.specs.Durable.{Durable, CommittedBranch, PreparedBranch, IsDurable, durable, is_past}
-use Rattle.xa_model.specs.Fold.{Reading, read, reading, unread, base, held, known, snapshot}
-use Rattle.xa_model.specs.Turn.{Stops, Opens}
+use Rattle.xa_model.specs.Fold.{Reading, read, reading, unread, base, held, known, snapshot, fold, fold_from, is_used}
+use Rattle.xa_model.specs.Turn.{Stops, Opens, Checkpoints, unless_now}
 use Rattle.xa_model.specs.Logging.{applied, down}
 use Rattle.xa_model.specs.Loggable.{IsRecoverable, MayBeLast}
 use Rattle.xa_model.specs.Backing.{Backs, BacksReading, BacksTurn, settled}
 use Rattle.xa_model.specs.Restarting.{missed, survived, lasts, restarted, boot_became, restarting, restart_turn, refused_opening, reopened, reopen_became, reopening, reopen_turn, can_open}
-use Rattle.xa_model.proofs.Inserts.{all_imply}
+use Rattle.xa_model.proofs.Inserts.{all_imply, none_passes}
 use Rattle.xa_model.proofs.Written.{snapshot_is_written}
 use Rattle.xa_model.proofs.Snapshots.{snapshot_folds}
-use Rattle.xa_model.proofs.Readings.{fold_is_durable}
+use Rattle.xa_model.proofs.Readings.{AreUsed, AreUsedIn, IsRead, read_is, nothing_is, fold_is_durable}
 use Rattle.xa_model.proofs.Restarts.{booted_lasts}
+use Rattle.xa_model.proofs.Folds.{stepped, fold_reads}
 use Rattle.xa_model.proofs.Newer.{AreUnused}
+use Rattle.xa_model.proofs.Tests.{used_apart}
+use Rattle.xa_model.proofs.Trims.{may_trim}
 use Rattle.xa_model.proofs.Appended.{appended_backed}
+use Rattle.xa_model.specs.Trimming.{trim_refusal, trimmed, trim_became, trim_turn}
+use Rattle.xa_frame.specs.declared.reply.Reply.{Reply}
 
 -- what logs stand behind says nothing of settings, sessions, standing, the open record and the moment
 abbrev with_others : State → List ℕ → ℕ → List Session → List Association → Standing → Option Record → ℕ → State
@@ -144,6 +149,51 @@ reopens_by rs s name log_bytes false e k = ended_backed rs s name log_bytes s.op
 
 reopens : (rs : List Record) (s : State) (name : List ℕ) (log_bytes : ℕ) → Backs rs s → BacksReading rs s (reopening name log_bytes s)
 reopens rs s name log_bytes k = reopens_by rs s name log_bytes (nat_lt s.logged_boot 4294967295 && can_open s log_bytes (s.logged_boot + 1)) refl k
+
+-- a trim: none of the work that goes on has a timestamp of what lasts
+
+read_from : (i : ℕ) (x : Reading) (rs : List Record) (d : Durable) → IsRead x → fold_from i x rs ≡ Ok d → IsRead (reading x rs)
+read_from i x [] d h e = h
+read_from i x (r ∷ rs) d h e = let both = stepped r x i rs d e in read_from (i + 1) (read r x) rs d (read_is r x both.0 h) both.1
+
+snapshot_unused : (rs : List Record) (d : Durable) (boot t : ℕ) → fold rs ≡ Ok d → is_used t (reading unread rs).timestamps ≡ false
+    → is_used t (reading unread (snapshot d boot)).timestamps ≡ false
+snapshot_unused rs d boot t e unused =
+    let ts = (reading unread rs).timestamps in
+    let same : (reading unread rs).durable ≡ d = fold_reads rs d e in
+    let is : IsRead (reading unread rs) = read_from 0 unread rs d nothing_is e in
+    none_passes (λ u. u == t) (reading unread (snapshot d boot)).timestamps
+    (base_times (λ u. (u == t) ≡ false) _ d.committed d.prepared d.decided tt
+    (all_imply (λ c. is_used c.timestamp ts ≡ true) (λ c. (c.timestamp == t) ≡ false) (λ c used. used_apart c.timestamp t ts used unused) d.committed
+    (subst (λ (x : Durable). AreUsed x.committed ts) same is.committed))
+    (all_imply (λ p. is_used p.timestamp ts ≡ true) (λ p. (p.timestamp == t) ≡ false) (λ p used. used_apart p.timestamp t ts used unused) d.prepared
+    (subst (λ (x : Durable). AreUsedIn x.prepared ts) same is.prepared)))
+
+trimmed_backed : (rs : List Record) (s : State) → Backs rs s → s.logged_boot ≡ s.boot → s.logged_boot < 4294967295
+    → Backs (snapshot (durable s) (s.logged_boot + 1)) (trimmed s (s.logged_boot + 1))
+trimmed_backed rs s k current less =
+    let form : IsDurable (durable s) = fold_is_durable rs (durable s) k.lasts in
+    record {
+      records = snapshot_is_written rs (durable s) (s.logged_boot + 1) k.records k.lasts (omega arith) (omega (arith, less));
+      lasts = snapshot_folds (durable s) (s.logged_boot + 1) form (omega arith);
+      end = refl;
+      new = λ now. record {
+        given = snapshot_given (durable s) (s.logged_boot + 1) form (omega arith);
+        unused = all_imply (λ (b : Branch). is_working b.phase ≡ true → is_used b.timestamp (reading unread rs).timestamps ≡ false)
+            (λ (b : Branch). is_working b.phase ≡ true → is_used b.timestamp (reading unread (snapshot (durable s) (s.logged_boot + 1))).timestamps ≡ false)
+            (λ b unused works. snapshot_unused rs (durable s) (s.logged_boot + 1) b.timestamp k.lasts (unused works)) s.branches (k.new current).unused;
+      };
+    }
+
+trims_by : (rs : List Record) (s : State) (o : Option Reply) → trim_refusal s ≡ o → Backs rs s → s.logged_boot ≡ s.boot
+    → BacksTurn rs s (unless_now o s (Checkpoints (logged.Opened (s.logged_boot + 1)) (trim_became s (s.logged_boot + 1))))
+trims_by rs s (Some reply) e k current = k
+trims_by rs s None e k current =
+    let may = may_trim s e in
+    (trimmed_backed rs s k current (omega (arith, may.boots)), k, lost_backed rs s (logged.Opened (s.logged_boot + 1)) k)
+
+pub trim_backed : (rs : List Record) (s : State) → Backs rs s → s.logged_boot ≡ s.boot → BacksTurn rs s (trim_turn s)
+trim_backed rs s k current = trims_by rs s (trim_refusal s) refl k current
 
 -- the open record is settled
 

@@ -1,5 +1,6 @@
--- The low water where branches change: where they keep their names and timestamps it stays, and else it rises.
-use Rattle.std.proofs.Common.{◌≡◌, ℕ, ℤ, ◌+◌, ◌≤◌, Bool, true, false, cond, List, [], ◌∷◌, Option, Some, None, map, is_some, unwrap_or, refl, ap, arith}
+-- The low water where branches change: where they keep their names and timestamps it stays, and else it rises. The floor of
+-- work doesn't fall.
+use Rattle.std.proofs.Common.{◌≡◌, ℕ, ℤ, ◌+◌, ◌≤◌, Bool, true, false, cond, List, [], ◌∷◌, Option, Some, None, map, is_some, unwrap_or, refl, sym, ◌∙◌, ap, arith}
 use Rattle.xa_codes.specs.declared.direction.Direction.{Direction}
 use Rattle.xa_codes.specs.declared.direction.Direction.TheVariants as direction
 use Rattle.xa_xid.specs.Triple.{Triple}
@@ -9,13 +10,15 @@ use Rattle.xa_model.specs.Branches.{rolled_back, committed, as_prepared, decided
 use Rattle.xa_model.specs.TimeLimits.{timed_out}
 use Rattle.xa_model.specs.Records.{having_done}
 use Rattle.xa_model.specs.Sound.{IsSound}
-use Rattle.xa_model.specs.LowWater.{is_known, least_known, low_water}
+use Rattle.xa_model.specs.LowWater.{is_known, least_known, low_water, work_floor}
 use Rattle.xa_model.proofs.Doubts.{prepared_name}
 use Rattle.xa_model.proofs.Lists.{found_all, found_passes}
 use Rattle.xa_model.proofs.LowWaters.{below_known, below_next, rises}
 use Rattle.xa_model.proofs.Marks.{mark_keeps, left_keeps, timed_keeps}
 use Rattle.xa_model.proofs.Moves.{begins}
-use Rattle.xa_model.proofs.MovingRows.{gone, commits}
+use Rattle.xa_model.proofs.MovingRows.{gone, commits, prepared_idle}
+use Rattle.xa_model.proofs.Parts.{KeepsName}
+use Rattle.xa_model.proofs.WorkFloors.{KeepsWork, lifts, changed_floor, mapped_floor}
 
 -- a known branch isn't below it, nor is the next
 
@@ -82,3 +85,33 @@ prepared_water s xid = ap (water_of s) (least_change (is_known_as xid) as_prepar
 
 pub done_water : (s : State) (xid : Triple) (op : Operation) → low_water (record s { branches = change (is_known_as xid) (having_done op) s.branches }) ≡ low_water s
 done_water s xid op = ap (water_of s) (least_change (is_known_as xid) (having_done op) ((λ b. refl), (λ b. refl)) s.branches)
+
+-- The floor of work
+
+pub begun_floor : (s : State) (n : ℕ) (xid : Triple) → work_floor s ≤ work_floor (begun s n xid).after
+begun_floor s n xid = lifts s (begun s n xid).after (begins xid s.moment (limit_of s n))
+
+pub committed_floor : (s : State) (xid : Triple) → work_floor s ≤ work_floor (committed s xid)
+committed_floor s xid = lifts s (committed s xid) (commits s xid)
+
+pub rolled_back_floor : (s : State) (xid : Triple) → work_floor s ≤ work_floor (rolled_back s xid)
+rolled_back_floor s xid = lifts s (rolled_back s xid) (gone s xid)
+
+-- who keeps its name keeps its work
+named_work : (f : Branch → Branch) → KeepsName f → KeepsWork f
+named_work f k = record { time = k.time.same; works = λ b e. sym (k.working b) ∙ e }
+
+pub marked_floor : (s : State) (code : ℤ) (xid : Triple) → work_floor s ≤ work_floor (record s { branches = change (is_known_as xid) (with_mark code) s.branches })
+marked_floor s code xid = changed_floor s (is_known_as xid) (with_mark code) (named_work (with_mark code) (mark_keeps code))
+
+pub left_floor : (s : State) (held : List Association) (n : ℕ) → work_floor s ≤ work_floor (record s { branches = map (left_behind held n) s.branches })
+left_floor s held n = mapped_floor s (left_behind held n) (named_work (left_behind held n) (left_keeps held n))
+
+pub timed_floor : (s : State) (moment : ℕ) → work_floor s ≤ work_floor (record s { branches = map (timed_out moment) s.branches })
+timed_floor s moment = mapped_floor s (timed_out moment) (named_work (timed_out moment) (timed_keeps moment))
+
+pub prepared_floor : (s : State) (xid : Triple) → work_floor s ≤ work_floor (record s { branches = change (is_known_as xid) as_prepared s.branches })
+prepared_floor s xid = changed_floor s (is_known_as xid) as_prepared (record { time = λ b. refl; works = λ b e. absurd (prepared_idle b.phase e) })
+
+pub done_floor : (s : State) (xid : Triple) (op : Operation) → work_floor s ≤ work_floor (record s { branches = change (is_known_as xid) (having_done op) s.branches })
+done_floor s xid op = changed_floor s (is_known_as xid) (having_done op) (record { time = λ b. refl; works = λ b e. e })

@@ -1,5 +1,6 @@
 -- Every history that begins without reads is one copy at each place.
-use Rattle.std.proofs.Common.{◌+◌, List, [], ◌∷◌, map, refl, arith}
+use Rattle.std.proofs.Common.{◌+◌, ◌<◌, List, [], ◌∷◌, map, refl, arith}
+use Rattle.std.specs.List.{AllByRecursion}
 use Rattle.xa_codes.specs.declared.write.Write.{Write}
 use Rattle.xa_model.specs.State.{State, Branch, timestamp_of}
 use Rattle.xa_model.specs.Fold.{nothing}
@@ -10,30 +11,39 @@ use Rattle.xa_model.proofs.Inserts.{all_imply}
 use Rattle.xa_model.proofs.Openings.{all_branches, every, opens_restored}
 use Rattle.xa_model.proofs.Recoveries.{always_recoverable}
 use Rattle.xa_model.proofs.Moves.{core}
-use Rattle.xa_model.proofs.Pins.{IsRight, IsPinned, Settled, AreSettled, IsOrdered, settled_weaker}
-use Rattle.xa_model.proofs.ReadsAndWrites.{moves_settled}
+use Rattle.xa_model.proofs.Pins.{IsRight, IsPinned, Settled, WorksAbove, AreSettled, IsOrdered, settled_weaker}
+use Rattle.xa_model.proofs.ReadsAndWrites.{above_zero, moves_settled}
 use Rattle.xa_model.proofs.OneByOne.{settled_one_copy, committed_descends, unread_settled}
 use Rattle.xa_model.proofs.MovingTurns.{always}
 
-ordered : (s : State) → IsRecoverable s → IsOrdered (core s)
+pub ordered : (s : State) → IsRecoverable s → IsOrdered (core s)
 ordered s h = record { few = omega (arith, h.sound.given); descends = h.sound.descends }
 
-settled_copy : (s : State) → IsRecoverable s → AreSettled (core s) → HasOneCopy s
+pub settled_copy : (s : State) → IsRecoverable s → AreSettled (core s) → HasOneCopy s
 settled_copy s h k = (
   committed_descends (timestamp_of s.boot s.given + 1) s.branches h.sound.descends,
   settled_one_copy (timestamp_of s.boot s.given + 1) s.branches h.sound.descends
-      (all_imply (λ b. Settled (IsPinned (core s) b.timestamp) b.operations) (λ b. Settled (IsRight s.branches b.timestamp) b.operations)
-      (λ b p. settled_weaker (IsPinned (core s) b.timestamp) (IsRight s.branches b.timestamp)
-      b.operations (λ key answer from pin. pin.right) p) s.branches k),
+      (all_imply (λ b. Settled (IsPinned k.floor (core s) b.timestamp) b.operations) (λ b. Settled (IsRight s.branches b.timestamp) b.operations)
+      (λ b p. settled_weaker (IsPinned k.floor (core s) b.timestamp) (IsRight s.branches b.timestamp)
+      b.operations (λ key answer from pin. pin.right) p) s.branches k.pins),
 )
+
+-- before all timestamps, where nobody has read
+pub unread_first : (s : State) → IsRecoverable s → AllByRecursion (λ b. HasNoGet b.operations) s.branches → AreSettled (core s)
+unread_first s h unread = record {
+  floor = 0;
+  low = omega arith;
+  work = all_imply (λ (b : Branch). 0 < b.timestamp) (WorksAbove 0) (λ b above works. above) s.branches
+      (above_zero (timestamp_of s.boot s.given + 1) s.branches h.sound.descends);
+  pins =
+      all_imply (λ b. HasNoGet b.operations) (λ b. Settled (IsPinned 0 (core s) b.timestamp) b.operations)
+      (λ b none. unread_settled (IsPinned 0 (core s) b.timestamp) b.operations none) s.branches unread;
+}
 
 pub always_one_copy : AlwaysOneCopy
 always_one_copy first last entries h unread happened leads =
-    let settled : AreSettled (core first)
-    = all_imply (λ b. HasNoGet b.operations) (λ b. Settled (IsPinned (core first) b.timestamp) b.operations)
-    (λ b none. unread_settled (IsPinned (core first) b.timestamp) b.operations none) first.branches unread in
     settled_copy last (always_recoverable first last entries happened h leads)
-    (always AreSettled (λ s d r m k. moves_settled m (ordered s r) k) first last entries happened h leads settled)
+    (always AreSettled (λ s d r m k. moves_settled m (ordered s r) k) first last entries happened h leads (unread_first first h unread))
 
 -- openings
 

@@ -17,20 +17,23 @@ use Rattle.xa_model.specs.Answer.{Answer}
 use Rattle.xa_model.specs.Early.{early_refusal}
 use Rattle.xa_model.specs.Durable.{Durable, durable}
 use Rattle.xa_model.specs.Fold.{apply}
-use Rattle.xa_model.specs.Turn.{Happening, Asked, Reopened, Turn, Nobody, Now, Appends, Rereads, Rereading, Stops, Opens, going_on, taken, unless_now}
+use Rattle.xa_model.specs.Turn.{Happening, Asked, Reopened, Turn, Nobody, Now, Appends, Checkpoints, Rereads, Rereading, Stops, Opens, going_on, taken, unless_now}
 use Rattle.xa_model.specs.Step.{respond, asked, turn, step, context_of}
 use Rattle.xa_model.specs.Events.{IsEvent, IsHappening, HaveHappened, is_restart}
 use Rattle.xa_model.specs.History.{Entry}
 use Rattle.xa_model.specs.Logging.{applied, lost}
 use Rattle.xa_model.specs.MayLog.{MayLog}
 use Rattle.xa_model.specs.Loggable.{IsRecoverable, MayBeLast}
-use Rattle.xa_model.specs.LoggingLaws.{LogsWhatLasts, BootLasts}
+use Rattle.xa_model.specs.LoggingLaws.{LogsWhatLasts, BootLasts, BeginsWhatLasts}
+use Rattle.xa_model.specs.Trimming.{trim_turn}
+use Rattle.xa_model.specs.TrimLaws.{TrimFates}
 use Rattle.xa_model.specs.Restarting.{fates, fates_with, restart_turn, reopen_turn, restarting, reopening, survived, missed}
 use Rattle.xa_model.specs.Crash.{with_append, appends, lost_of, IsFate, IsFateBehind, MayBeLeft, MayBeLeftIn}
 use Rattle.xa_model.specs.CrashLaws.{LostFits, LostFates, LeavesBefore, LeavesBehind, LeavesAppended, LeavesNoMore, LeavesExactly, FirstLeft, LastLeft, EarlierLeft, LaterLeft, LeftAmid}
 use Rattle.xa_model.proofs.AppliedDecisions.{applied_lasts}
 use Rattle.xa_model.proofs.Restarts.{restart_lasts, reopen_lasts}
 use Rattle.xa_model.proofs.Recoveries.{StaysRecoverable, turn_stays, keeps_recoverable}
+use Rattle.xa_model.proofs.Trims.{trim_lasts}
 use Rattle.xa_model.proofs.Asking.{IsAsked}
 use Rattle.xa_model.proofs.Fated.{IsFated, Spares, alone, quiet_is, asked_lasts, step_fated}
 
@@ -106,6 +109,7 @@ abbrev TurnLeaves : State → Turn → Type 0
 TurnLeaves s Nobody = Unit {0}
 TurnLeaves s (Now a) = IsFated (IsFate s) a.after
 TurnLeaves s (Appends r after) = AppendFates after
+TurnLeaves s (Checkpoints r after) = AppendFates after
 TurnLeaves s (Rereads failed found missing) =
     IsFated (IsFate s) failed.after × IfSome found (ReadingLeaves s) × ReadingLeaves s missing
 
@@ -113,6 +117,7 @@ logs_leave : (s : State) (t : Turn) → IsRecoverable s → LogsWhatLasts s t �
 logs_leave s Nobody h l stays = tt
 logs_leave s (Now a) h l stays = quiet_is (IsFate s) s a.after h stays l (own_fates s)
 logs_leave s (Appends r after) h l stays = logged_fates s r after h l (stays Lost)
+logs_leave s (Checkpoints r after) h l stays = absurd l
 logs_leave s (Rereads failed found missing) h l stays = absurd l
 
 boots_leave : (s settled : State) (x : Rereading) → settled.open_record ≡ None → IsFate s (durable settled) → BootLasts settled x → ReadingLeaves s x
@@ -140,6 +145,13 @@ reopen_leaves s name log_bytes h =
       found_leaves s (reopening name log_bytes) s.open_record refl l.1,
       boots_leave s (missed s) (reopening name log_bytes (missed s)) refl (now_fate s) l.3,
     )
+
+begins_leave : (s : State) (t : Turn) → BeginsWhatLasts s t → TurnLeaves s t
+begins_leave s Nobody l = absurd l
+begins_leave s (Now a) l = subst (AllByRecursion (IsFate s)) (sym l.fates) (own_fates s)
+begins_leave s (Appends r after) l = absurd l
+begins_leave s (Checkpoints r after) l = booted_fates s r after l.1 l.0
+begins_leave s (Rereads failed found missing) l = absurd l
 
 unless_leaves : (o : Option Reply) (s : State) (t : Turn) → TurnLeaves s t → TurnLeaves s (unless_now o s t)
 unless_leaves None s t h = h
@@ -182,6 +194,7 @@ going_fits x (Some (Opens r after)) a e = refl
 
 taken_fits : (t : Turn) (o : Outcome) (a : Answer) → taken t o ≡ Some a → is_some (taken t (lost_of o)) ≡ true
 taken_fits (Appends r after) (Appended x) a e = refl
+taken_fits (Checkpoints r after) (Appended x) a e = refl
 taken_fits (Rereads failed found missing) (Reread true (Some x)) a e = going_fits x found a e
 taken_fits (Rereads failed found missing) (Reread false (Some x)) a e = going_fits x (Some missing) a e
 taken_fits t Quiet a e = ap is_some e
@@ -215,12 +228,17 @@ taken_lost : (s : State) (t : Turn) (o : Outcome) (kept refused lost : Answer) �
     → taken t (with_append Kept o) ≡ Some kept → taken t (with_append Refused o) ≡ Some refused → taken t (with_append Lost o) ≡ Some lost
     → fates lost.after ≡ durable refused.after ∷ durable kept.after ∷ []
 taken_lost s (Appends r after) (Appended x) kept refused lost f is e g k = three after kept refused lost f e g k
+taken_lost s (Checkpoints r after) (Appended x) kept refused lost f is e g k = three after kept refused lost f e g k
 taken_lost s (Rereads failed found missing) (Reread true (Some x)) kept refused lost f is e g k = reading_lost s found kept refused lost f.1 e g k
 taken_lost s (Rereads failed found missing) (Reread false (Some x)) kept refused lost f is e g k = reading_lost s (Some missing) kept refused lost f.2 e g k
 taken_lost s t Quiet kept refused lost f is e g k = absurd (cc is)
 taken_lost s t Failed kept refused lost f is e g k = absurd (cc is)
 taken_lost s t (Reread there None) kept refused lost f is e g k = absurd (cc is)
 taken_lost s t o kept refused lost f is e g k = absurd (cc e)
+
+pub trim_fates : TrimFates
+trim_fates s kept refused lost h up e g k =
+    taken_lost s (trim_turn s) (Appended Kept) kept refused lost (begins_leave s (trim_turn s) (trim_lasts s h up)) refl e g k
 
 pub lost_fates_are : LostFates
 lost_fates_are s happening outcome kept refused lost is h adds e g k =

@@ -16,7 +16,7 @@ use Rattle.xa_model.specs.Answer.{Answer}
 use Rattle.xa_model.specs.Early.{early_refusal}
 use Rattle.xa_model.specs.Durable.{Durable, durable}
 use Rattle.xa_model.specs.Fold.{apply}
-use Rattle.xa_model.specs.Turn.{Happening, Asked, Reopened, Turn, Nobody, Now, Appends, Rereads, Rereading, Stops, Opens}
+use Rattle.xa_model.specs.Turn.{Happening, Asked, Reopened, Turn, Nobody, Now, Appends, Checkpoints, Rereads, Rereading, Stops, Opens}
 use Rattle.xa_model.specs.Step.{respond, asked, turn, step, context_of}
 use Rattle.xa_model.specs.Events.{IsEvent, IsHappening, HaveHappened, is_restart}
 use Rattle.xa_model.specs.History.{Entry, Leads}
@@ -110,6 +110,7 @@ module _ (P : Durable → Type 0) (E : Happening → Reply → Type 0) (boots : 
   logs_stay happening s (Now a) h l last asks all = λ k other. quiet_is P s a.after h k l all
   logs_stay happening s (Appends r after) h l last asks all =
       λ x. logged_stays P (E happening) s r after h l last.2 (spares happening s r h l.0 asks) all x
+  logs_stay happening s (Checkpoints r after) h l last asks all = absurd l
   logs_stay happening s (Rereads failed found missing) h l last asks all = absurd l
 
   -- restarts and openings

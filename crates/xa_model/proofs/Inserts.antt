@@ -41,6 +41,16 @@ pub all_filtered : {A : Type 0} (P : A → Type 0) (p : A → Bool) → ((x : A)
 all_filtered P p f [] = tt
 all_filtered P p f (x ∷ xs) = kept_all_by P x (filter p xs) (p x) (f x) (all_filtered P p f xs)
 
+filter_keeps_by : {A : Type 0} (P : A → Type 0) (x : A) (xs ys : List A) (c : Bool) → P x → AllByRecursion P ys
+    → AllByRecursion P (cond c (x ∷ ys) ys)
+filter_keeps_by P x xs ys true h rest = (h, rest)
+filter_keeps_by P x xs ys false h rest = rest
+
+-- what holds of all holds of those that pass
+pub filter_keeps : {A : Type 0} (P : A → Type 0) (p : A → Bool) (xs : List A) → AllByRecursion P xs → AllByRecursion P (filter p xs)
+filter_keeps P p [] h = tt
+filter_keeps P p (x ∷ xs) h = filter_keeps_by P x xs (filter p xs) (p x) h.0 (filter_keeps P p xs h.1)
+
 -- where all pass, none is left out
 pub filter_all : {A : Type 0} (p : A → Bool) (xs : List A) → AllByRecursion (λ x. p x ≡ true) xs → filter p xs ≡ xs
 filter_all p [] h = refl

@@ -62,13 +62,13 @@ member_of_value key v (w ∷ ws) e = member_by key v w ws (bytes_eq w.key key) r
 
 -- what isn't written isn't found, and what isn't found isn't written
 
-no_value : (key : List ℕ) (ws : List Write) → is_written_in key ws ≡ false → value_in key ws ≡ None
+pub no_value : (key : List ℕ) (ws : List Write) → is_written_in key ws ≡ false → value_in key ws ≡ None
 no_value key [] e = refl
 no_value key (w ∷ ws) e =
     let both = or_parts (bytes_eq key w.key) (is_written_in key ws) e in
     rw (key_back key w.key both.0) (no_value key ws both.1)
 
-unwritten : (key : List ℕ) (bs : List CommittedBranch) → is_written key bs ≡ false → last_write key bs ≡ None
+pub unwritten : (key : List ℕ) (bs : List CommittedBranch) → is_written key bs ≡ false → last_write key bs ≡ None
 unwritten key [] e = refl
 unwritten key (b ∷ later) e =
     let both = or_parts (is_written_in key b.writes) (is_written key later) e in
@@ -133,7 +133,7 @@ last_writes_stay key (b ∷ later) =
 
 -- a write of a branch is found by its key
 
-abbrev AreByKey : List CommittedBranch → Type 0
+abbrev pub AreByKey : List CommittedBranch → Type 0
 AreByKey bs = AllByRecursion (λ b. Pairwise keys_before b.writes) bs
 
 found_write : (b : CommittedBranch) (w : Write) (bs : List CommittedBranch) → AreLast bs → AreByKey bs → Member b bs → Member w b.writes → last_write w.key bs ≡ Some (b.timestamp, w.value)
@@ -179,10 +179,10 @@ found key x (b ∷ later) e = found_by key x b later (last_write key later) refl
 
 -- the same branches
 
-record AreCommitted (bs : List CommittedBranch) : Type 0 where
-  order : Pairwise commits_before bs
-  last : AreLast bs
-  keys : AreByKey bs
+pub record AreCommitted (bs : List CommittedBranch) : Type 0 where
+  pub order : Pairwise commits_before bs
+  pub last : AreLast bs
+  pub keys : AreByKey bs
 
 same_time : (b c : CommittedBranch) (bs : List CommittedBranch) → Pairwise commits_before bs → b.timestamp ≡ c.timestamp → Member b bs → Member c bs → b ≡ c
 same_time b c bs h e m n =
@@ -224,7 +224,7 @@ moves bs cs h k same b m =
     (carried cs bs k h (λ key. sym (same key)) f.branch b f.member m f.time) in
     subst (λ (x : CommittedBranch). Member x cs) (sym (same_branch b f.branch (sym f.time) writes)) f.member
 
-same_committed : (bs cs : List CommittedBranch) → AreCommitted bs → AreCommitted cs → ((key : List ℕ) → last_write key bs ≡ last_write key cs) → bs ≡ cs
+pub same_committed : (bs cs : List CommittedBranch) → AreCommitted bs → AreCommitted cs → ((key : List ℕ) → last_write key bs ≡ last_write key cs) → bs ≡ cs
 same_committed bs cs h k same =
     same_members commits_before commits_transitive commits_strict bs cs h.order k.order (moves bs cs h k same) (moves cs bs k h (λ key. sym (same key)))
 

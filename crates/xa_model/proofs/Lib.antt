@@ -43,6 +43,7 @@ pub mod Keys
 pub mod LastOfKeys
 pub mod WorkedLog
 pub mod WorkedTurns
+pub mod WorkedTrims
 pub mod WorkedDevice
 pub mod WorkedRecovery
 pub mod Splits
@@ -59,6 +60,7 @@ pub mod StillLogged
 pub mod Recoveries
 pub mod Stopped
 pub mod Restarts
+pub mod Trims
 pub mod LoggedEvents
 pub mod SoundTurns
 pub mod LoggedOrder
@@ -98,5 +100,8 @@ pub mod Copies
 pub mod Unasked
 pub mod Totals
 pub mod LowWaters
+pub mod WorkFloors
+pub mod TrimLaws
+pub mod TrimHistories
 pub mod ChangedWaters
 pub mod WorkedLowWaters

@@ -10,7 +10,7 @@ use Rattle.xa_model.specs.declared.outcome.Appending.TheVariants.{Refused}
 use Rattle.xa_model.specs.State.{State, Standing, Up, Down, Ended, timestamp_of}
 use Rattle.xa_model.specs.Answer.{Answer}
 use Rattle.xa_model.specs.Early.{early_refusal}
-use Rattle.xa_model.specs.Turn.{Asked, Reopened, Turn, Nobody, Now, Appends, Rereads, unless_now}
+use Rattle.xa_model.specs.Turn.{Asked, Reopened, Turn, Nobody, Now, Appends, Checkpoints, Rereads, unless_now}
 use Rattle.xa_model.specs.Step.{respond, asked, turn, context_of}
 use Rattle.xa_model.specs.Events.{IsEvent, is_restart}
 use Rattle.xa_model.specs.Fold.{reading, unread}
@@ -52,6 +52,7 @@ goes_on rs s (Appends r after) h k logs on last = (
   still_backed rs s (after Refused).after k logs.2 on,
   subst (λ (a : Answer). Backs rs a.after) (sym logs.3) (lost_backed rs s r k),
 )
+goes_on rs s (Checkpoints r after) h k logs on last = absurd logs
 goes_on rs s (Rereads failed found missing) h k logs on last = absurd logs
 
 asked_backed : (rs : List Record) (s : State) (e : Event) → IsEvent e → is_restart e ≡ false → IsRecoverable s → Backs rs s

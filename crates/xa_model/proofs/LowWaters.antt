@@ -12,7 +12,7 @@ use Rattle.xa_model.specs.LowWaterLaws.{BelowKnown, IsReached, BelowNext, NeverF
 use Rattle.xa_model.proofs.Applied.{below_all}
 use Rattle.xa_model.proofs.Inserts.{all_imply}
 use Rattle.xa_model.proofs.Lists.{change_all}
-use Rattle.xa_model.proofs.Moves.{Core, core, GoesOn, Remain, Moves, remains, restarts, begins, gets, puts}
+use Rattle.xa_model.proofs.Moves.{Core, core, GoesOn, Remain, Moves, remains, restarts, trims, begins, gets, puts}
 use Rattle.xa_model.proofs.MovingRows.{Moved}
 use Rattle.xa_model.proofs.MovingTurns.{turn_moved}
 use Rattle.xa_model.proofs.Pins.{IsOrdered, remain_all}
@@ -20,7 +20,7 @@ use Rattle.xa_model.proofs.Replies.{taken_all}
 
 -- The lesser of two
 
-lesser_first : (t : ℕ) (o : Option ℕ) → lesser t o ≤ t
+pub lesser_first : (t : ℕ) (o : Option ℕ) → lesser t o ≤ t
 lesser_first t None = omega arith
 lesser_first t (Some u) = omega arith
 
@@ -176,6 +176,10 @@ restarts_rise : (c : Core) (boot : ℕ) (bs : List Branch) → c.boot < boot →
 restarts_rise c boot bs less r o =
     at_most (water c) (timestamp_of boot 0) bs (remain_above (water c) r (known_above (timestamp_of c.boot c.given) c.branches)) (omega (arith, water_given c o, less, o.few))
 
+trims_rise : (c : Core) (boot : ℕ) → c.boot < boot → IsOrdered c → water c ≤ water (record c { boot = boot; given = 0 })
+trims_rise c boot less o =
+    at_most (water c) (timestamp_of boot 0) c.branches (known_above (timestamp_of c.boot c.given) c.branches) (omega (arith, water_given c o, less, o.few))
+
 begins_rise : (c : Core) (xid : Triple) (work : Work) → IsOrdered c
     → water c ≤ water (record c {
       given = c.given + 1;
@@ -198,10 +202,11 @@ done_rises c xid op o =
 
 pub moves_rise : {c d : Core} → Moves c d → IsOrdered c → water c ≤ water d
 moves_rise (remains bs r) o = remains_rise _ bs r o
-moves_rise (restarts boot bs less r) o = restarts_rise _ boot bs less r o
+moves_rise (restarts boot bs less r idle) o = restarts_rise _ boot bs less r o
+moves_rise (trims boot less) o = trims_rise _ boot less o
 moves_rise (begins xid start limit) o = begins_rise _ xid (new_work start limit) o
 moves_rise (gets key xid b found free) o = done_rises _ xid _ o
-moves_rise (puts key value xid b found new on_time) o = done_rises _ xid _ o
+moves_rise (puts key value xid b found works on_time) o = done_rises _ xid _ o
 
 -- a state that is a move away
 pub rises : (s t : State) → IsSound s → Moves (core s) (core t) → low_water s ≤ low_water t

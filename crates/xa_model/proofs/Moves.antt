@@ -1,6 +1,7 @@
 -- The moves that every step is made of, as far as timestamps, reads and writes go.
 use Rattle.std.proofs.Common.{◌≡◌, ℕ, ◌+◌, ◌<◌, Bool, true, false, not, cond, List, [], ◌∷◌, map, Option, Some, refl, ◌∙◌}
 use Rattle.std.specs.Prelude.{filter}
+use Rattle.std.specs.List.{AllByRecursion}
 use Rattle.xa_codes.specs.declared.codes.TheConstants.{XA_OK}
 use Rattle.xa_xid.specs.Triple.{Triple}
 use Rattle.xa_model.specs.State.{State, Branch, Read, Got, Wrote, Phase, Working, Prepared, Committed, is_committed, is_known_as, is_with, name_of, known_of, mark_of, timestamp_of, change, without, new_work, new_branch, is_working}
@@ -18,11 +19,13 @@ pub record Core : Type 0 where
 abbrev pub core : State → Core
 core s = record { boot = s.boot; given = s.given; branches = s.branches; reads = s.reads }
 
--- the branch gets another phase: what is committed stays so, and no mark becomes the code of success
+-- the branch gets another phase: what is committed stays so, no branch comes back to work, and no mark becomes the code of
+-- success
 pub record GoesOn (b c : Branch) : Type 0 where
   pub timestamp : c.timestamp ≡ b.timestamp
   pub operations : c.operations ≡ b.operations
   pub committed : is_committed b.phase ≡ true → is_committed c.phase ≡ true
+  pub works : is_working c.phase ≡ true → is_working b.phase ≡ true
   pub mark : mark_of c.phase ≡ Some XA_OK → mark_of b.phase ≡ Some XA_OK
 
 -- branches that go on, but for some that weren't committed
@@ -34,9 +37,12 @@ pub data Remain : List Branch → List Branch → Type 0 where
 pub data Moves : Core → Core → Type 0 where
   -- branches are marked, prepared, committed, rolled back
   remains : {c : Core} (bs : List Branch) → Remain c.branches bs → Moves c (record c { branches = bs })
-  -- a new boot has a greater number, and begins without reads
+  -- a new boot has a greater number, and begins without reads, and without branches at work
   restarts : {c : Core} (boot : ℕ) (bs : List Branch) → c.boot < boot → Remain c.branches bs
+      → AllByRecursion (λ b. is_working b.phase ≡ false) bs
       → Moves c (record { boot = boot; given = 0; branches = bs; reads = [] })
+  -- or it begins with all of both
+  trims : {c : Core} (boot : ℕ) → c.boot < boot → Moves c (record c { boot = boot; given = 0 })
   begins : {c : Core} (xid : Triple) (start limit : ℕ)
       → Moves c (record c {
         given = c.given + 1;
@@ -49,13 +55,13 @@ pub data Moves : Core → Core → Type 0 where
         reads = record { reader = b.timestamp; key = key; source = (source key b.timestamp c.branches).timestamp } ∷ c.reads;
       })
   puts : {c : Core} (key : List ℕ) (value : Option (List ℕ)) (xid : Triple) (b : Branch) → known_of c.branches xid ≡ Some b
-      → timestamp_of c.boot 0 < b.timestamp
+      → is_working b.phase ≡ true
       → is_late key b.timestamp c.reads ≡ false → Moves c (record c { branches = did xid (Wrote key value) c.branches })
 
 -- branches that remain
 
 pub as_it_is : (b : Branch) → GoesOn b b
-as_it_is b = record { timestamp = refl; operations = refl; committed = λ e. e; mark = λ e. e }
+as_it_is b = record { timestamp = refl; operations = refl; committed = λ e. e; works = λ e. e; mark = λ e. e }
 
 pub all_remain : (bs : List Branch) → Remain bs bs
 all_remain [] = none
@@ -66,6 +72,7 @@ both_go b c d g h = record {
   timestamp = h.timestamp ∙ g.timestamp;
   operations = h.operations ∙ g.operations;
   committed = λ e. h.committed (g.committed e);
+  works = λ e. g.works (h.works e);
   mark = λ e. g.mark (h.mark e);
 }
 

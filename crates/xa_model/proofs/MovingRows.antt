@@ -1,9 +1,8 @@
 -- Every row is a move of timestamps, reads and writes, whatever becomes of its record: flags, marks, associations and outcomes
 -- choose among moves, and no more.
-use Rattle.std.proofs.Common.{◌≡◌, ℕ, ℤ, ◌+◌, ◌<◌, ◌≤◌, Bool, true, false, cond, List, [], ◌∷◌, Option, Some, None, refl, sym, ◌∙◌, ap, subst, arith}
+use Rattle.std.proofs.Common.{◌≡◌, ℕ, ℤ, ◌+◌, ◌≤◌, Bool, true, false, cond, List, [], ◌∷◌, Option, Some, None, refl, sym, ◌∙◌, ap, subst, arith}
 use Rattle.std.specs.Prelude.{map, is_some, find, option_map, option_and_then}
 use Rattle.std.specs.List.{list_any}
-use Rattle.std.proofs.lemmas.Bool.Decides.{nat_tests}
 use Rattle.xa_codes.specs.Flags.{has}
 use Rattle.xa_codes.specs.declared.codes.TheConstants.{XA_OK, XAER_RMERR, XA_RETRY, XA_RDONLY, XA_RBTRANSIENT, XA_RBOTHER, XA_RBROLLBACK, XA_RBCOMMFAIL, XA_RBTIMEOUT}
 use Rattle.xa_codes.specs.declared.direction.Direction.TheVariants as direction
@@ -19,7 +18,7 @@ use Rattle.xa_model.specs.declared.event.Event.{Event}
 use Rattle.xa_model.specs.declared.event.Event.TheVariants as event
 use Rattle.xa_model.specs.declared.outcome.Appending.{Appending}
 use Rattle.xa_model.specs.declared.outcome.Appending.TheVariants.{Kept, Refused, Lost}
-use Rattle.xa_model.specs.State.{State, Association, Branch, Phase, Working, Prepared, Committed, Known, Unknown, AtWork, InDoubt, Completed, count, known_as, known_in, known_of, is_known_as, is_committed, active_of, is_active, branch_with, own_branch, mark_of, change, without, suspends, is_loose_with, loose_of, holders_of, is_with, timestamp_of, limit_of, is_working, is_at_work}
+use Rattle.xa_model.specs.State.{State, Association, Branch, Phase, Working, Prepared, Committed, Known, Unknown, AtWork, InDoubt, Completed, count, known_as, known_in, known_of, is_known_as, is_committed, active_of, is_active, branch_with, own_branch, mark_of, change, without, suspends, is_loose_with, loose_of, holders_of, is_with, limit_of, is_working, is_at_work}
 use Rattle.xa_model.specs.Source.{source, is_late}
 use Rattle.xa_model.specs.Answer.{Answer, plain, answer, ok, unless, marked}
 use Rattle.xa_model.specs.Early.{early_refusal}
@@ -33,11 +32,9 @@ use Rattle.xa_model.specs.Turn.{Turn, Now, unless_now}
 use Rattle.xa_model.specs.Logging.{logs, has_room, log_full, writes_in, applied, append_became}
 use Rattle.xa_model.specs.Completions.{prepare_turn, prepare_written, commit_one_phase_turn, commit_two_phase_turn, commit_written, rollback_turn, roll_back_turn, decide_refusal, forget_refusal}
 use Rattle.xa_model.specs.Sound.{IsSound}
-use Rattle.xa_model.specs.Durable.{boot_of, is_past}
 use Rattle.xa_model.specs.Fold.{is_empty}
 use Rattle.xa_model.specs.Loggable.{IsRecoverable}
 use Rattle.xa_model.specs.Events.{is_restart}
-use Rattle.xa_model.proofs.Lists.{found_all}
 use Rattle.xa_model.proofs.Rows.{passed}
 use Rattle.xa_model.proofs.Replies.{AllOf, unless_all, marked_all, cond_all}
 use Rattle.xa_model.proofs.Moves.{core, GoesOn, Remain, Moves, remains, begins, gets, puts, as_it_is, all_remain, changed_remain, mapped_remain, left_remain}
@@ -65,8 +62,19 @@ marked_ok code (Working xid work) bad e = or_mark_ok code work.mark bad e
 marked_ok code (Prepared xid) bad e = e
 marked_ok code Committed bad e = e
 
+marked_works : (code : ℤ) (p : Phase) → is_working (marked_phase code p) ≡ true → is_working p ≡ true
+marked_works code (Working xid work) e = refl
+marked_works code (Prepared xid) e = e
+marked_works code Committed e = e
+
 mark_goes : (code : ℤ) → (code ≡ XA_OK → ⊥) → (b : Branch) → GoesOn b (with_mark code b)
-mark_goes code bad b = record { timestamp = refl; operations = refl; committed = marked_committed code b.phase; mark = marked_ok code b.phase bad }
+mark_goes code bad b = record {
+  timestamp = refl;
+  operations = refl;
+  committed = marked_committed code b.phase;
+  works = marked_works code b.phase;
+  mark = marked_ok code b.phase bad;
+}
 
 maybe_goes : (code : ℤ) → (code ≡ XA_OK → ⊥) → (b : Branch) (c : Bool) → GoesOn b (cond c (with_mark code b) b)
 maybe_goes code bad b true = mark_goes code bad b
@@ -79,12 +87,23 @@ timed_goes : (moment : ℕ) (b : Branch) → GoesOn b (timed_out moment b)
 timed_goes moment b = maybe_goes XA_RBTIMEOUT (λ e. cc e) b (runs_out moment b)
 
 committed_goes : (b : Branch) → GoesOn b (as_committed b)
-committed_goes b = record { timestamp = refl; operations = refl; committed = λ e. refl; mark = λ e. absurd (cc e) }
+committed_goes b = record {
+  timestamp = refl;
+  operations = refl;
+  committed = λ e. refl;
+  works = λ e. absurd (cc e);
+  mark = λ e. absurd (cc e);
+}
 
 prepared_committed : (p : Phase) → is_committed p ≡ true → is_committed (prepared_phase p) ≡ true
 prepared_committed (Working xid work) e = absurd (cc e)
 prepared_committed (Prepared xid) e = e
 prepared_committed Committed e = e
+
+pub prepared_idle : (p : Phase) → is_working (prepared_phase p) ≡ true → ⊥
+prepared_idle (Working xid work) e = cc e
+prepared_idle (Prepared xid) e = cc e
+prepared_idle Committed e = cc e
 
 prepared_ok : (p : Phase) → mark_of (prepared_phase p) ≡ Some XA_OK → mark_of p ≡ Some XA_OK
 prepared_ok (Working xid work) e = absurd (cc e)
@@ -92,7 +111,13 @@ prepared_ok (Prepared xid) e = e
 prepared_ok Committed e = e
 
 prepared_goes : (b : Branch) → GoesOn b (as_prepared b)
-prepared_goes b = record { timestamp = refl; operations = refl; committed = prepared_committed b.phase; mark = prepared_ok b.phase }
+prepared_goes b = record {
+  timestamp = refl;
+  operations = refl;
+  committed = prepared_committed b.phase;
+  works = λ e. absurd (prepared_idle b.phase e);
+  mark = prepared_ok b.phase;
+}
 
 pub gone : (s : State) (xid : Triple) → Moves (core s) (core (rolled_back s xid))
 gone s xid = remains (without (is_known_as xid) s.branches) (left_remain xid s.branches)
@@ -238,20 +263,11 @@ works_by : (s : State) (xid : Triple) (b : Branch) (c : Bool) → is_at_work (kn
 works_by s xid b true e h held found = sym (ap is_at_work found) ∙ e
 works_by s xid b false e h held found = absurd (omega (arith, held, h.bound xid e))
 
--- it is at work, so that its timestamp is of this boot
-newer : (t boot limit : ℕ) → boot_of t ≡ boot → is_past limit t ≡ true → timestamp_of boot 0 < t
-newer t boot limit e past = grind (arith, nat_tests, e, past)
-
-own_new : (s : State) (n : ℕ) (xid : Triple) (b : Branch) → IsRecoverable s → IsOwn s n xid b → timestamp_of s.boot 0 < b.timestamp
-own_new s n xid b h o =
-    let works : is_working b.phase ≡ true
-    = works_by s xid b (is_at_work (known_of s.branches xid)) refl h.sound
-    (counted (λ a. is_active n a.holder) xid s.associations o.active) o.found in
-    let boot : boot_of b.timestamp ≡ s.boot
-    = found_all (λ (x : Branch). is_working x.phase ≡ true → boot_of x.timestamp ≡ s.boot)
-    (is_known_as xid) b s.branches h.loggable.begun o.found works in
-    newer b.timestamp s.boot (s.logged_boot + 1) boot
-    (found_all (λ (x : Branch). is_past (s.logged_boot + 1) x.timestamp ≡ true) (is_known_as xid) b s.branches h.loggable.past o.found)
+-- who is associated with it works for it
+own_works : (s : State) (n : ℕ) (xid : Triple) (b : Branch) → IsRecoverable s → IsOwn s n xid b → is_working b.phase ≡ true
+own_works s n xid b h o =
+    works_by s xid b (is_at_work (known_of s.branches xid)) refl h.sound
+    (counted (λ a. is_active n a.holder) xid s.associations o.active) o.found
 
 get_moved : (s : State) (n : ℕ) (key : List ℕ) (o : Option (Triple × Branch)) → own_branch s n ≡ o → Moved s (get_by s key o)
 get_moved s n key None e = itself s
@@ -268,7 +284,7 @@ put_moved s n key value (Some (xid, b)) e h =
     marked_moved (mark_of b.phase) s s (put_from s key value xid b) (itself s)
     (unless_moved (limit_refusal (is_full key b.operations)) s (if_late (is_late key b.timestamp s.reads) (came_late s xid) (written s key value xid))
     (λ none. if_late_moved (is_late key b.timestamp s.reads) s (came_late s xid) (written s key value xid) (marks s XA_RBTRANSIENT xid (λ e. cc e))
-    (λ on_time. puts key value xid b (own s n xid b e).found (own_new s n xid b h (own s n xid b e)) on_time)))
+    (λ on_time. puts key value xid b (own s n xid b e).found (own_works s n xid b h (own s n xid b e)) on_time)))
 
 -- the calls that log
 

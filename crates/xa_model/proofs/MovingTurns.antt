@@ -20,11 +20,13 @@ use Rattle.xa_model.specs.Events.{HaveHappened, is_restart}
 use Rattle.xa_model.specs.History.{Entry, Leads}
 use Rattle.xa_model.specs.Logging.{down}
 use Rattle.xa_model.specs.Loggable.{IsRecoverable, MayBeLast}
+use Rattle.xa_model.specs.Trimming.{trim_refusal, trim_became, trim_turn}
 use Rattle.xa_model.specs.Restarting.{lasts, missed, survived, restarted, boot_became, restarting, restart_turn, refused_opening, reopen_became, reopening, reopen_turn, can_open}
 use Rattle.xa_model.proofs.Restarts.{survived_recoverable}
+use Rattle.xa_model.proofs.Restores.{idle}
 use Rattle.xa_model.proofs.Recoveries.{keeps_recoverable}
 use Rattle.xa_model.proofs.Replies.{AllOf, AllOfReading, taken_all, asked_all, unless_all}
-use Rattle.xa_model.proofs.Moves.{Core, core, Remain, Moves, remains, restarts, all_remain, remain_on, lasting_remain}
+use Rattle.xa_model.proofs.Moves.{Core, core, Remain, Moves, remains, restarts, trims, all_remain, remain_on, lasting_remain}
 use Rattle.xa_model.proofs.MovingRows.{Moved, itself, applied_remain, applied_core, event_moved}
 
 -- the state x has the branches of s that remain, and the same reads
@@ -40,6 +42,7 @@ boots : (s x : State) → Stems s x → Moves (core s) (core (restarted x (x.log
 boots s x h =
     let same : x.boot ≡ s.boot = ap (λ (c : Core). c.boot) h.same in
     restarts (x.logged_boot + 1) (filter lasts x.branches) (omega (arith, same, h.boots)) (remain_on h.remain (lasting_remain x.branches))
+    (idle x.branches)
 
 restarts_by : (s x : State) (c : Bool) → Stems s x
     → AllOfReading (Moved s)
@@ -91,6 +94,14 @@ reopen_moved s name log_bytes h = (
       (λ x k. reopens_by s x name log_bytes (nat_lt x.logged_boot 4294967295 && can_open x log_bytes (x.logged_boot + 1)) k),
   reopens_by s (missed s) name log_bytes (nat_lt s.logged_boot 4294967295 && can_open (missed s) log_bytes (s.logged_boot + 1)) (missed_stems s h),
 )
+
+pub trim_moved : (s : State) → IsRecoverable s → AllOf (Moved s) (trim_turn s)
+trim_moved s h = unless_all (Moved s) (trim_refusal s) s _ (λ reply is. itself s) by_fate
+  where
+    by_fate : (x : Appending) → Moved s (trim_became s (s.logged_boot + 1) x)
+    by_fate Kept = trims (s.logged_boot + 1) (omega (arith, h.loggable.boots))
+    by_fate Refused = itself s
+    by_fate Lost = itself s
 
 restart_only : (s : State) (n : ℕ) (request : Request) → is_restart (event.Call n request) ≡ true → IsRecoverable s
     → AllOf (Moved s) (respond s (event.Call n request))

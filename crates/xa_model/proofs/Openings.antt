@@ -11,7 +11,7 @@ use Rattle.xa_xid.specs.Triple.{Triple, xid_eq}
 use Rattle.xa_xid.proofs.Same.{xid_same}
 use Rattle.xa_model.specs.State.{Branch, Decided, count, is_known_as, known_count, name_of, timestamp_of, is_working}
 use Rattle.xa_model.specs.Sound.{IsSound, most_known}
-use Rattle.xa_model.specs.Durable.{Durable, CommittedBranch, PreparedBranch, IsDurable, Pairwise, durable, last_writes, by_name, writes_of, keys_before, named_before, named_apart, is_prepared, is_past, boot_of}
+use Rattle.xa_model.specs.Durable.{Durable, CommittedBranch, PreparedBranch, IsDurable, Pairwise, durable, last_writes, by_name, writes_of, keys_before, named_before, named_apart, is_prepared, is_past}
 use Rattle.xa_model.specs.Fold.{fold, reading, unread, is_used, snapshot, sizes}
 use Rattle.xa_model.specs.Loggable.{AreShort, IsLoggable, IsRecoverable}
 use Rattle.xa_model.specs.Backing.{Backs}
@@ -205,8 +205,6 @@ opening_loggable d name log_bytes h less = record {
   boots = omega arith;
   last = omega (arith, less);
   past = all_past (d.boot + 1 + 1) d h.form (λ t past. later_past d.boot t past);
-  begun = all_imply (λ (b : Branch). is_working b.phase ≡ false) (λ (b : Branch). is_working b.phase ≡ true → boot_of b.timestamp ≡ d.boot + 1)
-      (λ b still works. absurd (cc (still, works))) (branches d) (idle d);
   written = all_short d h.written;
 }
 

@@ -2,7 +2,7 @@
 use Rattle.std.proofs.Common.{◌≡◌, ◌⊎◌, inl, inr, ℕ, ◌+◌, ◌^◌, ◌<◌, ◌≤◌, Bool, true, false, cond, List, [], ◌∷◌, Option, Some, None, refl, sym, ◌∙◌, ap, subst, arith}
 use Rattle.std.specs.Prelude.{is_some, find}
 use Rattle.std.specs.List.{AllByRecursion}
-use Rattle.xa_model.specs.State.{Branch, Operation, Got, Wrote, is_committed, timestamp_of, change}
+use Rattle.xa_model.specs.State.{Branch, Operation, Got, Wrote, is_committed, is_working, timestamp_of, change}
 use Rattle.xa_model.specs.Source.{write_of, is_late}
 use Rattle.xa_model.specs.Sound.{Descends}
 use Rattle.xa_model.proofs.Inserts.{all_imply, all_both}
@@ -26,10 +26,10 @@ pub record IsRight (bs : List Branch) (t : ℕ) (key : List ℕ) (answer : Optio
   pub source : ((from ≡ 0) × (answer ≡ None)) ⊎ Has (IsSource key answer from) bs
   pub none_between : AllByRecursion (IsOutside t key from) bs
 
--- and none will: its write would be late, or its branch is of an older boot
-pub record IsPinned (c : Core) (t : ℕ) (key : List ℕ) (answer : Option (List ℕ)) (from : ℕ) : Type 0 where
+-- and none will: its write would be late, or its branch isn't above the floor
+pub record IsPinned (floor : ℕ) (c : Core) (t : ℕ) (key : List ℕ) (answer : Option (List ℕ)) (from : ℕ) : Type 0 where
   pub right : IsRight c.branches t key answer from
-  pub guarded : (u : ℕ) → from < u → u < t → (u ≤ timestamp_of c.boot 0) ⊎ (is_late key u c.reads ≡ true)
+  pub guarded : (u : ℕ) → from < u → u < t → (u ≤ floor) ⊎ (is_late key u c.reads ≡ true)
 
 -- each get saw its branch's own last write, or the branch had written nothing, and it is pinned
 abbrev pub Settled : (List ℕ → Option (List ℕ) → ℕ → Type 0) → List Operation → Type 0
@@ -38,8 +38,20 @@ Settled pin (Wrote key value ∷ older) = Settled pin older
 Settled pin (Got key answer from ∷ older) =
     ((write_of key older ≡ Some answer) ⊎ ((write_of key older ≡ None) × pin key answer from)) × Settled pin older
 
-abbrev pub AreSettled : Core → Type 0
-AreSettled c = AllByRecursion (λ b. Settled (IsPinned c b.timestamp) b.operations) c.branches
+-- it isn't at work, or above this timestamp
+abbrev pub WorksAbove : ℕ → Branch → Type 0
+WorksAbove floor b = is_working b.phase ≡ true → floor < b.timestamp
+
+abbrev pub ArePinned : ℕ → Core → List Branch → Type 0
+ArePinned floor c bs = AllByRecursion (λ b. Settled (IsPinned floor c b.timestamp) b.operations) bs
+
+-- All work is above some timestamp, from which on reads are kept: the 0th of the last boot that began without reads and
+-- without branches at work.
+pub record AreSettled (c : Core) : Type 0 where
+  pub floor : ℕ
+  pub low : floor ≤ timestamp_of c.boot 0
+  pub work : AllByRecursion (WorksAbove floor) c.branches
+  pub pins : ArePinned floor c c.branches
 
 pub settled_weaker : (p q : List ℕ → Option (List ℕ) → ℕ → Type 0) (ops : List Operation)
     → ((key : List ℕ) (answer : Option (List ℕ)) (from : ℕ) → p key answer from → q key answer from) → Settled p ops → Settled q ops
@@ -114,21 +126,27 @@ remaining_right r t key answer from h = record {
     outside b c g h w =
         subst (λ (u : ℕ). (u ≤ from) ⊎ (t ≤ u)) (sym g.timestamp) (h (ap (λ ops. is_some (write_of key ops)) (sym g.operations) ∙ w))
 
-settled_on : (c d : Core) → {bs cs : List Branch} → Remain bs cs
+-- of work that remains
+pub remaining_work : (floor : ℕ) {bs cs : List Branch} → Remain bs cs → AllByRecursion (WorksAbove floor) bs → AllByRecursion (WorksAbove floor) cs
+remaining_work floor r h =
+    remain_all (WorksAbove floor) (WorksAbove floor)
+    (λ b c g above works. subst (λ (t : ℕ). floor < t) (sym g.timestamp) (above (g.works works))) r h
+
+settled_on : (low high : ℕ) (c d : Core) → {bs cs : List Branch} → Remain bs cs
     → ((b : Branch) → b.timestamp ≤ timestamp_of c.boot c.given → (key : List ℕ) (answer : Option (List ℕ)) (from : ℕ)
-    → IsPinned c b.timestamp key answer from → IsPinned d b.timestamp key answer from)
-    → AllByRecursion (λ b. (b.timestamp ≤ timestamp_of c.boot c.given) × Settled (IsPinned c b.timestamp) b.operations) bs
-    → AllByRecursion (λ b. Settled (IsPinned d b.timestamp) b.operations) cs
-settled_on c d r f h =
-    remain_all (λ b. (b.timestamp ≤ timestamp_of c.boot c.given) × Settled (IsPinned c b.timestamp) b.operations)
-    (λ b. Settled (IsPinned d b.timestamp) b.operations) moved r h
+    → IsPinned low c b.timestamp key answer from → IsPinned high d b.timestamp key answer from)
+    → AllByRecursion (λ b. (b.timestamp ≤ timestamp_of c.boot c.given) × Settled (IsPinned low c b.timestamp) b.operations) bs
+    → ArePinned high d cs
+settled_on low high c d r f h =
+    remain_all (λ b. (b.timestamp ≤ timestamp_of c.boot c.given) × Settled (IsPinned low c b.timestamp) b.operations)
+    (λ b. Settled (IsPinned high d b.timestamp) b.operations) moved r h
   where
-    moved : (b e : Branch) → GoesOn b e → (b.timestamp ≤ timestamp_of c.boot c.given) × Settled (IsPinned c b.timestamp) b.operations
-        → Settled (IsPinned d e.timestamp) e.operations
+    moved : (b e : Branch) → GoesOn b e → (b.timestamp ≤ timestamp_of c.boot c.given) × Settled (IsPinned low c b.timestamp) b.operations
+        → Settled (IsPinned high d e.timestamp) e.operations
     moved b e g k =
-        subst (λ (t : ℕ). Settled (IsPinned d t) e.operations) (sym g.timestamp)
-        (subst (Settled (IsPinned d b.timestamp)) (sym g.operations)
-        (settled_weaker (IsPinned c b.timestamp) (IsPinned d b.timestamp) b.operations (f b k.0) k.1))
+        subst (λ (t : ℕ). Settled (IsPinned high d t) e.operations) (sym g.timestamp)
+        (subst (Settled (IsPinned high d b.timestamp)) (sym g.operations)
+        (settled_weaker (IsPinned low c b.timestamp) (IsPinned high d b.timestamp) b.operations (f b k.0) k.1))
 
 -- what every state has
 pub record IsOrdered (c : Core) : Type 0 where
@@ -143,51 +161,83 @@ below_limit limit (b ∷ bs) d = (
       (below_limit b.timestamp bs d.2),
 )
 
-with_given : (c : Core) → IsOrdered c → AreSettled c
-    → AllByRecursion (λ b. (b.timestamp ≤ timestamp_of c.boot c.given) × Settled (IsPinned c b.timestamp) b.operations) c.branches
-with_given c o h =
-    all_both (λ b. b.timestamp < timestamp_of c.boot c.given + 1) (λ b. Settled (IsPinned c b.timestamp) b.operations)
-    (λ b. (b.timestamp ≤ timestamp_of c.boot c.given) × Settled (IsPinned c b.timestamp) b.operations)
+with_given : (floor : ℕ) (c : Core) → IsOrdered c → ArePinned floor c c.branches
+    → AllByRecursion (λ b. (b.timestamp ≤ timestamp_of c.boot c.given) × Settled (IsPinned floor c b.timestamp) b.operations) c.branches
+with_given floor c o h =
+    all_both (λ b. b.timestamp < timestamp_of c.boot c.given + 1) (λ b. Settled (IsPinned floor c b.timestamp) b.operations)
+    (λ b. (b.timestamp ≤ timestamp_of c.boot c.given) × Settled (IsPinned floor c b.timestamp) b.operations)
     (λ b less k. (omega (arith, less), k)) c.branches
     (below_limit (timestamp_of c.boot c.given + 1) c.branches o.descends) h
 
 pub remains_settled : (c : Core) (bs : List Branch) → Remain c.branches bs → IsOrdered c → AreSettled c → AreSettled (record c { branches = bs })
-remains_settled c bs r o h =
-    settled_on c (record c { branches = bs }) r
-    (λ b given key answer from p. record { right = remaining_right r b.timestamp key answer from p.right; guarded = p.guarded })
-    (with_given c o h)
+remains_settled c bs r o h = record {
+  floor = h.floor;
+  low = h.low;
+  work = remaining_work h.floor r h.work;
+  pins =
+      settled_on h.floor h.floor c (record c { branches = bs }) r
+      (λ b given key answer from p. record { right = remaining_right r b.timestamp key answer from p.right; guarded = p.guarded })
+      (with_given h.floor c o h.pins);
+}
 
-pub restarts_settled : (c : Core) (boot : ℕ) (bs : List Branch) → c.boot < boot → Remain c.branches bs → IsOrdered c → AreSettled c
+-- a boot that begins without work and reads: the floor is its own 0th
+pub restarts_settled : (c : Core) (boot : ℕ) (bs : List Branch) → c.boot < boot → Remain c.branches bs
+    → AllByRecursion (λ b. is_working b.phase ≡ false) bs → IsOrdered c → AreSettled c
     → AreSettled (record { boot = boot; given = 0; branches = bs; reads = [] })
-restarts_settled c boot bs less r o h =
-    settled_on c (record { boot = boot; given = 0; branches = bs; reads = [] }) r
-    (λ b given key answer from p. record {
-      right = remaining_right r b.timestamp key answer from p.right;
-      guarded = λ u above under. inl (older b.timestamp u given under);
-    })
-    (with_given c o h)
+restarts_settled c boot bs less r idle o h = record {
+  floor = timestamp_of boot 0;
+  low = omega arith;
+  work = all_imply (λ (b : Branch). is_working b.phase ≡ false) (WorksAbove (timestamp_of boot 0)) (λ b still works. absurd (cc (still, works))) bs idle;
+  pins =
+      settled_on h.floor (timestamp_of boot 0) c (record { boot = boot; given = 0; branches = bs; reads = [] }) r
+      (λ b given key answer from p. record {
+        right = remaining_right r b.timestamp key answer from p.right;
+        guarded = λ u above under. inl (older b.timestamp u given under);
+      })
+      (with_given h.floor c o h.pins);
+}
   where
     older : (t u : ℕ) → t ≤ timestamp_of c.boot c.given → u < t → u ≤ timestamp_of boot 0
     older t u given under = omega (arith, given, under, less, o.few)
+
+-- a boot that begins with both: the floor stays
+pub trims_settled : (c : Core) (boot : ℕ) → c.boot < boot → AreSettled c → AreSettled (record c { boot = boot; given = 0 })
+trims_settled c boot less h = record {
+  floor = h.floor;
+  low = omega (arith, h.low, less);
+  work = h.work;
+  pins =
+      all_imply (λ x. Settled (IsPinned h.floor c x.timestamp) x.operations) (λ x. Settled (IsPinned h.floor d x.timestamp) x.operations)
+      (λ x k. settled_weaker (IsPinned h.floor c x.timestamp) (IsPinned h.floor d x.timestamp) x.operations
+      (λ key answer from p. record { right = p.right; guarded = p.guarded }) k) c.branches h.pins;
+}
+  where
+    d : Core
+    d = record c { boot = boot; given = 0 }
 
 nothing_written : (key : List ℕ) (ops : List Operation) → ops ≡ [] → is_some (write_of key ops) ≡ true → ⊥
 nothing_written key [] e w = cc w
 nothing_written key (op ∷ ops) e w = cc e
 
 -- a branch begins
-pub begins_settled : (c : Core) (b : Branch) → b.operations ≡ [] → AreSettled c → AreSettled
-    (record c { given = c.given + 1; branches = b ∷ c.branches })
-begins_settled c b e h = (
-  subst (Settled (IsPinned d b.timestamp)) (sym e) tt,
-  all_imply (λ x. Settled (IsPinned c x.timestamp) x.operations) (λ x. Settled (IsPinned d x.timestamp) x.operations)
-      (λ x k. settled_weaker (IsPinned c x.timestamp) (IsPinned d x.timestamp) x.operations (pins x.timestamp) k) c.branches h,
-)
+pub begins_settled : (c : Core) (b : Branch) → b.operations ≡ [] → b.timestamp ≡ timestamp_of c.boot (c.given + 1) → AreSettled c
+    → AreSettled (record c { given = c.given + 1; branches = b ∷ c.branches })
+begins_settled c b e new h = record {
+  floor = h.floor;
+  low = h.low;
+  work = ((λ works. omega (arith, h.low, new)), h.work);
+  pins = (
+    subst (Settled (IsPinned h.floor d b.timestamp)) (sym e) tt,
+    all_imply (λ x. Settled (IsPinned h.floor c x.timestamp) x.operations) (λ x. Settled (IsPinned h.floor d x.timestamp) x.operations)
+        (λ x k. settled_weaker (IsPinned h.floor c x.timestamp) (IsPinned h.floor d x.timestamp) x.operations (pinned x.timestamp) k) c.branches h.pins,
+  );
+}
   where
     d : Core
     d = record c { given = c.given + 1; branches = b ∷ c.branches }
 
-    pins : (t : ℕ) (key : List ℕ) (answer : Option (List ℕ)) (from : ℕ) → IsPinned c t key answer from → IsPinned d t key answer from
-    pins t key answer from p = record {
+    pinned : (t : ℕ) (key : List ℕ) (answer : Option (List ℕ)) (from : ℕ) → IsPinned h.floor c t key answer from → IsPinned h.floor d t key answer from
+    pinned t key answer from p = record {
       right = record {
         earlier = p.right.earlier;
         source = elim p.right.source [ inl zero ↦ inl zero | inr there ↦ inr (inr there) ];

@@ -6,15 +6,15 @@ use Rattle.std.proofs.lemmas.Bool.{cases_lt}
 use Rattle.std.proofs.lemmas.Bool.Decides.{nat_tests}
 use Rattle.std.proofs.lemmas.Slice.Eq.{bytes_eq-Decides}
 use Rattle.xa_xid.specs.Triple.{Triple}
-use Rattle.xa_model.specs.State.{Branch, Read, Operation, Got, Wrote, is_known_as, known_of, timestamp_of}
+use Rattle.xa_model.specs.State.{Branch, Read, Operation, Got, Wrote, is_known_as, is_working, known_of, timestamp_of}
 use Rattle.xa_model.specs.Source.{Version, write_of, absent, source, is_busy, is_late}
 use Rattle.xa_model.specs.Sound.{Descends}
 use Rattle.xa_model.specs.Records.{having_done, did}
 use Rattle.xa_model.proofs.Inserts.{all_imply}
 use Rattle.xa_model.proofs.Keys.{key_itself}
 use Rattle.xa_model.proofs.Lists.{found_all, change_all}
-use Rattle.xa_model.proofs.Moves.{Core, Moves, remains, restarts, begins, gets, puts, known_uncommitted}
-use Rattle.xa_model.proofs.Pins.{Has, IsSource, IsOutside, IsRight, IsPinned, Settled, AreSettled, IsOrdered, settled_weaker, changed_has, changed_all, remains_settled, restarts_settled, begins_settled}
+use Rattle.xa_model.proofs.Moves.{Core, Moves, remains, restarts, trims, begins, gets, puts, known_uncommitted}
+use Rattle.xa_model.proofs.Pins.{Has, IsSource, IsOutside, IsRight, IsPinned, Settled, WorksAbove, ArePinned, AreSettled, IsOrdered, settled_weaker, changed_has, changed_all, remains_settled, restarts_settled, trims_settled, begins_settled}
 use Rattle.xa_model.proofs.Sources.{Left, IsAtMost, IsNewest, source_is, found_one}
 
 later_read : (key : List ℕ) (u : ℕ) (r : Read) (reads : List Read) → is_late key u reads ≡ true → is_late key u (r ∷ reads) ≡ true
@@ -30,7 +30,7 @@ has_imply P Q f [] h = absurd h
 has_imply P Q f (x ∷ xs) (inl p) = inl (f x p)
 has_imply P Q f (x ∷ xs) (inr h) = inr (has_imply P Q f xs h)
 
-above_zero : (limit : ℕ) (bs : List Branch) → Descends limit bs → AllByRecursion (λ b. 0 < b.timestamp) bs
+pub above_zero : (limit : ℕ) (bs : List Branch) → Descends limit bs → AllByRecursion (λ b. 0 < b.timestamp) bs
 above_zero limit [] d = tt
 above_zero limit (b ∷ bs) d = (d.0, above_zero b.timestamp bs d.2)
 
@@ -40,7 +40,7 @@ is_free false u t less e = grind (arith, nat_tests)
 
 -- an answered get
 
-module _ (c : Core) (key : List ℕ) (xid : Triple) (b : Branch) (found : known_of c.branches xid ≡ Some b)
+module _ (floor : ℕ) (c : Core) (key : List ℕ) (xid : Triple) (b : Branch) (found : known_of c.branches xid ≡ Some b)
     (free : is_busy b.timestamp (source key b.timestamp c.branches) ≡ false) (o : IsOrdered c) where
   abbrev v : Version
   v = source key b.timestamp c.branches
@@ -69,7 +69,7 @@ module _ (c : Core) (key : List ℕ) (xid : Triple) (b : Branch) (found : known_
     none_between = change_all (IsOutside t k from) (is_known_as xid) (having_done op) (λ x out. out) c.branches h.none_between;
   }
 
-  pins_on : (t : ℕ) (k : List ℕ) (answer : Option (List ℕ)) (from : ℕ) → IsPinned c t k answer from → IsPinned after_get t k answer from
+  pins_on : (t : ℕ) (k : List ℕ) (answer : Option (List ℕ)) (from : ℕ) → IsPinned floor c t k answer from → IsPinned floor after_get t k answer from
   pins_on t k answer from p = record {
     right = right_on t k answer from p.right;
     guarded = λ u above under. elim (p.guarded u above under) [ inl old ↦ inl old | inr late ↦ inr (later_read k u _ c.reads late) ];
@@ -77,7 +77,7 @@ module _ (c : Core) (key : List ℕ) (xid : Triple) (b : Branch) (found : known_
 
   -- another branch's version
   other_read : v.timestamp < b.timestamp → ((v.timestamp ≡ 0) × (v.value ≡ None)) ⊎ Has (IsSource key v.value v.timestamp) c.branches
-      → (write_of key b.operations ≡ None) × IsPinned after_get b.timestamp key v.value v.timestamp
+      → (write_of key b.operations ≡ None) × IsPinned floor after_get b.timestamp key v.value v.timestamp
   other_read less src = (
     unwritten (write_of key b.operations) refl,
     record {
@@ -111,7 +111,7 @@ module _ (c : Core) (key : List ℕ) (xid : Triple) (b : Branch) (found : known_
       (λ x l. (l.0 ∙ same, l.2)) c.branches there)
 
   answered : (write_of key b.operations ≡ Some v.value) ⊎
-      ((write_of key b.operations ≡ None) × IsPinned after_get b.timestamp key v.value v.timestamp)
+      ((write_of key b.operations ≡ None) × IsPinned floor after_get b.timestamp key v.value v.timestamp)
   answered =
       elim newest.from [
         | inl none ↦ inr
@@ -133,22 +133,22 @@ module _ (c : Core) (key : List ℕ) (xid : Triple) (b : Branch) (found : known_
       settled : v.timestamp < b.timestamp → v.committed ≡ true
       settled less = is_free v.committed v.timestamp b.timestamp less free
 
-  gets_settled : AreSettled c → AreSettled after_get
-  gets_settled h =
-      changed_all (λ x. Settled (IsPinned c x.timestamp) x.operations) (λ x. Settled (IsPinned after_get x.timestamp) x.operations)
+  gets_pinned : ArePinned floor c c.branches → ArePinned floor after_get after_get.branches
+  gets_pinned h =
+      changed_all (λ x. Settled (IsPinned floor c x.timestamp) x.operations) (λ x. Settled (IsPinned floor after_get x.timestamp) x.operations)
       (is_known_as xid) (having_done op)
-      (λ x k. settled_weaker (IsPinned c x.timestamp) (IsPinned after_get x.timestamp) x.operations (pins_on x.timestamp) k) b c.branches found h
-      (λ k. (answered, settled_weaker (IsPinned c b.timestamp) (IsPinned after_get b.timestamp) b.operations (pins_on b.timestamp) k))
+      (λ x k. settled_weaker (IsPinned floor c x.timestamp) (IsPinned floor after_get x.timestamp) x.operations (pins_on x.timestamp) k) b c.branches found h
+      (λ k. (answered, settled_weaker (IsPinned floor c b.timestamp) (IsPinned floor after_get b.timestamp) b.operations (pins_on b.timestamp) k))
 
 -- an accepted put
 
-module _ (c : Core) (key : List ℕ) (value : Option (List ℕ)) (xid : Triple) (b : Branch) (found : known_of c.branches xid ≡ Some b)
-    (new : timestamp_of c.boot 0 < b.timestamp) (on_time : is_late key b.timestamp c.reads ≡ false) where
+module _ (floor : ℕ) (c : Core) (key : List ℕ) (value : Option (List ℕ)) (xid : Triple) (b : Branch) (found : known_of c.branches xid ≡ Some b)
+    (new : floor < b.timestamp) (on_time : is_late key b.timestamp c.reads ≡ false) where
   abbrev after_put : Core
   after_put = record c { branches = did xid (Wrote key value) c.branches }
 
   -- the writer stands outside of each read of the key
-  writer_outside : (t : ℕ) (k : List ℕ) (answer : Option (List ℕ)) (from : ℕ) → IsPinned c t k answer from → bytes_eq key k ≡ true
+  writer_outside : (t : ℕ) (k : List ℕ) (answer : Option (List ℕ)) (from : ℕ) → IsPinned floor c t k answer from → bytes_eq key k ≡ true
       → (b.timestamp ≤ from) ⊎ (t ≤ b.timestamp)
   writer_outside t k answer from p e =
       elim (cases_lt from b.timestamp) [
@@ -163,7 +163,7 @@ module _ (c : Core) (key : List ℕ) (value : Option (List ℕ)) (xid : Triple) 
         ]
       ]
 
-  pins_after : (t : ℕ) (k : List ℕ) (answer : Option (List ℕ)) (from : ℕ) → IsPinned c t k answer from → IsPinned after_put t k answer from
+  pins_after : (t : ℕ) (k : List ℕ) (answer : Option (List ℕ)) (from : ℕ) → IsPinned floor c t k answer from → IsPinned floor after_put t k answer from
   pins_after t k answer from p = record {
     right = record {
       earlier = p.right.earlier;
@@ -186,18 +186,39 @@ module _ (c : Core) (key : List ℕ) (value : Option (List ℕ)) (xid : Triple) 
       outside true e out w = writer_outside t k answer from p e
       outside false e out w = out w
 
-  puts_settled : AreSettled c → AreSettled after_put
-  puts_settled h =
-      changed_all (λ x. Settled (IsPinned c x.timestamp) x.operations) (λ x. Settled (IsPinned after_put x.timestamp) x.operations)
+  puts_pinned : ArePinned floor c c.branches → ArePinned floor after_put after_put.branches
+  puts_pinned h =
+      changed_all (λ x. Settled (IsPinned floor c x.timestamp) x.operations) (λ x. Settled (IsPinned floor after_put x.timestamp) x.operations)
       (is_known_as xid) (having_done (Wrote key value))
-      (λ x k. settled_weaker (IsPinned c x.timestamp) (IsPinned after_put x.timestamp) x.operations (pins_after x.timestamp) k) b c.branches found h
-      (λ k. settled_weaker (IsPinned c b.timestamp) (IsPinned after_put b.timestamp) b.operations (pins_after b.timestamp) k)
+      (λ x k. settled_weaker (IsPinned floor c x.timestamp) (IsPinned floor after_put x.timestamp) x.operations (pins_after x.timestamp) k) b c.branches found h
+      (λ k. settled_weaker (IsPinned floor c b.timestamp) (IsPinned floor after_put b.timestamp) b.operations (pins_after b.timestamp) k)
+
+-- what a branch does leaves it at work, with its timestamp
+done_work : (floor : ℕ) (xid : Triple) (op : Operation) (bs : List Branch) → AllByRecursion (WorksAbove floor) bs
+    → AllByRecursion (WorksAbove floor) (did xid op bs)
+done_work floor xid op bs h = change_all (WorksAbove floor) (is_known_as xid) (having_done op) (λ x above. above) bs h
+
+-- who is at work is above the floor
+new_write : (floor : ℕ) (xid : Triple) (b : Branch) (bs : List Branch) → known_of bs xid ≡ Some b → is_working b.phase ≡ true
+    → AllByRecursion (WorksAbove floor) bs → floor < b.timestamp
+new_write floor xid b bs found works h = found_all (WorksAbove floor) (is_known_as xid) b bs h found works
 
 -- every move
 
 pub moves_settled : {c d : Core} → Moves c d → IsOrdered c → AreSettled c → AreSettled d
 moves_settled (remains bs r) o h = remains_settled _ bs r o h
-moves_settled (restarts boot bs less r) o h = restarts_settled _ boot bs less r o h
-moves_settled (begins xid start limit) o h = begins_settled _ _ refl h
-moves_settled (gets key xid b found free) o h = gets_settled _ key xid b found free o h
-moves_settled (puts key value xid b found new on_time) o h = puts_settled _ key value xid b found new on_time h
+moves_settled (restarts boot bs less r idle) o h = restarts_settled _ boot bs less r idle o h
+moves_settled (trims boot less) o h = trims_settled _ boot less h
+moves_settled (begins xid start limit) o h = begins_settled _ _ refl refl h
+moves_settled {c} (gets key xid b found free) o h = record {
+  floor = h.floor;
+  low = h.low;
+  work = done_work h.floor xid _ c.branches h.work;
+  pins = gets_pinned h.floor c key xid b found free o h.pins;
+}
+moves_settled {c} (puts key value xid b found works on_time) o h = record {
+  floor = h.floor;
+  low = h.low;
+  work = done_work h.floor xid _ c.branches h.work;
+  pins = puts_pinned h.floor c key value xid b found (new_write h.floor xid b c.branches found works h.work) on_time h.pins;
+}

@@ -19,7 +19,7 @@ use Rattle.xa_xid.specs.Triple.{Triple, IsWithinLimits}
 use Rattle.xa_model.specs.declared.event.Event.{Event}
 use Rattle.xa_model.specs.declared.event.Event.TheVariants as event
 use Rattle.xa_model.specs.declared.outcome.Appending.TheVariants.{Refused}
-use Rattle.xa_model.specs.State.{State, Association, Branch, Operation, Got, Wrote, Phase, Working, Prepared, Committed, Known, Unknown, AtWork, InDoubt, Completed, known_as, known_in, known_of, is_known_as, active_of, branch_with, own_branch, mark_of, change, suspends, is_loose_with, timestamp_of, is_working}
+use Rattle.xa_model.specs.State.{State, Association, Branch, Operation, Got, Wrote, Known, Unknown, AtWork, InDoubt, Completed, known_as, known_in, known_of, is_known_as, active_of, branch_with, own_branch, mark_of, change, suspends, is_loose_with, timestamp_of}
 use Rattle.xa_model.specs.Source.{Version, source, is_late}
 use Rattle.xa_model.specs.Answer.{Answer, plain, detailed, answer, ok, unless, marked}
 use Rattle.xa_model.specs.Early.{early_refusal}
@@ -44,12 +44,12 @@ use Rattle.xa_model.proofs.ShortWrites.{wrote_short, are_writes}
 
 -- what a turn leaves where its record isn't kept, and the record, which is no boot's
 abbrev pub KeepsRecordable : State → Turn → Type 0
-KeepsRecordable s (Now a) = AreRecordable s.boot s.logged_boot a.after.branches
-KeepsRecordable s (Appends r after) = IsRecord r × (is_boot r ≡ false) × AreRecordable s.boot s.logged_boot (after Refused).after.branches
+KeepsRecordable s (Now a) = AreRecordable s.logged_boot a.after.branches
+KeepsRecordable s (Appends r after) = IsRecord r × (is_boot r ≡ false) × AreRecordable s.logged_boot (after Refused).after.branches
 KeepsRecordable s _ = ⊥
 
 abbrev Fits : State → State → Type 0
-Fits s t = AreRecordable s.boot s.logged_boot t.branches
+Fits s t = AreRecordable s.logged_boot t.branches
 
 -- answers
 
@@ -84,39 +84,31 @@ logs_keeps s r code left limits other h = (limits, other, h)
 
 -- branches
 
-marked_works : (code : ℤ) (p : Phase) → is_working (marked_phase code p) ≡ true → is_working p ≡ true
-marked_works code (Working xid work) e = refl
-marked_works code (Prepared xid) e = e
-marked_works code Committed e = e
+marked_recordable : (code : ℤ) (logged_boot : ℕ) (b : Branch) → IsRecordable logged_boot b → IsRecordable logged_boot (with_mark code b)
+marked_recordable code logged_boot b h = with_phase logged_boot b (marked_phase code b.phase) h
 
-marked_recordable : (code : ℤ) (boot logged_boot : ℕ) (b : Branch) → IsRecordable boot logged_boot b → IsRecordable boot logged_boot (with_mark code b)
-marked_recordable code boot logged_boot b h = with_phase boot logged_boot b (marked_phase code b.phase) (marked_works code b.phase) h
+maybe_recordable : (code : ℤ) (logged_boot : ℕ) (b : Branch) (c : Bool) → IsRecordable logged_boot b → IsRecordable logged_boot (cond c (with_mark code b) b)
+maybe_recordable code logged_boot b true h = marked_recordable code logged_boot b h
+maybe_recordable code logged_boot b false h = h
 
-maybe_recordable : (code : ℤ) (boot logged_boot : ℕ) (b : Branch) (c : Bool) → IsRecordable boot logged_boot b → IsRecordable boot logged_boot (cond c (with_mark code b) b)
-maybe_recordable code boot logged_boot b true h = marked_recordable code boot logged_boot b h
-maybe_recordable code boot logged_boot b false h = h
+left_recordable : (held : List Association) (n logged_boot : ℕ) (bs : List Branch) → AreRecordable logged_boot bs → AreRecordable logged_boot (map (left_behind held n) bs)
+left_recordable held n logged_boot [] h = tt
+left_recordable held n logged_boot (b ∷ bs) h = (maybe_recordable XA_RBCOMMFAIL logged_boot b (is_worked_by held n b.phase) h.0, left_recordable held n logged_boot bs h.1)
 
-left_recordable : (held : List Association) (n boot logged_boot : ℕ) (bs : List Branch) → AreRecordable boot logged_boot bs → AreRecordable boot logged_boot (map (left_behind held n) bs)
-left_recordable held n boot logged_boot [] h = tt
-left_recordable held n boot logged_boot (b ∷ bs) h = (maybe_recordable XA_RBCOMMFAIL boot logged_boot b (is_worked_by held n b.phase) h.0, left_recordable held n boot logged_boot bs h.1)
+timed_recordable : (moment logged_boot : ℕ) (bs : List Branch) → AreRecordable logged_boot bs → AreRecordable logged_boot (map (timed_out moment) bs)
+timed_recordable moment logged_boot [] h = tt
+timed_recordable moment logged_boot (b ∷ bs) h = (maybe_recordable XA_RBTIMEOUT logged_boot b (runs_out moment b) h.0, timed_recordable moment logged_boot bs h.1)
 
-timed_recordable : (moment boot logged_boot : ℕ) (bs : List Branch) → AreRecordable boot logged_boot bs → AreRecordable boot logged_boot (map (timed_out moment) bs)
-timed_recordable moment boot logged_boot [] h = tt
-timed_recordable moment boot logged_boot (b ∷ bs) h = (maybe_recordable XA_RBTIMEOUT boot logged_boot b (runs_out moment b) h.0, timed_recordable moment boot logged_boot bs h.1)
-
-mark_fits : (s : State) (xid : Triple) (code : ℤ) → Fits s s → AreRecordable s.boot s.logged_boot (change (is_known_as xid) (with_mark code) s.branches)
-mark_fits s xid code h = change_all (IsRecordable s.boot s.logged_boot) (is_known_as xid) (with_mark code) (marked_recordable code s.boot s.logged_boot) s.branches h
+mark_fits : (s : State) (xid : Triple) (code : ℤ) → Fits s s → AreRecordable s.logged_boot (change (is_known_as xid) (with_mark code) s.branches)
+mark_fits s xid code h = change_all (IsRecordable s.logged_boot) (is_known_as xid) (with_mark code) (marked_recordable code s.logged_boot) s.branches h
 
 gone_fits : (s : State) (xid : Triple) → Fits s s → Fits s (rolled_back s xid)
-gone_fits s xid h = without_all (IsRecordable s.boot s.logged_boot) (is_known_as xid) s.branches h
+gone_fits s xid h = without_all (IsRecordable s.logged_boot) (is_known_as xid) s.branches h
 
 committed_fits : (s : State) (xid : Triple) → Fits s s → Fits s (committed s xid)
-committed_fits s xid h = change_all (IsRecordable s.boot s.logged_boot) (is_known_as xid) as_committed (committed_recordable s.boot s.logged_boot) s.branches h
+committed_fits s xid h = change_all (IsRecordable s.logged_boot) (is_known_as xid) as_committed (committed_recordable s.logged_boot) s.branches h
 
 -- a new branch
-
-begun_boot : (boot n : ℕ) → n ≤ 4294967295 → boot_of (timestamp_of boot n) ≡ boot
-begun_boot boot n most = omega (arith, most)
 
 begun_past : (boot logged_boot n : ℕ) → 1 ≤ boot → boot ≤ logged_boot → 1 ≤ n → n ≤ 4294967295 → is_past (logged_boot + 1) (timestamp_of boot n) ≡ true
 begun_past boot logged_boot n first boots some most = grind (arith, nat_tests)
@@ -125,7 +117,6 @@ begun_fits : (s : State) (n : ℕ) (xid : Triple) → IsLoggable s → s.given <
 begun_fits s n xid h room = (
   record {
     past = begun_past s.boot s.logged_boot (s.given + 1) h.first h.boots (omega arith) (omega (arith, room));
-    begun = λ works. begun_boot s.boot (s.given + 1) (omega (arith, room));
     written = record { few = omega arith; each = tt };
   },
   recordable s h,
@@ -186,8 +177,8 @@ change_found P p f b [] found keeps h = tt
 change_found P p f b (c ∷ bs) found keeps h = change_found_by P p f b c bs (p c) found keeps h (λ e. change_found P p f b bs e keeps h.1)
 
 done_fits : (s : State) (xid : Triple) (b : Branch) (op : Operation) → known_of s.branches xid ≡ Some b
-    → (IsRecordable s.boot s.logged_boot b → IsRecordable s.boot s.logged_boot (having_done op b)) → Fits s s → AreRecordable s.boot s.logged_boot (change (is_known_as xid) (having_done op) s.branches)
-done_fits s xid b op found keeps h = change_found (IsRecordable s.boot s.logged_boot) (is_known_as xid) (having_done op) b s.branches found keeps h
+    → (IsRecordable s.logged_boot b → IsRecordable s.logged_boot (having_done op b)) → Fits s s → AreRecordable s.logged_boot (change (is_known_as xid) (having_done op) s.branches)
+done_fits s xid b op found keeps h = change_found (IsRecordable s.logged_boot) (is_known_as xid) (having_done op) b s.branches found keeps h
 
 own_by : (xid x : Triple) (b : Branch) (bs : List Branch) (o : Option Branch) → known_of bs x ≡ o → option_map {U = Triple × Branch} (λ (c : Branch). (x, c)) o ≡ Some (xid, b) → known_of bs xid ≡ Some b
 own_by xid x b bs None found e = absurd (cc e)
@@ -200,7 +191,7 @@ owned_by xid b bs None e = absurd (cc e)
 owned_by xid b bs (Some x) e = own_by xid x b bs (known_of bs x) refl e
 
 got_fits : (s : State) (key : List ℕ) (xid : Triple) (b : Branch) (v : Version) → known_of s.branches xid ≡ Some b → Fits s s → Fits s (got s key xid b v).after
-got_fits s key xid b v found h = done_fits s xid b (Got key v.value v.timestamp) found (λ k. record { past = k.past; begun = k.begun; written = k.written }) h
+got_fits s key xid b v found h = done_fits s xid b (Got key v.value v.timestamp) found (λ k. record { past = k.past; written = k.written }) h
 
 get_fits : (s : State) (n : ℕ) (key : List ℕ) (o : Option (Triple × Branch)) → own_branch s n ≡ o → Fits s s → Fits s (get_by s key o).after
 get_fits s n key None e h = h
@@ -216,7 +207,7 @@ if_late_fits false s a b h k = k
 wrote_fits : (s : State) (key : List ℕ) (value : Option (List ℕ)) (xid : Triple) (b : Branch) → IsWrite (record { key = key; value = value }) → is_full key b.operations ≡ false
     → known_of s.branches xid ≡ Some b → Fits s s → Fits s (written s key value xid).after
 wrote_fits s key value xid b limits room found h =
-    done_fits s xid b (Wrote key value) found (λ k. record { past = k.past; begun = k.begun; written = wrote_short key value b.operations limits room k.written }) h
+    done_fits s xid b (Wrote key value) found (λ k. record { past = k.past; written = wrote_short key value b.operations limits room k.written }) h
 
 put_fits : (s : State) (n : ℕ) (key : List ℕ) (value : Option (List ℕ)) (o : Option (Triple × Branch)) → IsWrite (record { key = key; value = value }) → own_branch s n ≡ o → Fits s s
     → Fits s (put_by s key value o).after
@@ -229,21 +220,21 @@ put_fits s n key value (Some (xid, b)) limits e h =
 
 -- the calls that log
 
-known_fits_by : (boot logged_boot : ℕ) (xid : Triple) (bs : List Branch) (o : Option Branch) → known_of bs xid ≡ o → AreRecordable boot logged_boot bs → IfSome o (IsRecordable boot logged_boot)
-known_fits_by boot logged_boot xid bs None e h = tt
-known_fits_by boot logged_boot xid bs (Some b) e h = found_all (IsRecordable boot logged_boot) (is_known_as xid) b bs h e
+known_fits_by : (logged_boot : ℕ) (xid : Triple) (bs : List Branch) (o : Option Branch) → known_of bs xid ≡ o → AreRecordable logged_boot bs → IfSome o (IsRecordable logged_boot)
+known_fits_by logged_boot xid bs None e h = tt
+known_fits_by logged_boot xid bs (Some b) e h = found_all (IsRecordable logged_boot) (is_known_as xid) b bs h e
 
 past_short : (logged_boot t : ℕ) → logged_boot ≤ MOST_BOOTS → is_past (logged_boot + 1) t ≡ true → t < 2 ^ 64
 past_short logged_boot t last past = let boot : boot_of t < logged_boot + 1 = grind (arith, nat_tests) in omega (arith, boot, last)
 
-stamped_by : (boot logged_boot : ℕ) (o : Option Branch) → logged_boot ≤ MOST_BOOTS → is_empty (writes_by o) ≡ false → IfSome o (IsRecordable boot logged_boot) → IsStamped (timestamp_by o) (writes_by o)
-stamped_by boot logged_boot None last some h = absurd (cc some)
-stamped_by boot logged_boot (Some b) last some h = record { stamp = past_short logged_boot b.timestamp last h.past; writes = are_writes b.operations some h.written }
+stamped_by : (logged_boot : ℕ) (o : Option Branch) → logged_boot ≤ MOST_BOOTS → is_empty (writes_by o) ≡ false → IfSome o (IsRecordable logged_boot) → IsStamped (timestamp_by o) (writes_by o)
+stamped_by logged_boot None last some h = absurd (cc some)
+stamped_by logged_boot (Some b) last some h = record { stamp = past_short logged_boot b.timestamp last h.past; writes = are_writes b.operations some h.written }
 
 branch_limits : (s : State) (xid : Triple) → IsLoggable s → IsWithinLimits xid → is_empty (writes_in s xid) ≡ false → IsBranch xid (timestamp_in s xid) (writes_in s xid)
 branch_limits s xid h name some = record {
   name = name;
-  stamped = stamped_by s.boot s.logged_boot (known_of s.branches xid) h.last some (known_fits_by s.boot s.logged_boot xid s.branches (known_of s.branches xid) refl (recordable s h));
+  stamped = stamped_by s.logged_boot (known_of s.branches xid) h.last some (known_fits_by s.logged_boot xid s.branches (known_of s.branches xid) refl (recordable s h));
 }
 
 prepare_keeps : (s : State) (xid : Triple) → IsLoggable s → IsWithinLimits xid → KeepsRecordable s (prepare_turn s xid)
@@ -302,11 +293,11 @@ row_keeps s n (Decide direction xid) is h other =
 row_keeps s n (Doom xid) is h other = unless_fits (doom_refusal (known_as s xid)) s (ok (doomed s xid)) (recordable s h) (λ none. mark_fits s xid XA_RBOTHER (recordable s h))
 row_keeps s n Restart is h other = absurd (cc other)
 row_keeps s n (Timeout seconds) is h other = recordable s h
-row_keeps s n (Tick moment) is h other = timed_recordable moment s.boot s.logged_boot s.branches (recordable s h)
+row_keeps s n (Tick moment) is h other = timed_recordable moment s.logged_boot s.branches (recordable s h)
 row_keeps s n (Branches count after) is h other = recordable s h
 
 pub events_keep_recordable : (s : State) (e : Event) → IsEvent e → IsLoggable s → is_restart e ≡ false → KeepsRecordable s (respond s e)
 events_keep_recordable s event.Connect is h other = unless_fits (connect_refusal (length s.sessions)) s (connected s) (recordable s h) (λ none. recordable s h)
-events_keep_recordable s (event.Hangup n) is h other = left_recordable s.associations n s.boot s.logged_boot s.branches (recordable s h)
+events_keep_recordable s (event.Hangup n) is h other = left_recordable s.associations n s.logged_boot s.branches (recordable s h)
 events_keep_recordable s (event.Call n request) is h other =
     unless_keeps (early_refusal (context_of s n) request) s (row s n request) (recordable s h) (λ allowed. row_keeps s n request is h other)

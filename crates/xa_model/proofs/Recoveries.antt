@@ -18,7 +18,7 @@ use Rattle.xa_model.specs.State.{State, Standing, Up, Down, Ended}
 use Rattle.xa_model.specs.Answer.{Answer}
 use Rattle.xa_model.specs.Early.{early_refusal}
 use Rattle.xa_model.specs.Durable.{IsDurable, durable}
-use Rattle.xa_model.specs.Turn.{Happening, Asked, Reopened, Turn, Nobody, Now, Appends, Rereads, Rereading, Stops, Opens, going_on, taken, unless_now}
+use Rattle.xa_model.specs.Turn.{Happening, Asked, Reopened, Turn, Nobody, Now, Appends, Checkpoints, Rereads, Rereading, Stops, Opens, going_on, taken, unless_now}
 use Rattle.xa_model.specs.Step.{respond, asked, turn, context_of}
 use Rattle.xa_model.specs.Logging.{applied, down, lost}
 use Rattle.xa_model.specs.Restarting.{restart_turn, reopen_turn, restarting, reopening, survived, missed}
@@ -46,6 +46,7 @@ abbrev pub StaysRecoverable : Turn → Type 0
 StaysRecoverable Nobody = Unit {0}
 StaysRecoverable (Now a) = IsRecoverable a.after
 StaysRecoverable (Appends r after) = (x : Appending) → IsRecoverable (after x).after
+StaysRecoverable (Checkpoints r after) = (x : Appending) → IsRecoverable (after x).after
 StaysRecoverable (Rereads failed found missing) = IsRecoverable failed.after × IfSome found GoesOn × GoesOn missing
 
 same_recoverable : (a b : Answer) → IsRecoverable a.after → Some a ≡ Some b → IsRecoverable b.after
@@ -71,6 +72,10 @@ taken_recoverable (Appends r after) Quiet b h e = absurd (cc e)
 taken_recoverable (Appends r after) (Appended x) b h e = same_recoverable (after x) b (h x) e
 taken_recoverable (Appends r after) Failed b h e = absurd (cc e)
 taken_recoverable (Appends r after) (Reread there x) b h e = absurd (cc e)
+taken_recoverable (Checkpoints r after) Quiet b h e = absurd (cc e)
+taken_recoverable (Checkpoints r after) (Appended x) b h e = same_recoverable (after x) b (h x) e
+taken_recoverable (Checkpoints r after) Failed b h e = absurd (cc e)
+taken_recoverable (Checkpoints r after) (Reread there x) b h e = absurd (cc e)
 taken_recoverable (Rereads failed found missing) Quiet b h e = absurd (cc e)
 taken_recoverable (Rereads failed found missing) (Appended x) b h e = absurd (cc e)
 taken_recoverable (Rereads failed found missing) Failed b h e = same_recoverable failed b h.0 e
@@ -105,7 +110,7 @@ reopen_stays s name log_bytes h =
 
 -- where nothing more is logged, and the open record may still be the last
 
-kept_recoverable : (s t : State) → IsRecoverable s → KeepsLog s t → AreRecordable s.boot s.logged_boot t.branches → IfSome s.open_record (MayBeLast t) → IsRecoverable t
+kept_recoverable : (s t : State) → IsRecoverable s → KeepsLog s t → AreRecordable s.logged_boot t.branches → IfSome s.open_record (MayBeLast t) → IsRecoverable t
 kept_recoverable s t h k fits last = record {
   sound = k.sound;
   loggable = relogged s t h.loggable k.boot k.logged_boot fits;
@@ -170,6 +175,7 @@ up_stays s (Appends r after) h up l k = λ x. by_fate x
     by_fate Kept = subst (λ (a : Answer). IsRecoverable a.after) (sym l.1) (kept_there s r h up l.0 k.0 k.1)
     by_fate Refused = kept_recoverable s (after Refused).after h l.2 k.2 (none_last (after Refused).after s.open_record (h.settled up))
     by_fate Lost = subst (λ (a : Answer). IsRecoverable a.after) (sym l.3) (lost_there s r h up l.0 k.0)
+up_stays s (Checkpoints r after) h up l k = absurd l
 up_stays s (Rereads failed found missing) h up l k = absurd l
 
 -- one that is down
@@ -182,6 +188,7 @@ down_stays : (s : State) (t : Turn) → IsRecoverable s → LogsWhatLasts s t �
 down_stays s Nobody h l k still = absurd l
 down_stays s (Now a) h l k still = kept_recoverable s a.after h l k (still_last s a.after s.open_record h l still h.open_record)
 down_stays s (Appends r after) h l k still = absurd still
+down_stays s (Checkpoints r after) h l k still = absurd l
 down_stays s (Rereads failed found missing) h l k still = absurd l
 
 -- all that is asked
@@ -253,12 +260,14 @@ up_logs : (s : State) (t : Turn) → IsRecoverable s → s.standing ≡ Up → L
 up_logs s Nobody h up l k = tt
 up_logs s (Now a) h up l k = tt
 up_logs s (Appends r after) h up l k = (record { may = l.0; limits = k.0; current = λ other. h.current up }, k.1, up)
+up_logs s (Checkpoints r after) h up l k = tt
 up_logs s (Rereads failed found missing) h up l k = tt
 
 down_logs : (s : State) (t : Turn) → StillMay s t → LogsLast s t
 down_logs s Nobody still = tt
 down_logs s (Now a) still = tt
 down_logs s (Appends r after) still = absurd still
+down_logs s (Checkpoints r after) still = tt
 down_logs s (Rereads failed found missing) still = tt
 
 unless_logs : (o : Option Reply) (s : State) (t : Turn) → LogsLast s t → LogsLast s (unless_now o s t)

@@ -7,7 +7,7 @@ use Rattle.xa_model.specs.declared.outcome.Outcome.TheVariants.{Quiet, Appended,
 use Rattle.xa_model.specs.declared.outcome.Appending.{Appending}
 use Rattle.xa_model.specs.State.{State, Standing, Up, Down, Ended}
 use Rattle.xa_model.specs.Answer.{Answer, plain, answer}
-use Rattle.xa_model.specs.Turn.{Turn, Nobody, Now, Appends, Rereads, Rereading, Stops, Opens, going_on, taken, unless_now, marked_now}
+use Rattle.xa_model.specs.Turn.{Turn, Nobody, Now, Appends, Checkpoints, Rereads, Rereading, Stops, Opens, going_on, taken, unless_now, marked_now}
 use Rattle.xa_model.specs.Step.{asked}
 
 abbrev pub AllOfReading : (Answer → Type 0) → Rereading → Type 0
@@ -18,6 +18,7 @@ abbrev pub AllOf : (Answer → Type 0) → Turn → Type 0
 AllOf Q Nobody = Unit {0}
 AllOf Q (Now a) = Q a
 AllOf Q (Appends r after) = (x : Appending) → Q (after x)
+AllOf Q (Checkpoints r after) = (x : Appending) → Q (after x)
 AllOf Q (Rereads failed found missing) = Q failed × IfSome found (AllOfReading Q) × AllOfReading Q missing
 
 same_answer : (Q : Answer → Type 0) (a b : Answer) → Q a → Some a ≡ Some b → Q b
@@ -44,6 +45,10 @@ taken_all Q (Appends r after) Quiet b h e = absurd (cc e)
 taken_all Q (Appends r after) (Appended x) b h e = same_answer Q (after x) b (h x) e
 taken_all Q (Appends r after) Failed b h e = absurd (cc e)
 taken_all Q (Appends r after) (Reread there x) b h e = absurd (cc e)
+taken_all Q (Checkpoints r after) Quiet b h e = absurd (cc e)
+taken_all Q (Checkpoints r after) (Appended x) b h e = same_answer Q (after x) b (h x) e
+taken_all Q (Checkpoints r after) Failed b h e = absurd (cc e)
+taken_all Q (Checkpoints r after) (Reread there x) b h e = absurd (cc e)
 taken_all Q (Rereads failed found missing) Quiet b h e = absurd (cc e)
 taken_all Q (Rereads failed found missing) (Appended x) b h e = absurd (cc e)
 taken_all Q (Rereads failed found missing) Failed b h e = same_answer Q failed b h.0 e

@@ -15,7 +15,7 @@ use Rattle.xa_model.specs.Turn.{Stops, Opens}
 use Rattle.xa_model.specs.Restarting.{refused_opening, fates_with, missed, survived, without_scan, lasts, restarted, boot_became, reopen_became, restarting, reopened, reopening, can_open}
 use Rattle.xa_model.specs.Logging.{applied, down}
 use Rattle.xa_model.specs.Loggable.{MayBeLast, IsLoggable, IsRecoverable}
-use Rattle.xa_model.specs.LoggingLaws.{Fails, BootLasts, RestartLasts, ReopenLasts}
+use Rattle.xa_model.specs.LoggingLaws.{Fails, BootLasts, RestartLasts, ReopenLasts, IsInDoubt}
 use Rattle.std.proofs.lemmas.Bool.{and_parts}
 use Rattle.std.proofs.lemmas.Bool.Decides.{nat_tests}
 use Rattle.xa_model.proofs.Counts.{count_filter, count_map}
@@ -68,7 +68,7 @@ left_descend : (limit : ℕ) (bs : List Branch) → Descends limit bs → Descen
 left_descend limit [] h = tt
 left_descend limit (b ∷ bs) h = left_descend_by limit b bs (filter lasts bs) (lasts b) h (left_descend b.timestamp bs h.2)
 
-next_above : (boot given next : ℕ) → given ≤ 4294967295 → boot < next → timestamp_of boot given + 1 ≤ timestamp_of next 0 + 1
+pub next_above : (boot given next : ℕ) → given ≤ 4294967295 → boot < next → timestamp_of boot given + 1 ≤ timestamp_of next 0 + 1
 next_above boot given next most less = omega (arith, most, less)
 
 same_length : (xs : List Session) → length (map without_scan xs) ≡ length xs
@@ -144,7 +144,7 @@ ended_fails s name log_bytes h = record {
 booted_loggable : (s : State) → IsLoggable s → s.logged_boot < 4294967295 → IsLoggable (restarted s (s.logged_boot + 1))
 booted_loggable s h less =
     loggable (restarted s (s.logged_boot + 1)) (record { first = omega arith; boots = omega arith; last = omega (arith, less) })
-    (lasting_recordable s.boot s.logged_boot (s.logged_boot + 1) s.branches (omega arith) (recordable s h))
+    (lasting_recordable s.logged_boot (s.logged_boot + 1) s.branches (omega arith) (recordable s h))
 
 pub none_last : (s : State) (o : Option Record) → o ≡ None → IfSome o (MayBeLast s)
 none_last s o e = subst (λ (q : Option Record). IfSome q (MayBeLast s)) (sym e) tt
@@ -174,13 +174,27 @@ reopened_recoverable s name log_bytes h settled less =
 opened_last : (t : State) → t.logged_boot < 4294967295 → MayBeLast t (logged.Opened (t.logged_boot + 1))
 opened_last t less = record { may = omega arith; limits = (omega arith, omega (arith, less)); current = λ other. absurd (cc other) }
 
+pub lost_in_doubt : (s : State) → IsRecoverable s → s.logged_boot < 4294967295
+    → IsInDoubt s (logged.Opened (s.logged_boot + 1)) (record (down s) { open_record = Some (logged.Opened (s.logged_boot + 1)) })
+lost_in_doubt s h less =
+    let lost : State = record (down s) { open_record = Some (logged.Opened (s.logged_boot + 1)) } in record {
+      recoverable = record {
+        sound = down_sound s (Some (logged.Opened (s.logged_boot + 1))) h.sound;
+        loggable = relogged s lost h.loggable refl refl (recordable s h.loggable);
+        open_record = opened_last lost less;
+        settled = λ up. absurd (cc up);
+        current = λ up. absurd (cc up);
+      };
+      lasts = refl;
+      open_record = refl;
+    }
+
 -- once the open record is settled
 
 restarts_by : (s : State) (c : Bool) → nat_lt s.logged_boot 4294967295 ≡ c → IsRecoverable s → s.open_record ≡ None
     → BootLasts s (cond c (Opens (logged.Opened (s.logged_boot + 1)) (boot_became s (s.logged_boot + 1))) (Stops (answer (detailed XAER_RMFAIL detail.Limit) (down s))))
 restarts_by s true e h settled =
-    let less : s.logged_boot < 4294967295 = grind (arith, nat_tests) in
-    let lost : State = record (down s) { open_record = Some (logged.Opened (s.logged_boot + 1)) } in (
+    let less : s.logged_boot < 4294967295 = grind (arith, nat_tests) in (
       refl,
       record {
         recoverable = booted_recoverable s h settled less;
@@ -190,17 +204,7 @@ restarts_by s true e h settled =
         settled = settled;
       },
       down_fails s h,
-      record {
-        recoverable = record {
-          sound = down_sound s (Some (logged.Opened (s.logged_boot + 1))) h.sound;
-          loggable = relogged s lost h.loggable refl refl (recordable s h.loggable);
-          open_record = opened_last lost less;
-          settled = λ up. absurd (cc up);
-          current = λ up. absurd (cc up);
-        };
-        lasts = refl;
-        open_record = refl;
-      },
+      lost_in_doubt s h less,
     )
 restarts_by s false e h settled = down_fails s h
 

@@ -1,5 +1,5 @@
 -- Restarts and openings lead to what lasted.
-use Rattle.std.proofs.Common.{◌≡◌, ℕ, ◌+◌, Bool, true, false, cond, List, [], ◌∷◌, refl, ap, sym}
+use Rattle.std.proofs.Common.{◌≡◌, ℕ, ◌+◌, true, false, List, refl, ap, sym}
 use Rattle.std.specs.Prelude.{filter}
 use Rattle.std.specs.List.{AllByRecursion}
 use Rattle.std.proofs.lemmas.Bool.{not-true}
@@ -9,18 +9,8 @@ use Rattle.xa_model.specs.Fold.{snapshot, sizes}
 use Rattle.xa_model.specs.Logging.{snapshot_end}
 use Rattle.xa_model.specs.Restarting.{lasts, restarted}
 use Rattle.xa_model.specs.BackingLaws.{RestartsRestored, ReopensRestored}
-use Rattle.xa_model.proofs.Inserts.{all_filtered}
+use Rattle.xa_model.proofs.Inserts.{all_filtered, filter_keeps}
 use Rattle.xa_model.proofs.Restarts.{booted_lasts, booted_recoverable, reopened_recoverable}
-
-filter_keeps_by : {A : Type 0} (P : A → Type 0) (x : A) (xs ys : List A) (c : Bool) → P x → AllByRecursion P ys
-    → AllByRecursion P (cond c (x ∷ ys) ys)
-filter_keeps_by P x xs ys true h rest = (h, rest)
-filter_keeps_by P x xs ys false h rest = rest
-
--- what holds of all holds of those that pass
-pub filter_keeps : {A : Type 0} (P : A → Type 0) (p : A → Bool) (xs : List A) → AllByRecursion P xs → AllByRecursion P (filter p xs)
-filter_keeps P p [] h = tt
-filter_keeps P p (x ∷ xs) h = filter_keeps_by P x xs (filter p xs) (p x) h.0 (filter_keeps P p xs h.1)
 
 pub idle : (bs : List Branch) → AllByRecursion (λ (b : Branch). is_working b.phase ≡ false) (filter lasts bs)
 idle bs = all_filtered (λ (b : Branch). is_working b.phase ≡ false) lasts (λ b e. not-true (is_working b.phase) e) bs

@@ -21,7 +21,7 @@ use Rattle.xa_model.specs.Answer.{Answer, detailed, answer, ok}
 use Rattle.xa_model.specs.Early.{early_refusal}
 use Rattle.xa_model.specs.Durable.{durable}
 use Rattle.xa_model.specs.Fold.{apply, snapshot, size_of, sizes}
-use Rattle.xa_model.specs.Turn.{Asked, Reopened, Turn, Nobody, Now, Appends, Rereads, Rereading, Stops, Opens, going_on, taken, unless_now}
+use Rattle.xa_model.specs.Turn.{Asked, Reopened, Turn, Nobody, Now, Appends, Checkpoints, Rereads, Rereading, Stops, Opens, going_on, taken, unless_now}
 use Rattle.xa_model.specs.Step.{respond, asked, turn, context_of}
 use Rattle.xa_model.specs.Logging.{is_in_doubt, snapshot_end, applied, down, lost}
 use Rattle.xa_model.specs.Restarting.{missed, survived, lasts, restarted, restart_turn, restarting, boot_became, reopened, reopen_became, reopening, reopen_turn, refused_opening, can_open}
@@ -30,7 +30,10 @@ use Rattle.xa_model.specs.MayLog.{MayLog}
 use Rattle.xa_model.specs.Loggable.{IsRecoverable, MayBeLast}
 use Rattle.xa_model.specs.LoggingLaws.{KeepsLog, LogsWhatLasts}
 use Rattle.xa_model.specs.Backing.{Backs, settled}
-use Rattle.xa_model.specs.Room.{HasRoom, HasRoomAnyway, IsRoomy, KeepsRoom, RestartKeepsRoom}
+use Rattle.xa_model.specs.Room.{HasRoom, HasRoomAnyway, IsRoomy, KeepsRoom, RestartKeepsRoom, TrimHasRoom}
+use Rattle.xa_model.specs.Trimming.{trim_refusal, trimmed, trim_became, trim_turn}
+use Rattle.xa_model.specs.TrimLaws.{TrimKeepsRoom}
+use Rattle.xa_model.proofs.Trims.{may_trim}
 use Rattle.xa_model.proofs.Counts.{count_filter}
 use Rattle.xa_model.proofs.AppliedDecisions.{applied_lasts}
 use Rattle.xa_model.proofs.LoggedEvents.{events_log_what_lasts}
@@ -52,6 +55,7 @@ abbrev pub Leaves : (State → Type 0) → Turn → Type 0
 Leaves P Nobody = Unit {0}
 Leaves P (Now a) = P a.after
 Leaves P (Appends r after) = (x : Appending) → P (after x).after
+Leaves P (Checkpoints r after) = (x : Appending) → P (after x).after
 Leaves P (Rereads failed found missing) = P failed.after × IfSome found (LeavesReading P) × LeavesReading P missing
 
 same_left : (P : State → Type 0) (a b : Answer) → P a.after → Some a ≡ Some b → P b.after
@@ -78,6 +82,10 @@ taken_left P (Appends r after) Quiet b h e = absurd (cc e)
 taken_left P (Appends r after) (Appended x) b h e = same_left P (after x) b (h x) e
 taken_left P (Appends r after) Failed b h e = absurd (cc e)
 taken_left P (Appends r after) (Reread there x) b h e = absurd (cc e)
+taken_left P (Checkpoints r after) Quiet b h e = absurd (cc e)
+taken_left P (Checkpoints r after) (Appended x) b h e = same_left P (after x) b (h x) e
+taken_left P (Checkpoints r after) Failed b h e = absurd (cc e)
+taken_left P (Checkpoints r after) (Reread there x) b h e = absurd (cc e)
 taken_left P (Rereads failed found missing) Quiet b h e = absurd (cc e)
 taken_left P (Rereads failed found missing) (Appended x) b h e = absurd (cc e)
 taken_left P (Rereads failed found missing) Failed b h e = same_left P failed b h.0 e
@@ -165,6 +173,7 @@ up_leaves s (Appends r after) h up room l k asks = λ x. by_fate x
         })
     by_fate Refused = settled_room s (after Refused).after (h.settled up) l.2 asks.1 room
     by_fate Lost = subst (λ (a : Answer). HasRoomAnyway a.after) (sym l.3) (lost_room s r room there)
+up_leaves s (Checkpoints r after) h up room l k asks = absurd l
 up_leaves s (Rereads failed found missing) h up room l k asks = absurd l
 
 -- one that is down
@@ -186,6 +195,7 @@ down_leaves s (Now a) h room l asks still = record {
       (still_open s a.after s.open_record h l asks still h.open_record room.found);
 }
 down_leaves s (Appends r after) h room l asks still = absurd still
+down_leaves s (Checkpoints r after) h room l asks still = absurd l
 down_leaves s (Rereads failed found missing) h room l asks still = absurd l
 
 answers : (s : State) (standing : Standing) → s.standing ≡ standing → (standing ≡ Ended → ⊥) → s.standing ≢ Ended
@@ -345,3 +355,27 @@ restart_keeps_room rs s (Asked e) outcome a is h k room taken =
     = taken_left HasRoomAnyway (turn s (Asked e)) outcome a (event_leaves rs s e (is_restart e) refl is h k room) taken in λ up. left
 restart_keeps_room rs s (Reopened name log_bytes) outcome a is h k room taken =
     taken_left IsRoomy (turn s (Reopened name log_bytes)) outcome a (reopen_leaves s name log_bytes) taken
+
+-- a trim: the room is that of its own test
+
+trim_by : (s : State) (o : Option Reply) → trim_refusal s ≡ o → s.open_record ≡ None → HasRoomAnyway s
+    → Leaves HasRoomAnyway (unless_now o s (Checkpoints (logged.Opened (s.logged_boot + 1)) (trim_became s (s.logged_boot + 1))))
+trim_by s (Some reply) e none room = room
+trim_by s None e none room = λ x. by_fate x
+  where
+    by_fate : (x : Appending) → HasRoomAnyway (trim_became s (s.logged_boot + 1) x).after
+    by_fate Kept = record {
+      room = (may_trim s e).room;
+      found = none_open (λ r. HasRoom (applied r (trimmed s (s.logged_boot + 1)))) s.open_record none;
+    }
+    by_fate Refused = room
+    by_fate Lost = lost_room s (logged.Opened (s.logged_boot + 1)) room.room (may_trim s e).room
+
+pub trim_keeps_room : TrimKeepsRoom
+trim_keeps_room s outcome a h up taken room =
+    let left : HasRoomAnyway a.after
+    = taken_left HasRoomAnyway (trim_turn s) outcome a
+    (trim_by s (trim_refusal s) refl (h.settled up) (room (answers s Up up (λ no. cc no)))) taken in λ up. left
+
+pub trim_has_room : TrimHasRoom
+trim_has_room rs s h k room = opened_room rs s (s.logged_boot + 1) h k room

@@ -28,10 +28,9 @@ use Rattle.xa_model.specs.Step.{respond, asked, turn, step, opened_of, is_up, co
 use Rattle.xa_model.specs.History.{Steps, Leads}
 use Rattle.xa_model.specs.ScanLaw.{Portion, recovers, asked_for, answered, ListedAscends, ScanListsFirst, ScanListsAll, ScanIsAnswered}
 use Rattle.xa_model.proofs.InOrder.{below, below_transitive, below_strict, ordered_pairwise, above_more}
-use Rattle.xa_model.proofs.Inserts.{all_imply, filter_all}
+use Rattle.xa_model.proofs.Inserts.{all_imply, filter_all, filter_keeps}
 use Rattle.xa_model.proofs.Lists.{find_change_same}
 use Rattle.xa_model.proofs.Replies.{AllOf, asked_all, taken_all}
-use Rattle.xa_model.proofs.Restores.{filter_keeps}
 use Rattle.xa_model.proofs.Soundness.{reached}
 
 pub listed_ascends : ListedAscends

@@ -8,7 +8,7 @@ use Rattle.xa_model.specs.declared.outcome.Appending.{Appending}
 use Rattle.xa_model.specs.declared.outcome.Appending.TheVariants.{Kept, Refused, Lost}
 use Rattle.xa_model.specs.State.{State, Standing, Up, Down, Ended}
 use Rattle.xa_model.specs.Answer.{Answer}
-use Rattle.xa_model.specs.Turn.{Turn, Nobody, Now, Appends, Rereads, taken}
+use Rattle.xa_model.specs.Turn.{Turn, Nobody, Now, Appends, Checkpoints, Rereads, taken}
 use Rattle.xa_model.specs.Step.{respond, asked}
 use Rattle.xa_model.specs.Events.{is_restart}
 use Rattle.xa_model.specs.Sound.{IsSound}
@@ -34,6 +34,7 @@ logged_sound : (s : State) (t : Turn) → IsSound s → LogsWhatLasts s t → Is
 logged_sound s Nobody h logs = logs
 logged_sound s (Now a) h logs = logs.sound
 logged_sound s (Appends r after) h logs = appended_sound s r after h logs
+logged_sound s (Checkpoints r after) h logs = logs
 logged_sound s (Rereads failed survived missing) h logs = logs
 
 pub respond_sound : (s : State) (e : Event) → IsSound s → is_restart e ≡ false → IsSoundTurn (respond s e)
@@ -59,6 +60,7 @@ taken_sound : (t : Turn) (b : Answer) (o : Outcome) → IsSoundTurn t → taken 
 taken_sound Nobody b o h e = absurd h
 taken_sound (Now a) b o h e = now_sound a b o h e
 taken_sound (Appends r after) b o h e = appends_sound r after b o h e
+taken_sound (Checkpoints r after) b o h e = absurd h
 taken_sound (Rereads failed survived missing) b o h e = absurd h
 
 asked_sound : (standing : Standing) (t : Turn) (b : Answer) (o : Outcome) → IsSoundTurn t → taken (asked standing t) o ≡ Some b → IsSound b.after

@@ -24,7 +24,7 @@ use Rattle.xa_model.specs.Completions.{prepare_turn, prepare_written, commit_one
 use Rattle.xa_model.specs.Early.{early_refusal}
 use Rattle.xa_model.specs.Fold.{is_empty}
 use Rattle.xa_model.specs.Logging.{has_room, writes_in, append_became, log_full}
-use Rattle.xa_model.specs.Turn.{Happening, Asked, Reopened, Turn, Nobody, Now, Appends, Rereads, Rereading, Stops, Opens, taken, going_on, unless_now, marked_now}
+use Rattle.xa_model.specs.Turn.{Happening, Asked, Reopened, Turn, Nobody, Now, Appends, Checkpoints, Rereads, Rereading, Stops, Opens, taken, going_on, unless_now, marked_now}
 use Rattle.xa_model.specs.Step.{turn, row, respond, asked, commit_turn, context_of}
 use Rattle.xa_model.specs.Restarting.{restarting, reopening, can_open, missed, survived}
 use Rattle.xa_limits.specs.declared.TheConstants.{MOST_BOOTS}
@@ -40,7 +40,7 @@ found_fits : (failed : Answer) (missing : Rereading) (o : Option Rereading) (x :
 found_fits failed missing None x = refl
 found_fits failed missing (Some r) x = going_fits r x
 
-taken_fits : (t : Turn) (outcome : Outcome) → is_some (taken t outcome) ≡ fits t outcome
+pub taken_fits : (t : Turn) (outcome : Outcome) → is_some (taken t outcome) ≡ fits t outcome
 taken_fits Nobody outcome = refl
 taken_fits (Now a) Quiet = refl
 taken_fits (Now a) (Appended x) = refl
@@ -50,6 +50,10 @@ taken_fits (Appends r after) Quiet = refl
 taken_fits (Appends r after) (Appended x) = refl
 taken_fits (Appends r after) Failed = refl
 taken_fits (Appends r after) (Reread found x) = refl
+taken_fits (Checkpoints r after) Quiet = refl
+taken_fits (Checkpoints r after) (Appended x) = refl
+taken_fits (Checkpoints r after) Failed = refl
+taken_fits (Checkpoints r after) (Reread found x) = refl
 taken_fits (Rereads failed found missing) Quiet = refl
 taken_fits (Rereads failed found missing) (Appended x) = refl
 taken_fits (Rereads failed found missing) Failed = refl

@@ -9,7 +9,7 @@ use Rattle.xa_model.specs.declared.outcome.Appending.TheVariants.{Kept, Refused,
 use Rattle.xa_model.specs.State.{State, timestamp_of, is_working}
 use Rattle.xa_model.specs.Durable.{durable}
 use Rattle.xa_model.specs.Fold.{fold, reading, unread, is_used, snapshot, sizes}
-use Rattle.xa_model.specs.Turn.{Turn, Nobody, Now, Appends, Rereads, Rereading, Stops, Opens}
+use Rattle.xa_model.specs.Turn.{Turn, Nobody, Now, Appends, Checkpoints, Rereads, Rereading, Stops, Opens}
 use Rattle.xa_model.specs.Restarting.{missed, survived}
 
 -- no later timestamp of this boot is among these, and none of a branch at work
@@ -44,6 +44,9 @@ BacksTurn rs s Nobody = Unit {0}
 BacksTurn rs s (Now a) = Backs rs a.after
 BacksTurn rs s (Appends r after) =
     Backs (rs ++ r ∷ []) (after Kept).after × Backs rs (after Refused).after × Backs rs (after Lost).after
+BacksTurn rs s (Checkpoints r after) =
+    Backs (snapshot (durable s) (s.logged_boot + 1)) (after Kept).after × Backs rs (after Refused).after
+    × Backs rs (after Lost).after
 BacksTurn rs s (Rereads failed found missing) =
     Backs rs failed.after
     × IfSome s.open_record (λ r. IfSome found (BacksReading (settled rs s r) (survived s r)))

@@ -25,6 +25,7 @@ pub mod Backing
 pub mod Restored
 pub mod Room
 pub mod Total
+pub mod Trimming
 pub mod Laws
 pub mod ListedLaw
 pub mod UnlistedLaw
@@ -39,6 +40,8 @@ pub mod OneCopy
 pub mod DurableLaws
 pub mod LoggingLaws
 pub mod BackingLaws
+pub mod TrimLaws
+pub mod TrimHistories
 pub mod Worked
 pub mod WorkedScripts
 pub mod WorkedCalls
@@ -51,6 +54,7 @@ pub mod WorkedTimeLimits
 pub mod WorkedKnownBranches
 pub mod WorkedLog
 pub mod WorkedTurns
+pub mod WorkedTrims
 pub mod WorkedDevice
 pub mod WorkedRecovery
 pub mod WorkedLasting

@@ -5,9 +5,9 @@ use Rattle.xa_codes.specs.declared.write.Write.{Write}
 use Rattle.xa_record.specs.Limits.{IsRecord, IsWrite}
 use Rattle.xa_record.specs.declared.record.Record.{Record}
 use Rattle.xa_record.specs.declared.record.Record.TheVariants as logged
-use Rattle.xa_model.specs.State.{State, Up, is_working}
+use Rattle.xa_model.specs.State.{State, Up}
 use Rattle.xa_model.specs.Sound.{IsSound}
-use Rattle.xa_model.specs.Durable.{boot_of, is_past, writes_of}
+use Rattle.xa_model.specs.Durable.{is_past, writes_of}
 use Rattle.xa_limits.specs.declared.TheConstants.{MOST_BOOTS, MOST_WRITES}
 use Rattle.xa_model.specs.MayLog.{MayLog}
 
@@ -21,9 +21,8 @@ pub record IsLoggable (s : State) : Type 0 where
   pub first : 1 ≤ s.boot
   pub boots : s.boot ≤ s.logged_boot
   pub last : s.logged_boot ≤ MOST_BOOTS
-  -- boots that were logged gave all timestamps, and branches at work have theirs from the last that gave any
+  -- boots that were logged gave all timestamps; a branch at work may have its own from any of them
   pub past : AllByRecursion (λ b. is_past (s.logged_boot + 1) b.timestamp ≡ true) s.branches
-  pub begun : AllByRecursion (λ b. is_working b.phase ≡ true → boot_of b.timestamp ≡ s.boot) s.branches
   pub written : AllByRecursion (λ b. AreShort (writes_of b.operations)) s.branches
 
 abbrev pub is_boot : Record → Bool

@@ -9,13 +9,14 @@ use Rattle.xa_model.specs.Sound.{IsSound}
 use Rattle.xa_model.specs.Durable.{durable}
 use Rattle.xa_model.specs.Fold.{Reading, apply, fold, reading, unread, is_timely}
 use Rattle.xa_model.specs.Answer.{ok}
-use Rattle.xa_model.specs.Turn.{Turn, Now, Appends, Rereads, Rereading, Stops, Opens}
+use Rattle.xa_model.specs.Turn.{Turn, Now, Appends, Checkpoints, Rereads, Rereading, Stops, Opens}
 use Rattle.xa_model.specs.Step.{respond}
 use Rattle.xa_model.specs.Events.{is_restart}
 use Rattle.xa_model.specs.Logging.{applied, lost}
 use Rattle.xa_model.specs.MayLog.{MayLog}
 use Rattle.xa_model.specs.Loggable.{IsRecoverable}
 use Rattle.xa_model.specs.Restarting.{fates, missed, survived, restart_turn, reopen_turn}
+use Rattle.xa_model.specs.Trimming.{trim_turn}
 
 -- what a record does keeps a state sound
 abbrev pub KeepsSoundApplied : Type 0
@@ -61,7 +62,7 @@ LogsWhatLasts s _ = ⊥
 abbrev pub EventsLogWhatLasts : Type 0
 EventsLogWhatLasts = (s : State) (e : Event) → IsSound s → is_restart e ≡ false → LogsWhatLasts s (respond s e)
 
--- Restarts and openings
+-- Restarts, openings and trims
 
 -- the new boot began, with what lasts of the state
 pub record Boots (s : State) (next : ℕ) (t : State) : Type 0 where
@@ -105,3 +106,12 @@ RestartLasts = (s : State) → IsRecoverable s → SettlesWhatLasts s (restart_t
 abbrev pub ReopenLasts : Type 0
 ReopenLasts =
     (s : State) (name : List ℕ) (log_bytes : ℕ) → IsRecoverable s → SettlesWhatLasts s (reopen_turn s name log_bytes)
+
+-- a trim that is refused leaves what it was; else it is as a boot that begins once no record's fate is unknown
+abbrev pub BeginsWhatLasts : State → Turn → Type 0
+BeginsWhatLasts s (Now a) = Fails s a.after
+BeginsWhatLasts s (Checkpoints r after) = BootLasts s (Opens r after) × (s.open_record ≡ None)
+BeginsWhatLasts s _ = ⊥
+
+abbrev pub TrimLasts : Type 0
+TrimLasts = (s : State) → IsRecoverable s → s.standing ≡ Up → BeginsWhatLasts s (trim_turn s)

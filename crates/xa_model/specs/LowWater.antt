@@ -1,8 +1,9 @@
--- The low water: a timestamp below which no known branch stands, and none will.
+-- The low water: a timestamp below which no known branch stands, and none will. And one below which none works, and none
+-- will.
 use Rattle.std.specs.Prelude.{ℕ, ◌==◌, Bool, ◌&&◌, Option, Some, None, List, [], ◌∷◌, min, is_some, unwrap_or}
 use Rattle.std.specs.Prelude.{if◌then◌else◌}
 use Rattle.std.specs.List.{list_any}
-use Rattle.xa_model.specs.State.{State, Branch, name_of, timestamp_of}
+use Rattle.xa_model.specs.State.{State, Branch, name_of, is_working, timestamp_of}
 
 -- a branch that is known is at work or prepared: committed ones and those that the operator completed aren't
 abbrev pub is_known : Branch → Bool
@@ -26,3 +27,13 @@ least_known (b ∷ bs) = if is_known b then Some (lesser b.timestamp (least_know
 -- boot's number times 2^32
 abbrev pub low_water : State → ℕ
 low_water s = unwrap_or (least_known s.branches) (timestamp_of s.boot s.given)
+
+-- the least timestamp of the branches at work, if there are any
+abbrev pub least_working : List Branch → Option ℕ
+least_working [] = None
+least_working (b ∷ bs) = if is_working b.phase then Some (lesser b.timestamp (least_working bs)) else least_working bs
+
+-- The lesser of the boot's 0th timestamp and of the least at work, which an earlier boot may have given. The low water
+-- may be above it, and below it: it is that of a prepared branch too.
+abbrev pub work_floor : State → ℕ
+work_floor s = lesser (timestamp_of s.boot 0) (least_working s.branches)

@@ -1,5 +1,5 @@
 -- The room that a log keeps, so that what is prepared can always be completed and forgotten.
-use Rattle.std.specs.Prelude.{◌≡◌, ◌≢◌, true, false, Some, IfSome, List, length}
+use Rattle.std.specs.Prelude.{◌≡◌, ◌≢◌, ◌+◌, true, false, Some, IfSome, List, length}
 use Rattle.xa_record.specs.declared.record.Record.{Record}
 use Rattle.xa_model.specs.declared.outcome.Outcome.{Outcome}
 use Rattle.xa_model.specs.State.{State, Ended}
@@ -11,6 +11,7 @@ use Rattle.xa_model.specs.Step.{step}
 use Rattle.xa_model.specs.Events.{IsEvent, IsHappening, is_restart}
 use Rattle.xa_model.specs.Loggable.{IsRecoverable}
 use Rattle.xa_model.specs.Backing.{Backs}
+use Rattle.xa_model.specs.Restarting.{can_open}
 
 abbrev pub HasRoom : State → Type 0
 HasRoom s = log_room s.log_bytes s.end (prepared_count s) (length s.decided) ≡ true
@@ -37,3 +38,9 @@ RestartKeepsRoom =
     (rs : List Record) (s : State) (happening : Happening) (outcome : Outcome) (a : Answer) → IsHappening happening
     → IsRecoverable s → Backs rs s → IsRoomy s
     → step s happening outcome ≡ Some a → IsRoomy a.after
+
+-- where records stand behind a state that keeps its room, no trim is refused for want of it
+abbrev pub TrimHasRoom : Type 0
+TrimHasRoom =
+    (rs : List Record) (s : State) → IsRecoverable s → Backs rs s → HasRoom s
+    → can_open s s.log_bytes (s.logged_boot + 1) ≡ true

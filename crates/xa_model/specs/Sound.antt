@@ -1,5 +1,5 @@
 -- What every state of a history has.
-use Rattle.std.specs.Prelude.{ℕ, ◌≡◌, ◌+◌, ◌<◌, ◌≤◌, ◌==◌, Bool, true, false, Option, Some, None, List, [], ◌∷◌, length}
+use Rattle.std.specs.Prelude.{ℕ, ◌≡◌, ◌+◌, ◌<◌, ◌≤◌, ◌==◌, false, None, List, [], ◌∷◌, length}
 use Rattle.xa_xid.specs.Triple.{Triple, xid_eq}
 use Rattle.xa_model.specs.State.{State, Branch, count, is_active, is_known_as, is_at_work}
 use Rattle.xa_model.specs.State.{owns, known_of, known_in, session_of, holders_of, loose_of, timestamp_of}

@@ -4,7 +4,7 @@ use Rattle.xa_model.specs.declared.outcome.Outcome.{Outcome}
 use Rattle.xa_model.specs.declared.outcome.Outcome.TheVariants.{Quiet, Appended, Failed, Reread}
 use Rattle.xa_model.specs.declared.outcome.Appending.{Appending}
 use Rattle.xa_model.specs.State.{State, Standing, Ended}
-use Rattle.xa_model.specs.Turn.{Happening, Asked, Turn, Now, Appends, Rereads, Rereading, Stops, Opens}
+use Rattle.xa_model.specs.Turn.{Happening, Asked, Turn, Now, Appends, Checkpoints, Rereads, Rereading, Stops, Opens}
 use Rattle.xa_model.specs.Step.{turn, step}
 use Rattle.xa_model.specs.Restarting.{restart_turn, reopen_turn}
 
@@ -14,10 +14,11 @@ fits_rereading (Some (Stops answer)) None = true
 fits_rereading (Some (Opens appended after)) (Some appending) = true
 fits_rereading _ _ = false
 
--- no device call, one append, or a look at the log that fails or comes to an end
+-- no device call, one append (of a new file's snapshot too), or a look at the log that fails or comes to an end
 abbrev pub fits : Turn → Outcome → Bool
 fits (Now answer) Quiet = true
 fits (Appends appended after) (Appended appending) = true
+fits (Checkpoints appended after) (Appended appending) = true
 fits (Rereads failed found missing) Failed = true
 fits (Rereads failed found missing) (Reread true appending) = fits_rereading found appending
 fits (Rereads failed found missing) (Reread false appending) = fits_rereading (Some missing) appending

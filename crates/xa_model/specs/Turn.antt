@@ -21,12 +21,14 @@ pub data Rereading : Type 0 where
   Opens : (appended : Record) (after : Appending → Answer) → Rereading
 
 -- A turn: what is asked of the device, and what each of its answers leads to. Nobody answers,
--- no device call is made, one record is appended, or the log is read again: that fails, or
+-- no device call is made, one record is appended, a record of a new boot is appended as the first
+-- of a new file, before the snapshot of what lasts, or the log is read again: that fails, or
 -- the record whose fate was unknown is there, or it isn't.
 pub data Turn : Type 0 where
   Nobody : Turn
   Now : (answer : Answer) → Turn
   Appends : (appended : Record) (after : Appending → Answer) → Turn
+  Checkpoints : (appended : Record) (after : Appending → Answer) → Turn
   Rereads : (failed : Answer) (survived : Option Rereading) (missing : Rereading) → Turn
 
 -- where the outcome doesn't fit, there is no answer
@@ -54,6 +56,7 @@ abbrev pub taken : Turn → Outcome → Option Answer
 taken Nobody outcome = None
 taken (Now answer) outcome = taken_now answer outcome
 taken (Appends appended after) outcome = taken_appending after outcome
+taken (Checkpoints appended after) outcome = taken_appending after outcome
 taken (Rereads failed survived missing) outcome = taken_rereading failed survived missing outcome
 
 -- What is answered at once

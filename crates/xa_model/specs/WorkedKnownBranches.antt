@@ -1,5 +1,5 @@
 -- Worked rows of the list of known branches: what is told of each, in their order, above a cursor.
-use Rattle.std.specs.Prelude.{ℕ, ℤ, pos, ◌+◌, false, Option, Some, None, List, [], ◌∷◌, ◌++◌}
+use Rattle.std.specs.Prelude.{ℕ, ℤ, ◌+◌, false, Some, None, List, [], ◌∷◌, ◌++◌}
 use Rattle.xa_codes.specs.declared.codes.TheConstants.{XA_OK, XA_RBROLLBACK, XA_RBOTHER, XA_RBCOMMFAIL}
 use Rattle.xa_codes.specs.declared.direction.Direction.TheVariants as direction
 use Rattle.xa_xid.specs.Triple.{Triple}

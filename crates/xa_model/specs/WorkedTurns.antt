@@ -19,7 +19,7 @@ use Rattle.xa_model.specs.State.{State, Wrote, Working, Prepared, Committed, Pha
 use Rattle.xa_model.specs.State.{new_session}
 use Rattle.xa_model.specs.Associations.{as_opened}
 use Rattle.xa_model.specs.Answer.{plain, detailed, answer}
-use Rattle.xa_model.specs.Turn.{Asked, Reopened, Turn, Nobody, Now, Appends, Rereads, taken}
+use Rattle.xa_model.specs.Turn.{Asked, Reopened, Turn, Nobody, Now, Appends, Checkpoints, Rereads, taken}
 use Rattle.xa_model.specs.Durable.{Durable}
 use Rattle.xa_model.specs.Fold.{nothing, fold}
 use Rattle.xa_model.specs.Logging.{log_room}
@@ -33,11 +33,12 @@ use Rattle.xa_model.specs.WorkedScripts.{new_manager}
 abbrev pub Takes : Turn → Outcome → Reply → State → Type 0
 Takes t outcome reply after = taken t outcome ≡ Some (answer reply after)
 
--- the record that a turn appends
+-- the record that a turn appends, at the log's end or first in a new file
 abbrev pub record_of : Turn → Option Record
 record_of Nobody = None
 record_of (Now a) = None
 record_of (Appends r after) = Some r
+record_of (Checkpoints r after) = Some r
 record_of (Rereads failed survived missing) = None
 
 -- session 1 is opened, and 1:aa:bb put 76 at 6b, and was left; or what became of it, where the log ends then

@@ -5,10 +5,10 @@ ghost use Rattle.xa_model.specs.DurableLaws.{FoldReads, OneMore, FirstFault, Fol
 ghost use Rattle.xa_model.specs.DurableLaws.{LastWritesStay, LeavesDurable, OneValue, SnapshotFolds, SnapshotIsShort};
 ghost use Rattle.xa_model.specs.DurableLaws.{SnapshotIsWritten, TakesOwnBoot, WritesOf};
 ghost use Rattle.xa_model.specs.LoggingLaws.{KeepsSoundApplied, AppliedLasts, AppliedFits, EventsLogWhatLasts};
-ghost use Rattle.xa_model.specs.LoggingLaws.{RestartLasts, ReopenLasts};
+ghost use Rattle.xa_model.specs.LoggingLaws.{RestartLasts, ReopenLasts, TrimLasts};
 ghost use Rattle.xa_model.specs.BackingLaws.{KeepsRecoverable, AlwaysRecoverable, LoggedInOrder, KeepsBacked};
 ghost use Rattle.xa_model.specs.BackingLaws.{RestartsRestored, ReopensRestored, OpensRestored, OpensFresh};
-ghost use Rattle.xa_model.specs.Room.{KeepsRoom, RestartKeepsRoom};
+ghost use Rattle.xa_model.specs.Room.{KeepsRoom, RestartKeepsRoom, TrimHasRoom};
 ghost use Rattle.xa_model.specs.OneCopy.{AlwaysOneCopy, FreshOneCopy, OpenedOneCopy};
 ghost use Rattle.xa_model.specs.ListedLaw.{ListedUntilAsked, ListedSinceBoot, FreshLists, OpenedLists, ReopenedLists};
 ghost use Rattle.xa_model.specs.UnlistedLaw.{AlwaysUnlisted, UnlistedSinceBoot};
@@ -19,31 +19,11 @@ ghost use Rattle.xa_model.specs.CrashLaws.{BootLists};
 ghost use Rattle.xa_model.specs.ScanLaw.{ListedAscends, ScanListsFirst, ScanListsAll, ScanIsAnswered};
 ghost use Rattle.xa_model.specs.RestartLaw.{RestartLeads, RestartHappens};
 ghost use Rattle.xa_model.specs.LowWaterLaws.{BelowKnown, IsReached, BelowNext, NeverFalls};
+ghost use Rattle.xa_model.specs.LowWaterLaws.{WorksAbove, BeginsAbove, FloorNeverFalls};
+ghost use Rattle.xa_model.specs.TrimLaws.{TrimRecovers, TrimGoesOn, TrimOneCopy, TrimLists, TrimNeverLowers};
+ghost use Rattle.xa_model.specs.TrimLaws.{TrimKeepsRoom, TrimBacks, TrimFates, TrimIsTotal};
+ghost use Rattle.xa_model.specs.TrimHistories.{OneCopyOver, ListedOver, UnlistedOver};
 ghost use Rattle.xa_model.specs.TimeLaws.{MomentsRise, OpensAtZero};
-ghost use Rattle.xa_model.specs.WorkedLowWater.{WaterRises};
-ghost use Rattle.xa_model.specs.WorkedLog.{HeldAndCommitted, DecidedAndForgotten, RolledBack, LastWrites, InOrder};
-ghost use Rattle.xa_model.specs.WorkedLog.{BegunEarlier, BootsInOrder, TimestampsInOrder, NamesInOrder, SnapshotsInOrder};
-ghost use Rattle.xa_model.specs.WorkedLasting.{StatesLeave, CommittedLeaves};
-ghost use Rattle.xa_model.specs.WorkedOneCopy.{ReadsBelow, MissesDelete, MissesOwnDelete, ReadsAbove, RecordsRead};
-ghost use Rattle.xa_model.specs.WorkedTurns.{PreparedAndCommitted, RolledBackAgain, MarkedIsGone, ReadOnly, Room};
-ghost use Rattle.xa_model.specs.WorkedTurns.{LostAppends, LostBoots, DecidedByOperator, OpenedAgain};
-ghost use Rattle.xa_model.specs.WorkedDevice.{EachRefused, EachLost, RestartRefused, OpeningRefused};
-ghost use Rattle.xa_model.specs.WorkedRecovery.{Recovered, PreparedWithoutWrites, NextBoot, LostAndFound, LostAndGone};
-ghost use Rattle.xa_model.specs.WorkedRecovery.{Heuristics, Scans, JustRoom, NoRoom, Refusals, PreparedAgain};
-ghost use Rattle.xa_model.specs.Worked.{ReadBack, BusyUntilCommitted, FlagsRefused};
-ghost use Rattle.xa_model.specs.WorkedCalls.{ComesAndGoes, Migration, OwnBeforeLoose, LooseEnds, BrokenConnection};
-ghost use Rattle.xa_model.specs.WorkedCalls.{SuspendedAndBroken, NumbersAgain, Opening, Marks, FirstMark};
-ghost use Rattle.xa_model.specs.WorkedVersions.{LateWrite, LateDelete, BlindWrite, BusyBelow, BusyInDoubt};
-ghost use Rattle.xa_model.specs.WorkedVersions.{SharedBranch, NotBusyAbove, Deleted, DeletedAfterwards, ReadOver};
-ghost use Rattle.xa_model.specs.WorkedRefusals.{EarlyRefused, CloseRefused, StartRefused, JoinRefused, ResumeRefused};
-ghost use Rattle.xa_model.specs.WorkedRefusals.{SuspendRefused, EndRefused};
-ghost use Rattle.xa_model.specs.WorkedEarly.{NotConnected, NotOpened, IsDown, FlagsOfEach, CountsOfEach};
-ghost use Rattle.xa_model.specs.WorkedBranches.{OnePhaseRefused, TwoPhaseRefused, RollbackRefused, PrepareRefused};
-ghost use Rattle.xa_model.specs.WorkedBranches.{DoomRefused, RecordsRefused};
-ghost use Rattle.xa_model.specs.WorkedTimeLimits.{TimedOut, AgeFromStart, MarkedByTime, LimitNeedsOpen, NoTimeDown};
-ghost use Rattle.xa_model.specs.WorkedTimeLimits.{LimitLasts, MarkedAtMoment, NeverMarked, LimitOfSession, MomentLasts};
-ghost use Rattle.xa_model.specs.WorkedKnownBranches.{TellsHolders, TellsInOrder, TellsLasting, ChangesNothing};
-ghost use Rattle.xa_model.specs.WorkedLimits.{ManySessions, ManyBranches, MoreBranches, ManyTimestamps, ManyLoose, ManyKeys};
 
 /// From a given start, given events and outcomes have at most one legal history.
 pub fn one_history()
@@ -76,101 +56,6 @@ pub fn sound_lasting()
     ensures forgotten { KeepsSoundForgotten }
 {}
 
-/// Worked rows, computed on the definitions alone.
-pub fn worked_rows()
-    ensures read_back { ReadBack }
-    ensures busy { BusyUntilCommitted }
-    ensures flags { FlagsRefused }
-{}
-
-/// Worked rows of several sessions: how they work for branches together, and what a broken connection leaves.
-pub fn worked_associations()
-    ensures comes_and_goes { ComesAndGoes }
-    ensures migration { Migration }
-    ensures own_before_loose { OwnBeforeLoose }
-    ensures loose_ends { LooseEnds }
-    ensures broken_connection { BrokenConnection }
-    ensures suspended_and_broken { SuspendedAndBroken }
-    ensures numbers_again { NumbersAgain }
-    ensures opening { Opening }
-{}
-
-/// Worked rows of branches that read and write the same key.
-pub fn worked_versions()
-    ensures late_write { LateWrite }
-    ensures late_delete { LateDelete }
-    ensures blind_write { BlindWrite }
-    ensures busy_below { BusyBelow }
-    ensures busy_in_doubt { BusyInDoubt }
-    ensures shared_branch { SharedBranch }
-    ensures not_busy_above { NotBusyAbove }
-    ensures deleted { Deleted }
-    ensures deleted_afterwards { DeletedAfterwards }
-    ensures read_over { ReadOver }
-{}
-
-/// Worked rows of branches that can only be rolled back.
-pub fn worked_marks()
-    ensures marks { Marks }
-    ensures first_mark { FirstMark }
-{}
-
-/// Worked rows of each refusal: before the row of a call, in the association table, in the branch table, and of gets,
-/// puts and deletes.
-pub fn worked_refusals()
-    ensures early { EarlyRefused }
-    ensures down { IsDown }
-    ensures not_connected { NotConnected }
-    ensures not_opened { NotOpened }
-    ensures flags { FlagsOfEach }
-    ensures counts { CountsOfEach }
-    ensures close { CloseRefused }
-    ensures start { StartRefused }
-    ensures join { JoinRefused }
-    ensures resume { ResumeRefused }
-    ensures suspend { SuspendRefused }
-    ensures ends { EndRefused }
-    ensures one_phase { OnePhaseRefused }
-    ensures two_phase { TwoPhaseRefused }
-    ensures rollback { RollbackRefused }
-    ensures prepare { PrepareRefused }
-    ensures doom { DoomRefused }
-    ensures records { RecordsRefused }
-{}
-
-/// Worked rows at the limits of sessions, branches, timestamps, associations and keys.
-pub fn worked_limits()
-    ensures sessions { ManySessions }
-    ensures branches { ManyBranches }
-    ensures more { MoreBranches }
-    ensures timestamps { ManyTimestamps }
-    ensures loose { ManyLoose }
-    ensures keys { ManyKeys }
-{}
-
-/// Worked rows of time limits: which branches a moment marks, when it is refused, and how long limits and moments last.
-pub fn worked_time_limits()
-    ensures timed_out { TimedOut }
-    ensures age { AgeFromStart }
-    ensures marked { MarkedByTime }
-    ensures refused { LimitNeedsOpen }
-    ensures down { NoTimeDown }
-    ensures limit_lasts { LimitLasts }
-    ensures at_moment { MarkedAtMoment }
-    ensures never { NeverMarked }
-    ensures limit { LimitOfSession }
-    ensures moment_lasts { MomentLasts }
-{}
-
-/// Worked rows of the list of known branches: who holds their associations, their order, what lasts of them, and that
-/// asking changes nothing.
-pub fn worked_known_branches()
-    ensures holders { TellsHolders }
-    ensures in_order { TellsInOrder }
-    ensures lasting { TellsLasting }
-    ensures nothing { ChangesNothing }
-{}
-
 /// What the log's records come to, and the snapshot that a new file begins with: one record more, the first that is out
 /// of order, the one form of what lasts, that a snapshot comes to the same and is no longer, and that a sound state
 /// would leave that form.
@@ -190,58 +75,9 @@ pub fn lasting()
     ensures leaves { LeavesDurable }
 {}
 
-/// Worked rows of the log: what a restart writes of it, what is out of order, and what states would leave.
-pub fn worked_logs()
-    ensures held { HeldAndCommitted }
-    ensures decided { DecidedAndForgotten }
-    ensures rolled_back { RolledBack }
-    ensures last_writes { LastWrites }
-    ensures in_order { InOrder }
-    ensures begun { BegunEarlier }
-    ensures boots { BootsInOrder }
-    ensures timestamps { TimestampsInOrder }
-    ensures names { NamesInOrder }
-    ensures snapshots { SnapshotsInOrder }
-    ensures states { StatesLeave }
-    ensures committed { CommittedLeaves }
-{}
-
-/// Worked rows of the calls that log, as turns: the record, and what each outcome of its append leads to; and restarts.
-pub fn worked_turns()
-    ensures prepared { PreparedAndCommitted }
-    ensures rolled_back { RolledBackAgain }
-    ensures marked { MarkedIsGone }
-    ensures read_only { ReadOnly }
-    ensures room { Room }
-    ensures refused { EachRefused }
-    ensures each_lost { EachLost }
-    ensures lost { LostAppends }
-    ensures restart { RestartRefused }
-    ensures opening { OpeningRefused }
-    ensures boots { LostBoots }
-    ensures decided { DecidedByOperator }
-    ensures opened { OpenedAgain }
-{}
-
-/// Worked rows of branches in doubt: what recovery lists, what restarts find of records that were lost, what the
-/// operator decides, and where the log is full or the device refuses.
-pub fn worked_recovery()
-    ensures recovered { Recovered }
-    ensures read_only { PreparedWithoutWrites }
-    ensures boots { NextBoot }
-    ensures found { LostAndFound }
-    ensures gone { LostAndGone }
-    ensures heuristics { Heuristics }
-    ensures scans { Scans }
-    ensures room { JustRoom }
-    ensures full { NoRoom }
-    ensures refused { Refusals }
-    ensures again { PreparedAgain }
-{}
-
 /// What is logged is what lasts: what a record does to a state that may log it keeps the state sound, and does to what
 /// would last what it does to what the log's records come to; behind records that come to what would last, it fits if
-/// its timestamp is a new one. So each event, a restart and an opening leave what lasts.
+/// its timestamp is a new one. So each event, a restart, an opening and a trim leave what lasts.
 pub fn logged_lasts()
     ensures sound { KeepsSoundApplied }
     ensures applied { AppliedLasts }
@@ -249,6 +85,7 @@ pub fn logged_lasts()
     ensures events { EventsLogWhatLasts }
     ensures restart { RestartLasts }
     ensures reopen { ReopenLasts }
+    ensures trim { TrimLasts }
 {}
 
 /// Every turn, with every outcome of its device calls, leads from a state that a restart may begin with to one.
@@ -274,10 +111,12 @@ pub fn restored()
 
 /// A log keeps the room to complete and forget what is prepared, and to forget what the operator completed, also if the
 /// record whose fate is unknown is found there: every event but a restart keeps it, with every outcome of its device
-/// calls, and so does all that happens where records stand behind the state.
+/// calls, and so does all that happens where records stand behind the state; and there no trim is refused for want of
+/// room.
 pub fn roomy()
     ensures asked { KeepsRoom }
     ensures restart { RestartKeepsRoom }
+    ensures trim { TrimHasRoom }
 {}
 
 /// One-copy serializability, in the order of timestamps: take the committed branches of any state that a history leads
@@ -378,16 +217,6 @@ pub fn restart_leads()
     ensures happens { RestartHappens }
 {}
 
-/// Worked lists of committed branches: one that is one copy, and three that aren't, since a read missed a write before
-/// it, or found one behind it. And a get that is answered: what is recorded is what was answered.
-pub fn worked_copies()
-    ensures below { ReadsBelow }
-    ensures misses { MissesDelete }
-    ensures misses_own { MissesOwnDelete }
-    ensures above { ReadsAbove }
-    ensures records { RecordsRead }
-{}
-
 /// The low water, the least timestamp of a known branch, or, if there is none, the last that this boot gave: no known
 /// branch stands below it, and none will, since whatever happens it never falls.
 pub fn low_water()
@@ -397,6 +226,14 @@ pub fn low_water()
     ensures never_falls { NeverFalls }
 {}
 
+/// The floor of work, the lesser of the boot's 0th timestamp and of the least at work: no branch works below it, none
+/// will, and whatever happens it never falls.
+pub fn work_floor()
+    ensures works { WorksAbove }
+    ensures begins { BeginsAbove }
+    ensures never_falls { FloorNeverFalls }
+{}
+
 /// Moments don't go back, whatever is asked, and whatever the device did: a restart keeps the last one. Only a manager
 /// that is opened again begins at moment 0.
 pub fn moments()
@@ -404,7 +241,23 @@ pub fn moments()
     ensures opening { OpensAtZero }
 {}
 
-/// Worked rows of the low water: a branch that is prepared holds it, and one that is completed doesn't.
-pub fn worked_low_water()
-    ensures { WaterRises }
+/// A trim, which no call is yet, of a manager that is up, with every outcome of its device call: a restart may begin
+/// with what it leads to; all that is at work goes on, and no timestamp falls; what is one copy stays one copy, recovery
+/// lists the same, the log keeps its room, its records go on with the state, and a crash leaves what a trim that was
+/// kept leaves, or one that was refused. It is answered just where the outcome fits. Histories that trims come between
+/// are one copy; what was prepared in them recovery lists until its completion is asked for, and what was completed it
+/// doesn't until a prepare is called.
+pub fn trim()
+    ensures recovers { TrimRecovers }
+    ensures goes_on { TrimGoesOn }
+    ensures one_copy { TrimOneCopy }
+    ensures lists { TrimLists }
+    ensures never_lowers { TrimNeverLowers }
+    ensures room { TrimKeepsRoom }
+    ensures backed { TrimBacks }
+    ensures fates { TrimFates }
+    ensures total { TrimIsTotal }
+    ensures one_copy_over { OneCopyOver }
+    ensures listed_over { ListedOver }
+    ensures unlisted_over { UnlistedOver }
 {}

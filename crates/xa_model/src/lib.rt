@@ -10,34 +10,40 @@
 //!   `Recovering`
 //! - `Turn`, what is asked of the device, and what comes of its answers; `Completions` and `Logging`, of the calls that
 //!   log
-//! - `Fold` and `Durable`, what lasts; `Restarting`, restarts and openings; `Room`, the room that the log keeps
+//! - `Fold` and `Durable`, what lasts; `Restarting`, restarts and openings; `Trimming`, trims, which no call is yet;
+//!   `Room`, the room that the log keeps
 //! - `Step`, the one step; `History`; and what is proved of histories, of which `OneCopy`, `ListedLaw`, `UnlistedLaw`
 //!   and `ScanLaw` come first
 //! - `Crash`, what a crash may leave at any moment; `CrashLaws`, what is proved of it
-//! - `LowWater`, a timestamp below which no known branch stands
+//! - `LowWater`, timestamps below which no known branch stands, and none works
 //! - `Sound`, `Loggable`, `Backing` and `Restored`, what every state of a history has; `Total`, which outcomes fit
 //!
 //! The modules:
 //!
 //! - `event`: `Event`, what is asked; `outcome`: `Outcome` and `Appending`, what the device did
 //! - `laws`: functions that do nothing, and whose contracts are theorems on the definitions. Of histories
-//!   `one_history`, `total`, `restart_leads`, `sound`, `recoverable`, `low_water`, `moments`, `one_copy`,
+//!   `one_history`, `total`, `restart_leads`, `sound`, `recoverable`, `low_water`, `work_floor`, `moments`, `one_copy`,
 //!   `listed_until_asked`, `unlisted_until_prepared` and `scan_lists_all`; of crashes `crash_at_any_moment`,
 //!   `crash_in_history` and `crash_keeps_promises`; of what lasts `lasting`, `sound_lasting`, `logged_lasts`, `backed`,
-//!   `restored` and `roomy`. Those that begin with `worked_` are worked rows: replies that the definitions compute
+//!   `restored` and `roomy`; of a trim `trim`
+//! - `examples`: such functions too, of worked rows: replies that the definitions compute
 #![tactic(auto)]
 
 mod event;
+mod examples;
 mod laws;
 mod outcome;
 
 pub use event::Event;
+pub use examples::{
+    worked_associations, worked_copies, worked_known_branches, worked_limits, worked_logs,
+    worked_low_water, worked_marks, worked_recovery, worked_refusals, worked_rows,
+    worked_time_limits, worked_trims, worked_turns, worked_versions,
+};
 pub use laws::{
     backed, crash_at_any_moment, crash_in_history, crash_keeps_promises, lasting,
     listed_until_asked, logged_lasts, low_water, moments, one_copy, one_history, recoverable,
-    restart_leads, restored, roomy, scan_lists_all, sound, sound_lasting, total,
-    unlisted_until_prepared, worked_associations, worked_copies, worked_known_branches,
-    worked_limits, worked_logs, worked_low_water, worked_marks, worked_recovery, worked_refusals,
-    worked_rows, worked_time_limits, worked_turns, worked_versions,
+    restart_leads, restored, roomy, scan_lists_all, sound, sound_lasting, total, trim,
+    unlisted_until_prepared, work_floor,
 };
 pub use outcome::{Appending, Outcome};

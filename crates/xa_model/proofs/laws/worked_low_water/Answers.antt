@@ -1,5 +1,0 @@
-use Rattle.xa_model.proofs.WorkedLowWaters.{water_rises}
-use Rattle.xa_model.proofs.laws.worked_low_water.Goals as goal
-
-pub returns : goal.returns
-returns c = water_rises
