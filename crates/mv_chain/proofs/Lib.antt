@@ -10,3 +10,4 @@ pub mod Anywhere
 pub mod Looked
 pub mod Within
 pub mod Pruned
+pub mod Last

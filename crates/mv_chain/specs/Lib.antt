@@ -3,6 +3,7 @@ pub mod Chain
 pub mod Rows
 pub mod Look
 pub mod Idle
+pub mod Last
 pub mod Pool
 pub mod Calls
 pub mod Slots

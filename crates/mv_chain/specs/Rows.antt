@@ -1,7 +1,9 @@
 -- Worked rows: what is seen and what is late. Three branches begin in the first boot; the key is `k`.
-use Rattle.std.specs.Prelude.{◌≡◌, ℕ, true, false, List, [], ◌∷◌, None, Some}
+use Rattle.std.specs.Prelude.{◌≡◌, ℕ, true, false, List, [], ◌∷◌, Option, None, Some}
 use Rattle.mv_chain.specs.declared.fate.Fate.TheVariants.{Committed, RolledBack}
-use Rattle.mv_chain.specs.Accesses.{Written, Seen, wrote, read_by, seen, is_busy, is_late, decided, absent}
+use Rattle.mv_chain.specs.Accesses.{Written, Seen, wrote, read_by, seen, seen_without, is_busy, is_late}
+use Rattle.mv_chain.specs.Accesses.{decided, absent}
+use Rattle.mv_chain.specs.Last.{everybody, stamped}
 
 abbrev pub key : List ℕ
 key = 0x6b ∷ []
@@ -48,3 +50,20 @@ abbrev pub NotSeen : Type 0
 NotSeen =
     (seen key first (put_by second 0x76 ∷ []) ≡ absent)
     × (seen key second (decided first RolledBack (put_by first 0x76 ∷ [])) ≡ absent)
+
+-- what is last committed of the key
+abbrev pub last_of : List Written → Option (ℕ × Option (List ℕ))
+last_of writes = stamped (seen_without everybody key third writes)
+
+-- the first branch has written 1 and has committed
+abbrev pub one_committed : List Written
+one_committed = decided first Committed (put_by first 0x31 ∷ [])
+
+-- the second branch writes 2 and commits, then the third writes 3: the last committed write is the second's, also where
+-- it is a delete; where the third alone has written there is none
+abbrev pub LastCommitted : Type 0
+LastCommitted =
+    (last_of (put_by third 0x33 ∷ decided second Committed (put_by second 0x32 ∷ one_committed))
+    ≡ Some (second, Some (0x32 ∷ [])))
+    × (last_of (decided second Committed (wrote second key None ∷ one_committed)) ≡ Some (second, None))
+    × (last_of (put_by third 0x33 ∷ []) ≡ None)

@@ -5,7 +5,7 @@ use Rattle.slab.specs.Slab.{Updates}
 use Rattle.mv_chain.specs.declared.version.Version.{Version}
 use Rattle.mv_chain.specs.declared.pool.Pool.{Pool}
 use Rattle.mv_chain.specs.Chain.{base}
-use Rattle.mv_chain.specs.Pool.{at}
+use Rattle.mv_chain.specs.Pool.{at, version_at}
 
 -- the version stands at a slot that had none, and the slot at this index of the chain
 abbrev pub IsPutIn : ℕ → Version → Pool → List ℕ → Pool → List ℕ → Type 0
@@ -19,3 +19,7 @@ is_committed_at k versions = not (slice_index_or versions k base).pending
 -- it goes, if it is committed and another committed one stands above it
 abbrev pub pruned_at : ℕ → Bool → List Version → List Version
 pruned_at k based versions = if is_committed_at k versions && based then remove versions k else versions
+
+-- the version at a slot isn't pending
+abbrev pub is_decided_at : Pool → ℕ → Bool
+is_decided_at pool slot = not (version_at pool slot).pending

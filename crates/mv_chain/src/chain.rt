@@ -1,15 +1,15 @@
-ghost use Rattle.std.specs.Prelude.{◌≡◌, ℕ, List, [], IfOk, OnOk, OnErr, option_map};
+ghost use Rattle.std.specs.Prelude.{◌≡◌, ℕ, List, [], IfOk, IfSome, OnOk, OnErr, option_map};
 ghost use Rattle.mv_chain.specs.Chain.{StandsFor, fresh, is_marked, marked, marked_at, installed, settled, pruned};
 ghost use Rattle.mv_chain.specs.Look.{looked};
 
 use crate::changes::{install_in, mark_in, settle_in};
 use crate::fate::Fate;
-use crate::finding::look_in;
+use crate::finding::{last_decided, look_in};
 use crate::found::Found;
 use crate::look::Look;
 use crate::pool::Pool;
 use crate::pruning::{clear_in, prune_in};
-use crate::slots::{is_idle_at, put_in, value_at};
+use crate::slots::{is_idle_at, put_in, timestamp_at, value_at};
 use crate::version::{Version, value_bytes};
 use std::alloc::AllocError;
 
@@ -24,6 +24,7 @@ pub struct Chain {
 
 impl Chain {
     ghost use Rattle.mv_chain.specs.Idle.{is_idle};
+    ghost use Rattle.mv_chain.specs.Last.{lent, IsLastOf, IsLastWritten};
     ghost use Rattle.mv_chain.specs.Pool.{versions_of, IsKept, Counts, LeavesOthers, CountsAt, LeavesOthersAt};
     ghost use Rattle.mv_chain.specs.Calls.{sees, bytes_of, IfLooked, Leaves, LeavesLooked};
     ghost use Rattle.mv_chain.specs.Calls.{Notes, NotesLooked, Adds, AddsLooked, Decides, Raises};
@@ -96,6 +97,21 @@ impl Chain {
         ensures within { (n : ℕ) → IsWithin n pool.now → IsShort n (option_map (λ v. v.now) result) }
     {
         self.value_at(pool, &self.look(pool, from))
+    }
+
+    /// The last version that isn't pending: its timestamp, and its value, `None` where the branch deleted the key. It
+    /// is `None` where no branch that wrote the key has committed. What it costs is the pending ones above it.
+    pub fn last_committed<'a>(&self, pool: &'a Pool) -> Option<(u64, Option<&'a [u8]>)>
+        ensures last { IsKept pool.now self.now → IsLastOf (versions_of pool.now self.now) (lent result) }
+        ensures written { IsKept pool.now self.now → IsLastWritten (versions_of pool.now self.now) (lent result) }
+        ensures within { (n : ℕ) → IsWithin n pool.now → IfSome (lent result) (λ p. IsShort n p.1) }
+    {
+        let slot = last_decided(pool, &self.slots)?;
+        let timestamp = timestamp_at(pool, slot);
+        if timestamp == 0 {
+            return None;
+        }
+        Some((timestamp, value_at(pool, slot)))
     }
 
     /// Whether a write at `ts` is late: a version below `ts` was read above `ts`.

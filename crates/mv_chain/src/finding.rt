@@ -1,7 +1,8 @@
-ghost use Rattle.std.specs.Prelude.{◌≡◌, ◌≤◌, length};
+ghost use Rattle.std.specs.Prelude.{◌≡◌, ◌≤◌, length, reverse, find};
 ghost use Rattle.mv_chain.specs.Chain.{IsChain, IsIndex, is_marked};
 ghost use Rattle.mv_chain.specs.Look.{looked, IsBelow};
 ghost use Rattle.mv_chain.specs.Pool.{shown_at};
+ghost use Rattle.mv_chain.specs.Slots.{is_decided_at};
 
 use crate::look::Look;
 use crate::pool::Pool;
@@ -63,4 +64,15 @@ pub(crate) fn look_in(pool: &Pool, slots: &[usize], ts: u64) -> Look
         late,
         count,
     }
+}
+
+/// The slot of the last version that isn't pending.
+pub(crate) fn last_decided(pool: &Pool, slots: &[usize]) -> Option<usize>
+    ensures { result ≡ find (is_decided_at pool.now) (reverse slots.now) }
+{
+    slots
+        .iter()
+        .rev()
+        .find(|slot| !pending_at(pool, **slot))
+        .copied()
 }

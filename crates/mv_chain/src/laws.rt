@@ -1,6 +1,6 @@
 ghost use Rattle.mv_chain.specs.Idle.{IdleStands};
 ghost use Rattle.mv_chain.specs.Pool.{OthersStay};
-ghost use Rattle.mv_chain.specs.Rows.{LateWrite, BlindWrite, BusyUntilCommitted, NotSeen};
+ghost use Rattle.mv_chain.specs.Rows.{LateWrite, BlindWrite, BusyUntilCommitted, NotSeen, LastCommitted};
 
 /// What a call on one chain leaves is every other chain of the pool: its versions, that it is one of the pool's, and
 /// that no version is in both.
@@ -20,4 +20,5 @@ pub fn worked_histories()
     ensures blind { BlindWrite }
     ensures busy { BusyUntilCommitted }
     ensures gone { NotSeen }
+    ensures last { LastCommitted }
 {}

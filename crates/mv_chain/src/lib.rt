@@ -22,8 +22,8 @@
 //!   worked rows
 //!
 //! The definitions, in an order to read: `Accesses`, what a read sees and when a write is late; `Chain`, the versions,
-//! what changes them and `StandsFor`; `Look`; `Pool`; `Calls`, what a call leaves; `Idle`, `Within`; `Rows`, worked
-//! rows. `Target` and `Slots` are of the private steps.
+//! what changes them and `StandsFor`; `Look`; `Pool`; `Calls`, what a call leaves; `Last`, what is last committed;
+//! `Idle`, `Within`; `Rows`, worked rows. `Target` and `Slots` are of the private steps.
 #![tactic(auto)]
 
 mod chain;

@@ -32,7 +32,7 @@ abbrev pub found_at : {Y : Type 0} → List ℕ → List (Vec ℕ Y × ℕ) → 
 found_at key es = lookup (is_at (λ k. slice_cmp nat_cmp key k.items)) es
 
 -- two keys that compare `Equal` are the same
-by_compare : (a b : List ℕ) (o : Ordering) → slice_cmp nat_cmp a b ≡ o → bytes_eq a b ≡ is_eq o
+pub by_compare : (a b : List ℕ) (o : Ordering) → slice_cmp nat_cmp a b ≡ o → bytes_eq a b ≡ is_eq o
 by_compare a b o e = sym (is_eq-slice_cmp a b) ∙ ap is_eq e
 
 pub found_inserted : {Y : Type 0} (q : List ℕ) (k : Vec ℕ Y) (v : ℕ) (es : List (Vec ℕ Y × ℕ)) → found_at q (insert_entry (λ x y. slice_cmp nat_cmp x.items y.items) es k v) ≡ (if bytes_eq q k.items then Some v else found_at q es)

@@ -1,13 +1,12 @@
 -- The notes once those of one timestamp have changed, what is due of them, and that branches which only read leave nothing.
-use Rattle.std.proofs.Common.{◌≡◌, ℕ, ◌<◌, ◌≤◌, Bool, true, false, ◌||◌, ◌==◌, List, [], ◌∷◌, ◌++◌, Option, Some, None, refl, sym, ap, ◌∙◌, subst, cond, arith, rules}
-use Rattle.std.specs.Prelude.{nat_lt, ◌-◌, bytes_eq, if◌then◌else◌}
+use Rattle.std.proofs.Common.{◌≡◌, ℕ, ◌<◌, ◌≤◌, Bool, true, false, ◌||◌, ◌==◌, List, [], ◌∷◌, ◌++◌, Option, Some, None, refl, sym, ap, ◌∙◌, subst, arith}
+use Rattle.std.specs.Prelude.{◌-◌, bytes_eq, if◌then◌else◌}
 use Rattle.std.specs.Option.{option_map_or}
 use Rattle.std.specs.List.{AllByRecursion as Each}
 use Rattle.std.specs.List.Sorted.{IsStrictlySortedBy}
-use Rattle.std.specs.Map.{lookup, set_value, keys_of}
+use Rattle.std.specs.Map.{set_value}
 use Rattle.std.specs.BTreeMap.{BTreeMap, get_by, insert_entry, is_at, IsOrdered}
 use Rattle.std.specs.Ordering.{nat_cmp, is_eq}
-use Rattle.std.specs.Cmp.Rules.{comparing}
 use Rattle.std.specs.declared.cmp.Ordering.{Ordering}
 use Rattle.std.specs.declared.cmp.Ordering.TheVariants.{Less, Equal, Greater}
 use Rattle.std.proofs.lemmas.Bool.Decides.{nat_tests}
@@ -22,14 +21,9 @@ use Rattle.mv_rules.specs.Records.{own_of}
 use Rattle.mv_rules.specs.Tidy.{kept_of, names, is_due, due, not_due, tidied, tidied_if, Tidies, IsDrained, KeepsAll}
 use Rattle.mv_rules.specs.Noted.{NotesAt, or_fresh, Reads, Settles, ReadAlone, IsStrange, AreDistinct}
 use Rattle.mv_rules.proofs.Tests.{same_key}
+use Rattle.mv_rules.proofs.ByTimestamp.{found, IsSorted, number_is, less, same, more, above, written_through}
 use Rattle.mv_rules.proofs.Tidied.{names_both, fresh_shows}
 use Rattle.mv_chain.specs.Chain.{marked_at}
-
-abbrev found : ℕ → List (ℕ × Notes) → Option Notes
-found t es = lookup (is_at (nat_cmp t)) es
-
-abbrev IsSorted : List (ℕ × Notes) → Type 0
-IsSorted es = IsStrictlySortedBy nat_cmp (keys_of es)
 
 abbrev own_at : ℕ → List (ℕ × Notes) → List Own
 own_at t es = option_map_or (λ n. n.written.items) (found t es) []
@@ -39,59 +33,6 @@ decided_at t es = option_map_or (λ n. n.decided.items) (found t es) []
 
 abbrev read_at : ℕ → List (ℕ × Notes) → List Own
 read_at t es = option_map_or (λ n. n.read.items) (found t es) []
-
-number_is : (n k : ℕ) → is_eq (nat_cmp n k) ≡ (n == k)
-number_is n k = search (comparing, rules) depth 9
-
-less : (a b : ℕ) → nat_cmp a b ≡ Less → a < b
-less a b = at (nat_lt a b) refl (a == b)
-  where
-    at : (x : Bool) → nat_lt a b ≡ x → (y : Bool) → cond x Less (cond y Equal Greater) ≡ Less → a < b
-    at true e y h = grind (arith, nat_tests, e)
-    at false e true h = absurd (cc h)
-    at false e false h = absurd (cc h)
-
-same : (a b : ℕ) → nat_cmp a b ≡ Equal → a ≡ b
-same a b = at (nat_lt a b) (a == b) refl
-  where
-    at : (x y : Bool) → (a == b) ≡ y → cond x Less (cond y Equal Greater) ≡ Equal → a ≡ b
-    at true y e h = absurd (cc h)
-    at false true e h = grind (arith, nat_tests, e)
-    at false false e h = absurd (cc h)
-
-more : (a b : ℕ) → nat_cmp a b ≡ Greater → b < a
-more a b = at (nat_lt a b) refl (a == b) refl
-  where
-    at : (x : Bool) → nat_lt a b ≡ x → (y : Bool) → (a == b) ≡ y → cond x Less (cond y Equal Greater) ≡ Greater → b < a
-    at true e y f h = absurd (cc h)
-    at false e true f h = absurd (cc h)
-    at false e false f h = grind (arith, nat_tests, e, f)
-
--- behind a greater timestamp nothing is found
-above : (a t : ℕ) (es : List (ℕ × Notes)) → t ≤ a → Each (λ k. nat_cmp a k ≡ Less) (keys_of es) → found t es ≡ None
-above a t [] le h = refl
-above a t (e ∷ es) le h =
-    let up : a < e.0 = less a e.0 h.0 in
-    let off : is_eq (nat_cmp t e.0) ≡ false = number_is t e.0 ∙ grind (arith, nat_tests, up, le) in
-    rw off (above a t es le h.1)
-
-pub written_through : (ts : ℕ) (es : List (ℕ × Notes)) (x w : Notes) → IsSorted es → found ts es ≡ Some x → set_value (is_at (nat_cmp ts)) es w ≡ insert_entry nat_cmp es ts w
-unfolding IsStrictlySortedBy
-written_through ts [] x w s = λ f. absurd (cc f)
-written_through ts (e ∷ es) x w s = at (nat_cmp ts e.0) refl (written_through ts es x w s.1)
-  where
-    at : (o : Ordering) → nat_cmp ts e.0 ≡ o → (found ts es ≡ Some x → set_value (is_at (nat_cmp ts)) es w ≡ insert_entry nat_cmp es ts w) → found ts (e ∷ es) ≡ Some x → set_value (is_at (nat_cmp ts)) (e ∷ es) w ≡ insert_entry nat_cmp (e ∷ es) ts w
-    at Less o rest f =
-        let up : ts < e.0 = less ts e.0 o in
-        let off : is_eq (nat_cmp ts e.0) ≡ false = ap is_eq o in
-        let none : found ts es ≡ None = above e.0 ts es (omega arith) s.0 in
-        let some : found ts es ≡ Some x = rw off at f in
-        absurd (cc (none, some))
-    at Equal o rest f = rw o refl
-    at Greater o rest f =
-        let off : is_eq (nat_cmp ts e.0) ≡ false = ap is_eq o in
-        let some : found ts es ≡ Some x = rw off at f in
-        rw o (ap (λ xs. e ∷ xs) (rest some))
 
 -- what is written over at a timestamp is what is noted there
 pub noted_over : (ts : ℕ) (ws ds rs : List Own) (old new : BTreeMap ℕ Notes) (x n : Notes) → get_by (nat_cmp ts) old ≡ Some x → IsOrdered nat_cmp old → new.entries ≡ set_value (is_at (nat_cmp ts)) old.entries n

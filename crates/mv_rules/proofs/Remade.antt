@@ -32,6 +32,7 @@ use Rattle.mv_rules.proofs.Shown.{branch_shown, last_seen, committed_shown, last
 use Rattle.mv_rules.proofs.Counted.{held_left, held_decided, group_decided, count_decided, count_group_decided, count_branch_other, count_branch, held_group}
 use Rattle.mv_rules.proofs.Tests.{and_no, or_left}
 use Rattle.xa_model.proofs.ShortWrites.{writes_count}
+use Rattle.xa_model.proofs.WorkFloors.{idle_floor}
 
 -- the low water may rise
 
@@ -332,4 +333,4 @@ stands_restored d next s r low i le st =
     let risen : StandsFor (record { low = timestamp_of next 0; writes = restored d; reads = [] }) r = low_rises (record { low = low; writes = restored d; reads = [] }) r (timestamp_of next 0) st le in
     let there = remade_stands (timestamp_of next 0) s.branches descends i.idle r (subst (λ (ws : List Written). StandsFor (record { low = timestamp_of next 0; writes = ws; reads = [] }) r) same risen) in
     let first : StandsFor (record { low = timestamp_of s.boot 0; writes = writes_in s.branches; reads = map read_as s.reads }) r = rw (i.boot, i.reads) there in
-    low_rises (record { low = timestamp_of s.boot 0; writes = writes_in s.branches; reads = map read_as s.reads }) r (low_of s) first (omega arith)
+    low_rises (record { low = timestamp_of s.boot 0; writes = writes_in s.branches; reads = map read_as s.reads }) r (low_of s) first (omega (arith, idle_floor s i.idle))

@@ -3,6 +3,7 @@ pub mod Own
 pub mod Held
 pub mod Records
 pub mod Calls
+pub mod Committed
 pub mod Tidy
 pub mod Noted
 pub mod Steps

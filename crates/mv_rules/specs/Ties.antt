@@ -6,8 +6,8 @@ use Rattle.mv_chain.specs.declared.fate.Fate.{Fate}
 use Rattle.mv_chain.specs.declared.fate.Fate.TheVariants.{Committed as kept}
 use Rattle.mv_chain.specs.Accesses.{Written, Answered, Seen, seen, is_late}
 use Rattle.xa_model.specs.State.{State, Branch, Operation, Got, Wrote, Phase, Working, Prepared, Committed}
-use Rattle.xa_model.specs.State.{Read, timestamp_of}
-use Rattle.xa_model.specs.LowWater.{low_water}
+use Rattle.xa_model.specs.State.{Read}
+use Rattle.xa_model.specs.LowWater.{low_water, work_floor}
 use Rattle.xa_model.specs.Source.{Version, source, is_late as is_late_among}
 use Rattle.xa_model.specs.Sound.{Descends}
 use Rattle.mv_rules.specs.Accesses.{Accesses}
@@ -34,11 +34,11 @@ writes_in (b ∷ bs) = writes_one b ++ writes_in bs
 abbrev pub read_as : Read → Answered
 read_as r = record { reader = r.reader; key = r.key; from = r.source }
 
--- From here on the history counts: who reads or writes from now on has its timestamp from this boot, and not below the
--- low water. What was written over before this boot isn't in the log, so records of a new boot don't show it, whatever
--- is in doubt.
+-- From here on the history counts: who reads or writes from now on has its timestamp neither below the floor of work
+-- nor below the low water. What was written over before a restart isn't in the log, so records of a new boot don't show
+-- it, whatever is in doubt; and no branch at work is of an earlier boot then.
 abbrev pub low_of : State → ℕ
-low_of s = max (timestamp_of s.boot 0) (low_water s)
+low_of s = max (work_floor s) (low_water s)
 
 abbrev pub history_of : State → Accesses
 history_of s = record { low = low_of s; writes = writes_in s.branches; reads = map read_as s.reads }

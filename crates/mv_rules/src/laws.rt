@@ -1,3 +1,4 @@
+ghost use Rattle.mv_rules.specs.Committed.{CommittedLasts};
 ghost use Rattle.mv_rules.specs.Ties.{OneSource, OneLateness};
 ghost use Rattle.mv_rules.specs.Noted.{LeaveNothing, LeaveAll};
 ghost use Rattle.mv_rules.specs.Restoring.{AreInTurn, LowRises, StandsRestored};
@@ -7,6 +8,11 @@ ghost use Rattle.mv_rules.specs.Restoring.{AreInTurn, LowRises, StandsRestored};
 pub fn one_history()
     ensures source { OneSource }
     ensures late { OneLateness }
+{}
+
+/// The last committed write of each key, by timestamp, is what lasts of the committed branches.
+pub fn committed_lasts()
+    ensures { CommittedLasts }
 {}
 
 /// The branches that lasted may be added to new records in their order. Records that were built anew of what lasted,

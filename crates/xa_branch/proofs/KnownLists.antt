@@ -1,43 +1,40 @@
 -- The known branches, of what is kept and of the state: the same XIDs in the same order, and the same is told of each.
-use Rattle.std.proofs.Common.{◌≡◌, ◌⊎◌, inl, inr, ℕ, zero, suc, ◌+◌, ◌≤◌, Bool, true, false, ◌&&◌, ◌||◌, cond, Option, Some, None, List, [], ◌∷◌, ◌++◌, length, refl, ap, sym, ◌∙◌, subst, arith}
-use Rattle.std.specs.Prelude.{filter, filter_map, find, is_some, map, min, option_map, take}
+use Rattle.std.proofs.Common.{◌≡◌, inl, inr, ℕ, zero, suc, ◌≤◌, Bool, true, false, ◌&&◌, ◌||◌, cond, Option, Some, None, List, [], ◌∷◌, refl, ap, sym, ◌∙◌, subst, arith}
+use Rattle.std.specs.Prelude.{filter, filter_map, find, is_some, map, option_map, take}
 use Rattle.std.specs.BTreeMap.{BTreeMap, IsOrdered, keys, is_at}
 use Rattle.std.specs.List.{list_any, AllByRecursion, cons_option}
 use Rattle.std.specs.List.Sorted.{IsStrictlySortedBy}
 use Rattle.std.specs.Map.{keys_of, lookup}
-use Rattle.std.specs.Ordering.{is_eq, is_lt, ordering_reverse}
-use Rattle.std.specs.declared.cmp.Ordering.TheVariants.{Less, Equal, Greater}
+use Rattle.std.specs.Ordering.{is_eq, ordering_reverse}
+use Rattle.std.specs.declared.cmp.Ordering.TheVariants.{Less, Greater}
 use Rattle.std.proofs.lemmas.List.{take-map}
 use Rattle.std.proofs.lemmas.List.Folds.{list_any-append}
 use Rattle.std.proofs.lemmas.Map.Keys.{sorted_head, sorted_tail}
-use Rattle.xa_codes.specs.declared.direction.Direction.{Direction}
 use Rattle.xa_codes.specs.declared.direction.Direction.TheVariants as direction
 use Rattle.xa_frame.specs.declared.known_branch.AssociationCounts.{AssociationCounts}
 use Rattle.xa_frame.specs.declared.known_branch.KnownBranch.{KnownBranch}
 use Rattle.xa_xid.specs.Triple.{Triple, xid_eq, xid_cmp}
 use Rattle.xa_xid.proofs.Same.{xid_same, xid_eq_same, xid_cmp_itself, xid_cmp_total}
-use Rattle.xa_model.specs.State.{State, Branch, Phase, Working, Prepared, Committed, Decided, Association, Holder, Active, Suspended, Loose, count, name_of, is_with, is_known_as, known_of, decided_of, holders_of}
+use Rattle.xa_model.specs.State.{State, Branch, Decided, Association, Holder, Active, Suspended, Loose, name_of, is_with, known_of, decided_of, holders_of}
 use Rattle.xa_model.specs.Sound.{IsSound}
 use Rattle.xa_model.specs.Durable.{Pairwise}
-use Rattle.xa_model.specs.KnownBranches.{known_names, known_after, counts_of, is_of_one_at_work, is_of_one_suspended, mark_or_ok, told_of, branches_after}
+use Rattle.xa_model.specs.KnownBranches.{known_names, counts_of, is_of_one_at_work, is_of_one_suspended, told_of, branches_after}
 use Rattle.xa_model.specs.Listed.{in_order, is_above}
 use Rattle.xa_model.proofs.InOrder.{below, below_transitive, below_strict, ordered_pairwise}
-use Rattle.xa_model.proofs.Inserts.{all_imply}
+use Rattle.xa_model.proofs.Inserts.{all_imply, filter_keeps}
 use Rattle.xa_model.proofs.Members.{Member, same_members}
-use Rattle.xa_model.proofs.Restores.{filter_keeps}
 use Rattle.xa_branch.specs.declared.branches.Branches.{Branches}
 use Rattle.xa_branch.specs.declared.kind.Kind.TheVariants as kind
 use Rattle.xa_branch.specs.declared.lasting.Lasting.{Lasting}
 use Rattle.xa_branch.specs.declared.lasting.Lasting.TheVariants as lasts
 use Rattle.xa_branch.specs.declared.working.Working.{Working as Kept}
-use Rattle.xa_branch.specs.Branches.{BranchesStandFor, kept_of, working_at, working_known, lasting_at, lasting_known}
-use Rattle.xa_branch.specs.Due.{work_of}
+use Rattle.xa_branch.specs.Branches.{BranchesStandFor, working_at, working_known, lasting_at, lasting_known}
 use Rattle.xa_branch.specs.Kinds.{kind_of, same_kind, held_as}
 use Rattle.xa_branch.specs.Told.{short, told_working, told_lasting, comes_first}
 use Rattle.xa_branch.proofs.Counting.{holders_by_kind, loose_is}
-use Rattle.xa_branch.proofs.Listing.{has, has_keys, has_fold, has_map, member_has, has_member, sorted_pairwise, some_or, above, keys_filtered}
+use Rattle.xa_branch.proofs.Listing.{has, has_keys, has_fold, has_map, member_has, has_member, sorted_pairwise, some_or, keys_filtered}
 use Rattle.xa_branch.proofs.Looks.{IsWorking, Seen, Nowhere, There, Doubtful, Done, seen, seen_at, works_at, idle}
-use Rattle.xa_branch.proofs.Merging.{merge, any_merge, all_merge, ordered_merge, AreApart}
+use Rattle.xa_branch.proofs.Merging.{merge, any_merge, all_merge, ordered_merge}
 use Rattle.xa_branch.proofs.Owners.{few}
 
 -- what is kept above one

@@ -25,3 +25,4 @@ pub mod Retimed
 pub mod Oldest
 pub mod Returning
 pub mod RunningOut
+pub mod Picked

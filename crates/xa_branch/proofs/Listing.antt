@@ -87,7 +87,7 @@ pub has_map : {A : Type 0} (name : A → Triple) (q : Triple) (xs : List A) → 
 has_map name q [] = refl
 has_map name q (x ∷ xs) = ap (λ b. xid_eq (name x) q || b) (has_map name q xs) ∙ some_or (xid_eq (name x) q) x (find (λ y. xid_eq (name y) q) xs)
 
-flipped : (x y : Triple) → xid_eq x y ≡ xid_eq y x
+pub flipped : (x y : Triple) → xid_eq x y ≡ xid_eq y x
 flipped x y = both_ways (xid_eq x y) (xid_eq y x) (λ e. xid_eq_same y x (sym (xid_same x y e))) (λ e. xid_eq_same x y (sym (xid_same y x e)))
 
 pub has_keys : {V : Type 0} (q : Triple) (es : List (Triple × V)) → has q (keys_of es) ≡ is_some (lookup (is_at (xid_cmp q)) es)

@@ -1,13 +1,13 @@
 -- Two lists of known branches, each in the order of XIDs, as one.
-use Rattle.std.proofs.Common.{◌≡◌, ◌⊎◌, inl, inr, ℕ, zero, suc, ◌+◌, ◌-◌, ◌<◌, ◌≤◌, Bool, true, false, ◌||◌, cond, Option, Some, None, List, [], ◌∷◌, ◌++◌, refl, ap, sym, ◌∙◌, subst, append_assoc, append-nil, arith}
-use Rattle.std.specs.Prelude.{map, take}
+use Rattle.std.proofs.Common.{◌≡◌, inl, inr, ℕ, zero, suc, ◌+◌, ◌-◌, ◌≤◌, Bool, true, false, ◌||◌, cond, Option, Some, None, List, [], ◌∷◌, ◌++◌, refl, ap, sym, ◌∙◌, append_assoc, append-nil, arith}
+use Rattle.std.specs.Prelude.{take}
 use Rattle.std.specs.Option.{option_to_list}
 use Rattle.std.specs.List.{list_any, AllByRecursion}
 use Rattle.std.specs.Ordering.{is_lt, ordering_reverse}
 use Rattle.std.specs.declared.cmp.Ordering.{Ordering}
 use Rattle.std.specs.declared.cmp.Ordering.TheVariants.{Less, Equal, Greater}
 use Rattle.xa_frame.specs.declared.known_branch.KnownBranch.{KnownBranch}
-use Rattle.xa_xid.specs.Triple.{Triple, xid_eq, xid_cmp}
+use Rattle.xa_xid.specs.Triple.{xid_eq, xid_cmp}
 use Rattle.xa_xid.proofs.Same.{xid_eq_same, xid_cmp_same, xid_cmp_total}
 use Rattle.xa_model.specs.Durable.{Pairwise}
 use Rattle.xa_model.proofs.InOrder.{below_transitive}

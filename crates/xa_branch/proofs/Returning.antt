@@ -214,6 +214,18 @@ lasts_by s xid (Some b) h e = known_lasts s xid b (is_working b.phase) refl h e
 pub found_lasting : (s : State) (xid : Triple) → IsSound s → restored_at (durable s).prepared (durable s).decided xid ≡ lasting_known s xid
 found_lasting s xid h = lasts_by s xid (known_of s.branches xid) h refl
 
+-- an XID that is in doubt isn't decided
+prepared_by : (s : State) (xid : Triple) (p : PreparedBranch) (o : Option Branch) → IsSound s → known_of s.branches xid ≡ o → find (λ p. xid_eq p.xid xid) (parts held_of s.branches) ≡ Some p
+    → find (λ d. xid_eq d.xid xid) (by_name s.decided) ≡ None
+prepared_by s xid p (Some b) h e there = found_by_name xid s.decided ∙ undecided s xid b h e
+prepared_by s xid p None h e there =
+    let none : find (λ p. xid_eq p.xid xid) (parts held_of s.branches) ≡ None =
+    not_held xid s.branches (parts_none held_of (is_known_as xid) (λ p. xid_eq p.xid xid) (held_named xid) s.branches (count_none (is_known_as xid) s.branches e)) in
+    absurd (cc (none, there))
+
+pub prepared_undecided : (s : State) (xid : Triple) (p : PreparedBranch) → IsSound s → find (λ p. xid_eq p.xid xid) (durable s).prepared ≡ Some p → find (λ d. xid_eq d.xid xid) (durable s).decided ≡ None
+prepared_undecided s xid p h there = prepared_by s xid p (known_of s.branches xid) h refl there
+
 -- and nothing is at work
 
 idle_phase : (s : State) (xid : Triple) (b : Branch) (phase : Phase) → b.phase ≡ phase → is_working phase ≡ false → working_in s.associations xid b ≡ None

@@ -10,3 +10,4 @@ pub mod Calls
 pub mod Changes
 pub mod Told
 pub mod Worked
+pub mod Checkpointed

@@ -3,7 +3,6 @@ use Rattle.std.specs.Prelude.{ℕ, min, Bool, Option, Some, None, if◌then◌el
 use Rattle.std.specs.Ordering.{is_lt}
 use Rattle.xa_codes.specs.declared.codes.TheConstants.{XA_OK}
 use Rattle.xa_codes.specs.declared.direction.Direction.TheVariants as direction
-use Rattle.xa_frame.specs.declared.known_branch.AssociationCounts.{AssociationCounts}
 use Rattle.xa_frame.specs.declared.known_branch.BranchState.{BranchState}
 use Rattle.xa_frame.specs.declared.known_branch.BranchState.TheVariants as state
 use Rattle.xa_frame.specs.declared.known_branch.KnownBranch.{KnownBranch}

@@ -12,6 +12,7 @@
 //!   branch alone
 //! - `low_water`: `Branches::low_water`, the timestamp below which nobody works
 //! - `recovery`: `Branches::list_after`, what recovery lists; `known_list`: `Branches::known_after`, the known branches
+//! - `checkpointed`: `Branches::in_doubt` and `decided`, what a checkpoint writes of branches
 //!
 //! What changes:
 //!
@@ -29,6 +30,7 @@ mod acts;
 mod associations;
 mod branches;
 mod changes;
+mod checkpointed;
 mod completion;
 mod due;
 mod fault;

@@ -39,6 +39,27 @@ impl Model for Durable {
 }
 
 impl Durable {
+    /// What lasts, of its parts: the greatest boot that was logged, the committed branches and those in doubt by
+    /// timestamp, and what the operator decided by XID. Takes no memory.
+    pub fn new(
+        boot: u32,
+        committed: BTreeMap<u64, Writes>,
+        prepared: BTreeMap<u64, InDoubt>,
+        decided: BTreeMap<Xid, Direction>,
+    ) -> Durable
+        ensures boot { result.boot ≡ boot }
+        ensures committed { result.committed ≡ committed_of committed }
+        ensures prepared { result.prepared ≡ prepared_of prepared }
+        ensures decided { result.decided ≡ decided_of decided }
+    {
+        Durable {
+            boot,
+            committed,
+            prepared,
+            decided,
+        }
+    }
+
     /// The greatest boot that was logged, or 0.
     pub fn boot(&self) -> u32
         ensures { result ≡ self.now.boot }

@@ -1,4 +1,4 @@
-use Rattle.std.proofs.Common.{◌≡◌, ◌∙◌, ap, sym, ◌+◌, ◌++◌, ◌∷◌, [], length, List, None, append-nil, length-append}
+use Rattle.std.proofs.Common.{◌∙◌, ap, sym, ◌++◌, ◌∷◌, [], length, List, None, append-nil, length-append}
 use Rattle.std.proofs.lemmas.List.{append_assoc}
 use Rattle.xa_codes.specs.declared.write.Write.{Write}
 use Rattle.mv_chain.specs.Within.{IsShort}

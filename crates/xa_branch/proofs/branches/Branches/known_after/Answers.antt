@@ -1,14 +1,12 @@
-use Rattle.std.proofs.Common.{◌≡◌, Some, None, ◌-◌, ◌+◌, ◌≤◌, ◌++◌, ◌&&◌, Bool, true, false, List, ap, sym, ◌∙◌, refl, append-nil, arith}
+use Rattle.std.proofs.Common.{◌≡◌, Some, ◌-◌, ◌+◌, ◌&&◌, Bool, true, false, ap, ◌∙◌, refl, arith}
 use Rattle.std.specs.Prelude.{map, take, option_copied}
 use Rattle.std.specs.BTreeMap.Range.{is_from_start}
-use Rattle.std.specs.Option.{option_to_list}
 use Rattle.std.specs.Range.Bound.{bound_map}
-use Rattle.xa_frame.specs.declared.known_branch.KnownBranch.{KnownBranch}
 use Rattle.xa_xid.specs.Triple.{xid_cmp}
 use Rattle.xa_branch.specs.Told.{told_working, told_lasting}
 use Rattle.xa_branch.proofs.Listing.{few_taken}
 use Rattle.xa_branch.proofs.KnownLists.{part_is, all_after, known_same}
-use Rattle.xa_branch.proofs.Merging.{Takes, merge, merged_more, merged_all, merged_enough}
+use Rattle.xa_branch.proofs.Merging.{Takes, merged_more, merged_all, merged_enough}
 use Rattle.xa_branch.proofs.branches.Branches.known_after.Goals as goal
 use Rattle.xa_branch.proofs.branches.Branches.known_after.Goals.{else-loop-test, then-loop-test+in_default}
 

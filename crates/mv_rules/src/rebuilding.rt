@@ -1,0 +1,106 @@
+ghost use Rattle.std.specs.Prelude.{◌≡◌, ℕ, ◌+◌, [], ◌∷◌, Some, false, IsSome, IfOk, OnOk};
+ghost use Rattle.slab.specs.Slab.{get as chain_in};
+ghost use Rattle.mv_chain.specs.Accesses.{wrote, is_late};
+ghost use Rattle.mv_chain.specs.Calls.{bytes_of};
+ghost use Rattle.mv_chain.specs.Chain.{fresh};
+ghost use Rattle.mv_chain.specs.Within.{IsShort};
+
+use crate::own::Own;
+use crate::records::Records;
+use crate::steps::add;
+use crate::writes::taken;
+use mv_chain::Fate;
+use std::alloc::AllocError;
+use xa_codes::{Bytes, Write};
+
+/// How records are built anew of what lasted.
+impl Records {
+    ghost use Rattle.mv_rules.specs.Calls.{IfStood, IfUnindexed, IfUnsettled};
+    ghost use Rattle.mv_rules.specs.Noted.{Puts, Restores};
+    ghost use Rattle.mv_rules.specs.Records.{StandsFor, index_of, own_of};
+    ghost use Rattle.mv_rules.specs.Restoring.{with_branch, IsRestorable};
+    ghost use Rattle.mv_rules.specs.Tidy.{KeepsBut};
+    ghost use Rattle.mv_rules.specs.Within.{IsWithin, KeepsWithin, AreShort};
+    ghost use Rattle.mv_rules.specs.Within.{IsKey, AreKeys, HasKeys, KeepsOwnBut, HaveKeys};
+
+    /// The index of the key's chain, which is made if there is none.
+    fn find_or_make(&mut self, key: &[u8]) -> Result<usize, AllocError>
+        ensures index { IfOk result (λ i. index_of key.now self.new ≡ Some i) }
+        ensures there { IfOk result (λ i. IsSome (chain_in self.new.chains i)) }
+        ensures stands { IfStood self.old (λ h. StandsFor h self.new) }
+        ensures known { IfStood self.old (λ h. IsSome (index_of key.now self.old) → self.new ≡ self.old) }
+        ensures made { OnOk result
+            (IfUnindexed key.now self.old (λ h. KeepsBut key.now (λ _. Some fresh) self.old self.new)) }
+        ensures notes { self.new.notes ≡ self.old.notes }
+        ensures within { KeepsWithin self.old self.new }
+    {
+        if let Some(i) = self.find(key) {
+            return Ok(i);
+        }
+        self.make(key)
+    }
+
+    /// Adds a branch's write, however many keys it has written.
+    fn put_back(&mut self, ts: u64, key: &[u8], value: Option<Vec<u8>>) -> Result<(), AllocError>
+        ensures stands { OnOk result (IfUnsettled ts self.old (λ h. is_late key.now ts h.reads ≡ false
+            → StandsFor (record h { writes = wrote ts key.now (bytes_of value) ∷ h.writes }) self.new)) }
+        ensures puts { OnOk result
+            (IfUnsettled ts self.old (λ h. Puts ts key.now (bytes_of value) self.old self.new)) }
+        ensures within { (n : ℕ) → IsWithin n self.old → IsShort n (bytes_of value) → IsWithin n self.new }
+        ensures keys { (n : ℕ) → AreKeys n (own_of ts self.old) → IsKey key.now
+            → AreKeys (n + 1) (own_of ts self.new) }
+        ensures others { KeepsOwnBut ts self.old self.new }
+    {
+        let i = self.find_or_make(key)?;
+        let chain = &mut self.chains[i];
+        let look = chain.look(&self.pool, ts);
+        if look.from == ts {
+            return chain.install_at(&mut self.pool, &look, value);
+        }
+        let own = Own {
+            key: Bytes::from_slice(self.alloc, key)?,
+            index: i,
+        };
+        add(
+            self.alloc,
+            &mut self.pool,
+            chain,
+            &mut self.notes,
+            &look,
+            own,
+            value,
+        )
+    }
+
+    /// Adds the writes of a branch that lasted, as the log was read, and decides its fate where that is known:
+    /// `None` leaves it undecided. Values are taken over and not copied. Nobody may have read, and each branch is added
+    /// once.
+    ///
+    /// # Errors
+    /// Want of memory. Some of the writes are then missing, and the records stand for nothing: drop them.
+    pub fn restore(
+        &mut self,
+        ts: u64,
+        writes: Vec<Write>,
+        fate: Option<Fate>,
+    ) -> Result<(), AllocError>
+        ensures stands { OnOk result (IfStood self.old (λ h. IsRestorable ts h
+            → StandsFor (record h { writes = with_branch ts fate writes.items h.writes }) self.new)) }
+        ensures restores { OnOk result (IfStood self.old (λ h. IsRestorable ts h
+            → Restores ts writes.items fate self.old self.new)) }
+        ensures within { (n : ℕ) → IsWithin n self.old → AreShort n writes.items → IsWithin n self.new }
+        ensures keys { OnOk result (HasKeys self.old → own_of ts self.old ≡ [] → HaveKeys writes.items
+            → HasKeys self.new) }
+        ensures others { KeepsOwnBut ts self.old self.new }
+        ensures decided { OnOk result (IsSome fate → own_of ts self.new ≡ []) }
+    {
+        for write in writes {
+            let Write { key, value } = write;
+            self.put_back(ts, key.as_slice(), taken(value))?;
+        }
+        if let Some(decided) = fate {
+            self.settle(ts, decided);
+        }
+        Ok(())
+    }
+}
