@@ -1,8 +1,9 @@
 -- What a rescan that succeeds finds of a log.
-use Rattle.std.proofs.Common.{◌≡◌, ◌⊎◌, ⊎_elim, inl, inr, ℕ, ◌≤◌, Bool, true, false, List, [], ◌∷◌, ◌++◌, length, take, refl, sym, ◌∙◌, ap, cond, None}
+use Rattle.std.proofs.Common.{◌≡◌, ◌⊎◌, ⊎_elim, inl, inr, ℕ, ◌≤◌, Bool, true, false, List, ◌++◌, length, take, refl, sym, ◌∙◌, ap, cond, None}
 use Rattle.xa_disk.specs.declared.disk.Disk.{Ghosts}
 use Rattle.xa_log.specs.declared.log.Log.{Log}
-use Rattle.xa_log.specs.Chain.{NoChance, logged}
+use Rattle.xa_log.specs.Chain.{logged}
+use Rattle.xa_log.specs.Group.{HasFirstPart, IsFirstPart, NoChance}
 use Rattle.xa_log.specs.Reading.{is_newer, fault_of}
 use Rattle.xa_log.specs.Pair.{beats, has_log, IsCalm, CalmTears, logged_of}
 use Rattle.xa_log.specs.Checkpoint.{IsQuiet, SealTears}
@@ -52,15 +53,16 @@ module _ {D : Type 0} (disks : Ghosts D) (old new : Log D) (found : List (List �
       anew bodies (no_fault old.log_bytes old.format (disks.seen old.disk) bodies s.fits (rests_front old.format bodies (disks.seen old.disk) s.file)) (rests_logged old.format bodies (disks.seen old.disk) s.file) p.other.fits k.known
       (beats_read old.on_first bodies stood (disks.seen old.other) p.older (calm_logged stood (disks.seen old.other) p.other.behind k))
 
-  may_stand_anew : (bodies : List (List ℕ)) (body : List ℕ) (stood : List (List ℕ)) → MayStandPair disks bodies body stood old → NoChance disks.tears → CalmTears disks.tears ⊎ IsQuiet disks stood old.other
-      → ((found ≡ bodies) ⊎ (found ≡ bodies ++ body ∷ [])) × Read
-  may_stand_anew bodies body stood p plain quiet =
+  may_stand_anew : (bodies group stood : List (List ℕ)) → MayStandPair disks bodies group stood old → NoChance disks.tears group → CalmTears disks.tears ⊎ IsQuiet disks stood old.other
+      → HasFirstPart bodies group found × Read
+  may_stand_anew bodies group stood p plain quiet =
       let k = calm stood p.calm_on quiet in
-      let all = calm_logged stood (disks.seen old.other) p.other.behind k in
-      ⊎_elim
-      (λ r. let x = anew bodies p.current.seen_is.opens (rests_logged old.format bodies (disks.seen old.disk) r) p.other.fits k.known (beats_read old.on_first bodies stood (disks.seen old.other) p.older all) in (inl x.0, x.1))
-      (λ r. let x = anew (bodies ++ body ∷ []) p.current.seen_is.opens (rests_logged old.format (bodies ++ body ∷ []) (disks.seen old.disk) r) p.other.fits k.known (beats_read old.on_first (bodies ++ body ∷ []) stood (disks.seen old.other) p.older_after all) in (inr x.0, x.1))
-      (p.current.seen_on plain)
+      let part : IsFirstPart old.format bodies group (disks.seen old.disk) = p.current.seen_on plain in
+      let now = bodies ++ take part.many group in
+      let x =
+      anew now p.current.seen_is.opens (rests_logged old.format now (disks.seen old.disk) part.rests) p.other.fits k.known
+      (beats_read old.on_first now stood (disks.seen old.other) (p.older part.many) (calm_logged stood (disks.seen old.other) p.other.behind k)) in
+      (record { many = part.many; within = part.within; is = x.0 }, x.1)
 
   -- each of the two files begins as a log, and so does the one that is the other one now
   both : has_log (disks.seen old.disk) ≡ true → has_log (disks.seen old.other) ≡ true → has_log (disks.seen new.other) ≡ true
@@ -87,5 +89,5 @@ module _ {D : Type 0} (disks : Ghosts D) (old new : Log D) (found : List (List �
 
   pub state_anew : (state : LogState) → IsIn disks state old → LostTears disks.tears state → IsCalmBeside disks state old → MayFind state found × Read
   state_anew (Whole bodies stood) p lucky calm = pair_anew bodies stood p calm
-  state_anew (LostAppend bodies body stood) p lucky calm = may_stand_anew bodies body stood p lucky calm
+  state_anew (LostAppend bodies group stood) p lucky calm = may_stand_anew bodies group stood p lucky calm
   state_anew (LostCheckpoint bodies fresh) p lucky calm = may_seal_anew bodies fresh p calm

@@ -1,5 +1,5 @@
 -- The zeros behind a checkpoint's last record.
-use Rattle.std.proofs.Common.{◌≡◌, ℕ, zero, suc, ◌+◌, ◌-◌, ◌≤◌, min, true, List, [], ◌∷◌, ◌++◌, length, take, drop, replicate, refl, sym, ◌∙◌, ap, subst, arith, append_assoc, length-append, length-drop}
+use Rattle.std.proofs.Common.{◌≡◌, ℕ, ◌+◌, ◌-◌, ◌≤◌, min, true, List, [], ◌∷◌, ◌++◌, length, take, drop, replicate, refl, sym, ◌∙◌, ap, subst, arith, append_assoc, length-drop}
 use Rattle.std.specs.List.{AllByRecursion}
 use Rattle.std.specs.Int.{w32, to_be_bytes}
 use Rattle.std.proofs.Math.Seq.{take-append-add}
@@ -10,8 +10,8 @@ use Rattle.xa_log.specs.declared.appending.Appended.{Appended}
 use Rattle.xa_log.specs.declared.appending.Appended.TheVariants.{Kept, Refused, Lost, Full}
 use Rattle.xa_log.specs.declared.format.Format.{Format}
 use Rattle.xa_log.specs.Answers.{PutBecame}
-use Rattle.xa_log.specs.Chain.{newest, start, last, preamble, records, text, size_at, behind_text, body_at, is_record, IsBody, chains_on}
-use Rattle.xa_log.specs.Checkpoint.{behind_front, first_length, IsReady, IsCleared}
+use Rattle.xa_log.specs.Chain.{newest, start, last, preamble, text, size_at, behind_text, body_at, is_record, IsBody}
+use Rattle.xa_log.specs.Checkpoint.{behind_front, first_length, IsCleared}
 use Rattle.xa_log.specs.Laws.{StaleLaw}
 use Rattle.xa_log.proofs.Header.{header_whole}
 use Rattle.xa_log.proofs.Parts.{records_ready}

@@ -1,14 +1,14 @@
 -- A group's records, one more at a time.
-use Rattle.std.proofs.Common.{◌≡◌, ℕ, zero, suc, ◌+◌, ◌-◌, ◌≤◌, ◌<◌, List, [], ◌∷◌, ◌++◌, length, take, get_or, refl, sym, ◌∙◌, ap, subst, arith, append_assoc, length-append, Vec, Global}
+use Rattle.std.proofs.Common.{◌≡◌, ℕ, zero, suc, ◌+◌, ◌-◌, ◌≤◌, ◌<◌, List, [], ◌∷◌, ◌++◌, length, take, get_or, sym, ◌∙◌, ap, arith, append_assoc, Vec, Global}
 use Rattle.std.specs.List.{AllByRecursion}
 use Rattle.std.proofs.lemmas.List.{take_at, take-take, take_all, length-map}
 use Rattle.xa_log.specs.Ahead.{ready}
-use Rattle.xa_log.specs.Chain.{closing, digest, last, record_of, records, IsBody}
-use Rattle.xa_log.specs.Group.{group_bytes, as_one, first_of_group, closed_group}
+use Rattle.xa_log.specs.Chain.{closing, last, record_of, records, IsBody}
+use Rattle.xa_log.specs.Group.{group_bytes, as_one, closed}
 use Rattle.xa_log.specs.Reading.{bodies_of}
 use Rattle.xa_log.specs.declared.format.Format.{Format}
-use Rattle.xa_log.proofs.Group.{length-records, bytes_as_one}
-use Rattle.xa_log.proofs.Records.{limit, last_more, records_more}
+use Rattle.xa_log.proofs.Grouped.{length-records, bytes_as_one}
+use Rattle.xa_log.proofs.Records.{limit, records_more}
 use Rattle.xa_log.proofs.Steps.{next_body}
 
 bytes_more : (group : List (List ℕ)) (body : List ℕ) → group_bytes (group ++ body ∷ []) ≡ group_bytes group + (36 + length body)
@@ -35,8 +35,8 @@ module _ (bodies : List (Vec ℕ Global)) (i : ℕ) (v : Vec ℕ Global) (lt : i
 pub all_taken : (bodies : List (Vec ℕ Global)) (i : ℕ) → length bodies ≤ i → take i (bodies_of bodies) ≡ bodies_of bodies
 all_taken bodies i past = take_all i (bodies_of bodies) (omega (arith, past, length-map bodies (λ (b : Vec ℕ Global). b.items)))
 
-pub step_text : (prev : List ℕ) (done : List (List ℕ)) (body old new d : List ℕ) (at : ℕ) → at ≡ group_bytes done → d ≡ last prev done → take (at + 4) old ≡ closed_group prev done
-    → take (at + (40 + length body)) new ≡ take at old ++ (record_of d body ++ closing) → take (at + (36 + length body) + 4) new ≡ closed_group prev (done ++ body ∷ [])
+pub step_text : (prev : List ℕ) (done : List (List ℕ)) (body old new d : List ℕ) (at : ℕ) → at ≡ group_bytes done → d ≡ last prev done → take (at + 4) old ≡ closed prev done
+    → take (at + (40 + length body)) new ≡ take at old ++ (record_of d body ++ closing) → take (at + (36 + length body) + 4) new ≡ closed prev (done ++ body ∷ [])
 step_text prev done body old new d at here digest_is was is =
     let long : length (records prev done) ≡ at = length-records prev done ∙ sym here in
     let front : take at old ≡ records prev done =
@@ -46,13 +46,6 @@ step_text prev done body old new d at here digest_is was is =
     ∙ (λ i. front i ++ (record_of (digest_is i) body ++ closing))
     ∙ sym (append_assoc (records prev done) (record_of (last prev done) body) closing)
     ∙ ap (λ (l : List ℕ). l ++ closing) (sym (records_more prev done body))
-
-pub some_group : (bodies : List (Vec ℕ Global)) → 1 ≤ length bodies → 1 ≤ length (bodies_of bodies)
-some_group bodies some = omega (arith, some, length-map bodies (λ (b : Vec ℕ Global). b.items))
-
-pub first_item : (bodies : List (Vec ℕ Global)) (v : Vec ℕ Global) → 1 ≤ length bodies → v ≡ get_or bodies 0 v → v.items ≡ first_of_group (bodies_of bodies)
-first_item [] v some is = absurd (omega arith)
-first_item (b ∷ bodies) v some is = ap (λ (x : Vec ℕ Global). x.items) is
 
 -- each is within the limit of any format
 pub small_group : (format : Format) (group : List (List ℕ)) → AllByRecursion (IsBody format) group → AllByRecursion (λ body. length body ≤ 8388608) group

@@ -1,5 +1,5 @@
 -- How far the two files are known to reach.
-use Rattle.std.proofs.Common.{◌≡◌, inl, inr, ℕ, ◌+◌, ◌≤◌, Bool, true, false, cond, List, ◌++◌, length, drop, replicate, sym, ◌∙◌, ap, subst, arith, length-append, length-drop, Result, Ok, Err, OnOk, OnErr, IfOk, rules}
+use Rattle.std.proofs.Common.{◌≡◌, inl, inr, ℕ, ◌+◌, ◌≤◌, Bool, true, false, cond, List, ◌++◌, length, drop, replicate, sym, ◌∙◌, ap, arith, length-append, length-drop, Result, Ok, Err, OnOk, OnErr, IfOk, rules}
 use Rattle.std.specs.Prelude.{max}
 use Rattle.std.proofs.lemmas.List.{places, length-replicate}
 use Rattle.xa_disk.specs.declared.disk.Disk.{Ghosts}
@@ -8,12 +8,11 @@ use Rattle.xa_disk.specs.Images.{put_torn}
 use Rattle.xa_log.specs.declared.format.Format.{Format}
 use Rattle.xa_log.specs.Ahead.{IsKnown}
 use Rattle.xa_log.specs.Answers.{PutBecame, Wrote, PutAheadBecame}
-use Rattle.xa_log.specs.Chain.{start, closing, preamble, records, closed, closed_by}
+use Rattle.xa_log.specs.Chain.{start, closing, preamble, records}
 use Rattle.xa_log.specs.Checkpoint.{behind_front}
 use Rattle.xa_log.specs.declared.appending.Appended.{Appended}
 use Rattle.xa_log.specs.declared.appending.Appended.TheVariants.{Kept, Refused, Lost, Full}
 use Rattle.xa_log.specs.declared.log.Log.{Log}
-use Rattle.xa_log.proofs.Append.{length-alone, length-closed_by}
 use Rattle.xa_log.proofs.Header.{length-preamble}
 use Rattle.xa_log.proofs.Tried.{torn_wrote}
 
@@ -68,30 +67,6 @@ module _ {D : Type 0} (disks : Ghosts D) (tears_torn : (old : List ℕ) (at : �
   pub append_reaches : (at : ℕ) (few bytes : List ℕ) (old new : D) → length few ≤ length bytes → Wrote disks at few bytes old new → at + length few ≤ length (disks.seen new)
   append_reaches at few bytes old new less (inl is) = omega (arith, less, ap (λ (l : List ℕ). length l) is, reaches (disks.seen old) at bytes)
   append_reaches at few bytes old new less (inr x) = omega (arith, ap (λ (l : List ℕ). length l) x.4, reaches x.2 at few)
-
-  module _ (body : List ℕ) (more : ℕ) (old new : Log D) (other : new.other ≡ old.other) (other_known : new.other_known ≡ old.other_known) (o : Appended)
-      (went : PutAheadBecame disks o old.end (closed old.digest body) (closed_by more old.digest body) old.disk new.disk) (k : IsKnown disks old) where
-    abbrev few : List ℕ
-    few = closed old.digest body
-
-    abbrev bytes : List ℕ
-    bytes = closed_by more old.digest body
-
-    grows : length (disks.seen old.disk) ≤ length (disks.seen new.disk)
-    grows = append_grows old.end few bytes old.disk new.disk o went
-
-    beside : new.other_known ≤ length (disks.seen new.other)
-    beside = omega (arith, other_known, k.other, ap (λ (d : D). length (disks.seen d)) other)
-
-    pub known_kept : o ≡ Kept → new.known ≡ max old.known (old.end + 40 + length body) → IsKnown disks new
-    known_kept kept is =
-        let it : PutAheadBecame disks Kept old.end few bytes old.disk new.disk = subst (λ x. PutAheadBecame disks x old.end few bytes old.disk new.disk) kept went in
-        let less : length few ≤ length bytes = omega (arith, length-alone old.digest body, length-closed_by more old.digest body) in
-        let long = append_reaches old.end few bytes old.disk new.disk less it.0 in
-        record { current = omega (arith, is, k.current, grows, long, length-alone old.digest body); other = beside }
-
-    pub known_still : new.known ≡ old.known → IsKnown disks new
-    known_still is = record { current = omega (arith, is, k.current, grows); other = beside }
 
 -- ---- a checkpoint
 

@@ -22,10 +22,9 @@ pub mod Counted
 pub mod Parts
 pub mod Cleared
 pub mod Two
-pub mod Group
+pub mod Grouped
 pub mod GroupPair
 pub mod GroupSteps
-pub mod GroupChance
 pub mod Which
 pub mod Choosing
 pub mod Opens

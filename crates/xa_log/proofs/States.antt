@@ -1,12 +1,13 @@
 -- What a read gives and a crash leaves of a log, by the state that it is in.
-use Rattle.std.proofs.Common.{◌≡◌, ◌⊎◌, ⊎_elim, inl, inr, ℕ, Bool, true, false, List, ◌∷◌, [], ◌++◌, refl, ap, subst, sym, ◌∙◌, arith, cond, None}
+use Rattle.std.proofs.Common.{◌≡◌, ⊎_elim, inl, inr, ℕ, ◌≤◌, length, take, Bool, true, false, List, ◌∷◌, [], ◌++◌, refl, ap, subst, sym, ◌∙◌, arith, cond, None}
+use Rattle.std.proofs.lemmas.List.{append-nil}
 use Rattle.xa_disk.specs.Disk.{Same}
 use Rattle.xa_disk.specs.Time.{TimePasses}
 use Rattle.xa_disk.specs.declared.disk.Disk.{Ghosts}
 use Rattle.xa_log.specs.declared.format.Format.{Format}
 use Rattle.xa_log.specs.declared.log.Log.{Log}
-use Rattle.xa_log.specs.Chain.{Rests, NoChance}
-use Rattle.xa_log.specs.Pair.{generation, CalmTears, IsCalm, fault_pair, logged_of, pair_fault, logged_pair}
+use Rattle.xa_log.specs.Group.{IsFirstPart}
+use Rattle.xa_log.specs.Pair.{generation, beats, CalmTears, IsCalm, fault_pair, logged_of, pair_fault, logged_pair}
 use Rattle.xa_log.specs.Checkpoint.{LeavesOf, SealTears}
 use Rattle.xa_log.specs.Laws.{IsLogOf}
 use Rattle.xa_log.specs.Stands.{LeavesLog}
@@ -34,14 +35,18 @@ log_of most format bodies c l = record { format = format; fits = l.fits; rests =
 -- ---- images
 
 module _ {D : Type 0} (disks : Ghosts D) (log : Log D) where
+  -- the other file comes behind the log without the group too
+  older_alone : {bodies group stood : List (List ℕ)} → MayStandPair disks bodies group stood log → beats log.on_first bodies stood ≡ true
+  older_alone {bodies} {group} {stood} p = subst (λ (b : List (List ℕ)). beats log.on_first b stood ≡ true) (append-nil bodies) (p.older 0)
+
   left_current : (state : LogState) → IsIn disks state log → (c : List ℕ) → disks.may_leave log.disk c → LeavesCurrent state log.log_bytes log.format c
   left_current (Whole bodies stood) p c now = left_log disks log bodies p.current c now
-  left_current (LostAppend bodies body stood) p c now = p.current.left_is c now
+  left_current (LostAppend bodies group stood) p c now = p.current.left_is c now
   left_current (LostCheckpoint bodies fresh) p c now = left_sealed disks log bodies fresh p c now
 
   left_beside : (state : LogState) → IsIn disks state log → (c : List ℕ) → disks.may_leave log.other c → LeavesOf log.log_bytes (beside state) c
   left_beside (Whole bodies stood) p c now = left_other disks log stood p.other c now
-  left_beside (LostAppend bodies body stood) p c now = left_other disks log stood p.other c now
+  left_beside (LostAppend bodies group stood) p c now = left_other disks log stood p.other c now
   left_beside (LostCheckpoint bodies fresh) p c now = p.left c now
 
   opens_both : (state : LogState) → IsIn disks state log → (current other : List ℕ) → LeavesCurrent state log.log_bytes log.format current
@@ -49,8 +54,8 @@ module _ {D : Type 0} (disks : Ghosts D) (log : Log D) where
       → (fault_pair log.log_bytes log.on_first current other ≡ None) × MayFind state (logged_of log.on_first current other)
   opens_both (Whole bodies stood) p current other l leaves plain =
       pair_law log.log_bytes log.on_first bodies stood current other (log_of log.log_bytes log.format bodies current l) leaves plain.1 p.older
-  opens_both (LostAppend bodies body stood) p current other l leaves plain =
-      append_law log.log_bytes log.on_first log.format bodies body stood current other l plain.0 leaves plain.1 p.older
+  opens_both (LostAppend bodies group stood) p current other l leaves plain =
+      append_law log.log_bytes log.on_first log.format bodies group stood current other l plain.0 leaves plain.1 (older_alone p)
   opens_both (LostCheckpoint bodies fresh) p current other l leaves plain =
       seal_law log.log_bytes log.on_first bodies fresh current other (log_of log.log_bytes log.format bodies current l) leaves plain.1 p.above
 
@@ -95,18 +100,17 @@ module _ {D : Type 0} (disks : Ghosts D) (log : Log D) where
   pub state_reads : (state : LogState) → IsIn disks state log → IsCalmBeside disks state log
       → fault_pair log.log_bytes log.on_first (disks.seen log.disk) (disks.seen log.other) ≡ None
   state_reads (Whole bodies stood) p calm = pair_reads disks log bodies stood p calm
-  state_reads (LostAppend bodies body stood) p calm = may_stand_reads disks log bodies body stood p calm
+  state_reads (LostAppend bodies group stood) p calm = may_stand_reads disks log bodies group stood p calm
   state_reads (LostCheckpoint bodies fresh) p calm = may_seal_reads disks log bodies fresh p calm
 
-  read_with : (bodies stood : List (List ℕ)) (body : List ℕ) → (p : MayStandPair disks bodies body stood log) → IsCalm stood (disks.seen log.other)
-      → Rests log.format bodies (disks.seen log.disk) ⊎ Rests log.format (bodies ++ body ∷ []) (disks.seen log.disk)
-      → MayFind (LostAppend bodies body stood) (logged_of log.on_first (disks.seen log.disk) (disks.seen log.other))
-  read_with bodies stood body p calm (inl rests) =
-      inl (pair_law log.log_bytes log.on_first bodies stood (disks.seen log.disk) (disks.seen log.other)
-      (record { format = log.format; fits = p.current.seen_is.fits; rests = rests }) (behind_law log.log_bytes stood (disks.seen log.other) p.other.fits p.other.behind) calm p.older).1
-  read_with bodies stood body p calm (inr rests) =
-      inr (pair_law log.log_bytes log.on_first (bodies ++ body ∷ []) stood (disks.seen log.disk) (disks.seen log.other)
-      (record { format = log.format; fits = p.current.seen_is.fits; rests = rests }) (behind_law log.log_bytes stood (disks.seen log.other) p.other.fits p.other.behind) calm p.older_after).1
+  read_with : (bodies group stood : List (List ℕ)) → (p : MayStandPair disks bodies group stood log) → IsCalm stood (disks.seen log.other)
+      → IsFirstPart log.format bodies group (disks.seen log.disk) → MayFind (LostAppend bodies group stood) (logged_of log.on_first (disks.seen log.disk) (disks.seen log.other))
+  read_with bodies group stood p calm part = record {
+    many = part.many;
+    within = part.within;
+    is = (pair_law log.log_bytes log.on_first (bodies ++ take part.many group) stood (disks.seen log.disk) (disks.seen log.other)
+        (record { format = log.format; fits = p.current.seen_is.fits; rests = part.rests }) (behind_law log.log_bytes stood (disks.seen log.other) p.other.fits p.other.behind) calm (p.older part.many)).1;
+  }
 
   state_finds : (state : LogState) → IsIn disks state log → LostTears disks.tears state → IsCalmBeside disks state log
       → MayFind state (logged_of log.on_first (disks.seen log.disk) (disks.seen log.other))
@@ -114,8 +118,8 @@ module _ {D : Type 0} (disks : Ghosts D) (log : Log D) where
       (pair_law log.log_bytes log.on_first bodies stood (disks.seen log.disk) (disks.seen log.other)
       (record { format = log.format; fits = p.current.fits; rests = p.current.file })
       (behind_law log.log_bytes stood (disks.seen log.other) p.other.fits p.other.behind) (calm_beside (Whole bodies stood) p.calm_on calm) p.older).1
-  state_finds (LostAppend bodies body stood) p lucky calm =
-      read_with bodies stood body p (calm_beside (LostAppend bodies body stood) p.calm_on calm) (p.current.seen_on lucky)
+  state_finds (LostAppend bodies group stood) p lucky calm =
+      read_with bodies group stood p (calm_beside (LostAppend bodies group stood) p.calm_on calm) (p.current.seen_on lucky)
   state_finds (LostCheckpoint bodies fresh) p lucky calm =
       (seal_law log.log_bytes log.on_first bodies fresh (disks.seen log.disk) (disks.seen log.other)
       (record { format = log.format; fits = p.fits; rests = p.file }) p.other (calm_beside (LostCheckpoint bodies fresh) p.calm_on calm) p.above).1
@@ -131,28 +135,26 @@ module _ {D : Type 0} (disks : Ghosts D) (log : Log D) where
 -- ---- the premises on a disk's failed writes, whatever the state
 
 module _ (tears : List ℕ → ℕ → List ℕ → List ℕ → Type 0) where
-  pub lost_by : NoChance tears → (state : LogState) → LostTears tears state
-  lost_by plain (Whole bodies stood) = tt
-  lost_by plain (LostAppend bodies body stood) = plain
-  lost_by plain (LostCheckpoint bodies fresh) = tt
-
   pub beside_by : CalmTears tears → SealTears tears → (state : LogState) → BesideTears tears state
   beside_by headers seals (Whole bodies stood) = headers
-  beside_by headers seals (LostAppend bodies body stood) = headers
+  beside_by headers seals (LostAppend bodies group stood) = headers
   beside_by headers seals (LostCheckpoint bodies fresh) = seals
 
 -- ---- a log of which one thing alone may be found
 
-whole_append : (bodies : List (List ℕ)) (body : List ℕ) → bodies ++ body ∷ [] ≡ bodies → ⊥
-whole_append [] body is = cc is
-whole_append (b ∷ bodies) body is = whole_append bodies body (cc is)
+whole_append : (bodies group : List (List ℕ)) → 1 ≤ length group → bodies ++ take 1 group ≡ bodies ++ take 0 group → ⊥
+whole_append bodies [] some is = absurd (omega arith)
+whole_append [] (body ∷ group) some is = cc is
+whole_append (b ∷ bodies) (body ∷ group) some is = whole_append bodies (body ∷ group) some (cc is)
 
 module _ {D : Type 0} (disks : Ghosts D) (log : Log D) where
   -- a log of which no more than these bodies may be found stands
   pub whole_of : (state : LogState) → IsIn disks state log → (bodies : List (List ℕ)) → ((found : List (List ℕ)) → MayFind state found → found ≡ bodies)
       → (stood : List (List ℕ)) × Pair disks bodies stood log
   whole_of (Whole mine stood) p bodies only = (stood, subst (λ (b : List (List ℕ)). Pair disks b stood log) (only mine refl) p)
-  whole_of (LostAppend mine body stood) p bodies only = absurd (whole_append mine body (only (mine ++ body ∷ []) (inr refl) ∙ sym (only mine (inl refl))))
+  whole_of (LostAppend mine group stood) p bodies only =
+      absurd (whole_append mine group p.current.some
+      (only (mine ++ take 1 group) (record { many = 1; within = p.current.some; is = refl }) ∙ sym (only (mine ++ take 0 group) (record { many = 0; within = omega arith; is = refl }))))
   whole_of (LostCheckpoint mine fresh) p bodies only =
       let same : generation mine ≡ generation fresh = ap (λ (b : List (List ℕ)). generation b) (only mine (inl refl) ∙ sym (only fresh (inr refl))) in
       absurd (omega (arith, p.above, same))

@@ -1,12 +1,13 @@
 -- A log whose files and disks stay as they were.
-use Rattle.std.proofs.Common.{◌≡◌, ◌⊎◌, ⊎_elim, inl, inr, ℕ, ◌≤◌, Bool, true, false, List, ◌∷◌, [], ◌++◌, length, take, refl, sym, ◌∙◌, ap, subst, arith, cond, None, Result, Ok, Err, IfErr}
+use Rattle.std.proofs.Common.{◌≡◌, ◌⊎◌, ⊎_elim, inl, inr, ℕ, ◌≤◌, Bool, true, false, List, ◌++◌, length, take, refl, sym, ◌∙◌, ap, subst, arith, cond, None, Result, Ok, Err, IfErr}
 use Rattle.std.specs.Result.{IsErrAnd}
 use Rattle.xa_disk.specs.Disk.{Same, Passes}
 use Rattle.xa_disk.specs.declared.disk.Disk.{Ghosts}
 use Rattle.xa_log.specs.declared.log.Log.{Log}
 use Rattle.xa_log.specs.declared.fault.OpenFault.{OpenFault}
 use Rattle.xa_log.specs.declared.fault.OpenFault.TheVariants.{Device, Memory}
-use Rattle.xa_log.specs.Chain.{start, last, text, Rests, IsBeforeOrAfter, logged}
+use Rattle.xa_log.specs.Chain.{start, last, text, Rests, logged}
+use Rattle.xa_log.specs.Group.{IsFirstPart}
 use Rattle.xa_log.specs.Reading.{is_newer, fault_of}
 use Rattle.xa_log.specs.Pair.{beats, has_log, Behind, IsCalm, CalmTears, pair_fault, fault_pair, logged_pair, logged_of}
 use Rattle.xa_log.specs.Checkpoint.{IsOther, IsQuiet, LeavesOf, SealTears}
@@ -51,24 +52,24 @@ module _ {D : Type 0} (disks : Ghosts D) (old new : Log D) (u : Untouched old ne
   pair_kept : (bodies stood : List (List ℕ)) → Pair disks bodies stood old → Pair disks bodies stood new
   pair_kept bodies stood p = record { current = stands_kept bodies p.current; other = other_kept stood p.other; calm_on = λ lucky. calm_kept stood (p.calm_on lucky); older = beats_kept bodies stood p.older }
 
-  may_stand_kept : (bodies : List (List ℕ)) (body : List ℕ) → MayStand disks bodies body old → MayStand disks bodies body new
-  may_stand_kept bodies body s = record {
-    seen_is = leaves (disks.seen new.disk) (subst (λ f. Leaves old.log_bytes old.format bodies body f) (sym same) s.seen_is);
-    seen_on = λ lucky. subst (λ f. IsBeforeOrAfter new.format bodies body f) (sym same) (subst (λ k. IsBeforeOrAfter k bodies body (disks.seen old.disk)) (sym u.format) (s.seen_on lucky));
+  may_stand_kept : (bodies group : List (List ℕ)) → MayStand disks bodies group old → MayStand disks bodies group new
+  may_stand_kept bodies group s = record {
+    some = s.some;
+    seen_is = leaves (disks.seen new.disk) (subst (λ f. Leaves old.log_bytes old.format bodies group f) (sym same) s.seen_is);
+    seen_on = λ lucky. subst (λ f. IsFirstPart new.format bodies group f) (sym same) (subst (λ k. IsFirstPart k bodies group (disks.seen old.disk)) (sym u.format) (s.seen_on lucky));
     left_is = λ c now. leaves c (s.left_is c (left c now));
     lost = u.lost ∙ s.lost;
   }
     where
-      leaves : (c : List ℕ) → Leaves old.log_bytes old.format bodies body c → Leaves new.log_bytes new.format bodies body c
-      leaves c it = subst (λ k. Leaves new.log_bytes k bodies body c) (sym u.format) (subst (λ m. Leaves m old.format bodies body c) (sym u.log_bytes) it)
+      leaves : (c : List ℕ) → Leaves old.log_bytes old.format bodies group c → Leaves new.log_bytes new.format bodies group c
+      leaves c it = subst (λ k. Leaves new.log_bytes k bodies group c) (sym u.format) (subst (λ m. Leaves m old.format bodies group c) (sym u.log_bytes) it)
 
-  may_stand_pair_kept : (bodies : List (List ℕ)) (body : List ℕ) (stood : List (List ℕ)) → MayStandPair disks bodies body stood old → MayStandPair disks bodies body stood new
-  may_stand_pair_kept bodies body stood p = record {
-    current = may_stand_kept bodies body p.current;
+  may_stand_pair_kept : (bodies group stood : List (List ℕ)) → MayStandPair disks bodies group stood old → MayStandPair disks bodies group stood new
+  may_stand_pair_kept bodies group stood p = record {
+    current = may_stand_kept bodies group p.current;
     other = other_kept stood p.other;
     calm_on = λ lucky. calm_kept stood (p.calm_on lucky);
-    older = beats_kept bodies stood p.older;
-    older_after = beats_kept (bodies ++ body ∷ []) stood p.older_after;
+    older = λ many. beats_kept (bodies ++ take many group) stood (p.older many);
   }
 
   may_seal_kept : (bodies fresh : List (List ℕ)) → MaySeal disks bodies fresh old → MaySeal disks bodies fresh new
@@ -93,7 +94,7 @@ module _ {D : Type 0} (disks : Ghosts D) (old new : Log D) (u : Untouched old ne
 
   state_kept : (state : LogState) → IsIn disks state old → IsIn disks state new
   state_kept (Whole bodies stood) p = pair_kept bodies stood p
-  state_kept (LostAppend bodies body stood) p = may_stand_pair_kept bodies body stood p
+  state_kept (LostAppend bodies group stood) p = may_stand_pair_kept bodies group stood p
   state_kept (LostCheckpoint bodies fresh) p = may_seal_kept bodies fresh p
 
   pub keeps_all : KeepsAll disks old new
@@ -123,8 +124,8 @@ module _ {D : Type 0} (disks : Ghosts D) (log : Log D) where
       reads_well log.log_bytes log.on_first (disks.seen log.disk) (disks.seen log.other) (no_fault log.log_bytes log.format (disks.seen log.disk) bodies s.fits (rests_front log.format bodies (disks.seen log.disk) s.file)) p.other.fits
       (⊎_elim (λ lucky. (p.calm_on lucky).known) (λ q. q.calm.known) calm)
 
-  pub may_stand_reads : (bodies : List (List ℕ)) (body : List ℕ) (stood : List (List ℕ)) → MayStandPair disks bodies body stood log → CalmTears disks.tears ⊎ IsQuiet disks stood log.other → fault_pair log.log_bytes log.on_first (disks.seen log.disk) (disks.seen log.other) ≡ None
-  may_stand_reads bodies body stood p calm =
+  pub may_stand_reads : (bodies group stood : List (List ℕ)) → MayStandPair disks bodies group stood log → CalmTears disks.tears ⊎ IsQuiet disks stood log.other → fault_pair log.log_bytes log.on_first (disks.seen log.disk) (disks.seen log.other) ≡ None
+  may_stand_reads bodies group stood p calm =
       reads_well log.log_bytes log.on_first (disks.seen log.disk) (disks.seen log.other) p.current.seen_is.opens p.other.fits (⊎_elim (λ lucky. (p.calm_on lucky).known) (λ q. q.calm.known) calm)
 
   pub may_seal_reads : (bodies fresh : List (List ℕ)) → MaySeal disks bodies fresh log → SealTears disks.tears ⊎ IsQuiet disks fresh log.other → fault_pair log.log_bytes log.on_first (disks.seen log.disk) (disks.seen log.other) ≡ None

@@ -8,8 +8,8 @@ use Rattle.xa_log.specs.declared.format.Format.{Format}
 use Rattle.xa_log.specs.Chain.{newest, start, last, text, Rests}
 use Rattle.xa_log.specs.Pair.{generation, beats, IsCalm}
 use Rattle.xa_log.specs.Checkpoint.{IsOther, IsQuiet, LeavesOf, LeavesAny, Checkpointed}
-use Rattle.xa_log.specs.Stands.{Stands, Answers}
-use Rattle.xa_log.specs.TwoFiles.{Pair, AppendsTo, Checkpoints, written}
+use Rattle.xa_log.specs.Stands.{Stands}
+use Rattle.xa_log.specs.TwoFiles.{Pair, Checkpoints, written}
 use Rattle.xa_log.specs.declared.appending.Appended.{Appended}
 use Rattle.xa_log.specs.declared.appending.Appended.TheVariants.{Kept, Refused, Lost, Full}
 use Rattle.xa_log.specs.declared.log.Log.{Log}
@@ -73,19 +73,6 @@ module _ {D : Type 0} (disks : Ghosts D)
     calm_on = λ lucky. subst (λ d. IsCalm stood (disks.seen d)) (sym other) (p.calm_on lucky);
     older = ap (λ (b : Bool). beats b now stood) first ∙ wins;
   }
-
-  pub appends : (body : List ℕ) (o : Appended) → Answers disks o bodies body new → new.other ≡ old.other → new.on_first ≡ old.on_first
-      → new.log_bytes ≡ old.log_bytes → AppendsTo disks o bodies body stood new
-  appends body Kept a other first most = pair_on (bodies ++ body ∷ []) a other first most (beats_more old.on_first bodies body stood p.older)
-  appends body Refused a other first most = pair_on bodies a.0 other first most p.older
-  appends body Lost a other first most = record {
-    current = a;
-    other = subst (λ m. IsOther disks m stood new.other) (sym most) (subst (λ d. IsOther disks old.log_bytes stood d) (sym other) p.other);
-    calm_on = λ lucky. subst (λ d. IsCalm stood (disks.seen d)) (sym other) (p.calm_on lucky);
-    older = ap (λ (b : Bool). beats b bodies stood) first ∙ p.older;
-    older_after = ap (λ (b : Bool). beats b (bodies ++ body ∷ []) stood) first ∙ beats_more old.on_first bodies body stood p.older;
-  }
-  appends body Full a other first most = pair_on bodies a other first most p.older
 
   abbrev Left : Format → Appended → List (List ℕ) → D → Type 0
   Left format o fresh d = Checkpointed disks o old.log_bytes format stood fresh old.other d

@@ -1,17 +1,18 @@
 -- Which log two files have.
-use Rattle.std.proofs.Common.{◌≡◌, ◌⊎◌, inl, inr, ⊎_elim, ℕ, zero, suc, ◌≤◌, ◌<◌, Bool, true, false, not, List, [], ◌∷◌, ◌++◌, length, take, drop, get_or, refl, sym, ◌∙◌, ap, subst, arith, cond, Option, None, is_some}
+use Rattle.std.proofs.Common.{◌≡◌, inl, inr, ⊎_elim, ℕ, zero, suc, ◌≤◌, ◌<◌, Bool, true, false, not, List, [], ◌∷◌, ◌++◌, length, take, drop, get_or, refl, sym, ◌∙◌, ap, subst, arith, cond, Option, is_some}
 use Rattle.std.proofs.lemmas.Bool.{cases_Bool, and_left, and_from, or_left}
 use Rattle.xa_disk.specs.Disk.{Torn}
 use Rattle.xa_log.specs.declared.format.Format.{Format}
 use Rattle.xa_log.specs.declared.format.Format.TheVariants.{One, Two}
-use Rattle.xa_log.specs.Chain.{Rests, IsBeforeOrAfter, format_of, logged}
+use Rattle.xa_log.specs.Chain.{Rests, format_of, logged}
+use Rattle.xa_log.specs.Group.{IsFirstPart}
 use Rattle.xa_log.specs.Reading.{is_newer}
-use Rattle.xa_log.specs.Pair.{beats, has_log, on_first, logged_of, fault_pair}
+use Rattle.xa_log.specs.Pair.{beats, has_log, on_first, logged_of}
 use Rattle.xa_log.specs.Laws.{IsLogOf, BehindLaw, PairLaw, AppendLaw, HeaderLaw, SealLaw, StrayLaw}
 use Rattle.xa_log.proofs.Records.{format_magic, rests_logged}
 use Rattle.xa_log.proofs.Header.{magic_known}
 use Rattle.xa_log.proofs.Pair.{calm_logged, no_pair_fault, pair_log, beats_read, beats_nil, beats_above}
-use Rattle.xa_log.proofs.Two.{beats_more}
+use Rattle.xa_log.proofs.Grouped.{beats_group}
 use Rattle.xa_log.proofs.Parts.{none_calm, none_of, rests_magic}
 
 has : (most : ℕ) (bodies : List (List ℕ)) (file : List ℕ) → IsLogOf most bodies file → has_log file ≡ true
@@ -34,18 +35,12 @@ pub behind_law : BehindLaw
 behind_law most stood other fits behind = record { fits = fits; reads = calm_logged stood other behind }
 
 pub append_law : AppendLaw
-append_law most first format bodies body stood current other left plain leaves calm wins = by (left.reads plain)
-  where
-    log : (now : List (List ℕ)) → Rests format now current → IsLogOf most now current
-    log now rests = record { format = format; fits = left.fits; rests = rests }
-
-    by : IsBeforeOrAfter format bodies body current
-        → (fault_pair most first current other ≡ None) × ((logged_of first current other ≡ bodies) ⊎ (logged_of first current other ≡ bodies ++ body ∷ []))
-    by (inl rests) = let it = pair_law most first bodies stood current other (log bodies rests) leaves calm wins in (it.0, inl it.1)
-    by (inr rests) =
-        let it =
-        pair_law most first (bodies ++ body ∷ []) stood current other (log (bodies ++ body ∷ []) rests) leaves calm (beats_more first bodies body stood wins) in
-        (it.0, inr it.1)
+append_law most first format bodies group stood current other left plain leaves calm wins =
+    let part : IsFirstPart format bodies group current = left.reads plain in
+    let it =
+    pair_law most first (bodies ++ take part.many group) stood current other (record { format = format; fits = left.fits; rests = part.rests }) leaves calm
+    (beats_group first bodies (take part.many group) stood wins) in
+    (it.0, record { many = part.many; within = part.within; is = it.1 })
 
 pub header_law : HeaderLaw
 header_law most first format bodies current other l none =

@@ -3,7 +3,7 @@ use Rattle.std.specs.Prelude.{◌≡◌, ℕ, ◌+◌, ◌-◌, ◌/◌, ◌%◌
 use Rattle.xa_disk.specs.declared.disk.Disk.{Ghosts}
 use Rattle.xa_log.specs.Answers.{Wrote}
 use Rattle.xa_log.specs.Calls.{AppendsAhead}
-use Rattle.xa_log.specs.Chain.{closed, closed_by}
+use Rattle.xa_log.specs.Group.{as_one, closed, closed_by}
 use Rattle.xa_log.specs.declared.ahead.TheConstants.{READY_BYTES}
 use Rattle.xa_log.specs.declared.appending.Appended.{Appended}
 use Rattle.xa_log.specs.declared.log.Log.{Log}
@@ -24,14 +24,12 @@ ready from to most known =
 abbrev pub ready_for : {D : Type 0} → Log D → ℕ → ℕ
 ready_for log n = ready log.end (log.end + AROUND_CLOSED + n) log.log_bytes log.known
 
--- what is written of an append of this body: its record, the closing length, and these zeros
-abbrev pub appended : {D : Type 0} → Log D → List ℕ → List ℕ
-appended log body = closed_by (ready_for log (length body)) log.digest body
-
--- An append that is kept has written that and nothing else, or where the write with zeros failed, over what it left, the
--- record and the closing length.
-abbrev pub Writes : {D : Type 0} → Ghosts D → List ℕ → Log D → Log D → Type 0
-Writes disks body old new = Wrote disks old.end (closed old.digest body) (appended old body) old.disk new.disk
+-- A group that is kept has been written and nothing else, or where the write with zeros failed, over what it left, the
+-- records and the closing length.
+abbrev pub Writes : {D : Type 0} → Ghosts D → List (List ℕ) → Log D → Log D → Type 0
+Writes disks group old new =
+    Wrote disks old.end (closed old.digest group) (closed_by (ready_for old (as_one group)) old.digest group)
+    old.disk new.disk
 
 -- the failures and the calls of an append of a body of so many bytes
 abbrev pub AppendsBy : {D : Type 0} → Ghosts D → ℕ → Appended → Log D → Log D → Type 0

@@ -1,10 +1,11 @@
 -- Which log two files have, from what an image of each is.
-use Rattle.std.specs.Prelude.{◌≡◌, ◌⊎◌, ℕ, ◌+◌, ◌≤◌, ◌<◌, Bool, true, false, List, [], ◌∷◌, ◌++◌, length, take, None}
+use Rattle.std.specs.Prelude.{◌≡◌, ◌⊎◌, ℕ, ◌+◌, ◌≤◌, ◌<◌, Bool, true, false, List, [], ◌∷◌, length, take, None}
 use Rattle.xa_log.specs.declared.format.Format.{Format}
 use Rattle.xa_log.specs.declared.format.TheConstants.{PREAMBLE_BYTES}
 use Rattle.xa_disk.specs.Disk.{put, Torn}
 use Rattle.xa_disk.specs.declared.disk.Disk.{Ghosts}
-use Rattle.xa_log.specs.Chain.{text, Rests, IsPlain, body_at, behind_text, chains_on, logged}
+use Rattle.xa_log.specs.Chain.{text, Rests, body_at, behind_text, chains_on, logged}
+use Rattle.xa_log.specs.Group.{HasFirstPart, IsPlain}
 use Rattle.xa_log.specs.Pair.{generation, has_log, beats, logged_of, fault_pair, IsCalm, Behind}
 use Rattle.xa_log.specs.Checkpoint.{IsCleared, LeavesOf, LeavesNone}
 use Rattle.xa_log.specs.declared.checkpointing.TheConstants.{CLEARED_BYTES}
@@ -31,14 +32,12 @@ PairLaw = (most : ℕ) (first : Bool) (bodies stood : List (List ℕ)) (current 
     → IsLogOf most bodies current → LeavesOf most stood other → IsCalm stood other → beats first bodies stood ≡ true
     → (fault_pair most first current other ≡ None) × (logged_of first current other ≡ bodies)
 
--- beside an append: whichever images the two files are
+-- beside an append of a group: whichever images the two files are
 abbrev pub AppendLaw : Type 0
-AppendLaw = (most : ℕ) (first : Bool) (format : Format) (bodies : List (List ℕ)) (body : List ℕ)
-    (stood : List (List ℕ)) (current other : List ℕ)
-    → Leaves most format bodies body current → IsPlain format bodies body current
+AppendLaw = (most : ℕ) (first : Bool) (format : Format) (bodies group stood : List (List ℕ)) (current other : List ℕ)
+    → Leaves most format bodies group current → IsPlain format bodies group current
     → LeavesOf most stood other → IsCalm stood other → beats first bodies stood ≡ true
-    → (fault_pair most first current other ≡ None)
-    × ((logged_of first current other ≡ bodies) ⊎ (logged_of first current other ≡ bodies ++ body ∷ []))
+    → (fault_pair most first current other ≡ None) × HasFirstPart bodies group (logged_of first current other)
 
 -- between the header and the seal: whatever was left of the records
 abbrev pub HeaderLaw : Type 0

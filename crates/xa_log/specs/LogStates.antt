@@ -1,41 +1,41 @@
 -- The states that a log may be in before a look at its two files, what the look may find, and what a crash leaves of
 -- both files meanwhile.
-use Rattle.std.specs.Prelude.{◌≡◌, ◌⊎◌, ℕ, if◌then◌else◌, List, [], ◌∷◌, ◌++◌, None}
+use Rattle.std.specs.Prelude.{◌≡◌, ◌⊎◌, ℕ, if◌then◌else◌, List, None}
 use Rattle.xa_disk.specs.Disk.{Same}
 use Rattle.xa_disk.specs.Time.{TimePasses}
 use Rattle.xa_disk.specs.declared.disk.Disk.{Ghosts}
 use Rattle.xa_log.specs.Ahead.{IsKnown}
-use Rattle.xa_log.specs.Chain.{IsPlain, NoChance}
 use Rattle.xa_log.specs.Checkpoint.{IsQuiet, LeavesOf, SealTears}
+use Rattle.xa_log.specs.Group.{HasFirstPart, IsPlain, NoChance}
 use Rattle.xa_log.specs.Pair.{CalmTears, IsCalm, logged_pair, pair_fault}
 use Rattle.xa_log.specs.Stands.{Leaves, LeavesLog, MayStand, Stands}
 use Rattle.xa_log.specs.TwoFiles.{MaySeal, MayStandPair, Pair, first_of, second_of}
 use Rattle.xa_log.specs.declared.format.Format.{Format}
 use Rattle.xa_log.specs.declared.log.Log.{Log}
 
--- It stands, and so does what stood in the other file; or the append of a body to it was lost; or the checkpoint of
--- fresh bodies was.
+-- It stands, and so does what stood in the other file; or the append of a group to it was lost; or the checkpoint
+-- of fresh bodies was.
 pub data LogState : Type 0 where
   Whole : (bodies stood : List (List ℕ)) → LogState
-  LostAppend : (bodies : List (List ℕ)) (body : List ℕ) (stood : List (List ℕ)) → LogState
+  LostAppend : (bodies group stood : List (List ℕ)) → LogState
   LostCheckpoint : (bodies fresh : List (List ℕ)) → LogState
 
 -- a log is in this state
 abbrev pub IsIn : {D : Type 0} → Ghosts D → LogState → Log D → Type 0
 IsIn disks (Whole bodies stood) log = Pair disks bodies stood log
-IsIn disks (LostAppend bodies body stood) log = MayStandPair disks bodies body stood log
+IsIn disks (LostAppend bodies group stood) log = MayStandPair disks bodies group stood log
 IsIn disks (LostCheckpoint bodies fresh) log = MaySeal disks bodies fresh log
 
--- what a look may find: the log without what was lost, or with it
+-- what a look may find: the log without what was lost, or with it; of a group some first part
 abbrev pub MayFind : LogState → List (List ℕ) → Type 0
 MayFind (Whole bodies stood) found = found ≡ bodies
-MayFind (LostAppend bodies body stood) found = (found ≡ bodies) ⊎ (found ≡ bodies ++ body ∷ [])
+MayFind (LostAppend bodies group stood) found = HasFirstPart bodies group found
 MayFind (LostCheckpoint bodies fresh) found = (found ≡ bodies) ⊎ (found ≡ fresh)
 
 -- without chance the other file is a log of these, or of none
 abbrev pub beside : LogState → List (List ℕ)
 beside (Whole bodies stood) = stood
-beside (LostAppend bodies body stood) = stood
+beside (LostAppend bodies group stood) = stood
 beside (LostCheckpoint bodies fresh) = fresh
 
 -- ---- what a read gives: the premises on a disk's failed writes
@@ -43,13 +43,13 @@ beside (LostCheckpoint bodies fresh) = fresh
 -- what was lost left nothing by chance to a read of the current file
 abbrev pub LostTears : (List ℕ → ℕ → List ℕ → List ℕ → Type 0) → LogState → Type 0
 LostTears tears (Whole bodies stood) = Unit {0}
-LostTears tears (LostAppend bodies body stood) = NoChance tears
+LostTears tears (LostAppend bodies group stood) = NoChance tears group
 LostTears tears (LostCheckpoint bodies fresh) = Unit {0}
 
 -- and nothing to one of the other file
 abbrev pub BesideTears : (List ℕ → ℕ → List ℕ → List ℕ → Type 0) → LogState → Type 0
 BesideTears tears (Whole bodies stood) = CalmTears tears
-BesideTears tears (LostAppend bodies body stood) = CalmTears tears
+BesideTears tears (LostAppend bodies group stood) = CalmTears tears
 BesideTears tears (LostCheckpoint bodies fresh) = SealTears tears
 
 -- that, or whatever was left to chance of the other file came out well
@@ -61,13 +61,13 @@ IsCalmBeside disks state log = BesideTears disks.tears state ⊎ IsQuiet disks (
 -- of the current file
 abbrev pub LeavesCurrent : LogState → ℕ → Format → List ℕ → Type 0
 LeavesCurrent (Whole bodies stood) most format c = LeavesLog most format bodies c
-LeavesCurrent (LostAppend bodies body stood) most format c = Leaves most format bodies body c
+LeavesCurrent (LostAppend bodies group stood) most format c = Leaves most format bodies group c
 LeavesCurrent (LostCheckpoint bodies fresh) most format c = LeavesLog most format bodies c
 
 -- nothing of an image of the current file is left to chance
 abbrev pub IsPlainIn : LogState → Format → List ℕ → Type 0
 IsPlainIn (Whole bodies stood) format c = Unit {0}
-IsPlainIn (LostAppend bodies body stood) format c = IsPlain format bodies body c
+IsPlainIn (LostAppend bodies group stood) format c = IsPlain format bodies group c
 IsPlainIn (LostCheckpoint bodies fresh) format c = Unit {0}
 
 -- nor of one of the other file
@@ -106,5 +106,4 @@ pub record KeepsAll {D : Type 0} (disks : Ghosts D) (old new : Log D) : Type 0 w
   pub known : IsKnown disks old → IsKnown disks new
   -- of the current file alone
   pub stands : (bodies : List (List ℕ)) → Stands disks bodies old → Stands disks bodies new
-  pub may_stand : (bodies : List (List ℕ)) (body : List ℕ)
-      → MayStand disks bodies body old → MayStand disks bodies body new
+  pub may_stand : (bodies group : List (List ℕ)) → MayStand disks bodies group old → MayStand disks bodies group new

@@ -1,15 +1,16 @@
 -- What a log stands for.
-use Rattle.std.specs.Prelude.{◌≡◌, ◌≤◌, ℕ, ◌+◌, ◌==◌, max, if◌then◌else◌, true, false, List, [], ◌∷◌, ◌++◌, length, take, replicate, None}
+use Rattle.std.specs.Prelude.{◌≡◌, ◌≤◌, ℕ, ◌+◌, ◌==◌, max, if◌then◌else◌, true, false, List, ◌++◌, length, take, replicate, None}
 use Rattle.xa_disk.specs.Disk.{Only}
 use Rattle.xa_disk.specs.declared.disk.Disk.{Ghosts}
-use Rattle.xa_log.specs.Chain.{start, last, text, behind_text, Rests, IsPlain, IsBeforeOrAfter, NoChance}
+use Rattle.xa_log.specs.Chain.{start, last, text, behind_text, Rests}
+use Rattle.xa_log.specs.Group.{group_bytes, IsFirstPart, IsPlain, NoChance}
 use Rattle.xa_log.specs.Pair.{number_in, generation}
 use Rattle.xa_log.specs.Reading.{fault_of}
 use Rattle.xa_log.specs.declared.format.Format.{Format}
 use Rattle.xa_log.specs.declared.appending.Appended.{Appended}
 use Rattle.xa_log.specs.declared.appending.Appended.TheVariants.{Kept, Refused, Lost, Full}
 use Rattle.xa_log.specs.declared.log.Log.{Log}
-use Rattle.xa_limits.specs.declared.TheConstants.{AROUND_BODY, AROUND_CLOSED, FIRST_OFFSET}
+use Rattle.xa_limits.specs.declared.TheConstants.{AROUND_BODY, AROUND_CLOSED, FIRST_OFFSET, LENGTH_BYTES}
 
 -- a log of these bodies, which a read gives and each crash leaves
 pub record Stands {D : Type 0} (disks : Ghosts D) (bodies : List (List ℕ)) (log : Log D) : Type 0 where
@@ -21,13 +22,13 @@ pub record Stands {D : Type 0} (disks : Ghosts D) (bodies : List (List ℕ)) (lo
   pub durable : Only (disks.seen log.disk) (disks.may_leave log.disk)
   pub alive : log.lost ≡ false
 
--- What a crash leaves of a log of at most so many bytes while this body is appended to these: a log that `open`
--- accepts, and that begins with the bodies; without chance it is the bodies, or the bodies and this one.
-pub record Leaves (most : ℕ) (format : Format) (bodies : List (List ℕ)) (body file : List ℕ) : Type 0 where
+-- What a crash leaves of a log of at most so many bytes while a group is appended to these bodies: a log that `open`
+-- accepts, and that begins with the bodies; without chance it is the bodies and some first part of the group.
+pub record Leaves (most : ℕ) (format : Format) (bodies group : List (List ℕ)) (file : List ℕ) : Type 0 where
   pub fits : length file ≤ most
   pub front : take (length (text format bodies)) file ≡ text format bodies
   pub opens : fault_of most file ≡ None
-  pub reads : IsPlain format bodies body file → IsBeforeOrAfter format bodies body file
+  pub reads : IsPlain format bodies group file → IsFirstPart format bodies group file
 
 -- what a crash leaves of a log that nothing is appended to
 pub record LeavesLog (most : ℕ) (format : Format) (bodies : List (List ℕ)) (file : List ℕ) : Type 0 where
@@ -35,13 +36,13 @@ pub record LeavesLog (most : ℕ) (format : Format) (bodies : List (List ℕ)) (
   pub opens : fault_of most file ≡ None
   pub rests : Rests format bodies file
 
--- The append of a body to these was lost: without chance, a read and a crash give the bodies, with it or without.
-pub record MayStand {D : Type 0} (disks : Ghosts D) (bodies : List (List ℕ)) (body : List ℕ)
-    (log : Log D) : Type 0 where
-  pub seen_is : Leaves log.log_bytes log.format bodies body (disks.seen log.disk)
+-- The append of a group to these was lost: without chance, a read and a crash give the bodies and some first part of it.
+pub record MayStand {D : Type 0} (disks : Ghosts D) (bodies group : List (List ℕ)) (log : Log D) : Type 0 where
+  pub some : 1 ≤ length group
+  pub seen_is : Leaves log.log_bytes log.format bodies group (disks.seen log.disk)
   -- the same, where the disk's failed writes leave nothing by chance to a read
-  pub seen_on : NoChance disks.tears → IsBeforeOrAfter log.format bodies body (disks.seen log.disk)
-  pub left_is : (c : List ℕ) → disks.may_leave log.disk c → Leaves log.log_bytes log.format bodies body c
+  pub seen_on : NoChance disks.tears group → IsFirstPart log.format bodies group (disks.seen log.disk)
+  pub left_is : (c : List ℕ) → disks.may_leave log.disk c → Leaves log.log_bytes log.format bodies group c
   pub lost : log.lost ≡ true
 
 -- Whatever its disks hold: the next record begins behind these bodies, and none was lost.
@@ -49,16 +50,16 @@ pub record EndsBehind {D : Type 0} (bodies : List (List ℕ)) (log : Log D) : Ty
   pub end : log.end ≡ length (text log.format bodies)
   pub alive : log.lost ≡ false
 
--- what each answer says
-abbrev pub Answers : {D : Type 0} → Ghosts D → Appended → List (List ℕ) → List ℕ → Log D → Type 0
-Answers disks Kept bodies body log = Stands disks (bodies ++ body ∷ []) log
--- a read gives zeros over the whole range that the record and its closing length took
-Answers disks Refused bodies body log =
+-- what each answer says of a group
+abbrev pub Answers : {D : Type 0} → Ghosts D → Appended → List (List ℕ) → List (List ℕ) → Log D → Type 0
+Answers disks Kept bodies group log = Stands disks (bodies ++ group) log
+-- a read gives zeros over the whole range that the records and the closing length took
+Answers disks Refused bodies group log =
     Stands disks bodies log
-    × (take (AROUND_CLOSED + length body) (behind_text log.format bodies (disks.seen log.disk))
-    ≡ replicate (AROUND_CLOSED + length body) 0)
-Answers disks Lost bodies body log = MayStand disks bodies body log
-Answers disks Full bodies body log = Stands disks bodies log
+    × (take (group_bytes group + LENGTH_BYTES) (behind_text log.format bodies (disks.seen log.disk))
+    ≡ replicate (group_bytes group + LENGTH_BYTES) 0)
+Answers disks Lost bodies group log = MayStand disks bodies group log
+Answers disks Full bodies group log = Stands disks bodies log
 
 -- a log's own fields stay
 pub record Untouched {D : Type 0} (old new : Log D) : Type 0 where

@@ -1,5 +1,5 @@
 -- What a log of two files stands for.
-use Rattle.std.specs.Prelude.{◌≡◌, ◌⊎◌, ◌+◌, ◌≤◌, ◌<◌, ℕ, max, true, false, not, if◌then◌else◌, List, [], ◌∷◌, ◌++◌, length}
+use Rattle.std.specs.Prelude.{◌≡◌, ◌⊎◌, ◌+◌, ◌≤◌, ◌<◌, ℕ, max, true, false, not, if◌then◌else◌, List, [], ◌++◌, length, take}
 use Rattle.xa_disk.specs.Disk.{Only}
 use Rattle.xa_disk.specs.declared.disk.Disk.{Ghosts}
 use Rattle.xa_limits.specs.declared.TheConstants.{LENGTH_BYTES}
@@ -19,14 +19,14 @@ pub record Pair {D : Type 0} (disks : Ghosts D) (bodies stood : List (List ℕ))
   pub calm_on : CalmTears disks.tears → IsCalm stood (disks.seen log.other)
   pub older : beats log.on_first bodies stood ≡ true
 
--- The append of a body to these was lost; of the other file the same is said as before, and it comes behind either way.
-pub record MayStandPair {D : Type 0} (disks : Ghosts D) (bodies : List (List ℕ)) (body : List ℕ)
-    (stood : List (List ℕ)) (log : Log D) : Type 0 where
-  pub current : MayStand disks bodies body log
+-- The append of a group to these was lost; of the other file the same is said as before, and it comes behind whichever
+-- first part stands.
+pub record MayStandPair {D : Type 0} (disks : Ghosts D) (bodies group stood : List (List ℕ))
+    (log : Log D) : Type 0 where
+  pub current : MayStand disks bodies group log
   pub other : IsOther disks log.log_bytes stood log.other
   pub calm_on : CalmTears disks.tears → IsCalm stood (disks.seen log.other)
-  pub older : beats log.on_first bodies stood ≡ true
-  pub older_after : beats log.on_first (bodies ++ body ∷ []) stood ≡ true
+  pub older : (many : ℕ) → beats log.on_first (bodies ++ take many group) stood ≡ true
 
 -- The checkpoint of new bodies was lost: the other file begins as a log, and without chance it is one of them or of
 -- none.
@@ -77,12 +77,13 @@ Swaps Lost fresh old new =
     × (new.generation ≡ old.generation) × (new.known ≡ old.known) × (new.other_known ≡ old.other_known)
 Swaps Full fresh old new = new ≡ old
 
--- what each answer of an append says of two files
-abbrev pub AppendsTo : {D : Type 0} → Ghosts D → Appended → List (List ℕ) → List ℕ → List (List ℕ) → Log D → Type 0
-AppendsTo disks Kept bodies body stood log = Pair disks (bodies ++ body ∷ []) stood log
-AppendsTo disks Refused bodies body stood log = Pair disks bodies stood log
-AppendsTo disks Lost bodies body stood log = MayStandPair disks bodies body stood log
-AppendsTo disks Full bodies body stood log = Pair disks bodies stood log
+-- what each answer of an append of a group says of two files
+abbrev pub AppendsTo : {D : Type 0} → Ghosts D → Appended → List (List ℕ) → List (List ℕ) → List (List ℕ) → Log D
+    → Type 0
+AppendsTo disks Kept bodies group stood log = Pair disks (bodies ++ group) stood log
+AppendsTo disks Refused bodies group stood log = Pair disks bodies stood log
+AppendsTo disks Lost bodies group stood log = MayStandPair disks bodies group stood log
+AppendsTo disks Full bodies group stood log = Pair disks bodies stood log
 
 -- Two files that were read: the current one stands, and the other one is what it was, on its disk too. It comes behind
 -- where both are logs; where it isn't one, that is a premise on what stands behind its first 8 bytes, NoStray.

@@ -2,13 +2,16 @@
 ghost use Rattle.std.specs.Prelude.{◌≡◌, ◌≢◌, ◌+◌, ◌-◌, ◌≤◌, length, take, OnOk, OnErr};
 ghost use Rattle.xa_disk.specs.Disk.{put, Torn, Only, CountsFault};
 ghost use Rattle.xa_disk.specs.Time.{TimePasses};
-ghost use Rattle.xa_log.specs.Chain.{digest, closed, closed_by};
+ghost use Rattle.std.specs.List.{AllByRecursion};
+ghost use Rattle.xa_log.specs.Chain.{last};
+ghost use Rattle.xa_log.specs.Group.{bodies_in, closed, closed_by, group_bytes};
 ghost use Rattle.xa_log.specs.Answers.{PutBecame, Wrote, PutAheadBecame, FailedPut, FailedPutAhead, HasCause};
 ghost use Rattle.xa_log.specs.Calls.{PutCalls, WritesAhead, PutsAhead, AppendCalls, AppendsAhead};
 
-use crate::record::{clear, encode};
+use crate::group::Group;
+use crate::record::clear;
 use xa_disk::{Disk, DiskFault};
-use xa_limits::{AROUND_CLOSED, DIGEST_BYTES, MOST_BODY};
+use xa_limits::{DIGEST_BYTES, LENGTH_BYTES, MOST_BODY};
 
 /// What became of a record, or of a checkpoint.
 #[derive(Clone, Copy, Debug, PartialEq, Eq)]
@@ -127,31 +130,34 @@ pub(crate) fn put_or_clear<D: Disk>(disk: &mut D, at: u64, bytes: &mut [u8]) -> 
     put_ahead_or_clear(disk, at, bytes, len)
 }
 
-// Writes a body's record, as `put_ahead_or_clear` does, and gives its digest. The closing length goes in the same write,
-// and so do the zeros that make the file ready: an append is one write and one sync, and what stands behind it isn't
-// read as a record. The zeros are for speed alone, so the record is kept where they don't fit.
+// Writes a group's records, as `put_ahead_or_clear` does, and gives the last one's digest. The closing length goes in the
+// same write, and so do the zeros that make the file ready: an append is one write and one sync, and what stands behind
+// it isn't read as a record. The zeros are for speed alone, so the records are kept where they don't fit. If that fails,
+// zeros go over the whole range: zeros over the first record alone would leave those after it, which chain again once a
+// later first record of the same length is torn after its length.
 pub(crate) fn append_at<D: Disk>(
     disk: &mut D,
     at: u64,
     prev: &[u8; DIGEST_BYTES],
     buffer: &mut [u8],
-    body: &[u8],
+    group: Group<'_>,
+    len: usize,
     ready: usize,
 ) -> (Appended, [u8; DIGEST_BYTES])
-    requires room { AROUND_CLOSED + length body.now + ready ≤ length buffer.old }
-    requires small { length body.now ≤ MOST_BODY }
-    ensures digest { result.1 ≡ digest prev.now body.now }
+    requires len { len ≡ group_bytes (bodies_in group) + LENGTH_BYTES }
+    requires room { len + ready ≤ length buffer.old }
+    requires small { AllByRecursion (λ body. length body ≤ MOST_BODY) (bodies_in group) }
+    ensures digest { result.1 ≡ last prev.now (bodies_in group.entry) }
     ensures went { D.honest
-        → PutAheadBecame D.Disk result.0 at (closed prev.now body.now) (closed_by ready prev.now body.now)
-        disk.old disk.new }
+        → PutAheadBecame D.Disk result.0 at (closed prev.now (bodies_in group.entry))
+        (closed_by ready prev.now (bodies_in group.entry)) disk.old disk.new }
     ensures time { D.honest
-        → TimePasses D.Disk (Torn at (length (closed_by ready prev.now body.now))) disk.old disk.new }
+        → TimePasses D.Disk (Torn at (length (closed_by ready prev.now (bodies_in group.entry)))) disk.old disk.new }
     ensures calls { AppendsAhead ready result.0
         (D.failures disk.old) (D.failures disk.new) (D.counts disk.old) (D.counts disk.new) }
     ensures not_full { result.0 ≢ Appended.Full }
 {
-    let digest = encode(buffer, prev, body);
-    let len = AROUND_CLOSED + body.len();
+    let digest = group.encode(buffer, prev);
     clear(buffer, len, ready);
     let outcome = put_ahead_or_clear(disk, at, &mut buffer[..len + ready], len);
     (outcome, digest)

@@ -1,20 +1,15 @@
 //! What can be said of every log, and of logs on disks in memory.
-ghost use Rattle.xa_log.specs.Chain.{NoChance, PlainByBody};
-ghost use Rattle.xa_log.specs.Group.{NoChanceGroup};
+ghost use Rattle.std.specs.Prelude.{List, ℕ};
+ghost use Rattle.xa_log.specs.Group.{NoChance, PlainByBody};
 ghost use Rattle.xa_log.specs.Pair.{CalmTears};
 ghost use Rattle.xa_log.specs.Checkpoint.{SealTears};
 ghost use Rattle.xa_log.specs.Laws.{BehindLaw, PairLaw, AppendLaw, HeaderLaw, SealLaw, OpenedLaw, StrayLaw, StaleLaw};
 
 use xa_disk::{Disk, MemDisk};
 
-/// What a failed write of a `MemDisk` leaves to a read is without chance.
+/// What failed writes of a `MemDisk` leave of an append to a read is without chance, whatever is appended together.
 pub fn memory_without_chance()
-    ensures { NoChance (⟦<MemDisk as Disk>⟧.tears) }
-{}
-
-/// Nor is what it leaves of a group.
-pub fn memory_without_chance_of_group()
-    ensures { NoChanceGroup (⟦<MemDisk as Disk>⟧.tears) }
+    ensures { (group : List (List ℕ)) → NoChance (⟦<MemDisk as Disk>⟧.tears) group }
 {}
 
 /// What failed writes of a `MemDisk` leave of a checkpoint to a read is without chance.
@@ -23,8 +18,8 @@ pub fn memory_without_chance_beside()
     ensures seal { SealTears (⟦<MemDisk as Disk>⟧.tears) }
 {}
 
-/// Of two files the current one's log is taken where the other one comes behind it: also while a record is appended to
-/// it, and while a checkpoint's header and records are written to the other one.
+/// Of two files the current one's log is taken where the other one comes behind it: also while records are
+/// appended to it, and while a checkpoint's header and records are written to the other one.
 pub fn pair_is_current()
     ensures behind { BehindLaw }
     ensures other { PairLaw }
@@ -48,7 +43,7 @@ pub fn stray_is_possible()
     ensures { StrayLaw }
 {}
 
-/// Of bytes it is enough that what chains behind the bodies has the new one's body: its length and digest follow.
+/// Of bytes it is enough that what chains behind the bodies has the new ones' bodies: their lengths and digests follow.
 pub fn plain_by_body()
     ensures { PlainByBody }
 {}

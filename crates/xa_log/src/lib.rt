@@ -3,8 +3,8 @@
 //!
 //! - `log`: `Log`, with `append` and `checkpoint`; `reserving` has `reserve`, for long records; `making` has `create`
 //!   and `open`, `rescanning` has `rescan` and `into_disks`, `planning` has planned faults in memory
-//! - `appending`: how a record goes to the disk, and `Appended`, what became of it
-//! - `log_group`: `append_group`, several records by one write and one sync; `grouping`: how they go to the disk
+//! - `log_group`: `append_group`, several records by one write and one sync, of which an append is the case of one;
+//!   `group`: `Group`, what is appended together; `appending`: how it goes to the disk, and `Appended`, what became of it
 //! - `ahead`: how far a file is made ready ahead of its log, by pieces of `READY_BYTES`
 //! - `checkpointing`: how a checkpoint goes to the other disk, in its three parts; `end_of`, whether it fits
 //! - `opening`: making and reading a log on disks that are lent: `create_on`, `open_on`, `read_log`
@@ -16,8 +16,8 @@
 //! - `format`: `Format`, a file's first bytes and its limit of bodies; `record`: the bytes of a record
 //! - `fault`: `OpenFault`, why a file's bytes aren't taken as a log
 //! - `laws`: `pair_is_current`, `pair_is_current_or_new` and `opened_is_pair`, which log two files have;
-//!   `memory_without_chance`, `memory_without_chance_beside`, `memory_without_chance_of_group` and `plain_by_body`, what
-//!   is without chance; `stray_is_possible`, what isn't; `no_stale_record`, what a checkpoint leaves after its records
+//!   `memory_without_chance`, `memory_without_chance_beside` and `plain_by_body`, what is without chance;
+//!   `stray_is_possible`, what isn't; `no_stale_record`, what a checkpoint leaves after its records
 //! - `worked`: `worked_pairs`, worked rows
 //!
 //! docs/LOG.md has the format and what each device fault leaves.
@@ -30,7 +30,7 @@ mod fault;
 mod format;
 mod found;
 mod generation;
-mod grouping;
+mod group;
 mod heads;
 mod laws;
 mod log;
@@ -54,10 +54,10 @@ pub use checkpointing::{CLEARED_BYTES, end_of};
 pub use fault::OpenFault;
 pub use format::{Format, PREAMBLE_BYTES};
 pub use generation::generation_of_bodies;
+pub use group::Group;
 pub use laws::{
-    memory_without_chance, memory_without_chance_beside, memory_without_chance_of_group,
-    no_stale_record, opened_is_pair, pair_is_current, pair_is_current_or_new, plain_by_body,
-    stray_is_possible,
+    memory_without_chance, memory_without_chance_beside, no_stale_record, opened_is_pair,
+    pair_is_current, pair_is_current_or_new, plain_by_body, stray_is_possible,
 };
 pub use log::Log;
 pub use looking::{NUMBER_END, NUMBER_OFFSET};

@@ -1,5 +1,5 @@
 //! The log on its two disks.
-ghost use Rattle.std.specs.Prelude.{◌≡◌, ◌+◌, ◌-◌, ◌≤◌, ◌<◌, ◌↔◌, List, ℕ, true, false, length};
+ghost use Rattle.std.specs.Prelude.{◌≡◌, ◌+◌, ◌-◌, ◌≤◌, ◌<◌, ◌↔◌, List, [], ◌∷◌, ℕ, true, false, length};
 ghost use Rattle.xa_disk.specs.Counts.{top};
 ghost use Rattle.xa_disk.specs.Time.{LeavesOnly};
 ghost use Rattle.std.specs.List.{AllByRecursion};
@@ -13,14 +13,14 @@ ghost use Rattle.xa_log.specs.declared.ahead.TheConstants.{READY_BYTES};
 ghost use Rattle.xa_log.specs.declared.window.TheConstants.{WINDOW};
 ghost use Rattle.xa_limits.specs.declared.TheConstants.{AROUND_CLOSED, MOST_BODY};
 
-use crate::ahead::ready_behind;
-use crate::appending::{Appended, append_at};
+use crate::appending::Appended;
 use crate::checkpointing::{checkpoint_on, end_of, zeros_behind};
 use crate::format::Format;
-use crate::generation::{generation_of_bodies, generation_with};
+use crate::generation::generation_of_bodies;
+use crate::group::Group;
 use std::mem;
 use xa_disk::Disk;
-use xa_limits::{AROUND_BODY, AROUND_CLOSED, DIGEST_BYTES, LENGTH_BYTES};
+use xa_limits::{DIGEST_BYTES, LENGTH_BYTES};
 
 /// A log on two disks: the current file has its records, with bodies of at least a byte and no more than its format
 /// takes, at most `log_bytes` bytes in all; the other one is where a checkpoint goes.
@@ -58,19 +58,19 @@ impl<D: Disk> Log<D> {
     ghost use Rattle.xa_log.specs.Stands.{Stands, Leaves, Moves, Renumbers, Answers};
     ghost use Rattle.xa_log.specs.TwoFiles.{Pair, AppendsTo, Checkpoints, Swaps, written};
 
-    /// Adds a record of a body that the current file's format takes: one write and one sync where nothing fails; a write
-    /// that goes on with zeros, and fails, is followed by one of the record alone. Takes no memory: there is room for a
-    /// body of up to `MOST_BODY_OF_ONE` bytes, and for a longer one behind a `reserve`. After `Lost`, its own or a
-    /// checkpoint's, every append answers so, and asks nothing of the disk, until a rescan succeeds.
+    /// Adds a record of a body that the current file's format takes: the group of one (`append_group`), so one write and
+    /// one sync where nothing fails. Takes no memory: there is room for a body of up to `MOST_BODY_OF_ONE` bytes, and for
+    /// a longer one behind a `reserve`. After `Lost`, its own or a checkpoint's, every append answers so, and asks
+    /// nothing of the disk, until a rescan succeeds.
     pub fn append(&mut self, body: &[u8]) -> Appended
         requires body { IsBody self.old.format body.now }
         requires holds { Holds self.old (length body.now) }
         ensures answer { D.honest → (bodies : List (List ℕ)) → Stands D.Disk bodies self.old
-            → Answers D.Disk result bodies body.now self.new }
+            → Answers D.Disk result bodies (body.now ∷ []) self.new }
         // A crash at any moment of the call leaves a log; without chance, of the bodies with the new one or without.
         ensures any_moment { D.honest → (bodies : List (List ℕ)) → Stands D.Disk bodies self.old
             → LeavesOnly D.Disk self.old.disk self.new.disk
-            (Leaves self.old.log_bytes self.old.format bodies body.now) }
+            (Leaves self.old.log_bytes self.old.format bodies (body.now ∷ [])) }
         ensures lost { self.old.lost ≡ true → (result ≡ Appended.Lost) × (self.new ≡ self.old) }
         ensures full { self.old.lost ≡ false
             → (result ≡ Appended.Full) ↔ (self.old.log_bytes < self.old.end + AROUND_CLOSED + length body.now) }
@@ -85,39 +85,12 @@ impl<D: Disk> Log<D> {
         ensures other { (self.new.other ≡ self.old.other) × (self.new.on_first ≡ self.old.on_first) }
         // The other file needs no look: what was said of the two stays.
         ensures pair { D.honest → (bodies stood : List (List ℕ)) → Pair D.Disk bodies stood self.old
-            → AppendsTo D.Disk result bodies body.now stood self.new }
-        ensures writes { D.honest → result ≡ Appended.Kept → Writes D.Disk body.now self.old self.new }
+            → AppendsTo D.Disk result bodies (body.now ∷ []) stood self.new }
+        ensures writes { D.honest → result ≡ Appended.Kept → Writes D.Disk (body.now ∷ []) self.old self.new }
         ensures known { D.honest → IsKnown D.Disk self.old → IsKnown D.Disk self.new }
         ensures room { KeepsRoom self.old self.new }
     {
-        if self.lost {
-            return Appended::Lost; // Until a rescan, whether the last record stands is open.
-        }
-        let len = body.len();
-        if self.log_bytes - self.end < AROUND_CLOSED as u64 + len as u64 {
-            return Appended::Full;
-        }
-        let to = self.end + AROUND_CLOSED as u64 + len as u64;
-        let ready = ready_behind(self.end, to, self.log_bytes, self.known);
-        let (outcome, digest) = append_at(
-            &mut self.disk,
-            self.end,
-            &self.digest,
-            &mut self.buffer,
-            body,
-            ready,
-        );
-        match outcome {
-            Appended::Kept => {
-                self.generation = generation_with(self.generation, self.end, body);
-                self.end += AROUND_BODY as u64 + len as u64;
-                self.known = self.known.max(to);
-                self.digest = digest;
-            }
-            Appended::Lost => self.lost = true,
-            Appended::Refused | Appended::Full => {}
-        }
-        outcome
+        self.append_group(Group::One(body))
     }
 
     /// Where the next record begins.

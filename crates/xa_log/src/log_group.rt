@@ -4,100 +4,100 @@ ghost use Rattle.std.specs.List.{AllByRecursion};
 ghost use Rattle.xa_disk.specs.Counts.{top};
 ghost use Rattle.xa_disk.specs.Time.{LeavesOnly};
 ghost use Rattle.xa_limits.specs.declared.TheConstants.{AROUND_CLOSED, MOST_BODY};
-ghost use Rattle.xa_log.specs.Ahead.{AppendsBy, IsKnown};
+ghost use Rattle.xa_log.specs.Ahead.{AppendsBy, IsKnown, Writes};
 ghost use Rattle.xa_log.specs.Buffer.{Holds, KeepsRoom};
 ghost use Rattle.xa_log.specs.Chain.{IsBody};
-ghost use Rattle.xa_log.specs.Group.{AnswersGroup, AppendsGroupTo, LeavesGroup, WritesGroup, as_one, first_of_group};
-ghost use Rattle.xa_log.specs.Reading.{bodies_of};
+ghost use Rattle.xa_log.specs.Group.{as_one, bodies_in, first_of_group};
 ghost use Rattle.xa_log.specs.LogStates.{KeepsAll};
-ghost use Rattle.xa_log.specs.Stands.{Moves, Renumbers, Stands, Untouched};
-ghost use Rattle.xa_log.specs.TwoFiles.{Pair};
+ghost use Rattle.xa_log.specs.Stands.{Answers, Leaves, Moves, Renumbers, Stands, Untouched};
+ghost use Rattle.xa_log.specs.TwoFiles.{AppendsTo, Pair};
 
 use crate::Log;
 use crate::ahead::ready_behind;
-use crate::appending::Appended;
+use crate::appending::{Appended, append_at};
 use crate::generation::generation_with;
-use crate::grouping::{append_group_at, group_end};
+use crate::group::Group;
 use std::alloc::AllocError;
 use xa_disk::Disk;
 use xa_limits::{AROUND_CLOSED, LENGTH_BYTES, MOST_BODY};
 
 impl<D: Disk> Log<D> {
-    /// Makes room in the log's buffer for the records of these bodies together, as `reserve` does for one of that
-    /// length. Whether a group may have so many bytes: with its closing length as many as the longest record.
-    pub fn reserve_group(&mut self, bodies: &[Vec<u8>]) -> Result<bool, AllocError>
-        requires some { 1 ≤ length bodies.now }
-        ensures holds { OnOk result (result ≡ Ok true → Holds self.new (as_one (bodies_of bodies.now))) }
-        ensures long { IfOk result (λ may. may ≡ false ↔ (MOST_BODY < as_one (bodies_of bodies.now))) }
+    /// Makes room in the log's buffer for a group's records together, as `reserve` does for one of that length. Whether
+    /// a group may have so many bytes: with its closing length as many as the longest record.
+    pub fn reserve_group(&mut self, group: Group<'_>) -> Result<bool, AllocError>
+        requires some { 1 ≤ length (bodies_in group) }
+        ensures holds { OnOk result (result ≡ Ok true → Holds self.new (as_one (bodies_in group.entry))) }
+        ensures long { IfOk result (λ may. may ≡ false ↔ (MOST_BODY < as_one (bodies_in group.entry))) }
         ensures room { KeepsRoom self.old self.new }
         ensures refused { OnErr result (self.new ≡ self.old) }
         ensures disks { (self.new.disk ≡ self.old.disk) × (self.new.other ≡ self.old.other) }
         ensures untouched { Untouched self.old self.new }
         ensures state { KeepsAll D.Disk self.old self.new }
     {
-        match group_end(0, bodies, (AROUND_CLOSED + MOST_BODY) as u64) {
+        match group.end(0, (AROUND_CLOSED + MOST_BODY) as u64) {
             Some(end) => self.reserve(end as usize - AROUND_CLOSED)?,
             None => return Ok(false),
         }
         Ok(true)
     }
 
-    /// Adds the records of one body or more, one after the other: one write and one sync where nothing fails. All are
-    /// kept, or none is, unless the answer is `Lost`: then some first part of them may stand. A crash during the call
-    /// leaves such a first part too. Otherwise as `append`, of a record as long as these together: room for it is
-    /// made by `reserve_group`.
-    pub fn append_group(&mut self, bodies: &[Vec<u8>]) -> Appended
-        requires some { 1 ≤ length bodies.now }
-        requires sizes { AllByRecursion (IsBody self.old.format) (bodies_of bodies.now) }
-        requires holds { Holds self.old (as_one (bodies_of bodies.now)) }
+    /// Adds the records of a group, one after the other: one write and one sync where nothing fails; a write that goes on
+    /// with zeros, and fails, is followed by one of the records alone. All are kept, or none is, unless the answer is
+    /// `Lost`: then some first part of them may stand, and every append answers so, and asks nothing of the disk, until
+    /// a rescan succeeds. A crash during the call leaves such a first part too. Takes no memory: there is room for
+    /// records as long as that of one body of `MOST_BODY_OF_ONE` bytes, and for longer ones behind a `reserve_group`.
+    pub fn append_group(&mut self, group: Group<'_>) -> Appended
+        requires some { 1 ≤ length (bodies_in group) }
+        requires sizes { AllByRecursion (IsBody self.old.format) (bodies_in group) }
+        requires holds { Holds self.old (as_one (bodies_in group)) }
         ensures answer { D.honest → (stand : List (List ℕ)) → Stands D.Disk stand self.old
-            → AnswersGroup D.Disk result stand (bodies_of bodies.now) self.new }
+            → Answers D.Disk result stand (bodies_in group.entry) self.new }
         // A crash at any moment of the call leaves a log; without chance, of the bodies and some first part of the new ones.
         ensures any_moment { D.honest → (stand : List (List ℕ)) → Stands D.Disk stand self.old
             → LeavesOnly D.Disk self.old.disk self.new.disk
-            (LeavesGroup self.old.log_bytes self.old.format stand (bodies_of bodies.now)) }
+            (Leaves self.old.log_bytes self.old.format stand (bodies_in group.entry)) }
         ensures lost { self.old.lost ≡ true → (result ≡ Appended.Lost) × (self.new ≡ self.old) }
         ensures full { self.old.lost ≡ false
             → (result ≡ Appended.Full)
-            ↔ (self.old.log_bytes < self.old.end + AROUND_CLOSED + as_one (bodies_of bodies.now)) }
+            ↔ (self.old.log_bytes < self.old.end + AROUND_CLOSED + as_one (bodies_in group.entry)) }
         ensures unchanged { result ≡ Appended.Full → self.new ≡ self.old }
-        ensures moves { Moves result (as_one (bodies_of bodies.now)) self.old self.new }
-        ensures numbers { Renumbers result (first_of_group (bodies_of bodies.now)) self.old self.new }
+        ensures moves { Moves result (as_one (bodies_in group.entry)) self.old self.new }
+        ensures numbers { Renumbers result (first_of_group (bodies_in group.entry)) self.old self.new }
         ensures calls { self.old.lost ≡ false
-            → AppendsBy D.Disk (as_one (bodies_of bodies.now)) result self.old self.new }
+            → AppendsBy D.Disk (as_one (bodies_in group.entry)) result self.old self.new }
         ensures kept { self.old.lost ≡ false
-            → self.old.end + AROUND_CLOSED + as_one (bodies_of bodies.now) ≤ self.old.log_bytes
+            → self.old.end + AROUND_CLOSED + as_one (bodies_in group.entry) ≤ self.old.log_bytes
             → D.failures self.old.disk < top → D.failures self.new.disk ≡ D.failures self.old.disk
             → result ≡ Appended.Kept }
         ensures settings { self.new.log_bytes ≡ self.old.log_bytes }
         ensures other { (self.new.other ≡ self.old.other) × (self.new.on_first ≡ self.old.on_first) }
         // The other file needs no look: what was said of the two stays.
         ensures pair { D.honest → (stand stood : List (List ℕ)) → Pair D.Disk stand stood self.old
-            → AppendsGroupTo D.Disk result stand (bodies_of bodies.now) stood self.new }
+            → AppendsTo D.Disk result stand (bodies_in group.entry) stood self.new }
         ensures writes { D.honest → result ≡ Appended.Kept
-            → WritesGroup D.Disk (bodies_of bodies.now) self.old self.new }
+            → Writes D.Disk (bodies_in group.entry) self.old self.new }
         ensures known { D.honest → IsKnown D.Disk self.old → IsKnown D.Disk self.new }
         ensures room { KeepsRoom self.old self.new }
     {
         if self.lost {
             return Appended::Lost; // Until a rescan, which records stand is open.
         }
-        let Some(to) = group_end(self.end, bodies, self.log_bytes) else {
+        let Some(to) = group.end(self.end, self.log_bytes) else {
             return Appended::Full;
         };
         let ready = ready_behind(self.end, to, self.log_bytes, self.known);
-        let (outcome, digest) = append_group_at(
+        let (outcome, digest) = append_at(
             &mut self.disk,
             self.end,
             &self.digest,
             &mut self.buffer,
-            bodies,
+            group,
             (to - self.end) as usize,
             ready,
         );
         match outcome {
             Appended::Kept => {
-                self.generation = generation_with(self.generation, self.end, &bodies[0]);
+                self.generation = generation_with(self.generation, self.end, group.first());
                 self.end = to - LENGTH_BYTES as u64;
                 self.known = self.known.max(to);
                 self.digest = digest;

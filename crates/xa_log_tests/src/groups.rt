@@ -7,7 +7,7 @@ use crate::log_pairs::{DECIDED, OPENED, PREPARED, are, copies, log_of};
 use crate::rows::none_wrong;
 use std::alloc::Global;
 use xa_disk::{Disk, Effect, MemDisk};
-use xa_log::{Appended, Log};
+use xa_log::{Appended, Group, Log};
 use xa_rows::{LOG_BYTES, first_wrong};
 
 // A log of one record, and the group of three that is appended to it.
@@ -31,13 +31,23 @@ fn are_bodies_of<D: Disk>(log: &Log<D>, bodies: &[Vec<u8>]) -> bool
 
 // What an append of these as a group comes to.
 fn appends_group<D: Disk>(log: &mut Log<D>, bodies: &[Vec<u8>]) -> Option<Appended> {
-    if bodies.is_empty() || !are_bodies_of(log, bodies) || log.reserve_group(bodies) != Ok(true) {
+    let group = Group::Many(bodies);
+    if bodies.is_empty() || !are_bodies_of(log, bodies) || log.reserve_group(group) != Ok(true) {
         return None;
     }
     if !are_bodies_of(log, bodies) {
         return None;
     }
-    Some(log.append_group(bodies))
+    Some(log.append_group(group))
+}
+
+// What an append of this as a group of one comes to.
+fn appends_alone<D: Disk>(log: &mut Log<D>, body: &[u8]) -> Option<Appended> {
+    let group = Group::One(body);
+    if log.reserve_group(group) != Ok(true) || body.is_empty() || body.len() > log.most_body() {
+        return None;
+    }
+    Some(log.append_group(group))
 }
 
 /// Which calls on the current file fail, what the group comes to, and how many records a rescan then finds.
@@ -119,20 +129,24 @@ fn crashes_in_a_group(rt: HostRuntime) {
     none_wrong(&rt, wrong_cut(rt.alloc(), CUTS));
 }
 
-// A group that fits exactly, one that lacks a byte, and one of a single body.
+// A group that fits exactly, one that lacks a byte, and one of a single body, as a list and by itself.
 fn are_limits(alloc: Global) -> Option<bool> {
     let group = copies(alloc, &GROUP)?;
     // 8 bytes, a record of 41, the three of 168, and a closing length.
     let mut exact = log_within(alloc, 221)?;
     let mut short = log_within(alloc, 220)?;
     let mut alone = log_within(alloc, 220)?;
+    let mut one = log_within(alloc, 95 + 4)?;
     Some(
         appends_group(&mut exact, &group) == Some(Appended::Kept)
             && exact.end() == 217
             && appends_group(&mut short, &group) == Some(Appended::Full)
             && short.end() == 49
             && appends_group(&mut alone, &copies(alloc, &[&DECIDED])?) == Some(Appended::Kept)
-            && alone.end() == 95,
+            && alone.end() == 95
+            && appends_alone(&mut one, &DECIDED) == Some(Appended::Kept)
+            && one.end() == 95
+            && appends_alone(&mut one, &DECIDED) == Some(Appended::Full),
     )
 }
 

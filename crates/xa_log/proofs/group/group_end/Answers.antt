@@ -3,7 +3,7 @@ use Rattle.std.specs.Prelude.{IfNone}
 use Rattle.xa_log.specs.Group.{group_bytes}
 use Rattle.xa_log.specs.Reading.{bodies_of}
 use Rattle.xa_log.proofs.GroupSteps.{bytes_next, within}
-use Rattle.xa_log.proofs.grouping.group_end.Goals as goal
+use Rattle.xa_log.proofs.group.group_end.Goals as goal
 
 pub loop-body-preserved : goal.loop-body-preserved
 loop-body-preserved c =

@@ -1,25 +1,25 @@
 -- What each step of a group's append leaves.
-use Rattle.std.proofs.Common.{◌≡◌, ◌≢◌, ◌⊎◌, inl, inr, ⊎_elim, ℕ, zero, suc, ◌+◌, ◌≤◌, ◌<◌, Bool, true, false, cond, List, [], ◌∷◌, ◌++◌, length, take, drop, replicate, refl, sym, ◌∙◌, ap, subst, arith, append_assoc, length-append, nat_eq}
+use Rattle.std.proofs.Common.{◌≡◌, ◌≢◌, ◌⊎◌, inl, inr, ⊎_elim, ℕ, zero, suc, ◌+◌, ◌≤◌, Bool, true, cond, List, [], ◌∷◌, ◌++◌, length, take, drop, replicate, refl, sym, ◌∙◌, ap, subst, arith, append_assoc, length-append, nat_eq}
 use Rattle.std.specs.List.{AllByRecursion}
 use Rattle.std.proofs.lemmas.Bool.{cases_Bool}
-use Rattle.std.proofs.lemmas.List.{append-nil, take_at, drop_at, take-append-drop, length-replicate}
+use Rattle.std.proofs.lemmas.List.{append-nil, take_at, take-append-drop, length-replicate}
 use Rattle.xa_disk.specs.Disk.{put, Torn, Only}
 use Rattle.xa_disk.specs.Time.{TimePasses, LeavesOnly}
 use Rattle.xa_disk.specs.declared.disk.Disk.{Ghosts}
 use Rattle.xa_disk.specs.Images.{torn_same, put_torn}
 use Rattle.xa_log.specs.Answers.{Wrote, PutAheadBecame, FailedPut, FailedPutAhead}
 use Rattle.xa_log.specs.Chain.{start, last, text, closing, IsBody, digest, record_of, records, is_record, digest_at, rest_at, Rests}
-use Rattle.xa_log.specs.Group.{group_bytes, as_one, first_of_group, closed_group, closed_group_by, IsPlainGroup, IsFirstPart, LeavesGroup, NoChanceGroup, MayStandGroup, AnswersGroup}
+use Rattle.xa_log.specs.Group.{group_bytes, as_one, first_of_group, closed, closed_by, HasFirstPart, IsFirstPart, IsPlain}
 use Rattle.xa_log.specs.Pair.{number_in, generation, beats}
-use Rattle.xa_log.specs.Stands.{Stands}
+use Rattle.xa_log.specs.Stands.{Answers, Leaves, MayStand, Stands}
 use Rattle.xa_log.specs.declared.appending.Appended.{Appended}
 use Rattle.xa_log.specs.declared.appending.Appended.TheVariants.{Kept, Refused, Lost, Full}
 use Rattle.xa_log.specs.declared.format.Format.{Format}
 use Rattle.xa_log.specs.declared.log.Log.{Log}
 use Rattle.xa_log.proofs.Again.{no_fault}
 use Rattle.xa_log.proofs.Append.{torn_begins, begins_same, refused, generation_more}
-use Rattle.xa_log.proofs.Records.{length-record_of, length-text, text_more, last_more, sizes_more, closed_zeros}
-use Rattle.xa_log.proofs.Torn.{torn_then, torn_front, put_within}
+use Rattle.xa_log.proofs.Records.{length-record_of, text_more, sizes_more, closed_zeros}
+use Rattle.xa_log.proofs.Torn.{torn_then, put_within}
 use Rattle.xa_log.proofs.Tried.{torn_wider, torn_wrote}
 use Rattle.xa_log.proofs.Two.{beats_more}
 
@@ -34,14 +34,14 @@ pub bytes_as_one : (group : List (List ℕ)) → 1 ≤ length group → group_by
 bytes_as_one [] some = absurd (omega arith)
 bytes_as_one (body ∷ group) some = omega arith
 
-pub length-closed : (prev : List ℕ) (group : List (List ℕ)) → length (closed_group prev group) ≡ group_bytes group + 4
+pub length-closed : (prev : List ℕ) (group : List (List ℕ)) → length (closed prev group) ≡ group_bytes group + 4
 length-closed prev group = omega (arith, length-append (records prev group) closing, length-records prev group)
 
-pub length-closed_by : (more : ℕ) (prev : List ℕ) (group : List (List ℕ)) → length (closed_group_by more prev group) ≡ group_bytes group + 4 + more
-length-closed_by more prev group = omega (arith, length-append (closed_group prev group) (replicate {A = ℕ} more 0), length-closed prev group, length-replicate {A = ℕ} more 0)
+pub length-closed_by : (more : ℕ) (prev : List ℕ) (group : List (List ℕ)) → length (closed_by more prev group) ≡ group_bytes group + 4 + more
+length-closed_by more prev group = omega (arith, length-append (closed prev group) (replicate {A = ℕ} more 0), length-closed prev group, length-replicate {A = ℕ} more 0)
 
-pub alone : (prev : List ℕ) (group : List (List ℕ)) → closed_group prev group ≡ closed_group_by 0 prev group
-alone prev group = sym (append-nil (closed_group prev group))
+pub alone : (prev : List ℕ) (group : List (List ℕ)) → closed prev group ≡ closed_by 0 prev group
+alone prev group = sym (append-nil (closed prev group))
 
 -- ---- a log with a group more
 
@@ -66,7 +66,7 @@ sizes_group format (b ∷ bodies) group sizes ok = (sizes.0, sizes_group format 
 
 -- with a closing length after it
 pub rests_group : (format : Format) (bodies group : List (List ℕ)) (file more : List ℕ) → AllByRecursion (IsBody format) bodies → AllByRecursion (IsBody format) group
-    → file ≡ text format bodies ++ (closed_group (last (start format) bodies) group ++ more) → Rests format (bodies ++ group) file
+    → file ≡ text format bodies ++ (closed (last (start format) bodies) group ++ more) → Rests format (bodies ++ group) file
 rests_group format bodies group file more sizes ok is = record {
   rest = 0 ∷ 0 ∷ 0 ∷ 0 ∷ more;
   split = is
@@ -112,8 +112,26 @@ one_more format bodies group body file it = record {
   rests = subst (λ (l : List (List ℕ)). Rests format l file) (append_assoc bodies (body ∷ []) (take it.many group)) it.rests;
 }
 
+-- ---- a group of one: the record, or nothing
+
+module _ {A : Type 0} (bodies : List A) (body : A) where
+  pub one_part : (many : ℕ) → (bodies ++ take many (body ∷ []) ≡ bodies) ⊎ (bodies ++ take many (body ∷ []) ≡ bodies ++ body ∷ [])
+  one_part zero = inl (append-nil bodies)
+  one_part (suc zero) = inr refl
+  one_part (suc (suc many)) = inr refl
+
+pub one_found : (bodies : List (List ℕ)) (body : List ℕ) (found : List (List ℕ)) → HasFirstPart bodies (body ∷ []) found → (found ≡ bodies) ⊎ (found ≡ bodies ++ body ∷ [])
+one_found bodies body found it = ⊎_elim (λ none. inl (it.is ∙ none)) (λ one. inr (it.is ∙ one)) (one_part bodies body it.many)
+
+pub one_rests : (format : Format) (bodies : List (List ℕ)) (body file : List ℕ) → IsFirstPart format bodies (body ∷ []) file → Rests format bodies file ⊎ Rests format (bodies ++ body ∷ []) file
+one_rests format bodies body file it =
+    ⊎_elim (λ none. inl (subst (λ (l : List (List ℕ)). Rests format l file) none it.rests))
+    (λ one. inr (subst (λ (l : List (List ℕ)). Rests format l file) one it.rests)) (one_part bodies body it.many)
+
+-- ---- the records that chain
+
 pub plain_group : (format : Format) (bodies group : List (List ℕ)) (file : List ℕ) → AllByRecursion (IsBody format) bodies → AllByRecursion (IsBody format) group
-    → take (length (text format bodies)) file ≡ text format bodies → IsPlainGroup format bodies group file → IsFirstPart format bodies group file
+    → take (length (text format bodies)) file ≡ text format bodies → IsPlain format bodies group file → IsFirstPart format bodies group file
 plain_group format bodies [] file sizes ok front plain =
     let rest = drop (length (text format bodies)) file in
     none_of format bodies [] file (record { rest = rest; split = sym (take-append-drop (length (text format bodies)) file) ∙ ap (λ (l : List ℕ). l ++ rest) front; sizes = sizes; closed = plain })
@@ -132,35 +150,35 @@ module _ (format : Format) (bodies group : List (List ℕ)) (file : List ℕ) (r
   end = length (text format bodies)
 
   -- what a write after the log may have left
-  pub torn_leaves : (most n : ℕ) (c : List ℕ) → length file ≤ most → end + n ≤ most → Torn end n file c → LeavesGroup most format bodies group c
+  pub torn_leaves : (most n : ℕ) (c : List ℕ) → length file ≤ most → end + n ≤ most → Torn end n file c → Leaves most format bodies group c
   torn_leaves most n c whole room torn =
-      let at = torn_begins format bodies [] file rests n c torn in
+      let at = torn_begins format bodies file rests n c torn in
       let fits : length c ≤ most = omega (arith, torn.no_longer, whole, room) in
       record { fits = fits; front = at.1; opens = no_fault most format c bodies fits at.1; reads = plain_group format bodies group c rests.sizes ok at.1 }
 
   pub kept : (more : ℕ) (mid new : List ℕ) → (end ≤ length mid) × (take end mid ≡ text format bodies)
-      → new ≡ put mid end (closed_group_by more (last (start format) bodies) group) → Rests format (bodies ++ group) new
+      → new ≡ put mid end (closed_by more (last (start format) bodies) group) → Rests format (bodies ++ group) new
   kept more mid new begins is =
-      let bytes = closed_group_by more (last (start format) bodies) group in
+      let bytes = closed_by more (last (start format) bodies) group in
       let n = end + length bytes in
       let zeros : List ℕ = replicate more 0 in
       rests_group format bodies group new (zeros ++ drop n mid) rests.sizes ok
       (is ∙ put_within mid end bytes begins.0
       ∙ ap (λ (l : List ℕ). l ++ bytes ++ drop n mid) begins.1
       ∙ append_assoc (text format bodies) bytes (drop n mid)
-      ∙ ap (λ (l : List ℕ). text format bodies ++ l) (append_assoc (closed_group (last (start format) bodies) group) zeros (drop n mid)))
+      ∙ ap (λ (l : List ℕ). text format bodies ++ l) (append_assoc (closed (last (start format) bodies) group) zeros (drop n mid)))
 
   -- from a log at rest, whatever a write after it left
   pub moments : {D : Type 0} (disks : Ghosts D) (old new : D) (most n : ℕ)
       → length file ≤ most → end + n ≤ most → ((c : List ℕ) → disks.left_since old (disks.moment old) c → disks.may_leave old c) → Only file (disks.may_leave old)
-      → TimePasses disks (Torn end n) old new → LeavesOnly disks old new (LeavesGroup most format bodies group)
+      → TimePasses disks (Torn end n) old new → LeavesOnly disks old new (Leaves most format bodies group)
   moments disks old new most n whole room only_now durable time = record {
     later = time.later;
     each = λ c left. ⊎_elim (λ past. good c (torn_to c (durable c (only_now c past)))) (λ x. good c (subst (λ f. Torn end n f c) (durable x.0 x.1) x.2)) (time.nothing_else (disks.moment old) c (omega arith) left);
     before = λ t c le left. ⊎_elim (λ past. inl past) (λ x. inr (good c (subst (λ f. Torn end n f c) (durable x.0 x.1) x.2))) (time.nothing_else t c le left);
   }
     where
-      good : (c : List ℕ) → Torn end n file c → LeavesGroup most format bodies group c
+      good : (c : List ℕ) → Torn end n file c → Leaves most format bodies group c
       good c torn = torn_leaves most n c whole room torn
 
       torn_to : (c : List ℕ) → c ≡ file → Torn end n file c
@@ -187,46 +205,46 @@ module _ {D : Type 0} (disks : Ghosts D) (bodies group : List (List ℕ)) (more 
   format = old.format
 
   abbrev few : List ℕ
-  few = closed_group old.digest group
+  few = closed old.digest group
 
   abbrev bytes : List ℕ
-  bytes = closed_group_by more old.digest group
+  bytes = closed_by more old.digest group
 
   abbrev Went_by : Appended → Type 0
-  Went_by outcome = PutAheadBecame disks outcome old.end (closed_group old.digest group) (closed_group_by more old.digest group) old.disk new.disk
+  Went_by outcome = PutAheadBecame disks outcome old.end (closed old.digest group) (closed_by more old.digest group) old.disk new.disk
 
-  length-range : length (closed_group_by more old.digest group) ≡ 40 + as_one group + more
+  length-range : length (closed_by more old.digest group) ≡ 40 + as_one group + more
   length-range = omega (arith, length-closed_by more old.digest group, bytes_as_one group some)
 
-  length-few : length (closed_group old.digest group) ≡ 40 + as_one group
+  length-few : length (closed old.digest group) ≡ 40 + as_one group
   length-few = omega (arith, length-closed old.digest group, bytes_as_one group some)
 
   -- the range ends within the log's bytes
-  fits_after : old.end + (40 + as_one group + more) ≤ old.log_bytes → new.log_bytes ≡ old.log_bytes → Torn old.end (length (closed_group_by more old.digest group)) (disks.seen old.disk) (disks.seen new.disk) → length (disks.seen new.disk) ≤ new.log_bytes
+  fits_after : old.end + (40 + as_one group + more) ≤ old.log_bytes → new.log_bytes ≡ old.log_bytes → Torn old.end (length (closed_by more old.digest group)) (disks.seen old.disk) (disks.seen new.disk) → length (disks.seen new.disk) ≤ new.log_bytes
   fits_after room same torn = omega (arith, torn.no_longer, stands.fits, length-range, room, same)
 
-  torn_refused : Went_by Refused → Torn old.end (length (closed_group_by more old.digest group)) (disks.seen old.disk) (disks.seen new.disk)
+  torn_refused : Went_by Refused → Torn old.end (length (closed_by more old.digest group)) (disks.seen old.disk) (disks.seen new.disk)
   torn_refused went =
-      let range = length (closed_group_by more old.digest group) in
-      let zeros : List ℕ = replicate (length (closed_group old.digest group)) 0 in
+      let range = length (closed_by more old.digest group) in
+      let zeros : List ℕ = replicate (length (closed old.digest group)) 0 in
       let cleared : Torn old.end (length zeros) went.0 (disks.seen new.disk) = subst (λ f. Torn old.end (length zeros) went.0 f) (sym went.2) (put_torn went.0 old.end zeros) in
       torn_then old.end range (disks.seen old.disk) went.0 (disks.seen new.disk) went.1
-      (torn_wider old.end (length zeros) range went.0 (disks.seen new.disk) (omega (arith, length-range, length-few, length-replicate {A = ℕ} (length (closed_group old.digest group)) 0)) cleared)
+      (torn_wider old.end (length zeros) range went.0 (disks.seen new.disk) (omega (arith, length-range, length-few, length-replicate {A = ℕ} (length (closed old.digest group)) 0)) cleared)
 
-  begins : (mid : List ℕ) → Torn old.end (length (closed_group_by more old.digest group)) (disks.seen old.disk) mid
+  begins : (mid : List ℕ) → Torn old.end (length (closed_by more old.digest group)) (disks.seen old.disk) mid
       → (length (text format bodies) ≤ length mid) × (take (length (text format bodies)) mid ≡ text format bodies)
   begins mid torn =
-      torn_begins format bodies [] (disks.seen old.disk) stands.file (length (closed_group_by more old.digest group)) mid
-      (subst (λ e. Torn e (length (closed_group_by more old.digest group)) (disks.seen old.disk) mid) stands.end torn)
+      torn_begins format bodies (disks.seen old.disk) stands.file (length (closed_by more old.digest group)) mid
+      (subst (λ e. Torn e (length (closed_by more old.digest group)) (disks.seen old.disk) mid) stands.end torn)
 
   -- whether the zeros went with the records or not
-  file_kept : Wrote disks old.end (closed_group old.digest group) (closed_group_by more old.digest group) old.disk new.disk → Rests format (bodies ++ group) (disks.seen new.disk)
+  file_kept : Wrote disks old.end (closed old.digest group) (closed_by more old.digest group) old.disk new.disk → Rests format (bodies ++ group) (disks.seen new.disk)
   file_kept (inl is) =
-      kept format bodies group (disks.seen old.disk) stands.file ok more (disks.seen old.disk) (disks.seen new.disk) (begins_same format bodies [] (disks.seen old.disk) stands.file)
-      (is ∙ (λ i. put (disks.seen old.disk) (stands.end i) (closed_group_by more (stands.digest i) group)))
+      kept format bodies group (disks.seen old.disk) stands.file ok more (disks.seen old.disk) (disks.seen new.disk) (begins_same format bodies (disks.seen old.disk) stands.file)
+      (is ∙ (λ i. put (disks.seen old.disk) (stands.end i) (closed_by more (stands.digest i) group)))
   file_kept (inr x) =
-      kept format bodies group (disks.seen old.disk) stands.file ok 0 x.2 (disks.seen new.disk) (begins x.2 (tears_torn (disks.seen old.disk) old.end (closed_group_by more old.digest group) x.2 x.3))
-      (x.4 ∙ (λ i. put x.2 (stands.end i) (closed_group (stands.digest i) group)) ∙ ap (λ (l : List ℕ). put x.2 (length (text format bodies)) l) (alone (last (start format) bodies) group))
+      kept format bodies group (disks.seen old.disk) stands.file ok 0 x.2 (disks.seen new.disk) (begins x.2 (tears_torn (disks.seen old.disk) old.end (closed_by more old.digest group) x.2 x.3))
+      (x.4 ∙ (λ i. put x.2 (stands.end i) (closed (stands.digest i) group)) ∙ ap (λ (l : List ℕ). put x.2 (length (text format bodies)) l) (alone (last (start format) bodies) group))
 
   abbrev Room : Type 0
   Room = (old.end + (40 + as_one group + more) ≤ old.log_bytes) × (new.log_bytes ≡ old.log_bytes) × (new.format ≡ old.format)
@@ -234,7 +252,7 @@ module _ {D : Type 0} (disks : Ghosts D) (bodies group : List (List ℕ)) (more 
   pub answer_kept : Room → Went_by Kept → new.end ≡ old.end + (36 + as_one group) → new.digest ≡ last old.digest group → new.generation ≡ cond (nat_eq old.end 8) (number_in (first_of_group group)) old.generation → new.lost ≡ old.lost
       → Stands disks (bodies ++ group) new
   answer_kept room went end_is digest_is number_is lost_is = record {
-    fits = fits_after room.0 room.1 (torn_wrote disks tears_torn old.end (closed_group old.digest group) (closed_group_by more old.digest group) old.disk new.disk went.0);
+    fits = fits_after room.0 room.1 (torn_wrote disks tears_torn old.end (closed old.digest group) (closed_by more old.digest group) old.disk new.disk went.0);
     file = subst (λ k. Rests k (bodies ++ group) (disks.seen new.disk)) (sym room.2) (file_kept went.0);
     end = subst (λ k. new.end ≡ length (text k (bodies ++ group))) (sym room.2)
         (omega (arith, end_is, stands.end, ap length (text_group format bodies group), length-append (text format bodies) (records (last (start format) bodies) group), length-records (last (start format) bodies) group, bytes_as_one group some));
@@ -248,10 +266,10 @@ module _ {D : Type 0} (disks : Ghosts D) (bodies group : List (List ℕ)) (more 
       → Stands disks bodies new × (take (group_bytes group + 4) (drop (length (text new.format bodies)) (disks.seen new.disk)) ≡ replicate (group_bytes group + 4) 0)
   answer_refused room went end_is digest_is number_is lost_is =
       let n = group_bytes group in
-      let m : length (closed_group old.digest group) ≡ 4 + group_bytes group = omega (arith, length-closed old.digest group) in
+      let m : length (closed old.digest group) ≡ 4 + group_bytes group = omega (arith, length-closed old.digest group) in
       let k : 4 + group_bytes group ≡ group_bytes group + 4 = omega arith in
       let is : disks.seen new.disk ≡ put went.0 (length (text format bodies)) (replicate (4 + group_bytes group) 0) = went.2 ∙ (λ i. put went.0 (stands.end i) (replicate (m i) 0)) in
-      let it = refused format bodies [] (disks.seen old.disk) stands.file n went.0 (disks.seen new.disk) (begins went.0 went.1) is in (
+      let it = refused format bodies (disks.seen old.disk) stands.file n went.0 (disks.seen new.disk) (begins went.0 went.1) is in (
         record {
           file = subst (λ f. Rests f bodies (disks.seen new.disk)) (sym room.2) it.0;
           fits = fits_after room.0 room.1 (torn_refused went);
@@ -266,61 +284,62 @@ module _ {D : Type 0} (disks : Ghosts D) (bodies group : List (List ℕ)) (more 
       )
 
   pub answer_lost : Room → Went_by Lost → new.lost ≡ true
-      → ((c : List ℕ) → disks.may_leave new.disk c → (d : List ℕ) × disks.may_leave old.disk d × Torn old.end (length (closed_group_by more old.digest group)) d c)
-      → MayStandGroup disks bodies group new
+      → ((c : List ℕ) → disks.may_leave new.disk c → (d : List ℕ) × disks.may_leave old.disk d × Torn old.end (length (closed_by more old.digest group)) d c)
+      → MayStand disks bodies group new
   answer_lost room went lost_is follows = record {
+    some = some;
     seen_is = its (disks.seen new.disk) (good (disks.seen new.disk) went.0);
     seen_on = λ lucky. subst (λ k. IsFirstPart k bodies group (disks.seen new.disk)) (sym room.2)
-        ((good (disks.seen new.disk) went.0).reads (lucky format bodies group (disks.seen old.disk) went.1 (disks.seen new.disk) more stands.file ok first second));
-    left_is = λ c left. its c (let x = follows c left in good c (subst (λ f. Torn old.end (length (closed_group_by more old.digest group)) f c) (stands.durable x.0 x.1) x.2));
+        ((good (disks.seen new.disk) went.0).reads (lucky format bodies (disks.seen old.disk) went.1 (disks.seen new.disk) more stands.file ok first second));
+    left_is = λ c left. its c (let x = follows c left in good c (subst (λ f. Torn old.end (length (closed_by more old.digest group)) f c) (stands.durable x.0 x.1) x.2));
     lost = lost_is;
   }
     where
-      first : FailedPutAhead disks.tears (disks.seen old.disk) (length (text format bodies)) (closed_group (last (start format) bodies) group) (closed_group_by more (last (start format) bodies) group) went.1
+      first : FailedPutAhead disks.tears (disks.seen old.disk) (length (text format bodies)) (closed (last (start format) bodies) group) (closed_by more (last (start format) bodies) group) went.1
       first =
-          subst (λ d. FailedPutAhead disks.tears (disks.seen old.disk) (length (text format bodies)) (closed_group d group) (closed_group_by more d group) went.1) stands.digest
-          (subst (λ e. FailedPutAhead disks.tears (disks.seen old.disk) e (closed_group old.digest group) (closed_group_by more old.digest group) went.1) stands.end went.2)
+          subst (λ d. FailedPutAhead disks.tears (disks.seen old.disk) (length (text format bodies)) (closed d group) (closed_by more d group) went.1) stands.digest
+          (subst (λ e. FailedPutAhead disks.tears (disks.seen old.disk) e (closed old.digest group) (closed_by more old.digest group) went.1) stands.end went.2)
 
       second : FailedPut disks.tears went.1 (length (text format bodies)) (replicate (group_bytes group + 4) 0) (disks.seen new.disk)
       second =
           subst (λ e. FailedPut disks.tears went.1 e (replicate (group_bytes group + 4) 0) (disks.seen new.disk)) stands.end
           (subst (λ n. FailedPut disks.tears went.1 old.end (replicate n 0) (disks.seen new.disk)) (length-closed old.digest group) went.3)
 
-      good : (c : List ℕ) → Torn old.end (length (closed_group_by more old.digest group)) (disks.seen old.disk) c → LeavesGroup new.log_bytes format bodies group c
+      good : (c : List ℕ) → Torn old.end (length (closed_by more old.digest group)) (disks.seen old.disk) c → Leaves new.log_bytes format bodies group c
       good c torn =
-          torn_leaves format bodies group (disks.seen old.disk) stands.file ok new.log_bytes (length (closed_group_by more old.digest group)) c (omega (arith, stands.fits, room.1)) (omega (arith, room.0, room.1, length-range, stands.end))
-          (subst (λ e. Torn e (length (closed_group_by more old.digest group)) (disks.seen old.disk) c) stands.end torn)
+          torn_leaves format bodies group (disks.seen old.disk) stands.file ok new.log_bytes (length (closed_by more old.digest group)) c (omega (arith, stands.fits, room.1)) (omega (arith, room.0, room.1, length-range, stands.end))
+          (subst (λ e. Torn e (length (closed_by more old.digest group)) (disks.seen old.disk) c) stands.end torn)
 
-      its : (c : List ℕ) → LeavesGroup new.log_bytes format bodies group c → LeavesGroup new.log_bytes new.format bodies group c
-      its c it = subst (λ k. LeavesGroup new.log_bytes k bodies group c) (sym room.2) it
+      its : (c : List ℕ) → Leaves new.log_bytes format bodies group c → Leaves new.log_bytes new.format bodies group c
+      its c it = subst (λ k. Leaves new.log_bytes k bodies group c) (sym room.2) it
 
-  pub answers_kept : Room → (o : Appended) → o ≡ Kept → Went_by o → new.end ≡ old.end + (36 + as_one group) → new.digest ≡ last old.digest group → new.generation ≡ cond (nat_eq old.end 8) (number_in (first_of_group group)) old.generation → new.lost ≡ old.lost → AnswersGroup disks o bodies group new
-  answers_kept room o is went e d n l = subst (λ x. AnswersGroup disks x bodies group new) (sym is) (answer_kept room (subst Went_by is went) e d n l)
+  pub answers_kept : Room → (o : Appended) → o ≡ Kept → Went_by o → new.end ≡ old.end + (36 + as_one group) → new.digest ≡ last old.digest group → new.generation ≡ cond (nat_eq old.end 8) (number_in (first_of_group group)) old.generation → new.lost ≡ old.lost → Answers disks o bodies group new
+  answers_kept room o is went e d n l = subst (λ x. Answers disks x bodies group new) (sym is) (answer_kept room (subst Went_by is went) e d n l)
 
-  pub answers_refused : Room → (o : Appended) → (o ≡ Refused) ⊎ (o ≡ Full) → o ≢ Full → Went_by o → new.end ≡ old.end → new.digest ≡ old.digest → new.generation ≡ old.generation → new.lost ≡ old.lost → AnswersGroup disks o bodies group new
-  answers_refused room o (inl is) other went e d n l = subst (λ x. AnswersGroup disks x bodies group new) (sym is) (answer_refused room (subst Went_by is went) e d n l)
+  pub answers_refused : Room → (o : Appended) → (o ≡ Refused) ⊎ (o ≡ Full) → o ≢ Full → Went_by o → new.end ≡ old.end → new.digest ≡ old.digest → new.generation ≡ old.generation → new.lost ≡ old.lost → Answers disks o bodies group new
+  answers_refused room o (inl is) other went e d n l = subst (λ x. Answers disks x bodies group new) (sym is) (answer_refused room (subst Went_by is went) e d n l)
   answers_refused room o (inr is) other went e d n l = absurd (other is)
 
-  pub answers_lost : Room → (o : Appended) → o ≡ Lost → Went_by o → new.lost ≡ true → ((c : List ℕ) → disks.may_leave new.disk c → (d : List ℕ) × disks.may_leave old.disk d × Torn old.end (length (closed_group_by more old.digest group)) d c) → AnswersGroup disks o bodies group new
-  answers_lost room o is went l follows = subst (λ x. AnswersGroup disks x bodies group new) (sym is) (answer_lost room (subst Went_by is went) l follows)
+  pub answers_lost : Room → (o : Appended) → o ≡ Lost → Went_by o → new.lost ≡ true → ((c : List ℕ) → disks.may_leave new.disk c → (d : List ℕ) × disks.may_leave old.disk d × Torn old.end (length (closed_by more old.digest group)) d c) → Answers disks o bodies group new
+  answers_lost room o is went l follows = subst (λ x. Answers disks x bodies group new) (sym is) (answer_lost room (subst Went_by is went) l follows)
 
 -- ---- any moment
 
 module _ {D : Type 0} (disks : Ghosts D) (bodies group : List (List ℕ)) (old : Log D) (stands : Stands disks bodies old)
     (only_now : (c : List ℕ) → disks.left_since old.disk (disks.moment old.disk) c → disks.may_leave old.disk c) (ok : AllByRecursion (IsBody old.format) group) where
   pub group_moments : (new : D) (n : ℕ) → old.end + n ≤ old.log_bytes → TimePasses disks (Torn old.end n) old.disk new
-      → LeavesOnly disks old.disk new (LeavesGroup old.log_bytes old.format bodies group)
+      → LeavesOnly disks old.disk new (Leaves old.log_bytes old.format bodies group)
   group_moments new n room time =
       moments old.format bodies group (disks.seen old.disk) stands.file ok disks old.disk new old.log_bytes n stands.fits (omega (arith, room, stands.end)) only_now stands.durable
       (subst (λ e. TimePasses disks (Torn e n) old.disk new) stands.end time)
 
   -- nothing was asked of the disk
-  pub no_group_moments : old.end ≤ old.log_bytes → LeavesOnly disks old.disk old.disk (LeavesGroup old.log_bytes old.format bodies group)
+  pub no_group_moments : old.end ≤ old.log_bytes → LeavesOnly disks old.disk old.disk (Leaves old.log_bytes old.format bodies group)
   no_group_moments room =
       group_moments old.disk 0 (omega (arith, room))
       (record { later = omega arith; follows = λ c now. (c, now, torn_same old.end 0 c); nothing_else = λ t c le left. inl left; keeps = λ t c le left. left })
 
   -- the same, where the range is the records with their closing length and so many zeros
   pub range_moments : (new : D) (more to : ℕ) (range : List ℕ) → length range ≡ group_bytes group + 4 + more → to ≡ old.end + group_bytes group + 4 → to + more ≤ old.log_bytes
-      → TimePasses disks (Torn old.end (length range)) old.disk new → LeavesOnly disks old.disk new (LeavesGroup old.log_bytes old.format bodies group)
+      → TimePasses disks (Torn old.end (length range)) old.disk new → LeavesOnly disks old.disk new (Leaves old.log_bytes old.format bodies group)
   range_moments new more to range long is room time = group_moments new (length range) (omega (arith, long, is, room)) time

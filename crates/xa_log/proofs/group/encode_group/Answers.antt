@@ -1,11 +1,11 @@
-use Rattle.std.proofs.Common.{rules, ◌≡◌, ◌+◌, ◌≤◌, ◌∙◌, ◌++◌, ◌∷◌, [], List, ℕ, length, take, sym, ap, subst, arith}
+use Rattle.std.proofs.Common.{rules, ◌≡◌, ◌+◌, ◌≤◌, ◌∙◌, ◌++◌, ◌∷◌, [], List, ℕ, length, take, sym, ap, arith}
 use Rattle.xa_log.specs.Chain.{last}
-use Rattle.xa_log.specs.Group.{closed_group, group_bytes}
+use Rattle.xa_log.specs.Group.{closed}
 use Rattle.xa_log.specs.Reading.{bodies_of}
-use Rattle.xa_log.proofs.GroupSteps.{next, bytes_next, within, all_taken, step_text}
+use Rattle.xa_log.proofs.GroupSteps.{next, bytes_next, within, step_text}
 use Rattle.xa_log.proofs.Records.{last_more}
 use Rattle.xa_log.proofs.Steps.{body_ok}
-use Rattle.xa_log.proofs.grouping.encode_group.Goals as goal
+use Rattle.xa_log.proofs.group.encode_group.Goals as goal
 
 pub encode_at-digest-requires-clause-room : goal.encode_at-digest-requires-clause-room
 encode_at-digest-requires-clause-room c =
@@ -34,5 +34,5 @@ loop-body-preserved c =
       digest = c.encode_at-digest.ensures.digest ∙ (λ i. Rattle.xa_log.specs.Chain.digest (l.invariant.digest i) body) ∙ sym (last_more prev done body) ∙ ap (λ (x : List (List ℕ)). last prev x) (sym its);
       text = ap (λ (k : ℕ). take k c.encode_at-digest.new.buffer) n
           ∙ step_text prev done body l.buffer c.encode_at-digest.new.buffer l.digest l.at l.invariant.at l.invariant.digest l.invariant.text c.encode_at-digest.ensures.text
-          ∙ ap (λ (x : List (List ℕ)). closed_group prev x) (sym its);
+          ∙ ap (λ (x : List (List ℕ)). closed prev x) (sym its);
     }
