@@ -4,7 +4,7 @@ ghost use Rattle.xa_desk.specs.Frames.{reply_frame};
 
 use std::alloc::{AllocError, Global};
 use std::marker::Model;
-use xa_desk::put_frame;
+use xa_desk::make_frame;
 use xa_frame::Reply;
 
 /// Bytes in a row: what comes goes behind them, and they are taken from the front. Contracts see those that are left.
@@ -58,15 +58,14 @@ impl Buffer {
         self.bytes.extend_from_slice(more)
     }
 
-    /// Holds the frame of a reply in place of what it held, or nothing.
-    pub fn hold(&mut self, alloc: Global, reply: &Reply) -> Result<(), AllocError>
+    /// Holds the frame of a reply in place of what it held, or nothing. Takes no memory where its block is long enough.
+    pub fn hold(&mut self, reply: &Reply) -> Result<(), AllocError>
         requires { IsReply reply.now }
         ensures ok { OnOk result (self.new ≡ reply_frame reply.now) }
         ensures err { OnErr result (self.new ≡ []) }
     {
-        self.bytes.clear();
         self.taken = 0;
-        let held = put_frame(alloc, &mut self.bytes, reply);
+        let held = make_frame(&mut self.bytes, reply);
         if held.is_err() {
             self.bytes.clear();
         }

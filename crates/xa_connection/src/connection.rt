@@ -72,23 +72,23 @@ impl Connection {
             Front::Cut => Answering::Idle,
             Front::TooLong => {
                 self.end = Some(Served::TooLong);
-                self.hold(alloc, &Reply::bad_frame())
+                self.hold(&Reply::bad_frame())
             }
             Front::Whole(count) => {
                 let content = &self.input.as_slice()[4..4 + count];
                 let reply = answer(alloc, door, session, content);
                 self.input.take(4 + count);
-                self.hold(alloc, &reply)
+                self.hold(&reply)
             }
         }
     }
 
     // Makes a reply what is to be sent, or is to end where there is no memory for it.
-    fn hold(&mut self, alloc: Global, reply: &Reply) -> Answering
+    fn hold(&mut self, reply: &Reply) -> Answering
         requires { IsReply reply.now }
         ensures { Holds self.old reply.now result self.new }
     {
-        if self.output.hold(alloc, reply).is_ok() {
+        if self.output.hold(reply).is_ok() {
             return Answering::Answered;
         }
         self.end = Some(Served::Memory);

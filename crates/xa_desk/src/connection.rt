@@ -1,4 +1,5 @@
-ghost use Rattle.std.specs.Prelude.{◌≡◌, ◌<◌, ◌≤◌, ◌++◌, length, IfOk, IfErr, OnOk, true, false, Some};
+ghost use Rattle.std.specs.Int.{to_be_bytes, w32};
+ghost use Rattle.std.specs.Prelude.{◌≡◌, ◌<◌, ◌≤◌, ◌++◌, drop, length, IfOk, IfErr, OnOk, true, false, Some};
 ghost use Rattle.std.specs.Io.KnownBytes.{Consumes};
 ghost use Rattle.xa_limits.specs.declared.TheConstants.{MOST_CONTENT};
 ghost use Rattle.xa_frame.specs.Limits.{IsReply};
@@ -13,7 +14,7 @@ use std::alloc::{AllocError, Global};
 use std::io::{Read, Write};
 use xa_bytes::{number_of, put_u32};
 use xa_codes::{Detail, XAER_RMFAIL};
-use xa_frame::{FrameFault, Reply, decode_request, encode_reply, one_reply};
+use xa_frame::{FrameFault, Reply, decode_request, one_reply, put_reply};
 use xa_limits::MOST_CONTENT;
 use xa_output::write_text;
 
@@ -72,17 +73,26 @@ fn without_memory() -> Reply
     Reply::detailed(XAER_RMFAIL, Detail::Memory)
 }
 
-/// Appends the frame of a reply.
-pub fn put_frame(alloc: Global, out: &mut Vec<u8>, reply: &Reply) -> Result<(), AllocError>
+/// Makes these bytes the frame of a reply, in place of what they were. Takes no memory where there is room for it.
+pub fn make_frame(bytes: &mut Vec<u8>, reply: &Reply) -> Result<(), AllocError>
     requires { IsReply reply.now }
-    ensures { OnOk result (out.new.items ≡ out.old.items ++ reply_frame reply.now) }
+    ensures { OnOk result (bytes.new.items ≡ reply_frame reply.now) }
 {
-    let content = encode_reply(alloc, reply)?;
     one_reply();
-    out.reserve(4 + content.len())?;
-    put_u32(out, content.len() as u32)?;
-    out.extend_from_slice(&content)?;
+    bytes.clear();
+    put_u32(bytes, 0)?;
+    put_reply(bytes, reply)?;
+    let count = (bytes.len() - 4) as u32;
+    set_front(bytes.as_mut_slice(), count);
     Ok(())
+}
+
+// Sets the first four bytes to a number.
+fn set_front(bytes: &mut [u8], number: u32)
+    requires { 4 ≤ length bytes.old }
+    ensures { bytes.new ≡ to_be_bytes w32 number ++ drop 4 bytes.old }
+{
+    bytes[..4].copy_from_slice(&number.to_be_bytes());
 }
 
 fn frame_of(alloc: Global, reply: &Reply) -> Result<Vec<u8>, AllocError>
@@ -90,7 +100,7 @@ fn frame_of(alloc: Global, reply: &Reply) -> Result<Vec<u8>, AllocError>
     ensures { IfOk result (λ v. v.items ≡ reply_frame reply.now) }
 {
     let mut frame = Vec::new(alloc);
-    put_frame(alloc, &mut frame, reply)?;
+    make_frame(&mut frame, reply)?;
     Ok(frame)
 }
 

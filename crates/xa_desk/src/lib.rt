@@ -3,7 +3,7 @@
 //! - `door`: the trait `Door`, what a connection's requests and its hang-up go to
 //! - `connection`: `serve`, which reads frames, asks the door and writes the replies until the connection ends, and
 //!   hangs the session up; `serve_upto`, the same for so many frames; `MOST_FRAMES`; `answer`, the reply to a content;
-//!   `put_frame`, the bytes of a reply's frame
+//!   `make_frame`, the bytes of a reply's frame
 //! - `served`: `Served`, how a connection ended
 //!
 //! docs/PROTOCOL.md has the format of frames and what ends a connection.
@@ -13,6 +13,6 @@ mod connection;
 mod door;
 mod served;
 
-pub use connection::{MOST_FRAMES, answer, put_frame, serve, serve_upto};
+pub use connection::{MOST_FRAMES, answer, make_frame, serve, serve_upto};
 pub use door::Door;
 pub use served::Served;

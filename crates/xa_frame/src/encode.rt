@@ -1,6 +1,6 @@
 ghost use Rattle.std.specs.Prelude.{◌≡◌, ◌++◌, flat_map, All, IfOk, OnOk};
-ghost use Rattle.xa_frame.specs.Limits.{IsRequest, IsBody, IsReply, Holds, HoldsCursor, HoldsCounts, HoldsBranch, HoldsBody};
-ghost use Rattle.xa_frame.specs.Spelling.{cursor_bytes, fields_bytes, counts_bytes, branch_bytes, body_bytes, SpellsRequest, SpellsReply};
+ghost use Rattle.xa_frame.specs.Limits.{IsRequest, IsBody, IsReply, Holds, HoldsCursor, HoldsCounts, HoldsBranch, HoldsBody, HoldsReply};
+ghost use Rattle.xa_frame.specs.Spelling.{cursor_bytes, fields_bytes, counts_bytes, branch_bytes, body_bytes, bytes_of_reply, SpellsRequest, SpellsReply};
 ghost use Rattle.xa_xid.specs.Spelling.{bytes_of};
 ghost use Rattle.xa_xid.specs.Triple.{IsWithinLimits};
 
@@ -187,16 +187,26 @@ fn reply_room(body: &Body) -> usize
     }
 }
 
+/// Appends the content that spells the reply. Takes no memory where there is room for it.
+pub fn put_reply(out: &mut Vec<u8>, reply: &Reply) -> Result<(), AllocError>
+    requires { IsReply reply.now }
+    ensures bytes { OnOk result (out.new.items ≡ out.old.items ++ bytes_of_reply reply.now) }
+    ensures holds { OnOk result (HoldsReply reply.now) }
+{
+    out.reserve(reply_room(&reply.body))?;
+    out.push(VERSION)?;
+    out.extend_from_slice(&reply.code.to_be_bytes())?;
+    out.push(detail_number(reply.detail))?;
+    put_u64(out, reply.place)?;
+    put_body(out, &reply.body)
+}
+
 /// The content that spells the reply.
 pub fn encode_reply(alloc: Global, reply: &Reply) -> Result<Vec<u8>, AllocError>
     requires { IsReply reply.now }
     ensures { IfOk result (λ v. SpellsReply v.items reply.now) }
 {
-    let mut content = Vec::with_capacity(alloc, reply_room(&reply.body))?;
-    content.push(VERSION)?;
-    content.extend_from_slice(&reply.code.to_be_bytes())?;
-    content.push(detail_number(reply.detail))?;
-    put_u64(&mut content, reply.place)?;
-    put_body(&mut content, &reply.body)?;
+    let mut content = Vec::new(alloc);
+    put_reply(&mut content, reply)?;
     Ok(content)
 }

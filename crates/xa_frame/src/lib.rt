@@ -13,7 +13,7 @@
 //! Their bytes:
 //!
 //! - `numbers`: the numbers that stand for calls, details and states; `Request::call`
-//! - `encode`: `encode_request` and `encode_reply`, of values within the limits
+//! - `encode`: `encode_request`, `encode_reply` and `put_reply`, of values within the limits
 //! - `fields`: what a content is made of, read from the front: numbers, codes, details, known branches; keys, values and
 //!   XIDs are `xa_fields`'
 //! - `request_decoder`: `decode_request`; `reply_decoder`: `decode_reply`
@@ -41,7 +41,7 @@ mod request_decoder;
 mod xids;
 
 pub use body::Body;
-pub use encode::{encode_reply, encode_request};
+pub use encode::{encode_reply, encode_request, put_reply};
 pub use fault::FrameFault;
 pub use known_branch::{AssociationCounts, BranchState, KnownBranch};
 pub use known_branches::KnownBranches;
