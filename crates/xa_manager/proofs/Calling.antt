@@ -31,7 +31,7 @@ use Rattle.xa_manager.specs.declared.manager.Manager.{Manager}
 use Rattle.xa_manager.specs.declared.done.Done.{Done}
 use Rattle.xa_manager.specs.Crash.{LeavesBy, LeavesLook, LeavesWanting}
 use Rattle.xa_manager.specs.LogStands.{Trusts}
-use Rattle.xa_manager.specs.Answered.{FullyAnswered, HasCalled, StaysFor, NoneRises, connect_reply, may_want, memory_code}
+use Rattle.xa_manager.specs.Answered.{FullyAnswered, StaysFor, connect_reply, may_want, memory_code}
 use Rattle.xa_manager.specs.View.{View, context_at}
 use Rattle.xa_manager.specs.Managed.{view, ManagerStandsFor, AnswersAs}
 use Rattle.xa_manager.specs.Stands.{TablesStandFor, Follows, FollowsDown, Stays, StaysDown}

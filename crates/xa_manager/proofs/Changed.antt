@@ -14,7 +14,7 @@ use Rattle.xa_xid.specs.Triple.{Triple}
 use Rattle.xa_model.specs.State.{State, Operation, Read}
 use Rattle.xa_model.specs.Records.{did}
 use Rattle.xa_model.specs.Loggable.{IsRecoverable}
-use Rattle.xa_model.proofs.ChangedWaters.{done_water}
+use Rattle.xa_model.proofs.ChangedWaters.{done_water, done_floor}
 use Rattle.xa_assoc.proofs.Follows.{unmoved}
 use Rattle.xa_branch.proofs.Elsewhere.{stands_elsewhere, done_stands as branch_done}
 use Rattle.xa_manager.specs.View.{View}
@@ -70,6 +70,6 @@ done_stands m m' s xid op reads st same records recoverable = record {
       (branch_done m.branches s xid op st.branches));
   records =
       low_rises (record { low = low_of s; writes = writes_in (did xid op s.branches); reads = map read_as reads }) m'.records (low_of (record s { branches = did xid op s.branches; reads = reads })) records
-      (stays_with s (record s { branches = did xid op s.branches; reads = reads }) refl (done_water s xid op));
+      (stays_with s (record s { branches = did xid op s.branches; reads = reads }) (done_floor s xid op) (done_water s xid op));
   recoverable = recoverable;
 }

@@ -8,7 +8,8 @@ use Rattle.xa_codes.specs.declared.detail.Detail.TheVariants as detail
 use Rattle.xa_record.specs.Spelling.{spelled}
 use Rattle.xa_record.specs.declared.record.Record.{Record}
 use Rattle.xa_record.specs.declared.record.Record.TheVariants as logged
-use Rattle.xa_log.specs.Chain.{newest, IsPlain}
+use Rattle.xa_log.specs.Chain.{newest}
+use Rattle.xa_log.specs.Group.{IsPlain}
 use Rattle.xa_log.specs.Pair.{generation, IsCalm, logged_pair, pair_fault}
 use Rattle.xa_log.specs.Checkpoint.{LeavesAny}
 use Rattle.xa_log.specs.Laws.{IsLogOf}
@@ -16,6 +17,7 @@ use Rattle.xa_log.specs.LogStates.{LogState, IsIn, MayFind, LeavesBoth, LooksTo,
 use Rattle.xa_log.specs.Stands.{Leaves}
 use Rattle.xa_log.specs.TwoFiles.{Pair, first_of, second_of}
 use Rattle.xa_log.specs.declared.log.Log.{Log}
+use Rattle.xa_log.proofs.Grouped.{one_rests}
 use Rattle.xa_log.proofs.States.{left_both, reads_both}
 use Rattle.xa_log.proofs.Two.{beats_more}
 use Rattle.xa_model.specs.State.{State}
@@ -77,8 +79,8 @@ either_for most first rs s current other h k (inr (r, is, f)) =
 -- ---- what a crash leaves while a record is appended
 
 pub append_files : {D : Type 0} (disks : Ghosts D) (log : Log D) (rs : List Record) (t : State) (r : Record) (stood : List (List ℕ)) (current other : List ℕ)
-    → is_boot r ≡ false → Pair disks (map spelled rs) stood log → Leaves log.log_bytes log.format (map spelled rs) (spelled r) current
-    → IsPlain log.format (map spelled rs) (spelled r) current → disks.may_leave log.other other → IsCalm stood other
+    → is_boot r ≡ false → Pair disks (map spelled rs) stood log → Leaves log.log_bytes log.format (map spelled rs) (spelled r ∷ []) current
+    → IsPlain log.format (map spelled rs) (spelled r ∷ []) current → disks.may_leave log.other other → IsCalm stood other
     → IsRecoverable t → Backs rs t → t.open_record ≡ Some r
     → FilesStandFor log.log_bytes (cond log.on_first current other) (cond log.on_first other current) t
 append_files disks log rs t r stood current other boot p leaves plain two calm h k is =
@@ -87,7 +89,7 @@ append_files disks log rs t r stood current other boot p leaves plain two calm h
     either_for log.log_bytes log.on_first rs t current other h k
     (⊎_elim (λ f. inl f)
     (λ f. inr (r, is, subst (λ (x : List (List ℕ)). AreFilesOf log.log_bytes log.on_first x current other) (sym pushed) f))
-    (files_of_append log.log_bytes log.on_first log.format (map spelled rs) (spelled r) stood current other leaves.fits (leaves.reads plain)
+    (files_of_append log.log_bytes log.on_first log.format (map spelled rs) (spelled r) stood current other leaves.fits (one_rests log.format (map spelled rs) (spelled r) current (leaves.reads plain))
     (p.other.left_fits other two) (p.other.left_behind other two) calm p.older (beats_more log.on_first (map spelled rs) (spelled r) stood p.older)))
 
 -- ---- what a crash leaves while a snapshot is written
@@ -131,7 +133,7 @@ pub read_leaves : {D : Type 0} (disks : Ghosts D)
     → ReadLeaves disks
 read_leaves disks log s t h stands =
     found_files disks log s log.log_bytes (disks.seen (first_of log)) (disks.seen (second_of log)) h stands
-    (reads_both disks log stands.state stands.is_in (lost_trusted disks t stands.state) (calm_trusted disks t stands.state log))
+    (reads_both disks log stands.state stands.is_in (lost_trusted disks t stands.state stands.of_one) (calm_trusted disks t stands.state log))
 
 pub crash_leaves : {D : Type 0} (disks : Ghosts D)
     → CrashLeaves disks

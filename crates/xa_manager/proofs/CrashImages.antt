@@ -1,7 +1,7 @@
 -- Which log two images have.
 use Rattle.std.proofs.Common.{◌≡◌, ◌⊎◌, inl, inr, ⊎_elim, ℕ, ◌≤◌, ◌<◌, Bool, true, List, [], ◌∷◌, ◌++◌, length, sym, ◌∙◌, cond, None}
 use Rattle.xa_log.specs.declared.format.Format.{Format}
-use Rattle.xa_log.specs.Chain.{IsBeforeOrAfter}
+use Rattle.xa_log.specs.Chain.{Rests}
 use Rattle.xa_log.specs.Checkpoint.{LeavesOf, LeavesNone}
 use Rattle.xa_log.specs.Laws.{IsLogOf}
 use Rattle.xa_log.specs.Pair.{generation, beats, logged_pair, pair_fault, Behind, IsCalm}
@@ -37,7 +37,7 @@ files_of_none most first format bodies current other l none =
 
 -- the append of a body was lost
 pub files_of_append : (most : ℕ) (first : Bool) (format : Format) (bodies : List (List ℕ)) (body : List ℕ) (stood : List (List ℕ)) (current other : List ℕ)
-    → length current ≤ most → IsBeforeOrAfter format bodies body current → length other ≤ most → Behind stood other → IsCalm stood other
+    → length current ≤ most → Rests format bodies current ⊎ Rests format (bodies ++ body ∷ []) current → length other ≤ most → Behind stood other → IsCalm stood other
     → beats first bodies stood ≡ true → beats first (bodies ++ body ∷ []) stood ≡ true
     → AreFilesOf most first bodies current other ⊎ AreFilesOf most first (bodies ++ body ∷ []) current other
 files_of_append most first format bodies body stood current other short (inl rests) fits behind calm wins after =

@@ -30,7 +30,7 @@ use Rattle.xa_model.specs.State.{State, Branch, Phase, Working, Prepared, Commit
 use Rattle.xa_model.specs.Associations.{timestamp_in, timestamp_by}
 use Rattle.xa_model.specs.Branches.{rolled_back, committed, decided_by}
 use Rattle.xa_model.specs.Sound.{IsSound}
-use Rattle.xa_model.proofs.ChangedWaters.{committed_water, rolled_back_water}
+use Rattle.xa_model.proofs.ChangedWaters.{committed_water, rolled_back_water, committed_floor, rolled_back_floor}
 
 passes_by : (q : Branch → Bool) (x b : Branch) (rest : Option Branch) (c : Bool) → q x ≡ c → cond c (Some x) rest ≡ Some b → (rest ≡ Some b → q b ≡ true) → q b ≡ true
 passes_by q x b rest true e h more = let same : x ≡ b = cc h in subst (λ (y : Branch). q y ≡ true) same e
@@ -76,7 +76,7 @@ committed_records s xid t r r' sound here time st settles =
     let e = committed_writes xid x.branch (timestamp_of s.boot s.given + 1) s.branches sound.descends x.at in
     low_rises (record { low = low_of s; writes = writes_in (committed s xid).branches; reads = map read_as s.reads }) r' (low_of (committed s xid))
     (subst (λ (ws : List Written). RecordsStandFor (record { low = low_of s; writes = ws; reads = map read_as s.reads }) r') e (decided_at s xid t kept r r' sound x time st settles))
-    (rises_with s (committed s xid) refl (committed_water s xid sound))
+    (rises_with s (committed s xid) (committed_floor s xid) (committed_water s xid sound))
 
 pub gone_records : (s : State) (xid : Triple) (t : ℕ) (r r' : Records) → IsSound s → IsSome (known_of s.branches xid) → t ≡ timestamp_in s xid → RecordsStandFor (history_of s) r → Settles t gone r r'
     → RecordsStandFor (history_of (rolled_back s xid)) r'
@@ -85,7 +85,7 @@ gone_records s xid t r r' sound here time st settles =
     low_rises (record { low = low_of s; writes = writes_in (rolled_back s xid).branches; reads = map read_as s.reads }) r' (low_of (rolled_back s xid))
     (stands_same (low_of s) (decided x.branch.timestamp gone (writes_in s.branches)) (writes_in (without (is_known_as xid) s.branches)) (map read_as s.reads) r'
     (gone_writes xid x.branch (timestamp_of s.boot s.given + 1) s.branches sound.descends x.at) (decided_at s xid t gone r r' sound x time st settles))
-    (rises_with s (rolled_back s xid) refl (rolled_back_water s xid sound))
+    (rises_with s (rolled_back s xid) (rolled_back_floor s xid) (rolled_back_water s xid sound))
 
 -- where the log ends says nothing of branches
 pub moved_end : (m : Branches) (s : State) (end : ℕ) → BranchesStandFor m s → BranchesStandFor m (ending s end)

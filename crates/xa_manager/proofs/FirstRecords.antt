@@ -34,8 +34,8 @@ one_body (y ∷ (z ∷ zs)) x body one first same = absurd (omega (arith, one))
 -- what logging the first record of a log that was made does
 pub appends_first : {D : Type 0} (disks : Ghosts D) (is_new : Bool) (o : Appended) (fresh : List (List ℕ)) (body : List ℕ) (old new : Log D) → is_new ≡ true → fresh ≡ body ∷ []
     → (new.other ≡ old.other) × (new.on_first ≡ old.on_first)
-    → (disks.honest → (bodies stood : List (List ℕ)) → Pair disks bodies stood old → AppendsTo disks o bodies body stood new)
-    → (disks.honest → (bodies : List (List ℕ)) → Stands disks bodies old → LeavesOnly disks old.disk new.disk (Leaves old.log_bytes old.format bodies body))
+    → (disks.honest → (bodies stood : List (List ℕ)) → Pair disks bodies stood old → AppendsTo disks o bodies (body ∷ []) stood new)
+    → (disks.honest → (bodies : List (List ℕ)) → Stands disks bodies old → LeavesOnly disks old.disk new.disk (Leaves old.log_bytes old.format bodies (body ∷ [])))
     → LogsFirst disks is_new o fresh old new
 appends_first disks is_new o fresh body old new made only same pair moment = inl (
   made,

@@ -5,7 +5,7 @@ use Rattle.std.proofs.lemmas.Bool.Decides.{nat_tests}
 use Rattle.xa_disk.specs.declared.disk.Disk.{Ghosts}
 use Rattle.xa_record.specs.Spelling.{spelled}
 use Rattle.xa_record.specs.declared.record.Record.{Record}
-use Rattle.xa_log.specs.Chain.{format_number, newest, start, format_in, body_at, begins, bodies_from, digest_at, rest_at, is_record, logged, Rests}
+use Rattle.xa_log.specs.Chain.{format_number, newest, start, format_in, body_at, bodies_from, digest_at, rest_at, is_record, logged, Rests}
 use Rattle.xa_log.specs.Pair.{number_in, generation, is_nil, beats, IsCalm, CalmTears}
 use Rattle.xa_log.specs.TwoFiles.{Pair, first_of, second_of}
 use Rattle.xa_log.specs.declared.format.Format.{Format}
@@ -14,7 +14,7 @@ use Rattle.xa_log.specs.declared.log.Log.{Log}
 use Rattle.xa_log.proofs.Records.{rests_logged}
 use Rattle.xa_log.specs.LogStates.{LogState, Whole, LostAppend, LostCheckpoint, IsIn, MayFind}
 use Rattle.xa_model.specs.Backing.{Backs}
-use Rattle.xa_model.specs.Durable.{Durable, durable}
+use Rattle.xa_model.specs.Durable.{Durable}
 use Rattle.xa_model.specs.Loggable.{IsRecoverable}
 use Rattle.xa_model.specs.State.{State}
 use Rattle.xa_manager.specs.Rereading.{IsFate, Found}
@@ -141,5 +141,5 @@ pub stood_format : {D : Type 0} (disks : Ghosts D) (log log' : Log D) (state : L
     → disks.seen (first_of log') ≡ disks.seen (first_of log) → disks.seen (second_of log') ≡ disks.seen (second_of log) → log'.format ≡ log.format
 stood_format disks log log' (Whole bodies stood) found p alive is q tears some first second =
     same_format disks log log' bodies stood p (subst (λ (x : List (List ℕ)). Pair disks x (logged (disks.seen log'.other)) log') is q) tears (ap is_nil (sym is) ∙ some) first second
-stood_format disks log log' (LostAppend bodies body stood) found p alive is q tears some first second = absurd (cc (p.current.lost, alive))
+stood_format disks log log' (LostAppend bodies group stood) found p alive is q tears some first second = absurd (cc (p.current.lost, alive))
 stood_format disks log log' (LostCheckpoint bodies fresh) found p alive is q tears some first second = absurd (cc (p.lost, alive))

@@ -41,9 +41,9 @@ found_new disks is_new bodies log is none found =
 
 -- its first record
 pub first_kept : {D : Type 0} (disks : Ghosts D) (o : Appended) (stood : List (List ℕ)) (body : List ℕ) (bodies : List (List ℕ)) (log : Log D) → o ≡ Kept → bodies ≡ body ∷ []
-    → AppendsTo disks o [] body stood log → HasBodies disks bodies log
+    → AppendsTo disks o [] (body ∷ []) stood log → HasBodies disks bodies log
 first_kept disks o stood body bodies log kept one went =
-    (stood, subst (λ (b : List (List ℕ)). Pair disks b stood log) (sym one) (subst (λ (x : Appended). AppendsTo disks x [] body stood log) kept went))
+    (stood, subst (λ (b : List (List ℕ)). Pair disks b stood log) (sym one) (subst (λ (x : Appended). AppendsTo disks x [] (body ∷ []) stood log) kept went))
 
 -- where its next record begins then
 pub first_ends : {D : Type 0} (o : Appended) (old new : Log D) (was bodies : List (List ℕ)) (body : List ℕ) → o ≡ Kept → was ≡ [] → bodies ≡ body ∷ []

@@ -6,7 +6,7 @@ use Rattle.mv_rules.specs.Accesses.{Accesses}
 use Rattle.mv_rules.specs.Records.{StandsFor as RecordsStandFor}
 use Rattle.mv_rules.specs.Ties.{history_of, writes_in, read_as}
 use Rattle.mv_rules.proofs.Undecided.{are_whole}
-use Rattle.xa_model.specs.LowWater.{low_water}
+use Rattle.xa_model.specs.LowWater.{low_water, work_floor}
 use Rattle.xa_model.specs.Sound.{IsSound}
 use Rattle.xa_model.specs.State.{State, timestamp_of}
 
@@ -18,5 +18,5 @@ pub given_stands : (s : State) (r r' : Records) (given : ℕ) → given ≡ low_
     → ((h : Accesses) → RecordsStandFor h r → AreWhole h.writes → RecordsStandFor (record h { low = max h.low given }) r')
     → RecordsStandFor (history_of s) r → RecordsStandFor (history_of s) r'
 given_stands s r r' given e sound gives st =
-    subst (λ (low : ℕ). RecordsStandFor (record { low = low; writes = writes_in s.branches; reads = map read_as s.reads }) r') (no_higher (timestamp_of s.boot 0) (low_water s) given e)
+    subst (λ (low : ℕ). RecordsStandFor (record { low = low; writes = writes_in s.branches; reads = map read_as s.reads }) r') (no_higher (work_floor s) (low_water s) given e)
     (gives (history_of s) st (are_whole (timestamp_of s.boot s.given + 1) s.branches sound.descends))

@@ -13,7 +13,7 @@ use Rattle.xa_model.specs.State.{State, Branch, Read, Phase, Working, Prepared, 
 use Rattle.xa_model.specs.Branches.{prepared, prepared_phase, as_prepared}
 use Rattle.xa_model.specs.Associations.{with_mark, marked_phase, left_behind, is_worked_by}
 use Rattle.xa_model.specs.TimeLimits.{runs_out, ticked}
-use Rattle.xa_model.proofs.ChangedWaters.{marked_water, left_water, timed_water, prepared_water}
+use Rattle.xa_model.proofs.ChangedWaters.{marked_water, left_water, timed_water, prepared_water, marked_floor, left_floor, timed_floor, prepared_floor}
 use Rattle.xa_manager.proofs.Lows.{stays_with}
 
 -- the low water may have risen
@@ -37,7 +37,7 @@ pub marked_records : (code : ℤ) (xid : Triple) (s : State) (r : Records) → R
     → RecordsStandFor (history_of (record s { branches = change (is_known_as xid) (with_mark code) s.branches })) r
 marked_records code xid s r st =
     let t : State = record s { branches = change (is_known_as xid) (with_mark code) s.branches } in
-    same_writes s t r refl (unwritten (is_known_as xid) (with_mark code) (marked_one code) s.branches) (stays_with s t refl (marked_water s code xid)) st
+    same_writes s t r refl (unwritten (is_known_as xid) (with_mark code) (marked_one code) s.branches) (stays_with s t (marked_floor s code xid) (marked_water s code xid)) st
 
 -- some branches are marked
 
@@ -58,12 +58,12 @@ pub left_records : (n : ℕ) (s : State) (r : Records) → RecordsStandFor (hist
     → RecordsStandFor (history_of (record s { branches = map (left_behind s.associations n) s.branches })) r
 left_records n s r st =
     let t : State = record s { branches = map (left_behind s.associations n) s.branches } in
-    same_writes s t r refl (marking_writes XA_RBCOMMFAIL (λ b. is_worked_by s.associations n b.phase) s.branches) (stays_with s t refl (left_water s s.associations n)) st
+    same_writes s t r refl (marking_writes XA_RBCOMMFAIL (λ b. is_worked_by s.associations n b.phase) s.branches) (stays_with s t (left_floor s s.associations n) (left_water s s.associations n)) st
 
 -- a moment is told
 pub ticked_records : (moment : ℕ) (s : State) (r : Records) → RecordsStandFor (history_of s) r → RecordsStandFor (history_of (ticked s moment)) r
 ticked_records moment s r st =
-    same_writes s (ticked s moment) r refl (marking_writes XA_RBTIMEOUT (runs_out moment) s.branches) (stays_with s (ticked s moment) refl (timed_water s moment)) st
+    same_writes s (ticked s moment) r refl (marking_writes XA_RBTIMEOUT (runs_out moment) s.branches) (stays_with s (ticked s moment) (timed_floor s moment) (timed_water s moment)) st
 
 -- a branch is prepared
 
@@ -77,4 +77,4 @@ prepared_one b = ap (λ (fate : Option Fate). writes_by b.timestamp fate b.opera
 
 pub prepared_records : (xid : Triple) (s : State) (r : Records) → RecordsStandFor (history_of s) r → RecordsStandFor (history_of (prepared s xid)) r
 prepared_records xid s r st =
-    same_writes s (prepared s xid) r refl (unwritten (is_known_as xid) as_prepared prepared_one s.branches) (stays_with s (prepared s xid) refl (prepared_water s xid)) st
+    same_writes s (prepared s xid) r refl (unwritten (is_known_as xid) as_prepared prepared_one s.branches) (stays_with s (prepared s xid) (prepared_floor s xid) (prepared_water s xid)) st

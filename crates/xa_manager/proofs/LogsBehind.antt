@@ -1,5 +1,5 @@
 -- The log behind a state, by the state that the log itself is in.
-use Rattle.std.proofs.Common.{◌≡◌, ⊎_elim, inl, inr, ℕ, true, false, List, [], ◌∷◌, ◌++◌, map, None, Some, refl, ap, sym, ◌∙◌, subst}
+use Rattle.std.proofs.Common.{◌≡◌, ⊎_elim, inl, inr, ℕ, true, false, List, [], ◌∷◌, ◌++◌, map, None, Some, refl, ap, sym, ◌∙◌, subst, arith}
 use Rattle.std.proofs.lemmas.List.{map_push}
 use Rattle.xa_disk.specs.declared.disk.Disk.{Ghosts}
 use Rattle.xa_record.specs.Spelling.{spelled}
@@ -8,13 +8,14 @@ use Rattle.xa_record.specs.declared.record.Record.TheVariants as logged
 use Rattle.xa_log.specs.LogStates.{LogState, Whole, LostAppend, LostCheckpoint, IsIn, LostTears, IsCalmBeside}
 use Rattle.xa_log.specs.TwoFiles.{MayStandPair, MaySeal}
 use Rattle.xa_log.specs.declared.log.Log.{Log}
-use Rattle.xa_log.proofs.States.{whole_of, lost_by, beside_by}
+use Rattle.xa_log.proofs.Grouped.{one_found}
+use Rattle.xa_log.proofs.States.{whole_of, beside_by}
 use Rattle.xa_model.specs.State.{State}
 use Rattle.xa_model.specs.Durable.{Durable, durable}
 use Rattle.xa_model.specs.Fold.{snapshot}
 use Rattle.xa_model.specs.Backing.{Backs, settled}
 use Rattle.xa_model.specs.Loggable.{is_boot}
-use Rattle.xa_manager.specs.LogStands.{Trusts, HasRecords, IsSettled, LogStandsFor, snapshot_bodies}
+use Rattle.xa_manager.specs.LogStands.{Trusts, HasRecords, IsSettled, IsOfOne, LogStandsFor, snapshot_bodies}
 
 -- ---- the records that settle a fate
 
@@ -54,8 +55,12 @@ same_open s r q one other = cc (one, other)
 
 -- ---- under the premises on a type of disks
 
-pub lost_trusted : {D : Type 0} (disks : Ghosts D) → Trusts disks → (state : LogState) → LostTears disks.tears state
-lost_trusted disks t state = lost_by disks.tears t.appends state
+pub lost_trusted : {D : Type 0} (disks : Ghosts D) → Trusts disks → (state : LogState) → IsOfOne state → LostTears disks.tears state
+lost_trusted disks t (Whole bodies stood) one = tt
+lost_trusted disks t (LostAppend bodies [] stood) one = absurd (omega arith)
+lost_trusted disks t (LostAppend bodies (body ∷ []) stood) one = t.appends body
+lost_trusted disks t (LostAppend bodies (body ∷ (other ∷ group)) stood) one = absurd (omega arith)
+lost_trusted disks t (LostCheckpoint bodies fresh) one = tt
 
 pub calm_trusted : {D : Type 0} (disks : Ghosts D) → Trusts disks → (state : LogState) (log : Log D) → IsCalmBeside disks state log
 calm_trusted disks t state log = inl (beside_by disks.tears t.headers t.seals state)
@@ -74,19 +79,21 @@ module _ {D : Type 0} (disks : Ghosts D) where
     state = Whole (map spelled rs) stood;
     is_in = p;
     finds = λ found is. inl is;
+    of_one = tt;
     lost_as = λ r is. _;
   }
 
   -- the record that was lost is no boot's
   pub stands_append : (log : Log D) (s : State) (rs : List Record) (r : Record) (stood : List (List ℕ)) → Backs rs s → s.open_record ≡ Some r → is_boot r ≡ false
-      → MayStandPair disks (map spelled rs) (spelled r) stood log → LogStandsFor disks log s
+      → MayStandPair disks (map spelled rs) (spelled r ∷ []) stood log → LogStandsFor disks log s
   stands_append log s rs r stood backs open_is boot p = record {
     records = rs;
     backs = backs;
-    state = LostAppend (map spelled rs) (spelled r) stood;
+    state = LostAppend (map spelled rs) (spelled r ∷ []) stood;
     is_in = p;
     finds = λ found may. ⊎_elim (λ is. inl is)
-        (λ is. inr (r, open_is, is ∙ sym (ap (λ (us : List Record). map spelled us) (appended_only rs s r boot) ∙ map_push spelled rs r))) may;
+        (λ is. inr (r, open_is, is ∙ sym (ap (λ (us : List Record). map spelled us) (appended_only rs s r boot) ∙ map_push spelled rs r))) (one_found (map spelled rs) (spelled r) found may);
+    of_one = refl;
     lost_as = λ q is. subst (λ (x : Record). is_boot x ≡ false) (same_open s r q open_is is) boot;
   }
 
@@ -99,6 +106,7 @@ module _ {D : Type 0} (disks : Ghosts D) where
     state = LostCheckpoint (map spelled rs) (snapshot_bodies s boot);
     is_in = p;
     finds = λ found may. ⊎_elim (λ is. inl is) (λ is. inr (logged.Opened boot, open_is, is)) may;
+    of_one = tt;
     lost_as = λ q is. subst (λ (x : Record). is_boot x ≡ true) (same_open s (logged.Opened boot) q open_is is) refl;
   }
 
@@ -111,6 +119,7 @@ module _ {D : Type 0} (disks : Ghosts D) where
     state = l.state;
     is_in = l.is_in;
     finds = λ found may. settles_same l.records s t found lasts open_is (l.finds found may);
+    of_one = l.of_one;
     lost_as = λ r is. l.lost_as r (sym open_is ∙ is);
   }
 
@@ -123,5 +132,6 @@ module _ {D : Type 0} (disks : Ghosts D) where
     state = l.state;
     is_in = kept l.state l.is_in;
     finds = l.finds;
+    of_one = l.of_one;
     lost_as = l.lost_as;
   }

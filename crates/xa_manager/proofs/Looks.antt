@@ -94,19 +94,9 @@ time_of s xid w x = ap (λ (y : Kept_branch). y.timestamp) x.kept
 pub open_fate : (s : State) (xid : Triple) (w : Kept_branch) → (x : IsWorking s xid w) → fate_of x.branch.phase ≡ None
 open_fate s xid w x = ap fate_of x.phase
 
--- a branch at work has its timestamp from this boot
-
-boot_at : (t boot : ℕ) → boot_of t ≡ boot → timestamp_of boot 0 ≤ t
-boot_at t boot e = omega arith
-
-from_boot : (s : State) (xid : Triple) (w : Kept_branch) → (x : IsWorking s xid w) → IsLoggable s → timestamp_of s.boot 0 ≤ x.branch.timestamp
-from_boot s xid w x h =
-    let works : is_working x.branch.phase ≡ true = ap is_working x.phase in
-    boot_at x.branch.timestamp s.boot (found_all (λ (b : Branch). is_working b.phase ≡ true → boot_of b.timestamp ≡ s.boot) (is_known_as xid) x.branch s.branches h.begun x.found works)
-
--- nor is it below the low water
-pub from_low : (s : State) (xid : Triple) (w : Kept_branch) → (x : IsWorking s xid w) → IsLoggable s → low_of s ≤ x.branch.timestamp
-from_low s xid w x h = low_under s xid x.branch x.found (from_boot s xid w x h)
+-- a branch at work isn't below where the history counts
+pub from_low : (s : State) (xid : Triple) (w : Kept_branch) → (x : IsWorking s xid w) → low_of s ≤ x.branch.timestamp
+from_low s xid w x = low_under s xid x.branch x.found (ap is_working x.phase)
 
 pub above_low : (m : View) (s : State) (xid : Triple) (w : Kept_branch) → StandsFor m s → (x : IsWorking s xid w) → low_of s ≤ w.timestamp
-above_low m s xid w st x = subst (λ (t : ℕ). low_of s ≤ t) (sym (time_of s xid w x)) (from_low s xid w x st.recoverable.loggable)
+above_low m s xid w st x = subst (λ (t : ℕ). low_of s ≤ t) (sym (time_of s xid w x)) (from_low s xid w x)

@@ -68,7 +68,7 @@ Marks m xid m' = (s : State) → StandsFor m s → IsRecoverable (marked_with XA
 open_at : (m : View) (s : State) (xid : Triple) (w : Kept_branch) → StandsFor m s → (x : IsWorking s xid w) → IsUnsettled w.timestamp (low_of s) (writes_in s.branches)
 open_at m s xid w st x =
     subst (λ (t : ℕ). IsUnsettled t (low_of s) (writes_in s.branches)) (sym (time_of s xid w x))
-    (unsettled xid x.branch (timestamp_of s.boot s.given + 1) (low_of s) s.branches st.recoverable.sound.descends x.found (open_fate s xid w x) (from_low s xid w x st.recoverable.loggable))
+    (unsettled xid x.branch (timestamp_of s.boot s.given + 1) (low_of s) s.branches st.recoverable.sound.descends x.found (open_fate s xid w x) (from_low s xid w x))
 
 -- what a put answers, by whether the keys are used up and whether it is late
 judged : (m m' : View) (s : State) (xid : Triple) (w : Kept_branch) (key : List ℕ) (value : Option (List ℕ)) (put : Put) → StandsFor m s → (x : IsWorking s xid w) → Puts m w.timestamp key value put m' → put ≢ put_as.Memory

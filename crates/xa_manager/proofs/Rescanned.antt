@@ -15,7 +15,7 @@ use Rattle.xa_model.specs.Fold.{sizes}
 use Rattle.xa_model.specs.Backing.{Backs, settled}
 use Rattle.xa_model.specs.Loggable.{IsRecoverable}
 use Rattle.xa_model.specs.Restarting.{missed, survived}
-use Rattle.xa_manager.specs.LogStands.{HasRecords, IsSettled, LogStandsFor}
+use Rattle.xa_manager.specs.LogStands.{HasRecords, IsOfOne, IsSettled, LogStandsFor}
 use Rattle.xa_manager.specs.Rereading.{Found}
 use Rattle.xa_manager.proofs.Fates.{survived_backed, missed_backed}
 
@@ -35,19 +35,20 @@ text_size format rs = length-text format (map spelled rs) ∙ ap (λ (n : ℕ). 
 -- A look that succeeds finds what the log may have, and that stands.
 pub record Finds {D : Type 0} (disks : Ghosts D) (found : List (List ℕ)) (log log' : Log D) : Type 0 where
   pub stood : List (List ℕ)
-  pub state : (state : LogState) → IsIn disks state log → MayFind state found × Pair disks found stood log'
+  pub state : (state : LogState) → IsOfOne state → IsIn disks state log → MayFind state found × Pair disks found stood log'
 
 -- the log still stands behind the state
 pub stands_found : {D : Type 0} (disks : Ghosts D) (found : List (List ℕ)) (log log' : Log D) (s : State)
     → Finds disks found log log' → LogStandsFor disks log s → LogStandsFor disks log' s
 stands_found disks found log log' s k st =
-    let now = k.state st.state st.is_in in
+    let now = k.state st.state st.of_one st.is_in in
     record {
       records = st.records;
       backs = st.backs;
       state = Whole found k.stood;
       is_in = now.1;
       finds = λ again is. subst (λ (bodies : List (List ℕ)). IsSettled st.records s bodies) (sym is) (st.finds found now.0);
+      of_one = tt;
       lost_as = λ r is. _;
     }
 
@@ -59,7 +60,7 @@ records_end disks rs t log k (stood, pair) = pair.current.end ∙ (text_size log
 pub found_state : {D : Type 0} (disks : Ghosts D) (found : List (List ℕ)) (log log' : Log D) (s : State)
     → Finds disks found log log' → IsRecoverable s → LogStandsFor disks log s → Found disks found log' s
 found_state disks found log log' s k h st =
-    let now = k.state st.state st.is_in in
+    let now = k.state st.state st.of_one st.is_in in
     by_fate (st.finds found now.0) now.1
   where
     -- these are the records

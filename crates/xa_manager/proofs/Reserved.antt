@@ -4,17 +4,16 @@ use Rattle.std.specs.Prelude.{Vec, fold, vec_len}
 use Rattle.std.specs.List.{AllByRecursion}
 use Rattle.std.specs.declared.alloc.Global.{Global}
 use Rattle.xa_disk.specs.Disk.{Same}
-use Rattle.xa_disk.specs.Time.{TimePasses, LeavesOnly}
+use Rattle.xa_disk.specs.Time.{TimePasses}
 use Rattle.xa_disk.specs.declared.disk.Disk.{Ghosts}
-use Rattle.xa_log.specs.Ahead.{AppendsBy}
 use Rattle.xa_log.specs.Buffer.{Holds, HoldsEach}
 use Rattle.xa_log.specs.Chain.{IsBody, logged, most_body, newest, text}
-use Rattle.xa_log.specs.Checkpoint.{IsOther, LeavesAny}
+use Rattle.xa_log.specs.Checkpoint.{IsOther}
 use Rattle.xa_log.specs.LogStates.{Whole}
 use Rattle.xa_log.specs.Pair.{beats, has_log}
 use Rattle.xa_log.specs.Reading.{bodies_of}
-use Rattle.xa_log.specs.Stands.{EndsBehind, Leaves, Moves, Stands}
-use Rattle.xa_log.specs.TwoFiles.{Pair, IsOpenPair, first_of, second_of, written}
+use Rattle.xa_log.specs.Stands.{EndsBehind, Moves}
+use Rattle.xa_log.specs.TwoFiles.{Pair, IsOpenPair, first_of, second_of}
 use Rattle.xa_log.specs.declared.appending.Appended.{Appended}
 use Rattle.xa_log.specs.declared.appending.Appended.TheVariants as appended
 use Rattle.xa_log.specs.declared.format.Format.{Format}

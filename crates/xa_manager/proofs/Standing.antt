@@ -81,7 +81,7 @@ still_stands disks m m' s tables up doubt end alive modern bytes log st = record
 pub down_recoverable : (t : State) (o : Option Record) → IsRecoverable t → IfSome o (MayBeLast (record (down t) { open_record = o })) → IsRecoverable (record (down t) { open_record = o })
 down_recoverable t o h last = record {
   sound = down_sound t o h.sound;
-  loggable = record { first = h.loggable.first; boots = h.loggable.boots; last = h.loggable.last; past = h.loggable.past; begun = h.loggable.begun; written = h.loggable.written };
+  loggable = record { first = h.loggable.first; boots = h.loggable.boots; last = h.loggable.last; past = h.loggable.past; written = h.loggable.written };
   open_record = last;
   settled = λ up. absurd (cc up);
   current = λ up. absurd (cc up);

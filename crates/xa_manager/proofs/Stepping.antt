@@ -15,7 +15,7 @@ use Rattle.xa_model.specs.declared.outcome.Appending.{Appending}
 use Rattle.xa_model.specs.declared.outcome.Appending.TheVariants.{Kept, Refused, Lost}
 use Rattle.xa_model.specs.State.{State, Standing, Up}
 use Rattle.xa_model.specs.Answer.{Answer, ok}
-use Rattle.xa_model.specs.Turn.{Turn, Nobody, Now, Appends, Rereads, Asked, taken}
+use Rattle.xa_model.specs.Turn.{Turn, Nobody, Now, Appends, Checkpoints, Rereads, Asked, taken}
 use Rattle.xa_model.specs.Step.{respond, asked, turn, step}
 use Rattle.xa_model.specs.Events.{IsEvent, is_restart}
 use Rattle.xa_model.specs.Logging.{applied, lost}
@@ -243,12 +243,14 @@ module _ {D : Type 0} (disks : Ghosts D) where
       let before = recoverable_by m.up (view m) s st.tables in
       let last : LogsLast s (Appends r after) = subst (LogsLast s) t (turn_logs_last s (Asked e) event before) in
       appending_steps m m' s e r after reply outcome event other st is (is_up_by m.up (view m) s st.tables last.2) x
+  takes_steps m m' s e (Checkpoints r after) reply outcome event other st is x = absurd x
   takes_steps m m' s e (Rereads failed found missing) reply outcome event other st is x = absurd x
 
   takes_called : (m m' : Manager D) (t : Turn) (reply : Reply) (outcome : Outcome) → Takes disks m t reply outcome m' → HasCalled disks outcome m.log m'.log
   takes_called m m' Nobody reply outcome x = absurd x
   takes_called m m' (Now a) reply outcome x = subst (λ (o : Outcome). HasCalled disks o m.log m'.log) (sym x.outcome_is) x.log
   takes_called m m' (Appends r after) reply outcome x = subst (λ (o : Outcome). HasCalled disks o m.log m'.log) (sym x.outcome_is) (x.log.other.0, x.log.other.1, length (spelled r), x.log.moves, x.log.calls)
+  takes_called m m' (Checkpoints r after) reply outcome x = absurd x
   takes_called m m' (Rereads failed found missing) reply outcome x = absurd x
 
   -- what a crash leaves meanwhile
@@ -289,6 +291,7 @@ module _ {D : Type 0} (disks : Ghosts D) where
   takes_crash m m' s e Nobody reply outcome event other st trusts is x = absurd x
   takes_crash m m' s e (Now a) reply outcome event other st trusts is x = quiet_crash m m' s (turn s (Asked e)) outcome st x.outcome_is x.log
   takes_crash m m' s e (Appends r after) reply outcome event other st trusts is x = appending_crash m m' s e r after reply outcome event other st trusts is x
+  takes_crash m m' s e (Checkpoints r after) reply outcome event other st trusts is x = absurd x
   takes_crash m m' s e (Rereads failed found missing) reply outcome event other st trusts is x = absurd x
 
   some_and : (m' : Manager D) (s : State) (e : Event) (reply : Reply) (outcome : Outcome) → IsStep m' s e reply outcome

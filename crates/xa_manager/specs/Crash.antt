@@ -1,11 +1,11 @@
 -- What a crash at any moment of a call leaves of the log's two files.
-use Rattle.std.specs.Prelude.{◌≡◌, ◌⊎◌, ℕ, Bool, true, false, not, if◌then◌else◌, List, map, Some, None, IsSomeAnd}
+use Rattle.std.specs.Prelude.{◌≡◌, ◌⊎◌, ℕ, Bool, true, false, not, if◌then◌else◌, List, [], ◌∷◌, map, Some, None, IsSomeAnd}
 use Rattle.xa_disk.specs.Time.{LeavesOnly}
 use Rattle.xa_disk.specs.declared.disk.Disk.{Ghosts}
 use Rattle.xa_record.specs.Spelling.{spelled}
 use Rattle.xa_record.specs.declared.record.Record.{Record}
 use Rattle.xa_record.specs.declared.record.Record.TheVariants as logged
-use Rattle.xa_log.specs.Chain.{IsPlain}
+use Rattle.xa_log.specs.Group.{IsPlain}
 use Rattle.xa_log.specs.LogStates.{LooksTo, LeftByLook}
 use Rattle.xa_log.specs.Pair.{IsCalm}
 use Rattle.xa_log.specs.TwoFiles.{Pair, first_of, second_of}
@@ -63,7 +63,7 @@ pub record AppendsWithoutChance {D : Type 0} (disks : Ghosts D) (log : Log D) (s
   pub backs : Backs records s
   pub stood : List (List ℕ)
   pub pair : Pair disks (map spelled records) stood log
-  pub plain : IsPlain log.format (map spelled records) (spelled r) current
+  pub plain : IsPlain log.format (map spelled records) (spelled r ∷ []) current
   pub calm : IsCalm stood other
 
 -- They stand for a state whose open record is the one that was to be appended: it stands in them, or it doesn't.

@@ -1,9 +1,9 @@
 -- What states of the sequential resource manager a log of two files stands behind.
-use Rattle.std.specs.Prelude.{◌≡◌, ◌⊎◌, ℕ, true, false, Some, List, map}
+use Rattle.std.specs.Prelude.{◌≡◌, ◌⊎◌, ℕ, true, false, Some, List, [], ◌∷◌, length, map}
 use Rattle.xa_disk.specs.declared.disk.Disk.{Ghosts}
 use Rattle.xa_record.specs.Spelling.{spelled}
 use Rattle.xa_record.specs.declared.record.Record.{Record}
-use Rattle.xa_log.specs.Chain.{NoChance}
+use Rattle.xa_log.specs.Group.{NoChance}
 use Rattle.xa_log.specs.Pair.{CalmTears}
 use Rattle.xa_log.specs.Checkpoint.{SealTears}
 use Rattle.xa_log.specs.LogStates.{LogState, Whole, LostAppend, LostCheckpoint, IsIn, MayFind}
@@ -19,7 +19,7 @@ use Rattle.xa_model.specs.Loggable.{is_boot}
 -- chance. Those in memory meet them.
 pub record Trusts {D : Type 0} (disks : Ghosts D) : Type 0 where
   pub disk : disks.honest
-  pub appends : NoChance disks.tears
+  pub appends : (body : List ℕ) → NoChance disks.tears (body ∷ [])
   pub headers : CalmTears disks.tears
   pub seals : SealTears disks.tears
 
@@ -40,8 +40,14 @@ IsSettled rs s found =
 -- what was lost was this record: a boot's by a checkpoint of its snapshot, any other by an append
 abbrev pub IsLostAs : LogState → Record → Type 0
 IsLostAs (Whole bodies stood) r = Unit {0}
-IsLostAs (LostAppend bodies body stood) r = is_boot r ≡ false
+IsLostAs (LostAppend bodies group stood) r = is_boot r ≡ false
 IsLostAs (LostCheckpoint bodies fresh) r = is_boot r ≡ true
+
+-- a record is appended by itself
+abbrev pub IsOfOne : LogState → Type 0
+IsOfOne (Whole bodies stood) = Unit {0}
+IsOfOne (LostAppend bodies group stood) = length group ≡ 1
+IsOfOne (LostCheckpoint bodies fresh) = Unit {0}
 
 -- The log is in a state in which a look may find no others, whatever was lost. A restart that ran out of memory may have
 -- read the files, and so have settled the fate of the record that was lost.
@@ -51,4 +57,5 @@ pub record LogStandsFor {D : Type 0} (disks : Ghosts D) (log : Log D) (s : State
   pub state : LogState
   pub is_in : IsIn disks state log
   pub finds : (found : List (List ℕ)) → MayFind state found → IsSettled records s found
+  pub of_one : IsOfOne state
   pub lost_as : (r : Record) → s.open_record ≡ Some r → IsLostAs state r

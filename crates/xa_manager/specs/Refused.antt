@@ -51,8 +51,8 @@ pub record AppendsFirst {D : Type 0} (disks : Ghosts D) (a : Appended) (fresh : 
   pub body : List ℕ
   pub only : fresh ≡ body ∷ []
   pub left : disks.honest → (stood : List (List ℕ)) → Pair disks [] stood old
-      → AppendsTo disks a [] body stood new
-      × LeavesOnly disks old.disk new.disk (Leaves old.log_bytes old.format [] body)
+      → AppendsTo disks a [] (body ∷ []) stood new
+      × LeavesOnly disks old.disk new.disk (Leaves old.log_bytes old.format [] (body ∷ []))
 
 -- the file that was the current one isn't touched by a checkpoint
 abbrev pub KeepsCurrent : {D : Type 0} → Appended → Log D → Log D → Type 0

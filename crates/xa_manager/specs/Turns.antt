@@ -1,5 +1,5 @@
 -- How a manager takes one turn of the sequential resource manager.
-use Rattle.std.specs.Prelude.{◌⊎◌, ℕ, ◌+◌, ◌≤◌, ℤ, pos, ◌≡◌, Bool, true, false, Option, Some, None, List, length}
+use Rattle.std.specs.Prelude.{◌⊎◌, ℕ, ◌+◌, ◌≤◌, ℤ, pos, ◌≡◌, Bool, true, false, Option, Some, None, List, [], ◌∷◌, length}
 use Rattle.xa_disk.specs.Time.{LeavesOnly}
 use Rattle.xa_disk.specs.declared.disk.Disk.{Ghosts}
 use Rattle.xa_codes.specs.declared.codes.TheConstants.{XAER_RMFAIL}
@@ -20,7 +20,7 @@ use Rattle.xa_model.specs.declared.outcome.Appending.TheVariants.{Kept, Refused,
 use Rattle.xa_model.specs.State.{State}
 use Rattle.xa_model.specs.Answer.{Answer, plain, detailed}
 use Rattle.xa_model.specs.Restarting.{restart_turn}
-use Rattle.xa_model.specs.Turn.{Turn, Asked, Nobody, Now, Appends, Rereads, taken}
+use Rattle.xa_model.specs.Turn.{Turn, Asked, Nobody, Now, Appends, Checkpoints, Rereads, taken}
 use Rattle.xa_model.specs.declared.event.Event.{Event}
 use Rattle.xa_model.specs.Step.{step}
 use Rattle.xa_model.specs.Events.{asks_restart, is_restart}
@@ -41,11 +41,11 @@ pub record HasAppended {D : Type 0} (disks : Ghosts D) (body : List ℕ) (a : Ap
   pub other : (log'.other ≡ log.other) × (log'.on_first ≡ log.on_first)
   pub moves : Moves (as_appended a) (length body) log log'
   pub pair : disks.honest → (bodies stood : List (List ℕ)) → Pair disks bodies stood log
-      → AppendsTo disks (as_appended a) bodies body stood log'
+      → AppendsTo disks (as_appended a) bodies (body ∷ []) stood log'
   pub calls : AppendsBy disks (length body) (as_appended a) log log'
   -- what a crash at any moment of it leaves of the file that is written
   pub leaves : disks.honest → (bodies : List (List ℕ)) → Stands disks bodies log
-      → LeavesOnly disks log.disk log'.disk (Leaves log.log_bytes log.format bodies body)
+      → LeavesOnly disks log.disk log'.disk (Leaves log.log_bytes log.format bodies (body ∷ []))
 
 -- whether the manager is up afterwards, and what it keeps of a record that was lost behind the log's end
 abbrev pub up_after : Appending → Bool
@@ -99,6 +99,7 @@ abbrev pub Takes : {D : Type 0} → Ghosts D → Manager D → Turn → Reply �
 Takes disks m Nobody reply outcome m' = ⊥
 Takes disks m (Now a) reply outcome m' = TakesNow m a reply outcome m'
 Takes disks m (Appends r after) reply outcome m' = TakesAppending disks m r after reply outcome m'
+Takes disks m (Checkpoints r after) reply outcome m' = ⊥
 Takes disks m (Rereads failed found missing) reply outcome m' = ⊥
 
 -- Whichever state the manager stood for, it takes this turn of it, of a request whose limits hold. Its own outcome is

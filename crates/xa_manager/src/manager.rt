@@ -1,7 +1,11 @@
 ghost use Rattle.std.specs.Prelude.{◌≡◌, pos, IfOk, OnErr};
+ghost use Rattle.std.specs.List.{list_any};
 ghost use Rattle.xa_model.specs.Events.{IsAsked, AreEvents, IsEvent};
 ghost use Rattle.xa_log.specs.TwoFiles.{first_of, second_of};
 ghost use Rattle.xa_model.specs.Answer.{plain};
+ghost use Rattle.xa_model.specs.Associations.{is_of_session};
+ghost use Rattle.xa_model.specs.State.{State};
+ghost use Rattle.xa_manager.specs.Managed.{ManagerStandsFor};
 ghost use Rattle.xa_manager.specs.Answered.{FullyAnswered, AnswersAll, ArePinned, RunsAll, StaysFor, connect_reply};
 ghost use Rattle.xa_assoc.specs.Company.{Gains, Loses};
 ghost use Rattle.xa_manager.specs.Drained.{GivesBack};
@@ -114,6 +118,14 @@ impl<D: Disk> Manager<D> {
         ensures { result ≡ (connected_to self.now).count }
     {
         self.tables.sessions.connected() as u64
+    }
+
+    /// Whether a session has an association of its own: it is at work for a branch, or has suspended that.
+    pub fn has_association(&self, session: u64) -> bool
+        ensures { (s : State) → ManagerStandsFor D.Disk self.now s
+            → result ≡ list_any (is_of_session session) s.associations }
+    {
+        self.tables.sessions.holds_any(session)
     }
 
     /// How many versions of all keys are kept, with one for the absence of each key that a branch found absent or was

@@ -22,7 +22,7 @@ use Rattle.xa_model.specs.declared.outcome.Appending.TheVariants.{Kept, Refused,
 use Rattle.xa_model.specs.State.{State, Known, Unknown, AtWork, InDoubt, Completed, Standing, Up, Down, Ended, known_as}
 use Rattle.xa_model.specs.Fold.{is_empty}
 use Rattle.xa_model.specs.Answer.{Answer, answer, plain, detailed, ok}
-use Rattle.xa_model.specs.Turn.{Asked, Reopened, Turn, Nobody, Now, Appends, Rereads, Rereading, Stops, Opens, going_on, taken, unless_now, marked_now}
+use Rattle.xa_model.specs.Turn.{Asked, Reopened, Turn, Nobody, Now, Appends, Checkpoints, Rereads, Rereading, Stops, Opens, going_on, taken, unless_now, marked_now}
 use Rattle.xa_model.specs.Step.{step, turn, row, respond, asked, context_of}
 use Rattle.xa_model.specs.Events.{asks_restart}
 use Rattle.xa_model.proofs.RoomyRows.{AsksRoom, events_ask_room}
@@ -55,6 +55,7 @@ taken_keeps s (Appends r after) Quiet h k = tt
 taken_keeps s (Appends r after) (Appended x) h k = k x
 taken_keeps s (Appends r after) Failed h k = tt
 taken_keeps s (Appends r after) (Reread found x) h k = tt
+taken_keeps s (Checkpoints r after) o h k = absurd h
 taken_keeps s (Rereads failed found missing) o h k = absurd h
 
 unless_appends : (n : ℕ) (o : Option Reply) (s : State) (t : Turn) → KeepsAppends n t → KeepsAppends n (unless_now o s t)

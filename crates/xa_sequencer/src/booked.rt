@@ -2,6 +2,7 @@ ghost use Rattle.std.specs.Prelude.{◌≡◌, ◌<◌};
 ghost use Rattle.xa_frame.specs.Limits.{IsReply, IsRequest};
 ghost use Rattle.xa_sequencer.specs.Shared.{CalledBy, ConnectedBy, LeftBy};
 
+use crate::associates::Associates;
 use crate::sequencer::Sequencer;
 use std::marker::Model;
 use std::sync::ledger::{Blank, Book, Ledger, Share};
@@ -96,5 +97,16 @@ impl<M: Manages, S: Start, L: Ledger> Booked<M, S, L> {
         }
         book.add(share, 1);
         true
+    }
+}
+
+impl<M: Associates, S: Start, L: Ledger> Booked<M, S, L> {
+    ghost use Rattle.xa_sequencer.specs.Associates.{AssociatedBy};
+
+    pub(crate) fn has_association(&self, session: u64) -> bool
+        ensures { AssociatedBy M.Manages S.start S.base session result }
+    {
+        self.sequencer.promises();
+        self.sequencer.has_association(session)
     }
 }

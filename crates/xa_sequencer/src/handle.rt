@@ -1,5 +1,6 @@
 ghost use Rattle.std.specs.Prelude.{◌≡◌, ◌<◌};
 
+use crate::associates::Associates;
 use crate::shared::SharedSequencer;
 use std::fmt;
 use std::sync::Wait;
@@ -54,6 +55,17 @@ impl<'a, M: Manages, S: Start, L: Ledger, R: Wait> Handle<'a, M, S, L, R> {
             share,
         } = self;
         share
+    }
+}
+
+impl<M: Associates, S: Start, L: Ledger, R: Wait> Handle<'_, M, S, L, R> {
+    ghost use Rattle.xa_sequencer.specs.Associates.{AssociatedBy};
+
+    /// Whether a session has an association of its own.
+    pub fn has_association(&self, session: u64) -> bool
+        ensures { AssociatedBy M.Manages S.start S.base session result }
+    {
+        self.sequencer.has_association(self.rt, session)
     }
 }
 

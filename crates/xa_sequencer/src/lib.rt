@@ -5,6 +5,7 @@
 //!   connection
 //! - `shared`: `SharedSequencer`, a sequencer behind a lock, which many threads share; `booked`: the sequencer and the
 //!   ledger's book under it; `handle`: `Handle`, a thread's door of it
+//! - `associates`: `Associates`, a manager that tells which sessions have an association
 //! - `numbers`: whether there are numbers left
 //! - `laws`: `goes_on_twice`, that histories go on with the entries of one event and of another; `talks_go_on`, with those
 //!   of a connection's calls
@@ -12,6 +13,7 @@
 //! A room of `xa_room` asks the same of a manager, and keeps each entry.
 #![tactic(auto)]
 
+mod associates;
 mod booked;
 mod door;
 mod handle;
@@ -20,6 +22,7 @@ mod numbers;
 mod sequencer;
 mod shared;
 
+pub use associates::Associates;
 pub use handle::Handle;
 pub use laws::{goes_on_twice, talks_go_on};
 pub use sequencer::Sequencer;

@@ -4,6 +4,7 @@ ghost use Rattle.xa_model.specs.State.{State};
 ghost use Rattle.xa_sequencer.specs.Numbers.{Called, Connected, Left};
 ghost use Rattle.xa_sequencer.specs.Stands.{AllPromise, HasHistory, Stands};
 
+use crate::associates::Associates;
 use crate::numbers::are_left;
 use std::fmt;
 use std::marker::{Model, PhantomData};
@@ -116,6 +117,17 @@ impl<M: Manages, S: Start> Sequencer<M, S> {
     {
         reached_promises();
         let _count = self.count;
+    }
+}
+
+impl<M: Associates, S: Start> Sequencer<M, S> {
+    ghost use Rattle.xa_sequencer.specs.Associates.{IsAssociated};
+
+    /// Whether a session has an association of its own.
+    pub fn has_association(&self, session: u64) -> bool
+        ensures { IsAssociated M.stands self.now.now session result }
+    {
+        self.manager.has_association(session)
     }
 }
 

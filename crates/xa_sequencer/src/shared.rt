@@ -2,6 +2,7 @@ ghost use Rattle.std.specs.Prelude.{◌≡◌, ◌<◌};
 ghost use Rattle.xa_frame.specs.Limits.{IsReply, IsRequest};
 ghost use Rattle.xa_sequencer.specs.Shared.{CalledBy, ConnectedBy, LeftBy};
 
+use crate::associates::Associates;
 use crate::booked::Booked;
 use crate::sequencer::Sequencer;
 use std::fmt;
@@ -71,6 +72,17 @@ impl<M: Manages, S: Start, L: Ledger> SharedSequencer<M, S, L> {
         ensures { result.1.total ≡ result.0.count }
     {
         self.lock.into_inner().parts()
+    }
+}
+
+impl<M: Associates, S: Start, L: Ledger> SharedSequencer<M, S, L> {
+    ghost use Rattle.xa_sequencer.specs.Associates.{AssociatedBy};
+
+    /// Whether a session has an association of its own.
+    pub fn has_association<R: Wait>(&self, rt: &R, session: u64) -> bool
+        ensures { AssociatedBy M.Manages S.start S.base session result }
+    {
+        take(rt, &self.lock).has_association(session)
     }
 }
 

@@ -1,9 +1,7 @@
 use Rattle.std.proofs.Common.{◌≡◌, ℕ, List, ap, sym, ◌∙◌, subst}
 use Rattle.std.specs.Prelude.{Vec, Err}
 use Rattle.std.specs.declared.alloc.Global.{Global}
-use Rattle.xa_log.specs.Pair.{generation}
 use Rattle.xa_log.specs.Reading.{bodies_of}
-use Rattle.xa_log.specs.Stands.{EndsBehind}
 use Rattle.xa_log.specs.TwoFiles.{second_of}
 use Rattle.xa_manager.specs.declared.fault.ManagerFault.TheVariants as fault
 use Rattle.xa_manager.specs.Opening.{IsFound}

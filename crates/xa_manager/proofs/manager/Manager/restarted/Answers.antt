@@ -1,9 +1,7 @@
-use Rattle.std.proofs.Common.{◌≡◌, ◌∙◌, true, false, Ok, Err, ap, sym, subst}
+use Rattle.std.proofs.Common.{◌≡◌, ◌∙◌, true, ap, sym, subst}
 use Rattle.xa_frame.specs.declared.request.Request.TheVariants.{Restart}
-use Rattle.xa_log.specs.Pair.{generation}
 use Rattle.xa_log.specs.Reading.{bodies_of}
 use Rattle.xa_model.specs.Durable.{durable}
-use Rattle.xa_recovery.specs.Log.{LogRebuilt}
 use Rattle.xa_manager.specs.Rereading.{GoesOn, IsNext}
 use Rattle.xa_manager.specs.Turns.{HasWanted}
 use Rattle.xa_manager.proofs.Begins.{next_newer, next_above}

@@ -2,7 +2,7 @@ use Rattle.std.proofs.Common.{refl, sym, subst}
 use Rattle.xa_xid.specs.Triple.{Triple}
 use Rattle.xa_assoc.specs.Sessions.{SessionsStandFor}
 use Rattle.xa_model.specs.Associations.{begun}
-use Rattle.xa_model.proofs.ChangedWaters.{begun_water}
+use Rattle.xa_model.proofs.ChangedWaters.{begun_water, begun_floor}
 use Rattle.xa_manager.specs.View.{view_of}
 use Rattle.mv_rules.specs.Ties.{history_of, low_of}
 use Rattle.mv_rules.proofs.Remade.{low_rises}
@@ -20,7 +20,7 @@ returns-in-Ok-clause-ok c = λ s st recoverable.
       branches = c.in-Ok.ensures.ok s c.args.session st.recoverable.sound st.branches (sym (c.timeout-limit.ensures.state (begun s c.args.session c.args.xid.now).after there));
       records =
           low_rises (history_of s) c.args.self.now.records (low_of (begun s c.args.session c.args.xid.now).after) st.records
-          (rises_with s (begun s c.args.session c.args.xid.now).after refl (begun_water s c.args.session c.args.xid.now st.recoverable.sound));
+          (rises_with s (begun s c.args.session c.args.xid.now).after (begun_floor s c.args.session c.args.xid.now) (begun_water s c.args.session c.args.xid.now st.recoverable.sound));
       recoverable = recoverable;
     }
 

@@ -1,0 +1,18 @@
+use xa_disk::Disk;
+use xa_manager::Manager;
+use xa_room::Manages;
+
+/// A manager that tells which sessions have an association.
+pub trait Associates: Manages {
+    ghost use Rattle.xa_sequencer.specs.Associates.{IsAssociated};
+
+    /// Whether a session has an association of its own with a branch: it is at work for it, or has suspended that.
+    fn has_association(&self, session: u64) -> bool
+        ensures { IsAssociated Self.stands self.now session result };
+}
+
+impl<D: Disk> Associates for Manager<D> {
+    fn has_association(&self, session: u64) -> bool {
+        self.has_association(session)
+    }
+}
