@@ -2,7 +2,8 @@
 //!
 //! - `playing`: `play`, a script from standard input is played
 //! - `scanning`: `scan`, the records of a log are printed; `scanning_fault`: `ScanningFault`, why they aren't
-//! - `talking`: `talk`, a script goes to a server; `Server`, one on 127.0.0.1
+//! - `talking`: `talk`, a script goes to a server; `server`: `Server`, one on 127.0.0.1 or at a path; `stream`: `Stream`, a
+//!   connection to it
 //! - `ticking`: `tick`, a server is told what the clock says; `Watch`, the clock and standard error
 //! - `ending`: `ended`, `served` and `words_fault`, the status of an end, and its line on standard error
 #![tactic(auto)]
@@ -11,6 +12,8 @@ mod ending;
 mod playing;
 mod scanning;
 mod scanning_fault;
+mod server;
+mod stream;
 mod talking;
 mod ticking;
 
@@ -18,5 +21,7 @@ pub use ending::{ended, served, words_fault};
 pub use playing::play;
 pub use scanning::scan;
 pub use scanning_fault::ScanningFault;
-pub use talking::{Server, talk};
+pub use server::{Reach, Server};
+pub use stream::Stream;
+pub use talking::talk;
 pub use ticking::{Watch, tick};

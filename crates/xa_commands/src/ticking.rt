@@ -2,7 +2,8 @@ ghost use Rattle.xa_commands.specs.Done.{HasTicked};
 ghost use Rattle.xa_commands.specs.declared.ticking.Watch.{Watch};
 ghost use Rattle.xa_talk.specs.declared.dial.Connection.{Connection};
 
-use crate::talking::Server;
+use crate::server::{Reach, Server};
+use crate::stream::Stream;
 use std::io::{Read, Write};
 use std::net::{Net, TcpStream};
 use std::rt::Clock;
@@ -52,21 +53,21 @@ impl<R> fmt::Debug for Watch<'_, R> {
     }
 }
 
-/// Tells a server on 127.0.0.1 what the system's clock says, in whole seconds since 1970: at once, and then again every
+/// Tells a server what the system's clock says, in whole seconds since 1970: at once, and then again every
 /// so many seconds.
 pub fn tick<R: AllocGlobal + Clock + Eprint + Net<Stream = TcpStream>>(
     rt: &R,
-    port: u16,
+    reach: Reach<'_>,
     every: u64,
 ) -> Result<(), TickFault>
-    ensures { HasTicked {C = Connection TcpStream TcpStream} (Watch R)
-        (λ c. ⟦<TcpStream as Write>⟧.contents c.writer)
-        (λ c. ⟦<TcpStream as Read>⟧.remaining c.reader) result }
+    ensures { HasTicked {C = Connection Stream Stream} (Watch R)
+        (λ c. ⟦<Stream as Write>⟧.contents c.writer)
+        (λ c. ⟦<Stream as Read>⟧.remaining c.reader) result }
 {
     let mut watch = Watch {
         rt,
         every,
         has_begun: false,
     };
-    tick_run(rt.alloc(), &mut watch, &mut Server { rt, port })
+    tick_run(rt.alloc(), &mut watch, &mut Server { rt, reach })
 }

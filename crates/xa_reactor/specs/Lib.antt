@@ -1,3 +1,4 @@
 pub mod Turning
 pub mod Tending
 pub mod Timing
+pub mod Down

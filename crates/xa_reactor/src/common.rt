@@ -15,6 +15,8 @@ pub struct Settings {
     pub connections: u64,
     /// For how many seconds a connection may bring no byte inside a frame, 0 for ever.
     pub frame_seconds: u64,
+    /// For how many seconds a connection whose session has no association may be quiet, 0 for ever.
+    pub idle_seconds: u64,
     /// Whether they end when the manager has gone down.
     pub ends_when_down: bool,
 }

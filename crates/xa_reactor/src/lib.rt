@@ -1,7 +1,7 @@
 //! Event loops: few threads that serve the connections of a listener, each those that it is handed, at a door of its own.
 //!
 //! - `reception`: `Reception`, a door at which sessions connect; `watch`: `Watch`, whether replies told that the manager
-//!   behind the doors went down
+//!   behind the doors went down; `cause`: why it did
 //! - `loops`: `run_loops`, a thread for each door; `LoopFault`, why it didn't, or not to the end
 //! - `socket`, `listener`: a connection's socket, and what connections come from
 //! - `peer`: a connection with its socket, and its turn; `peers`: those of a loop, whose turns come one behind the other
@@ -10,6 +10,7 @@
 #![tactic(auto)]
 
 mod acceptor;
+mod cause;
 mod common;
 mod listener;
 mod loops;

@@ -1,12 +1,13 @@
-ghost use Rattle.std.specs.Prelude.{◌≡◌, ℕ, None, length};
+ghost use Rattle.std.specs.Prelude.{◌≡◌, ℕ, None, false, length};
 ghost use Rattle.slab.specs.Slab.{get};
 ghost use Rattle.xa_reactor.specs.Tending.{Tends, nobody, sessions_of};
+ghost use Rattle.xa_reactor.specs.Timing.{IsToEnd};
 
 use crate::peer::{Peer, Step};
 use crate::reception::Reception;
 use crate::round::Round;
 use crate::socket::Socket;
-use crate::timing::is_overdue;
+use crate::timing::{Limits, is_overdue, is_too_quiet};
 use mio::Token;
 use mio::event::Event;
 use slab::Slab;
@@ -105,12 +106,12 @@ impl Peers {
         }
     }
 
-    /// Ends those that are overdue.
-    pub(crate) fn end_overdue<D: Reception>(&mut self, door: &mut D, now: u64, limit: u64)
+    /// Ends those that are overdue inside a frame, and those that were quiet for too long without an association.
+    pub(crate) fn end_overdue<D: Reception>(&mut self, door: &mut D, now: u64, limits: Limits)
         ensures { Tends D.connected D.called D.left (sessions_of self.old.all) door.old (sessions_of self.new.all) door.new }
     {
         for key in 0..self.all.capacity() {
-            end_if_overdue(&mut self.all, door, key, now, limit);
+            end_if_overdue(&mut self.all, door, key, now, limits);
         }
     }
 
@@ -183,20 +184,39 @@ fn end_if_overdue<D: Reception>(
     door: &mut D,
     key: usize,
     now: u64,
-    limit: u64,
+    limits: Limits,
 )
     ensures { Tends D.connected D.called D.left (sessions_of all.old) door.old (sessions_of all.new) door.new }
 {
-    if is_overdue_in(all, key, now, limit) {
+    let ends = match all.get(key) {
+        Some(peer) => is_to_end(
+            door,
+            peer.session,
+            peer.is_inside_frame(),
+            peer.quiet(now),
+            limits,
+        ),
+        None => false,
+    };
+    if ends {
         end_in(all, door, key);
     }
 }
 
-fn is_overdue_in(all: &Slab<Peer>, key: usize, now: u64, limit: u64) -> bool {
-    match all.get(key) {
-        Some(peer) => is_overdue(peer.is_inside_frame(), peer.quiet(now), limit),
-        None => false,
+// Whether the connection of a session is to end, by whether it is inside a frame, and for how long it was quiet.
+fn is_to_end<D: Reception>(
+    door: &D,
+    session: u64,
+    is_inside: bool,
+    quiet: u64,
+    limits: Limits,
+) -> bool
+    ensures { IsToEnd (D.associates door.now session) is_inside quiet limits result }
+{
+    if is_overdue(is_inside, quiet, limits.inside) {
+        return true;
     }
+    is_too_quiet(quiet, limits.idle) && !door.has_association(session)
 }
 
 // Ends the connection under this key, if there is one, and hangs its session up.

@@ -3,13 +3,20 @@ use xa_desk::Door;
 
 /// A door at which sessions connect, too.
 pub trait Reception: Door {
-    ghost use Rattle.std.specs.Prelude.{ℕ, Result};
+    ghost use Rattle.std.specs.Prelude.{ℕ, Bool, Result};
     ghost use Rattle.xa_assoc.specs.declared.fault.ConnectFault.{ConnectFault};
 
     /// A connect took it from one to the other, with this result.
     ghost connected: { Self → Result ℕ ConnectFault → Self → Type 0 };
 
+    /// It was asked whether this session has an association with a branch, and this was answered.
+    ghost associates: { Self → ℕ → Bool → Type 0 };
+
     /// Connects a session.
     fn connect(&mut self) -> Result<u64, ConnectFault>
         ensures { connected self.old result self.new };
+
+    /// Whether a session has an association of its own with a branch: it is at work for it, or has suspended that.
+    fn has_association(&self, session: u64) -> bool
+        ensures { associates self.now session result };
 }

@@ -6,7 +6,7 @@ use crate::common::Common;
 use crate::peers::Peers;
 use crate::reception::Reception;
 use crate::round::Round;
-use crate::timing::{LOOK, wait_of};
+use crate::timing::{LOOK, Limits, wait_of};
 use mio::event::Event;
 use mio::{Events, Poll, Token};
 use std::alloc::Global;
@@ -221,8 +221,11 @@ fn look<D: Reception>(
     ensures { Tends D.connected D.called D.left (sessions_of peers.old.all) door.old (sessions_of peers.new.all) door.new }
 {
     if is_look {
-        let limit = common.settings.frame_seconds.saturating_mul(1_000);
-        peers.end_overdue(door, round.now, limit);
+        let limits = Limits {
+            inside: common.settings.frame_seconds.saturating_mul(1_000),
+            idle: common.settings.idle_seconds.saturating_mul(1_000),
+        };
+        peers.end_overdue(door, round.now, limits);
     }
 }
 
@@ -263,12 +266,14 @@ fn take_in<D: Reception, R: Wait>(
     }
 }
 
-// Tells that the manager went down, where that is news, and ends all loops, where that is asked.
+// Tells that the manager went down, and why, where that is news, and ends all loops, where that is asked.
 fn tell<R: Eprint>(rt: &R, common: &Common<'_>) {
-    if !common.watch.is_news() {
+    let Some(cause) = common.watch.news() else {
         return;
-    }
-    let _ = eprintln!(rt; "xarm: manager down, until a Restart or a new start of the server");
+    };
+    let _ = eprintln!(rt;
+        "xarm: manager down, until a Restart or a new start of the server: {cause}"
+    );
     if common.settings.ends_when_down {
         common.stop();
     }

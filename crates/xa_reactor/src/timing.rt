@@ -1,6 +1,6 @@
 //! The times of a loop, in milliseconds.
 ghost use Rattle.std.specs.Prelude.{◌≡◌};
-ghost use Rattle.xa_reactor.specs.Timing.{is_overdue, wait_of};
+ghost use Rattle.xa_reactor.specs.Timing.{is_overdue, is_too_quiet, wait_of};
 
 /// For how long accepting pauses where an accept failed.
 pub(crate) const PAUSE: u64 = 100;
@@ -13,7 +13,22 @@ pub(crate) const LOOK: u64 = 1_000;
 pub(crate) fn is_overdue(is_inside: bool, quiet: u64, limit: u64) -> bool
     ensures { result ≡ is_overdue is_inside quiet limit }
 {
-    is_inside && limit > 0 && quiet >= limit
+    is_inside && is_too_quiet(quiet, limit)
+}
+
+/// For how long a connection may be quiet, in milliseconds, 0 for ever: inside a frame, and where its session has no
+/// association.
+#[derive(Clone, Copy, Debug)]
+pub(crate) struct Limits {
+    pub(crate) inside: u64,
+    pub(crate) idle: u64,
+}
+
+/// Whether a connection was quiet for so long, if there is such a limit.
+pub(crate) fn is_too_quiet(quiet: u64, limit: u64) -> bool
+    ensures { result ≡ is_too_quiet quiet limit }
+{
+    limit > 0 && quiet >= limit
 }
 
 /// How long to wait for an event, None until one comes: not at all where a connection has a turn; so long as accepting

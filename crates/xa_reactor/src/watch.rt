@@ -1,5 +1,6 @@
-use std::sync::atomic::{AtomicBool, Ordering};
-use xa_codes::{Detail, XA_OK, XAER_RMFAIL};
+use crate::cause::{Cause, cause_of};
+use std::sync::atomic::{AtomicBool, AtomicU64, Ordering};
+use xa_codes::XA_OK;
 use xa_frame::Reply;
 
 /// What the loops have seen of whether the manager is up, by the replies to calls.
@@ -7,6 +8,8 @@ use xa_frame::Reply;
 pub struct Watch {
     is_down: AtomicBool,
     is_told: AtomicBool,
+    /// Why it went down last, by the cause's number.
+    cause: AtomicU64,
 }
 
 impl Watch {
@@ -15,12 +18,14 @@ impl Watch {
         Watch {
             is_down: AtomicBool::new(false),
             is_told: AtomicBool::new(false),
+            cause: AtomicU64::new(0),
         }
     }
 
     /// A call was answered so; it was a Restart, or another one.
     pub fn see(&self, is_restart: bool, reply: &Reply) {
-        if tells_of_down(reply) {
+        if let Some(cause) = cause_of(is_restart, reply) {
+            self.cause.store(cause.number(), Ordering::SeqCst);
             self.is_down.store(true, Ordering::SeqCst);
         } else if is_restart && reply.code == XA_OK {
             self.is_down.store(false, Ordering::SeqCst);
@@ -33,14 +38,12 @@ impl Watch {
         self.is_down.load(Ordering::SeqCst)
     }
 
-    /// Whether it went down, and nobody was told.
-    pub(crate) fn is_news(&self) -> bool {
-        self.is_down() && !self.is_told.swap(true, Ordering::SeqCst)
+    /// Why it went down, where nobody was told.
+    pub(crate) fn news(&self) -> Option<Cause> {
+        if self.is_down() && !self.is_told.swap(true, Ordering::SeqCst) {
+            Cause::numbered(self.cause.load(Ordering::SeqCst))
+        } else {
+            None
+        }
     }
-}
-
-// Whether a reply tells that the manager is down from then on, if it wasn't before: a record may be lost, or a Restart
-// found its log unreadable or its boots used up.
-fn tells_of_down(reply: &Reply) -> bool {
-    reply.code == XAER_RMFAIL && (reply.detail == Detail::Device || reply.detail == Detail::Limit)
 }

@@ -1,6 +1,5 @@
 -- What a server that ended did, and what is known where it failed.
 use Rattle.std.specs.Prelude.{◌≡◌, ◌⊎◌, ◌<◌, ◌≤◌, ◌++◌, ◌&&◌, ℕ, zero, suc, Bool, true, false, not, if◌then◌else◌, List, [], IsSomeAnd, Some, codes}
-use Rattle.std.specs.declared.net.TcpListener.{TcpListener}
 use Rattle.xa_disk.specs.declared.disk.Disk as disk
 use Rattle.xa_disk.specs.declared.file_fault.FileFault.{FileFault}
 use Rattle.xa_disk.specs.declared.file_fault.FileFault.TheVariants as file
@@ -19,6 +18,10 @@ use Rattle.xa_model.specs.State.{State}
 use Rattle.xa_model.specs.Step.{step}
 use Rattle.xa_model.specs.Turn.{Reopened}
 use Rattle.xa_room.specs.declared.manages.Manages as room
+use Rattle.xa_server.specs.declared.at.At.{At}
+use Rattle.xa_server.specs.declared.at.At.TheVariants.{Port, Socket}
+use Rattle.xa_server.specs.declared.at.Listening.{Listening}
+use Rattle.xa_server.specs.declared.at.Listening.TheVariants.{Tcp, Unix}
 use Rattle.xa_server.specs.declared.audited.Audited.{Audited}
 use Rattle.xa_server.specs.declared.engine.Looped.{Looped}
 use Rattle.xa_server.specs.declared.engine.TheConstants.{MOST_LOOPS}
@@ -45,27 +48,42 @@ pub record HasOpened {D : Type 0} (disks : disk.Ghosts D) (first second : D) (na
       × IsSomeAnd (step s (Reopened name log_bytes) (Reread survived (Some Kept)))
       (λ a. ManagerStandsFor disks m a.after)
 
+-- where a server listens: at an address, on a port; or at a path
+pub data Where : Type 0 where
+  OnPort : (address : List ℕ) (port : ℕ) → Where
+  AtPath : (path : List ℕ) → Where
+
+abbrev pub where_of : At → Where
+where_of (Port address port) = OnPort address.now port
+where_of (Socket path) = AtPath path.now
+
+abbrev pub IsListening : {R : Type 0} → listens.Ghosts R → Listening → Where → Type 0
+IsListening net (Tcp listener) (OnPort address port) = net.listens listener address port
+IsListening net (Unix listener) (AtPath path) = net.listens_at listener path
+IsListening net _ _ = ⊥
+
+abbrev pub IsRefusedAt : {R : Type 0} → listens.Ghosts R → Where → Type 0
+IsRefusedAt net (OnPort address port) = net.refuses address port
+IsRefusedAt net (AtPath path) = net.refuses_at path
+
 -- where the log is that a server is to open, by which name, and where it is to listen
 pub record Place : Type 0 where
   pub path : List ℕ
   pub name : List ℕ
-  pub address : List ℕ
-  pub port : ℕ
+  pub at : Where
 
 abbrev pub place_of : Service → Place
 place_of service = record {
   path = service.path.now;
   name = service.name.now;
-  address = codes "127.0.0.1";
-  port = service.port;
+  at = OnPort (codes "127.0.0.1") service.port;
 }
 
 abbrev pub loop_place_of : LoopService → Place
 loop_place_of service = record {
   path = service.path.now;
   name = service.name.now;
-  address = service.address.now;
-  port = service.port;
+  at = where_of service.at;
 }
 
 abbrev pub second_path : List ℕ → List ℕ
@@ -84,21 +102,20 @@ pub record AreWhole {D : Type 0} (disks : disk.Ghosts D) (opened : D → List �
 -- The log's two files were opened at the path that was asked for; the listener listens at the address, on the port; and
 -- this manager was opened on the files.
 pub record IsReady {D R : Type 0} (disks : disk.Ghosts D) (opened : D → List ℕ → Type 0) (net : listens.Ghosts R)
-    (log_bytes : ℕ) (place : Place) (listener : TcpListener) (manager : Manager D) : Type 0 where
+    (log_bytes : ℕ) (place : Place) (listener : Listening) (manager : Manager D) : Type 0 where
   pub first : D
   pub second : D
   pub files : AreWhole disks opened place.path first second
-  pub listening : net.listens listener place.address place.port
+  pub listening : IsListening net listener place.at
   pub has_opened : HasOpened disks first second place.name log_bytes manager
 
 -- All was ready, and the manager's sessions were served by so many workers, from each state that it stood for. The
 -- audit of their history found this.
 pub record HasServed {D R : Type 0} (L : Type 0) (disks : disk.Ghosts D) (m : room.Ghosts (Manager D))
-    (opened : D → List ℕ → Type 0) (net : listens.Ghosts R) (log_bytes : ℕ) (service : Service) (is_whole : Bool)
-    : Type 0 where
-  pub listener : TcpListener
+    (opened : D → List ℕ → Type 0) (net : listens.Ghosts R) (service : Service) (is_whole : Bool) : Type 0 where
+  pub listener : Listening
   pub manager : Manager D
-  pub ready : IsReady disks opened net log_bytes (place_of service) listener manager
+  pub ready : IsReady disks opened net service.log_bytes (place_of service) listener manager
   pub told : Audited
   pub serves : Serves L m (m.stands manager) (m.failures manager) service.workers told
   pub found : is_whole ≡ told.is_whole
@@ -111,10 +128,10 @@ AreLoops (suc n) loops = loops ≡ suc n
 -- All was ready, and the manager's sessions were served by loops, from each state that it stood for. All is well, unless
 -- the manager is down and a server that is down was to end.
 pub record HasLooped {D R : Type 0} (disks : disk.Ghosts D) (m : room.Ghosts (Manager D)) (opened : D → List ℕ → Type 0)
-    (net : listens.Ghosts R) (log_bytes : ℕ) (service : LoopService) (is_well : Bool) : Type 0 where
-  pub listener : TcpListener
+    (net : listens.Ghosts R) (service : LoopService) (is_well : Bool) : Type 0 where
+  pub listener : Listening
   pub manager : Manager D
-  pub ready : IsReady disks opened net log_bytes (loop_place_of service) listener manager
+  pub ready : IsReady disks opened net service.log_bytes (loop_place_of service) listener manager
   pub loops : ℕ
   pub loops_are : AreLoops service.loops loops
   pub told : Looped
@@ -160,7 +177,7 @@ HasRefused {D} disks opened log_bytes place why =
 -- all was ready
 abbrev pub WasReady : {D R : Type 0} → disk.Ghosts D → (D → List ℕ → Type 0) → listens.Ghosts R → ℕ → Place → Type 0
 WasReady {D} disks opened net log_bytes place =
-    (listener : TcpListener) × (manager : Manager D) × IsReady disks opened net log_bytes place listener manager
+    (listener : Listening) × (manager : Manager D) × IsReady disks opened net log_bytes place listener manager
 
 -- What was asked before it failed, and how that ended: a file was refused; no manager was opened on the files, or one of
 -- them is missing; the files were there, and the port was refused; all was ready, and it couldn't print, or it didn't
@@ -178,7 +195,7 @@ HasFailedBy disks opened refused net log_bytes place late (fault.Missing file) =
     HasRefused disks opened log_bytes place (fault.Missing file)
 HasFailedBy {D} disks opened refused net log_bytes place late fault.Listen =
     (first : D) × (second : D) × AreWhole disks opened place.path first second
-    × net.refuses place.address place.port
+    × IsRefusedAt net place.at
 HasFailedBy disks opened refused net log_bytes place late fault.Write = WasReady disks opened net log_bytes place
 HasFailedBy disks opened refused net log_bytes place late fault.Start =
     WasReady disks opened net log_bytes place × late fault.Start
@@ -201,11 +218,11 @@ NoLoops loops fault.Wait = Unit {0}
 NoLoops loops _ = ⊥
 
 abbrev pub HasFailed : {D R : Type 0} → disk.Ghosts D → (D → List ℕ → Type 0) → (List ℕ → FileFault → Type 0)
-    → listens.Ghosts R → ℕ → Service → ServeFault → Type 0
-HasFailed disks opened refused net log_bytes service why =
-    HasFailedBy disks opened refused net log_bytes (place_of service) (NoWorkers service.workers) why
+    → listens.Ghosts R → Service → ServeFault → Type 0
+HasFailed disks opened refused net service why =
+    HasFailedBy disks opened refused net service.log_bytes (place_of service) (NoWorkers service.workers) why
 
 abbrev pub LoopsHaveFailed : {D R : Type 0} → disk.Ghosts D → (D → List ℕ → Type 0) → (List ℕ → FileFault → Type 0)
-    → listens.Ghosts R → ℕ → LoopService → ServeFault → Type 0
-LoopsHaveFailed disks opened refused net log_bytes service why =
-    HasFailedBy disks opened refused net log_bytes (loop_place_of service) (NoLoops service.loops) why
+    → listens.Ghosts R → LoopService → ServeFault → Type 0
+LoopsHaveFailed disks opened refused net service why =
+    HasFailedBy disks opened refused net service.log_bytes (loop_place_of service) (NoLoops service.loops) why

@@ -14,7 +14,7 @@ use std::sync::ledger::{Blank, Ledger, Share};
 use std::thread::Threads;
 use xa_reactor::{Ended, Listener, LoopFault, Settings, Watch, run_loops};
 use xa_room::{Manages, Start};
-use xa_sequencer::{Sequencer, SharedSequencer};
+use xa_sequencer::{Associates, Sequencer, SharedSequencer};
 
 /// The most loops, and the parts of the ledger of which each takes some.
 pub const MOST_LOOPS: u64 = 16;
@@ -37,7 +37,7 @@ pub struct Looped {
 /// committed branches are one copy; and what was answered as prepared is listed until its completion is asked for. Each
 /// entry is of a session that a loop connected, answered and hung up.
 pub fn loop_manager<
-    M: Manages + Send + Drop,
+    M: Associates + Send + Drop,
     R: AllocGlobal + Clock + Eprint + Net + Threads + Wait + Sync,
 >(
     rt: &R,
@@ -57,7 +57,7 @@ pub fn loop_manager<
 
 // The same from the states that `S` picks, with the ledger that `L` picks.
 fn loop_by<
-    M: Manages + Send + Drop,
+    M: Associates + Send + Drop,
     S: Start + Send + Sync,
     L: Ledger + Send + Sync,
     R: AllocGlobal + Clock + Eprint + Net + Threads + Wait + Sync,
@@ -123,7 +123,7 @@ fn make_posts<'a, M: Manages, S: Start, L: Ledger, R: AllocGlobal + Wait>(
 
 // Runs a loop at each post. Their shares as one, and whether each loop could wait to its end.
 fn run_posts<
-    M: Manages + Send,
+    M: Associates + Send,
     S: Start + Send + Sync,
     L: Ledger + Send + Sync,
     R: AllocGlobal + Clock + Eprint + Net + Threads + Wait + Sync,

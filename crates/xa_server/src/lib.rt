@@ -1,7 +1,7 @@
 //! A server: each connection of a listener is a session of one manager.
 //!
 //! - `service`: `serve`, which opens a manager over two files and serves a port, by its `Service`; `MOST_SERVED`
-//! - `listens`: `Listens`, what listens on the ports of a machine
+//! - `at`: `At`, where a server listens; `listens`: `Listens`, what listens on the ports of a machine and at its paths
 //! - `serving`: `serve_manager`, which has workers serve a manager's sessions at one desk, and then audits the desk's
 //!   history; `MOST_WORKERS`
 //! - `looping`: `serve_loops`, which does the same by event loops, by its `LoopService`
@@ -13,6 +13,7 @@
 //! - `laws`: `served_promises`, `looped_promises`, what is promised of what was served
 #![tactic(auto)]
 
+mod at;
 mod audited;
 mod engine;
 mod fault;
@@ -25,6 +26,7 @@ mod serve_fault;
 mod service;
 mod serving;
 
+pub use at::At;
 pub use audited::{Audited, audited_lines};
 pub use engine::{Looped, MOST_LOOPS, loop_manager};
 pub use fault::ServerFault;

@@ -1,8 +1,8 @@
 //! A manager over two files, whose sessions are the connections of a port, by event loops.
 ghost use Rattle.std.specs.Prelude.{◌≡◌, ◌&&◌, IfErr, IfOk, not};
-ghost use Rattle.xa_limits.specs.declared.TheConstants.{MOST_LOG};
 ghost use Rattle.xa_server.specs.Served.{AreLoops, HasLooped, LoopsHaveFailed};
 
+use crate::at::{At, Listening};
 use crate::engine::loop_manager;
 use crate::listens::Listens;
 use crate::serve_fault::ServeFault;
@@ -24,14 +24,17 @@ pub struct LoopService<'a> {
     /// Of the log's first file. The second one's has `.2` after it.
     pub path: &'a str,
     pub name: &'a str,
-    pub address: &'a str,
-    pub port: u16,
+    pub at: At<'a>,
+    /// How many bytes each of the log's two files may have.
+    pub log_bytes: u64,
     /// 1 to `MOST_LOOPS`, or 0 for as many as the machine has cores, at most 4.
     pub loops: u64,
     /// After how many connections it ends, 0 for never.
     pub connections: u64,
     /// For how many seconds a connection may bring no byte inside a frame, 0 for ever.
     pub frame_seconds: u64,
+    /// For how many seconds a connection whose session has no association may be quiet, 0 for ever.
+    pub idle_seconds: u64,
     /// Whether it ends when the manager has gone down.
     pub ends_when_down: bool,
 }
@@ -46,29 +49,29 @@ pub fn serve_loops<
     R: AllocGlobal + Print + Eprint + Opens + Listens + Clock + Net + Threads + Wait + Sync,
 >(rt: &R, service: &LoopService<'a>) -> Result<bool, ServeFault<'a>>
     ensures served { IfOk result (HasLooped ⟦<R::Disk as Disk>⟧ ⟦<Manager<R::Disk> as Manages>⟧ R.opened R.Listens
-        MOST_LOG service.now) }
-    ensures failed { IfErr result (LoopsHaveFailed ⟦<R::Disk as Disk>⟧ R.opened R.refused R.Listens MOST_LOG
+        service.now) }
+    ensures failed { IfErr result (LoopsHaveFailed ⟦<R::Disk as Disk>⟧ R.opened R.refused R.Listens
         service.now) }
 {
-    warn(rt, service.address);
-    let (listener, manager) = make_ready(
+    warn(rt, service.at);
+    let (listening, manager) = make_ready(
         rt,
         service.path,
         service.name,
-        service.address,
-        service.port,
+        service.at,
+        service.log_bytes,
     )?;
-    let Ok(()) = listener.set_nonblocking(true) else {
+    let Ok(listener) = unblocked(listening) else {
         return Err(ServeFault::Wait);
     };
     if rt.println("ready").is_err() {
         return Err(ServeFault::Write);
     }
     let loops = loops_of(rt, service.loops);
-    let listener = Listener::Tcp(mio::net::TcpListener::from_std(listener));
     let settings = Settings {
         connections: service.connections,
         frame_seconds: service.frame_seconds,
+        idle_seconds: service.idle_seconds,
         ends_when_down: service.ends_when_down,
     };
     let told = loop_manager(rt, listener, manager, loops, settings)?;
@@ -89,6 +92,20 @@ fn is_well(ends_when_down: bool, is_down: bool) -> bool
     !(ends_when_down && is_down)
 }
 
+// The same listener, whose accepts don't wait.
+fn unblocked(listening: Listening) -> io::Result<Listener> {
+    match listening {
+        Listening::Tcp(listener) => {
+            listener.set_nonblocking(true)?;
+            Ok(Listener::Tcp(mio::net::TcpListener::from_std(listener)))
+        }
+        Listening::Unix(listener) => {
+            listener.set_nonblocking(true)?;
+            Ok(Listener::Unix(mio::net::UnixListener::from_std(listener)))
+        }
+    }
+}
+
 // How many loops are to run.
 fn loops_of<R: Threads>(rt: &R, asked: u64) -> u64
     ensures { AreLoops asked result }
@@ -103,7 +120,10 @@ fn loops_of<R: Threads>(rt: &R, asked: u64) -> u64
 }
 
 // Tells that whoever can connect may do anything, where others than this machine can.
-fn warn<R: Eprint>(rt: &R, address: &str) {
+fn warn<R: Eprint>(rt: &R, at: At<'_>) {
+    let At::Port { address, port: _ } = at else {
+        return;
+    };
     let is_own = match address.parse::<IpAddr>() {
         Ok(address) => address.is_loopback(),
         Err(_) => false,

@@ -6,7 +6,7 @@ use xa_desk::Door;
 use xa_frame::{Reply, Request};
 use xa_reactor::{Reception, Watch};
 use xa_room::{Manages, Start};
-use xa_sequencer::{Handle, SharedSequencer};
+use xa_sequencer::{Associates, Handle, SharedSequencer};
 
 /// A loop's post: a door at a sequencer that the loops share, with the loop's share of what is counted. A watch sees
 /// each reply.
@@ -64,15 +64,22 @@ impl<M: Manages, S: Start, L: Ledger, R: Wait> Door for Post<'_, M, S, L, R> {
     }
 }
 
-impl<M: Manages, S: Start, L: Ledger, R: Wait> Reception for Post<'_, M, S, L, R> {
+impl<M: Associates, S: Start, L: Ledger, R: Wait> Reception for Post<'_, M, S, L, R> {
+    ghost use Rattle.xa_sequencer.specs.Associates.{AssociatedBy};
     ghost use Rattle.xa_server.specs.Loops.{Connected};
 
     ghost connected = { λ a result b.
         Connected M.Manages S.start S.base (a.handle.share.parts, a.handle.share.amount) result
         (b.handle.share.parts, b.handle.share.amount) };
 
+    ghost associates = { λ _ session result. AssociatedBy M.Manages S.start S.base session result };
+
     fn connect(&mut self) -> Result<u64, ConnectFault> {
         self.handle.connect()
+    }
+
+    fn has_association(&self, session: u64) -> bool {
+        self.handle.has_association(session)
     }
 }
 

@@ -1,13 +1,13 @@
 //! A manager over two files, whose sessions are the connections of a port.
 ghost use Rattle.std.specs.Prelude.{◌≡◌, ◌↔◌, ◌++◌, ℕ, List, IfErr, IfOk, IsErrOf, OnOk, codes, string_bytes};
 ghost use Rattle.std.specs.declared.marker.Brand.{Brand};
-ghost use Rattle.xa_limits.specs.declared.TheConstants.{MOST_LOG};
 ghost use Rattle.xa_log.specs.Missing.{missing_of};
 ghost use Rattle.xa_log.specs.declared.missing.Missing.TheVariants.{Neither};
 ghost use Rattle.xa_manager.specs.Opening.{IsBadSetting, OpenRefused};
 ghost use Rattle.xa_server.specs.Faults.{file_fault};
-ghost use Rattle.xa_server.specs.Served.{AreFiles, HasFailed, HasFailedBy, HasOpened, HasServed, IsFileFault, IsReady, Refuses, never, second_path};
+ghost use Rattle.xa_server.specs.Served.{AreFiles, HasFailed, HasFailedBy, HasOpened, HasServed, IsFileFault, IsReady, Refuses, never, second_path, where_of};
 
+use crate::at::{At, Listening, listen};
 use crate::audited::audited_lines;
 use crate::listens::Listens;
 use crate::log_file::LogFile;
@@ -15,11 +15,9 @@ use crate::serve_fault::ServeFault;
 use crate::serving::serve_manager;
 use std::alloc::{AllocError, Global};
 use std::io::Print;
-use std::net::TcpListener;
 use std::sync::Wait;
 use std::thread::Threads;
 use xa_disk::{Disk, FileFault, Opens};
-use xa_limits::MOST_LOG;
 use xa_log::{Missing, OpenFault, missing_file};
 use xa_manager::{Manager, ManagerFault, Settings};
 use xa_room::Manages;
@@ -34,6 +32,8 @@ pub struct Service<'a> {
     pub path: &'a str,
     pub name: &'a str,
     pub port: u16,
+    /// How many bytes each of the log's two files may have.
+    pub log_bytes: u64,
     /// 1 to `MOST_WORKERS`.
     pub workers: u64,
     /// 1 to `MOST_SERVED`.
@@ -50,16 +50,17 @@ pub fn serve<'a, R: AllocGlobal + Print + Opens + Listens + Threads + Wait + Syn
     service: &Service<'a>,
 ) -> Result<bool, ServeFault<'a>>
     ensures served { IfOk result (HasServed Brand ⟦<R::Disk as Disk>⟧ ⟦<Manager<R::Disk> as Manages>⟧ R.opened
-        R.Listens MOST_LOG service.now) }
-    ensures failed { IfErr result (HasFailed ⟦<R::Disk as Disk>⟧ R.opened R.refused R.Listens MOST_LOG service.now) }
+        R.Listens service.now) }
+    ensures failed { IfErr result (HasFailed ⟦<R::Disk as Disk>⟧ R.opened R.refused R.Listens service.now) }
 {
-    let (listener, manager) = make_ready(
-        rt,
-        service.path,
-        service.name,
-        "127.0.0.1",
-        service.port,
-    )?;
+    let at = At::Port {
+        address: "127.0.0.1",
+        port: service.port,
+    };
+    let (listening, manager) = make_ready(rt, service.path, service.name, at, service.log_bytes)?;
+    let Listening::Tcp(listener) = listening else {
+        unreachable!()
+    };
     if rt.println("ready").is_err() {
         return Err(ServeFault::Write);
     }
@@ -71,27 +72,27 @@ pub fn serve<'a, R: AllocGlobal + Print + Opens + Listens + Threads + Wait + Syn
     }
 }
 
-/// What listens at an address on a port, and the manager that the log's two files open to.
+/// What listens there, and the manager that the log's two files open to.
 pub(crate) fn make_ready<'a, R: AllocGlobal + Opens + Listens>(
     rt: &R,
     path: &'a str,
     name: &str,
-    address: &str,
-    port: u16,
-) -> Result<(TcpListener, Manager<R::Disk>), ServeFault<'a>>
-    ensures ready { IfOk result (λ made. IsReady ⟦<R::Disk as Disk>⟧ R.opened R.Listens MOST_LOG
-        (record { path = path.now; name = name.now; address = address.now; port = port }) made.0 made.1) }
-    ensures failed { IfErr result (HasFailedBy ⟦<R::Disk as Disk>⟧ R.opened R.refused R.Listens MOST_LOG
-        (record { path = path.now; name = name.now; address = address.now; port = port }) never) }
+    at: At<'_>,
+    log_bytes: u64,
+) -> Result<(Listening, Manager<R::Disk>), ServeFault<'a>>
+    ensures ready { IfOk result (λ made. IsReady ⟦<R::Disk as Disk>⟧ R.opened R.Listens log_bytes
+        (record { path = path.now; name = name.now; at = where_of at.entry }) made.0 made.1) }
+    ensures failed { IfErr result (HasFailedBy ⟦<R::Disk as Disk>⟧ R.opened R.refused R.Listens log_bytes
+        (record { path = path.now; name = name.now; at = where_of at.entry }) never) }
 {
-    let settings = Settings::new(rt.alloc(), name, MOST_LOG)?;
+    let settings = Settings::new(rt.alloc(), name, log_bytes)?;
     let (mut first, mut second) = open_files(rt, path)?;
     none_missing(rt.alloc(), &mut first, &mut second, path)?;
-    let Ok(listener) = rt.listen(address, port) else {
+    let Ok(listening) = listen(rt, at) else {
         return Err(ServeFault::Listen);
     };
     let manager = open_manager(rt.alloc(), first, second, settings)?;
-    Ok((listener, manager))
+    Ok((listening, manager))
 }
 
 /// The manager that two files open to.

@@ -17,6 +17,7 @@ fn settings_of(connections: u64) -> Settings {
     Settings {
         connections,
         frame_seconds: 1,
+        idle_seconds: 0,
         ends_when_down: false,
     }
 }

@@ -7,6 +7,7 @@ use Rattle.clap.specs.declared.builder.arg.Arg.{Arg}
 use Rattle.clap.specs.declared.builder.command.Command.{Command}
 use Rattle.clap.specs.declared.builder.command.Command.TheViews.{out-Command as fields_of}
 use Rattle.clap.specs.declared.builder.value_parser.ValueParser.TheVariants.{Unsigned}
+use Rattle.xa_limits.specs.declared.TheConstants.{LEAST_LOG, MOST_LOG}
 use Rattle.xa_server.specs.declared.engine.TheConstants.{MOST_LOOPS}
 use Rattle.xa_server.specs.declared.service.TheConstants.{MOST_SERVED}
 use Rattle.xa_server.specs.declared.serving.TheConstants.{MOST_WORKERS}
@@ -53,13 +54,19 @@ abbrev pub name_rule : Rule
 name_rule = required (option (codes "name"))
 
 abbrev pub port_rule : Rule
-port_rule = required (number 1 65535 (option (codes "port")))
+port_rule = number 1 65535 (option (codes "port"))
+
+abbrev pub socket_rule : Rule
+socket_rule = option (codes "socket")
 
 abbrev pub workers_rule : Rule
 workers_rule = number 1 MOST_WORKERS (option (codes "workers"))
 
 abbrev pub connections_rule : Rule
 connections_rule = number 1 MOST_SERVED (option (codes "connections"))
+
+abbrev pub serve_log_bytes_rule : Rule
+serve_log_bytes_rule = defaulting (codes "1073741824") (number LEAST_LOG MOST_LOG (option (codes "log-bytes")))
 
 abbrev pub loops_rule : Rule
 loops_rule = number 1 MOST_LOOPS (option (codes "loops"))
@@ -69,6 +76,9 @@ listen_rule = defaulting (codes "127.0.0.1") (option (codes "listen"))
 
 abbrev pub frame_seconds_rule : Rule
 frame_seconds_rule = defaulting (codes "30") (number 0 3600 (option (codes "frame-seconds")))
+
+abbrev pub idle_seconds_rule : Rule
+idle_seconds_rule = defaulting (codes "0") (number 0 86400 (option (codes "idle-seconds")))
 
 abbrev pub exit_when_down_rule : Rule
 exit_when_down_rule = flag (codes "exit-when-down")
@@ -93,14 +103,14 @@ scan_shape = command_of (codes "scan") (path_rule ∷ [])
 abbrev pub serve_shape : Shape
 serve_shape =
     command_of (codes "serve")
-    (log_rule ∷ name_rule ∷ port_rule ∷ workers_rule ∷ connections_rule ∷ loops_rule ∷ listen_rule ∷ frame_seconds_rule
-    ∷ exit_when_down_rule ∷ [])
+    (log_rule ∷ name_rule ∷ port_rule ∷ serve_log_bytes_rule ∷ workers_rule ∷ connections_rule ∷ loops_rule ∷ listen_rule
+    ∷ socket_rule ∷ frame_seconds_rule ∷ idle_seconds_rule ∷ exit_when_down_rule ∷ [])
 
 abbrev pub talk_shape : Shape
-talk_shape = command_of (codes "talk") (port_rule ∷ names_rule ∷ [])
+talk_shape = command_of (codes "talk") (port_rule ∷ socket_rule ∷ names_rule ∷ [])
 
 abbrev pub tick_shape : Shape
-tick_shape = command_of (codes "tick") (port_rule ∷ every_rule ∷ [])
+tick_shape = command_of (codes "tick") (port_rule ∷ socket_rule ∷ every_rule ∷ [])
 
 -- the whole command line: one of the five, and its version
 abbrev pub xarm : App

@@ -20,7 +20,7 @@ use Rattle.xa_talk.specs.declared.tick_fault.TickFault.{TickFault}
 use Rattle.xarm.specs.Asks.{AsksOf}
 use Rattle.xarm.specs.Line.{xarm}
 use Rattle.xarm.specs.declared.asked.Asked.{Asked}
-use Rattle.xarm.specs.declared.asked.Asked.TheVariants.{Play, Scan, Serve, Loop, Talk, Tick}
+use Rattle.xarm.specs.declared.asked.Asked.TheVariants.{Play, Scan, Serve, Loop, Talk, Tick, Nowhere}
 use Rattle.xarm.specs.declared.ran.Ran.{Ran}
 use Rattle.xarm.specs.declared.ran.Ran.TheVariants.{Ended, Serves, Loops}
 
@@ -54,10 +54,11 @@ module _ {I D C : Type 0} (T : Type 0) (remaining : I → Option Text) (honest :
   HasDone (Scan path) (Ended code) =
       (end : Result (Unit {0}) ScanningFault) × Scanned honest seen opened refused path.now end
       × (exit_status code ≡ status_of end)
-  HasDone (Talk port style) (Ended code) =
+  HasDone (Talk reach style) (Ended code) =
       (end : Result (Unit {0}) TalkFault) × HasTalked style remaining sent left end × (exit_status code ≡ status_of end)
-  HasDone (Tick port every) (Ended code) =
+  HasDone (Tick reach every) (Ended code) =
       (end : Result (Unit {0}) TickFault) × HasTicked T sent left end × (exit_status code ≡ status_of end)
+  HasDone Nowhere (Ended code) = exit_status code ≡ 2
   HasDone (Serve service) (Serves served) = served ≡ service
   HasDone (Loop service) (Loops served) = served ≡ service
   HasDone _ _ = ⊥

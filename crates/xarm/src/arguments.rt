@@ -1,10 +1,11 @@
 //! The arguments of the commands. The help names limits in texts of its own, and `.ci/commands` compares these with
 //! the constants: a text that is made of a number would have to live as long as the words, since `clap` lends both alike.
-ghost use Rattle.xarm.specs.Line.{HasRule, connections_rule, every_rule, exit_when_down_rule, frame_seconds_rule, listen_rule, log_bytes_rule, log_rule, loops_rule, name_rule, names_rule, path_rule, play_name_rule, port_rule, workers_rule};
+ghost use Rattle.xarm.specs.Line.{HasRule, connections_rule, every_rule, exit_when_down_rule, frame_seconds_rule, idle_seconds_rule, listen_rule, log_bytes_rule, log_rule, loops_rule, name_rule, names_rule, path_rule, play_name_rule, port_rule, serve_log_bytes_rule, socket_rule, workers_rule};
 
 use clap::builder::ValueParser;
 use clap::{Arg, ArgAction};
 use std::alloc::Global;
+use xa_limits::{LEAST_LOG, MOST_LOG};
 use xa_server::{MOST_LOOPS, MOST_SERVED, MOST_WORKERS};
 use xa_talk::MOST_EVERY;
 
@@ -13,6 +14,9 @@ const MOST_NUMBER: u64 = 9_223_372_036_854_775_807;
 
 /// The most seconds that a connection may be quiet inside a frame, where that has an end.
 const MOST_FRAME_SECONDS: u64 = 3_600;
+
+/// The most seconds that a connection may be quiet whose session has no association, where that has an end: a day.
+const MOST_IDLE_SECONDS: u64 = 86_400;
 
 pub fn play_name<'a>(alloc: Global) -> Arg<'a>
     ensures { HasRule play_name_rule result }
@@ -67,6 +71,18 @@ pub fn log<'a>(alloc: Global) -> Arg<'a>
         .help("The log's first file; the second one is PATH.2. Missing files are created")
         .required(true)
         .action(ArgAction::Set)
+}
+
+pub fn serve_log_bytes<'a>(alloc: Global) -> Arg<'a>
+    ensures { HasRule serve_log_bytes_rule result }
+{
+    Arg::new(alloc, "log-bytes")
+        .long("log-bytes")
+        .value_name("N")
+        .help("The greatest size of each of the log's two files, in bytes: 64 to 1073741824")
+        .value_parser(ValueParser::unsigned(LEAST_LOG, MOST_LOG))
+        .action(ArgAction::Set)
+        .default_value("1073741824")
 }
 
 pub fn name<'a>(alloc: Global) -> Arg<'a>
@@ -146,6 +162,20 @@ pub fn frame_seconds<'a>(alloc: Global) -> Arg<'a>
         .default_value("30")
 }
 
+pub fn idle_seconds<'a>(alloc: Global) -> Arg<'a>
+    ensures { HasRule idle_seconds_rule result }
+{
+    Arg::new(alloc, "idle-seconds")
+        .long("idle-seconds")
+        .value_name("S")
+        .help(
+            "The number of seconds after which a quiet connection is closed whose session is at work for no branch and has suspended none: 0 (never) to 86400",
+        )
+        .value_parser(ValueParser::unsigned(0, MOST_IDLE_SECONDS))
+        .action(ArgAction::Set)
+        .default_value("0")
+}
+
 pub fn exit_when_down<'a>(alloc: Global) -> Arg<'a>
     ensures { HasRule exit_when_down_rule result }
 {
@@ -162,8 +192,17 @@ pub fn port<'a>(alloc: Global) -> Arg<'a>
         .long("port")
         .value_name("P")
         .help("The port on 127.0.0.1: 1 to 65535")
-        .required(true)
         .value_parser(ValueParser::unsigned(1, u64::from(u16::MAX)))
+        .action(ArgAction::Set)
+}
+
+pub fn socket<'a>(alloc: Global) -> Arg<'a>
+    ensures { HasRule socket_rule result }
+{
+    Arg::new(alloc, "socket")
+        .long("socket")
+        .value_name("PATH")
+        .help("A Unix socket in place of the port, which its owner alone may connect to")
         .action(ArgAction::Set)
 }
 

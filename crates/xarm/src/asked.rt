@@ -1,3 +1,4 @@
+use xa_commands::Reach;
 use xa_script::Style;
 use xa_server::{LoopService, Service};
 
@@ -13,15 +14,17 @@ pub enum Asked<'a> {
         path: &'a str,
     },
     Talk {
-        port: u16,
+        reach: Reach<'a>,
         style: Style,
     },
     Tick {
-        port: u16,
+        reach: Reach<'a>,
         /// How many seconds there are from one moment to the next.
         every: u64,
     },
     /// By workers, with an audit.
     Serve(Service<'a>),
     Loop(LoopService<'a>),
+    /// Neither a port nor a path was given, for a command that needs one.
+    Nowhere,
 }

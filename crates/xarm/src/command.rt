@@ -1,6 +1,6 @@
 //! What is done of a command line.
 ghost use Rattle.std.specs.IoError.{error_kind};
-ghost use Rattle.std.specs.Prelude.{IfErr, IfOk, map, string_bytes};
+ghost use Rattle.std.specs.Prelude.{◌≡◌, IfErr, IfOk, map, string_bytes};
 ghost use Rattle.std.specs.Process.{exit_status};
 ghost use Rattle.clap.specs.Values.{kind_of};
 ghost use Rattle.xarm.specs.Runs.{HasDone, HasRun, IsRefusal, IsUnread};
@@ -17,7 +17,7 @@ use std::net::{Net, TcpStream};
 use std::process::ExitCode;
 use std::rt::{Clock, Env};
 use std::{env, io};
-use xa_commands::{ended, play, scan, talk, tick, words_fault};
+use xa_commands::{Stream, ended, play, scan, talk, tick, words_fault};
 use xa_disk::Opens;
 use xa_play::PlayFault;
 
@@ -27,9 +27,9 @@ pub fn run<'a, R: AllocGlobal + Input + Print + Eprint + Opens + Clock + Net<Str
     rt: &R,
     words: &'a io::Result<Vec<String>>,
 ) -> Ran<'a>
-    ensures run { IfOk words.now (λ words. HasRun {C = Connection TcpStream TcpStream} (Watch R) R.Reader.remaining
-        R.Disk.honest R.Disk.seen R.opened R.refused (λ c. ⟦<TcpStream as Write>⟧.contents c.writer)
-        (λ c. ⟦<TcpStream as Read>⟧.remaining c.reader) (map string_bytes words.items) result) }
+    ensures run { IfOk words.now (λ words. HasRun {C = Connection Stream Stream} (Watch R) R.Reader.remaining
+        R.Disk.honest R.Disk.seen R.opened R.refused (λ c. ⟦<Stream as Write>⟧.contents c.writer)
+        (λ c. ⟦<Stream as Read>⟧.remaining c.reader) (map string_bytes words.items) result) }
     ensures unread { IfErr words.now (λ error. IsUnread (error_kind error) result) }
 {
     let words = match words {
@@ -47,18 +47,30 @@ fn done<'a, R: AllocGlobal + Input + Print + Eprint + Opens + Clock + Net<Stream
     rt: &R,
     asked: Asked<'a>,
 ) -> Ran<'a>
-    ensures { HasDone {C = Connection TcpStream TcpStream} (Watch R) R.Reader.remaining R.Disk.honest R.Disk.seen
-        R.opened R.refused (λ c. ⟦<TcpStream as Write>⟧.contents c.writer)
-        (λ c. ⟦<TcpStream as Read>⟧.remaining c.reader) asked.entry result }
+    ensures { HasDone {C = Connection Stream Stream} (Watch R) R.Reader.remaining R.Disk.honest R.Disk.seen
+        R.opened R.refused (λ c. ⟦<Stream as Write>⟧.contents c.writer)
+        (λ c. ⟦<Stream as Read>⟧.remaining c.reader) asked.entry result }
 {
     Ran::Ended(match asked {
         Asked::Play { name, log_bytes } => ended(rt, &play(rt, name, log_bytes)),
         Asked::Scan { path } => ended(rt, &scan(rt, path)),
         Asked::Serve(service) => return Ran::Serves(service),
         Asked::Loop(service) => return Ran::Loops(service),
-        Asked::Talk { port, style } => ended(rt, &talk(rt, port, style)),
-        Asked::Tick { port, every } => ended(rt, &tick(rt, port, every)),
+        Asked::Talk { reach, style } => ended(rt, &talk(rt, reach, style)),
+        Asked::Tick { reach, every } => ended(rt, &tick(rt, reach, every)),
+        Asked::Nowhere => nowhere(rt),
     })
+}
+
+// Neither a port nor a path was given.
+fn nowhere<R: Eprint>(rt: &R) -> ExitCode
+    ensures { exit_status result ≡ 2 }
+{
+    let _ = rt.eprintln(
+        "error: the following required arguments were not provided:\n  --port <P> or --socket <PATH>\n\n\
+         For more information, try '--help'.",
+    );
+    ExitCode::from(2)
 }
 
 /// The words of the command line.

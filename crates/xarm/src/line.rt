@@ -3,8 +3,8 @@ ghost use Rattle.std.specs.Prelude.{IfOk};
 ghost use Rattle.xarm.specs.Line.{HasShape, IsApp, play_shape, scan_shape, serve_shape, talk_shape, tick_shape, xarm};
 
 use crate::arguments::{
-    connections, every, exit_when_down, frame_seconds, listen, log, log_bytes, loops, name, names,
-    path, play_name, port, workers,
+    connections, every, exit_when_down, frame_seconds, idle_seconds, listen, log, log_bytes, loops,
+    name, names, path, play_name, port, serve_log_bytes, socket, workers,
 };
 use clap::Command;
 use std::alloc::{AllocError, Global};
@@ -57,6 +57,7 @@ fn talk_command<'a>(alloc: Global) -> Result<Command<'a>, AllocError>
              Each line is answered before the next one is read.",
         )
         .arg(port(alloc))?
+        .arg(socket(alloc))?
         .arg(names(alloc))
 }
 
@@ -70,6 +71,7 @@ fn tick_command<'a>(alloc: Global) -> Result<Command<'a>, AllocError>
              ended or the server is gone.",
         )
         .arg(port(alloc))?
+        .arg(socket(alloc))?
         .arg(every(alloc))
 }
 
@@ -82,10 +84,13 @@ fn serve_command<'a>(alloc: Global) -> Result<Command<'a>, AllocError>
         .arg(log(alloc))?
         .arg(name(alloc))?
         .arg(port(alloc))?
+        .arg(serve_log_bytes(alloc))?
         .arg(workers(alloc))?
         .arg(connections(alloc))?
         .arg(loops(alloc))?
         .arg(listen(alloc))?
+        .arg(socket(alloc))?
         .arg(frame_seconds(alloc))?
+        .arg(idle_seconds(alloc))?
         .arg(exit_when_down(alloc))
 }

@@ -1,11 +1,11 @@
 //! What the words of a command line ask for.
-ghost use Rattle.std.specs.Prelude.{◌≡◌, IfOk, IsSomeAnd, codes, if◌then◌else◌, map, string_bytes};
+ghost use Rattle.std.specs.Prelude.{◌≡◌, IfOk, IsSomeAnd, Some, codes, if◌then◌else◌, map, option_map, string_bytes};
 ghost use Rattle.clap.specs.Faults.{fault_of};
 ghost use Rattle.clap.specs.Kinds.{FailsBy};
 ghost use Rattle.clap.specs.Matches.{found_of};
 ghost use Rattle.clap.specs.Simple.{subcommand_of, subcommand_rows_of};
-ghost use Rattle.clap.specs.Walk.{one_of, rows_of};
-ghost use Rattle.xarm.specs.Asks.{AsksBy, AsksOf, IsCommand, IsSet, most_16, most_64, number_in, text_in};
+ghost use Rattle.clap.specs.Walk.{first_of, one_of, rows_of};
+ghost use Rattle.xarm.specs.Asks.{AsksBy, AsksOf, IsAtIn, IsCommand, IsReachIn, IsSet, most_16, most_64, number_in, text_in};
 ghost use Rattle.xarm.specs.Line.{xarm};
 ghost use Rattle.xa_script.specs.declared.style.Style.TheVariants.{Codes, Names};
 ghost use Rattle.xarm.specs.declared.asked.Asked.TheVariants.{Loop};
@@ -14,9 +14,10 @@ use crate::asked::Asked;
 use crate::line::command_line;
 use clap::{ArgMatches, Error};
 use std::alloc::Global;
+use xa_commands::Reach;
 use xa_limits::MOST_LOG;
 use xa_script::Style;
-use xa_server::{LoopService, MOST_SERVED, Service};
+use xa_server::{At, LoopService, MOST_SERVED, Service};
 
 /// What the words of a command line ask for, the program's name first.
 pub fn read_words<'a>(alloc: Global, words: &'a [String]) -> Result<Asked<'a>, Error>
@@ -72,29 +73,39 @@ fn serve_of<'a>(matches: &ArgMatches<'a>) -> Asked<'a>
 {
     let workers = number_of(matches, "workers", 0);
     if workers == 0 {
-        return Asked::Loop(loops_of(matches));
+        return match at_of(matches) {
+            Some(at) => Asked::Loop(loops_of(matches, at)),
+            None => Asked::Nowhere,
+        };
+    }
+    let port = port_of(matches);
+    if port == 0 {
+        return Asked::Nowhere;
     }
     Asked::Serve(Service {
         path: text_of(matches, "log", ""),
         name: text_of(matches, "name", ""),
-        port: port_of(matches),
+        port,
+        log_bytes: number_of(matches, "log-bytes", MOST_LOG),
         workers,
         connections: number_of(matches, "connections", MOST_SERVED),
     })
 }
 
-fn loops_of<'a>(matches: &ArgMatches<'a>) -> LoopService<'a>
-    ensures { number_in (rows_of (found_of matches.now)) (codes "workers") most_64 0 ≡ 0
+fn loops_of<'a>(matches: &ArgMatches<'a>, at: At<'a>) -> LoopService<'a>
+    ensures { IsAtIn (rows_of (found_of matches.now)) (Some at.entry)
+        → number_in (rows_of (found_of matches.now)) (codes "workers") most_64 0 ≡ 0
         → AsksBy (codes "serve") (rows_of (found_of matches.now)) (Loop result) }
 {
     LoopService {
         path: text_of(matches, "log", ""),
         name: text_of(matches, "name", ""),
-        address: text_of(matches, "listen", "127.0.0.1"),
-        port: port_of(matches),
+        at,
+        log_bytes: number_of(matches, "log-bytes", MOST_LOG),
         loops: number_of(matches, "loops", 0),
         connections: number_of(matches, "connections", 0),
         frame_seconds: number_of(matches, "frame-seconds", 30),
+        idle_seconds: number_of(matches, "idle-seconds", 0),
         ends_when_down: flag_of(matches, "exit-when-down"),
     }
 }
@@ -102,19 +113,58 @@ fn loops_of<'a>(matches: &ArgMatches<'a>) -> LoopService<'a>
 fn talk_of<'a>(matches: &ArgMatches<'a>) -> Asked<'a>
     ensures { AsksBy (codes "talk") (rows_of (found_of matches.now)) result }
 {
-    Asked::Talk {
-        port: port_of(matches),
-        style: style_of(matches.get_flag("names")),
+    let style = style_of(matches.get_flag("names"));
+    match reach_of(matches) {
+        Some(reach) => Asked::Talk { reach, style },
+        None => Asked::Nowhere,
     }
 }
 
 fn tick_of<'a>(matches: &ArgMatches<'a>) -> Asked<'a>
     ensures { AsksBy (codes "tick") (rows_of (found_of matches.now)) result }
 {
-    Asked::Tick {
-        port: port_of(matches),
-        every: number_of(matches, "every", 1),
+    let every = number_of(matches, "every", 1);
+    match reach_of(matches) {
+        Some(reach) => Asked::Tick { reach, every },
+        None => Asked::Nowhere,
     }
+}
+
+// Where a server is to listen: at the path, where one is given, else on the port.
+fn at_of<'a>(matches: &ArgMatches<'a>) -> Option<At<'a>>
+    ensures { IsAtIn (rows_of (found_of matches.now)) result }
+{
+    if let Some(path) = socket_of(matches) {
+        return Some(At::Socket(path));
+    }
+    let port = port_of(matches);
+    let address = text_of(matches, "listen", "127.0.0.1");
+    if port == 0 {
+        None
+    } else {
+        Some(At::Port { address, port })
+    }
+}
+
+// How a server is to be reached, likewise.
+fn reach_of<'a>(matches: &ArgMatches<'a>) -> Option<Reach<'a>>
+    ensures { IsReachIn (rows_of (found_of matches.now)) result }
+{
+    if let Some(path) = socket_of(matches) {
+        return Some(Reach::Socket(path));
+    }
+    let port = port_of(matches);
+    if port == 0 {
+        None
+    } else {
+        Some(Reach::Port(port))
+    }
+}
+
+fn socket_of<'a>(matches: &ArgMatches<'a>) -> Option<&'a str>
+    ensures { option_map (λ path. path.now) result ≡ first_of (codes "socket") (rows_of (found_of matches.now)) }
+{
+    matches.get_str("socket")
 }
 
 fn flag_of(matches: &ArgMatches<'_>, id: &str) -> bool

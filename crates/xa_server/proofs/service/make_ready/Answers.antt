@@ -1,7 +1,6 @@
 use Rattle.std.proofs.Common.{subst}
 use Rattle.std.proofs.lemmas.Result.{err_from_is_err_and}
-use Rattle.xa_limits.specs.declared.TheConstants.{MOST_LOG}
-use Rattle.xa_server.specs.Served.{HasOpened, never}
+use Rattle.xa_server.specs.Served.{HasOpened, never, where_of}
 use Rattle.xa_server.proofs.Failing.{failed_on_files}
 use Rattle.xa_server.proofs.Opening.{opened_before}
 use Rattle.xa_server.proofs.service.make_ready.Goals as goal
@@ -19,9 +18,9 @@ returns-clause-ready g c =
       files = record { files = c.in_ok-first.ensures.opened; whole = c.in_ok-none_missing.ensures.whole };
       listening = c.in-Ok.ensures.listens;
       has_opened =
-          opened_before g.R.Disk.Disk first c.none_missing.new.first second c.none_missing.new.second c.args.name.now MOST_LOG manager
+          opened_before g.R.Disk.Disk first c.none_missing.new.first second c.none_missing.new.second c.args.name.now c.args.log_bytes manager
           c.none_missing.ensures.same c.none_missing.ensures.same_second
-          (subst (λ name. HasOpened g.R.Disk.Disk c.none_missing.new.first c.none_missing.new.second name MOST_LOG manager) c.in_ok-settings.ensures.name
+          (subst (λ name. HasOpened g.R.Disk.Disk c.none_missing.new.first c.none_missing.new.second name c.args.log_bytes manager) c.in_ok-settings.ensures.name
           (subst (λ log_bytes. HasOpened g.R.Disk.Disk c.none_missing.new.first c.none_missing.new.second settings.name log_bytes manager)
           c.in_ok-settings.ensures.log_bytes c.in_ok-manager.ensures.opened));
     }
@@ -32,6 +31,6 @@ returns-in_err-none_missing-clause-failed g c =
     err_from_is_err_and c.from_residual-in_err-none_missing.result
     c.from_residual-in_err-none_missing.ensures.1 in
     rw (told.1, told.2)
-    (failed_on_files g.R.Disk.Disk g.R.Opens.opened g.R.Opens.refused g.R.Listens MOST_LOG (record { path = c.args.path.now; name = c.args.name.now; address = c.args.address.now; port = c.args.port }) never
+    (failed_on_files g.R.Disk.Disk g.R.Opens.opened g.R.Opens.refused g.R.Listens c.args.log_bytes (record { path = c.args.path.now; name = c.args.name.now; at = where_of c.args.at }) never
     c.in_ok-first.first c.in_ok-first.second c.in_err-none_missing.field-0.0
-    c.in_ok-first.ensures.opened (c.in_err-none_missing.ensures.failed c.args.name.now MOST_LOG))
+    c.in_ok-first.ensures.opened (c.in_err-none_missing.ensures.failed c.args.name.now c.args.log_bytes))

@@ -1,6 +1,6 @@
 use Rattle.std.proofs.Common.{◌∙◌, ap, codes}
 use Rattle.clap.specs.Simple.{app_of_fields, new_app}
-use Rattle.xarm.specs.Line.{IsApp, connections_rule, exit_when_down_rule, frame_seconds_rule, listen_rule, log_rule, loops_rule, name_rule, port_rule, workers_rule}
+use Rattle.xarm.specs.Line.{IsApp, connections_rule, exit_when_down_rule, frame_seconds_rule, idle_seconds_rule, listen_rule, log_rule, loops_rule, name_rule, port_rule, serve_log_bytes_rule, socket_rule, workers_rule}
 use Rattle.xarm.proofs.Building.{adds_rule, last_rule}
 use Rattle.xarm.proofs.line.serve_command.Goals as goal
 
@@ -14,9 +14,12 @@ returns c =
     let one = adds_rule c.after_help.result c.log.result c.in_ok-arg.field-0 none log_rule first c.log.ensures c.in_ok-arg.ensures in
     let two = adds_rule c.in_ok-arg.field-0 c.name.result c.in_ok-arg-2.field-0 _ name_rule one c.name.ensures c.in_ok-arg-2.ensures in
     let three = adds_rule c.in_ok-arg-2.field-0 c.port.result c.in_ok-arg-3.field-0 _ port_rule two c.port.ensures c.in_ok-arg-3.ensures in
-    let four = adds_rule c.in_ok-arg-3.field-0 c.workers.result c.in_ok-arg-4.field-0 _ workers_rule three c.workers.ensures c.in_ok-arg-4.ensures in
-    let five = adds_rule c.in_ok-arg-4.field-0 c.connections.result c.in_ok-arg-5.field-0 _ connections_rule four c.connections.ensures c.in_ok-arg-5.ensures in
-    let six = adds_rule c.in_ok-arg-5.field-0 c.loops.result c.in_ok-arg-6.field-0 _ loops_rule five c.loops.ensures c.in_ok-arg-6.ensures in
-    let seven = adds_rule c.in_ok-arg-6.field-0 c.listen.result c.in_ok-arg-7.field-0 _ listen_rule six c.listen.ensures c.in_ok-arg-7.ensures in
-    let eight = adds_rule c.in_ok-arg-7.field-0 c.frame_seconds.result c.in_ok-arg-8.field-0 _ frame_seconds_rule seven c.frame_seconds.ensures c.in_ok-arg-8.ensures in
-    last_rule c.in_ok-arg-8.field-0 c.exit_when_down.result c.arg-9.result _ exit_when_down_rule eight c.exit_when_down.ensures c.arg-9.ensures
+    let four = adds_rule c.in_ok-arg-3.field-0 c.serve_log_bytes.result c.in_ok-arg-4.field-0 _ serve_log_bytes_rule three c.serve_log_bytes.ensures c.in_ok-arg-4.ensures in
+    let five = adds_rule c.in_ok-arg-4.field-0 c.workers.result c.in_ok-arg-5.field-0 _ workers_rule four c.workers.ensures c.in_ok-arg-5.ensures in
+    let six = adds_rule c.in_ok-arg-5.field-0 c.connections.result c.in_ok-arg-6.field-0 _ connections_rule five c.connections.ensures c.in_ok-arg-6.ensures in
+    let seven = adds_rule c.in_ok-arg-6.field-0 c.loops.result c.in_ok-arg-7.field-0 _ loops_rule six c.loops.ensures c.in_ok-arg-7.ensures in
+    let eight = adds_rule c.in_ok-arg-7.field-0 c.listen.result c.in_ok-arg-8.field-0 _ listen_rule seven c.listen.ensures c.in_ok-arg-8.ensures in
+    let nine = adds_rule c.in_ok-arg-8.field-0 c.socket.result c.in_ok-arg-9.field-0 _ socket_rule eight c.socket.ensures c.in_ok-arg-9.ensures in
+    let ten = adds_rule c.in_ok-arg-9.field-0 c.frame_seconds.result c.in_ok-arg-10.field-0 _ frame_seconds_rule nine c.frame_seconds.ensures c.in_ok-arg-10.ensures in
+    let eleven = adds_rule c.in_ok-arg-10.field-0 c.idle_seconds.result c.in_ok-arg-11.field-0 _ idle_seconds_rule ten c.idle_seconds.ensures c.in_ok-arg-11.ensures in
+    last_rule c.in_ok-arg-11.field-0 c.exit_when_down.result c.arg-12.result _ exit_when_down_rule eleven c.exit_when_down.ensures c.arg-12.ensures

@@ -3,10 +3,10 @@ use Rattle.clap.specs.Matches.{found_of}
 use Rattle.xarm.proofs.Reading.{flag_read}
 use Rattle.xarm.proofs.words.talk_of.Goals as goal
 
-pub returns : goal.returns
-returns c = (
+pub returns-in-Some : goal.returns-in-Some
+returns-in-Some c = (
   refl,
-  c.port_of.ensures,
-  flag_read (found_of c.args.matches.now) (codes "names") c.get_flag.result c.style_of.result c.style_of.ensures
+  c.in-Some.ensures,
+  flag_read (found_of c.args.matches.now) (codes "names") c.get_flag.result c.style_of-style.result c.style_of-style.ensures
       c.get_flag.ensures.none c.get_flag.ensures.value c.get_flag.ensures.other,
 )
