@@ -74,7 +74,9 @@ fn is_less(first: &Bytes, other: &Bytes) -> bool {
 fn byte_strings(rt: HostRuntime) {
     let first = Bytes::from_slice(rt.alloc(), b"ab").expect(&rt, "bytes");
     let other = Bytes::from_slice(rt.alloc(), b"abc").expect(&rt, "bytes");
-    assert!(rt; is_copied(rt.alloc(), &first) == Ok(true));
-    assert!(rt; is_less(&first, &other));
-    assert!(rt; other.as_slice().len() == 3);
+    assert!(rt;
+        is_copied(rt.alloc(), &first) == Ok(true)
+            && is_less(&first, &other)
+            && other.as_slice().len() == 3
+    );
 }

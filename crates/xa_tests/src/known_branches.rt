@@ -1,4 +1,5 @@
-use crate::frames::{CONTENTS, Content, is_content, letter_with, reply_again, with_byte};
+use crate::frame_changes::{CONTENTS, Content, letter_with, with_byte};
+use crate::frames::{is_content, reply_again};
 use crate::rows::none_wrong;
 use std::alloc::Global;
 use xa_branch::Branches;
@@ -53,8 +54,7 @@ fn reads_asked(alloc: Global) -> bool {
 
 #[test]
 fn asked(rt: HostRuntime) {
-    assert!(rt; is_content(asked_content(rt.alloc()), &ASKED));
-    assert!(rt; reads_asked(rt.alloc()));
+    assert!(rt; is_content(asked_content(rt.alloc()), &ASKED) && reads_asked(rt.alloc()));
 }
 
 /// 1:aa:bb is at work, with mark 101, timestamp 4,294,967,297, one active association and two loose ones.

@@ -3,11 +3,11 @@
 //! memory.
 //!
 //! - `codes`: names of codes and flags, strings of bytes; `xids`: bytes, texts and order of XIDs
-//! - `frames`: contents of requests and replies; `frame_limits`: those at their limits; `refused_frames`: those with a
-//!   fault
+//! - `frames`: contents of requests and replies; `frame_changes`: those that are cut or changed; `frame_limits`: those at
+//!   their limits; `refused_frames`: those with a fault
 //! - `known_branches`: the list of known branches, in its frames and of the table
 //! - `records`: bodies of records; `record_limits`: those at their limits
-//! - `chains`, `versions`: one key's versions, and all keys'
+//! - `chains`, `versions`: one key's versions, and all keys'; `committed`: what of them has committed
 //! - `sessions`, `tables`: the tables of sessions and of branches; `time_limits`: how branches run out of time; `scans`:
 //!   recovery scans; `heuristics`: the operator's decisions
 //! - `connections`: one connection in pieces, and broken; `cuts`: one without its socket; `doors`: what they are
@@ -20,11 +20,15 @@ mod chains;
 #[cfg(test)]
 mod codes;
 #[cfg(test)]
+mod committed;
+#[cfg(test)]
 mod connections;
 #[cfg(test)]
 mod cuts;
 #[cfg(test)]
 mod doors;
+#[cfg(test)]
+mod frame_changes;
 #[cfg(test)]
 mod frame_limits;
 #[cfg(test)]

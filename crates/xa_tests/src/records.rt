@@ -83,8 +83,7 @@ fn reads_opened(alloc: Global) -> bool {
 
 #[test]
 fn opened(rt: HostRuntime) {
-    assert!(rt; writes_opened());
-    assert!(rt; reads_opened(rt.alloc()));
+    assert!(rt; writes_opened() && reads_opened(rt.alloc()));
 }
 
 fn is_base(record: &Record) -> bool {
@@ -168,6 +167,5 @@ fn reads_known(alloc: Global) -> Option<bool> {
 
 #[test]
 fn known(rt: HostRuntime) {
-    assert!(rt; writes_known() == Some(true));
-    assert!(rt; reads_known(rt.alloc()) == Some(true));
+    assert!(rt; writes_known() == Some(true) && reads_known(rt.alloc()) == Some(true));
 }

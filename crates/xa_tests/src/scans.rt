@@ -52,42 +52,60 @@ fn is_refused(sessions: &Sessions, session: u64, flags: u32) -> bool {
     }
 }
 
-// A scan begins, goes on to its end, and is over.
+// A scan begins and goes on.
+fn begins(sessions: &mut Sessions, first: &Xid, second: &Xid) -> bool {
+    let begun = has_none(sessions, 1)
+        && is_refused(sessions, 1, TMNOFLAGS)
+        && goes_on(sessions, 1, TMSTARTRSCAN, None);
+    sessions.move_scan(1, TMSTARTRSCAN, None, &[first.copied(), second.copied()]);
+    begun && stands_at(sessions, 1, Some(second)) && goes_on(sessions, 1, TMNOFLAGS, Some(second))
+}
+
+// It goes to its end, and is over.
+fn ends(sessions: &mut Sessions, second: &Xid) -> bool {
+    sessions.move_scan(1, TMNOFLAGS, Some(second.copied()), &[]);
+    let stands = goes_on(sessions, 1, TMENDRSCAN, Some(second))
+        && goes_on(sessions, 1, TMSTARTRSCAN, None);
+    sessions.move_scan(1, TMENDRSCAN, Some(second.copied()), &[]);
+    stands && has_none(sessions, 1) && is_refused(sessions, 1, TMENDRSCAN)
+}
+
 #[test]
 fn a_scan_from_call_to_call(rt: HostRuntime) {
     let first = xid(&[0xaa]).expect(&rt, "an XID");
     let second = xid(&[0xbb]).expect(&rt, "an XID");
     let mut sessions = Sessions::new(rt.alloc());
-    assert!(rt; opened(&mut sessions));
-    assert!(rt; has_none(&sessions, 1) && is_refused(&sessions, 1, TMNOFLAGS));
-    assert!(rt; goes_on(&sessions, 1, TMSTARTRSCAN, None));
-    sessions.move_scan(1, TMSTARTRSCAN, None, &[first.copied(), second.copied()]);
-    assert!(rt; stands_at(&sessions, 1, Some(&second)));
-    assert!(rt; goes_on(&sessions, 1, TMNOFLAGS, Some(&second)));
-    sessions.move_scan(1, TMNOFLAGS, Some(second.copied()), &[]);
-    assert!(rt; goes_on(&sessions, 1, TMENDRSCAN, Some(&second)));
-    assert!(rt; goes_on(&sessions, 1, TMSTARTRSCAN, None));
-    sessions.move_scan(1, TMENDRSCAN, Some(second.copied()), &[]);
-    assert!(rt; has_none(&sessions, 1) && is_refused(&sessions, 1, TMENDRSCAN));
+    assert!(rt;
+        opened(&mut sessions)
+            && begins(&mut sessions, &first, &second)
+            && ends(&mut sessions, &second)
+    );
 }
 
-// A scan is its session's alone, and a close ends it.
+// The first is opened, the second isn't.
+fn two(sessions: &mut Sessions) -> bool {
+    opened(sessions) && sessions.connect().ok() == Some(2)
+}
+
+// A scan is its session's alone, and one that isn't connected has none.
+fn are_own(sessions: &mut Sessions, xid: &Xid) -> bool {
+    sessions.set_scan(1, Some(Some(xid.copied())));
+    sessions.set_scan(2, Some(None));
+    sessions.set_scan(9, Some(None));
+    stands_at(sessions, 1, Some(xid)) && stands_at(sessions, 2, None) && has_none(sessions, 9)
+}
+
+// A close ends it.
+fn are_over(sessions: &mut Sessions) -> bool {
+    sessions.set_scan(2, None);
+    has_none(sessions, 2) && sessions.close(1).is_ok() && has_none(sessions, 1)
+}
+
 #[test]
 fn scans_of_sessions(rt: HostRuntime) {
     let xid = xid(&[0xaa]).expect(&rt, "an XID");
     let mut sessions = Sessions::new(rt.alloc());
-    assert!(rt; opened(&mut sessions));
-    assert!(rt; sessions.connect().ok() == Some(2));
-    sessions.set_scan(1, Some(Some(xid.copied())));
-    sessions.set_scan(2, Some(None));
-    sessions.set_scan(9, Some(None));
-    assert!(rt; stands_at(&sessions, 1, Some(&xid)));
-    assert!(rt; stands_at(&sessions, 2, None));
-    assert!(rt; has_none(&sessions, 9));
-    sessions.set_scan(2, None);
-    assert!(rt; has_none(&sessions, 2));
-    assert!(rt; sessions.close(1).is_ok());
-    assert!(rt; has_none(&sessions, 1));
+    assert!(rt; two(&mut sessions) && are_own(&mut sessions, &xid) && are_over(&mut sessions));
 }
 
 // Session 1 is at work for a branch, and its scan is open.
@@ -100,17 +118,19 @@ fn with_work(sessions: &mut Sessions, xid: &Xid) -> bool {
 }
 
 // Behind a restart sessions are connected and opened as they were, and hold nothing.
+fn begin_anew(sessions: &mut Sessions) -> bool {
+    sessions.restart();
+    sessions.opened_of(1) == Some(true)
+        && sessions.opened_of(2) == Some(false)
+        && !sessions.holds_any(1)
+        && sessions.current(1).is_none()
+        && has_none(sessions, 1)
+        && sessions.connect().ok() == Some(3)
+}
+
 #[test]
 fn a_restart(rt: HostRuntime) {
     let xid = xid(&[0xaa]).expect(&rt, "an XID");
     let mut sessions = Sessions::new(rt.alloc());
-    assert!(rt; opened(&mut sessions));
-    assert!(rt; sessions.connect().ok() == Some(2));
-    assert!(rt; with_work(&mut sessions, &xid));
-    sessions.restart();
-    assert!(rt; sessions.opened_of(1) == Some(true));
-    assert!(rt; sessions.opened_of(2) == Some(false));
-    assert!(rt; !sessions.holds_any(1) && sessions.current(1).is_none());
-    assert!(rt; has_none(&sessions, 1));
-    assert!(rt; sessions.connect().ok() == Some(3));
+    assert!(rt; two(&mut sessions) && with_work(&mut sessions, &xid) && begin_anew(&mut sessions));
 }

@@ -151,8 +151,10 @@ fn is_gone(sessions: &mut Sessions, session: u64) -> bool {
 fn many_sessions(rt: HostRuntime) {
     let mut sessions = Sessions::new(rt.alloc());
     assert_eq!(rt; wrong_number(&mut sessions, u64::from(SESSIONS)), None);
-    assert!(rt; is_full(&mut sessions));
-    assert!(rt; is_gone(&mut sessions, 700));
-    assert!(rt; is_connected_as(&mut sessions, 700));
-    assert!(rt; is_full(&mut sessions));
+    assert!(rt;
+        is_full(&mut sessions)
+            && is_gone(&mut sessions, 700)
+            && is_connected_as(&mut sessions, 700)
+            && is_full(&mut sessions)
+    );
 }

@@ -196,7 +196,9 @@ fn has_text(alloc: Global, fault: TalkFault, text: &str) -> bool {
 #[test]
 fn texts_of_faults(rt: HostRuntime) {
     let alloc = rt.alloc();
-    assert!(rt; has_text(alloc, TalkFault::Connect, "xarm: cannot connect"));
-    assert!(rt; has_text(alloc, TalkFault::Broken, "xarm: connection lost"));
-    assert!(rt; has_text(alloc, TalkFault::NoReply, "xarm: no reply"));
+    assert!(rt;
+        has_text(alloc, TalkFault::Connect, "xarm: cannot connect")
+            && has_text(alloc, TalkFault::Broken, "xarm: connection lost")
+            && has_text(alloc, TalkFault::NoReply, "xarm: no reply")
+    );
 }

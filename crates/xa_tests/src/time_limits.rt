@@ -1,50 +1,71 @@
 use std::alloc::Global;
-use std::test::Fail;
 use xa_assoc::Sessions;
 use xa_branch::{Branches, Kind, Known};
 use xa_codes::{XA_RBTIMEOUT, XAER_INVAL, XAER_PROTO};
 use xa_xid::Xid;
 
-// A session's time limit outlasts its close and a restart, and ends with the connection.
-#[test]
-fn session_limits(rt: HostRuntime) -> Result<(), Fail> {
-    let mut sessions = Sessions::new(rt.alloc());
-    assert_eq!(rt; sessions.set_timeout(1, 10), Err(XAER_PROTO));
-    assert_eq!(rt; sessions.connect().ok(), Some(1));
-    assert_eq!(rt; sessions.timeout(1), 0);
-    assert_eq!(rt; sessions.set_timeout(1, 10), Ok(()));
-    sessions.open(1);
-    assert!(rt; sessions.close(1).is_ok());
-    sessions.restart();
-    assert_eq!(rt; sessions.timeout(1), 10);
-    let _seat = sessions.hangup(1);
-    assert_eq!(rt; sessions.timeout(1), 0);
-    assert_eq!(rt; sessions.connect().ok(), Some(1));
-    assert_eq!(rt; sessions.timeout(1), 0);
-    Ok(())
+// A session has no time limit until it is set one.
+fn is_set(sessions: &mut Sessions) -> bool {
+    sessions.set_timeout(1, 10) == Err(XAER_PROTO)
+        && sessions.connect().ok() == Some(1)
+        && sessions.timeout(1) == 0
+        && sessions.set_timeout(1, 10) == Ok(())
 }
 
-// A branch runs out of time once it is as old as its limit, and a prepared one doesn't. Moments don't go back.
+// It outlasts a close and a restart, and ends with the connection.
+fn ends_with_connection(sessions: &mut Sessions) -> bool {
+    sessions.open(1);
+    let closed = sessions.close(1).is_ok();
+    sessions.restart();
+    let outlasts = sessions.timeout(1) == 10;
+    let _seat = sessions.hangup(1);
+    closed
+        && outlasts
+        && sessions.timeout(1) == 0
+        && sessions.connect().ok() == Some(1)
+        && sessions.timeout(1) == 0
+}
+
 #[test]
-fn branch_limits(rt: HostRuntime) -> Result<(), Fail> {
-    let first = Xid::new(1, &[0xaa], &[]).ok().ok_or("an XID")?;
-    let second = Xid::new(1, &[0xbb], &[]).ok().ok_or("an XID")?;
+fn session_limits(rt: HostRuntime) {
+    let mut sessions = Sessions::new(rt.alloc());
+    assert!(rt; is_set(&mut sessions) && ends_with_connection(&mut sessions));
+}
+
+// A branch runs out of time once it is as old as its limit.
+fn runs_out(branches: &mut Branches, xid: &Xid) -> bool {
+    branches.begin(xid, 10) == Ok(4294967297)
+        && branches.tick(9) == Ok(0)
+        && branches.tick(10) == Ok(1)
+        && branches.known(xid) == Known::AtWork(Some(XA_RBTIMEOUT))
+        && branches.ready_to_prepare(xid) == Err(XAER_PROTO)
+}
+
+// Moments don't go back.
+fn stays_at(branches: &mut Branches, xid: &Xid) -> bool {
+    branches.finish(xid);
+    branches.tick(9) == Err(XAER_INVAL) && branches.moment() == 10
+}
+
+// A prepared branch doesn't run out of time.
+fn stays_prepared(branches: &mut Branches, xid: &Xid) -> bool {
+    let begun = branches.begin(xid, 10) == Ok(4294967298);
+    branches.leave(xid, Kind::Active);
+    let room = branches.make_room(xid).is_ok();
+    branches.prepare(xid);
+    begun && room && branches.tick(100) == Ok(0) && branches.known(xid) == Known::InDoubt
+}
+
+#[test]
+fn branch_limits(rt: HostRuntime) {
+    let first = Xid::new(1, &[0xaa], &[]).ok().expect(&rt, "an XID");
+    let second = Xid::new(1, &[0xbb], &[]).ok().expect(&rt, "an XID");
     let mut branches = Branches::new(rt.alloc(), 1, 1, 0);
-    assert_eq!(rt; branches.begin(&first, 10), Ok(4294967297));
-    assert_eq!(rt; branches.tick(9), Ok(0));
-    assert_eq!(rt; branches.tick(10), Ok(1));
-    assert_eq!(rt; branches.known(&first), Known::AtWork(Some(XA_RBTIMEOUT)));
-    assert_eq!(rt; branches.ready_to_prepare(&first), Err(XAER_PROTO));
-    branches.finish(&first);
-    assert_eq!(rt; branches.tick(9), Err(XAER_INVAL));
-    assert_eq!(rt; branches.moment(), 10);
-    assert_eq!(rt; branches.begin(&second, 10), Ok(4294967298));
-    branches.leave(&second, Kind::Active);
-    branches.make_room(&second)?;
-    branches.prepare(&second);
-    assert_eq!(rt; branches.tick(100), Ok(0));
-    assert_eq!(rt; branches.known(&second), Known::InDoubt);
-    Ok(())
+    assert!(rt;
+        runs_out(&mut branches, &first)
+            && stays_at(&mut branches, &first)
+            && stays_prepared(&mut branches, &second)
+    );
 }
 
 fn numbered(k: i32) -> Option<Xid> {
@@ -91,13 +112,11 @@ fn run_out(alloc: Global, limited: u16) -> bool {
 }
 
 #[test]
-fn all_run_out(rt: HostRuntime) -> Result<(), Fail> {
+fn all_run_out(rt: HostRuntime) {
     assert!(rt; run_out(rt.alloc(), 4096));
-    Ok(())
 }
 
 #[test]
-fn one_runs_out(rt: HostRuntime) -> Result<(), Fail> {
+fn one_runs_out(rt: HostRuntime) {
     assert!(rt; run_out(rt.alloc(), 1));
-    Ok(())
 }

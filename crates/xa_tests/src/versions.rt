@@ -14,7 +14,7 @@ enum Ask {
     Restore(&'static [KeyWrite], Option<Fate>),
 }
 
-type KeyWrite = (&'static [u8], Option<u8>);
+pub(crate) type KeyWrite = (&'static [u8], Option<u8>);
 
 #[derive(Clone, Copy, PartialEq, Eq)]
 enum Told {
@@ -29,9 +29,9 @@ enum Told {
 }
 
 // The first three timestamps of the first boot.
-const FIRST: u64 = 4294967297;
+pub(crate) const FIRST: u64 = 4294967297;
 
-const SECOND: u64 = 4294967298;
+pub(crate) const SECOND: u64 = 4294967298;
 
 const THIRD: u64 = 4294967299;
 
@@ -39,9 +39,9 @@ const THIRD: u64 = 4294967299;
 const LATER: u64 = 8589934593;
 
 // What branches of the first boot wrote.
-const WROTE: [KeyWrite; 2] = [(b"k", Some(0x31)), (b"l", None)];
+pub(crate) const WROTE: [KeyWrite; 2] = [(b"k", Some(0x31)), (b"l", None)];
 
-const WROTE_LATER: [KeyWrite; 1] = [(b"k", Some(0x32))];
+pub(crate) const WROTE_LATER: [KeyWrite; 1] = [(b"k", Some(0x32))];
 
 /// Rows by themselves, each on new records.
 const ROWS: [&[(u64, Ask, Told)]; 8] = [
@@ -142,7 +142,7 @@ fn write_of(alloc: Global, key: &[u8], byte: Option<u8>) -> Result<Write, AllocE
     })
 }
 
-fn writes_of(alloc: Global, rows: &[KeyWrite]) -> Result<Vec<Write>, AllocError> {
+pub(crate) fn writes_of(alloc: Global, rows: &[KeyWrite]) -> Result<Vec<Write>, AllocError> {
     let mut writes = Vec::new(alloc);
     for (key, byte) in rows {
         writes.push(write_of(alloc, key, *byte)?)?;
@@ -238,7 +238,7 @@ fn wrong_put(records: &mut Records, alloc: Global, rows: &[KeyWrite]) -> Option<
     None
 }
 
-fn are_writes(writes: &[Write], wanted: &[KeyWrite]) -> bool {
+pub(crate) fn are_writes(writes: &[Write], wanted: &[KeyWrite]) -> bool {
     for (write, (key, byte)) in writes.iter().zip(wanted) {
         if !is_write(write, key, *byte) {
             return false;
@@ -294,9 +294,11 @@ fn refused_key(records: &mut Records) -> Option<usize> {
 fn limit(rt: HostRuntime) {
     let mut records = Records::new(rt.alloc());
     none_wrong(&rt, refused_key(&mut records));
-    assert!(rt; put(&mut records, FIRST, b"kk", None) == Told::Limit);
-    assert!(rt; put(&mut records, FIRST, b"k", None) == Told::Done);
-    assert!(rt; put(&mut records, SECOND, b"kk", None) == Told::Done);
+    assert!(rt;
+        put(&mut records, FIRST, b"kk", None) == Told::Limit
+            && put(&mut records, FIRST, b"k", None) == Told::Done
+            && put(&mut records, SECOND, b"kk", None) == Told::Done
+    );
 }
 
 fn leaves_no_version(records: &mut Records) -> bool {
@@ -340,8 +342,10 @@ fn written_in_turn(alloc: Global, drains: bool) -> Option<u64> {
 
 #[test]
 fn written_over(rt: HostRuntime) {
-    assert!(rt; written_in_turn(rt.alloc(), true) == Some(1));
-    assert!(rt; written_in_turn(rt.alloc(), false) == Some(301));
+    assert!(rt;
+        written_in_turn(rt.alloc(), true) == Some(1)
+            && written_in_turn(rt.alloc(), false) == Some(301)
+    );
 }
 
 // How many versions are left where one branch after another reads a key of its own that nobody wrote. Some tenths of a

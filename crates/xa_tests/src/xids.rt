@@ -29,10 +29,12 @@ fn xid(format: i32, gtrid: &[u8], bqual: &[u8]) -> Option<Xid> {
 #[test]
 fn bytes(rt: HostRuntime) {
     let named = xid(1, &[0xaa], &[0xbb]).expect(&rt, "an XID");
-    assert!(rt; is_put(&named, &[0, 0, 0, 1, 1, 1, 0xaa, 0xbb]));
-    assert!(rt; is_taken(&[0, 0, 0, 1, 1, 1, 0xaa, 0xbb, 7], &named, 8));
-    assert!(rt; is_no_xid(&[0, 0, 0, 1, 1, 1, 0xaa]));
-    assert!(rt; is_no_xid(&[255, 255, 255, 255, 1, 0, 0xaa]));
+    assert!(rt;
+        is_put(&named, &[0, 0, 0, 1, 1, 1, 0xaa, 0xbb])
+            && is_taken(&[0, 0, 0, 1, 1, 1, 0xaa, 0xbb, 7], &named, 8)
+            && is_no_xid(&[0, 0, 0, 1, 1, 1, 0xaa])
+            && is_no_xid(&[255, 255, 255, 255, 1, 0, 0xaa])
+    );
 }
 
 const TEXTS: [&[u8]; 4] = [
@@ -115,11 +117,13 @@ fn fault(format: i32, gtrid: &[u8], bqual: &[u8]) -> Option<XidFault> {
 
 #[test]
 fn limits(rt: HostRuntime) {
-    assert!(rt; matches!(fault(-1, &[], &[]), Some(XidFault::Null)));
-    assert!(rt; matches!(fault(1, &[], &PAST), Some(XidFault::GtridLength)));
-    assert!(rt; matches!(fault(1, &PAST, &[]), Some(XidFault::GtridLength)));
-    assert!(rt; matches!(fault(1, &GREATEST, &PAST), Some(XidFault::BqualLength)));
-    assert!(rt; fault(1, &GREATEST, &GREATEST).is_none());
+    assert!(rt;
+        matches!(fault(-1, &[], &[]), Some(XidFault::Null))
+            && matches!(fault(1, &[], &PAST), Some(XidFault::GtridLength))
+            && matches!(fault(1, &PAST, &[]), Some(XidFault::GtridLength))
+            && matches!(fault(1, &GREATEST, &PAST), Some(XidFault::BqualLength))
+            && fault(1, &GREATEST, &GREATEST).is_none()
+    );
 }
 
 fn is_less(first: &Xid, second: &Xid) -> bool {
@@ -134,12 +138,14 @@ fn is_equal_to_copy(xid: &Xid) -> bool {
 fn order(rt: HostRuntime) {
     let whole = xid(1, &[0xaa, 0xbb], &[]).expect(&rt, "an XID");
     let parts = xid(1, &[0xaa], &[0xbb]).expect(&rt, "an XID");
-    assert!(rt; whole != parts);
     let longer = xid(1, &[0xaa, 0], &[]).expect(&rt, "an XID");
-    assert!(rt; is_less(&parts, &longer));
     let below = xid(-5, &[9], &[]).expect(&rt, "an XID");
     let above = xid(1, &[1], &[]).expect(&rt, "an XID");
-    assert!(rt; is_less(&below, &above));
     let named = xid(7, &[1], &[2]).expect(&rt, "an XID");
-    assert!(rt; is_equal_to_copy(&named));
+    assert!(rt;
+        whole != parts
+            && is_less(&parts, &longer)
+            && is_less(&below, &above)
+            && is_equal_to_copy(&named)
+    );
 }
