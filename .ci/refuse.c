@@ -21,7 +21,7 @@ __attribute__((constructor)) static void begin(void)
 static int is_refused(void)
 {
     const char *to;
-    if (left == 0 || --left != 0)
+    if (__atomic_fetch_sub(&left, 1, __ATOMIC_SEQ_CST) != 1)
         return 0;
     to = getenv("TELL");
     if (!to || write((int)atol(to), "!", 1) != 1)
