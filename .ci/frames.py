@@ -41,6 +41,7 @@ CALLS = {
     "restart": (15,),
     "timeout": (16, 4),
     "tick": (17, 8),
+    "trim": (65,),
     "branches": (66, 4, "cursor"),
 }
 # Each call of a session.
@@ -73,6 +74,7 @@ SESSION = """1 open TMNOFLAGS n
 1 put 6e 01
 1 end TMSUCCESS 1:ae:
 1 commit TMONEPHASE 1:ae:
+1 trim
 1 restart
 1 close TMNOFLAGS""".splitlines()
 

@@ -9,7 +9,7 @@ use Rattle.xa_xid.specs.Triple.{Triple}
 use Rattle.xa_model.specs.State.{Branch, Operation, Got, Wrote, is_known_as, known_of, change, without}
 use Rattle.xa_model.specs.Branches.{as_committed}
 use Rattle.xa_model.specs.Records.{having_done}
-use Rattle.xa_model.specs.Sound.{Descends}
+use Rattle.xa_model.specs.Invariants.Sound.{Descends}
 use Rattle.xa_model.proofs.Times.{known_below}
 use Rattle.mv_rules.specs.Accesses.{wrote}
 use Rattle.mv_rules.specs.Ties.{fate_of, writes_by, writes_one, writes_in}

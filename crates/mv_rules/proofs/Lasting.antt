@@ -10,7 +10,7 @@ use Rattle.mv_chain.specs.Accesses.{Written, Seen, seen_without, stands}
 use Rattle.mv_chain.specs.Last.{everybody, stamped, AreUpto}
 use Rattle.xa_model.specs.State.{Branch, Operation, Got, Wrote, Phase, Working, Prepared, Committed, timestamp_of}
 use Rattle.xa_model.specs.Source.{write_of}
-use Rattle.xa_model.specs.Sound.{Descends}
+use Rattle.xa_model.specs.Invariants.Sound.{Descends}
 use Rattle.xa_model.specs.Durable.{CommittedBranch, Pairwise, keys_before, committed_part, writes_of, value_in, last_write, is_written, not_overwritten, with_writes, last_writes}
 use Rattle.xa_model.proofs.Ascending.{parts, add, parts-cons}
 use Rattle.xa_model.proofs.Applied.{commits_ascend}

@@ -13,7 +13,7 @@ use Rattle.mv_chain.specs.Chain.{has_base, StandsFor as ChainStandsFor}
 use Rattle.mv_chain.specs.declared.fate.Fate.{Fate}
 use Rattle.xa_model.specs.State.{Branch, Phase, Working, Prepared, Committed, timestamp_of, is_working}
 use Rattle.xa_model.specs.Source.{write_of, written_keys}
-use Rattle.xa_model.specs.Sound.{Descends}
+use Rattle.xa_model.specs.Invariants.Sound.{Descends}
 use Rattle.xa_model.specs.Durable.{Durable, CommittedBranch, Pairwise, keys_before, is_written, not_overwritten, with_writes, last_writes, value_in, last_write, writes_of, committed_part, prepared_part}
 use Rattle.xa_model.proofs.Ascending.{parts, add, parts-cons, parts_below, parts_pairwise, all_add}
 use Rattle.xa_model.proofs.Inserts.{all_imply}

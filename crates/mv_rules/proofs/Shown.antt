@@ -10,7 +10,7 @@ use Rattle.mv_chain.specs.declared.fate.Fate.TheVariants.{Committed as kept}
 use Rattle.mv_chain.specs.Accesses.{Written, Seen, seen_without, stands, shown}
 use Rattle.xa_model.specs.State.{Branch}
 use Rattle.xa_model.specs.Source.{write_of}
-use Rattle.xa_model.specs.Sound.{Descends}
+use Rattle.xa_model.specs.Invariants.Sound.{Descends}
 use Rattle.xa_model.specs.Durable.{CommittedBranch, PreparedBranch, Pairwise, keys_before, commits_before, value_in, last_write}
 use Rattle.mv_rules.specs.Ties.{fate_of, writes_in}
 use Rattle.mv_rules.specs.Restoring.{with_write, with_branch, with_committed, with_prepared}

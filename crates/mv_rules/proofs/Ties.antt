@@ -8,7 +8,7 @@ use Rattle.mv_chain.specs.declared.fate.Fate.{Fate}
 use Rattle.mv_chain.specs.Accesses.{Written, Seen, seen, seen_without, stands, nobody, is_undecided, is_late}
 use Rattle.xa_model.specs.State.{Branch, Operation, Got, Wrote, Phase, Working, Prepared, Committed, Read, is_committed}
 use Rattle.xa_model.specs.Source.{Version, write_of, version_by, versions_of, absent, later, newest, source, passes_over, is_late as is_late_among}
-use Rattle.xa_model.specs.Sound.{Descends}
+use Rattle.xa_model.specs.Invariants.Sound.{Descends}
 use Rattle.xa_model.proofs.Times.{version_time}
 use Rattle.mv_rules.specs.Ties.{fate_of, writes_by, writes_in, read_as, seen_as}
 use Rattle.mv_rules.proofs.Tests.{and_no}

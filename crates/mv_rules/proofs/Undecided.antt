@@ -9,7 +9,7 @@ use Rattle.mv_chain.specs.Accesses.{Written, has_undecided, is_undecided, IsUnde
 use Rattle.xa_xid.specs.Triple.{Triple}
 use Rattle.xa_model.specs.State.{Branch, Operation, Got, Wrote, is_known_as, known_of}
 use Rattle.xa_model.specs.Source.{write_of, written_keys}
-use Rattle.xa_model.specs.Sound.{Descends}
+use Rattle.xa_model.specs.Invariants.Sound.{Descends}
 use Rattle.xa_model.proofs.Times.{known_below}
 use Rattle.mv_rules.specs.Accesses.{undecided_keys}
 use Rattle.mv_rules.specs.Ties.{fate_of, writes_by, writes_one, writes_in}

@@ -12,7 +12,7 @@ use Rattle.mv_chain.specs.declared.chain.Chain.{Chain}
 use Rattle.mv_chain.specs.Accesses.{seen_without}
 use Rattle.mv_chain.specs.Last.{everybody, stamped, AreUpto, IsLastWritten}
 use Rattle.xa_model.specs.State.{State}
-use Rattle.xa_model.specs.Sound.{IsSound}
+use Rattle.xa_model.specs.Invariants.Sound.{IsSound}
 use Rattle.xa_model.specs.Durable.{CommittedBranch, Pairwise, AreLast, commits_before, keys_before, last_write, durable}
 use Rattle.mv_rules.specs.Accesses.{Accesses}
 use Rattle.mv_rules.specs.Held.{versions_at, IsHeld}

@@ -7,9 +7,9 @@ use Rattle.mv_chain.specs.declared.fate.Fate.TheVariants.{Committed as kept}
 use Rattle.mv_chain.specs.Accesses.{Written, Answered, Seen, seen, is_late}
 use Rattle.xa_model.specs.State.{State, Branch, Operation, Got, Wrote, Phase, Working, Prepared, Committed}
 use Rattle.xa_model.specs.State.{Read}
-use Rattle.xa_model.specs.LowWater.{low_water, work_floor}
+use Rattle.xa_model.specs.Invariants.LowWater.{low_water, work_floor}
 use Rattle.xa_model.specs.Source.{Version, source, is_late as is_late_among}
-use Rattle.xa_model.specs.Sound.{Descends}
+use Rattle.xa_model.specs.Invariants.Sound.{Descends}
 use Rattle.mv_rules.specs.Accesses.{Accesses}
 
 abbrev pub fate_of : Phase → Option Fate

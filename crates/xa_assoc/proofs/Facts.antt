@@ -8,7 +8,7 @@ use Rattle.xa_xid.proofs.Same.{xid_eq_itself}
 use Rattle.xa_model.proofs.Xids.{cmp_is_eq}
 use Rattle.xa_model.specs.State.{State, Association, is_own, owns, suspends, is_with}
 use Rattle.xa_model.specs.Associations.{is_of_session}
-use Rattle.xa_model.specs.Sound.{IsSound}
+use Rattle.xa_model.specs.Invariants.Sound.{IsSound}
 use Rattle.xa_assoc.specs.declared.seat.Seat.{Seat}
 use Rattle.xa_assoc.specs.declared.sessions.Sessions.{Sessions}
 use Rattle.xa_assoc.specs.Seats.{seat_at, active_at, suspends_at, holds, holds_any, holds_any_at}

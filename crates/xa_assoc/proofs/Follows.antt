@@ -9,7 +9,7 @@ use Rattle.xa_codes.specs.declared.codes.TheConstants.{XAER_PROTO, XAER_NOTA}
 use Rattle.xa_model.specs.Answer.{first, plain}
 use Rattle.xa_model.specs.Associations.{begun, joined, resumed, not_resumed, suspended, not_suspended, ended, failed, held_by, is_unknown}
 use Rattle.xa_model.specs.Recovering.{scan_of}
-use Rattle.xa_model.specs.Sound.{IsSound}
+use Rattle.xa_model.specs.Invariants.Sound.{IsSound}
 use Rattle.xa_model.proofs.Rows.{nothing}
 use Rattle.xa_assoc.specs.declared.sessions.Sessions.{Sessions}
 use Rattle.xa_assoc.specs.Free.{is_free}

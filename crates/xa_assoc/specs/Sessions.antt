@@ -6,7 +6,7 @@ use Rattle.xa_frame.specs.declared.reply.Reply.{Reply}
 use Rattle.xa_model.specs.State.{State, active_of, owns, suspends, is_with, is_loose_with, known_as, known_in, limit_of}
 use Rattle.xa_model.specs.Answer.{Answer, answer}
 use Rattle.xa_model.specs.Associations.{is_taken, is_unknown, is_lasting, can_end, start_refusal, join_refusal, resume_refusal, end_refusal}
-use Rattle.xa_model.specs.Sound.{IsSound}
+use Rattle.xa_model.specs.Invariants.Sound.{IsSound}
 use Rattle.xa_model.specs.Step.{opened_of}
 use Rattle.xa_limits.specs.declared.TheConstants.{MOST_SESSIONS}
 use Rattle.xa_model.specs.Recovering.{scan_of}

@@ -7,8 +7,8 @@ use Rattle.xa_xid.specs.Triple.{Triple, xid_eq, xid_cmp}
 use Rattle.xa_xid.proofs.Same.{xid_same, xid_eq_itself}
 use Rattle.xa_model.specs.State.{State, Branch, Phase, Working, Prepared, Committed, Association, Active, known_of, decided_of, holders_of, timestamp_of, new_work, new_branch, Work, limit_of}
 use Rattle.xa_model.specs.Associations.{begun}
-use Rattle.xa_model.specs.LowWater.{is_known_at}
-use Rattle.xa_model.specs.Sound.{IsSound}
+use Rattle.xa_model.specs.Invariants.LowWater.{is_known_at}
+use Rattle.xa_model.specs.Invariants.Sound.{IsSound}
 use Rattle.xa_model.proofs.Xids.{cmp_is_eq}
 use Rattle.xa_branch.specs.declared.branches.Branches.{Branches}
 use Rattle.xa_branch.specs.declared.kind.Kind.{Kind}

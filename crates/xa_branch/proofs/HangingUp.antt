@@ -10,7 +10,7 @@ use Rattle.xa_xid.proofs.Same.{xid_same}
 use Rattle.xa_model.specs.State.{State, Branch, Phase, Working, Prepared, Committed, Association, Holder, Active, Suspended, Loose, count, name_of, is_with, is_active, is_own, is_suspended, is_known_as, known_of, known_count, decided_of, owns, works_in, suspends, active_of, Work}
 use Rattle.xa_model.specs.Logging.{is_in_doubt}
 use Rattle.xa_model.specs.Associations.{is_of_session, is_worked_by, marked_phase, with_mark, left_behind as left_by_session, hang_up_by}
-use Rattle.xa_model.specs.Sound.{IsSound}
+use Rattle.xa_model.specs.Invariants.Sound.{IsSound}
 use Rattle.xa_model.proofs.Counts.{count_less, count_nowhere, count_map}
 use Rattle.xa_model.proofs.Lists.{found_passes}
 use Rattle.xa_model.proofs.Marks.{left_keeps}

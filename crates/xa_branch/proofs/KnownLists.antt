@@ -16,7 +16,7 @@ use Rattle.xa_frame.specs.declared.known_branch.KnownBranch.{KnownBranch}
 use Rattle.xa_xid.specs.Triple.{Triple, xid_eq, xid_cmp}
 use Rattle.xa_xid.proofs.Same.{xid_same, xid_eq_same, xid_cmp_itself, xid_cmp_total}
 use Rattle.xa_model.specs.State.{State, Branch, Decided, Association, Holder, Active, Suspended, Loose, name_of, is_with, known_of, decided_of, holders_of}
-use Rattle.xa_model.specs.Sound.{IsSound}
+use Rattle.xa_model.specs.Invariants.Sound.{IsSound}
 use Rattle.xa_model.specs.Durable.{Pairwise}
 use Rattle.xa_model.specs.KnownBranches.{known_names, counts_of, is_of_one_at_work, is_of_one_suspended, told_of, branches_after}
 use Rattle.xa_model.specs.Listed.{in_order, is_above}

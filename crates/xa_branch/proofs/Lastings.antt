@@ -5,7 +5,7 @@ use Rattle.xa_codes.specs.declared.direction.Direction.{Direction}
 use Rattle.xa_xid.specs.Triple.{Triple}
 use Rattle.xa_model.specs.State.{Branch, name_of, is_with, is_known_as, known_of, change}
 use Rattle.xa_model.specs.Logging.{is_in_doubt}
-use Rattle.xa_model.specs.LowWater.{is_known_at}
+use Rattle.xa_model.specs.Invariants.LowWater.{is_known_at}
 use Rattle.xa_model.proofs.Counts.{count_same, count_map}
 use Rattle.xa_branch.specs.Branches.{lasting_in, lasting_among, prepared_among}
 use Rattle.xa_branch.proofs.Timed.{times_change, times_map}

@@ -17,7 +17,7 @@ use Rattle.std.proofs.lemmas.Map.Keys.{sorted_head, sorted_tail}
 use Rattle.xa_xid.specs.Triple.{Triple, xid_eq, xid_cmp}
 use Rattle.xa_xid.proofs.Same.{xid_same, xid_eq_same, xid_cmp_same}
 use Rattle.xa_model.specs.State.{State, Decided}
-use Rattle.xa_model.specs.Sound.{IsSound}
+use Rattle.xa_model.specs.Invariants.Sound.{IsSound}
 use Rattle.xa_model.specs.Durable.{Pairwise, PreparedBranch, durable}
 use Rattle.xa_model.specs.Listed.{is_above, lasting_names, listed}
 use Rattle.xa_model.proofs.InOrder.{below, below_transitive, below_strict, ordered_pairwise}

@@ -5,7 +5,7 @@ use Rattle.std.specs.Cmp.Rules.{comparing}
 use Rattle.std.specs.Ordering.{nat_cmp, is_gt}
 use Rattle.std.proofs.lemmas.Bool.Decides.{nat_tests}
 use Rattle.xa_model.specs.State.{State, Branch, known_count, timestamp_of}
-use Rattle.xa_model.specs.LowWater.{is_known, is_known_at, low_water}
+use Rattle.xa_model.specs.Invariants.LowWater.{is_known, is_known_at, low_water}
 use Rattle.xa_model.proofs.LowWaters.{AreAbove, below_known, is_reached}
 use Rattle.xa_branch.specs.declared.branches.Branches.{Branches}
 use Rattle.xa_branch.specs.Branches.{BranchesStandFor, timed_at}

@@ -12,7 +12,7 @@ use Rattle.xa_codes.specs.declared.direction.Direction.{Direction}
 use Rattle.xa_xid.specs.Triple.{Triple, xid_eq, xid_cmp}
 use Rattle.xa_xid.proofs.Same.{xid_same, xid_eq_same, xid_eq_itself}
 use Rattle.xa_model.specs.State.{State, Decided}
-use Rattle.xa_model.specs.Sound.{IsSound}
+use Rattle.xa_model.specs.Invariants.Sound.{IsSound}
 use Rattle.xa_model.specs.Durable.{Pairwise, PreparedBranch, named_before, durable}
 use Rattle.xa_model.proofs.AppliedDecisions.{names_ascend}
 use Rattle.xa_model.proofs.Lists.{found_passes}

@@ -4,7 +4,7 @@ use Rattle.std.specs.List.{AllByRecursion, list_any}
 use Rattle.std.proofs.lemmas.List.Folds.{list_any-append}
 use Rattle.xa_model.specs.State.{Branch, Phase, Working, Prepared, Committed, is_working}
 use Rattle.xa_model.specs.Durable.{PreparedBranch}
-use Rattle.xa_model.specs.LowWater.{is_known, is_known_at}
+use Rattle.xa_model.specs.Invariants.LowWater.{is_known, is_known_at}
 use Rattle.xa_model.proofs.Ascending.{parts, add, parts-cons}
 use Rattle.xa_model.proofs.Remains.{held_of, held_as}
 

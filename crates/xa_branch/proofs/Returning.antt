@@ -11,7 +11,7 @@ use Rattle.xa_xid.specs.Triple.{Triple, xid_eq}
 use Rattle.xa_xid.proofs.Same.{xid_same, xid_eq_itself, xid_eq_same}
 use Rattle.xa_model.specs.State.{State, Branch, Phase, Working, Prepared, Committed, Decided, count, name_of, is_known_as, known_of, known_count, decided_of, is_working}
 use Rattle.xa_model.specs.Logging.{is_in_doubt}
-use Rattle.xa_model.specs.Sound.{IsSound}
+use Rattle.xa_model.specs.Invariants.Sound.{IsSound}
 use Rattle.xa_model.specs.Durable.{Durable, PreparedBranch, durable, is_prepared, is_decided, insert, named_before, by_name, writes_of}
 use Rattle.xa_model.proofs.Ascending.{parts, add, parts-cons, parts_none, found_in, absent}
 use Rattle.xa_model.proofs.Counts.{count_none, found_none, count_nowhere}

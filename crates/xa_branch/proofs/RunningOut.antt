@@ -10,7 +10,7 @@ use Rattle.xa_xid.specs.Triple.{Triple}
 use Rattle.xa_xid.proofs.Same.{xid_eq_itself}
 use Rattle.xa_model.specs.State.{State, Branch, Phase, Working, Prepared, Committed, count, name_of, is_with, is_known_as, known_of, known_count, change}
 use Rattle.xa_model.specs.Associations.{or_mark, with_mark, marked_phase}
-use Rattle.xa_model.specs.Sound.{IsSound}
+use Rattle.xa_model.specs.Invariants.Sound.{IsSound}
 use Rattle.xa_model.specs.TimeLimits.{runs_out, runs_out_in, timed_out, ticked}
 use Rattle.xa_model.proofs.Counts.{count_less, count_same, found_none}
 use Rattle.xa_branch.specs.declared.branches.Branches.{Branches}

@@ -6,7 +6,7 @@ use Rattle.std.specs.List.{list_any}
 use Rattle.xa_xid.specs.Triple.{Triple, xid_eq}
 use Rattle.xa_model.specs.State.{State, Association, Holder, Active, Suspended, Loose, count, without, change, is_active, is_own, is_loose, is_suspended, owns, works_in, suspends, is_loose_with}
 use Rattle.xa_model.specs.Associations.{held_by, joined, resumable, resumed, not_resumed, suspended, not_suspended, without_one, ended}
-use Rattle.xa_model.specs.Sound.{IsSound}
+use Rattle.xa_model.specs.Invariants.Sound.{IsSound}
 use Rattle.xa_model.proofs.Xids.{both_true}
 use Rattle.xa_branch.specs.declared.branches.Branches.{Branches}
 use Rattle.xa_branch.specs.declared.kind.Kind.{Kind}

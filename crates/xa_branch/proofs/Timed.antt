@@ -9,8 +9,8 @@ use Rattle.std.proofs.lemmas.Bool.Decides.{nat_tests}
 use Rattle.xa_xid.specs.Triple.{Triple}
 use Rattle.xa_model.specs.State.{Branch, name_of, is_known_as, known_of, known_count, without, change}
 use Rattle.xa_model.specs.Branches.{as_committed}
-use Rattle.xa_model.specs.LowWater.{is_known, is_known_at}
-use Rattle.xa_model.specs.Sound.{Descends}
+use Rattle.xa_model.specs.Invariants.LowWater.{is_known, is_known_at}
+use Rattle.xa_model.specs.Invariants.Sound.{Descends}
 use Rattle.xa_model.proofs.Times.{known_below}
 use Rattle.xa_model.proofs.Xids.{and_false}
 use Rattle.xa_branch.specs.Changes.{SetsTime}

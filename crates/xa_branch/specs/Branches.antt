@@ -7,7 +7,7 @@ use Rattle.xa_codes.specs.declared.direction.Direction.{Direction}
 use Rattle.xa_xid.specs.Triple.{Triple, xid_cmp}
 use Rattle.xa_model.specs.State.{State, Branch, Phase, Working, Prepared, Committed, Association, count, known_of, known_in, decided_of, Work}
 use Rattle.xa_model.specs.Logging.{is_in_doubt, prepared_count}
-use Rattle.xa_model.specs.LowWater.{is_known_at}
+use Rattle.xa_model.specs.Invariants.LowWater.{is_known_at}
 use Rattle.xa_branch.specs.declared.branches.Branches.{Branches}
 use Rattle.xa_branch.specs.declared.kind.Kind.TheVariants as kind
 use Rattle.xa_branch.specs.declared.lasting.Lasting.{Lasting}

@@ -7,7 +7,7 @@ use Rattle.xa_codes.specs.declared.direction.Direction.{Direction}
 use Rattle.xa_xid.specs.Triple.{Triple, xid_eq}
 use Rattle.xa_model.specs.State.{State, Decided}
 use Rattle.xa_model.specs.Durable.{Durable, PreparedBranch, is_prepared, is_decided}
-use Rattle.xa_model.specs.Restored.{IsRestored}
+use Rattle.xa_model.specs.Invariants.Restored.{IsRestored}
 use Rattle.xa_branch.specs.declared.branches.Branches.{Branches}
 use Rattle.xa_branch.specs.declared.lasting.Lasting.{Lasting}
 use Rattle.xa_branch.specs.declared.lasting.Lasting.TheVariants as lasting

@@ -4,7 +4,7 @@ use Rattle.xa_xid.specs.Triple.{Triple}
 use Rattle.xa_model.specs.State.{State, known_of, known_in, is_at_work}
 use Rattle.xa_model.specs.Branches.{prepared}
 use Rattle.xa_model.specs.Logging.{prepared_count}
-use Rattle.xa_model.specs.LowWater.{is_known_at}
+use Rattle.xa_model.specs.Invariants.LowWater.{is_known_at}
 use Rattle.xa_branch.specs.declared.branches.Branches.{Branches}
 use Rattle.xa_branch.specs.Due.{due_named, due_among, is_then}
 use Rattle.xa_branch.specs.Branches.{working_at, working_known, lasting_at, lasting_known, timed_at, number_of}

@@ -2,7 +2,7 @@ ghost use Rattle.std.specs.Prelude.{◌≡◌, ℕ, Some, true, option_copied};
 ghost use Rattle.std.specs.List.{list_any};
 ghost use Rattle.xa_model.specs.State.{State as ModelState, active_of, works_in};
 ghost use Rattle.xa_model.specs.Associations.{joined, resumed, not_resumed, suspended, not_suspended, ended, hang_up_by};
-ghost use Rattle.xa_model.specs.Sound.{IsSound};
+ghost use Rattle.xa_model.specs.Invariants.Sound.{IsSound};
 ghost use Rattle.xa_branch.specs.Branches.{BranchesStandFor};
 ghost use Rattle.xa_branch.specs.Follows.{AreOwn, FollowsEach, InEachOf, InSoundOf};
 ghost use Rattle.xa_branch.specs.Kinds.{ended_kind, resumed_kind};

@@ -1,7 +1,10 @@
 ghost use Rattle.std.specs.Prelude.{◌≡◌, IfOk, map};
+ghost use Rattle.xa_model.specs.State.{State};
 ghost use Rattle.xa_model.specs.Durable.{durable};
+ghost use Rattle.xa_model.specs.Trimming.{trimmed};
+ghost use Rattle.xa_branch.specs.Branches.{BranchesStandFor};
 ghost use Rattle.xa_branch.specs.Checkpointed.{decided_as, TimesOf};
-ghost use Rattle.xa_branch.specs.Follows.{InSound};
+ghost use Rattle.xa_branch.specs.Follows.{InEach, InSound};
 
 use crate::branches::Branches;
 use crate::lasting::Lasting;
@@ -10,8 +13,24 @@ use std::collections::BTreeMap;
 use xa_codes::Direction;
 use xa_xid::Xid;
 
-/// What a checkpoint writes of branches. Each goes over what lasts once.
+/// What a checkpoint writes of branches, each of which goes over what lasts once; and the boot that it begins.
 impl Branches {
+    /// The number of this boot.
+    pub fn boot(&self) -> u32
+        ensures value { result ≡ self.now.boot }
+        ensures state { InEach self.now (λ s. result ≡ s.boot) }
+    {
+        self.boot
+    }
+
+    /// Begins the boot of this number, which has given no timestamp. All branches stay as they are. Takes no memory.
+    pub fn begin_boot(&mut self, boot: u32)
+        ensures { (s : State) → BranchesStandFor self.old s → BranchesStandFor self.new (trimmed s boot) }
+    {
+        self.boot = boot;
+        self.given = 0;
+    }
+
     /// The timestamps of the branches in doubt, by XID.
     ///
     /// # Errors

@@ -1,5 +1,5 @@
 ghost use Rattle.std.specs.Prelude.{◌≡◌};
-ghost use Rattle.xa_model.specs.LowWater.{low_water};
+ghost use Rattle.xa_model.specs.Invariants.LowWater.{low_water};
 ghost use Rattle.xa_branch.specs.Follows.{InSound};
 
 use crate::branches::Branches;

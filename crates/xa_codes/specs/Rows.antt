@@ -6,7 +6,7 @@ use Rattle.xa_codes.specs.declared.flags.TheConstants.{TMSUCCESS, TMSUSPEND, TMS
 use Rattle.xa_codes.specs.declared.flags.TheConstants.{TMJOIN, TMMIGRATE}
 use Rattle.xa_codes.specs.declared.direction.TheConstants.{COMMIT, ROLLBACK}
 use Rattle.xa_codes.specs.declared.call.Call.TheVariants.{Open, Close, Start, End, Prepare, Commit, Rollback, Recover}
-use Rattle.xa_codes.specs.declared.call.Call.TheVariants.{Forget, Get, Put, Restart, Timeout, Tick, Branches}
+use Rattle.xa_codes.specs.declared.call.Call.TheVariants.{Forget, Get, Put, Restart, Timeout, Tick, Trim, Branches}
 
 -- the flags' values
 abbrev pub HasValues : Type 0
@@ -57,6 +57,7 @@ MayHave =
     -- no flags
     × (legal Timeout 0 ≡ true)
     × (legal Tick 0 ≡ true)
+    × (legal Trim 0 ≡ true)
     × (legal Branches 0 ≡ true)
 
 -- flags together that a call may not have
@@ -83,4 +84,5 @@ MayNotHave =
     × (legal Restart 1 ≡ false)
     × (legal Timeout 1 ≡ false)
     × (legal Tick 1 ≡ false)
+    × (legal Trim 1 ≡ false)
     × (legal Branches 1 ≡ false)

@@ -21,6 +21,8 @@ pub enum Call {
     Timeout,
     /// Tells the moment, and ends what has passed its limit.
     Tick,
+    /// Begins the log anew, with what lasts, while branches go on.
+    Trim,
     /// Lists the known branches.
     Branches,
 }

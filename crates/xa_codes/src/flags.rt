@@ -58,6 +58,7 @@ pub fn legal_flags(call: Call, flags: u32) -> bool
         | Call::Restart
         | Call::Timeout
         | Call::Tick
+        | Call::Trim
         | Call::Branches => rest == 0,
     }
 }

@@ -4,7 +4,7 @@
 //! - `codes`: `Code`, the code of a reply, and each by its name, from `XA_OK` to `XAER_OUTSIDE`; `names`: `code_name`
 //! - `flags`: each flag by its name, from `TMNOFLAGS` to `TMMIGRATE`; `legal_flags`, which of them a call may have; and
 //!   `worked_flags`, worked rows of that
-//! - `call`: `Call`, the eighteen calls of a session
+//! - `call`: `Call`, the nineteen calls of a session
 //! - `detail`: `Detail`, what a refusal is about, beside its code
 //! - `direction`: `Direction`, how a branch is to end
 //! - `bytes`: `Bytes`, a byte string that contracts see as a list; `write`: `Write`, what a branch leaves at a key

@@ -70,6 +70,9 @@ fields_take call.Restart = λ bytes r small e.
     moved call.Restart [] bytes request.Restart r (record { call = refl; limits = tt; holds = tt; bytes_are = refl }) p.0 p.1
 fields_take call.Timeout = of_one number32 (λ x. request.Timeout x) call.Timeout (λ x h. record { call = refl; limits = tt; holds = h; bytes_are = refl })
 fields_take call.Tick = of_one number64 (λ x. request.Tick x) call.Tick (λ x h. record { call = refl; limits = tt; holds = h; bytes_are = refl })
+fields_take call.Trim = λ bytes r small e.
+    let p = ended_is request.Trim r bytes e in
+    moved call.Trim [] bytes request.Trim r (record { call = refl; limits = tt; holds = tt; bytes_are = refl }) p.0 p.1
 fields_take call.Branches = of_two number32 cursor (λ x. request.Branches x.0 x.1) call.Branches (λ x h k. record { call = refl; limits = tt; holds = (h, k); bytes_are = refl })
 
 fields_again : (r : Request) → IsRequest r → Holds r → fields_at (call_of r) (fields_bytes r) ≡ Ok r
@@ -91,6 +94,7 @@ fields_again (request.Doom xid) h k = ap (made (λ x. request.Doom x)) (one_agai
 fields_again request.Restart h k = refl
 fields_again (request.Timeout seconds) h k = ap (made (λ x. request.Timeout x)) (one_again number32 seconds k)
 fields_again (request.Tick moment) h k = ap (made (λ x. request.Tick x)) (one_again number64 moment k)
+fields_again request.Trim h k = refl
 fields_again (request.Branches count after) h k = ap (made (λ x. request.Branches x.0 x.1)) (two_again number32 cursor count after k.0 k.1)
 
 fields_fault : (c : Call) (bytes : List ℕ) → fault_of (fields_at c bytes) ≡ fault_in (fields c) bytes
@@ -112,6 +116,7 @@ fields_fault call.Doom bytes = made_fault (λ x. request.Doom x) (one_of name_at
 fields_fault call.Restart bytes = ended_fault request.Restart bytes
 fields_fault call.Timeout bytes = made_fault (λ x. request.Timeout x) (one_of (number_at w32) bytes) ∙ one_fault number32 bytes
 fields_fault call.Tick bytes = made_fault (λ x. request.Tick x) (one_of (number_at w64) bytes) ∙ one_fault number64 bytes
+fields_fault call.Trim bytes = ended_fault request.Trim bytes
 fields_fault call.Branches bytes = made_fault (λ x. request.Branches x.0 x.1) (two_of (number_at w32) cursor_at bytes) ∙ two_fault number32 cursor bytes
 
 -- ---- the operation
@@ -134,6 +139,7 @@ numbered_again call.Doom = refl
 numbered_again call.Restart = refl
 numbered_again call.Timeout = refl
 numbered_again call.Tick = refl
+numbered_again call.Trim = refl
 numbered_again call.Branches = refl
 
 record IsOperation (bytes : List ℕ) (r : Request) : Type 0 where
@@ -246,6 +252,7 @@ fields_short (request.Doom xid) h k = omega (arith, name_short xid k)
 fields_short request.Restart h k = omega arith
 fields_short (request.Timeout seconds) h k = omega arith
 fields_short (request.Tick moment) h k = omega arith
+fields_short request.Trim h k = omega arith
 fields_short (request.Branches count after) h k = omega (arith, cursor_short after k.1, length-append (to_be_bytes w32 count) (cursor_bytes after))
 
 pub request_takes : (bytes : List ℕ) (r : Request) → IsBytes bytes → request_at bytes ≡ Ok r → SpellsRequest bytes r

@@ -160,6 +160,7 @@ each call.Doom = (sound_xid, tt)
 each call.Restart = tt
 each call.Timeout = (sound_bytes 4, tt)
 each call.Tick = (sound_bytes 8, tt)
+each call.Trim = tt
 each call.Branches = (sound_bytes 4, (sound_cursor, tt))
 
 of_call : (o : Option Call) (bytes : List ℕ) → IsNoMemory (fault_of_fields o bytes)

@@ -135,6 +135,7 @@ fields call.Doom = after_xid ∷ []
 fields call.Restart = []
 fields call.Timeout = after_bytes 4 ∷ []
 fields call.Tick = after_bytes 8 ∷ []
+fields call.Trim = []
 fields call.Branches = after_bytes 4 ∷ after_cursor ∷ []
 
 abbrev pub fault_of_fields : Option Call → List ℕ → Option FrameFault

@@ -135,6 +135,7 @@ fields_at call.Doom bytes = made (λ x. request.Doom x) (one_of name_at bytes)
 fields_at call.Restart bytes = ended request.Restart bytes
 fields_at call.Timeout bytes = made (λ x. request.Timeout x) (one_of (number_at w32) bytes)
 fields_at call.Tick bytes = made (λ x. request.Tick x) (one_of (number_at w64) bytes)
+fields_at call.Trim bytes = ended request.Trim bytes
 fields_at call.Branches bytes = made (λ x. request.Branches x.0 x.1) (two_of (number_at w32) cursor_at bytes)
 
 abbrev pub fields_of : Option Call → List ℕ → Result Request FrameFault

@@ -5,7 +5,7 @@ use Rattle.xa_codes.specs.declared.detail.Detail.TheVariants as detail
 use Rattle.xa_codes.specs.declared.direction.Direction.TheVariants as direction
 use Rattle.xa_xid.specs.Triple.{Triple}
 use Rattle.xa_fields.specs.Spelling.{direction_byte}
-use Rattle.xa_frame.specs.declared.request.Request.TheVariants.{Start, Timeout, Tick, Branches}
+use Rattle.xa_frame.specs.declared.request.Request.TheVariants.{Start, Timeout, Tick, Trim, Branches}
 use Rattle.xa_frame.specs.declared.body.Body.TheVariants as body
 use Rattle.xa_frame.specs.declared.known_branch.BranchState.TheVariants as state
 use Rattle.xa_frame.specs.declared.known_branch.KnownBranch.{KnownBranch}
@@ -24,10 +24,10 @@ HasNumbers =
     ≡ 1 ∷ 2 ∷ 3 ∷ 4 ∷ 5 ∷ 6 ∷ 7 ∷ 8 ∷ [])
     × (map operation
     (call.Forget ∷ call.Get ∷ call.Put ∷ call.Delete ∷ call.Decide ∷ call.Doom ∷ call.Restart ∷ call.Timeout ∷ call.Tick
-    ∷ call.Branches ∷ [])
-    ≡ 9 ∷ 10 ∷ 11 ∷ 12 ∷ 13 ∷ 14 ∷ 15 ∷ 16 ∷ 17 ∷ 66 ∷ [])
-    × (map numbered (0 ∷ 1 ∷ 17 ∷ 18 ∷ 65 ∷ 66 ∷ 67 ∷ [])
-    ≡ None ∷ Some call.Open ∷ Some call.Tick ∷ None ∷ None ∷ Some call.Branches ∷ None ∷ [])
+    ∷ call.Trim ∷ call.Branches ∷ [])
+    ≡ 9 ∷ 10 ∷ 11 ∷ 12 ∷ 13 ∷ 14 ∷ 15 ∷ 16 ∷ 17 ∷ 65 ∷ 66 ∷ [])
+    × (map numbered (0 ∷ 1 ∷ 17 ∷ 18 ∷ 64 ∷ 65 ∷ 66 ∷ 67 ∷ [])
+    ≡ None ∷ Some call.Open ∷ Some call.Tick ∷ None ∷ None ∷ Some call.Trim ∷ Some call.Branches ∷ None ∷ [])
     × (map detail_byte
     (detail.Nothing ∷ detail.Memory ∷ detail.Device ∷ detail.Busy ∷ detail.Late ∷ detail.Limit ∷ detail.Frame
     ∷ detail.LogFull ∷ [])
@@ -102,6 +102,7 @@ SpelledSo =
     -- a limit of 10 seconds, and the moment 4,294,967,297
     × (bytes_of_request (Timeout 10) ≡ 1 ∷ 16 ∷ 0 ∷ 0 ∷ 0 ∷ 10 ∷ [])
     × (bytes_of_request (Tick 4294967297) ≡ 1 ∷ 17 ∷ 0 ∷ 0 ∷ 0 ∷ 1 ∷ 0 ∷ 0 ∷ 0 ∷ 1 ∷ [])
+    × (bytes_of_request Trim ≡ 1 ∷ 65 ∷ [])
     -- 256 of all branches, and one above 1:aa:bb
     × (bytes_of_request (Branches 256 None) ≡ 1 ∷ 66 ∷ 0 ∷ 0 ∷ 1 ∷ 0 ∷ 0 ∷ [])
     × (bytes_of_request (Branches 1 (Some branch))
@@ -117,13 +118,15 @@ FaultyRequests =
     × (fault_of_request [] ≡ Some Short)
     × (fault_of_request (2 ∷ []) ≡ Some Version)
     × (fault_of_request (1 ∷ []) ≡ Some Short)
-    -- operations 0, 18, 65, 67 and 255, a byte behind a restart
+    -- operations 0, 18, 64, 67 and 255, a byte behind a restart, one behind a trim
     × (fault_of_request (1 ∷ 0 ∷ []) ≡ Some Operation)
     × (fault_of_request (1 ∷ 18 ∷ []) ≡ Some Operation)
-    × (fault_of_request (1 ∷ 65 ∷ []) ≡ Some Operation)
+    × (fault_of_request (1 ∷ 64 ∷ []) ≡ Some Operation)
     × (fault_of_request (1 ∷ 67 ∷ []) ≡ Some Operation)
     × (fault_of_request (1 ∷ 255 ∷ []) ≡ Some Operation)
     × (fault_of_request (1 ∷ 15 ∷ 0 ∷ []) ≡ Some Trailing)
+    × (fault_of_request (1 ∷ 65 ∷ []) ≡ None)
+    × (fault_of_request (1 ∷ 65 ∷ 0 ∷ []) ≡ Some Trailing)
     -- a doom without an XID, a decision with direction 0, and without one
     × (fault_of_request (1 ∷ 14 ∷ []) ≡ Some Field)
     × (fault_of_request (1 ∷ 13 ∷ 0 ∷ []) ≡ Some Field)

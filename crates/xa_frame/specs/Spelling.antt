@@ -46,13 +46,14 @@ operation call.Doom = 14
 operation call.Restart = 15
 operation call.Timeout = 16
 operation call.Tick = 17
+operation call.Trim = 65
 operation call.Branches = 66
 
 abbrev pub calls : List Call
 calls =
     call.Open ∷ call.Close ∷ call.Start ∷ call.End ∷ call.Prepare ∷ call.Commit ∷ call.Rollback ∷ call.Recover
     ∷ call.Forget ∷ call.Get ∷ call.Put ∷ call.Delete ∷ call.Decide ∷ call.Doom ∷ call.Restart ∷ call.Timeout
-    ∷ call.Tick ∷ call.Branches ∷ []
+    ∷ call.Tick ∷ call.Trim ∷ call.Branches ∷ []
 
 -- the call with this number
 abbrev pub numbered : ℕ → Option Call
@@ -76,6 +77,7 @@ call_of (request.Doom xid) = call.Doom
 call_of request.Restart = call.Restart
 call_of (request.Timeout seconds) = call.Timeout
 call_of (request.Tick moment) = call.Tick
+call_of request.Trim = call.Trim
 call_of (request.Branches count after) = call.Branches
 
 -- 0 for none, or 1 and an XID
@@ -101,6 +103,7 @@ fields_bytes (request.Doom xid) = bytes_of xid
 fields_bytes request.Restart = []
 fields_bytes (request.Timeout seconds) = to_be_bytes w32 seconds
 fields_bytes (request.Tick moment) = to_be_bytes w64 moment
+fields_bytes request.Trim = []
 fields_bytes (request.Branches count after) = to_be_bytes w32 count ++ cursor_bytes after
 
 -- the version, the operation, the fields

@@ -66,6 +66,7 @@ impl Request {
             Request::Restart => Request::Restart,
             Request::Timeout { seconds } => Request::Timeout { seconds: *seconds },
             Request::Tick { moment } => Request::Tick { moment: *moment },
+            Request::Trim => Request::Trim,
             Request::Branches { count, after } => Request::Branches {
                 count: *count,
                 after: copied_cursor(after),
@@ -99,8 +100,11 @@ impl Request {
                 hold_number(*count);
                 hold_cursor(after);
             }
-            Request::Get { .. } | Request::Put { .. } | Request::Delete { .. } | Request::Restart =>
-                {}
+            Request::Get { .. }
+            | Request::Put { .. }
+            | Request::Delete { .. }
+            | Request::Restart
+            | Request::Trim => {}
         }
     }
 }

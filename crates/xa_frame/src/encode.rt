@@ -65,7 +65,7 @@ fn put_fields(out: &mut Vec<u8>, request: &Request) -> Result<(), AllocError>
             put_xid(out, xid)
         }
         Request::Doom { xid } => put_xid(out, xid),
-        Request::Restart => Ok(()),
+        Request::Restart | Request::Trim => Ok(()),
         Request::Timeout { seconds } => put_u32(out, *seconds),
         Request::Tick { moment } => put_u64(out, *moment),
         Request::Branches { count, after } => {
@@ -87,7 +87,8 @@ fn room_of(request: &Request) -> usize
         | Request::Recover { .. }
         | Request::Restart
         | Request::Timeout { .. }
-        | Request::Tick { .. } => 10,
+        | Request::Tick { .. }
+        | Request::Trim => 10,
         _ => 7 + XID_BYTES,
     }
 }

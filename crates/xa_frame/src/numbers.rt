@@ -28,6 +28,7 @@ impl Request {
             Request::Restart => Call::Restart,
             Request::Timeout { .. } => Call::Timeout,
             Request::Tick { .. } => Call::Tick,
+            Request::Trim => Call::Trim,
             Request::Branches { .. } => Call::Branches,
         }
     }
@@ -55,6 +56,7 @@ pub(crate) fn operation_of(call: Call) -> u8
         Call::Restart => 15,
         Call::Timeout => 16,
         Call::Tick => 17,
+        Call::Trim => 65,
         Call::Branches => 66,
     }
 }
@@ -81,6 +83,7 @@ pub(crate) fn call_numbered(byte: u8) -> Option<Call>
         15 => Call::Restart,
         16 => Call::Timeout,
         17 => Call::Tick,
+        65 => Call::Trim,
         66 => Call::Branches,
         _ => return None,
     })

@@ -2,8 +2,8 @@ use xa_codes::{Bytes, Direction};
 use xa_xid::Xid;
 
 /// What a session asks for: C193's calls of a resource manager (`xa_open` to `xa_recover`), gets, puts and deletes of
-/// records, the operator's calls, branches' time limits, and a list of the known branches. Flags are C193's, or-ed. A key
-/// has 1 to `MOST_KEY` bytes, a value at most `MOST_VALUE`, an open info at most `MOST_INFO`.
+/// records, the operator's calls, branches' time limits, a shorter log, and a list of the known branches. Flags are C193's,
+/// or-ed. A key has 1 to `MOST_KEY` bytes, a value at most `MOST_VALUE`, an open info at most `MOST_INFO`.
 #[derive(Debug, Drop)]
 pub enum Request {
     Open { flags: u32, info: Bytes },
@@ -25,6 +25,9 @@ pub enum Request {
     Timeout { seconds: u32 },
     /// What the clock says, in seconds from an instant that all who tell it share.
     Tick { moment: u64 },
+    /// What lasts, and it alone, goes into the other file of the log, which is the current one from then on; branches at
+    /// work go on.
+    Trim,
     /// The first so many known branches above an XID, or of all.
     Branches { count: u32, after: Option<Xid> },
 }

@@ -159,6 +159,10 @@ fn fields_of(alloc: Global, call: Call, bytes: &[u8]) -> Result<Request, FrameFa
             let moment = moment_alone(bytes)?;
             Ok(Request::Tick { moment })
         }
+        Call::Trim => {
+            end(bytes)?;
+            Ok(Request::Trim)
+        }
         Call::Branches => {
             let (count, after) = count_and_cursor(bytes)?;
             Ok(Request::Branches { count, after })

@@ -7,7 +7,7 @@
 //! - `checkpoints`: those whose calls fail; `checkpoint_files`: what stands in both files; `log_images`: those that are
 //!   cut; `stale_tails`: what an earlier checkpoint of the same boot left behind the records
 //! - `current_files`: which of two files is the current one
-//! - `log_files`: the records of a manager; `log_lines`: the lines of a log; `recoveries`: what a log comes to;
+//! - `log_files`: the records of a manager, `trims` those of its trims; `log_lines`: the lines of a log; `recoveries`: what a log comes to;
 //!   `old_formats`, `old_files`: files of format 1
 //! - `rows`: `none_wrong`
 #![tactic(auto)]
@@ -48,3 +48,5 @@ mod recoveries;
 mod rows;
 #[cfg(test)]
 mod stale_tails;
+#[cfg(test)]
+mod trims;

@@ -116,7 +116,7 @@ const AT_ONCE: [u8; 21] = [
 ];
 
 /// What is done behind the prepare, whether the first file is current then, its records, and where they end.
-type Row = (&'static [&'static str], bool, &'static [&'static [u8]], u64);
+pub type Row = (&'static [&'static str], bool, &'static [&'static [u8]], u64);
 
 const ROWS: [Row; 11] = [
     (&[], true, &[&OPENED, &PREPARED], 110),
@@ -199,7 +199,8 @@ fn is_row(alloc: Global, row: &Row) -> Option<bool> {
     Some(right && is_closed(alloc, current, *end)?)
 }
 
-fn wrong_row(alloc: Global, rows: &[Row]) -> Option<usize> {
+/// The first of these rows that isn't right.
+pub fn wrong_row(alloc: Global, rows: &[Row]) -> Option<usize> {
     for (index, row) in rows.iter().enumerate() {
         if is_row(alloc, row) != Some(true) {
             return Some(index);

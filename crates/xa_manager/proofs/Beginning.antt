@@ -6,7 +6,7 @@ use Rattle.xa_xid.specs.Triple.{Triple, xid_eq}
 use Rattle.xa_model.specs.State.{State, Session, Association, Active, owns, is_loose_with, without, session_of}
 use Rattle.xa_model.specs.Answer.{Answer}
 use Rattle.xa_model.specs.Associations.{begun, without_one, ended}
-use Rattle.xa_model.specs.Sound.{IsSound}
+use Rattle.xa_model.specs.Invariants.Sound.{IsSound}
 use Rattle.xa_model.proofs.Working.{begin_sound}
 use Rattle.xa_assoc.specs.declared.sessions.Sessions.{Sessions}
 use Rattle.xa_assoc.specs.Seats.{opened_at}

@@ -10,7 +10,7 @@ use Rattle.xa_codes.specs.declared.detail.Detail.TheVariants as detail
 use Rattle.xa_frame.specs.declared.reply.Reply.{Reply}
 use Rattle.xa_frame.specs.declared.request.Request.{Request}
 use Rattle.xa_frame.specs.declared.request.Request.TheVariants as request
-use Rattle.xa_frame.specs.declared.request.Request.TheVariants.{Restart}
+use Rattle.xa_frame.specs.declared.request.Request.TheVariants.{Restart, Trim}
 use Rattle.xa_log.specs.declared.log.Log.{Log}
 use Rattle.xa_model.specs.declared.event.Event.{Event}
 use Rattle.xa_model.specs.declared.event.Event.TheVariants.{Connect, Call}
@@ -19,9 +19,10 @@ use Rattle.xa_model.specs.declared.outcome.Outcome.TheVariants.{Quiet}
 use Rattle.xa_model.specs.State.{State, Standing}
 use Rattle.xa_model.specs.Answer.{Answer, answer, detailed}
 use Rattle.xa_model.specs.Early.{call_of, passes_down, early_refusal, Context}
-use Rattle.xa_model.specs.Events.{IsEvent, IsAsked, asks_restart, is_restart}
-use Rattle.xa_model.specs.Loggable.{IsRecoverable}
+use Rattle.xa_model.specs.Events.{IsEvent, IsAsked, asks_restart, asks_boot, begins_boot, asks_trim}
+use Rattle.xa_model.specs.Invariants.Loggable.{IsRecoverable}
 use Rattle.xa_model.specs.Restarting.{restart_turn}
+use Rattle.xa_model.specs.Trimming.{trim_turn}
 use Rattle.xa_model.specs.Turn.{Turn, Now, Asked, taken}
 use Rattle.xa_model.specs.Step.{row, respond, is_up, step}
 use Rattle.xa_model.specs.Step.{turn as turn_of, context_of}
@@ -31,12 +32,12 @@ use Rattle.xa_manager.specs.declared.manager.Manager.{Manager}
 use Rattle.xa_manager.specs.declared.done.Done.{Done}
 use Rattle.xa_manager.specs.Crash.{LeavesBy, LeavesLook, LeavesWanting}
 use Rattle.xa_manager.specs.LogStands.{Trusts}
-use Rattle.xa_manager.specs.Answered.{FullyAnswered, StaysFor, connect_reply, may_want, memory_code}
+use Rattle.xa_manager.specs.Answered.{FullyAnswered, HasCalledFor, StaysFor, connect_reply, may_want, memory_code}
 use Rattle.xa_manager.specs.View.{View, context_at}
 use Rattle.xa_manager.specs.Managed.{view, ManagerStandsFor, AnswersAs}
 use Rattle.xa_manager.specs.Stands.{TablesStandFor, Follows, FollowsDown, Stays, StaysDown}
 use Rattle.xa_manager.specs.Replies.{IsFresh}
-use Rattle.xa_manager.specs.Turns.{Takes, TakesTurn, HasDone, HasRestarted, HasWanted}
+use Rattle.xa_manager.specs.Turns.{Takes, TakesTurn, HasDone, HasRestarted, HasTrimmed, HasWanted}
 use Rattle.xa_manager.proofs.OnePhase.{refused_turn, passed_turn}
 use Rattle.xa_manager.proofs.Stepping.{asked_by, has_done, now_leaves, quiet_crash}
 use Rattle.xa_manager.proofs.Replying.{bare_fresh}
@@ -101,6 +102,7 @@ code_kept (request.Delete key) = refl
 code_kept (request.Decide direction xid) = refl
 code_kept (request.Doom xid) = refl
 code_kept request.Restart = refl
+code_kept request.Trim = refl
 code_kept (request.Timeout seconds) = refl
 code_kept (request.Tick moment) = refl
 code_kept (request.Branches count after) = refl
@@ -113,6 +115,10 @@ module _ {D : Type 0} (disks : Ghosts D) where
       → early_refusal (context_of s n) request ≡ early_refusal (context_at m.up (view m) n) request
   early_same m s n request st = ap (λ (c : Context). early_refusal c request) (context_by m.up (view m) s n st.tables)
 
+  quiet_called : (trims : Bool) (log : Log D) → HasCalledFor disks trims Quiet log log
+  quiet_called true log = refl
+  quiet_called false log = refl
+
   pub refused_done : (m : Manager D) (n : ℕ) (request : Request) (reply : Reply) → Some reply ≡ early_refusal (context_at m.up (view m) n) request → is_memory reply.detail ≡ false
       → HasDone disks m (Call n request) reply Quiet m
   refused_done m n request reply h served = record {
@@ -120,7 +126,7 @@ module _ {D : Type 0} (disks : Ghosts D) where
         let is : respond s (Call n request) ≡ Now (answer reply s) = refused_turn (early_refusal (context_of s n) request) s (row s n request) reply (h ∙ sym (early_same m s n request st)) in
         let steps : step s (Asked (Call n request)) Quiet ≡ Some (answer reply s) = ap (λ (t : Turn). taken t Quiet) (asked_by m.up (view m) s (respond s (Call n request)) st.tables ∙ is) in
         subst (λ (o : Option Answer). IsSomeAnd o (λ a. (a.reply ≡ reply) × ManagerStandsFor disks m a.after)) (sym steps) (refl, st);
-    called = λ s st premises. refl;
+    called = λ s st premises. quiet_called (asks_trim request) m.log;
     crash = λ s st trusts. quiet_crash disks m m s (turn_of s (Asked (Call n request))) Quiet st refl refl;
     served = served;
   }
@@ -129,7 +135,7 @@ module _ {D : Type 0} (disks : Ghosts D) where
       → respond s (Call n request) ≡ row s n request
   passed_row m s n request h st = passed_turn (early_refusal (context_of s n) request) s (row s n request) (h ∙ sym (early_same m s n request st))
 
-  pub row_done : (m m' : Manager D) (n : ℕ) (request : Request) (reply : Reply) (outcome : Outcome) → IsAsked request → asks_restart request ≡ false → None ≡ early_refusal (context_at m.up (view m) n) request
+  pub row_done : (m m' : Manager D) (n : ℕ) (request : Request) (reply : Reply) (outcome : Outcome) → IsAsked request → asks_boot request ≡ false → None ≡ early_refusal (context_at m.up (view m) n) request
       → is_memory reply.detail ≡ false → ((s : State) → ManagerStandsFor disks m s → Takes disks m (row s n request) reply outcome m')
       → HasDone disks m (Call n request) reply outcome m'
   row_done m m' n request reply outcome event other h served takes =
@@ -151,7 +157,7 @@ module _ {D : Type 0} (disks : Ghosts D) where
         tables = λ r. subst (λ (b : Bool). TablesStandFor b (view m') (act s).after) (sym up) (x.1 r);
       }
 
-  pub both_done : (m m' : Manager D) (n : ℕ) (request : Request) (act : State → Answer) (reply : Reply) → IsAsked request → asks_restart request ≡ false
+  pub both_done : (m m' : Manager D) (n : ℕ) (request : Request) (act : State → Answer) (reply : Reply) → IsAsked request → asks_boot request ≡ false
       → None ≡ early_refusal (context_at m.up (view m) n) request → ((s : State) → row s n request ≡ Now (act s)) → m'.log ≡ m.log → m'.up ≡ m.up → m'.doubt ≡ m.doubt
       → Follows (view m) act reply (view m') → FollowsDown (view m) act reply (view m') → HasDone disks m (Call n request) reply Quiet m'
   both_done m m' n request act reply event other h is log up doubt f d =
@@ -160,16 +166,16 @@ module _ {D : Type 0} (disks : Ghosts D) where
 
   -- the row of a request that a manager which is down refuses
   pub turn_done : (m m' : Manager D) (n : ℕ) (request handed : Request) (o : Option Reply) (turn : State → Turn) (reply : Reply) (outcome : Outcome) → IsAsked request → request ≡ handed
-      → asks_restart handed ≡ false → passes_down (call_of handed) ≡ false → o ≡ None → o ≡ early_refusal (context_at m.up (view m) n) request
+      → asks_boot handed ≡ false → passes_down (call_of handed) ≡ false → o ≡ None → o ≡ early_refusal (context_at m.up (view m) n) request
       → (o ≡ None → m.up ≡ false → passes_down (call_of request) ≡ true) → ((s : State) → row s n handed ≡ turn s) → TakesTurn disks m turn reply outcome m'
       → HasDone disks m (Call n request) reply outcome m'
   turn_done m m' n request handed o turn reply outcome event same other stops none h passes is x =
       let is_up = up_by m.up (passes_down (call_of request)) (ap (λ (r : Request). passes_down (call_of r)) same ∙ stops) (passes none) in
-      row_done m m' n request reply outcome event (ap asks_restart same ∙ other) (sym none ∙ h) x.served
+      row_done m m' n request reply outcome event (ap asks_boot same ∙ other) (sym none ∙ h) x.served
       (λ s st. subst (λ (t : Turn). Takes disks m t reply outcome m') (sym (ap (row s n) same ∙ is s)) (x.takes s st is_up))
 
   pub turns_done : (m m' : Manager D) (n : ℕ) (request handed : Request) (o : Option Reply) (turn : State → Turn) (r : Result Done AllocError) → IsAsked request → request ≡ handed
-      → asks_restart handed ≡ false → passes_down (call_of handed) ≡ false → o ≡ None → o ≡ early_refusal (context_at m.up (view m) n) request
+      → asks_boot handed ≡ false → passes_down (call_of handed) ≡ false → o ≡ None → o ≡ early_refusal (context_at m.up (view m) n) request
       → (o ≡ None → m.up ≡ false → passes_down (call_of request) ≡ true) → ((s : State) → row s n handed ≡ turn s) → IfOk r (λ d. TakesTurn disks m turn d.reply d.outcome m') → IfOk r (λ d. IsBare d.reply)
       → IfOk r (λ d. HasDone disks m (Call n request) d.reply d.outcome m' × IsFresh d.reply)
   turns_done m m' n request handed o turn (Ok d) event same other stops none h passes is x bare =
@@ -178,7 +184,7 @@ module _ {D : Type 0} (disks : Ghosts D) where
 
   -- the same of a row of the tables
   pub follows_done : (m m' : Manager D) (n : ℕ) (request handed : Request) (o : Option Reply) (act : State → Answer) (reply : Reply) → IsAsked request → request ≡ handed
-      → asks_restart handed ≡ false → passes_down (call_of handed) ≡ false → o ≡ None → o ≡ early_refusal (context_at m.up (view m) n) request
+      → asks_boot handed ≡ false → passes_down (call_of handed) ≡ false → o ≡ None → o ≡ early_refusal (context_at m.up (view m) n) request
       → (o ≡ None → m.up ≡ false → passes_down (call_of request) ≡ true) → ((s : State) → row s n handed ≡ Now (act s)) → m'.log ≡ m.log → m'.up ≡ m.up → m'.doubt ≡ m.doubt
       → Follows (view m) act reply (view m') → HasDone disks m (Call n request) reply Quiet m'
   follows_done m m' n request handed o act reply event same other stops none h passes is log up doubt f =
@@ -213,6 +219,36 @@ module _ {D : Type 0} (disks : Ghosts D) where
   restart_done m m' n request r same h x bare =
       subst (λ (q : Request). IfOk r (λ d. HasDone disks m (Call n q) d.reply d.outcome m' × IsFresh d.reply)) (sym same)
       (restart_by m m' n r (subst (λ (q : Request). None ≡ early_refusal (context_at m.up (view m) n) q) same h) x bare)
+
+  -- a trim, of whichever state the manager stood for, which was up
+  trimmed_done : (m m' : Manager D) (n : ℕ) (reply : Reply) (outcome : Outcome) → None ≡ early_refusal (context_at m.up (view m) n) Trim
+      → HasTrimmed disks m reply outcome m' → HasDone disks m (Call n Trim) reply outcome m'
+  trimmed_done m m' n reply outcome h x = record {
+    steps = λ s st premises.
+        let steps : step s (Asked (Call n Trim)) outcome ≡ taken (trim_turn s) outcome =
+        ap (λ (t : Turn). taken t outcome) (asked_by m.up (view m) s (respond s (Call n Trim)) st.tables ∙ passed_row m s n Trim h st) in
+        subst (λ (o : Option Answer). IsSomeAnd o (λ a. (a.reply ≡ reply) × ManagerStandsFor disks m' a.after)) (sym steps)
+        (⊎_elim (λ trusts. x.turn s st trusts) (λ no. absurd (cc no)) premises);
+    called = λ s st premises. ⊎_elim (λ trusts. x.called s st trusts) (λ no. absurd (cc no)) premises;
+    crash = λ s st trusts.
+        let is : turn_of s (Asked (Call n Trim)) ≡ trim_turn s =
+        asked_by m.up (view m) s (respond s (Call n Trim)) st.tables ∙ passed_row m s n Trim h st in
+        subst (λ (t : Turn). LeavesBy disks m.log t outcome m'.log s) (sym is) (x.leaves s st trusts);
+    served = x.served;
+  }
+
+  trim_by : (m m' : Manager D) (n : ℕ) (r : Result Done AllocError) → None ≡ early_refusal (context_at m.up (view m) n) Trim
+      → IfOk r (λ d. HasTrimmed disks m d.reply d.outcome m') → IfOk r (λ d. IsFresh d.reply)
+      → IfOk r (λ d. HasDone disks m (Call n Trim) d.reply d.outcome m' × IsFresh d.reply)
+  trim_by m m' n (Ok d) h x fresh = (trimmed_done m m' n d.reply d.outcome h x, fresh)
+  trim_by m m' n (Err e) h x fresh = tt
+
+  pub trim_done : (m m' : Manager D) (n : ℕ) (request : Request) (r : Result Done AllocError) → request ≡ Trim → None ≡ early_refusal (context_at m.up (view m) n) request
+      → IfOk r (λ d. HasTrimmed disks m d.reply d.outcome m') → IfOk r (λ d. IsFresh d.reply)
+      → IfOk r (λ d. HasDone disks m (Call n request) d.reply d.outcome m' × IsFresh d.reply)
+  trim_done m m' n request r same h x fresh =
+      subst (λ (q : Request). IfOk r (λ d. HasDone disks m (Call n q) d.reply d.outcome m' × IsFresh d.reply)) (sym same)
+      (trim_by m m' n r (subst (λ (q : Request). None ≡ early_refusal (context_at m.up (view m) n) q) same h) x fresh)
 
   -- the outcome is no part of what a manager stands for
   told : (m : Manager D) (o : Outcome) (s : State) → ManagerStandsFor disks m s → ManagerStandsFor disks (record m { outcome = o }) s
@@ -300,7 +336,7 @@ module _ {D : Type 0} (disks : Ghosts D) where
   }
 
   -- an event without a request
-  pub event_answered : (m m' : Manager D) (e : Event) (act : State → Answer) (reply : Reply) → IsEvent e → is_restart e ≡ false → ((s : State) → respond s e ≡ Now (act s)) → m'.log ≡ m.log → m'.up ≡ m.up → m'.doubt ≡ m.doubt
+  pub event_answered : (m m' : Manager D) (e : Event) (act : State → Answer) (reply : Reply) → IsEvent e → begins_boot e ≡ false → ((s : State) → respond s e ≡ Now (act s)) → m'.log ≡ m.log → m'.up ≡ m.up → m'.doubt ≡ m.doubt
       → Follows (view m) act reply (view m') → FollowsDown (view m) act reply (view m') → FullyAnswered disks m e reply (record m' { outcome = Quiet })
   event_answered m m' e act reply event other is log up doubt f d =
       done_answered m m' e reply Quiet

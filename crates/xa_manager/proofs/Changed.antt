@@ -13,7 +13,7 @@ use Rattle.mv_rules.proofs.Remade.{low_rises}
 use Rattle.xa_xid.specs.Triple.{Triple}
 use Rattle.xa_model.specs.State.{State, Operation, Read}
 use Rattle.xa_model.specs.Records.{did}
-use Rattle.xa_model.specs.Loggable.{IsRecoverable}
+use Rattle.xa_model.specs.Invariants.Loggable.{IsRecoverable}
 use Rattle.xa_model.proofs.ChangedWaters.{done_water, done_floor}
 use Rattle.xa_assoc.proofs.Follows.{unmoved}
 use Rattle.xa_branch.proofs.Elsewhere.{stands_elsewhere, done_stands as branch_done}

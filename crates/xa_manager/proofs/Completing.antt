@@ -15,8 +15,8 @@ use Rattle.xa_model.specs.Associations.{is_unknown, is_lasting, mark_in}
 use Rattle.xa_model.specs.Branches.{rolled_back, two_phase_refusal, heuristic_refusal}
 use Rattle.xa_model.specs.Completions.{is_completed, decide_refusal, forget_refusal, roll_back_turn}
 use Rattle.xa_model.specs.Logging.{applied, logs, log_room, is_in_doubt, prepared_count}
-use Rattle.xa_model.specs.Loggable.{IsRecoverable}
-use Rattle.xa_model.specs.Room.{IsRoomy}
+use Rattle.xa_model.specs.Invariants.Loggable.{IsRecoverable}
+use Rattle.xa_model.specs.Invariants.Room.{IsRoomy}
 use Rattle.xa_model.specs.Turn.{Turn, Now, unless_now}
 use Rattle.xa_manager.specs.View.{View}
 use Rattle.xa_manager.specs.Stands.{StandsFor}

@@ -19,11 +19,12 @@ use Rattle.xa_model.specs.State.{State}
 use Rattle.xa_model.specs.Turn.{Asked}
 use Rattle.xa_model.specs.Step.{step}
 use Rattle.xa_model.specs.History.{Entry, Leads}
+use Rattle.xa_model.specs.Events.{is_trim}
 use Rattle.xa_assoc.specs.Refusals.{is_memory}
 use Rattle.xa_manager.specs.declared.manager.Manager.{Manager}
 use Rattle.xa_manager.specs.LogStands.{Trusts}
 use Rattle.xa_manager.specs.Managed.{ManagerStandsFor}
-use Rattle.xa_manager.specs.Answered.{FullyAnswered, HasCalled, NoneRises, OneRises, StaysFor, StepsAs, as_appended, recorded}
+use Rattle.xa_manager.specs.Answered.{FullyAnswered, HasCalled, HasCalledFor, NoneRises, OneRises, StaysFor, StepsAs, as_appended, recorded}
 use Rattle.xa_manager.specs.Counted.{CountsAll, RiseBy, counted_by, failures_in, failures_of, failures_of_append}
 use Rattle.xa_manager.proofs.Driving.{added, leads_more, recorded_more, stepped, told_more, trusted_before, trusted_last}
 
@@ -90,6 +91,16 @@ module _ {D : Type 0} (disks : Ghosts D) where
   called_by (outcome.Reread survived (Some Refused)) old new h = one_by old new h
   called_by (outcome.Reread survived (Some Lost)) old new h = one_by old new h
 
+  pub called_for : (trims : Bool) (o : Outcome) (old new : Log D)
+      → HasCalledFor disks trims o old new → RiseBy (failures_in o) (counted_by disks.failures old) (counted_by disks.failures new)
+  called_for false o old new h = called_by o old new h
+  called_for true outcome.Quiet old new h = called_by outcome.Quiet old new h
+  called_for true (outcome.Appended Kept) old new h = none_by old new h
+  called_for true (outcome.Appended Refused) old new h = one_by old new h
+  called_for true (outcome.Appended Lost) old new h = one_by old new h
+  called_for true outcome.Failed old new h = absurd h
+  called_for true (outcome.Reread survived appended) old new h = absurd h
+
 -- of a run
 
 failures_append : (xs ys : List Entry) → failures_of (xs ++ ys) ≡ failures_of xs + failures_of ys
@@ -128,7 +139,7 @@ counts_on disks m mid m' es rs event reply false same ed all one full s st trust
     let leads = subst (λ (xs : List Entry). Leads s xs a.0) (sym e) (leads_more s (recorded es h.0 rs) h.1 entry a.0 h.3 a.1) in
     let rise = rise_more (recorded es h.0 rs) (recorded (es ++ event ∷ []) (h.0 ++ m'.outcome ∷ []) (rs ++ reply ∷ [])) (added event m'.outcome reply false) (failures_in m'.outcome)
     (counted_by disks.failures m.log) (counted_by disks.failures mid.log) (counted_by disks.failures m'.log) e (alone m'.outcome) h.5
-    (called_by disks m'.outcome mid.log m'.log (full.called ed h.1 h.4 last)) in
+    (called_for disks (is_trim event) m'.outcome mid.log m'.log (full.called ed h.1 h.4 last)) in
     (h.0 ++ m'.outcome ∷ [], a.0, told_more es h.0 event m'.outcome h.2, leads, a.2, rise)
 
 pub counts_more : {D : Type 0} (disks : Ghosts D)

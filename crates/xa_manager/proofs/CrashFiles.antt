@@ -24,8 +24,8 @@ use Rattle.xa_model.specs.State.{State}
 use Rattle.xa_model.specs.Answer.{answer, detailed}
 use Rattle.xa_model.specs.Turn.{Opens, Stops}
 use Rattle.xa_model.specs.Logging.{down}
-use Rattle.xa_model.specs.Loggable.{IsRecoverable, is_boot}
-use Rattle.xa_model.specs.Backing.{Backs, BacksReading, settled}
+use Rattle.xa_model.specs.Invariants.Loggable.{IsRecoverable, is_boot}
+use Rattle.xa_model.specs.Invariants.Backing.{Backs, BacksReading, settled}
 use Rattle.xa_model.specs.Restarting.{survived, restarting, boot_became}
 use Rattle.xa_model.proofs.Booted.{same_backed, restart_backed}
 use Rattle.xa_manager.specs.Crash.{StandFor, LeavesLook}

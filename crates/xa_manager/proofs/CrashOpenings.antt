@@ -21,10 +21,10 @@ use Rattle.xa_model.specs.declared.outcome.Appending.{Appending}
 use Rattle.xa_model.specs.declared.outcome.Appending.TheVariants.{Kept, Refused, Lost}
 use Rattle.xa_model.specs.declared.outcome.Outcome.TheVariants.{Reread}
 use Rattle.xa_model.specs.Answer.{Answer, ok}
-use Rattle.xa_model.specs.Backing.{Backs}
+use Rattle.xa_model.specs.Invariants.Backing.{Backs}
 use Rattle.xa_model.specs.Durable.{Durable, durable}
 use Rattle.xa_model.specs.Fold.{snapshot}
-use Rattle.xa_model.specs.Loggable.{IsRecoverable}
+use Rattle.xa_model.specs.Invariants.Loggable.{IsRecoverable}
 use Rattle.xa_model.specs.Restarting.{missed, survived, refused_opening, reopen_became, reopening, reopen_turn, can_open}
 use Rattle.xa_model.specs.State.{State, Ended}
 use Rattle.xa_model.specs.Turn.{Reopened, Opens, Stops, going_on, taken}

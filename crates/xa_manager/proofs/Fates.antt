@@ -14,11 +14,11 @@ use Rattle.xa_model.specs.Turn.{Stops, Opens, going_on, taken}
 use Rattle.xa_model.specs.Logging.{applied, prepared_count, down}
 use Rattle.xa_model.specs.Restarting.{missed, survived, restarted, restarting, restart_turn, boot_became}
 use Rattle.xa_limits.specs.declared.TheConstants.{MOST_BOOTS}
-use Rattle.xa_model.specs.Loggable.{IsRecoverable, MayBeLast}
+use Rattle.xa_model.specs.Invariants.Loggable.{IsRecoverable, MayBeLast}
 use Rattle.xa_model.specs.Durable.{Durable, durable}
 use Rattle.xa_model.specs.Fold.{snapshot}
-use Rattle.xa_model.specs.Backing.{Backs, BacksReading, settled}
-use Rattle.xa_model.specs.Room.{HasRoom, HasRoomAnyway}
+use Rattle.xa_model.specs.Invariants.Backing.{Backs, BacksReading, settled}
+use Rattle.xa_model.specs.Invariants.Room.{HasRoom, HasRoomAnyway}
 use Rattle.xa_model.proofs.Booted.{same_backed, restart_backed}
 use Rattle.xa_model.proofs.Restarts.{missed_recoverable, survived_recoverable, booted_lasts}
 use Rattle.xa_model.proofs.Rooms.{still_room, prepared_lasting, recoverable_snapshot_ends}

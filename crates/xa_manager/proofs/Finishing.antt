@@ -18,7 +18,7 @@ use Rattle.xa_branch.specs.Branches.{BranchesStandFor}
 use Rattle.xa_branch.proofs.Elsewhere.{stands_elsewhere}
 use Rattle.xa_codes.specs.declared.direction.Direction.{Direction}
 use Rattle.xa_codes.specs.declared.direction.Direction.TheVariants.{Commit, Rollback}
-use Rattle.xa_model.specs.Loggable.{IsRecoverable}
+use Rattle.xa_model.specs.Invariants.Loggable.{IsRecoverable}
 use Rattle.xa_assoc.specs.declared.sessions.Sessions.{Sessions}
 use Rattle.xa_assoc.specs.Sessions.{SessionsStandFor}
 use Rattle.xa_assoc.proofs.Follows.{unmoved}
@@ -29,7 +29,7 @@ use Rattle.xa_manager.proofs.Lows.{rises_with}
 use Rattle.xa_model.specs.State.{State, Branch, Phase, Working, Prepared, Committed, InDoubt, name_of, is_with, known_as, known_among, decided_of, or_completed, known_of, is_known_as, without, timestamp_of}
 use Rattle.xa_model.specs.Associations.{timestamp_in, timestamp_by}
 use Rattle.xa_model.specs.Branches.{rolled_back, committed, decided_by}
-use Rattle.xa_model.specs.Sound.{IsSound}
+use Rattle.xa_model.specs.Invariants.Sound.{IsSound}
 use Rattle.xa_model.proofs.ChangedWaters.{committed_water, rolled_back_water, committed_floor, rolled_back_floor}
 
 passes_by : (q : Branch → Bool) (x b : Branch) (rest : Option Branch) (c : Bool) → q x ≡ c → cond c (Some x) rest ≡ Some b → (rest ≡ Some b → q b ≡ true) → q b ≡ true

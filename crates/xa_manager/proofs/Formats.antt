@@ -13,9 +13,9 @@ use Rattle.xa_log.specs.declared.format.Format.TheVariants.{One, Two}
 use Rattle.xa_log.specs.declared.log.Log.{Log}
 use Rattle.xa_log.proofs.Records.{rests_logged}
 use Rattle.xa_log.specs.LogStates.{LogState, Whole, LostAppend, LostCheckpoint, IsIn, MayFind}
-use Rattle.xa_model.specs.Backing.{Backs}
+use Rattle.xa_model.specs.Invariants.Backing.{Backs}
 use Rattle.xa_model.specs.Durable.{Durable}
-use Rattle.xa_model.specs.Loggable.{IsRecoverable}
+use Rattle.xa_model.specs.Invariants.Loggable.{IsRecoverable}
 use Rattle.xa_model.specs.State.{State}
 use Rattle.xa_manager.specs.Rereading.{IsFate, Found}
 use Rattle.xa_manager.proofs.Fates.{fate_recoverable}

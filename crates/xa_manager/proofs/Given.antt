@@ -6,8 +6,8 @@ use Rattle.mv_rules.specs.Accesses.{Accesses}
 use Rattle.mv_rules.specs.Records.{StandsFor as RecordsStandFor}
 use Rattle.mv_rules.specs.Ties.{history_of, writes_in, read_as}
 use Rattle.mv_rules.proofs.Undecided.{are_whole}
-use Rattle.xa_model.specs.LowWater.{low_water, work_floor}
-use Rattle.xa_model.specs.Sound.{IsSound}
+use Rattle.xa_model.specs.Invariants.LowWater.{low_water, work_floor}
+use Rattle.xa_model.specs.Invariants.Sound.{IsSound}
 use Rattle.xa_model.specs.State.{State, timestamp_of}
 
 -- what the records are given is no more than what they count from

@@ -1,5 +1,5 @@
 -- The history of writes and reads, after changes that leave what branches wrote.
-use Rattle.std.proofs.Common.{◌≡◌, ◌≤◌, ℕ, ℤ, Bool, true, false, cond, List, [], ◌∷◌, ◌++◌, map, Option, refl, ap, sym, ◌∙◌, subst}
+use Rattle.std.proofs.Common.{◌≡◌, ◌≤◌, ◌+◌, ℕ, ℤ, Bool, true, false, cond, List, [], ◌∷◌, ◌++◌, map, Option, refl, ap, sym, ◌∙◌, subst, arith}
 use Rattle.xa_xid.specs.Triple.{Triple}
 use Rattle.mv_chain.specs.declared.fate.Fate.{Fate}
 use Rattle.mv_chain.specs.Accesses.{Written}
@@ -14,7 +14,12 @@ use Rattle.xa_model.specs.Branches.{prepared, prepared_phase, as_prepared}
 use Rattle.xa_model.specs.Associations.{with_mark, marked_phase, left_behind, is_worked_by}
 use Rattle.xa_model.specs.TimeLimits.{runs_out, ticked}
 use Rattle.xa_model.proofs.ChangedWaters.{marked_water, left_water, timed_water, prepared_water, marked_floor, left_floor, timed_floor, prepared_floor}
-use Rattle.xa_manager.proofs.Lows.{stays_with}
+use Rattle.xa_model.specs.Invariants.Loggable.{IsRecoverable}
+use Rattle.xa_model.specs.Trimming.{trimmed}
+use Rattle.xa_model.proofs.LowWaters.{rises}
+use Rattle.xa_model.proofs.Moves.{Moves, core, trims}
+use Rattle.xa_model.proofs.WorkFloors.{lifts}
+use Rattle.xa_manager.proofs.Lows.{rises_with, stays_with}
 
 -- the low water may have risen
 same_writes : (s t : State) (r : Records) → t.reads ≡ s.reads → writes_in t.branches ≡ writes_in s.branches → low_of s ≤ low_of t → RecordsStandFor (history_of s) r → RecordsStandFor (history_of t) r
@@ -78,3 +83,9 @@ prepared_one b = ap (λ (fate : Option Fate). writes_by b.timestamp fate b.opera
 pub prepared_records : (xid : Triple) (s : State) (r : Records) → RecordsStandFor (history_of s) r → RecordsStandFor (history_of (prepared s xid)) r
 prepared_records xid s r st =
     same_writes s (prepared s xid) r refl (unwritten (is_known_as xid) as_prepared prepared_one s.branches) (stays_with s (prepared s xid) (prepared_floor s xid) (prepared_water s xid)) st
+
+-- a boot begins while all goes on
+pub trimmed_records : (boot : ℕ) (s : State) (r : Records) → IsRecoverable s → s.logged_boot + 1 ≡ boot → RecordsStandFor (history_of s) r → RecordsStandFor (history_of (trimmed s boot)) r
+trimmed_records boot s r h next st =
+    let moves : Moves (core s) (core (trimmed s boot)) = trims boot (omega (arith, h.loggable.boots, next)) in
+    same_writes s (trimmed s boot) r refl refl (rises_with s (trimmed s boot) (lifts s (trimmed s boot) moves) (rises s (trimmed s boot) h.sound moves)) st

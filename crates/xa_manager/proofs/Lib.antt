@@ -1,4 +1,6 @@
 pub mod Held
+pub mod InDoubts
+pub mod WhatLasts
 pub mod Histories
 pub mod Changed
 pub mod Finishing
@@ -51,5 +53,6 @@ pub mod Rereads
 pub mod Rescanned
 pub mod Results
 pub mod Standing
+pub mod Trims
 pub mod Driving
 pub mod Promised

@@ -13,8 +13,8 @@ use Rattle.xa_log.proofs.States.{whole_of, beside_by}
 use Rattle.xa_model.specs.State.{State}
 use Rattle.xa_model.specs.Durable.{Durable, durable}
 use Rattle.xa_model.specs.Fold.{snapshot}
-use Rattle.xa_model.specs.Backing.{Backs, settled}
-use Rattle.xa_model.specs.Loggable.{is_boot}
+use Rattle.xa_model.specs.Invariants.Backing.{Backs, settled}
+use Rattle.xa_model.specs.Invariants.Loggable.{is_boot}
 use Rattle.xa_manager.specs.LogStands.{Trusts, HasRecords, IsSettled, IsOfOne, LogStandsFor, snapshot_bodies}
 
 -- ---- the records that settle a fate

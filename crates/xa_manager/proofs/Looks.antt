@@ -4,12 +4,9 @@ use Rattle.std.specs.Prelude.{option_map, option_and_then}
 use Rattle.std.specs.List.{list_any}
 use Rattle.mv_rules.specs.Ties.{fate_of, low_of}
 use Rattle.xa_xid.specs.Triple.{Triple, xid_eq}
-use Rattle.xa_model.specs.State.{State, Branch, Known, Unknown, AtWork, InDoubt, Completed, count, is_with, is_active, works_in, mark_of, known_of, known_as, active_of, holders_of, branch_with, own_branch, is_known_as, timestamp_of, is_at_work, is_working}
+use Rattle.xa_model.specs.State.{State, Branch, Known, Unknown, AtWork, InDoubt, Completed, count, is_with, is_active, works_in, mark_of, known_of, known_as, active_of, holders_of, branch_with, own_branch, is_at_work, is_working}
 use Rattle.xa_model.specs.Associations.{is_unknown, is_lasting, mark_in}
-use Rattle.xa_model.specs.Sound.{IsSound}
-use Rattle.xa_model.specs.Durable.{boot_of}
-use Rattle.xa_model.specs.Loggable.{IsLoggable}
-use Rattle.xa_model.proofs.Lists.{found_all}
+use Rattle.xa_model.specs.Invariants.Sound.{IsSound}
 use Rattle.xa_model.proofs.Counts.{count_less}
 use Rattle.xa_model.proofs.Leaving.{any_counts}
 use Rattle.xa_model.proofs.Xids.{both_true}

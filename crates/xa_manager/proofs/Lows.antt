@@ -4,7 +4,7 @@ use Rattle.std.proofs.Common.{◌≡◌, ◌≤◌, Some, true, arith}
 use Rattle.xa_xid.specs.Triple.{Triple}
 use Rattle.mv_rules.specs.Ties.{low_of}
 use Rattle.xa_model.specs.State.{State, Branch, is_known_as, is_working, known_of}
-use Rattle.xa_model.specs.LowWater.{low_water, work_floor}
+use Rattle.xa_model.specs.Invariants.LowWater.{low_water, work_floor}
 use Rattle.xa_model.proofs.ChangedWaters.{water_known}
 use Rattle.xa_model.proofs.Lists.{found_all}
 use Rattle.xa_model.proofs.WorkFloors.{works_above}

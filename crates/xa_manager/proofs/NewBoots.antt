@@ -9,8 +9,8 @@ use Rattle.xa_model.specs.State.{State, Branch, timestamp_of, is_working}
 use Rattle.xa_model.specs.Durable.{Durable, IsDurable, durable}
 use Rattle.xa_model.specs.Fold.{snapshot, sizes, reading, unread, is_used}
 use Rattle.xa_model.specs.Logging.{log_room, prepared_count}
-use Rattle.xa_model.specs.Backing.{Backs}
-use Rattle.xa_model.specs.Restored.{IsRestored}
+use Rattle.xa_model.specs.Invariants.Backing.{Backs}
+use Rattle.xa_model.specs.Invariants.Restored.{IsRestored}
 use Rattle.xa_model.proofs.Snapshots.{snapshot_folds}
 use Rattle.xa_model.proofs.Booted.{snapshot_given}
 use Rattle.xa_model.proofs.Rooms.{prepared_lasting, decided_lasting}

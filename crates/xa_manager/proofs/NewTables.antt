@@ -16,7 +16,7 @@ use Rattle.mv_rules.specs.Ties.{history_of}
 use Rattle.mv_rules.specs.Restoring.{with_write, with_branch, with_committed, with_prepared, IsRestorable}
 use Rattle.xa_model.specs.State.{State, Decided, timestamp_of}
 use Rattle.xa_model.specs.Durable.{Durable, CommittedBranch, PreparedBranch, Pairwise, IsDurable, commits_before, prepares_before, named_apart, named_before, is_prepared, is_decided, is_past}
-use Rattle.xa_model.specs.Restored.{IsRestored}
+use Rattle.xa_model.specs.Invariants.Restored.{IsRestored}
 use Rattle.xa_model.proofs.Inserts.{pairwise_before}
 use Rattle.xa_model.proofs.Recoveries.{recoverable_durable}
 use Rattle.xa_model.proofs.Tests.{below_apart}

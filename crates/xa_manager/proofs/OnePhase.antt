@@ -24,9 +24,9 @@ use Rattle.xa_model.specs.Associations.{is_unknown, is_lasting, mark_in, timesta
 use Rattle.xa_model.specs.Branches.{rolled_back, unprepared_refusal, is_associated}
 use Rattle.xa_model.specs.Durable.{writes_of}
 use Rattle.xa_model.specs.Fold.{is_empty, size_of}
-use Rattle.xa_model.specs.Sound.{IsSound}
+use Rattle.xa_model.specs.Invariants.Sound.{IsSound}
 use Rattle.xa_model.specs.Logging.{applied, lost, logs, has_room, log_full, log_room, writes_by, writes_in, prepared_count}
-use Rattle.xa_model.specs.Loggable.{IsRecoverable, IsLoggable, AreShort}
+use Rattle.xa_model.specs.Invariants.Loggable.{IsRecoverable, IsLoggable, AreShort}
 use Rattle.xa_model.specs.Turn.{Turn, Now, unless_now, marked_now}
 use Rattle.xa_model.proofs.Lists.{found_all}
 use Rattle.xa_model.proofs.Rows.{passed, neither, at_work}

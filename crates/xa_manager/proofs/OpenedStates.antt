@@ -12,11 +12,11 @@ use Rattle.xa_model.specs.State.{State}
 use Rattle.xa_model.specs.Answer.{Answer, ok}
 use Rattle.xa_model.specs.Durable.{Durable, durable}
 use Rattle.xa_model.specs.Fold.{fold, nothing}
-use Rattle.xa_model.specs.Loggable.{IsRecoverable, MayBeLast}
-use Rattle.xa_model.specs.Backing.{Backs}
+use Rattle.xa_model.specs.Invariants.Loggable.{IsRecoverable, MayBeLast}
+use Rattle.xa_model.specs.Invariants.Backing.{Backs}
 use Rattle.xa_model.specs.Restarting.{missed, survived, can_open, reopened, reopening}
 use Rattle.xa_limits.specs.declared.TheConstants.{MOST_BOOTS}
-use Rattle.xa_model.specs.Restored.{IsRestored}
+use Rattle.xa_model.specs.Invariants.Restored.{IsRestored}
 use Rattle.xa_model.specs.Turn.{Reopened, going_on}
 use Rattle.xa_model.specs.Step.{step}
 use Rattle.xa_model.specs.History.{fresh}

@@ -8,12 +8,12 @@ use Rattle.xa_model.specs.declared.event.Event.{Event}
 use Rattle.xa_model.specs.declared.outcome.Outcome.{Outcome}
 use Rattle.xa_limits.specs.declared.TheConstants.{FIRST_OFFSET, MOST_LOG}
 use Rattle.xa_model.specs.State.{State}
-use Rattle.xa_model.specs.Sound.{most_known}
+use Rattle.xa_model.specs.Invariants.Sound.{most_known}
 use Rattle.xa_model.specs.Fold.{snapshot, sizes}
 use Rattle.xa_model.specs.Logging.{log_room}
 use Rattle.xa_model.specs.Restarting.{opening, restart_turn}
-use Rattle.xa_model.specs.Restored.{IsRestored}
-use Rattle.xa_model.specs.RestartLaw.{restart_entries}
+use Rattle.xa_model.specs.Invariants.Restored.{IsRestored}
+use Rattle.xa_model.specs.Laws.Restarts.{restart_entries}
 use Rattle.xa_model.specs.Turn.{Asked, taken}
 use Rattle.xa_model.specs.Events.{AreEvents, IsHappening, HaveHappened}
 use Rattle.xa_model.specs.History.{Entry, Leads}

@@ -12,8 +12,8 @@ use Rattle.xa_log.specs.TwoFiles.{Pair}
 use Rattle.xa_log.proofs.Records.{length-record_of, length-text}
 use Rattle.xa_model.specs.State.{State}
 use Rattle.xa_model.specs.Fold.{sizes}
-use Rattle.xa_model.specs.Backing.{Backs, settled}
-use Rattle.xa_model.specs.Loggable.{IsRecoverable}
+use Rattle.xa_model.specs.Invariants.Backing.{Backs, settled}
+use Rattle.xa_model.specs.Invariants.Loggable.{IsRecoverable}
 use Rattle.xa_model.specs.Restarting.{missed, survived}
 use Rattle.xa_manager.specs.LogStands.{HasRecords, IsOfOne, IsSettled, LogStandsFor}
 use Rattle.xa_manager.specs.Rereading.{Found}

@@ -2,7 +2,7 @@
 use Rattle.std.proofs.Common.{◌≡◌, ◌+◌, ◌≤◌, true, length, refl, arith}
 use Rattle.std.specs.Prelude.{is_some}
 use Rattle.xa_model.specs.State.{State, Phase, Working, Prepared, Committed, name_of, known_count}
-use Rattle.xa_model.specs.Sound.{IsSound, most_known}
+use Rattle.xa_model.specs.Invariants.Sound.{IsSound, most_known}
 use Rattle.xa_model.specs.Logging.{is_in_doubt, prepared_count}
 use Rattle.xa_model.proofs.Counts.{count_less}
 

@@ -14,12 +14,12 @@ use Rattle.xa_model.specs.State.{State, Up, Ended}
 use Rattle.xa_model.specs.Durable.{durable}
 use Rattle.xa_model.specs.Fold.{snapshot}
 use Rattle.xa_model.specs.Logging.{applied, down}
-use Rattle.xa_model.specs.Loggable.{IsRecoverable, MayBeLast}
-use Rattle.xa_model.specs.Backing.{Backs}
+use Rattle.xa_model.specs.Invariants.Loggable.{IsRecoverable, MayBeLast}
+use Rattle.xa_model.specs.Invariants.Backing.{Backs}
 use Rattle.xa_model.specs.Restarting.{restarted}
 use Rattle.xa_limits.specs.declared.TheConstants.{MOST_BOOTS}
-use Rattle.xa_model.specs.Restored.{IsRestored}
-use Rattle.xa_model.specs.Room.{HasRoom}
+use Rattle.xa_model.specs.Invariants.Restored.{IsRestored}
+use Rattle.xa_model.specs.Invariants.Room.{HasRoom}
 use Rattle.xa_model.specs.Fold.{sizes}
 use Rattle.xa_model.specs.Logging.{snapshot_end, prepared_count}
 use Rattle.xa_model.specs.Restarting.{without_scan}

@@ -17,28 +17,29 @@ use Rattle.xa_model.specs.State.{State, Standing, Up}
 use Rattle.xa_model.specs.Answer.{Answer, ok}
 use Rattle.xa_model.specs.Turn.{Turn, Nobody, Now, Appends, Checkpoints, Rereads, Asked, taken}
 use Rattle.xa_model.specs.Step.{respond, asked, turn, step}
-use Rattle.xa_model.specs.Events.{IsEvent, is_restart}
+use Rattle.xa_model.specs.Events.{IsEvent, begins_boot}
 use Rattle.xa_model.specs.Logging.{applied, lost}
 use Rattle.xa_model.specs.Branches.{completed}
-use Rattle.xa_model.specs.MayLog.{MayLog}
+use Rattle.xa_model.specs.Invariants.MayLog.{MayLog}
 use Rattle.xa_codes.specs.declared.direction.Direction.{Direction}
 use Rattle.xa_codes.specs.declared.direction.Direction.TheVariants.{Commit, Rollback}
 use Rattle.xa_xid.specs.Triple.{Triple}
-use Rattle.xa_model.specs.LoggingLaws.{KeepsLog, LogsWhatLasts}
-use Rattle.xa_model.specs.Backing.{Backs, BacksTurn}
-use Rattle.xa_model.specs.Loggable.{IsRecoverable, is_boot}
+use Rattle.xa_model.specs.Laws.Logging.{KeepsLog, LogsWhatLasts}
+use Rattle.xa_model.specs.Invariants.Backing.{Backs, BacksTurn}
+use Rattle.xa_model.specs.Invariants.Loggable.{IsRecoverable, is_boot}
 use Rattle.xa_model.proofs.LoggedEvents.{events_log_what_lasts}
 use Rattle.xa_model.proofs.LogBehind.{keeps_backed}
 use Rattle.xa_model.proofs.Recoveries.{keeps_recoverable, LogsLast, turn_logs_last}
 use Rattle.xa_model.proofs.RoomyRows.{AsksRoom, events_ask_room}
 use Rattle.xa_model.proofs.RoomyTurns.{keeps_room}
+use Rattle.xa_model.proofs.Trims.{restarts_none, trims_none}
 use Rattle.xa_assoc.specs.Refusals.{is_memory}
 use Rattle.xa_manager.specs.declared.doubt.Doubt.{Doubt}
 use Rattle.xa_manager.specs.declared.doubt.Doubt.TheVariants as doubt
 use Rattle.xa_manager.specs.declared.manager.Manager.{Manager}
-use Rattle.xa_manager.specs.Answered.{HasCalled}
+use Rattle.xa_manager.specs.Answered.{HasCalled, HasCalledFor}
 use Rattle.xa_manager.specs.View.{View as Tables}
-use Rattle.xa_manager.specs.Crash.{LeavesAppend, LeavesBy, LeavesNow}
+use Rattle.xa_manager.specs.Crash.{LeavesBy, LeavesNow, LeavesWritten, checkpoints}
 use Rattle.xa_manager.specs.LogStands.{Trusts, HasRecords, LogStandsFor}
 use Rattle.xa_manager.specs.Managed.{view, Doubts, ManagerStandsFor}
 use Rattle.xa_manager.specs.Stands.{StandsFor, TablesStandFor}
@@ -128,7 +129,7 @@ module _ {D : Type 0} (disks : Ghosts D) where
   turn_is : (m : Manager D) (s : State) (e : Event) (t : Turn) → ManagerStandsFor disks m s → respond s e ≡ t → asked s.standing (respond s e) ≡ t
   turn_is m s e t st is = asked_by m.up (view m) s (respond s e) st.tables ∙ is
 
-  now_steps : (m m' : Manager D) (s : State) (e : Event) (a : Answer) (reply : Reply) (outcome : Outcome) → IsEvent e → is_restart e ≡ false → ManagerStandsFor disks m s → respond s e ≡ Now a
+  now_steps : (m m' : Manager D) (s : State) (e : Event) (a : Answer) (reply : Reply) (outcome : Outcome) → IsEvent e → begins_boot e ≡ false → ManagerStandsFor disks m s → respond s e ≡ Now a
       → TakesNow m a reply outcome m' → IsStep m' s e reply outcome
   now_steps m m' s e a reply outcome event other st is x =
       let t = turn_is m s e (Now a) st is in
@@ -143,7 +144,7 @@ module _ {D : Type 0} (disks : Ghosts D) where
         reply_is = x.reply_is;
         stands = record {
           tables = x.tables recoverable;
-          roomy = keeps_room s e outcome a event before st.roomy other steps;
+          roomy = keeps_room s e outcome a event before st.roomy (restarts_none e other) steps;
           end = λ up. ap (λ (l : Log D). l.end) x.log ∙ st.end (sym x.up ∙ up) ∙ sym k.end;
           alive = λ up. ap (λ (l : Log D). l.lost) x.log ∙ st.alive (sym x.up ∙ up);
           modern = λ up. ap (λ (l : Log D). l.format) x.log ∙ st.modern (sym x.up ∙ up);
@@ -194,7 +195,7 @@ module _ {D : Type 0} (disks : Ghosts D) where
   of_answer : (after : Appending → Answer) (P : Answer → Type 0) (a b : Appending) → a ≡ b → P (after b) → P (after a)
   of_answer after P a b e h = subst (λ (x : Appending). P (after x)) (sym e) h
 
-  appending_steps : (m m' : Manager D) (s : State) (e : Event) (r : Record) (after : Appending → Answer) (reply : Reply) (outcome : Outcome) → IsEvent e → is_restart e ≡ false → ManagerStandsFor disks m s
+  appending_steps : (m m' : Manager D) (s : State) (e : Event) (r : Record) (after : Appending → Answer) (reply : Reply) (outcome : Outcome) → IsEvent e → begins_boot e ≡ false → ManagerStandsFor disks m s
       → respond s e ≡ Appends r after → m.up ≡ true → TakesAppending disks m r after reply outcome m' → IsStep m' s e reply outcome
   appending_steps m m' s e r after reply outcome event other st is is_up x =
       let t = turn_is m s e (Appends r after) st is in
@@ -218,7 +219,7 @@ module _ {D : Type 0} (disks : Ghosts D) where
         reply_is = x.reply_is;
         stands = record {
           tables = tables;
-          roomy = keeps_room s e outcome (after a) event before st.roomy other steps;
+          roomy = keeps_room s e outcome (after a) event before st.roomy (restarts_none e other) steps;
           end = λ up. end_after m.log m'.log s next r a (st.end is_up) x.log (λ q. ap (λ (u : State). u.end) (kept_ q) ∙ applied_end s r logs.0 last.1)
               (λ q. of_answer after (λ y. y.after.end ≡ s.end) a Refused q logs.2.end) (sym x.up ∙ up);
           alive = λ up. alive_after m.log m'.log r a (st.alive is_up) x.log (sym x.up ∙ up);
@@ -234,7 +235,7 @@ module _ {D : Type 0} (disks : Ghosts D) where
         };
       }
 
-  takes_steps : (m m' : Manager D) (s : State) (e : Event) (t : Turn) (reply : Reply) (outcome : Outcome) → IsEvent e → is_restart e ≡ false → ManagerStandsFor disks m s → respond s e ≡ t
+  takes_steps : (m m' : Manager D) (s : State) (e : Event) (t : Turn) (reply : Reply) (outcome : Outcome) → IsEvent e → begins_boot e ≡ false → ManagerStandsFor disks m s → respond s e ≡ t
       → Takes disks m t reply outcome m' → IsStep m' s e reply outcome
   takes_steps m m' s e Nobody reply outcome event other st is x = absurd x
   takes_steps m m' s e (Now a) reply outcome event other st is x = now_steps m m' s e a reply outcome event other st is x
@@ -264,7 +265,7 @@ module _ {D : Type 0} (disks : Ghosts D) where
       subst (λ (o : Outcome). LeavesBy disks m.log t o m'.log s) (sym quiet)
       (log, now_leaves m s st)
 
-  appending_crash : (m m' : Manager D) (s : State) (e : Event) (r : Record) (after : Appending → Answer) (reply : Reply) (outcome : Outcome) → IsEvent e → is_restart e ≡ false → ManagerStandsFor disks m s
+  appending_crash : (m m' : Manager D) (s : State) (e : Event) (r : Record) (after : Appending → Answer) (reply : Reply) (outcome : Outcome) → IsEvent e → begins_boot e ≡ false → ManagerStandsFor disks m s
       → Trusts disks → respond s e ≡ Appends r after → TakesAppending disks m r after reply outcome m' → LeavesBy disks m.log (turn s (Asked e)) outcome m'.log s
   appending_crash m m' s e r after reply outcome event other st trusts is x =
       let t = turn_is m s e (Appends r after) st is in
@@ -275,7 +276,8 @@ module _ {D : Type 0} (disks : Ghosts D) where
       let last : LogsLast s (Appends r after) = subst (LogsLast s) t (turn_logs_last s (Asked e) event before) in
       let open_is : (after Lost).after.open_record ≡ Some r = ap (λ (y : Answer). y.after.open_record) logs.3 in
       subst (λ (o : Outcome). LeavesBy disks m.log (turn s (Asked e)) o m'.log s) (sym x.outcome_is)
-      (subst (λ (o : Option Answer). IsSomeAnd o (λ l. LeavesAppend disks m.log m'.log s l.after)) (sym steps) (
+      (subst (λ (o : Option Answer). IsSomeAnd o (λ l. LeavesWritten disks (checkpoints (turn s (Asked e))) m.log x.answer m'.log s l.after)) (sym steps)
+      (subst (λ (b : Bool). LeavesWritten disks b m.log x.answer m'.log s (after Lost).after) (sym (ap checkpoints t)) (
         r,
         open_is,
         λ current other left plain.
@@ -284,9 +286,9 @@ module _ {D : Type 0} (disks : Ghosts D) where
             plain.plain left.other_left plain.calm recoverable
             (let backed : BacksTurn plain.records s (Appends r after) = subst (BacksTurn plain.records s) t (keeps_backed plain.records s (Asked e) event before plain.backs) in backed.2)
             open_is,
-      ))
+      )))
 
-  takes_crash : (m m' : Manager D) (s : State) (e : Event) (t : Turn) (reply : Reply) (outcome : Outcome) → IsEvent e → is_restart e ≡ false → ManagerStandsFor disks m s → Trusts disks → respond s e ≡ t
+  takes_crash : (m m' : Manager D) (s : State) (e : Event) (t : Turn) (reply : Reply) (outcome : Outcome) → IsEvent e → begins_boot e ≡ false → ManagerStandsFor disks m s → Trusts disks → respond s e ≡ t
       → Takes disks m t reply outcome m' → LeavesBy disks m.log (turn s (Asked e)) outcome m'.log s
   takes_crash m m' s e Nobody reply outcome event other st trusts is x = absurd x
   takes_crash m m' s e (Now a) reply outcome event other st trusts is x = quiet_crash m m' s (turn s (Asked e)) outcome st x.outcome_is x.log
@@ -300,12 +302,13 @@ module _ {D : Type 0} (disks : Ghosts D) where
       subst (λ (o : Option Answer). IsSomeAnd o (λ a. (a.reply ≡ reply) × ManagerStandsFor disks m' a.after)) (sym x.step_is) (x.reply_is, x.stands)
 
   -- a turn of an event was taken
-  pub has_done : (m m' : Manager D) (e : Event) (reply : Reply) (outcome : Outcome) → IsEvent e → is_restart e ≡ false → is_memory reply.detail ≡ false
+  pub has_done : (m m' : Manager D) (e : Event) (reply : Reply) (outcome : Outcome) → IsEvent e → begins_boot e ≡ false → is_memory reply.detail ≡ false
       → ((s : State) → ManagerStandsFor disks m s → Takes disks m (respond s e) reply outcome m')
       → HasDone disks m e reply outcome m'
   has_done m m' e reply outcome event other served takes = record {
     steps = λ s st premises. some_and m' s e reply outcome (takes_steps m m' s e (respond s e) reply outcome event other st refl (takes s st));
-    called = λ s st premises. takes_called m m' (respond s e) reply outcome (takes s st);
+    called = λ s st premises.
+        subst (λ (b : Bool). HasCalledFor disks b outcome m.log m'.log) (sym (trims_none e other)) (takes_called m m' (respond s e) reply outcome (takes s st));
     crash = λ s st trusts. takes_crash m m' s e (respond s e) reply outcome event other st trusts refl (takes s st);
     served = served;
   }

@@ -17,7 +17,7 @@ use Rattle.xa_xid.specs.Triple.{Triple}
 use Rattle.xa_model.specs.State.{Branch, Operation, Got, Wrote, is_known_as, known_of}
 use Rattle.xa_model.specs.Source.{write_of}
 use Rattle.xa_model.specs.Durable.{Pairwise, keys_before, value_in, writes_of}
-use Rattle.xa_model.specs.Sound.{Descends}
+use Rattle.xa_model.specs.Invariants.Sound.{Descends}
 use Rattle.xa_model.proofs.Times.{known_below}
 use Rattle.xa_model.proofs.Members.{Member, member_all, same_members, keys_strict, keys_transitive}
 use Rattle.xa_model.proofs.LastOfKeys.{writes_of_law}

@@ -5,7 +5,7 @@ use Rattle.xa_xid.specs.Triple.{Triple}
 use Rattle.xa_model.specs.State.{State, InDoubt, known_as, known_of}
 use Rattle.xa_model.specs.Branches.{prepared, decided_by, forgotten}
 use Rattle.xa_model.specs.Completions.{is_completed}
-use Rattle.xa_model.specs.Loggable.{IsRecoverable}
+use Rattle.xa_model.specs.Invariants.Loggable.{IsRecoverable}
 use Rattle.xa_assoc.specs.Sessions.{resume_refusal_of, suspend_refusal_of}
 use Rattle.xa_branch.specs.Kinds.{ended_kind, resumed_kind}
 use Rattle.xa_branch.specs.declared.kind.Kind.{Kind}

@@ -12,7 +12,7 @@ use Rattle.xa_model.specs.declared.outcome.Appending.TheVariants.{Kept, Refused,
 use Rattle.xa_model.specs.State.{State}
 use Rattle.xa_model.specs.History.{Entry, Leads}
 use Rattle.xa_manager.specs.declared.manager.Manager.{Manager}
-use Rattle.xa_manager.specs.Answered.{recorded, no_restart}
+use Rattle.xa_manager.specs.Answered.{recorded, no_boot}
 use Rattle.xa_manager.specs.LogStands.{Trusts}
 use Rattle.xa_manager.specs.Managed.{ManagerStandsFor}
 
@@ -49,7 +49,7 @@ counted_by failures log = (failures (first_of log), failures (second_of log))
 -- As AnswersAll; and of the same outcomes, that they tell of no more failures than were counted.
 abbrev pub CountsAll : {D : Type 0} → Ghosts D → Manager D → List Event → List Reply → Manager D → Type 0
 CountsAll disks m events replies m' =
-    (s : State) → ManagerStandsFor disks m s → Trusts disks ⊎ (no_restart events ≡ true)
+    (s : State) → ManagerStandsFor disks m s → Trusts disks ⊎ (no_boot events ≡ true)
     → (outcomes : List Outcome) × (s' : State) × (length outcomes ≡ length events)
     × Leads s (recorded events outcomes replies) s' × ManagerStandsFor disks m' s'
     × RiseBy (failures_of (recorded events outcomes replies)) (counted_by disks.failures m.log)

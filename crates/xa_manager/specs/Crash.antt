@@ -15,11 +15,11 @@ use Rattle.xa_model.specs.declared.outcome.Appending.{Appending}
 use Rattle.xa_model.specs.declared.outcome.Appending.TheVariants.{Kept, Refused, Lost}
 use Rattle.xa_model.specs.declared.outcome.Outcome.{Outcome}
 use Rattle.xa_model.specs.declared.outcome.Outcome.TheVariants.{Quiet, Appended, Failed, Reread}
-use Rattle.xa_model.specs.Backing.{Backs}
+use Rattle.xa_model.specs.Invariants.Backing.{Backs}
 use Rattle.xa_model.specs.Events.{is_restart}
 use Rattle.xa_model.specs.State.{State}
 use Rattle.xa_model.specs.Step.{turn}
-use Rattle.xa_model.specs.Turn.{Asked, Turn, taken}
+use Rattle.xa_model.specs.Turn.{Asked, Turn, Nobody, Now, Appends, Checkpoints, Rereads, taken}
 use Rattle.xa_manager.specs.declared.manager.Manager.{Manager}
 use Rattle.xa_manager.specs.CrashLaws.{StandsWithoutChance}
 use Rattle.xa_manager.specs.Files.{FilesStandFor}
@@ -121,6 +121,18 @@ LeavesBoot disks mid asked (Reread survived (Some a)) new =
 LeavesBoot disks mid asked (Reread survived None) new = new ≡ mid
 LeavesBoot disks mid asked _ new = ⊥
 
+-- whether a turn writes a new log to the other file, as a trim's does
+abbrev pub checkpoints : Turn → Bool
+checkpoints Nobody = false
+checkpoints (Now answer) = false
+checkpoints (Appends appended after) = false
+checkpoints (Checkpoints appended after) = true
+checkpoints (Rereads failed survived missing) = false
+
+abbrev pub LeavesWritten : {D : Type 0} → Ghosts D → Bool → Log D → Appending → Log D → State → State → Type 0
+LeavesWritten disks true old a new s lost = LeavesCheckpoint disks old a new lost
+LeavesWritten disks false old a new s lost = LeavesAppend disks old new s lost
+
 -- What a crash at any moment of a call leaves, by what the device did in it: where no device call was made, and where
 -- the look at the log failed, what a crash before it leaves; of an append and of a checkpoint, whatever they were
 -- answered, what one leaves whose answer never came. A restart has a log in the middle, and each of its moments is in
@@ -129,7 +141,8 @@ LeavesBoot disks mid asked _ new = ⊥
 abbrev pub LeavesBy : {D : Type 0} → Ghosts D → Log D → Turn → Outcome → Log D → State → Type 0
 LeavesBy disks old asked Quiet new s = (new ≡ old) × LeavesNow disks old s
 LeavesBy disks old asked (Appended a) new s =
-    IsSomeAnd (taken asked (Appended Lost)) (λ lost. LeavesAppend disks old new s lost.after)
+    IsSomeAnd (taken asked (Appended Lost))
+    (λ lost. LeavesWritten disks (checkpoints asked) old a new s lost.after)
 LeavesBy disks old asked Failed new s = LeavesLook disks old new s
 LeavesBy {D} disks old asked (Reread survived appended) new s =
     (mid : Log D) × LeavesLook disks old mid s × LeavesBoot disks mid asked (Reread survived appended) new

@@ -3,8 +3,8 @@ use Rattle.mv_rules.specs.declared.records.Records.{Records}
 use Rattle.mv_rules.specs.Tidy.{IsDrained}
 use Rattle.xa_branch.specs.Branches.{BranchesStandFor}
 use Rattle.xa_branch.specs.declared.branches.Branches.{Branches}
-use Rattle.xa_model.specs.LowWater.{low_water}
-use Rattle.xa_model.specs.Sound.{IsSound}
+use Rattle.xa_model.specs.Invariants.LowWater.{low_water}
+use Rattle.xa_model.specs.Invariants.Sound.{IsSound}
 use Rattle.xa_model.specs.State.{State}
 
 -- whatever state the branches stand for, nothing that is noted in the records is due at its low water

@@ -12,8 +12,8 @@ use Rattle.xa_log.specs.declared.log.Log.{Log}
 use Rattle.xa_model.specs.State.{State}
 use Rattle.xa_model.specs.Durable.{durable}
 use Rattle.xa_model.specs.Fold.{snapshot}
-use Rattle.xa_model.specs.Backing.{Backs, settled}
-use Rattle.xa_model.specs.Loggable.{is_boot}
+use Rattle.xa_model.specs.Invariants.Backing.{Backs, settled}
+use Rattle.xa_model.specs.Invariants.Loggable.{is_boot}
 
 -- The premises on a type of disks: it does what the trait says, and what a failed write leaves to a read is without
 -- chance. Those in memory meet them.

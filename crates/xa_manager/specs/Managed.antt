@@ -7,8 +7,8 @@ use Rattle.xa_record.specs.declared.record.Record.TheVariants as logged
 use Rattle.xa_frame.specs.declared.reply.Reply.{Reply}
 use Rattle.xa_model.specs.Answer.{Answer}
 use Rattle.xa_model.specs.State.{State}
-use Rattle.xa_model.specs.Loggable.{is_boot}
-use Rattle.xa_model.specs.Room.{IsRoomy}
+use Rattle.xa_model.specs.Invariants.Loggable.{is_boot}
+use Rattle.xa_model.specs.Invariants.Room.{IsRoomy}
 use Rattle.xa_manager.specs.declared.doubt.Doubt.{Doubt}
 use Rattle.xa_manager.specs.declared.doubt.Doubt.TheVariants.{Boot, Record as LastRecord}
 use Rattle.xa_manager.specs.declared.manager.Manager.{Manager}

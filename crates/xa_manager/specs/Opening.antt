@@ -15,7 +15,7 @@ use Rattle.xa_model.specs.State.{State}
 use Rattle.xa_model.specs.Durable.{Durable}
 use Rattle.xa_model.specs.Fold.{fold, snapshot, sizes}
 use Rattle.xa_model.specs.Logging.{log_room}
-use Rattle.xa_model.specs.Restored.{IsRestored}
+use Rattle.xa_model.specs.Invariants.Restored.{IsRestored}
 use Rattle.xa_recovery.specs.Log.{AreBodiesOf, LogRebuilt}
 use Rattle.xa_recovery.specs.declared.log_fault.LogFault.TheVariants as rebuilt
 use Rattle.xa_manager.specs.declared.fault.ManagerFault.{ManagerFault}

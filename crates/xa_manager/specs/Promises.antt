@@ -10,7 +10,7 @@ use Rattle.xa_xid.specs.Triple.{Triple}
 use Rattle.xa_model.specs.declared.event.Event.{Event}
 use Rattle.xa_model.specs.declared.outcome.Outcome.{Outcome}
 use Rattle.xa_model.specs.State.{State}
-use Rattle.xa_model.specs.Sound.{most_known}
+use Rattle.xa_model.specs.Invariants.Sound.{most_known}
 use Rattle.xa_limits.specs.declared.TheConstants.{MOST_BOOTS}
 use Rattle.xa_model.specs.Durable.{Durable}
 use Rattle.xa_model.specs.Fold.{fold}
@@ -18,12 +18,12 @@ use Rattle.xa_model.specs.Restarting.{opening}
 use Rattle.xa_model.specs.Events.{IsEvent, HaveHappened}
 use Rattle.xa_model.specs.History.{Entry, Leads}
 use Rattle.xa_model.specs.OneCopy.{HasOneCopy}
-use Rattle.xa_model.specs.RestartLaw.{restart_entries}
+use Rattle.xa_model.specs.Laws.Restarts.{restart_entries}
 use Rattle.xa_model.specs.ListedLaw.{HasPrepared, HasCompleted, AsksCompletion, CallsPrepare, IsListed}
 use Rattle.xa_manager.specs.declared.manager.Manager.{Manager}
 use Rattle.xa_manager.specs.LogStands.{Trusts}
 use Rattle.xa_manager.specs.Managed.{ManagerStandsFor}
-use Rattle.xa_manager.specs.Answered.{FullyAnswered, recorded, no_restart}
+use Rattle.xa_manager.specs.Answered.{FullyAnswered, recorded, no_boot}
 use Rattle.xa_manager.specs.Opening.{HasBegun}
 
 -- an opening state: what the records of a log come to, of which a new log has none, and a new boot
@@ -72,7 +72,7 @@ pub record KeepsPromises {D : Type 0} (disks : Ghosts D) (before : List Entry) (
 abbrev pub PromisesAll : {D : Type 0} → Ghosts D → Manager D → List Event → List Reply → Manager D → Type 0
 PromisesAll disks m events replies m' =
     (first s : State) (before : List Entry) → IsReached first before s → ManagerStandsFor disks m s
-    → Trusts disks ⊎ (no_restart events ≡ true) → KeepsPromises disks before s events replies m'
+    → Trusts disks ⊎ (no_boot events ≡ true) → KeepsPromises disks before s events replies m'
 
 -- A restart that no session asked for: the history goes on with it (`restart_entries`), and the manager stands for the
 -- state that it then leads to, of which the same is true.

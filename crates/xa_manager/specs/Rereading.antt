@@ -12,10 +12,10 @@ use Rattle.xa_log.specs.declared.log.Log.{Log}
 use Rattle.xa_model.specs.State.{State}
 use Rattle.xa_model.specs.Durable.{Durable}
 use Rattle.xa_model.specs.Fold.{snapshot}
-use Rattle.xa_model.specs.Backing.{Backs}
+use Rattle.xa_model.specs.Invariants.Backing.{Backs}
 use Rattle.xa_model.specs.Restarting.{missed, survived}
 use Rattle.xa_limits.specs.declared.TheConstants.{MOST_BOOTS, MOST_VALUE}
-use Rattle.xa_model.specs.Restored.{IsRestored}
+use Rattle.xa_model.specs.Invariants.Restored.{IsRestored}
 use Rattle.mv_rules.specs.Records.{StandsFor as RecordsStandFor}
 use Rattle.mv_rules.specs.Ties.{history_of}
 use Rattle.mv_rules.specs.Within.{IsWithin, HasKeys}

@@ -23,13 +23,14 @@ use Rattle.xa_model.specs.Restarting.{restart_turn}
 use Rattle.xa_model.specs.Turn.{Turn, Asked, Nobody, Now, Appends, Checkpoints, Rereads, taken}
 use Rattle.xa_model.specs.declared.event.Event.{Event}
 use Rattle.xa_model.specs.Step.{step}
-use Rattle.xa_model.specs.Events.{asks_restart, is_restart}
-use Rattle.xa_model.specs.Loggable.{IsRecoverable}
+use Rattle.xa_model.specs.Events.{asks_restart, begins_boot}
+use Rattle.xa_model.specs.Trimming.{trim_turn}
+use Rattle.xa_model.specs.Invariants.Loggable.{IsRecoverable}
 use Rattle.xa_assoc.specs.Refusals.{is_memory}
 use Rattle.xa_manager.specs.declared.doubt.Doubt.{Doubt}
 use Rattle.xa_manager.specs.declared.doubt.Doubt.TheVariants as doubt
 use Rattle.xa_manager.specs.declared.manager.Manager.{Manager}
-use Rattle.xa_manager.specs.Answered.{as_appended, may_want, CallsAs, HasCalled, NoneRises, StaysFor}
+use Rattle.xa_manager.specs.Answered.{as_appended, may_want, CallsAs, HasCalled, HasCalledToTrim, NoneRises, StaysFor}
 use Rattle.xa_manager.specs.Crash.{CrashesAs, LeavesBy, LeavesLook}
 use Rattle.xa_manager.specs.LogStands.{Trusts}
 use Rattle.xa_manager.specs.Managed.{view, ManagerStandsFor, AnswersAs}
@@ -114,7 +115,7 @@ pub record TakesTurn {D : Type 0} (disks : Ghosts D) (m : Manager D) (act : Stat
 -- disks.
 pub record HasDone {D : Type 0} (disks : Ghosts D) (m : Manager D) (event : Event) (reply : Reply)
     (outcome : Outcome) (m' : Manager D) : Type 0 where
-  pub steps : (s : State) → ManagerStandsFor disks m s → Trusts disks ⊎ (is_restart event ≡ false)
+  pub steps : (s : State) → ManagerStandsFor disks m s → Trusts disks ⊎ (begins_boot event ≡ false)
       → AnswersAs disks (step s (Asked event) outcome) reply m'
   pub called : CallsAs disks m event outcome m'
   pub crash : CrashesAs disks m event outcome m'
@@ -129,6 +130,17 @@ pub record HasRestarted {D : Type 0} (disks : Ghosts D) (m : Manager D) (reply :
   pub leaves : (s : State) → ManagerStandsFor disks m s → Trusts disks
       → LeavesBy disks m.log (restart_turn s) outcome m'.log s
   pub called : HasCalled disks outcome m.log m'.log
+  pub served : is_memory reply.detail ≡ false
+
+-- What a trim has done, of whichever state the manager stood for, which was up: as HasDone of its turn.
+pub record HasTrimmed {D : Type 0} (disks : Ghosts D) (m : Manager D) (reply : Reply) (outcome : Outcome)
+    (m' : Manager D) : Type 0 where
+  pub turn : (s : State) → ManagerStandsFor disks m s → Trusts disks
+      → AnswersAs disks (taken (trim_turn s) outcome) reply m'
+  -- what a crash at any moment of it leaves
+  pub leaves : (s : State) → ManagerStandsFor disks m s → Trusts disks
+      → LeavesBy disks m.log (trim_turn s) outcome m'.log s
+  pub called : (s : State) → ManagerStandsFor disks m s → Trusts disks → HasCalledToTrim disks outcome m.log m'.log
   pub served : is_memory reply.detail ≡ false
 
 -- What a request leaves that wanted memory, as it may.

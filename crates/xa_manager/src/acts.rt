@@ -1,7 +1,8 @@
-ghost use Rattle.std.specs.Prelude.{◌≡◌, ◌+◌, None, Some, true, IfOk, OnOk, OnErr, IsSome};
+ghost use Rattle.std.specs.Prelude.{◌≡◌, ◌+◌, None, IfOk, OnOk, OnErr, IsSome};
 ghost use Rattle.xa_model.specs.State.{timestamp_of};
 ghost use Rattle.xa_model.specs.Associations.{begun, joined, resumed, not_resumed, suspended, not_suspended, ended, failed};
 ghost use Rattle.xa_model.specs.Branches.{rolled_back, committed};
+ghost use Rattle.xa_model.specs.Trimming.{trimmed};
 ghost use Rattle.xa_manager.specs.Drained.{GivesBack};
 ghost use Rattle.xa_assoc.specs.Seats.{opened_at};
 ghost use Rattle.xa_assoc.specs.Sessions.{begin_refusal_of};
@@ -153,8 +154,16 @@ pub fn fate_of(direction: Direction) -> Fate
     }
 }
 
-/// What is no longer needed of the versions.
+/// How a boot begins while all goes on, and what is no longer needed of the versions.
 impl Tables {
+    /// The boot of this number begins, after all that were logged: one table's change, said of all of them.
+    pub fn begin_boot(&mut self, boot: u32)
+        ensures begun { TablesBecome self.old (λ s. s.logged_boot + 1 ≡ boot) (λ s. trimmed s boot) self.new }
+        ensures company { company_of self.new.sessions ≡ company_of self.old.sessions }
+    {
+        self.branches.begin_boot(boot);
+    }
+
     /// Gives the records the low water. Takes no memory.
     pub fn give_low_water(&mut self)
         ensures stays { TablesStay self.old self.new }

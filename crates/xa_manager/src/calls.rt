@@ -51,6 +51,7 @@ impl<D: Disk> Manager<D> {
             Request::Open { info: _info, .. } => Ok(Done::now(self.tables.open(session))),
             Request::Close { .. } => Ok(Done::now(self.tables.close(session))),
             Request::Restart => self.restarted(),
+            Request::Trim => self.trim(),
             Request::Start { flags, xid } => Ok(Done::now(
                 self.tables.start(session, flags, &xid)?,
             )),

@@ -1,5 +1,5 @@
-ghost use Rattle.std.specs.Prelude.{◌≡◌, IfSome, IsSome, None, Option, Bool, true, false};
-ghost use Rattle.xa_model.specs.Early.{flags_of, call_of, needs_open, passes_down, is_async, has_wrong_info, has_wrong_count, has_wrong_moment, is_invalid, is_opened, early_refusal};
+ghost use Rattle.std.specs.Prelude.{◌≡◌, IfSome, IsSome, None, Option, true, false};
+ghost use Rattle.xa_model.specs.Early.{flags_of, call_of, needs_open, passes_down, is_async, has_wrong_info, has_wrong_count, has_wrong_moment, is_invalid, early_refusal};
 ghost use Rattle.xa_assoc.specs.Refusals.{is_memory, IsBare};
 
 use xa_codes::{
@@ -29,6 +29,7 @@ fn flags_of(request: &Request) -> u32
         | Request::Restart
         | Request::Timeout { .. }
         | Request::Tick { .. }
+        | Request::Trim
         | Request::Branches { .. } => 0,
     }
 }
@@ -43,6 +44,7 @@ fn needs_open(call: Call) -> bool
         | Call::Doom
         | Call::Restart
         | Call::Tick
+        | Call::Trim
         | Call::Branches => false,
         Call::Start
         | Call::End
@@ -87,6 +89,7 @@ fn passes_down(call: Call) -> bool
         | Call::Doom
         | Call::Timeout
         | Call::Tick
+        | Call::Trim
         | Call::Branches => false,
     }
 }

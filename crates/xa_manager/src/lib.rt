@@ -10,7 +10,7 @@
 //! - `tables`: what a manager keeps; `facts` and `refusals`, what rows ask of it, `acts`, what they change
 //! - `journal`: how a record comes into the log; `room`, the room that the log keeps free; `doubt`: `Doubt`, what is
 //!   kept of a record that was lost; `answered`, what rows do by the device's answer; `done`, what a call comes to
-//! - a boot: `settings`, `Settings`; `opening` or `restarting`, how it begins; `boots`, what is made
+//! - a boot: `settings`, `Settings`; `opening`, `restarting` or `trimming`, how it begins; `boots`, what is made
 //!   ready for it, and `rebuilding` its tables; `first_records`, how an opening logs it; `fault`: `ManagerFault`, why
 //!   there is no manager, and `refused`: `RefusedOpening`, with the disks
 //! - `laws`: `read_leaves`, `read_stands` and `crash_leaves`, that a read and a crash leave the records of the state;
@@ -23,6 +23,7 @@ mod acts;
 mod answered;
 mod boots;
 mod calls;
+mod checkpointed;
 mod coming;
 mod completion;
 mod data;
@@ -49,6 +50,7 @@ mod room;
 mod settings;
 mod tables;
 mod time_limits;
+mod trimming;
 mod work;
 
 pub use doubt::Doubt;

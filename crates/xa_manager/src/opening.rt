@@ -1,4 +1,4 @@
-ghost use Rattle.std.specs.Prelude.{◌≡◌, ◌≤◌, ◌<◌, ◌⊎◌, ◌↔◌, Bool, true, List, ℕ, [], IfOk, IfErr, OnOk, IsErrOf, IsErrAnd, IsSomeAnd, Some, None, length};
+ghost use Rattle.std.specs.Prelude.{◌≡◌, ◌≤◌, ◌<◌, ◌⊎◌, ◌↔◌, Bool, true, [], IfOk, IfErr, OnOk, IsErrOf, IsErrAnd, IsSomeAnd, Some, None, length};
 ghost use Rattle.xa_limits.specs.declared.TheConstants.{MOST_LOG};
 ghost use Rattle.xa_log.specs.Chain.{newest};
 ghost use Rattle.xa_log.specs.Opened.{IsOpened};
@@ -9,7 +9,7 @@ ghost use Rattle.xa_log.specs.TwoFiles.{first_of, second_of};
 ghost use Rattle.xa_model.specs.declared.outcome.Outcome.TheVariants.{Reread};
 ghost use Rattle.xa_model.specs.declared.outcome.Appending.TheVariants.{Kept};
 ghost use Rattle.xa_model.specs.State.{State};
-ghost use Rattle.xa_model.specs.Loggable.{IsRecoverable};
+ghost use Rattle.xa_model.specs.Invariants.Loggable.{IsRecoverable};
 ghost use Rattle.xa_model.specs.Turn.{Reopened};
 ghost use Rattle.xa_model.specs.Step.{step};
 ghost use Rattle.xa_model.specs.History.{fresh};

@@ -7,7 +7,7 @@ ghost use Rattle.mv_rules.specs.Ties.{history_of};
 ghost use Rattle.xa_branch.specs.Branches.{BranchesStandFor};
 ghost use Rattle.xa_branch.specs.Restored.{HasRestored};
 ghost use Rattle.xa_model.specs.Durable.{PreparedBranch, Pairwise, named_apart, named_before, prepares_before, commits_before, is_prepared};
-ghost use Rattle.xa_model.specs.Restored.{IsRestored};
+ghost use Rattle.xa_model.specs.Invariants.Restored.{IsRestored};
 ghost use Rattle.xa_model.specs.State.{State, timestamp_of};
 ghost use Rattle.xa_recovery.specs.Durable.{as_committed, as_prepared, as_decided};
 ghost use Rattle.mv_rules.specs.Within.{IsWithin, HasKeys};

@@ -284,6 +284,42 @@ const TIME_LIMIT: [Line; 17] = [
     ("1 commit TMNOFLAGS 1:bb:", OK),
 ];
 
+const TRIM: [Line; 30] = [
+    ("connect", "0 Nothing number 1"),
+    ("1 open TMNOFLAGS xarm", OK),
+    ("connect", "0 Nothing number 2"),
+    ("2 open TMNOFLAGS xarm", OK),
+    ("2 start TMNOFLAGS 1:bb:01", "0 Nothing number 4294967297"),
+    ("2 put 6b 76", OK),
+    ("1 start TMNOFLAGS 1:aa:01", "0 Nothing number 4294967298"),
+    ("1 put 6c 76", OK),
+    ("1 end TMSUCCESS 1:aa:01", OK),
+    ("1 prepare TMNOFLAGS 1:aa:01", OK),
+    ("1 commit TMNOFLAGS 1:aa:01", OK),
+    ("1 start TMNOFLAGS 1:aa:02", "0 Nothing number 4294967299"),
+    ("1 put 6c 77", OK),
+    ("1 end TMSUCCESS 1:aa:02", OK),
+    ("1 prepare TMNOFLAGS 1:aa:02", OK),
+    ("1 commit TMNOFLAGS 1:aa:02", OK),
+    ("1 start TMNOFLAGS 1:aa:03", "0 Nothing number 4294967300"),
+    ("1 put 6c 78", OK),
+    ("1 end TMSUCCESS 1:aa:03", OK),
+    ("1 prepare TMNOFLAGS 1:aa:03", "104 LogFull"),
+    ("1 trim", "0 Nothing number 102"),
+    ("1 start TMNOFLAGS 1:aa:03", "0 Nothing number 8589934593"),
+    ("1 put 6c 78", OK),
+    ("1 end TMSUCCESS 1:aa:03", OK),
+    ("1 prepare TMNOFLAGS 1:aa:03", OK),
+    ("1 commit TMNOFLAGS 1:aa:03", OK),
+    (
+        "1 branches 10",
+        "0 Nothing branches 1:bb:01 working 0 4294967297 1 0 0",
+    ),
+    ("2 get 6b", "0 Nothing value 76"),
+    ("2 end TMSUCCESS 1:bb:01", OK),
+    ("2 commit TMONEPHASE 1:bb:01", OK),
+];
+
 const TWO_SESSIONS: [Line; 20] = [
     ("connect", "0 Nothing number 1"),
     ("1 open TMNOFLAGS xarm", OK),
@@ -322,7 +358,7 @@ const EXAMPLES: [Play; 11] = [
 ];
 
 // These run with `--log-bytes 600`.
-const SMALL_LOGS: [Play; 1] = [&[&FULL_LOG]];
+const SMALL_LOGS: [Play; 2] = [&[&FULL_LOG], &[&TRIM]];
 
 #[test]
 fn examples(rt: HostRuntime) {

@@ -5,8 +5,8 @@
 //! - `lines`: what the lines of a script ask; `calls`: scripts of many calls, and those at limits; `long_values`:
 //!   values at their limit, and branches that write as much as one may
 //! - `plays`: ends of a play; `plays_calls`, `plays_failing`, `plays_recovered`: worked rows, by what befalls a branch;
-//!   `plays_known`: the list of known branches; `plays_limits`: time limits of branches; `plays_stopped`: crashes after a
-//!   disk has stopped at some device call;
+//!   `plays_known`: the list of known branches; `plays_limits`: time limits of branches; `plays_trimmed`: trims;
+//!   `plays_stopped`, `trims_stopped`: crashes after a disk has stopped at some device call;
 //!   `device_calls`: each call that logs and each restart, of which any device call fails
 //! - `examples`: the scripts of examples/; `scripted`: how a table of lines and replies is played; `script`: `Script`,
 //!   what is played; `faults`: `Fault`, a device call that fails
@@ -50,10 +50,14 @@ mod plays_recovered;
 #[cfg(test)]
 mod plays_stopped;
 #[cfg(test)]
+mod plays_trimmed;
+#[cfg(test)]
 mod rows;
 #[cfg(test)]
 mod script;
 #[cfg(test)]
 mod scripted;
+#[cfg(test)]
+mod trims_stopped;
 #[cfg(test)]
 mod versions_kept;

@@ -5,7 +5,7 @@ use xa_rows::{KEY_BYTES, PART_BYTES, VALUE_BYTES, first_wrong};
 use xa_script::read_line;
 
 /// Lines that are no commands, each a script.
-const OTHERS: [&str; 136] = [
+const OTHERS: [&str; 138] = [
     // Words and blanks.
     "connect x",
     "connect ",
@@ -87,6 +87,8 @@ const OTHERS: [&str; 136] = [
     // A restart, a reopening and a crash with a word too many or too few, or without or with a session.
     "restart",
     "1 restart x",
+    "trim",
+    "1 trim x",
     "1 hangup x",
     "reopen x",
     "1 reopen",
@@ -172,7 +174,7 @@ const SILENT: [&str; 11] = [
 ];
 
 /// Lines that ask something, each with what it says.
-const ASKED: [(&str, &str); 21] = [
+const ASKED: [(&str, &str); 22] = [
     ("9 hangup", "Hangup(9)"),
     (
         "18446744073709551615 hangup",
@@ -207,6 +209,7 @@ const ASKED: [(&str, &str); 21] = [
         "Call(9, Forget { flags: 0, xid: Xid { format: 1, gtrid: [170], bqual: [] } })",
     ),
     ("9 restart", "Call(9, Restart)"),
+    ("9 trim", "Call(9, Trim)"),
     (
         "9 branches 4294967295",
         "Call(9, Branches { count: 4294967295, after: None })",

@@ -11,11 +11,14 @@ use xa_disk::MemDisk;
 use xa_frame::{Body, Reply, Request};
 use xa_manager::Manager;
 
-// Scripts of four sessions that read and write three keys in each other's way, with restarts in between. What was
+// Scripts of four sessions that read and write three keys in each other's way, with restarts in between, and in some of
+// them a trim behind each call. What was
 // committed is executed again, branch by branch and by timestamp, on a map of std: each get is to find what it was
 // answered.
 
 const SCRIPTS: u64 = 100;
+
+const TRIMMED_SCRIPTS: u64 = 10;
 
 /// The events of a script. Its first eight connect the sessions, and open the resource manager for them.
 const EVENTS: u64 = 1000;
@@ -227,6 +230,15 @@ impl Script {
         }
     }
 
+    /// A trim by a session that has come, whatever it works for, is answered with the log's end.
+    fn trim(&mut self, alloc: Global) -> Option<bool> {
+        let reply = answer(&mut self.manager, alloc, 1, Request::Trim)?;
+        if reply.detail == Detail::Memory {
+            return None;
+        }
+        Some(reply.code == XA_OK && matches!(reply.body, Body::Number(_)))
+    }
+
     /// One event, whose number is what a put puts and what a new branch's XID is made of.
     fn happen(&mut self, alloc: Global, event: u64, counts: &mut Counts) -> Option<bool> {
         let session = self.chance.session();
@@ -274,11 +286,23 @@ fn opened(alloc: Global, script: u64) -> Option<Script> {
     })
 }
 
+/// Whether the script goes on as it is to: with an event, and a trim behind it where there are to be some.
+fn goes_on(
+    script: &mut Script,
+    alloc: Global,
+    event: u64,
+    trims: bool,
+    counts: &mut Counts,
+) -> Option<bool> {
+    let right = script.happen(alloc, event, counts)?;
+    Some(right && (!trims || script.trim(alloc)?))
+}
+
 /// Whether a script's committed branches are one copy. `None` is want of memory.
-fn plays(alloc: Global, script: u64, counts: &mut Counts) -> Option<bool> {
+fn plays(alloc: Global, script: u64, trims: bool, counts: &mut Counts) -> Option<bool> {
     let mut script = opened(alloc, script)?;
     for event in 8..EVENTS {
-        if !script.happen(alloc, event, counts)? {
+        if !goes_on(&mut script, alloc, event, trims, counts)? {
             return Some(false);
         }
     }
@@ -288,16 +312,16 @@ fn plays(alloc: Global, script: u64, counts: &mut Counts) -> Option<bool> {
 }
 
 // Once more where memory was wanted.
-fn is_right(alloc: Global, script: u64, counts: &mut Counts) -> bool {
-    match plays(alloc, script, counts) {
+fn is_right(alloc: Global, script: u64, trims: bool, counts: &mut Counts) -> bool {
+    match plays(alloc, script, trims, counts) {
         Some(right) => right,
-        None => plays(alloc, script, counts) == Some(true),
+        None => plays(alloc, script, trims, counts) == Some(true),
     }
 }
 
-fn first_wrong(alloc: Global, counts: &mut Counts) -> Option<u64> {
-    for script in 0..SCRIPTS {
-        if !is_right(alloc, script, counts) {
+fn first_wrong(alloc: Global, scripts: u64, trims: bool, counts: &mut Counts) -> Option<u64> {
+    for script in 0..scripts {
+        if !is_right(alloc, script, trims, counts) {
             return Some(script);
         }
     }
@@ -308,11 +332,22 @@ fn first_wrong(alloc: Global, counts: &mut Counts) -> Option<u64> {
 fn one_copy(rt: HostRuntime) {
     let mut counts = NONE;
     assert_eq!(rt;
-        first_wrong(rt.alloc(), &mut counts),
+        first_wrong(rt.alloc(), SCRIPTS, false, &mut counts),
         None,
         "the first script that is none"
     );
     assert!(rt; counts.are_many(SCRIPTS));
+}
+
+#[test]
+fn one_copy_between_trims(rt: HostRuntime) {
+    let mut counts = NONE;
+    assert_eq!(rt;
+        first_wrong(rt.alloc(), TRIMMED_SCRIPTS, true, &mut counts),
+        None,
+        "the first script that is none"
+    );
+    assert!(rt; counts.are_many(TRIMMED_SCRIPTS));
 }
 
 #[test]

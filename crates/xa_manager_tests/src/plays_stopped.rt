@@ -8,7 +8,7 @@ use xa_rows::{
 
 /// A line that has a disk stop from one of its device calls on, the reply of the call after it, the crash that follows,
 /// and what is found then.
-type Stop = (&'static str, &'static str, &'static str, Play);
+pub type Stop = (&'static str, &'static str, &'static str, Play);
 
 const LOST: &str = "-7 Device";
 
@@ -136,7 +136,7 @@ const SECOND_RESTART: &[Stop] = &[
 ];
 
 /// What was played before a call, and the call.
-type Call = (Play, &'static str);
+pub type Call = (Play, &'static str);
 
 fn is_stopped(alloc: Global, call: &Call, row: &Stop) -> Result<bool, AllocError> {
     let (before, line) = *call;
@@ -145,7 +145,7 @@ fn is_stopped(alloc: Global, call: &Call, row: &Stop) -> Result<bool, AllocError
     plays_parts(alloc, before, &lines, found, "")
 }
 
-fn wrong_stop(alloc: Global, call: &Call, rows: &[Stop]) -> Option<usize> {
+pub fn wrong_stop(alloc: Global, call: &Call, rows: &[Stop]) -> Option<usize> {
     for (index, row) in rows.iter().enumerate() {
         if is_stopped(alloc, call, row) != Ok(true) {
             return Some(index);

@@ -21,10 +21,10 @@ use Rattle.xa_model.specs.Fold.{apply}
 use Rattle.xa_model.specs.Turn.{Turn, Nobody, Now, Appends, Checkpoints, Rereads, Asked, unless_now, marked_now}
 use Rattle.xa_model.specs.Step.{row, respond, asked, turn, is_up, context_of}
 use Rattle.xa_model.specs.Logging.{applied}
-use Rattle.xa_model.specs.Events.{IsEvent, asks_restart}
+use Rattle.xa_model.specs.Events.{IsEvent, asks_boot}
 use Rattle.xa_model.specs.History.{Entry, Leads}
-use Rattle.xa_model.specs.Loggable.{IsRecoverable}
-use Rattle.xa_model.specs.LoggingLaws.{LogsWhatLasts}
+use Rattle.xa_model.specs.Invariants.Loggable.{IsRecoverable}
+use Rattle.xa_model.specs.Laws.Logging.{LogsWhatLasts}
 use Rattle.xa_model.specs.ListedLaw.{IsDone}
 use Rattle.xa_model.proofs.AppliedDecisions.{applied_lasts}
 use Rattle.xa_model.proofs.LoggedEvents.{events_log_what_lasts}
@@ -149,7 +149,7 @@ asked_up true b e f = refl
 asked_up false false e f = absurd (cc e)
 asked_up false true e f = absurd (cc f)
 
-pub call_settles : (P : Durable → Type 0) (s : State) (n : ℕ) (request : Request) → IsEvent (event.Call n request) → asks_restart request ≡ false
+pub call_settles : (P : Durable → Type 0) (s : State) (n : ℕ) (request : Request) → IsEvent (event.Call n request) → asks_boot request ≡ false
     → passes_down (call_of request) ≡ false → IsRecoverable s
     → (s.standing ≡ Up → Settles P s (row s n request))
     → AllOf (IsSettled P) (turn s (Asked (event.Call n request)))

@@ -10,13 +10,13 @@ use Rattle.xa_record.specs.declared.record.Record.TheVariants as logged
 use Rattle.xa_xid.specs.Triple.{Triple}
 use Rattle.xa_model.specs.State.{State, Branch, Phase, Working, Prepared, Committed, is_known_as, known_of, change, timestamp_of, is_working}
 use Rattle.xa_model.specs.Branches.{as_prepared, as_committed, prepared_phase}
-use Rattle.xa_model.specs.Sound.{IsSound}
+use Rattle.xa_model.specs.Invariants.Sound.{IsSound}
 use Rattle.xa_model.specs.Durable.{durable}
 use Rattle.xa_model.specs.Fold.{Reading, read, reading, unread, fits, fold, apply, is_used, timestamps_with, size_of, sizes}
 use Rattle.xa_model.specs.Logging.{applied}
-use Rattle.xa_model.specs.MayLog.{IsIdle, MayLog}
-use Rattle.xa_model.specs.Loggable.{IsRecoverable, MayBeLast, is_boot}
-use Rattle.xa_model.specs.Backing.{IsNew, Backs}
+use Rattle.xa_model.specs.Invariants.MayLog.{IsIdle, MayLog}
+use Rattle.xa_model.specs.Invariants.Loggable.{IsRecoverable, MayBeLast, is_boot}
+use Rattle.xa_model.specs.Invariants.Backing.{IsNew, Backs}
 use Rattle.xa_model.proofs.Inserts.{all_front, all_back, all_imply}
 use Rattle.xa_model.proofs.Splits.{all_append}
 use Rattle.xa_model.proofs.LogSizes.{sizes-append}

@@ -8,10 +8,10 @@ use Rattle.xa_record.specs.declared.record.Record.TheVariants as logged
 use Rattle.xa_model.specs.State.{State, InDoubt, Decided, known_as, count, without}
 use Rattle.xa_xid.proofs.Same.{xid_same}
 use Rattle.xa_model.specs.Branches.{prepared, committed, completed, decided_by, forgotten, is_decision_of}
-use Rattle.xa_model.specs.Sound.{IsSound}
+use Rattle.xa_model.specs.Invariants.Sound.{IsSound}
 use Rattle.xa_model.specs.Durable.{Pairwise, insert, named_before, durable, by_name}
 use Rattle.xa_model.specs.Fold.{apply, complete, decide}
-use Rattle.xa_model.specs.LoggingLaws.{KeepsSoundApplied, AppliedLasts}
+use Rattle.xa_model.specs.Laws.Logging.{KeepsSoundApplied, AppliedLasts}
 use Rattle.xa_model.proofs.Parts.{sound_beside}
 use Rattle.xa_model.proofs.Inserts.{insert_all, insert_pairwise, all_imply}
 use Rattle.xa_model.proofs.Names.{committed_sound}

@@ -1,12 +1,12 @@
 -- Which records the calls log: that an XID is prepared, completed or forgotten is logged where that is asked.
-use Rattle.std.proofs.Common.{◌≡◌, ℕ, ℤ, Bool, true, false, cond, Option, Some, None, subst}
+use Rattle.std.proofs.Common.{◌≡◌, ◌+◌, ℕ, ℤ, Bool, true, false, cond, Option, Some, None, subst}
 use Rattle.xa_codes.specs.Flags.{has}
 use Rattle.xa_codes.specs.declared.flags.TheConstants.{TMONEPHASE}
 use Rattle.xa_codes.specs.declared.codes.TheConstants.{XAER_RMERR, XA_RETRY, XA_RDONLY}
 use Rattle.xa_codes.specs.declared.direction.Direction.TheVariants as direction
 use Rattle.xa_frame.specs.declared.reply.Reply.{Reply}
 use Rattle.xa_frame.specs.declared.request.Request.{Request}
-use Rattle.xa_frame.specs.declared.request.Request.TheVariants.{Open, Close, Start, End, Prepare, Commit, Rollback, Forget, Recover, Get, Put, Delete, Decide, Doom, Restart, Timeout, Tick, Branches}
+use Rattle.xa_frame.specs.declared.request.Request.TheVariants.{Open, Close, Start, End, Prepare, Commit, Rollback, Forget, Recover, Get, Put, Delete, Decide, Doom, Restart, Timeout, Tick, Trim, Branches}
 use Rattle.xa_record.specs.declared.record.Record.{Record}
 use Rattle.xa_record.specs.declared.record.Record.TheVariants as logged
 use Rattle.xa_xid.specs.Triple.{Triple, xid_eq}
@@ -19,10 +19,11 @@ use Rattle.xa_model.specs.Early.{early_refusal}
 use Rattle.xa_model.specs.Associations.{mark_in, timestamp_in}
 use Rattle.xa_model.specs.Branches.{rolled_back, committed, unprepared_refusal, two_phase_refusal, rollback_refusal, heuristic_refusal, is_associated}
 use Rattle.xa_model.specs.Fold.{is_empty}
-use Rattle.xa_model.specs.Turn.{Happening, Asked, Reopened, Turn, Now, Appends, unless_now, marked_now}
+use Rattle.xa_model.specs.Turn.{Happening, Asked, Reopened, Turn, Now, Appends, Checkpoints, unless_now, marked_now}
 use Rattle.xa_model.specs.Step.{row, respond, asked, turn, context_of}
 use Rattle.xa_model.specs.Logging.{logs, has_room, log_full, writes_in}
 use Rattle.xa_model.specs.Completions.{prepare_turn, prepare_written, commit_one_phase_turn, commit_two_phase_turn, commit_written, roll_back_turn, decide_refusal, forget_refusal}
+use Rattle.xa_model.specs.Trimming.{trim_refusal, trim_became}
 use Rattle.xa_model.specs.ListedLaw.{is_prepare, is_completion, is_request}
 use Rattle.xa_model.proofs.Listing.{ends}
 
@@ -107,6 +108,9 @@ row_logs s n (Doom x) = tt
 row_logs s n Restart = tt
 row_logs s n (Timeout seconds) = tt
 row_logs s n (Tick moment) = tt
+row_logs s n Trim =
+    unless_logs (IsAsked (Asked (event.Call n Trim))) (trim_refusal s) s
+    (Checkpoints (logged.Opened (s.logged_boot + 1)) (trim_became s (s.logged_boot + 1))) tt
 row_logs s n (Branches count after) = tt
 
 event_logs : (s : State) (e : Event) → Logs (IsAsked (Asked e)) (respond s e)

@@ -7,12 +7,12 @@ use Rattle.xa_xid.specs.Triple.{Triple, xid_eq}
 use Rattle.xa_record.specs.declared.record.Record.{Record}
 use Rattle.xa_record.specs.declared.record.Record.TheVariants as logged
 use Rattle.xa_model.specs.State.{State, Branch, Phase, Working, Prepared, Committed, InDoubt, Decided, count, is_known_as, known_of, known_by, known_as, known_among, decided_of, or_completed, is_working, is_at_work}
-use Rattle.xa_model.specs.Sound.{IsSound}
+use Rattle.xa_model.specs.Invariants.Sound.{IsSound}
 use Rattle.xa_model.specs.Durable.{Durable, durable, writes_of, insert, named_before, by_name, is_prepared, is_decided}
 use Rattle.xa_model.specs.Fold.{Reading, apply, fits, reading, unread, is_new, is_timely, is_unknown, prepared_as}
 use Rattle.xa_model.specs.Completions.{is_completed}
-use Rattle.xa_model.specs.MayLog.{MayLog}
-use Rattle.xa_model.specs.LoggingLaws.{is_in_time, AppliedFits}
+use Rattle.xa_model.specs.Invariants.MayLog.{MayLog}
+use Rattle.xa_model.specs.Laws.Logging.{is_in_time, AppliedFits}
 use Rattle.xa_model.proofs.Counts.{found_none}
 use Rattle.xa_model.proofs.Inserts.{none_passes}
 use Rattle.xa_model.proofs.Ascending.{parts, is_less, absent, found_in}

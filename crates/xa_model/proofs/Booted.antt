@@ -14,8 +14,8 @@ use Rattle.xa_model.specs.Durable.{Durable, CommittedBranch, PreparedBranch, IsD
 use Rattle.xa_model.specs.Fold.{Reading, read, reading, unread, base, held, known, snapshot, fold, fold_from, is_used}
 use Rattle.xa_model.specs.Turn.{Stops, Opens, Checkpoints, unless_now}
 use Rattle.xa_model.specs.Logging.{applied, down}
-use Rattle.xa_model.specs.Loggable.{IsRecoverable, MayBeLast}
-use Rattle.xa_model.specs.Backing.{Backs, BacksReading, BacksTurn, settled}
+use Rattle.xa_model.specs.Invariants.Loggable.{IsRecoverable, MayBeLast}
+use Rattle.xa_model.specs.Invariants.Backing.{Backs, BacksReading, BacksTurn, settled}
 use Rattle.xa_model.specs.Restarting.{missed, survived, lasts, restarted, boot_became, restarting, restart_turn, refused_opening, reopened, reopen_became, reopening, reopen_turn, can_open}
 use Rattle.xa_model.proofs.Inserts.{all_imply, none_passes}
 use Rattle.xa_model.proofs.Written.{snapshot_is_written}
@@ -169,7 +169,7 @@ snapshot_unused rs d boot t e unused =
     (all_imply (λ p. is_used p.timestamp ts ≡ true) (λ p. (p.timestamp == t) ≡ false) (λ p used. used_apart p.timestamp t ts used unused) d.prepared
     (subst (λ (x : Durable). AreUsedIn x.prepared ts) same is.prepared)))
 
-trimmed_backed : (rs : List Record) (s : State) → Backs rs s → s.logged_boot ≡ s.boot → s.logged_boot < 4294967295
+pub trimmed_backed : (rs : List Record) (s : State) → Backs rs s → s.logged_boot ≡ s.boot → s.logged_boot < 4294967295
     → Backs (snapshot (durable s) (s.logged_boot + 1)) (trimmed s (s.logged_boot + 1))
 trimmed_backed rs s k current less =
     let form : IsDurable (durable s) = fold_is_durable rs (durable s) k.lasts in

@@ -5,7 +5,7 @@ use Rattle.std.specs.List.{AllByRecursion}
 use Rattle.std.proofs.lemmas.Bool.{ltb-true}
 use Rattle.std.proofs.lemmas.Bool.Decides.{nat_tests}
 use Rattle.xa_model.specs.State.{Branch, count}
-use Rattle.xa_model.specs.Sound.{Descends}
+use Rattle.xa_model.specs.Invariants.Sound.{Descends}
 use Rattle.xa_model.specs.Durable.{insert}
 use Rattle.xa_model.specs.Restarting.{later_first, by_time}
 use Rattle.xa_model.proofs.Inserts.{all_imply, all_front, insert_all}

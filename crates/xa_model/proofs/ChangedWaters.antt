@@ -9,8 +9,8 @@ use Rattle.xa_model.specs.Associations.{begun, with_mark, left_behind}
 use Rattle.xa_model.specs.Branches.{rolled_back, committed, as_prepared, decided_by}
 use Rattle.xa_model.specs.TimeLimits.{timed_out}
 use Rattle.xa_model.specs.Records.{having_done}
-use Rattle.xa_model.specs.Sound.{IsSound}
-use Rattle.xa_model.specs.LowWater.{is_known, least_known, low_water, work_floor}
+use Rattle.xa_model.specs.Invariants.Sound.{IsSound}
+use Rattle.xa_model.specs.Invariants.LowWater.{is_known, least_known, low_water, work_floor}
 use Rattle.xa_model.proofs.Doubts.{prepared_name}
 use Rattle.xa_model.proofs.Lists.{found_all, found_passes}
 use Rattle.xa_model.proofs.LowWaters.{below_known, below_next, rises}

@@ -5,7 +5,7 @@ use Rattle.xa_codes.specs.declared.write.Write.{Write}
 use Rattle.xa_model.specs.State.{State, Branch, timestamp_of}
 use Rattle.xa_model.specs.Fold.{nothing}
 use Rattle.xa_model.specs.Restarting.{wrote, opening}
-use Rattle.xa_model.specs.Loggable.{IsRecoverable}
+use Rattle.xa_model.specs.Invariants.Loggable.{IsRecoverable}
 use Rattle.xa_model.specs.OneCopy.{HasOneCopy, HasNoGet, AlwaysOneCopy, FreshOneCopy, OpenedOneCopy}
 use Rattle.xa_model.proofs.Inserts.{all_imply}
 use Rattle.xa_model.proofs.Openings.{all_branches, every, opens_restored}

@@ -4,7 +4,7 @@ use Rattle.std.specs.Prelude.{IfSome, IsSomeAnd, Contains, is_some, option_map, 
 use Rattle.std.specs.List.{AllByRecursion}
 use Rattle.xa_frame.specs.declared.reply.Reply.{Reply}
 use Rattle.xa_frame.specs.declared.request.Request.{Request}
-use Rattle.xa_frame.specs.declared.request.Request.TheVariants.{Restart}
+use Rattle.xa_frame.specs.declared.request.Request.TheVariants.{Restart, Trim}
 use Rattle.xa_record.specs.declared.record.Record.{Record}
 use Rattle.xa_model.specs.declared.event.Event.{Event}
 use Rattle.xa_model.specs.declared.event.Event.TheVariants as event
@@ -19,21 +19,20 @@ use Rattle.xa_model.specs.Durable.{Durable, durable}
 use Rattle.xa_model.specs.Fold.{apply}
 use Rattle.xa_model.specs.Turn.{Happening, Asked, Reopened, Turn, Nobody, Now, Appends, Checkpoints, Rereads, Rereading, Stops, Opens, going_on, taken, unless_now}
 use Rattle.xa_model.specs.Step.{respond, asked, turn, step, context_of}
-use Rattle.xa_model.specs.Events.{IsEvent, IsHappening, HaveHappened, is_restart}
+use Rattle.xa_model.specs.Events.{IsEvent, IsHappening, HaveHappened, begins_boot}
 use Rattle.xa_model.specs.History.{Entry}
 use Rattle.xa_model.specs.Logging.{applied, lost}
-use Rattle.xa_model.specs.MayLog.{MayLog}
-use Rattle.xa_model.specs.Loggable.{IsRecoverable, MayBeLast}
-use Rattle.xa_model.specs.LoggingLaws.{LogsWhatLasts, BootLasts, BeginsWhatLasts}
+use Rattle.xa_model.specs.Invariants.MayLog.{MayLog}
+use Rattle.xa_model.specs.Invariants.Loggable.{IsRecoverable, MayBeLast}
+use Rattle.xa_model.specs.Laws.Logging.{LogsWhatLasts, BootLasts, BeginsWhatLasts}
 use Rattle.xa_model.specs.Trimming.{trim_turn}
-use Rattle.xa_model.specs.TrimLaws.{TrimFates}
 use Rattle.xa_model.specs.Restarting.{fates, fates_with, restart_turn, reopen_turn, restarting, reopening, survived, missed}
 use Rattle.xa_model.specs.Crash.{with_append, appends, lost_of, IsFate, IsFateBehind, MayBeLeft, MayBeLeftIn}
-use Rattle.xa_model.specs.CrashLaws.{LostFits, LostFates, LeavesBefore, LeavesBehind, LeavesAppended, LeavesNoMore, LeavesExactly, FirstLeft, LastLeft, EarlierLeft, LaterLeft, LeftAmid}
+use Rattle.xa_model.specs.Laws.Crash.{LostFits, LostFates, LeavesBefore, LeavesBehind, LeavesAppended, LeavesNoMore, LeavesExactly, FirstLeft, LastLeft, EarlierLeft, LaterLeft, LeftAmid}
 use Rattle.xa_model.proofs.AppliedDecisions.{applied_lasts}
 use Rattle.xa_model.proofs.Restarts.{restart_lasts, reopen_lasts}
 use Rattle.xa_model.proofs.Recoveries.{StaysRecoverable, turn_stays, keeps_recoverable}
-use Rattle.xa_model.proofs.Trims.{trim_lasts}
+use Rattle.xa_model.proofs.Trims.{trim_asked, trim_lasts}
 use Rattle.xa_model.proofs.Asking.{IsAsked}
 use Rattle.xa_model.proofs.Fated.{IsFated, Spares, alone, quiet_is, asked_lasts, step_fated}
 
@@ -162,17 +161,20 @@ asked_leaves Up s t h = h
 asked_leaves Down s t h = h
 asked_leaves Ended s t h = tt
 
-restart_only : (s : State) (n : ℕ) (request : Request) → is_restart (event.Call n request) ≡ true → IsRecoverable s
+restart_only : (s : State) (n : ℕ) (request : Request) → begins_boot (event.Call n request) ≡ true → IsRecoverable s
     → TurnLeaves s (respond s (event.Call n request))
 restart_only s n Restart e h = unless_leaves (early_refusal (context_of s n) Restart) s (restart_turn s) (restart_leaves s h)
+restart_only s n Trim e h =
+    trim_asked (TurnLeaves s) s n (own_fates s)
+    (λ up. unless_leaves (early_refusal (context_of s n) Trim) s (trim_turn s) (begins_leave s (trim_turn s) (trim_lasts s h up)))
 restart_only s n request e h = absurd (cc e)
 
-restarts_leave : (s : State) (e : Event) → is_restart e ≡ true → IsRecoverable s → TurnLeaves s (respond s e)
+restarts_leave : (s : State) (e : Event) → begins_boot e ≡ true → IsRecoverable s → TurnLeaves s (respond s e)
 restarts_leave s event.Connect e h = absurd (cc e)
 restarts_leave s (event.Hangup n) e h = absurd (cc e)
 restarts_leave s (event.Call n request) e h = restart_only s n request e h
 
-event_leaves : (s : State) (e : Event) (c : Bool) → is_restart e ≡ c → IsEvent e → IsRecoverable s → TurnLeaves s (turn s (Asked e))
+event_leaves : (s : State) (e : Event) (c : Bool) → begins_boot e ≡ c → IsEvent e → IsRecoverable s → TurnLeaves s (turn s (Asked e))
 event_leaves s e true restart is h = asked_leaves s.standing s (respond s e) (restarts_leave s e restart h)
 event_leaves s e false other is h =
     elim (asked_lasts s e s.standing refl h other) [
@@ -181,7 +183,7 @@ event_leaves s e false other is h =
     ]
 
 turn_leaves : (s : State) (happening : Happening) → IsHappening happening → IsRecoverable s → TurnLeaves s (turn s happening)
-turn_leaves s (Asked e) is h = event_leaves s e (is_restart e) refl is h
+turn_leaves s (Asked e) is h = event_leaves s e (begins_boot e) refl is h
 turn_leaves s (Reopened name log_bytes) is h = reopen_leaves s name log_bytes h
 
 -- which outcomes fit
@@ -235,10 +237,6 @@ taken_lost s t Quiet kept refused lost f is e g k = absurd (cc is)
 taken_lost s t Failed kept refused lost f is e g k = absurd (cc is)
 taken_lost s t (Reread there None) kept refused lost f is e g k = absurd (cc is)
 taken_lost s t o kept refused lost f is e g k = absurd (cc e)
-
-pub trim_fates : TrimFates
-trim_fates s kept refused lost h up e g k =
-    taken_lost s (trim_turn s) (Appended Kept) kept refused lost (begins_leave s (trim_turn s) (trim_lasts s h up)) refl e g k
 
 pub lost_fates_are : LostFates
 lost_fates_are s happening outcome kept refused lost is h adds e g k =

@@ -4,7 +4,7 @@ use Rattle.std.specs.Prelude.{IfSome, option_map}
 use Rattle.std.specs.List.{AllByRecursion}
 use Rattle.xa_frame.specs.declared.reply.Reply.{Reply}
 use Rattle.xa_frame.specs.declared.request.Request.{Request}
-use Rattle.xa_frame.specs.declared.request.Request.TheVariants.{Restart}
+use Rattle.xa_frame.specs.declared.request.Request.TheVariants.{Restart, Trim}
 use Rattle.xa_record.specs.declared.record.Record.{Record}
 use Rattle.xa_model.specs.declared.event.Event.{Event}
 use Rattle.xa_model.specs.declared.event.Event.TheVariants as event
@@ -18,17 +18,19 @@ use Rattle.xa_model.specs.Durable.{Durable, durable}
 use Rattle.xa_model.specs.Fold.{apply}
 use Rattle.xa_model.specs.Turn.{Happening, Asked, Reopened, Turn, Nobody, Now, Appends, Checkpoints, Rereads, Rereading, Stops, Opens}
 use Rattle.xa_model.specs.Step.{respond, asked, turn, step, context_of}
-use Rattle.xa_model.specs.Events.{IsEvent, IsHappening, HaveHappened, is_restart}
+use Rattle.xa_model.specs.Events.{IsEvent, IsHappening, HaveHappened, begins_boot}
 use Rattle.xa_model.specs.History.{Entry, Leads}
 use Rattle.xa_model.specs.Logging.{applied, lost}
-use Rattle.xa_model.specs.MayLog.{MayLog}
-use Rattle.xa_model.specs.Loggable.{IsRecoverable, MayBeLast}
-use Rattle.xa_model.specs.LoggingLaws.{KeepsLog, LogsWhatLasts, BootLasts}
+use Rattle.xa_model.specs.Invariants.MayLog.{MayLog}
+use Rattle.xa_model.specs.Invariants.Loggable.{IsRecoverable, MayBeLast}
+use Rattle.xa_model.specs.Laws.Logging.{KeepsLog, LogsWhatLasts, BootLasts, BeginsWhatLasts}
+use Rattle.xa_model.specs.Trimming.{trim_turn}
 use Rattle.xa_model.specs.ListedLaw.{IsDone, MayBeDone}
 use Rattle.xa_model.specs.Restarting.{fates, fates_with, restart_turn, reopen_turn, restarting, reopening, survived, missed}
 use Rattle.xa_model.proofs.AppliedDecisions.{applied_lasts}
 use Rattle.xa_model.proofs.LoggedEvents.{events_log_what_lasts}
 use Rattle.xa_model.proofs.Restarts.{restart_lasts, reopen_lasts}
+use Rattle.xa_model.proofs.Trims.{trim_asked, trim_lasts}
 use Rattle.xa_model.proofs.Recoveries.{LogsLast, turn_logs_last, keeps_recoverable, applied_open}
 use Rattle.xa_model.proofs.Asking.{IsAsked, Logs, turn_logs}
 use Rattle.xa_model.proofs.Replies.{AllOf, AllOfReading, taken_all, asked_all, unless_all}
@@ -95,7 +97,7 @@ logged_stays P E s r after h l up (inl goes) all Lost = subst (Stays P E) (sym l
 logged_stays P E s r after h l up (inr spared) all Kept = subst (Stays P E) (sym l.1) (λ k other. absurd (other (spared _ (inl refl))))
 logged_stays P E s r after h l up (inr spared) all Lost = subst (Stays P E) (sym l.3) (λ k other. absurd (other (spared _ (inr (refl, refl)))))
 
-pub asked_lasts : (s : State) (e : Event) (standing : Standing) → s.standing ≡ standing → IsRecoverable s → is_restart e ≡ false
+pub asked_lasts : (s : State) (e : Event) (standing : Standing) → s.standing ≡ standing → IsRecoverable s → begins_boot e ≡ false
     → (asked standing (respond s e) ≡ Nobody) ⊎ LogsWhatLasts s (asked standing (respond s e))
 asked_lasts s e Up up h other = inr (events_log_what_lasts s e h.sound other)
 asked_lasts s e Down down h other = inr (events_log_what_lasts s e h.sound other)
@@ -153,22 +155,34 @@ module _ (P : Durable → Type 0) (E : Happening → Reply → Type 0) (boots : 
         boots_stay happening (missed s) (reopening name log_bytes (missed s)) held.0 refl l.3,
       )
 
+  begins_stay : (happening : Happening) (s : State) (t : Turn) → P (durable s) → IsFated P s → BeginsWhatLasts s t → AllOf (Stays P (E happening)) t
+  begins_stay happening s Nobody held all l = tt
+  begins_stay happening s (Now a) held all l = λ k other. subst (AllByRecursion P) (sym l.fates) all
+  begins_stay happening s (Appends r after) held all l = absurd l
+  begins_stay happening s (Checkpoints r after) held all l = boots_stay happening s (Opens r after) held l.1 l.0
+  begins_stay happening s (Rereads failed found missing) held all l = absurd l
+
   -- all that happens
 
-  restart_only : (s : State) (n : ℕ) (request : Request) → is_restart (event.Call n request) ≡ true → IsRecoverable s → IsFated P s
+  restart_only : (s : State) (n : ℕ) (request : Request) → begins_boot (event.Call n request) ≡ true → IsRecoverable s → IsFated P s
       → AllOf (Stays P (E (Asked (event.Call n request)))) (respond s (event.Call n request))
   restart_only s n Restart e h all =
       unless_all (Stays P (E (Asked (event.Call n Restart)))) (early_refusal (context_of s n) Restart) s (restart_turn s)
       (λ reply is k other. all)
       (restart_stays (Asked (event.Call n Restart)) s h all)
+  restart_only s n Trim e h all =
+      let Q : Answer → Type 0 = Stays P (E (Asked (event.Call n Trim))) in
+      trim_asked (AllOf Q) s n (λ k other. all)
+      (λ up. unless_all Q (early_refusal (context_of s n) Trim) s (trim_turn s) (λ reply is k other. all)
+      (begins_stay (Asked (event.Call n Trim)) s (trim_turn s) (now_is P s s.open_record refl h all).0 all (trim_lasts s h up)))
   restart_only s n request e h all = absurd (cc e)
 
-  restarts_stay : (s : State) (e : Event) → is_restart e ≡ true → IsRecoverable s → IsFated P s → AllOf (Stays P (E (Asked e))) (respond s e)
+  restarts_stay : (s : State) (e : Event) → begins_boot e ≡ true → IsRecoverable s → IsFated P s → AllOf (Stays P (E (Asked e))) (respond s e)
   restarts_stay s event.Connect e h all = absurd (cc e)
   restarts_stay s (event.Hangup n) e h all = absurd (cc e)
   restarts_stay s (event.Call n request) e h all = restart_only s n request e h all
 
-  event_stays : (s : State) (e : Event) (c : Bool) → is_restart e ≡ c → IsEvent e → IsRecoverable s → IsFated P s
+  event_stays : (s : State) (e : Event) (c : Bool) → begins_boot e ≡ c → IsEvent e → IsRecoverable s → IsFated P s
       → AllOf (Stays P (E (Asked e))) (turn s (Asked e))
   event_stays s e true restart is h all = asked_all (Stays P (E (Asked e))) s.standing (respond s e) (restarts_stay s e restart h all)
   event_stays s e false other is h all =
@@ -179,7 +193,7 @@ module _ (P : Durable → Type 0) (E : Happening → Reply → Type 0) (boots : 
 
   turn_stays : (s : State) (happening : Happening) → IsHappening happening → IsRecoverable s → IsFated P s
       → AllOf (Stays P (E happening)) (turn s happening)
-  turn_stays s (Asked e) is h all = event_stays s e (is_restart e) refl is h all
+  turn_stays s (Asked e) is h all = event_stays s e (begins_boot e) refl is h all
   turn_stays s (Reopened name log_bytes) is h all = reopen_stays (Reopened name log_bytes) s name log_bytes h all
 
   pub step_fated : (s : State) (happening : Happening) (outcome : Outcome) (a : Answer) → IsHappening happening → IsRecoverable s

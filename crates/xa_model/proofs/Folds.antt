@@ -3,7 +3,7 @@ use Rattle.std.proofs.Common.{◌≡◌, ℕ, ◌+◌, Bool, true, false, cond, 
 use Rattle.xa_record.specs.declared.record.Record.{Record}
 use Rattle.xa_model.specs.Durable.{Durable}
 use Rattle.xa_model.specs.Fold.{Reading, apply, read, fits, reading, fold_from, unread}
-use Rattle.xa_model.specs.DurableLaws.{FoldReads, OneMore, FirstFault}
+use Rattle.xa_model.specs.Laws.Durable.{FoldReads, OneMore, FirstFault}
 
 -- a record that fits is read
 pub step : (r : Record) (x y : Reading) (i : ℕ) (rs : List Record) (d : Durable) → fits r x ≡ true → read r x ≡ y → fold_from (i + 1) y rs ≡ Ok d → fold_from i x (r ∷ rs) ≡ Ok d

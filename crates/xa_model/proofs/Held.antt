@@ -6,7 +6,7 @@ use Rattle.xa_xid.specs.Triple.{Triple, xid_eq}
 use Rattle.xa_xid.proofs.Same.{xid_same}
 use Rattle.xa_model.specs.State.{State, Association, Active, count, is_active, owns, known_of, session_of, holders_of, loose_of, is_at_work}
 use Rattle.xa_model.specs.Associations.{is_of_session}
-use Rattle.xa_model.specs.Sound.{IsSound}
+use Rattle.xa_model.specs.Invariants.Sound.{IsSound}
 
 -- what soundness asks of the associations
 pub record AreHeld (s : State) (held : List Association) : Type 0 where

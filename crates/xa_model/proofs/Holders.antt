@@ -7,7 +7,7 @@ use Rattle.xa_xid.specs.Triple.{Triple, xid_eq}
 use Rattle.xa_xid.proofs.Same.{xid_same}
 use Rattle.xa_model.specs.State.{State, Association, Holder, Active, Suspended, Loose, count, change, is_active, is_own, is_suspended, is_loose, owns, works_in, suspends, is_loose_with, session_of, holders_of, loose_of}
 use Rattle.xa_model.specs.Associations.{is_of_session, held_by}
-use Rattle.xa_model.specs.Sound.{IsSound}
+use Rattle.xa_model.specs.Invariants.Sound.{IsSound}
 use Rattle.xa_model.proofs.Counts.{count_changed, count_change, count_same, count_either, count_nowhere}
 use Rattle.xa_model.proofs.Held.{AreHeld}
 use Rattle.xa_model.proofs.Xids.{both_true}

@@ -12,7 +12,7 @@ use Rattle.std.proofs.lemmas.Slice.Eq.{bytes_eq-Decides}
 use Rattle.xa_codes.specs.declared.write.Write.{Write}
 use Rattle.xa_model.specs.State.{Decided}
 use Rattle.xa_model.specs.Durable.{Durable, CommittedBranch, PreparedBranch, Pairwise, AreLast, commits_before, keys_before, is_written_in, is_written, not_overwritten, with_writes, last_writes, value_in, last_write}
-use Rattle.xa_model.specs.DurableLaws.{OneValue, LastWritesStay}
+use Rattle.xa_model.specs.Laws.Durable.{OneValue, LastWritesStay}
 use Rattle.xa_model.proofs.Tests.{commits_transitive}
 use Rattle.xa_model.proofs.Members.{Member, member_all, same_members, same_place_by, commits_strict, keys_strict, keys_transitive, same_prepared, same_decided}
 

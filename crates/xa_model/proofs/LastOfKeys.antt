@@ -13,7 +13,7 @@ use Rattle.xa_codes.specs.declared.write.Write.{Write}
 use Rattle.xa_model.specs.State.{Operation, Got, Wrote}
 use Rattle.xa_model.specs.Source.{write_of}
 use Rattle.xa_model.specs.Durable.{Pairwise, keys_before, value_in, put_write, writes_of}
-use Rattle.xa_model.specs.DurableLaws.{WritesOf}
+use Rattle.xa_model.specs.Laws.Durable.{WritesOf}
 use Rattle.xa_model.proofs.Inserts.{all_imply}
 use Rattle.xa_model.proofs.Tests.{reversed}
 use Rattle.xa_model.proofs.Members.{keys_transitive}

@@ -7,9 +7,9 @@ use Rattle.xa_codes.specs.declared.write.Write.{Write}
 use Rattle.xa_xid.specs.Triple.{Triple, xid_eq}
 use Rattle.xa_xid.proofs.Same.{xid_eq_itself}
 use Rattle.xa_model.specs.State.{State, Branch, Phase, Working, Prepared, Committed, Decided, count, is_known_as}
-use Rattle.xa_model.specs.Sound.{IsSound, Descends}
+use Rattle.xa_model.specs.Invariants.Sound.{IsSound, Descends}
 use Rattle.xa_model.specs.Durable.{CommittedBranch, PreparedBranch, Pairwise, writes_of, committed_part, prepared_part, named_apart, is_prepared, is_past}
-use Rattle.xa_model.specs.DurableLaws.{LeavesDurable}
+use Rattle.xa_model.specs.Laws.Durable.{LeavesDurable}
 use Rattle.xa_model.proofs.Inserts.{all_imply, none_passes}
 use Rattle.xa_model.proofs.LastWrites.{last_all, last_pairwise, last_are_last}
 use Rattle.xa_model.proofs.Ascending.{parts, add, parts-cons, all_add, pairwise_add, parts_below, parts_pairwise, parts_none, one_by, fewer_by}

@@ -102,6 +102,5 @@ pub mod Totals
 pub mod LowWaters
 pub mod WorkFloors
 pub mod TrimLaws
-pub mod TrimHistories
 pub mod ChangedWaters
 pub mod WorkedLowWaters

@@ -2,7 +2,7 @@
 use Rattle.std.proofs.Common.{◌≡◌, ℕ, ◌≤◌, Bool, true, false, Ok, List, [], ◌∷◌, ◌++◌, Option, Some, None, refl, ap, sym, ◌∙◌, subst, arith}
 use Rattle.xa_frame.specs.declared.reply.Reply.{Reply}
 use Rattle.xa_frame.specs.declared.request.Request.{Request}
-use Rattle.xa_frame.specs.declared.request.Request.TheVariants.{Restart}
+use Rattle.xa_frame.specs.declared.request.Request.TheVariants.{Restart, Trim}
 use Rattle.xa_record.specs.declared.record.Record.{Record}
 use Rattle.xa_model.specs.declared.event.Event.{Event}
 use Rattle.xa_model.specs.declared.event.Event.TheVariants as event
@@ -12,19 +12,21 @@ use Rattle.xa_model.specs.Answer.{Answer}
 use Rattle.xa_model.specs.Early.{early_refusal}
 use Rattle.xa_model.specs.Turn.{Asked, Reopened, Turn, Nobody, Now, Appends, Checkpoints, Rereads, unless_now}
 use Rattle.xa_model.specs.Step.{respond, asked, turn, context_of}
-use Rattle.xa_model.specs.Events.{IsEvent, is_restart}
+use Rattle.xa_model.specs.Events.{IsEvent, begins_boot}
 use Rattle.xa_model.specs.Fold.{reading, unread}
-use Rattle.xa_model.specs.Loggable.{IsRecoverable}
-use Rattle.xa_model.specs.LoggingLaws.{KeepsLog, LogsWhatLasts}
-use Rattle.xa_model.specs.Backing.{Backs, BacksTurn}
-use Rattle.xa_model.specs.BackingLaws.{KeepsBacked}
+use Rattle.xa_model.specs.Invariants.Loggable.{IsRecoverable}
+use Rattle.xa_model.specs.Laws.Logging.{KeepsLog, LogsWhatLasts}
+use Rattle.xa_model.specs.Invariants.Backing.{Backs, BacksTurn}
+use Rattle.xa_model.specs.Laws.Backing.{KeepsBacked}
 use Rattle.xa_model.specs.Restarting.{restart_turn}
+use Rattle.xa_model.specs.Trimming.{trim_turn}
 use Rattle.xa_model.proofs.Inserts.{all_imply}
 use Rattle.xa_model.proofs.LoggedEvents.{events_log_what_lasts}
 use Rattle.xa_model.proofs.Recoveries.{LogsLast, turn_logs_last}
 use Rattle.xa_model.proofs.Newer.{IsNewer, Continues, event_continues}
 use Rattle.xa_model.proofs.Appended.{appended_backed}
-use Rattle.xa_model.proofs.Booted.{lost_backed, restart_backed, reopen_backed}
+use Rattle.xa_model.proofs.Booted.{lost_backed, restart_backed, reopen_backed, trim_backed}
+use Rattle.xa_model.proofs.Trims.{trim_asked}
 
 -- where nothing more is logged
 still_backed : (rs : List Record) (s t : State) → Backs rs s → KeepsLog s t → IsNewer s t → Backs rs t
@@ -55,37 +57,38 @@ goes_on rs s (Appends r after) h k logs on last = (
 goes_on rs s (Checkpoints r after) h k logs on last = absurd logs
 goes_on rs s (Rereads failed found missing) h k logs on last = absurd logs
 
-asked_backed : (rs : List Record) (s : State) (e : Event) → IsEvent e → is_restart e ≡ false → IsRecoverable s → Backs rs s
+asked_backed : (rs : List Record) (s : State) (e : Event) → IsEvent e → begins_boot e ≡ false → IsRecoverable s → Backs rs s
     → turn s (Asked e) ≡ respond s e → BacksTurn rs s (turn s (Asked e))
 asked_backed rs s e is other h k same =
     let lasts : LogsWhatLasts s (turn s (Asked e)) = subst (LogsWhatLasts s) (sym same) (events_log_what_lasts s e h.sound other) in
     goes_on rs s (turn s (Asked e)) h k lasts (subst (Continues s) (sym same) (event_continues s e other)) (turn_logs_last s (Asked e) is h)
 
 -- a restart, or its refusal
-unless_backed : (rs : List Record) (s : State) (o : Option Reply) → Backs rs s → BacksTurn rs s (restart_turn s)
-    → BacksTurn rs s (unless_now o s (restart_turn s))
-unless_backed rs s None k h = h
-unless_backed rs s (Some reply) k h = k
+unless_backed : (rs : List Record) (s : State) (o : Option Reply) (t : Turn) → Backs rs s → BacksTurn rs s t → BacksTurn rs s (unless_now o s t)
+unless_backed rs s None t k h = h
+unless_backed rs s (Some reply) t k h = k
 
-restart_only : (rs : List Record) (s : State) (n : ℕ) (request : Request) → is_restart (event.Call n request) ≡ true → IsRecoverable s → Backs rs s
+restart_only : (rs : List Record) (s : State) (n : ℕ) (request : Request) → begins_boot (event.Call n request) ≡ true → IsRecoverable s → Backs rs s
     → BacksTurn rs s (respond s (event.Call n request))
-restart_only rs s n Restart e h k = unless_backed rs s (early_refusal (context_of s n) Restart) k (restart_backed rs s h k)
+restart_only rs s n Restart e h k = unless_backed rs s (early_refusal (context_of s n) Restart) (restart_turn s) k (restart_backed rs s h k)
+restart_only rs s n Trim e h k =
+    trim_asked (BacksTurn rs s) s n k (λ up. unless_backed rs s (early_refusal (context_of s n) Trim) (trim_turn s) k (trim_backed rs s k (h.current up)))
 restart_only rs s n request e h k = absurd (cc e)
 
-restarts_backed : (rs : List Record) (s : State) (e : Event) → is_restart e ≡ true → IsRecoverable s → Backs rs s → BacksTurn rs s (respond s e)
+restarts_backed : (rs : List Record) (s : State) (e : Event) → begins_boot e ≡ true → IsRecoverable s → Backs rs s → BacksTurn rs s (respond s e)
 restarts_backed rs s event.Connect e h k = absurd (cc e)
 restarts_backed rs s (event.Hangup n) e h k = absurd (cc e)
 restarts_backed rs s (event.Call n request) e h k = restart_only rs s n request e h k
 
-event_backed : (rs : List Record) (s : State) (e : Event) (c : Bool) → is_restart e ≡ c → IsEvent e → IsRecoverable s → Backs rs s
+event_backed : (rs : List Record) (s : State) (e : Event) (c : Bool) → begins_boot e ≡ c → IsEvent e → IsRecoverable s → Backs rs s
     → turn s (Asked e) ≡ respond s e → BacksTurn rs s (turn s (Asked e))
 event_backed rs s e true restart is h k same = subst (BacksTurn rs s) (sym same) (restarts_backed rs s e restart h k)
 event_backed rs s e false other is h k same = asked_backed rs s e is other h k same
 
 standing_backed : (rs : List Record) (s : State) (e : Event) (standing : Standing) → s.standing ≡ standing → IsEvent e → IsRecoverable s → Backs rs s
     → BacksTurn rs s (turn s (Asked e))
-standing_backed rs s e Up up is h k = event_backed rs s e (is_restart e) refl is h k (ap (λ (x : Standing). asked x (respond s e)) up)
-standing_backed rs s e Down down is h k = event_backed rs s e (is_restart e) refl is h k (ap (λ (x : Standing). asked x (respond s e)) down)
+standing_backed rs s e Up up is h k = event_backed rs s e (begins_boot e) refl is h k (ap (λ (x : Standing). asked x (respond s e)) up)
+standing_backed rs s e Down down is h k = event_backed rs s e (begins_boot e) refl is h k (ap (λ (x : Standing). asked x (respond s e)) down)
 standing_backed rs s e Ended ended is h k =
     let none : turn s (Asked e) ≡ Nobody = ap (λ (x : Standing). asked x (respond s e)) ended in subst (BacksTurn rs s) (sym none) tt
 

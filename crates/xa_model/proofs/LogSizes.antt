@@ -14,7 +14,7 @@ use Rattle.xa_record.specs.declared.record.Record.TheVariants.{Opened, Prepared,
 use Rattle.xa_model.specs.State.{without}
 use Rattle.xa_model.specs.Durable.{Durable, CommittedBranch, PreparedBranch, insert, commit, commits_before, prepares_before, named_before, is_written, not_overwritten, with_writes, last_writes}
 use Rattle.xa_model.specs.Fold.{Reading, apply, complete, commit_prepared, prepared_as, read, is_new, fold_from, fold, unread, base, held, known, snapshot, size_of, sizes}
-use Rattle.xa_model.specs.DurableLaws.{SnapshotIsShort}
+use Rattle.xa_model.specs.Laws.Durable.{SnapshotIsShort}
 use Rattle.xa_model.proofs.Folds.{stepped}
 use Rattle.xa_model.proofs.Tests.{none_past}
 

@@ -7,7 +7,7 @@ use Rattle.xa_codes.specs.declared.codes.TheConstants.{XA_RBTRANSIENT, XA_RBOTHE
 use Rattle.xa_codes.specs.declared.flags.TheConstants.{TMONEPHASE, TMJOIN, TMRESUME, TMSUSPEND, TMMIGRATE, TMFAIL}
 use Rattle.xa_frame.specs.declared.reply.Reply.{Reply}
 use Rattle.xa_frame.specs.declared.request.Request.{Request}
-use Rattle.xa_frame.specs.declared.request.Request.TheVariants.{Open, Close, Start, End, Prepare, Commit, Rollback, Forget, Recover, Get, Put, Delete, Decide, Doom, Restart, Timeout, Tick, Branches}
+use Rattle.xa_frame.specs.declared.request.Request.TheVariants.{Open, Close, Start, End, Prepare, Commit, Rollback, Forget, Recover, Get, Put, Delete, Decide, Doom, Restart, Timeout, Tick, Trim, Branches}
 use Rattle.xa_xid.specs.Triple.{Triple, xid_eq}
 use Rattle.xa_xid.proofs.Same.{xid_eq_itself}
 use Rattle.xa_model.specs.declared.event.Event.TheVariants as event
@@ -22,10 +22,10 @@ use Rattle.xa_model.specs.Completions.{commit_one_phase_turn, commit_two_phase_t
 use Rattle.xa_model.specs.TimeLimits.{runs_out, timed_out, ticked, tick_by, timeout_by}
 use Rattle.xa_model.specs.Recovering.{scan_of, scan_from, recovered_from, recover_by}
 use Rattle.xa_model.specs.Step.{row, context_of}
-use Rattle.xa_model.specs.Events.{asks_restart}
-use Rattle.xa_model.specs.Sound.{IsSound}
+use Rattle.xa_model.specs.Events.{asks_boot}
+use Rattle.xa_model.specs.Invariants.Sound.{IsSound}
 use Rattle.xa_model.specs.Durable.{durable, last_writes, by_name, writes_of, committed_part, prepared_part}
-use Rattle.xa_model.specs.LoggingLaws.{KeepsLog, LogsWhatLasts, EventsLogWhatLasts}
+use Rattle.xa_model.specs.Laws.Logging.{KeepsLog, LogsWhatLasts, EventsLogWhatLasts}
 use Rattle.xa_model.proofs.Lists.{found_all}
 use Rattle.xa_model.proofs.Splits.{split, uncounted, parts, parts_none}
 use Rattle.xa_model.proofs.Applied.{committed_of, prepared_of, same_durable}
@@ -262,7 +262,7 @@ keeps s t same sound = record {
   standing = same.standing;
 }
 
-row_logs : (s : State) (n : ℕ) (request : Request) → IsSound s → is_some (session_of s.sessions n) ≡ true → asks_restart request ≡ false → LogsWhatLasts s (row s n request)
+row_logs : (s : State) (n : ℕ) (request : Request) → IsSound s → is_some (session_of s.sessions n) ≡ true → asks_boot request ≡ false → LogsWhatLasts s (row s n request)
 row_logs s n (Open flags info) h seated other = keeps s (open_by s n).after (alike s s.given _ s.associations s.reads) (seat_sound s n as_opened (λ x. refl) h)
 row_logs s n (Close flags) h seated other =
     keeps s (close_by s n).after (unless_same (close_refusal (list_any (is_of_session n) s.associations)) s _ (λ none. alike s s.given _ s.associations s.reads)) (close_sound s n h)
@@ -286,6 +286,7 @@ row_logs s n (Doom xid) h seated other =
 row_logs s n Restart h seated other = absurd (cc other)
 row_logs s n (Timeout seconds) h seated other = keeps s (timeout_by s n seconds).after (alike s s.given _ s.associations s.reads) (timeout_sound s n seconds h)
 row_logs s n (Tick moment) h seated other = keeps s (tick_by s moment).after (ticked_same s moment) (tick_sound s moment h)
+row_logs s n Trim h seated other = absurd (cc other)
 row_logs s n (Branches count after) h seated other = keeps s s (alike s s.given s.sessions s.associations s.reads) h
 
 pub events_log_what_lasts : EventsLogWhatLasts

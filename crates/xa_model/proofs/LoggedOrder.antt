@@ -9,14 +9,14 @@ use Rattle.xa_record.specs.declared.record.Record.{Record}
 use Rattle.xa_record.specs.declared.record.Record.TheVariants as logged
 use Rattle.xa_xid.specs.Triple.{Triple, xid_eq}
 use Rattle.xa_model.specs.State.{State, Branch, Phase, Working, Prepared, Committed, InDoubt, Decided, count, known_among, known_by, known_of, decided_of, or_completed, is_known_as, is_working, is_at_work}
-use Rattle.xa_model.specs.Sound.{IsSound}
+use Rattle.xa_model.specs.Invariants.Sound.{IsSound}
 use Rattle.xa_model.specs.Durable.{Durable, PreparedBranch, durable, by_name, is_prepared, is_decided, is_past}
 use Rattle.xa_model.specs.Fold.{Reading, fits, reading, unread, is_new, is_used, prepared_as}
 use Rattle.xa_model.specs.Completions.{is_completed}
-use Rattle.xa_model.specs.MayLog.{IsIdle}
-use Rattle.xa_model.specs.Loggable.{IsRecoverable, MayBeLast}
-use Rattle.xa_model.specs.Backing.{IsNew, Backs}
-use Rattle.xa_model.specs.BackingLaws.{LoggedInOrder}
+use Rattle.xa_model.specs.Invariants.MayLog.{IsIdle}
+use Rattle.xa_model.specs.Invariants.Loggable.{IsRecoverable, MayBeLast}
+use Rattle.xa_model.specs.Invariants.Backing.{IsNew, Backs}
+use Rattle.xa_model.specs.Laws.Backing.{LoggedInOrder}
 use Rattle.xa_model.proofs.Folds.{fold_reads}
 use Rattle.xa_model.proofs.Inserts.{none_passes}
 use Rattle.xa_model.proofs.Leaving.{found_any}

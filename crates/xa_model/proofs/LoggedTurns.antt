@@ -14,14 +14,14 @@ use Rattle.xa_model.specs.State.{State, Known, Unknown, AtWork, InDoubt, Complet
 use Rattle.xa_model.specs.Answer.{plain, answer, ok}
 use Rattle.xa_model.specs.Associations.{is_unknown, is_lasting, mark_in, timestamp_in}
 use Rattle.xa_model.specs.Branches.{is_associated, unprepared_refusal, two_phase_refusal, rollback_refusal, heuristic_refusal, rolled_back, committed}
-use Rattle.xa_model.specs.Sound.{IsSound}
+use Rattle.xa_model.specs.Invariants.Sound.{IsSound}
 use Rattle.xa_model.specs.Durable.{durable}
 use Rattle.xa_model.specs.Fold.{is_empty, commit_writes}
 use Rattle.xa_model.specs.Turn.{Turn, Now, unless_now, marked_now}
 use Rattle.xa_model.specs.Logging.{logs, has_room, log_full, writes_in}
 use Rattle.xa_model.specs.Completions.{prepare_written, prepare_turn, commit_written, commit_one_phase_turn, commit_two_phase_turn, roll_back_turn, rollback_turn, decide_refusal, decide_turn, forget_refusal, forget_turn, is_completed}
-use Rattle.xa_model.specs.MayLog.{IsIdle, MayLog}
-use Rattle.xa_model.specs.LoggingLaws.{KeepsLog, LogsWhatLasts}
+use Rattle.xa_model.specs.Invariants.MayLog.{IsIdle, MayLog}
+use Rattle.xa_model.specs.Laws.Logging.{KeepsLog, LogsWhatLasts}
 use Rattle.xa_model.proofs.Rows.{passed, neither, at_work}
 use Rattle.xa_model.proofs.Names.{gone_sound, committed_sound}
 use Rattle.xa_model.proofs.LastWrites.{last_are_last, last_same}

@@ -6,7 +6,7 @@ use Rattle.xa_model.specs.State.{State, Branch, Phase, Working, Prepared, Commit
 use Rattle.xa_model.specs.Associations.{with_mark, marked_phase, left_behind, is_worked_by}
 use Rattle.xa_model.specs.TimeLimits.{runs_out, timed_out}
 use Rattle.xa_model.specs.Records.{having_done}
-use Rattle.xa_model.specs.Sound.{IsSound}
+use Rattle.xa_model.specs.Invariants.Sound.{IsSound}
 use Rattle.xa_model.proofs.Order.{KeepsTimestamp}
 use Rattle.xa_model.proofs.Parts.{KeepsName, with_branches, changed_kept}
 

@@ -9,7 +9,7 @@ use Rattle.xa_codes.specs.declared.direction.Direction.TheVariants as direction
 use Rattle.xa_codes.specs.declared.flags.TheConstants.{TMONEPHASE, TMJOIN, TMRESUME, TMSUSPEND, TMMIGRATE, TMFAIL}
 use Rattle.xa_frame.specs.declared.reply.Reply.{Reply}
 use Rattle.xa_frame.specs.declared.request.Request.{Request}
-use Rattle.xa_frame.specs.declared.request.Request.TheVariants.{Open, Close, Start, End, Prepare, Commit, Rollback, Forget, Recover, Get, Put, Delete, Decide, Doom, Restart, Timeout, Tick, Branches}
+use Rattle.xa_frame.specs.declared.request.Request.TheVariants.{Open, Close, Start, End, Prepare, Commit, Rollback, Forget, Recover, Get, Put, Delete, Decide, Doom, Restart, Timeout, Tick, Trim, Branches}
 use Rattle.xa_record.specs.declared.record.Record.{Record}
 use Rattle.xa_record.specs.declared.record.Record.TheVariants as logged
 use Rattle.xa_xid.specs.Triple.{Triple, xid_eq}
@@ -31,10 +31,10 @@ use Rattle.xa_model.specs.Step.{row, respond, context_of}
 use Rattle.xa_model.specs.Turn.{Turn, Now, unless_now}
 use Rattle.xa_model.specs.Logging.{logs, has_room, log_full, writes_in, applied, append_became}
 use Rattle.xa_model.specs.Completions.{prepare_turn, prepare_written, commit_one_phase_turn, commit_two_phase_turn, commit_written, rollback_turn, roll_back_turn, decide_refusal, forget_refusal}
-use Rattle.xa_model.specs.Sound.{IsSound}
+use Rattle.xa_model.specs.Invariants.Sound.{IsSound}
 use Rattle.xa_model.specs.Fold.{is_empty}
-use Rattle.xa_model.specs.Loggable.{IsRecoverable}
-use Rattle.xa_model.specs.Events.{is_restart}
+use Rattle.xa_model.specs.Invariants.Loggable.{IsRecoverable}
+use Rattle.xa_model.specs.Events.{begins_boot}
 use Rattle.xa_model.proofs.Rows.{passed}
 use Rattle.xa_model.proofs.Replies.{AllOf, unless_all, marked_all, cond_all}
 use Rattle.xa_model.proofs.Moves.{core, GoesOn, Remain, Moves, remains, begins, gets, puts, as_it_is, all_remain, changed_remain, mapped_remain, left_remain}
@@ -327,7 +327,7 @@ recovered_moved : (s : State) (n flags count : ℕ) (scan : Option (Option Tripl
 recovered_moved s n flags count None = itself s
 recovered_moved s n flags count (Some cursor) = itself s
 
-row_moved : (s : State) (n : ℕ) (request : Request) → IsRecoverable s → is_restart (event.Call n request) ≡ false
+row_moved : (s : State) (n : ℕ) (request : Request) → IsRecoverable s → begins_boot (event.Call n request) ≡ false
     → AllOf (Moved s) (row s n request)
 row_moved s n (Open flags info) h e = itself s
 row_moved s n (Close flags) h e = unless_moved (close_refusal (list_any (is_of_session n) s.associations)) s _ (λ none. itself s)
@@ -352,9 +352,10 @@ row_moved s n (Doom xid) h e = unless_moved (doom_refusal (known_as s xid)) s (o
 row_moved s n Restart h e = absurd (cc e)
 row_moved s n (Timeout seconds) h e = itself s
 row_moved s n (Tick moment) h e = remains (map (timed_out moment) s.branches) (mapped_remain (timed_out moment) (timed_goes moment) s.branches)
+row_moved s n Trim h e = absurd (cc e)
 row_moved s n (Branches count after) h e = itself s
 
-pub event_moved : (s : State) (e : Event) → IsRecoverable s → is_restart e ≡ false → AllOf (Moved s) (respond s e)
+pub event_moved : (s : State) (e : Event) → IsRecoverable s → begins_boot e ≡ false → AllOf (Moved s) (respond s e)
 event_moved s event.Connect h e = unless_moved (connect_refusal _) s (connected s) (λ none. itself s)
 event_moved s (event.Hangup n) h e =
     remains (map (left_behind s.associations n) s.branches) (mapped_remain (left_behind s.associations n) (left_goes s.associations n) s.branches)

@@ -4,7 +4,7 @@ use Rattle.std.specs.Prelude.{IfSome, filter, nat_lt, option_map}
 use Rattle.xa_codes.specs.declared.codes.TheConstants.{XAER_RMFAIL}
 use Rattle.xa_codes.specs.declared.detail.Detail.TheVariants as detail
 use Rattle.xa_frame.specs.declared.request.Request.{Request}
-use Rattle.xa_frame.specs.declared.request.Request.TheVariants.{Restart}
+use Rattle.xa_frame.specs.declared.request.Request.TheVariants.{Restart, Trim}
 use Rattle.xa_record.specs.declared.record.Record.{Record}
 use Rattle.xa_record.specs.declared.record.Record.TheVariants as logged
 use Rattle.xa_model.specs.declared.event.Event.{Event}
@@ -16,10 +16,10 @@ use Rattle.xa_model.specs.Answer.{Answer, answer, detailed, ok}
 use Rattle.xa_model.specs.Early.{early_refusal}
 use Rattle.xa_model.specs.Turn.{Happening, Asked, Reopened, Rereading, Stops, Opens}
 use Rattle.xa_model.specs.Step.{respond, turn, context_of}
-use Rattle.xa_model.specs.Events.{HaveHappened, is_restart}
+use Rattle.xa_model.specs.Events.{HaveHappened, begins_boot}
 use Rattle.xa_model.specs.History.{Entry, Leads}
 use Rattle.xa_model.specs.Logging.{down}
-use Rattle.xa_model.specs.Loggable.{IsRecoverable, MayBeLast}
+use Rattle.xa_model.specs.Invariants.Loggable.{IsRecoverable, MayBeLast}
 use Rattle.xa_model.specs.Trimming.{trim_refusal, trim_became, trim_turn}
 use Rattle.xa_model.specs.Restarting.{lasts, missed, survived, restarted, boot_became, restarting, restart_turn, refused_opening, reopen_became, reopening, reopen_turn, can_open}
 use Rattle.xa_model.proofs.Restarts.{survived_recoverable}
@@ -103,24 +103,26 @@ trim_moved s h = unless_all (Moved s) (trim_refusal s) s _ (λ reply is. itself 
     by_fate Refused = itself s
     by_fate Lost = itself s
 
-restart_only : (s : State) (n : ℕ) (request : Request) → is_restart (event.Call n request) ≡ true → IsRecoverable s
+restart_only : (s : State) (n : ℕ) (request : Request) → begins_boot (event.Call n request) ≡ true → IsRecoverable s
     → AllOf (Moved s) (respond s (event.Call n request))
 restart_only s n Restart e h =
     unless_all (Moved s) (early_refusal (context_of s n) Restart) s (restart_turn s) (λ reply is. itself s)
     (restart_moved s h)
+restart_only s n Trim e h =
+    unless_all (Moved s) (early_refusal (context_of s n) Trim) s (trim_turn s) (λ reply is. itself s) (trim_moved s h)
 restart_only s n request e h = absurd (cc e)
 
-restart_asked : (s : State) (e : Event) → is_restart e ≡ true → IsRecoverable s → AllOf (Moved s) (respond s e)
+restart_asked : (s : State) (e : Event) → begins_boot e ≡ true → IsRecoverable s → AllOf (Moved s) (respond s e)
 restart_asked s event.Connect e h = absurd (cc e)
 restart_asked s (event.Hangup n) e h = absurd (cc e)
 restart_asked s (event.Call n request) e h = restart_only s n request e h
 
-responds : (s : State) (e : Event) (c : Bool) → is_restart e ≡ c → IsRecoverable s → AllOf (Moved s) (respond s e)
+responds : (s : State) (e : Event) (c : Bool) → begins_boot e ≡ c → IsRecoverable s → AllOf (Moved s) (respond s e)
 responds s e true c h = restart_asked s e c h
 responds s e false c h = event_moved s e h c
 
 pub turn_moved : (s : State) (happening : Happening) → IsRecoverable s → AllOf (Moved s) (turn s happening)
-turn_moved s (Asked e) h = asked_all (Moved s) s.standing (respond s e) (responds s e (is_restart e) refl h)
+turn_moved s (Asked e) h = asked_all (Moved s) s.standing (respond s e) (responds s e (begins_boot e) refl h)
 turn_moved s (Reopened name log_bytes) h = reopen_moved s name log_bytes h
 
 -- what moves keep is kept at each place of a history

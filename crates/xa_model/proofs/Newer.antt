@@ -9,7 +9,7 @@ use Rattle.xa_codes.specs.declared.direction.Direction.TheVariants as direction
 use Rattle.xa_codes.specs.declared.flags.TheConstants.{TMONEPHASE, TMJOIN, TMRESUME, TMSUSPEND, TMMIGRATE, TMFAIL}
 use Rattle.xa_frame.specs.declared.reply.Reply.{Reply}
 use Rattle.xa_frame.specs.declared.request.Request.{Request}
-use Rattle.xa_frame.specs.declared.request.Request.TheVariants.{Open, Close, Start, End, Prepare, Commit, Rollback, Forget, Recover, Get, Put, Delete, Decide, Doom, Restart, Timeout, Tick, Branches}
+use Rattle.xa_frame.specs.declared.request.Request.TheVariants.{Open, Close, Start, End, Prepare, Commit, Rollback, Forget, Recover, Get, Put, Delete, Decide, Doom, Restart, Timeout, Tick, Trim, Branches}
 use Rattle.xa_record.specs.declared.record.Record.TheVariants as logged
 use Rattle.xa_xid.specs.Triple.{Triple}
 use Rattle.xa_model.specs.declared.event.Event.{Event}
@@ -29,7 +29,7 @@ use Rattle.xa_model.specs.Turn.{Turn, Nobody, Now, Appends, Checkpoints, Rereads
 use Rattle.xa_model.specs.Logging.{logs, has_room, log_full, writes_in}
 use Rattle.xa_model.specs.Completions.{prepare_turn, prepare_written, commit_one_phase_turn, commit_two_phase_turn, commit_written, rollback_turn, roll_back_turn, decide_refusal, forget_refusal}
 use Rattle.xa_model.specs.Fold.{is_empty, is_used}
-use Rattle.xa_model.specs.Events.{is_restart}
+use Rattle.xa_model.specs.Events.{begins_boot}
 use Rattle.xa_model.proofs.Lists.{change_all, without_all}
 
 -- no branch at work has one of the timestamps
@@ -273,7 +273,7 @@ recovered_newer : (s : State) (n flags count : ℕ) (scan : Option (Option Tripl
 recovered_newer s n flags count None = itself s
 recovered_newer s n flags count (Some cursor) = alike s _ s.associations s.reads
 
-row_continues : (s : State) (n : ℕ) (request : Request) → is_restart (event.Call n request) ≡ false → Continues s (row s n request)
+row_continues : (s : State) (n : ℕ) (request : Request) → begins_boot (event.Call n request) ≡ false → Continues s (row s n request)
 row_continues s n (Open flags info) e = alike s _ s.associations s.reads
 row_continues s n (Close flags) e = unless_newer (close_refusal (list_any (is_of_session n) s.associations)) s _ (alike s _ s.associations s.reads)
 row_continues s n (Start flags xid) e = start_newer s n flags xid
@@ -294,9 +294,10 @@ row_continues s n (Doom xid) e =
 row_continues s n Restart e = absurd (cc e)
 row_continues s n (Timeout seconds) e = alike s _ s.associations s.reads
 row_continues s n (Tick moment) e = ticked_newer s moment
+row_continues s n Trim e = absurd (cc e)
 row_continues s n (Branches count after) e = itself s
 
-pub event_continues : (s : State) (e : Event) → is_restart e ≡ false → Continues s (respond s e)
+pub event_continues : (s : State) (e : Event) → begins_boot e ≡ false → Continues s (respond s e)
 event_continues s event.Connect e = unless_newer (connect_refusal _) s (connected s) (alike s _ s.associations s.reads)
 event_continues s (event.Hangup n) e =
     moved s _ _ _ s.reads (λ ts h. mapped_unused (left_behind s.associations n) (behind_still s.associations n) ts s.branches h)

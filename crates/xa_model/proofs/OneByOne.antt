@@ -4,7 +4,7 @@ use Rattle.std.specs.Prelude.{bytes_eq, is_some}
 use Rattle.std.specs.List.{AllByRecursion}
 use Rattle.xa_model.specs.State.{Branch, Operation, Got, Wrote, is_committed, committed_of}
 use Rattle.xa_model.specs.Source.{write_of}
-use Rattle.xa_model.specs.Sound.{Descends}
+use Rattle.xa_model.specs.Invariants.Sound.{Descends}
 use Rattle.xa_model.specs.OneCopy.{Map, after, FindsAnswers, map_after, IsOneCopy, HasNoGet}
 use Rattle.xa_model.proofs.Inserts.{all_both}
 use Rattle.xa_model.proofs.Pins.{Has, IsSource, IsOutside, IsRight, Settled, settled_weaker, below_limit}

@@ -12,7 +12,7 @@ use Rattle.xa_model.specs.Durable.{durable}
 use Rattle.xa_model.specs.Fold.{apply, nothing}
 use Rattle.xa_model.specs.Turn.{Stops, Opens}
 use Rattle.xa_model.specs.Restarting.{opening, survived, missed, refused_opening, reopened, reopen_became, reopening, can_open, reopen_turn}
-use Rattle.xa_model.specs.LoggingLaws.{BootLasts}
+use Rattle.xa_model.specs.Laws.Logging.{BootLasts}
 use Rattle.xa_model.specs.ListedLaw.{ListsUntilAsked, FreshLists, OpenedLists, ReopenedLists}
 use Rattle.xa_model.proofs.Openings.{opens_restored}
 use Rattle.xa_model.proofs.Preparing.{idle_lists, listed_since_boot}

@@ -10,14 +10,14 @@ use Rattle.xa_record.specs.declared.record.Record.{Record}
 use Rattle.xa_xid.specs.Triple.{Triple, xid_eq}
 use Rattle.xa_xid.proofs.Same.{xid_same}
 use Rattle.xa_model.specs.State.{Branch, Decided, count, is_known_as, known_count, name_of, timestamp_of, is_working}
-use Rattle.xa_model.specs.Sound.{IsSound, most_known}
+use Rattle.xa_model.specs.Invariants.Sound.{IsSound, most_known}
 use Rattle.xa_model.specs.Durable.{Durable, CommittedBranch, PreparedBranch, IsDurable, Pairwise, durable, last_writes, by_name, writes_of, keys_before, named_before, named_apart, is_prepared, is_past}
 use Rattle.xa_model.specs.Fold.{fold, reading, unread, is_used, snapshot, sizes}
-use Rattle.xa_model.specs.Loggable.{AreShort, IsLoggable, IsRecoverable}
-use Rattle.xa_model.specs.Backing.{Backs}
+use Rattle.xa_model.specs.Invariants.Loggable.{AreShort, IsLoggable, IsRecoverable}
+use Rattle.xa_model.specs.Invariants.Backing.{Backs}
 use Rattle.xa_model.specs.Restarting.{wrote, committed_branch, prepared_branch, by_time, opening}
-use Rattle.xa_model.specs.Restored.{IsRestored}
-use Rattle.xa_model.specs.BackingLaws.{OpensRestored, OpensFresh}
+use Rattle.xa_model.specs.Invariants.Restored.{IsRestored}
+use Rattle.xa_model.specs.Laws.Backing.{OpensRestored, OpensFresh}
 use Rattle.xa_model.proofs.Inserts.{all_imply, none_passes}
 use Rattle.xa_model.proofs.Counts.{count_nowhere}
 use Rattle.xa_model.proofs.Splits.{all_append}

@@ -2,7 +2,7 @@
 use Rattle.std.proofs.Common.{◌≡◌, ℕ, ◌≤◌, Bool, true, false, cond, List, [], ◌∷◌, arith}
 use Rattle.std.specs.Prelude.{map}
 use Rattle.xa_model.specs.State.{Branch, change, without}
-use Rattle.xa_model.specs.Sound.{Descends}
+use Rattle.xa_model.specs.Invariants.Sound.{Descends}
 
 -- a change that leaves the timestamps
 pub record KeepsTimestamp (f : Branch → Branch) : Type 0 where

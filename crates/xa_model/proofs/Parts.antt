@@ -5,7 +5,7 @@ use Rattle.xa_record.specs.declared.record.Record.{Record}
 use Rattle.xa_xid.specs.Triple.{Triple, xid_eq}
 use Rattle.xa_model.specs.State.{State, Branch, Association, Decided, Read, Standing, known_in, count, change, name_of, is_known_as, is_active, owns, is_loose_with, known_of, holders_of, timestamp_of, is_working, is_at_work}
 use Rattle.xa_model.specs.Associations.{is_of_session}
-use Rattle.xa_model.specs.Sound.{IsSound, Descends, named, most_known}
+use Rattle.xa_model.specs.Invariants.Sound.{IsSound, Descends, named, most_known}
 use Rattle.xa_model.proofs.Counts.{count_same, count_map}
 use Rattle.xa_model.proofs.Finds.{told, told_change, told_map}
 use Rattle.xa_model.proofs.Order.{KeepsTimestamp, change_descends, map_descends}

@@ -4,7 +4,7 @@ use Rattle.std.specs.Prelude.{is_some, find}
 use Rattle.std.specs.List.{AllByRecursion}
 use Rattle.xa_model.specs.State.{Branch, Operation, Got, Wrote, is_committed, is_working, timestamp_of, change}
 use Rattle.xa_model.specs.Source.{write_of, is_late}
-use Rattle.xa_model.specs.Sound.{Descends}
+use Rattle.xa_model.specs.Invariants.Sound.{Descends}
 use Rattle.xa_model.proofs.Inserts.{all_imply, all_both}
 use Rattle.xa_model.proofs.Moves.{Core, GoesOn, Remain, none, goes, stays}
 

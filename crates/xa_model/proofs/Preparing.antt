@@ -19,7 +19,7 @@ use Rattle.xa_model.specs.Completions.{prepare_turn, prepare_written}
 use Rattle.xa_model.specs.Records.{having_done}
 use Rattle.xa_model.specs.Events.{IsHappening, HaveHappened}
 use Rattle.xa_model.specs.History.{Entry, Leads}
-use Rattle.xa_model.specs.Loggable.{IsRecoverable}
+use Rattle.xa_model.specs.Invariants.Loggable.{IsRecoverable}
 use Rattle.xa_model.specs.ListedLaw.{HaveRealMarks, HasPrepared, AsksCompletion, ListsUntilAsked, ListedUntilAsked, ListedSinceBoot, is_prepare, is_request}
 use Rattle.xa_model.proofs.Inserts.{all_front, all_back, all_imply}
 use Rattle.xa_model.proofs.Lists.{found_all, change_all}

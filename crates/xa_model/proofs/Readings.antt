@@ -13,7 +13,7 @@ use Rattle.xa_record.specs.declared.record.Record.TheVariants.{Opened, Prepared,
 use Rattle.xa_model.specs.State.{without}
 use Rattle.xa_model.specs.Durable.{Durable, CommittedBranch, PreparedBranch, IsDurable, insert, commit, commits_before, prepares_before, is_prepared, is_decided, is_past}
 use Rattle.xa_model.specs.Fold.{Reading, prepare, commit_writes, commit_prepared, complete, decide, prepared_as, read, fits, is_new, is_unknown, is_used, is_empty, fold_from, unread}
-use Rattle.xa_model.specs.DurableLaws.{FoldIsDurable}
+use Rattle.xa_model.specs.Laws.Durable.{FoldIsDurable}
 use Rattle.xa_model.proofs.Lists.{found_all, without_all}
 use Rattle.xa_model.proofs.Inserts.{all_imply, insert_all}
 use Rattle.xa_model.proofs.LastWrites.{last_all}

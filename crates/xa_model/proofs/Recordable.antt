@@ -11,8 +11,8 @@ use Rattle.xa_model.specs.State.{State, Branch, Phase, Committed, is_known_as}
 use Rattle.xa_model.specs.Branches.{as_committed, as_prepared, prepared_phase}
 use Rattle.xa_model.specs.Durable.{is_past, writes_of}
 use Rattle.xa_model.specs.Logging.{applied}
-use Rattle.xa_model.specs.MayLog.{MayLog}
-use Rattle.xa_model.specs.Loggable.{AreShort, IsLoggable}
+use Rattle.xa_model.specs.Invariants.MayLog.{MayLog}
+use Rattle.xa_model.specs.Invariants.Loggable.{AreShort, IsLoggable}
 use Rattle.xa_model.specs.Restarting.{lasts}
 use Rattle.xa_limits.specs.declared.TheConstants.{MOST_BOOTS}
 use Rattle.xa_model.proofs.Inserts.{all_imply, all_both, filter_keeps}

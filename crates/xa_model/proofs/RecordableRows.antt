@@ -11,7 +11,7 @@ use Rattle.xa_codes.specs.declared.direction.Direction.TheVariants as direction
 use Rattle.xa_codes.specs.declared.flags.TheConstants.{TMONEPHASE, TMJOIN, TMRESUME, TMSUSPEND, TMMIGRATE, TMFAIL}
 use Rattle.xa_frame.specs.declared.reply.Reply.{Reply}
 use Rattle.xa_frame.specs.declared.request.Request.{Request}
-use Rattle.xa_frame.specs.declared.request.Request.TheVariants.{Open, Close, Start, End, Prepare, Commit, Rollback, Forget, Recover, Get, Put, Delete, Decide, Doom, Restart, Timeout, Tick, Branches}
+use Rattle.xa_frame.specs.declared.request.Request.TheVariants.{Open, Close, Start, End, Prepare, Commit, Rollback, Forget, Recover, Get, Put, Delete, Decide, Doom, Restart, Timeout, Tick, Trim, Branches}
 use Rattle.xa_record.specs.Limits.{IsWrite, IsStamped, IsBranch, IsRecord}
 use Rattle.xa_record.specs.declared.record.Record.{Record}
 use Rattle.xa_record.specs.declared.record.Record.TheVariants as logged
@@ -35,8 +35,8 @@ use Rattle.xa_model.specs.Turn.{Turn, Now, Appends, unless_now, marked_now}
 use Rattle.xa_model.specs.Step.{row, respond, commit_turn, context_of}
 use Rattle.xa_model.specs.Logging.{logs, has_room, log_full, writes_by, writes_in}
 use Rattle.xa_model.specs.Completions.{prepare_written, prepare_turn, commit_written, commit_one_phase_turn, commit_two_phase_turn, roll_back_turn, decide_refusal, forget_refusal}
-use Rattle.xa_model.specs.Loggable.{IsLoggable, is_boot}
-use Rattle.xa_model.specs.Events.{IsAsked, IsEvent, asks_restart, is_restart}
+use Rattle.xa_model.specs.Invariants.Loggable.{IsLoggable, is_boot}
+use Rattle.xa_model.specs.Events.{IsAsked, IsEvent, asks_boot, begins_boot}
 use Rattle.xa_model.proofs.Lists.{change_all, without_all, found_all}
 use Rattle.xa_model.proofs.Rows.{passed, below}
 use Rattle.xa_model.proofs.Recordable.{IsRecordable, AreRecordable, recordable, with_phase, committed_recordable}
@@ -271,7 +271,7 @@ roll_back_keeps s xid (Completed direction) name h = gone_fits s xid h
 
 -- all rows
 
-row_keeps : (s : State) (n : ℕ) (request : Request) → IsAsked request → IsLoggable s → asks_restart request ≡ false → KeepsRecordable s (row s n request)
+row_keeps : (s : State) (n : ℕ) (request : Request) → IsAsked request → IsLoggable s → asks_boot request ≡ false → KeepsRecordable s (row s n request)
 row_keeps s n (Open flags info) is h other = recordable s h
 row_keeps s n (Close flags) is h other = unless_fits (close_refusal (list_any (is_of_session n) s.associations)) s _ (recordable s h) (λ none. recordable s h)
 row_keeps s n (Start flags xid) is h other = start_fits s n flags xid h
@@ -294,9 +294,10 @@ row_keeps s n (Doom xid) is h other = unless_fits (doom_refusal (known_as s xid)
 row_keeps s n Restart is h other = absurd (cc other)
 row_keeps s n (Timeout seconds) is h other = recordable s h
 row_keeps s n (Tick moment) is h other = timed_recordable moment s.logged_boot s.branches (recordable s h)
+row_keeps s n Trim is h other = absurd (cc other)
 row_keeps s n (Branches count after) is h other = recordable s h
 
-pub events_keep_recordable : (s : State) (e : Event) → IsEvent e → IsLoggable s → is_restart e ≡ false → KeepsRecordable s (respond s e)
+pub events_keep_recordable : (s : State) (e : Event) → IsEvent e → IsLoggable s → begins_boot e ≡ false → KeepsRecordable s (respond s e)
 events_keep_recordable s event.Connect is h other = unless_fits (connect_refusal (length s.sessions)) s (connected s) (recordable s h) (λ none. recordable s h)
 events_keep_recordable s (event.Hangup n) is h other = left_recordable s.associations n s.logged_boot s.branches (recordable s h)
 events_keep_recordable s (event.Call n request) is h other =

@@ -1,9 +1,9 @@
 -- Every step leads from a recoverable state to one, and so does every history.
-use Rattle.std.proofs.Common.{◌≡◌, ℕ, Bool, true, false, List, [], ◌∷◌, Option, Some, None, refl, sym, ◌∙◌, subst}
+use Rattle.std.proofs.Common.{◌≡◌, ℕ, ◌+◌, Bool, true, false, List, [], ◌∷◌, Option, Some, None, refl, sym, ◌∙◌, subst}
 use Rattle.std.specs.Prelude.{IfSome, option_map, option_and_then}
 use Rattle.xa_frame.specs.declared.reply.Reply.{Reply}
 use Rattle.xa_frame.specs.declared.request.Request.{Request}
-use Rattle.xa_frame.specs.declared.request.Request.TheVariants.{Open, Close, Start, End, Prepare, Commit, Rollback, Forget, Recover, Get, Put, Delete, Decide, Doom, Restart, Timeout, Tick, Branches}
+use Rattle.xa_frame.specs.declared.request.Request.TheVariants.{Open, Close, Start, End, Prepare, Commit, Rollback, Forget, Recover, Get, Put, Delete, Decide, Doom, Restart, Timeout, Tick, Trim, Branches}
 use Rattle.xa_record.specs.Limits.{IsRecord}
 use Rattle.xa_record.specs.declared.record.Record.{Record}
 use Rattle.xa_record.specs.declared.record.Record.TheVariants as logged
@@ -21,12 +21,13 @@ use Rattle.xa_model.specs.Durable.{IsDurable, durable}
 use Rattle.xa_model.specs.Turn.{Happening, Asked, Reopened, Turn, Nobody, Now, Appends, Checkpoints, Rereads, Rereading, Stops, Opens, going_on, taken, unless_now}
 use Rattle.xa_model.specs.Step.{respond, asked, turn, context_of}
 use Rattle.xa_model.specs.Logging.{applied, down, lost}
+use Rattle.xa_model.specs.Trimming.{trim_refusal, trim_became, trim_turn}
 use Rattle.xa_model.specs.Restarting.{restart_turn, reopen_turn, restarting, reopening, survived, missed}
-use Rattle.xa_model.specs.Events.{IsEvent, IsHappening, asks_restart, is_restart}
-use Rattle.xa_model.specs.MayLog.{MayLog}
-use Rattle.xa_model.specs.Loggable.{MayBeLast, IsRecoverable, is_boot}
-use Rattle.xa_model.specs.LoggingLaws.{KeepsLog, LogsWhatLasts, BootLasts}
-use Rattle.xa_model.specs.BackingLaws.{KeepsRecoverable, AlwaysRecoverable}
+use Rattle.xa_model.specs.Events.{IsEvent, IsHappening, asks_boot, begins_boot}
+use Rattle.xa_model.specs.Invariants.MayLog.{MayLog}
+use Rattle.xa_model.specs.Invariants.Loggable.{MayBeLast, IsRecoverable, is_boot}
+use Rattle.xa_model.specs.Laws.Logging.{KeepsLog, LogsWhatLasts, BootLasts, BeginsWhatLasts}
+use Rattle.xa_model.specs.Laws.Backing.{KeepsRecoverable, AlwaysRecoverable}
 use Rattle.xa_model.proofs.AppliedDecisions.{applied_sound}
 use Rattle.xa_model.proofs.LeavesForm.{leaves_durable}
 use Rattle.xa_model.proofs.LoggedEvents.{events_log_what_lasts}
@@ -35,6 +36,7 @@ use Rattle.xa_model.proofs.RecordableRows.{KeepsRecordable, events_keep_recordab
 use Rattle.xa_model.proofs.StillLogged.{StillMay, down_still}
 use Rattle.xa_model.proofs.Stopped.{down_sound, down_may}
 use Rattle.xa_model.proofs.Restarts.{none_last, restart_lasts, reopen_lasts}
+use Rattle.xa_model.proofs.Trims.{trim_asked, trim_lasts}
 
 -- whatever the device does, the state after is recoverable
 
@@ -107,6 +109,13 @@ reopen_stays : (s : State) (name : List ℕ) (log_bytes : ℕ) → IsRecoverable
 reopen_stays s name log_bytes h =
     let settles = reopen_lasts s name log_bytes h in
     (settles.0.recoverable, found_go_on _ s (reopening name log_bytes) s.open_record settles.1, boots_go_on (missed s) (reopening name log_bytes (missed s)) settles.3)
+
+begins_stay : (s : State) (t : Turn) → BeginsWhatLasts s t → StaysRecoverable t
+begins_stay s Nobody l = absurd l
+begins_stay s (Now a) l = l.recoverable
+begins_stay s (Appends r after) l = absurd l
+begins_stay s (Checkpoints r after) l = boots_go_on s (Opens r after) l.0
+begins_stay s (Rereads failed found missing) l = absurd l
 
 -- where nothing more is logged, and the open record may still be the last
 
@@ -197,7 +206,7 @@ unless_stays : (o : Option Reply) (s : State) (t : Turn) → IsRecoverable s →
 unless_stays None s t h k = k
 unless_stays (Some reply) s t h k = h
 
-asked_to_restart : (s : State) (n : ℕ) (request : Request) → IsRecoverable s → asks_restart request ≡ true → StaysRecoverable (respond s (event.Call n request))
+asked_to_restart : (s : State) (n : ℕ) (request : Request) → IsRecoverable s → asks_boot request ≡ true → StaysRecoverable (respond s (event.Call n request))
 asked_to_restart s n (Open flags info) h e = absurd (cc e)
 asked_to_restart s n (Close flags) h e = absurd (cc e)
 asked_to_restart s n (Start flags xid) h e = absurd (cc e)
@@ -215,14 +224,16 @@ asked_to_restart s n (Doom xid) h e = absurd (cc e)
 asked_to_restart s n (Timeout seconds) h e = absurd (cc e)
 asked_to_restart s n (Tick moment) h e = absurd (cc e)
 asked_to_restart s n (Branches count after) h e = absurd (cc e)
+asked_to_restart s n Trim h e =
+    trim_asked StaysRecoverable s n h (λ up. unless_stays (early_refusal (context_of s n) Trim) s (trim_turn s) h (begins_stay s (trim_turn s) (trim_lasts s h up)))
 asked_to_restart s n Restart h e = unless_stays (early_refusal (context_of s n) Restart) s (restart_turn s) h (restart_stays s h)
 
-restart_asked : (s : State) (e : Event) → IsRecoverable s → is_restart e ≡ true → StaysRecoverable (respond s e)
+restart_asked : (s : State) (e : Event) → IsRecoverable s → begins_boot e ≡ true → StaysRecoverable (respond s e)
 restart_asked s event.Connect h is = absurd (cc is)
 restart_asked s (event.Hangup n) h is = absurd (cc is)
 restart_asked s (event.Call n request) h is = asked_to_restart s n request h is
 
-other_asked : (s : State) (e : Event) (standing : Standing) → s.standing ≡ standing → IsEvent e → IsRecoverable s → is_restart e ≡ false → StaysRecoverable (asked standing (respond s e))
+other_asked : (s : State) (e : Event) (standing : Standing) → s.standing ≡ standing → IsEvent e → IsRecoverable s → begins_boot e ≡ false → StaysRecoverable (asked standing (respond s e))
 other_asked s e Up up is h other = up_stays s (respond s e) h up (events_log_what_lasts s e h.sound other) (events_keep_recordable s e is h.loggable other)
 other_asked s e Down down is h other =
     down_stays s (respond s e) h (events_log_what_lasts s e h.sound other) (events_keep_recordable s e is h.loggable other) (down_still s e down other)
@@ -233,13 +244,13 @@ asked_by Up t h = h
 asked_by Down t h = h
 asked_by Ended t h = tt
 
-event_stays : (s : State) (e : Event) (c : Bool) → is_restart e ≡ c → IsEvent e → IsRecoverable s → StaysRecoverable (asked s.standing (respond s e))
+event_stays : (s : State) (e : Event) (c : Bool) → begins_boot e ≡ c → IsEvent e → IsRecoverable s → StaysRecoverable (asked s.standing (respond s e))
 event_stays s e true c is h = asked_by s.standing (respond s e) (restart_asked s e h c)
 event_stays s e false c is h = other_asked s e s.standing refl is h c
 
 -- each outcome of a turn leads to a recoverable state
 pub turn_stays : (s : State) (happening : Happening) → IsHappening happening → IsRecoverable s → StaysRecoverable (turn s happening)
-turn_stays s (Asked e) is h = event_stays s e (is_restart e) refl is h
+turn_stays s (Asked e) is h = event_stays s e (begins_boot e) refl is h
 turn_stays s (Reopened name log_bytes) is h = reopen_stays s name log_bytes h
 
 pub keeps_recoverable : KeepsRecoverable
@@ -279,7 +290,7 @@ asked_logs Up s t h = h
 asked_logs Down s t h = h
 asked_logs Ended s t h = tt
 
-restart_logs : (s : State) (n : ℕ) (request : Request) → asks_restart request ≡ true → LogsLast s (respond s (event.Call n request))
+restart_logs : (s : State) (n : ℕ) (request : Request) → asks_boot request ≡ true → LogsLast s (respond s (event.Call n request))
 restart_logs s n (Open flags info) e = absurd (cc e)
 restart_logs s n (Close flags) e = absurd (cc e)
 restart_logs s n (Start flags xid) e = absurd (cc e)
@@ -297,24 +308,27 @@ restart_logs s n (Doom xid) e = absurd (cc e)
 restart_logs s n (Timeout seconds) e = absurd (cc e)
 restart_logs s n (Tick moment) e = absurd (cc e)
 restart_logs s n (Branches count after) e = absurd (cc e)
+restart_logs s n Trim e =
+    unless_logs (early_refusal (context_of s n) Trim) s (trim_turn s)
+    (unless_logs (trim_refusal s) s (Checkpoints (logged.Opened (s.logged_boot + 1)) (trim_became s (s.logged_boot + 1))) tt)
 restart_logs s n Restart e = unless_logs (early_refusal (context_of s n) Restart) s (restart_turn s) tt
 
-event_logs : (s : State) (e : Event) → is_restart e ≡ true → LogsLast s (respond s e)
+event_logs : (s : State) (e : Event) → begins_boot e ≡ true → LogsLast s (respond s e)
 event_logs s event.Connect is = absurd (cc is)
 event_logs s (event.Hangup n) is = absurd (cc is)
 event_logs s (event.Call n request) is = restart_logs s n request is
 
-other_logs : (s : State) (e : Event) (standing : Standing) → s.standing ≡ standing → IsEvent e → IsRecoverable s → is_restart e ≡ false → LogsLast s (asked standing (respond s e))
+other_logs : (s : State) (e : Event) (standing : Standing) → s.standing ≡ standing → IsEvent e → IsRecoverable s → begins_boot e ≡ false → LogsLast s (asked standing (respond s e))
 other_logs s e Up up is h other = up_logs s (respond s e) h up (events_log_what_lasts s e h.sound other) (events_keep_recordable s e is h.loggable other)
 other_logs s e Down down is h other = down_logs s (respond s e) (down_still s e down other)
 other_logs s e Ended ended is h other = tt
 
-event_logs_last : (s : State) (e : Event) (c : Bool) → is_restart e ≡ c → IsEvent e → IsRecoverable s → LogsLast s (asked s.standing (respond s e))
+event_logs_last : (s : State) (e : Event) (c : Bool) → begins_boot e ≡ c → IsEvent e → IsRecoverable s → LogsLast s (asked s.standing (respond s e))
 event_logs_last s e true c is h = asked_logs s.standing s (respond s e) (event_logs s e c)
 event_logs_last s e false c is h = other_logs s e s.standing refl is h c
 
 pub turn_logs_last : (s : State) (happening : Happening) → IsHappening happening → IsRecoverable s → LogsLast s (turn s happening)
-turn_logs_last s (Asked e) is h = event_logs_last s e (is_restart e) refl is h
+turn_logs_last s (Asked e) is h = event_logs_last s e (begins_boot e) refl is h
 turn_logs_last s (Reopened name log_bytes) is h = tt
 
 pub logged_record : (s : State) (happening : Happening) (r : Record) (after : Appending → Answer) → IsHappening happening → IsRecoverable s → turn s happening ≡ Appends r after → MayBeLast s r

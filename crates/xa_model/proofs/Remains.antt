@@ -4,7 +4,7 @@ use Rattle.xa_codes.specs.declared.write.Write.{Write}
 use Rattle.xa_xid.specs.Triple.{Triple, xid_eq}
 use Rattle.xa_xid.proofs.Same.{xid_same}
 use Rattle.xa_model.specs.State.{State, Branch, Phase, Working, Prepared, Committed, count, is_known_as, known_of, timestamp_of, is_working}
-use Rattle.xa_model.specs.Sound.{IsSound}
+use Rattle.xa_model.specs.Invariants.Sound.{IsSound}
 use Rattle.xa_model.specs.Durable.{CommittedBranch, PreparedBranch, writes_of, committed_part, prepared_part}
 use Rattle.xa_model.specs.Fold.{prepared_as}
 use Rattle.xa_model.proofs.Lists.{found_passes}

@@ -9,13 +9,13 @@ use Rattle.xa_codes.specs.declared.codes.TheConstants.{XAER_RMFAIL}
 use Rattle.xa_codes.specs.declared.detail.Detail.TheVariants as detail
 use Rattle.xa_model.specs.Answer.{answer, detailed, ok}
 use Rattle.xa_model.specs.Fold.{apply}
-use Rattle.xa_model.specs.Sound.{IsSound, Descends}
+use Rattle.xa_model.specs.Invariants.Sound.{IsSound, Descends}
 use Rattle.xa_model.specs.Durable.{durable, last_writes, by_name, writes_of, committed_part, prepared_part}
 use Rattle.xa_model.specs.Turn.{Stops, Opens}
 use Rattle.xa_model.specs.Restarting.{refused_opening, fates_with, missed, survived, without_scan, lasts, restarted, boot_became, reopen_became, restarting, reopened, reopening, can_open}
 use Rattle.xa_model.specs.Logging.{applied, down}
-use Rattle.xa_model.specs.Loggable.{MayBeLast, IsLoggable, IsRecoverable}
-use Rattle.xa_model.specs.LoggingLaws.{Fails, BootLasts, RestartLasts, ReopenLasts, IsInDoubt}
+use Rattle.xa_model.specs.Invariants.Loggable.{MayBeLast, IsLoggable, IsRecoverable}
+use Rattle.xa_model.specs.Laws.Logging.{Fails, BootLasts, RestartLasts, ReopenLasts, IsInDoubt}
 use Rattle.std.proofs.lemmas.Bool.{and_parts}
 use Rattle.std.proofs.lemmas.Bool.Decides.{nat_tests}
 use Rattle.xa_model.proofs.Counts.{count_filter, count_map}

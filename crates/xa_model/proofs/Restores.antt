@@ -8,7 +8,7 @@ use Rattle.xa_model.specs.Durable.{Durable, is_past}
 use Rattle.xa_model.specs.Fold.{snapshot, sizes}
 use Rattle.xa_model.specs.Logging.{snapshot_end}
 use Rattle.xa_model.specs.Restarting.{lasts, restarted}
-use Rattle.xa_model.specs.BackingLaws.{RestartsRestored, ReopensRestored}
+use Rattle.xa_model.specs.Laws.Backing.{RestartsRestored, ReopensRestored}
 use Rattle.xa_model.proofs.Inserts.{all_filtered, filter_keeps}
 use Rattle.xa_model.proofs.Restarts.{booted_lasts, booted_recoverable, reopened_recoverable}
 

@@ -11,7 +11,7 @@ use Rattle.xa_codes.specs.declared.direction.Direction.TheVariants as direction
 use Rattle.xa_codes.specs.declared.flags.TheConstants.{TMONEPHASE, TMJOIN, TMRESUME, TMSUSPEND, TMMIGRATE, TMFAIL}
 use Rattle.xa_frame.specs.declared.reply.Reply.{Reply}
 use Rattle.xa_frame.specs.declared.request.Request.{Request}
-use Rattle.xa_frame.specs.declared.request.Request.TheVariants.{Open, Close, Start, End, Prepare, Commit, Rollback, Forget, Recover, Get, Put, Delete, Decide, Doom, Restart, Timeout, Tick, Branches}
+use Rattle.xa_frame.specs.declared.request.Request.TheVariants.{Open, Close, Start, End, Prepare, Commit, Rollback, Forget, Recover, Get, Put, Delete, Decide, Doom, Restart, Timeout, Tick, Trim, Branches}
 use Rattle.xa_limits.specs.declared.TheConstants.{MOST_BOOTS}
 use Rattle.xa_record.specs.declared.record.Record.{Record}
 use Rattle.xa_record.specs.declared.record.Record.TheVariants as logged
@@ -33,10 +33,11 @@ use Rattle.xa_model.specs.Turn.{Asked, Reopened, Turn, Now, Stops, Opens, unless
 use Rattle.xa_model.specs.Logging.{logs, has_room, log_full, writes_in, applied, append_became, down}
 use Rattle.xa_model.specs.Completions.{prepare_turn, prepare_written, commit_one_phase_turn, commit_two_phase_turn, commit_written, rollback_turn, roll_back_turn, decide_refusal, forget_refusal}
 use Rattle.xa_model.specs.Restarting.{missed, survived, boot_became, restarting, restart_turn, refused_opening, reopen_became, reopening, can_open}
+use Rattle.xa_model.specs.Trimming.{trim_refusal, trim_became, trim_turn}
 use Rattle.xa_model.specs.Fold.{is_empty}
-use Rattle.xa_model.specs.TimeLaws.{MomentsRise, OpensAtZero}
+use Rattle.xa_model.specs.Laws.Time.{MomentsRise, OpensAtZero}
 use Rattle.xa_model.proofs.Rows.{passed}
-use Rattle.xa_model.proofs.Replies.{AllOf, AllOfReading, taken_all, asked_all, marked_all, cond_all}
+use Rattle.xa_model.proofs.Replies.{AllOf, AllOfReading, taken_all, asked_all, unless_all, marked_all, cond_all}
 
 abbrev Rises : State → Answer → Type 0
 Rises s a = s.moment ≤ a.after.moment
@@ -203,6 +204,14 @@ survivor_boots s (Some r) =
 restart_rises : (s : State) → AllOf (Rises s) (restart_turn s)
 restart_rises s = (itself s, survivor_boots s s.open_record, boots s (missed s) (nat_lt s.logged_boot MOST_BOOTS) refl)
 
+trim_rises : (s : State) → AllOf (Rises s) (trim_turn s)
+trim_rises s = unless_all (Rises s) (trim_refusal s) s _ (λ reply is. itself s) by_fate
+  where
+    by_fate : (x : Appending) → Rises s (trim_became s (s.logged_boot + 1) x)
+    by_fate Kept = itself s
+    by_fate Refused = itself s
+    by_fate Lost = itself s
+
 -- a moment below the last one is refused
 
 last_passed : (a b c d f : Bool) (p q r s t : Reply)
@@ -244,6 +253,7 @@ row_rises s n (Doom xid) e = unless_rises (doom_refusal (known_as s xid)) s (ok 
 row_rises s n Restart e = restart_rises s
 row_rises s n (Timeout seconds) e = itself s
 row_rises s n (Tick moment) e = not_before (context_of s n) moment e
+row_rises s n Trim e = trim_rises s
 row_rises s n (Branches count after) e = itself s
 
 respond_rises : (s : State) (e : Event) → AllOf (Rises s) (respond s e)

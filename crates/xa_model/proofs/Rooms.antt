@@ -19,10 +19,10 @@ use Rattle.xa_model.specs.Fold.{fold, nothing, size_of}
 use Rattle.xa_model.specs.Logging.{log_room, has_room, is_in_doubt, prepared_count, snapshot_end, applied}
 use Rattle.xa_limits.specs.declared.TheConstants.{DECIDED_ROOM, LENGTH_BYTES, PREPARED_ROOM}
 use Rattle.xa_model.specs.Completions.{is_completed}
-use Rattle.xa_model.specs.MayLog.{MayLog}
-use Rattle.xa_model.specs.Loggable.{IsRecoverable, is_boot}
-use Rattle.xa_model.specs.Backing.{Backs}
-use Rattle.xa_model.specs.Room.{HasRoom, IsRoomy}
+use Rattle.xa_model.specs.Invariants.MayLog.{MayLog}
+use Rattle.xa_model.specs.Invariants.Loggable.{IsRecoverable, is_boot}
+use Rattle.xa_model.specs.Invariants.Backing.{Backs}
+use Rattle.xa_model.specs.Invariants.Room.{HasRoom, IsRoomy}
 use Rattle.xa_model.proofs.Counts.{count_change, count_changed}
 use Rattle.xa_model.proofs.Splits.{split}
 use Rattle.xa_model.proofs.Applied.{prepared_of}

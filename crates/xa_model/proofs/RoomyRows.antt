@@ -8,7 +8,7 @@ use Rattle.xa_codes.specs.declared.direction.Direction.TheVariants as direction
 use Rattle.xa_codes.specs.declared.flags.TheConstants.{TMONEPHASE, TMJOIN, TMRESUME, TMSUSPEND, TMMIGRATE, TMFAIL}
 use Rattle.xa_frame.specs.declared.reply.Reply.{Reply}
 use Rattle.xa_frame.specs.declared.request.Request.{Request}
-use Rattle.xa_frame.specs.declared.request.Request.TheVariants.{Open, Close, Start, End, Prepare, Commit, Rollback, Forget, Recover, Get, Put, Delete, Decide, Doom, Restart, Timeout, Tick, Branches}
+use Rattle.xa_frame.specs.declared.request.Request.TheVariants.{Open, Close, Start, End, Prepare, Commit, Rollback, Forget, Recover, Get, Put, Delete, Decide, Doom, Restart, Timeout, Tick, Trim, Branches}
 use Rattle.xa_record.specs.declared.record.Record.TheVariants as logged
 use Rattle.xa_xid.specs.Triple.{Triple}
 use Rattle.xa_model.specs.declared.event.Event.{Event}
@@ -27,7 +27,7 @@ use Rattle.xa_model.specs.Turn.{Turn, Now, Appends, unless_now, marked_now}
 use Rattle.xa_model.specs.Logging.{logs, has_room, log_full, writes_in}
 use Rattle.xa_model.specs.Completions.{prepare_turn, prepare_written, commit_one_phase_turn, commit_two_phase_turn, commit_written, rollback_turn, roll_back_turn, decide_refusal, forget_refusal}
 use Rattle.xa_model.specs.Fold.{is_empty}
-use Rattle.xa_model.specs.Events.{asks_restart, is_restart}
+use Rattle.xa_model.specs.Events.{asks_boot, begins_boot}
 use Rattle.xa_model.proofs.Rooms.{HasRoomFor}
 
 -- what is answered at once, and what a refused record leaves, has a log of as many bytes
@@ -155,7 +155,7 @@ rollback_asks s xid =
 
 -- all rows
 
-row_asks : (s : State) (n : ℕ) (request : Request) → asks_restart request ≡ false → AsksRoom s (row s n request)
+row_asks : (s : State) (n : ℕ) (request : Request) → asks_boot request ≡ false → AsksRoom s (row s n request)
 row_asks s n (Open flags info) e = refl
 row_asks s n (Close flags) e = unless_same (close_refusal (list_any (is_of_session n) s.associations)) s _ refl
 row_asks s n (Start flags xid) e = start_same s n flags xid
@@ -177,9 +177,10 @@ row_asks s n (Doom xid) e = unless_same (doom_refusal (known_as s xid)) s (ok (d
 row_asks s n Restart e = absurd (cc e)
 row_asks s n (Timeout seconds) e = refl
 row_asks s n (Tick moment) e = refl
+row_asks s n Trim e = absurd (cc e)
 row_asks s n (Branches count after) e = refl
 
-pub events_ask_room : (s : State) (e : Event) → is_restart e ≡ false → AsksRoom s (respond s e)
+pub events_ask_room : (s : State) (e : Event) → begins_boot e ≡ false → AsksRoom s (respond s e)
 events_ask_room s event.Connect e = unless_same (connect_refusal _) s (connected s) refl
 events_ask_room s (event.Hangup n) e = refl
 events_ask_room s (event.Call n request) e =

@@ -7,7 +7,7 @@ use Rattle.xa_codes.specs.declared.detail.Detail.TheVariants as detail
 use Rattle.xa_codes.specs.declared.direction.Direction.TheVariants as direction
 use Rattle.xa_frame.specs.declared.reply.Reply.{Reply}
 use Rattle.xa_frame.specs.declared.request.Request.{Request}
-use Rattle.xa_frame.specs.declared.request.Request.TheVariants.{Restart}
+use Rattle.xa_frame.specs.declared.request.Request.TheVariants.{Restart, Trim}
 use Rattle.xa_record.specs.declared.record.Record.{Record}
 use Rattle.xa_record.specs.declared.record.Record.TheVariants as logged
 use Rattle.xa_model.specs.declared.event.Event.{Event}
@@ -25,15 +25,14 @@ use Rattle.xa_model.specs.Turn.{Asked, Reopened, Turn, Nobody, Now, Appends, Che
 use Rattle.xa_model.specs.Step.{respond, asked, turn, context_of}
 use Rattle.xa_model.specs.Logging.{is_in_doubt, snapshot_end, applied, down, lost}
 use Rattle.xa_model.specs.Restarting.{missed, survived, lasts, restarted, restart_turn, restarting, boot_became, reopened, reopen_became, reopening, reopen_turn, refused_opening, can_open}
-use Rattle.xa_model.specs.Events.{IsEvent, is_restart}
-use Rattle.xa_model.specs.MayLog.{MayLog}
-use Rattle.xa_model.specs.Loggable.{IsRecoverable, MayBeLast}
-use Rattle.xa_model.specs.LoggingLaws.{KeepsLog, LogsWhatLasts}
-use Rattle.xa_model.specs.Backing.{Backs, settled}
-use Rattle.xa_model.specs.Room.{HasRoom, HasRoomAnyway, IsRoomy, KeepsRoom, RestartKeepsRoom, TrimHasRoom}
+use Rattle.xa_model.specs.Events.{IsEvent, is_restart, begins_boot}
+use Rattle.xa_model.specs.Invariants.MayLog.{MayLog}
+use Rattle.xa_model.specs.Invariants.Loggable.{IsRecoverable, MayBeLast}
+use Rattle.xa_model.specs.Laws.Logging.{KeepsLog, LogsWhatLasts}
+use Rattle.xa_model.specs.Invariants.Backing.{Backs, settled}
+use Rattle.xa_model.specs.Invariants.Room.{HasRoom, HasRoomAnyway, IsRoomy, KeepsRoom, RestartKeepsRoom, TrimHasRoom}
 use Rattle.xa_model.specs.Trimming.{trim_refusal, trimmed, trim_became, trim_turn}
-use Rattle.xa_model.specs.TrimLaws.{TrimKeepsRoom}
-use Rattle.xa_model.proofs.Trims.{may_trim}
+use Rattle.xa_model.proofs.Trims.{may_trim, trim_asked}
 use Rattle.xa_model.proofs.Counts.{count_filter}
 use Rattle.xa_model.proofs.AppliedDecisions.{applied_lasts}
 use Rattle.xa_model.proofs.LoggedEvents.{events_log_what_lasts}
@@ -321,7 +320,7 @@ restart_only rs s event.Connect e h k room = absurd (cc e)
 restart_only rs s (event.Hangup n) e h k room = absurd (cc e)
 restart_only rs s (event.Call n request) e h k room = restart_asked rs s n request e h k room
 
-other_leaves : (s : State) (e : Event) (standing : Standing) → s.standing ≡ standing → IsEvent e → is_restart e ≡ false → IsRecoverable s
+other_leaves : (s : State) (e : Event) (standing : Standing) → s.standing ≡ standing → IsEvent e → begins_boot e ≡ false → IsRecoverable s
     → IsRoomy s
     → Leaves HasRoomAnyway (asked standing (respond s e))
 other_leaves s e Up up is other h room =
@@ -331,30 +330,6 @@ other_leaves s e Down isdown is other h room =
     down_leaves s (respond s e) h (room (answers s Down isdown (λ no. cc no))) (events_log_what_lasts s e h.sound other)
     (events_ask_room s e other) (down_still s e isdown other)
 other_leaves s e Ended ended is other h room = tt
-
-restart_standing : (rs : List Record) (s : State) (e : Event) (standing : Standing) → s.standing ≡ standing → is_restart e ≡ true → IsRecoverable s
-    → Backs rs s → IsRoomy s
-    → Leaves HasRoomAnyway (asked standing (respond s e))
-restart_standing rs s e Up up is h k room = restart_only rs s e is h k (room (answers s Up up (λ no. cc no)))
-restart_standing rs s e Down isdown is h k room = restart_only rs s e is h k (room (answers s Down isdown (λ no. cc no)))
-restart_standing rs s e Ended ended is h k room = tt
-
-event_leaves : (rs : List Record) (s : State) (e : Event) (c : Bool) → is_restart e ≡ c → IsEvent e → IsRecoverable s → Backs rs s → IsRoomy s
-    → Leaves HasRoomAnyway (asked s.standing (respond s e))
-event_leaves rs s e true c is h k room = restart_standing rs s e s.standing refl c h k room
-event_leaves rs s e false c is h k room = other_leaves s e s.standing refl is c h room
-
-pub keeps_room : KeepsRoom
-keeps_room s e outcome a is h room other taken =
-    let left : HasRoomAnyway a.after
-    = taken_left HasRoomAnyway (turn s (Asked e)) outcome a (other_leaves s e s.standing refl is other h room) taken in λ up. left
-
-pub restart_keeps_room : RestartKeepsRoom
-restart_keeps_room rs s (Asked e) outcome a is h k room taken =
-    let left : HasRoomAnyway a.after
-    = taken_left HasRoomAnyway (turn s (Asked e)) outcome a (event_leaves rs s e (is_restart e) refl is h k room) taken in λ up. left
-restart_keeps_room rs s (Reopened name log_bytes) outcome a is h k room taken =
-    taken_left IsRoomy (turn s (Reopened name log_bytes)) outcome a (reopen_leaves s name log_bytes) taken
 
 -- a trim: the room is that of its own test
 
@@ -371,11 +346,59 @@ trim_by s None e none room = λ x. by_fate x
     by_fate Refused = room
     by_fate Lost = lost_room s (logged.Opened (s.logged_boot + 1)) room.room (may_trim s e).room
 
-pub trim_keeps_room : TrimKeepsRoom
-trim_keeps_room s outcome a h up taken room =
+trim_only : (s : State) (n : ℕ) (request : Request) → is_restart (event.Call n request) ≡ false → begins_boot (event.Call n request) ≡ true
+    → IsRecoverable s → HasRoomAnyway s
+    → Leaves HasRoomAnyway (respond s (event.Call n request))
+trim_only s n Trim other e h room =
+    trim_asked (Leaves HasRoomAnyway) s n room
+    (λ up. unless_leaves (early_refusal (context_of s n) Trim) s (trim_turn s) room (trim_by s (trim_refusal s) refl (h.settled up) room))
+trim_only s n Restart other e h room = absurd (cc other)
+trim_only s n request other e h room = absurd (cc e)
+
+trims_leave : (s : State) (e : Event) → is_restart e ≡ false → begins_boot e ≡ true → IsRecoverable s → HasRoomAnyway s
+    → Leaves HasRoomAnyway (respond s e)
+trims_leave s event.Connect other e h room = absurd (cc e)
+trims_leave s (event.Hangup n) other e h room = absurd (cc e)
+trims_leave s (event.Call n request) other e h room = trim_only s n request other e h room
+
+trim_standing : (s : State) (e : Event) (standing : Standing) → s.standing ≡ standing → is_restart e ≡ false → begins_boot e ≡ true → IsRecoverable s
+    → IsRoomy s
+    → Leaves HasRoomAnyway (asked standing (respond s e))
+trim_standing s e Up up other is h room = trims_leave s e other is h (room (answers s Up up (λ no. cc no)))
+trim_standing s e Down isdown other is h room = trims_leave s e other is h (room (answers s Down isdown (λ no. cc no)))
+trim_standing s e Ended ended other is h room = tt
+
+-- all but a restart
+asked_leaves : (s : State) (e : Event) (c : Bool) → begins_boot e ≡ c → IsEvent e → is_restart e ≡ false → IsRecoverable s → IsRoomy s
+    → Leaves HasRoomAnyway (asked s.standing (respond s e))
+asked_leaves s e true c is other h room = trim_standing s e s.standing refl other c h room
+asked_leaves s e false c is other h room = other_leaves s e s.standing refl is c h room
+
+restart_standing : (rs : List Record) (s : State) (e : Event) (standing : Standing) → s.standing ≡ standing → is_restart e ≡ true → IsRecoverable s
+    → Backs rs s → IsRoomy s
+    → Leaves HasRoomAnyway (asked standing (respond s e))
+restart_standing rs s e Up up is h k room = restart_only rs s e is h k (room (answers s Up up (λ no. cc no)))
+restart_standing rs s e Down isdown is h k room = restart_only rs s e is h k (room (answers s Down isdown (λ no. cc no)))
+restart_standing rs s e Ended ended is h k room = tt
+
+event_leaves : (rs : List Record) (s : State) (e : Event) (c : Bool) → is_restart e ≡ c → IsEvent e → IsRecoverable s → Backs rs s → IsRoomy s
+    → Leaves HasRoomAnyway (asked s.standing (respond s e))
+event_leaves rs s e true c is h k room = restart_standing rs s e s.standing refl c h k room
+event_leaves rs s e false c is h k room = asked_leaves s e (begins_boot e) refl is c h room
+
+pub keeps_room : KeepsRoom
+keeps_room s e outcome a is h room other taken =
     let left : HasRoomAnyway a.after
-    = taken_left HasRoomAnyway (trim_turn s) outcome a
-    (trim_by s (trim_refusal s) refl (h.settled up) (room (answers s Up up (λ no. cc no)))) taken in λ up. left
+    = taken_left HasRoomAnyway (turn s (Asked e)) outcome a (asked_leaves s e (begins_boot e) refl is other h room) taken in λ up. left
+
+pub restart_keeps_room : RestartKeepsRoom
+restart_keeps_room rs s (Asked e) outcome a is h k room taken =
+    let left : HasRoomAnyway a.after
+    = taken_left HasRoomAnyway (turn s (Asked e)) outcome a (event_leaves rs s e (is_restart e) refl is h k room) taken in λ up. left
+restart_keeps_room rs s (Reopened name log_bytes) outcome a is h k room taken =
+    taken_left IsRoomy (turn s (Reopened name log_bytes)) outcome a (reopen_leaves s name log_bytes) taken
+
+-- a trim has the room where records stand behind the state
 
 pub trim_has_room : TrimHasRoom
 trim_has_room rs s h k room = opened_room rs s (s.logged_boot + 1) h k room

@@ -8,7 +8,7 @@ use Rattle.xa_xid.specs.Triple.{Triple, xid_eq}
 use Rattle.xa_model.specs.State.{State, Branch, Phase, Working, Prepared, Committed, Decided, Association, count, is_known_as, known_of, decided_of, known_by, known_among, known_as, active_of, is_active, is_working, is_at_work}
 use Rattle.xa_model.specs.Answer.{Answer, unless, marked}
 use Rattle.xa_model.specs.Associations.{is_taken, is_unknown, is_lasting}
-use Rattle.xa_model.specs.Sound.{IsSound, named}
+use Rattle.xa_model.specs.Invariants.Sound.{IsSound, named}
 use Rattle.xa_model.proofs.Counts.{count_none}
 use Rattle.xa_model.proofs.Lists.{found_passes}
 

@@ -5,7 +5,7 @@ use Rattle.std.proofs.lemmas.Bool.Decides.{nat_tests}
 use Rattle.xa_model.specs.State.{State, Session, count, change, without, session_of, free_number, new_session}
 use Rattle.xa_model.specs.Associations.{is_of_session, connect_refusal, connected, connect_by, hang_up_by, left_behind}
 use Rattle.xa_limits.specs.declared.TheConstants.{MOST_SESSIONS}
-use Rattle.xa_model.specs.Sound.{IsSound}
+use Rattle.xa_model.specs.Invariants.Sound.{IsSound}
 use Rattle.xa_model.proofs.Counts.{count_none, count_same, count_without, count_filter, count_out}
 use Rattle.xa_model.proofs.Finds.{none_before, find_without}
 use Rattle.xa_model.proofs.Lists.{length-change}

@@ -14,7 +14,7 @@ use Rattle.xa_model.specs.Durable.{Pairwise, keys_before, value_in, put_write, w
 use Rattle.xa_model.specs.Fold.{is_empty}
 use Rattle.xa_model.specs.Records.{is_full}
 use Rattle.xa_limits.specs.declared.TheConstants.{MOST_WRITES}
-use Rattle.xa_model.specs.Loggable.{AreShort}
+use Rattle.xa_model.specs.Invariants.Loggable.{AreShort}
 use Rattle.xa_model.proofs.Inserts.{all_imply}
 use Rattle.xa_model.proofs.Members.{less_is, keys_strict, keys_transitive}
 use Rattle.xa_model.proofs.LastOfKeys.{put_all, above, writes_of_law}

@@ -10,7 +10,7 @@ use Rattle.xa_record.specs.declared.record.Record.TheVariants.{Opened}
 use Rattle.xa_model.specs.State.{Decided}
 use Rattle.xa_model.specs.Durable.{Durable, CommittedBranch, PreparedBranch, Pairwise, AreLast, commit, commits_before, prepares_before, named_before, named_apart, is_prepared, is_past, last_writes}
 use Rattle.xa_model.specs.Fold.{Reading, fold_from, unread, is_used, base, held, known}
-use Rattle.xa_model.specs.DurableLaws.{SnapshotFolds}
+use Rattle.xa_model.specs.Laws.Durable.{SnapshotFolds}
 use Rattle.xa_model.proofs.Inserts.{all_imply, all_both, all_pass, none_passes, insert_last, pairwise_before, pairwise_behind}
 use Rattle.xa_model.proofs.LastWrites.{last_same, last_front}
 use Rattle.xa_model.proofs.Folds.{step}

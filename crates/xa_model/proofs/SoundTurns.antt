@@ -10,9 +10,9 @@ use Rattle.xa_model.specs.State.{State, Standing, Up, Down, Ended}
 use Rattle.xa_model.specs.Answer.{Answer}
 use Rattle.xa_model.specs.Turn.{Turn, Nobody, Now, Appends, Checkpoints, Rereads, taken}
 use Rattle.xa_model.specs.Step.{respond, asked}
-use Rattle.xa_model.specs.Events.{is_restart}
-use Rattle.xa_model.specs.Sound.{IsSound}
-use Rattle.xa_model.specs.LoggingLaws.{LogsWhatLasts}
+use Rattle.xa_model.specs.Events.{begins_boot}
+use Rattle.xa_model.specs.Invariants.Sound.{IsSound}
+use Rattle.xa_model.specs.Laws.Logging.{LogsWhatLasts}
 use Rattle.xa_model.specs.Laws.{KeepsSound}
 use Rattle.xa_model.proofs.AppliedDecisions.{applied_sound}
 use Rattle.xa_model.proofs.Stopped.{down_sound}
@@ -37,7 +37,7 @@ logged_sound s (Appends r after) h logs = appended_sound s r after h logs
 logged_sound s (Checkpoints r after) h logs = logs
 logged_sound s (Rereads failed survived missing) h logs = logs
 
-pub respond_sound : (s : State) (e : Event) → IsSound s → is_restart e ≡ false → IsSoundTurn (respond s e)
+pub respond_sound : (s : State) (e : Event) → IsSound s → begins_boot e ≡ false → IsSoundTurn (respond s e)
 respond_sound s e h other = logged_sound s (respond s e) h (events_log_what_lasts s e h other)
 
 same_sound : (a b : Answer) → IsSound a.after → Some a ≡ Some b → IsSound b.after

@@ -16,7 +16,7 @@ use Rattle.xa_model.specs.Durable.{durable}
 use Rattle.xa_model.specs.Listed.{list_after}
 use Rattle.xa_model.specs.TimeLimits.{timed_out, with_limit, tick_by, timeout_by}
 use Rattle.xa_model.specs.Recovering.{scan_of, scan_from, scan_after, with_scan, recovered_from, recover_by}
-use Rattle.xa_model.specs.Sound.{IsSound}
+use Rattle.xa_model.specs.Invariants.Sound.{IsSound}
 use Rattle.xa_model.proofs.Parts.{sound_beside, with_branches, mapped_kept}
 use Rattle.xa_model.proofs.Marks.{mark_keeps, done_keeps, timed_keeps, changed_sound}
 use Rattle.xa_model.proofs.Rows.{unless_sound, marked_sound, passed}

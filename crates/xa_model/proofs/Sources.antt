@@ -5,7 +5,7 @@ use Rattle.std.specs.List.{AllByRecursion}
 use Rattle.std.proofs.lemmas.Bool.Decides.{nat_tests}
 use Rattle.xa_model.specs.State.{Branch, is_committed}
 use Rattle.xa_model.specs.Source.{Version, write_of, versions_of, absent, later, source}
-use Rattle.xa_model.specs.Sound.{Descends}
+use Rattle.xa_model.specs.Invariants.Sound.{Descends}
 use Rattle.xa_model.proofs.Pins.{Has, below_limit}
 
 -- the branch left this version

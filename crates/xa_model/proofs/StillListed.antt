@@ -13,8 +13,8 @@ use Rattle.xa_model.specs.Fold.{apply}
 use Rattle.xa_model.specs.Turn.{Happening}
 use Rattle.xa_model.specs.Events.{HaveHappened}
 use Rattle.xa_model.specs.History.{Entry, Leads}
-use Rattle.xa_model.specs.MayLog.{MayLog}
-use Rattle.xa_model.specs.Loggable.{IsRecoverable}
+use Rattle.xa_model.specs.Invariants.MayLog.{MayLog}
+use Rattle.xa_model.specs.Invariants.Loggable.{IsRecoverable}
 use Rattle.xa_model.specs.ListedLaw.{IsDone, MayBeDone, AsksCompletion, CallsPrepare, is_completion, is_prepare, is_request}
 use Rattle.xa_model.proofs.Fated.{IsFated, Spares, always_fated}
 use Rattle.xa_model.proofs.Listing.{is_held, ends, applied_held, applied_free, or_left}

@@ -6,7 +6,7 @@ use Rattle.xa_codes.specs.declared.codes.TheConstants.{XA_RBCOMMFAIL}
 use Rattle.xa_codes.specs.declared.direction.Direction.{Direction}
 use Rattle.xa_frame.specs.declared.reply.Reply.{Reply}
 use Rattle.xa_frame.specs.declared.request.Request.{Request}
-use Rattle.xa_frame.specs.declared.request.Request.TheVariants.{Open, Close, Start, End, Prepare, Commit, Rollback, Forget, Recover, Get, Put, Delete, Decide, Doom, Restart, Timeout, Tick, Branches}
+use Rattle.xa_frame.specs.declared.request.Request.TheVariants.{Open, Close, Start, End, Prepare, Commit, Rollback, Forget, Recover, Get, Put, Delete, Decide, Doom, Restart, Timeout, Tick, Trim, Branches}
 use Rattle.xa_record.specs.declared.record.Record.{Record}
 use Rattle.xa_record.specs.declared.record.Record.TheVariants as logged
 use Rattle.xa_xid.specs.Triple.{Triple, xid_eq}
@@ -20,8 +20,8 @@ use Rattle.xa_model.specs.Turn.{Turn, Now, unless_now}
 use Rattle.xa_model.specs.Step.{row, respond, is_up, context_of}
 use Rattle.xa_model.specs.Logging.{writes_by}
 use Rattle.xa_model.specs.Completions.{is_completed}
-use Rattle.xa_model.specs.MayLog.{IsIdle, MayLog}
-use Rattle.xa_model.specs.Events.{asks_restart, is_restart}
+use Rattle.xa_model.specs.Invariants.MayLog.{IsIdle, MayLog}
+use Rattle.xa_model.specs.Events.{asks_boot, begins_boot}
 use Rattle.xa_model.proofs.Counts.{count_filter}
 use Rattle.xa_model.proofs.Marks.{left_keeps}
 use Rattle.xa_model.proofs.Parts.{at_work_map}
@@ -136,7 +136,7 @@ unless_may : (o : Option Reply) (s : State) (a : Answer) (r : Record) → MayLog
 unless_may None s a r h k = k
 unless_may (Some reply) s a r h k = h
 
-down_calls : (s : State) (n : ℕ) (up : Bool) (request : Request) → up ≡ false → asks_restart request ≡ false
+down_calls : (s : State) (n : ℕ) (up : Bool) (request : Request) → up ≡ false → asks_boot request ≡ false
     → StillMay s (unless_now (early_refusal (record (context_of s n) { up = up }) request) s (row s n request))
 down_calls s n true request down other = absurd (cc down)
 down_calls s n false (Open flags info) down other =
@@ -160,8 +160,9 @@ down_calls s n false (Timeout seconds) down other = λ r may. may
 down_calls s n false (Tick moment) down other = λ r may. may
 down_calls s n false (Branches count after) down other = λ r may. may
 down_calls s n false Restart down other = absurd (cc other)
+down_calls s n false Trim down other = absurd (cc other)
 
-pub down_still : (s : State) (e : Event) → s.standing ≡ Down → is_restart e ≡ false → StillMay s (respond s e)
+pub down_still : (s : State) (e : Event) → s.standing ≡ Down → begins_boot e ≡ false → StillMay s (respond s e)
 down_still s event.Connect down other = λ r may. unless_may (connect_refusal (length s.sessions)) s (connected s) r may (seated_may s _ r may)
 down_still s (event.Hangup n) down other = λ r may. hung_up_may s n _ r may
 down_still s (event.Call n request) down other = down_calls s n (is_up s.standing) request (ap is_up down) other

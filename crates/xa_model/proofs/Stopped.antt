@@ -4,11 +4,11 @@ use Rattle.xa_codes.specs.declared.direction.Direction.TheVariants as direction
 use Rattle.xa_record.specs.declared.record.Record.{Record}
 use Rattle.xa_record.specs.declared.record.Record.TheVariants as logged
 use Rattle.xa_model.specs.State.{State, Down, Ended}
-use Rattle.xa_model.specs.Sound.{IsSound}
+use Rattle.xa_model.specs.Invariants.Sound.{IsSound}
 use Rattle.xa_model.specs.Durable.{durable}
 use Rattle.xa_model.specs.Restarting.{refused_opening}
 use Rattle.xa_model.specs.Logging.{applied, down}
-use Rattle.xa_model.specs.MayLog.{MayLog}
+use Rattle.xa_model.specs.Invariants.MayLog.{MayLog}
 use Rattle.xa_model.proofs.Parts.{sound_beside, left_sound}
 
 pub down_sound : (s : State) (r : Option Record) → IsSound s → IsSound (record (down s) { open_record = r })

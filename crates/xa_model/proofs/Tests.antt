@@ -12,7 +12,7 @@ use Rattle.std.proofs.lemmas.Cmp.{and_equiv, on_equiv, int_eq_equiv, nat_list_eq
 use Rattle.xa_xid.specs.Triple.{Triple, xid_eq, xid_cmp}
 use Rattle.xa_xid.proofs.Same.{xid_same, xid_eq_same, xid_cmp_same, xid_cmp_equal, xid_cmp_total}
 use Rattle.xa_model.specs.Durable.{commits_before, prepares_before, named_before, is_past, boot_of, number_of}
-use Rattle.xa_model.specs.DurableLaws.{TakesOwnBoot}
+use Rattle.xa_model.specs.Laws.Durable.{TakesOwnBoot}
 use Rattle.xa_model.specs.Fold.{is_used}
 use Rattle.xa_model.proofs.Inserts.{IsTransitive}
 

@@ -3,7 +3,7 @@ use Rattle.std.proofs.Common.{◌≡◌, ℕ, ◌<◌, Bool, true, false, cond, 
 use Rattle.xa_xid.specs.Triple.{Triple}
 use Rattle.xa_model.specs.State.{Branch, is_known_as, known_of}
 use Rattle.xa_model.specs.Source.{Version, version_by, write_of}
-use Rattle.xa_model.specs.Sound.{Descends}
+use Rattle.xa_model.specs.Invariants.Sound.{Descends}
 
 -- the version of a branch has the branch's timestamp
 abbrev timestamp_or : ℕ → Option Version → ℕ

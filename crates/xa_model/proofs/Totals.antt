@@ -8,7 +8,7 @@ use Rattle.xa_record.specs.declared.record.Record.{Record}
 use Rattle.xa_record.specs.declared.record.Record.TheVariants as logged
 use Rattle.xa_frame.specs.declared.reply.Reply.{Reply}
 use Rattle.xa_frame.specs.declared.request.Request.{Request}
-use Rattle.xa_frame.specs.declared.request.Request.TheVariants.{Open, Close, Start, End, Prepare, Commit, Rollback, Forget, Recover, Get, Put, Delete, Decide, Doom, Restart, Timeout, Tick, Branches}
+use Rattle.xa_frame.specs.declared.request.Request.TheVariants.{Open, Close, Start, End, Prepare, Commit, Rollback, Forget, Recover, Get, Put, Delete, Decide, Doom, Restart, Timeout, Tick, Trim, Branches}
 use Rattle.xa_xid.specs.Triple.{Triple}
 use Rattle.xa_model.specs.declared.event.Event.{Event}
 use Rattle.xa_model.specs.declared.event.Event.TheVariants as event
@@ -25,10 +25,11 @@ use Rattle.xa_model.specs.Early.{early_refusal}
 use Rattle.xa_model.specs.Fold.{is_empty}
 use Rattle.xa_model.specs.Logging.{has_room, writes_in, append_became, log_full}
 use Rattle.xa_model.specs.Turn.{Happening, Asked, Reopened, Turn, Nobody, Now, Appends, Checkpoints, Rereads, Rereading, Stops, Opens, taken, going_on, unless_now, marked_now}
+use Rattle.xa_model.specs.Trimming.{trim_refusal}
 use Rattle.xa_model.specs.Step.{turn, row, respond, asked, commit_turn, context_of}
 use Rattle.xa_model.specs.Restarting.{restarting, reopening, can_open, missed, survived}
 use Rattle.xa_limits.specs.declared.TheConstants.{MOST_BOOTS}
-use Rattle.xa_model.specs.Total.{fits, fits_rereading, StepIsTotal, is_over, NothingIsStuck, NobodyAnswers, RestartsLook, OpeningsLook}
+use Rattle.xa_model.specs.Laws.Total.{fits, fits_rereading, StepIsTotal, is_over, NothingIsStuck, NobodyAnswers, RestartsLook, OpeningsLook}
 
 going_fits : (r : Rereading) (x : Option Appending) → is_some (going_on x r) ≡ fits_rereading (Some r) x
 going_fits (Stops a) None = refl
@@ -74,6 +75,9 @@ now_taken a = record { outcome = Quiet; fitting = refl }
 
 appends_taken : (r : Record) (after : Appending → Answer) → IsTaken (Appends r after)
 appends_taken r after = record { outcome = Appended Kept; fitting = refl }
+
+checkpoints_taken : (r : Record) (after : Appending → Answer) → IsTaken (Checkpoints r after)
+checkpoints_taken r after = record { outcome = Appended Kept; fitting = refl }
 
 rereads_taken : (failed : Answer) (found : Option Rereading) (missing : Rereading) → IsTaken (Rereads failed found missing)
 rereads_taken failed found missing = record { outcome = Failed; fitting = refl }
@@ -143,6 +147,7 @@ row_taken s n (Doom xid) = now_taken _
 row_taken s n Restart = rereads_taken _ _ _
 row_taken s n (Timeout seconds) = now_taken _
 row_taken s n (Tick moment) = now_taken _
+row_taken s n Trim = unless_taken (trim_refusal s) s _ (checkpoints_taken _ _)
 row_taken s n (Branches count after) = now_taken _
 
 respond_taken : (s : State) (e : Event) → IsTaken (respond s e)

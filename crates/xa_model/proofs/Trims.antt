@@ -1,19 +1,26 @@
 -- A trim begins a boot, with what lasts and with all that is at work; or it leaves the state as it was.
-use Rattle.std.proofs.Common.{◌≡◌, ℕ, ◌+◌, ◌<◌, true, not, Option, Some, None, [], ◌∷◌, refl, arith}
+use Rattle.std.proofs.Common.{◌≡◌, ℕ, ◌+◌, ◌<◌, true, false, not, Option, Some, None, [], ◌∷◌, refl, sym, subst, arith}
 use Rattle.std.specs.Prelude.{nat_lt}
 use Rattle.std.proofs.lemmas.Bool.{not-false}
-use Rattle.xa_codes.specs.declared.codes.TheConstants.{XAER_RMERR}
+use Rattle.xa_codes.specs.declared.codes.TheConstants.{XAER_RMERR, XAER_RMFAIL}
 use Rattle.xa_codes.specs.declared.detail.Detail.TheVariants as detail
 use Rattle.xa_frame.specs.declared.reply.Reply.{Reply}
+use Rattle.xa_frame.specs.declared.request.Request.{Request}
+use Rattle.xa_frame.specs.declared.request.Request.TheVariants.{Restart, Trim}
 use Rattle.xa_record.specs.declared.record.Record.TheVariants as logged
-use Rattle.xa_model.specs.State.{State, Up, timestamp_of}
-use Rattle.xa_model.specs.Answer.{detailed, first}
-use Rattle.xa_model.specs.Turn.{Checkpoints, unless_now}
-use Rattle.xa_model.specs.Sound.{IsSound}
-use Rattle.xa_model.specs.Loggable.{IsLoggable, IsRecoverable}
-use Rattle.xa_model.specs.LoggingLaws.{Fails, BeginsWhatLasts, TrimLasts}
+use Rattle.xa_model.specs.declared.event.Event.{Event}
+use Rattle.xa_model.specs.declared.event.Event.TheVariants as event
+use Rattle.xa_model.specs.State.{State, Standing, Up, Down, Ended, timestamp_of}
+use Rattle.xa_model.specs.Answer.{plain, answer, detailed, first}
+use Rattle.xa_model.specs.Early.{early_refusal}
+use Rattle.xa_model.specs.Events.{asks_restart, is_restart, asks_boot, begins_boot, asks_trim, is_trim}
+use Rattle.xa_model.specs.Step.{respond, context_of, is_up}
+use Rattle.xa_model.specs.Turn.{Turn, Now, Checkpoints, unless_now}
+use Rattle.xa_model.specs.Invariants.Sound.{IsSound}
+use Rattle.xa_model.specs.Invariants.Loggable.{IsLoggable, IsRecoverable}
+use Rattle.xa_model.specs.Laws.Logging.{Fails, BeginsWhatLasts, TrimLasts}
 use Rattle.xa_model.specs.Restarting.{can_open}
-use Rattle.xa_model.specs.Trimming.{trim_refusal, trimmed, trim_became}
+use Rattle.xa_model.specs.Trimming.{trim_refusal, trimmed, trim_became, trim_turn}
 use Rattle.xa_model.proofs.Order.{descends_below}
 use Rattle.xa_model.proofs.Recordable.{recordable, loggable, raised}
 use Rattle.xa_model.proofs.Restarts.{next_above, none_last, lost_in_doubt}
@@ -89,3 +96,35 @@ trim_by s None e h up =
 
 pub trim_lasts : TrimLasts
 trim_lasts s h up = trim_by s (trim_refusal s) refl h up
+
+-- a manager that isn't up refuses it
+
+module _ (T : Turn → Type 0) (s : State) (n : ℕ) where
+  trim_of : (standing : Standing) → s.standing ≡ standing → T (Now (answer (plain XAER_RMFAIL) s)) → (s.standing ≡ Up → T (respond s (event.Call n Trim)))
+      → T (respond s (event.Call n Trim))
+  trim_of Up e refused row = row e
+  trim_of Down e refused row = subst (λ (standing : Standing). T (unless_now (early_refusal (record (context_of s n) { up = is_up standing }) Trim) s (trim_turn s))) (sym e) refused
+  trim_of Ended e refused row = subst (λ (standing : Standing). T (unless_now (early_refusal (record (context_of s n) { up = is_up standing }) Trim) s (trim_turn s))) (sym e) refused
+
+  pub trim_asked : T (Now (answer (plain XAER_RMFAIL) s)) → (s.standing ≡ Up → T (respond s (event.Call n Trim))) → T (respond s (event.Call n Trim))
+  trim_asked refused row = trim_of s.standing refl refused row
+
+-- an event that begins no boot is no restart
+pub restarts_none : (e : Event) → begins_boot e ≡ false → is_restart e ≡ false
+restarts_none event.Connect other = refl
+restarts_none (event.Hangup n) other = refl
+restarts_none (event.Call n request) other = asks_none request other
+  where
+    asks_none : (request : Request) → asks_boot request ≡ false → asks_restart request ≡ false
+    asks_none Restart other = absurd (cc other)
+    asks_none request other = refl
+
+-- nor a trim
+pub trims_none : (e : Event) → begins_boot e ≡ false → is_trim e ≡ false
+trims_none event.Connect other = refl
+trims_none (event.Hangup n) other = refl
+trims_none (event.Call n request) other = asks_none request other
+  where
+    asks_none : (request : Request) → asks_boot request ≡ false → asks_trim request ≡ false
+    asks_none Trim other = absurd (cc other)
+    asks_none request other = refl

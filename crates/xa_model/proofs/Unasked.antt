@@ -21,7 +21,7 @@ use Rattle.xa_model.specs.Early.{early_refusal, Context}
 use Rattle.xa_model.specs.History.{Leads}
 use Rattle.xa_model.specs.Logging.{applied, down}
 use Rattle.xa_model.specs.Restarting.{boot_became, missed, restart_turn, restarting, survived}
-use Rattle.xa_model.specs.RestartLaw.{asks, comes, goes, restart_entries, RestartLeads, RestartHappens}
+use Rattle.xa_model.specs.Laws.Restarts.{asks, comes, goes, restart_entries, RestartLeads, RestartHappens}
 use Rattle.xa_model.specs.Step.{asked, is_up, opened_of, context_of}
 use Rattle.xa_model.specs.Turn.{Turn, Now, Rereads, Stops, Opens, going_on, taken, unless_now}
 use Rattle.xa_model.proofs.Counts.{count_less}

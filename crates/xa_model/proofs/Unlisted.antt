@@ -23,8 +23,8 @@ use Rattle.xa_model.specs.Logging.{logs, has_room, log_full, writes_in}
 use Rattle.xa_model.specs.Completions.{commit_one_phase_turn, commit_two_phase_turn, commit_written, roll_back_turn, rollback_turn, forget_refusal, forget_turn}
 use Rattle.xa_model.specs.Events.{IsHappening, HaveHappened}
 use Rattle.xa_model.specs.History.{Entry, Leads}
-use Rattle.xa_model.specs.Loggable.{IsRecoverable}
-use Rattle.xa_model.specs.MayLog.{IsIdle}
+use Rattle.xa_model.specs.Invariants.Loggable.{IsRecoverable}
+use Rattle.xa_model.specs.Invariants.MayLog.{IsIdle}
 use Rattle.xa_model.specs.ListedLaw.{HasCompleted, CallsPrepare, is_completion, is_request}
 use Rattle.xa_model.specs.UnlistedLaw.{AlwaysUnlisted, UnlistedSinceBoot}
 use Rattle.xa_model.proofs.Inserts.{all_front, all_back}

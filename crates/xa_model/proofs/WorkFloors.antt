@@ -5,8 +5,8 @@ use Rattle.xa_xid.specs.Triple.{Triple}
 use Rattle.xa_model.specs.State.{State, Branch, Operation, is_known_as, is_working, timestamp_of, change, new_work, new_branch}
 use Rattle.xa_model.specs.Records.{having_done, did}
 use Rattle.xa_model.specs.Step.{turn}
-use Rattle.xa_model.specs.LowWater.{lesser, least_working, work_floor}
-use Rattle.xa_model.specs.LowWaterLaws.{WorksAbove, BeginsAbove, FloorNeverFalls}
+use Rattle.xa_model.specs.Invariants.LowWater.{lesser, least_working, work_floor}
+use Rattle.xa_model.specs.Laws.LowWater.{WorksAbove, BeginsAbove, FloorNeverFalls}
 use Rattle.xa_model.proofs.Inserts.{all_imply}
 use Rattle.xa_model.proofs.Lists.{change_all}
 use Rattle.xa_model.proofs.LowWaters.{lesser_first}

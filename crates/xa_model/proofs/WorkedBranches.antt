@@ -1,6 +1,6 @@
 -- The worked refusals of the branch table compute.
 use Rattle.std.proofs.Common.{refl}
-use Rattle.xa_model.specs.WorkedBranches.{OnePhaseRefused, TwoPhaseRefused, RollbackRefused, PrepareRefused, DoomRefused, RecordsRefused}
+use Rattle.xa_model.specs.Worked.Branches.{OnePhaseRefused, TwoPhaseRefused, RollbackRefused, PrepareRefused, DoomRefused, RecordsRefused}
 
 pub one_phase_refused : OnePhaseRefused
 one_phase_refused = refl

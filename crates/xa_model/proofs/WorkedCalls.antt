@@ -1,6 +1,6 @@
 -- The worked rows of several sessions compute.
 use Rattle.std.proofs.Common.{refl}
-use Rattle.xa_model.specs.WorkedCalls.{ComesAndGoes, Migration, OwnBeforeLoose, LooseEnds, BrokenConnection, SuspendedAndBroken, NumbersAgain, Opening, Marks, FirstMark}
+use Rattle.xa_model.specs.Worked.Calls.{ComesAndGoes, Migration, OwnBeforeLoose, LooseEnds, BrokenConnection, SuspendedAndBroken, NumbersAgain, Opening, Marks, FirstMark}
 
 pub comes_and_goes : ComesAndGoes
 comes_and_goes = refl

@@ -1,6 +1,6 @@
 -- The worked rows of what the device's refusals lead to compute.
 use Rattle.std.proofs.Common.{refl}
-use Rattle.xa_model.specs.WorkedDevice.{EachRefused, EachLost, RestartRefused, OpeningRefused}
+use Rattle.xa_model.specs.Worked.Device.{EachRefused, EachLost, RestartRefused, OpeningRefused}
 
 pub each_refused : EachRefused
 each_refused = (refl, refl, refl, refl, refl, refl)

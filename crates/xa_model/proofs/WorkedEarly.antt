@@ -1,6 +1,6 @@
 -- The worked refusals before the row of a call compute.
 use Rattle.std.proofs.Common.{refl}
-use Rattle.xa_model.specs.WorkedEarly.{NotConnected, NotOpened, IsDown, FlagsOfEach, CountsOfEach}
+use Rattle.xa_model.specs.Worked.Early.{NotConnected, NotOpened, IsDown, FlagsOfEach, CountsOfEach}
 
 pub not_connected : NotConnected
 not_connected = refl

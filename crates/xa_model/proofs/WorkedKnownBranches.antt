@@ -1,6 +1,6 @@
 -- The worked rows of the list of known branches compute.
 use Rattle.std.proofs.Common.{refl}
-use Rattle.xa_model.specs.WorkedKnownBranches.{TellsHolders, TellsInOrder, TellsLasting, ChangesNothing}
+use Rattle.xa_model.specs.Worked.KnownBranches.{TellsHolders, TellsInOrder, TellsLasting, ChangesNothing}
 
 pub tells_holders : TellsHolders
 tells_holders = refl

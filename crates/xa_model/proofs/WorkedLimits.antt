@@ -1,6 +1,6 @@
 -- The worked rows at the limits compute.
 use Rattle.std.proofs.Common.{refl}
-use Rattle.xa_model.specs.WorkedLimits.{ManySessions, ManyBranches, MoreBranches, ManyTimestamps, ManyLoose, ManyKeys}
+use Rattle.xa_model.specs.Worked.Limits.{ManySessions, ManyBranches, MoreBranches, ManyTimestamps, ManyLoose, ManyKeys}
 
 pub many_sessions : ManySessions
 many_sessions = refl

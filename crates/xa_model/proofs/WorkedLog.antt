@@ -1,6 +1,6 @@
 -- The worked rows of the log compute.
 use Rattle.std.proofs.Common.{refl}
-use Rattle.xa_model.specs.WorkedLog.{HeldAndCommitted, DecidedAndForgotten, RolledBack, LastWrites, InOrder, BegunEarlier, BootsInOrder, TimestampsInOrder, NamesInOrder, SnapshotsInOrder}
+use Rattle.xa_model.specs.Worked.Log.{HeldAndCommitted, DecidedAndForgotten, RolledBack, LastWrites, InOrder, BegunEarlier, BootsInOrder, TimestampsInOrder, NamesInOrder, SnapshotsInOrder}
 
 pub held_and_committed : HeldAndCommitted
 held_and_committed = (refl, refl, refl, refl, refl, refl, refl)

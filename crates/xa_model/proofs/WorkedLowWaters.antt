@@ -1,6 +1,6 @@
 -- The worked rows of the low water compute.
 use Rattle.std.proofs.Common.{refl}
-use Rattle.xa_model.specs.WorkedLowWater.{WaterRises}
+use Rattle.xa_model.specs.Worked.LowWater.{WaterRises}
 
 pub water_rises : WaterRises
 water_rises = record {

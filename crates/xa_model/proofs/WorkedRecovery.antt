@@ -1,6 +1,6 @@
 -- The worked rows of branches in doubt compute.
 use Rattle.std.proofs.Common.{refl}
-use Rattle.xa_model.specs.WorkedRecovery.{Recovered, PreparedWithoutWrites, NextBoot, LostAndFound, LostAndGone, Heuristics, Scans, JustRoom, NoRoom, Refusals, PreparedAgain}
+use Rattle.xa_model.specs.Worked.Recovery.{Recovered, PreparedWithoutWrites, NextBoot, LostAndFound, LostAndGone, Heuristics, Scans, JustRoom, NoRoom, Refusals, PreparedAgain}
 
 pub recovered : Recovered
 recovered = refl

@@ -1,6 +1,6 @@
 -- The worked refusals compute.
 use Rattle.std.proofs.Common.{refl}
-use Rattle.xa_model.specs.WorkedRefusals.{EarlyRefused, CloseRefused, StartRefused, JoinRefused, ResumeRefused, SuspendRefused, EndRefused}
+use Rattle.xa_model.specs.Worked.Refusals.{EarlyRefused, CloseRefused, StartRefused, JoinRefused, ResumeRefused, SuspendRefused, EndRefused}
 
 pub early_refused : EarlyRefused
 early_refused = refl

@@ -1,6 +1,6 @@
 -- The worked rows of time limits compute.
 use Rattle.std.proofs.Common.{refl}
-use Rattle.xa_model.specs.WorkedTimeLimits.{TimedOut, AgeFromStart, MarkedByTime, LimitNeedsOpen, NoTimeDown, LimitLasts, MarkedAtMoment, NeverMarked, LimitOfSession, MomentLasts}
+use Rattle.xa_model.specs.Worked.TimeLimits.{TimedOut, AgeFromStart, MarkedByTime, LimitNeedsOpen, NoTimeDown, LimitLasts, MarkedAtMoment, NeverMarked, LimitOfSession, MomentLasts}
 
 pub timed_out : TimedOut
 timed_out = refl

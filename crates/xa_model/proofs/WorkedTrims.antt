@@ -1,6 +1,6 @@
 -- The worked rows of a trim compute.
 use Rattle.std.proofs.Common.{refl}
-use Rattle.xa_model.specs.WorkedTrims.{Trimmed, TrimLimits, TrimDevice, WorksOver, CountsOn, PreparedOver}
+use Rattle.xa_model.specs.Worked.Trims.{Trimmed, TrimLimits, TrimDevice, WorksOver, CountsOn, PreparedOver}
 
 pub trimmed : Trimmed
 trimmed = (refl, refl, refl, refl, refl, refl, refl)

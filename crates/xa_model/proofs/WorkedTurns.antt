@@ -1,6 +1,6 @@
 -- The worked rows of the calls that log compute.
 use Rattle.std.proofs.Common.{refl}
-use Rattle.xa_model.specs.WorkedTurns.{PreparedAndCommitted, RolledBackAgain, MarkedIsGone, ReadOnly, Room, LostAppends, LostBoots, DecidedByOperator, OpenedAgain}
+use Rattle.xa_model.specs.Worked.Turns.{PreparedAndCommitted, RolledBackAgain, MarkedIsGone, ReadOnly, Room, LostAppends, LostBoots, DecidedByOperator, OpenedAgain}
 
 pub prepared_and_committed : PreparedAndCommitted
 prepared_and_committed = (refl, refl, refl, refl, refl, refl, refl, refl, refl)

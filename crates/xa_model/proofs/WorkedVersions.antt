@@ -1,6 +1,6 @@
 -- The worked rows of one key compute.
 use Rattle.std.proofs.Common.{refl}
-use Rattle.xa_model.specs.WorkedVersions.{LateWrite, LateDelete, BlindWrite, BusyBelow, BusyInDoubt, SharedBranch, NotBusyAbove, Deleted, DeletedAfterwards, ReadOver}
+use Rattle.xa_model.specs.Worked.Versions.{LateWrite, LateDelete, BlindWrite, BusyBelow, BusyInDoubt, SharedBranch, NotBusyAbove, Deleted, DeletedAfterwards, ReadOver}
 
 pub late_write : LateWrite
 late_write = refl

@@ -11,7 +11,7 @@ use Rattle.xa_model.specs.State.{State, Branch, Association, count, change, with
 use Rattle.xa_model.specs.Answer.{ok, unless, marked}
 use Rattle.xa_model.specs.Associations.{is_taken, mark_in, start_refusal, begun, begin_by, join_refusal, joined, join_by, resume_refusal, resumable, resumed, not_resumed, resume_by, start_by, end_refusal, loose_refusal, suspended, not_suspended, suspend_by, can_end, without_one, ended, failed, leave_by, end_by, with_mark, held_by}
 use Rattle.xa_limits.specs.declared.TheConstants.{MOST_BRANCHES, MOST_GIVEN, MOST_LOOSE}
-use Rattle.xa_model.specs.Sound.{IsSound, named}
+use Rattle.xa_model.specs.Invariants.Sound.{IsSound, named}
 use Rattle.xa_model.proofs.Counts.{count_less, count_without, found_none}
 use Rattle.xa_model.proofs.Held.{one_more_sound, with_held}
 use Rattle.xa_model.proofs.Holders.{resumed_held, suspended_held, none_own}

@@ -17,7 +17,7 @@ use Rattle.xa_model.specs.State.{without}
 use Rattle.xa_model.specs.State.{Decided as Decision}
 use Rattle.xa_model.specs.Durable.{Durable, CommittedBranch, PreparedBranch, Pairwise, keys_before, insert, commit, commits_before, prepares_before, named_before, is_written, not_overwritten, with_writes, last_writes}
 use Rattle.xa_model.specs.Fold.{Reading, apply, complete, commit_prepared, prepared_as, read, fold, fold_from, unread, base, held, known}
-use Rattle.xa_model.specs.DurableLaws.{FoldIsByKey, SnapshotIsWritten}
+use Rattle.xa_model.specs.Laws.Durable.{FoldIsByKey, SnapshotIsWritten}
 use Rattle.xa_model.proofs.Lists.{found_all, without_all}
 use Rattle.xa_model.proofs.Inserts.{all_imply, insert_all}
 use Rattle.xa_model.proofs.Folds.{stepped}

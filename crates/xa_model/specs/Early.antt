@@ -12,7 +12,7 @@ use Rattle.xa_frame.specs.declared.reply.Reply.{Reply}
 use Rattle.xa_frame.specs.declared.request.Request.{Request}
 use Rattle.xa_frame.specs.declared.request.Request.TheVariants.{Open, Close, Start, End, Prepare, Commit, Rollback}
 use Rattle.xa_frame.specs.declared.request.Request.TheVariants.{Forget, Recover, Get, Put, Delete, Decide, Doom}
-use Rattle.xa_frame.specs.declared.request.Request.TheVariants.{Restart, Timeout, Tick, Branches}
+use Rattle.xa_frame.specs.declared.request.Request.TheVariants.{Restart, Timeout, Tick, Trim, Branches}
 use Rattle.xa_limits.specs.declared.TheConstants.{MOST_XIDS}
 use Rattle.xa_model.specs.Answer.{plain, first}
 
@@ -35,6 +35,7 @@ flags_of (Doom xid) = 0
 flags_of Restart = 0
 flags_of (Timeout seconds) = 0
 flags_of (Tick moment) = 0
+flags_of Trim = 0
 flags_of (Branches count after) = 0
 
 -- these pass while the manager is down
@@ -52,6 +53,7 @@ needs_open call.Decide = false
 needs_open call.Doom = false
 needs_open call.Restart = false
 needs_open call.Tick = false
+needs_open call.Trim = false
 needs_open call.Branches = false
 needs_open _ = true
 

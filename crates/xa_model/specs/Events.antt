@@ -3,7 +3,7 @@ use Rattle.std.specs.Prelude.{Bool, true, false, List}
 use Rattle.std.specs.List.{AllByRecursion}
 use Rattle.xa_frame.specs.Limits.{IsRequest, Holds}
 use Rattle.xa_frame.specs.declared.request.Request.{Request}
-use Rattle.xa_frame.specs.declared.request.Request.TheVariants.{Restart}
+use Rattle.xa_frame.specs.declared.request.Request.TheVariants.{Restart, Trim}
 use Rattle.xa_model.specs.declared.event.Event.{Event}
 use Rattle.xa_model.specs.declared.event.Event.TheVariants.{Connect, Hangup, Call}
 use Rattle.xa_model.specs.Turn.{Happening, Asked, Reopened}
@@ -37,3 +37,22 @@ asks_restart _ = false
 abbrev pub is_restart : Event → Bool
 is_restart (Call n request) = asks_restart request
 is_restart _ = false
+
+-- a boot is asked for: by a restart, which reads the log again, or by a trim
+abbrev pub asks_boot : Request → Bool
+asks_boot Restart = true
+asks_boot Trim = true
+asks_boot _ = false
+
+abbrev pub begins_boot : Event → Bool
+begins_boot (Call n request) = asks_boot request
+begins_boot _ = false
+
+-- a trim is asked
+abbrev pub asks_trim : Request → Bool
+asks_trim Trim = true
+asks_trim _ = false
+
+abbrev pub is_trim : Event → Bool
+is_trim (Call n request) = asks_trim request
+is_trim _ = false

@@ -9,9 +9,19 @@ use Rattle.xa_model.specs.Answer.{Answer}
 use Rattle.xa_model.specs.Branches.{is_associated, prepared, decided_by, forgotten}
 use Rattle.xa_model.specs.Turn.{Happening, Asked}
 use Rattle.xa_model.specs.Step.{step}
-use Rattle.xa_model.specs.Sound.{IsSound}
+use Rattle.xa_model.specs.Invariants.Sound.{IsSound}
 use Rattle.xa_model.specs.History.{Entry, Leads}
-use Rattle.xa_model.specs.Events.{is_restart}
+use Rattle.xa_model.specs.Events.{begins_boot}
+
+pub mod Total
+pub mod Restarts
+pub mod LowWater
+pub mod Time
+pub mod Durable
+pub mod Logging
+pub mod Backing
+pub mod Crash
+pub mod Trim
 
 -- what happened in a history, each with its outcome
 abbrev pub happened : List Entry → List (Happening × Outcome)
@@ -24,10 +34,10 @@ OneHistory =
     (start : State) (es fs : List Entry) (last end : State) → happened es ≡ happened fs → Leads start es last
     → Leads start fs end → (es ≡ fs) × (last ≡ end)
 
--- every event but a restart keeps a state sound, whatever the device did
+-- every event that begins no boot keeps a state sound, whatever the device did
 abbrev pub KeepsSound : Type 0
 KeepsSound =
-    (s : State) (e : Event) (outcome : Outcome) (a : Answer) → IsSound s → is_restart e ≡ false
+    (s : State) (e : Event) (outcome : Outcome) (a : Answer) → IsSound s → begins_boot e ≡ false
     → step s (Asked e) outcome ≡ Some a → IsSound a.after
 
 -- a state stays sound where a branch without associations is prepared, where the operator completes one in doubt, and

@@ -13,7 +13,7 @@ use Rattle.xa_xid.specs.Triple.{Triple, xid_eq}
 use Rattle.xa_model.specs.declared.event.Event.TheVariants.{Call}
 use Rattle.xa_model.specs.declared.outcome.Outcome.{Outcome}
 use Rattle.xa_model.specs.State.{State, Up, mark_of}
-use Rattle.xa_model.specs.Sound.{most_known}
+use Rattle.xa_model.specs.Invariants.Sound.{most_known}
 use Rattle.xa_model.specs.Answer.{Answer}
 use Rattle.xa_model.specs.Durable.{Durable, durable}
 use Rattle.xa_model.specs.Listed.{listed}
@@ -23,8 +23,8 @@ use Rattle.xa_model.specs.Restarting.{opening}
 use Rattle.xa_model.specs.Step.{step}
 use Rattle.xa_model.specs.Events.{HaveHappened}
 use Rattle.xa_model.specs.History.{Entry, Leads, fresh}
-use Rattle.xa_model.specs.Loggable.{IsRecoverable}
-use Rattle.xa_model.specs.Restored.{IsRestored}
+use Rattle.xa_model.specs.Invariants.Loggable.{IsRecoverable}
+use Rattle.xa_model.specs.Invariants.Restored.{IsRestored}
 
 -- whether recovery lists the XID of what lasts
 abbrev pub lists : Triple → Durable → Bool

@@ -5,13 +5,13 @@ use Rattle.xa_record.specs.Limits.{IsRecord}
 use Rattle.xa_record.specs.declared.record.Record.{Record}
 use Rattle.xa_model.specs.State.{State, Branch, Operation, Got, Wrote, committed_of, timestamp_of}
 use Rattle.xa_limits.specs.declared.TheConstants.{MOST_BOOTS}
-use Rattle.xa_model.specs.Sound.{Descends, most_known}
+use Rattle.xa_model.specs.Invariants.Sound.{Descends, most_known}
 use Rattle.xa_model.specs.Durable.{Durable}
 use Rattle.xa_model.specs.Fold.{fold}
 use Rattle.xa_model.specs.Restarting.{opening}
 use Rattle.xa_model.specs.Events.{HaveHappened}
 use Rattle.xa_model.specs.History.{Entry, Leads, fresh}
-use Rattle.xa_model.specs.Loggable.{IsRecoverable}
+use Rattle.xa_model.specs.Invariants.Loggable.{IsRecoverable}
 
 -- what each key has; an absent key has nothing
 abbrev pub Map : Type 0

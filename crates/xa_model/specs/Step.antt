@@ -5,7 +5,7 @@ use Rattle.xa_codes.specs.declared.flags.TheConstants.{TMONEPHASE}
 use Rattle.xa_frame.specs.declared.request.Request.{Request}
 use Rattle.xa_frame.specs.declared.request.Request.TheVariants.{Open, Close, Start, End, Prepare, Commit, Rollback}
 use Rattle.xa_frame.specs.declared.request.Request.TheVariants.{Forget, Recover, Get, Put, Delete, Decide, Doom}
-use Rattle.xa_frame.specs.declared.request.Request.TheVariants.{Restart, Timeout, Tick, Branches}
+use Rattle.xa_frame.specs.declared.request.Request.TheVariants.{Restart, Timeout, Tick, Trim, Branches}
 use Rattle.xa_xid.specs.Triple.{Triple}
 use Rattle.xa_model.specs.declared.event.Event.{Event}
 use Rattle.xa_model.specs.declared.event.Event.TheVariants as event
@@ -21,6 +21,7 @@ use Rattle.xa_model.specs.Completions.{decide_turn, forget_turn}
 use Rattle.xa_model.specs.Records.{get_by, put_by}
 use Rattle.xa_model.specs.Recovering.{recover_by}
 use Rattle.xa_model.specs.Restarting.{restart_turn, reopen_turn}
+use Rattle.xa_model.specs.Trimming.{trim_turn}
 use Rattle.xa_model.specs.TimeLimits.{timeout_by, tick_by}
 use Rattle.xa_model.specs.KnownBranches.{branches_by}
 
@@ -46,6 +47,7 @@ row s n (Doom xid) = Now (doom_by s xid)
 row s n Restart = restart_turn s
 row s n (Timeout seconds) = Now (timeout_by s n seconds)
 row s n (Tick moment) = Now (tick_by s moment)
+row s n Trim = trim_turn s
 row s n (Branches count after) = Now (branches_by s count after)
 
 -- whether the session is opened, if it is connected

@@ -6,8 +6,8 @@ use Rattle.xa_model.specs.State.{State}
 use Rattle.xa_model.specs.Durable.{Durable}
 use Rattle.xa_model.specs.Events.{HaveHappened}
 use Rattle.xa_model.specs.History.{Entry, Leads}
-use Rattle.xa_model.specs.Loggable.{IsRecoverable}
-use Rattle.xa_model.specs.Restored.{IsRestored}
+use Rattle.xa_model.specs.Invariants.Loggable.{IsRecoverable}
+use Rattle.xa_model.specs.Invariants.Restored.{IsRestored}
 use Rattle.xa_model.specs.ListedLaw.{IsListed, HasCompleted, CallsPrepare}
 
 -- in a history from this state: behind a commit, a rollback or a forget that was answered XA_OK recovery doesn't list

@@ -17,6 +17,24 @@ use Rattle.xa_model.specs.Answer.{plain, detailed, carrying}
 use Rattle.xa_model.specs.Turn.{Happening, Asked}
 use Rattle.xa_model.specs.History.{fresh, replay}
 
+pub mod Scripts
+pub mod Calls
+pub mod Versions
+pub mod Refusals
+pub mod Early
+pub mod Branches
+pub mod Limits
+pub mod TimeLimits
+pub mod KnownBranches
+pub mod Log
+pub mod Turns
+pub mod Trims
+pub mod Device
+pub mod Recovery
+pub mod Lasting
+pub mod OneCopy
+pub mod LowWater
+
 -- the name xarm, and what a script writes as hexadecimal
 abbrev pub xarm : List ℕ
 xarm = 0x78 ∷ 0x61 ∷ 0x72 ∷ 0x6d ∷ []

@@ -1,29 +1,27 @@
-ghost use Rattle.xa_model.specs.Total.{StepIsTotal, NothingIsStuck, NobodyAnswers, RestartsLook, OpeningsLook};
+ghost use Rattle.xa_model.specs.Laws.Total.{StepIsTotal, NothingIsStuck, NobodyAnswers, RestartsLook, OpeningsLook};
 ghost use Rattle.xa_model.specs.Laws.{OneHistory, KeepsSound, KeepsSoundPrepared, KeepsSoundDecided};
 ghost use Rattle.xa_model.specs.Laws.{KeepsSoundForgotten};
-ghost use Rattle.xa_model.specs.DurableLaws.{FoldReads, OneMore, FirstFault, FoldIsByKey, FoldIsDurable};
-ghost use Rattle.xa_model.specs.DurableLaws.{LastWritesStay, LeavesDurable, OneValue, SnapshotFolds, SnapshotIsShort};
-ghost use Rattle.xa_model.specs.DurableLaws.{SnapshotIsWritten, TakesOwnBoot, WritesOf};
-ghost use Rattle.xa_model.specs.LoggingLaws.{KeepsSoundApplied, AppliedLasts, AppliedFits, EventsLogWhatLasts};
-ghost use Rattle.xa_model.specs.LoggingLaws.{RestartLasts, ReopenLasts, TrimLasts};
-ghost use Rattle.xa_model.specs.BackingLaws.{KeepsRecoverable, AlwaysRecoverable, LoggedInOrder, KeepsBacked};
-ghost use Rattle.xa_model.specs.BackingLaws.{RestartsRestored, ReopensRestored, OpensRestored, OpensFresh};
-ghost use Rattle.xa_model.specs.Room.{KeepsRoom, RestartKeepsRoom, TrimHasRoom};
+ghost use Rattle.xa_model.specs.Laws.Durable.{FoldReads, OneMore, FirstFault, FoldIsByKey, FoldIsDurable};
+ghost use Rattle.xa_model.specs.Laws.Durable.{LastWritesStay, LeavesDurable, OneValue, SnapshotFolds, SnapshotIsShort};
+ghost use Rattle.xa_model.specs.Laws.Durable.{SnapshotIsWritten, TakesOwnBoot, WritesOf};
+ghost use Rattle.xa_model.specs.Laws.Logging.{KeepsSoundApplied, AppliedLasts, AppliedFits, EventsLogWhatLasts};
+ghost use Rattle.xa_model.specs.Laws.Logging.{RestartLasts, ReopenLasts, TrimLasts};
+ghost use Rattle.xa_model.specs.Laws.Backing.{KeepsRecoverable, AlwaysRecoverable, LoggedInOrder, KeepsBacked};
+ghost use Rattle.xa_model.specs.Laws.Backing.{RestartsRestored, ReopensRestored, OpensRestored, OpensFresh};
+ghost use Rattle.xa_model.specs.Invariants.Room.{KeepsRoom, RestartKeepsRoom, TrimHasRoom};
 ghost use Rattle.xa_model.specs.OneCopy.{AlwaysOneCopy, FreshOneCopy, OpenedOneCopy};
 ghost use Rattle.xa_model.specs.ListedLaw.{ListedUntilAsked, ListedSinceBoot, FreshLists, OpenedLists, ReopenedLists};
 ghost use Rattle.xa_model.specs.UnlistedLaw.{AlwaysUnlisted, UnlistedSinceBoot};
-ghost use Rattle.xa_model.specs.CrashLaws.{LostFits, LostFates, LeavesBefore, LeavesBehind, LeavesAppended};
-ghost use Rattle.xa_model.specs.CrashLaws.{LeavesNoMore, LeavesExactly, FirstLeft, LastLeft, EarlierLeft, LaterLeft, LeftAmid};
-ghost use Rattle.xa_model.specs.CrashLaws.{CrashKeepsPrepared, CrashKeepsCompleted, CrashKeepsSinceBoot};
-ghost use Rattle.xa_model.specs.CrashLaws.{BootLists};
+ghost use Rattle.xa_model.specs.Laws.Crash.{LostFits, LostFates, LeavesBefore, LeavesBehind, LeavesAppended};
+ghost use Rattle.xa_model.specs.Laws.Crash.{LeavesNoMore, LeavesExactly, FirstLeft, LastLeft, EarlierLeft, LaterLeft, LeftAmid};
+ghost use Rattle.xa_model.specs.Laws.Crash.{CrashKeepsPrepared, CrashKeepsCompleted, CrashKeepsSinceBoot};
+ghost use Rattle.xa_model.specs.Laws.Crash.{BootLists};
 ghost use Rattle.xa_model.specs.ScanLaw.{ListedAscends, ScanListsFirst, ScanListsAll, ScanIsAnswered};
-ghost use Rattle.xa_model.specs.RestartLaw.{RestartLeads, RestartHappens};
-ghost use Rattle.xa_model.specs.LowWaterLaws.{BelowKnown, IsReached, BelowNext, NeverFalls};
-ghost use Rattle.xa_model.specs.LowWaterLaws.{WorksAbove, BeginsAbove, FloorNeverFalls};
-ghost use Rattle.xa_model.specs.TrimLaws.{TrimRecovers, TrimGoesOn, TrimOneCopy, TrimLists, TrimNeverLowers};
-ghost use Rattle.xa_model.specs.TrimLaws.{TrimKeepsRoom, TrimBacks, TrimFates, TrimIsTotal};
-ghost use Rattle.xa_model.specs.TrimHistories.{OneCopyOver, ListedOver, UnlistedOver};
-ghost use Rattle.xa_model.specs.TimeLaws.{MomentsRise, OpensAtZero};
+ghost use Rattle.xa_model.specs.Laws.Restarts.{RestartLeads, RestartHappens};
+ghost use Rattle.xa_model.specs.Laws.LowWater.{BelowKnown, IsReached, BelowNext, NeverFalls};
+ghost use Rattle.xa_model.specs.Laws.LowWater.{WorksAbove, BeginsAbove, FloorNeverFalls};
+ghost use Rattle.xa_model.specs.Laws.Trim.{TrimGoesOn, TrimLists};
+ghost use Rattle.xa_model.specs.Laws.Time.{MomentsRise, OpensAtZero};
 
 /// From a given start, given events and outcomes have at most one legal history.
 pub fn one_history()
@@ -42,8 +40,8 @@ pub fn total()
     ensures opening { OpeningsLook }
 {}
 
-/// Every event but a restart leads from a sound state to a sound one, with every outcome of its device calls. Of
-/// restarts and openings `recoverable` says more.
+/// Every event that begins no boot leads from a sound state to a sound one, with every outcome of its device calls. Of
+/// restarts, trims and openings `recoverable` says more.
 pub fn sound()
     ensures { KeepsSound }
 {}
@@ -241,23 +239,9 @@ pub fn moments()
     ensures opening { OpensAtZero }
 {}
 
-/// A trim, which no call is yet, of a manager that is up, with every outcome of its device call: a restart may begin
-/// with what it leads to; all that is at work goes on, and no timestamp falls; what is one copy stays one copy, recovery
-/// lists the same, the log keeps its room, its records go on with the state, and a crash leaves what a trim that was
-/// kept leaves, or one that was refused. It is answered just where the outcome fits. Histories that trims come between
-/// are one copy; what was prepared in them recovery lists until its completion is asked for, and what was completed it
-/// doesn't until a prepare is called.
+/// A trim, whatever the device did in it: all that is at work goes on, and recovery lists the same. What is said of each
+/// event is said of it too.
 pub fn trim()
-    ensures recovers { TrimRecovers }
     ensures goes_on { TrimGoesOn }
-    ensures one_copy { TrimOneCopy }
     ensures lists { TrimLists }
-    ensures never_lowers { TrimNeverLowers }
-    ensures room { TrimKeepsRoom }
-    ensures backed { TrimBacks }
-    ensures fates { TrimFates }
-    ensures total { TrimIsTotal }
-    ensures one_copy_over { OneCopyOver }
-    ensures listed_over { ListedOver }
-    ensures unlisted_over { UnlistedOver }
 {}

@@ -10,13 +10,15 @@
 //!   `Recovering`
 //! - `Turn`, what is asked of the device, and what comes of its answers; `Completions` and `Logging`, of the calls that
 //!   log
-//! - `Fold` and `Durable`, what lasts; `Restarting`, restarts and openings; `Trimming`, trims, which no call is yet;
-//!   `Room`, the room that the log keeps
-//! - `Step`, the one step; `History`; and what is proved of histories, of which `OneCopy`, `ListedLaw`, `UnlistedLaw`
-//!   and `ScanLaw` come first
-//! - `Crash`, what a crash may leave at any moment; `CrashLaws`, what is proved of it
-//! - `LowWater`, timestamps below which no known branch stands, and none works
-//! - `Sound`, `Loggable`, `Backing` and `Restored`, what every state of a history has; `Total`, which outcomes fit
+//! - `Fold` and `Durable`, what lasts; `Restarting`, restarts and openings; `Trimming`, trims
+//! - `Step`, the one step; `History`; and what is promised of histories: `OneCopy`, `ListedLaw`, `UnlistedLaw` and
+//!   `ScanLaw`; `Crash`, what a crash may leave at any moment
+//!
+//! What is proved of them, and needn't be believed:
+//!
+//! - `Invariants`: `Sound`, `Loggable`, `Backing`, `Restored` and `Room`, what every state of a history has; `LowWater`,
+//!   timestamps below which no known branch stands, and none works
+//! - `Laws`: `Total`, which outcomes fit, and others; `Worked`: rows that compute
 //!
 //! The modules:
 //!

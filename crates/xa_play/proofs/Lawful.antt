@@ -1,10 +1,10 @@
 -- Runs go on by steps, and the laws of the sequential resource manager hold of each.
 use Rattle.std.proofs.Common.{List, [], ◌∷◌, ◌++◌, refl, subst}
 use Rattle.xa_model.specs.State.{State}
-use Rattle.xa_model.specs.BackingLaws.{AlwaysRecoverable}
+use Rattle.xa_model.specs.Laws.Backing.{AlwaysRecoverable}
 use Rattle.xa_model.specs.Events.{HaveHappened, IsHappening}
 use Rattle.xa_model.specs.History.{Entry, Leads, Steps}
-use Rattle.xa_model.specs.Loggable.{IsRecoverable}
+use Rattle.xa_model.specs.Invariants.Loggable.{IsRecoverable}
 use Rattle.xa_model.specs.OneCopy.{AlwaysOneCopy}
 use Rattle.xa_model.specs.ListedLaw.{ListedUntilAsked}
 use Rattle.xa_play.specs.Runs.{Run, IsRun, at_start, behind, RunsAreLawful}

@@ -9,7 +9,7 @@ use Rattle.xa_codes.specs.declared.direction.Direction.TheVariants as direction
 use Rattle.xa_codes.specs.declared.flags.TheConstants.{TMONEPHASE}
 use Rattle.xa_frame.specs.declared.reply.Reply.{Reply}
 use Rattle.xa_frame.specs.declared.request.Request.{Request}
-use Rattle.xa_frame.specs.declared.request.Request.TheVariants.{Open, Close, Start, End, Prepare, Commit, Rollback, Forget, Recover, Get, Put, Delete, Decide, Doom, Restart, Timeout, Tick, Branches}
+use Rattle.xa_frame.specs.declared.request.Request.TheVariants.{Open, Close, Start, End, Prepare, Commit, Rollback, Forget, Recover, Get, Put, Delete, Decide, Doom, Restart, Timeout, Tick, Trim, Branches}
 use Rattle.xa_record.specs.declared.record.Record.{Record}
 use Rattle.xa_record.specs.declared.record.Record.TheVariants as logged
 use Rattle.xa_xid.specs.Triple.{Triple}
@@ -24,13 +24,14 @@ use Rattle.xa_model.specs.Fold.{is_empty}
 use Rattle.xa_model.specs.Answer.{Answer, answer, plain, detailed, ok}
 use Rattle.xa_model.specs.Turn.{Asked, Reopened, Turn, Nobody, Now, Appends, Checkpoints, Rereads, Rereading, Stops, Opens, going_on, taken, unless_now, marked_now}
 use Rattle.xa_model.specs.Step.{step, turn, row, respond, asked, context_of}
-use Rattle.xa_model.specs.Events.{asks_restart}
+use Rattle.xa_model.specs.Events.{asks_boot}
 use Rattle.xa_model.proofs.RoomyRows.{AsksRoom, events_ask_room}
 use Rattle.xa_model.specs.Early.{early_refusal}
 use Rattle.xa_model.specs.Logging.{applied, append_became, logs, has_room, log_full, writes_in, down}
 use Rattle.xa_model.specs.Associations.{failed, mark_in, timestamp_in}
 use Rattle.xa_model.specs.Branches.{unprepared_refusal, two_phase_refusal, rollback_refusal, heuristic_refusal, is_associated, rolled_back, committed}
 use Rattle.xa_model.specs.Completions.{prepare_turn, commit_one_phase_turn, commit_two_phase_turn, rollback_turn, roll_back_turn, decide_turn, decide_refusal, forget_turn, forget_refusal}
+use Rattle.xa_model.specs.Trimming.{trim_turn, trim_refusal, trim_became}
 use Rattle.xa_model.specs.Restarting.{restart_turn, restarting, boot_became, survived, missed, reopening, can_open, reopen_became, refused_opening}
 
 record Keeps (n : ℕ) (a : Answer) : Type 0 where
@@ -40,6 +41,7 @@ record Keeps (n : ℕ) (a : Answer) : Type 0 where
 
 abbrev AppendsKeep : ℕ → Turn → Type 0
 AppendsKeep n (Appends r after) = (x : Appending) → Keeps n (after x)
+AppendsKeep n (Checkpoints r after) = (x : Appending) → Keeps n (after x)
 AppendsKeep n _ = ⊤
 
 record KeepsAppends (n : ℕ) (t : Turn) : Type 0 where
@@ -55,7 +57,10 @@ taken_keeps s (Appends r after) Quiet h k = tt
 taken_keeps s (Appends r after) (Appended x) h k = k x
 taken_keeps s (Appends r after) Failed h k = tt
 taken_keeps s (Appends r after) (Reread found x) h k = tt
-taken_keeps s (Checkpoints r after) o h k = absurd h
+taken_keeps s (Checkpoints r after) Quiet h k = tt
+taken_keeps s (Checkpoints r after) (Appended x) h k = k x
+taken_keeps s (Checkpoints r after) Failed h k = tt
+taken_keeps s (Checkpoints r after) (Reread found x) h k = tt
 taken_keeps s (Rereads failed found missing) o h k = absurd h
 
 unless_appends : (n : ℕ) (o : Option Reply) (s : State) (t : Turn) → KeepsAppends n t → KeepsAppends n (unless_now o s t)
@@ -186,9 +191,38 @@ restart_keeps s None Failed = record { same = refl }
 restart_keeps s None (Reread true x) = reading_keeps s.log_bytes x (option_map (λ r. restarting (survived s r)) s.open_record) (found_keeps s s.open_record)
 restart_keeps s None (Reread false x) = reading_keeps s.log_bytes x (Some (restarting (missed s))) (restarting_keeps (missed s))
 
+-- ---- a trim
+
+trim_became_keeps : (s : State) (boot : ℕ) (x : Appending) → Keeps s.log_bytes (trim_became s boot x)
+trim_became_keeps s boot Kept = (record { same = refl })
+trim_became_keeps s boot Refused = (record { same = refl })
+trim_became_keeps s boot Lost = (record { same = refl })
+
+checkpoint_keeps : (n : ℕ) (r : Record) (after : Appending → Answer) (o : Outcome) → ((x : Appending) → Keeps n (after x))
+    → IfSome (taken (Checkpoints r after) o) (Keeps n)
+checkpoint_keeps n r after Quiet h = tt
+checkpoint_keeps n r after (Appended x) h = h x
+checkpoint_keeps n r after Failed h = tt
+checkpoint_keeps n r after (Reread found x) h = tt
+
+unless_keeps : (s : State) (refusal : Option Reply) (t : Turn) (o : Outcome) → IfSome (taken t o) (Keeps s.log_bytes)
+    → IfSome (taken (unless_now refusal s t) o) (Keeps s.log_bytes)
+unless_keeps s None t o h = h
+unless_keeps s (Some reply) t Quiet h = (record { same = refl })
+unless_keeps s (Some reply) t (Appended x) h = tt
+unless_keeps s (Some reply) t Failed h = tt
+unless_keeps s (Some reply) t (Reread found x) h = tt
+
+trim_keeps : (s : State) (refusal : Option Reply) (o : Outcome) → IfSome (taken (unless_now refusal s (trim_turn s)) o) (Keeps s.log_bytes)
+trim_keeps s refusal o =
+    let next = s.logged_boot + 1 in
+    let checkpoint = Checkpoints (logged.Opened next) (trim_became s next) in
+    unless_keeps s refusal (trim_turn s) o
+    (unless_keeps s (trim_refusal s) checkpoint o (checkpoint_keeps s.log_bytes (logged.Opened next) (trim_became s next) o (trim_became_keeps s next)))
+
 -- ---- all events
 
-asked_call : (s : State) (n : ℕ) (request : Request) (o : Outcome) → asks_restart request ≡ false → KeepsAppends s.log_bytes (row s n request)
+asked_call : (s : State) (n : ℕ) (request : Request) (o : Outcome) → asks_boot request ≡ false → KeepsAppends s.log_bytes (row s n request)
     → IfSome (taken (respond s (event.Call n request)) o) (Keeps s.log_bytes)
 asked_call s n request o e h =
     taken_keeps s (respond s (event.Call n request)) o (events_ask_room s (event.Call n request) e)
@@ -214,6 +248,7 @@ call_keeps s n (Doom xid) o = asked_call s n (Doom xid) o refl (record { each = 
 call_keeps s n Restart o = restart_keeps s (early_refusal (context_of s n) Restart) o
 call_keeps s n (Timeout seconds) o = asked_call s n (Timeout seconds) o refl (record { each = tt })
 call_keeps s n (Tick moment) o = asked_call s n (Tick moment) o refl (record { each = tt })
+call_keeps s n Trim o = trim_keeps s (early_refusal (context_of s n) Trim) o
 call_keeps s n (Branches count after) o = asked_call s n (Branches count after) o refl (record { each = tt })
 
 respond_keeps : (s : State) (e : Event) (o : Outcome) → IfSome (taken (respond s e) o) (Keeps s.log_bytes)

@@ -12,7 +12,7 @@ use Rattle.xa_log.specs.declared.log.Log.{Log}
 use Rattle.xa_model.specs.declared.event.Event.{Event}
 use Rattle.xa_model.specs.declared.outcome.Outcome.TheVariants.{Reread}
 use Rattle.xa_model.specs.declared.outcome.Appending.TheVariants.{Kept}
-use Rattle.xa_model.specs.Loggable.{IsRecoverable}
+use Rattle.xa_model.specs.Invariants.Loggable.{IsRecoverable}
 use Rattle.xa_model.specs.State.{State}
 use Rattle.xa_model.specs.Step.{step}
 use Rattle.xa_model.specs.Turn.{Reopened}

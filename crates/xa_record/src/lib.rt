@@ -3,7 +3,8 @@
 //!
 //! - `record`: `Record`, of nine kinds: six say what happened, three make up a snapshot
 //! - `writes`: `Writes`, that contracts see as a list
-//! - `writing`: `write`, a record's body; `write_small`, that of a record without writes, which takes no memory
+//! - `writing`: `write`, a record's body; `write_short`, that of a record without writes, and `write_small`, which
+//!   takes no memory for it; `write_base` and `write_held`, of writes that are lent
 //! - `reading`: `read`, the record whose body some bytes are; `fault`: `RecordFault`, why they gave none
 //! - `laws`: `one_record`, a body is one record's at most, and is read as it was written; `body_sizes`, how long bodies
 //!   are
@@ -24,4 +25,4 @@ pub use laws::{body_sizes, one_record};
 pub use reading::read;
 pub use record::Record;
 pub use writes::Writes;
-pub use writing::{write, write_base, write_held, write_small};
+pub use writing::{write, write_base, write_held, write_short, write_small};

@@ -1,6 +1,6 @@
 ghost use Rattle.arrayvec.specs.ArrayVec.{array_vec_len};
 ghost use Rattle.std.specs.Prelude.{◌≡◌, ◌<◌, [], ◌∷◌, ◌++◌, flat_map, IfOk, OnOk};
-ghost use Rattle.xa_record.specs.Limits.{IsRecord, IsStamped, IsBranch};
+ghost use Rattle.xa_record.specs.Limits.{IsRecord};
 ghost use Rattle.xa_record.specs.declared.record.Record.TheVariants.{Base, Held};
 ghost use Rattle.xa_record.specs.Spelling.{spelled, branch_bytes, stamped_bytes, write_bytes, left_bytes};
 ghost use Rattle.xa_record.specs.Small.{IsSmall};
@@ -39,12 +39,18 @@ pub fn write(alloc: Global, record: &Record) -> Result<Vec<u8>, AllocError>
             timestamp,
             writes,
         } => branch(alloc, 8, xid, *timestamp, writes),
-        _ => {
-            let mut small: ArrayVec<u8, MOST_SMALL> = ArrayVec::new();
-            write_small(record, &mut small);
-            small.as_slice().to_vec(alloc)
-        }
+        _ => write_short(alloc, record),
     }
+}
+
+/// The body of a record without writes, as `write_small` has it.
+pub fn write_short(alloc: Global, record: &Record) -> Result<Vec<u8>, AllocError>
+    requires { IsSmall «record».now }
+    ensures { IfOk result (λ v. v.items ≡ spelled «record».now) }
+{
+    let mut small: ArrayVec<u8, MOST_SMALL> = ArrayVec::new();
+    write_small(record, &mut small);
+    small.as_slice().to_vec(alloc)
 }
 
 /// Replaces what the vector holds by the body of a record without writes. Takes no memory.
@@ -80,7 +86,6 @@ pub fn write_small(record: &Record, out: &mut ArrayVec<u8, MOST_SMALL>)
 
 /// The body of a base, whose writes are lent: that of `Record::Base`.
 pub fn write_base(alloc: Global, timestamp: u64, writes: &Writes) -> Result<Vec<u8>, AllocError>
-    requires { IsStamped timestamp writes.now }
     ensures { IfOk result (λ v. v.items ≡ spelled (Base timestamp writes.now)) }
 {
     base(alloc, timestamp, writes)
@@ -93,7 +98,6 @@ pub fn write_held(
     timestamp: u64,
     writes: &Writes,
 ) -> Result<Vec<u8>, AllocError>
-    requires { IsBranch xid.now timestamp writes.now }
     ensures { IfOk result (λ v. v.items ≡ spelled (Held xid.now timestamp writes.now)) }
 {
     branch(alloc, 8, xid, timestamp, writes)

@@ -6,6 +6,5 @@ pub mod OneMore
 pub mod Upto
 pub mod Loops
 pub mod ListedMaps
-pub mod Limited
 pub mod Spelled
 pub mod Boots

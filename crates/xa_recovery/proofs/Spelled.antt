@@ -1,5 +1,5 @@
 -- Bodies that are those of records, read one by one.
-use Rattle.std.proofs.Common.{◌≡◌, ℕ, suc, map, Vec, Global, Err, List, [], ◌∷◌, ◌++◌, length, refl, ap, sym, ◌∙◌, subst, arith}
+use Rattle.std.proofs.Common.{◌≡◌, ℕ, suc, map, Vec, Global, Err, List, [], ◌∷◌, ◌++◌, length, refl, ap, sym, ◌∙◌, subst}
 use Rattle.std.specs.List.{AllByRecursion}
 use Rattle.xa_record.specs.declared.record.Record.{Record}
 use Rattle.xa_record.specs.declared.fault.RecordFault.{RecordFault}

@@ -1,7 +1,4 @@
 ghost use Rattle.std.specs.Prelude.{◌≡◌, ◌∷◌, [], map, IfOk, OnOk};
-ghost use Rattle.std.specs.List.{AllByRecursion};
-ghost use Rattle.xa_xid.specs.Triple.{IsWithinLimits};
-ghost use Rattle.xa_record.specs.Limits.{IsStamped, IsBranch, IsRecord};
 ghost use Rattle.xa_record.specs.Spelling.{spelled};
 ghost use Rattle.xa_model.specs.Fold.{snapshot};
 ghost use Rattle.xa_recovery.specs.Snapshots.{Puts, bytes_of, base_body, held_body, known_body};
@@ -10,7 +7,7 @@ use crate::durable::{Durable, InDoubt};
 use std::alloc::{AllocError, Global};
 use std::collections::BTreeMap;
 use xa_codes::Direction;
-use xa_record::{Record, Writes, write, write_base, write_held};
+use xa_record::{Record, Writes, write_base, write_held, write_short};
 use xa_xid::Xid;
 
 /// Puts a body behind the others, in no more memory than it has bytes: all are kept until the last one is written.
@@ -28,7 +25,6 @@ fn put_base(
     timestamp: u64,
     writes: &Writes,
 ) -> Result<(), AllocError>
-    requires { IsStamped timestamp writes.now }
     ensures { OnOk result (Puts bodies.old (base_body (timestamp, writes.now) ∷ []) bodies.new) }
 {
     put(bodies, write_base(alloc, timestamp, writes)?)
@@ -39,7 +35,6 @@ fn put_committed(
     bodies: &mut Vec<Vec<u8>>,
     committed: &BTreeMap<u64, Writes>,
 ) -> Result<(), AllocError>
-    requires { AllByRecursion (λ e. IsStamped e.0 e.1) committed.now.entries }
     ensures { OnOk result (Puts bodies.old (map base_body committed.now.entries) bodies.new) }
 {
     for (timestamp, writes) in committed {
@@ -54,7 +49,6 @@ fn put_held(
     timestamp: u64,
     branch: &InDoubt,
 ) -> Result<(), AllocError>
-    requires { IsBranch branch.now.xid timestamp branch.now.writes }
     ensures { OnOk result (Puts bodies.old (held_body (timestamp, branch.now) ∷ []) bodies.new) }
 {
     let body = write_held(alloc, &branch.xid, timestamp, &branch.writes)?;
@@ -66,7 +60,6 @@ fn put_prepared(
     bodies: &mut Vec<Vec<u8>>,
     prepared: &BTreeMap<u64, InDoubt>,
 ) -> Result<(), AllocError>
-    requires { AllByRecursion (λ e. IsBranch e.1.xid e.0 e.1.writes) prepared.now.entries }
     ensures { OnOk result (Puts bodies.old (map held_body prepared.now.entries) bodies.new) }
 {
     for (timestamp, branch) in prepared {
@@ -81,11 +74,11 @@ fn put_known(
     xid: &Xid,
     direction: Direction,
 ) -> Result<(), AllocError>
-    requires { IsWithinLimits xid.now }
     ensures { OnOk result (Puts bodies.old (known_body (xid.now, direction) ∷ []) bodies.new) }
 {
     let xid = xid.copied();
-    put(bodies, write(alloc, &Record::Known { xid, direction })?)
+    let body = write_short(alloc, &Record::Known { xid, direction })?;
+    put(bodies, body)
 }
 
 fn put_decided(
@@ -93,7 +86,6 @@ fn put_decided(
     bodies: &mut Vec<Vec<u8>>,
     decided: &BTreeMap<Xid, Direction>,
 ) -> Result<(), AllocError>
-    requires { AllByRecursion (λ e. IsWithinLimits e.0) decided.now.entries }
     ensures { OnOk result (Puts bodies.old (map known_body decided.now.entries) bodies.new) }
 {
     for (xid, direction) in decided {
@@ -107,12 +99,11 @@ fn put_decided(
 /// first: its number is the file's generation, and the manager's step knows it as the one record that a restart appends.
 /// Of a log with a record they take no more room than its own records, so a restart has the room. They are within the
 /// limits of records where those were that the durable value comes from, as all are that were read, and the boot is
-/// above 0 (`lasting` of `xa_model`).
+/// above 0 (`lasting` of `xa_model`); of others the lengths are cut.
 ///
 /// # Errors
 /// Want of memory.
 pub fn snapshot(alloc: Global, durable: &Durable, boot: u32) -> Result<Vec<Vec<u8>>, AllocError>
-    requires { AllByRecursion IsRecord (snapshot durable.now boot) }
     ensures { IfOk result (λ v. bytes_of v.items ≡ map spelled (snapshot durable.now boot)) }
 {
     let branches = durable
@@ -121,7 +112,7 @@ pub fn snapshot(alloc: Global, durable: &Durable, boot: u32) -> Result<Vec<Vec<u
         .saturating_add(durable.prepared.len());
     let others = durable.decided.len().saturating_add(1);
     let mut bodies = Vec::with_capacity(alloc, branches.saturating_add(others))?;
-    let opened = write(alloc, &Record::Opened { boot })?;
+    let opened = write_short(alloc, &Record::Opened { boot })?;
     put(&mut bodies, opened)?;
     put_committed(alloc, &mut bodies, &durable.committed)?;
     put_prepared(alloc, &mut bodies, &durable.prepared)?;

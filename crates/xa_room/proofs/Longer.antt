@@ -13,12 +13,12 @@ use Rattle.xa_model.specs.State.{State}
 use Rattle.xa_model.specs.Answer.{Answer}
 use Rattle.xa_model.specs.Turn.{Asked}
 use Rattle.xa_model.specs.Step.{step}
-use Rattle.xa_model.specs.Events.{HaveHappened, IsEvent, is_restart}
+use Rattle.xa_model.specs.Events.{HaveHappened, IsEvent, begins_boot}
 use Rattle.xa_model.specs.History.{Leads}
 use Rattle.xa_room.specs.declared.book.Entry.{Entry}
 use Rattle.xa_room.specs.declared.book.Receipt.{Receipt}
 use Rattle.xa_room.specs.declared.manages.Manages.{Ghosts}
-use Rattle.xa_room.specs.Book.{AreNumbered, HasNoRestart, entry_of, plain_entries, receipt_of, unplaced}
+use Rattle.xa_room.specs.Book.{AreNumbered, HasNoBoot, entry_of, plain_entries, receipt_of, unplaced}
 use Rattle.xa_room.specs.Manages.{Acts, Counts, StepsTo}
 use Rattle.xa_room.specs.Upholds.{Adds, Upholds}
 use Rattle.xa_room.specs.Told.{Told}
@@ -54,12 +54,12 @@ failures_snoc : (es : List Entry) (e : Entry) → failures_of (plain_entries (es
 failures_snoc [] e = omega arith
 failures_snoc (x ∷ es) e = omega (arith, failures_snoc es e)
 
-before_last : (es : List Entry) (e : Entry) → HasNoRestart (es ++ e ∷ []) → HasNoRestart es × (is_restart e.event ≡ false)
+before_last : (es : List Entry) (e : Entry) → HasNoBoot (es ++ e ∷ []) → HasNoBoot es × (begins_boot e.event ≡ false)
 before_last [] e h = (tt, h.0)
 before_last (x ∷ es) e h = let rest = before_last es e h.1 in ((h.0, rest.0), rest.1)
 
-premises : (trusts : Type 0) (es : List Entry) (e : Entry) → trusts ⊎ HasNoRestart (es ++ e ∷ [])
-    → (trusts ⊎ HasNoRestart es) × (trusts ⊎ (is_restart e.event ≡ false))
+premises : (trusts : Type 0) (es : List Entry) (e : Entry) → trusts ⊎ HasNoBoot (es ++ e ∷ [])
+    → (trusts ⊎ HasNoBoot es) × (trusts ⊎ (begins_boot e.event ≡ false))
 premises trusts es e (inl t) = (inl t, inl t)
 premises trusts es e (inr h) = let parts = before_last es e h in (inr parts.0, inr parts.1)
 

@@ -5,13 +5,14 @@ use Rattle.xa_disk.specs.declared.disk.Disk.{Ghosts}
 use Rattle.xa_frame.specs.declared.reply.Reply.{Reply}
 use Rattle.xa_assoc.specs.Refusals.{is_memory}
 use Rattle.xa_model.specs.declared.event.Event.{Event}
+use Rattle.xa_model.specs.Events.{is_trim}
 use Rattle.xa_manager.specs.declared.manager.Manager.{Manager}
-use Rattle.xa_manager.specs.Answered.{FullyAnswered, HasCalled}
+use Rattle.xa_manager.specs.Answered.{FullyAnswered, HasCalledFor}
 use Rattle.xa_manager.specs.Counted.{counted_by}
 use Rattle.xa_manager.specs.Crash.{CrashesAs}
 use Rattle.xa_manager.specs.LogStands.{Trusts}
 use Rattle.xa_manager.specs.Managed.{ManagerStandsFor}
-use Rattle.xa_manager.proofs.Counting.{called_by, none_by}
+use Rattle.xa_manager.proofs.Counting.{called_for, none_by}
 use Rattle.xa_room.specs.Manages.{Acts}
 
 each_way : (b : Bool) (A B C E : Type 0) → (b ≡ true → A → C) → (b ≡ false → B → E) → MatchBool b A B → MatchBool b C E
@@ -25,7 +26,7 @@ by_cases false C E f g = g refl
 pub acted : {D : Type 0} (disks : Ghosts D) (old : Manager D) (event : Event) (reply : Reply) (new : Manager D)
     → FullyAnswered disks old event reply new
     → Acts (ManagerStandsFor disks) (Trusts disks) (λ m. m.outcome)
-    (λ outcome a b. HasCalled disks outcome a.log b.log) (λ event outcome a b. CrashesAs disks a event outcome b) (λ m. counted_by disks.failures m.log) old event reply new
+    (λ event outcome a b. HasCalledFor disks (is_trim event) outcome a.log b.log) (λ event outcome a b. CrashesAs disks a event outcome b) (λ m. counted_by disks.failures m.log) old event reply new
 acted disks old event reply new full = record {
   answered = each_way (is_memory reply.detail) _ _ _ _ (λ e h. h.0) (λ e h. h) full.answered;
   pinned = full.pinned;
@@ -33,5 +34,5 @@ acted disks old event reply new full = record {
   crash = full.crash;
   counted = by_cases (is_memory reply.detail) _ _
       (λ e s stands. none_by disks old.log new.log (full.quiet e))
-      (λ e s stands premise. called_by disks new.outcome old.log new.log (full.called e s stands premise));
+      (λ e s stands premise. called_for disks (is_trim event) new.outcome old.log new.log (full.called e s stands premise));
 }

@@ -9,7 +9,7 @@ use Rattle.xa_manager.specs.Counted.{RiseBy, failures_of}
 use Rattle.xa_room.specs.declared.book.Entry.{Entry}
 use Rattle.xa_room.specs.declared.book.Receipt.{Receipt}
 use Rattle.xa_room.specs.declared.manages.Manages.{Ghosts}
-use Rattle.xa_room.specs.Book.{AreNumbered, HasNoRestart, entry_of, plain_entries, unplaced}
+use Rattle.xa_room.specs.Book.{AreNumbered, HasNoBoot, entry_of, plain_entries, unplaced}
 use Rattle.xa_room.specs.Manages.{Stays, StepsTo, Calls, Counts}
 use Rattle.xa_room.specs.Told.{Told}
 
@@ -17,13 +17,13 @@ use Rattle.xa_room.specs.Told.{Told}
 -- for a restart it is so under the premises on devices.
 abbrev pub IsLegal : {M : Type 0} → Ghosts M → (State → Type 0) → M → List Entry → Type 0
 IsLegal m start now entries =
-    (s : State) → start s → m.trusts ⊎ HasNoRestart entries
+    (s : State) → start s → m.trusts ⊎ HasNoBoot entries
     → (t : State) × Leads s (plain_entries entries) t × m.stands now t
 
 -- under the same premises, the book tells of no more failures than were counted since it was begun
 abbrev pub IsCounted : {M : Type 0} → Ghosts M → (State → Type 0) → ℕ × ℕ → M → List Entry → Type 0
 IsCounted m start base now entries =
-    (s : State) → start s → m.trusts ⊎ HasNoRestart entries
+    (s : State) → start s → m.trusts ⊎ HasNoBoot entries
     → RiseBy (failures_of (plain_entries entries)) base (m.failures now)
 
 -- a room whose history began at these states, with these failures counted

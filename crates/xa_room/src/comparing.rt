@@ -113,7 +113,7 @@ fn same_request(one: &Request, other: &Request) -> bool
             },
         ) => { direction == d && xid == x }
         (Request::Doom { xid }, Request::Doom { xid: x }) => xid == x,
-        (Request::Restart, Request::Restart) => true,
+        (Request::Restart, Request::Restart) | (Request::Trim, Request::Trim) => true,
         (Request::Timeout { seconds }, Request::Timeout { seconds: s }) => seconds == s,
         (Request::Tick { moment }, Request::Tick { moment: m }) => moment == m,
         (Request::Branches { count, after }, Request::Branches { count: c, after: a }) => {

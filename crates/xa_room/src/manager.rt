@@ -7,7 +7,8 @@ use xa_model::Outcome;
 
 /// The manager over a log on two disks. Its counts of failures are those of the two.
 impl<D: Disk> Manages for Manager<D> {
-    ghost use Rattle.xa_manager.specs.Answered.{HasCalled};
+    ghost use Rattle.xa_model.specs.Events.{is_trim};
+    ghost use Rattle.xa_manager.specs.Answered.{HasCalledFor};
     ghost use Rattle.xa_manager.specs.Connected.{connected_to};
     ghost use Rattle.xa_manager.specs.Counted.{counted_by};
     ghost use Rattle.xa_manager.specs.Crash.{CrashesAs};
@@ -20,7 +21,7 @@ impl<D: Disk> Manages for Manager<D> {
 
     ghost told = { λ m. m.outcome };
 
-    ghost has_called = { λ outcome old new. HasCalled D.Disk outcome old.log new.log };
+    ghost has_called = { λ event outcome old new. HasCalledFor D.Disk (is_trim event) outcome old.log new.log };
 
     ghost crashes = { λ event outcome old new. CrashesAs D.Disk old event outcome new };
 

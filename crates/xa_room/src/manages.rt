@@ -18,14 +18,14 @@ pub trait Manages {
     /// The states that it stands for.
     ghost stands: { Self → State → Type 0 };
 
-    /// The premises on its devices, of which restarts alone speak.
+    /// The premises on its devices, of which restarts and trims alone speak.
     ghost trusts: { Type 0 };
 
     /// What the device did in the last event that found its memory.
     ghost told: { Self → Outcome };
 
-    /// What the device did, by an outcome, between one and the other.
-    ghost has_called: { Outcome → Self → Self → Type 0 };
+    /// What the device did in an event, by its outcome, between one and the other.
+    ghost has_called: { Event → Outcome → Self → Self → Type 0 };
 
     /// What a crash at any moment of an event leaves, by its outcome, between one and the other.
     ghost crashes: { Event → Outcome → Self → Self → Type 0 };

@@ -16,7 +16,7 @@ use Rattle.xa_xid.specs.Triple.{Triple, IsWithinLimits}
 use Rattle.xa_xid.specs.Spelling.{text_of}
 use Rattle.xa_frame.specs.declared.request.Request.{Request}
 use Rattle.xa_frame.specs.declared.request.Request.TheVariants.{Open, Close, Start, End, Prepare, Commit, Rollback, Forget}
-use Rattle.xa_frame.specs.declared.request.Request.TheVariants.{Recover, Get, Put, Delete, Decide, Doom, Restart, Timeout, Tick, Branches}
+use Rattle.xa_frame.specs.declared.request.Request.TheVariants.{Recover, Get, Put, Delete, Decide, Doom, Restart, Timeout, Tick, Trim, Branches}
 
 -- the words that name a request
 abbrev pub named_verbs : List (List ℕ × Verb)
@@ -38,6 +38,7 @@ named_verbs =
     ∷ (codes "restart", verb.Restart)
     ∷ (codes "timeout", verb.Timeout)
     ∷ (codes "tick", verb.Tick)
+    ∷ (codes "trim", verb.Trim)
     ∷ (codes "branches", verb.Branches)
     ∷ []
 
@@ -152,4 +153,5 @@ module _ (xid_of : List ℕ → Option Triple) where
   request_of verb.Restart words = alone Restart words
   request_of verb.Timeout words = timeout_by words
   request_of verb.Tick words = tick_by words
+  request_of verb.Trim words = alone Trim words
   request_of verb.Branches words = branches_by words

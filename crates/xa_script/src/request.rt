@@ -1,7 +1,6 @@
 ghost use Rattle.std.specs.Option.{option_copied, option_map};
 ghost use Rattle.std.specs.Prelude.{◌≡◌, ℕ, IfOk, IfSome, List, Option, option_and_then};
 ghost use Rattle.xa_frame.specs.Limits.{IsKey, IsRequest, IsValue};
-ghost use Rattle.xa_frame.specs.declared.request.Request.TheVariants.{Restart};
 ghost use Rattle.xa_xid.specs.Triple.{Triple};
 ghost use Rattle.xa_script.specs.Parts.{alone, one_of, words_behind};
 ghost use Rattle.xa_script.specs.Requests.{ReadsTexts, branch_pair, branches_by, close_by, cursor_of, decide_by, delete_by, direction_of, doom_by, get_by, is_graphic, is_name, key_of, open_by, put_by, recover_by, request_of, tick_by, timeout_by, value_of};
@@ -44,9 +43,10 @@ pub fn read_request(
         Verb::Delete => read_delete(alloc, words),
         Verb::Decide => Ok(read_decide(words)),
         Verb::Doom => Ok(read_doom(words)),
-        Verb::Restart => Ok(read_restart(words)),
+        Verb::Restart => Ok(read_alone(Request::Restart, words)),
         Verb::Timeout => Ok(read_timeout(words)),
         Verb::Tick => Ok(read_tick(words)),
+        Verb::Trim => Ok(read_alone(Request::Trim, words)),
         Verb::Branches => Ok(read_branches(words)),
     }
 }
@@ -101,13 +101,14 @@ fn read_direction(word: &[u8]) -> Option<Direction>
     }
 }
 
-/// A restart, behind which no words stand.
-fn read_restart(words: Option<&[u8]>) -> Option<Request>
-    ensures value { result ≡ alone Restart (words_behind (option_copied words.entry)) }
+/// The request, if no words stand behind its verb.
+fn read_alone(request: Request, words: Option<&[u8]>) -> Option<Request>
+    requires { IsRequest request }
+    ensures value { result ≡ alone request (words_behind (option_copied words.entry)) }
     ensures limits { IfSome result IsRequest }
 {
     match words {
-        None => Some(Request::Restart),
+        None => Some(request),
         Some(_) => None,
     }
 }

@@ -21,6 +21,7 @@ pub enum Verb {
     Restart,
     Timeout,
     Tick,
+    Trim,
     Branches,
 }
 
@@ -49,6 +50,7 @@ pub fn read_verb(word: &[u8]) -> Option<Verb>
         "restart" => Some(Verb::Restart),
         "timeout" => Some(Verb::Timeout),
         "tick" => Some(Verb::Tick),
+        "trim" => Some(Verb::Trim),
         "branches" => Some(Verb::Branches),
         _ => None,
     }

@@ -30,7 +30,7 @@ fn names(rt: HostRuntime) {
     none_wrong(&rt, wrong_name(&NAMES));
 }
 
-const FLAGS: [(Call, u32, bool); 11] = [
+const FLAGS: [(Call, u32, bool); 13] = [
     (Call::Start, TMJOIN | TMRESUME, false),
     (Call::End, TMNOFLAGS, false),
     (Call::End, TMSUCCESS | TMMIGRATE, false),
@@ -40,6 +40,8 @@ const FLAGS: [(Call, u32, bool); 11] = [
     (Call::Timeout, TMASYNC, true),
     (Call::Tick, TMNOFLAGS, true),
     (Call::Tick, TMNOWAIT, false),
+    (Call::Trim, TMNOFLAGS, true),
+    (Call::Trim, TMNOWAIT, false),
     (Call::Branches, TMNOFLAGS, true),
     (Call::Branches, TMNOWAIT, false),
 ];

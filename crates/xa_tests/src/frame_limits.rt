@@ -4,14 +4,14 @@ use std::alloc::{AllocError, Global};
 use xa_frame::{decode_request, encode_request};
 use xa_rows::{INFO_BYTES, KEY_BYTES, PART_BYTES, VALUE_BYTES, XIDS};
 
-/// The fields of the requests 1 to 17 and 66, and of the bodies of kind 0 to 5, a letter each.
-const REQUESTS: [&[u8]; 18] = [
+/// The fields of the requests 1 to 17, 65 and 66, and of the bodies of kind 0 to 5, a letter each.
+const REQUESTS: [&[u8]; 19] = [
     b"fi", b"f", b"fx", b"fx", b"fx", b"fx", b"fx", b"ff", b"fx", b"k", b"kv", b"k", b"dx", b"x",
-    b"", b"f", b"ff", b"fn",
+    b"", b"f", b"ff", b"", b"fn",
 ];
 
-const OPERATIONS: [u8; 18] = [
-    1, 2, 3, 4, 5, 6, 7, 8, 9, 10, 11, 12, 13, 14, 15, 16, 17, 66,
+const OPERATIONS: [u8; 19] = [
+    1, 2, 3, 4, 5, 6, 7, 8, 9, 10, 11, 12, 13, 14, 15, 16, 17, 65, 66,
 ];
 
 const BODIES: [&[u8]; 6] = [b"", b"ff", b"v", b"", b"c", b"c"];

@@ -9,12 +9,14 @@ use xa_frame::{
 };
 use xa_xid::Xid;
 
-/// What each of the first 17 contents is with operation 66 in place of its own.
+/// What each of the first 17 contents is with operation 65 in place of its own, and with 66.
+const AS_TRIM: &[u8] = b"TTTTTTTTTTTTTTkTT";
+
 const AS_BRANCHES: &[u8] = b"FSTTTTTTTSFSFFSST";
 
-fn wrong_branches(alloc: Global, rows: &[Content], letters: &[u8]) -> Option<usize> {
+fn wrong_letter(alloc: Global, rows: &[Content], operation: u8, letters: &[u8]) -> Option<usize> {
     for (index, ((content, _, _), expected)) in rows.iter().zip(letters).enumerate() {
-        if letter_with(alloc, content, 1, 66) != *expected {
+        if letter_with(alloc, content, 1, operation) != *expected {
             return Some(index);
         }
     }
@@ -23,7 +25,8 @@ fn wrong_branches(alloc: Global, rows: &[Content], letters: &[u8]) -> Option<usi
 
 #[test]
 fn operation(rt: HostRuntime) {
-    none_wrong(&rt, wrong_branches(rt.alloc(), &CONTENTS, AS_BRANCHES));
+    none_wrong(&rt, wrong_letter(rt.alloc(), &CONTENTS, 65, AS_TRIM));
+    none_wrong(&rt, wrong_letter(rt.alloc(), &CONTENTS, 66, AS_BRANCHES));
 }
 
 const ASKED: [u8; 15] = [1, 66, 1, 2, 3, 4, 1, 0, 0, 0, 1, 1, 1, 0xaa, 0xbb];

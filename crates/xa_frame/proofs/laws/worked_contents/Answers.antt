@@ -4,7 +4,7 @@ use Rattle.xa_frame.proofs.laws.worked_contents.Goals as goal
 
 pub returns-clause-requests : goal.returns-clause-requests
 unfolding xid_at parts_at
-returns-clause-requests c = (refl, refl, refl, refl, refl, refl, refl, refl, refl, refl, refl, refl, refl, refl, refl, refl, refl, refl, refl, refl, refl, refl, refl, refl)
+returns-clause-requests c = (refl, refl, refl, refl, refl, refl, refl, refl, refl, refl, refl, refl, refl, refl, refl, refl, refl, refl, refl, refl, refl, refl, refl, refl, refl, refl)
 
 pub returns-clause-replies : goal.returns-clause-replies
 unfolding xid_at parts_at

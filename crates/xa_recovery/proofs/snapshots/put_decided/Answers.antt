@@ -1,26 +1,15 @@
 use Rattle.std.proofs.Common.{refl}
-use Rattle.xa_xid.specs.Triple.{Triple, IsWithinLimits}
+use Rattle.xa_xid.specs.Triple.{Triple}
 use Rattle.xa_codes.specs.declared.direction.Direction.{Direction}
 use Rattle.std.specs.Map.Iter.{deref_pair}
 use Rattle.std.proofs.lemmas.Map.Iter.{rest_more}
 use Rattle.xa_recovery.specs.Snapshots.{bytes_of, known_body}
 use Rattle.xa_recovery.proofs.Loops.{one_body}
-use Rattle.xa_recovery.proofs.Limited.{next_of}
 use Rattle.xa_recovery.proofs.snapshots.put_decided.Goals as goal
-
-pub put_known-requires : goal.put_known-requires
-put_known-requires c =
-    let e : Triple × Direction = (c.in-Some.xid.now, c.in-Some.direction.now) in
-    let more = rest_more deref_pair c.loop-xid.xid-iterator c.next.new.self c.next.result (c.in-Some.xid, c.in-Some.direction) c.in-Some.is c.next.ensures.steps in
-    (next_of (λ (e : Triple × Direction). IsWithinLimits e.0) c.loop-xid.xid-iterator c.next.new.self e more c.loop-xid.invariant.limited).0
 
 pub loop-xid-preserved : goal.loop-xid-preserved
 loop-xid-preserved c =
     let e : Triple × Direction = (c.in-Some.xid.now, c.in-Some.direction.now) in
     let more = rest_more deref_pair c.loop-xid.xid-iterator c.next.new.self c.next.result (c.in-Some.xid, c.in-Some.direction) c.in-Some.is c.next.ensures.steps in
-    record {
-      bodies =
-          one_body known_body (bytes_of c.loop-xid.bodies.items) (bytes_of c.put_known.new.bodies.items) (known_body e) e c.next.new.self c.loop-xid.xid-iterator _
-          more refl c.in_ok-put_known.ensures c.loop-xid.invariant.bodies;
-      limited = (next_of (λ (e : Triple × Direction). IsWithinLimits e.0) c.loop-xid.xid-iterator c.next.new.self e more c.loop-xid.invariant.limited).1;
-    }
+    one_body known_body (bytes_of c.loop-xid.bodies.items) (bytes_of c.put_known.new.bodies.items) (known_body e) e c.next.new.self c.loop-xid.xid-iterator _
+    more refl c.in_ok-put_known.ensures c.loop-xid.invariant

@@ -1,11 +1,6 @@
 use Rattle.std.proofs.Common.{◌≡◌, ◌++◌, map}
-use Rattle.std.specs.List.{AllByRecursion}
-use Rattle.xa_record.specs.Limits.{IsBranch}
 use Rattle.xa_recovery.specs.Snapshots.{held_body, bytes_of}
 use Rattle.xa_recovery.proofs.snapshots.put_prepared.Given as goal
 
 abbrev pub invariant-loop-timestamp : goal.invariant-loop-timestamp
-invariant-loop-timestamp l = record {
-  bodies : bytes_of l.bodies.items ++ map held_body l.timestamp-iterator ≡ bytes_of l.fn.bodies.items ++ map held_body l.prepared.entries;
-  limited : AllByRecursion (λ e. IsBranch e.1.xid e.0 e.1.writes) l.timestamp-iterator;
-}
+invariant-loop-timestamp l = bytes_of l.bodies.items ++ map held_body l.timestamp-iterator ≡ bytes_of l.fn.bodies.items ++ map held_body l.prepared.entries

@@ -1,6 +1,6 @@
 use Rattle.std.proofs.Common.{length}
 use Rattle.xa_model.specs.State.{State}
-use Rattle.xa_model.specs.Sound.{IsSound}
+use Rattle.xa_model.specs.Invariants.Sound.{IsSound}
 use Rattle.xa_branch.specs.Branches.{BranchesStandFor}
 use Rattle.xa_branch.proofs.RunningOut.{Ran}
 use Rattle.xa_branch.proofs.branches.Branches.tick.Given as goal

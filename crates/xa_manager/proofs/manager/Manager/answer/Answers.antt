@@ -4,7 +4,7 @@ use Rattle.xa_xid.specs.Triple.{Triple}
 use Rattle.xa_model.specs.Associations.{open_by, close_by, start_by, end_by}
 use Rattle.xa_model.specs.Branches.{doom_by}
 use Rattle.xa_model.specs.Completions.{prepare_turn, rollback_turn, decide_turn, forget_turn}
-use Rattle.xa_model.specs.Events.{asks_restart}
+use Rattle.xa_model.specs.Events.{asks_boot}
 use Rattle.xa_model.specs.Records.{get_by, put_by}
 use Rattle.xa_model.specs.KnownBranches.{branches_by}
 use Rattle.xa_model.specs.Recovering.{recover_by}
@@ -14,7 +14,7 @@ use Rattle.xa_model.specs.TimeLimits.{timeout_by, tick_by}
 use Rattle.xa_model.specs.Turn.{Now}
 use Rattle.xa_manager.proofs.Replying.{bare_fresh}
 use Rattle.xa_manager.proofs.Taking.{on_err}
-use Rattle.xa_manager.proofs.Calling.{refused_done, both_done, turn_done, turns_done, follows_done, restart_done, follows_wanted, turns_wanted}
+use Rattle.xa_manager.proofs.Calling.{refused_done, both_done, turn_done, turns_done, follows_done, restart_done, trim_done, follows_wanted, turns_wanted}
 use Rattle.xa_manager.proofs.manager.Manager.answer.Goals as goal
 
 pub returns-in-Some-clause-ok : goal.returns-in-Some-clause-ok
@@ -29,7 +29,7 @@ returns-in-Open-clause-ok g c =
     let m = c.args.self.now in
     let m' = record c.args.self.now { tables = c.open.new.self } in
     let none : c.refusal.result ≡ None = search rules in
-    let other : asks_restart c.args.request ≡ false = rw c.in-Open.is refl in
+    let other : asks_boot c.args.request ≡ false = rw c.in-Open.is refl in
     rw c.now-in-Open.ensures (
       both_done _ m m' c.args.session c.args.request (λ s. open_by s c.args.session) c.open.result c.requires other (sym none ∙ c.refusal.ensures.value)
           (λ s. ap (row s c.args.session) c.in-Open.is) refl refl refl c.open.ensures.up c.open.ensures.down,
@@ -41,7 +41,7 @@ returns-in-Close-clause-ok g c =
     let m = c.args.self.now in
     let m' = record c.args.self.now { tables = c.close.new.self } in
     let none : c.refusal.result ≡ None = search rules in
-    let other : asks_restart c.args.request ≡ false = rw c.in-Close.is refl in
+    let other : asks_boot c.args.request ≡ false = rw c.in-Close.is refl in
     rw c.now-in-Close.ensures (
       both_done _ m m' c.args.session c.args.request (λ s. close_by s c.args.session) c.close.result c.requires other (sym none ∙ c.refusal.ensures.value)
           (λ s. ap (row s c.args.session) c.in-Close.is) refl refl refl c.close.ensures.up c.close.ensures.down,
@@ -52,6 +52,11 @@ pub returns-in-Restart-clause-ok : goal.returns-in-Restart-clause-ok
 returns-in-Restart-clause-ok g c =
     let none : c.refusal.result ≡ None = search rules in
     restart_done _ c.args.self.now c.restarted.new.self c.args.session c.args.request c.restarted.result c.in-Restart.is (sym none ∙ c.refusal.ensures.value) c.restarted.ensures.ok c.restarted.ensures.bare
+
+pub returns-in-Trim-clause-ok : goal.returns-in-Trim-clause-ok
+returns-in-Trim-clause-ok g c =
+    let none : c.refusal.result ≡ None = search rules in
+    trim_done _ c.args.self.now c.trim.new.self c.args.session c.args.request c.trim.result c.in-Trim.is (sym none ∙ c.refusal.ensures.value) c.trim.ensures.ok c.trim.ensures.fresh
 
 pub returns-in-Prepare-clause-ok : goal.returns-in-Prepare-clause-ok
 returns-in-Prepare-clause-ok g c =
@@ -185,6 +190,10 @@ returns-in_ok-known_branches-in-Branches-clause-ok g c =
 pub returns-in-Restart-clause-err : goal.returns-in-Restart-clause-err
 returns-in-Restart-clause-err g c =
     rw c.in-Restart.is c.restarted.ensures.err
+
+pub returns-in-Trim-clause-err : goal.returns-in-Trim-clause-err
+returns-in-Trim-clause-err g c =
+    turns_wanted _ c.args.self.now c.trim.new.self c.args.request _ c.trim.result c.in-Trim.is refl (λ no. absurd (cc no)) c.trim.ensures.err c.trim.ensures.untouched
 
 pub returns-in-Prepare-clause-err : goal.returns-in-Prepare-clause-err
 returns-in-Prepare-clause-err g c =

@@ -1,0 +1,261 @@
+-- A trim: the snapshot of what lasts becomes the log, and all that is at work goes on.
+use Rattle.std.proofs.Common.{◌≡◌, ◌⊎◌, inl, inr, cond, not, ◌+◌, ◌<◌, ◌≤◌, ℕ, Bool, true, false, List, map, length, Option, Some, None, refl, ap, sym, ◌∙◌, subst, arith}
+use Rattle.std.specs.Prelude.{IfSome, IsSomeAnd, nat_lt}
+use Rattle.std.specs.List.{AllByRecursion}
+use Rattle.std.proofs.lemmas.Bool.Decides.{nat_tests}
+use Rattle.xa_codes.specs.declared.codes.TheConstants.{XAER_RMERR}
+use Rattle.xa_codes.specs.declared.detail.Detail.TheVariants as detail
+use Rattle.xa_disk.specs.Time.{LeavesOnly}
+use Rattle.xa_disk.specs.declared.disk.Disk.{Ghosts}
+use Rattle.xa_frame.specs.declared.reply.Reply.{Reply}
+use Rattle.xa_record.specs.Spelling.{spelled}
+use Rattle.xa_record.specs.declared.record.Record.{Record}
+use Rattle.xa_record.specs.declared.record.Record.TheVariants as logged
+use Rattle.xa_log.specs.Answers.{HasRisen}
+use Rattle.xa_log.specs.Chain.{IsBody, newest}
+use Rattle.xa_log.specs.Pair.{generation}
+use Rattle.xa_log.specs.declared.appending.Appended.{Appended as Told}
+use Rattle.xa_log.specs.declared.appending.Appended.TheVariants as told
+use Rattle.xa_log.specs.Checkpoint.{LeavesAny}
+use Rattle.xa_log.specs.TwoFiles.{MaySeal}
+use Rattle.xa_log.specs.declared.log.Log.{Log}
+use Rattle.xa_model.specs.declared.outcome.Outcome.TheVariants.{Quiet, Appended}
+use Rattle.xa_model.specs.declared.outcome.Appending.{Appending}
+use Rattle.xa_model.specs.declared.outcome.Appending.TheVariants.{Kept, Refused, Lost}
+use Rattle.xa_model.specs.State.{State, Up}
+use Rattle.xa_model.specs.Answer.{Answer, answer, detailed}
+use Rattle.xa_model.specs.Invariants.Backing.{Backs}
+use Rattle.xa_model.specs.Durable.{durable}
+use Rattle.xa_model.specs.Fold.{snapshot, sizes}
+use Rattle.xa_model.specs.Logging.{applied, lost}
+use Rattle.xa_model.specs.Invariants.Loggable.{IsRecoverable}
+use Rattle.xa_model.specs.Invariants.Room.{HasRoom}
+use Rattle.xa_model.specs.Restarting.{can_open}
+use Rattle.xa_model.specs.Trimming.{trim_refusal, trimmed, trim_became, trim_turn}
+use Rattle.xa_model.specs.Turn.{Turn, Checkpoints, taken, unless_now}
+use Rattle.xa_model.proofs.Booted.{trimmed_backed, lost_backed}
+use Rattle.xa_model.proofs.Restarts.{lost_in_doubt}
+use Rattle.xa_model.proofs.Trims.{may_trim, trimmed_recoverable}
+use Rattle.xa_model.proofs.Written.{snapshot_is_written}
+use Rattle.xa_assoc.specs.Refusals.{is_memory}
+use Rattle.xa_manager.specs.declared.doubt.Doubt.TheVariants.{Boot}
+use Rattle.xa_manager.specs.declared.manager.Manager.{Manager}
+use Rattle.xa_manager.specs.Answered.{HasCalledToTrim, NoneRises, OneRises}
+use Rattle.xa_manager.specs.Crash.{LeavesBy, LeavesCurrent, LeavesWritten, checkpoints, wrote}
+use Rattle.xa_manager.specs.LogStands.{HasRecords, Trusts, snapshot_bodies}
+use Rattle.xa_manager.specs.Managed.{view, AnswersAs, ManagerStandsFor}
+use Rattle.xa_manager.specs.Reserving.{HasReserved}
+use Rattle.xa_manager.specs.Stands.{StandsFor, TablesStandFor}
+use Rattle.xa_manager.specs.Tables.{TablesBecome}
+use Rattle.xa_manager.specs.Turns.{HasTrimmed}
+use Rattle.xa_manager.specs.declared.tables.Tables.{Tables}
+use Rattle.xa_manager.specs.View.{view_of}
+use Rattle.xa_manager.proofs.CrashBoots.{snapshot_leaves}
+use Rattle.xa_manager.proofs.Generations.{newer}
+use Rattle.xa_manager.proofs.LogsBehind.{stands_whole}
+use Rattle.xa_manager.proofs.NextBoots.{are_bodies}
+use Rattle.xa_manager.proofs.Reserved.{first_same, second_same}
+use Rattle.xa_manager.proofs.Standing.{is_up, never_full, lost_stands, outside}
+use Rattle.xa_manager.proofs.Stepping.{now_leaves}
+
+-- ---- its turn
+
+pub trim_is : (s : State) → trim_refusal s ≡ None
+    → trim_turn s ≡ Checkpoints (logged.Opened (s.logged_boot + 1)) (trim_became s (s.logged_boot + 1))
+trim_is s e = ap (λ (o : Option Reply). unless_now o s (Checkpoints (logged.Opened (s.logged_boot + 1)) (trim_became s (s.logged_boot + 1)))) e
+
+pub trim_taken : (s : State) (a : Appending) → trim_refusal s ≡ None → taken (trim_turn s) (Appended a) ≡ Some (trim_became s (s.logged_boot + 1) a)
+trim_taken s a e = ap (λ (t : Turn). taken t (Appended a)) (trim_is s e)
+
+trim_refused : (s : State) (reply : Reply) → trim_refusal s ≡ Some reply → taken (trim_turn s) Quiet ≡ Some (answer reply s)
+trim_refused s reply e =
+    ap (λ (o : Option Reply). taken (unless_now o s (Checkpoints (logged.Opened (s.logged_boot + 1)) (trim_became s (s.logged_boot + 1)))) Quiet) e
+
+some_is : (o : Option Answer) (a : Answer) (P : Answer → Type 0) → o ≡ Some a → P a → IsSomeAnd o P
+some_is o a P e h = subst (λ (x : Option Answer). IsSomeAnd x P) (sym e) h
+
+none_found : (o : Option Record) (P : Record → Type 0) → o ≡ None → IfSome o P
+none_found o P e = subst (λ (x : Option Record). IfSome x P) (sym e) tt
+
+-- ---- what the manager stands for
+
+module _ {D : Type 0} (disks : Ghosts D) (m : Manager D) (s : State) (st : ManagerStandsFor disks m s) (up : m.up ≡ true) where
+  pub trim_up : s.standing ≡ Up
+  trim_up = is_up m.up (view m) s st.tables up
+
+  pub trim_recoverable : IsRecoverable s
+  trim_recoverable = (outside m.up (view m) s st.tables).recoverable
+
+  pub trim_settled : s.open_record ≡ None
+  trim_settled = trim_recoverable.settled trim_up
+
+  pub trim_tables : StandsFor (view m) s
+  trim_tables = subst (λ (b : Bool). TablesStandFor b (view m) s) up st.tables
+
+  -- it was refused before anything was written
+  pub refused_answer : (reply : Reply) → trim_refusal s ≡ Some reply → AnswersAs disks (taken (trim_turn s) Quiet) reply m
+  refused_answer reply e = some_is (taken (trim_turn s) Quiet) (answer reply s) (λ a. (a.reply ≡ reply) × ManagerStandsFor disks m a.after) (trim_refused s reply e) (refl, st)
+
+  less_of : trim_refusal s ≡ None → s.logged_boot < 4294967295
+  less_of e = omega (arith, (may_trim s e).boots)
+
+  -- its boot began
+  pub kept_stands : (m' : Manager D) (rs : List Record) (next : ℕ) → trim_refusal s ≡ None → next ≡ s.logged_boot + 1 → Backs rs s
+      → TablesBecome m.tables (λ t. t.logged_boot + 1 ≡ next) (λ t. trimmed t next) m'.tables → m'.up ≡ true → m'.doubt ≡ None
+      → m'.log.log_bytes ≡ m.log.log_bytes → m'.log.end ≡ 8 + sizes (snapshot (durable s) (s.logged_boot + 1)) → m'.log.lost ≡ false → m'.log.format ≡ newest
+      → HasRecords disks (snapshot (durable s) (s.logged_boot + 1)) m'.log
+      → ManagerStandsFor disks m' (trimmed s (s.logged_boot + 1))
+  kept_stands m' rs next e number backs becomes still doubt bytes end alive modern has =
+      let recoverable = trimmed_recoverable s trim_recoverable trim_settled (less_of e) in
+      let after = subst (λ (n : ℕ). IsRecoverable (trimmed s n) → StandsFor (view m') (trimmed s n)) number (becomes s trim_tables (sym number)) recoverable in
+      record {
+        tables = subst (λ (b : Bool). TablesStandFor b (view m') (trimmed s (s.logged_boot + 1))) (sym still) after;
+        roomy = λ standing. record {
+          room = (may_trim s e).room;
+          found = none_found s.open_record (λ r. HasRoom (applied r (trimmed s (s.logged_boot + 1)))) trim_settled;
+        };
+        end = λ is. end;
+        alive = λ is. alive;
+        modern = λ is. modern;
+        log_bytes = bytes ∙ st.log_bytes;
+        doubt = rw doubt trim_settled;
+        log = λ trusts. stands_whole disks m'.log (trimmed s (s.logged_boot + 1)) (snapshot (durable s) (s.logged_boot + 1))
+            (trimmed_backed rs s backs (trim_recoverable.current trim_up) (less_of e)) has;
+      }
+
+  -- it was refused by the device
+  pub refused_stands : (m' : Manager D) (rs : List Record) → Backs rs s → m'.tables ≡ m.tables → m'.up ≡ true → m'.doubt ≡ None
+      → m'.log.log_bytes ≡ m.log.log_bytes → m'.log.end ≡ m.log.end → m'.log.lost ≡ m.log.lost → m'.log.format ≡ m.log.format
+      → (Trusts disks → HasRecords disks rs m'.log) → ManagerStandsFor disks m' s
+  refused_stands m' rs backs tables still doubt bytes end alive modern has = record {
+    tables = subst (λ (b : Bool). TablesStandFor b (view m') s) (sym still) (subst (λ (t : Tables). StandsFor (view_of t) s) (sym tables) trim_tables);
+    roomy = st.roomy;
+    end = λ is. end ∙ st.end up;
+    alive = λ is. alive ∙ st.alive up;
+    modern = λ is. modern ∙ st.modern up;
+    log_bytes = bytes ∙ st.log_bytes;
+    doubt = rw doubt trim_settled;
+    log = λ trusts. stands_whole disks m'.log s rs backs (has trusts);
+  }
+
+  -- it was lost
+  pub sealed_stands : (m' : Manager D) (rs : List Record) (next : ℕ) → trim_refusal s ≡ None → next ≡ s.logged_boot + 1 → Backs rs s
+      → m'.tables ≡ m.tables → m'.up ≡ false → m'.doubt ≡ Some (Boot next) → m'.log.log_bytes ≡ m.log.log_bytes
+      → MaySeal disks (map spelled rs) (snapshot_bodies s (s.logged_boot + 1)) m'.log
+      → ManagerStandsFor disks m' (lost s (logged.Opened (s.logged_boot + 1))).after
+  sealed_stands m' rs next e number backs tables stopped doubt bytes seal =
+      lost_stands disks m m' s (record s { open_record = None }) false rs tables stopped (doubt ∙ ap (λ (n : ℕ). Some (Boot n)) number) bytes st refl
+      (backs_settled rs backs) (less_of e) seal
+    where
+      backs_settled : (rs : List Record) → Backs rs s → Backs rs (record s { open_record = None })
+      backs_settled rs k = record { records = k.records; lasts = k.lasts; end = k.end; new = λ same. record { given = (k.new same).given; unused = (k.new same).unused } }
+
+  -- a log that has the records has room for the snapshot
+  pub fits_always : (rs : List Record) → Backs rs s → m.log.log_bytes < 8 + sizes (snapshot (durable s) (s.logged_boot + 1)) + 4 → ⊥
+  fits_always rs backs full =
+      never_full disks m s (record s { open_record = None }) false rs st refl
+      (record { records = backs.records; lasts = backs.lasts; end = backs.end; new = λ same. record { given = (backs.new same).given; unused = (backs.new same).unused } })
+      full
+
+-- ---- what a crash leaves
+
+-- of a log whose buffer may have grown before the snapshot was written
+current_same : {D : Type 0} (disks : Ghosts D) (old mid new : Log D) (a : Appending) → HasReserved disks old mid → LeavesCurrent a mid new → LeavesCurrent a old new
+current_same disks old mid new Kept r x = (x.0 ∙ r.files.0, x.1 ∙ ap not r.fields.on_first)
+current_same disks old mid new Refused r x = (x.0 ∙ r.files.0, x.1 ∙ r.fields.on_first)
+current_same disks old mid new Lost r x = (x.0 ∙ r.files.0, x.1 ∙ r.fields.on_first)
+
+pub trim_leaves : {D : Type 0} (disks : Ghosts D) (old mid new : Log D) (s : State) (rs : List Record) (a : Appending) → HasReserved disks old mid
+    → IsRecoverable s → trim_refusal s ≡ None → Backs rs s → (has : HasRecords disks rs old)
+    → new.log_bytes ≡ mid.log_bytes → LeavesCurrent a mid new
+    → LeavesOnly disks mid.other (wrote a new) (LeavesAny mid.log_bytes newest has.0 (snapshot_bodies s (s.logged_boot + 1)))
+    → LeavesBy disks old (trim_turn s) (Appended a) new s
+trim_leaves disks old mid new s rs a r h e backs has same current leaves =
+    let boot : ℕ = s.logged_boot + 1 in
+    let after : State = (lost s (logged.Opened boot)).after in
+    let less : s.logged_boot < 4294967295 = omega (arith, (may_trim s e).boots) in
+    subst (λ (o : Option Answer). IsSomeAnd o (λ l. LeavesWritten disks (checkpoints (trim_turn s)) old a new s l.after)) (sym (trim_taken s Lost e))
+    (subst (λ (b : Bool). LeavesWritten disks b old a new s after) (sym (ap checkpoints (trim_is s e)))
+    (snapshot_leaves disks old new after boot rs a (lost_in_doubt s h less).recoverable refl (lost_backed rs s (logged.Opened boot) backs) has
+    (newer rs (durable s) backs.lasts less) (same ∙ r.fields.log_bytes) (current_same disks old mid new a r current)
+    (rw (← r.fields.log_bytes, ← r.files.1) leaves)))
+
+-- ---- a refusal before the device was called
+
+pub refused_trim : {D : Type 0} (disks : Ghosts D) (m : Manager D) (reply : Reply) → m.up ≡ true → is_memory reply.detail ≡ false
+    → ((s : State) → ManagerStandsFor disks m s → Trusts disks → trim_refusal s ≡ Some reply) → HasTrimmed disks m reply Quiet m
+refused_trim disks m reply up served refuses = record {
+  turn = λ s st trusts. refused_answer disks m s st up reply (refuses s st trusts);
+  leaves = λ s st trusts. (refl, now_leaves disks m s st);
+  called = λ s st trusts. refl;
+  served = served;
+}
+
+-- ---- what the device did
+
+-- where the snapshot has room, it was refused by a failure
+pub is_refused : (r : Told) → (r ≡ told.Refused) ⊎ (r ≡ told.Full) → (r ≡ told.Full → ⊥) → r ≡ told.Refused
+is_refused r (inl is) fits = is
+is_refused r (inr is) fits = absurd (fits is)
+
+-- of the file that isn't the current one
+rises_by : {D : Type 0} (failures : D → ℕ) (b c : Bool) (x y v w : D) → c ≡ b → v ≡ x → HasRisen (failures y) (failures w)
+    → (HasRisen (failures (cond b x y)) (failures (cond c v w)) × (failures (cond c w v) ≡ failures (cond b y x)))
+    ⊎ ((failures (cond c v w) ≡ failures (cond b x y)) × HasRisen (failures (cond b y x)) (failures (cond c w v)))
+rises_by failures true true x y v w e same h = inr (ap failures same, h)
+rises_by failures false false x y v w e same h = inl (h, ap failures same)
+rises_by failures true false x y v w e same h = absurd (cc e)
+rises_by failures false true x y v w e same h = absurd (cc e)
+
+pub other_rises : {D : Type 0} (failures : D → ℕ) (old new : Log D) → new.on_first ≡ old.on_first → new.disk ≡ old.disk
+    → HasRisen (failures old.other) (failures new.other) → OneRises failures old new
+other_rises failures old new first same h = rises_by failures old.on_first new.on_first old.disk old.other new.disk new.other first same h
+
+-- the current file is the other one, and no call of either failed
+swapped_by : {D : Type 0} (failures : D → ℕ) (b c : Bool) (x y v w : D) → c ≡ not b → w ≡ x → failures v ≡ failures y
+    → (failures (cond c v w) ≡ failures (cond b x y)) × (failures (cond c w v) ≡ failures (cond b y x))
+swapped_by failures true false x y v w e same h = (ap failures same, h)
+swapped_by failures false true x y v w e same h = (h, ap failures same)
+swapped_by failures true true x y v w e same h = absurd (cc e)
+swapped_by failures false false x y v w e same h = absurd (cc e)
+
+pub none_rises_swapped : {D : Type 0} (failures : D → ℕ) (old new : Log D) → new.on_first ≡ not old.on_first → new.other ≡ old.disk
+    → failures new.disk ≡ failures old.other → NoneRises failures old new
+none_rises_swapped failures old new first same h = swapped_by failures old.on_first new.on_first old.disk old.other new.disk new.other first same h
+
+one_same : (a b x y v w : ℕ) → a ≡ x → b ≡ y → (HasRisen a v × (w ≡ b)) ⊎ ((v ≡ a) × HasRisen b w) → (HasRisen x v × (w ≡ y)) ⊎ ((v ≡ x) × HasRisen y w)
+one_same a b x y v w e f (inl (risen, same)) = inl (subst (λ (n : ℕ). HasRisen n v) e risen, same ∙ f)
+one_same a b x y v w e f (inr (same, risen)) = inr (same ∙ e, subst (λ (n : ℕ). HasRisen n w) f risen)
+
+pub called_same : {D : Type 0} (disks : Ghosts D) (old mid new : Log D) (a : Appending) → HasReserved disks old mid
+    → HasCalledToTrim disks (Appended a) mid new → HasCalledToTrim disks (Appended a) old new
+called_same disks old mid new Kept r h = (h.0 ∙ ap disks.failures (first_same disks old mid r), h.1 ∙ ap disks.failures (second_same disks old mid r))
+called_same disks old mid new Refused r h = one_same _ _ _ _ _ _ (ap disks.failures (first_same disks old mid r)) (ap disks.failures (second_same disks old mid r)) h
+called_same disks old mid new Lost r h = one_same _ _ _ _ _ _ (ap disks.failures (first_same disks old mid r)) (ap disks.failures (second_same disks old mid r)) h
+
+-- ---- the snapshot is one that the other file takes
+
+pub record IsTaken {D : Type 0} (log : Log D) (fresh : List (List ℕ)) : Type 0 where
+  pub some : 1 ≤ length fresh
+  pub sizes : AllByRecursion (IsBody newest) fresh
+  pub above : log.generation < generation fresh
+
+pub snapshot_taken : {D : Type 0} (disks : Ghosts D) (log : Log D) (s : State) (rs : List Record) → Backs rs s → HasRecords disks rs log → s.logged_boot < 4294967295
+    → IsTaken log (snapshot_bodies s (s.logged_boot + 1))
+snapshot_taken disks log s rs backs has less = record {
+  some = omega arith;
+  sizes = are_bodies (snapshot (durable s) (s.logged_boot + 1)) (snapshot_is_written rs (durable s) (s.logged_boot + 1) backs.records backs.lasts (omega arith) (omega (arith, less)));
+  above = omega (arith, newer rs (durable s) backs.lasts less, has.1.current.number);
+}
+
+-- ---- what is refused
+
+pub limit_refusal : (s : State) → 2147483648 ≤ s.logged_boot → trim_refusal s ≡ Some (detailed XAER_RMERR detail.Limit)
+limit_refusal s h = let used : nat_lt s.logged_boot 2147483648 ≡ false = grind (arith, nat_tests, h) in rw used refl
+
+pub full_refusal : (s : State) → s.logged_boot < 2147483648 → can_open s s.log_bytes (s.logged_boot + 1) ≡ false
+    → trim_refusal s ≡ Some (detailed XAER_RMERR detail.LogFull)
+full_refusal s h full = let less : nat_lt s.logged_boot 2147483648 ≡ true = grind (arith, nat_tests, h) in rw (less, full) refl
+
+pub no_refusal : (s : State) → s.logged_boot < 2147483648 → can_open s s.log_bytes (s.logged_boot + 1) ≡ true → trim_refusal s ≡ None
+no_refusal s h room = let less : nat_lt s.logged_boot 2147483648 ≡ true = grind (arith, nat_tests, h) in rw (less, room) refl

@@ -1,0 +1,155 @@
+use Rattle.std.proofs.Common.{◌≡◌, ◌⊎◌, ◌+◌, ℕ, List, map, Some, length, refl, ap, sym, ◌∙◌, subst, arith}
+use Rattle.xa_disk.specs.Time.{LeavesOnly}
+use Rattle.xa_frame.specs.Made.{carrying}
+use Rattle.xa_frame.specs.declared.body.Body.TheVariants.{Number}
+use Rattle.xa_record.specs.Spelling.{spelled}
+use Rattle.xa_log.specs.Answers.{HasCause}
+use Rattle.xa_log.specs.Checkpoint.{LeavesAny}
+use Rattle.xa_log.specs.Chain.{newest, text}
+use Rattle.xa_log.specs.Reading.{bodies_of}
+use Rattle.xa_log.specs.TwoFiles.{Pair, MaySeal, Checkpoints, Swaps, written}
+use Rattle.xa_log.specs.declared.appending.Appended.{Appended as Told}
+use Rattle.xa_model.specs.declared.outcome.Appending.TheVariants.{Kept, Refused, Lost}
+use Rattle.xa_model.specs.declared.outcome.Outcome.{Outcome}
+use Rattle.xa_model.specs.Durable.{durable}
+use Rattle.xa_model.specs.Fold.{snapshot}
+use Rattle.xa_model.specs.Trimming.{trim_became, trim_turn}
+use Rattle.xa_model.specs.Turn.{taken}
+use Rattle.xa_manager.specs.Answered.{HasCalledToTrim}
+use Rattle.xa_manager.specs.Crash.{LeavesBy, wrote}
+use Rattle.xa_manager.specs.LogStands.{snapshot_bodies}
+use Rattle.xa_manager.specs.declared.done.Done.{Done}
+use Rattle.xa_manager.proofs.CrashBoots.{swap_leaves}
+use Rattle.xa_manager.proofs.Fates.{is_answer}
+use Rattle.xa_manager.proofs.LogLengths.{text_size}
+use Rattle.xa_manager.proofs.Reserved.{pair_same}
+use Rattle.xa_manager.proofs.Standing.{refused_pair}
+use Rattle.xa_manager.proofs.Trims.{trim_taken, trim_recoverable, kept_stands, refused_stands, sealed_stands, fits_always, trim_leaves, is_refused, other_rises, none_rises_swapped, called_same}
+use Rattle.xa_manager.proofs.manager.Manager.log_trim.Goals as goal
+
+pub returns-in-Kept-clause-turn : goal.returns-in-Kept-clause-turn
+returns-in-Kept-clause-turn g c =
+    λ s rs st trusts backs has e number bodies.
+    let m = c.args.self.now in
+    let fresh = bodies_of c.args.bodies.now in
+    let went = c.checkpoint.ensures.answer trusts.disk (map spelled rs) has.0 has.1 in
+    let kept = subst (λ (a : Told). Checkpoints g.D.Disk a (map spelled rs) has.0 fresh c.checkpoint.new.self) c.in-Kept.is went in
+    let swaps = subst (λ (a : Told). Swaps a fresh m.log c.checkpoint.new.self) c.in-Kept.is (c.checkpoint.ensures.swaps (st.alive c.requires.up)) in
+    let pair = subst (λ (b : List (List ℕ)). Pair g.D.Disk b (map spelled rs) c.checkpoint.new.self) bodies kept.0 in
+    let end = pair.current.end ∙ text_size _ (snapshot (durable s) (s.logged_boot + 1)) in
+    let told = ap (λ (d : Done). taken (trim_turn s) d.outcome) c.trimmed.ensures in
+    let reply = ap (λ (n : ℕ). carrying (Number n)) (c.end.ensures ∙ end) in
+    is_answer _ (trim_became s (s.logged_boot + 1) Kept) _ (told ∙ trim_taken s Kept e) (
+      sym (ap (λ (d : Done). d.reply) c.trimmed.ensures ∙ c.carrying.ensures ∙ reply),
+      kept_stands g.D.Disk m s st c.requires.up _ rs c.args.next e number backs c.begin_boot.ensures.begun c.requires.up refl
+          c.checkpoint.ensures.settings end pair.current.alive swaps.2 (map spelled rs, pair),
+    )
+
+pub returns-in-Kept-clause-leaves : goal.returns-in-Kept-clause-leaves
+returns-in-Kept-clause-leaves g c =
+    λ log s rs r st trusts backs has e bodies.
+    let m = c.args.self.now in
+    let fresh = bodies_of c.args.bodies.now in
+    let went = c.checkpoint.ensures.any_moment trusts.disk (map spelled rs) has.0 (pair_same g.D.Disk log m.log r (map spelled rs) has.0 has.1) in
+    let of = subst (λ (a : Told). LeavesOnly g.D.Disk m.log.other (written a c.checkpoint.new.self) (LeavesAny m.log.log_bytes newest has.0 fresh)) c.in-Kept.is went in
+    let swaps = subst (λ (a : Told). Swaps a fresh m.log c.checkpoint.new.self) c.in-Kept.is (c.checkpoint.ensures.swaps (st.alive c.requires.up)) in
+    let leaves = subst (λ (b : List (List ℕ)). LeavesOnly g.D.Disk m.log.other (wrote Kept c.checkpoint.new.self) (LeavesAny m.log.log_bytes newest has.0 b)) bodies of in
+    subst (λ (o : Outcome). LeavesBy g.D.Disk log (trim_turn s) o c.checkpoint.new.self s) (sym (ap (λ (d : Done). d.outcome) c.trimmed.ensures))
+    (trim_leaves g.D.Disk log m.log c.checkpoint.new.self s rs Kept r (trim_recoverable g.D.Disk m s st c.requires.up) e backs has
+    c.checkpoint.ensures.settings (swap_leaves Kept fresh m.log c.checkpoint.new.self swaps) leaves)
+
+pub returns-in-Lost-clause-turn : goal.returns-in-Lost-clause-turn
+returns-in-Lost-clause-turn g c =
+    λ s rs st trusts backs has e number bodies.
+    let m = c.args.self.now in
+    let fresh = bodies_of c.args.bodies.now in
+    let went = c.checkpoint.ensures.answer trusts.disk (map spelled rs) has.0 has.1 in
+    let seal = subst (λ (a : Told). Checkpoints g.D.Disk a (map spelled rs) has.0 fresh c.checkpoint.new.self) c.in-Lost.is went in
+    let told = ap (λ (d : Done). taken (trim_turn s) d.outcome) c.trimmed-in-Lost.ensures in
+    is_answer _ (trim_became s (s.logged_boot + 1) Lost) _ (told ∙ trim_taken s Lost e) (
+      sym (ap (λ (d : Done). d.reply) c.trimmed-in-Lost.ensures ∙ c.detailed-in-Lost.ensures),
+      sealed_stands g.D.Disk m s st c.requires.up _ rs c.args.next e number backs refl refl refl c.checkpoint.ensures.settings
+          (subst (λ (b : List (List ℕ)). MaySeal g.D.Disk (map spelled rs) b c.checkpoint.new.self) bodies seal),
+    )
+
+pub returns-in-Lost-clause-leaves : goal.returns-in-Lost-clause-leaves
+returns-in-Lost-clause-leaves g c =
+    λ log s rs r st trusts backs has e bodies.
+    let m = c.args.self.now in
+    let fresh = bodies_of c.args.bodies.now in
+    let went = c.checkpoint.ensures.any_moment trusts.disk (map spelled rs) has.0 (pair_same g.D.Disk log m.log r (map spelled rs) has.0 has.1) in
+    let of = subst (λ (a : Told). LeavesOnly g.D.Disk m.log.other (written a c.checkpoint.new.self) (LeavesAny m.log.log_bytes newest has.0 fresh)) c.in-Lost.is went in
+    let swaps = subst (λ (a : Told). Swaps a fresh m.log c.checkpoint.new.self) c.in-Lost.is (c.checkpoint.ensures.swaps (st.alive c.requires.up)) in
+    let leaves = subst (λ (b : List (List ℕ)). LeavesOnly g.D.Disk m.log.other (wrote Lost c.checkpoint.new.self) (LeavesAny m.log.log_bytes newest has.0 b)) bodies of in
+    subst (λ (o : Outcome). LeavesBy g.D.Disk log (trim_turn s) o c.checkpoint.new.self s) (sym (ap (λ (d : Done). d.outcome) c.trimmed-in-Lost.ensures))
+    (trim_leaves g.D.Disk log m.log c.checkpoint.new.self s rs Lost r (trim_recoverable g.D.Disk m s st c.requires.up) e backs has
+    c.checkpoint.ensures.settings (swap_leaves Lost fresh m.log c.checkpoint.new.self swaps) leaves)
+
+pub returns-in-Lost-clause-called : goal.returns-in-Lost-clause-called
+returns-in-Lost-clause-called g c =
+    λ log s rs r st trusts backs bodies.
+    let m = c.args.self.now in
+    let alive = st.alive c.requires.up in
+    let swaps = subst (λ (a : Told). Swaps a (bodies_of c.args.bodies.now) m.log c.checkpoint.new.self) c.in-Lost.is (c.checkpoint.ensures.swaps alive) in
+    let cause = subst (λ (a : Told). HasCause a (g.D.Disk.failures m.log.other) (g.D.Disk.failures (written a c.checkpoint.new.self))) c.in-Lost.is (c.checkpoint.ensures.cause alive) in
+    subst (λ (o : Outcome). HasCalledToTrim g.D.Disk o log c.checkpoint.new.self) (sym (ap (λ (d : Done). d.outcome) c.trimmed-in-Lost.ensures))
+    (called_same g.D.Disk log m.log c.checkpoint.new.self Lost r (other_rises g.D.Disk.failures m.log c.checkpoint.new.self swaps.1 swaps.0 cause))
+
+pub returns-in-Refused-clause-called : goal.returns-in-Refused-clause-called
+returns-in-Refused-clause-called g c =
+    λ log s rs r st trusts backs bodies.
+    let m = c.args.self.now in
+    let alive = st.alive c.requires.up in
+    let size = ap (λ (b : List (List ℕ)). length (text newest b)) bodies ∙ text_size newest (snapshot (durable s) (s.logged_boot + 1)) in
+    let is = is_refused c.checkpoint.result c.in-Refused.is
+    (λ full. let short = (c.checkpoint.ensures.full alive).0 full in fits_always g.D.Disk m s st c.requires.up rs backs (omega (arith, short, size))) in
+    let swaps = subst (λ (a : Told). Swaps a (bodies_of c.args.bodies.now) m.log c.checkpoint.new.self) is (c.checkpoint.ensures.swaps alive) in
+    let cause = subst (λ (a : Told). HasCause a (g.D.Disk.failures m.log.other) (g.D.Disk.failures (written a c.checkpoint.new.self))) is (c.checkpoint.ensures.cause alive) in
+    subst (λ (o : Outcome). HasCalledToTrim g.D.Disk o log c.checkpoint.new.self) (sym (ap (λ (d : Done). d.outcome) c.trimmed-in-Refused.ensures))
+    (called_same g.D.Disk log m.log c.checkpoint.new.self Refused r (other_rises g.D.Disk.failures m.log c.checkpoint.new.self swaps.1 swaps.0 cause))
+
+pub returns-in-Refused-clause-turn : goal.returns-in-Refused-clause-turn
+returns-in-Refused-clause-turn g c =
+    λ s rs st trusts backs has e number bodies.
+    let m = c.args.self.now in
+    let fresh = bodies_of c.args.bodies.now in
+    let alive = st.alive c.requires.up in
+    let size = ap (λ (b : List (List ℕ)). length (text newest b)) bodies ∙ text_size newest (snapshot (durable s) (s.logged_boot + 1)) in
+    let is = is_refused c.checkpoint.result c.in-Refused.is
+    (λ full. let short = (c.checkpoint.ensures.full alive).0 full in fits_always g.D.Disk m s st c.requires.up rs backs (omega (arith, short, size))) in
+    let went = c.checkpoint.ensures.answer trusts.disk (map spelled rs) has.0 has.1 in
+    let kept = subst (λ (a : Told). Checkpoints g.D.Disk a (map spelled rs) has.0 fresh c.checkpoint.new.self) is went in
+    let swaps = subst (λ (a : Told). Swaps a fresh m.log c.checkpoint.new.self) is (c.checkpoint.ensures.swaps alive) in
+    let told = ap (λ (d : Done). taken (trim_turn s) d.outcome) c.trimmed-in-Refused.ensures in
+    is_answer _ (trim_became s (s.logged_boot + 1) Refused) _ (told ∙ trim_taken s Refused e) (
+      sym (ap (λ (d : Done). d.reply) c.trimmed-in-Refused.ensures ∙ c.detailed.ensures),
+      refused_stands g.D.Disk m s st c.requires.up _ rs backs refl c.requires.up refl c.checkpoint.ensures.settings swaps.3 swaps.5 swaps.2
+          (λ trusts. refused_pair g.D.Disk (map spelled rs) has.0 c.checkpoint.new.self kept),
+    )
+
+pub returns-in-Refused-clause-leaves : goal.returns-in-Refused-clause-leaves
+returns-in-Refused-clause-leaves g c =
+    λ log s rs r st trusts backs has e bodies.
+    let m = c.args.self.now in
+    let fresh = bodies_of c.args.bodies.now in
+    let alive = st.alive c.requires.up in
+    let size = ap (λ (b : List (List ℕ)). length (text newest b)) bodies ∙ text_size newest (snapshot (durable s) (s.logged_boot + 1)) in
+    let is = is_refused c.checkpoint.result c.in-Refused.is
+    (λ full. let short = (c.checkpoint.ensures.full alive).0 full in fits_always g.D.Disk m s st c.requires.up rs backs (omega (arith, short, size))) in
+    let went = c.checkpoint.ensures.any_moment trusts.disk (map spelled rs) has.0 (pair_same g.D.Disk log m.log r (map spelled rs) has.0 has.1) in
+    let of = subst (λ (a : Told). LeavesOnly g.D.Disk m.log.other (written a c.checkpoint.new.self) (LeavesAny m.log.log_bytes newest has.0 fresh)) is went in
+    let swaps = subst (λ (a : Told). Swaps a fresh m.log c.checkpoint.new.self) is (c.checkpoint.ensures.swaps alive) in
+    let leaves = subst (λ (b : List (List ℕ)). LeavesOnly g.D.Disk m.log.other (wrote Refused c.checkpoint.new.self) (LeavesAny m.log.log_bytes newest has.0 b)) bodies of in
+    subst (λ (o : Outcome). LeavesBy g.D.Disk log (trim_turn s) o c.checkpoint.new.self s) (sym (ap (λ (d : Done). d.outcome) c.trimmed-in-Refused.ensures))
+    (trim_leaves g.D.Disk log m.log c.checkpoint.new.self s rs Refused r (trim_recoverable g.D.Disk m s st c.requires.up) e backs has
+    c.checkpoint.ensures.settings (swap_leaves Refused fresh m.log c.checkpoint.new.self swaps) leaves)
+
+pub returns-in-Kept-clause-called : goal.returns-in-Kept-clause-called
+returns-in-Kept-clause-called g c =
+    λ log s rs r st trusts backs bodies.
+    let m = c.args.self.now in
+    let alive = st.alive c.requires.up in
+    let swaps = subst (λ (a : Told). Swaps a (bodies_of c.args.bodies.now) m.log c.checkpoint.new.self) c.in-Kept.is (c.checkpoint.ensures.swaps alive) in
+    let cause = subst (λ (a : Told). HasCause a (g.D.Disk.failures m.log.other) (g.D.Disk.failures (written a c.checkpoint.new.self))) c.in-Kept.is (c.checkpoint.ensures.cause alive) in
+    subst (λ (o : Outcome). HasCalledToTrim g.D.Disk o log c.checkpoint.new.self) (sym (ap (λ (d : Done). d.outcome) c.trimmed.ensures))
+    (called_same g.D.Disk log m.log c.checkpoint.new.self Kept r (none_rises_swapped g.D.Disk.failures m.log c.checkpoint.new.self swaps.1 swaps.0 cause))

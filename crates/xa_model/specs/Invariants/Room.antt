@@ -1,0 +1,46 @@
+-- The room that a log keeps, so that what is prepared can always be completed and forgotten.
+use Rattle.std.specs.Prelude.{◌≡◌, ◌≢◌, ◌+◌, true, false, Some, IfSome, List, length}
+use Rattle.xa_record.specs.declared.record.Record.{Record}
+use Rattle.xa_model.specs.declared.outcome.Outcome.{Outcome}
+use Rattle.xa_model.specs.State.{State, Ended}
+use Rattle.xa_model.specs.Answer.{Answer}
+use Rattle.xa_model.specs.Logging.{log_room, prepared_count, applied}
+use Rattle.xa_model.specs.declared.event.Event.{Event}
+use Rattle.xa_model.specs.Turn.{Happening, Asked}
+use Rattle.xa_model.specs.Step.{step}
+use Rattle.xa_model.specs.Events.{IsEvent, IsHappening, is_restart}
+use Rattle.xa_model.specs.Invariants.Loggable.{IsRecoverable}
+use Rattle.xa_model.specs.Invariants.Backing.{Backs}
+use Rattle.xa_model.specs.Restarting.{can_open}
+
+abbrev pub HasRoom : State → Type 0
+HasRoom s = log_room s.log_bytes s.end (prepared_count s) (length s.decided) ≡ true
+
+-- the room is there, and is there still if the record whose fate is unknown is found in the log
+pub record HasRoomAnyway (s : State) : Type 0 where
+  pub room : HasRoom s
+  pub found : IfSome s.open_record (λ r. HasRoom (applied r s))
+
+-- an opening that was refused may have been asked with too few bytes
+abbrev pub IsRoomy : State → Type 0
+IsRoomy s = s.standing ≢ Ended → HasRoomAnyway s
+
+-- every event but a restart keeps the room
+abbrev pub KeepsRoom : Type 0
+KeepsRoom =
+    (s : State) (e : Event) (outcome : Outcome) (a : Answer) → IsEvent e → IsRecoverable s → IsRoomy s
+    → is_restart e ≡ false
+    → step s (Asked e) outcome ≡ Some a → IsRoomy a.after
+
+-- so does a restart, and an opening that succeeds: the new file is no longer than the log behind the state
+abbrev pub RestartKeepsRoom : Type 0
+RestartKeepsRoom =
+    (rs : List Record) (s : State) (happening : Happening) (outcome : Outcome) (a : Answer) → IsHappening happening
+    → IsRecoverable s → Backs rs s → IsRoomy s
+    → step s happening outcome ≡ Some a → IsRoomy a.after
+
+-- where records stand behind a state that keeps its room, no trim is refused for want of it
+abbrev pub TrimHasRoom : Type 0
+TrimHasRoom =
+    (rs : List Record) (s : State) → IsRecoverable s → Backs rs s → HasRoom s
+    → can_open s s.log_bytes (s.logged_boot + 1) ≡ true
