@@ -4,7 +4,7 @@ ghost use Rattle.xa_model.specs.Events.{IsAsked, AreEvents, IsEvent};
 ghost use Rattle.xa_log.specs.TwoFiles.{first_of, second_of};
 ghost use Rattle.xa_model.specs.Answer.{plain};
 ghost use Rattle.xa_model.specs.Associations.{is_of_session};
-ghost use Rattle.xa_model.specs.State.{State};
+ghost use Rattle.xa_model.specs.State.{State, Up};
 ghost use Rattle.xa_manager.specs.Managed.{ManagerStandsFor};
 ghost use Rattle.xa_manager.specs.Answered.{FullyAnswered, AnswersAll, ArePinned, RunsAll, StaysFor, connect_reply};
 ghost use Rattle.xa_assoc.specs.Company.{Gains, Loses};
@@ -66,8 +66,8 @@ impl<D: Disk> Manager<D> {
 
     /// Answers a request of a session, by its number, with a code of C193. The reply has place 0. Its detail is Memory
     /// where there was no memory: then the code is XAER_RMFAIL, and nothing changed. Open, Close, End, a commit in two
-    /// phases, Rollback, Forget, Decide, Doom, Timeout and Tick take no memory. Behind each call the records have given back what the
-    /// low water lets go.
+    /// phases, Rollback, Forget, Decide, Doom, Timeout and Tick take no memory. After each call the records have given back
+    /// what the low water lets go.
     #[tactic(auto, using(crate::proofs::Replying::bare_fresh))]
     pub fn call(&mut self, session: u64, request: Request) -> Reply
         requires { IsAsked request }
@@ -126,6 +126,13 @@ impl<D: Disk> Manager<D> {
             → result ≡ list_any (is_of_session session) s.associations }
     {
         self.tables.sessions.holds_any(session)
+    }
+
+    /// Where the log's next record begins, of a manager that is up.
+    pub fn log_end(&self) -> u64
+        ensures { (s : State) → ManagerStandsFor D.Disk self.now s → s.standing ≡ Up → result ≡ s.end }
+    {
+        self.log.end()
     }
 
     /// How many versions of all keys are kept, with one for the absence of each key that a branch found absent or was

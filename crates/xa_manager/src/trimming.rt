@@ -49,17 +49,11 @@ impl<D: Disk> Manager<D> {
     {
         let boot = self.tables.branches.boot();
         if boot >= MOST_TRIM_BOOTS {
-            return Ok(Done::now(Reply::detailed(
-                XAER_RMERR,
-                Detail::Limit,
-            )));
+            return Ok(Done::now(Reply::detailed(XAER_RMERR, Detail::Limit)));
         }
         let bodies = self.tables.snapshot(boot)?;
         if !self.can_begin_with(&bodies) || !self.has_room_for(&bodies) {
-            return Ok(Done::now(Reply::detailed(
-                XAER_RMERR,
-                Detail::LogFull,
-            )));
+            return Ok(Done::now(Reply::detailed(XAER_RMERR, Detail::LogFull)));
         }
         reserve_for(&mut self.log, &bodies)?;
         Ok(self.log_trim(boot + 1, &bodies))
@@ -74,7 +68,9 @@ impl<D: Disk> Manager<D> {
         ensures other { 1 ≤ length bodies.now → AllByRecursion (IsBody newest) (bodies_of bodies.now)
             → self.now.log.generation < generation (bodies_of bodies.now) → result ≡ true }
     {
-        !bodies.is_empty() && are_bodies(bodies) && self.log.generation() < generation_of_bodies(bodies)
+        !bodies.is_empty()
+            && are_bodies(bodies)
+            && self.log.generation() < generation_of_bodies(bodies)
     }
 
     /// Whether such a log keeps the room to complete and forget what is prepared.

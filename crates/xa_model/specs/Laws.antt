@@ -12,7 +12,6 @@ use Rattle.xa_model.specs.Step.{step}
 use Rattle.xa_model.specs.Invariants.Sound.{IsSound}
 use Rattle.xa_model.specs.History.{Entry, Leads}
 use Rattle.xa_model.specs.Events.{begins_boot}
-
 pub mod Total
 pub mod Restarts
 pub mod LowWater

@@ -16,7 +16,6 @@ use Rattle.xa_model.specs.declared.outcome.Appending.TheVariants.{Kept}
 use Rattle.xa_model.specs.Answer.{plain, detailed, carrying}
 use Rattle.xa_model.specs.Turn.{Happening, Asked}
 use Rattle.xa_model.specs.History.{fresh, replay}
-
 pub mod Scripts
 pub mod Calls
 pub mod Versions

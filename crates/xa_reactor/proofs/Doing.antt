@@ -1,5 +1,5 @@
 -- What a loop does, one thing behind the other.
-use Rattle.std.proofs.Common.{◌≡◌, ◌≢◌, ◌∙◌, ◌<◌, ◌≤◌, ℕ, zero, suc, Bool, true, false, arith, length, map, List, [], ◌∷◌, ◌++◌, Option, Some, None, Result, Ok, Err, get_or, set, refl, sym, ap, subst, inl, inr}
+use Rattle.std.proofs.Common.{◌≡◌, ◌∙◌, ◌<◌, ◌≤◌, ℕ, zero, suc, Bool, true, false, arith, length, map, List, [], ◌∷◌, ◌++◌, Option, Some, None, Result, Ok, Err, get_or, set, refl, sym, ap, subst, inl, inr}
 use Rattle.std.proofs.Math.Path.{fun_ext}
 use Rattle.std.specs.Option.{option_map}
 use Rattle.std.specs.Prelude.{nat_lt}
@@ -7,7 +7,6 @@ use Rattle.std.proofs.lemmas.Bool.Decides.{nat_tests}
 use Rattle.std.proofs.lemmas.List.{get_or_past, length-map}
 use Rattle.slab.specs.Slab.{Slab, Updates, get, with_value}
 use Rattle.xa_assoc.specs.declared.fault.ConnectFault.{ConnectFault}
-use Rattle.xa_desk.specs.Serving.{AnswersAll}
 use Rattle.xa_frame.specs.declared.reply.Reply.{Reply}
 use Rattle.xa_frame.specs.declared.request.Request.{Request}
 use Rattle.xa_reactor.specs.declared.loops.Ended.{Ended}

@@ -2,3 +2,6 @@ pub mod Turning
 pub mod Tending
 pub mod Timing
 pub mod Down
+pub mod Trims
+pub mod Trimmed
+pub mod Aside

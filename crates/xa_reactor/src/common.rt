@@ -1,6 +1,7 @@
 use crate::listener::Listener;
 use crate::mailbox::Mailbox;
 use crate::socket::Socket;
+use crate::trims::Trims;
 use crate::watch::Watch;
 use std::sync::atomic::{AtomicBool, AtomicU64, Ordering};
 use std::sync::{Mutex, Wait};
@@ -19,6 +20,10 @@ pub struct Settings {
     pub idle_seconds: u64,
     /// Whether they end when the manager has gone down.
     pub ends_when_down: bool,
+    /// Above which end of the log they trim it, in bytes, 0 for never. Above half of `log_bytes` a quarter of that counts.
+    pub trim_bytes: u64,
+    /// How many bytes each of the log's two files may have.
+    pub log_bytes: u64,
 }
 
 /// What the loops of a server share, beside its manager.
@@ -28,6 +33,7 @@ pub(crate) struct Common<'a> {
     /// Of each loop.
     boxes: Vec<Mailbox>,
     pub(crate) watch: &'a Watch,
+    pub(crate) trims: Mutex<Trims>,
     /// Until a loop has taken it, the first one that begins.
     listener: Mutex<Option<Listener>>,
     /// How many connections are open, or handed to a loop.
@@ -51,6 +57,7 @@ impl<'a> Common<'a> {
             settings,
             boxes,
             watch,
+            trims: Mutex::new(Trims::new()),
             listener: Mutex::new(Some(listener)),
             open: AtomicU64::new(0),
             pauses: AtomicBool::new(false),

@@ -7,11 +7,14 @@
 //! - `peer`: a connection with its socket, and its turn; `peers`: those of a loop, whose turns come one behind the other
 //! - `tending`: a loop, round by round (`round`, `timing`); `acceptor`: the one that accepts; `common`: what the loops
 //!   share, with a `mailbox` for each
+//! - `trims`: when the log is trimmed; `trimming`: by which session; `trimmed`: what became of that
+//! - `laws`: `trims_are_due`, `trims_are_told`, worked rows
 #![tactic(auto)]
 
 mod acceptor;
 mod cause;
 mod common;
+mod laws;
 mod listener;
 mod loops;
 mod mailbox;
@@ -22,9 +25,13 @@ mod round;
 mod socket;
 mod tending;
 mod timing;
+mod trimmed;
+mod trimming;
+mod trims;
 mod watch;
 
 pub use common::{MOST_OPEN, Settings};
+pub use laws::{trims_are_due, trims_are_told};
 pub use listener::Listener;
 pub use loops::{Ended, LoopFault, run_loops};
 pub use reception::Reception;

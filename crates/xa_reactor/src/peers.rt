@@ -36,9 +36,9 @@ impl Peers {
         self.all.len()
     }
 
-    /// Whether one of them has a turn next.
-    pub(crate) fn is_queued(&self) -> bool {
-        !self.queue.is_empty()
+    /// How many of them have a turn next.
+    pub(crate) fn queued(&self) -> usize {
+        self.queue.len()
     }
 
     /// Serves a session on a connection. Where there is no memory, or no session is connected, the connection is closed,
@@ -67,22 +67,13 @@ impl Peers {
         }
     }
 
-    /// Each connection that has a turn has it.
-    pub(crate) fn give_turns<D: Reception>(
+    /// The next connection that has a turn has it.
+    pub(crate) fn give_turn<D: Reception>(
         &mut self,
         round: Round<'_>,
         scratch: &mut [u8],
         door: &mut D,
     )
-        ensures { Tends D.connected D.called D.left (sessions_of self.old.all) door.old (sessions_of self.new.all) door.new }
-    {
-        for _ in 0..self.queue.len() {
-            self.give_turn(round, scratch, door);
-        }
-    }
-
-    // The next one that has a turn has it.
-    fn give_turn<D: Reception>(&mut self, round: Round<'_>, scratch: &mut [u8], door: &mut D)
         ensures { Tends D.connected D.called D.left (sessions_of self.old.all) door.old (sessions_of self.new.all) door.new }
     {
         let Some(key) = self.queue.pop_front() else {

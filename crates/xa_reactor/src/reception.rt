@@ -12,6 +12,9 @@ pub trait Reception: Door {
     /// It was asked whether this session has an association with a branch, and this was answered.
     ghost associates: { Self → ℕ → Bool → Type 0 };
 
+    /// It was asked where the log ends, and this was answered.
+    ghost ends: { Self → ℕ → Type 0 };
+
     /// Connects a session.
     fn connect(&mut self) -> Result<u64, ConnectFault>
         ensures { connected self.old result self.new };
@@ -19,4 +22,11 @@ pub trait Reception: Door {
     /// Whether a session has an association of its own with a branch: it is at work for it, or has suspended that.
     fn has_association(&self, session: u64) -> bool
         ensures { associates self.now session result };
+
+    /// Where the log's next record begins, while the manager is up.
+    fn log_end(&self) -> u64
+        ensures { ends self.now result };
+
+    /// How many calls at this door may have moved the log's end; after the greatest number 0 comes.
+    fn logged(&self) -> u64;
 }

@@ -7,6 +7,7 @@ use crate::peers::Peers;
 use crate::reception::Reception;
 use crate::round::Round;
 use crate::timing::{LOOK, Limits, wait_of};
+use crate::trimming::{begin_trims, keep_short};
 use mio::event::Event;
 use mio::{Events, Poll, Token};
 use std::alloc::Global;
@@ -56,6 +57,7 @@ fn run<D: Reception, R: AllocGlobal + Clock + Eprint + Wait>(
 ) -> io::Result<()>
     ensures { Tends D.connected D.called D.left (sessions_of peers.old.all) door.old (sessions_of peers.new.all) door.new }
 {
+    begin_trims(rt, common, door);
     let mut this = Loop::new(rt, common, index, poll)?;
     for _ in rt.forever() {
         if !this.serve_round(rt, common, peers, door)? {
@@ -65,14 +67,22 @@ fn run<D: Reception, R: AllocGlobal + Clock + Eprint + Wait>(
     unreachable!()
 }
 
+/// What the turns of connections use.
+#[derive(Drop)]
+struct Tools {
+    /// What a read fills.
+    scratch: Vec<u8>,
+    /// How many calls had been logged when the log's end was asked for.
+    seen: u64,
+}
+
 /// What a loop has beside its connections.
 #[derive(Drop)]
 struct Loop {
     index: usize,
     poll: Poll,
     events: Events,
-    /// What a read fills.
-    scratch: Vec<u8>,
+    tools: Tools,
     clock: LoopClock,
     /// Where it is the one that accepts.
     acceptor: Option<Acceptor>,
@@ -90,7 +100,10 @@ impl Loop {
             index,
             poll,
             events: Events::with_capacity(rt.alloc(), MOST_EVENTS)?,
-            scratch: Vec::from_elem(rt.alloc(), 0u8, MOST_INPUT)?,
+            tools: Tools {
+                scratch: Vec::from_elem(rt.alloc(), 0u8, MOST_INPUT)?,
+                seen: 0,
+            },
             clock: LoopClock::new(rt)?,
             acceptor,
         })
@@ -115,7 +128,10 @@ impl Loop {
         };
         let is_look = self.clock.is_look();
         let accepts = notice_all(peers, door, &self.events);
-        give_turns(common, round, &mut self.scratch, peers, door, is_look);
+        let before = peers.len();
+        give_turns(rt, common, round, &mut self.tools, peers, door);
+        look(common, round, peers, door, is_look);
+        common.leave(before.saturating_sub(peers.len()) as u64);
         accept(rt, common, &mut self.acceptor, accepts, round.now);
         // read before what was handed is taken: what is handed later is no more
         let is_over = common.is_over();
@@ -161,7 +177,7 @@ fn wait_for(
         None => (false, false),
     };
     wait_of(
-        peers.is_queued() || waits && !pauses,
+        peers.queued() > 0 || waits && !pauses,
         pauses,
         peers.len() > 0,
     )
@@ -193,21 +209,34 @@ fn notice<D: Reception>(peers: &mut Peers, door: &mut D, event: &Event) -> bool
     false
 }
 
-// The turns of those that have one, and the end of those that are overdue.
-fn give_turns<D: Reception>(
+// The turns of those that have one. After each the log is trimmed, where that is due.
+fn give_turns<D: Reception, R: AllocGlobal + Clock + Eprint + Wait>(
+    rt: &R,
     common: &Common<'_>,
     round: Round<'_>,
-    scratch: &mut [u8],
+    tools: &mut Tools,
     peers: &mut Peers,
     door: &mut D,
-    is_look: bool,
 )
     ensures { Tends D.connected D.called D.left (sessions_of peers.old.all) door.old (sessions_of peers.new.all) door.new }
 {
-    let before = peers.len();
-    peers.give_turns(round, scratch, door);
-    look(common, round, peers, door, is_look);
-    common.leave(before.saturating_sub(peers.len()) as u64);
+    for _ in 0..peers.queued() {
+        give_turn(rt, common, round, tools, peers, door);
+    }
+}
+
+fn give_turn<D: Reception, R: AllocGlobal + Clock + Eprint + Wait>(
+    rt: &R,
+    common: &Common<'_>,
+    round: Round<'_>,
+    tools: &mut Tools,
+    peers: &mut Peers,
+    door: &mut D,
+)
+    ensures { Tends D.connected D.called D.left (sessions_of peers.old.all) door.old (sessions_of peers.new.all) door.new }
+{
+    peers.give_turn(round, &mut tools.scratch, door);
+    keep_short(rt, common, door, round.now, &mut tools.seen);
 }
 
 // Ends those that are overdue, where a look is due.

@@ -101,12 +101,19 @@ impl<M: Manages, S: Start, L: Ledger> Booked<M, S, L> {
 }
 
 impl<M: Associates, S: Start, L: Ledger> Booked<M, S, L> {
-    ghost use Rattle.xa_sequencer.specs.Associates.{AssociatedBy};
+    ghost use Rattle.xa_sequencer.specs.Associates.{AssociatedBy, EndedBy};
 
     pub(crate) fn has_association(&self, session: u64) -> bool
         ensures { AssociatedBy M.Manages S.start S.base session result }
     {
         self.sequencer.promises();
         self.sequencer.has_association(session)
+    }
+
+    pub(crate) fn log_end(&self) -> u64
+        ensures { EndedBy M.Manages S.start S.base result }
+    {
+        self.sequencer.promises();
+        self.sequencer.log_end()
     }
 }

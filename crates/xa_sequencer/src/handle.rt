@@ -59,13 +59,20 @@ impl<'a, M: Manages, S: Start, L: Ledger, R: Wait> Handle<'a, M, S, L, R> {
 }
 
 impl<M: Associates, S: Start, L: Ledger, R: Wait> Handle<'_, M, S, L, R> {
-    ghost use Rattle.xa_sequencer.specs.Associates.{AssociatedBy};
+    ghost use Rattle.xa_sequencer.specs.Associates.{AssociatedBy, EndedBy};
 
     /// Whether a session has an association of its own.
     pub fn has_association(&self, session: u64) -> bool
         ensures { AssociatedBy M.Manages S.start S.base session result }
     {
         self.sequencer.has_association(self.rt, session)
+    }
+
+    /// Where the log's next record begins, while the manager is up.
+    pub fn log_end(&self) -> u64
+        ensures { EndedBy M.Manages S.start S.base result }
+    {
+        self.sequencer.log_end(self.rt)
     }
 }
 

@@ -5,7 +5,7 @@
 //!   connection
 //! - `shared`: `SharedSequencer`, a sequencer behind a lock, which many threads share; `booked`: the sequencer and the
 //!   ledger's book under it; `handle`: `Handle`, a thread's door of it
-//! - `associates`: `Associates`, a manager that tells which sessions have an association
+//! - `associates`: `Associates`, a manager that tells which sessions have an association, and where its log ends
 //! - `numbers`: whether there are numbers left
 //! - `laws`: `goes_on_twice`, that histories go on with the entries of one event and of another; `talks_go_on`, with those
 //!   of a connection's calls

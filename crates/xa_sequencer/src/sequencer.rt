@@ -121,13 +121,20 @@ impl<M: Manages, S: Start> Sequencer<M, S> {
 }
 
 impl<M: Associates, S: Start> Sequencer<M, S> {
-    ghost use Rattle.xa_sequencer.specs.Associates.{IsAssociated};
+    ghost use Rattle.xa_sequencer.specs.Associates.{IsAssociated, IsLogEnd};
 
     /// Whether a session has an association of its own.
     pub fn has_association(&self, session: u64) -> bool
         ensures { IsAssociated M.stands self.now.now session result }
     {
         self.manager.has_association(session)
+    }
+
+    /// Where the log's next record begins, while the manager is up.
+    pub fn log_end(&self) -> u64
+        ensures { IsLogEnd M.stands self.now.now result }
+    {
+        self.manager.log_end()
     }
 }
 

@@ -76,13 +76,20 @@ impl<M: Manages, S: Start, L: Ledger> SharedSequencer<M, S, L> {
 }
 
 impl<M: Associates, S: Start, L: Ledger> SharedSequencer<M, S, L> {
-    ghost use Rattle.xa_sequencer.specs.Associates.{AssociatedBy};
+    ghost use Rattle.xa_sequencer.specs.Associates.{AssociatedBy, EndedBy};
 
     /// Whether a session has an association of its own.
     pub fn has_association<R: Wait>(&self, rt: &R, session: u64) -> bool
         ensures { AssociatedBy M.Manages S.start S.base session result }
     {
         take(rt, &self.lock).has_association(session)
+    }
+
+    /// Where the log's next record begins, while the manager is up.
+    pub fn log_end<R: Wait>(&self, rt: &R) -> u64
+        ensures { EndedBy M.Manages S.start S.base result }
+    {
+        take(rt, &self.lock).log_end()
     }
 }
 

@@ -3,3 +3,4 @@ pub mod Lines
 pub mod Served
 pub mod Serves
 pub mod Loops
+pub mod Logging

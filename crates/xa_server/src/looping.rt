@@ -35,6 +35,8 @@ pub struct LoopService<'a> {
     pub frame_seconds: u64,
     /// For how many seconds a connection whose session has no association may be quiet, 0 for ever.
     pub idle_seconds: u64,
+    /// Above which end of the log it is trimmed, in bytes, 0 for never. Above half of `log_bytes` a quarter of that counts.
+    pub trim_bytes: u64,
     /// Whether it ends when the manager has gone down.
     pub ends_when_down: bool,
 }
@@ -73,6 +75,8 @@ pub fn serve_loops<
         frame_seconds: service.frame_seconds,
         idle_seconds: service.idle_seconds,
         ends_when_down: service.ends_when_down,
+        trim_bytes: service.trim_bytes,
+        log_bytes: service.log_bytes,
     };
     let told = loop_manager(rt, listener, manager, loops, settings)?;
     if !told.is_whole {

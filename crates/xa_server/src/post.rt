@@ -1,3 +1,6 @@
+ghost use Rattle.std.specs.Prelude.{◌≡◌};
+ghost use Rattle.xa_server.specs.Logging.{may_log};
+
 use std::fmt;
 use std::sync::Wait;
 use std::sync::ledger::{Ledger, Share};
@@ -14,6 +17,8 @@ use xa_sequencer::{Associates, Handle, SharedSequencer};
 pub(crate) struct Post<'a, M: Manages, S: Start, L: Ledger, R> {
     pub(crate) handle: Handle<'a, M, S, L, R>,
     watch: &'a Watch,
+    /// How many calls there were that may have moved the log's end.
+    logged: u64,
 }
 
 impl<'a, M: Manages, S: Start, L: Ledger, R: Wait> Post<'a, M, S, L, R> {
@@ -29,14 +34,22 @@ impl<'a, M: Manages, S: Start, L: Ledger, R: Wait> Post<'a, M, S, L, R> {
         ensures { result.handle.share ≡ share }
     {
         let handle = Handle::new(rt, sequencer, share);
-        Post { handle, watch }
+        Post {
+            handle,
+            watch,
+            logged: 0,
+        }
     }
 
     /// The share.
     pub(crate) fn into_share(self) -> Share<L>
         ensures { result ≡ self.entry.handle.share }
     {
-        let Post { handle, watch: _ } = self;
+        let Post {
+            handle,
+            watch: _,
+            logged: _,
+        } = self;
         handle.into_share()
     }
 }
@@ -54,6 +67,7 @@ impl<M: Manages, S: Start, L: Ledger, R: Wait> Door for Post<'_, M, S, L, R> {
 
     fn call(&mut self, session: u64, request: Request) -> Reply {
         let is_restart = matches!(&request, Request::Restart);
+        self.logged = self.logged.wrapping_add(u64::from(may_log(&request)));
         let reply = self.handle.call(session, request);
         self.watch.see(is_restart, &reply);
         reply
@@ -65,7 +79,7 @@ impl<M: Manages, S: Start, L: Ledger, R: Wait> Door for Post<'_, M, S, L, R> {
 }
 
 impl<M: Associates, S: Start, L: Ledger, R: Wait> Reception for Post<'_, M, S, L, R> {
-    ghost use Rattle.xa_sequencer.specs.Associates.{AssociatedBy};
+    ghost use Rattle.xa_sequencer.specs.Associates.{AssociatedBy, EndedBy};
     ghost use Rattle.xa_server.specs.Loops.{Connected};
 
     ghost connected = { λ a result b.
@@ -74,6 +88,8 @@ impl<M: Associates, S: Start, L: Ledger, R: Wait> Reception for Post<'_, M, S, L
 
     ghost associates = { λ _ session result. AssociatedBy M.Manages S.start S.base session result };
 
+    ghost ends = { λ _ result. EndedBy M.Manages S.start S.base result };
+
     fn connect(&mut self) -> Result<u64, ConnectFault> {
         self.handle.connect()
     }
@@ -81,6 +97,30 @@ impl<M: Associates, S: Start, L: Ledger, R: Wait> Reception for Post<'_, M, S, L
     fn has_association(&self, session: u64) -> bool {
         self.handle.has_association(session)
     }
+
+    fn log_end(&self) -> u64 {
+        self.handle.log_end()
+    }
+
+    fn logged(&self) -> u64 {
+        self.logged
+    }
+}
+
+// Whether a call may append to the log, or begin it anew.
+fn may_log(request: &Request) -> bool
+    ensures { result ≡ may_log request.now }
+{
+    matches!(
+        request,
+        Request::Prepare { .. }
+            | Request::Commit { .. }
+            | Request::Rollback { .. }
+            | Request::Forget { .. }
+            | Request::Decide { .. }
+            | Request::Restart
+            | Request::Trim
+    )
 }
 
 /// Shows the name alone.

@@ -19,6 +19,8 @@ fn settings_of(connections: u64) -> Settings {
         frame_seconds: 1,
         idle_seconds: 0,
         ends_when_down: false,
+        trim_bytes: 0,
+        log_bytes: 0,
     }
 }
 

@@ -8,7 +8,7 @@ pub type Content = (&'static [u8], &'static [u8], &'static [u8]);
 
 /// A content of each operation; what each of its prefixes is, from the empty one to the whole; and what changes of each
 /// byte make of it. k: decoded, S: Short, V: Version, O: Operation, F: Field, T: Trailing.
-pub const CONTENTS: [Content; 19] = [
+pub const CONTENTS: [Content; 20] = [
     (&[1, 1, 0, 0, 0, 0, 1, 0x78], b"SSSSSSSSk", b"vokkkkik"),
     (&[1, 2, 0, 0, 0, 0], b"SSSSSSk", b"vokkkk"),
     (&START, b"SSSSSSFFFFFFFFk", b"vokkkkkkkkgqkk"),
@@ -62,6 +62,7 @@ pub const CONTENTS: [Content; 19] = [
         b"SSSSSSSSSSk",
         b"vokkkkkkkk",
     ),
+    (&[1, 65], b"SSk", b"vo"),
     (&[1, 66, 0, 0, 1, 0, 0], b"SSSSSSSk", b"vokkkkn"),
     (
         &[1, 66, 0, 0, 1, 0, 1, 0, 0, 0, 1, 1, 1, 0xaa, 0xbb],
@@ -75,7 +76,7 @@ fn changed(kind: u8, value: u8) -> u8 {
     match (kind, value) {
         (b'v', _) => b'V',
         // an operation that there isn't
-        (b'o', 0 | 18..=65 | 67..) => b'O',
+        (b'o', 0 | 18..=64 | 67..) => b'O',
         // a length of one or two bytes, of 1: a byte is left, or some are cut
         (b'i', 0) => b'T',
         (b'i', _) => b'S',
@@ -152,7 +153,7 @@ pub fn letter_with(alloc: Global, content: &[u8], at: usize, value: u8) -> u8 {
 }
 
 fn is_other(kind: u8, old: u8, value: u8) -> bool {
-    let is_operation = kind == b'o' && (value == 66 || (1..=17).contains(&value));
+    let is_operation = kind == b'o' && matches!(value, 1..=17 | 65 | 66);
     value != old && !is_operation
 }
 

@@ -114,6 +114,7 @@ AsksBy command rows (Loop service) =
     × (service.connections ≡ number_in rows (codes "connections") most_64 0)
     × (service.frame_seconds ≡ number_in rows (codes "frame-seconds") most_64 30)
     × (service.idle_seconds ≡ number_in rows (codes "idle-seconds") most_64 0)
+    × (service.trim_bytes ≡ number_in rows (codes "trim") most_64 67108864)
     × IsSet (one_of (codes "exit-when-down") rows) service.ends_when_down
 AsksBy command rows Nowhere = IsNowhere command rows
 

@@ -80,6 +80,9 @@ frame_seconds_rule = defaulting (codes "30") (number 0 3600 (option (codes "fram
 abbrev pub idle_seconds_rule : Rule
 idle_seconds_rule = defaulting (codes "0") (number 0 86400 (option (codes "idle-seconds")))
 
+abbrev pub trim_rule : Rule
+trim_rule = defaulting (codes "67108864") (number 0 MOST_LOG (option (codes "trim")))
+
 abbrev pub exit_when_down_rule : Rule
 exit_when_down_rule = flag (codes "exit-when-down")
 
@@ -104,7 +107,7 @@ abbrev pub serve_shape : Shape
 serve_shape =
     command_of (codes "serve")
     (log_rule ∷ name_rule ∷ port_rule ∷ serve_log_bytes_rule ∷ workers_rule ∷ connections_rule ∷ loops_rule ∷ listen_rule
-    ∷ socket_rule ∷ frame_seconds_rule ∷ idle_seconds_rule ∷ exit_when_down_rule ∷ [])
+    ∷ socket_rule ∷ frame_seconds_rule ∷ idle_seconds_rule ∷ trim_rule ∷ exit_when_down_rule ∷ [])
 
 abbrev pub talk_shape : Shape
 talk_shape = command_of (codes "talk") (port_rule ∷ socket_rule ∷ names_rule ∷ [])

@@ -1,6 +1,6 @@
 //! The arguments of the commands. The help names limits in texts of its own, and `.ci/commands` compares these with
 //! the constants: a text that is made of a number would have to live as long as the words, since `clap` lends both alike.
-ghost use Rattle.xarm.specs.Line.{HasRule, connections_rule, every_rule, exit_when_down_rule, frame_seconds_rule, idle_seconds_rule, listen_rule, log_bytes_rule, log_rule, loops_rule, name_rule, names_rule, path_rule, play_name_rule, port_rule, serve_log_bytes_rule, socket_rule, workers_rule};
+ghost use Rattle.xarm.specs.Line.{HasRule, connections_rule, every_rule, exit_when_down_rule, frame_seconds_rule, idle_seconds_rule, listen_rule, log_bytes_rule, log_rule, loops_rule, name_rule, names_rule, path_rule, play_name_rule, port_rule, serve_log_bytes_rule, socket_rule, trim_rule, workers_rule};
 
 use clap::builder::ValueParser;
 use clap::{Arg, ArgAction};
@@ -174,6 +174,20 @@ pub fn idle_seconds<'a>(alloc: Global) -> Arg<'a>
         .value_parser(ValueParser::unsigned(0, MOST_IDLE_SECONDS))
         .action(ArgAction::Set)
         .default_value("0")
+}
+
+pub fn trim<'a>(alloc: Global) -> Arg<'a>
+    ensures { HasRule trim_rule result }
+{
+    Arg::new(alloc, "trim")
+        .long("trim")
+        .value_name("BYTES")
+        .help(
+            "The end of the log above which it is trimmed while the server runs: 0 (never) to 1073741824. Above half of --log-bytes, a quarter of that counts",
+        )
+        .value_parser(ValueParser::unsigned(0, MOST_LOG))
+        .action(ArgAction::Set)
+        .default_value("67108864")
 }
 
 pub fn exit_when_down<'a>(alloc: Global) -> Arg<'a>

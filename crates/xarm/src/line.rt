@@ -4,7 +4,7 @@ ghost use Rattle.xarm.specs.Line.{HasShape, IsApp, play_shape, scan_shape, serve
 
 use crate::arguments::{
     connections, every, exit_when_down, frame_seconds, idle_seconds, listen, log, log_bytes, loops,
-    name, names, path, play_name, port, serve_log_bytes, socket, workers,
+    name, names, path, play_name, port, serve_log_bytes, socket, trim, workers,
 };
 use clap::Command;
 use std::alloc::{AllocError, Global};
@@ -92,5 +92,6 @@ fn serve_command<'a>(alloc: Global) -> Result<Command<'a>, AllocError>
         .arg(socket(alloc))?
         .arg(frame_seconds(alloc))?
         .arg(idle_seconds(alloc))?
+        .arg(trim(alloc))?
         .arg(exit_when_down(alloc))
 }

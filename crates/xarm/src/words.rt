@@ -106,6 +106,7 @@ fn loops_of<'a>(matches: &ArgMatches<'a>, at: At<'a>) -> LoopService<'a>
         connections: number_of(matches, "connections", 0),
         frame_seconds: number_of(matches, "frame-seconds", 30),
         idle_seconds: number_of(matches, "idle-seconds", 0),
+        trim_bytes: number_of(matches, "trim", 67_108_864),
         ends_when_down: flag_of(matches, "exit-when-down"),
     }
 }

@@ -1,4 +1,4 @@
-use Rattle.std.proofs.Common.{◌≡◌, ◌<◌, length, arith}
+use Rattle.std.proofs.Common.{arith}
 use Rattle.xa_manager.proofs.NextBoots.{body_at}
 use Rattle.xa_manager.proofs.trimming.are_bodies.Goals as goal
 use Rattle.xa_manager.proofs.trimming.are_bodies.Goals.{then-is_empty-via-then-is_empty, then-is_empty-via-else-is_empty+then-len-most}

@@ -1,4 +1,4 @@
-use Rattle.std.proofs.Common.{◌≡◌, sym, subst}
+use Rattle.std.proofs.Common.{subst}
 use Rattle.xa_reactor.specs.Tending.{Table, Tends, nobody, sessions_of}
 use Rattle.xa_reactor.proofs.Doing.{tends_twice}
 use Rattle.xa_reactor.proofs.tending.tend.Goals as goal

@@ -1,6 +1,6 @@
 use Rattle.std.proofs.Common.{◌∙◌, ap, codes}
 use Rattle.clap.specs.Simple.{app_of_fields, new_app}
-use Rattle.xarm.specs.Line.{IsApp, connections_rule, exit_when_down_rule, frame_seconds_rule, idle_seconds_rule, listen_rule, log_rule, loops_rule, name_rule, port_rule, serve_log_bytes_rule, socket_rule, workers_rule}
+use Rattle.xarm.specs.Line.{IsApp, connections_rule, exit_when_down_rule, frame_seconds_rule, idle_seconds_rule, listen_rule, log_rule, loops_rule, name_rule, port_rule, serve_log_bytes_rule, socket_rule, trim_rule, workers_rule}
 use Rattle.xarm.proofs.Building.{adds_rule, last_rule}
 use Rattle.xarm.proofs.line.serve_command.Goals as goal
 
@@ -22,4 +22,5 @@ returns c =
     let nine = adds_rule c.in_ok-arg-8.field-0 c.socket.result c.in_ok-arg-9.field-0 _ socket_rule eight c.socket.ensures c.in_ok-arg-9.ensures in
     let ten = adds_rule c.in_ok-arg-9.field-0 c.frame_seconds.result c.in_ok-arg-10.field-0 _ frame_seconds_rule nine c.frame_seconds.ensures c.in_ok-arg-10.ensures in
     let eleven = adds_rule c.in_ok-arg-10.field-0 c.idle_seconds.result c.in_ok-arg-11.field-0 _ idle_seconds_rule ten c.idle_seconds.ensures c.in_ok-arg-11.ensures in
-    last_rule c.in_ok-arg-11.field-0 c.exit_when_down.result c.arg-12.result _ exit_when_down_rule eleven c.exit_when_down.ensures c.arg-12.ensures
+    let twelve = adds_rule c.in_ok-arg-11.field-0 c.trim.result c.in_ok-arg-12.field-0 _ trim_rule eleven c.trim.ensures c.in_ok-arg-12.ensures in
+    last_rule c.in_ok-arg-12.field-0 c.exit_when_down.result c.arg-13.result _ exit_when_down_rule twelve c.exit_when_down.ensures c.arg-13.ensures

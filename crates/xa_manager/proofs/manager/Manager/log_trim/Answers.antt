@@ -1,4 +1,4 @@
-use Rattle.std.proofs.Common.{◌≡◌, ◌⊎◌, ◌+◌, ℕ, List, map, Some, length, refl, ap, sym, ◌∙◌, subst, arith}
+use Rattle.std.proofs.Common.{◌+◌, ℕ, List, map, length, refl, ap, sym, ◌∙◌, subst, arith}
 use Rattle.xa_disk.specs.Time.{LeavesOnly}
 use Rattle.xa_frame.specs.Made.{carrying}
 use Rattle.xa_frame.specs.declared.body.Body.TheVariants.{Number}
@@ -17,7 +17,6 @@ use Rattle.xa_model.specs.Trimming.{trim_became, trim_turn}
 use Rattle.xa_model.specs.Turn.{taken}
 use Rattle.xa_manager.specs.Answered.{HasCalledToTrim}
 use Rattle.xa_manager.specs.Crash.{LeavesBy, wrote}
-use Rattle.xa_manager.specs.LogStands.{snapshot_bodies}
 use Rattle.xa_manager.specs.declared.done.Done.{Done}
 use Rattle.xa_manager.proofs.CrashBoots.{swap_leaves}
 use Rattle.xa_manager.proofs.Fates.{is_answer}

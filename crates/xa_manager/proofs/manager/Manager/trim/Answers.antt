@@ -86,8 +86,7 @@ returns-clause-ok g c =
         let boot = c.boot-boot.ensures.state s up.branches in
         let l = st.log trusts in
         let same = c.in_ok-bodies.ensures s up (logged ∙ sym boot) ∙ ap (λ (n : ℕ). snapshot_bodies s (n + 1)) (boot ∙ sym logged) in
-        let room = c.has_room_for.ensures s st c.requires.up (ap bodies_of c.deref-else-not-can_begin_with.ensures.value ∙ same) in
-        (
+        let room = c.has_room_for.ensures s st c.requires.up (ap bodies_of c.deref-else-not-can_begin_with.ensures.value ∙ same) in (
           l,
           only_records g.D.Disk m.log s (trim_settled g.D.Disk m s st c.requires.up) l,
           no_refusal s (omega (arith, logged, boot, c.if-boot-ge-MOST_TRIM_BOOTS.false)) (sym room ∙ c.if-not-has_room_for.false),

@@ -1,6 +1,4 @@
-use Rattle.std.proofs.Common.{◌≡◌, ℕ, ◌∷◌, List, [], ap, refl, subst, sym, ◌∙◌}
-use Rattle.std.specs.BTreeMap.{insert_entry}
-use Rattle.std.specs.Ordering.{nat_cmp}
+use Rattle.std.proofs.Common.{ℕ, List, refl, subst, sym, ◌∙◌}
 use Rattle.xa_xid.specs.Triple.{Triple}
 use Rattle.xa_model.specs.Durable.{durable}
 use Rattle.xa_model.proofs.Recoveries.{recoverable_durable}

@@ -1,4 +1,4 @@
-use Rattle.std.proofs.Common.{◌≡◌, ◌∙◌, ℕ, subst, sym}
+use Rattle.std.proofs.Common.{◌∙◌, ℕ, subst, sym}
 use Rattle.xa_reactor.specs.Turning.{CarriesOn, HasAnswered}
 use Rattle.xa_reactor.proofs.Turning.{carries_on, carries_on_fed, carries_on_sent, has_answered, none_answered}
 use Rattle.xa_reactor.proofs.peer.Peer.turn.Goals as goal

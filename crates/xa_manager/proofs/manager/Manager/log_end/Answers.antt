@@ -1,0 +1,14 @@
+use Rattle.std.proofs.Common.{◌≡◌, ◌∙◌, Bool, true, false, refl}
+use Rattle.xa_model.specs.State.{State, Up}
+use Rattle.xa_manager.specs.Managed.{view}
+use Rattle.xa_manager.specs.Stands.{TablesStandFor}
+use Rattle.xa_manager.specs.View.{View}
+use Rattle.xa_manager.proofs.manager.Manager.log_end.Goals as goal
+
+up_of : (up : Bool) (k : View) (s : State) → TablesStandFor up k s → s.standing ≡ Up → up ≡ true
+up_of true k s h is = refl
+up_of false k s h is = absurd (cc (is, h.down))
+
+pub returns : goal.returns
+returns g c = λ s stands is.
+    c.end.ensures ∙ stands.end (up_of c.args.self.now.up (view c.args.self.now) s stands.tables is)

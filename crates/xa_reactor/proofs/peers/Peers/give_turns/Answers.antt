@@ -1,8 +1,0 @@
-use Rattle.xa_reactor.specs.Tending.{sessions_of}
-use Rattle.xa_reactor.proofs.Doing.{tends_twice}
-use Rattle.xa_reactor.proofs.peers.Peers.give_turns.Goals as goal
-
-pub loop-preserved : goal.loop-preserved
-loop-preserved g c =
-    tends_twice g.D.Reception.connected g.D.Door.called g.D.Door.left (sessions_of c.args.self.now.all) (sessions_of c.loop.self.all) (sessions_of c.give_turn.new.self.all)
-    c.args.door.now c.loop.door c.give_turn.new.door c.loop.invariant c.give_turn.ensures

@@ -1,6 +1,0 @@
-use Rattle.xa_reactor.specs.Tending.{Tends, sessions_of}
-use Rattle.xa_reactor.proofs.peers.Peers.give_turns.Given as goal
-
-abbrev pub invariant-loop : goal.invariant-loop
-invariant-loop g l =
-    Tends g.D.Reception.connected g.D.Door.called g.D.Door.left (sessions_of l.initial.self.all) l.initial.door (sessions_of l.self.all) l.door

@@ -1,0 +1,6 @@
+use Rattle.xa_reactor.specs.Tending.{Tends, sessions_of}
+use Rattle.xa_reactor.proofs.tending.give_turns.Given as goal
+
+abbrev pub invariant-loop : goal.invariant-loop
+invariant-loop g l =
+    Tends g.D.Reception.connected g.D.Door.called g.D.Door.left (sessions_of l.initial.peers.all) l.initial.door (sessions_of l.peers.all) l.door

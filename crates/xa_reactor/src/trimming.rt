@@ -1,0 +1,103 @@
+//! A trim of the log, by an operator's session of its own.
+ghost use Rattle.xa_reactor.specs.Aside.{IsAside, HasVisited};
+
+use crate::common::Common;
+use crate::reception::Reception;
+use crate::trimmed::{Trimmed, trimmed_by};
+use crate::trims::Trims;
+use std::alloc::Global;
+use std::rt::Clock;
+use std::sync::Wait;
+use std::time::Instant;
+use xa_assoc::ConnectFault;
+use xa_desk::answer;
+use xa_frame::Reply;
+
+/// The content of the frame of a Trim.
+const TRIM: [u8; 2] = [1, 65];
+
+/// After how many calls at its door that may have moved the log's end a loop asks for that.
+const PACE: u64 = 4;
+
+/// A loop begins: it looks where the log ends, before anybody is answered.
+pub(crate) fn begin_trims<D: Reception, R: Wait>(rt: &R, common: &Common<'_>, door: &D) {
+    if common.settings.trim_bytes > 0 {
+        let end = door.log_end();
+        common.trims.lock(rt).look(end);
+    }
+}
+
+/// Trims the log where that is due, and tells of it. The calls at the door are `seen` when the log's end is asked for.
+pub(crate) fn keep_short<D: Reception, R: AllocGlobal + Clock + Eprint + Wait>(
+    rt: &R,
+    common: &Common<'_>,
+    door: &mut D,
+    now: u64,
+    seen: &mut u64,
+)
+    ensures { IsAside D.connected D.called D.left TRIM door.old door.new }
+{
+    let logged = door.logged();
+    if common.settings.trim_bytes == 0 || logged.wrapping_sub(*seen) < PACE {
+        return;
+    }
+    *seen = logged;
+    if common.watch.is_down() {
+        return;
+    }
+    // no two loops trim one log
+    let mut trims = common.trims.lock(rt);
+    let end = door.log_end();
+    trims.look(end);
+    if trims.is_to_trim(&common.settings, now, end) {
+        trim(rt, door, &mut trims, now, end);
+    }
+}
+
+// Trims the log, which ends there, and tells of it.
+fn trim<D: Reception, R: AllocGlobal + Clock + Eprint>(
+    rt: &R,
+    door: &mut D,
+    trims: &mut Trims,
+    now: u64,
+    end: u64,
+)
+    ensures { IsAside D.connected D.called D.left TRIM door.old door.new }
+{
+    let began = Instant::now(rt).ok();
+    let answered = visit(rt.alloc(), door);
+    match trimmed_by(&answered) {
+        Trimmed::Done(after) => {
+            trims.finish(after);
+            let millis = millis_since(rt, began);
+            let _ = eprintln!(rt; "xarm: log trimmed from {end} to {after} bytes in {millis} ms");
+        }
+        Trimmed::Refused(reason) => {
+            if trims.refuse(now, end) {
+                let _ = eprintln!(rt; "xarm: log not trimmed: {reason}");
+            }
+        }
+        Trimmed::Down => {}
+    }
+}
+
+// Connects a session, asks for a trim, and hangs it up.
+fn visit<D: Reception>(alloc: Global, door: &mut D) -> Result<Reply, ConnectFault>
+    ensures { HasVisited D.connected D.called D.left TRIM door.old result door.new }
+{
+    let session = door.connect()?;
+    let reply = answer(alloc, door, session, &TRIM);
+    door.hangup(session);
+    Ok(reply)
+}
+
+// How many milliseconds have passed, 0 where the clock doesn't tell.
+fn millis_since<R: Clock>(rt: &R, began: Option<Instant>) -> u64 {
+    let Some(began) = began else {
+        return 0;
+    };
+    match began.elapsed(rt) {
+        Ok(elapsed) => u64::try_from(elapsed.as_millis()).unwrap_or(u64::MAX),
+        Err(_) => 0,
+    }
+}
