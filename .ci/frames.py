@@ -43,7 +43,9 @@ CALLS = {
     "tick": (17, 8),
     "trim": (65,),
     "branches": (66, 4, "cursor"),
+    "status": (67,),
 }
+NUMBERS = ("boot", "end", "bytes", "branches", "prepared", "completed", "sessions", "versions", "calls", "seconds")
 # Each call of a session.
 SESSION = """1 open TMNOFLAGS n
 1 timeout 600
@@ -154,6 +156,8 @@ class Reading:
             return " xids" + "".join(f" {self.xid()}" for _ in range(self.number(2)))
         if kind == 5:
             return " branches" + "".join(self.branch() for _ in range(self.number(2)))
+        if kind == 6:
+            return " status" + "".join(f" {name} {self.number(8)}" for name in NUMBERS)
         assert kind in (0, 3)
         return " absent" if kind else ""
 

@@ -9,7 +9,7 @@ use crate::found::Found;
 use crate::look::Look;
 use crate::pool::Pool;
 use crate::pruning::{clear_in, prune_in};
-use crate::slots::{is_idle_at, put_in, timestamp_at, value_at};
+use crate::slots::{Slots, is_idle_at, put_in, timestamp_at, value_at};
 use crate::version::{Version, value_bytes};
 use std::alloc::AllocError;
 
@@ -19,7 +19,7 @@ use std::alloc::AllocError;
 /// Every call is total. A look-up by timestamp is a binary search. Timestamps of branches are above 0.
 #[derive(Debug, Drop)]
 pub struct Chain {
-    slots: Vec<usize>,
+    slots: Slots,
 }
 
 impl Chain {
@@ -45,7 +45,7 @@ impl Chain {
         ensures err_count { OnErr result (CountsAt pool.old [] pool.new []) }
         ensures within { KeepsWithin pool.old pool.new }
     {
-        let mut slots = Vec::new(pool.alloc);
+        let mut slots = Slots::new(pool.alloc);
         let base = Version {
             timestamp: 0,
             value: None,

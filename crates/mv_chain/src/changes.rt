@@ -12,7 +12,7 @@ use crate::fate::Fate;
 use crate::finding::look_in;
 use crate::look::Look;
 use crate::pool::Pool;
-use crate::slots::{commit, put_in, raise, replace, take_out};
+use crate::slots::{Slots, commit, put_in, raise, replace, take_out};
 use crate::version::{ValueBytes, Version};
 use std::alloc::AllocError;
 
@@ -70,7 +70,7 @@ fn target_of(look: &Look, versions: usize) -> Target
 /// Adds a write, or replaces the branch's own, where its index was looked for.
 pub(crate) fn install_in(
     pool: &mut Pool,
-    slots: &mut Vec<usize>,
+    slots: &mut Slots,
     look: &Look,
     value: Option<ValueBytes>,
 ) -> Result<(), AllocError>
@@ -113,7 +113,7 @@ fn own_index(pool: &Pool, slots: &[usize], ts: u64) -> Option<usize>
 }
 
 /// Decides the fate of the branch's write.
-pub(crate) fn settle_in(pool: &mut Pool, slots: &mut Vec<usize>, ts: u64, fate: Fate)
+pub(crate) fn settle_in(pool: &mut Pool, slots: &mut Slots, ts: u64, fate: Fate)
     ensures versions { LeavesAt (settled ts fate) pool.old slots.old.items pool.new slots.new.items }
     ensures kept { IsKeptAt pool.old slots.old.items → IsKeptAt pool.new slots.new.items }
     ensures others { LeavesOthersAt pool.old slots.old.items pool.new slots.new.items }

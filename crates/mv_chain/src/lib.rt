@@ -17,7 +17,7 @@
 //! - `look`: `Look`, what a search found; `found`: `Found`, the source of a read; `fate`: `Fate`, how a branch ended
 //! - `pool`: `Pool`; `version`: `Version`, what one branch left at a key, and `ValueBytes`, its bytes
 //! - `finding`: the search; `changes`: how a read is marked, a write installed and settled; `pruning`: how versions are
-//!   dropped; `slots`: the one version at a slot of the pool
+//!   dropped; `slots`: the one version at a slot of the pool, and `Slots`, those of a chain
 //! - `laws`: `others_stay`, that other chains stay; `idle_stands`, when a key may be forgotten; `worked_histories`,
 //!   worked rows
 //!

@@ -7,11 +7,11 @@ ghost use Rattle.mv_chain.specs.Within.{KeepsWithin};
 
 use crate::finding::find;
 use crate::pool::Pool;
-use crate::slots::{pending_at, take_out};
+use crate::slots::{Slots, pending_at, take_out};
 
 /// Takes version k out if it is committed and another committed one stands above it, and says whether there is one from
 /// k on.
-fn prune_at(pool: &mut Pool, slots: &mut Vec<usize>, k: usize, based: bool) -> bool
+fn prune_at(pool: &mut Pool, slots: &mut Slots, k: usize, based: bool) -> bool
     requires { k < length slots.old.items }
     ensures versions { IsHeld pool.old slots.old.items
         → shown_at pool.new slots.new.items ≡ pruned_at k based (shown_at pool.old slots.old.items) }
@@ -33,7 +33,7 @@ fn prune_at(pool: &mut Pool, slots: &mut Vec<usize>, k: usize, based: bool) -> b
 
 /// Takes out each committed version below another committed one that is at most `low`. It goes down from the last
 /// version that is at most `low`: what is above that costs nothing.
-pub(crate) fn prune_in(pool: &mut Pool, slots: &mut Vec<usize>, low: u64)
+pub(crate) fn prune_in(pool: &mut Pool, slots: &mut Slots, low: u64)
     ensures versions { LeavesAt (pruned low) pool.old slots.old.items pool.new slots.new.items }
     ensures kept { IsKeptAt pool.old slots.old.items → IsKeptAt pool.new slots.new.items }
     ensures others { LeavesOthersAt pool.old slots.old.items pool.new slots.new.items }
@@ -49,7 +49,7 @@ pub(crate) fn prune_in(pool: &mut Pool, slots: &mut Vec<usize>, low: u64)
 }
 
 /// Takes all versions out, the last one first.
-pub(crate) fn clear_in(pool: &mut Pool, slots: &mut Vec<usize>)
+pub(crate) fn clear_in(pool: &mut Pool, slots: &mut Slots)
     ensures none { slots.new.items ≡ [] }
     ensures others { LeavesOthersAt pool.old slots.old.items pool.new slots.new.items }
     ensures count { IsHeld pool.old slots.old.items → CountsAt pool.old slots.old.items pool.new slots.new.items }

@@ -10,7 +10,12 @@ ghost use Rattle.mv_chain.specs.Slots.{IsPutIn};
 
 use crate::pool::Pool;
 use crate::version::{ValueBytes, Version};
+use smallvec::SmallVec;
 use std::alloc::AllocError;
+
+/// The slots of a chain. Two are in the chain itself: most keys have one version, and another one while a branch that
+/// writes them is undecided.
+pub(crate) type Slots = SmallVec<usize, 2>;
 
 /// The timestamp of the version at a slot.
 pub(crate) fn timestamp_at(pool: &Pool, slot: usize) -> u64
@@ -102,7 +107,7 @@ pub(crate) fn commit(pool: &mut Pool, slot: usize)
 /// Puts a version in at an index of the chain.
 pub(crate) fn put_in(
     pool: &mut Pool,
-    slots: &mut Vec<usize>,
+    slots: &mut Slots,
     i: usize,
     version: Version,
 ) -> Result<(), AllocError>
@@ -118,7 +123,7 @@ pub(crate) fn put_in(
 }
 
 /// Takes the version at a place of the chain out, and gives its memory back to the pool.
-pub(crate) fn take_out(pool: &mut Pool, slots: &mut Vec<usize>, i: usize)
+pub(crate) fn take_out(pool: &mut Pool, slots: &mut Slots, i: usize)
     requires { i < length slots.old.items }
     ensures slots { slots.new.items ≡ remove slots.old.items i }
     ensures updates { (d : ℕ) → Updates pool.old.slab pool.new.slab (slice_index_or slots.old.items i d) None }

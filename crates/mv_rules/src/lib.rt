@@ -8,8 +8,8 @@
 //! - `records`: `Records`, with its calls: get, put, settle, and the low water, which gives back what no read will see;
 //!   `rebuilding`: how they are built anew of what lasted; `committed`: what of them lasts
 //! - `answers`: `Got` and `Put`, what a get and a put answer
-//! - `own`: `Own`, a key of a branch, and the notes of what each branch has written and read; `writes`: what a branch
-//!   leaves, key by key
+//! - `own`: `Own`, a key of a branch, and the notes of what each branch has written and read; `own_key`: `OwnKey`, the
+//!   copy of a key there; `writes`: what a branch leaves, key by key
 //! - `verdict`: what a put is to do; `steps`: what a read, a write and a settling do to one chain
 //! - `laws`: `one_history`, that the histories of `xa_model` say the same; `committed_lasts`, that what is committed is
 //!   what lasts; `restoring`, what is built anew of a log; `reads_leave_nothing`, that branches which only read absent
@@ -20,6 +20,7 @@ mod answers;
 mod committed;
 mod laws;
 mod own;
+mod own_key;
 mod rebuilding;
 mod records;
 mod steps;
@@ -29,4 +30,5 @@ mod writes;
 pub use answers::{Got, Put};
 pub use laws::{committed_lasts, one_history, reads_leave_nothing, restoring};
 pub use own::Own;
+pub use own_key::OwnKey;
 pub use records::Records;

@@ -3,15 +3,15 @@ ghost use Rattle.mv_rules.specs.Noted.{AddsWritten, AddsRead, MovesDecided};
 ghost use Rattle.mv_rules.specs.Own.{own_in, OwnStays, OwnBecomes};
 ghost use Rattle.mv_rules.specs.Tidy.{due, not_due};
 
+use crate::own_key::OwnKey;
 use std::alloc::{AllocError, Global};
 use std::collections::BTreeMap;
 use std::mem;
-use xa_codes::Bytes;
 
 /// A key that a branch has written, and the index of its chain; or one that it has read, with 0.
 #[derive(Debug, Drop)]
 pub struct Own {
-    pub key: Bytes,
+    pub key: OwnKey,
     pub index: usize,
 }
 

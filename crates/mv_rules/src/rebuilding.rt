@@ -6,12 +6,13 @@ ghost use Rattle.mv_chain.specs.Chain.{fresh};
 ghost use Rattle.mv_chain.specs.Within.{IsShort};
 
 use crate::own::Own;
+use crate::own_key::OwnKey;
 use crate::records::Records;
 use crate::steps::add;
 use crate::writes::taken;
 use mv_chain::Fate;
 use std::alloc::AllocError;
-use xa_codes::{Bytes, Write};
+use xa_codes::Write;
 
 /// How records are built anew of what lasted.
 impl Records {
@@ -58,7 +59,7 @@ impl Records {
             return chain.install_at(&mut self.pool, &look, value);
         }
         let own = Own {
-            key: Bytes::from_slice(self.alloc, key)?,
+            key: OwnKey::from_slice(self.alloc, key)?,
             index: i,
         };
         add(

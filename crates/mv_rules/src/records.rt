@@ -8,6 +8,7 @@ ghost use Rattle.mv_chain.specs.Within.{IsShort};
 
 use crate::answers::{Got, Put};
 use crate::own::{Notes, Own, count, keep_decided, next_due};
+use crate::own_key::OwnKey;
 use crate::steps::{add, read, settle_all};
 use crate::verdict::{Verdict, judge};
 use crate::writes::{collect, listed};
@@ -15,7 +16,7 @@ use mv_chain::{Chain, Fate, Pool};
 use slab::Slab;
 use std::alloc::{AllocError, Global};
 use std::collections::BTreeMap;
-use xa_codes::{Bytes, Write};
+use xa_codes::Write;
 
 /// The versions of all keys, and by timestamp the keys that a branch has written or read, until the low water has
 /// passed it.
@@ -187,7 +188,7 @@ impl Records {
                 Err(_) => Put::Memory,
             },
             Verdict::First => {
-                let Ok(copy) = Bytes::from_slice(self.alloc, key) else {
+                let Ok(copy) = OwnKey::from_slice(self.alloc, key) else {
                     return Put::Memory;
                 };
                 let own = Own {

@@ -13,6 +13,7 @@ ghost use Rattle.mv_rules.specs.Within.{IsShortAnswer};
 
 use crate::answers::Got;
 use crate::own::{Notes, Own, note, note_read, unnote};
+use crate::own_key::OwnKey;
 use mv_chain::{Chain, Fate, Look, Pool};
 use slab::Slab;
 use std::alloc::{AllocError, Global};
@@ -36,7 +37,7 @@ fn note_unwritten(
         return Ok(());
     }
     let own = Own {
-        key: Bytes::from_slice(alloc, key)?,
+        key: OwnKey::from_slice(alloc, key)?,
         index: 0,
     };
     note_read(alloc, notes, ts, own)

@@ -63,7 +63,7 @@ pub(crate) fn collect(
 {
     let mut values = BTreeMap::new(alloc);
     for written in own {
-        let key = written.key.copied(alloc)?;
+        let key = written.key.to_bytes(alloc)?;
         let value = value_at(alloc, pool, chains, written.index, ts)?;
         values.insert(key, value)?;
     }

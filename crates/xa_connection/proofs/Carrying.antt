@@ -5,7 +5,7 @@ use Rattle.std.proofs.lemmas.Grind.{flat_map-append}
 use Rattle.std.proofs.lemmas.List.{length-append, length-take, take-append-drop}
 use Rattle.std.proofs.Math.Seq.{drop-nil, take-nil}
 use Rattle.std.proofs.lemmas.List.Elements.{All-append, All-nil, All-cons}
-use Rattle.xa_frame.specs.declared.request.Request.{Request}
+use Rattle.xa_frame.specs.declared.question.Question.{Question}
 use Rattle.xa_frame.specs.declared.reply.Reply.{Reply}
 use Rattle.xa_frame.specs.Made.{bad_frame}
 use Rattle.xa_desk.specs.declared.served.Served.{Served}
@@ -139,7 +139,7 @@ none-answered contents replies fed sent c c' h same sends =
       bounded = omega (arith, h.bounded, ap (λ (bs : List ℕ). length bs) same);
     }))
 
-carries-answered : {D : Type 0} (called : D → Request → Reply → D → Type 0) (contents : List (List ℕ)) (replies : List Reply) (fed sent : List ℕ) (answering : Answering) (c c' : Connection) (d e : D)
+carries-answered : {D : Type 0} (called : D → Question → Reply → D → Type 0) (contents : List (List ℕ)) (replies : List Reply) (fed sent : List ℕ) (answering : Answering) (c c' : Connection) (d e : D)
     → Carries contents replies fed sent c → Turns called c d answering c' e
     → (asked : List (List ℕ)) × (answered : List Reply) × AnswersAll called d asked answered e × Carries (contents ++ asked) (replies ++ answered) fed sent c'
 carries-answered called contents replies fed sent answering.Idle c c' d e h t = (
@@ -188,7 +188,7 @@ carries-answered called contents replies fed sent answering.Memory c c' d e h t 
           )
     ]
 
-pub carries-law : {D : Type 0} (called : D → Request → Reply → D → Type 0) → CarriesLaw called
+pub carries-law : {D : Type 0} (called : D → Question → Reply → D → Type 0) → CarriesLaw called
 carries-law called = record {
   begins = record { short = All-nil IsShort; fed_is = refl; sends = idle-delivers [] [] refl; bounded = omega arith };
   fed = carries-fed;

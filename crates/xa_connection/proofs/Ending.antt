@@ -1,7 +1,7 @@
 -- What a connection and its door have done stays with each call, and is what `serve` does.
 use Rattle.std.proofs.Common.{◌≡◌, ◌≢◌, ℕ, ◌+◌, List, [], ◌++◌, length, Option, Some, None, refl, sym, ap, ◌∙◌, inl, inr, append_assoc, append-nil, arith, subst}
 use Rattle.std.specs.List.{flat_map}
-use Rattle.xa_frame.specs.declared.request.Request.{Request}
+use Rattle.xa_frame.specs.declared.question.Question.{Question}
 use Rattle.xa_frame.specs.declared.reply.Reply.{Reply}
 use Rattle.xa_desk.specs.declared.served.Served.{Served}
 use Rattle.xa_desk.specs.declared.served.Served.TheVariants.{Ended, ReadFault, WriteFault, TooLong, Memory}
@@ -16,7 +16,7 @@ use Rattle.xa_connection.specs.Talked.{HasEnded, HasTalked, TalkedLaw}
 use Rattle.xa_connection.proofs.Carrying.{all-sent, carries-law}
 
 -- what came in is what was read and the rest, and so it ends
-talks-so : {D : Type 0} (called : D → Request → Reply → D → Type 0) (first d : D) (fed sent : List ℕ) (c : Connection) (end : Option Served) (h : HasTalked called first fed sent c d) (read rest : List ℕ)
+talks-so : {D : Type 0} (called : D → Question → Reply → D → Type 0) (first d : D) (fed sent : List ℕ) (c : Connection) (end : Option Served) (h : HasTalked called first fed sent c d) (read rest : List ℕ)
     → c.input ≡ read ++ rest → Ends end h.replies read sent → (end ≡ Some Ended → rest ≡ [])
     → (most : ℕ) × (left : List ℕ) × Talks called most end (Some fed) (Some left) (Some []) (Some sent) first d
 talks-so called first d fed sent c end h read rest is ends at_end =
@@ -58,7 +58,7 @@ write-fault (Some Ended) replies input sent unsent some h = absurd h
 write-fault (Some ReadFault) replies input sent unsent some h = absurd h
 write-fault (Some WriteFault) replies input sent unsent some h = absurd h
 
-has-ended : {D : Type 0} (called : D → Request → Reply → D → Type 0) (first d : D) (fed sent : List ℕ) (c : Connection) (end : Option Served) → HasTalked called first fed sent c d → HasEnded end c
+has-ended : {D : Type 0} (called : D → Question → Reply → D → Type 0) (first d : D) (fed sent : List ℕ) (c : Connection) (end : Option Served) → HasTalked called first fed sent c d → HasEnded end c
     → (most : ℕ) × (rest : List ℕ) × Talks called most end (Some fed) (Some rest) (Some []) (Some sent) first d
 has-ended called first d fed sent c None h p =
     talks-so called first d fed sent c None h [] c.input refl (refl, all-sent c.end h.replies c.input sent c.output p.0 p.1 h.carries.sends) (λ e. absurd (cc e))
@@ -78,7 +78,7 @@ has-ended called first d fed sent c (Some Memory) h p =
     talks-so called first d fed sent c (Some Memory) h k.2 k.3 k.4 (k.0, k.6, inr (k.1, k.5)) (λ e. absurd (cc e))
 
 -- what it carries is of the same contents and replies
-talked-so : {D : Type 0} (called : D → Request → Reply → D → Type 0) (first d e : D) (fed sent : List ℕ) (c c' : Connection) (answering : Answering) → HasTalked called first fed sent c d → Turns called c d answering c' e
+talked-so : {D : Type 0} (called : D → Question → Reply → D → Type 0) (first d e : D) (fed sent : List ℕ) (c c' : Connection) (answering : Answering) → HasTalked called first fed sent c d → Turns called c d answering c' e
     → HasTalked called first fed sent c' e
 talked-so called first d e fed sent c c' answering h t =
     let law : CarriesLaw called = carries-law called in
@@ -90,7 +90,7 @@ talked-so called first d e fed sent c c' answering h t =
       carries = a.3;
     }
 
-pub talked-law : {D : Type 0} (called : D → Request → Reply → D → Type 0) → TalkedLaw called
+pub talked-law : {D : Type 0} (called : D → Question → Reply → D → Type 0) → TalkedLaw called
 talked-law called =
     let law : CarriesLaw called = carries-law called in
     record {

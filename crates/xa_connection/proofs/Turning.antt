@@ -1,7 +1,7 @@
 -- One answer, by what is at the front.
 use Rattle.std.proofs.Common.{◌≡◌, ◌↔◌, Bool, false, ℕ, ◌+◌, ◌-◌, ◌≤◌, List, [], ◌∷◌, ◌++◌, length, take, drop, Option, Some, None, refl, sym, ap, ◌∙◌, inl, inr, arith, subst}
 use Rattle.std.specs.Prelude.{IsSome, IsTrue}
-use Rattle.xa_frame.specs.declared.request.Request.{Request}
+use Rattle.xa_frame.specs.declared.question.Question.{Question}
 use Rattle.xa_frame.specs.declared.reply.Reply.{Reply}
 use Rattle.xa_frame.specs.Made.{bad_frame}
 use Rattle.xa_desk.specs.declared.served.Served.{Served}
@@ -32,7 +32,7 @@ content-is count front input is =
     ap (λ (n : ℕ). take n (drop 4 front)) same ∙ ap (λ (bs : List ℕ). take count (drop 4 bs)) is
 
 -- a frame is at the front, whose content was answered
-pub turns-frame : {D : Type 0} (called : D → Request → Reply → D → Type 0) (c c' : Connection) (d e : D) (answering : Answering) (count : ℕ) (content rest : List ℕ) (reply : Reply)
+pub turns-frame : {D : Type 0} (called : D → Question → Reply → D → Type 0) (c c' : Connection) (d e : D) (answering : Answering) (count : ℕ) (content rest : List ℕ) (reply : Reply)
     → IsReady c → BeginsWhole c.input count → content ≡ take count (drop 4 c.input) → Answers called d content reply e → rest ≡ drop (4 + count) c.input
     → Holds (record c { input = rest }) reply answering c' → Turns called c d answering c' e
 turns-frame called c c' d e Idle count content rest reply ready b is said behind h = absurd h
@@ -66,7 +66,7 @@ turns-frame called c c' d e Memory count content rest reply ready b is said behi
     )
 
 -- a length that is too great is at the front
-pub turns-length : {D : Type 0} (called : D → Request → Reply → D → Type 0) (c c' : Connection) (d : D) (answering : Answering) (reply : Reply)
+pub turns-length : {D : Type 0} (called : D → Question → Reply → D → Type 0) (c c' : Connection) (d : D) (answering : Answering) (reply : Reply)
     → IsReady c → BeginsTooLong c.input → reply ≡ bad_frame → Holds (record c { end = Some served.TooLong }) reply answering c' → Turns called c d answering c' d
 turns-length called c c' d Idle reply ready b is h = absurd h
 turns-length called c c' d Answered reply ready b is h = (

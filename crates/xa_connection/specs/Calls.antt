@@ -1,6 +1,6 @@
 -- What each call does to a connection.
 use Rattle.std.specs.Prelude.{ℕ, ◌≡◌, ◌≢◌, ◌⊎◌, ◌-◌, List, [], ◌∷◌, ◌++◌, length, take, min, Option, Some, None, IsSome}
-use Rattle.xa_frame.specs.declared.request.Request.{Request}
+use Rattle.xa_frame.specs.declared.question.Question.{Question}
 use Rattle.xa_frame.specs.declared.reply.Reply.{Reply}
 use Rattle.xa_frame.specs.Made.{bad_frame}
 use Rattle.xa_desk.specs.declared.served.Served.{Served}
@@ -41,14 +41,14 @@ IsIdle c = IsSome c.end ⊎ ((c.output ≢ []) ⊎ IsCut c.input)
 
 -- what is at the front is owed this reply: a content, which is taken with its length; or a length that is too great,
 -- which stays, and behind whose reply it is to end
-abbrev pub AnswersFront : {D : Type 0} → (D → Request → Reply → D → Type 0) → Connection → D → Reply → Option Served → List ℕ → D → Type 0
+abbrev pub AnswersFront : {D : Type 0} → (D → Question → Reply → D → Type 0) → Connection → D → Reply → Option Served → List ℕ → D → Type 0
 AnswersFront called c d reply end input e =
     ((content : List ℕ) × IsShort content × (c.input ≡ frame content ++ input) × Answers called d content reply e
     × (end ≡ None))
     ⊎ (BeginsTooLong c.input × (input ≡ c.input) × (e ≡ d) × (reply ≡ bad_frame) × (end ≡ Some served.TooLong))
 
 -- an answer: one reply was owed, and is to be sent, or found no memory
-abbrev pub Turns : {D : Type 0} → (D → Request → Reply → D → Type 0) → Connection → D → Answering → Connection → D → Type 0
+abbrev pub Turns : {D : Type 0} → (D → Question → Reply → D → Type 0) → Connection → D → Answering → Connection → D → Type 0
 Turns called c d Idle c' e = IsIdle c × (c' ≡ c) × (e ≡ d)
 Turns called c d Answered c' e =
     IsReady c × (reply : Reply) × AnswersFront called c d reply c'.end c'.input e × (c'.output ≡ reply_frame reply)

@@ -1,7 +1,7 @@
 -- What a connection has carried since it was new.
 use Rattle.std.specs.Prelude.{ℕ, ◌≡◌, ◌⊎◌, ◌≤◌, List, [], ◌∷◌, ◌++◌, length, take, drop, All, Option, Some, None}
 use Rattle.std.specs.List.{flat_map}
-use Rattle.xa_frame.specs.declared.request.Request.{Request}
+use Rattle.xa_frame.specs.declared.question.Question.{Question}
 use Rattle.xa_frame.specs.declared.reply.Reply.{Reply}
 use Rattle.xa_frame.specs.Made.{bad_frame}
 use Rattle.xa_desk.specs.declared.served.Served.{Served}
@@ -41,7 +41,7 @@ pub record Carries (contents : List (List ℕ)) (replies : List Reply) (fed sent
   pub bounded : length c.input ≤ MOST_INPUT
 
 -- so it begins, and so it stays with each call; an answer adds what the door was asked and has answered, if anything
-pub record CarriesLaw {D : Type 0} (called : D → Request → Reply → D → Type 0) : Type 0 where
+pub record CarriesLaw {D : Type 0} (called : D → Question → Reply → D → Type 0) : Type 0 where
   pub begins : Carries [] [] [] [] new_connection
   pub fed : (contents : List (List ℕ)) (replies : List Reply) (fed sent bytes : List ℕ) (count : ℕ) (c c' : Connection)
       → Carries contents replies fed sent c → Feeds c bytes count c'

@@ -1,6 +1,6 @@
 -- What a connection and a door of its own have done since it was new.
 use Rattle.std.specs.Prelude.{ℕ, ◌≡◌, ◌≢◌, List, [], ◌++◌, take, drop, Option, Some, None}
-use Rattle.xa_frame.specs.declared.request.Request.{Request}
+use Rattle.xa_frame.specs.declared.question.Question.{Question}
 use Rattle.xa_frame.specs.declared.reply.Reply.{Reply}
 use Rattle.xa_desk.specs.declared.served.Served.{Served}
 use Rattle.xa_desk.specs.declared.served.Served.TheVariants.{Ended, ReadFault, WriteFault, TooLong, Memory}
@@ -11,7 +11,7 @@ use Rattle.xa_connection.specs.Calls.{Feeds, Turns, new_connection}
 use Rattle.xa_connection.specs.Carries.{Carries}
 
 -- of all the bytes that it was fed, those that were sent, and the door from its first call on
-pub record HasTalked {D : Type 0} (called : D → Request → Reply → D → Type 0) (first : D) (fed sent : List ℕ) (c : Connection) (d : D) : Type 0 where
+pub record HasTalked {D : Type 0} (called : D → Question → Reply → D → Type 0) (first : D) (fed sent : List ℕ) (c : Connection) (d : D) : Type 0 where
   pub contents : List (List ℕ)
   pub replies : List Reply
   pub answered : AnswersAll called first contents replies d
@@ -28,7 +28,7 @@ HasEnded (Some Memory) c = c.end ≡ Some Memory
 
 -- so it begins, and so it stays with each call; and with its end `serve` says the same of a reader that had what was
 -- fed, of which it left the rest, and of a writer that took what was sent
-pub record TalkedLaw {D : Type 0} (called : D → Request → Reply → D → Type 0) : Type 0 where
+pub record TalkedLaw {D : Type 0} (called : D → Question → Reply → D → Type 0) : Type 0 where
   pub begins : (d : D) → HasTalked called d [] [] new_connection d
   pub fed : (first d : D) (fed sent bytes : List ℕ) (count : ℕ) (c c' : Connection) → HasTalked called first fed sent c d
       → Feeds c bytes count c' → HasTalked called first (fed ++ take count bytes) sent c' d

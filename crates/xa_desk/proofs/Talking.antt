@@ -7,7 +7,7 @@ use Rattle.std.specs.Io.KnownBytes.{Consumes, Appends, IsAtEnd}
 use Rattle.std.proofs.lemmas.Grind.{flat_map-append}
 use Rattle.std.proofs.lemmas.List.{length-append}
 use Rattle.std.proofs.lemmas.List.Elements.{All-append, All-nil, All-cons}
-use Rattle.xa_frame.specs.declared.request.Request.{Request}
+use Rattle.xa_frame.specs.declared.question.Question.{Question}
 use Rattle.xa_frame.specs.declared.reply.Reply.{Reply}
 use Rattle.xa_frame.specs.Made.{bad_frame}
 use Rattle.xa_output.proofs.Pieces.{appends_both, nothing_appended}
@@ -18,7 +18,7 @@ use Rattle.xa_desk.specs.Serving.{Answers, AnswersAll, IsShort, frames_of, Owes,
 use Rattle.xa_desk.specs.Steps.{Lacks, ReadsLength, Sends, end_of}
 use Rattle.xa_desk.proofs.Known.{consumes-none, consumes-twice}
 
-pub answers-append : {D : Type 0} (called : D → Request → Reply → D → Type 0) (d m e : D) (cs ds : List (List ℕ)) (rs qs : List Reply)
+pub answers-append : {D : Type 0} (called : D → Question → Reply → D → Type 0) (d m e : D) (cs ds : List (List ℕ)) (rs qs : List Reply)
     → AnswersAll called d cs rs m → AnswersAll called m ds qs e → AnswersAll called d (cs ++ ds) (rs ++ qs) e
 answers-append {D} called d m e [] ds [] qs h k = subst (λ (x : D). AnswersAll called x ds qs e) (sym h) k
 answers-append called d m e [] ds (y ∷ rs) qs h k = absurd h
@@ -63,7 +63,7 @@ fewer : (cs ds : List (List ℕ)) (most more all : ℕ) → length cs ≤ most �
 fewer cs ds most more all few within less = omega (arith, length-append cs ds, few, within, less)
 
 -- an exchange behind others
-pub talks-behind : {D : Type 0} (called : D → Request → Reply → D → Type 0) (most more all : ℕ) (end : Option Served) (i j k o p q : Option (List ℕ)) (d m e : D)
+pub talks-behind : {D : Type 0} (called : D → Question → Reply → D → Type 0) (most more all : ℕ) (end : Option Served) (i j k o p q : Option (List ℕ)) (d m e : D)
     → most + more ≤ all → Talks called most None i j o p d m → Talks called more end j k p q m e → Talks called all end i k o q d e
 talks-behind called most more all end i j k o p q d m e within s t =
     let P : List ℕ → Type 0 = λ bs. Consumes i j bs in
@@ -88,7 +88,7 @@ talks-behind called most more all end i j k o p q d m e within s t =
     }
 
 -- nothing yet
-pub talks-none : {D : Type 0} (called : D → Request → Reply → D → Type 0) (i o : Option (List ℕ)) (d : D) → Talks called 0 None i i o o d d
+pub talks-none : {D : Type 0} (called : D → Question → Reply → D → Type 0) (i o : Option (List ℕ)) (d : D) → Talks called 0 None i i o o d d
 talks-none called i o d = record {
   contents = [];
   replies = [];
@@ -105,7 +105,7 @@ talks-none called i o d = record {
 }
 
 -- no door was reached, and this was read and written
-alone : {D : Type 0} (called : D → Request → Reply → D → Type 0) (most : ℕ) (end : Served) (i j o p : Option (List ℕ)) (d : D) (read written : List ℕ)
+alone : {D : Type 0} (called : D → Question → Reply → D → Type 0) (most : ℕ) (end : Served) (i j o p : Option (List ℕ)) (d : D) (read written : List ℕ)
     → Consumes i j read → Appends o p written → Ends (Some end) [] read written → (read ≡ []) ⊎ (0 < most) → (Some end ≡ Some Ended → IsAtEnd j × (0 < most)) → Talks called most (Some end) i j o p d d
 alone called most end i j o p d read written h k ends beyond at_end = record {
   contents = [];
@@ -123,26 +123,26 @@ alone called most end i j o p d read written h k ends beyond at_end = record {
 }
 
 -- a length is cut
-talks-cut : {D : Type 0} (called : D → Request → Reply → D → Type 0) (most : ℕ) (i j o : Option (List ℕ)) (d : D) (part : List ℕ)
+talks-cut : {D : Type 0} (called : D → Question → Reply → D → Type 0) (most : ℕ) (i j o : Option (List ℕ)) (d : D) (part : List ℕ)
     → length part < 4 → (part ≡ []) ⊎ (0 < most) → Consumes i j part → Talks called most (Some ReadFault) i j o o d d
 talks-cut called most i j o d part less beyond h = alone called most ReadFault i j o o d part [] h (nothing_appended o) (inl less, refl) beyond (λ is. cc)
 
 -- by the end of a conversation: behind as many frames as it may have it ends too
-pub talks-bound : {D : Type 0} (called : D → Request → Reply → D → Type 0) (most : ℕ) (end : Result (Unit {0}) Served) (i j o p : Option (List ℕ)) (d e : D)
+pub talks-bound : {D : Type 0} (called : D → Question → Reply → D → Type 0) (most : ℕ) (end : Result (Unit {0}) Served) (i j o p : Option (List ℕ)) (d e : D)
     → Talks called most (end_of end) i j o p d e → Talks called most (Some (unwrap_or (result_err end) ReadFault)) i j o p d e
 talks-bound called most (Ok x) i j o p d e s =
     talks-behind called most 0 most (Some ReadFault) i j j o p p d e e (omega arith) s (talks-cut called 0 j j p e [] (omega arith) (inl refl) (consumes-none j))
 talks-bound called most (Err end) i j o p d e s = s
 
 -- a length is too great, and the reply to it was written
-pub talks-too-long : {D : Type 0} (called : D → Request → Reply → D → Type 0) (reply : Reply) (i j o p : Option (List ℕ)) (d : D) (n : ℕ)
+pub talks-too-long : {D : Type 0} (called : D → Question → Reply → D → Type 0) (reply : Reply) (i j o p : Option (List ℕ)) (d : D) (n : ℕ)
     → reply ≡ bad_frame → 65535 < n → n < 2 ^ 32 → Consumes i j (to_be_bytes w32 n) → Appends o p (reply_frame reply) → Talks called 1 (Some TooLong) i j o p d d
 talks-too-long called reply i j o p d n is more bound h k =
     let P : Reply → Type 0 = λ x. Appends o p (reply_frame x) in
     alone called 1 TooLong i j o p d (to_be_bytes w32 n) (reply_frame bad_frame) h (subst P is k) ((n, more, bound, refl), sym (append-nil (reply_frame bad_frame))) (inr (omega arith)) (λ is. cc)
 
 -- the same, and it was not, or not all of it
-unsent : {D : Type 0} (called : D → Request → Reply → D → Type 0) (end : Served) (i j o p : Option (List ℕ)) (d : D) (n : ℕ)
+unsent : {D : Type 0} (called : D → Question → Reply → D → Type 0) (end : Served) (i j o p : Option (List ℕ)) (d : D) (n : ℕ)
     → 65535 < n → n < 2 ^ 32 → Consumes i j (to_be_bytes w32 n) → Sends {X = Unit {0}} (Err end) (reply_frame bad_frame) o p → Talks called 1 (Some end) i j o p d d
 unsent called WriteFault i j o p d n more bound h k =
     alone called 1 WriteFault i j o p d (to_be_bytes w32 n) k.0 h k.2 ([], bad_frame, k.0, inr ((n, more, bound, refl), refl), k.1, refl) (inr (omega arith)) (λ is. cc)
@@ -152,14 +152,14 @@ unsent called Ended i j o p d n more bound h k = absurd k
 unsent called ReadFault i j o p d n more bound h k = absurd k
 unsent called TooLong i j o p d n more bound h k = absurd k
 
-pub talks-unsent : {D : Type 0} (called : D → Request → Reply → D → Type 0) (end : Served) (reply : Reply) (i j o p : Option (List ℕ)) (d : D) (n : ℕ)
+pub talks-unsent : {D : Type 0} (called : D → Question → Reply → D → Type 0) (end : Served) (reply : Reply) (i j o p : Option (List ℕ)) (d : D) (n : ℕ)
     → reply ≡ bad_frame → 65535 < n → n < 2 ^ 32 → Consumes i j (to_be_bytes w32 n) → Sends {X = Unit {0}} (Err end) (reply_frame reply) o p → Talks called 1 (Some end) i j o p d d
 talks-unsent called end reply i j o p d n is more bound h k =
     let Q : Reply → Type 0 = λ x. Sends {X = Unit {0}} (Err end) (reply_frame x) o p in
     unsent called end i j o p d n more bound h (subst Q is k)
 
 -- no length was read
-pub talks-unread : {D : Type 0} (called : D → Request → Reply → D → Type 0) (end : Served) (i j o : Option (List ℕ)) (d : D)
+pub talks-unread : {D : Type 0} (called : D → Question → Reply → D → Type 0) (end : Served) (i j o : Option (List ℕ)) (d : D)
     → ReadsLength (Err end) i j → Talks called 1 (Some end) i j o o d d
 talks-unread called Ended i j o d h = alone called 1 Ended i j o o d [] [] h.0 (nothing_appended o) (refl, refl) (inl refl) (λ is. (h.1, omega arith))
 talks-unread called ReadFault i j o d h = talks-cut called 1 i j o d h.0 h.1 (inr (omega arith)) h.2
@@ -168,7 +168,7 @@ talks-unread called TooLong i j o d h = absurd h
 talks-unread called Memory i j o d h = absurd h
 
 -- a content was not read
-pub talks-lacking : {D : Type 0} (called : D → Request → Reply → D → Type 0) (end : Served) (i j k o : Option (List ℕ)) (d : D) (n : ℕ)
+pub talks-lacking : {D : Type 0} (called : D → Question → Reply → D → Type 0) (end : Served) (i j k o : Option (List ℕ)) (d : D) (n : ℕ)
     → n ≤ 65535 → Consumes i j (to_be_bytes w32 n) → Lacks end n j k → Talks called 1 (Some end) i k o o d d
 talks-lacking called Memory i j k o d n few h l =
     let P : List ℕ → Type 0 = λ bs. Consumes i k bs in
@@ -181,7 +181,7 @@ talks-lacking called WriteFault i j k o d n few h l = absurd l
 talks-lacking called TooLong i j k o d n few h l = absurd l
 
 -- a content was answered, and this was written
-answered-so : {D : Type 0} (called : D → Request → Reply → D → Type 0) (end : Option Served) (i j o p : Option (List ℕ)) (d e : D) (c : List ℕ) (r : Reply) (written : List ℕ)
+answered-so : {D : Type 0} (called : D → Question → Reply → D → Type 0) (end : Option Served) (i j o p : Option (List ℕ)) (d e : D) (c : List ℕ) (r : Reply) (written : List ℕ)
     → length c ≤ 65535 → Consumes i j (frame c) → Answers called d c r e → Appends o p written → Ends end (r ∷ []) [] written → (end ≡ Some Ended → IsAtEnd j × (1 < 1)) → Talks called 1 end i j o p d e
 answered-so called end i j o p d e c r written few h said k ends at_end =
     let P : List ℕ → Type 0 = λ bs. Consumes i j bs in
@@ -200,7 +200,7 @@ answered-so called end i j o p d e c r written few h said k ends at_end =
       at_end = at_end;
     }
 
-sent-so : {D : Type 0} (called : D → Request → Reply → D → Type 0) (sent : Result (Unit {0}) Served) (i j o p : Option (List ℕ)) (d e : D) (c : List ℕ) (r : Reply)
+sent-so : {D : Type 0} (called : D → Question → Reply → D → Type 0) (sent : Result (Unit {0}) Served) (i j o p : Option (List ℕ)) (d e : D) (c : List ℕ) (r : Reply)
     → length c ≤ 65535 → Consumes i j (frame c) → Answers called d c r e → Sends sent (reply_frame r) o p → Talks called 1 (end_of sent) i j o p d e
 sent-so called (Ok x) i j o p d e c r few h said k = answered-so called None i j o p d e c r (reply_frame r) few h said k (refl, sym (append-nil (reply_frame r))) (λ is. cc)
 sent-so called (Err WriteFault) i j o p d e c r few h said k =
@@ -210,7 +210,7 @@ sent-so called (Err Ended) i j o p d e c r few h said k = absurd k
 sent-so called (Err ReadFault) i j o p d e c r few h said k = absurd k
 sent-so called (Err TooLong) i j o p d e c r few h said k = absurd k
 
-pub talks-answered : {D : Type 0} (called : D → Request → Reply → D → Type 0) (sent : Result (Unit {0}) Served) (i j k o p : Option (List ℕ)) (d e : D) (n : ℕ) (c content : List ℕ) (r : Reply)
+pub talks-answered : {D : Type 0} (called : D → Question → Reply → D → Type 0) (sent : Result (Unit {0}) Served) (i j k o p : Option (List ℕ)) (d e : D) (n : ℕ) (c content : List ℕ) (r : Reply)
     → n ≤ 65535 → Consumes i j (to_be_bytes w32 n) → length c ≡ n → Consumes j k c → content ≡ c → Answers called d content r e → Sends sent (reply_frame r) o p → Talks called 1 (end_of sent) i k o p d e
 talks-answered called sent i j k o p d e n c content r few front len body same said s =
     let Q : List ℕ → Type 0 = λ xs. Answers called d xs r e in

@@ -5,11 +5,14 @@ use Rattle.std.specs.Int.{to_be_bytes, w32}
 use Rattle.std.specs.Io.KnownBytes.{Consumes, Appends, IsAtEnd}
 use Rattle.xa_frame.specs.declared.fault.FrameFault.{FrameFault}
 use Rattle.xa_frame.specs.declared.fault.FrameFault.TheVariants as faults
+use Rattle.xa_frame.specs.declared.question.Question.{Question}
+use Rattle.xa_frame.specs.declared.question.Question.TheVariants.{Call, Status as AsksStatus}
 use Rattle.xa_frame.specs.declared.request.Request.{Request}
 use Rattle.xa_frame.specs.declared.reply.Reply.{Reply}
+use Rattle.xa_frame.specs.declared.status.Status.{Status}
 use Rattle.xa_limits.specs.declared.TheConstants.{MOST_CONTENT}
-use Rattle.xa_frame.specs.Faults.{fault_of_request}
-use Rattle.xa_frame.specs.Made.{bad_frame}
+use Rattle.xa_frame.specs.Made.{bad_frame, doing}
+use Rattle.xa_frame.specs.Questions.{status_content, fault_of_question}
 use Rattle.xa_frame.specs.Spelling.{SpellsRequest}
 use Rattle.xa_output.specs.Output.{IsPart}
 use Rattle.xa_desk.specs.declared.served.Served.{Served}
@@ -17,25 +20,30 @@ use Rattle.xa_desk.specs.declared.served.Served.TheVariants.{Ended, ReadFault, W
 use Rattle.xa_desk.specs.Frames.{frame, reply_frame, without_memory}
 
 -- the door answered the request that the content spells
-abbrev pub Called : {D : Type 0} → (D → Request → Reply → D → Type 0) → D → List ℕ → Reply → D → Type 0
-Called called d content reply e = (q : Request) × SpellsRequest content q × called d q reply e
+abbrev pub Called : {D : Type 0} → (D → Question → Reply → D → Type 0) → D → List ℕ → Reply → D → Type 0
+Called called d content reply e = (q : Request) × SpellsRequest content q × called d (Call q) reply e
 
 -- the content has a fault, and reached no door
 abbrev pub Faulty : {D : Type 0} → D → List ℕ → Reply → D → Type 0
 Faulty d content reply e =
-    (f : FrameFault) × (f ≢ faults.Memory) × (fault_of_request content ≡ Some f) × (e ≡ d) × (reply ≡ bad_frame)
+    (f : FrameFault) × (f ≢ faults.Memory) × (fault_of_question content ≡ Some f) × (e ≡ d) × (reply ≡ bad_frame)
 
 -- the content has no fault, but decoding found no memory, and no door was reached
 abbrev pub Wanted : {D : Type 0} → D → List ℕ → Reply → D → Type 0
-Wanted d content reply e = (fault_of_request content ≡ None) × (e ≡ d) × (reply ≡ without_memory)
+Wanted d content reply e = (fault_of_question content ≡ None) × (e ≡ d) × (reply ≡ without_memory)
+
+-- the content asks for the status: the door told it, and stayed as it was
+abbrev pub Told : {D : Type 0} → (D → Question → Reply → D → Type 0) → D → List ℕ → Reply → D → Type 0
+Told called d content reply e =
+    (s : Status) × (content ≡ status_content) × (e ≡ d) × (reply ≡ doing s) × called d AsksStatus (doing s) d
 
 -- one content and its reply
-abbrev pub Answers : {D : Type 0} → (D → Request → Reply → D → Type 0) → D → List ℕ → Reply → D → Type 0
+abbrev pub Answers : {D : Type 0} → (D → Question → Reply → D → Type 0) → D → List ℕ → Reply → D → Type 0
 Answers called d content reply e =
-    Called called d content reply e ⊎ (Faulty d content reply e ⊎ Wanted d content reply e)
+    Called called d content reply e ⊎ (Faulty d content reply e ⊎ (Wanted d content reply e ⊎ Told called d content reply e))
 
 -- contents and their replies, in order
-abbrev pub AnswersAll : {D : Type 0} → (D → Request → Reply → D → Type 0) → D → List (List ℕ) → List Reply → D → Type 0
+abbrev pub AnswersAll : {D : Type 0} → (D → Question → Reply → D → Type 0) → D → List (List ℕ) → List Reply → D → Type 0
 AnswersAll called d [] [] e = d ≡ e
 AnswersAll called d [] (r ∷ rs) e = ⊥
 AnswersAll called d (c ∷ cs) [] e = ⊥
@@ -80,7 +88,7 @@ Ends (Some Memory) replies read written =
 
 -- a conversation so far: its whole frames, no more than so many, with their replies, what was read behind them, and all
 -- that was written
-pub record Talks {D : Type 0} (called : D → Request → Reply → D → Type 0) (most : ℕ) (end : Option Served)
+pub record Talks {D : Type 0} (called : D → Question → Reply → D → Type 0) (most : ℕ) (end : Option Served)
     (input input' output output' : Option (List ℕ)) (d e : D) : Type 0 where
   pub contents : List (List ℕ)
   pub replies : List Reply

@@ -14,7 +14,7 @@ use std::alloc::{AllocError, Global};
 use std::io::{Read, Write};
 use xa_bytes::{number_of, put_u32};
 use xa_codes::{Detail, XAER_RMFAIL};
-use xa_frame::{FrameFault, Reply, decode_request, one_reply, put_reply};
+use xa_frame::{Body, FrameFault, Question, Reply, decode_question, one_reply, put_reply};
 use xa_limits::MOST_CONTENT;
 use xa_output::write_text;
 
@@ -152,13 +152,15 @@ fn exchange<D: Door, R: Read, W: Write>(
     send(alloc, writer, &reply)
 }
 
-/// The reply to a content: the door's, or one to a content that has a fault or couldn't be decoded for want of memory.
+/// The reply to a content: the door's, how it is doing, or one to a content that has a fault or couldn't be decoded for
+/// want of memory.
 pub fn answer<D: Door>(alloc: Global, door: &mut D, session: u64, content: &[u8]) -> Reply
     ensures answers { Answers (D.called session) door.old content.now result door.new }
     ensures limits { IsReply result }
 {
-    match decode_request(alloc, content) {
-        Ok(request) => door.call(session, request),
+    match decode_question(alloc, content) {
+        Ok(Question::Call(request)) => door.call(session, request),
+        Ok(Question::Status) => Reply::carrying(Body::Status(door.status())),
         Err(FrameFault::Memory) => without_memory(),
         Err(_) => Reply::bad_frame(),
     }

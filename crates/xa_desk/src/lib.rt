@@ -1,6 +1,6 @@
 //! One connection: a peer's frames go to a door, and the frames of its replies back.
 //!
-//! - `door`: the trait `Door`, what a connection's requests and its hang-up go to
+//! - `door`: the trait `Door`, what a connection's requests, its questions for the status and its hang-up go to
 //! - `connection`: `serve`, which reads frames, asks the door and writes the replies until the connection ends, and
 //!   hangs the session up; `serve_upto`, the same for so many frames; `MOST_FRAMES`; `answer`, the reply to a content;
 //!   `make_frame`, the bytes of a reply's frame

@@ -1,4 +1,6 @@
+ghost use Rattle.std.specs.Prelude.{◌≡◌, IfOk, length};
 ghost use Rattle.xa_fields.specs.Answers.{Gives};
+ghost use Rattle.xa_fields.specs.Limits.{IsKey};
 ghost use Rattle.xa_fields.specs.Reading.{bytes_at, short_at, key_at, value_at, direction_at, name_at};
 
 use crate::fault::FieldFault;
@@ -11,7 +13,8 @@ use xa_xid::Xid;
 pub const MOST_SHORT: usize = 255;
 
 fn take_bytes(len: usize, bytes: &[u8]) -> Result<(&[u8], &[u8]), FieldFault>
-    ensures { Gives (λ x. (x.0.now, x.1.now)) result (bytes_at len bytes.now) }
+    ensures bytes { Gives (λ x. (x.0.now, x.1.now)) result (bytes_at len bytes.now) }
+    ensures length { IfOk result (λ x. length x.0.now ≡ len) }
 {
     if bytes.len() < len {
         return Err(FieldFault::Cut);
@@ -33,7 +36,8 @@ pub fn take_short(bytes: &[u8]) -> Result<(&[u8], &[u8]), FieldFault>
 /// The key behind its length of one byte, and what stands after it. Takes no memory.
 #[tactic(auto, unfolding(crate::specs::Reading::key_at))]
 pub fn take_key(bytes: &[u8]) -> Result<(&[u8], &[u8]), FieldFault>
-    ensures { Gives (λ x. (x.0.now, x.1.now)) result (key_at bytes.now) }
+    ensures key { Gives (λ x. (x.0.now, x.1.now)) result (key_at bytes.now) }
+    ensures limits { IfOk result (λ x. IsKey x.0.now) }
 {
     match bytes {
         [] => Err(FieldFault::Cut),

@@ -48,7 +48,7 @@ abbrev fit_counts : ℕ × (ℕ × ℕ) → Type 0
 fit_counts x = (x.0 < 2 ^ 16) × ((x.1.0 < 2 ^ 16) × (x.1.1 < 2 ^ 16))
 
 -- the same facts, as one record
-other_facts : {A : Type 0} {at : Reads A} {spell : A → List ℕ} {fits others : A → Type 0} {after : After} → IsField A at spell fits after → ((x : A) → fits x → others x) → ((x : A) → others x → fits x)
+pub other_facts : {A : Type 0} {at : Reads A} {spell : A → List ℕ} {fits others : A → Type 0} {after : After} → IsField A at spell fits after → ((x : A) → fits x → others x) → ((x : A) → others x → fits x)
     → IsField A at spell others after
 other_facts F there back = record {
   takes = λ bytes x rest small e. let t = F.takes bytes x rest small e in (t.0, there x t.1);

@@ -3,9 +3,11 @@ pub mod Digits
 pub mod FieldFaults
 pub mod Readers
 pub mod BranchReaders
+pub mod StatusReaders
 pub mod Lists
 pub mod Whole
 pub mod Requests
+pub mod Questions
 pub mod Replies
 pub mod Decoded
 pub mod Sound

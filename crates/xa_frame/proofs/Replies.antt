@@ -19,11 +19,12 @@ use Rattle.xa_frame.specs.Limits.{IsBody, IsReply, HoldsBranch, HoldsBody, Holds
 use Rattle.xa_frame.specs.Spelling.{counted_bytes, code_bytes, detail_bytes, state_bytes, counts_bytes, branch_bytes, body_bytes, bytes_of_reply, SpellsReply}
 use Rattle.xa_frame.specs.Faults.{After, after_bytes, after_value, after_xid, after_branch, after_counted, after_detail, after_body, go_on, fault_in, fault_of_reply}
 use Rattle.xa_fields.specs.Reading.{◌>>=◌}
-use Rattle.xa_frame.specs.Reading.{Reads, ended, one_of, made, number_at, value_at, name_at, counted_at, branch_at, code_at, detail_at, body_at, answer_at, versioned_at, reply_at}
+use Rattle.xa_frame.specs.Reading.{Reads, ended, one_of, made, number_at, value_at, name_at, counted_at, branch_at, status_at, code_at, detail_at, body_at, answer_at, versioned_at, reply_at}
 use Rattle.xa_bytes.proofs.Digits.{IsBytes, IsBytes-rest}
 use Rattle.xa_fields.proofs.Results.{bind_ok, ok_is}
 use Rattle.xa_frame.proofs.Readers.{IsField, number64, value, name, counted, AreFew, code, about, eqb_true}
 use Rattle.xa_frame.proofs.BranchReaders.{branch}
+use Rattle.xa_frame.proofs.StatusReaders.{status, status_short}
 use Rattle.xa_frame.proofs.Whole.{fault_of, ended_is, ended_fault, step_fault, one_takes, one_again, one_fault, made_ok, made_fault}
 use Rattle.xa_frame.proofs.Requests.{versioned_is, versioned_again, versioned_fault, name_short}
 
@@ -56,28 +57,30 @@ names_body xs h = record { limits = h.few; holds = All-from_recursion IsWithinLi
 branches_body : (bs : List KnownBranch) → AreFew HoldsBranch bs → IsBodyOf (5 ∷ counted_bytes branch_bytes bs) (body.Branches bs)
 branches_body bs h = record { limits = h.few; holds = All-from_recursion HoldsBranch bs h.each; bytes_are = refl }
 
-body_tested : (n : ℕ) (a b c d e f : Bool) (rest : List ℕ) (r : Body) → eqb n 0 ≡ a → eqb n 1 ≡ b → eqb n 2 ≡ c → eqb n 3 ≡ d → eqb n 4 ≡ e → eqb n 5 ≡ f → IsBytes rest
+body_tested : (n : ℕ) (a b c d e f g : Bool) (rest : List ℕ) (r : Body) → eqb n 0 ≡ a → eqb n 1 ≡ b → eqb n 2 ≡ c → eqb n 3 ≡ d → eqb n 4 ≡ e → eqb n 5 ≡ f → eqb n 6 ≡ g → IsBytes rest
     → cond a (ended body.Nothing rest) (cond b (made (λ x. body.Number x) (one_of (number_at w64) rest)) (cond c (made (λ x. body.Value x) (one_of value_at rest))
-    (cond d (ended body.Absent rest) (cond e (made (λ x. body.Xids x) (one_of (counted_at name_at) rest)) (cond f (made (λ x. body.Branches x) (one_of (counted_at branch_at) rest)) (Err Field)))))) ≡ Ok r
+    (cond d (ended body.Absent rest) (cond e (made (λ x. body.Xids x) (one_of (counted_at name_at) rest)) (cond f (made (λ x. body.Branches x) (one_of (counted_at branch_at) rest))
+    (cond g (made (λ x. body.Status x) (one_of status_at rest)) (Err Field))))))) ≡ Ok r
     → IsBodyOf (n ∷ rest) r
-body_tested n true b c d e f rest r h0 h1 h2 h3 h4 h5 small g =
-    let p = ended_is body.Nothing r rest g in
+body_tested n true b c d e f g rest r h0 h1 h2 h3 h4 h5 h6 small k =
+    let p = ended_is body.Nothing r rest k in
     moved 0 n [] rest body.Nothing r (record { limits = tt; holds = tt; bytes_are = refl }) (eqb_true n 0 h0) p.0 p.1
-body_tested n false true c d e f rest r h0 h1 h2 h3 h4 h5 small g =
-    of_kind number64 (λ x. body.Number x) 1 n (λ x h. record { limits = tt; holds = h; bytes_are = refl }) rest r (eqb_true n 1 h1) small g
-body_tested n false false true d e f rest r h0 h1 h2 h3 h4 h5 small g =
-    of_kind value (λ x. body.Value x) 2 n (λ x h. record { limits = h; holds = tt; bytes_are = refl }) rest r (eqb_true n 2 h2) small g
-body_tested n false false false true e f rest r h0 h1 h2 h3 h4 h5 small g =
-    let p = ended_is body.Absent r rest g in
+body_tested n false true c d e f g rest r h0 h1 h2 h3 h4 h5 h6 small k =
+    of_kind number64 (λ x. body.Number x) 1 n (λ x h. record { limits = tt; holds = h; bytes_are = refl }) rest r (eqb_true n 1 h1) small k
+body_tested n false false true d e f g rest r h0 h1 h2 h3 h4 h5 h6 small k =
+    of_kind value (λ x. body.Value x) 2 n (λ x h. record { limits = h; holds = tt; bytes_are = refl }) rest r (eqb_true n 2 h2) small k
+body_tested n false false false true e f g rest r h0 h1 h2 h3 h4 h5 h6 small k =
+    let p = ended_is body.Absent r rest k in
     moved 3 n [] rest body.Absent r (record { limits = tt; holds = tt; bytes_are = refl }) (eqb_true n 3 h3) p.0 p.1
-body_tested n false false false false true f rest r h0 h1 h2 h3 h4 h5 small g = of_kind xids (λ x. body.Xids x) 4 n names_body rest r (eqb_true n 4 h4) small g
-body_tested n false false false false false true rest r h0 h1 h2 h3 h4 h5 small g = of_kind branches (λ x. body.Branches x) 5 n branches_body rest r (eqb_true n 5 h5) small g
-body_tested n false false false false false false rest r h0 h1 h2 h3 h4 h5 small g = absurd cc
+body_tested n false false false false true f g rest r h0 h1 h2 h3 h4 h5 h6 small k = of_kind xids (λ x. body.Xids x) 4 n names_body rest r (eqb_true n 4 h4) small k
+body_tested n false false false false false true g rest r h0 h1 h2 h3 h4 h5 h6 small k = of_kind branches (λ x. body.Branches x) 5 n branches_body rest r (eqb_true n 5 h5) small k
+body_tested n false false false false false false true rest r h0 h1 h2 h3 h4 h5 h6 small k = of_kind status (λ x. body.Status x) 6 n (λ x h. record { limits = tt; holds = h; bytes_are = refl }) rest r (eqb_true n 6 h6) small k
+body_tested n false false false false false false false rest r h0 h1 h2 h3 h4 h5 h6 small k = absurd cc
 
 body_takes : (bytes : List ℕ) (b : Body) → IsBytes bytes → body_at bytes ≡ Ok b → IsBodyOf bytes b
 unfolding body_at
 body_takes [] b small e = absurd cc
-body_takes (n ∷ rest) b small e = body_tested n (eqb n 0) (eqb n 1) (eqb n 2) (eqb n 3) (eqb n 4) (eqb n 5) rest b refl refl refl refl refl refl (IsBytes-rest n rest small) e
+body_takes (n ∷ rest) b small e = body_tested n (eqb n 0) (eqb n 1) (eqb n 2) (eqb n 3) (eqb n 4) (eqb n 5) (eqb n 6) rest b refl refl refl refl refl refl refl (IsBytes-rest n rest small) e
 
 body_again : (b : Body) → IsBody b → HoldsBody b → body_at (body_bytes b) ≡ Ok b
 unfolding body_at
@@ -87,23 +90,27 @@ body_again (body.Value v) h k = ap (made (λ x. body.Value x)) (one_again value 
 body_again body.Absent h k = refl
 body_again (body.Xids xs) h k = ap (made (λ x. body.Xids x)) (one_again xids xs (record { few = h; each = recursion_from_All IsWithinLimits xs k }))
 body_again (body.Branches bs) h k = ap (made (λ x. body.Branches x)) (one_again branches bs (record { few = h; each = recursion_from_All HoldsBranch bs k }))
+body_again (body.Status t) h k = ap (made (λ x. body.Status x)) (one_again status t k)
 
-body_kinds : (a b c d e f : Bool) (rest : List ℕ)
+body_kinds : (a b c d e f g : Bool) (rest : List ℕ)
     → fault_of (cond a (ended body.Nothing rest) (cond b (made (λ x. body.Number x) (one_of (number_at w64) rest)) (cond c (made (λ x. body.Value x) (one_of value_at rest))
-    (cond d (ended body.Absent rest) (cond e (made (λ x. body.Xids x) (one_of (counted_at name_at) rest)) (cond f (made (λ x. body.Branches x) (one_of (counted_at branch_at) rest)) (Err Field)))))))
-    ≡ go_on (cond a (Ok rest) (cond b (after_bytes 8 rest) (cond c (after_value rest) (cond d (Ok rest) (cond e (after_counted after_xid rest) (cond f (after_counted after_branch rest) (Err Field))))))) (fault_in [])
-body_kinds true b c d e f rest = ended_fault body.Nothing rest
-body_kinds false true c d e f rest = made_fault (λ x. body.Number x) (one_of (number_at w64) rest) ∙ one_fault number64 rest
-body_kinds false false true d e f rest = made_fault (λ x. body.Value x) (one_of value_at rest) ∙ one_fault value rest
-body_kinds false false false true e f rest = ended_fault body.Absent rest
-body_kinds false false false false true f rest = made_fault (λ x. body.Xids x) (one_of (counted_at name_at) rest) ∙ one_fault xids rest
-body_kinds false false false false false true rest = made_fault (λ x. body.Branches x) (one_of (counted_at branch_at) rest) ∙ one_fault branches rest
-body_kinds false false false false false false rest = refl
+    (cond d (ended body.Absent rest) (cond e (made (λ x. body.Xids x) (one_of (counted_at name_at) rest)) (cond f (made (λ x. body.Branches x) (one_of (counted_at branch_at) rest))
+    (cond g (made (λ x. body.Status x) (one_of status_at rest)) (Err Field))))))))
+    ≡ go_on (cond a (Ok rest) (cond b (after_bytes 8 rest) (cond c (after_value rest) (cond d (Ok rest) (cond e (after_counted after_xid rest) (cond f (after_counted after_branch rest)
+    (cond g (after_bytes 80 rest) (Err Field)))))))) (fault_in [])
+body_kinds true b c d e f g rest = ended_fault body.Nothing rest
+body_kinds false true c d e f g rest = made_fault (λ x. body.Number x) (one_of (number_at w64) rest) ∙ one_fault number64 rest
+body_kinds false false true d e f g rest = made_fault (λ x. body.Value x) (one_of value_at rest) ∙ one_fault value rest
+body_kinds false false false true e f g rest = ended_fault body.Absent rest
+body_kinds false false false false true f g rest = made_fault (λ x. body.Xids x) (one_of (counted_at name_at) rest) ∙ one_fault xids rest
+body_kinds false false false false false true g rest = made_fault (λ x. body.Branches x) (one_of (counted_at branch_at) rest) ∙ one_fault branches rest
+body_kinds false false false false false false true rest = made_fault (λ x. body.Status x) (one_of status_at rest) ∙ one_fault status rest
+body_kinds false false false false false false false rest = refl
 
 body_fault : (bytes : List ℕ) → fault_of (body_at bytes) ≡ fault_in (after_body ∷ []) bytes
 unfolding body_at
 body_fault [] = refl
-body_fault (n ∷ rest) = body_kinds (eqb n 0) (eqb n 1) (eqb n 2) (eqb n 3) (eqb n 4) (eqb n 5) rest
+body_fault (n ∷ rest) = body_kinds (eqb n 0) (eqb n 1) (eqb n 2) (eqb n 3) (eqb n 4) (eqb n 5) (eqb n 6) rest
 
 -- ---- code, detail, place, body
 
@@ -195,6 +202,7 @@ body_short (body.Value v) h k = omega (arith, h, length-append (to_be_bytes w16 
 body_short body.Absent h k = omega arith
 body_short (body.Xids xs) h k = omega (arith, h, names_short xs (recursion_from_All IsWithinLimits xs k), length-append (to_be_bytes w16 (length xs)) (flat_map bytes_of xs))
 body_short (body.Branches bs) h k = omega (arith, h, branches_short bs (recursion_from_All HoldsBranch bs k), length-append (to_be_bytes w16 (length bs)) (flat_map branch_bytes bs))
+body_short (body.Status t) h k = omega (arith, status_short t)
 
 answer_short : (r : Reply) → IsReply r → HoldsReply r → length (answer_bytes r) ≤ 65534
 answer_short r h k =

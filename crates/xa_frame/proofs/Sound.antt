@@ -100,20 +100,21 @@ sound_counted after h bytes =
     either (ltb (length bytes) 2) (Err Short) (cond (ltb 256 n) (Err Field) (after_each after n (drop 2 bytes))) short
     (either (ltb 256 n) (Err Field) (after_each after n (drop 2 bytes)) field (sound_each after h n (drop 2 bytes)))
 
-sound_kinds : (a b c d e f : Bool) (rest : List ℕ)
+sound_kinds : (a b c d e f g : Bool) (rest : List ℕ)
     → IsSound (cond a (Ok rest) (cond b (after_bytes 8 rest) (cond c (after_value rest) (cond d (Ok rest)
-    (cond e (after_counted after_xid rest) (cond f (after_counted after_branch rest) (Err Field)))))))
-sound_kinds true b c d e f rest = ok rest
-sound_kinds false true c d e f rest = sound_bytes 8 rest
-sound_kinds false false true d e f rest = sound_value rest
-sound_kinds false false false true e f rest = ok rest
-sound_kinds false false false false true f rest = sound_counted after_xid sound_xid rest
-sound_kinds false false false false false true rest = sound_counted after_branch sound_branch rest
-sound_kinds false false false false false false rest = field
+    (cond e (after_counted after_xid rest) (cond f (after_counted after_branch rest) (cond g (after_bytes 80 rest) (Err Field))))))))
+sound_kinds true b c d e f g rest = ok rest
+sound_kinds false true c d e f g rest = sound_bytes 8 rest
+sound_kinds false false true d e f g rest = sound_value rest
+sound_kinds false false false true e f g rest = ok rest
+sound_kinds false false false false true f g rest = sound_counted after_xid sound_xid rest
+sound_kinds false false false false false true g rest = sound_counted after_branch sound_branch rest
+sound_kinds false false false false false false true rest = sound_bytes 80 rest
+sound_kinds false false false false false false false rest = field
 
 sound_body : AreSound after_body
 sound_body [] = short
-sound_body (kind ∷ rest) = sound_kinds (eqb kind 0) (eqb kind 1) (eqb kind 2) (eqb kind 3) (eqb kind 4) (eqb kind 5) rest
+sound_body (kind ∷ rest) = sound_kinds (eqb kind 0) (eqb kind 1) (eqb kind 2) (eqb kind 3) (eqb kind 4) (eqb kind 5) (eqb kind 6) rest
 
 -- ---- fields one after another
 

@@ -1,7 +1,9 @@
 -- What a reading answers.
-use Rattle.std.specs.Prelude.{◌≡◌, ◌⊎◌, Option, Some, None, Result, Ok, Err, IsOk}
+use Rattle.std.specs.Prelude.{◌≡◌, ◌⊎◌, Bool, true, false, Option, Some, None, Result, Ok, Err, IsOk}
 use Rattle.xa_frame.specs.declared.fault.FrameFault.{FrameFault}
 use Rattle.xa_frame.specs.declared.fault.FrameFault.TheVariants.{Memory}
+use Rattle.xa_frame.specs.declared.request.Request.{Request}
+use Rattle.xa_frame.specs.declared.request.Request.TheVariants.{Open, Put}
 
 -- what a function returned is what the definition reads, but where memory was wanted for a value that is there
 abbrev pub Answers : {A : Type 0} → Result A FrameFault → Result A FrameFault → Type 0
@@ -16,3 +18,9 @@ IsOrWants (Err e) y = e ≡ Memory
 -- a fault is the one of the rule, or want of memory where the rule has none
 abbrev pub IsFault : Option FrameFault → FrameFault → Type 0
 IsFault fault e = (fault ≡ Some e) ⊎ ((e ≡ Memory) × (fault ≡ None))
+
+-- an info or a value, which takes memory
+abbrev pub brings_bytes : Request → Bool
+brings_bytes (Open flags info) = true
+brings_bytes (Put key value) = true
+brings_bytes _ = false

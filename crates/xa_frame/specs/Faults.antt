@@ -95,7 +95,7 @@ after_counted after bytes =
     else if nat_lt MOST_XIDS (from_be_bytes w16 (take 2 bytes)) then Err Field
     else after_each after (from_be_bytes w16 (take 2 bytes)) (drop 2 bytes)
 
--- a kind of 0 to 5, and what it carries
+-- a kind of 0 to 6, and what it carries
 abbrev pub after_body : After
 after_body [] = Err Short
 after_body (kind ∷ rest) =
@@ -105,6 +105,7 @@ after_body (kind ∷ rest) =
     else if kind == 3 then Ok rest
     else if kind == 4 then after_counted after_xid rest
     else if kind == 5 then after_counted after_branch rest
+    else if kind == 6 then after_bytes 80 rest
     else Err Field
 
 abbrev pub go_on : Result (List ℕ) FrameFault → (List ℕ → Option FrameFault) → Option FrameFault

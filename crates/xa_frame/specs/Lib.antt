@@ -4,5 +4,6 @@ pub mod Spelling
 pub mod Faults
 pub mod Fields
 pub mod Reading
+pub mod Questions
 pub mod Answers
 pub mod Rows

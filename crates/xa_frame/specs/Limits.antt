@@ -11,6 +11,7 @@ use Rattle.xa_frame.specs.declared.body.Body.TheVariants.{Number, Value, Xids}
 use Rattle.xa_frame.specs.declared.known_branch.AssociationCounts.{AssociationCounts}
 use Rattle.xa_frame.specs.declared.known_branch.KnownBranch.{KnownBranch}
 use Rattle.xa_frame.specs.declared.reply.Reply.{Reply}
+use Rattle.xa_frame.specs.declared.status.Status.{Status}
 use Rattle.xa_limits.specs.declared.TheConstants.{MOST_INFO, MOST_XIDS}
 
 abbrev pub IsInfo : List ℕ → Type 0
@@ -64,10 +65,23 @@ pub record HoldsBranch (branch : KnownBranch) : Type 0 where
   pub timestamp : branch.timestamp < 2 ^ 64
   pub associations : HoldsCounts branch.associations
 
+pub record HoldsStatus (s : Status) : Type 0 where
+  pub boot : s.boot < 2 ^ 64
+  pub end : s.end < 2 ^ 64
+  pub bytes : s.bytes < 2 ^ 64
+  pub branches : s.branches < 2 ^ 64
+  pub prepared : s.prepared < 2 ^ 64
+  pub completed : s.completed < 2 ^ 64
+  pub sessions : s.sessions < 2 ^ 64
+  pub versions : s.versions < 2 ^ 64
+  pub calls : s.calls < 2 ^ 64
+  pub seconds : s.seconds < 2 ^ 64
+
 abbrev pub HoldsBody : Body → Type 0
 HoldsBody (Number number) = number < 2 ^ 64
 HoldsBody (Xids xids) = All IsWithinLimits xids
 HoldsBody (body.Branches branches) = All HoldsBranch branches
+HoldsBody (body.Status status) = HoldsStatus status
 HoldsBody _ = Unit {0}
 
 pub record HoldsReply (reply : Reply) : Type 0 where

@@ -6,6 +6,7 @@ use Rattle.xa_codes.specs.declared.detail.Detail.TheVariants as detail
 use Rattle.xa_frame.specs.declared.reply.Reply.{Reply}
 use Rattle.xa_frame.specs.declared.body.Body.{Body}
 use Rattle.xa_frame.specs.declared.body.Body.TheVariants as body
+use Rattle.xa_frame.specs.declared.status.Status.{Status}
 
 abbrev pub plain : ℤ → Reply
 plain code = record { code = code; detail = detail.Nothing; place = 0; body = body.Nothing }
@@ -16,6 +17,10 @@ detailed code detail = record { code = code; detail = detail; place = 0; body = 
 -- a success
 abbrev pub carrying : Body → Reply
 carrying body = record { code = pos 0; detail = detail.Nothing; place = 0; body = body }
+
+-- how a server is doing
+abbrev pub doing : Status → Reply
+doing status = carrying (body.Status status)
 
 -- it has no place in a history yet, and carries nothing
 abbrev pub IsBare : Reply → Type 0

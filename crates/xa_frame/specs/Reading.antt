@@ -18,6 +18,7 @@ use Rattle.xa_frame.specs.declared.known_branch.KnownBranch.{KnownBranch}
 use Rattle.xa_frame.specs.declared.body.Body.{Body}
 use Rattle.xa_frame.specs.declared.body.Body.TheVariants as body
 use Rattle.xa_frame.specs.declared.reply.Reply.{Reply}
+use Rattle.xa_frame.specs.declared.status.Status.{Status}
 use Rattle.xa_frame.specs.declared.fault.FrameFault.{FrameFault}
 use Rattle.xa_frame.specs.declared.fault.FrameFault.TheVariants.{Short, Long, Version, Operation, Field, Trailing}
 use Rattle.xa_limits.specs.declared.TheConstants.{MOST_CONTENT, MOST_XIDS}
@@ -198,6 +199,35 @@ branch_of x = record {
 unfoldable pub branch_at : Reads KnownBranch
 branch_at = field_as branch_of (both_at name_at (both_at state_at (both_at code_at (both_at (number_at w64) counts_at))))
 
+-- The status: ten numbers
+
+abbrev pub ten : Type 0 → Type 0
+ten A = A × (A × (A × (A × (A × (A × (A × (A × (A × A))))))))
+
+abbrev pub status_of : ten ℕ → Status
+status_of x = record {
+  boot = x.0;
+  end = x.1.0;
+  bytes = x.1.1.0;
+  branches = x.1.1.1.0;
+  prepared = x.1.1.1.1.0;
+  completed = x.1.1.1.1.1.0;
+  sessions = x.1.1.1.1.1.1.0;
+  versions = x.1.1.1.1.1.1.1.0;
+  calls = x.1.1.1.1.1.1.1.1.0;
+  seconds = x.1.1.1.1.1.1.1.1.1;
+}
+
+-- a number, and what is read behind it
+abbrev pub and_number : {A : Type 0} → Reads A → Reads (ℕ × A)
+and_number f = both_at (number_at w64) f
+
+unfoldable pub status_at : Reads Status
+status_at =
+    field_as status_of
+    (and_number (and_number (and_number (and_number (and_number (and_number (and_number (and_number
+    (and_number (number_at w64))))))))))
+
 -- the body that is all of the bytes
 unfoldable pub body_at : List ℕ → Result Body FrameFault
 body_at [] = Err Short
@@ -208,6 +238,7 @@ body_at (kind ∷ rest) =
     else if kind == 3 then ended body.Absent rest
     else if kind == 4 then made (λ x. body.Xids x) (one_of (counted_at name_at) rest)
     else if kind == 5 then made (λ x. body.Branches x) (one_of (counted_at branch_at) rest)
+    else if kind == 6 then made (λ x. body.Status x) (one_of status_at rest)
     else Err Field
 
 unfoldable pub answer_at : List ℕ → Result Reply FrameFault

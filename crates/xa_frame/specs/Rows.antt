@@ -10,11 +10,13 @@ use Rattle.xa_frame.specs.declared.body.Body.TheVariants as body
 use Rattle.xa_frame.specs.declared.known_branch.BranchState.TheVariants as state
 use Rattle.xa_frame.specs.declared.known_branch.KnownBranch.{KnownBranch}
 use Rattle.xa_frame.specs.declared.reply.Reply.{Reply}
+use Rattle.xa_frame.specs.declared.status.Status.{Status}
 use Rattle.xa_frame.specs.declared.fault.FrameFault.TheVariants.{Short, Version, Operation, Field, Trailing}
 use Rattle.xa_frame.specs.Spelling.{operation, numbered, detail_byte, detail_numbered, state_byte, state_numbered}
 use Rattle.xa_frame.specs.Spelling.{bytes_of_request, bytes_of_reply}
 use Rattle.xa_frame.specs.Faults.{fault_of_request, fault_of_reply}
-use Rattle.xa_frame.specs.Made.{bad_frame}
+use Rattle.xa_frame.specs.Made.{bad_frame, doing}
+use Rattle.xa_frame.specs.Questions.{fault_of_question}
 
 -- the numbers of the operations, the details, the directions and the states, and numbers that none has
 abbrev pub HasNumbers : Type 0
@@ -96,6 +98,29 @@ listed_bytes = front_bytes ++ 5 ∷ 0 ∷ 2 ∷ working_bytes ++ rolled_back_byt
 abbrev pub bad_frame_bytes : List ℕ
 bad_frame_bytes = 1 ∷ 255 ∷ 255 ∷ 255 ∷ 251 ∷ 6 ∷ 0 ∷ 0 ∷ 0 ∷ 0 ∷ 0 ∷ 0 ∷ 0 ∷ 0 ∷ 0 ∷ []
 
+-- boot 3, a log of 4,711 of 1,073,741,824 bytes, 2 branches of which 1 is prepared and none completed, 4 sessions, 1,000
+-- versions, 123 calls, up for a day
+abbrev pub day : Status
+day = record {
+  boot = 3;
+  end = 4711;
+  bytes = 1073741824;
+  branches = 2;
+  prepared = 1;
+  completed = 0;
+  sessions = 4;
+  versions = 1000;
+  calls = 123;
+  seconds = 86400;
+}
+
+abbrev pub day_bytes : List ℕ
+day_bytes =
+    1 ∷ 0 ∷ 0 ∷ 0 ∷ 0 ∷ 0 ∷ 0 ∷ 0 ∷ 0 ∷ 0 ∷ 0 ∷ 0 ∷ 0 ∷ 0 ∷ 6 ∷ 0 ∷ 0 ∷ 0 ∷ 0 ∷ 0 ∷ 0 ∷ 0 ∷ 3 ∷ 0 ∷ 0 ∷ 0 ∷ 0 ∷ 0 ∷ 0
+    ∷ 18 ∷ 103 ∷ 0 ∷ 0 ∷ 0 ∷ 0 ∷ 64 ∷ 0 ∷ 0 ∷ 0 ∷ 0 ∷ 0 ∷ 0 ∷ 0 ∷ 0 ∷ 0 ∷ 0 ∷ 2 ∷ 0 ∷ 0 ∷ 0 ∷ 0 ∷ 0 ∷ 0 ∷ 0 ∷ 1 ∷ 0 ∷ 0
+    ∷ 0 ∷ 0 ∷ 0 ∷ 0 ∷ 0 ∷ 0 ∷ 0 ∷ 0 ∷ 0 ∷ 0 ∷ 0 ∷ 0 ∷ 0 ∷ 4 ∷ 0 ∷ 0 ∷ 0 ∷ 0 ∷ 0 ∷ 0 ∷ 3 ∷ 232 ∷ 0 ∷ 0 ∷ 0 ∷ 0 ∷ 0 ∷ 0
+    ∷ 0 ∷ 123 ∷ 0 ∷ 0 ∷ 0 ∷ 0 ∷ 0 ∷ 1 ∷ 81 ∷ 128 ∷ []
+
 abbrev pub SpelledSo : Type 0
 SpelledSo =
     (bytes_of_request (Start 0 branch) ≡ start_bytes)
@@ -110,6 +135,7 @@ SpelledSo =
     × (bytes_of_reply begun ≡ begun_bytes)
     × (bytes_of_reply listed ≡ listed_bytes)
     × (bytes_of_reply bad_frame ≡ bad_frame_bytes)
+    × (bytes_of_reply (doing day) ≡ day_bytes)
 
 abbrev pub FaultyRequests : Type 0
 FaultyRequests =
@@ -146,6 +172,18 @@ FaultyRequests =
     × (fault_of_request (1 ∷ 66 ∷ 0 ∷ 0 ∷ 1 ∷ 0 ∷ 1 ∷ 0 ∷ []) ≡ Some Field)
     × (fault_of_request (1 ∷ 66 ∷ 0 ∷ 0 ∷ 1 ∷ 0 ∷ 0 ∷ 0 ∷ []) ≡ Some Trailing)
 
+abbrev pub FaultyQuestions : Type 0
+FaultyQuestions =
+    -- for the status, and with a byte behind; operations 64, 66 with no field, and 68; no byte, another version, no operation
+    (fault_of_question (1 ∷ 67 ∷ []) ≡ None)
+    × (fault_of_question (1 ∷ 67 ∷ 0 ∷ []) ≡ Some Trailing)
+    × (fault_of_question (1 ∷ 64 ∷ []) ≡ Some Operation)
+    × (fault_of_question (1 ∷ 66 ∷ []) ≡ Some Short)
+    × (fault_of_question (1 ∷ 68 ∷ []) ≡ Some Operation)
+    × (fault_of_question [] ≡ Some Short)
+    × (fault_of_question (2 ∷ 67 ∷ []) ≡ Some Version)
+    × (fault_of_question (1 ∷ []) ≡ Some Short)
+
 -- the bytes of a list of one known branch, of which this stands behind the XID
 abbrev pub behind_xid : List ℕ → List ℕ
 behind_xid bytes = front_bytes ++ 5 ∷ 0 ∷ 1 ∷ 0 ∷ 0 ∷ 0 ∷ 1 ∷ 1 ∷ 0 ∷ 170 ∷ bytes
@@ -154,9 +192,10 @@ abbrev pub FaultyReplies : Type 0
 FaultyReplies =
     (fault_of_reply begun_bytes ≡ None)
     × (fault_of_reply listed_bytes ≡ None)
-    -- detail 8, kind 6, 257 XIDs, 257 branches
+    × (fault_of_reply day_bytes ≡ None)
+    -- detail 8, kind 7, 257 XIDs, 257 branches
     × (fault_of_reply (1 ∷ 0 ∷ 0 ∷ 0 ∷ 0 ∷ 8 ∷ []) ≡ Some Field)
-    × (fault_of_reply (front_bytes ++ 6 ∷ []) ≡ Some Field)
+    × (fault_of_reply (front_bytes ++ 7 ∷ []) ≡ Some Field)
     × (fault_of_reply (front_bytes ++ 4 ∷ 1 ∷ 1 ∷ []) ≡ Some Field)
     × (fault_of_reply (front_bytes ++ 5 ∷ 1 ∷ 1 ∷ []) ≡ Some Field)
     -- of a known branch: an XID that is cut, no state, states 0 and 5, a mark, a timestamp and a count that are cut, and
@@ -169,3 +208,6 @@ FaultyReplies =
     × (fault_of_reply (behind_xid (2 ∷ 0 ∷ 0 ∷ 0 ∷ 0 ∷ 0 ∷ 0 ∷ 0 ∷ 0 ∷ 0 ∷ 0 ∷ 0 ∷ [])) ≡ Some Short)
     × (fault_of_reply (front_bytes ++ 5 ∷ 0 ∷ 1 ∷ take 26 working_bytes) ≡ Some Short)
     × (fault_of_reply (listed_bytes ++ 0 ∷ []) ≡ Some Trailing)
+    -- a status that is cut, and one with a byte behind
+    × (fault_of_reply (take 94 day_bytes) ≡ Some Short)
+    × (fault_of_reply (day_bytes ++ 0 ∷ []) ≡ Some Trailing)

@@ -17,6 +17,7 @@ use Rattle.xa_frame.specs.declared.known_branch.BranchState.{BranchState}
 use Rattle.xa_frame.specs.declared.known_branch.BranchState.TheVariants as state
 use Rattle.xa_frame.specs.declared.known_branch.KnownBranch.{KnownBranch}
 use Rattle.xa_frame.specs.declared.reply.Reply.{Reply}
+use Rattle.xa_frame.specs.declared.status.Status.{Status}
 use Rattle.xa_frame.specs.Limits.{IsRequest, IsReply, Holds, HoldsReply}
 
 -- each of a list, after how many they are in two bytes
@@ -160,6 +161,18 @@ branch_bytes b =
     ++ (state_bytes b.state
     ++ (code_bytes b.mark ++ (to_be_bytes w64 b.timestamp ++ counts_bytes b.associations)))
 
+-- ten numbers of eight bytes
+abbrev pub status_bytes : Status → List ℕ
+status_bytes s =
+    to_be_bytes w64 s.boot
+    ++ (to_be_bytes w64 s.end
+    ++ (to_be_bytes w64 s.bytes
+    ++ (to_be_bytes w64 s.branches
+    ++ (to_be_bytes w64 s.prepared
+    ++ (to_be_bytes w64 s.completed
+    ++ (to_be_bytes w64 s.sessions
+    ++ (to_be_bytes w64 s.versions ++ (to_be_bytes w64 s.calls ++ to_be_bytes w64 s.seconds))))))))
+
 -- the kind, and what is carried
 abbrev pub body_bytes : Body → List ℕ
 body_bytes body.Nothing = 0 ∷ []
@@ -168,6 +181,7 @@ body_bytes (body.Value value) = 2 ∷ value_bytes value
 body_bytes body.Absent = 3 ∷ []
 body_bytes (body.Xids xids) = 4 ∷ counted_bytes bytes_of xids
 body_bytes (body.Branches branches) = 5 ∷ counted_bytes branch_bytes branches
+body_bytes (body.Status status) = 6 ∷ status_bytes status
 
 -- the version, the code, the detail, the place, the body
 abbrev pub bytes_of_reply : Reply → List ℕ

@@ -1,4 +1,5 @@
 use crate::known_branches::KnownBranches;
+use crate::status::Status;
 use crate::xids::Xids;
 use xa_codes::Bytes;
 
@@ -17,4 +18,6 @@ pub enum Body {
     Xids(Xids),
     /// What a Branches lists.
     Branches(KnownBranches),
+    /// How the server is doing.
+    Status(Status),
 }

@@ -10,7 +10,7 @@ use xa_limits::XID_BYTES;
 use xa_xid::Xid;
 
 impl Request {
-    /// A copy. Keys, values and open infos take memory.
+    /// A copy. Values and open infos take memory.
     pub fn copied(&self, alloc: Global) -> Result<Request, AllocError>
         ensures { IfOk result (λ r. r ≡ self.now) }
     {
@@ -48,16 +48,12 @@ impl Request {
                 flags: *flags,
                 count: *count,
             },
-            Request::Get { key } => Request::Get {
-                key: key.copied(alloc)?,
-            },
+            Request::Get { key } => Request::Get { key: key.copied() },
             Request::Put { key, value } => Request::Put {
-                key: key.copied(alloc)?,
+                key: key.copied(),
                 value: value.copied(alloc)?,
             },
-            Request::Delete { key } => Request::Delete {
-                key: key.copied(alloc)?,
-            },
+            Request::Delete { key } => Request::Delete { key: key.copied() },
             Request::Decide { direction, xid } => Request::Decide {
                 direction: *direction,
                 xid: xid.copied(),

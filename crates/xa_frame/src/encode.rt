@@ -9,6 +9,7 @@ use crate::known_branch::{AssociationCounts, KnownBranch};
 use crate::numbers::{detail_number, operation_of, state_number};
 use crate::reply::Reply;
 use crate::request::Request;
+use crate::status::put_status;
 use std::alloc::{AllocError, Global};
 use xa_bytes::{put_u16, put_u32, put_u64};
 use xa_fields::{put_direction, put_length, put_short, put_value, put_xid};
@@ -173,6 +174,10 @@ fn put_body(out: &mut Vec<u8>, body: &Body) -> Result<(), AllocError>
             put_length(out, branches.len())?;
             put_branches(out, branches)
         }
+        Body::Status(status) => {
+            out.push(6)?;
+            put_status(out, *status)
+        }
     }
 }
 
@@ -184,6 +189,7 @@ fn reply_room(body: &Body) -> usize
         Body::Value(value) => 17 + value.as_slice().len(),
         Body::Xids(xids) => 17 + 32 * xids.as_slice().len(),
         Body::Branches(branches) => 17 + 51 * branches.as_slice().len(),
+        Body::Status(_) => 95,
         Body::Nothing | Body::Number(_) | Body::Absent => 23,
     }
 }

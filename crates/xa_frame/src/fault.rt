@@ -19,8 +19,8 @@ pub enum FrameFault {
     /// The first byte isn't 1.
     #[error("version not 1")]
     Version = 3,
-    /// The operation isn't one of 1 to 17, or 66.
-    #[error("operation not one of 1 to 17, or 66")]
+    /// The operation isn't one of 1 to 17, or 65 to 67.
+    #[error("operation not one of 1 to 17, or 65 to 67")]
     Operation = 4,
     /// A field is out of its limits, or no XID.
     #[error("field out of its limits")]

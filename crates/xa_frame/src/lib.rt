@@ -7,6 +7,7 @@
 //! - `reply`: `Reply`; `body`: `Body`, what a reply carries; `xids`: `Xids`, that contracts see as a list
 //! - `known_branch`: `KnownBranch`, what is told of a branch, with its `BranchState` and `AssociationCounts`;
 //!   `known_branches`: `KnownBranches`, that contracts see as a list
+//! - `question`: `Question`, a request or a question for the status; `status`: `Status`, how a server is doing
 //! - `making`: `Reply::plain`, `detailed`, `carrying` and `bad_frame`; `copying`: `Request::copied` and
 //!   `KnownBranch::copied`, and `hold`, what a request's parts hold
 //!
@@ -16,9 +17,10 @@
 //! - `encode`: `encode_request`, `encode_reply` and `put_reply`, of values within the limits
 //! - `fields`: what a content is made of, read from the front: numbers, codes, details, known branches; keys, values and
 //!   XIDs are `xa_fields`'
-//! - `request_decoder`: `decode_request`; `reply_decoder`: `decode_reply`
+//! - `request_decoder`: `decode_request`; `reply_decoder`: `decode_reply`; `question`: `decode_question`, of all that may
+//!   stand in a frame, and `encode_question`
 //! - `fault`: `FrameFault`, the first fault of a content, read from left to right
-//! - `laws`: `one_request` and `one_reply`, one value and one content; `worked_contents`, worked rows
+//! - `laws`: `one_request`, `one_question` and `one_reply`, one value and one content; `worked_contents`, worked rows
 //!
 //! A content is what stands in a frame behind its length; that one is `xa_desk`'s. docs/PROTOCOL.md has the format,
 //! from "Frames" on.
@@ -34,10 +36,12 @@ mod known_branches;
 mod laws;
 mod making;
 mod numbers;
+mod question;
 mod reply;
 mod reply_decoder;
 mod request;
 mod request_decoder;
+mod status;
 mod xids;
 
 pub use body::Body;
@@ -45,9 +49,11 @@ pub use encode::{encode_reply, encode_request, put_reply};
 pub use fault::FrameFault;
 pub use known_branch::{AssociationCounts, BranchState, KnownBranch};
 pub use known_branches::KnownBranches;
-pub use laws::{one_reply, one_request, worked_contents};
+pub use laws::{one_question, one_reply, one_request, worked_contents};
+pub use question::{Question, decode_question, encode_question};
 pub use reply::Reply;
 pub use reply_decoder::decode_reply;
 pub use request::Request;
 pub use request_decoder::decode_request;
+pub use status::Status;
 pub use xids::Xids;

@@ -6,7 +6,7 @@ ghost use Rattle.xa_frame.specs.declared.fault.FrameFault.TheVariants.{Memory};
 ghost use Rattle.xa_frame.specs.declared.reply.Reply.{Reply};
 ghost use Rattle.xa_frame.specs.Spelling.{SpellsReply};
 ghost use Rattle.xa_frame.specs.Faults.{fault_of_reply};
-ghost use Rattle.xa_frame.specs.Reading.{made, one_of, rest_of, value_of_first, number_at, value_at, name_at, each_at, counted_at, branch_at, body_at, answer_at, reply_at};
+ghost use Rattle.xa_frame.specs.Reading.{made, one_of, rest_of, value_of_first, number_at, value_at, name_at, each_at, counted_at, branch_at, status_at, body_at, answer_at, reply_at};
 
 use crate::body::Body;
 use crate::fault::FrameFault;
@@ -14,6 +14,7 @@ use crate::fields::{branch_front, code_of, detail_front, end, u16_at, u64_at};
 use crate::known_branches::KnownBranches;
 use crate::reply::Reply;
 use crate::request_decoder::versioned;
+use crate::status::{Status, status_front};
 use crate::xids::Xids;
 use std::alloc::Global;
 use xa_codes::Bytes;
@@ -114,6 +115,14 @@ fn branches_alone(alloc: Global, bytes: &[u8]) -> Result<KnownBranches, FrameFau
     branches_of(alloc, count, branches)
 }
 
+fn status_alone(bytes: &[u8]) -> Result<Status, FrameFault>
+    ensures { result ≡ one_of status_at bytes.now }
+{
+    let (status, rest) = status_front(bytes)?;
+    end(rest)?;
+    Ok(status)
+}
+
 /// The body that is all of the bytes.
 #[tactic(auto, unfolding(crate::specs::Reading::body_at))]
 fn body_of(alloc: Global, bytes: &[u8]) -> Result<Body, FrameFault>
@@ -144,6 +153,10 @@ fn body_of(alloc: Global, bytes: &[u8]) -> Result<Body, FrameFault>
         [5, rest @ ..] => {
             let branches = branches_alone(alloc, rest)?;
             Ok(Body::Branches(branches))
+        }
+        [6, rest @ ..] => {
+            let status = status_alone(rest)?;
+            Ok(Body::Status(status))
         }
         [_, ..] => Err(FrameFault::Field),
     }

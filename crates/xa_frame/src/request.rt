@@ -1,9 +1,10 @@
 use xa_codes::{Bytes, Direction};
+use xa_fields::Key;
 use xa_xid::Xid;
 
 /// What a session asks for: C193's calls of a resource manager (`xa_open` to `xa_recover`), gets, puts and deletes of
 /// records, the operator's calls, branches' time limits, a shorter log, and a list of the known branches. Flags are C193's,
-/// or-ed. A key has 1 to `MOST_KEY` bytes, a value at most `MOST_VALUE`, an open info at most `MOST_INFO`.
+/// or-ed. A value has at most `MOST_VALUE` bytes, an open info at most `MOST_INFO`; these alone take memory.
 #[derive(Debug, Drop)]
 pub enum Request {
     Open { flags: u32, info: Bytes },
@@ -15,9 +16,9 @@ pub enum Request {
     Rollback { flags: u32, xid: Xid },
     Forget { flags: u32, xid: Xid },
     Recover { flags: u32, count: u32 },
-    Get { key: Bytes },
-    Put { key: Bytes, value: Bytes },
-    Delete { key: Bytes },
+    Get { key: Key },
+    Put { key: Key, value: Bytes },
+    Delete { key: Key },
     Decide { direction: Direction, xid: Xid },
     Doom { xid: Xid },
     Restart,

@@ -1,9 +1,9 @@
 ghost use Rattle.std.specs.Int.{w32, w64};
-ghost use Rattle.std.specs.Prelude.{◌≡◌, IfOk, IfErr, Err, None};
+ghost use Rattle.std.specs.Prelude.{◌≡◌, IfOk, IfErr, Ok, Err, None, false};
 ghost use Rattle.xa_fields.specs.Answers.{Gives};
 ghost use Rattle.xa_frame.specs.declared.fault.FrameFault.TheVariants.{Memory};
 ghost use Rattle.xa_frame.specs.declared.request.Request.{Request};
-ghost use Rattle.xa_frame.specs.Answers.{Answers, IsOrWants, IsFault};
+ghost use Rattle.xa_frame.specs.Answers.{Answers, IsOrWants, IsFault, brings_bytes};
 ghost use Rattle.xa_frame.specs.Faults.{fault_of_request};
 ghost use Rattle.xa_frame.specs.Reading.{made, one_of, two_of, number_at, info_at, key_at, value_at, direction_at, name_at, cursor_at, fields_at, operation_at, versioned_at, request_at, branch_request};
 ghost use Rattle.xa_frame.specs.Spelling.{SpellsRequest};
@@ -15,7 +15,7 @@ use crate::numbers::call_numbered;
 use crate::request::Request;
 use std::alloc::Global;
 use xa_codes::{Bytes, Call, Direction};
-use xa_fields::{take_direction, take_key, take_short, take_value, take_xid};
+use xa_fields::{Key, take_direction, take_short, take_value, take_xid};
 use xa_limits::MOST_CONTENT;
 use xa_xid::Xid;
 
@@ -72,18 +72,18 @@ fn count_and_cursor(bytes: &[u8]) -> Result<(u32, Option<Xid>), FrameFault>
     Ok((count, after))
 }
 
-fn key_alone(bytes: &[u8]) -> Result<&[u8], FrameFault>
-    ensures { Gives (λ x. x.now) result (one_of key_at bytes.now) }
+fn key_alone(bytes: &[u8]) -> Result<Key, FrameFault>
+    ensures { result ≡ one_of key_at bytes.now }
 {
-    let (key, rest) = take_key(bytes)?;
+    let (key, rest) = Key::take(bytes)?;
     end(rest)?;
     Ok(key)
 }
 
-fn key_and_value(bytes: &[u8]) -> Result<(&[u8], &[u8]), FrameFault>
-    ensures { Gives (λ x. (x.0.now, x.1.now)) result (two_of key_at value_at bytes.now) }
+fn key_and_value(bytes: &[u8]) -> Result<(Key, &[u8]), FrameFault>
+    ensures { Gives (λ x. (x.0, x.1.now)) result (two_of key_at value_at bytes.now) }
 {
-    let (key, rest) = take_key(bytes)?;
+    let (key, rest) = Key::take(bytes)?;
     let (value, rest) = take_value(rest)?;
     end(rest)?;
     Ok((key, value))
@@ -109,7 +109,8 @@ fn xid_alone(bytes: &[u8]) -> Result<Xid, FrameFault>
 /// The request of this call whose fields are all of the bytes.
 #[tactic(auto, unfolding(crate::specs::Reading::fields_at))]
 fn fields_of(alloc: Global, call: Call, bytes: &[u8]) -> Result<Request, FrameFault>
-    ensures { Answers result (fields_at call bytes.now) }
+    ensures answers { Answers result (fields_at call bytes.now) }
+    ensures bare { IfOk (fields_at call bytes.now) (λ r. brings_bytes r ≡ false → result ≡ Ok r) }
 {
     match call {
         Call::Open => {
@@ -126,17 +127,16 @@ fn fields_of(alloc: Global, call: Call, bytes: &[u8]) -> Result<Request, FrameFa
             Ok(Request::Recover { flags, count })
         }
         Call::Get => {
-            let key = Bytes::from_slice(alloc, key_alone(bytes)?)?;
+            let key = key_alone(bytes)?;
             Ok(Request::Get { key })
         }
         Call::Put => {
             let (key, value) = key_and_value(bytes)?;
-            let key = Bytes::from_slice(alloc, key)?;
             let value = Bytes::from_slice(alloc, value)?;
             Ok(Request::Put { key, value })
         }
         Call::Delete => {
-            let key = Bytes::from_slice(alloc, key_alone(bytes)?)?;
+            let key = key_alone(bytes)?;
             Ok(Request::Delete { key })
         }
         Call::Restart => {
@@ -190,7 +190,8 @@ fn on_branch(call: Call, flags: u32, xid: Xid) -> Request
 
 #[tactic(auto, unfolding(crate::specs::Reading::operation_at))]
 fn operation_of(alloc: Global, bytes: &[u8]) -> Result<Request, FrameFault>
-    ensures { Answers result (operation_at bytes.now) }
+    ensures answers { Answers result (operation_at bytes.now) }
+    ensures bare { IfOk (operation_at bytes.now) (λ r. brings_bytes r ≡ false → result ≡ Ok r) }
 {
     match bytes {
         [] => Err(FrameFault::Short),
@@ -218,7 +219,8 @@ pub(crate) fn versioned(bytes: &[u8]) -> Result<&[u8], FrameFault>
 
 #[tactic(auto, unfolding(crate::specs::Reading::request_at))]
 fn whole(alloc: Global, content: &[u8]) -> Result<Request, FrameFault>
-    ensures { Answers result (request_at content.now) }
+    ensures answers { Answers result (request_at content.now) }
+    ensures bare { IfOk (request_at content.now) (λ r. brings_bytes r ≡ false → result ≡ Ok r) }
 {
     operation_of(alloc, versioned(content)?)
 }
@@ -232,6 +234,8 @@ pub fn decode_request(alloc: Global, content: &[u8]) -> Result<Request, FrameFau
     ensures only { (r : Request) → SpellsRequest content.now r → IsOrWants result r }
     ensures fault { IfErr result (IsFault (fault_of_request content.now)) }
     ensures memory { result ≡ Err Memory → fault_of_request content.now ≡ None }
+    // Memory is wanted for an info or a value alone.
+    ensures bare { (r : Request) → SpellsRequest content.now r → brings_bytes r ≡ false → result ≡ Ok r }
 {
     whole(alloc, content)
 }

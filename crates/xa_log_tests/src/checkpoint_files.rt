@@ -3,10 +3,9 @@ use crate::log_pairs::{
     AGAIN, NEW, OLD, OPENED, PREPARED, appends, are, bytes_on, checkpoint_of, checkpoints, copies,
     crashed, file_of, keeps_all, log_of,
 };
-use crate::logs::{are_numbered, contains, filled};
+use crate::logs::{are_numbered, are_removed, contains, filled};
 use crate::rows::none_wrong;
 use std::alloc::Global;
-use std::fs;
 use xa_disk::{FileDisk, MemDisk};
 use xa_log::{Appended, Log, read_log};
 use xa_rows::{BODY_BYTES, LOG_BYTES, first_wrong};
@@ -45,14 +44,21 @@ fn two_logs(alloc: Global) -> Option<(Vec<Vec<u8>>, Vec<Vec<u8>>)> {
     Some((old, read_log(alloc, &mut second, LOG_BYTES).ok()?))
 }
 
+fn are_in_bytes(alloc: Global) -> Option<bool> {
+    let old = file_of(alloc, &OLD)?;
+    let (first, second) = two_byte_strings(alloc)?;
+    Some(first.as_slice() == old.as_slice() && second.as_slice() == SECOND.as_slice())
+}
+
+fn are_two_logs(alloc: Global) -> Option<bool> {
+    let (first, second) = two_logs(alloc)?;
+    Some(are(&first, &OLD) && are(&second, &NEW))
+}
+
 #[test]
 fn a_checkpoint_in_bytes(rt: HostRuntime) {
-    let (first, second) = two_byte_strings(rt.alloc()).expect(&rt, "two files");
-    let old = file_of(rt.alloc(), &OLD).expect(&rt, "a file");
-    assert!(rt; first.as_slice() == old.as_slice());
-    assert!(rt; second.as_slice() == SECOND.as_slice());
-    let (first, second) = two_logs(rt.alloc()).expect(&rt, "two logs");
-    assert!(rt; are(&first, &OLD) && are(&second, &NEW));
+    let alloc = rt.alloc();
+    assert!(rt; are_in_bytes(alloc) == Some(true) && are_two_logs(alloc) == Some(true));
 }
 
 fn two_disks(rt: &HostRuntime, path: &str, other: &str) -> Option<(FileDisk, FileDisk)> {
@@ -86,42 +92,64 @@ fn is_opened_in(rt: &HostRuntime, path: &str, other: &str) -> Option<bool> {
     Some(are(&bodies, &THIRD) && log.on_first())
 }
 
+// One file's bytes are those of the log as it stood, the other's those of its first checkpoint.
+fn begin_as(rt: &HostRuntime, path: &str, other: &str) -> Option<bool> {
+    let old = file_of(rt.alloc(), &OLD)?;
+    Some(contains(rt, path, &old) && contains(rt, other, &SECOND))
+}
+
+fn is_whole_in(rt: &HostRuntime, path: &str, other: &str) -> bool {
+    is_kept_in(rt, path, other) == Some(true)
+        && begin_as(rt, path, other) == Some(true)
+        && is_kept_again_in(rt, path, other) == Some(true)
+        && contains(rt, other, &SECOND)
+        && is_opened_in(rt, path, other) == Some(true)
+        && are_removed(rt, path, other)
+}
+
 #[test]
 fn a_checkpoint_in_two_files(rt: HostRuntime) {
     let first = path_of(&rt, "xa_log-first").expect(&rt, "a path");
     let second = path_of(&rt, "xa_log-second").expect(&rt, "a path");
-    let (path, other) = (first.as_str(), second.as_str());
-    assert!(rt; is_kept_in(&rt, path, other) == Some(true));
-    let old = file_of(rt.alloc(), &OLD).expect(&rt, "a file");
-    assert!(rt; contains(&rt, path, &old));
-    assert!(rt; contains(&rt, other, &SECOND));
-    assert!(rt; is_kept_again_in(&rt, path, other) == Some(true));
-    assert!(rt; contains(&rt, other, &SECOND));
-    assert!(rt; is_opened_in(&rt, path, other) == Some(true));
-    assert!(rt; fs::remove_file(&rt, path).is_ok());
-    assert!(rt; fs::remove_file(&rt, other).is_ok());
+    assert!(rt; is_whole_in(&rt, first.as_str(), second.as_str()));
+}
+
+// What stands there behind an append, or a checkpoint.
+fn appended(log: &mut Log<MemDisk>, body: &[u8]) -> Option<usize> {
+    appends(log, body)?;
+    Some(log.generation())
+}
+
+fn checkpointed(alloc: Global, log: &mut Log<MemDisk>) -> Option<usize> {
+    checkpoint_of(alloc, log, &NEW)?;
+    Some(log.generation())
+}
+
+fn read(log: &mut Log<MemDisk>) -> Option<usize> {
+    log.rescan().ok()?;
+    Some(log.generation())
+}
+
+fn reopened(alloc: Global, log: Log<MemDisk>) -> Option<usize> {
+    let (one, other) = crashed(log)?;
+    let (log, _bodies) = Log::open(alloc, one, other, LOG_BYTES).ok()?;
+    Some(log.generation())
 }
 
 // The generation of a log that is made, with a record and with two, after a checkpoint, a look and an opening.
-fn generations(alloc: Global) -> Option<[usize; 6]> {
+fn have_generations(alloc: Global) -> Option<bool> {
     let mut log = log_of(alloc, &[])?;
-    let made = log.generation();
-    appends(&mut log, &OPENED)?;
-    let first = log.generation();
-    appends(&mut log, &PREPARED)?;
-    let second = log.generation();
-    checkpoint_of(alloc, &mut log, &NEW)?;
-    let checkpointed = log.generation();
-    log.rescan().ok()?;
-    let read = log.generation();
-    let (one, other) = crashed(log)?;
-    let (log, _bodies) = Log::open(alloc, one, other, LOG_BYTES).ok()?;
-    Some([made, first, second, checkpointed, read, log.generation()])
+    let made = log.generation() == 0;
+    let right = appended(&mut log, &OPENED) == Some(1)
+        && appended(&mut log, &PREPARED) == Some(1)
+        && checkpointed(alloc, &mut log) == Some(2)
+        && read(&mut log) == Some(2);
+    Some(made && right && reopened(alloc, log) == Some(2))
 }
 
 #[test]
 fn a_log_has_the_generation_of_its_first_record(rt: HostRuntime) {
-    assert!(rt; generations(rt.alloc()) == Some([0, 1, 1, 2, 2, 2]));
+    assert!(rt; have_generations(rt.alloc()) == Some(true));
 }
 
 // The second boot's record, and so many bodies, each filled with its number.
@@ -153,15 +181,16 @@ fn wrong_size(alloc: Global, rows: &[(usize, usize)]) -> Option<usize> {
 }
 
 // Up to the largest body, and past the window of 1 MiB.
+const SIZES: &[(usize, usize)] = &[
+    (1, 1),
+    (2, 1),
+    (12, 100_000),
+    (2_000, 5),
+    (1, BODY_BYTES),
+    (3, BODY_BYTES),
+];
+
 #[test]
 fn checkpoints_of_many_sizes(rt: HostRuntime) {
-    let rows = [
-        (1, 1),
-        (2, 1),
-        (12, 100_000),
-        (2_000, 5),
-        (1, BODY_BYTES),
-        (3, BODY_BYTES),
-    ];
-    none_wrong(&rt, wrong_size(rt.alloc(), &rows));
+    none_wrong(&rt, wrong_size(rt.alloc(), SIZES));
 }

@@ -23,7 +23,7 @@ const LAST: [&[u8]; 2] = [&[1, 0, 0, 0, 4], &HELD];
 /// Which calls on the other file fail, and what a checkpoint of one body comes to.
 type Faults = (&'static [(u64, Effect)], Appended);
 
-const FAULTS: [Faults; 20] = [
+const FAULTS: &[Faults] = &[
     (&[], Appended::Kept),
     // Before the first length is written nothing is repaired.
     (&[(1, Effect::Lost)], Appended::Refused),
@@ -79,7 +79,7 @@ fn wrong_answer(alloc: Global, rows: &[Faults]) -> Option<usize> {
 
 #[test]
 fn device_faults_in_a_checkpoint(rt: HostRuntime) {
-    none_wrong(&rt, wrong_answer(rt.alloc(), &FAULTS));
+    none_wrong(&rt, wrong_answer(rt.alloc(), FAULTS));
 }
 
 // What a checkpoint, an append and a checkpoint of a later boot come to, one behind the other.
@@ -107,15 +107,19 @@ fn is_lost_until_read(
     on_first: bool,
 ) -> Option<bool> {
     let mut log = with_plans(alloc, plans)?;
-    let came = three(alloc, &mut log, &ONE, &LATER)?;
-    let bodies = log.rescan().ok()?;
-    Some(
-        came == (Appended::Lost, Appended::Lost, Appended::Lost)
-            && are(&bodies, rows)
-            && log.on_first() == on_first
-            && three(alloc, &mut log, &LATER, &LAST)?
-                == (Appended::Kept, Appended::Kept, Appended::Kept),
-    )
+    let lost = three(alloc, &mut log, &ONE, &LATER)
+        == Some((Appended::Lost, Appended::Lost, Appended::Lost));
+    let found = finds(&mut log, rows);
+    let first = log.on_first() == on_first;
+    Some(lost && found && first && three(alloc, &mut log, &LATER, &LAST) == Some(KEPT))
+}
+
+// Whether a rescan finds these.
+fn finds(log: &mut Log<MemDisk>, rows: &[&[u8]]) -> bool {
+    match log.rescan() {
+        Ok(bodies) => are(&bodies, rows),
+        Err(_) => false,
+    }
 }
 
 // Where the next record begins behind a checkpoint, and behind a rescan.
@@ -127,14 +131,24 @@ fn two_ends(alloc: Global, plans: &[(u64, Effect)]) -> Option<(u64, u64)> {
     Some((end, log.end()))
 }
 
+/// Which calls on the other file fail, and the two ends.
+type Ends = (&'static [(u64, Effect)], (u64, u64));
+
+const ENDS: &[Ends] = &[
+    (&[], (49, 49)),
+    (&[(1, Effect::Lost)], (110, 110)),
+    // The first length isn't there, or it is and its repair isn't.
+    (&[(5, Effect::Lost), (6, Effect::Lost)], (110, 110)),
+    (&[(6, Effect::Kept), (7, Effect::Lost)], (110, 49)),
+];
+
+fn wrong_ends(alloc: Global, rows: &[Ends]) -> Option<usize> {
+    first_wrong(rows, |(plans, ends)| two_ends(alloc, plans) == Some(*ends))
+}
+
 #[test]
 fn ends_behind_a_checkpoint(rt: HostRuntime) {
-    let alloc = rt.alloc();
-    assert!(rt; two_ends(alloc, &[]) == Some((49, 49)));
-    assert!(rt; two_ends(alloc, &[(1, Effect::Lost)]) == Some((110, 110)));
-    // The first length isn't there, or it is and its repair isn't.
-    assert!(rt; two_ends(alloc, &[(5, Effect::Lost), (6, Effect::Lost)]) == Some((110, 110)));
-    assert!(rt; two_ends(alloc, &[(6, Effect::Kept), (7, Effect::Lost)]) == Some((110, 49)));
+    none_wrong(&rt, wrong_ends(rt.alloc(), ENDS));
 }
 
 // An append that was lost stops a checkpoint too.
@@ -147,20 +161,40 @@ fn is_append_lost(alloc: Global) -> Option<bool> {
     Some((append, checkpoint) == (Appended::Lost, Appended::Lost) && log.on_first())
 }
 
+const KEPT: (Appended, Appended, Appended) = (Appended::Kept, Appended::Kept, Appended::Kept);
+
+const REFUSED: (Appended, Appended, Appended) = (Appended::Refused, Appended::Kept, Appended::Kept);
+
+/// Which calls on the other file fail, and what the three come to.
+type Three = (&'static [(u64, Effect)], (Appended, Appended, Appended));
+
+const THREES: &[Three] = &[
+    (&[], KEPT),
+    (&[(1, Effect::Lost)], REFUSED),
+    (&[(5, Effect::Kept)], REFUSED),
+];
+
+fn wrong_three(alloc: Global, rows: &[Three]) -> Option<usize> {
+    first_wrong(
+        rows,
+        |(plans, wanted)| three_with(alloc, plans) == Some(*wanted),
+    )
+}
+
+// The first length isn't there, or it is and its repair isn't.
+const UNSEALED: &[(u64, Effect)] = &[(5, Effect::Lost), (6, Effect::Lost)];
+
+const SEALED: &[(u64, Effect)] = &[(5, Effect::Kept), (6, Effect::Lost)];
+
 #[test]
 fn behind_a_fault_in_a_checkpoint(rt: HostRuntime) {
     let alloc = rt.alloc();
-    let kept = (Appended::Kept, Appended::Kept, Appended::Kept);
-    let refused = (Appended::Refused, Appended::Kept, Appended::Kept);
-    assert!(rt; three_with(alloc, &[]) == Some(kept));
-    assert!(rt; three_with(alloc, &[(1, Effect::Lost)]) == Some(refused));
-    assert!(rt; three_with(alloc, &[(5, Effect::Kept)]) == Some(refused));
-    // The first length isn't there, or it is and its repair isn't.
-    let unsealed = [(5, Effect::Lost), (6, Effect::Lost)];
-    assert!(rt; is_lost_until_read(alloc, &unsealed, &OLD, true) == Some(true));
-    let sealed = [(5, Effect::Kept), (6, Effect::Lost)];
-    assert!(rt; is_lost_until_read(alloc, &sealed, &ONE, false) == Some(true));
-    assert!(rt; is_append_lost(alloc) == Some(true));
+    assert!(rt;
+        wrong_three(alloc, THREES) == None
+            && is_lost_until_read(alloc, UNSEALED, &OLD, true) == Some(true)
+            && is_lost_until_read(alloc, SEALED, &ONE, false) == Some(true)
+            && is_append_lost(alloc) == Some(true)
+    );
 }
 
 fn empty_log(alloc: Global, log_bytes: u64) -> Option<Log<MemDisk>> {
@@ -186,11 +220,13 @@ fn is_filled(alloc: Global, log_bytes: u64, bodies: &[&[u8]]) -> Option<bool> {
 #[test]
 fn a_checkpoint_that_does_not_fit(rt: HostRuntime) {
     let alloc = rt.alloc();
-    assert!(rt; is_full(alloc, 12, &ONE) == Some(true));
-    assert!(rt; is_full(alloc, 52, &ONE) == Some(true));
-    assert!(rt; is_filled(alloc, 53, &ONE) == Some(true));
-    assert!(rt; is_full(alloc, 113, &NEW) == Some(true));
-    assert!(rt; is_filled(alloc, 114, &NEW) == Some(true));
+    assert!(rt;
+        is_full(alloc, 12, &ONE) == Some(true)
+            && is_full(alloc, 52, &ONE) == Some(true)
+            && is_filled(alloc, 53, &ONE) == Some(true)
+            && is_full(alloc, 113, &NEW) == Some(true)
+            && is_filled(alloc, 114, &NEW) == Some(true)
+    );
 }
 
 // What a checkpoint of two bodies comes to where these calls fail, the earlier one first: the sixth of its seven calls
@@ -218,7 +254,7 @@ fn are_answered(answer: Appended, bodies: &[Vec<u8>]) -> bool {
 /// Two calls on the other file that fail, or one.
 type Pair = (u64, u64);
 
-const PAIRS: [Pair; 14] = [
+const PAIRS: &[Pair] = &[
     (1, 1),
     (2, 2),
     (3, 3),
@@ -283,8 +319,8 @@ fn wrong_pair(alloc: Global, rows: &[Pair], effect: Effect) -> Option<usize> {
 
 #[test]
 fn each_call_of_a_checkpoint_fails(rt: HostRuntime) {
-    none_wrong(&rt, wrong_pair(rt.alloc(), &PAIRS, Effect::Lost));
-    none_wrong(&rt, wrong_pair(rt.alloc(), &PAIRS, Effect::Kept));
+    none_wrong(&rt, wrong_pair(rt.alloc(), PAIRS, Effect::Lost));
+    none_wrong(&rt, wrong_pair(rt.alloc(), PAIRS, Effect::Kept));
 }
 
 // A checkpoint that is kept, and an append behind it, one call of which fails: by then it is the current file.
@@ -338,8 +374,10 @@ fn wrong_append(alloc: Global, effect: Effect) -> Option<u64> {
 
 #[test]
 fn each_call_of_an_append_behind_a_checkpoint_fails(rt: HostRuntime) {
-    assert!(rt; wrong_append(rt.alloc(), Effect::Lost) == None);
-    assert!(rt; wrong_append(rt.alloc(), Effect::Kept) == None);
+    let alloc = rt.alloc();
+    assert!(rt;
+        wrong_append(alloc, Effect::Lost) == None && wrong_append(alloc, Effect::Kept) == None
+    );
 }
 
 // An opening of two lent disks, one call of which fails, and again.
@@ -368,6 +406,7 @@ fn wrong_opening(alloc: Global, first_fails: bool) -> Option<u64> {
 
 #[test]
 fn each_call_of_an_opening_fails(rt: HostRuntime) {
-    assert!(rt; wrong_opening(rt.alloc(), true) == None);
-    assert!(rt; wrong_opening(rt.alloc(), false) == None);
+    assert!(rt;
+        wrong_opening(rt.alloc(), true) == None && wrong_opening(rt.alloc(), false) == None
+    );
 }

@@ -1,4 +1,4 @@
-use crate::log_pairs::{bytes_on, disk_of, log_of};
+use crate::log_pairs::{disk_of, has_bytes, log_of};
 use crate::rows::none_wrong;
 use std::alloc::Global;
 use xa_disk::{Disk, MemDisk};
@@ -48,7 +48,7 @@ const TOP: File = File::Log(&[&[1, 128, 0, 0, 0], &[5]]);
 /// Two files, and which of them is current with how many bodies, or why none is.
 type Row = (File, File, Result<(bool, usize), OpenFault>);
 
-const ROWS: [Row; 37] = [
+const ROWS: &[Row] = &[
     // The greater generation.
     (ONE, TWO, Ok((false, 3))),
     (TWO, ONE, Ok((true, 3))),
@@ -119,13 +119,13 @@ fn wrong_row(alloc: Global, rows: &[Row]) -> Option<usize> {
 
 #[test]
 fn the_current_file_of_two(rt: HostRuntime) {
-    none_wrong(&rt, wrong_row(rt.alloc(), &ROWS));
+    none_wrong(&rt, wrong_row(rt.alloc(), ROWS));
 }
 
 /// Two files, and which of them is missing.
 type MissingRow = (File, File, Missing);
 
-const MISSING: [MissingRow; 11] = [
+const MISSING: &[MissingRow] = &[
     (NOTHING, TWO, Missing::First),
     (TWO, NOTHING, Missing::Second),
     (NOTHING, TOP, Missing::First),
@@ -148,23 +148,23 @@ fn is_missing(alloc: Global, first: File, second: File, want: Missing) -> bool {
     missing_file(alloc, &mut first, &mut second) == Ok(want)
 }
 
+fn wrong_missing(alloc: Global, rows: &[MissingRow]) -> Option<usize> {
+    first_wrong(
+        rows,
+        |(first, second, want)| is_missing(alloc, *first, *second, *want),
+    )
+}
+
 #[test]
 fn a_missing_file(rt: HostRuntime) {
-    let alloc = rt.alloc();
-    none_wrong(
-        &rt,
-        first_wrong(
-            &MISSING,
-            |(first, second, want)| is_missing(alloc, *first, *second, *want),
-        ),
-    );
+    none_wrong(&rt, wrong_missing(rt.alloc(), MISSING));
 }
 
 /// Two files, the limit of their bytes, and why they are refused.
 type Refused = (File, File, u64, Option<OpenFault>);
 
 // ONE has 53 bytes, PAST 90.
-const LIMITS: [Refused; 8] = [
+const LIMITS: &[Refused] = &[
     (PAST, ONE, 90, None),
     (ONE, PAST, 90, None),
     (PAST, ONE, 89, Some(OpenFault::TooLong)),
@@ -176,7 +176,7 @@ const LIMITS: [Refused; 8] = [
 ];
 
 // Only files that are empty, and in no less than 12 bytes.
-const MADE: [Refused; 9] = [
+const MADE: &[Refused] = &[
     (NOTHING, NOTHING, 12, None),
     (NOTHING, NOTHING, 11, Some(OpenFault::TooLong)),
     (EMPTY, ONE, 11, Some(OpenFault::TooLong)),
@@ -197,24 +197,39 @@ fn wrong_limit(alloc: Global, rows: &[Refused]) -> Option<usize> {
 
 #[test]
 fn a_file_too_long_of_two(rt: HostRuntime) {
-    none_wrong(&rt, wrong_limit(rt.alloc(), &LIMITS));
+    none_wrong(&rt, wrong_limit(rt.alloc(), LIMITS));
 }
 
-// Why no log is made on two disks that are lent. Where one is, its twelve bytes stand in the first, and none in the
-// second.
+// Whether a log that was made has its twelve bytes in the first, and none in the second.
+fn is_made(alloc: Global, first: &mut MemDisk, second: &mut MemDisk) -> bool {
+    first.crash().is_ok()
+        && second.length() == Ok(0)
+        && has_bytes(alloc, first, b"XARMLOG2\0\0\0\0")
+}
+
+fn made_on(
+    alloc: Global,
+    first: &mut MemDisk,
+    second: &mut MemDisk,
+    most: u64,
+) -> Option<Option<OpenFault>> {
+    match create_on(alloc, first, second, most) {
+        Err(fault) => Some(Some(fault)),
+        Ok(_opened) => {
+            if is_made(alloc, first, second) {
+                Some(None)
+            } else {
+                None
+            }
+        }
+    }
+}
+
+// Why no log is made on two disks that are lent.
 fn made(alloc: Global, first: File, second: File, most: u64) -> Option<Option<OpenFault>> {
     let mut first = disk(alloc, first)?;
     let mut second = disk(alloc, second)?;
-    if let Err(fault) = create_on(alloc, &mut first, &mut second, most) {
-        return Some(Some(fault));
-    }
-    first.crash().ok()?;
-    let bytes = bytes_on(alloc, &mut first)?;
-    if bytes.as_slice() == b"XARMLOG2\0\0\0\0".as_slice() && second.length() == Ok(0) {
-        Some(None)
-    } else {
-        None
-    }
+    made_on(alloc, &mut first, &mut second, most)
 }
 
 fn wrong_making(alloc: Global, rows: &[Refused]) -> Option<usize> {
@@ -226,5 +241,5 @@ fn wrong_making(alloc: Global, rows: &[Refused]) -> Option<usize> {
 
 #[test]
 fn a_log_on_two_empty_files(rt: HostRuntime) {
-    none_wrong(&rt, wrong_making(rt.alloc(), &MADE));
+    none_wrong(&rt, wrong_making(rt.alloc(), MADE));
 }

@@ -58,10 +58,12 @@ fn two_bytes(disk: &mut MemDisk, at: u64) -> Result<[u8; 2], DiskFault> {
 #[test]
 fn planned_faults_come_once(rt: HostRuntime) {
     let mut disk = planned(rt.alloc()).expect(&rt, "a disk with plans");
-    assert!(rt; length_is(&mut disk, 2));
-    assert!(rt; write_fails(&mut disk, 1, 9));
-    assert!(rt; two_bytes(&mut disk, 0) == Ok([7, 9]));
-    assert!(rt; two_bytes(&mut disk, 1) == Err(DiskFault));
+    assert!(rt;
+        length_is(&mut disk, 2)
+            && write_fails(&mut disk, 1, 9)
+            && two_bytes(&mut disk, 0) == Ok([7, 9])
+            && two_bytes(&mut disk, 1) == Err(DiskFault)
+    );
 }
 
 fn planned_sync(alloc: Global) -> Option<MemDisk> {
@@ -80,11 +82,13 @@ fn sync_fails(disk: &mut MemDisk) -> bool {
 #[test]
 fn a_kept_sync_outlasts_a_crash(rt: HostRuntime) {
     let mut disk = planned_sync(rt.alloc()).expect(&rt, "a disk with plans");
-    assert!(rt; sync_fails(&mut disk));
-    assert!(rt; write_fails(&mut disk, 2, b'c'));
-    assert!(rt; length_is(&mut disk, 3));
-    assert!(rt; disk.crash().is_ok());
-    assert!(rt; length_is(&mut disk, 2));
+    assert!(rt;
+        sync_fails(&mut disk)
+            && write_fails(&mut disk, 2, b'c')
+            && length_is(&mut disk, 3)
+            && disk.crash().is_ok()
+            && length_is(&mut disk, 2)
+    );
 }
 
 // Bytes 2 to 4 are written and synced.
@@ -109,16 +113,23 @@ fn error_kind(disk: &FileDisk) -> Option<ErrorKind> {
     disk.error().map(|error| error.kind())
 }
 
+fn is_a_disk(disk: &mut FileDisk) -> bool {
+    has_five(disk)
+        && four_bytes(disk, 0) == Ok([0, 0, b'a', b'b'])
+        && error_kind(disk).is_none()
+        && four_bytes(disk, 2) == Err(DiskFault)
+        && error_kind(disk) == Some(ErrorKind::UnexpectedEof)
+}
+
+fn is_removed(rt: &HostRuntime, path: &str) -> bool {
+    fs::remove_file(rt, path).is_ok()
+}
+
 #[test]
 fn a_file_in_a_folder(rt: HostRuntime) {
     let path = path_of(&rt, "xa_disk").expect(&rt, "a path");
     let mut disk = file_at(&rt, path.as_str()).expect(&rt, "a disk");
-    assert!(rt; has_five(&mut disk));
-    assert!(rt; four_bytes(&mut disk, 0) == Ok([0, 0, b'a', b'b']));
-    assert!(rt; error_kind(&disk).is_none());
-    assert!(rt; four_bytes(&mut disk, 2) == Err(DiskFault));
-    assert!(rt; error_kind(&disk) == Some(ErrorKind::UnexpectedEof));
-    assert!(rt; fs::remove_file(&rt, path.as_str()).is_ok());
+    assert!(rt; is_a_disk(&mut disk) && is_removed(&rt, path.as_str()));
 }
 
 // Why a path isn't taken as a disk.
@@ -145,12 +156,14 @@ fn is_one_disk(rt: &HostRuntime, path: &str) -> bool {
     }
 }
 
+fn is_free_again(rt: &HostRuntime, path: &str) -> bool {
+    is_one_disk(rt, path) && refused(rt, path).is_none()
+}
+
 #[test]
 fn a_file_is_one_disk(rt: HostRuntime) {
     let path = path_of(&rt, "xa_disk-one").expect(&rt, "a path");
-    assert!(rt; is_one_disk(&rt, path.as_str()));
-    assert!(rt; refused(&rt, path.as_str()).is_none());
-    assert!(rt; fs::remove_file(&rt, path.as_str()).is_ok());
+    assert!(rt; is_free_again(&rt, path.as_str()) && is_removed(&rt, path.as_str()));
 }
 
 fn is_read(rt: &HostRuntime, path: &str) -> bool {
@@ -180,15 +193,19 @@ fn no_write(rt: &HostRuntime, path: &str) -> bool {
     }
 }
 
+fn is_for_reading(rt: &HostRuntime, path: &str) -> bool {
+    !is_read(rt, path)
+        && is_read_by_none(rt, path)
+        && is_read_by_two(rt, path)
+        && no_write(rt, path)
+        && is_removed(rt, path)
+        && !is_read(rt, "/dev/null")
+}
+
 #[test]
 fn a_file_for_reading(rt: HostRuntime) {
     let path = path_of(&rt, "xa_disk-read").expect(&rt, "a path");
-    assert!(rt; !is_read(&rt, path.as_str()));
-    assert!(rt; is_read_by_none(&rt, path.as_str()));
-    assert!(rt; is_read_by_two(&rt, path.as_str()));
-    assert!(rt; no_write(&rt, path.as_str()));
-    assert!(rt; fs::remove_file(&rt, path.as_str()).is_ok());
-    assert!(rt; !is_read(&rt, "/dev/null"));
+    assert!(rt; is_for_reading(&rt, path.as_str()));
 }
 
 fn is_irregular(rt: &HostRuntime, path: &str) -> bool {
@@ -212,7 +229,9 @@ fn opening_kind(rt: &HostRuntime, path: &str) -> Option<ErrorKind> {
 
 #[test]
 fn other_files_are_no_disks(rt: HostRuntime) {
-    assert!(rt; is_irregular(&rt, "/dev/null"));
-    assert!(rt; is_irregular(&rt, "/"));
-    assert!(rt; opening_kind(&rt, "/dev/null/log") == Some(ErrorKind::NotADirectory));
+    assert!(rt;
+        is_irregular(&rt, "/dev/null")
+            && is_irregular(&rt, "/")
+            && opening_kind(&rt, "/dev/null/log") == Some(ErrorKind::NotADirectory)
+    );
 }

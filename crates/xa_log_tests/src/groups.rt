@@ -68,6 +68,25 @@ const FAULTS: &[Fault] = &[
     (&[(1, Effect::Lost), (3, Effect::Lost)], Appended::Lost, 1),
 ];
 
+fn came_to(alloc: Global, log: &mut Log<MemDisk>) -> Option<Appended> {
+    let group = copies(alloc, &GROUP)?;
+    appends_group(log, &group)
+}
+
+fn are_first(bodies: &[Vec<u8>], found: usize) -> bool {
+    match ALL.get(..found) {
+        Some(first) => are(bodies, first),
+        None => false,
+    }
+}
+
+fn finds(log: &mut Log<MemDisk>, found: usize) -> bool {
+    match log.rescan() {
+        Ok(bodies) => are_first(&bodies, found),
+        Err(_) => false,
+    }
+}
+
 // What a group comes to on such a disk, and the records that are found then.
 fn is_fault(alloc: Global, row: &Fault) -> Option<bool> {
     let (plans, answer, found) = row;
@@ -75,9 +94,7 @@ fn is_fault(alloc: Global, row: &Fault) -> Option<bool> {
     for (k, effect) in *plans {
         log.fail(*k, *effect).ok()?;
     }
-    let came = appends_group(&mut log, &copies(alloc, &GROUP)?)?;
-    let bodies = log.rescan().ok()?;
-    Some(came == *answer && are(&bodies, ALL.get(..*found)?))
+    Some(came_to(alloc, &mut log) == Some(*answer) && finds(&mut log, *found))
 }
 
 fn wrong_fault(alloc: Global, rows: &[Fault]) -> Option<usize> {
@@ -111,10 +128,10 @@ const CUTS: &[(u64, usize)] = &[
 fn is_cut(alloc: Global, kept: u64, found: usize) -> Option<bool> {
     let mut log = log_of(alloc, &ONE)?;
     log.stop(2);
-    let came = appends_group(&mut log, &copies(alloc, &GROUP)?)?;
+    let lost = came_to(alloc, &mut log) == Some(Appended::Lost);
     let (first, second) = log.into_crashed_disks(kept, 0).ok()?;
     let (_log, bodies) = Log::open(alloc, first, second, LOG_BYTES).ok()?;
-    Some(came == Appended::Lost && are(&bodies, ALL.get(..found)?))
+    Some(lost && are_first(&bodies, found))
 }
 
 fn wrong_cut(alloc: Global, rows: &[(u64, usize)]) -> Option<usize> {
@@ -129,25 +146,28 @@ fn crashes_in_a_group(rt: HostRuntime) {
     none_wrong(&rt, wrong_cut(rt.alloc(), CUTS));
 }
 
-// A group that fits exactly, one that lacks a byte, and one of a single body, as a list and by itself.
-fn are_limits(alloc: Global) -> Option<bool> {
-    let group = copies(alloc, &GROUP)?;
-    // 8 bytes, a record of 41, the three of 168, and a closing length.
-    let mut exact = log_within(alloc, 221)?;
-    let mut short = log_within(alloc, 220)?;
-    let mut alone = log_within(alloc, 220)?;
-    let mut one = log_within(alloc, 95 + 4)?;
-    Some(
-        appends_group(&mut exact, &group) == Some(Appended::Kept)
-            && exact.end() == 217
-            && appends_group(&mut short, &group) == Some(Appended::Full)
-            && short.end() == 49
-            && appends_group(&mut alone, &copies(alloc, &[&DECIDED])?) == Some(Appended::Kept)
-            && alone.end() == 95
-            && appends_alone(&mut one, &DECIDED) == Some(Appended::Kept)
-            && one.end() == 95
-            && appends_alone(&mut one, &DECIDED) == Some(Appended::Full),
-    )
+// What a group comes to in so many bytes, and where the log then ends.
+fn comes_to(
+    alloc: Global,
+    most: u64,
+    bodies: &[&[u8]],
+    answer: Appended,
+    end: u64,
+) -> Option<bool> {
+    let mut log = log_within(alloc, most)?;
+    let group = copies(alloc, bodies)?;
+    Some(appends_group(&mut log, &group) == Some(answer) && log.end() == end)
+}
+
+fn fits_alone(log: &mut Log<MemDisk>) -> bool {
+    appends_alone(log, &DECIDED) == Some(Appended::Kept)
+        && log.end() == 95
+        && appends_alone(log, &DECIDED) == Some(Appended::Full)
+}
+
+fn is_alone(alloc: Global) -> Option<bool> {
+    let mut log = log_within(alloc, 95 + 4)?;
+    Some(fits_alone(&mut log))
 }
 
 // A log of at most so many bytes that has the one record.
@@ -160,7 +180,15 @@ fn log_within(alloc: Global, most: u64) -> Option<Log<MemDisk>> {
     }
 }
 
+// A group that fits exactly, one that lacks a byte, and one of a single body, as a list and by itself: 8 bytes, a record
+// of 41, the three of 168, and a closing length.
 #[test]
 fn limits_of_a_group(rt: HostRuntime) {
-    assert_eq!(&rt; are_limits(rt.alloc()), Some(true));
+    let alloc = rt.alloc();
+    assert!(rt;
+        comes_to(alloc, 221, &GROUP, Appended::Kept, 217) == Some(true)
+            && comes_to(alloc, 220, &GROUP, Appended::Full, 49) == Some(true)
+            && comes_to(alloc, 220, &[&DECIDED], Appended::Kept, 95) == Some(true)
+            && is_alone(alloc) == Some(true)
+    );
 }

@@ -1,6 +1,9 @@
 ghost use Rattle.xa_frame.specs.Limits.{IsRequest};
 
-use crate::log_pairs::{AGAIN, DECIDED, HELD, OPENED, PREPARED, are, bytes_on, disk_of, file_of};
+use crate::log_pairs::{
+    AGAIN, DECIDED, HELD, NEW, OLD, OPENED, PREPARED, are, are_crashed, bytes_on, disk_of, file_of,
+    has_bytes,
+};
 use crate::rows::none_wrong;
 use std::alloc::Global;
 use xa_codes::{Bytes, XA_OK};
@@ -88,9 +91,11 @@ pub fn disks_behind(alloc: Global, lines: &[&str]) -> Option<(MemDisk, MemDisk)>
         return None;
     }
     let (mut first, mut second) = manager.into_disks();
-    first.crash().ok()?;
-    second.crash().ok()?;
-    Some((first, second))
+    if are_crashed(&mut first, &mut second) {
+        Some((first, second))
+    } else {
+        None
+    }
 }
 
 // The third boot's record, what the branch wrote once it is committed, and that the operator committed it, or rolled it
@@ -118,7 +123,7 @@ const AT_ONCE: [u8; 21] = [
 /// What is done behind the prepare, whether the first file is current then, its records, and where they end.
 pub type Row = (&'static [&'static str], bool, &'static [&'static [u8]], u64);
 
-const ROWS: [Row; 11] = [
+const ROWS: &[Row] = &[
     (&[], true, &[&OPENED, &PREPARED], 110),
     (&["1 restart"], false, &[&AGAIN, &HELD], 110),
     (
@@ -196,7 +201,7 @@ fn is_row(alloc: Global, row: &Row) -> Option<bool> {
     let right = log.on_first() == *on_first && log.end() == *end && are(&found, bodies);
     let (mut first, mut second) = log.into_disks();
     let current = if *on_first { &mut first } else { &mut second };
-    Some(right && is_closed(alloc, current, *end)?)
+    Some(right && is_closed(alloc, current, *end) == Some(true))
 }
 
 /// The first of these rows that isn't right.
@@ -211,15 +216,20 @@ pub fn wrong_row(alloc: Global, rows: &[Row]) -> Option<usize> {
 
 #[test]
 fn files_of_the_log(rt: HostRuntime) {
-    none_wrong(&rt, wrong_row(rt.alloc(), &ROWS));
+    none_wrong(&rt, wrong_row(rt.alloc(), ROWS));
+}
+
+fn is_log_of(alloc: Global, disk: &mut MemDisk, bodies: &[&[u8]]) -> bool {
+    match read_log(alloc, disk, LOG_BYTES) {
+        Ok(found) => are(&found, bodies),
+        Err(_) => false,
+    }
 }
 
 // A restart leaves the file that was current as it was.
 fn keeps_the_old(alloc: Global) -> Option<bool> {
     let (mut first, mut second) = disks_behind(alloc, &["1 restart"])?;
-    let old = read_log(alloc, &mut first, LOG_BYTES).ok()?;
-    let new = read_log(alloc, &mut second, LOG_BYTES).ok()?;
-    Some(are(&old, &[&OPENED, &PREPARED]) && are(&new, &[&AGAIN, &HELD]))
+    Some(is_log_of(alloc, &mut first, &OLD) && is_log_of(alloc, &mut second, &NEW))
 }
 
 #[test]
@@ -236,7 +246,7 @@ const LAST: [u8; 5] = [1, 255, 255, 255, 255];
 
 const NEXT_TO_LAST: [u8; 5] = [1, 255, 255, 255, 254];
 
-const REFUSALS: [Refusal; 11] = [
+const REFUSALS: &[Refusal] = &[
     (&[&OPENED, &PREPARED], PREPARED_LOG_BYTES, None),
     (
         &[&OPENED, &PREPARED],
@@ -288,7 +298,7 @@ fn wrong_refusal(alloc: Global, rows: &[Refusal]) -> Option<usize> {
 
 #[test]
 fn openings_of_logs(rt: HostRuntime) {
-    none_wrong(&rt, wrong_refusal(rt.alloc(), &REFUSALS));
+    none_wrong(&rt, wrong_refusal(rt.alloc(), REFUSALS));
 }
 
 // Why no manager is opened on these bytes and an empty file.
@@ -305,11 +315,11 @@ fn fault_of(alloc: Global, bytes: &[u8]) -> Option<ManagerFault> {
 #[test]
 fn openings_of_other_files(rt: HostRuntime) {
     let alloc = rt.alloc();
-    let other = ManagerFault::Log(OpenFault::NotALog);
-    assert!(rt; fault_of(alloc, b"XARMLOGx") == Some(other));
-    let newer = ManagerFault::Log(OpenFault::TooNew);
-    assert!(rt; fault_of(alloc, b"XARMLOG3") == Some(newer));
-    assert!(rt; fault_of(alloc, b"").is_none());
+    assert!(rt;
+        fault_of(alloc, b"XARMLOGx") == Some(ManagerFault::Log(OpenFault::NotALog))
+            && fault_of(alloc, b"XARMLOG3") == Some(ManagerFault::Log(OpenFault::TooNew))
+            && fault_of(alloc, b"").is_none()
+    );
 }
 
 // Whether an opening of these bytes and an empty file is refused, and gives both back as they were.
@@ -319,8 +329,7 @@ fn gives_back(alloc: Global, bytes: &[u8]) -> Option<bool> {
         Ok(_manager) => Some(false),
         Err(refused) => {
             let (mut first, mut second) = (refused.first, refused.second);
-            let same = bytes_on(alloc, &mut first)?.as_slice() == bytes;
-            Some(same && bytes_on(alloc, &mut second)?.is_empty())
+            Some(has_bytes(alloc, &mut first, bytes) && has_bytes(alloc, &mut second, &[]))
         }
     }
 }

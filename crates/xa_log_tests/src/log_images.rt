@@ -141,14 +141,24 @@ fn wrong_end(alloc: Global, files: &Files) -> Option<usize> {
     }
 }
 
+fn over_nothing(alloc: Global) -> Option<Files> {
+    files_over(alloc, Vec::new(alloc))
+}
+
+fn over_a_longer(alloc: Global) -> Option<Files> {
+    files_over(alloc, file_of(alloc, &LONG)?)
+}
+
 #[test]
-fn a_checkpoint_over_other_bytes_is_cut(rt: HostRuntime) {
-    let alloc = rt.alloc();
-    let nothing = files_over(alloc, Vec::new(alloc)).expect(&rt, "files");
-    none_wrong(&rt, wrong_end(alloc, &nothing));
-    let long = file_of(alloc, &LONG).expect(&rt, "a file");
-    let over_long = files_over(alloc, long).expect(&rt, "files");
-    none_wrong(&rt, wrong_end(alloc, &over_long));
+fn a_checkpoint_over_nothing_is_cut(rt: HostRuntime) {
+    let files = over_nothing(rt.alloc()).expect(&rt, "files");
+    none_wrong(&rt, wrong_end(rt.alloc(), &files));
+}
+
+#[test]
+fn a_checkpoint_over_a_longer_file_is_cut(rt: HostRuntime) {
+    let files = over_a_longer(rt.alloc()).expect(&rt, "files");
+    none_wrong(&rt, wrong_end(rt.alloc(), &files));
 }
 
 // The new log has 66,099 bytes, and then its first length is written.

@@ -21,15 +21,13 @@ pub fn prints(alloc: Global, disk: &mut MemDisk, wanted: &str) -> bool {
     end == Ok(()) && lines.as_slice() == wanted.as_bytes()
 }
 
+const PREPARED_LINES: &str = "8 opened 1\n49 prepared 1:aa:bb 4294967297 1\nend 110\n";
+
 /// What is done behind the prepare of a branch, whether the first file is looked at then, and its lines.
 type Row = (&'static [&'static str], bool, &'static str);
 
-const ROWS: [Row; 8] = [
-    (
-        &[],
-        true,
-        "8 opened 1\n49 prepared 1:aa:bb 4294967297 1\nend 110\n",
-    ),
+const ROWS: &[Row] = &[
+    (&[], true, PREPARED_LINES),
     (
         &["1 restart"],
         false,
@@ -92,7 +90,7 @@ fn wrong_row(alloc: Global, rows: &[Row]) -> Option<usize> {
 fn lines_of_logs(rt: HostRuntime) {
     worked_scans();
     offsets_in_the_file();
-    none_wrong(&rt, wrong_row(rt.alloc(), &ROWS));
+    none_wrong(&rt, wrong_row(rt.alloc(), ROWS));
 }
 
 // A body that is no record's stands between others.
@@ -108,33 +106,38 @@ fn has_malformed(alloc: Global) -> Option<bool> {
 
 #[test]
 fn a_body_that_is_no_record(rt: HostRuntime) {
-    let found = has_malformed(rt.alloc());
-    assert_eq!(rt; found, Some(true));
+    assert!(rt; has_malformed(rt.alloc()) == Some(true));
+}
+
+fn is_refused(alloc: Global, disk: &mut MemDisk, fault: OpenFault) -> bool {
+    let (end, lines) = scanned(alloc, disk);
+    end == Err(ScanFault::Log(fault)) && lines.is_empty()
+}
+
+fn is_told(alloc: Global, fault: OpenFault, text: &str) -> bool {
+    match format!(in alloc; "xarm: {fault}") {
+        Ok(told) => told.as_str() == text,
+        Err(_) => false,
+    }
 }
 
 fn fails_as(alloc: Global, bytes: &[u8], fault: OpenFault, text: &str) -> Option<bool> {
     let mut disk = disk_of(alloc, bytes)?;
-    let (end, lines) = scanned(alloc, &mut disk);
-    let told = format!(in alloc; "xarm: {fault}").ok()?;
-    Some(end == Err(ScanFault::Log(fault)) && lines.is_empty() && told.as_str() == text)
+    Some(is_refused(alloc, &mut disk, fault) && is_told(alloc, fault, text))
 }
 
 fn fails_on_a_device(alloc: Global) -> Option<bool> {
-    let (mut first, _second) = disks_behind(alloc, &[]).or(None)?;
-    first.fail(1, Effect::Lost).ok()?;
-    let (end, lines) = scanned(alloc, &mut first);
-    Some(end == Err(ScanFault::Log(OpenFault::Device)) && lines.is_empty())
+    let (mut first, _second) = disks_behind(alloc, &[])?;
+    Some(first.fail(1, Effect::Lost).is_ok() && is_refused(alloc, &mut first, OpenFault::Device))
 }
 
 #[test]
 fn no_log_prints_nothing(rt: HostRuntime) {
     let alloc = rt.alloc();
-    let empty = fails_as(alloc, b"", OpenFault::NotALog, "xarm: not a log");
-    let newer = fails_as(alloc, b"XARMLOG3", OpenFault::TooNew, "xarm: log too new");
-    let device = fails_on_a_device(alloc);
-    assert_eq!(rt;
-        (empty, newer, device),
-        (Some(true), Some(true), Some(true))
+    assert!(rt;
+        fails_as(alloc, b"", OpenFault::NotALog, "xarm: not a log") == Some(true)
+            && fails_as(alloc, b"XARMLOG3", OpenFault::TooNew, "xarm: log too new") == Some(true)
+            && fails_on_a_device(alloc) == Some(true)
     );
 }
 
@@ -161,25 +164,28 @@ impl Write for Narrow {
 }
 
 // How the printing ends on a writer that takes so many bytes, and that what it took is the front of the lines.
-fn ends_narrow(alloc: Global, most: usize) -> Option<bool> {
-    let (mut first, _second) = disks_behind(alloc, &[])?;
+fn ends_narrow_on(alloc: Global, disk: &mut MemDisk, most: usize) -> bool {
     let mut writer = Narrow {
         taken: Vec::new(alloc),
         most,
     };
-    let end = scan_run(alloc, &mut first, &mut writer);
-    let (_, _, whole) = ROWS[0];
+    let end = scan_run(alloc, disk, &mut writer);
+    let whole = PREPARED_LINES;
     let front = &whole.as_bytes()[..most.min(whole.len())];
-    Some(end == Err(ScanFault::Write) && writer.taken.as_slice() == front)
+    end == Err(ScanFault::Write) && writer.taken.as_slice() == front
+}
+
+fn ends_narrow(alloc: Global, most: usize) -> Option<bool> {
+    let (mut first, _second) = disks_behind(alloc, &[])?;
+    Some(ends_narrow_on(alloc, &mut first, most))
 }
 
 #[test]
 fn lines_that_are_not_taken(rt: HostRuntime) {
     let alloc = rt.alloc();
-    let ends = (
-        ends_narrow(alloc, 0),
-        ends_narrow(alloc, 20),
-        ends_narrow(alloc, 1_000),
+    assert!(rt;
+        ends_narrow(alloc, 0) == Some(true)
+            && ends_narrow(alloc, 20) == Some(true)
+            && ends_narrow(alloc, 1_000) == Some(true)
     );
-    assert_eq!(rt; ends, (Some(true), Some(true), Some(true)));
 }

@@ -127,9 +127,15 @@ pub fn log_of(alloc: Global, bodies: &[&[u8]]) -> Option<Log<MemDisk>> {
 /// The two disks behind a crash.
 pub fn crashed(log: Log<MemDisk>) -> Option<(MemDisk, MemDisk)> {
     let (mut first, mut second) = log.into_disks();
-    first.crash().ok()?;
-    second.crash().ok()?;
-    Some((first, second))
+    if are_crashed(&mut first, &mut second) {
+        Some((first, second))
+    } else {
+        None
+    }
+}
+
+pub fn are_crashed(first: &mut MemDisk, second: &mut MemDisk) -> bool {
+    first.crash().is_ok() && second.crash().is_ok()
 }
 
 /// All bytes of a disk.
@@ -140,6 +146,14 @@ pub fn bytes_on(alloc: Global, disk: &mut MemDisk) -> Option<Vec<u8>> {
         disk.read_at(0, &mut bytes).ok()?;
     }
     Some(bytes)
+}
+
+/// These are all bytes of a disk.
+pub fn has_bytes(alloc: Global, disk: &mut MemDisk, wanted: &[u8]) -> bool {
+    match bytes_on(alloc, disk) {
+        Some(bytes) => bytes.as_slice() == wanted,
+        None => false,
+    }
 }
 
 /// The bytes of a log of these.

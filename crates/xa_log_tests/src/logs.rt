@@ -40,11 +40,14 @@ fn wrong_cut(alloc: Global, bytes: &[u8]) -> Option<usize> {
     None
 }
 
+fn begins_with_digest(bytes: &[u8]) -> bool {
+    bytes.len() == 114 && bytes.get(17..49) == Some(DIGEST.as_slice())
+}
+
 #[test]
 fn a_log_ends_where_its_last_record_is_cut(rt: HostRuntime) {
     let bytes = two_records(rt.alloc()).expect(&rt, "two records");
-    assert_eq!(rt; bytes.len(), 114);
-    assert_eq!(rt; &bytes[17..49], DIGEST.as_slice());
+    assert!(rt; begins_with_digest(&bytes));
     none_wrong(&rt, wrong_cut(rt.alloc(), &bytes));
 }
 
@@ -102,13 +105,15 @@ fn is_second_too_long(alloc: Global, bytes: &[u8]) -> Option<bool> {
 #[test]
 fn other_bytes_are_refused(rt: HostRuntime) {
     let alloc = rt.alloc();
-    assert!(rt; fault_of(alloc, b"") == Some(OpenFault::NotALog));
-    assert!(rt; fault_of(alloc, b"XARMLOGx") == Some(OpenFault::NotALog));
-    assert!(rt; fault_of(alloc, b"XARMLOG3") == Some(OpenFault::TooNew));
-    assert!(rt; bodies_in(alloc, b"XARMLOG2") == Ok(0));
     let bytes = two_records(alloc).expect(&rt, "two records");
-    assert!(rt; is_too_long(alloc, &bytes) == Some(true));
-    assert!(rt; is_second_too_long(alloc, &bytes) == Some(true));
+    assert!(rt;
+        fault_of(alloc, b"") == Some(OpenFault::NotALog)
+            && fault_of(alloc, b"XARMLOGx") == Some(OpenFault::NotALog)
+            && fault_of(alloc, b"XARMLOG3") == Some(OpenFault::TooNew)
+            && bodies_in(alloc, b"XARMLOG2") == Ok(0)
+            && is_too_long(alloc, &bytes) == Some(true)
+            && is_second_too_long(alloc, &bytes) == Some(true)
+    );
 }
 
 // A log of no body, whose next device calls fail so.
@@ -139,15 +144,15 @@ fn bodies_again(log: &mut Log<MemDisk>) -> Option<usize> {
     Some(log.rescan().ok()?.len())
 }
 
+fn goes_on_once_read(log: &mut Log<MemDisk>) -> bool {
+    two_appends(log) == (Appended::Lost, Appended::Lost)
+        && bodies_again(log) == Some(0)
+        && append(log) == Appended::Kept
+}
+
 fn is_lost_until_read(alloc: Global) -> Option<bool> {
     let mut log = with_plans(alloc, &[(1, Effect::Lost), (2, Effect::Lost)]).ok()?;
-    let came = two_appends(&mut log);
-    let bodies = bodies_again(&mut log);
-    Some(
-        came == (Appended::Lost, Appended::Lost)
-            && bodies == Some(0)
-            && append(&mut log) == Appended::Kept,
-    )
+    Some(goes_on_once_read(&mut log))
 }
 
 fn one_append(alloc: Global, plans: &[(u64, Effect)]) -> Option<(Appended, bool)> {
@@ -164,14 +169,20 @@ fn is_lost(alloc: Global) -> bool {
     }
 }
 
+// A write and a sync are all that an append asks for: the third call is another's.
+fn is_kept_by_two_calls(alloc: Global) -> bool {
+    one_append(alloc, &[(3, Effect::Lost)]) == Some((Appended::Kept, true))
+}
+
 #[test]
 fn device_faults_in_an_append(rt: HostRuntime) {
     let alloc = rt.alloc();
-    assert!(rt; is_refused_once(alloc) == Some(true));
-    assert!(rt; is_lost_until_read(alloc) == Some(true));
-    assert!(rt; is_lost(alloc));
-    // A write and a sync are all that an append asks for: the third call is another's.
-    assert!(rt; one_append(alloc, &[(3, Effect::Lost)]) == Some((Appended::Kept, true)));
+    assert!(rt;
+        is_refused_once(alloc) == Some(true)
+            && is_lost_until_read(alloc) == Some(true)
+            && is_lost(alloc)
+            && is_kept_by_two_calls(alloc)
+    );
 }
 
 // Where the next record begins once one was appended, and behind a rescan.
@@ -187,16 +198,29 @@ fn end_of(alloc: Global, bodies: &[&[u8]]) -> Option<u64> {
     Some(log_of(alloc, bodies)?.end())
 }
 
+/// Which calls fail, and the two ends.
+type Ends = (&'static [(u64, Effect)], (u64, u64));
+
+const ENDS: &[Ends] = &[
+    (&[], (49, 49)),
+    (&[(1, Effect::Kept)], (8, 8)),
+    // The record isn't there, or it is and its repair isn't.
+    (&[(1, Effect::Lost), (2, Effect::Lost)], (8, 8)),
+    (&[(1, Effect::Kept), (2, Effect::Lost)], (8, 49)),
+];
+
+fn wrong_ends(alloc: Global, rows: &[Ends]) -> Option<usize> {
+    first_wrong(rows, |(plans, ends)| two_ends(alloc, plans) == Some(*ends))
+}
+
 #[test]
 fn ends_of_logs(rt: HostRuntime) {
     let alloc = rt.alloc();
-    assert!(rt; end_of(alloc, &[]) == Some(8));
-    assert!(rt; end_of(alloc, &OLD) == Some(110));
-    assert!(rt; two_ends(alloc, &[]) == Some((49, 49)));
-    assert!(rt; two_ends(alloc, &[(1, Effect::Kept)]) == Some((8, 8)));
-    // The record isn't there, or it is and its repair isn't.
-    assert!(rt; two_ends(alloc, &[(1, Effect::Lost), (2, Effect::Lost)]) == Some((8, 8)));
-    assert!(rt; two_ends(alloc, &[(1, Effect::Kept), (2, Effect::Lost)]) == Some((8, 49)));
+    assert!(rt;
+        end_of(alloc, &[]) == Some(8)
+            && end_of(alloc, &OLD) == Some(110)
+            && wrong_ends(alloc, ENDS) == None
+    );
 }
 
 // The files are the log's alone until it is dropped.
@@ -240,17 +264,24 @@ fn wrong_file(rt: &HostRuntime, path: &str, other: &str, bytes: &[u8]) -> Option
     None
 }
 
+pub fn are_removed(rt: &HostRuntime, path: &str, other: &str) -> bool {
+    fs::remove_file(rt, path).is_ok() && fs::remove_file(rt, other).is_ok()
+}
+
+fn is_cut_in(rt: &HostRuntime, path: &str, other: &str, bytes: &[u8]) -> bool {
+    keeps_both_in(rt, path, other) == Some(true)
+        && contains(rt, path, bytes)
+        && contains(rt, other, &[])
+        && wrong_file(rt, path, other, bytes) == None
+        && are_removed(rt, path, other)
+}
+
 #[test]
 fn a_log_in_a_file_is_cut(rt: HostRuntime) {
     let path = path_of(&rt, "xa_log").expect(&rt, "a path");
     let other = path_of(&rt, "xa_log-empty").expect(&rt, "a path");
-    assert!(rt; keeps_both_in(&rt, path.as_str(), other.as_str()) == Some(true));
     let bytes = two_records(rt.alloc()).expect(&rt, "two records");
-    assert!(rt; contains(&rt, path.as_str(), &bytes));
-    assert!(rt; contains(&rt, other.as_str(), &[]));
-    none_wrong(&rt, wrong_file(&rt, path.as_str(), other.as_str(), &bytes));
-    assert!(rt; fs::remove_file(&rt, path.as_str()).is_ok());
-    assert!(rt; fs::remove_file(&rt, other.as_str()).is_ok());
+    assert!(rt; is_cut_in(&rt, path.as_str(), other.as_str(), &bytes));
 }
 
 /// Each body is of this size, and filled with its number.
@@ -298,15 +329,16 @@ fn wrong_size(alloc: Global, rows: &[(usize, usize)]) -> Option<usize> {
 }
 
 // Up to the largest body, and past the window of 1 MiB.
+const SIZES: &[(usize, usize)] = &[
+    (0, 1),
+    (1, 1),
+    (12, 100_000),
+    (300, 5),
+    (1, BODY_BYTES),
+    (3, BODY_BYTES),
+];
+
 #[test]
 fn logs_of_many_sizes(rt: HostRuntime) {
-    let rows = [
-        (0, 1),
-        (1, 1),
-        (12, 100_000),
-        (300, 5),
-        (1, BODY_BYTES),
-        (3, BODY_BYTES),
-    ];
-    none_wrong(&rt, wrong_size(rt.alloc(), &rows));
+    none_wrong(&rt, wrong_size(rt.alloc(), SIZES));
 }

@@ -54,7 +54,7 @@ fn count_of(alloc: Global, name: &[u8], size: usize) -> Option<(u8, usize)> {
 // A format's name, a body's size, and which format is read with how many bodies.
 type Row = (&'static [u8], usize, (u8, usize));
 
-const ROWS: [Row; 5] = [
+const ROWS: &[Row] = &[
     (b"XARMLOG1", SHORT, (1, 2)),
     (b"XARMLOG1", SHORT + 1, (1, 1)),
     (b"XARMLOG2", SHORT + 1, (2, 2)),
@@ -72,7 +72,7 @@ fn wrong_limit(alloc: Global, rows: &[Row]) -> Option<usize> {
 // The limit of format 1, and the last body that is in the first window.
 #[test]
 fn each_format_has_its_limit(rt: HostRuntime) {
-    none_wrong(&rt, wrong_limit(rt.alloc(), &ROWS));
+    none_wrong(&rt, wrong_limit(rt.alloc(), ROWS));
 }
 
 fn log_with(alloc: Global, bodies: &[&[u8]]) -> Option<Log<MemDisk>> {
@@ -85,13 +85,26 @@ fn log_with(alloc: Global, bodies: &[&[u8]]) -> Option<Log<MemDisk>> {
     Some(log)
 }
 
+fn reads_as(alloc: Global, disk: &mut MemDisk, bodies: &[&[u8]]) -> bool {
+    match read_log(alloc, disk, MOST) {
+        Ok(read) => are(&read, bodies),
+        Err(_) => false,
+    }
+}
+
+// Whether a disk's bytes begin with those of a log of these put together here.
+fn is_spelled_on(alloc: Global, disk: &mut MemDisk, bodies: &[&[u8]]) -> Option<bool> {
+    let bytes = bytes_on(alloc, disk)?;
+    let wanted = spelled(alloc, b"XARMLOG2", bodies)?;
+    Some(bytes.get(..wanted.len()) == Some(wanted.as_slice()))
+}
+
 // Whether a log of these is read after a crash as it was written, and its bytes are those put together here.
 fn is_read_again(alloc: Global, bodies: &[&[u8]]) -> Option<bool> {
     let (mut disk, _empty) = crashed(log_with(alloc, bodies)?)?;
-    let read = read_log(alloc, &mut disk, MOST).ok()?;
-    let bytes = bytes_on(alloc, &mut disk)?;
-    let wanted = spelled(alloc, b"XARMLOG2", bodies)?;
-    Some(are(&read, bodies) && bytes.get(..wanted.len()) == Some(wanted.as_slice()))
+    Some(
+        reads_as(alloc, &mut disk, bodies) && is_spelled_on(alloc, &mut disk, bodies) == Some(true),
+    )
 }
 
 fn is_size_read_again(alloc: Global, size: usize) -> Option<bool> {
@@ -107,24 +120,33 @@ fn wrong_size(alloc: Global, sizes: &[usize]) -> Option<usize> {
 }
 
 // With just as much left behind the first window as goes through a window, and a byte more.
+const SIZES: &[usize] = &[1_572_811, 1_572_812];
+
 #[test]
 fn long_bodies_are_read_as_they_were_written(rt: HostRuntime) {
-    let sizes = [1_572_811, 1_572_812];
-    none_wrong(&rt, wrong_size(rt.alloc(), &sizes));
+    none_wrong(&rt, wrong_size(rt.alloc(), SIZES));
+}
+
+fn is_kept(alloc: Global, body: &[u8]) -> Option<bool> {
+    let (mut disk, _empty) = crashed(log_with(alloc, &[body])?)?;
+    Some(reads_as(alloc, &mut disk, &[body]))
 }
 
 fn is_longest_kept(alloc: Global) -> Option<bool> {
     let body = filled(alloc, 5, LONG)?;
-    let (mut disk, _empty) = crashed(log_with(alloc, &[body.as_slice()])?)?;
-    let read = read_log(alloc, &mut disk, MOST).ok()?;
+    is_kept(alloc, &body)
+}
+
+fn is_longer_refused(alloc: Global) -> Option<bool> {
     let longer = filled(alloc, 5, LONG + 1)?;
-    let refused = appends(&mut log_with(alloc, &[])?, &longer).is_none();
-    Some(are(&read, &[body.as_slice()]) && refused)
+    let mut log = log_with(alloc, &[])?;
+    Some(appends(&mut log, &longer).is_none())
 }
 
 #[test]
 fn the_longest_body_is_kept(rt: HostRuntime) {
-    assert!(rt; is_longest_kept(rt.alloc()) == Some(true));
+    let alloc = rt.alloc();
+    assert!(rt; is_longest_kept(alloc) == Some(true) && is_longer_refused(alloc) == Some(true));
 }
 
 fn count_at(alloc: Global, bytes: &[u8], cut: usize) -> Option<usize> {
@@ -142,31 +164,42 @@ fn wrong_cut(alloc: Global, cuts: &[(usize, usize)]) -> Option<usize> {
     )
 }
 
+const CUTS: &[(usize, usize)] = &[
+    (49, 1),
+    (52, 1),
+    (53, 1),
+    (1_048_576, 1),
+    (1_048_577, 1),
+    (2_000_053, 1),
+    (2_000_084, 1),
+    (2_000_085, 2),
+];
+
 #[test]
 fn a_long_record_is_cut(rt: HostRuntime) {
-    let cuts = [
-        (49, 1),
-        (52, 1),
-        (53, 1),
-        (1_048_576, 1),
-        (1_048_577, 1),
-        (2_000_053, 1),
-        (2_000_084, 1),
-        (2_000_085, 2),
-    ];
-    none_wrong(&rt, wrong_cut(rt.alloc(), &cuts));
+    none_wrong(&rt, wrong_cut(rt.alloc(), CUTS));
 }
 
 // A log of format 1 takes its own bodies, until a checkpoint, which writes format 2, and what was too long for it.
+fn is_upgraded_for(alloc: Global, log: &mut Log<MemDisk>, body: &[u8]) -> bool {
+    appends(log, body).is_none()
+        && log.format() == 1
+        && checkpoint_of(alloc, log, &[&[1, 0, 0, 0, 2]]) == Some(Appended::Kept)
+        && log.format() == 2
+        && appends(log, body) == Some(Appended::Kept)
+}
+
 fn is_upgraded(alloc: Global) -> Option<bool> {
+    let mut log = log_of_format_1(alloc)?;
+    let body = filled(alloc, 0, SHORT + 1)?;
+    Some(is_upgraded_for(alloc, &mut log, &body))
+}
+
+fn log_of_format_1(alloc: Global) -> Option<Log<MemDisk>> {
     let bytes = spelled(alloc, b"XARMLOG1", &[OPENED.as_slice()])?;
     let first = disk_of(alloc, &bytes)?;
-    let (mut log, _bodies) = Log::open(alloc, first, MemDisk::new(alloc), MOST).ok()?;
-    let body = filled(alloc, 0, SHORT + 1)?;
-    let refused = appends(&mut log, &body).is_none() && log.format() == 1;
-    let again: [&[u8]; 1] = [&[1, 0, 0, 0, 2]];
-    let kept = checkpoint_of(alloc, &mut log, &again) == Some(Appended::Kept);
-    Some(refused && kept && log.format() == 2 && appends(&mut log, &body) == Some(Appended::Kept))
+    let (log, _bodies) = Log::open(alloc, first, MemDisk::new(alloc), MOST).ok()?;
+    Some(log)
 }
 
 #[test]

@@ -52,7 +52,7 @@ fn wrong_length(alloc: Global, rows: &[Row]) -> Option<usize> {
 
 // A log without records ends at 8, a record takes 36 bytes beside its body, and the closing length 4. Pieces have
 // 262,144.
-const LENGTHS: [Row; 5] = [
+const LENGTHS: &[Row] = &[
     (1, 100_000, LOG_BYTES, 100_048),
     (3, 100_000, LOG_BYTES, 524_288),
     (3, 100_000, 400_000, 400_000),
@@ -62,7 +62,7 @@ const LENGTHS: [Row; 5] = [
 
 #[test]
 fn a_file_grows_by_pieces(rt: HostRuntime) {
-    none_wrong(&rt, wrong_length(rt.alloc(), &LENGTHS));
+    none_wrong(&rt, wrong_length(rt.alloc(), LENGTHS));
 }
 
 // The same of one body whose record ends with the first piece, where the disk's next device calls fail so.
@@ -83,14 +83,18 @@ fn length_with_faults(alloc: Global, plans: &[(u64, Effect)], kept: Appended) ->
     )
 }
 
+const ONCE: &[(u64, Effect)] = &[(1, Effect::Lost)];
+
+const TWICE: &[(u64, Effect)] = &[(1, Effect::Lost), (2, Effect::Lost)];
+
 // The write with the zeros fails: the record is kept without them. If its own write fails too, zeros lie over it alone.
 #[test]
 fn a_record_is_kept_without_zeros(rt: HostRuntime) {
     let alloc = rt.alloc();
-    let once = [(1, Effect::Lost)];
-    assert!(rt; length_with_faults(alloc, &once, Appended::Kept) == Some(262_144));
-    let twice = [(1, Effect::Lost), (2, Effect::Lost)];
-    assert!(rt; length_with_faults(alloc, &twice, Appended::Refused) == Some(262_144));
+    assert!(rt;
+        length_with_faults(alloc, ONCE, Appended::Kept) == Some(262_144)
+            && length_with_faults(alloc, TWICE, Appended::Refused) == Some(262_144)
+    );
 }
 
 // The checkpoint by which a log goes back to its first file.
@@ -128,7 +132,9 @@ fn left_behind(alloc: Global, measured: bool, records: usize) -> Option<(u8, u64
 #[test]
 fn a_longer_file_is_ready(rt: HostRuntime) {
     let alloc = rt.alloc();
-    assert!(rt; left_behind(alloc, false, 1) == Some((1, 786_432)));
-    assert!(rt; left_behind(alloc, false, 2) == Some((0, 786_432)));
-    assert!(rt; left_behind(alloc, true, 2) == Some((2, 786_432)));
+    assert!(rt;
+        left_behind(alloc, false, 1) == Some((1, 786_432))
+            && left_behind(alloc, false, 2) == Some((0, 786_432))
+            && left_behind(alloc, true, 2) == Some((2, 786_432))
+    );
 }

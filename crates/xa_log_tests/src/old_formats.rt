@@ -4,7 +4,7 @@ ghost use Rattle.xa_frame.specs.Limits.{IsRequest};
 
 use crate::log_files::{are_done, is_done, open, open_returning};
 use crate::log_lines::prints;
-use crate::log_pairs::{bytes_on, disk_of};
+use crate::log_pairs::{bytes_on, disk_of, has_bytes};
 use crate::old_files::{first_file, second_file};
 use std::alloc::Global;
 use xa_disk::MemDisk;
@@ -59,30 +59,57 @@ fn reads(alloc: Global, manager: &mut Manager<MemDisk>, line: &str, value: &[u8]
     }
 }
 
-const OPEN: [&str; 2] = ["connect", "1 open TMNOFLAGS xarm"];
+const OPEN: &[&str] = &["connect", "1 open TMNOFLAGS xarm"];
 
 // Whether the branch is in doubt, is committed, and leaves its value.
 fn commits(alloc: Global, manager: &mut Manager<MemDisk>) -> bool {
-    are_done(alloc, manager, &OPEN)
+    are_done(alloc, manager, OPEN)
         && is_done(alloc, manager, "1 commit TMNOFLAGS 1:aa:bb")
         && is_done(alloc, manager, "1 start TMNOFLAGS 1:cc:")
         && reads(alloc, manager, "1 get 6b", b"v")
 }
 
-fn begins_as(alloc: Global, disk: &mut MemDisk, front: &[u8]) -> Option<bool> {
-    Some(bytes_on(alloc, disk)?.starts_with(front))
+fn begins_as(alloc: Global, disk: &mut MemDisk, front: &[u8]) -> bool {
+    match bytes_on(alloc, disk) {
+        Some(bytes) => bytes.starts_with(front),
+        None => false,
+    }
+}
+
+// What is left of a file that an opening moved, and what it put into the other: of the newest format, with these lines.
+fn are_moved(
+    alloc: Global,
+    old: &mut MemDisk,
+    bytes: &[u8],
+    new: &mut MemDisk,
+    lines: &str,
+) -> bool {
+    has_bytes(alloc, old, bytes) && begins_as(alloc, new, b"XARMLOG2") && prints(alloc, new, lines)
+}
+
+fn commits_then(alloc: Global, first: MemDisk, second: MemDisk) -> bool {
+    match open(alloc, first, second, LOG_BYTES) {
+        Ok(mut manager) => commits(alloc, &mut manager),
+        Err(_) => false,
+    }
+}
+
+// The two files behind an opening of a file with these bytes and an empty one.
+fn disks_of_opened(alloc: Global, bytes: &[u8]) -> Option<(MemDisk, MemDisk)> {
+    let first = disk_of(alloc, bytes)?;
+    Some(
+        open(alloc, first, MemDisk::new(alloc), LOG_BYTES)
+            .ok()?
+            .into_disks(),
+    )
 }
 
 // What an opening leaves of the files; and the branch is committed behind it.
 fn is_moved(alloc: Global) -> Option<bool> {
-    let first = disk_of(alloc, &PREPARED)?;
-    let manager = open(alloc, first, MemDisk::new(alloc), LOG_BYTES).ok()?;
-    let (mut first, mut second) = manager.into_disks();
-    let same = bytes_on(alloc, &mut first)?.as_slice() == PREPARED.as_slice();
+    let (mut first, mut second) = disks_of_opened(alloc, &PREPARED)?;
     let lines = "8 opened 2\n49 held 1:aa:bb 4294967297 1\nend 110\n";
-    let moved = begins_as(alloc, &mut second, b"XARMLOG2")? && prints(alloc, &mut second, lines);
-    let mut manager = open(alloc, first, second, LOG_BYTES).ok()?;
-    Some(same && moved && commits(alloc, &mut manager))
+    let moved = are_moved(alloc, &mut first, &PREPARED, &mut second, lines);
+    Some(commits_then(alloc, first, second) && moved)
 }
 
 #[test]
@@ -92,20 +119,22 @@ fn an_opening_moves_a_log(rt: HostRuntime) {
 
 // A log of format 1 without a record gets its boot in a file of the newest format.
 fn begins_again(alloc: Global, bytes: &[u8], lines: &str) -> Option<bool> {
-    let first = disk_of(alloc, bytes)?;
-    let manager = open(alloc, first, MemDisk::new(alloc), LOG_BYTES).ok()?;
-    let (mut first, mut second) = manager.into_disks();
-    let same = bytes_on(alloc, &mut first)?.as_slice() == bytes;
-    Some(same && begins_as(alloc, &mut second, b"XARMLOG2")? && prints(alloc, &mut second, lines))
+    let (mut first, mut second) = disks_of_opened(alloc, bytes)?;
+    Some(are_moved(alloc, &mut first, bytes, &mut second, lines))
+}
+
+fn front_of(len: usize) -> &'static [u8] {
+    let whole: &'static [u8] = &PREPARED;
+    whole.get(..len).unwrap_or_default()
 }
 
 #[test]
 fn an_opening_moves_an_empty_log(rt: HostRuntime) {
     let alloc = rt.alloc();
-    let name = &PREPARED[..NAME_BYTES];
-    assert!(rt; begins_again(alloc, name, "8 opened 1\nend 49\n") == Some(true));
-    let boot = &PREPARED[..BOOT_BYTES];
-    assert!(rt; begins_again(alloc, boot, "8 opened 2\nend 49\n") == Some(true));
+    assert!(rt;
+        begins_again(alloc, front_of(NAME_BYTES), "8 opened 1\nend 49\n") == Some(true)
+            && begins_again(alloc, front_of(BOOT_BYTES), "8 opened 2\nend 49\n") == Some(true)
+    );
 }
 
 /// What an opening makes of a log with each kind of record.
@@ -122,7 +151,7 @@ end 470
 ";
 
 /// What is read then, once the branch in doubt is committed: under 61 to 67, one byte each or none.
-const VALUES: [(&str, &[u8]); 7] = [
+const VALUES: &[(&str, &[u8])] = &[
     ("1 get 61", &[1]),
     ("1 get 62", &[2]),
     ("1 get 63", &[3]),
@@ -132,7 +161,7 @@ const VALUES: [(&str, &[u8]); 7] = [
     ("1 get 67", &[7]),
 ];
 
-const BEHIND: [&str; 5] = [
+const BEHIND: &[&str] = &[
     "connect",
     "1 open TMNOFLAGS xarm",
     "1 commit TMNOFLAGS 1:aa:05",
@@ -153,19 +182,27 @@ fn reads_all(
     None
 }
 
+fn disks_of_kinds(alloc: Global) -> Option<(MemDisk, MemDisk)> {
+    let first = disk_of(alloc, first_file())?;
+    let second = disk_of(alloc, second_file())?;
+    Some(open(alloc, first, second, LOG_BYTES).ok()?.into_disks())
+}
+
+fn reads_kinds(alloc: Global, first: MemDisk, second: MemDisk) -> bool {
+    match open(alloc, first, second, LOG_BYTES) {
+        Ok(mut manager) => {
+            are_done(alloc, &mut manager, BEHIND)
+                && reads_all(alloc, &mut manager, VALUES).is_none()
+        }
+        Err(_) => false,
+    }
+}
+
 // Whether an opening moves a log with each kind of record, and another one finds all of it again.
 fn moves_kinds(alloc: Global) -> Option<bool> {
-    let (first, second) = (
-        disk_of(alloc, first_file())?,
-        disk_of(alloc, second_file())?,
-    );
-    let manager = open(alloc, first, second, LOG_BYTES).ok()?;
-    let (mut first, mut second) = manager.into_disks();
-    let same = bytes_on(alloc, &mut second)?.as_slice() == second_file();
-    let moved = begins_as(alloc, &mut first, b"XARMLOG2")? && prints(alloc, &mut first, KINDS);
-    let mut manager = open(alloc, first, second, LOG_BYTES).ok()?;
-    let done = are_done(alloc, &mut manager, &BEHIND);
-    Some(same && moved && done && reads_all(alloc, &mut manager, &VALUES).is_none())
+    let (mut first, mut second) = disks_of_kinds(alloc)?;
+    let moved = are_moved(alloc, &mut second, second_file(), &mut first, KINDS);
+    Some(reads_kinds(alloc, first, second) && moved)
 }
 
 #[test]
@@ -226,6 +263,6 @@ fn stops(alloc: Global, first_stops: bool) -> Option<u64> {
 /// length; then the eight bytes and a sync, two records and a sync, the seal and a sync.
 #[test]
 fn stops_of_a_first_opening(rt: HostRuntime) {
-    assert!(rt; stops(rt.alloc(), true) == Some(5));
-    assert!(rt; stops(rt.alloc(), false) == Some(11));
+    let alloc = rt.alloc();
+    assert!(rt; stops(alloc, true) == Some(5) && stops(alloc, false) == Some(11));
 }

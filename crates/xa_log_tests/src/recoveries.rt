@@ -1,11 +1,11 @@
 use crate::log_pairs::copies;
 use crate::rows::none_wrong;
 use std::alloc::Global;
-use std::test::Fail;
 use xa_record::{Record, read};
 use xa_recovery::{
     Durable, LogFault, RebuildFault, list_after, next_boot, rebuild, rebuild_log, snapshot,
 };
+use xa_rows::first_wrong;
 use xa_xid::Xid;
 
 const OPENED: [u8; 5] = [1, 0, 0, 0, 1];
@@ -71,38 +71,44 @@ fn are_bodies(bodies: &[Vec<u8>], wanted: &[&[u8]]) -> bool {
 fn leaves(alloc: Global, bodies: &[&[u8]], wanted: &[&[u8]]) -> Option<bool> {
     match rebuild_log(alloc, copies(alloc, bodies)?) {
         Ok(durable) => {
-            let left = snapshot(alloc, &durable, 2).ok()?;
+            let left = snapshot(alloc, durable, 2).ok()?;
             Some(are_bodies(left.as_slice(), wanted))
         }
         Err(_) => None,
     }
 }
 
+/// Bodies, and what a restart with boot 2 writes of them.
+type Left = (&'static [&'static [u8]], &'static [&'static [u8]]);
+
+const LEFT: &[Left] = &[
+    (&[&OPENED, &PREPARED], &[&OPENED_AGAIN, &HELD]),
+    (&[&OPENED, &PREPARED, &COMMITTED], &[&OPENED_AGAIN, &BASE]),
+    (
+        &[&OPENED, &PREPARED, &DECIDED],
+        &[&OPENED_AGAIN, &BASE, &KNOWN],
+    ),
+];
+
+fn wrong_left(alloc: Global, rows: &[Left]) -> Option<usize> {
+    first_wrong(
+        rows,
+        |(bodies, wanted)| leaves(alloc, bodies, wanted) == Some(true),
+    )
+}
+
 #[test]
 fn snapshots(rt: HostRuntime) {
-    let alloc = rt.alloc();
-    assert!(rt; leaves(alloc, &[&OPENED, &PREPARED], &[&OPENED_AGAIN, &HELD]) == Some(true));
-    assert!(rt;
-        leaves(
-            alloc,
-            &[&OPENED, &PREPARED, &COMMITTED],
-            &[&OPENED_AGAIN, &BASE]
-        ) == Some(true)
-    );
-    assert!(rt;
-        leaves(
-            alloc,
-            &[&OPENED, &PREPARED, &DECIDED],
-            &[&OPENED_AGAIN, &BASE, &KNOWN]
-        ) == Some(true)
-    );
+    none_wrong(&rt, wrong_left(rt.alloc(), LEFT));
 }
 
 #[test]
 fn out_of_order(rt: HostRuntime) {
     let alloc = rt.alloc();
-    assert!(rt; fault_of(alloc, &[&PREPARED]) == Some(RebuildFault::Order(0)));
-    assert!(rt; fault_of(alloc, &[&OPENED, &PREPARED, &PREPARED]) == Some(RebuildFault::Order(2)));
+    assert!(rt;
+        fault_of(alloc, &[&PREPARED]) == Some(RebuildFault::Order(0))
+            && fault_of(alloc, &[&OPENED, &PREPARED, &PREPARED]) == Some(RebuildFault::Order(2))
+    );
 }
 
 // A log's boot, and how many branches are committed and in doubt.
@@ -123,16 +129,29 @@ fn log_fault_of(alloc: Global, bodies: &[&[u8]]) -> Option<LogFault> {
     rebuild_log(alloc, copies(alloc, bodies)?).err()
 }
 
+/// Bodies, and what is found in them.
+type Counted = (&'static [&'static [u8]], (u32, usize, usize));
+
+const FOUND: &[Counted] = &[
+    (&[], (0, 0, 0)),
+    (&[&OPENED, &PREPARED], (1, 0, 1)),
+    (&[&OPENED, &PREPARED, &COMMITTED], (1, 1, 0)),
+    (&[&OPENED_AGAIN, &BASE, &KNOWN], (2, 1, 0)),
+    // A branch of the first boot is prepared behind the second, also beside what is held.
+    (&[&OPENED_AGAIN, &PREPARED], (2, 0, 1)),
+    (&[&OPENED_AGAIN, &HELD, &SECOND], (2, 0, 2)),
+];
+
+fn wrong_found(alloc: Global, rows: &[Counted]) -> Option<usize> {
+    first_wrong(
+        rows,
+        |(bodies, wanted)| found_in(alloc, bodies) == Some(*wanted),
+    )
+}
+
 #[test]
 fn bodies_of_logs(rt: HostRuntime) {
-    let alloc = rt.alloc();
-    assert!(rt; found_in(alloc, &[]) == Some((0, 0, 0)));
-    assert!(rt; found_in(alloc, &[&OPENED, &PREPARED]) == Some((1, 0, 1)));
-    assert!(rt; found_in(alloc, &[&OPENED, &PREPARED, &COMMITTED]) == Some((1, 1, 0)));
-    assert!(rt; found_in(alloc, &[&OPENED_AGAIN, &BASE, &KNOWN]) == Some((2, 1, 0)));
-    // A branch of the first boot is prepared behind the second, also beside what is held.
-    assert!(rt; found_in(alloc, &[&OPENED_AGAIN, &PREPARED]) == Some((2, 0, 1)));
-    assert!(rt; found_in(alloc, &[&OPENED_AGAIN, &HELD, &SECOND]) == Some((2, 0, 2)));
+    none_wrong(&rt, wrong_found(rt.alloc(), FOUND));
 }
 
 // No record has the kind 10, and none is so short.
@@ -149,8 +168,11 @@ const NONE_GAVE: [u8; 25] = [
     2, 0, 0, 0, 1, 1, 1, 0xaa, 0xbb, 0, 0, 0, 1, 0, 0, 0, 0, 0, 1, 1, 0x6b, 1, 0, 1, 0x76,
 ];
 
+/// Bodies, and their fault.
+type LogFaultRow = (&'static [&'static [u8]], LogFault);
+
 // A body that is no record's anywhere goes before a record out of order anywhere, and of either the first is told.
-const LOG_FAULTS: [(&[&[u8]], LogFault); 11] = [
+const LOG_FAULTS: &[LogFaultRow] = &[
     (&[&NEW_KIND], LogFault::Malformed(0)),
     (&[&OPENED, &SHORT, &NEW_KIND], LogFault::Malformed(1)),
     (&[&PREPARED, &OPENED], LogFault::Order(0)),
@@ -171,49 +193,75 @@ const LOG_FAULTS: [(&[&[u8]], LogFault); 11] = [
     (&[&SHORT, &PREPARED], LogFault::Malformed(0)),
 ];
 
-fn wrong_log_fault(alloc: Global, rows: &[(&[&[u8]], LogFault)]) -> Option<usize> {
-    for (index, (bodies, fault)) in rows.iter().enumerate() {
-        if log_fault_of(alloc, bodies) != Some(*fault) {
-            return Some(index);
-        }
-    }
-    None
+fn wrong_log_fault(alloc: Global, rows: &[LogFaultRow]) -> Option<usize> {
+    first_wrong(
+        rows,
+        |(bodies, fault)| log_fault_of(alloc, bodies) == Some(*fault),
+    )
 }
 
 #[test]
 fn faults_of_logs(rt: HostRuntime) {
-    none_wrong(&rt, wrong_log_fault(rt.alloc(), &LOG_FAULTS));
+    none_wrong(&rt, wrong_log_fault(rt.alloc(), LOG_FAULTS));
+}
+
+fn boot_behind(alloc: Global, bodies: &[&[u8]]) -> Option<Option<u32>> {
+    Some(next_boot(&durable_of(alloc, bodies)?))
 }
 
 #[test]
-fn boots(rt: HostRuntime) -> Result<(), Fail> {
+fn boots(rt: HostRuntime) {
     let alloc = rt.alloc();
-    let first = durable_of(alloc, &[&OPENED]).ok_or("a boot")?;
-    assert_eq!(rt; next_boot(&first), Some(2));
-    let last = durable_of(alloc, &[&OPENED, &OPENED_LAST]).ok_or("the last boot")?;
-    assert_eq!(rt; next_boot(&last), None);
-    Ok(())
+    assert!(rt;
+        boot_behind(alloc, &[&OPENED]) == Some(Some(2))
+            && boot_behind(alloc, &[&OPENED, &OPENED_LAST]) == Some(None)
+    );
+}
+
+// How many branches are committed, in doubt and completed by the operator, in the first boot.
+fn has_one_of_each(durable: &Durable) -> bool {
+    durable.boot() == 1
+        && durable.committed().len() == 1
+        && durable.prepared().len() == 1
+        && durable.decided().len() == 1
+}
+
+fn are_xids(listed: &[Xid], wanted: &[&Xid]) -> bool {
+    for (xid, want) in listed.iter().zip(wanted) {
+        if *xid != **want {
+            return false;
+        }
+    }
+    listed.len() == wanted.len()
+}
+
+fn lists_as(
+    alloc: Global,
+    durable: &Durable,
+    after: Option<&Xid>,
+    count: usize,
+    wanted: &[&Xid],
+) -> bool {
+    match list_after(alloc, durable, after, count) {
+        Ok(listed) => are_xids(&listed, wanted),
+        Err(_) => false,
+    }
+}
+
+fn are_listed(alloc: Global, durable: &Durable, first: &Xid, second: &Xid) -> bool {
+    lists_as(alloc, durable, None, 5, &[first, second])
+        && lists_as(alloc, durable, Some(first), 5, &[second])
+        && lists_as(alloc, durable, None, 1, &[first])
 }
 
 // 1:aa:bb is completed by the operator and 1:cc: in doubt
 #[test]
-fn lists(rt: HostRuntime) -> Result<(), Fail> {
+fn lists(rt: HostRuntime) {
     let alloc = rt.alloc();
-    let durable = durable_of(alloc, &[&OPENED, &SECOND, &PREPARED, &DECIDED]).ok_or("records")?;
-    assert_eq!(rt; durable.boot(), 1);
-    assert_eq!(rt; durable.committed().len(), 1);
-    assert_eq!(rt; durable.prepared().len(), 1);
-    assert_eq!(rt; durable.decided().len(), 1);
-    let first = Xid::take_text(b"1:aa:bb").ok_or("an XID")?;
-    let second = Xid::take_text(b"1:cc:").ok_or("an XID")?;
-    let all = list_after(alloc, &durable, None, 5)?;
-    let above = list_after(alloc, &durable, Some(&first), 5)?;
-    let one = list_after(alloc, &durable, None, 1)?;
-    match (all.as_slice(), above.as_slice(), one.as_slice()) {
-        ([a, b], [c], [d]) => {
-            assert!(rt; *a == first && *b == second && *c == second && *d == first);
-        }
-        _ => return Err("the lists".into()),
-    }
-    Ok(())
+    let durable = durable_of(alloc, &[&OPENED, &SECOND, &PREPARED, &DECIDED]).expect(
+        &rt, "records",
+    );
+    let first = Xid::take_text(b"1:aa:bb").expect(&rt, "an XID");
+    let second = Xid::take_text(b"1:cc:").expect(&rt, "an XID");
+    assert!(rt; has_one_of_each(&durable) && are_listed(alloc, &durable, &first, &second));
 }

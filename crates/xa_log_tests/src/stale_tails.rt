@@ -1,6 +1,6 @@
 use crate::log_pairs::{AGAIN, DECIDED, HELD, NEW, OLD, appends, are, checkpoint_of, log_of};
 use std::alloc::Global;
-use xa_disk::Effect;
+use xa_disk::{Effect, MemDisk};
 use xa_log::{Appended, Log};
 use xa_rows::LOG_BYTES;
 
@@ -14,15 +14,23 @@ const THREE: [&[u8]; 3] = [&AGAIN, &HELD, &DECIDED];
 
 // A checkpoint of three records is refused at its seal, its seventh call, and leaves them behind the header. One of the
 // first two, with the same boot, is kept: behind it stands what is left of the third. Then an append of a body of that
-// one's length is lost, and a crash keeps so many of its bytes. What an opening finds.
+// one's length is lost.
+fn leaves_a_tail(alloc: Global, log: &mut Log<MemDisk>) -> bool {
+    log.fail_other(7, Effect::Lost).is_ok()
+        && checkpoint_of(alloc, log, &LONGER) == Some(Appended::Refused)
+        && checkpoint_of(alloc, log, &NEW) == Some(Appended::Kept)
+        && is_lost(log)
+}
+
+fn is_lost(log: &mut Log<MemDisk>) -> bool {
+    log.stop(2);
+    appends(log, &DECIDED) == Some(Appended::Lost)
+}
+
+// A crash then keeps so many bytes of the append. What an opening finds.
 fn found_after(alloc: Global, kept: u64) -> Option<Vec<Vec<u8>>> {
     let mut log = log_of(alloc, &OLD)?;
-    log.fail_other(7, Effect::Lost).ok()?;
-    let refused = checkpoint_of(alloc, &mut log, &LONGER)?;
-    let short = checkpoint_of(alloc, &mut log, &NEW)?;
-    log.stop(2);
-    let lost = appends(&mut log, &DECIDED)?;
-    if (refused, short, lost) != (Appended::Refused, Appended::Kept, Appended::Lost) {
+    if !leaves_a_tail(alloc, &mut log) {
         return None;
     }
     let (first, second) = log.into_crashed_disks(kept, 0).ok()?;

@@ -1,4 +1,4 @@
-use crate::log_files::{Row, is_done, open, wrong_row};
+use crate::log_files::{Row, are_done, is_done, open, wrong_row};
 use crate::log_pairs::{AGAIN, HELD, disk_of, file_of};
 use crate::rows::none_wrong;
 use std::alloc::Global;
@@ -21,7 +21,7 @@ const AT_ONCE: [u8; 21] = [
 ];
 
 // Behind a branch that is in doubt: what a trim writes to the other file, and a branch of an earlier boot behind it.
-const ROWS: [Row; 7] = [
+const ROWS: &[Row] = &[
     (&["1 trim"], false, &[&AGAIN, &HELD], 110),
     (&["1 trim", "1 trim"], true, &[&THIRD, &HELD], 110),
     (
@@ -64,14 +64,14 @@ const ROWS: [Row; 7] = [
 
 #[test]
 fn trims(rt: HostRuntime) {
-    none_wrong(&rt, wrong_row(rt.alloc(), &ROWS));
+    none_wrong(&rt, wrong_row(rt.alloc(), ROWS));
 }
 
 /// The last boot of an opened log, the lines that are done then, and the one that isn't.
 type Limit = (&'static [u8], &'static [&'static str], &'static str);
 
 // A trim is refused once 2^31 boots are logged: the others are kept for restarts.
-const LIMITS: [Limit; 2] = [
+const LIMITS: &[Limit] = &[
     (&[1, 0x7f, 255, 255, 254], &["connect", "1 trim"], "1 trim"),
     (&[1, 0x7f, 255, 255, 255], &["connect"], "1 trim"),
 ];
@@ -80,12 +80,11 @@ fn is_limit(alloc: Global, row: &Limit) -> Option<bool> {
     let (boot, lines, refused) = *row;
     let first = disk_of(alloc, &file_of(alloc, &[boot])?)?;
     let mut manager = open(alloc, first, MemDisk::new(alloc), LOG_BYTES).ok()?;
-    for line in lines {
-        if !is_done(alloc, &mut manager, line) {
-            return Some(false);
-        }
-    }
-    Some(!is_done(alloc, &mut manager, refused) && is_done(alloc, &mut manager, "1 restart"))
+    Some(
+        are_done(alloc, &mut manager, lines)
+            && !is_done(alloc, &mut manager, refused)
+            && is_done(alloc, &mut manager, "1 restart"),
+    )
 }
 
 fn wrong_limit(alloc: Global, rows: &[Limit]) -> Option<usize> {
@@ -99,5 +98,5 @@ fn wrong_limit(alloc: Global, rows: &[Limit]) -> Option<usize> {
 
 #[test]
 fn boots_that_are_kept(rt: HostRuntime) {
-    none_wrong(&rt, wrong_limit(rt.alloc(), &LIMITS));
+    none_wrong(&rt, wrong_limit(rt.alloc(), LIMITS));
 }

@@ -1,5 +1,5 @@
 -- What a call has done, by its refusals and its row.
-use Rattle.std.proofs.Common.{◌≡◌, ⊎_elim, ℕ, Bool, true, false, List, Option, Some, None, IsSomeAnd, MatchBool, if◌then◌else◌, refl, ap, sym, ◌∙◌, subst, w32, to_z, of_z}
+use Rattle.std.proofs.Common.{◌≡◌, ⊎_elim, ℕ, ◌+◌, Bool, true, false, List, Option, Some, None, IsSomeAnd, MatchBool, if◌then◌else◌, refl, ap, sym, ◌∙◌, subst, w32, to_z, of_z}
 use Rattle.std.specs.Prelude.{Result, Ok, Err, IsOk, IfOk, OnErr}
 use Rattle.std.specs.declared.alloc.AllocError.{AllocError}
 use Rattle.xa_disk.specs.declared.disk.Disk.{Ghosts}
@@ -22,9 +22,12 @@ use Rattle.xa_model.specs.Early.{call_of, passes_down, early_refusal, Context}
 use Rattle.xa_model.specs.Events.{IsEvent, IsAsked, asks_restart, asks_boot, begins_boot, asks_trim}
 use Rattle.xa_model.specs.Invariants.Loggable.{IsRecoverable}
 use Rattle.xa_model.specs.Restarting.{restart_turn}
-use Rattle.xa_model.specs.Trimming.{trim_turn}
-use Rattle.xa_model.specs.Turn.{Turn, Now, Asked, taken}
-use Rattle.xa_model.specs.Step.{row, respond, is_up, step}
+use Rattle.xa_model.specs.Trimming.{trim_refusal, trim_became, trim_turn}
+use Rattle.xa_model.specs.Turn.{Turn, Now, Checkpoints, Asked, taken, unless_now}
+use Rattle.xa_model.specs.Step.{row, respond, asked, record_in, is_up, step}
+use Rattle.xa_model.specs.Logging.{supposed}
+use Rattle.xa_model.proofs.Further.{quiet_turn}
+use Rattle.xa_record.specs.declared.record.Record.TheVariants as logged
 use Rattle.xa_model.specs.Step.{turn as turn_of, context_of}
 use Rattle.xa_assoc.specs.Refusals.{is_memory, IsBare}
 use Rattle.xa_assoc.specs.declared.fault.ConnectFault.TheVariants.{Memory}
@@ -39,7 +42,7 @@ use Rattle.xa_manager.specs.Stands.{TablesStandFor, Follows, FollowsDown, Stays,
 use Rattle.xa_manager.specs.Replies.{IsFresh}
 use Rattle.xa_manager.specs.Turns.{Takes, TakesTurn, HasDone, HasRestarted, HasTrimmed, HasWanted}
 use Rattle.xa_manager.proofs.OnePhase.{refused_turn, passed_turn}
-use Rattle.xa_manager.proofs.Stepping.{asked_by, has_done, now_leaves, quiet_crash}
+use Rattle.xa_manager.proofs.Stepping.{asked_by, now_steps_by, has_done, now_leaves, quiet_crash}
 use Rattle.xa_manager.proofs.Replying.{bare_fresh}
 use Rattle.xa_manager.proofs.Taking.{takes_row, stays_up}
 
@@ -54,6 +57,22 @@ context_by false k s n st =
     ∙ ap (λ (name : List ℕ). record (context_of s n) { up = false; name = name }) (sym st.name)
     ∙ ap (λ (o : Option Bool). record (context_of s n) { up = false; name = k.name; session = o }) (sym (st.sessions.opened n))
     ∙ ap (λ (moment : ℕ). record (context_at false k n) { moment = moment }) (sym st.moment)
+
+-- neither a restart nor a trim is lost with a group
+
+none_unless : (o : Option Reply) (s : State) (t : Turn) → record_in t ≡ None → record_in (unless_now o s t) ≡ None
+none_unless None s t h = h
+none_unless (Some reply) s t h = refl
+
+restart_alone : (s : State) (n : ℕ) → turn_of s (Asked (Call n Restart)) ≡ asked s.standing (respond s (Call n Restart))
+restart_alone s n =
+    quiet_turn s (Call n Restart) (none_unless (early_refusal (context_of (supposed s) n) Restart) (supposed s) (restart_turn (supposed s)) refl)
+
+trim_alone : (s : State) (n : ℕ) → turn_of s (Asked (Call n Trim)) ≡ asked s.standing (respond s (Call n Trim))
+trim_alone s n =
+    let t = supposed s in
+    quiet_turn s (Call n Trim) (none_unless (early_refusal (context_of t n) Trim) t (trim_turn t)
+    (none_unless (trim_refusal t) t (Checkpoints (logged.Opened (t.logged_boot + 1)) (trim_became t (t.logged_boot + 1))) refl))
 
 never : (b : Bool) (A : Type 0) → b ≡ false → b ≡ true → A
 never true A e h = absurd (cc e)
@@ -108,9 +127,6 @@ code_kept (request.Tick moment) = refl
 code_kept (request.Branches count after) = refl
 
 module _ {D : Type 0} (disks : Ghosts D) where
-  answers_by : (m : Manager D) (s : State) (n : ℕ) (request : Request) → ManagerStandsFor disks m s → step s (Asked (Call n request)) ≡ taken (respond s (Call n request))
-  answers_by m s n request st = ap taken (asked_by m.up (view m) s (respond s (Call n request)) st.tables)
-
   early_same : (m : Manager D) (s : State) (n : ℕ) (request : Request) → ManagerStandsFor disks m s
       → early_refusal (context_of s n) request ≡ early_refusal (context_at m.up (view m) n) request
   early_same m s n request st = ap (λ (c : Context). early_refusal c request) (context_by m.up (view m) s n st.tables)
@@ -124,7 +140,7 @@ module _ {D : Type 0} (disks : Ghosts D) where
   refused_done m n request reply h served = record {
     steps = λ s st premises.
         let is : respond s (Call n request) ≡ Now (answer reply s) = refused_turn (early_refusal (context_of s n) request) s (row s n request) reply (h ∙ sym (early_same m s n request st)) in
-        let steps : step s (Asked (Call n request)) Quiet ≡ Some (answer reply s) = ap (λ (t : Turn). taken t Quiet) (asked_by m.up (view m) s (respond s (Call n request)) st.tables ∙ is) in
+        let steps : step s (Asked (Call n request)) Quiet ≡ Some (answer reply s) = now_steps_by disks m s (Call n request) (answer reply s) st is in
         subst (λ (o : Option Answer). IsSomeAnd o (λ a. (a.reply ≡ reply) × ManagerStandsFor disks m a.after)) (sym steps) (refl, st);
     called = λ s st premises. quiet_called (asks_trim request) m.log;
     crash = λ s st trusts. quiet_crash disks m m s (turn_of s (Asked (Call n request))) Quiet st refl refl;
@@ -196,13 +212,13 @@ module _ {D : Type 0} (disks : Ghosts D) where
   restarted_done m m' n reply outcome h x = record {
     steps = λ s st premises.
         let steps : step s (Asked (Call n Restart)) outcome ≡ taken (restart_turn s) outcome =
-        ap (λ (t : Turn). taken t outcome) (asked_by m.up (view m) s (respond s (Call n Restart)) st.tables ∙ passed_row m s n Restart h st) in
+        ap (λ (t : Turn). taken t outcome) (restart_alone s n ∙ (asked_by m.up (view m) s (respond s (Call n Restart)) st.tables ∙ passed_row m s n Restart h st)) in
         subst (λ (o : Option Answer). IsSomeAnd o (λ a. (a.reply ≡ reply) × ManagerStandsFor disks m' a.after)) (sym steps)
         (⊎_elim (λ trusts. x.turn s st trusts) (λ no. absurd (cc no)) premises);
     called = λ s st premises. x.called;
     crash = λ s st trusts.
         let is : turn_of s (Asked (Call n Restart)) ≡ restart_turn s =
-        asked_by m.up (view m) s (respond s (Call n Restart)) st.tables ∙ passed_row m s n Restart h st in
+        restart_alone s n ∙ (asked_by m.up (view m) s (respond s (Call n Restart)) st.tables ∙ passed_row m s n Restart h st) in
         subst (λ (t : Turn). LeavesBy disks m.log t outcome m'.log s) (sym is) (x.leaves s st trusts);
     served = x.served;
   }
@@ -226,13 +242,13 @@ module _ {D : Type 0} (disks : Ghosts D) where
   trimmed_done m m' n reply outcome h x = record {
     steps = λ s st premises.
         let steps : step s (Asked (Call n Trim)) outcome ≡ taken (trim_turn s) outcome =
-        ap (λ (t : Turn). taken t outcome) (asked_by m.up (view m) s (respond s (Call n Trim)) st.tables ∙ passed_row m s n Trim h st) in
+        ap (λ (t : Turn). taken t outcome) (trim_alone s n ∙ (asked_by m.up (view m) s (respond s (Call n Trim)) st.tables ∙ passed_row m s n Trim h st)) in
         subst (λ (o : Option Answer). IsSomeAnd o (λ a. (a.reply ≡ reply) × ManagerStandsFor disks m' a.after)) (sym steps)
         (⊎_elim (λ trusts. x.turn s st trusts) (λ no. absurd (cc no)) premises);
     called = λ s st premises. ⊎_elim (λ trusts. x.called s st trusts) (λ no. absurd (cc no)) premises;
     crash = λ s st trusts.
         let is : turn_of s (Asked (Call n Trim)) ≡ trim_turn s =
-        asked_by m.up (view m) s (respond s (Call n Trim)) st.tables ∙ passed_row m s n Trim h st in
+        trim_alone s n ∙ (asked_by m.up (view m) s (respond s (Call n Trim)) st.tables ∙ passed_row m s n Trim h st) in
         subst (λ (t : Turn). LeavesBy disks m.log t outcome m'.log s) (sym is) (x.leaves s st trusts);
     served = x.served;
   }

@@ -1,5 +1,5 @@
 -- No more failures are told of than were counted.
-use Rattle.std.proofs.Common.{◌≡◌, inl, inr, ℕ, ◌+◌, ◌<◌, Bool, true, false, cond, List, [], ◌∷◌, ◌++◌, length, Some, None}
+use Rattle.std.proofs.Common.{◌≡◌, inl, inr, ℕ, ◌+◌, ◌<◌, Bool, true, false, cond, List, [], ◌∷◌, ◌++◌, length, Option, Some, None}
 use Rattle.std.proofs.Common.{refl, ap, sym, ◌∙◌, subst, arith}
 use Rattle.std.specs.Prelude.{MatchBool}
 use Rattle.std.proofs.lemmas.List.{append-nil}
@@ -18,7 +18,7 @@ use Rattle.xa_model.specs.declared.outcome.Appending.TheVariants.{Kept, Refused,
 use Rattle.xa_model.specs.State.{State}
 use Rattle.xa_model.specs.Turn.{Asked}
 use Rattle.xa_model.specs.Step.{step}
-use Rattle.xa_model.specs.History.{Entry, Leads}
+use Rattle.xa_model.specs.History.{Entry, Leads, HasGroups, JoinAfter, append_in, joins}
 use Rattle.xa_model.specs.Events.{is_trim}
 use Rattle.xa_assoc.specs.Refusals.{is_memory}
 use Rattle.xa_manager.specs.declared.manager.Manager.{Manager}
@@ -85,6 +85,7 @@ module _ {D : Type 0} (disks : Ghosts D) where
       → HasCalled disks o old new → RiseBy (failures_in o) (counted_by disks.failures old) (counted_by disks.failures new)
   called_by outcome.Quiet old new h = none_by old new (ap (λ (l : Log D). disks.failures (first_of l)) h, ap (λ (l : Log D). disks.failures (second_of l)) h)
   called_by (outcome.Appended a) old new h = append_by a h.2 old new h.0 h.1 h.4
+  called_by (outcome.Joined a) old new h = absurd h
   called_by outcome.Failed old new h = one_by old new h
   called_by (outcome.Reread survived None) old new h = none_by old new h
   called_by (outcome.Reread survived (Some Kept)) old new h = none_by old new h
@@ -98,10 +99,27 @@ module _ {D : Type 0} (disks : Ghosts D) where
   called_for true (outcome.Appended Kept) old new h = none_by old new h
   called_for true (outcome.Appended Refused) old new h = one_by old new h
   called_for true (outcome.Appended Lost) old new h = one_by old new h
+  called_for true (outcome.Joined a) old new h = absurd h
   called_for true outcome.Failed old new h = absurd h
   called_for true (outcome.Reread survived appended) old new h = absurd h
 
+  -- a call by itself joins no other's append
+  pub called_alone : (trims : Bool) (o : Outcome) (old new : Log D) → HasCalledFor disks trims o old new → joins o ≡ false
+  called_alone trims outcome.Quiet old new h = refl
+  called_alone trims (outcome.Appended a) old new h = refl
+  called_alone false (outcome.Joined a) old new h = absurd h
+  called_alone true (outcome.Joined a) old new h = absurd h
+  called_alone trims outcome.Failed old new h = refl
+  called_alone trims (outcome.Reread survived appended) old new h = refl
+
 -- of a run
+
+after_more : (before : Option Appending) (es : List Entry) (e : Entry) → joins e.outcome ≡ false → JoinAfter before es → JoinAfter before (es ++ e ∷ [])
+after_more before [] e other h = (λ is. absurd (cc (is, other)), tt)
+after_more before (x ∷ es) e other h = (h.0, after_more (append_in x.outcome) es e other h.1)
+
+pub groups_more : (es : List Entry) (e : Entry) → joins e.outcome ≡ false → HasGroups es → HasGroups (es ++ e ∷ [])
+groups_more es e other h = after_more None es e other h
 
 failures_append : (xs ys : List Entry) → failures_of (xs ++ ys) ≡ failures_of xs + failures_of ys
 failures_append [] ys = omega arith
@@ -128,8 +146,9 @@ counts_on disks m mid m' es rs event reply true same ed all one full s st truste
     let e = recorded_more es h.0 rs event outcome.Quiet reply true h.2 same ed in
     let leads = subst (λ (xs : List Entry). Leads s xs h.1) (sym (e ∙ append-nil (recorded es h.0 rs))) h.3 in
     let rise = rise_more (recorded es h.0 rs) (recorded (es ++ event ∷ []) (h.0 ++ outcome.Quiet ∷ []) (rs ++ reply ∷ [])) (added event outcome.Quiet reply true) 0
-    (counted_by disks.failures m.log) (counted_by disks.failures mid.log) (counted_by disks.failures m'.log) e refl h.5 (none_by disks mid.log m'.log (full.quiet ed)) in
-    (h.0 ++ outcome.Quiet ∷ [], h.1, told_more es h.0 event outcome.Quiet h.2, leads, one.0 h.1 h.4, rise)
+    (counted_by disks.failures m.log) (counted_by disks.failures mid.log) (counted_by disks.failures m'.log) e refl h.6 (none_by disks mid.log m'.log (full.quiet ed)) in
+    let groups = subst HasGroups (sym (e ∙ append-nil (recorded es h.0 rs))) h.5 in
+    (h.0 ++ outcome.Quiet ∷ [], h.1, told_more es h.0 event outcome.Quiet h.2, leads, one.0 h.1 h.4, groups, rise)
 counts_on disks m mid m' es rs event reply false same ed all one full s st trusted =
     let h = all s st (trusted_before (Trusts disks) es event trusted) in
     let e = recorded_more es h.0 rs event m'.outcome reply false h.2 same ed in
@@ -138,9 +157,11 @@ counts_on disks m mid m' es rs event reply false same ed all one full s st trust
     let entry : Entry = record { happening = Asked event; outcome = m'.outcome; reply = reply } in
     let leads = subst (λ (xs : List Entry). Leads s xs a.0) (sym e) (leads_more s (recorded es h.0 rs) h.1 entry a.0 h.3 a.1) in
     let rise = rise_more (recorded es h.0 rs) (recorded (es ++ event ∷ []) (h.0 ++ m'.outcome ∷ []) (rs ++ reply ∷ [])) (added event m'.outcome reply false) (failures_in m'.outcome)
-    (counted_by disks.failures m.log) (counted_by disks.failures mid.log) (counted_by disks.failures m'.log) e (alone m'.outcome) h.5
+    (counted_by disks.failures m.log) (counted_by disks.failures mid.log) (counted_by disks.failures m'.log) e (alone m'.outcome) h.6
     (called_for disks (is_trim event) m'.outcome mid.log m'.log (full.called ed h.1 h.4 last)) in
-    (h.0 ++ m'.outcome ∷ [], a.0, told_more es h.0 event m'.outcome h.2, leads, a.2, rise)
+    let groups = subst HasGroups (sym e)
+    (groups_more (recorded es h.0 rs) entry (called_alone disks (is_trim event) m'.outcome mid.log m'.log (full.called ed h.1 h.4 last)) h.5) in
+    (h.0 ++ m'.outcome ∷ [], a.0, told_more es h.0 event m'.outcome h.2, leads, a.2, groups, rise)
 
 pub counts_more : {D : Type 0} (disks : Ghosts D)
     (m mid m' : Manager D) (es : List Event) (rs : List Reply) (event : Event) (reply : Reply) → length es ≡ length rs

@@ -1,5 +1,5 @@
 -- What a crash leaves while the first records of a boot are written.
-use Rattle.std.proofs.Common.{◌≡◌, ◌+◌, ◌<◌, ℕ, Bool, true, List, Option, Some, map, refl, sym, subst}
+use Rattle.std.proofs.Common.{◌≡◌, ◌+◌, ◌<◌, ℕ, true, List, [], ◌∷◌, Option, Some, map, refl, sym, subst}
 use Rattle.std.specs.Prelude.{nat_lt, IsSomeAnd}
 use Rattle.xa_disk.specs.Time.{LeavesOnly}
 use Rattle.xa_disk.specs.declared.disk.Disk.{Ghosts}
@@ -16,7 +16,7 @@ use Rattle.xa_limits.specs.declared.TheConstants.{MOST_BOOTS}
 use Rattle.xa_model.specs.declared.outcome.Appending.{Appending}
 use Rattle.xa_model.specs.declared.outcome.Appending.TheVariants.{Kept, Refused, Lost}
 use Rattle.xa_model.specs.declared.outcome.Outcome.{Outcome}
-use Rattle.xa_model.specs.declared.outcome.Outcome.TheVariants.{Quiet, Appended, Failed, Reread}
+use Rattle.xa_model.specs.declared.outcome.Outcome.TheVariants.{Quiet, Appended, Joined, Failed, Reread}
 use Rattle.xa_model.specs.Answer.{Answer}
 use Rattle.xa_model.specs.Invariants.Backing.{Backs}
 use Rattle.xa_model.specs.Durable.{durable}
@@ -34,7 +34,7 @@ use Rattle.xa_manager.proofs.Generations.{newer}
 
 -- it is written, and the state is one in which its opened record is lost
 pub snapshot_leaves : {D : Type 0} (disks : Ghosts D) (old new : Log D) (lost : State) (boot : ℕ) (rs : List Record) (a : Appending)
-    → IsRecoverable lost → lost.open_record ≡ Some (logged.Opened boot) → Backs rs lost → (has : HasRecords disks rs old)
+    → IsRecoverable lost → lost.open_records ≡ logged.Opened boot ∷ [] → Backs rs lost → (has : HasRecords disks rs old)
     → generation (map spelled rs) < generation (snapshot_bodies lost boot)
     → new.log_bytes ≡ old.log_bytes → LeavesCurrent a old new
     → LeavesOnly disks old.other (wrote a new) (LeavesAny old.log_bytes newest has.0 (snapshot_bodies lost boot))
@@ -52,7 +52,7 @@ snapshot_leaves disks old new lost boot rs a h opens backs has above same curren
       leaves;
 }
 
-pub boot_leaves : {D : Type 0} (disks : Ghosts D) (old new : Log D) (s t : State) (survived : Bool) (rs : List Record) (a : Appending)
+pub boot_leaves : {D : Type 0} (disks : Ghosts D) (old new : Log D) (s t : State) (survived : ℕ) (rs : List Record) (a : Appending)
     → IsRecoverable (boot_became t (t.logged_boot + 1) Lost).after → IsFate survived s t → Backs rs t → (has : HasRecords disks rs old)
     → nat_lt t.logged_boot MOST_BOOTS ≡ true → t.logged_boot < MOST_BOOTS
     → new.log_bytes ≡ old.log_bytes → LeavesCurrent a old new
@@ -74,6 +74,7 @@ pub boot_by : {D : Type 0} (disks : Ghosts D) (old mid : Log D) (s : State) (o :
     → LeavesBoot disks mid (restart_turn s) o new → LeavesBy disks old (restart_turn s) o new s
 boot_by disks old mid s Quiet new look boot = absurd boot
 boot_by disks old mid s (Appended a) new look boot = absurd boot
+boot_by disks old mid s (Joined a) new look boot = absurd boot
 boot_by disks old mid s Failed new look boot = absurd boot
 boot_by disks old mid s (Reread survived appended) new look boot = (mid, look, boot)
 

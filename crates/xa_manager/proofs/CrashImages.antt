@@ -1,10 +1,11 @@
 -- Which log two images have.
-use Rattle.std.proofs.Common.{◌≡◌, ◌⊎◌, inl, inr, ⊎_elim, ℕ, ◌≤◌, ◌<◌, Bool, true, List, [], ◌∷◌, ◌++◌, length, sym, ◌∙◌, cond, None}
+use Rattle.std.proofs.Common.{◌≡◌, ◌⊎◌, inl, inr, ⊎_elim, ℕ, ◌≤◌, ◌<◌, Bool, true, List, [], ◌++◌, length, take, sym, ◌∙◌, cond, None}
 use Rattle.xa_log.specs.declared.format.Format.{Format}
-use Rattle.xa_log.specs.Chain.{Rests}
 use Rattle.xa_log.specs.Checkpoint.{LeavesOf, LeavesNone}
+use Rattle.xa_log.specs.Group.{IsFirstPart}
 use Rattle.xa_log.specs.Laws.{IsLogOf}
 use Rattle.xa_log.specs.Pair.{generation, beats, logged_pair, pair_fault, Behind, IsCalm}
+use Rattle.xa_log.proofs.Grouped.{beats_group}
 use Rattle.xa_log.proofs.Pair.{beats_nil}
 use Rattle.xa_log.proofs.Parts.{none_calm, none_of}
 use Rattle.xa_log.proofs.Still.{fault_order, logged_order}
@@ -35,15 +36,13 @@ pub files_of_none : (most : ℕ) (first : Bool) (format : Format) (bodies : List
 files_of_none most first format bodies current other l none =
     files_of_other most first bodies [] current other l (none_of format most [] other none) (none_calm format [] other none.front) (beats_nil first bodies)
 
--- the append of a body was lost
-pub files_of_append : (most : ℕ) (first : Bool) (format : Format) (bodies : List (List ℕ)) (body : List ℕ) (stood : List (List ℕ)) (current other : List ℕ)
-    → length current ≤ most → Rests format bodies current ⊎ Rests format (bodies ++ body ∷ []) current → length other ≤ most → Behind stood other → IsCalm stood other
-    → beats first bodies stood ≡ true → beats first (bodies ++ body ∷ []) stood ≡ true
-    → AreFilesOf most first bodies current other ⊎ AreFilesOf most first (bodies ++ body ∷ []) current other
-files_of_append most first format bodies body stood current other short (inl rests) fits behind calm wins after =
-    inl (files_of_pair most first bodies stood current other (record { format = format; fits = short; rests = rests }) fits behind calm wins)
-files_of_append most first format bodies body stood current other short (inr rests) fits behind calm wins after =
-    inr (files_of_pair most first (bodies ++ body ∷ []) stood current other (record { format = format; fits = short; rests = rests }) fits behind calm after)
+-- the append of a group was lost
+pub files_of_group : (most : ℕ) (first : Bool) (format : Format) (bodies group stood : List (List ℕ)) (current other : List ℕ)
+    → length current ≤ most → (part : IsFirstPart format bodies group current) → length other ≤ most → Behind stood other → IsCalm stood other
+    → beats first bodies stood ≡ true → AreFilesOf most first (bodies ++ take part.many group) current other
+files_of_group most first format bodies group stood current other short part fits behind calm wins =
+    files_of_pair most first (bodies ++ take part.many group) stood current other (record { format = format; fits = short; rests = part.rests }) fits behind calm
+    (beats_group first bodies (take part.many group) stood wins)
 
 -- a checkpoint was lost
 pub files_of_seal : (most : ℕ) (first : Bool) (bodies fresh : List (List ℕ)) (current other : List ℕ) → IsLogOf most bodies current → LeavesOf most fresh other

@@ -1,5 +1,5 @@
 -- What a crash leaves at any moment of an opening.
-use Rattle.std.proofs.Common.{◌≡◌, ◌≢◌, inl, inr, ◌+◌, ◌<◌, ℕ, Bool, true, false, ◌&&◌, ◌||◌, cond, List, [], Option, Some, None, map, refl, ap, sym, ◌∙◌, subst}
+use Rattle.std.proofs.Common.{◌≡◌, ◌≢◌, inl, inr, ◌+◌, ◌<◌, ℕ, Bool, true, false, ◌&&◌, ◌||◌, cond, List, [], ◌∷◌, Option, Some, None, map, refl, ap, sym, ◌∙◌, subst}
 use Rattle.std.specs.Prelude.{Result, Ok, Err, IfOk, IfErr, IsSomeAnd, nat_lt, option_map, option_and_then}
 use Rattle.xa_disk.specs.Time.{LeavesOnly}
 use Rattle.xa_disk.specs.declared.disk.Disk.{Ghosts}
@@ -21,11 +21,10 @@ use Rattle.xa_model.specs.declared.outcome.Appending.{Appending}
 use Rattle.xa_model.specs.declared.outcome.Appending.TheVariants.{Kept, Refused, Lost}
 use Rattle.xa_model.specs.declared.outcome.Outcome.TheVariants.{Reread}
 use Rattle.xa_model.specs.Answer.{Answer, ok}
-use Rattle.xa_model.specs.Invariants.Backing.{Backs}
 use Rattle.xa_model.specs.Durable.{Durable, durable}
 use Rattle.xa_model.specs.Fold.{snapshot}
 use Rattle.xa_model.specs.Invariants.Loggable.{IsRecoverable}
-use Rattle.xa_model.specs.Restarting.{missed, survived, refused_opening, reopen_became, reopening, reopen_turn, can_open}
+use Rattle.xa_model.specs.Restarting.{refused_opening, reopen_became, reopening, reopen_turn, can_open}
 use Rattle.xa_model.specs.State.{State, Ended}
 use Rattle.xa_model.specs.Turn.{Reopened, Opens, Stops, going_on, taken}
 use Rattle.xa_model.proofs.Booted.{same_backed}
@@ -37,7 +36,7 @@ use Rattle.xa_manager.specs.declared.manager.Manager.{Manager}
 use Rattle.xa_manager.specs.declared.refused.RefusedOpening.{RefusedOpening}
 use Rattle.xa_manager.specs.Crash.{LeavesCurrent, LeavesCheckpoint, wrote}
 use Rattle.xa_manager.specs.CrashOpening.{LooksOver, LeavesReopening, LeavesUnopened, CrashesOpening}
-use Rattle.xa_manager.specs.Files.{FilesStandFor, Settles}
+use Rattle.xa_manager.specs.Files.{FilesStandFor}
 use Rattle.xa_manager.specs.LogStands.{Trusts, HasRecords}
 use Rattle.xa_manager.specs.Opening.{IsFound, has_boot_room}
 use Rattle.xa_manager.specs.Refused.{LeavesFinding, KeepsCurrent, SnapshotsFirst, LogsFirst, LeavesLogging, LeavesRefused}
@@ -48,23 +47,9 @@ use Rattle.xa_manager.proofs.OpenedStates.{below_limit, both_hold}
 
 -- ---- in the model's words
 
--- the records of files that stand for a state settle the fate of its open record
-record Fated (rs : List Record) (s : State) : Type 0 where
-  survives : Bool
-  state : State
-  fate : IsFate survives s state
-  backs : Backs rs state
-
-files_fated : (rs : List Record) (s : State) → Settles rs s → Fated rs s
-files_fated rs s (inl backs) = record { survives = false; state = missed s; fate = refl; backs = backs }
-files_fated rs s (inr (r, open_is, backs)) = record { survives = true; state = survived s r; fate = (r, open_is, refl); backs = backs }
-
-reopen_taken : (b : Bool) (s t : State) (name : List ℕ) (log_bytes : ℕ) (o : Option Appending) → IsFate b s t
-    → taken (reopen_turn s name log_bytes) (Reread b o) ≡ going_on o (reopening name log_bytes t)
-reopen_taken true s t name log_bytes o (r, found, is) =
-    ap (λ (q : Option Record). option_and_then (going_on o) (option_map (λ r. reopening name log_bytes (survived s r)) q)) found
-    ∙ ap (λ (x : State). going_on o (reopening name log_bytes x)) (sym is)
-reopen_taken false s t name log_bytes o is = ap (λ (x : State). going_on o (reopening name log_bytes x)) (sym is)
+reopen_taken : (k : ℕ) (s t : State) (name : List ℕ) (log_bytes : ℕ) (o : Option Appending) → IsFate k s t
+    → taken (reopen_turn s name log_bytes) (Reread k o) ≡ going_on o (reopening name log_bytes t)
+reopen_taken k s t name log_bytes o fate = ap (λ (u : Option State). option_and_then (going_on o) (option_map (reopening name log_bytes) u)) fate
 
 opens_by : (t : State) (name : List ℕ) (log_bytes : ℕ) (a : Appending) (c : Bool) → c ≡ true
     → going_on (Some a) (cond c (Opens (logged_as.Opened (t.logged_boot + 1)) (reopen_became t name log_bytes (t.logged_boot + 1))) (Stops (ok (refused_opening t name log_bytes))))
@@ -141,17 +126,16 @@ module _ {D : Type 0} (disks : Ghosts D) (only_now : (d : D) (c : List ℕ) → 
       → LeavesLogging disks log_bytes first second a after → LeavesReopening disks first second s name log_bytes (became a) after
   reopening_leaves first second s name log_bytes a after trusts h files stray l =
       let look = looks_over log_bytes first (first_of l.log) second (second_of l.log) s files.whole (l.finding trusts.disk) in
-      let f = files_fated files.records s files.settles in
-      let t = f.state in
+      let (many, t, fate, backs) = files.settles in
       let not_new : l.is_new ≡ true → ⊥ = λ new. never_empty log_bytes (disks.seen first) (disks.seen second) files.whole (l.made trusts.disk new).0 (l.made trusts.disk new).1 in
       let spells : l.bodies ≡ map spelled files.records = sym (l.read trusts.disk) ∙ files.logged in
       let d_is : l.logs.durable ≡ durable t =
-      rebuilt_is l.bodies files.records l.logs.durable (durable t) (l.logs.comes.records, l.logs.comes.bodies_are, l.logs.comes.folded) spells f.backs.records f.backs.lasts in
+      rebuilt_is l.bodies files.records l.logs.durable (durable t) (l.logs.comes.records, l.logs.comes.bodies_are, l.logs.comes.folded) spells backs.records backs.lasts in
       let less : t.logged_boot < MOST_BOOTS = subst (λ (x : Durable). x.boot < MOST_BOOTS) d_is l.logs.boots in
       let room : has_boot_room log_bytes (durable t) (t.logged_boot + 1) ≡ true = subst (λ (x : Durable). has_boot_room log_bytes x (x.boot + 1) ≡ true) d_is l.logs.room in
       let opens : can_open t log_bytes (t.logged_boot + 1) ≡ true = rw (← prepared_lasting t, ← decided_lasting t) room in
       let both : nat_lt t.logged_boot MOST_BOOTS && can_open t log_bytes (t.logged_boot + 1) ≡ true = both_hold _ _ (below_limit t.logged_boot less) opens in
-      let is = reopen_taken f.survives s t name log_bytes (Some Lost) f.fate ∙ opens_by t name log_bytes Lost _ both in
+      let is = reopen_taken many s t name log_bytes (Some Lost) fate ∙ opens_by t name log_bytes Lost _ both in
       let lost = (reopen_became t name log_bytes (t.logged_boot + 1) Lost).after in
       let no_stray : NoStray (disks.seen (first_of l.log)) (disks.seen (second_of l.log)) =
       subst (λ (y : List ℕ). NoStray (disks.seen (first_of l.log)) y) (sym look.second_is.seen) (subst (λ (x : List ℕ). NoStray x (disks.seen second)) (sym look.first_is.seen) stray) in
@@ -164,13 +148,13 @@ module _ {D : Type 0} (disks : Ghosts D) (only_now : (d : D) (c : List ℕ) → 
       (snap.left trusts.disk l.bodies (logged (disks.seen l.log.other)) pair).1) in
       record {
         log = l.log;
-        survived = f.survives;
+        survived = many;
         look = look;
         boot = subst (λ (o : Option Answer). IsSomeAnd o (λ x. LeavesCheckpoint disks l.log (became a) after x.after)) (sym is)
             (snapshot_leaves disks l.log after lost (t.logged_boot + 1) files.records (became a)
-            (keeps_recoverable s (Reopened name log_bytes) (Reread f.survives (Some Lost)) (reopen_became t name log_bytes (t.logged_boot + 1) Lost) tt h is)
-            refl (same_backed files.records t name log_bytes [] [] Ended (Some (logged_as.Opened (t.logged_boot + 1))) t.moment f.backs) has
-            (newer files.records (durable t) f.backs.lasts less) snap.log_bytes (same_current a l.log after snap.current) left);
+            (keeps_recoverable s (Reopened name log_bytes) (Reread many (Some Lost)) (reopen_became t name log_bytes (t.logged_boot + 1) Lost) tt h is)
+            refl (same_backed files.records t name log_bytes [] [] Ended (logged_as.Opened (t.logged_boot + 1) ∷ []) t.moment backs) has
+            (newer files.records (durable t) backs.lasts less) snap.log_bytes (same_current a l.log after snap.current) left);
       }
 
   -- ---- the opening

@@ -17,7 +17,7 @@ use Rattle.xa_model.specs.Invariants.Backing.{Backs}
 use Rattle.xa_model.specs.Durable.{Durable}
 use Rattle.xa_model.specs.Invariants.Loggable.{IsRecoverable}
 use Rattle.xa_model.specs.State.{State}
-use Rattle.xa_manager.specs.Rereading.{IsFate, Found}
+use Rattle.xa_manager.specs.Rereading.{Found}
 use Rattle.xa_manager.proofs.Fates.{fate_recoverable}
 
 -- ---- formats, by their numbers and by a file's first bytes
@@ -129,11 +129,7 @@ some_record [] s b h =
 some_record (r ∷ rs) s b h = refl
 
 pub found_some : {D : Type 0} (disks : Ghosts D) (bodies : List (List ℕ)) (log : Log D) (s : State) → IsRecoverable s → Found disks bodies log s → is_nil bodies ≡ false
-found_some disks bodies log s h f = ap is_nil f.spelled_as ∙ some_record f.records f.state f.backs (by f.fate)
-  where
-    by : IsFate true s f.state ⊎ IsFate false s f.state → IsRecoverable f.state
-    by (inl fate) = fate_recoverable true s f.state h fate
-    by (inr fate) = fate_recoverable false s f.state h fate
+found_some disks bodies log s h f = ap is_nil f.spelled_as ∙ some_record f.records f.state f.backs (fate_recoverable f.many s f.state h f.fate)
 
 -- a log that was alive before a look, and stood
 pub stood_format : {D : Type 0} (disks : Ghosts D) (log log' : Log D) (state : LogState) (found : List (List ℕ)) → IsIn disks state log → log.lost ≡ false → MayFind state found

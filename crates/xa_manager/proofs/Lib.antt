@@ -21,8 +21,10 @@ pub mod OnePhase
 pub mod Completing
 pub mod LogsBehind
 pub mod Stepping
+pub mod Survivors
 pub mod Calling
 pub mod Appending
+pub mod Connecting
 pub mod Counting
 pub mod Beginnings
 pub mod Begins

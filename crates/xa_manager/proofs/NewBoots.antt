@@ -77,11 +77,11 @@ new_stands disks m d next name log_bytes up doubt named sized bytes sessions bra
     records = records s it now;
     recoverable = it.recoverable;
   });
-  roomy = λ alive. record { room = restored_room d next log_bytes s it bytes_is room; found = rw it.open_record tt };
+  roomy = λ alive. record { room = restored_room d next log_bytes s it bytes_is room; found = rw it.open_records tt };
   end = λ is_up. ends.end ∙ text_size m.log.format (snapshot d next) ∙ sym (restored_end d next s it);
   alive = λ is_up. ends.alive;
   modern = λ is_up. modern;
   log_bytes = bytes ∙ sym bytes_is;
-  doubt = rw doubt it.open_record;
+  doubt = rw doubt it.open_records;
   log = λ trusts. stands_whole disks m.log s (snapshot d next) (restored_backed d next s form less limits it) (has trusts.disk);
 }

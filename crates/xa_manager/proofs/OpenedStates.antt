@@ -1,6 +1,6 @@
 -- The states that an opened manager stands for.
 use Rattle.std.proofs.lemmas.Bool.Decides.{nat_tests}
-use Rattle.std.proofs.Common.{◌≡◌, inl, inr, ◌+◌, ◌<◌, ℕ, Bool, true, false, List, [], ◌∷◌, map, Option, None, Some, IsSomeAnd, refl, ap, sym, ◌∙◌, subst, arith}
+use Rattle.std.proofs.Common.{◌≡◌, ◌+◌, ◌<◌, ℕ, Bool, true, false, List, [], ◌∷◌, map, Option, None, Some, IsSomeAnd, refl, ap, sym, ◌∙◌, subst, arith}
 use Rattle.std.specs.Prelude.{Result, Ok, Err, IfOk, IfSome, nat_lt, ◌&&◌, option_map, option_and_then}
 use Rattle.xa_disk.specs.declared.disk.Disk.{Ghosts}
 use Rattle.xa_record.specs.Spelling.{spelled}
@@ -12,9 +12,9 @@ use Rattle.xa_model.specs.State.{State}
 use Rattle.xa_model.specs.Answer.{Answer, ok}
 use Rattle.xa_model.specs.Durable.{Durable, durable}
 use Rattle.xa_model.specs.Fold.{fold, nothing}
-use Rattle.xa_model.specs.Invariants.Loggable.{IsRecoverable, MayBeLast}
+use Rattle.xa_model.specs.Invariants.Loggable.{IsRecoverable}
 use Rattle.xa_model.specs.Invariants.Backing.{Backs}
-use Rattle.xa_model.specs.Restarting.{missed, survived, can_open, reopened, reopening}
+use Rattle.xa_model.specs.Restarting.{can_open, reopened, reopening}
 use Rattle.xa_limits.specs.declared.TheConstants.{MOST_BOOTS}
 use Rattle.xa_model.specs.Invariants.Restored.{IsRestored}
 use Rattle.xa_model.specs.Turn.{Reopened, going_on}
@@ -22,12 +22,13 @@ use Rattle.xa_model.specs.Step.{step}
 use Rattle.xa_model.specs.History.{fresh}
 use Rattle.xa_model.proofs.Openings.{opens_restored}
 use Rattle.xa_model.proofs.Restores.{reopens_restored}
-use Rattle.xa_model.proofs.Restarts.{missed_recoverable, survived_recoverable}
 use Rattle.xa_model.proofs.Rooms.{prepared_lasting, decided_lasting}
 use Rattle.xa_manager.specs.declared.manager.Manager.{Manager}
 use Rattle.xa_manager.specs.Managed.{ManagerStandsFor}
 use Rattle.xa_manager.specs.Opening.{HasBegun, HasBegunOn, has_boot_room}
 use Rattle.xa_manager.specs.Files.{FilesStandFor, Settles}
+use Rattle.xa_manager.specs.Rereading.{IsFate}
+use Rattle.xa_manager.proofs.Fates.{fate_recoverable, fate_settled}
 use Rattle.xa_manager.proofs.Generations.{same_records}
 
 -- a manager that began
@@ -67,15 +68,9 @@ kept_reopens : (t : State) (name : List ℕ) (log_bytes : ℕ) → nat_lt t.logg
     → going_on (Some Kept) (reopening name log_bytes t) ≡ Some (ok (reopened t name log_bytes (t.logged_boot + 1)))
 kept_reopens t name log_bytes e = rw e refl
 
-missed_step : (s : State) (name : List ℕ) (log_bytes : ℕ) → step s (Reopened name log_bytes) (Reread false (Some Kept)) ≡ going_on (Some Kept) (reopening name log_bytes (missed s))
-missed_step s name log_bytes = refl
-
-found_step : (s : State) (r : Record) (name : List ℕ) (log_bytes : ℕ) → s.open_record ≡ Some r → step s (Reopened name log_bytes) (Reread true (Some Kept)) ≡ going_on (Some Kept) (reopening name log_bytes (survived s r))
-found_step s r name log_bytes e =
-    ap (λ (o : Option Record). option_and_then (going_on (Some Kept)) (option_map (λ (q : Record). reopening name log_bytes (survived s q)) o)) e
-
-may_be : (s : State) (r : Record) → IsRecoverable s → s.open_record ≡ Some r → MayBeLast s r
-may_be s r rec e = subst (λ (o : Option Record). IfSome o (MayBeLast s)) e rec.open_record
+found_step : (k : ℕ) (s t : State) (name : List ℕ) (log_bytes : ℕ) → IsFate k s t
+    → step s (Reopened name log_bytes) (Reread k (Some Kept)) ≡ going_on (Some Kept) (reopening name log_bytes t)
+found_step k s t name log_bytes fate = ap (λ (o : Option State). option_and_then (going_on (Some Kept)) (option_map (reopening name log_bytes) o)) fate
 
 module _ {D : Type 0} (disks : Ghosts D) where
   fresh_one : (m : Manager D) (name : List ℕ) (log_bytes : ℕ) → HasBegun disks [] name log_bytes m → ManagerStandsFor disks m (fresh name log_bytes)
@@ -91,9 +86,9 @@ module _ {D : Type 0} (disks : Ghosts D) where
       begun_map r (HasBegun disks (logged_pair a b) name log_bytes) _
       (λ m begun. fresh_one m name log_bytes (subst (λ (l : List (List ℕ)). HasBegun disks l name log_bytes m) (none_logged a b ea eb) begun)) h
 
-  -- the state whose last record's fate is known
+  -- the state whose last records' fates are known
   opened_one : (m : Manager D) (name : List ℕ) (log_bytes : ℕ) (bodies : List (List ℕ)) (rs : List Record) (t : State) → HasBegun disks bodies name log_bytes m
-      → bodies ≡ map spelled rs → Backs rs t → IsRecoverable t → t.open_record ≡ None
+      → bodies ≡ map spelled rs → Backs rs t → IsRecoverable t → t.open_records ≡ []
       → (nat_lt t.logged_boot MOST_BOOTS && can_open t log_bytes (t.logged_boot + 1) ≡ true) × ManagerStandsFor disks m (reopened t name log_bytes (t.logged_boot + 1))
   opened_one m name log_bytes bodies rs t begun are backs rec none =
       let same : begun.comes.records ≡ rs = same_records begun.comes.records rs begun.comes.bodies_are.limits backs.records (begun.comes.bodies_are.spelling ∙ are) in
@@ -110,23 +105,17 @@ module _ {D : Type 0} (disks : Ghosts D) where
 
   reopens_one : (m : Manager D) (s : State) (name : List ℕ) (log_bytes : ℕ) (bodies : List (List ℕ)) (rs : List Record) → IsRecoverable s → bodies ≡ map spelled rs → Settles rs s
       → HasBegun disks bodies name log_bytes m
-      → (found : Bool) × IsSomeAnd (step s (Reopened name log_bytes) (Reread found (Some Kept))) (λ a. ManagerStandsFor disks m a.after)
-  reopens_one m s name log_bytes bodies rs rec are (inl backs) begun =
-      let x = opened_one m name log_bytes bodies rs (missed s) begun are backs (missed_recoverable s rec) refl in (
-        false,
-        opened_some m (step s (Reopened name log_bytes) (Reread false (Some Kept))) (ok (reopened (missed s) name log_bytes ((missed s).logged_boot + 1)))
-            (missed_step s name log_bytes ∙ kept_reopens (missed s) name log_bytes x.0) x.1,
-      )
-  reopens_one m s name log_bytes bodies rs rec are (inr (r, e, backs)) begun =
-      let x = opened_one m name log_bytes bodies rs (survived s r) begun are backs (survived_recoverable s r rec e (may_be s r rec e)) refl in (
-        true,
-        opened_some m (step s (Reopened name log_bytes) (Reread true (Some Kept))) (ok (reopened (survived s r) name log_bytes ((survived s r).logged_boot + 1)))
-            (found_step s r name log_bytes e ∙ kept_reopens (survived s r) name log_bytes x.0) x.1,
+      → (found : ℕ) × IsSomeAnd (step s (Reopened name log_bytes) (Reread found (Some Kept))) (λ a. ManagerStandsFor disks m a.after)
+  reopens_one m s name log_bytes bodies rs rec are (k, t, fate, backs) begun =
+      let x = opened_one m name log_bytes bodies rs t begun are backs (fate_recoverable k s t rec fate) (fate_settled k s t fate) in (
+        k,
+        opened_some m (step s (Reopened name log_bytes) (Reread k (Some Kept))) (ok (reopened t name log_bytes (t.logged_boot + 1)))
+            (found_step k s t name log_bytes fate ∙ kept_reopens t name log_bytes x.0) x.1,
       )
 
   pub reopens_opened : {E : Type 0} (r : Result (Manager D) E) (s : State) (name : List ℕ) (log_bytes : ℕ) (a b : List ℕ) → IsRecoverable s → FilesStandFor log_bytes a b s
       → IfOk r (HasBegun disks (logged_pair a b) name log_bytes)
-      → IfOk r (λ m. (found : Bool) × IsSomeAnd (step s (Reopened name log_bytes) (Reread found (Some Kept))) (λ x. ManagerStandsFor disks m x.after))
+      → IfOk r (λ m. (found : ℕ) × IsSomeAnd (step s (Reopened name log_bytes) (Reread found (Some Kept))) (λ x. ManagerStandsFor disks m x.after))
   reopens_opened r s name log_bytes a b rec files h =
       begun_map r (HasBegun disks (logged_pair a b) name log_bytes) _
       (λ m begun. reopens_one m s name log_bytes (logged_pair a b) files.records rec files.logged files.settles begun) h

@@ -28,7 +28,7 @@ use Rattle.xa_manager.proofs.Standing.{failed_stands}
 
 -- The log isn't one that a manager wrote, or not the one that it was: under the premises this never comes.
 pub unread_restarts : {D : Type 0} (disks : Ghosts D) (m mid m' : Manager D) (reply : Reply) (o : Outcome)
-    → o ≡ Reread false None → reply ≡ detailed XAER_RMFAIL detail.Nothing → m' ≡ record mid { up = false }
+    → o ≡ Reread 0 None → reply ≡ detailed XAER_RMFAIL detail.Nothing → m' ≡ record mid { up = false }
     → NoneRises disks.failures m.log mid.log → ((s : State) → ManagerStandsFor disks m s → Trusts disks → ⊥)
     → HasRestarted disks m reply o m'
 unread_restarts {D} disks m mid m' reply o told replied is quiet never = record {
@@ -41,7 +41,7 @@ unread_restarts {D} disks m mid m' reply o told replied is quiet never = record 
 
 -- the same, once nothing more was made ready
 pub unread_ready : {D : Type 0} (disks : Ghosts D) (m mid ready m' : Manager D) (reply : Reply) (o : Outcome)
-    → o ≡ Reread false None → reply ≡ detailed XAER_RMFAIL detail.Nothing → m' ≡ record ready { up = false } → ready ≡ mid
+    → o ≡ Reread 0 None → reply ≡ detailed XAER_RMFAIL detail.Nothing → m' ≡ record ready { up = false } → ready ≡ mid
     → NoneRises disks.failures m.log mid.log → ((s : State) → ManagerStandsFor disks m s → Trusts disks → ⊥)
     → HasRestarted disks m reply o m'
 unread_ready {D} disks m mid ready m' reply o told replied is same quiet never =

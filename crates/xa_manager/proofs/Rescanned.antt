@@ -12,12 +12,13 @@ use Rattle.xa_log.specs.TwoFiles.{Pair}
 use Rattle.xa_log.proofs.Records.{length-record_of, length-text}
 use Rattle.xa_model.specs.State.{State}
 use Rattle.xa_model.specs.Fold.{sizes}
-use Rattle.xa_model.specs.Invariants.Backing.{Backs, settled}
+use Rattle.xa_model.specs.Invariants.Backing.{Backs, settled_first}
 use Rattle.xa_model.specs.Invariants.Loggable.{IsRecoverable}
-use Rattle.xa_model.specs.Restarting.{missed, survived}
-use Rattle.xa_manager.specs.LogStands.{HasRecords, IsOfOne, IsSettled, LogStandsFor}
+use Rattle.xa_model.specs.Restarting.{survived}
+use Rattle.xa_model.proofs.AppliedAll.{finds_first}
+use Rattle.xa_model.proofs.Booted.{backs_found}
+use Rattle.xa_manager.specs.LogStands.{HasRecords, IsSettled, LogStandsFor}
 use Rattle.xa_manager.specs.Rereading.{Found}
-use Rattle.xa_manager.proofs.Fates.{survived_backed, missed_backed}
 
 -- how long a log of records is
 
@@ -35,21 +36,20 @@ text_size format rs = length-text format (map spelled rs) ∙ ap (λ (n : ℕ). 
 -- A look that succeeds finds what the log may have, and that stands.
 pub record Finds {D : Type 0} (disks : Ghosts D) (found : List (List ℕ)) (log log' : Log D) : Type 0 where
   pub stood : List (List ℕ)
-  pub state : (state : LogState) → IsOfOne state → IsIn disks state log → MayFind state found × Pair disks found stood log'
+  pub state : (state : LogState) → IsIn disks state log → MayFind state found × Pair disks found stood log'
 
 -- the log still stands behind the state
 pub stands_found : {D : Type 0} (disks : Ghosts D) (found : List (List ℕ)) (log log' : Log D) (s : State)
     → Finds disks found log log' → LogStandsFor disks log s → LogStandsFor disks log' s
 stands_found disks found log log' s k st =
-    let now = k.state st.state st.of_one st.is_in in
+    let now = k.state st.state st.is_in in
     record {
       records = st.records;
       backs = st.backs;
       state = Whole found k.stood;
       is_in = now.1;
       finds = λ again is. subst (λ (bodies : List (List ℕ)). IsSettled st.records s bodies) (sym is) (st.finds found now.0);
-      of_one = tt;
-      lost_as = λ r is. _;
+      lost_as = tt;
     }
 
 -- a log of these records ends where they do
@@ -60,7 +60,7 @@ records_end disks rs t log k (stood, pair) = pair.current.end ∙ (text_size log
 pub found_state : {D : Type 0} (disks : Ghosts D) (found : List (List ℕ)) (log log' : Log D) (s : State)
     → Finds disks found log log' → IsRecoverable s → LogStandsFor disks log s → Found disks found log' s
 found_state disks found log log' s k h st =
-    let now = k.state st.state st.of_one st.is_in in
+    let now = k.state st.state st.is_in in
     by_fate (st.finds found now.0) now.1
   where
     -- these are the records
@@ -68,29 +68,22 @@ found_state disks found log log' s k h st =
     has qs spells pair = (k.stood, subst (λ (bodies : List (List ℕ)). Pair disks bodies k.stood log') spells pair)
 
     by_fate : IsSettled st.records s found → Pair disks found k.stood log' → Found disks found log' s
-    by_fate (inl is) pair =
-        let backs : Backs st.records (missed s) = missed_backed st.records s st.backs in
-        let records : HasRecords disks st.records log' = has st.records is pair in
+    by_fate (many, few, is) pair =
+        let (t, fate) = finds_first s many few in
+        let rs = settled_first many s.open_records st.records s in
+        let backs : Backs rs t = backs_found st.records s many t h st.backs fate in
+        let records : HasRecords disks rs log' = has rs is pair in
         record {
-          state = missed s;
-          fate = inr refl;
-          records = st.records;
+          state = t;
+          many = many;
+          fate = fate;
+          earlier = st.records;
+          stood = st.backs;
+          records = rs;
+          settled = refl;
           spelled_as = is;
           backs = backs;
           has = records;
-          end = records_end disks st.records (missed s) log' backs records;
-          alive = pair.current.alive;
-        }
-    by_fate (inr (r, open_is, is)) pair =
-        let backs : Backs (settled st.records s r) (survived s r) = survived_backed st.records s r h st.backs open_is in
-        let records : HasRecords disks (settled st.records s r) log' = has (settled st.records s r) is pair in
-        record {
-          state = survived s r;
-          fate = inl (r, open_is, refl);
-          records = settled st.records s r;
-          spelled_as = is;
-          backs = backs;
-          has = records;
-          end = records_end disks (settled st.records s r) (survived s r) log' backs records;
+          end = records_end disks rs t log' backs records;
           alive = pair.current.alive;
         }

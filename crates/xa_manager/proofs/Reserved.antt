@@ -126,14 +126,22 @@ module _ {D : Type 0} (disks : Ghosts D) (old new : Log D) (r : HasReserved disk
   pub state_same : (bodies : List (List ℕ)) (s : State) → Found disks bodies old s → Found disks bodies new s
   state_same bodies s f = record {
     state = f.state;
+    many = f.many;
     fate = f.fate;
+    earlier = f.earlier;
+    stood = f.stood;
     records = f.records;
+    settled = f.settled;
     spelled_as = f.spelled_as;
     backs = f.backs;
     has = (f.has.0, pair_same _ f.has.0 f.has.1);
     end = r.fields.end ∙ f.end;
     alive = r.fields.lost ∙ f.alive;
   }
+
+  pub many_same : (bodies : List (List ℕ)) (s : State) (f : Found disks bodies old s) → f.many ≡ (state_same bodies s f).many
+  unfolding state_same
+  many_same bodies s f = refl
 
   pub look_same : (before : Log D) (s : State) → LeavesLook disks before old s → LeavesLook disks before new s
   look_same before s (looks, leaves) = (

@@ -1,8 +1,7 @@
 -- What a manager stands for, where its log was read again or a new boot was logged.
-use Rattle.std.proofs.Common.{◌≡◌, ◌≢◌, ◌⊎◌, inl, inr, ◌<◌, ◌≤◌, ◌+◌, ℕ, Bool, true, false, List, [], map, length, Option, Some, None, refl, ap, sym, ◌∙◌, subst, arith, ltb-true}
-use Rattle.std.specs.Prelude.{nat_lt, IfSome}
+use Rattle.std.proofs.Common.{◌≡◌, ◌≢◌, ◌⊎◌, inl, inr, ◌<◌, ◌≤◌, ◌+◌, ℕ, Bool, true, false, List, [], ◌∷◌, map, length, Option, Some, None, refl, ap, sym, ◌∙◌, subst, arith, ltb-true}
+use Rattle.std.specs.Prelude.{nat_lt}
 use Rattle.xa_disk.specs.declared.disk.Disk.{Ghosts}
-use Rattle.xa_codes.specs.declared.direction.Direction.TheVariants as direction
 use Rattle.xa_record.specs.Spelling.{spelled}
 use Rattle.xa_record.specs.declared.record.Record.{Record}
 use Rattle.xa_record.specs.declared.record.Record.TheVariants as logged
@@ -10,11 +9,11 @@ use Rattle.xa_log.specs.Chain.{newest}
 use Rattle.xa_log.specs.declared.log.Log.{Log}
 use Rattle.xa_log.specs.Checkpoint.{IsQuiet}
 use Rattle.xa_log.specs.TwoFiles.{Pair, MaySeal}
-use Rattle.xa_model.specs.State.{State, Up, Ended}
+use Rattle.xa_model.specs.State.{State, Up, Down, Ended}
 use Rattle.xa_model.specs.Durable.{durable}
 use Rattle.xa_model.specs.Fold.{snapshot}
-use Rattle.xa_model.specs.Logging.{applied, down}
-use Rattle.xa_model.specs.Invariants.Loggable.{IsRecoverable, MayBeLast}
+use Rattle.xa_model.specs.Logging.{down}
+use Rattle.xa_model.specs.Invariants.Loggable.{IsRecoverable}
 use Rattle.xa_model.specs.Invariants.Backing.{Backs}
 use Rattle.xa_model.specs.Restarting.{restarted}
 use Rattle.xa_limits.specs.declared.TheConstants.{MOST_BOOTS}
@@ -28,7 +27,8 @@ use Rattle.xa_model.proofs.Rooms.{room_is, recoverable_snapshot_ends}
 use Rattle.mv_rules.specs.Records.{StandsFor as RecordsStandFor}
 use Rattle.mv_rules.specs.Ties.{history_of}
 use Rattle.xa_branch.specs.Branches.{BranchesStandFor}
-use Rattle.xa_model.proofs.Stopped.{down_sound, down_may}
+use Rattle.xa_model.proofs.Restarts.{lost_in_doubt}
+use Rattle.xa_model.proofs.RoomWith.{none_open, stopped_with}
 use Rattle.xa_assoc.specs.Sessions.{SessionsStandFor}
 use Rattle.xa_assoc.proofs.Follows.{unmoved}
 use Rattle.xa_manager.specs.declared.doubt.Doubt.{Doubt}
@@ -41,7 +41,8 @@ use Rattle.xa_manager.specs.LogStands.{Trusts, HasRecords, LogStandsFor}
 use Rattle.xa_manager.specs.Managed.{view, Doubts, ManagerStandsFor}
 use Rattle.xa_manager.specs.Rereading.{IsFate, Found}
 use Rattle.xa_manager.proofs.LogsBehind.{stands_whole, stands_seal, stands_alike}
-use Rattle.xa_manager.proofs.Fates.{fate_same, fate_settled, fate_recoverable, fate_room, down_backed, lost_room, begun_backed, begun_room}
+use Rattle.xa_manager.proofs.Survivors.{none_found}
+use Rattle.xa_manager.proofs.Fates.{fate_same, fate_settled, fate_recoverable, failed_recoverable, fate_room, down_backed, lost_room, begun_backed, begun_room}
 
 -- what the tables say whether or not the manager is up
 pub record IsOutside (k : View) (s : State) : Type 0 where
@@ -78,88 +79,70 @@ still_stands disks m m' s tables up doubt end alive modern bytes log st = record
 
 -- the manager is down
 
-pub down_recoverable : (t : State) (o : Option Record) → IsRecoverable t → IfSome o (MayBeLast (record (down t) { open_record = o })) → IsRecoverable (record (down t) { open_record = o })
-down_recoverable t o h last = record {
-  sound = down_sound t o h.sound;
-  loggable = record { first = h.loggable.first; boots = h.loggable.boots; last = h.loggable.last; past = h.loggable.past; written = h.loggable.written };
-  open_record = last;
-  settled = λ up. absurd (cc up);
-  current = λ up. absurd (cc up);
-}
-
-none_of : (o : Option Record) (P : Record → Type 0) → o ≡ None → IfSome o P
-none_of o P e = subst (λ (q : Option Record). IfSome q P) (sym e) tt
-
-pub tables_down : (k : View) (s t : State) (o : Option Record) (b : Bool) → IsOutside k s → IsFate b s t → IfSome o (MayBeLast (record (down t) { open_record = o }))
-    → StandsDown k (record (down t) { open_record = o })
-tables_down k s t o b h fate last =
-    let same = fate_same b s t fate in record {
+pub tables_down : (k : View) (s t : State) (o : List Record) (many : ℕ) → IsOutside k s → IsFate many s t → IsRecoverable (record (down t) { open_records = o })
+    → StandsDown k (record (down t) { open_records = o })
+tables_down k s t o many h fate recoverable =
+    let same = fate_same many s t fate in record {
       name = h.name ∙ sym same.name;
       log_bytes = h.log_bytes ∙ sym same.log_bytes;
       down = refl;
-      sessions = unmoved k.sessions s (record (down t) { open_record = o }) same.sessions same.associations h.sessions;
+      sessions = unmoved k.sessions s (record (down t) { open_records = o }) same.sessions same.associations h.sessions;
       moment = h.moment ∙ sym same.moment;
-      recoverable = down_recoverable t o (fate_recoverable b s t h.recoverable fate) last;
+      recoverable = recoverable;
     }
 
-pub down_stands : {D : Type 0} (disks : Ghosts D) (m m' : Manager D) (s t : State) (b : Bool) (rs : List Record)
+pub down_stands : {D : Type 0} (disks : Ghosts D) (m m' : Manager D) (s t : State) (b : ℕ) (rs : List Record)
     → m'.tables ≡ m.tables → m'.up ≡ false → m'.doubt ≡ None → m'.log.log_bytes ≡ m.log.log_bytes → ManagerStandsFor disks m s → IsFate b s t → Backs rs t
     → HasRecords disks rs m'.log → ManagerStandsFor disks m' (down t)
 down_stands disks m m' s t b rs tables up doubt bytes st fate backs has =
     let h = outside m.up (view m) s st.tables in
     let none = fate_settled b s t fate in
     let room = fate_room b s t (st.roomy h.standing) fate in record {
-      tables = subst (λ (b : Bool). TablesStandFor b (view m') (down t)) (sym up) (subst (λ (k : Tables). StandsDown (view_of k) (down t)) (sym tables) (tables_down (view m) s t t.open_record b h fate (none_of t.open_record _ none)));
-      roomy = λ standing. record { room = room; found = none_of t.open_record _ none };
+      tables = subst (λ (b : Bool). TablesStandFor b (view m') (down t)) (sym up) (subst (λ (k : Tables). StandsDown (view_of k) (down t)) (sym tables) (tables_down (view m) s t t.open_records b h fate (failed_recoverable t (fate_recoverable b s t h.recoverable fate))));
+      roomy = λ standing. record { room = room; found = none_open (down t) t.open_records none };
       end = λ is. absurd (cc (is, up));
       alive = λ is. absurd (cc (is, up));
       modern = λ is. absurd (cc (is, up));
       log_bytes = bytes ∙ (st.log_bytes ∙ sym (fate_same b s t fate).log_bytes);
       doubt = subst (λ (d : Option Doubt). Doubts d (down t)) (sym doubt) none;
-      log = λ trusts. stands_whole disks m'.log (down t) rs (down_backed rs t t.open_record backs) has;
+      log = λ trusts. stands_whole disks m'.log (down t) rs (down_backed rs t t.open_records backs) has;
     }
 
 -- a checkpoint was lost
-pub lost_stands : {D : Type 0} (disks : Ghosts D) (m m' : Manager D) (s t : State) (b : Bool) (rs : List Record)
+pub lost_stands : {D : Type 0} (disks : Ghosts D) (m m' : Manager D) (s t : State) (b : ℕ) (rs : List Record)
     → m'.tables ≡ m.tables → m'.up ≡ false → m'.doubt ≡ Some (Boot (t.logged_boot + 1)) → m'.log.log_bytes ≡ m.log.log_bytes → ManagerStandsFor disks m s → IsFate b s t → Backs rs t
     → t.logged_boot < MOST_BOOTS → MaySeal disks (map spelled rs) (map spelled (snapshot (durable t) (t.logged_boot + 1))) m'.log
-    → ManagerStandsFor disks m' (record (down t) { open_record = Some (logged.Opened (t.logged_boot + 1)) })
+    → ManagerStandsFor disks m' (record (down t) { open_records = logged.Opened (t.logged_boot + 1) ∷ [] })
 lost_stands disks m m' s t b rs tables up doubt bytes st fate backs less seal =
     let h = outside m.up (view m) s st.tables in
     let recoverable = fate_recoverable b s t h.recoverable fate in
     let room = fate_room b s t (st.roomy h.standing) fate in
     let boot : ℕ = t.logged_boot + 1 in
-    let after : State = record (down t) { open_record = Some (logged.Opened boot) } in
-    let last : MayBeLast after (logged.Opened boot) = record { may = omega arith; limits = (omega arith, omega arith); current = λ is. absurd (cc is) } in record {
-      tables = subst (λ (b : Bool). TablesStandFor b (view m') after) (sym up) (subst (λ (k : Tables). StandsDown (view_of k) after) (sym tables) (tables_down (view m) s t (Some (logged.Opened boot)) b h fate last));
+    let after : State = record (down t) { open_records = logged.Opened boot ∷ [] } in
+    let lost = lost_in_doubt t recoverable less in record {
+      tables = subst (λ (b : Bool). TablesStandFor b (view m') after) (sym up) (subst (λ (k : Tables). StandsDown (view_of k) after) (sym tables) (tables_down (view m) s t (logged.Opened boot ∷ []) b h fate lost.recoverable));
       roomy = λ standing. lost_room rs t boot recoverable backs room;
       end = λ is. absurd (cc (is, up));
       alive = λ is. absurd (cc (is, up));
       modern = λ is. absurd (cc (is, up));
       log_bytes = bytes ∙ (st.log_bytes ∙ sym (fate_same b s t fate).log_bytes);
       doubt = subst (λ (d : Option Doubt). Doubts d after) (sym doubt) refl;
-      log = λ trusts. stands_seal disks m'.log after rs boot (down_backed rs t (Some (logged.Opened boot)) backs) refl seal;
+      log = λ trusts. stands_seal disks m'.log after rs boot (down_backed rs t (logged.Opened boot ∷ []) backs) refl seal;
     }
 
 -- so a restart may begin from there
-pub lost_recoverable : {D : Type 0} (disks : Ghosts D) (m : Manager D) (s t : State) (b : Bool) → ManagerStandsFor disks m s → IsFate b s t → t.logged_boot < MOST_BOOTS
-    → IsRecoverable (record (down t) { open_record = Some (logged.Opened (t.logged_boot + 1)) })
+pub lost_recoverable : {D : Type 0} (disks : Ghosts D) (m : Manager D) (s t : State) (b : ℕ) → ManagerStandsFor disks m s → IsFate b s t → t.logged_boot < MOST_BOOTS
+    → IsRecoverable (record (down t) { open_records = logged.Opened (t.logged_boot + 1) ∷ [] })
 lost_recoverable disks m s t b st fate less =
-    let after : State = record (down t) { open_record = Some (logged.Opened (t.logged_boot + 1)) } in
-    let last : MayBeLast after (logged.Opened (t.logged_boot + 1)) = record { may = omega arith; limits = (omega arith, omega arith); current = λ is. absurd (cc is) } in
-    (tables_down (view m) s t (Some (logged.Opened (t.logged_boot + 1))) b (outside m.up (view m) s st.tables) fate last).recoverable
+    (lost_in_doubt t (fate_recoverable b s t (outside m.up (view m) s st.tables).recoverable fate) less).recoverable
 
 -- a manager that is up ends its log where it did
 pub found_end : {D : Type 0} (disks : Ghosts D) (found : List (List ℕ)) (log' : Log D) (s : State)
     → IsRecoverable s → s.standing ≡ Up → Found disks found log' s → log'.end ≡ s.end
-found_end disks found log' s h up f = f.end ∙ by_fate f.state f.fate
-  where
-    by_fate : (t : State) → IsFate true s t ⊎ IsFate false s t → t.end ≡ s.end
-    by_fate t (inl (r, open_is, is)) = absurd (cc (open_is, h.settled up))
-    by_fate t (inr is) = ap (λ (x : State). x.end) is
+found_end disks found log' s h up f = f.end ∙ ap (λ (x : State). x.end) (sym (none_found s.open_records s f.state f.many (h.settled up) f.fate))
 
 -- a new boot was logged, and begins
-pub begun_stands : {D : Type 0} (disks : Ghosts D) (m m' : Manager D) (s t : State) (b : Bool) (rs : List Record)
+pub begun_stands : {D : Type 0} (disks : Ghosts D) (m m' : Manager D) (s t : State) (b : ℕ) (rs : List Record)
     → m'.tables.name ≡ m.tables.name → m'.tables.log_bytes ≡ m.tables.log_bytes → m'.up ≡ true → m'.doubt ≡ None → m'.log.log_bytes ≡ m.log.log_bytes
     → ManagerStandsFor disks m s → IsFate b s t → Backs rs t → nat_lt t.logged_boot MOST_BOOTS ≡ true
     → ((x y : State) → y.sessions ≡ map without_scan x.sessions → y.associations ≡ [] → SessionsStandFor m.tables.sessions x → SessionsStandFor m'.tables.sessions y)
@@ -187,7 +170,7 @@ begun_stands disks m m' s t b rs name log_bytes up doubt bytes st fate backs les
       recoverable = restored.recoverable;
     } in record {
       tables = subst (λ (b : Bool). TablesStandFor b (view m') after) (sym up) stands;
-      roomy = λ standing. record { room = begun_room rs t boot recoverable backs room; found = none_of t.open_record _ none };
+      roomy = λ standing. record { room = begun_room rs t boot recoverable backs room; found = none_open after t.open_records none };
       end = λ is. end;
       alive = λ is. alive;
       modern = λ is. modern;
@@ -197,7 +180,7 @@ begun_stands disks m m' s t b rs name log_bytes up doubt bytes st fate backs les
     }
 
 -- a log that has the records has room for the new boot
-pub never_full : {D : Type 0} (disks : Ghosts D) (m : Manager D) (s t : State) (b : Bool) (rs : List Record)
+pub never_full : {D : Type 0} (disks : Ghosts D) (m : Manager D) (s t : State) (b : ℕ) (rs : List Record)
     → ManagerStandsFor disks m s → IsFate b s t → Backs rs t → m.log.log_bytes < 8 + sizes (snapshot (durable t) (t.logged_boot + 1)) + 4 → ⊥
 never_full disks m s t b rs st fate backs full =
     let h = outside m.up (view m) s st.tables in
@@ -218,24 +201,6 @@ doubts_down None s h = h
 doubts_down (Some (Boot boot)) s h = h
 doubts_down (Some (LastRecord end)) s h = h
 
-last_down : (s : State) (o : Option Record) → IfSome o (MayBeLast s) → IfSome o (MayBeLast (record (down s) { open_record = s.open_record }))
-last_down s None h = tt
-last_down s (Some r) h = record { may = down_may s r s.open_record h.may; limits = h.limits; current = h.current }
-
-room_down : (s : State) (o : Option Record) → IfSome o (λ r. HasRoom (applied r s)) → IfSome o (λ r. HasRoom (applied r (down s)))
-room_down s None h = tt
-room_down s (Some (logged.Opened boot)) h = h
-room_down s (Some (logged.Prepared xid t ws)) h = h
-room_down s (Some (logged.Committed xid t ws)) h = h
-room_down s (Some (logged.Completed xid direction.Commit)) h = h
-room_down s (Some (logged.Completed xid direction.Rollback)) h = h
-room_down s (Some (logged.Decided xid direction.Commit)) h = h
-room_down s (Some (logged.Decided xid direction.Rollback)) h = h
-room_down s (Some (logged.Forgotten xid)) h = h
-room_down s (Some (logged.Base t ws)) h = h
-room_down s (Some (logged.Held xid t ws)) h = h
-room_down s (Some (logged.Known xid d)) h = h
-
 pub failed_stands : {D : Type 0} (disks : Ghosts D) (m m' : Manager D) (s : State)
     → m' ≡ record m { up = false } → ManagerStandsFor disks m s → ManagerStandsFor disks m' (down s)
 failed_stands {D} disks m m' s is st =
@@ -248,13 +213,13 @@ failed_stands {D} disks m m' s is st =
         down = refl;
         sessions = unmoved m.tables.sessions s (down s) refl refl h.sessions;
         moment = h.moment;
-        recoverable = down_recoverable s s.open_record h.recoverable (last_down s s.open_record h.recoverable.open_record);
+        recoverable = failed_recoverable s h.recoverable;
       };
-      roomy = λ standing. record { room = room.room; found = room_down s s.open_record room.found };
+      roomy = λ standing. record { room = room.room; found = stopped_with s.open_records s Down s.open_records room.found };
       end = λ up. absurd (cc up);
       alive = λ up. absurd (cc up);
       modern = λ up. absurd (cc up);
       log_bytes = st.log_bytes;
       doubt = doubts_down m.doubt s st.doubt;
-      log = λ trusts. stands_alike disks m.log s (down s) refl refl (λ rs backs. down_backed rs s s.open_record backs) (st.log trusts);
+      log = λ trusts. stands_alike disks m.log s (down s) h.recoverable.group refl refl (λ rs backs. down_backed rs s s.open_records backs) (st.log trusts);
     })

@@ -1,11 +1,13 @@
 -- A turn that a manager took is a step, and the manager stands for the step's state.
-use Rattle.std.proofs.Common.{◌≡◌, ◌+◌, arith, ℕ, Bool, true, false, List, [], ◌∷◌, ◌++◌, map, length, Option, Some, None, IsSomeAnd, refl, ap, sym, ◌∙◌, subst}
+use Rattle.std.proofs.Common.{◌≡◌, ◌+◌, ◌≤◌, arith, ℕ, Bool, true, false, List, [], ◌∷◌, ◌++◌, map, length, Option, Some, None, IsSomeAnd, refl, ap, sym, ◌∙◌, subst}
 use Rattle.std.proofs.lemmas.List.{map-append}
+use Rattle.std.specs.List.{AllByRecursion}
 use Rattle.xa_disk.specs.declared.disk.Disk.{Ghosts}
 use Rattle.xa_frame.specs.declared.reply.Reply.{Reply}
 use Rattle.xa_record.specs.Spelling.{spelled}
 use Rattle.xa_record.specs.declared.record.Record.{Record}
 use Rattle.xa_record.specs.declared.record.Record.TheVariants as logged
+use Rattle.xa_log.specs.Group.{IsPlain}
 use Rattle.xa_log.specs.TwoFiles.{Pair}
 use Rattle.xa_log.specs.declared.log.Log.{Log}
 use Rattle.xa_model.specs.declared.event.Event.{Event}
@@ -15,8 +17,8 @@ use Rattle.xa_model.specs.declared.outcome.Appending.{Appending}
 use Rattle.xa_model.specs.declared.outcome.Appending.TheVariants.{Kept, Refused, Lost}
 use Rattle.xa_model.specs.State.{State, Standing, Up}
 use Rattle.xa_model.specs.Answer.{Answer, ok}
-use Rattle.xa_model.specs.Turn.{Turn, Nobody, Now, Appends, Checkpoints, Rereads, Asked, taken}
-use Rattle.xa_model.specs.Step.{respond, asked, turn, step}
+use Rattle.xa_model.specs.Turn.{Turn, Nobody, Now, Appends, Checkpoints, Rereads, Joins, Asked, taken}
+use Rattle.xa_model.specs.Step.{respond, asked, or_joins, further_record, turn, step}
 use Rattle.xa_model.specs.Events.{IsEvent, begins_boot}
 use Rattle.xa_model.specs.Logging.{applied, lost}
 use Rattle.xa_model.specs.Branches.{completed}
@@ -26,10 +28,11 @@ use Rattle.xa_codes.specs.declared.direction.Direction.TheVariants.{Commit, Roll
 use Rattle.xa_xid.specs.Triple.{Triple}
 use Rattle.xa_model.specs.Laws.Logging.{KeepsLog, LogsWhatLasts}
 use Rattle.xa_model.specs.Invariants.Backing.{Backs, BacksTurn}
-use Rattle.xa_model.specs.Invariants.Loggable.{IsRecoverable, is_boot}
+use Rattle.xa_model.specs.Invariants.Loggable.{IsRecoverable, AreOneGroup, is_boot}
 use Rattle.xa_model.proofs.LoggedEvents.{events_log_what_lasts}
 use Rattle.xa_model.proofs.LogBehind.{keeps_backed}
-use Rattle.xa_model.proofs.Recoveries.{keeps_recoverable, LogsLast, turn_logs_last}
+use Rattle.xa_model.proofs.LastLogged.{LogsLast}
+use Rattle.xa_model.proofs.Recoveries.{keeps_recoverable, turn_logs_last}
 use Rattle.xa_model.proofs.RoomyRows.{AsksRoom, events_ask_room}
 use Rattle.xa_model.proofs.RoomyTurns.{keeps_room}
 use Rattle.xa_model.proofs.Trims.{restarts_none, trims_none}
@@ -61,20 +64,36 @@ is_up_by : (b : Bool) (m : Tables) (s : State) → TablesStandFor b m s → s.st
 is_up_by true m s st e = refl
 is_up_by false m s st e = absurd (cc (st.down, e))
 
+appends_alone : (s : State) (o : Option Record) (r : Record) (after : Appending → Answer) → or_joins s o (Appends r after) ≡ Appends r after
+appends_alone s None r after = refl
+appends_alone s (Some q) r after = refl
+
+now_quiet : (s : State) (o : Option Record) (a : Answer) → taken (or_joins s o (Now a)) Quiet ≡ Some a
+now_quiet s None a = refl
+now_quiet s (Some r) a = refl
+
+now_backed : (rs : List Record) (s : State) (o : Option Record) (a : Answer) → BacksTurn rs s (or_joins s o (Now a)) → Backs rs a.after
+now_backed rs s None a h = h
+now_backed rs s (Some r) a h = h.0
+
 -- where nothing was logged
 
-doubts_same : (o : Option Doubt) (s t : State) → t.open_record ≡ s.open_record → t.end ≡ s.end → Doubts o s → Doubts o t
+doubts_same : (o : Option Doubt) (s t : State) → t.open_records ≡ s.open_records → t.end ≡ s.end → Doubts o s → Doubts o t
 doubts_same None s t e f h = e ∙ h
 doubts_same (Some (doubt.Boot boot)) s t e f h = e ∙ h
-doubts_same (Some (doubt.Record end)) s t e f h = (h.0, e ∙ h.1, h.2, h.3 ∙ sym f)
+doubts_same (Some (doubt.Record end)) s t e f h = (
+  subst (λ (rs : List Record). 1 ≤ length rs) (sym e) h.0,
+  subst (λ (rs : List Record). AllByRecursion (λ (r : Record). is_boot r ≡ false) rs) (sym e) h.1,
+  h.2 ∙ sym f,
+)
 
 module _ {D : Type 0} (disks : Ghosts D) where
-  pub log_same : (log : Log D) (s t : State) → KeepsLog s t → ((rs : List Record) → Backs rs s → Backs rs t) → LogStandsFor disks log s → LogStandsFor disks log t
-  log_same log s t k backs l = stands_alike disks log s t k.lasts k.open_record backs l
+  pub log_same : (log : Log D) (s t : State) → AreOneGroup s.open_records → KeepsLog s t → ((rs : List Record) → Backs rs s → Backs rs t) → LogStandsFor disks log s → LogStandsFor disks log t
+  log_same log s t group k backs l = stands_alike disks log s t group k.lasts k.open_records backs l
 
   -- the log behind the state, after an append
-  log_after : (log log' : Log D) (s t : State) (r : Record) (a : Appending) → s.open_record ≡ None → is_boot r ≡ false → HasAppended disks (spelled r) a log log' → disks.honest
-      → (a ≡ Lost → t.open_record ≡ Some r)
+  log_after : (log log' : Log D) (s t : State) (r : Record) (a : Appending) → s.open_records ≡ [] → is_boot r ≡ false → HasAppended disks (spelled r) a log log' → disks.honest
+      → (a ≡ Lost → t.open_records ≡ r ∷ [])
       → (a ≡ Kept → (rs : List Record) → Backs rs s → Backs (rs ++ r ∷ []) t) → (a ≡ Refused → (rs : List Record) → Backs rs s → Backs rs t) → (a ≡ Lost → (rs : List Record) → Backs rs s → Backs rs t)
       → LogStandsFor disks log s → LogStandsFor disks log' t
   log_after log log' s t r Kept none boot h disk lost_ backs bref blost l =
@@ -87,7 +106,7 @@ module _ {D : Type 0} (disks : Ghosts D) where
       stands_whole disks log' t l.records (bref refl l.records l.backs) (here.0, h.pair disk (map spelled l.records) here.0 here.1)
   log_after log log' s t r Lost none boot h disk lost_ backs bref blost l =
       let here : HasRecords disks l.records log = only_records disks log s none l in
-      stands_append disks log' t l.records r here.0 (blost refl l.records l.backs) (lost_ refl) boot (h.pair disk (map spelled l.records) here.0 here.1)
+      stands_append disks log' t l.records (r ∷ []) here.0 (blost refl l.records l.backs) (lost_ refl) (boot, tt) (h.pair disk (map spelled l.records) here.0 here.1)
 
   bytes_by : (s : State) (direction : Direction) (xid : Triple) → (completed s direction xid).log_bytes ≡ s.log_bytes
   bytes_by s Commit xid = refl
@@ -126,14 +145,26 @@ module _ {D : Type 0} (disks : Ghosts D) where
     pub reply_is : answer.reply ≡ reply
     pub stands : ManagerStandsFor disks m' answer.after
 
-  turn_is : (m : Manager D) (s : State) (e : Event) (t : Turn) → ManagerStandsFor disks m s → respond s e ≡ t → asked s.standing (respond s e) ≡ t
-  turn_is m s e t st is = asked_by m.up (view m) s (respond s e) st.tables ∙ is
+  turn_is : (m : Manager D) (s : State) (e : Event) (r : Record) (after : Appending → Answer) → ManagerStandsFor disks m s → respond s e ≡ Appends r after
+      → turn s (Asked e) ≡ Appends r after
+  turn_is m s e r after st is =
+      ap (λ (t : Turn). or_joins s (further_record s e) t) (asked_by m.up (view m) s (respond s e) st.tables ∙ is) ∙ appends_alone s (further_record s e) r after
+
+  -- what is answered at once is so whether or not a record may be lost with those before it
+
+  now_is : (m : Manager D) (s : State) (e : Event) (a : Answer) → ManagerStandsFor disks m s → respond s e ≡ Now a
+      → turn s (Asked e) ≡ or_joins s (further_record s e) (Now a)
+  now_is m s e a st is = ap (λ (t : Turn). or_joins s (further_record s e) t) (asked_by m.up (view m) s (respond s e) st.tables ∙ is)
+
+  pub now_steps_by : (m : Manager D) (s : State) (e : Event) (a : Answer) → ManagerStandsFor disks m s → respond s e ≡ Now a
+      → step s (Asked e) Quiet ≡ Some a
+  now_steps_by m s e a st is = ap (λ (t : Turn). taken t Quiet) (now_is m s e a st is) ∙ now_quiet s (further_record s e) a
 
   now_steps : (m m' : Manager D) (s : State) (e : Event) (a : Answer) (reply : Reply) (outcome : Outcome) → IsEvent e → begins_boot e ≡ false → ManagerStandsFor disks m s → respond s e ≡ Now a
       → TakesNow m a reply outcome m' → IsStep m' s e reply outcome
   now_steps m m' s e a reply outcome event other st is x =
-      let t = turn_is m s e (Now a) st is in
-      let steps : step s (Asked e) outcome ≡ Some a = ap (λ (u : Turn). taken u outcome) t ∙ ap (taken (Now a)) x.outcome_is in
+      let t = now_is m s e a st is in
+      let steps : step s (Asked e) outcome ≡ Some a = ap (step s (Asked e)) x.outcome_is ∙ now_steps_by m s e a st is in
       let before = recoverable_by m.up (view m) s st.tables in
       let recoverable = keeps_recoverable s (Asked e) outcome a event before steps in
       let k : KeepsLog s a.after = subst (LogsWhatLasts s) is (events_log_what_lasts s e before.sound other) in
@@ -149,9 +180,9 @@ module _ {D : Type 0} (disks : Ghosts D) where
           alive = λ up. ap (λ (l : Log D). l.lost) x.log ∙ st.alive (sym x.up ∙ up);
           modern = λ up. ap (λ (l : Log D). l.format) x.log ∙ st.modern (sym x.up ∙ up);
           log_bytes = ap (λ (l : Log D). l.log_bytes) x.log ∙ st.log_bytes ∙ sym bytes;
-          doubt = rw x.doubt (doubts_same m.doubt s a.after k.open_record k.end st.doubt);
+          doubt = rw x.doubt (doubts_same m.doubt s a.after k.open_records k.end st.doubt);
           log = λ trusts.
-              rw x.log (log_same m.log s a.after k (λ rs b. subst (BacksTurn rs s) t (keeps_backed rs s (Asked e) event before b)) (st.log trusts));
+              rw x.log (log_same m.log s a.after before.group k (λ rs b. now_backed rs s (further_record s e) a (subst (BacksTurn rs s) t (keeps_backed rs s (Asked e) event before b))) (st.log trusts));
         };
       }
 
@@ -173,21 +204,23 @@ module _ {D : Type 0} (disks : Ghosts D) where
   format_after log log' r Refused h = h.moves.1
   format_after log log' r Lost h = h.moves.1
 
-  doubt_stands : (s t : State) (r : Record) (a : Appending) (end : ℕ) → is_boot r ≡ false → end ≡ s.end → (a ≡ Kept → t.open_record ≡ None) → (a ≡ Refused → t.open_record ≡ None) → (a ≡ Lost → t.open_record ≡ Some r)
+  doubt_stands : (s t : State) (r : Record) (a : Appending) (end : ℕ) → is_boot r ≡ false → end ≡ s.end → (a ≡ Kept → t.open_records ≡ []) → (a ≡ Refused → t.open_records ≡ []) → (a ≡ Lost → t.open_records ≡ r ∷ [])
       → (a ≡ Lost → t.end ≡ s.end) → Doubts (doubt_after a end) t
   doubt_stands s t r Kept end boot same ok_ refused_ lost_ ends = ok_ refl
   doubt_stands s t r Refused end boot same ok_ refused_ lost_ ends = refused_ refl
-  doubt_stands s t r Lost end boot same ok_ refused_ lost_ ends = (r, lost_ refl, boot, same ∙ sym (ends refl))
+  doubt_stands s t r Lost end boot same ok_ refused_ lost_ ends =
+      subst (λ (rs : List Record). (1 ≤ length rs) × AllByRecursion (λ (q : Record). is_boot q ≡ false) rs × (end ≡ t.end)) (sym (lost_ refl))
+      (omega arith, (boot, tt), same ∙ sym (ends refl))
 
   bytes_after : (s : State) (r : Record) (after : Appending → Answer) (a : Appending) → (after Kept ≡ ok (applied r s)) → ((after Refused).after.log_bytes ≡ s.log_bytes) → (after Lost ≡ lost s r) → (after a).after.log_bytes ≡ s.log_bytes
   bytes_after s r after Kept k f l = ap (λ (x : Answer). x.after.log_bytes) k ∙ applied_bytes s r
   bytes_after s r after Refused k f l = f
   bytes_after s r after Lost k f l = ap (λ (x : Answer). x.after.log_bytes) l
 
-  settled_up : (m' : Tables) (s : State) → StandsFor m' s → s.open_record ≡ None
+  settled_up : (m' : Tables) (s : State) → StandsFor m' s → s.open_records ≡ []
   settled_up m' s st = st.recoverable.settled st.up
 
-  tables_at : (m' : Tables) (s : State) (a : Appending) → TablesStandFor (up_after a) m' s → (a ≡ Kept → s.open_record ≡ None) × (a ≡ Refused → s.open_record ≡ None)
+  tables_at : (m' : Tables) (s : State) (a : Appending) → TablesStandFor (up_after a) m' s → (a ≡ Kept → s.open_records ≡ []) × (a ≡ Refused → s.open_records ≡ [])
   tables_at m' s Kept st = (λ e. settled_up m' s st, λ e. settled_up m' s st)
   tables_at m' s Refused st = (λ e. settled_up m' s st, λ e. settled_up m' s st)
   tables_at m' s Lost st = (λ e. absurd (cc e), λ e. absurd (cc e))
@@ -198,7 +231,7 @@ module _ {D : Type 0} (disks : Ghosts D) where
   appending_steps : (m m' : Manager D) (s : State) (e : Event) (r : Record) (after : Appending → Answer) (reply : Reply) (outcome : Outcome) → IsEvent e → begins_boot e ≡ false → ManagerStandsFor disks m s
       → respond s e ≡ Appends r after → m.up ≡ true → TakesAppending disks m r after reply outcome m' → IsStep m' s e reply outcome
   appending_steps m m' s e r after reply outcome event other st is is_up x =
-      let t = turn_is m s e (Appends r after) st is in
+      let t = turn_is m s e r after st is in
       let a = x.answer in
       let next = (after a).after in
       let steps : step s (Asked e) outcome ≡ Some (after a) = ap (λ (u : Turn). taken u outcome) t ∙ ap (taken (Appends r after)) x.outcome_is in
@@ -212,7 +245,7 @@ module _ {D : Type 0} (disks : Ghosts D) where
       let opens = tables_at (view m') next a standing in
       let lost_ : a ≡ Lost → next ≡ (lost s r).after = λ q. ap (λ (b : Appending). (after b).after) q ∙ ap (λ (y : Answer). y.after) logs.3 in
       let kept_ : a ≡ Kept → next ≡ applied r s = λ q. ap (λ (b : Appending). (after b).after) q ∙ ap (λ (y : Answer). y.after) logs.1 in
-      let none : s.open_record ≡ None = before.settled last.2 in
+      let none : s.open_records ≡ [] = before.settled last.2 in
       record {
         answer = after a;
         step_is = steps;
@@ -226,10 +259,10 @@ module _ {D : Type 0} (disks : Ghosts D) where
           modern = λ up. format_after m.log m'.log r a x.log ∙ st.modern is_up;
           log_bytes = x.log.log_bytes ∙ st.log_bytes ∙ sym (bytes_after s r after a logs.1 asks.1 logs.3);
           doubt = rw x.doubt
-              (doubt_stands s next r a m.log.end last.1 (st.end is_up) opens.0 opens.1 (λ q. ap (λ (u : State). u.open_record) (lost_ q)) (λ q. ap (λ (u : State). u.end) (lost_ q)));
+              (doubt_stands s next r a m.log.end last.1 (st.end is_up) opens.0 opens.1 (λ q. ap (λ (u : State). u.open_records) (lost_ q)) (λ q. ap (λ (u : State). u.end) (lost_ q)));
           log = λ trusts.
               let backed = λ (rs : List Record) (b : Backs rs s). subst (BacksTurn rs s) t (keeps_backed rs s (Asked e) event before b) in
-              log_after m.log m'.log s next r a none last.1 x.log trusts.disk (λ q. ap (λ (u : State). u.open_record) (lost_ q))
+              log_after m.log m'.log s next r a none last.1 x.log trusts.disk (λ q. ap (λ (u : State). u.open_records) (lost_ q))
               (λ q rs b. of_answer after (λ y. Backs (rs ++ r ∷ []) y.after) a Kept q (backed rs b).0) (λ q rs b. of_answer after (λ y. Backs rs y.after) a Refused q (backed rs b).1)
               (λ q rs b. of_answer after (λ y. Backs rs y.after) a Lost q (backed rs b).2) (st.log trusts);
         };
@@ -240,19 +273,21 @@ module _ {D : Type 0} (disks : Ghosts D) where
   takes_steps m m' s e Nobody reply outcome event other st is x = absurd x
   takes_steps m m' s e (Now a) reply outcome event other st is x = now_steps m m' s e a reply outcome event other st is x
   takes_steps m m' s e (Appends r after) reply outcome event other st is x =
-      let t = turn_is m s e (Appends r after) st is in
+      let t = turn_is m s e r after st is in
       let before = recoverable_by m.up (view m) s st.tables in
       let last : LogsLast s (Appends r after) = subst (LogsLast s) t (turn_logs_last s (Asked e) event before) in
       appending_steps m m' s e r after reply outcome event other st is (is_up_by m.up (view m) s st.tables last.2) x
   takes_steps m m' s e (Checkpoints r after) reply outcome event other st is x = absurd x
-  takes_steps m m' s e (Rereads failed found missing) reply outcome event other st is x = absurd x
+  takes_steps m m' s e (Rereads failed found) reply outcome event other st is x = absurd x
+  takes_steps m m' s e (Joins refused r lost) reply outcome event other st is x = absurd x
 
   takes_called : (m m' : Manager D) (t : Turn) (reply : Reply) (outcome : Outcome) → Takes disks m t reply outcome m' → HasCalled disks outcome m.log m'.log
   takes_called m m' Nobody reply outcome x = absurd x
   takes_called m m' (Now a) reply outcome x = subst (λ (o : Outcome). HasCalled disks o m.log m'.log) (sym x.outcome_is) x.log
   takes_called m m' (Appends r after) reply outcome x = subst (λ (o : Outcome). HasCalled disks o m.log m'.log) (sym x.outcome_is) (x.log.other.0, x.log.other.1, length (spelled r), x.log.moves, x.log.calls)
   takes_called m m' (Checkpoints r after) reply outcome x = absurd x
-  takes_called m m' (Rereads failed found missing) reply outcome x = absurd x
+  takes_called m m' (Rereads failed found) reply outcome x = absurd x
+  takes_called m m' (Joins refused r lost) reply outcome x = absurd x
 
   -- what a crash leaves meanwhile
 
@@ -268,22 +303,21 @@ module _ {D : Type 0} (disks : Ghosts D) where
   appending_crash : (m m' : Manager D) (s : State) (e : Event) (r : Record) (after : Appending → Answer) (reply : Reply) (outcome : Outcome) → IsEvent e → begins_boot e ≡ false → ManagerStandsFor disks m s
       → Trusts disks → respond s e ≡ Appends r after → TakesAppending disks m r after reply outcome m' → LeavesBy disks m.log (turn s (Asked e)) outcome m'.log s
   appending_crash m m' s e r after reply outcome event other st trusts is x =
-      let t = turn_is m s e (Appends r after) st is in
+      let t = turn_is m s e r after st is in
       let steps : taken (turn s (Asked e)) (Appended Lost) ≡ Some (after Lost) = ap (λ (u : Turn). taken u (Appended Lost)) t in
       let before = recoverable_by m.up (view m) s st.tables in
       let recoverable = keeps_recoverable s (Asked e) (Appended Lost) (after Lost) event before steps in
       let logs : LogsWhatLasts s (Appends r after) = subst (LogsWhatLasts s) is (events_log_what_lasts s e before.sound other) in
       let last : LogsLast s (Appends r after) = subst (LogsLast s) t (turn_logs_last s (Asked e) event before) in
-      let open_is : (after Lost).after.open_record ≡ Some r = ap (λ (y : Answer). y.after.open_record) logs.3 in
+      let open_is : (after Lost).after.open_records ≡ r ∷ [] = ap (λ (y : Answer). y.after.open_records) logs.3 in
       subst (λ (o : Outcome). LeavesBy disks m.log (turn s (Asked e)) o m'.log s) (sym x.outcome_is)
       (subst (λ (o : Option Answer). IsSomeAnd o (λ l. LeavesWritten disks (checkpoints (turn s (Asked e))) m.log x.answer m'.log s l.after)) (sym steps)
       (subst (λ (b : Bool). LeavesWritten disks b m.log x.answer m'.log s (after Lost).after) (sym (ap checkpoints t)) (
-        r,
-        open_is,
+        subst (λ (rs : List Record). 1 ≤ length rs) (sym open_is) (omega arith),
         λ current other left plain.
-            append_files disks m.log plain.records (after Lost).after r plain.stood current other last.1 plain.pair
+            append_files disks m.log plain.records (after Lost).after (r ∷ []) plain.stood current other (last.1, tt) plain.pair
             ((x.log.leaves trusts.disk (map spelled plain.records) plain.pair.current).each current left.current_left)
-            plain.plain left.other_left plain.calm recoverable
+            (subst (λ (rs : List Record). IsPlain m.log.format (map spelled plain.records) (map spelled rs) current) open_is plain.plain) left.other_left plain.calm recoverable
             (let backed : BacksTurn plain.records s (Appends r after) = subst (BacksTurn plain.records s) t (keeps_backed plain.records s (Asked e) event before plain.backs) in backed.2)
             open_is,
       )))
@@ -294,7 +328,8 @@ module _ {D : Type 0} (disks : Ghosts D) where
   takes_crash m m' s e (Now a) reply outcome event other st trusts is x = quiet_crash m m' s (turn s (Asked e)) outcome st x.outcome_is x.log
   takes_crash m m' s e (Appends r after) reply outcome event other st trusts is x = appending_crash m m' s e r after reply outcome event other st trusts is x
   takes_crash m m' s e (Checkpoints r after) reply outcome event other st trusts is x = absurd x
-  takes_crash m m' s e (Rereads failed found missing) reply outcome event other st trusts is x = absurd x
+  takes_crash m m' s e (Rereads failed found) reply outcome event other st trusts is x = absurd x
+  takes_crash m m' s e (Joins refused r lost) reply outcome event other st trusts is x = absurd x
 
   some_and : (m' : Manager D) (s : State) (e : Event) (reply : Reply) (outcome : Outcome) → IsStep m' s e reply outcome
       → IsSomeAnd (step s (Asked e) outcome) (λ a. (a.reply ≡ reply) × ManagerStandsFor disks m' a.after)

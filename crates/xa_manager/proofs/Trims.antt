@@ -1,6 +1,6 @@
 -- A trim: the snapshot of what lasts becomes the log, and all that is at work goes on.
-use Rattle.std.proofs.Common.{◌≡◌, ◌⊎◌, inl, inr, cond, not, ◌+◌, ◌<◌, ◌≤◌, ℕ, Bool, true, false, List, map, length, Option, Some, None, refl, ap, sym, ◌∙◌, subst, arith}
-use Rattle.std.specs.Prelude.{IfSome, IsSomeAnd, nat_lt}
+use Rattle.std.proofs.Common.{◌≡◌, ◌⊎◌, inl, inr, cond, not, ◌+◌, ◌<◌, ◌≤◌, ℕ, Bool, true, false, List, [], map, length, Option, Some, None, refl, ap, sym, ◌∙◌, subst, arith}
+use Rattle.std.specs.Prelude.{IsSomeAnd, nat_lt}
 use Rattle.std.specs.List.{AllByRecursion}
 use Rattle.std.proofs.lemmas.Bool.Decides.{nat_tests}
 use Rattle.xa_codes.specs.declared.codes.TheConstants.{XAER_RMERR}
@@ -27,14 +27,14 @@ use Rattle.xa_model.specs.Answer.{Answer, answer, detailed}
 use Rattle.xa_model.specs.Invariants.Backing.{Backs}
 use Rattle.xa_model.specs.Durable.{durable}
 use Rattle.xa_model.specs.Fold.{snapshot, sizes}
-use Rattle.xa_model.specs.Logging.{applied, lost}
+use Rattle.xa_model.specs.Logging.{lost}
 use Rattle.xa_model.specs.Invariants.Loggable.{IsRecoverable}
-use Rattle.xa_model.specs.Invariants.Room.{HasRoom}
 use Rattle.xa_model.specs.Restarting.{can_open}
 use Rattle.xa_model.specs.Trimming.{trim_refusal, trimmed, trim_became, trim_turn}
 use Rattle.xa_model.specs.Turn.{Turn, Checkpoints, taken, unless_now}
 use Rattle.xa_model.proofs.Booted.{trimmed_backed, lost_backed}
 use Rattle.xa_model.proofs.Restarts.{lost_in_doubt}
+use Rattle.xa_model.proofs.RoomWith.{none_open}
 use Rattle.xa_model.proofs.Trims.{may_trim, trimmed_recoverable}
 use Rattle.xa_model.proofs.Written.{snapshot_is_written}
 use Rattle.xa_assoc.specs.Refusals.{is_memory}
@@ -74,9 +74,6 @@ trim_refused s reply e =
 some_is : (o : Option Answer) (a : Answer) (P : Answer → Type 0) → o ≡ Some a → P a → IsSomeAnd o P
 some_is o a P e h = subst (λ (x : Option Answer). IsSomeAnd x P) (sym e) h
 
-none_found : (o : Option Record) (P : Record → Type 0) → o ≡ None → IfSome o P
-none_found o P e = subst (λ (x : Option Record). IfSome x P) (sym e) tt
-
 -- ---- what the manager stands for
 
 module _ {D : Type 0} (disks : Ghosts D) (m : Manager D) (s : State) (st : ManagerStandsFor disks m s) (up : m.up ≡ true) where
@@ -86,7 +83,7 @@ module _ {D : Type 0} (disks : Ghosts D) (m : Manager D) (s : State) (st : Manag
   pub trim_recoverable : IsRecoverable s
   trim_recoverable = (outside m.up (view m) s st.tables).recoverable
 
-  pub trim_settled : s.open_record ≡ None
+  pub trim_settled : s.open_records ≡ []
   trim_settled = trim_recoverable.settled trim_up
 
   pub trim_tables : StandsFor (view m) s
@@ -112,7 +109,7 @@ module _ {D : Type 0} (disks : Ghosts D) (m : Manager D) (s : State) (st : Manag
         tables = subst (λ (b : Bool). TablesStandFor b (view m') (trimmed s (s.logged_boot + 1))) (sym still) after;
         roomy = λ standing. record {
           room = (may_trim s e).room;
-          found = none_found s.open_record (λ r. HasRoom (applied r (trimmed s (s.logged_boot + 1)))) trim_settled;
+          found = none_open (trimmed s (s.logged_boot + 1)) s.open_records trim_settled;
         };
         end = λ is. end;
         alive = λ is. alive;
@@ -144,16 +141,16 @@ module _ {D : Type 0} (disks : Ghosts D) (m : Manager D) (s : State) (st : Manag
       → MaySeal disks (map spelled rs) (snapshot_bodies s (s.logged_boot + 1)) m'.log
       → ManagerStandsFor disks m' (lost s (logged.Opened (s.logged_boot + 1))).after
   sealed_stands m' rs next e number backs tables stopped doubt bytes seal =
-      lost_stands disks m m' s (record s { open_record = None }) false rs tables stopped (doubt ∙ ap (λ (n : ℕ). Some (Boot n)) number) bytes st refl
+      lost_stands disks m m' s (record s { open_records = [] }) 0 rs tables stopped (doubt ∙ ap (λ (n : ℕ). Some (Boot n)) number) bytes st refl
       (backs_settled rs backs) (less_of e) seal
     where
-      backs_settled : (rs : List Record) → Backs rs s → Backs rs (record s { open_record = None })
+      backs_settled : (rs : List Record) → Backs rs s → Backs rs (record s { open_records = [] })
       backs_settled rs k = record { records = k.records; lasts = k.lasts; end = k.end; new = λ same. record { given = (k.new same).given; unused = (k.new same).unused } }
 
   -- a log that has the records has room for the snapshot
   pub fits_always : (rs : List Record) → Backs rs s → m.log.log_bytes < 8 + sizes (snapshot (durable s) (s.logged_boot + 1)) + 4 → ⊥
   fits_always rs backs full =
-      never_full disks m s (record s { open_record = None }) false rs st refl
+      never_full disks m s (record s { open_records = [] }) 0 rs st refl
       (record { records = backs.records; lasts = backs.lasts; end = backs.end; new = λ same. record { given = (backs.new same).given; unused = (backs.new same).unused } })
       full
 

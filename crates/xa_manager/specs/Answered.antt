@@ -80,12 +80,13 @@ RisesBy failures (Some Refused) old new = OneRises failures old new
 RisesBy failures (Some Lost) old new = OneRises failures old new
 
 -- An outcome that tells of a failure has one behind it. Behind a record that is kept there may be one, where zeros were
--- due: of the write with them.
+-- due: of the write with them. No call by itself joins the append of another.
 abbrev pub HasCalled : {D : Type 0} → Ghosts D → Outcome → Log D → Log D → Type 0
 HasCalled disks outcome.Quiet old new = new ≡ old
 HasCalled disks (outcome.Appended appending) old new =
     (new.other ≡ old.other) × (new.on_first ≡ old.on_first)
     × (n : ℕ) × Moves (as_appended appending) n old new × AppendsBy disks n (as_appended appending) old new
+HasCalled disks (outcome.Joined appending) old new = ⊥
 HasCalled disks outcome.Failed old new = OneRises disks.failures old new
 HasCalled disks (outcome.Reread survived appended) old new = RisesBy disks.failures appended old new
 
@@ -93,6 +94,7 @@ HasCalled disks (outcome.Reread survived appended) old new = RisesBy disks.failu
 abbrev pub HasCalledToTrim : {D : Type 0} → Ghosts D → Outcome → Log D → Log D → Type 0
 HasCalledToTrim disks outcome.Quiet old new = new ≡ old
 HasCalledToTrim disks (outcome.Appended appending) old new = RisesBy disks.failures (Some appending) old new
+HasCalledToTrim disks (outcome.Joined appending) old new = ⊥
 HasCalledToTrim disks outcome.Failed old new = ⊥
 HasCalledToTrim disks (outcome.Reread survived appended) old new = ⊥
 

@@ -10,13 +10,14 @@ use Rattle.xa_model.specs.declared.outcome.Outcome.TheVariants as outcome
 use Rattle.xa_model.specs.declared.outcome.Appending.{Appending}
 use Rattle.xa_model.specs.declared.outcome.Appending.TheVariants.{Kept, Refused, Lost}
 use Rattle.xa_model.specs.State.{State}
-use Rattle.xa_model.specs.History.{Entry, Leads}
+use Rattle.xa_model.specs.History.{Entry, Leads, HasGroups}
 use Rattle.xa_manager.specs.declared.manager.Manager.{Manager}
 use Rattle.xa_manager.specs.Answered.{recorded, no_boot}
 use Rattle.xa_manager.specs.LogStands.{Trusts}
 use Rattle.xa_manager.specs.Managed.{ManagerStandsFor}
 
--- how many an outcome tells of
+-- How many an outcome tells of. Of the records of a group one device call tells, and so the first entry alone: what is
+-- refused or lost with it joined it (`HasGroups`).
 abbrev pub failures_of_append : Appending → ℕ
 failures_of_append Kept = 0
 failures_of_append Refused = 1
@@ -29,6 +30,7 @@ failures_of_boot (Some appending) = failures_of_append appending
 abbrev pub failures_in : Outcome → ℕ
 failures_in outcome.Quiet = 0
 failures_in (outcome.Appended appending) = failures_of_append appending
+failures_in (outcome.Joined appending) = 0
 failures_in outcome.Failed = 1
 failures_in (outcome.Reread survived appended) = failures_of_boot appended
 
@@ -46,11 +48,13 @@ RiseBy n old new =
 abbrev pub counted_by : {D : Type 0} → (D → ℕ) → Log D → ℕ × ℕ
 counted_by failures log = (failures (first_of log), failures (second_of log))
 
--- As AnswersAll; and of the same outcomes, that they tell of no more failures than were counted.
+-- As AnswersAll; and of the same outcomes, that each that joined became what the one before it became, and that they
+-- tell of no more failures than were counted.
 abbrev pub CountsAll : {D : Type 0} → Ghosts D → Manager D → List Event → List Reply → Manager D → Type 0
 CountsAll disks m events replies m' =
     (s : State) → ManagerStandsFor disks m s → Trusts disks ⊎ (no_boot events ≡ true)
     → (outcomes : List Outcome) × (s' : State) × (length outcomes ≡ length events)
     × Leads s (recorded events outcomes replies) s' × ManagerStandsFor disks m' s'
+    × HasGroups (recorded events outcomes replies)
     × RiseBy (failures_of (recorded events outcomes replies)) (counted_by disks.failures m.log)
     (counted_by disks.failures m'.log)

@@ -1,5 +1,5 @@
 -- What a crash at any moment of a call leaves of the log's two files.
-use Rattle.std.specs.Prelude.{◌≡◌, ◌⊎◌, ℕ, Bool, true, false, not, if◌then◌else◌, List, [], ◌∷◌, map, Some, None, IsSomeAnd}
+use Rattle.std.specs.Prelude.{◌≡◌, ◌⊎◌, ◌≤◌, ℕ, Bool, true, false, not, if◌then◌else◌, List, [], ◌∷◌, length, map, Some, None, IsSomeAnd}
 use Rattle.xa_disk.specs.Time.{LeavesOnly}
 use Rattle.xa_disk.specs.declared.disk.Disk.{Ghosts}
 use Rattle.xa_record.specs.Spelling.{spelled}
@@ -14,12 +14,12 @@ use Rattle.xa_model.specs.declared.event.Event.{Event}
 use Rattle.xa_model.specs.declared.outcome.Appending.{Appending}
 use Rattle.xa_model.specs.declared.outcome.Appending.TheVariants.{Kept, Refused, Lost}
 use Rattle.xa_model.specs.declared.outcome.Outcome.{Outcome}
-use Rattle.xa_model.specs.declared.outcome.Outcome.TheVariants.{Quiet, Appended, Failed, Reread}
+use Rattle.xa_model.specs.declared.outcome.Outcome.TheVariants.{Quiet, Appended, Joined, Failed, Reread}
 use Rattle.xa_model.specs.Invariants.Backing.{Backs}
 use Rattle.xa_model.specs.Events.{is_restart}
 use Rattle.xa_model.specs.State.{State}
 use Rattle.xa_model.specs.Step.{turn}
-use Rattle.xa_model.specs.Turn.{Asked, Turn, Nobody, Now, Appends, Checkpoints, Rereads, taken}
+use Rattle.xa_model.specs.Turn.{Asked, Turn, Nobody, Now, Appends, Checkpoints, Rereads, Joins, taken}
 use Rattle.xa_manager.specs.declared.manager.Manager.{Manager}
 use Rattle.xa_manager.specs.CrashLaws.{StandsWithoutChance}
 use Rattle.xa_manager.specs.Files.{FilesStandFor}
@@ -54,24 +54,24 @@ pub record LeftByAppend {D : Type 0} (disks : Ghosts D) (old new : Log D) (curre
   pub current_left : disks.left_since new.disk (disks.moment old.disk) current
   pub other_left : disks.may_leave old.other other
 
--- Nothing of them is left to chance, where the append of a record began on a log that stood behind a state: behind the
--- log's records chains this one, or none; in front of the other file stands a record of the log that stood there, or
--- none that chains.
-pub record AppendsWithoutChance {D : Type 0} (disks : Ghosts D) (log : Log D) (s : State) (r : Record)
+-- Nothing of them is left to chance, where the append of these records began on a log that stood behind a state: after
+-- the log's records chain these, from the first on, or none; in front of the other file stands a record of the log that
+-- stood there, or none that chains.
+pub record AppendsWithoutChance {D : Type 0} (disks : Ghosts D) (log : Log D) (s : State) (group : List Record)
     (current other : List ℕ) : Type 0 where
   pub records : List Record
   pub backs : Backs records s
   pub stood : List (List ℕ)
   pub pair : Pair disks (map spelled records) stood log
-  pub plain : IsPlain log.format (map spelled records) (spelled r ∷ []) current
+  pub plain : IsPlain log.format (map spelled records) (map spelled group) current
   pub calm : IsCalm stood other
 
--- They stand for a state whose open record is the one that was to be appended: it stands in them, or it doesn't.
+-- They stand for a state whose open records are those that were to be appended: the first so many stand in them.
 abbrev pub LeavesAppend : {D : Type 0} → Ghosts D → Log D → Log D → State → State → Type 0
 LeavesAppend disks old new s lost =
-    (r : Record) × (lost.open_record ≡ Some r)
+    (1 ≤ length lost.open_records)
     × ((current other : List ℕ) → LeftByAppend disks old new current other
-    → AppendsWithoutChance disks old s r current other → StandFor old current other lost)
+    → AppendsWithoutChance disks old s lost.open_records current other → StandFor old current other lost)
 
 -- ---- a checkpoint
 
@@ -103,7 +103,7 @@ StandsBeside disks log stood fresh s other =
 pub record LeavesCheckpoint {D : Type 0} (disks : Ghosts D) (old : Log D) (a : Appending) (new : Log D)
     (lost : State) : Type 0 where
   pub boot : ℕ
-  pub opens : lost.open_record ≡ Some (logged.Opened boot)
+  pub opens : lost.open_records ≡ logged.Opened boot ∷ []
   pub stood : List (List ℕ)
   pub records : List Record
   pub pair : Pair disks (map spelled records) stood old
@@ -127,7 +127,8 @@ checkpoints Nobody = false
 checkpoints (Now answer) = false
 checkpoints (Appends appended after) = false
 checkpoints (Checkpoints appended after) = true
-checkpoints (Rereads failed survived missing) = false
+checkpoints (Rereads failed found) = false
+checkpoints (Joins refused appended lost) = false
 
 abbrev pub LeavesWritten : {D : Type 0} → Ghosts D → Bool → Log D → Appending → Log D → State → State → Type 0
 LeavesWritten disks true old a new s lost = LeavesCheckpoint disks old a new lost
@@ -137,12 +138,14 @@ LeavesWritten disks false old a new s lost = LeavesAppend disks old new s lost
 -- the look at the log failed, what a crash before it leaves; of an append and of a checkpoint, whatever they were
 -- answered, what one leaves whose answer never came. A restart has a log in the middle, and each of its moments is in
 -- one of two phases: the look leads from the log before it to that log, and the checkpoint from there to the log behind
--- it. So an image of the one file in the first never stands beside one of the other in the second.
+-- it. So an image of the one file in the first never stands beside one of the other in the second. No call by itself
+-- joins the append of another.
 abbrev pub LeavesBy : {D : Type 0} → Ghosts D → Log D → Turn → Outcome → Log D → State → Type 0
 LeavesBy disks old asked Quiet new s = (new ≡ old) × LeavesNow disks old s
 LeavesBy disks old asked (Appended a) new s =
     IsSomeAnd (taken asked (Appended Lost))
     (λ lost. LeavesWritten disks (checkpoints asked) old a new s lost.after)
+LeavesBy disks old asked (Joined a) new s = ⊥
 LeavesBy disks old asked Failed new s = LeavesLook disks old new s
 LeavesBy {D} disks old asked (Reread survived appended) new s =
     (mid : Log D) × LeavesLook disks old mid s × LeavesBoot disks mid asked (Reread survived appended) new

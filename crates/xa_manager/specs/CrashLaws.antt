@@ -1,5 +1,5 @@
 -- Laws on what a read gives of a log's two files, and on what a crash leaves of them.
-use Rattle.std.specs.Prelude.{◌≡◌, ℕ, None, Ok, List, Contains, map, if◌then◌else◌}
+use Rattle.std.specs.Prelude.{◌≡◌, ℕ, Ok, List, [], Contains, map, if◌then◌else◌}
 use Rattle.xa_disk.specs.declared.disk.Disk.{Ghosts}
 use Rattle.xa_record.specs.Spelling.{spelled}
 use Rattle.xa_record.specs.declared.record.Record.{Record}
@@ -18,7 +18,7 @@ use Rattle.xa_manager.specs.Managed.{ManagerStandsFor}
 use Rattle.xa_manager.specs.Files.{FilesStandFor}
 
 -- A log that stands for a state, and images of its first and of its second file. Nothing of them is left to chance by
--- the state that the log itself is in: behind the current file's records chains the one that was lost, or none; in front
+-- the state that the log itself is in: after the current file's records chain those that were lost, or none; in front
 -- of the other file stands the first record of the log that stood there, or of the one whose checkpoint was lost, or
 -- none that chains.
 pub record StandsWithoutChance {D : Type 0} (disks : Ghosts D) (log : Log D) (s : State)
@@ -45,10 +45,10 @@ CrashLeaves {D} disks =
 -- the records of such files come to what lasts of the state
 abbrev pub FilesLast : Type 0
 FilesLast =
-    (most : ℕ) (first second : List ℕ) (s : State) → FilesStandFor most first second s → s.open_record ≡ None
+    (most : ℕ) (first second : List ℕ) (s : State) → FilesStandFor most first second s → s.open_records ≡ []
     → (rs : List Record) × (logged_pair first second ≡ map spelled rs) × (fold rs ≡ Ok (durable s))
 
--- or to one of what may last of it, where a record's fate is unknown
+-- or to one of what may last of it, where records' fates are unknown
 abbrev pub FilesLastAsFated : Type 0
 FilesLastAsFated =
     (most : ℕ) (first second : List ℕ) (s : State) → FilesStandFor most first second s

@@ -1,5 +1,5 @@
 -- What a crash at any moment of an opening leaves of two files that stand for a state.
-use Rattle.std.specs.Prelude.{◌≡◌, ◌≢◌, ℕ, Bool, List, Some, Result, Ok, Err}
+use Rattle.std.specs.Prelude.{◌≡◌, ◌≢◌, ℕ, List, Some, Result, Ok, Err}
 use Rattle.xa_disk.specs.declared.disk.Disk.{Ghosts}
 use Rattle.xa_log.specs.TwoFiles.{NoStray, first_of, second_of}
 use Rattle.xa_log.specs.declared.log.Log.{Log}
@@ -39,7 +39,7 @@ pub record LooksOver {D : Type 0} (disks : Ghosts D) (log_bytes : ℕ) (first fi
 pub record LeavesReopening {D : Type 0} (disks : Ghosts D) (first second : D) (s : State) (name : List ℕ)
     (log_bytes : ℕ) (a : Appending) (after : Log D) : Type 0 where
   pub log : Log D
-  pub survived : Bool
+  pub survived : ℕ
   pub look : LooksOver disks log_bytes first (first_of log) second (second_of log) s
   pub boot : LeavesBoot disks log (reopen_turn s name log_bytes) (Reread survived (Some a)) after
 

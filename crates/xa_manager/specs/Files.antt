@@ -1,15 +1,15 @@
 -- What two files leave of a state.
-use Rattle.std.specs.Prelude.{◌≡◌, ◌⊎◌, ℕ, None, Some, List, map}
+use Rattle.std.specs.Prelude.{◌≡◌, ℕ, None, Some, List, map}
 use Rattle.xa_record.specs.Spelling.{spelled}
 use Rattle.xa_record.specs.declared.record.Record.{Record}
 use Rattle.xa_log.specs.Pair.{pair_fault, logged_pair}
 use Rattle.xa_model.specs.State.{State}
 use Rattle.xa_model.specs.Invariants.Backing.{Backs}
-use Rattle.xa_model.specs.Restarting.{missed, survived}
+use Rattle.xa_model.specs.Restarting.{survived}
 
--- the fate of the record that was lost is settled: the records stand behind the state without it, or with it
+-- the fates of the records that were lost are settled: the records stand behind the state with the first so many
 abbrev pub Settles : List Record → State → Type 0
-Settles rs s = Backs rs (missed s) ⊎ ((r : Record) × (s.open_record ≡ Some r) × Backs rs (survived s r))
+Settles rs s = (k : ℕ) × (t : State) × (survived s k ≡ Some t) × Backs rs t
 
 -- the bytes of two files are a log of such records, which an opening accepts
 pub record FilesStandFor (most : ℕ) (first second : List ℕ) (s : State) : Type 0 where

@@ -7,6 +7,7 @@ pub mod Managed
 pub mod Drained
 pub mod Changes
 pub mod Connected
+pub mod Status
 pub mod Answered
 pub mod Counted
 pub mod Turns

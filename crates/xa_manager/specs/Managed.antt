@@ -1,8 +1,8 @@
 -- What states of the sequential resource manager a manager stands for.
-use Rattle.std.specs.Prelude.{◌≡◌, true, false, Option, Some, None, IsSomeAnd}
+use Rattle.std.specs.Prelude.{◌≡◌, ◌≤◌, true, false, Option, Some, None, IsSomeAnd, [], ◌∷◌, length}
+use Rattle.std.specs.List.{AllByRecursion}
 use Rattle.xa_disk.specs.declared.disk.Disk.{Ghosts}
 use Rattle.xa_log.specs.Chain.{newest}
-use Rattle.xa_record.specs.declared.record.Record.{Record}
 use Rattle.xa_record.specs.declared.record.Record.TheVariants as logged
 use Rattle.xa_frame.specs.declared.reply.Reply.{Reply}
 use Rattle.xa_model.specs.Answer.{Answer}
@@ -19,11 +19,12 @@ use Rattle.xa_manager.specs.LogStands.{Trusts, LogStandsFor}
 abbrev pub view : {D : Type 0} → Manager D → View
 view m = view_of m.tables
 
--- the record whose fate is unknown: a boot's, or one behind the log's end
+-- the records whose fates are unknown: a boot's, or some after the log's end, of which none is a boot's
 abbrev pub Doubts : Option Doubt → State → Type 0
-Doubts None s = s.open_record ≡ None
-Doubts (Some (Boot boot)) s = s.open_record ≡ Some (logged.Opened boot)
-Doubts (Some (LastRecord end)) s = (r : Record) × (s.open_record ≡ Some r) × (is_boot r ≡ false) × (end ≡ s.end)
+Doubts None s = s.open_records ≡ []
+Doubts (Some (Boot boot)) s = s.open_records ≡ logged.Opened boot ∷ []
+Doubts (Some (LastRecord end)) s =
+    (1 ≤ length s.open_records) × AllByRecursion (λ r. is_boot r ≡ false) s.open_records × (end ≡ s.end)
 
 -- The log is said to stand behind the state under the premises on the type of disks; all else is without them.
 pub record ManagerStandsFor {D : Type 0} (disks : Ghosts D) (m : Manager D) (s : State) : Type 0 where

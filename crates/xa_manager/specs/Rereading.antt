@@ -1,5 +1,5 @@
 -- What reading the log again finds, and what the new boot begins with.
-use Rattle.std.specs.Prelude.{◌≡◌, ◌⊎◌, ◌+◌, ◌<◌, ◌≤◌, ℕ, Bool, true, false, List, map, length, Option, Some, None, Result, Ok, Err}
+use Rattle.std.specs.Prelude.{◌≡◌, ◌+◌, ◌<◌, ◌≤◌, ℕ, false, List, map, length, Option, Some, None, Result, Ok, Err}
 use Rattle.std.specs.List.{AllByRecursion}
 use Rattle.xa_disk.specs.declared.disk.Disk.{Ghosts}
 use Rattle.xa_record.specs.Limits.{IsRecord}
@@ -12,8 +12,8 @@ use Rattle.xa_log.specs.declared.log.Log.{Log}
 use Rattle.xa_model.specs.State.{State}
 use Rattle.xa_model.specs.Durable.{Durable}
 use Rattle.xa_model.specs.Fold.{snapshot}
-use Rattle.xa_model.specs.Invariants.Backing.{Backs}
-use Rattle.xa_model.specs.Restarting.{missed, survived}
+use Rattle.xa_model.specs.Invariants.Backing.{Backs, settled_first}
+use Rattle.xa_model.specs.Restarting.{survived}
 use Rattle.xa_limits.specs.declared.TheConstants.{MOST_BOOTS, MOST_VALUE}
 use Rattle.xa_model.specs.Invariants.Restored.{IsRestored}
 use Rattle.mv_rules.specs.Records.{StandsFor as RecordsStandFor}
@@ -24,23 +24,35 @@ use Rattle.xa_recovery.specs.Log.{LogRebuilt}
 use Rattle.xa_recovery.specs.declared.log_fault.LogFault.{LogFault}
 use Rattle.xa_manager.specs.declared.boots.NextBoot.{NextBoot}
 use Rattle.xa_manager.specs.declared.boots.Planned.{Planned}
+use Rattle.xa_manager.specs.declared.doubt.Doubt.{Doubt}
+use Rattle.xa_manager.specs.declared.doubt.Doubt.TheVariants.{Boot, Record as LastRecord}
 use Rattle.xa_manager.specs.LogStands.{HasRecords}
 
--- what a state is once its last record's fate is known: it survived, or it didn't
-abbrev pub IsFate : Bool → State → State → Type 0
-IsFate true s t = (r : Record) × (s.open_record ≡ Some r) × (t ≡ survived s r)
-IsFate false s t = t ≡ missed s
+-- what a state is once its last records' fates are known: the first so many survived
+abbrev pub IsFate : ℕ → State → State → Type 0
+IsFate k s t = survived s k ≡ Some t
 
--- the log was read again: it has these bodies, and its records stand behind the state whose last record's fate is known
+-- The log was read again: it has these bodies, and its records stand behind the state whose last records' fates are
+-- known. They are those that stood behind the state before, and the first so many of those that were lost.
 pub record Found {D : Type 0} (disks : Ghosts D) (bodies : List (List ℕ)) (log : Log D) (s : State) : Type 0 where
   pub state : State
-  pub fate : IsFate true s state ⊎ IsFate false s state
+  pub many : ℕ
+  pub fate : IsFate many s state
+  pub earlier : List Record
+  pub stood : Backs earlier s
   pub records : List Record
+  pub settled : records ≡ settled_first many s.open_records earlier s
   pub spelled_as : bodies ≡ map spelled records
   pub backs : Backs records state
   pub has : HasRecords disks records log
   pub end : log.end ≡ state.end
   pub alive : log.lost ≡ false
+
+-- So many records were counted after where the log ended: as many as survived, if those that were lost are there.
+abbrev pub IsCounted : Option Doubt → ℕ → ℕ → Type 0
+IsCounted None counted many = Unit {0}
+IsCounted (Some (Boot boot)) counted many = Unit {0}
+IsCounted (Some (LastRecord end)) counted many = counted ≡ many
 
 -- The log that was read again goes on where it ended before, in a file of the newest format.
 pub record GoesOn {D : Type 0} (old new : Log D) : Type 0 where
@@ -61,7 +73,7 @@ IsNext d moment (Some next) =
     × AllByRecursion IsRecord (snapshot d (d.boot + 1)) × IsWithin MOST_VALUE next.records × HasKeys next.records
 
 -- what is known of what a log came to without its values
-pub record IsCounted (p : Planned) : Type 0 where
+pub record HasCounts (p : Planned) : Type 0 where
   pub boot : p.boot ≡ p.durable.value.boot
   pub prepared : p.prepared ≡ length p.durable.value.prepared
   pub completed : p.completed ≡ length p.durable.value.decided
@@ -69,7 +81,7 @@ pub record IsCounted (p : Planned) : Type 0 where
 -- what the bodies of a log come to, and what the next boot begins with
 abbrev pub Plans : ℕ → List (List ℕ) → Result Planned LogFault → Type 0
 Plans moment bodies (Ok p) =
-    LogRebuilt bodies (Ok p.durable.value) × IsNext p.durable.value moment p.next × IsCounted p
+    LogRebuilt bodies (Ok p.durable.value) × IsNext p.durable.value moment p.next × HasCounts p
 Plans moment bodies (Err e) = LogRebuilt bodies (Err e)
 
 -- the log's buffer has room for the records that the next boot begins with

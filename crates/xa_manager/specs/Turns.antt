@@ -20,7 +20,7 @@ use Rattle.xa_model.specs.declared.outcome.Appending.TheVariants.{Kept, Refused,
 use Rattle.xa_model.specs.State.{State}
 use Rattle.xa_model.specs.Answer.{Answer, plain, detailed}
 use Rattle.xa_model.specs.Restarting.{restart_turn}
-use Rattle.xa_model.specs.Turn.{Turn, Asked, Nobody, Now, Appends, Checkpoints, Rereads, taken}
+use Rattle.xa_model.specs.Turn.{Turn, Asked, Nobody, Now, Appends, Checkpoints, Rereads, Joins, taken}
 use Rattle.xa_model.specs.declared.event.Event.{Event}
 use Rattle.xa_model.specs.Step.{step}
 use Rattle.xa_model.specs.Events.{asks_restart, begins_boot}
@@ -101,7 +101,8 @@ Takes disks m Nobody reply outcome m' = ⊥
 Takes disks m (Now a) reply outcome m' = TakesNow m a reply outcome m'
 Takes disks m (Appends r after) reply outcome m' = TakesAppending disks m r after reply outcome m'
 Takes disks m (Checkpoints r after) reply outcome m' = ⊥
-Takes disks m (Rereads failed found missing) reply outcome m' = ⊥
+Takes disks m (Rereads failed found) reply outcome m' = ⊥
+Takes disks m (Joins refused r lost) reply outcome m' = ⊥
 
 -- Whichever state the manager stood for, it takes this turn of it, of a request whose limits hold. Its own outcome is
 -- set when the call ends.

@@ -13,7 +13,7 @@ use mv_rules::Records;
 use std::alloc::{AllocError, Global};
 use std::snapshot::Snapshot;
 use xa_branch::Branches;
-use xa_recovery::{Durable, LogFault, next_boot, rebuild_log, snapshot};
+use xa_recovery::{Durable, LogFault, next_boot, rebuild_log};
 
 /// A boot that is ready to begin: its number, its tables, and the bodies that its log begins with.
 #[derive(Drop)]
@@ -36,8 +36,8 @@ pub struct Planned {
     pub next: Option<NextBoot>,
 }
 
-/// Makes ready what the boot of this number begins with, at this moment. The snapshot is spelled first, and then the
-/// values go over into the tables.
+/// Makes ready what the boot of this number begins with, at this moment: branch by branch the snapshot is spelled, and
+/// the values go over into the tables.
 fn ready(alloc: Global, durable: Durable, boot: u32, moment: u64) -> Result<NextBoot, AllocError>
     requires limits { AllByRecursion IsRecord (snapshot durable boot) }
     requires form { IsDurable durable }
@@ -48,8 +48,7 @@ fn ready(alloc: Global, durable: Durable, boot: u32, moment: u64) -> Result<Next
     ensures keys { IfOk result (λ next. HasKeys next.records) }
 {
     let branches = branches_of(alloc, &durable, boot, moment)?;
-    let bodies = snapshot(alloc, &durable, boot)?;
-    let mut records = records_of(alloc, durable, boot)?;
+    let (mut records, bodies) = records_of(alloc, durable, boot)?;
     records.low_water(branches.low_water());
     Ok(NextBoot {
         boot,

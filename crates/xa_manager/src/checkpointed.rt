@@ -69,6 +69,6 @@ impl Tables {
             (λ s. s.logged_boot ≡ boot → IfOk result (λ v. bodies_of v.items ≡ snapshot_bodies s (boot + 1))) }
     {
         let durable = self.durable(boot)?;
-        snapshot(self.alloc, &durable, boot + 1)
+        snapshot(self.alloc, durable, boot + 1)
     }
 }

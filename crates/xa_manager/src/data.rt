@@ -13,13 +13,14 @@ ghost use Rattle.xa_manager.specs.Tables.{TablesFollow, TablesStay};
 use crate::tables::Tables;
 use mv_rules::{Got, Put};
 use std::alloc::AllocError;
-use xa_codes::{Bytes, Detail, XA_OK, XA_RBTRANSIENT, XA_RETRY, XAER_INVAL, XAER_PROTO};
+use xa_codes::{Detail, XA_OK, XA_RBTRANSIENT, XA_RETRY, XAER_INVAL, XAER_PROTO};
+use xa_fields::Key;
 use xa_frame::{Body, Reply};
 
 /// The rows of gets and puts, of the branch that the session is at work for.
 impl Tables {
     #[tactic(auto, using(crate::proofs::Replying::get_replies))]
-    pub fn get(&mut self, session: u64, key: &Bytes) -> Result<Reply, AllocError>
+    pub fn get(&mut self, session: u64, key: &Key) -> Result<Reply, AllocError>
         ensures ok { IfOk result
             (λ r. TablesFollow self.old (λ s. get_by s key.now (own_branch s session)) r self.new) }
         ensures err { OnErr result (TablesStay self.old self.new) }
@@ -44,7 +45,7 @@ impl Tables {
     pub fn put(
         &mut self,
         session: u64,
-        key: &Bytes,
+        key: &Key,
         value: Option<Vec<u8>>,
     ) -> Result<Reply, AllocError>
         requires key { IsKey key.now }

@@ -16,7 +16,7 @@
 //! - `laws`: `read_leaves`, `read_stands` and `crash_leaves`, that a read and a crash leave the records of the state;
 //!   `files_last`, what these come to; `reached_promises`, `one_promises` and `begun_is_reached`, what is promised of
 //!   histories; `memory_is_trusted`, that disks in memory meet the premises
-//! - `planning`: planned faults in memory
+//! - `status`: how a manager is doing; `planning`: planned faults in memory
 #![tactic(auto)]
 
 mod acts;
@@ -48,6 +48,7 @@ mod replies;
 mod restarting;
 mod room;
 mod settings;
+mod status;
 mod tables;
 mod time_limits;
 mod trimming;

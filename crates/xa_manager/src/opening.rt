@@ -1,4 +1,4 @@
-ghost use Rattle.std.specs.Prelude.{◌≡◌, ◌≤◌, ◌<◌, ◌⊎◌, ◌↔◌, Bool, true, [], IfOk, IfErr, OnOk, IsErrOf, IsErrAnd, IsSomeAnd, Some, None, length};
+ghost use Rattle.std.specs.Prelude.{ℕ, ◌≡◌, ◌≤◌, ◌<◌, ◌⊎◌, ◌↔◌, Bool, true, [], IfOk, IfErr, OnOk, IsErrOf, IsErrAnd, IsSomeAnd, Some, None, length};
 ghost use Rattle.xa_limits.specs.declared.TheConstants.{MOST_LOG};
 ghost use Rattle.xa_log.specs.Chain.{newest};
 ghost use Rattle.xa_log.specs.Opened.{IsOpened};
@@ -52,7 +52,7 @@ impl<D: Disk + Drop> Manager<D> {
             → IfOk result (λ m. ManagerStandsFor D.Disk m (fresh settings.name settings.log_bytes)) }
         ensures reopens { Trusts D.Disk → (s : State) → IsRecoverable s
             → FilesStandFor settings.log_bytes (D.seen first) (D.seen second) s
-            → IfOk result (λ m. (survived : Bool)
+            → IfOk result (λ m. (survived : ℕ)
             × IsSomeAnd (step s (Reopened settings.name settings.log_bytes) (Reread survived (Some Kept)))
             (λ a. ManagerStandsFor D.Disk m a.after)) }
         ensures refused { D.honest
@@ -82,7 +82,7 @@ impl<D: Disk + Drop> Manager<D> {
             → IfOk result (λ m. ManagerStandsFor D.Disk m (fresh settings.name settings.log_bytes)) }
         ensures reopens { Trusts D.Disk → (s : State) → IsRecoverable s
             → FilesStandFor settings.log_bytes (D.seen first) (D.seen second) s
-            → IfOk result (λ m. (survived : Bool)
+            → IfOk result (λ m. (survived : ℕ)
             × IsSomeAnd (step s (Reopened settings.name settings.log_bytes) (Reread survived (Some Kept)))
             (λ a. ManagerStandsFor D.Disk m a.after)) }
         ensures refused { D.honest

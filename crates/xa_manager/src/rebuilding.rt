@@ -10,6 +10,8 @@ ghost use Rattle.xa_model.specs.Durable.{PreparedBranch, Pairwise, named_apart, 
 ghost use Rattle.xa_model.specs.Invariants.Restored.{IsRestored};
 ghost use Rattle.xa_model.specs.State.{State, timestamp_of};
 ghost use Rattle.xa_recovery.specs.Durable.{as_committed, as_prepared, as_decided};
+ghost use Rattle.xa_recovery.specs.Snapshots.{Puts, bytes_of, base_body, held_body};
+ghost use Rattle.xa_record.specs.Spelling.{spelled};
 ghost use Rattle.mv_rules.specs.Within.{IsWithin, HasKeys};
 ghost use Rattle.xa_limits.specs.declared.TheConstants.{MOST_VALUE};
 ghost use Rattle.xa_record.specs.Limits.{IsRecord};
@@ -25,7 +27,7 @@ use xa_branch::Branches;
 use xa_codes::Direction;
 use xa_limits::BOOT_TIMESTAMPS;
 use xa_record::Writes;
-use xa_recovery::{Durable, InDoubt};
+use xa_recovery::{Durable, InDoubt, begin_snapshot, put_base, put_decided, put_held};
 use xa_xid::Xid;
 
 /// Puts the branches in doubt into branches of which none is known.
@@ -88,9 +90,11 @@ fn least_of(prepared: &BTreeMap<u64, InDoubt>, boot: u32) -> u64
 }
 
 /// Moves the writes of committed branches into records without any, up to a low water of at most `least`: what is noted
-/// of a branch below it is let go again at once.
+/// of a branch below it is let go again at once. The body of each is put behind the others before.
 fn put_committed(
+    alloc: Global,
     records: &mut Records,
+    bodies: &mut Vec<Vec<u8>>,
     committed: BTreeMap<u64, Writes>,
     least: u64,
 ) -> Result<(), AllocError>
@@ -101,16 +105,23 @@ fn put_committed(
     ensures short { CommittedAreShort (map as_committed committed.entries) → IsWithin MOST_VALUE records.old
         → OnOk result (IsWithin MOST_VALUE records.new) }
     ensures unwritten { NoneHasWritten records.old → OnOk result (NoneHasWritten records.new) }
+    ensures bodies { OnOk result (Puts bodies.old (map base_body committed.entries) bodies.new) }
 {
     for (timestamp, writes) in committed {
+        put_base(alloc, bodies, timestamp, &writes)?;
         records.restore(timestamp, writes.into_vec(), Some(Fate::Committed))?;
         records.low_water(timestamp.min(least));
     }
     Ok(())
 }
 
-/// Moves those of the branches in doubt there.
-fn put_undecided(records: &mut Records, prepared: BTreeMap<u64, InDoubt>) -> Result<(), AllocError>
+/// Moves those of the branches in doubt there, and puts their bodies behind the others.
+fn put_undecided(
+    alloc: Global,
+    records: &mut Records,
+    bodies: &mut Vec<Vec<u8>>,
+    prepared: BTreeMap<u64, InDoubt>,
+) -> Result<(), AllocError>
     ensures stands { (low : ℕ) (older : List Written)
         → AreNew (map (λ p. p.timestamp) (map as_prepared prepared.entries)) older
         → AllByRecursion (λ p. low ≤ p.timestamp) (map as_prepared prepared.entries)
@@ -121,26 +132,37 @@ fn put_undecided(records: &mut Records, prepared: BTreeMap<u64, InDoubt>) -> Res
     ensures keys { PreparedHaveKeys (map as_prepared prepared.entries)
         → Pairwise prepares_before (map as_prepared prepared.entries) → NoneHasWritten records.old
         → OnOk result (HasKeys records.new) }
+    ensures bodies { OnOk result (Puts bodies.old (map held_body prepared.entries) bodies.new) }
 {
     for (timestamp, branch) in prepared {
+        put_held(alloc, bodies, timestamp, &branch)?;
         let InDoubt { writes, .. } = branch;
         records.restore(timestamp, writes.into_vec(), None)?;
     }
     Ok(())
 }
 
-/// The versions that lasted, in the boot of this number. Values are moved, and what they lasted in is let go branch by
-/// branch.
-pub(crate) fn records_of(alloc: Global, durable: Durable, boot: u32) -> Result<Records, AllocError>
-    ensures stands { IfOk result (λ m. (s : State) → IsRestored durable boot s → RecordsStandFor (history_of s) m) }
+/// The versions that lasted, in the boot of this number, and the bodies of the records that its log begins with. Each
+/// branch is spelled, and then its values are moved; what it lasted in is let go before the next one.
+pub(crate) fn records_of(
+    alloc: Global,
+    durable: Durable,
+    boot: u32,
+) -> Result<(Records, Vec<Vec<u8>>), AllocError>
+    ensures stands { IfOk result
+        (λ made. (s : State) → IsRestored durable boot s → RecordsStandFor (history_of s) made.0) }
     ensures short { (boot : ℕ) → AllByRecursion IsRecord (snapshot durable boot)
-        → IfOk result (IsWithin MOST_VALUE) }
+        → IfOk result (λ made. IsWithin MOST_VALUE made.0) }
     ensures keys { (boot : ℕ) → AllByRecursion IsRecord (snapshot durable boot)
-        → Pairwise prepares_before durable.prepared → IfOk result HasKeys }
+        → Pairwise prepares_before durable.prepared → IfOk result (λ made. HasKeys made.0) }
+    ensures bodies { IfOk result (λ made. bytes_of made.1.items ≡ map spelled (snapshot durable boot)) }
 {
-    let (committed, prepared) = durable.into_writes();
+    let mut bodies = begin_snapshot(alloc, &durable, boot)?;
+    let (committed, prepared, decided) = durable.into_parts();
     let mut records = Records::new(alloc);
-    put_committed(&mut records, committed, least_of(&prepared, boot))?;
-    put_undecided(&mut records, prepared)?;
-    Ok(records)
+    let least = least_of(&prepared, boot);
+    put_committed(alloc, &mut records, &mut bodies, committed, least)?;
+    put_undecided(alloc, &mut records, &mut bodies, prepared)?;
+    put_decided(alloc, &mut bodies, &decided)?;
+    Ok((records, bodies))
 }

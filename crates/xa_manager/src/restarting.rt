@@ -1,4 +1,4 @@
-ghost use Rattle.std.specs.Prelude.{◌≡◌, ◌⊎◌, ◌≤◌, ◌<◌, ◌+◌, ℕ, List, length, nat_lt, true, false, None, Some, Ok, IfOk, IfErr, IfSome, OnOk, OnErr, MatchBool};
+ghost use Rattle.std.specs.Prelude.{◌≡◌, ◌⊎◌, ◌≤◌, ◌<◌, ◌+◌, ◌++◌, ℕ, List, length, nat_lt, true, false, None, Some, Ok, IfOk, IfErr, IfSome, OnOk, OnErr, MatchBool};
 ghost use Rattle.std.specs.List.{AllByRecursion};
 ghost use Rattle.xa_assoc.specs.Refusals.{is_memory, IsBare};
 ghost use Rattle.xa_codes.specs.declared.codes.TheConstants.{XAER_RMFAIL};
@@ -6,6 +6,7 @@ ghost use Rattle.xa_record.specs.declared.record.Record.{Record};
 ghost use Rattle.xa_log.specs.Answers.{CountsDeviceOf};
 ghost use Rattle.xa_log.specs.Buffer.{HoldsEach};
 ghost use Rattle.xa_log.specs.Chain.{IsBody, newest};
+ghost use Rattle.xa_log.specs.Group.{group_bytes};
 ghost use Rattle.xa_log.specs.Pair.{generation};
 ghost use Rattle.xa_log.specs.Reading.{bodies_of};
 ghost use Rattle.xa_log.specs.declared.log.Log.{Log};
@@ -25,7 +26,7 @@ ghost use Rattle.xa_manager.specs.Crash.{LeavesLook, LeavesBoot, LeavesBy};
 ghost use Rattle.xa_manager.specs.LogStands.{Trusts, HasRecords};
 ghost use Rattle.xa_manager.specs.Managed.{ManagerStandsFor, AnswersAs, Doubts};
 ghost use Rattle.xa_manager.specs.Promises.{RestartPromises};
-ghost use Rattle.xa_manager.specs.Rereading.{IsFate, Found, GoesOn, HoldsNext, IsNext, IsReady, Plans};
+ghost use Rattle.xa_manager.specs.Rereading.{IsFate, Found, IsCounted, GoesOn, HoldsNext, IsNext, IsReady, Plans};
 ghost use Rattle.xa_manager.specs.Reserving.{HasReserved};
 ghost use Rattle.xa_manager.specs.Turns.{HasRestarted, HasWanted};
 ghost use Rattle.xa_manager.specs.Connected.{connected_to};
@@ -41,6 +42,7 @@ use std::alloc::AllocError;
 use xa_codes::{Detail, XA_OK, XAER_RMFAIL};
 use xa_disk::Disk;
 use xa_frame::Reply;
+use xa_limits::AROUND_BODY;
 use xa_log::{Appended, Format, Log, OpenFault};
 use xa_model::{Appending, Outcome};
 use xa_recovery::LogFault;
@@ -98,20 +100,34 @@ impl<D: Disk> Manager<D> {
         Ok(planned)
     }
 
-    /// Whether the record that was lost stands in the log that was read again, which came to this boot.
-    fn has_survived(&self, boot: u32) -> bool
-        ensures { (s : State) (bodies : List (List ℕ)) (f : Found D.Disk bodies self.now.log s)
-            → Doubts self.now.doubt s → IsRecoverable s → boot ≡ f.state.logged_boot → IsFate result s f.state }
+    /// How many of the records that were lost after the log's end stand there in the log that was read again, which has
+    /// these bodies.
+    fn count_after(&self, bodies: &[Vec<u8>]) -> usize
+        ensures { (s : State) (f : Found D.Disk (bodies_of bodies.now) self.now.log s) → Doubts self.now.doubt s
+            → IsCounted self.now.doubt result f.many }
     {
         match self.doubt {
-            None => false,
-            Some(Doubt::Boot(last)) => boot == last,
-            Some(Doubt::Record(end)) => self.log.end() != end,
+            Some(Doubt::Record(end)) => count_last(bodies, self.log.end().saturating_sub(end)),
+            Some(Doubt::Boot(_)) | None => 0,
+        }
+    }
+
+    /// How many of the records that were lost stand in the log that was read again, which came to this boot, and has so
+    /// many records after where it ended.
+    fn survivors(&self, boot: u32, after_end: usize) -> usize
+        ensures { (s : State) (bodies : List (List ℕ)) (f : Found D.Disk bodies self.now.log s)
+            → Doubts self.now.doubt s → IsRecoverable s → boot ≡ f.state.logged_boot
+            → IsCounted self.now.doubt after_end f.many → result ≡ f.many }
+    {
+        match self.doubt {
+            None => 0,
+            Some(Doubt::Boot(last)) => { if boot == last { 1 } else { 0 } }
+            Some(Doubt::Record(_)) => after_end,
         }
     }
 
     /// Nothing is to be appended: the manager is down.
-    fn stopped(&mut self, survived: bool, detail: Detail) -> Done
+    fn stopped(&mut self, survived: usize, detail: Detail) -> Done
         ensures reply { result.reply ≡ detailed XAER_RMFAIL detail }
         ensures told { result.outcome ≡ Outcome.Reread survived None }
         ensures down { self.new ≡ record self.old { up = false; doubt = None } }
@@ -128,7 +144,7 @@ impl<D: Disk> Manager<D> {
     }
 
     /// The boot that was made ready is logged, and begins.
-    fn log_boot(&mut self, survived: bool, next: NextBoot) -> Done
+    fn log_boot(&mut self, survived: usize, next: NextBoot) -> Done
         requires some { 1 ≤ length next.bodies.items }
         requires sizes { AllByRecursion (IsBody newest) (bodies_of next.bodies.items) }
         requires holds { HoldsEach self.old.log (bodies_of next.bodies.items) }
@@ -183,18 +199,20 @@ impl<D: Disk> Manager<D> {
         }
     }
 
-    /// A new boot begins with what the log came to.
-    fn begin(&mut self, planned: Planned) -> Done
+    /// A new boot begins with what the log came to, which has so many records after where it ended.
+    fn begin(&mut self, planned: Planned, after_end: usize) -> Done
         requires next { IsNext planned.durable.value self.old.tables.branches.moment planned.next }
         requires boot { planned.boot ≡ planned.durable.value.boot }
         requires holds { HoldsNext self.old.log planned.next }
         requires above { IfSome planned.next
             (λ next. self.old.log.generation < generation (bodies_of next.bodies.items)) }
         ensures turn { (s : State) (bodies : List (List ℕ)) → ManagerStandsFor D.Disk self.old s → Trusts D.Disk
-            → Found D.Disk bodies self.old.log s → LogRebuilt bodies (Ok planned.durable.value)
+            → (f : Found D.Disk bodies self.old.log s) → IsCounted self.old.doubt after_end f.many
+            → LogRebuilt bodies (Ok planned.durable.value)
             → AnswersAs D.Disk (taken (restart_turn s) result.outcome) result.reply self.new }
         ensures leaves { (s : State) (bodies : List (List ℕ)) → ManagerStandsFor D.Disk self.old s → Trusts D.Disk
-            → Found D.Disk bodies self.old.log s → LogRebuilt bodies (Ok planned.durable.value)
+            → (f : Found D.Disk bodies self.old.log s) → IsCounted self.old.doubt after_end f.many
+            → LogRebuilt bodies (Ok planned.durable.value)
             → LeavesBoot D.Disk self.old.log (restart_turn s) result.outcome self.new.log }
         ensures outcome { self.new.outcome ≡ self.old.outcome }
         ensures called { self.old.log.lost ≡ false → (log : Log D) → NoneRises D.failures log self.old.log
@@ -204,7 +222,7 @@ impl<D: Disk> Manager<D> {
         ensures bare { IsBare result.reply }
     {
         let Planned { boot, next, .. } = planned;
-        let survived = self.has_survived(boot);
+        let survived = self.survivors(boot, after_end);
         match next {
             Some(next) => self.log_boot(survived, next),
             None => self.stopped(survived, Detail::Limit),
@@ -214,14 +232,14 @@ impl<D: Disk> Manager<D> {
     /// The log isn't one that a manager wrote, or not the one that it was.
     fn unread(&mut self) -> Done
         ensures reply { result.reply ≡ detailed XAER_RMFAIL Detail.Nothing }
-        ensures told { result.outcome ≡ Outcome.Reread false None }
+        ensures told { result.outcome ≡ Outcome.Reread 0 None }
         ensures down { self.new ≡ record self.old { up = false } }
     {
         self.up = false;
         Done {
             reply: Reply::detailed(XAER_RMFAIL, Detail::Nothing),
             outcome: Outcome::Reread {
-                survived: false,
+                survived: 0,
                 appended: None,
             },
         }
@@ -250,17 +268,20 @@ impl<D: Disk> Manager<D> {
     {
         let end = self.log.end();
         match self.look() {
-            Ok(bodies) => match self.make_ready(bodies) {
-                Ok(planned) => Ok(self.begin(planned)),
-                Err(LogFault::Memory) => {
-                    if self.up && !self.goes_on(end) {
-                        return Ok(self.unread());
+            Ok(bodies) => {
+                let after_end = self.count_after(&bodies);
+                match self.make_ready(bodies) {
+                    Ok(planned) => Ok(self.begin(planned, after_end)),
+                    Err(LogFault::Memory) => {
+                        if self.up && !self.goes_on(end) {
+                            return Ok(self.unread());
+                        }
+                        Err(AllocError)
                     }
-                    Err(AllocError)
+                    Err(LogFault::Malformed(_)) => Ok(self.unread()),
+                    Err(LogFault::Order(_)) => Ok(self.unread()),
                 }
-                Err(LogFault::Malformed(_)) => Ok(self.unread()),
-                Err(LogFault::Order(_)) => Ok(self.unread()),
-            },
+            }
             Err(OpenFault::Memory) => Err(AllocError),
             Err(OpenFault::Device) => Ok(self.failed()),
             Err(OpenFault::NotALog | OpenFault::TooNew | OpenFault::TooLong) => Ok(self.unread()),
@@ -312,7 +333,21 @@ fn reserve_next<D: Disk>(log: &mut Log<D>, next: &Option<NextBoot>) -> Result<()
     }
 }
 
-fn begun(survived: bool, appended: Appending, reply: Reply) -> Done
+/// How many of these bodies' records are the log's last so many bytes.
+fn count_last(bodies: &[Vec<u8>], bytes: u64) -> usize
+    ensures { (earlier later : List (List ℕ)) → bodies_of bodies.now ≡ earlier ++ later → bytes ≡ group_bytes later
+        → result ≡ length later }
+{
+    let mut left = bytes;
+    let mut first = bodies.len();
+    'records: while left > 0 && first > 0 {
+        first -= 1;
+        left = left.saturating_sub(AROUND_BODY as u64 + bodies[first].len() as u64);
+    }
+    bodies.len() - first
+}
+
+fn begun(survived: usize, appended: Appending, reply: Reply) -> Done
     ensures told { result.outcome ≡ Outcome.Reread survived (Some appended) }
     ensures reply { result.reply ≡ reply }
 {

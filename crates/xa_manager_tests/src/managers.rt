@@ -6,6 +6,7 @@ use crate::rows::none_wrong;
 use std::alloc::{AllocError, Global};
 use xa_codes::{Bytes, Code, Detail, TMNOFLAGS, TMSUCCESS, XA_OK, XAER_PROTO};
 use xa_disk::MemDisk;
+use xa_fields::Key;
 use xa_frame::{Body, Reply, Request, encode_request};
 use xa_manager::{Manager, Settings};
 use xa_model::Event;
@@ -52,7 +53,7 @@ fn request(alloc: Global, first: &Xid, second: &Xid, index: usize) -> Result<Req
             xid: first.copied(),
         },
         2 => Request::Put {
-            key: Bytes::from_slice(alloc, b"k")?,
+            key: Key::new(b"k").ok_or(AllocError)?,
             value: Bytes::from_slice(alloc, b"v")?,
         },
         3 => Request::End {
@@ -76,7 +77,7 @@ fn request(alloc: Global, first: &Xid, second: &Xid, index: usize) -> Result<Req
             after: None,
         },
         _ => Request::Get {
-            key: Bytes::from_slice(alloc, b"k")?,
+            key: Key::new(b"k").ok_or(AllocError)?,
         },
     })
 }

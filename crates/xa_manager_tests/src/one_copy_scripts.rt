@@ -3,6 +3,7 @@ ghost use Rattle.xa_frame.specs.Limits.{IsRequest};
 
 use std::alloc::{AllocError, Global};
 use xa_codes::{Bytes, Code, TMNOFLAGS, TMONEPHASE, TMSUCCESS, XA_OK, XA_RDONLY, XA_RETRY};
+use xa_fields::Key;
 use xa_frame::Request;
 use xa_xid::Xid;
 
@@ -125,14 +126,14 @@ fn on_key(alloc: Global, act: Act) -> Result<Request, AllocError>
 {
     Ok(match act {
         Act::Get(key) => Request::Get {
-            key: Bytes::from_slice(alloc, &[key])?,
+            key: Key::new(&[key]).ok_or(AllocError)?,
         },
         Act::Put(key, value) => Request::Put {
-            key: Bytes::from_slice(alloc, &[key])?,
+            key: Key::new(&[key]).ok_or(AllocError)?,
             value: Bytes::from_slice(alloc, &value.to_be_bytes())?,
         },
         Act::Delete(key) => Request::Delete {
-            key: Bytes::from_slice(alloc, &[key])?,
+            key: Key::new(&[key]).ok_or(AllocError)?,
         },
         _ => Request::Restart,
     })

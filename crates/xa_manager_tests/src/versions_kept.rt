@@ -4,6 +4,7 @@ use crate::managers::{answer, connected, manager};
 use std::alloc::Global;
 use xa_codes::{Bytes, TMNOFLAGS, TMONEPHASE, TMSUCCESS, XA_OK};
 use xa_disk::MemDisk;
+use xa_fields::Key;
 use xa_frame::Request;
 use xa_manager::Manager;
 use xa_xid::Xid;
@@ -43,19 +44,16 @@ fn starts(manager: &mut Manager<MemDisk>, alloc: Global, session: u64, xid: &Xid
 }
 
 fn puts(manager: &mut Manager<MemDisk>, alloc: Global, session: u64, key: &[u8; 1]) -> bool {
-    match (
-        Bytes::from_slice(alloc, key),
-        Bytes::from_slice(alloc, b"v"),
-    ) {
-        (Ok(key), Ok(value)) => is_done(manager, alloc, session, Request::Put { key, value }),
+    match (Key::new(key), Bytes::from_slice(alloc, b"v")) {
+        (Some(key), Ok(value)) => is_done(manager, alloc, session, Request::Put { key, value }),
         _ => false,
     }
 }
 
 fn gets(manager: &mut Manager<MemDisk>, alloc: Global, session: u64, key: &[u8; 4]) -> bool {
-    match Bytes::from_slice(alloc, key) {
-        Ok(key) => is_done(manager, alloc, session, Request::Get { key }),
-        Err(_) => false,
+    match Key::new(key) {
+        Some(key) => is_done(manager, alloc, session, Request::Get { key }),
+        None => false,
     }
 }
 

@@ -18,18 +18,19 @@ use Rattle.xa_model.specs.Branches.{unprepared_refusal, two_phase_refusal, rollb
 use Rattle.xa_model.specs.Completions.{forget_refusal, is_completed}
 use Rattle.xa_model.specs.Durable.{Durable, durable}
 use Rattle.xa_model.specs.Fold.{apply}
-use Rattle.xa_model.specs.Turn.{Turn, Nobody, Now, Appends, Checkpoints, Rereads, Asked, unless_now, marked_now}
-use Rattle.xa_model.specs.Step.{row, respond, asked, turn, is_up, context_of}
+use Rattle.xa_model.specs.Turn.{Turn, Nobody, Now, Appends, Checkpoints, Rereads, Joins, Asked, unless_now, marked_now}
+use Rattle.xa_model.specs.Step.{row, respond, asked, turn, is_up, context_of, further_record}
 use Rattle.xa_model.specs.Logging.{applied}
-use Rattle.xa_model.specs.Events.{IsEvent, asks_boot}
+use Rattle.xa_model.specs.Events.{IsEvent, asks_boot, begins_boot}
 use Rattle.xa_model.specs.History.{Entry, Leads}
 use Rattle.xa_model.specs.Invariants.Loggable.{IsRecoverable}
 use Rattle.xa_model.specs.Laws.Logging.{LogsWhatLasts}
 use Rattle.xa_model.specs.ListedLaw.{IsDone}
 use Rattle.xa_model.proofs.AppliedDecisions.{applied_lasts}
 use Rattle.xa_model.proofs.LoggedEvents.{events_log_what_lasts}
-use Rattle.xa_model.proofs.Recoveries.{LogsLast, turn_logs_last, applied_open}
-use Rattle.xa_model.proofs.Replies.{AllOf}
+use Rattle.xa_model.proofs.LastLogged.{LogsLast, event_logs_last}
+use Rattle.xa_model.proofs.AppliedAll.{applied_open}
+use Rattle.xa_model.proofs.Replies.{AllOf, joins_all}
 use Rattle.xa_model.proofs.Rows.{passed}
 use Rattle.xa_model.proofs.Fated.{IsFated, fates_are, quiet_is}
 
@@ -119,7 +120,7 @@ logged_settles : (P : Durable → Type 0) (s : State) (r : Record) (after : Appe
     → LogsWhatLasts s (Appends r after) → (x : Appending) → IsSettled P (after x)
 logged_settles P s r after h up p l Kept =
     subst (IsSettled P) (sym l.1)
-    (λ ok k. fates_are P (applied r s) (apply r (durable s)) None (applied_open s r ∙ h.settled up) k (applied_lasts s r h.sound l.0) p.0 tt)
+    (λ ok k. fates_are P (applied r s) (apply r (durable s)) [] (applied_open s r ∙ h.settled up) k (applied_lasts s r h.sound l.0) (p.0, tt))
 logged_settles P s r after h up p l Refused = λ ok k. absurd (p.1 ok)
 logged_settles P s r after h up p l Lost = subst (IsSettled P) (sym l.3) (λ ok k. absurd (cc ok))
 
@@ -129,7 +130,8 @@ turn_settles P s Nobody h last p l = tt
 turn_settles P s (Now a) h last p l = λ ok k. quiet_is P s a.after h k l (p ok)
 turn_settles P s (Appends r after) h last p l = λ x. logged_settles P s r after h last.2 p l x
 turn_settles P s (Checkpoints r after) h last p l = absurd l
-turn_settles P s (Rereads failed found missing) h last p l = absurd l
+turn_settles P s (Rereads failed found) h last p l = absurd l
+turn_settles P s (Joins refused r lost) h last p l = absurd l
 
 asked_settles : (P : Durable → Type 0) (s : State) (t : Turn) (standing : Standing) → s.standing ≡ standing → IsRecoverable s
     → LogsLast s (asked standing t) → Settles P s t → LogsWhatLasts s t → AllOf (IsSettled P) (asked standing t)
@@ -156,10 +158,12 @@ pub call_settles : (P : Durable → Type 0) (s : State) (n : ℕ) (request : Req
 call_settles P s n request is other down h settles =
     let e = event.Call n request in
     let early = early_refusal (context_of s n) request in
-    asked_settles P s (respond s e) s.standing refl h (turn_logs_last s (Asked e) is h)
+    joins_all (IsSettled P) s (further_record s e) (asked s.standing (respond s e))
+    (asked_settles P s (respond s e) s.standing refl h (event_logs_last s e (begins_boot e) refl is h)
     (unless_settles P s early (row s n request) (λ reply bad ok. early_bad (context_of s n) request reply bad ok)
     (λ allowed. settles (is_running s s.standing refl (asked_up (is_up s.standing) (passes_down (call_of request)) (passed _ _ _ allowed).0 down))))
-    (events_log_what_lasts s e h.sound other)
+    (events_log_what_lasts s e h.sound other))
+    (λ r found ok. absurd (cc ok))
 
 -- histories in two parts
 

@@ -15,7 +15,7 @@ use Rattle.xa_model.specs.Durable.{durable}
 use Rattle.xa_model.specs.Fold.{Reading, read, reading, unread, fits, fold, apply, is_used, timestamps_with, size_of, sizes}
 use Rattle.xa_model.specs.Logging.{applied}
 use Rattle.xa_model.specs.Invariants.MayLog.{IsIdle, MayLog}
-use Rattle.xa_model.specs.Invariants.Loggable.{IsRecoverable, MayBeLast, is_boot}
+use Rattle.xa_model.specs.Invariants.Loggable.{MayBeLast, is_boot}
 use Rattle.xa_model.specs.Invariants.Backing.{IsNew, Backs}
 use Rattle.xa_model.proofs.Inserts.{all_front, all_back, all_imply}
 use Rattle.xa_model.proofs.Splits.{all_append}
@@ -24,7 +24,7 @@ use Rattle.xa_model.proofs.Folds.{one_more}
 use Rattle.xa_model.proofs.Times.{known_below}
 use Rattle.xa_model.proofs.Applied.{IsAmong, among, idle_branch}
 use Rattle.xa_model.proofs.AppliedDecisions.{applied_lasts}
-use Rattle.xa_model.proofs.LoggedOrder.{logged_in_order}
+use Rattle.xa_model.proofs.LoggedOrder.{LogsOn, in_order}
 use Rattle.xa_model.proofs.Newer.{AreUnused, changed_unused, left_unused, committed_still}
 
 -- what is read of one record more
@@ -162,10 +162,10 @@ applied_new s (logged.Held xid t ws) ts h e may new = absurd may
 applied_new s (logged.Known xid direction) ts h e may new = absurd may
 
 -- a record that is kept
-pub appended_backed : (rs : List Record) (s : State) (r : Record) → IsRecoverable s → Backs rs s → MayBeLast s r → is_boot r ≡ false
+pub appended_backed : (rs : List Record) (s : State) (r : Record) → LogsOn s → Backs rs s → MayBeLast s r → is_boot r ≡ false
     → Backs (rs ++ r ∷ []) (applied r s)
 appended_backed rs s r h k last e =
-    let fit : fits r (reading unread rs) ≡ true = logged_in_order rs s r h k last in
+    let fit : fits r (reading unread rs) ≡ true = in_order rs s r h k last in
     let more : fold (rs ++ r ∷ []) ≡ Ok (apply r (durable s)) =
     one_more rs r (durable s) k.lasts ∙ ap (λ c. cond c (Ok (apply r (durable s))) (Err (length rs))) fit in
     record {

@@ -112,7 +112,7 @@ applied_lasts s (logged.Known xid direction) h may = absurd may
 
 -- neither the log's end nor its boot is a part of what is sound
 elsewhere : (s : State) (boot end : ℕ) → IsSound s → IsSound (record s { logged_boot = boot; end = end })
-elsewhere s boot end h = sound_beside s s.reads boot end s.standing s.open_record s.moment h
+elsewhere s boot end h = sound_beside s s.reads boot end s.standing s.open_records s.moment h
 
 pub applied_sound : KeepsSoundApplied
 applied_sound s (logged.Opened boot) h may = elsewhere s boot _ h

@@ -20,11 +20,12 @@ use Rattle.xa_model.specs.Associations.{mark_in, timestamp_in}
 use Rattle.xa_model.specs.Branches.{rolled_back, committed, unprepared_refusal, two_phase_refusal, rollback_refusal, heuristic_refusal, is_associated}
 use Rattle.xa_model.specs.Fold.{is_empty}
 use Rattle.xa_model.specs.Turn.{Happening, Asked, Reopened, Turn, Now, Appends, Checkpoints, unless_now, marked_now}
-use Rattle.xa_model.specs.Step.{row, respond, asked, turn, context_of}
+use Rattle.xa_model.specs.Step.{row, respond, asked, turn, context_of, further_record}
 use Rattle.xa_model.specs.Logging.{logs, has_room, log_full, writes_in}
 use Rattle.xa_model.specs.Completions.{prepare_turn, prepare_written, commit_one_phase_turn, commit_two_phase_turn, commit_written, roll_back_turn, decide_refusal, forget_refusal}
 use Rattle.xa_model.specs.Trimming.{trim_refusal, trim_became}
 use Rattle.xa_model.specs.ListedLaw.{is_prepare, is_completion, is_request}
+use Rattle.xa_model.proofs.Further.{joins_with}
 use Rattle.xa_model.proofs.Listing.{ends}
 
 -- the record is one that this logs
@@ -113,15 +114,19 @@ row_logs s n Trim =
     (Checkpoints (logged.Opened (s.logged_boot + 1)) (trim_became s (s.logged_boot + 1))) tt
 row_logs s n (Branches count after) = tt
 
-event_logs : (s : State) (e : Event) → Logs (IsAsked (Asked e)) (respond s e)
+pub event_logs : (s : State) (e : Event) → Logs (IsAsked (Asked e)) (respond s e)
 event_logs s event.Connect = tt
 event_logs s (event.Hangup n) = tt
 event_logs s (event.Call n request) =
     unless_logs (IsAsked (Asked (event.Call n request))) (early_refusal (context_of s n) request) s (row s n request)
     (row_logs s n request)
 
+pub standing_logs : (s : State) (e : Event) → Logs (IsAsked (Asked e)) (asked s.standing (respond s e))
+standing_logs s e = asked_logs (IsAsked (Asked e)) s.standing (respond s e) (event_logs s e)
+
 pub turn_logs : (s : State) (h : Happening) → Logs (IsAsked h) (turn s h)
-turn_logs s (Asked e) = asked_logs (IsAsked (Asked e)) s.standing (respond s e) (event_logs s e)
+turn_logs s (Asked e) =
+    joins_with (Logs (IsAsked (Asked e))) s (further_record s e) (asked s.standing (respond s e)) (standing_logs s e) (λ a r found now. tt)
 turn_logs s (Reopened name log_bytes) = tt
 
 -- a record that ends what is known of an XID is logged where a completion of it is asked

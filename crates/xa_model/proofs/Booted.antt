@@ -1,8 +1,9 @@
 -- Restarts and openings: the records that are settled, and the snapshot of a new boot, stand behind the states that they lead to.
-use Rattle.std.proofs.Common.{◌≡◌, ℕ, ◌+◌, ◌<◌, ◌≤◌, ◌==◌, Bool, true, false, not, ◌&&◌, cond, Ok, List, [], ◌∷◌, ◌++◌, Option, Some, None, refl, ap, sym, ◌∙◌, subst, arith}
-use Rattle.std.specs.Prelude.{map, filter, option_map, nat_lt, IfSome}
+use Rattle.std.proofs.Common.{◌≡◌, ℕ, zero, suc, ◌+◌, ◌<◌, ◌≤◌, ◌==◌, Bool, true, false, not, ◌&&◌, cond, Ok, List, [], ◌∷◌, ◌++◌, Option, Some, None, refl, ap, sym, ◌∙◌, subst, arith}
+use Rattle.std.specs.Prelude.{map, filter, option_map, nat_lt, IfSome, take}
 use Rattle.std.specs.List.{AllByRecursion}
 use Rattle.std.proofs.lemmas.Bool.{and_parts, ltb-true}
+use Rattle.std.proofs.lemmas.List.{append-nil}
 use Rattle.std.proofs.lemmas.Bool.Decides.{nat_tests}
 use Rattle.xa_codes.specs.declared.codes.TheConstants.{XAER_RMFAIL}
 use Rattle.xa_codes.specs.declared.detail.Detail.TheVariants as detail
@@ -12,16 +13,21 @@ use Rattle.xa_model.specs.State.{State, Session, Association, Branch, Decided, S
 use Rattle.xa_model.specs.Answer.{answer, detailed, ok}
 use Rattle.xa_model.specs.Durable.{Durable, CommittedBranch, PreparedBranch, IsDurable, durable, is_past}
 use Rattle.xa_model.specs.Fold.{Reading, read, reading, unread, base, held, known, snapshot, fold, fold_from, is_used}
-use Rattle.xa_model.specs.Turn.{Stops, Opens, Checkpoints, unless_now}
-use Rattle.xa_model.specs.Logging.{applied, down}
-use Rattle.xa_model.specs.Invariants.Loggable.{IsRecoverable, MayBeLast}
-use Rattle.xa_model.specs.Invariants.Backing.{Backs, BacksReading, BacksTurn, settled}
-use Rattle.xa_model.specs.Restarting.{missed, survived, lasts, restarted, boot_became, restarting, restart_turn, refused_opening, reopened, reopen_became, reopening, reopen_turn, can_open}
+use Rattle.xa_model.specs.Turn.{Rereading, Stops, Opens, Checkpoints, unless_now}
+use Rattle.xa_model.specs.Laws.Backing.{BacksFound, SettlesGroup}
+use Rattle.xa_model.specs.Logging.{applied, down, lost_too, is_boot}
+use Rattle.xa_model.specs.Invariants.Loggable.{IsRecoverable, MayBeLast, MayFollow}
+use Rattle.xa_model.specs.Invariants.Backing.{Backs, BacksReading, BacksTurn, settled, settled_first}
+use Rattle.xa_model.specs.Restarting.{with_first, looked, survived, lasts, restarted, boot_became, restarting, restart_turn, refused_opening, reopened, reopen_became, reopening, reopen_turn, can_open}
 use Rattle.xa_model.proofs.Inserts.{all_imply, none_passes}
 use Rattle.xa_model.proofs.Written.{snapshot_is_written}
 use Rattle.xa_model.proofs.Snapshots.{snapshot_folds}
 use Rattle.xa_model.proofs.Readings.{AreUsed, AreUsedIn, IsRead, read_is, nothing_is, fold_is_durable}
-use Rattle.xa_model.proofs.Restarts.{booted_lasts}
+use Rattle.xa_model.proofs.AppliedAll.{if_imply, if_mapped}
+use Rattle.xa_model.proofs.AppliedDecisions.{applied_sound}
+use Rattle.xa_model.proofs.LoggedOrder.{LogsOn, logs_on}
+use Rattle.xa_model.proofs.Recordable.{applied_loggable}
+use Rattle.xa_model.proofs.Restarts.{booted_lasts, found_both}
 use Rattle.xa_model.proofs.Folds.{stepped, fold_reads}
 use Rattle.xa_model.proofs.Newer.{AreUnused}
 use Rattle.xa_model.proofs.Tests.{used_apart}
@@ -31,18 +37,18 @@ use Rattle.xa_model.specs.Trimming.{trim_refusal, trimmed, trim_became, trim_tur
 use Rattle.xa_frame.specs.declared.reply.Reply.{Reply}
 
 -- what logs stand behind says nothing of settings, sessions, standing, the open record and the moment
-abbrev with_others : State → List ℕ → ℕ → List Session → List Association → Standing → Option Record → ℕ → State
+abbrev with_others : State → List ℕ → ℕ → List Session → List Association → Standing → List Record → ℕ → State
 with_others s name log_bytes sessions associations standing o moment = record s {
   name = name;
   log_bytes = log_bytes;
   sessions = sessions;
   associations = associations;
   standing = standing;
-  open_record = o;
+  open_records = o;
   moment = moment;
 }
 
-pub same_backed : (rs : List Record) (s : State) (name : List ℕ) (log_bytes : ℕ) (sessions : List Session) (associations : List Association) (standing : Standing) (o : Option Record) (moment : ℕ)
+pub same_backed : (rs : List Record) (s : State) (name : List ℕ) (log_bytes : ℕ) (sessions : List Session) (associations : List Association) (standing : Standing) (o : List Record) (moment : ℕ)
     → Backs rs s → Backs rs (with_others s name log_bytes sessions associations standing o moment)
 same_backed rs s name log_bytes sessions associations standing o moment k = record {
   records = k.records;
@@ -51,14 +57,14 @@ same_backed rs s name log_bytes sessions associations standing o moment k = reco
   new = λ current. let new = k.new current in record { given = new.given; unused = new.unused };
 }
 
-down_backed : (rs : List Record) (s : State) (o : Option Record) → Backs rs s → Backs rs (record (down s) { open_record = o })
+down_backed : (rs : List Record) (s : State) (o : List Record) → Backs rs s → Backs rs (record (down s) { open_records = o })
 down_backed rs s o k = same_backed rs s s.name s.log_bytes s.sessions s.associations _ o s.moment k
 
-pub lost_backed : (rs : List Record) (s : State) (r : Record) → Backs rs s → Backs rs (record (down s) { open_record = Some r })
-lost_backed rs s r k = down_backed rs s (Some r) k
+pub lost_backed : (rs : List Record) (s : State) (r : Record) → Backs rs s → Backs rs (record (down s) { open_records = r ∷ [] })
+lost_backed rs s r k = down_backed rs s (r ∷ []) k
 
-ended_backed : (rs : List Record) (s : State) (name : List ℕ) (log_bytes : ℕ) (o : Option Record) → Backs rs s
-    → Backs rs (record (refused_opening s name log_bytes) { open_record = o })
+ended_backed : (rs : List Record) (s : State) (name : List ℕ) (log_bytes : ℕ) (o : List Record) → Backs rs s
+    → Backs rs (record (refused_opening s name log_bytes) { open_records = o })
 ended_backed rs s name log_bytes o k = same_backed rs s name log_bytes [] [] _ o s.moment k
 
 -- the timestamps of a snapshot are those of its branches
@@ -121,11 +127,11 @@ restarts_by : (rs : List Record) (s : State) (c : Bool) → nat_lt s.logged_boot
     → BacksReading rs s (cond c (Opens (logged.Opened (s.logged_boot + 1)) (boot_became s (s.logged_boot + 1))) (Stops (answer (detailed XAER_RMFAIL detail.Limit) (down s))))
 restarts_by rs s true e k = (
   booted_backed rs s k (ltb-true s.logged_boot 4294967295 e),
-  down_backed rs s s.open_record k,
+  down_backed rs s s.open_records k,
   down_backed rs s
-      (Some (logged.Opened (s.logged_boot + 1))) k,
+      (logged.Opened (s.logged_boot + 1) ∷ []) k,
 )
-restarts_by rs s false e k = down_backed rs s s.open_record k
+restarts_by rs s false e k = down_backed rs s s.open_records k
 
 restarts : (rs : List Record) (s : State) → Backs rs s → BacksReading rs s (restarting s)
 restarts rs s k = restarts_by rs s (nat_lt s.logged_boot 4294967295) refl k
@@ -134,7 +140,7 @@ reopened_backed : (rs : List Record) (s : State) (name : List ℕ) (log_bytes : 
     → Backs (snapshot (durable s) (s.logged_boot + 1)) (reopened s name log_bytes (s.logged_boot + 1))
 reopened_backed rs s name log_bytes k less =
     let t = restarted s (s.logged_boot + 1) in
-    same_backed (snapshot (durable s) (s.logged_boot + 1)) t name log_bytes [] t.associations t.standing t.open_record 0 (booted_backed rs s k less)
+    same_backed (snapshot (durable s) (s.logged_boot + 1)) t name log_bytes [] t.associations t.standing t.open_records 0 (booted_backed rs s k less)
 
 reopens_by : (rs : List Record) (s : State) (name : List ℕ) (log_bytes : ℕ) (c : Bool)
     → (nat_lt s.logged_boot 4294967295 && can_open s log_bytes (s.logged_boot + 1)) ≡ c → Backs rs s
@@ -142,10 +148,10 @@ reopens_by : (rs : List Record) (s : State) (name : List ℕ) (log_bytes : ℕ) 
 reopens_by rs s name log_bytes true e k =
     let both = and_parts (nat_lt s.logged_boot 4294967295) (can_open s log_bytes (s.logged_boot + 1)) e in (
       reopened_backed rs s name log_bytes k (ltb-true s.logged_boot 4294967295 both.0),
-      ended_backed rs s name log_bytes s.open_record k,
-      ended_backed rs s name log_bytes (Some (logged.Opened (s.logged_boot + 1))) k,
+      ended_backed rs s name log_bytes s.open_records k,
+      ended_backed rs s name log_bytes (logged.Opened (s.logged_boot + 1) ∷ []) k,
     )
-reopens_by rs s name log_bytes false e k = ended_backed rs s name log_bytes s.open_record k
+reopens_by rs s name log_bytes false e k = ended_backed rs s name log_bytes s.open_records k
 
 reopens : (rs : List Record) (s : State) (name : List ℕ) (log_bytes : ℕ) → Backs rs s → BacksReading rs s (reopening name log_bytes s)
 reopens rs s name log_bytes k = reopens_by rs s name log_bytes (nat_lt s.logged_boot 4294967295 && can_open s log_bytes (s.logged_boot + 1)) refl k
@@ -195,12 +201,9 @@ trims_by rs s None e k current =
 pub trim_backed : (rs : List Record) (s : State) → Backs rs s → s.logged_boot ≡ s.boot → BacksTurn rs s (trim_turn s)
 trim_backed rs s k current = trims_by rs s (trim_refusal s) refl k current
 
--- the open record is settled
+-- the open records are settled
 
-missed_backed : (rs : List Record) (s : State) (o : Option Record) → Backs rs s → Backs rs (record s { open_record = o })
-missed_backed rs s o k = same_backed rs s s.name s.log_bytes s.sessions s.associations s.standing o s.moment k
-
-opened_backed : (rs : List Record) (s : State) (boot : ℕ) → IsRecoverable s → Backs rs s → MayBeLast s (logged.Opened boot)
+opened_backed : (rs : List Record) (s : State) (boot : ℕ) → LogsOn s → Backs rs s → MayBeLast s (logged.Opened boot)
     → Backs (snapshot (durable s) boot) (applied (logged.Opened boot) s)
 opened_backed rs s boot h k last =
     let may : s.logged_boot < boot = last.may in
@@ -211,7 +214,7 @@ opened_backed rs s boot h k last =
       new = λ current. absurd (omega (arith, current, may, h.loggable.boots));
     }
 
-pub settles : (rs : List Record) (s : State) (r : Record) → IsRecoverable s → Backs rs s → MayBeLast s r → Backs (settled rs s r) (applied r s)
+pub settles : (rs : List Record) (s : State) (r : Record) → LogsOn s → Backs rs s → MayBeLast s r → Backs (settled rs s r) (applied r s)
 settles rs s (logged.Opened boot) h k last = opened_backed rs s boot h k last
 settles rs s (logged.Prepared xid t ws) h k last = appended_backed rs s (logged.Prepared xid t ws) h k last refl
 settles rs s (logged.Committed xid t ws) h k last = appended_backed rs s (logged.Committed xid t ws) h k last refl
@@ -222,27 +225,70 @@ settles rs s (logged.Base t ws) h k last = absurd last.may
 settles rs s (logged.Held xid t ws) h k last = absurd last.may
 settles rs s (logged.Known xid direction) h k last = absurd last.may
 
-found_restarts : (rs : List Record) (s : State) (o : Option Record) → IsRecoverable s → Backs rs s → IfSome o (MayBeLast s)
-    → IfSome o (λ r. IfSome (option_map (λ q. restarting (survived s q)) o) (BacksReading (settled rs s r) (survived s r)))
-found_restarts rs s None h k last = tt
-found_restarts rs s (Some r) h k last =
-    restarts (settled rs s r) (survived s r) (missed_backed (settled rs s r) (applied r s) None (settles rs s r h k last))
+-- the first so many of them
+first_backed : (k : ℕ) (lost rs : List Record) (s : State) → LogsOn s → Backs rs s → MayFollow s lost
+    → IfSome (with_first k lost s) (Backs (settled_first k lost rs s))
+first_backed zero lost rs s h b follow = b
+first_backed (suc k) [] rs s h b follow = tt
+first_backed (suc k) (r ∷ lost) rs s h b follow =
+    first_backed k lost (settled rs s r) (applied r s)
+    (record { sound = applied_sound s r h.sound follow.0.may; loggable = applied_loggable s r h.loggable follow.0.may follow.0.limits })
+    (settles rs s r h b follow.0) follow.1
 
-found_reopens : (rs : List Record) (s : State) (name : List ℕ) (log_bytes : ℕ) (o : Option Record) → IsRecoverable s → Backs rs s
-    → IfSome o (MayBeLast s)
-    → IfSome o (λ r. IfSome (option_map (λ q. reopening name log_bytes (survived s q)) o) (BacksReading (settled rs s r) (survived s r)))
-found_reopens rs s name log_bytes None h k last = tt
-found_reopens rs s name log_bytes (Some r) h k last =
-    reopens (settled rs s r) (survived s r) name log_bytes (missed_backed (settled rs s r) (applied r s) None (settles rs s r h k last))
+looked_backed : (rs : List Record) (t : State) → Backs rs t → Backs rs (looked t)
+looked_backed rs t b = same_backed rs t t.name t.log_bytes t.sessions t.associations t.standing [] t.moment b
+
+pub survived_backed : (rs : List Record) (s : State) → IsRecoverable s → Backs rs s → (k : ℕ)
+    → IfSome (survived s k) (Backs (settled_first k s.open_records rs s))
+survived_backed rs s h b k =
+    let log = settled_first k s.open_records rs s in
+    if_mapped (Backs log) looked (with_first k s.open_records s)
+    (if_imply (Backs log) (λ t. Backs log (looked t)) (looked_backed log) (with_first k s.open_records s)
+    (first_backed k s.open_records rs s (logs_on s h) b h.open_records))
+
+found_backed : (rs : List Record) (s : State) (boot : State → Rereading) → ((log : List Record) (t : State) → Backs log t → BacksReading log t (boot t))
+    → IsRecoverable s → Backs rs s → (k : ℕ)
+    → IfSome (survived s k) (λ t. IfSome (option_map boot (survived s k)) (BacksReading (settled_first k s.open_records rs s) t))
+found_backed rs s boot boots h b k =
+    let log = settled_first k s.open_records rs s in
+    found_both (Backs log) (BacksReading log) boot (survived s k) (λ t c. boots log t c) (survived_backed rs s h b k)
 
 pub restart_backed : (rs : List Record) (s : State) → IsRecoverable s → Backs rs s → BacksTurn rs s (restart_turn s)
-restart_backed rs s h k =
-    (down_backed rs s s.open_record k, found_restarts rs s s.open_record h k h.open_record, restarts rs (missed s) (missed_backed rs s None k))
+restart_backed rs s h k = (down_backed rs s s.open_records k, found_backed rs s restarting restarts h k)
 
 pub reopen_backed : (rs : List Record) (s : State) (name : List ℕ) (log_bytes : ℕ) → IsRecoverable s → Backs rs s
     → BacksTurn rs s (reopen_turn s name log_bytes)
-reopen_backed rs s name log_bytes h k = (
-  ended_backed rs s name log_bytes s.open_record k,
-  found_reopens rs s name log_bytes s.open_record h k h.open_record,
-  reopens rs (missed s) name log_bytes (missed_backed rs s None k),
-)
+reopen_backed rs s name log_bytes h k =
+    (ended_backed rs s name log_bytes s.open_records k, found_backed rs s (reopening name log_bytes) (λ log t b. reopens log t name log_bytes b) h k)
+
+-- one more record of a group is lost
+pub too_backed : (rs : List Record) (s : State) (r : Record) → Backs rs s → Backs rs (lost_too s r).after
+too_backed rs s r k = same_backed rs s s.name s.log_bytes s.sessions s.associations s.standing (s.open_records ++ r ∷ []) s.moment k
+
+pub backs_found : BacksFound
+backs_found rs s k t h b found =
+    subst (λ (o : Option State). IfSome o (Backs (settled_first k s.open_records rs s))) found (survived_backed rs s h b k)
+
+-- a record of a group stands after the others
+settled_other : (rs : List Record) (s : State) (r : Record) → is_boot r ≡ false → settled rs s r ≡ rs ++ r ∷ []
+settled_other rs s (logged.Opened boot) other = absurd (cc other)
+settled_other rs s (logged.Prepared xid t ws) other = refl
+settled_other rs s (logged.Committed xid t ws) other = refl
+settled_other rs s (logged.Completed xid way) other = refl
+settled_other rs s (logged.Decided xid way) other = refl
+settled_other rs s (logged.Forgotten xid) other = refl
+settled_other rs s (logged.Base t ws) other = refl
+settled_other rs s (logged.Held xid t ws) other = refl
+settled_other rs s (logged.Known xid way) other = refl
+
+then_more : (rs : List Record) (r : Record) (more : List Record) → (rs ++ r ∷ []) ++ more ≡ rs ++ r ∷ more
+then_more [] r more = refl
+then_more (q ∷ rs) r more = ap (λ (l : List Record). q ∷ l) (then_more rs r more)
+
+pub settles_group : SettlesGroup
+settles_group zero lost rs s others = sym (append-nil rs)
+settles_group (suc k) [] rs s others = sym (append-nil rs)
+settles_group (suc k) (r ∷ lost) rs s others =
+    settles_group k lost (settled rs s r) (applied r s) others.1
+    ∙ ap (λ (l : List Record). l ++ take k lost) (settled_other rs s r others.0)
+    ∙ then_more rs r (take k lost)

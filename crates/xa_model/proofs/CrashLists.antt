@@ -4,7 +4,7 @@ use Rattle.xa_frame.specs.declared.reply.Reply.{Reply}
 use Rattle.xa_model.specs.History.{Entry}
 use Rattle.xa_model.specs.ListedLaw.{is_completion, is_prepare, is_request, lists}
 use Rattle.xa_model.specs.Laws.Crash.{CrashKeepsPrepared, CrashKeepsCompleted, CrashKeepsSinceBoot, BootLists}
-use Rattle.xa_model.proofs.Crashes.{run_fated}
+use Rattle.xa_model.proofs.LeftMeanwhile.{run_fated}
 use Rattle.xa_model.proofs.Inserts.{all_imply}
 use Rattle.xa_model.proofs.Listing.{listed_held}
 use Rattle.xa_model.proofs.Preparing.{kept_since, idle_refusals}

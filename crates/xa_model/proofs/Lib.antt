@@ -45,6 +45,7 @@ pub mod WorkedLog
 pub mod WorkedTurns
 pub mod WorkedTrims
 pub mod WorkedDevice
+pub mod WorkedGroups
 pub mod WorkedRecovery
 pub mod Splits
 pub mod Commits
@@ -56,9 +57,14 @@ pub mod LoggedTurns
 pub mod Recordable
 pub mod ShortWrites
 pub mod RecordableRows
+pub mod LeftBehind
+pub mod Likeness
 pub mod StillLogged
 pub mod Recoveries
 pub mod Stopped
+pub mod AppliedAll
+pub mod LastLogged
+pub mod Further
 pub mod Restarts
 pub mod Trims
 pub mod LoggedEvents
@@ -75,6 +81,7 @@ pub mod Restores
 pub mod Openings
 pub mod Rooms
 pub mod RoomyRows
+pub mod RoomWith
 pub mod RoomyTurns
 pub mod Replies
 pub mod Listing
@@ -92,7 +99,13 @@ pub mod MovingTurns
 pub mod RisingMoments
 pub mod Preparing
 pub mod Unlisted
+pub mod Grouped
+pub mod Together
+pub mod RoomTogether
+pub mod GroupSteps
 pub mod Crashes
+pub mod LeftMeanwhile
+pub mod LeftOfTwo
 pub mod CrashLists
 pub mod OpenedLists
 pub mod Scans

@@ -41,7 +41,7 @@ record IsSame (s t : State) : Type 0 where
   end : t.end ≡ s.end
   boot : t.boot ≡ s.boot
   logged_boot : t.logged_boot ≡ s.logged_boot
-  open_record : t.open_record ≡ s.open_record
+  open_records : t.open_records ≡ s.open_records
   standing : t.standing ≡ s.standing
 
 abbrev with_all : State → ℕ → List Session → List Association → List Branch → List Read → State
@@ -54,7 +54,7 @@ kept s given sessions held bs reads e f = record {
   end = refl;
   boot = refl;
   logged_boot = refl;
-  open_record = refl;
+  open_records = refl;
   standing = refl;
 }
 
@@ -62,7 +62,7 @@ alike : (s : State) (given : ℕ) (sessions : List Session) (held : List Associa
 alike s given sessions held reads = kept s given sessions held s.branches reads refl refl
 
 itself : (s : State) → IsSame s s
-itself s = record { lasts = refl; end = refl; boot = refl; logged_boot = refl; open_record = refl; standing = refl }
+itself s = record { lasts = refl; end = refl; boot = refl; logged_boot = refl; open_records = refl; standing = refl }
 
 unless_same : (o : Option Reply) (s : State) (a : Answer) → (o ≡ None → IsSame s a.after) → IsSame s (unless o s a).after
 unless_same None s a k = k refl
@@ -131,7 +131,7 @@ ticked_same s moment =
     let same = kept s s.given s.sessions s.associations (map (timed_out moment) s.branches) s.reads
     (ap reverse (map_made committed_of (timed_out moment) (λ b. maybe_committed XA_RBTIMEOUT b (runs_out moment b)) s.branches))
     (ap reverse (map_made prepared_of (timed_out moment) (λ b. maybe_prepared XA_RBTIMEOUT b (runs_out moment b)) s.branches)) in
-    record { lasts = same.lasts; end = refl; boot = refl; logged_boot = refl; open_record = refl; standing = refl }
+    record { lasts = same.lasts; end = refl; boot = refl; logged_boot = refl; open_records = refl; standing = refl }
 
 -- the association table
 
@@ -258,7 +258,7 @@ keeps s t same sound = record {
   end = same.end;
   boot = same.boot;
   logged_boot = same.logged_boot;
-  open_record = same.open_record;
+  open_records = same.open_records;
   standing = same.standing;
 }
 

@@ -14,7 +14,7 @@ use Rattle.xa_model.specs.Durable.{Durable, PreparedBranch, durable, by_name, is
 use Rattle.xa_model.specs.Fold.{Reading, fits, reading, unread, is_new, is_used, prepared_as}
 use Rattle.xa_model.specs.Completions.{is_completed}
 use Rattle.xa_model.specs.Invariants.MayLog.{IsIdle}
-use Rattle.xa_model.specs.Invariants.Loggable.{IsRecoverable, MayBeLast}
+use Rattle.xa_model.specs.Invariants.Loggable.{IsLoggable, IsRecoverable, MayBeLast}
 use Rattle.xa_model.specs.Invariants.Backing.{IsNew, Backs}
 use Rattle.xa_model.specs.Laws.Backing.{LoggedInOrder}
 use Rattle.xa_model.proofs.Folds.{fold_reads}
@@ -97,7 +97,15 @@ record IsBehind (x : Reading) (s : State) : Type 0 where
   lasts : x.durable ≡ durable s
   new : IsNew s x.timestamps
 
-new_fits : (x : Reading) (s : State) (xid : Triple) (t : ℕ) (ws : List Write) → IsRecoverable s → s.logged_boot ≡ s.boot → IsBehind x s
+-- a state of which records may be logged
+pub record LogsOn (s : State) : Type 0 where
+  pub sound : IsSound s
+  pub loggable : IsLoggable s
+
+pub logs_on : (s : State) → IsRecoverable s → LogsOn s
+logs_on s h = record { sound = h.sound; loggable = h.loggable }
+
+new_fits : (x : Reading) (s : State) (xid : Triple) (t : ℕ) (ws : List Write) → LogsOn s → s.logged_boot ≡ s.boot → IsBehind x s
     → IsIdle s xid t ws → is_new xid t x ≡ true
 new_fits x s xid t ws h current k idle =
     let i = idle_branch s xid t ws idle in
@@ -121,7 +129,7 @@ new_fits x s xid t ws h current k idle =
 behind : (rs : List Record) (s : State) → Backs rs s → s.logged_boot ≡ s.boot → IsBehind (reading unread rs) s
 behind rs s k current = record { lasts = fold_reads rs (durable s) k.lasts; new = k.new current }
 
-fits_read : (x : Reading) (s : State) (r : Record) → IsRecoverable s → MayBeLast s r → x.durable ≡ durable s
+fits_read : (x : Reading) (s : State) (r : Record) → LogsOn s → MayBeLast s r → x.durable ≡ durable s
     → (s.logged_boot ≡ s.boot → IsBehind x s) → fits r x ≡ true
 fits_read x s (logged.Opened boot) h k lasts new =
     let same : x.durable.boot ≡ s.logged_boot = ap (λ (d : Durable). d.boot) lasts in
@@ -138,5 +146,8 @@ fits_read x s (logged.Base t ws) h k lasts new = absurd k.may
 fits_read x s (logged.Held xid t ws) h k lasts new = absurd k.may
 fits_read x s (logged.Known xid direction) h k lasts new = absurd k.may
 
+pub in_order : (rs : List Record) (s : State) (r : Record) → LogsOn s → Backs rs s → MayBeLast s r → fits r (reading unread rs) ≡ true
+in_order rs s r h k last = fits_read (reading unread rs) s r h last (fold_reads rs (durable s) k.lasts) (λ current. behind rs s k current)
+
 pub logged_in_order : LoggedInOrder
-logged_in_order rs s r h k last = fits_read (reading unread rs) s r h last (fold_reads rs (durable s) k.lasts) (λ current. behind rs s k current)
+logged_in_order rs s r h k last = in_order rs s r (logs_on s h) k last

@@ -47,7 +47,7 @@ logs_lasts : (s : State) (r : Record) (code : ℤ) (left : State) → MayLog s r
 logs_lasts s r code left may h = (may, refl, h, refl)
 
 pub itself : (s : State) → IsSound s → KeepsLog s s
-itself s h = record { sound = h; lasts = refl; end = refl; boot = refl; logged_boot = refl; open_record = refl; standing = refl }
+itself s h = record { sound = h; lasts = refl; end = refl; boot = refl; logged_boot = refl; open_records = refl; standing = refl }
 
 -- an idle branch
 
@@ -70,7 +70,7 @@ gone_keeps s xid h idle = record {
   end = refl;
   boot = refl;
   logged_boot = refl;
-  open_record = refl;
+  open_records = refl;
   standing = refl;
 }
 
@@ -87,7 +87,7 @@ read_only_keeps s xid h idle empty = record {
   end = refl;
   boot = refl;
   logged_boot = refl;
-  open_record = refl;
+  open_records = refl;
   standing = refl;
 }
 

@@ -1,5 +1,5 @@
 -- Every step is a move, and so every history keeps what moves keep.
-use Rattle.std.proofs.Common.{◌≡◌, ℕ, ◌+◌, ◌≤◌, Bool, true, false, ◌&&◌, cond, List, [], ◌∷◌, Option, Some, None, refl, sym, ap, subst, arith}
+use Rattle.std.proofs.Common.{◌≡◌, ◌∙◌, ℕ, zero, suc, ◌+◌, ◌≤◌, Bool, true, false, ◌&&◌, cond, List, [], ◌∷◌, Option, Some, None, refl, sym, ap, subst, arith}
 use Rattle.std.specs.Prelude.{IfSome, filter, nat_lt, option_map}
 use Rattle.xa_codes.specs.declared.codes.TheConstants.{XAER_RMFAIL}
 use Rattle.xa_codes.specs.declared.detail.Detail.TheVariants as detail
@@ -14,18 +14,19 @@ use Rattle.xa_model.specs.declared.outcome.Appending.TheVariants.{Kept, Refused,
 use Rattle.xa_model.specs.State.{State}
 use Rattle.xa_model.specs.Answer.{Answer, answer, detailed, ok}
 use Rattle.xa_model.specs.Early.{early_refusal}
-use Rattle.xa_model.specs.Turn.{Happening, Asked, Reopened, Rereading, Stops, Opens}
-use Rattle.xa_model.specs.Step.{respond, turn, context_of}
+use Rattle.xa_model.specs.Turn.{Happening, Asked, Reopened, Stops, Opens}
+use Rattle.xa_model.specs.Step.{respond, asked, turn, context_of, further_record}
 use Rattle.xa_model.specs.Events.{HaveHappened, begins_boot}
 use Rattle.xa_model.specs.History.{Entry, Leads}
-use Rattle.xa_model.specs.Logging.{down}
-use Rattle.xa_model.specs.Invariants.Loggable.{IsRecoverable, MayBeLast}
+use Rattle.xa_model.specs.Logging.{applied, down}
+use Rattle.xa_model.specs.Invariants.Loggable.{IsRecoverable}
 use Rattle.xa_model.specs.Trimming.{trim_refusal, trim_became, trim_turn}
-use Rattle.xa_model.specs.Restarting.{lasts, missed, survived, restarted, boot_became, restarting, restart_turn, refused_opening, reopen_became, reopening, reopen_turn, can_open}
-use Rattle.xa_model.proofs.Restarts.{survived_recoverable}
+use Rattle.xa_model.specs.Restarting.{with_first, looked, lasts, survived, restarted, boot_became, restarting, restart_turn, refused_opening, reopen_became, reopening, reopen_turn, can_open}
+use Rattle.xa_model.proofs.AppliedAll.{IsFirst, if_imply}
+use Rattle.xa_model.proofs.Restarts.{open_first, found_boots}
 use Rattle.xa_model.proofs.Restores.{idle}
 use Rattle.xa_model.proofs.Recoveries.{keeps_recoverable}
-use Rattle.xa_model.proofs.Replies.{AllOf, AllOfReading, taken_all, asked_all, unless_all}
+use Rattle.xa_model.proofs.Replies.{AllOf, AllOfReading, taken_all, asked_all, joins_all, unless_all}
 use Rattle.xa_model.proofs.Moves.{Core, core, Remain, Moves, remains, restarts, trims, all_remain, remain_on, lasting_remain}
 use Rattle.xa_model.proofs.MovingRows.{Moved, itself, applied_remain, applied_core, event_moved}
 
@@ -68,31 +69,43 @@ reopens_by s x name log_bytes true h = by_fate
     by_fate Lost = still s x h
 reopens_by s x name log_bytes false h = still s x h
 
-missed_stems : (s : State) → IsRecoverable s → Stems s (missed s)
-missed_stems s h = record { remain = all_remain s.branches; same = refl; boots = h.loggable.boots }
+-- the state with the first of the open records
 
-survived_stems : (s : State) (r : Record) → IsRecoverable s → s.open_record ≡ Some r → MayBeLast s r → Stems s (survived s r)
-survived_stems s r h e last =
-    record { remain = applied_remain s r; same = applied_core s r; boots = (survived_recoverable s r h e last).loggable.boots }
+record Follows (s x : State) : Type 0 where
+  remain : Remain s.branches x.branches
+  same : core x ≡ record (core s) { branches = x.branches }
 
-found_moved : (s : State) (boot : State → Rereading) (o : Option Record) → s.open_record ≡ o → IsRecoverable s → IfSome o (MayBeLast s)
-    → ((x : State) → Stems s x → AllOfReading (Moved s) (boot x)) → IfSome (option_map (λ r. boot (survived s r)) o) (AllOfReading (Moved s))
-found_moved s boot None e h last f = tt
-found_moved s boot (Some r) e h last f = f (survived s r) (survived_stems s r h e last)
+first_follows : (k : ℕ) (rs : List Record) (s : State) → IfSome (with_first k rs s) (Follows s)
+first_follows zero rs s = record { remain = all_remain s.branches; same = refl }
+first_follows (suc k) [] s = tt
+first_follows (suc k) (r ∷ rs) s =
+    if_imply (Follows (applied r s)) (Follows s) further (with_first k rs (applied r s)) (first_follows k rs (applied r s))
+  where
+    further : (x : State) → Follows (applied r s) x → Follows s x
+    further x f = record {
+      remain = remain_on (applied_remain s r) f.remain;
+      same = f.same ∙ ap (λ (c : Core). record c { branches = x.branches }) (applied_core s r);
+    }
+
+survived_stems : (s : State) (k : ℕ) → IsRecoverable s → IfSome (survived s k) (Stems s)
+survived_stems s k h =
+    by_first (with_first k s.open_records s) (first_follows k s.open_records s) (open_first s k h)
+  where
+    by_first : (o : Option State) → IfSome o (Follows s) → IfSome o (IsFirst s k s.open_records) → IfSome (option_map looked o) (Stems s)
+    by_first None f x = tt
+    by_first (Some t) f x = record { remain = f.remain; same = f.same; boots = x.loggable.boots }
 
 restart_moved : (s : State) → IsRecoverable s → AllOf (Moved s) (restart_turn s)
 restart_moved s h = (
   itself s,
-  found_moved s restarting s.open_record refl h h.open_record (λ x k. restarts_by s x (nat_lt x.logged_boot 4294967295) k),
-  restarts_by s (missed s) (nat_lt s.logged_boot 4294967295) (missed_stems s h),
+  λ k. found_boots (Stems s) (AllOfReading (Moved s)) s k restarting (λ x f. restarts_by s x (nat_lt x.logged_boot 4294967295) f) (survived_stems s k h),
 )
 
 reopen_moved : (s : State) (name : List ℕ) (log_bytes : ℕ) → IsRecoverable s → AllOf (Moved s) (reopen_turn s name log_bytes)
 reopen_moved s name log_bytes h = (
   itself s,
-  found_moved s (reopening name log_bytes) s.open_record refl h h.open_record
-      (λ x k. reopens_by s x name log_bytes (nat_lt x.logged_boot 4294967295 && can_open x log_bytes (x.logged_boot + 1)) k),
-  reopens_by s (missed s) name log_bytes (nat_lt s.logged_boot 4294967295 && can_open (missed s) log_bytes (s.logged_boot + 1)) (missed_stems s h),
+  λ k. found_boots (Stems s) (AllOfReading (Moved s)) s k (reopening name log_bytes)
+      (λ x f. reopens_by s x name log_bytes (nat_lt x.logged_boot 4294967295 && can_open x log_bytes (x.logged_boot + 1)) f) (survived_stems s k h),
 )
 
 pub trim_moved : (s : State) → IsRecoverable s → AllOf (Moved s) (trim_turn s)
@@ -122,7 +135,9 @@ responds s e true c h = restart_asked s e c h
 responds s e false c h = event_moved s e h c
 
 pub turn_moved : (s : State) (happening : Happening) → IsRecoverable s → AllOf (Moved s) (turn s happening)
-turn_moved s (Asked e) h = asked_all (Moved s) s.standing (respond s e) (responds s e (begins_boot e) refl h)
+turn_moved s (Asked e) h =
+    joins_all (Moved s) s (further_record s e) (asked s.standing (respond s e))
+    (asked_all (Moved s) s.standing (respond s e) (responds s e (begins_boot e) refl h)) (λ r found. itself s)
 turn_moved s (Reopened name log_bytes) h = reopen_moved s name log_bytes h
 
 -- what moves keep is kept at each place of a history

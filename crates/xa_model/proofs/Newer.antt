@@ -25,7 +25,7 @@ use Rattle.xa_model.specs.Records.{having_done, got, get_from, get_by, busy_refu
 use Rattle.xa_model.specs.TimeLimits.{runs_out, timed_out, ticked}
 use Rattle.xa_model.specs.Recovering.{recovered_from, scan_from, scan_of}
 use Rattle.xa_model.specs.Step.{row, respond, context_of}
-use Rattle.xa_model.specs.Turn.{Turn, Nobody, Now, Appends, Checkpoints, Rereads, unless_now, marked_now}
+use Rattle.xa_model.specs.Turn.{Turn, Nobody, Now, Appends, Checkpoints, Rereads, Joins, unless_now, marked_now}
 use Rattle.xa_model.specs.Logging.{logs, has_room, log_full, writes_in}
 use Rattle.xa_model.specs.Completions.{prepare_turn, prepare_written, commit_one_phase_turn, commit_two_phase_turn, commit_written, rollback_turn, roll_back_turn, decide_refusal, forget_refusal}
 use Rattle.xa_model.specs.Fold.{is_empty, is_used}
@@ -50,7 +50,8 @@ Continues s (Now a) = IsNewer s a.after
 Continues s (Appends r after) = IsNewer s (after Refused).after
 Continues s Nobody = ⊥
 Continues s (Checkpoints r after) = ⊥
-Continues s (Rereads failed found missing) = ⊥
+Continues s (Rereads failed found) = ⊥
+Continues s (Joins refused r lost) = ⊥
 
 -- branches that stay, change, or leave
 

@@ -1,23 +1,21 @@
 -- In each history from an opening, what was prepared is listed until its completion is asked for.
-use Rattle.std.proofs.Common.{◌≡◌, ℕ, ◌+◌, Bool, true, false, ◌&&◌, cond, List, [], Option, Some, None, refl, arith}
-use Rattle.std.specs.Prelude.{IfSome, nat_lt, option_map}
+use Rattle.std.proofs.Common.{◌≡◌, ℕ, ◌+◌, Bool, true, false, ◌&&◌, cond, List, [], refl, arith}
+use Rattle.std.specs.Prelude.{nat_lt}
 use Rattle.xa_limits.specs.declared.TheConstants.{MOST_BOOTS}
-use Rattle.xa_record.specs.declared.record.Record.{Record}
 use Rattle.xa_record.specs.declared.record.Record.TheVariants as logged
 use Rattle.xa_model.specs.declared.outcome.Appending.{Appending}
 use Rattle.xa_model.specs.declared.outcome.Appending.TheVariants.{Kept, Refused, Lost}
 use Rattle.xa_model.specs.State.{State, Up}
 use Rattle.xa_model.specs.Answer.{Answer, ok}
-use Rattle.xa_model.specs.Durable.{durable}
-use Rattle.xa_model.specs.Fold.{apply, nothing}
+use Rattle.xa_model.specs.Fold.{nothing}
 use Rattle.xa_model.specs.Turn.{Stops, Opens}
-use Rattle.xa_model.specs.Restarting.{opening, survived, missed, refused_opening, reopened, reopen_became, reopening, can_open, reopen_turn}
+use Rattle.xa_model.specs.Restarting.{opening, refused_opening, reopened, reopen_became, reopening, can_open, reopen_turn}
 use Rattle.xa_model.specs.Laws.Logging.{BootLasts}
 use Rattle.xa_model.specs.ListedLaw.{ListsUntilAsked, FreshLists, OpenedLists, ReopenedLists}
 use Rattle.xa_model.proofs.Openings.{opens_restored}
 use Rattle.xa_model.proofs.Preparing.{idle_lists, listed_since_boot}
 use Rattle.xa_model.proofs.Replies.{AllOfReading, taken_all}
-use Rattle.xa_model.proofs.Restarts.{reopen_lasts}
+use Rattle.xa_model.proofs.Restarts.{IsFound, survived_found, found_boots, reopens}
 use Rattle.xa_model.proofs.Restores.{idle}
 
 pub opened_lists : OpenedLists
@@ -48,15 +46,10 @@ boots_list s name log_bytes true l = by_fate
 reading_lists : (s : State) (name : List ℕ) (log_bytes : ℕ) → BootLasts s (reopening name log_bytes s) → AllOfReading UpLists (reopening name log_bytes s)
 reading_lists s name log_bytes l = boots_list s name log_bytes (nat_lt s.logged_boot MOST_BOOTS && can_open s log_bytes (s.logged_boot + 1)) l
 
-found_lists : (s : State) (name : List ℕ) (log_bytes : ℕ) (o : Option Record)
-    → IfSome o (λ r. (durable (survived s r) ≡ apply r (durable s))
-    × IfSome (option_map (λ q. reopening name log_bytes (survived s q)) o) (BootLasts (survived s r)))
-    → IfSome (option_map (λ q. reopening name log_bytes (survived s q)) o) (AllOfReading UpLists)
-found_lists s name log_bytes None l = tt
-found_lists s name log_bytes (Some r) l = reading_lists (survived s r) name log_bytes l.1
-
 pub reopened_lists : ReopenedLists
 reopened_lists s name log_bytes outcome a h steps =
-    let l = reopen_lasts s name log_bytes h in
-    taken_all UpLists (reopen_turn s name log_bytes) outcome a
-    ((λ up. absurd (cc up)), found_lists s name log_bytes s.open_record l.1, reading_lists (missed s) name log_bytes l.3) steps
+    taken_all UpLists (reopen_turn s name log_bytes) outcome a (
+      (λ up. absurd (cc up)),
+      λ k. found_boots (IsFound s k) (AllOfReading UpLists) s k (reopening name log_bytes)
+          (λ t found. reading_lists t name log_bytes (reopens t name log_bytes found.recoverable found.settled)) (survived_found s k h),
+    ) steps

@@ -1,5 +1,5 @@
 -- The state of a manager that was opened on what records come to.
-use Rattle.std.proofs.Common.{◌≡◌, ℕ, ◌+◌, ◌<◌, ◌≤◌, Bool, true, false, cond, Ok, List, [], ◌∷◌, ◌++◌, length, refl, ap, sym, ◌∙◌, subst, arith}
+use Rattle.std.proofs.Common.{◌≡◌, ℕ, ◌+◌, ◌<◌, ◌≤◌, Bool, true, false, cond, Ok, List, [], ◌∷◌, ◌++◌, length, refl, ap, sym, ◌∙◌, subst, arith, inl}
 use Rattle.std.specs.Prelude.{map, is_some}
 use Rattle.std.specs.List.{AllByRecursion}
 use Rattle.std.proofs.lemmas.Bool.{not-true}
@@ -213,7 +213,8 @@ opening_recoverable : (d : Durable) (name : List ℕ) (log_bytes : ℕ) → IsKe
 opening_recoverable d name log_bytes h less few = record {
   sound = opening_sound d name log_bytes h.form few;
   loggable = opening_loggable d name log_bytes h less;
-  open_record = tt;
+  open_records = tt;
+  group = inl tt;
   settled = λ up. refl;
   current = λ up. refl;
 }
@@ -259,7 +260,7 @@ opening_restored d name log_bytes h less few = record {
   idle = idle d;
   past = all_past (d.boot + 1) d h.form (λ t past. past);
   standing = refl;
-  open_record = refl;
+  open_records = refl;
   end = ap (λ (e : Durable). 8 + sizes (snapshot e (d.boot + 1))) (sym (opening_lasts d name log_bytes h));
 }
 
@@ -299,6 +300,6 @@ opens_fresh name log_bytes = record {
   reads = refl;
   standing = refl;
   end = refl;
-  open_record = refl;
+  open_records = refl;
   moment = refl;
 }

@@ -66,10 +66,10 @@ with_decided s ds h distinct known = record {
 }
 
 -- the answered reads, the log, whether anybody answers, and the moment are no part of what is sound
-pub sound_beside : (s : State) (reads : List Read) (logged_boot end : ℕ) (standing : Standing) (open_record : Option Record) (moment : ℕ)
+pub sound_beside : (s : State) (reads : List Read) (logged_boot end : ℕ) (standing : Standing) (open_records : List Record) (moment : ℕ)
     → IsSound s
-    → IsSound (record s { reads = reads; logged_boot = logged_boot; end = end; standing = standing; open_record = open_record; moment = moment })
-sound_beside s reads logged_boot end standing open_record moment h = record {
+    → IsSound (record s { reads = reads; logged_boot = logged_boot; end = end; standing = standing; open_records = open_records; moment = moment })
+sound_beside s reads logged_boot end standing open_records moment h = record {
   descends = h.descends;
   distinct = h.distinct;
   numbered = h.numbered;

@@ -26,7 +26,7 @@ use Rattle.xa_model.proofs.Lists.{found_all, change_all}
 use Rattle.xa_model.proofs.Recoveries.{keeps_recoverable, always_recoverable}
 use Rattle.xa_model.proofs.Replies.{AllOf, taken_all}
 use Rattle.xa_model.proofs.Answering.{Settles, IsSettled, parts_of, one_phase_bad, unless_settles, marked_settles, cond_settles, call_settles}
-use Rattle.xa_model.proofs.Fated.{IsFated, now_is}
+use Rattle.xa_model.proofs.Fated.{IsFated, now_has}
 use Rattle.xa_model.proofs.Listing.{prepared_held, listed_held}
 use Rattle.xa_model.proofs.Moves.{Core, Moves, remains, restarts, trims, begins, gets, puts}
 use Rattle.xa_model.proofs.Pins.{remain_all}
@@ -106,7 +106,7 @@ kept_since first last before later prepare xid h refusals happened leads is none
 pub listed_until_asked : ListedUntilAsked
 listed_until_asked first h refusals last before later prepare xid happened leads is none =
     let kept = kept_since first last before later prepare xid h refusals happened leads is none in
-    listed_held xid (durable last) ∙ (now_is (Holds xid) last last.open_record refl kept.0 kept.1).0
+    listed_held xid (durable last) ∙ now_has (Holds xid) last kept.1
 
 -- after a restart or an opening no branch is at work, so that none is marked
 

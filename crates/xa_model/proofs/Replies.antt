@@ -1,14 +1,17 @@
 -- What holds of each answer of a turn holds of the one that is taken.
-use Rattle.std.proofs.Common.{◌≡◌, ℤ, Bool, true, false, cond, Option, Some, None, refl, subst}
+use Rattle.std.proofs.Common.{◌≡◌, ℕ, ℤ, Bool, true, false, cond, Option, Some, None, refl, subst}
 use Rattle.std.specs.Prelude.{IfSome, option_and_then}
 use Rattle.xa_frame.specs.declared.reply.Reply.{Reply}
 use Rattle.xa_model.specs.declared.outcome.Outcome.{Outcome}
-use Rattle.xa_model.specs.declared.outcome.Outcome.TheVariants.{Quiet, Appended, Failed, Reread}
+use Rattle.xa_model.specs.declared.outcome.Outcome.TheVariants.{Quiet, Appended, Joined, Failed, Reread}
 use Rattle.xa_model.specs.declared.outcome.Appending.{Appending}
+use Rattle.xa_model.specs.declared.outcome.Appending.TheVariants.{Kept, Refused, Lost}
 use Rattle.xa_model.specs.State.{State, Standing, Up, Down, Ended}
 use Rattle.xa_model.specs.Answer.{Answer, plain, answer}
-use Rattle.xa_model.specs.Turn.{Turn, Nobody, Now, Appends, Checkpoints, Rereads, Rereading, Stops, Opens, going_on, taken, unless_now, marked_now}
-use Rattle.xa_model.specs.Step.{asked}
+use Rattle.xa_model.specs.Turn.{Turn, Nobody, Now, Appends, Checkpoints, Rereads, Joins, Rereading, Stops, Opens, going_on, taken, unless_now, marked_now}
+use Rattle.xa_model.specs.Logging.{lost_too}
+use Rattle.xa_model.specs.Step.{asked, or_joins}
+use Rattle.xa_record.specs.declared.record.Record.{Record}
 
 abbrev pub AllOfReading : (Answer → Type 0) → Rereading → Type 0
 AllOfReading Q (Stops a) = Q a
@@ -19,7 +22,8 @@ AllOf Q Nobody = Unit {0}
 AllOf Q (Now a) = Q a
 AllOf Q (Appends r after) = (x : Appending) → Q (after x)
 AllOf Q (Checkpoints r after) = (x : Appending) → Q (after x)
-AllOf Q (Rereads failed found missing) = Q failed × IfSome found (AllOfReading Q) × AllOfReading Q missing
+AllOf Q (Rereads failed found) = Q failed × ((k : ℕ) → IfSome (found k) (AllOfReading Q))
+AllOf Q (Joins refused r lost) = Q refused × Q lost
 
 same_answer : (Q : Answer → Type 0) (a b : Answer) → Q a → Some a ≡ Some b → Q b
 same_answer Q a b h e = let same : a ≡ b = cc e in subst Q same h
@@ -39,26 +43,55 @@ pub taken_all : (Q : Answer → Type 0) (t : Turn) (o : Outcome) (b : Answer) �
 taken_all Q Nobody o b h e = absurd (cc e)
 taken_all Q (Now a) Quiet b h e = same_answer Q a b h e
 taken_all Q (Now a) (Appended x) b h e = absurd (cc e)
+taken_all Q (Now a) (Joined Kept) b h e = absurd (cc e)
+taken_all Q (Now a) (Joined Refused) b h e = absurd (cc e)
+taken_all Q (Now a) (Joined Lost) b h e = absurd (cc e)
 taken_all Q (Now a) Failed b h e = absurd (cc e)
-taken_all Q (Now a) (Reread there x) b h e = absurd (cc e)
+taken_all Q (Now a) (Reread k x) b h e = absurd (cc e)
 taken_all Q (Appends r after) Quiet b h e = absurd (cc e)
 taken_all Q (Appends r after) (Appended x) b h e = same_answer Q (after x) b (h x) e
+taken_all Q (Appends r after) (Joined Kept) b h e = same_answer Q (after Kept) b (h Kept) e
+taken_all Q (Appends r after) (Joined Refused) b h e = same_answer Q (after Refused) b (h Refused) e
+taken_all Q (Appends r after) (Joined Lost) b h e = absurd (cc e)
 taken_all Q (Appends r after) Failed b h e = absurd (cc e)
-taken_all Q (Appends r after) (Reread there x) b h e = absurd (cc e)
+taken_all Q (Appends r after) (Reread k x) b h e = absurd (cc e)
 taken_all Q (Checkpoints r after) Quiet b h e = absurd (cc e)
 taken_all Q (Checkpoints r after) (Appended x) b h e = same_answer Q (after x) b (h x) e
+taken_all Q (Checkpoints r after) (Joined Kept) b h e = absurd (cc e)
+taken_all Q (Checkpoints r after) (Joined Refused) b h e = absurd (cc e)
+taken_all Q (Checkpoints r after) (Joined Lost) b h e = absurd (cc e)
 taken_all Q (Checkpoints r after) Failed b h e = absurd (cc e)
-taken_all Q (Checkpoints r after) (Reread there x) b h e = absurd (cc e)
-taken_all Q (Rereads failed found missing) Quiet b h e = absurd (cc e)
-taken_all Q (Rereads failed found missing) (Appended x) b h e = absurd (cc e)
-taken_all Q (Rereads failed found missing) Failed b h e = same_answer Q failed b h.0 e
-taken_all Q (Rereads failed found missing) (Reread true x) b h e = reread Q x found b h.1 e
-taken_all Q (Rereads failed found missing) (Reread false x) b h e = gone_on Q x missing b h.2 e
+taken_all Q (Checkpoints r after) (Reread k x) b h e = absurd (cc e)
+taken_all Q (Rereads failed found) Quiet b h e = absurd (cc e)
+taken_all Q (Rereads failed found) (Appended x) b h e = absurd (cc e)
+taken_all Q (Rereads failed found) (Joined Kept) b h e = absurd (cc e)
+taken_all Q (Rereads failed found) (Joined Refused) b h e = absurd (cc e)
+taken_all Q (Rereads failed found) (Joined Lost) b h e = absurd (cc e)
+taken_all Q (Rereads failed found) Failed b h e = same_answer Q failed b h.0 e
+taken_all Q (Rereads failed found) (Reread k x) b h e = reread Q x (found k) b (h.1 k) e
+taken_all Q (Joins refused r lost) Quiet b h e = same_answer Q refused b h.0 e
+taken_all Q (Joins refused r lost) (Appended x) b h e = absurd (cc e)
+taken_all Q (Joins refused r lost) (Joined Kept) b h e = absurd (cc e)
+taken_all Q (Joins refused r lost) (Joined Refused) b h e = absurd (cc e)
+taken_all Q (Joins refused r lost) (Joined Lost) b h e = same_answer Q lost b h.1 e
+taken_all Q (Joins refused r lost) Failed b h e = absurd (cc e)
+taken_all Q (Joins refused r lost) (Reread k x) b h e = absurd (cc e)
 
 pub asked_all : (Q : Answer → Type 0) (standing : Standing) (t : Turn) → AllOf Q t → AllOf Q (asked standing t)
 asked_all Q Up t h = h
 asked_all Q Down t h = h
 asked_all Q Ended t h = tt
+
+-- and of what is lost with a group
+pub joins_all : (Q : Answer → Type 0) (s : State) (o : Option Record) (t : Turn) → AllOf Q t → ((r : Record) → o ≡ Some r → Q (lost_too s r))
+    → AllOf Q (or_joins s o t)
+joins_all Q s None t h lost = h
+joins_all Q s (Some r) Nobody h lost = h
+joins_all Q s (Some r) (Now a) h lost = (h, lost r refl)
+joins_all Q s (Some r) (Appends q after) h lost = h
+joins_all Q s (Some r) (Checkpoints q after) h lost = h
+joins_all Q s (Some r) (Rereads failed found) h lost = h
+joins_all Q s (Some r) (Joins refused q last) h lost = h
 
 pub unless_all : (Q : Answer → Type 0) (o : Option Reply) (s : State) (t : Turn) → ((reply : Reply) → o ≡ Some reply → Q (answer reply s))
     → AllOf Q t

@@ -1,30 +1,29 @@
 -- Restarts and openings: what lasts is settled, and the new boot begins with it.
-use Rattle.std.proofs.Common.{◌≡◌, ℕ, ◌+◌, ◌<◌, ◌≤◌, ◌==◌, Bool, true, false, not, ◌&&◌, cond, List, [], ◌∷◌, length, Option, Some, None, refl, ap, sym, ◌∙◌, subst, arith}
-use Rattle.std.specs.Prelude.{filter, filter_map, map, reverse, is_some, nat_lt, option_map, IfSome}
-use Rattle.xa_codes.specs.declared.direction.Direction.TheVariants as direction
+use Rattle.std.proofs.Common.{◌≡◌, ℕ, ◌+◌, ◌<◌, ◌≤◌, ◌==◌, Bool, true, false, not, ◌&&◌, cond, List, [], ◌∷◌, length, Option, Some, None, refl, ap, sym, subst, arith, inl, inr}
+use Rattle.std.specs.Prelude.{filter, filter_map, map, reverse, is_some, nat_lt, option_map, take, Contains, IfSome}
 use Rattle.xa_record.specs.declared.record.Record.{Record}
 use Rattle.xa_record.specs.declared.record.Record.TheVariants as logged
-use Rattle.xa_model.specs.State.{State, Session, Branch, Phase, Working, Prepared, Committed, Up, is_known_as, name_of, timestamp_of, is_working}
+use Rattle.xa_model.specs.State.{State, Session, Branch, Phase, Working, Prepared, Committed, is_known_as, name_of, timestamp_of, is_working}
 use Rattle.xa_codes.specs.declared.codes.TheConstants.{XAER_RMFAIL}
 use Rattle.xa_codes.specs.declared.detail.Detail.TheVariants as detail
 use Rattle.xa_model.specs.Answer.{answer, detailed, ok}
-use Rattle.xa_model.specs.Fold.{apply}
 use Rattle.xa_model.specs.Invariants.Sound.{IsSound, Descends}
 use Rattle.xa_model.specs.Durable.{durable, last_writes, by_name, writes_of, committed_part, prepared_part}
-use Rattle.xa_model.specs.Turn.{Stops, Opens}
-use Rattle.xa_model.specs.Restarting.{refused_opening, fates_with, missed, survived, without_scan, lasts, restarted, boot_became, reopen_became, restarting, reopened, reopening, can_open}
-use Rattle.xa_model.specs.Logging.{applied, down}
-use Rattle.xa_model.specs.Invariants.Loggable.{MayBeLast, IsLoggable, IsRecoverable}
-use Rattle.xa_model.specs.Laws.Logging.{Fails, BootLasts, RestartLasts, ReopenLasts, IsInDoubt}
+use Rattle.xa_model.specs.Turn.{Rereading, Stops, Opens}
+use Rattle.xa_model.specs.Restarting.{refused_opening, fates, with_first, looked, survived, without_scan, lasts, restarted, boot_became, reopen_became, restarting, reopened, reopening, can_open}
+use Rattle.xa_model.specs.Logging.{down}
+use Rattle.xa_model.specs.Invariants.Loggable.{MayBeLast, MayFollow, AreOneGroup, IsLoggable, IsRecoverable}
+use Rattle.xa_model.specs.Laws.Logging.{Fails, BootLasts, RestartLasts, ReopenLasts, IsInDoubt, apply_all}
 use Rattle.std.proofs.lemmas.Bool.{and_parts}
 use Rattle.std.proofs.lemmas.Bool.Decides.{nat_tests}
 use Rattle.xa_model.proofs.Counts.{count_filter, count_map}
 use Rattle.xa_model.proofs.Order.{descends_below}
 use Rattle.xa_model.proofs.Applied.{committed_of, prepared_of, same_durable}
-use Rattle.xa_model.proofs.AppliedDecisions.{applied_lasts, applied_sound}
+use Rattle.xa_model.proofs.AppliedAll.{IsFirst, first_is, same_fates, if_imply, if_mapped}
+use Rattle.xa_model.proofs.Likeness.{like_group}
 use Rattle.xa_model.proofs.Parts.{sound_beside, left_sound}
-use Rattle.xa_model.proofs.Stopped.{down_sound, ended_sound, down_may, ended_may, down_durable, ended_durable}
-use Rattle.xa_model.proofs.Recordable.{recordable, loggable, relogged, applied_loggable, lasting_recordable}
+use Rattle.xa_model.proofs.Stopped.{down_sound, ended_sound, down_like, ended_like}
+use Rattle.xa_model.proofs.Recordable.{recordable, loggable, relogged, lasting_recordable}
 
 -- branches that were at work are gone, and nothing that lasts
 
@@ -95,49 +94,42 @@ reopened_sound : (s : State) (name : List ℕ) (log_bytes next : ℕ) → IsSoun
 reopened_sound s name log_bytes next h less =
     let t = restarted s next in
     let left : State = record t { name = name; log_bytes = log_bytes; sessions = []; associations = [] } in
-    sound_beside left left.reads left.logged_boot left.end left.standing left.open_record 0 (left_sound t name log_bytes (booted_sound s next h less))
+    sound_beside left left.reads left.logged_boot left.end left.standing left.open_records 0 (left_sound t name log_bytes (booted_sound s next h less))
 
 -- a manager that is down, or ended
 
-if_may : (s t : State) (o : Option Record) → ((r : Record) → MayBeLast s r → MayBeLast t r) → IfSome o (MayBeLast s) → IfSome o (MayBeLast t)
-if_may s t None f h = h
-if_may s t (Some r) f h = f r h
-
--- fates are told by what lasts and by what the open record does
-
-same_fates : (s t : State) (o : Option Record) → durable t ≡ durable s → ((r : Record) → durable (applied r t) ≡ durable (applied r s)) → fates_with t o ≡ fates_with s o
-same_fates s t None e f = rw e refl
-same_fates s t (Some r) e f = rw (e, f r) refl
-
-down_last : (s : State) (r : Record) → MayBeLast s r → MayBeLast (down s) r
-down_last s r h = record { may = down_may s r s.open_record h.may; limits = h.limits; current = h.current }
-
-ended_last : (s : State) (name : List ℕ) (log_bytes : ℕ) (r : Record) → MayBeLast s r → MayBeLast (refused_opening s name log_bytes) r
-ended_last s name log_bytes r h = record { may = ended_may s name log_bytes r s.open_record h.may; limits = h.limits; current = h.current }
-
 down_fails : (s : State) → IsRecoverable s → Fails s (down s)
-down_fails s h = record {
-  recoverable = record {
-    sound = down_sound s s.open_record h.sound;
-    loggable = relogged s (down s) h.loggable refl refl (recordable s h.loggable);
-    open_record = if_may s (down s) s.open_record (down_last s) h.open_record;
-    settled = λ up. absurd (cc up);
-    current = λ up. absurd (cc up);
-  };
-  fates = same_fates s (down s) s.open_record refl (down_durable s s.open_record);
-}
+down_fails s h =
+    let sound = down_sound s s.open_records h.sound in
+    let follow : MayFollow (down s) s.open_records = like_group s (down s) s.open_records h.group (down_like s s.open_records) h.open_records in
+    record {
+      recoverable = record {
+        sound = sound;
+        loggable = relogged s (down s) h.loggable refl refl (recordable s h.loggable);
+        open_records = follow;
+        group = h.group;
+        settled = λ up. absurd (cc up);
+        current = λ up. absurd (cc up);
+      };
+      fates = same_fates s (down s) s.open_records h.sound sound h.open_records follow refl;
+    }
 
 ended_fails : (s : State) (name : List ℕ) (log_bytes : ℕ) → IsRecoverable s → Fails s (refused_opening s name log_bytes)
-ended_fails s name log_bytes h = record {
-  recoverable = record {
-    sound = ended_sound s name log_bytes s.open_record h.sound;
-    loggable = relogged s (refused_opening s name log_bytes) h.loggable refl refl (recordable s h.loggable);
-    open_record = if_may s (refused_opening s name log_bytes) s.open_record (ended_last s name log_bytes) h.open_record;
-    settled = λ up. absurd (cc up);
-    current = λ up. absurd (cc up);
-  };
-  fates = same_fates s (refused_opening s name log_bytes) s.open_record refl (ended_durable s name log_bytes);
-}
+ended_fails s name log_bytes h =
+    let t = refused_opening s name log_bytes in
+    let sound = ended_sound s name log_bytes s.open_records h.sound in
+    let follow : MayFollow t s.open_records = like_group s t s.open_records h.group (ended_like s name log_bytes s.open_records) h.open_records in
+    record {
+      recoverable = record {
+        sound = sound;
+        loggable = relogged s t h.loggable refl refl (recordable s h.loggable);
+        open_records = follow;
+        group = h.group;
+        settled = λ up. absurd (cc up);
+        current = λ up. absurd (cc up);
+      };
+      fates = same_fates s t s.open_records h.sound sound h.open_records follow refl;
+    }
 
 -- the next boot
 
@@ -146,25 +138,30 @@ booted_loggable s h less =
     loggable (restarted s (s.logged_boot + 1)) (record { first = omega arith; boots = omega arith; last = omega (arith, less) })
     (lasting_recordable s.logged_boot (s.logged_boot + 1) s.branches (omega arith) (recordable s h))
 
-pub none_last : (s : State) (o : Option Record) → o ≡ None → IfSome o (MayBeLast s)
-none_last s o e = subst (λ (q : Option Record). IfSome q (MayBeLast s)) (sym e) tt
+pub none_follow : (s : State) (rs : List Record) → rs ≡ [] → MayFollow s rs
+none_follow s rs e = subst (λ (l : List Record). MayFollow s l) (sym e) tt
 
-pub booted_recoverable : (s : State) → IsRecoverable s → s.open_record ≡ None → s.logged_boot < 4294967295 → IsRecoverable (restarted s (s.logged_boot + 1))
+pub none_grouped : (rs : List Record) → rs ≡ [] → AreOneGroup rs
+none_grouped rs e = subst AreOneGroup (sym e) (inl tt)
+
+pub booted_recoverable : (s : State) → IsRecoverable s → s.open_records ≡ [] → s.logged_boot < 4294967295 → IsRecoverable (restarted s (s.logged_boot + 1))
 booted_recoverable s h settled less = record {
   sound = booted_sound s (s.logged_boot + 1) h.sound (omega (arith, h.loggable.boots));
   loggable = booted_loggable s h.loggable less;
-  open_record = none_last (restarted s (s.logged_boot + 1)) s.open_record settled;
+  open_records = none_follow (restarted s (s.logged_boot + 1)) s.open_records settled;
+  group = none_grouped s.open_records settled;
   settled = λ up. settled;
   current = λ up. refl;
 }
 
-pub reopened_recoverable : (s : State) (name : List ℕ) (log_bytes : ℕ) → IsRecoverable s → s.open_record ≡ None → s.logged_boot < 4294967295
+pub reopened_recoverable : (s : State) (name : List ℕ) (log_bytes : ℕ) → IsRecoverable s → s.open_records ≡ [] → s.logged_boot < 4294967295
     → IsRecoverable (reopened s name log_bytes (s.logged_boot + 1))
 reopened_recoverable s name log_bytes h settled less =
     let booted = booted_loggable s h.loggable less in record {
       sound = reopened_sound s name log_bytes (s.logged_boot + 1) h.sound (omega (arith, h.loggable.boots));
       loggable = relogged (restarted s (s.logged_boot + 1)) (reopened s name log_bytes (s.logged_boot + 1)) booted refl refl (recordable (restarted s (s.logged_boot + 1)) booted);
-      open_record = none_last (reopened s name log_bytes (s.logged_boot + 1)) s.open_record settled;
+      open_records = none_follow (reopened s name log_bytes (s.logged_boot + 1)) s.open_records settled;
+      group = none_grouped s.open_records settled;
       settled = λ up. settled;
       current = λ up. refl;
     }
@@ -175,23 +172,24 @@ opened_last : (t : State) → t.logged_boot < 4294967295 → MayBeLast t (logged
 opened_last t less = record { may = omega arith; limits = (omega arith, omega (arith, less)); current = λ other. absurd (cc other) }
 
 pub lost_in_doubt : (s : State) → IsRecoverable s → s.logged_boot < 4294967295
-    → IsInDoubt s (logged.Opened (s.logged_boot + 1)) (record (down s) { open_record = Some (logged.Opened (s.logged_boot + 1)) })
+    → IsInDoubt s (logged.Opened (s.logged_boot + 1)) (record (down s) { open_records = logged.Opened (s.logged_boot + 1) ∷ [] })
 lost_in_doubt s h less =
-    let lost : State = record (down s) { open_record = Some (logged.Opened (s.logged_boot + 1)) } in record {
+    let lost : State = record (down s) { open_records = logged.Opened (s.logged_boot + 1) ∷ [] } in record {
       recoverable = record {
-        sound = down_sound s (Some (logged.Opened (s.logged_boot + 1))) h.sound;
+        sound = down_sound s (logged.Opened (s.logged_boot + 1) ∷ []) h.sound;
         loggable = relogged s lost h.loggable refl refl (recordable s h.loggable);
-        open_record = opened_last lost less;
+        open_records = (opened_last lost less, tt);
+        group = inr refl;
         settled = λ up. absurd (cc up);
         current = λ up. absurd (cc up);
       };
       lasts = refl;
-      open_record = refl;
+      open_records = refl;
     }
 
 -- once the open record is settled
 
-restarts_by : (s : State) (c : Bool) → nat_lt s.logged_boot 4294967295 ≡ c → IsRecoverable s → s.open_record ≡ None
+restarts_by : (s : State) (c : Bool) → nat_lt s.logged_boot 4294967295 ≡ c → IsRecoverable s → s.open_records ≡ []
     → BootLasts s (cond c (Opens (logged.Opened (s.logged_boot + 1)) (boot_became s (s.logged_boot + 1))) (Stops (answer (detailed XAER_RMFAIL detail.Limit) (down s))))
 restarts_by s true e h settled =
     let less : s.logged_boot < 4294967295 = grind (arith, nat_tests) in (
@@ -208,15 +206,15 @@ restarts_by s true e h settled =
     )
 restarts_by s false e h settled = down_fails s h
 
-restarts : (s : State) → IsRecoverable s → s.open_record ≡ None → BootLasts s (restarting s)
+pub restarts : (s : State) → IsRecoverable s → s.open_records ≡ [] → BootLasts s (restarting s)
 restarts s h settled = restarts_by s (nat_lt s.logged_boot 4294967295) refl h settled
 
-reopens_by : (s : State) (name : List ℕ) (log_bytes : ℕ) (c : Bool) → (nat_lt s.logged_boot 4294967295 && can_open s log_bytes (s.logged_boot + 1)) ≡ c → IsRecoverable s → s.open_record ≡ None
+reopens_by : (s : State) (name : List ℕ) (log_bytes : ℕ) (c : Bool) → (nat_lt s.logged_boot 4294967295 && can_open s log_bytes (s.logged_boot + 1)) ≡ c → IsRecoverable s → s.open_records ≡ []
     → BootLasts s (cond c (Opens (logged.Opened (s.logged_boot + 1)) (reopen_became s name log_bytes (s.logged_boot + 1))) (Stops (ok (refused_opening s name log_bytes))))
 reopens_by s name log_bytes true e h settled =
     let first = (and_parts (nat_lt s.logged_boot 4294967295) (can_open s log_bytes (s.logged_boot + 1)) e).0 in
     let less : s.logged_boot < 4294967295 = grind (arith, nat_tests) in
-    let lost : State = record (refused_opening s name log_bytes) { open_record = Some (logged.Opened (s.logged_boot + 1)) } in (
+    let lost : State = record (refused_opening s name log_bytes) { open_records = logged.Opened (s.logged_boot + 1) ∷ [] } in (
       refl,
       record {
         recoverable = reopened_recoverable s name log_bytes h settled less;
@@ -228,78 +226,76 @@ reopens_by s name log_bytes true e h settled =
       ended_fails s name log_bytes h,
       record {
         recoverable = record {
-          sound = ended_sound s name log_bytes (Some (logged.Opened (s.logged_boot + 1))) h.sound;
+          sound = ended_sound s name log_bytes (logged.Opened (s.logged_boot + 1) ∷ []) h.sound;
           loggable = relogged s lost h.loggable refl refl (recordable s h.loggable);
-          open_record = opened_last lost less;
+          open_records = (opened_last lost less, tt);
+          group = inr refl;
           settled = λ up. absurd (cc up);
           current = λ up. absurd (cc up);
         };
         lasts = refl;
-        open_record = refl;
+        open_records = refl;
       },
     )
 reopens_by s name log_bytes false e h settled = ended_fails s name log_bytes h
 
-reopens : (s : State) (name : List ℕ) (log_bytes : ℕ) → IsRecoverable s → s.open_record ≡ None → BootLasts s (reopening name log_bytes s)
+pub reopens : (s : State) (name : List ℕ) (log_bytes : ℕ) → IsRecoverable s → s.open_records ≡ [] → BootLasts s (reopening name log_bytes s)
 reopens s name log_bytes h settled = reopens_by s name log_bytes (nat_lt s.logged_boot 4294967295 && can_open s log_bytes (s.logged_boot + 1)) refl h settled
 
--- the open record is settled
+-- the open records are settled
 
-settled_sound : (s : State) → IsSound s → IsSound (missed s)
-settled_sound s h = sound_beside s s.reads s.logged_boot s.end s.standing None s.moment h
-
-pub applied_standing : (s : State) (r : Record) → (applied r s).standing ≡ s.standing
-applied_standing s (logged.Opened boot) = refl
-applied_standing s (logged.Prepared xid t ws) = refl
-applied_standing s (logged.Committed xid t ws) = refl
-applied_standing s (logged.Completed xid direction.Commit) = refl
-applied_standing s (logged.Completed xid direction.Rollback) = refl
-applied_standing s (logged.Decided xid direction.Commit) = refl
-applied_standing s (logged.Decided xid direction.Rollback) = refl
-applied_standing s (logged.Forgotten xid) = refl
-applied_standing s (logged.Base t ws) = refl
-applied_standing s (logged.Held xid t ws) = refl
-applied_standing s (logged.Known xid direction) = refl
-
-pub missed_recoverable : (s : State) → IsRecoverable s → IsRecoverable (missed s)
-missed_recoverable s h = record {
-  sound = settled_sound s h.sound;
-  loggable = relogged s (missed s) h.loggable refl refl (recordable s h.loggable);
-  open_record = tt;
+settled_recoverable : (s t : State) (k : ℕ) (rs : List Record) → IsFirst s k rs t → IsRecoverable (looked t)
+settled_recoverable s t k rs x = record {
+  sound = sound_beside t t.reads t.logged_boot t.end t.standing [] t.moment x.sound;
+  loggable = relogged t (looked t) x.loggable refl refl (recordable t x.loggable);
+  open_records = tt;
+  group = inl tt;
   settled = λ up. refl;
-  current = h.current;
+  current = x.current;
 }
 
--- a manager with an open record isn't up
-not_up : (s : State) (r : Record) → IsRecoverable s → s.open_record ≡ Some r → (applied r s).standing ≡ Up → ⊥
-not_up s r h found up = let none : s.open_record ≡ None = h.settled (sym (applied_standing s r) ∙ up) in some_none r (sym found ∙ none)
+pub open_first : (s : State) (k : ℕ) → IsRecoverable s → IfSome (with_first k s.open_records s) (IsFirst s k s.open_records)
+open_first s k h = first_is k s.open_records s h.sound h.loggable h.open_records h.settled h.current
+
+-- what is found after a look
+pub record IsFound (s : State) (k : ℕ) (t : State) : Type 0 where
+  pub recoverable : IsRecoverable t
+  pub settled : t.open_records ≡ []
+  pub lasts : durable t ≡ apply_all (take k s.open_records) (durable s)
+  pub fate : Contains (fates s) (durable t)
+
+pub survived_found : (s : State) (k : ℕ) → IsRecoverable s → IfSome (survived s k) (IsFound s k)
+survived_found s k h =
+    if_mapped (IsFound s k) looked (with_first k s.open_records s)
+    (if_imply (IsFirst s k s.open_records) (λ t. IsFound s k (looked t)) found (with_first k s.open_records s) (open_first s k h))
   where
-    some_none : (r : Record) → Some r ≡ None → ⊥
-    some_none r e = cc e
+    found : (t : State) → IsFirst s k s.open_records t → IsFound s k (looked t)
+    found t x = record { recoverable = settled_recoverable s t k s.open_records x; settled = refl; lasts = x.lasts; fate = x.fate }
 
-pub survived_recoverable : (s : State) (r : Record) → IsRecoverable s → s.open_record ≡ Some r → MayBeLast s r → IsRecoverable (survived s r)
-survived_recoverable s r h found last =
-    let loggable = applied_loggable s r h.loggable last.may last.limits in record {
-      sound = settled_sound (applied r s) (applied_sound s r h.sound last.may);
-      loggable = relogged (applied r s) (survived s r) loggable refl refl (recordable (applied r s) loggable);
-      open_record = tt;
-      settled = λ up. refl;
-      current = λ up. absurd (not_up s r h found up);
-    }
+-- what goes on with a state that is found, of which this holds, has that
+pub found_boots : (P : State → Type 0) (Q : Rereading → Type 0) (s : State) (k : ℕ) (boot : State → Rereading)
+    → ((t : State) → P t → Q (boot t)) → IfSome (survived s k) P → IfSome (option_map boot (survived s k)) Q
+found_boots P Q s k boot f h = if_mapped Q boot (survived s k) (if_imply P (λ t. Q (boot t)) f (survived s k) h)
 
-found_restarts : (s : State) (o : Option Record) → IsRecoverable s → s.open_record ≡ o → IfSome o (MayBeLast s)
-    → IfSome o (λ r. (durable (survived s r) ≡ apply r (durable s)) × IfSome (option_map (λ q. restarting (survived s q)) o) (BootLasts (survived s r)))
-found_restarts s None h found last = tt
-found_restarts s (Some r) h found last = (applied_lasts s r h.sound last.may, restarts (survived s r) (survived_recoverable s r h found last) refl)
+-- and of the two together
+pub found_both : (P : State → Type 0) (Q : State → Rereading → Type 0) (boot : State → Rereading) (o : Option State)
+    → ((t : State) → P t → Q t (boot t)) → IfSome o P → IfSome o (λ t. IfSome (option_map boot o) (Q t))
+found_both P Q boot None f h = tt
+found_both P Q boot (Some t) f h = f t h
 
-found_reopens : (s : State) (name : List ℕ) (log_bytes : ℕ) (o : Option Record) → IsRecoverable s → s.open_record ≡ o → IfSome o (MayBeLast s)
-    → IfSome o (λ r. (durable (survived s r) ≡ apply r (durable s)) × IfSome (option_map (λ q. reopening name log_bytes (survived s q)) o) (BootLasts (survived s r)))
-found_reopens s name log_bytes None h found last = tt
-found_reopens s name log_bytes (Some r) h found last = (applied_lasts s r h.sound last.may, reopens (survived s r) name log_bytes (survived_recoverable s r h found last) refl)
+settles : (s : State) (boot : State → Rereading) → ((t : State) → IsRecoverable t → t.open_records ≡ [] → BootLasts t (boot t)) → IsRecoverable s → (k : ℕ)
+    → IfSome (survived s k)
+    (λ t. (durable t ≡ apply_all (take k s.open_records) (durable s)) × IfSome (option_map boot (survived s k)) (BootLasts t))
+settles s boot boots h k = by_look (survived s k) (survived_found s k h)
+  where
+    by_look : (o : Option State) → IfSome o (IsFound s k)
+        → IfSome o (λ t. (durable t ≡ apply_all (take k s.open_records) (durable s)) × IfSome (option_map boot o) (BootLasts t))
+    by_look None found = tt
+    by_look (Some t) found = (found.lasts, boots t found.recoverable found.settled)
 
 pub restart_lasts : RestartLasts
-restart_lasts s h = (down_fails s h, found_restarts s s.open_record h refl h.open_record, refl, restarts (missed s) (missed_recoverable s h) refl)
+restart_lasts s h = (down_fails s h, settles s restarting restarts h)
 
 pub reopen_lasts : ReopenLasts
 reopen_lasts s name log_bytes h =
-    (ended_fails s name log_bytes h, found_reopens s name log_bytes s.open_record h refl h.open_record, refl, reopens (missed s) name log_bytes (missed_recoverable s h) refl)
+    (ended_fails s name log_bytes h, settles s (reopening name log_bytes) (λ t k none. reopens t name log_bytes k none) h)

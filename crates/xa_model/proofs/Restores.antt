@@ -32,7 +32,7 @@ restarts_restored s h settled less =
       idle = idle s.branches;
       past = filter_keeps (λ (b : Branch). is_past next b.timestamp ≡ true) lasts s.branches h.loggable.past;
       standing = refl;
-      open_record = settled;
+      open_records = settled;
       end = same_end s next;
     }
 
@@ -50,6 +50,6 @@ reopens_restored s name log_bytes h settled less =
       idle = idle s.branches;
       past = filter_keeps (λ (b : Branch). is_past next b.timestamp ≡ true) lasts s.branches h.loggable.past;
       standing = refl;
-      open_record = settled;
+      open_records = settled;
       end = same_end s next;
     }

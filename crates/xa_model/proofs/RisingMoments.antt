@@ -1,6 +1,6 @@
 -- The moment: nothing that is asked puts it back, and an opening that succeeds begins at 0.
-use Rattle.std.proofs.Common.{◌≡◌, ℕ, ℤ, ◌+◌, ◌≤◌, Bool, true, false, not, ◌&&◌, cond, List, Option, Some, None, refl, arith, nat_lt}
-use Rattle.std.specs.Prelude.{IfSome, is_none, is_some, option_map}
+use Rattle.std.proofs.Common.{◌≡◌, ◌∙◌, ℕ, zero, suc, ℤ, ◌+◌, ◌≤◌, Bool, true, false, not, ◌&&◌, cond, List, [], ◌∷◌, Option, Some, None, refl, arith, nat_lt}
+use Rattle.std.specs.Prelude.{IfSome, is_none, is_some}
 use Rattle.std.specs.List.{list_any}
 use Rattle.std.proofs.lemmas.Bool.Decides.{nat_tests}
 use Rattle.xa_codes.specs.Flags.{has}
@@ -28,16 +28,18 @@ use Rattle.xa_model.specs.Associations.{connect_refusal, connected, close_refusa
 use Rattle.xa_model.specs.Branches.{rolled_back, committed, unprepared_refusal, two_phase_refusal, rollback_refusal, heuristic_refusal, doom_refusal, doomed, is_associated}
 use Rattle.xa_model.specs.Records.{got, get_from, get_by, busy_refusal, is_full, limit_refusal, came_late, written, if_late, put_from, put_by}
 use Rattle.xa_model.specs.Recovering.{recovered_from, scan_from, scan_of}
-use Rattle.xa_model.specs.Step.{row, respond, turn, context_of}
+use Rattle.xa_model.specs.Step.{row, respond, asked, turn, context_of, further_record}
 use Rattle.xa_model.specs.Turn.{Asked, Reopened, Turn, Now, Stops, Opens, unless_now}
 use Rattle.xa_model.specs.Logging.{logs, has_room, log_full, writes_in, applied, append_became, down}
 use Rattle.xa_model.specs.Completions.{prepare_turn, prepare_written, commit_one_phase_turn, commit_two_phase_turn, commit_written, rollback_turn, roll_back_turn, decide_refusal, forget_refusal}
-use Rattle.xa_model.specs.Restarting.{missed, survived, boot_became, restarting, restart_turn, refused_opening, reopen_became, reopening, can_open}
+use Rattle.xa_model.specs.Restarting.{with_first, looked, survived, boot_became, restarting, restart_turn, refused_opening, reopen_became, reopening, can_open}
 use Rattle.xa_model.specs.Trimming.{trim_refusal, trim_became, trim_turn}
 use Rattle.xa_model.specs.Fold.{is_empty}
 use Rattle.xa_model.specs.Laws.Time.{MomentsRise, OpensAtZero}
 use Rattle.xa_model.proofs.Rows.{passed}
-use Rattle.xa_model.proofs.Replies.{AllOf, AllOfReading, taken_all, asked_all, unless_all, marked_all, cond_all}
+use Rattle.xa_model.proofs.AppliedAll.{if_imply, if_mapped, if_some}
+use Rattle.xa_model.proofs.Restarts.{found_boots}
+use Rattle.xa_model.proofs.Replies.{AllOf, AllOfReading, taken_all, asked_all, joins_all, unless_all, marked_all, cond_all}
 
 abbrev Rises : State → Answer → Type 0
 Rises s a = s.moment ≤ a.after.moment
@@ -196,13 +198,22 @@ boots s x true same = by_fate
     by_fate Lost = omega (arith, same)
 boots s x false same = omega (arith, same)
 
-survivor_boots : (s : State) (o : Option Record) → IfSome (option_map (λ r. restarting (survived s r)) o) (AllOfReading (Rises s))
-survivor_boots s None = tt
-survivor_boots s (Some r) =
-    boots s (survived s r) (nat_lt (survived s r).logged_boot MOST_BOOTS) (applied_moment s r)
+first_moment : (k : ℕ) (rs : List Record) (s : State) → IfSome (with_first k rs s) (λ t. t.moment ≡ s.moment)
+first_moment zero rs s = refl
+first_moment (suc k) [] s = tt
+first_moment (suc k) (r ∷ rs) s =
+    if_imply (λ (t : State). t.moment ≡ (applied r s).moment) (λ t. t.moment ≡ s.moment) (λ t e. e ∙ applied_moment s r) (with_first k rs (applied r s))
+    (first_moment k rs (applied r s))
+
+survived_moment : (s : State) (k : ℕ) → IfSome (survived s k) (λ t. t.moment ≡ s.moment)
+survived_moment s k = if_mapped (λ (t : State). t.moment ≡ s.moment) looked (with_first k s.open_records s) (first_moment k s.open_records s)
 
 restart_rises : (s : State) → AllOf (Rises s) (restart_turn s)
-restart_rises s = (itself s, survivor_boots s s.open_record, boots s (missed s) (nat_lt s.logged_boot MOST_BOOTS) refl)
+restart_rises s = (
+  itself s,
+  λ k. found_boots (λ (t : State). t.moment ≡ s.moment) (AllOfReading (Rises s)) s k restarting
+      (λ t same. boots s t (nat_lt t.logged_boot MOST_BOOTS) same) (survived_moment s k),
+)
 
 trim_rises : (s : State) → AllOf (Rises s) (trim_turn s)
 trim_rises s = unless_all (Rises s) (trim_refusal s) s _ (λ reply is. itself s) by_fate
@@ -264,7 +275,9 @@ respond_rises s (event.Call n request) =
 
 pub moments_rise : MomentsRise
 moments_rise s e outcome a steps =
-    taken_all (Rises s) (turn s (Asked e)) outcome a (asked_all (Rises s) s.standing (respond s e) (respond_rises s e)) steps
+    taken_all (Rises s) (turn s (Asked e)) outcome a
+    (joins_all (Rises s) s (further_record s e) (asked s.standing (respond s e))
+    (asked_all (Rises s) s.standing (respond s e) (respond_rises s e)) (λ r found. itself s)) steps
 
 -- openings
 
@@ -286,12 +299,10 @@ opens_by x name log_bytes false = λ up. absurd (cc up)
 opens : (x : State) (name : List ℕ) (log_bytes : ℕ) → AllOfReading BeginsAtZero (reopening name log_bytes x)
 opens x name log_bytes = opens_by x name log_bytes (nat_lt x.logged_boot MOST_BOOTS && can_open x log_bytes (x.logged_boot + 1))
 
-survivor_opens : (s : State) (name : List ℕ) (log_bytes : ℕ) (o : Option Record)
-    → IfSome (option_map (λ r. reopening name log_bytes (survived s r)) o) (AllOfReading BeginsAtZero)
-survivor_opens s name log_bytes None = tt
-survivor_opens s name log_bytes (Some r) = opens (survived s r) name log_bytes
-
 pub opens_at_zero : OpensAtZero
 opens_at_zero s name log_bytes outcome a steps =
-    taken_all BeginsAtZero (turn s (Reopened name log_bytes)) outcome a
-    ((λ up. absurd (cc up)), survivor_opens s name log_bytes s.open_record, opens (missed s) name log_bytes) steps
+    taken_all BeginsAtZero (turn s (Reopened name log_bytes)) outcome a (
+      (λ up. absurd (cc up)),
+      λ k. found_boots (λ (t : State). Unit {0}) (AllOfReading BeginsAtZero) s k (reopening name log_bytes)
+          (λ t any. opens t name log_bytes) (if_some (λ (t : State). Unit {0}) (survived s k) (λ t e. tt)),
+    ) steps

@@ -38,7 +38,7 @@ pub is_room : (log_bytes end prepared decided : ℕ) → end + LENGTH_BYTES + PR
     → log_room log_bytes end prepared decided ≡ true
 is_room log_bytes end prepared decided e = grind (arith, nat_tests)
 
-less_room : (log_bytes end prepared decided size fewer more : ℕ) → log_room log_bytes end prepared decided ≡ true
+pub less_room : (log_bytes end prepared decided size fewer more : ℕ) → log_room log_bytes end prepared decided ≡ true
     → size + PREPARED_ROOM * fewer + DECIDED_ROOM * more ≤ end + PREPARED_ROOM * prepared + DECIDED_ROOM * decided
     → log_room log_bytes size fewer more ≡ true
 less_room log_bytes end prepared decided size fewer more e less =
@@ -129,7 +129,7 @@ doubtful s xid e = doubtful_by s xid (known_of s.branches xid) (decided_of s.dec
 abbrev doubts : Branch → Bool
 doubts b = is_in_doubt b.phase
 
-completed_fewer : (s : State) (d : Direction) (xid : Triple) → known_as s xid ≡ InDoubt → prepared_count (completed s d xid) + 1 ≡ prepared_count s
+pub completed_fewer : (s : State) (d : Direction) (xid : Triple) → known_as s xid ≡ InDoubt → prepared_count (completed s d xid) + 1 ≡ prepared_count s
 completed_fewer s direction.Commit xid e =
     let here = doubtful s xid e in one_changed (is_known_as xid) doubts as_committed here.branch s.branches here.found here.doubt refl
 completed_fewer s direction.Rollback xid e =
@@ -153,7 +153,7 @@ fewer_by : (s : State) (xid : Triple) (o : Option Branch) → is_completed (know
 fewer_by s xid (Some b) e = absurd (branch_completed b.phase e)
 fewer_by s xid None e = forgotten_by xid s.decided (find (is_decision_of xid) s.decided) refl e
 
-forgotten_fewer : (s : State) (xid : Triple) → is_completed (known_as s xid) ≡ true → length (forgotten s xid).decided + 1 ≡ length s.decided
+pub forgotten_fewer : (s : State) (xid : Triple) → is_completed (known_as s xid) ≡ true → length (forgotten s xid).decided + 1 ≡ length s.decided
 forgotten_fewer s xid e = fewer_by s xid (known_of s.branches xid) e
 
 -- Room for what completes a branch in doubt, and for forgetting what the operator completed

@@ -17,20 +17,22 @@ use Rattle.xa_limits.specs.declared.TheConstants.{MOST_XIDS}
 use Rattle.xa_xid.specs.Triple.{Triple}
 use Rattle.xa_model.specs.declared.event.Event.TheVariants as event
 use Rattle.xa_model.specs.declared.outcome.Outcome.TheVariants.{Quiet}
-use Rattle.xa_model.specs.State.{State, Session, Standing, Up, Down, Ended, session_of}
-use Rattle.xa_model.specs.Answer.{Answer, plain, first}
+use Rattle.xa_model.specs.State.{State, Session, Up, session_of}
+use Rattle.xa_codes.specs.declared.detail.Detail.TheVariants as detail
+use Rattle.xa_model.specs.Answer.{Answer, plain, detailed, first}
 use Rattle.xa_model.specs.Early.{early_refusal, passes_down, call_of, needs_open, is_opened, is_async, flags_of, is_invalid, Context}
 use Rattle.xa_model.specs.Durable.{Durable, Pairwise, durable}
 use Rattle.xa_model.specs.Listed.{is_above, lasting_names, listed, list_after}
 use Rattle.xa_model.specs.Recovering.{scan_of, scan_from, moved, scan_after, with_scan, scanning, listing, recovered, recovered_from, recover_by}
-use Rattle.xa_model.specs.Turn.{Asked, Now, taken, unless_now}
-use Rattle.xa_model.specs.Step.{respond, asked, turn, step, opened_of, is_up, context_of}
+use Rattle.xa_model.specs.Turn.{Turn, Asked, Now, taken, unless_now}
+use Rattle.xa_model.specs.Step.{respond, asked, turn, step, opened_of, is_up, context_of, further_record}
 use Rattle.xa_model.specs.History.{Steps, Leads}
 use Rattle.xa_model.specs.ScanLaw.{Portion, recovers, asked_for, answered, ListedAscends, ScanListsFirst, ScanListsAll, ScanIsAnswered}
 use Rattle.xa_model.proofs.InOrder.{below, below_transitive, below_strict, ordered_pairwise, above_more}
 use Rattle.xa_model.proofs.Inserts.{all_imply, filter_all, filter_keeps}
 use Rattle.xa_model.proofs.Lists.{find_change_same}
-use Rattle.xa_model.proofs.Replies.{AllOf, asked_all, taken_all}
+use Rattle.xa_model.proofs.Further.{turns_up}
+use Rattle.xa_model.proofs.Replies.{AllOf, asked_all, joins_all, taken_all}
 use Rattle.xa_model.proofs.Soundness.{reached}
 
 pub listed_ascends : ListedAscends
@@ -139,8 +141,10 @@ went s t n p steps =
     let a : Answer = record { reply = listing p.xids; after = t } in
     let Q = Goes s n p.flags p.count p.xids in
     taken_all Q (turn s (Asked e)) Quiet a
+    (joins_all Q s (further_record s e) (asked s.standing (respond s e))
     (asked_all Q s.standing (respond s e)
-    (call_goes s n p.flags p.count p.xids (early_refusal (context_of s n) (Recover p.flags p.count)) refl)) steps refl
+    (call_goes s n p.flags p.count p.xids (early_refusal (context_of s n) (Recover p.flags p.count)) refl))
+    (λ r found same. absurd (no_list (detailed XAER_RMFAIL detail.Device) p.xids refl same))) steps refl
 
 -- where it leaves the scan
 
@@ -225,11 +229,9 @@ allowed : (c : Context) (flags count : ℕ) → c.up ≡ true → c.session ≡ 
     → early_refusal c (Recover flags count) ≡ None
 allowed c flags count e opened fine few = rw (e, opened, fine, few) refl
 
-taken_up : (s : State) (a : Answer) (standing : Standing) (o : Option Reply) → standing ≡ Up → o ≡ None → taken (asked standing (unless_now o s (Now a))) Quiet ≡ Some a
-taken_up s a Up None e none = refl
-taken_up s a Up (Some reply) e none = absurd (cc none)
-taken_up s a Down o e none = absurd (cc e)
-taken_up s a Ended o e none = absurd (cc e)
+taken_up : (s : State) (a : Answer) (o : Option Reply) → o ≡ None → taken (unless_now o s (Now a)) Quiet ≡ Some a
+taken_up s a None none = refl
+taken_up s a (Some reply) none = absurd (cc none)
 
 call_answered : (s : State) (n flags count : ℕ) (cursor : Option Triple) → s.standing ≡ Up → opened_of s n ≡ Some true → legal call.Recover flags ≡ true → count ≤ MOST_XIDS
     → scan_from flags (scan_of s.sessions n) ≡ Some cursor
@@ -237,7 +239,8 @@ call_answered : (s : State) (n flags count : ℕ) (cursor : Option Triple) → s
 call_answered s n flags count cursor up opened fine few from =
     let within : nat_lt MOST_XIDS count ≡ false = grind (arith, nat_tests) in
     let passes = allowed (context_of s n) flags count (ap is_up up) opened fine within in
-    taken_up s (recover_by s n flags count) s.standing (early_refusal (context_of s n) (Recover flags count)) up passes
+    ap (λ (t : Turn). taken t Quiet) (turns_up s (event.Call n (Recover flags count)) up)
+    ∙ taken_up s (recover_by s n flags count) (early_refusal (context_of s n) (Recover flags count)) passes
     ∙ ap (λ (o : Option (Option Triple)). Some (recovered_from s n flags count o)) from
 
 is_seated : (o : Option Session) → option_map (λ x. x.opened) o ≡ Some true → is_some o ≡ true

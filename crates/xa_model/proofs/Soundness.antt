@@ -34,14 +34,14 @@ doom_sound s xid h =
 pub tick_sound : (s : State) (moment : ℕ) → IsSound s → IsSound (tick_by s moment).after
 tick_sound s moment h =
     let t : State = record s { branches = map (timed_out moment) s.branches } in
-    sound_beside t t.reads t.logged_boot t.end t.standing t.open_record moment
+    sound_beside t t.reads t.logged_boot t.end t.standing t.open_records moment
     (with_branches s (map (timed_out moment) s.branches) h (mapped_kept s (timed_out moment) (timed_keeps moment) h))
 
 -- gets and puts
 
 -- reads are no part of what is sound
 more_reads : (s : State) (reads : List _) → IsSound s → IsSound (record s { reads = reads })
-more_reads s reads h = sound_beside s reads s.logged_boot s.end s.standing s.open_record s.moment h
+more_reads s reads h = sound_beside s reads s.logged_boot s.end s.standing s.open_records s.moment h
 
 got_sound : (s : State) (key : List ℕ) (xid : Triple) (b : Branch) (v : Version) → IsSound s → IsSound (got s key xid b v).after
 got_sound s key xid b v h = more_reads _ _ (changed_sound s (having_done (Got key v.value v.timestamp)) xid (done_keeps (Got key v.value v.timestamp)) h)

@@ -23,7 +23,7 @@ use Rattle.xa_model.specs.Restarting.{can_open}
 use Rattle.xa_model.specs.Trimming.{trim_refusal, trimmed, trim_became, trim_turn}
 use Rattle.xa_model.proofs.Order.{descends_below}
 use Rattle.xa_model.proofs.Recordable.{recordable, loggable, raised}
-use Rattle.xa_model.proofs.Restarts.{next_above, none_last, lost_in_doubt}
+use Rattle.xa_model.proofs.Restarts.{next_above, none_follow, none_grouped, lost_in_doubt}
 use Rattle.xa_model.proofs.Rows.{passed, below}
 
 -- where it isn't refused
@@ -61,11 +61,12 @@ trimmed_loggable s h less =
     loggable (trimmed s (s.logged_boot + 1)) (record { first = omega arith; boots = omega arith; last = omega (arith, less) })
     (raised s.logged_boot (s.logged_boot + 1) s.branches (omega arith) (recordable s h))
 
-pub trimmed_recoverable : (s : State) → IsRecoverable s → s.open_record ≡ None → s.logged_boot < 4294967295 → IsRecoverable (trimmed s (s.logged_boot + 1))
+pub trimmed_recoverable : (s : State) → IsRecoverable s → s.open_records ≡ [] → s.logged_boot < 4294967295 → IsRecoverable (trimmed s (s.logged_boot + 1))
 trimmed_recoverable s h settled less = record {
   sound = trimmed_sound s (s.logged_boot + 1) h.sound (omega (arith, h.loggable.boots));
   loggable = trimmed_loggable s h.loggable less;
-  open_record = none_last (trimmed s (s.logged_boot + 1)) s.open_record settled;
+  open_records = none_follow (trimmed s (s.logged_boot + 1)) s.open_records settled;
+  group = none_grouped s.open_records settled;
   settled = λ up. settled;
   current = λ up. refl;
 }

@@ -1,6 +1,6 @@
 -- A restart that no session asked for is one that a session asks for.
-use Rattle.std.proofs.Common.{◌≡◌, ℕ, ◌+◌, ◌≤◌, ◌==◌, Bool, true, false, not, cond, List, [], ◌∷◌, Option, Some, None, refl, ap, sym, ◌∙◌, subst, arith}
-use Rattle.std.specs.Prelude.{filter, map, option_map, nat_lt, IfSome}
+use Rattle.std.proofs.Common.{◌≡◌, ℕ, zero, suc, ◌+◌, ◌≤◌, ◌==◌, Bool, true, false, not, cond, List, [], ◌∷◌, Option, Some, None, refl, ap, sym, ◌∙◌, subst, arith}
+use Rattle.std.specs.Prelude.{filter, map, option_map, option_and_then, nat_lt, IfSome}
 use Rattle.std.proofs.lemmas.Bool.{and_parts}
 use Rattle.std.proofs.lemmas.Bool.Decides.{nat_tests}
 use Rattle.xa_codes.specs.declared.codes.TheConstants.{XAER_RMFAIL, XA_RBCOMMFAIL}
@@ -11,7 +11,7 @@ use Rattle.xa_record.specs.declared.record.Record.{Record}
 use Rattle.xa_record.specs.declared.record.Record.TheVariants as logged
 use Rattle.xa_limits.specs.declared.TheConstants.{MOST_BOOTS}
 use Rattle.xa_model.specs.declared.outcome.Outcome.{Outcome}
-use Rattle.xa_model.specs.declared.outcome.Outcome.TheVariants.{Quiet, Appended, Failed, Reread}
+use Rattle.xa_model.specs.declared.outcome.Outcome.TheVariants.{Quiet, Appended, Joined, Failed, Reread}
 use Rattle.xa_model.specs.declared.outcome.Appending.{Appending}
 use Rattle.xa_model.specs.declared.outcome.Appending.TheVariants.{Kept, Refused, Lost}
 use Rattle.xa_model.specs.State.{State, Session, Branch, Phase, Working, Prepared, Committed, Association, Standing, Up, Down, Ended, count, owns, session_of, new_session}
@@ -19,11 +19,14 @@ use Rattle.xa_model.specs.Answer.{Answer, answer, detailed, ok}
 use Rattle.xa_model.specs.Associations.{connect_by, hang_up_by, is_of_session, is_worked_by, left_behind, with_mark}
 use Rattle.xa_model.specs.Early.{early_refusal, Context}
 use Rattle.xa_model.specs.History.{Leads}
-use Rattle.xa_model.specs.Logging.{applied, down}
-use Rattle.xa_model.specs.Restarting.{boot_became, missed, restart_turn, restarting, survived}
+use Rattle.xa_model.specs.Logging.{applied, down, supposed}
+use Rattle.xa_model.specs.Restarting.{boot_became, looked, restart_turn, restarting, with_first}
 use Rattle.xa_model.specs.Laws.Restarts.{asks, comes, goes, restart_entries, RestartLeads, RestartHappens}
 use Rattle.xa_model.specs.Step.{asked, is_up, opened_of, context_of}
-use Rattle.xa_model.specs.Turn.{Turn, Now, Rereads, Stops, Opens, going_on, taken, unless_now}
+use Rattle.xa_model.specs.Turn.{Turn, Now, Stops, Opens, going_on, taken, unless_now}
+use Rattle.xa_model.specs.declared.event.Event.TheVariants as event
+use Rattle.xa_model.proofs.AppliedAll.{if_imply}
+use Rattle.xa_model.proofs.Further.{quiet_turn, passing_none}
 use Rattle.xa_model.proofs.Counts.{count_less}
 use Rattle.xa_model.proofs.Leaving.{none_counted}
 
@@ -128,25 +131,41 @@ applied_held s (logged.Base t ws) = refl
 applied_held s (logged.Held xid t ws) = refl
 applied_held s (logged.Known xid direction) = refl
 
-survives : (s : State) (r : Record) (x : Option Appending) → count (is_of_session 1) s.associations ≡ 0
-    → BothWays (going_on x (restarting (survived (among [] s) r))) (going_on x (restarting (survived (with_one s) r)))
-survives s r x free =
-    let u : State = record (applied r s) { open_record = None } in
-    let same = λ (xs : List Session). ap (λ (t : State). record t { open_record = None }) (sym (applied_among xs s r)) in
-    let held : count (is_of_session 1) u.associations ≡ 0 = ap (count (is_of_session 1)) (applied_held s r) ∙ free in
-    subst (λ (t : State). BothWays (going_on x (restarting t)) (going_on x (restarting (survived (with_one s) r)))) (same [])
-    (subst (λ (t : State). BothWays (going_on x (restarting (among [] u))) (going_on x (restarting t))) (same (one ∷ [])) (boots u x held))
+first_among : (k : ℕ) (rs : List Record) (xs : List Session) (s : State) → with_first k rs (among xs s) ≡ option_map (among xs) (with_first k rs s)
+first_among zero rs xs s = refl
+first_among (suc k) [] xs s = refl
+first_among (suc k) (r ∷ rs) xs s = ap (with_first k rs) (applied_among xs s r) ∙ first_among k rs xs (applied r s)
 
-restarts_by : (s : State) (o : Option Record) (outcome : Outcome) → count (is_of_session 1) s.associations ≡ 0
-    → BothWays
-    (taken (Rereads (answer (detailed XAER_RMFAIL detail.Device) (down (among [] s))) (option_map (λ r. restarting (survived (among [] s) r)) o) (restarting (missed (among [] s)))) outcome)
-    (taken (Rereads (answer (detailed XAER_RMFAIL detail.Device) (down (with_one s))) (option_map (λ r. restarting (survived (with_one s) r)) o) (restarting (missed (with_one s)))) outcome)
-restarts_by s o Quiet free = tt
-restarts_by s o (Appended x) free = tt
-restarts_by s o Failed free = record { same = refl; alone = refl; free = free; answers = λ e. absurd (cc e) }
-restarts_by s None (Reread true x) free = tt
-restarts_by s (Some r) (Reread true x) free = survives s r x free
-restarts_by s o (Reread false x) free = boots (missed s) x free
+first_held : (k : ℕ) (rs : List Record) (s : State) → IfSome (with_first k rs s) (λ t. t.associations ≡ s.associations)
+first_held zero rs s = refl
+first_held (suc k) [] s = tt
+first_held (suc k) (r ∷ rs) s =
+    if_imply (λ (t : State). t.associations ≡ (applied r s).associations) (λ t. t.associations ≡ s.associations) (λ t e. e ∙ applied_held s r)
+    (with_first k rs (applied r s)) (first_held k rs (applied r s))
+
+-- what goes on once the first of the open records are found
+abbrev reread : Option Appending → Option State → Option Answer
+reread x o = option_and_then (going_on x) (option_map restarting (option_map looked o))
+
+survives : (s : State) (k : ℕ) (x : Option Appending) → count (is_of_session 1) s.associations ≡ 0
+    → BothWays (reread x (with_first k s.open_records (among [] s))) (reread x (with_first k s.open_records (with_one s)))
+survives s k x free =
+    subst (λ (o : Option State). BothWays (reread x o) (reread x (with_first k s.open_records (with_one s)))) (sym (first_among k s.open_records [] s))
+    (subst (λ (o : Option State). BothWays (reread x (option_map (among []) (with_first k s.open_records s))) (reread x o)) (sym (first_among k s.open_records (one ∷ []) s))
+    (by_first (with_first k s.open_records s) (first_held k s.open_records s)))
+  where
+    by_first : (o : Option State) → IfSome o (λ t. t.associations ≡ s.associations)
+        → BothWays (reread x (option_map (among []) o)) (reread x (option_map (among (one ∷ [])) o))
+    by_first None e = tt
+    by_first (Some t) e = boots (looked t) x (ap (count (is_of_session 1)) e ∙ free)
+
+restarts_by : (s : State) (outcome : Outcome) → count (is_of_session 1) s.associations ≡ 0
+    → BothWays (taken (restart_turn (among [] s)) outcome) (taken (restart_turn (with_one s)) outcome)
+restarts_by s Quiet free = tt
+restarts_by s (Appended x) free = tt
+restarts_by s (Joined x) free = tt
+restarts_by s Failed free = record { same = refl; alone = refl; free = free; answers = λ e. absurd (cc e) }
+restarts_by s (Reread k x) free = survives s k x free
 
 -- who asks for it
 
@@ -178,15 +197,17 @@ nobody : (s : State) (outcome : Outcome) (a : Answer) → count (is_of_session 1
     → Leads (among [] s) (comes ∷ asks 1 outcome a.reply ∷ goes ∷ []) a.after
 nobody s outcome a free answers e =
     let w : WithOne a (taken (restart_turn (with_one s)) outcome) =
-    subst (λ (o : Option Answer). BothWays o (taken (restart_turn (with_one s)) outcome)) e (restarts_by s s.open_record outcome free) in (
+    subst (λ (o : Option Answer). BothWays o (taken (restart_turn (with_one s)) outcome)) e (restarts_by s outcome free) in (
       with_one s,
-      ap (takes Quiet) (answered_by s.standing (Now (connect_by (among [] s))) answers),
+      ap (takes Quiet) (quiet_turn (among [] s) event.Connect refl ∙ answered_by s.standing (Now (connect_by (among [] s))) answers),
       (
         with_one a.after,
-        ap (takes outcome) (asked_by s.standing (context_of (with_one s) 1) false (with_one s) (restart_turn (with_one s)) answers) ∙ w.same,
+        ap (takes outcome)
+            (quiet_turn (with_one s) (event.Call 1 Restart) (passing_none (supposed (with_one s)) 1 Restart refl)
+            ∙ asked_by s.standing (context_of (with_one s) 1) false (with_one s) (restart_turn (with_one s)) answers) ∙ w.same,
         (
           a.after,
-          ap (takes Quiet) (answered_by a.after.standing (Now (hang_up_by (with_one a.after) 1)) w.answers) ∙ ap Some (left_alone a.after w.alone w.free),
+          ap (takes Quiet) (quiet_turn (with_one a.after) (event.Hangup 1) refl ∙ answered_by a.after.standing (Now (hang_up_by (with_one a.after) 1)) w.answers) ∙ ap Some (left_alone a.after w.alone w.free),
           refl,
         ),
       ),
@@ -198,7 +219,8 @@ leads_by s [] outcome a free answers e = nobody s outcome a (free refl) answers 
 leads_by s (x ∷ xs) outcome a free answers e =
     let t = among (x ∷ xs) s in
     let opened : opened_of t x.number ≡ Some x.opened = ap (option_map (λ (y : Session). y.opened)) (itself x xs) in
-    let turns = ap (λ (o : Option Bool). asked s.standing (unless_now (early_refusal (record (context_of t x.number) { session = o }) Restart) t (restart_turn t))) opened
+    let turns = quiet_turn t (event.Call x.number Restart) (passing_none (supposed t) x.number Restart refl)
+    ∙ ap (λ (o : Option Bool). asked s.standing (unless_now (early_refusal (record (context_of t x.number) { session = o }) Restart) t (restart_turn t))) opened
     ∙ asked_by s.standing (context_of t x.number) x.opened t (restart_turn t) answers in
     (a.after, ap (takes outcome) turns ∙ e, refl)
 

@@ -34,7 +34,7 @@ use Rattle.xa_model.proofs.Rows.{passed}
 use Rattle.xa_model.proofs.LoggedTurns.{idle_of, two_phase_doubt, forget_completed, allowed_idle}
 use Rattle.xa_model.proofs.Behind.{doubt_prepared, done_decided, work_unknown}
 use Rattle.xa_model.proofs.Answering.{Settles, IsSettled, parts_of, one_phase_bad, two_phase_bad, rollback_bad, heuristic_bad, forget_bad, unless_settles, marked_settles, cond_settles, call_settles}
-use Rattle.xa_model.proofs.Fated.{IsFated, alone, now_is}
+use Rattle.xa_model.proofs.Fated.{IsFated, alone, now_has}
 use Rattle.xa_model.proofs.Listing.{is_held, completed_gone, forgotten_gone, listed_held}
 use Rattle.xa_model.proofs.StillListed.{Frees, always_free}
 
@@ -148,7 +148,7 @@ free_since first last before later completion xid h happened leads is none =
 pub always_unlisted : AlwaysUnlisted
 always_unlisted first h last before later completion xid happened leads is none listed =
     let free = free_since first last before later completion xid h happened leads is none in
-    let no : is_held xid (durable last) ≡ false = (now_is (Frees xid) last last.open_record refl free.0 free.1).0 in
+    let no : is_held xid (durable last) ≡ false = now_has (Frees xid) last free.1 in
     absurd (cc (listed, listed_held xid (durable last), no))
 
 pub unlisted_since_boot : UnlistedSinceBoot

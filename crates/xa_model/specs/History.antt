@@ -1,7 +1,9 @@
 -- Histories of the sequential resource manager.
-use Rattle.std.specs.Prelude.{ℕ, ◌≡◌, Option, Some, List, [], ◌∷◌, option_and_then, option_map}
+use Rattle.std.specs.Prelude.{ℕ, ◌≡◌, Bool, true, false, Option, Some, None, List, [], ◌∷◌, option_and_then, option_map}
 use Rattle.xa_frame.specs.declared.reply.Reply.{Reply}
+use Rattle.xa_model.specs.declared.outcome.Appending.{Appending}
 use Rattle.xa_model.specs.declared.outcome.Outcome.{Outcome}
+use Rattle.xa_model.specs.declared.outcome.Outcome.TheVariants.{Appended, Joined}
 use Rattle.xa_model.specs.State.{State}
 use Rattle.xa_model.specs.Turn.{Happening}
 use Rattle.xa_model.specs.Fold.{nothing}
@@ -41,3 +43,26 @@ abbrev pub replay : State → List (Happening × Outcome) → Option (List Reply
 replay s [] = Some []
 replay s (x ∷ xs) =
     option_and_then (λ a. option_map (λ replies. a.reply ∷ replies) (replay a.after xs)) (step s x.0 x.1)
+
+-- Groups
+
+-- whether the record joined the one before it
+abbrev pub joins : Outcome → Bool
+joins (Joined appending) = true
+joins _ = false
+
+-- what became of the record that an entry appends, by itself or with others
+abbrev pub append_in : Outcome → Option Appending
+append_in (Appended appending) = Some appending
+append_in (Joined appending) = Some appending
+append_in _ = None
+
+-- An entry whose record joined stands right after one whose record became the same: one device call appended both, and
+-- was answered once.
+abbrev pub JoinAfter : Option Appending → List Entry → Type 0
+JoinAfter before [] = Unit {0}
+JoinAfter before (entry ∷ entries) =
+    (joins entry.outcome ≡ true → append_in entry.outcome ≡ before) × JoinAfter (append_in entry.outcome) entries
+
+abbrev pub HasGroups : List Entry → Type 0
+HasGroups entries = JoinAfter None entries

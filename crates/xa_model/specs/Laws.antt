@@ -21,6 +21,8 @@ pub mod Logging
 pub mod Backing
 pub mod Crash
 pub mod Trim
+pub mod Groups
+pub mod Together
 
 -- what happened in a history, each with its outcome
 abbrev pub happened : List Entry → List (Happening × Outcome)

@@ -1,5 +1,6 @@
 -- What the calls that log append, how much room the log keeps, and what becomes of an append.
-use Rattle.std.specs.Prelude.{ℕ, ◌+◌, ◌*◌, ℤ, Bool, true, false, nat_le, Option, Some, None, List, [], length}
+use Rattle.std.specs.Prelude.{ℕ, ◌+◌, ◌*◌, ℤ, Bool, true, false, not, nat_le, Option, Some, None, List, [], ◌∷◌}
+use Rattle.std.specs.Prelude.{◌++◌, length}
 use Rattle.xa_codes.specs.declared.codes.TheConstants.{XAER_RMFAIL, XA_RBOTHER}
 use Rattle.xa_codes.specs.declared.detail.Detail.TheVariants as detail
 use Rattle.xa_codes.specs.declared.write.Write.{Write}
@@ -9,7 +10,7 @@ use Rattle.xa_record.specs.declared.record.Record.TheVariants as logged
 use Rattle.xa_limits.specs.declared.TheConstants.{DECIDED_ROOM, FIRST_OFFSET, LENGTH_BYTES, PREPARED_ROOM}
 use Rattle.xa_model.specs.declared.outcome.Appending.{Appending}
 use Rattle.xa_model.specs.declared.outcome.Appending.TheVariants.{Kept, Refused, Lost}
-use Rattle.xa_model.specs.State.{State, Branch, Phase, Working, Prepared, Committed, Down, count, known_of}
+use Rattle.xa_model.specs.State.{State, Branch, Phase, Working, Prepared, Committed, Up, Down, count, known_of}
 use Rattle.xa_model.specs.Answer.{Answer, detailed, answer, ok}
 use Rattle.xa_model.specs.Branches.{prepared, committed, completed, decided_by, forgotten, rolled_back}
 use Rattle.xa_model.specs.Durable.{durable, writes_of}
@@ -59,6 +60,11 @@ applied (logged.Decided xid direction) s = appended (logged.Decided xid directio
 applied (logged.Forgotten xid) s = appended (logged.Forgotten xid) (forgotten s xid)
 applied _ s = s
 
+-- the records do what they say, one after another
+abbrev pub applied_all : List Record → State → State
+applied_all [] s = s
+applied_all (r ∷ rs) s = applied_all rs (applied r s)
+
 -- What becomes of an append
 
 -- nobody is answered until a restart has settled the record
@@ -66,13 +72,38 @@ abbrev pub down : State → State
 down s = record s { standing = Down }
 
 abbrev pub lost : State → Record → Answer
-lost s r = answer (detailed XAER_RMFAIL detail.Device) (record (down s) { open_record = Some r })
+lost s r = answer (detailed XAER_RMFAIL detail.Device) (record (down s) { open_records = r ∷ [] })
 
 -- a record that was refused is answered this code, and leaves this state
 abbrev pub append_became : State → Record → ℤ → State → Appending → Answer
 append_became s r code left Kept = ok (applied r s)
 append_became s r code left Refused = answer (detailed code detail.Device) left
 append_became s r code left Lost = lost s r
+
+-- A group that is lost
+
+-- what the state would have come to, had all records whose fates are unknown been kept
+abbrev pub supposed : State → State
+supposed s = record (applied_all s.open_records s) { standing = Up; open_records = [] }
+
+-- one more record is lost with those before it
+abbrev pub lost_too : State → Record → Answer
+lost_too s r = answer (detailed XAER_RMFAIL detail.Device) (record s { open_records = s.open_records ++ r ∷ [] })
+
+-- a boot's record is lost by itself
+abbrev pub is_boot : Record → Bool
+is_boot (logged.Opened boot) = true
+is_boot _ = false
+
+-- whether the last of a record and of these is no boot's
+abbrev pub ends_in_group : Record → List Record → Bool
+ends_in_group r [] = not (is_boot r)
+ends_in_group r (q ∷ rs) = ends_in_group q rs
+
+-- whether one more may be lost with these
+abbrev pub takes_more : List Record → Bool
+takes_more [] = false
+takes_more (r ∷ rs) = ends_in_group r rs
 
 abbrev pub logs : State → Record → ℤ → State → Turn
 logs s r code left = Appends r (append_became s r code left)

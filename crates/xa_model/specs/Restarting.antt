@@ -1,6 +1,6 @@
--- Restarts and openings: what the record whose fate was unknown comes to, and the new boot.
-use Rattle.std.specs.Prelude.{ℕ, ◌+◌, nat_lt, Bool, not, Option, Some, None, List, [], ◌∷◌, ◌++◌, map, filter, length}
-use Rattle.std.specs.Prelude.{option_map, ◌&&◌, if◌then◌else◌}
+-- Restarts and openings: what the records whose fates were unknown come to, and the new boot.
+use Rattle.std.specs.Prelude.{ℕ, zero, suc, ◌+◌, nat_lt, Bool, not, Option, Some, None, List, [], ◌∷◌, ◌++◌, map}
+use Rattle.std.specs.Prelude.{filter, length, option_map, ◌&&◌, if◌then◌else◌}
 use Rattle.xa_codes.specs.declared.codes.TheConstants.{XAER_RMFAIL}
 use Rattle.xa_codes.specs.declared.detail.Detail.TheVariants as detail
 use Rattle.xa_codes.specs.declared.write.Write.{Write}
@@ -16,21 +16,28 @@ use Rattle.xa_model.specs.Fold.{snapshot, sizes}
 use Rattle.xa_model.specs.Turn.{Turn, Rereads, Rereading, Stops, Opens}
 use Rattle.xa_model.specs.Logging.{applied, snapshot_end, log_room, prepared_count, append_became, down}
 
--- What a crash may leave of a state: the record whose append was lost stands in the log, or doesn't
+-- What a crash may leave of a state: of the records whose append was lost none stands in the log, or the first, or the
+-- first two, and so on to all of them
 
-abbrev pub fates_with : State → Option Record → List Durable
-fates_with s None = durable s ∷ []
-fates_with s (Some r) = durable s ∷ durable (applied r s) ∷ []
+abbrev pub fates_with : State → List Record → List Durable
+fates_with s [] = durable s ∷ []
+fates_with s (r ∷ rs) = durable s ∷ fates_with (applied r s) rs
 
 abbrev pub fates : State → List Durable
-fates s = fates_with s s.open_record
+fates s = fates_with s s.open_records
 
--- the log was read, and it doesn't or does
-abbrev pub missed : State → State
-missed s = record s { open_record = None }
+-- the state with the first so many of these, if there are so many
+abbrev pub with_first : ℕ → List Record → State → Option State
+with_first zero rs s = Some s
+with_first (suc k) [] s = None
+with_first (suc k) (r ∷ rs) s = with_first k rs (applied r s)
 
-abbrev pub survived : State → Record → State
-survived s r = record (applied r s) { open_record = None }
+-- the log was read, and the first so many stand there
+abbrev pub looked : State → State
+looked s = record s { open_records = [] }
+
+abbrev pub survived : State → ℕ → Option State
+survived s k = option_map looked (with_first k s.open_records s)
 
 -- The new boot
 
@@ -69,9 +76,7 @@ restarting s =
 
 abbrev pub restart_turn : State → Turn
 restart_turn s =
-    Rereads (answer (detailed XAER_RMFAIL detail.Device) (down s))
-    (option_map (λ r. restarting (survived s r)) s.open_record)
-    (restarting (missed s))
+    Rereads (answer (detailed XAER_RMFAIL detail.Device) (down s)) (λ k. option_map restarting (survived s k))
 
 -- An opening that was refused or stopped leaves the state as it was, with the settings handed in and without sessions,
 -- and only an opening may follow it.
@@ -90,7 +95,7 @@ abbrev pub reopen_became : State → List ℕ → ℕ → ℕ → Appending → 
 reopen_became s name log_bytes boot Kept = ok (reopened s name log_bytes boot)
 reopen_became s name log_bytes boot Refused = ok (refused_opening s name log_bytes)
 reopen_became s name log_bytes boot Lost =
-    ok (record (refused_opening s name log_bytes) { open_record = Some (logged.Opened boot) })
+    ok (record (refused_opening s name log_bytes) { open_records = logged.Opened boot ∷ [] })
 
 abbrev pub can_open : State → ℕ → ℕ → Bool
 can_open s log_bytes boot = log_room log_bytes (snapshot_end s boot) (prepared_count s) (length s.decided)
@@ -103,9 +108,7 @@ reopening name log_bytes s =
 
 abbrev pub reopen_turn : State → List ℕ → ℕ → Turn
 reopen_turn s name log_bytes =
-    Rereads (ok (refused_opening s name log_bytes))
-    (option_map (λ r. reopening name log_bytes (survived s r)) s.open_record)
-    (reopening name log_bytes (missed s))
+    Rereads (ok (refused_opening s name log_bytes)) (λ k. option_map (reopening name log_bytes) (survived s k))
 
 -- The state of a manager that was opened on a log, and asked nothing. Of a branch its writes are known, and no more.
 
@@ -139,6 +142,6 @@ opening d name log_bytes boot = record {
   reads = [];
   standing = Up;
   end = FIRST_OFFSET + sizes (snapshot d boot);
-  open_record = None;
+  open_records = [];
   moment = 0;
 }

@@ -71,8 +71,8 @@ pub data Standing : Type 0 where
 -- Known and committed branches stand in one list, the greatest timestamp first; beside it stand the XIDs that the
 -- operator completed. `given` counts the timestamps that this boot has given. `logged_boot` is the greatest boot number
 -- in the log, which a restart that failed may have left above `boot`. `end` is where the log's next record would begin.
--- `open_record` is the record whose append was lost, and whose fate no restart has settled. `moment` is the last moment
--- that was told, in seconds: no clock is read.
+-- `open_records` are the records whose append was lost, one or a group, in the log's order: no restart has settled
+-- their fates. `moment` is the last moment that was told, in seconds: no clock is read.
 pub record State : Type 0 where
   pub name : List ℕ
   pub log_bytes : ℕ
@@ -86,7 +86,7 @@ pub record State : Type 0 where
   pub reads : List Read
   pub standing : Standing
   pub end : ℕ
-  pub open_record : Option Record
+  pub open_records : List Record
   pub moment : ℕ
 
 -- the n-th timestamp of a boot

@@ -1,18 +1,20 @@
 -- One step of the sequential resource manager: its turn, and the outcome of what the device did.
-use Rattle.std.specs.Prelude.{ℕ, Bool, true, false, Option, Some, None, option_map, if◌then◌else◌}
+use Rattle.std.specs.Prelude.{ℕ, Bool, true, false, ◌&&◌, Option, Some, None, option_map, if◌then◌else◌}
 use Rattle.xa_codes.specs.Flags.{has}
 use Rattle.xa_codes.specs.declared.flags.TheConstants.{TMONEPHASE}
 use Rattle.xa_frame.specs.declared.request.Request.{Request}
 use Rattle.xa_frame.specs.declared.request.Request.TheVariants.{Open, Close, Start, End, Prepare, Commit, Rollback}
 use Rattle.xa_frame.specs.declared.request.Request.TheVariants.{Forget, Recover, Get, Put, Delete, Decide, Doom}
 use Rattle.xa_frame.specs.declared.request.Request.TheVariants.{Restart, Timeout, Tick, Trim, Branches}
+use Rattle.xa_record.specs.declared.record.Record.{Record}
 use Rattle.xa_xid.specs.Triple.{Triple}
 use Rattle.xa_model.specs.declared.event.Event.{Event}
 use Rattle.xa_model.specs.declared.event.Event.TheVariants as event
 use Rattle.xa_model.specs.declared.outcome.Outcome.{Outcome}
 use Rattle.xa_model.specs.State.{State, Standing, Up, Down, Ended, own_branch, session_of}
 use Rattle.xa_model.specs.Answer.{Answer}
-use Rattle.xa_model.specs.Turn.{Happening, Asked, Reopened, Turn, Nobody, Now, taken, unless_now}
+use Rattle.xa_model.specs.Turn.{Happening, Asked, Reopened, Turn, Nobody, Now, Appends, Joins, taken, unless_now}
+use Rattle.xa_model.specs.Logging.{supposed, lost_too, takes_more}
 use Rattle.xa_model.specs.Early.{Context, early_refusal}
 use Rattle.xa_model.specs.Associations.{connect_by, open_by, close_by, hang_up_by, start_by, end_by}
 use Rattle.xa_model.specs.Branches.{doom_by}
@@ -72,8 +74,29 @@ asked Up turn = turn
 asked Down turn = turn
 asked Ended turn = Nobody
 
+-- A group that is lost: a call that was asked with it
+
+abbrev pub is_down : Standing → Bool
+is_down Up = false
+is_down Down = true
+is_down Ended = false
+
+abbrev pub record_in : Turn → Option Record
+record_in (Appends r after) = Some r
+record_in _ = None
+
+-- The record that the call would append after those whose fates are unknown. None where it would append none, and where
+-- none may be lost with them.
+abbrev pub further_record : State → Event → Option Record
+further_record s event =
+    if is_down s.standing && takes_more s.open_records then record_in (respond (supposed s) event) else None
+
+abbrev pub or_joins : State → Option Record → Turn → Turn
+or_joins s (Some r) (Now refused) = Joins refused r (lost_too s r)
+or_joins s _ turn = turn
+
 abbrev pub turn : State → Happening → Turn
-turn s (Asked event) = asked s.standing (respond s event)
+turn s (Asked event) = or_joins s (further_record s event) (asked s.standing (respond s event))
 turn s (Reopened name log_bytes) = reopen_turn s name log_bytes
 
 abbrev pub step : State → Happening → Outcome → Option Answer

@@ -1,11 +1,12 @@
 -- What is asked of the device in one turn, and what each of its answers leads to.
-use Rattle.std.specs.Prelude.{ℕ, ℤ, true, false, Option, Some, None, List, option_and_then}
+use Rattle.std.specs.Prelude.{ℕ, ℤ, Option, Some, None, List, option_and_then}
 use Rattle.xa_frame.specs.declared.reply.Reply.{Reply}
 use Rattle.xa_record.specs.declared.record.Record.{Record}
 use Rattle.xa_model.specs.declared.event.Event.{Event}
 use Rattle.xa_model.specs.declared.outcome.Outcome.{Outcome}
-use Rattle.xa_model.specs.declared.outcome.Outcome.TheVariants.{Quiet, Appended, Failed, Reread}
+use Rattle.xa_model.specs.declared.outcome.Outcome.TheVariants.{Quiet, Appended, Joined, Failed, Reread}
 use Rattle.xa_model.specs.declared.outcome.Appending.{Appending}
+use Rattle.xa_model.specs.declared.outcome.Appending.TheVariants.{Kept, Refused, Lost}
 use Rattle.xa_model.specs.State.{State}
 use Rattle.xa_model.specs.Answer.{Answer, plain, answer}
 
@@ -22,14 +23,16 @@ pub data Rereading : Type 0 where
 
 -- A turn: what is asked of the device, and what each of its answers leads to. Nobody answers,
 -- no device call is made, one record is appended, a record of a new boot is appended as the first
--- of a new file, before the snapshot of what lasts, or the log is read again: that fails, or
--- the record whose fate was unknown is there, or it isn't.
+-- of a new file, before the snapshot of what lasts, or the log is read again: that fails, or the first
+-- so many of the records whose fates were unknown are there, if there are so many. Or the append of a group was lost,
+-- and the call is refused, or was asked with the group, and its record is lost with it.
 pub data Turn : Type 0 where
   Nobody : Turn
   Now : (answer : Answer) → Turn
   Appends : (appended : Record) (after : Appending → Answer) → Turn
   Checkpoints : (appended : Record) (after : Appending → Answer) → Turn
-  Rereads : (failed : Answer) (survived : Option Rereading) (missing : Rereading) → Turn
+  Rereads : (failed : Answer) (found : ℕ → Option Rereading) → Turn
+  Joins : (refused : Answer) (appended : Record) (lost : Answer) → Turn
 
 -- where the outcome doesn't fit, there is no answer
 abbrev pub going_on : Option Appending → Rereading → Option Answer
@@ -42,22 +45,35 @@ abbrev pub taken_now : Answer → Outcome → Option Answer
 taken_now answer Quiet = Some answer
 taken_now answer _ = None
 
+-- After the first record of a group that isn't lost, each further one is kept or refused as one by itself. Where the
+-- first was lost, the manager is down by then.
 abbrev pub taken_appending : (Appending → Answer) → Outcome → Option Answer
 taken_appending after (Appended appending) = Some (after appending)
+taken_appending after (Joined Kept) = Some (after Kept)
+taken_appending after (Joined Refused) = Some (after Refused)
 taken_appending after _ = None
 
-abbrev pub taken_rereading : Answer → Option Rereading → Rereading → Outcome → Option Answer
-taken_rereading failed survived missing Failed = Some failed
-taken_rereading failed survived missing (Reread true appended) = option_and_then (going_on appended) survived
-taken_rereading failed survived missing (Reread false appended) = going_on appended missing
-taken_rereading failed survived missing _ = None
+abbrev pub taken_checkpoint : (Appending → Answer) → Outcome → Option Answer
+taken_checkpoint after (Appended appending) = Some (after appending)
+taken_checkpoint after _ = None
+
+abbrev pub taken_rereading : Answer → (ℕ → Option Rereading) → Outcome → Option Answer
+taken_rereading failed found Failed = Some failed
+taken_rereading failed found (Reread survived appended) = option_and_then (going_on appended) (found survived)
+taken_rereading failed found _ = None
+
+abbrev pub taken_joining : Answer → Answer → Outcome → Option Answer
+taken_joining refused lost Quiet = Some refused
+taken_joining refused lost (Joined Lost) = Some lost
+taken_joining refused lost _ = None
 
 abbrev pub taken : Turn → Outcome → Option Answer
 taken Nobody outcome = None
 taken (Now answer) outcome = taken_now answer outcome
 taken (Appends appended after) outcome = taken_appending after outcome
-taken (Checkpoints appended after) outcome = taken_appending after outcome
-taken (Rereads failed survived missing) outcome = taken_rereading failed survived missing outcome
+taken (Checkpoints appended after) outcome = taken_checkpoint after outcome
+taken (Rereads failed found) outcome = taken_rereading failed found outcome
+taken (Joins refused appended lost) outcome = taken_joining refused lost outcome
 
 -- What is answered at once
 

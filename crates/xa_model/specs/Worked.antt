@@ -29,6 +29,7 @@ pub mod Log
 pub mod Turns
 pub mod Trims
 pub mod Device
+pub mod Groups
 pub mod Recovery
 pub mod Lasting
 pub mod OneCopy

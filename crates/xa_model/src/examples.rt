@@ -6,6 +6,9 @@ ghost use Rattle.xa_model.specs.Worked.OneCopy.{ReadsBelow, MissesDelete, Misses
 ghost use Rattle.xa_model.specs.Worked.Turns.{PreparedAndCommitted, RolledBackAgain, MarkedIsGone, ReadOnly, Room};
 ghost use Rattle.xa_model.specs.Worked.Turns.{LostAppends, LostBoots, DecidedByOperator, OpenedAgain};
 ghost use Rattle.xa_model.specs.Worked.Device.{EachRefused, EachLost, RestartRefused, OpeningRefused};
+ghost use Rattle.xa_model.specs.Worked.Groups.{GroupKept, GroupRefused, GroupLost, GroupCut, CommitWithPrepare};
+ghost use Rattle.xa_model.specs.Worked.Groups.{RefusedWhileDown, FatesOfGroup, WhatJoins, NoneJoinsBoot, GroupLeaves};
+ghost use Rattle.xa_model.specs.Worked.Groups.{GroupReopened, LostPromises, JudgedTogether, WhichJoin};
 ghost use Rattle.xa_model.specs.Worked.Recovery.{Recovered, PreparedWithoutWrites, NextBoot, LostAndFound, LostAndGone};
 ghost use Rattle.xa_model.specs.Worked.Recovery.{Heuristics, Scans, JustRoom, NoRoom, Refusals, PreparedAgain};
 ghost use Rattle.xa_model.specs.Worked.{ReadBack, BusyUntilCommitted, FlagsRefused};
@@ -167,6 +170,25 @@ pub fn worked_recovery()
     ensures full { NoRoom }
     ensures refused { Refusals }
     ensures again { PreparedAgain }
+{}
+
+/// Worked rows of groups, records that are appended together: kept, refused and lost ones, what restarts find of them,
+/// which calls are lost with a group, what a crash leaves of it, and how its room is judged.
+pub fn worked_groups()
+    ensures kept { GroupKept }
+    ensures refused { GroupRefused }
+    ensures lost { GroupLost }
+    ensures cut { GroupCut }
+    ensures commit { CommitWithPrepare }
+    ensures down { RefusedWhileDown }
+    ensures fates { FatesOfGroup }
+    ensures joins { WhatJoins }
+    ensures boot { NoneJoinsBoot }
+    ensures leaves { GroupLeaves }
+    ensures opening { GroupReopened }
+    ensures promises { LostPromises }
+    ensures room { JudgedTogether }
+    ensures which { WhichJoin }
 {}
 
 /// Worked lists of committed branches: one that is one copy, and three that aren't, since a read missed a write before

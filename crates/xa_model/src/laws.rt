@@ -7,15 +7,22 @@ ghost use Rattle.xa_model.specs.Laws.Durable.{SnapshotIsWritten, TakesOwnBoot, W
 ghost use Rattle.xa_model.specs.Laws.Logging.{KeepsSoundApplied, AppliedLasts, AppliedFits, EventsLogWhatLasts};
 ghost use Rattle.xa_model.specs.Laws.Logging.{RestartLasts, ReopenLasts, TrimLasts};
 ghost use Rattle.xa_model.specs.Laws.Backing.{KeepsRecoverable, AlwaysRecoverable, LoggedInOrder, KeepsBacked};
+ghost use Rattle.xa_model.specs.Laws.Backing.{BacksFound, SettlesGroup};
 ghost use Rattle.xa_model.specs.Laws.Backing.{RestartsRestored, ReopensRestored, OpensRestored, OpensFresh};
 ghost use Rattle.xa_model.specs.Invariants.Room.{KeepsRoom, RestartKeepsRoom, TrimHasRoom};
 ghost use Rattle.xa_model.specs.OneCopy.{AlwaysOneCopy, FreshOneCopy, OpenedOneCopy};
 ghost use Rattle.xa_model.specs.ListedLaw.{ListedUntilAsked, ListedSinceBoot, FreshLists, OpenedLists, ReopenedLists};
 ghost use Rattle.xa_model.specs.UnlistedLaw.{AlwaysUnlisted, UnlistedSinceBoot};
 ghost use Rattle.xa_model.specs.Laws.Crash.{LostFits, LostFates, LeavesBefore, LeavesBehind, LeavesAppended};
-ghost use Rattle.xa_model.specs.Laws.Crash.{LeavesNoMore, LeavesExactly, FirstLeft, LastLeft, EarlierLeft, LaterLeft, LeftAmid};
+ghost use Rattle.xa_model.specs.Laws.Crash.{LeavesNoMore, LeavesGroup, LeavesExactly, LeavesFound, FindsLeft};
+ghost use Rattle.xa_model.specs.Laws.Crash.{LeavesOneMore};
+ghost use Rattle.xa_model.specs.Laws.Crash.{FirstLeft, LastLeft, EarlierLeft, LaterLeft, LeftAmid};
 ghost use Rattle.xa_model.specs.Laws.Crash.{CrashKeepsPrepared, CrashKeepsCompleted, CrashKeepsSinceBoot};
 ghost use Rattle.xa_model.specs.Laws.Crash.{BootLists};
+ghost use Rattle.xa_model.specs.Laws.Groups.{JoinsLast, JoinsEach, SupposedFirst, SupposedNext, FindsFirst};
+ghost use Rattle.xa_model.specs.Laws.Groups.{GroupsShare, TurnsUp, TurnsAlone};
+ghost use Rattle.xa_model.specs.Laws.Together.{LeavesOthers, AppendsTheSame, RoomWhereKept, RoomWhereRefused};
+ghost use Rattle.xa_model.specs.Laws.Together.{KeptTogether, LostTogether};
 ghost use Rattle.xa_model.specs.ScanLaw.{ListedAscends, ScanListsFirst, ScanListsAll, ScanIsAnswered};
 ghost use Rattle.xa_model.specs.Laws.Restarts.{RestartLeads, RestartHappens};
 ghost use Rattle.xa_model.specs.Laws.LowWater.{BelowKnown, IsReached, BelowNext, NeverFalls};
@@ -30,8 +37,8 @@ pub fn one_history()
 
 /// Each event and each opening, in every state, is answered with each outcome that fits its turn, and
 /// with no other; and some outcome fits, unless the manager's process ended, after which only an opening
-/// is answered. A restart and an opening fit a look that misses the record whose fate was unknown
-/// always, and one that finds it exactly where there is such a record.
+/// is answered. A restart and an opening fit a look that finds the first of the records whose fates were
+/// unknown, as many as may be: none always, and no more than there are.
 pub fn total()
     ensures step { StepIsTotal }
     ensures some { NothingIsStuck }
@@ -93,10 +100,12 @@ pub fn recoverable()
 {}
 
 /// The log's records stand behind every state: what may be logged fits behind them, and with each turn and each answer
-/// of the device they go on with the state.
+/// of the device they go on with the state; and with what a look finds of a lost group, which stands after them.
 pub fn backed()
     ensures order { LoggedInOrder }
     ensures turn { KeepsBacked }
+    ensures found { BacksFound }
+    ensures group { SettlesGroup }
 {}
 
 /// Restarts and openings lead to what lasted, with a new boot and nothing else.
@@ -107,10 +116,10 @@ pub fn restored()
     ensures fresh { OpensFresh }
 {}
 
-/// A log keeps the room to complete and forget what is prepared, and to forget what the operator completed, also if the
-/// record whose fate is unknown is found there: every event but a restart keeps it, with every outcome of its device
-/// calls, and so does all that happens where records stand behind the state; and there no trim is refused for want of
-/// room.
+/// A log keeps the room to complete and forget what is prepared, and to forget what the operator completed, also
+/// however many of the records whose fates are unknown are found there: every event but a restart keeps it, with every
+/// outcome of its device calls, and so does all that happens where records stand behind the state; and there no trim is
+/// refused for want of room.
 pub fn roomy()
     ensures asked { KeepsRoom }
     ensures restart { RestartKeepsRoom }
@@ -162,25 +171,61 @@ pub fn unlisted_until_prepared()
 {}
 
 /// What a crash may leave at any moment of an event, of a restart or of an opening: what it may leave before it, what
-/// it may behind it, and what it may where the append is lost, which is what lasts with the record or without it.
+/// it may behind it, and what it may where the append is lost, which is what lasts with the record or without it; of a
+/// group, with the first of its records, as many as may be.
 /// Where nothing is appended that is no more than before; once no record's fate is unknown, it is exactly what lasts.
+/// It is what a look at the log may find: what lasts with the first of the records whose fates are unknown, and one
+/// more record of a lost group is one more that may be found.
 pub fn crash_at_any_moment()
     ensures fits { LostFits }
     ensures lost { LostFates }
     ensures before { LeavesBefore }
     ensures behind { LeavesBehind }
     ensures appended { LeavesAppended }
+    ensures group { LeavesGroup }
     ensures no_more { LeavesNoMore }
     ensures exactly { LeavesExactly }
+    ensures found { LeavesFound }
+    ensures finds { FindsLeft }
+    ensures one_more { LeavesOneMore }
 {}
 
-/// What a crash may leave at any moment of a history is left while one of its entries happens, or of its first state.
+/// What a crash may leave at any moment of a history is left while one of its entries happens, and those that join it,
+/// or of its first state.
 pub fn crash_in_history()
     ensures first { FirstLeft }
     ensures last { LastLeft }
     ensures earlier { EarlierLeft }
     ensures later { LaterLeft }
     ensures amid { LeftAmid }
+{}
+
+/// A group that is lost: which calls are lost with it, how a manager that is down answers otherwise, what the group
+/// would have come to, that a look may find the first of its records, as many as there are, and that each record that
+/// joined became what the first of its group became. A manager that is up answers as it does alone.
+pub fn lost_together()
+    ensures lasts { JoinsLast }
+    ensures each { JoinsEach }
+    ensures first { SupposedFirst }
+    ensures next { SupposedNext }
+    ensures finds { FindsFirst }
+    ensures share { GroupsShare }
+    ensures up { TurnsUp }
+    ensures alone { TurnsAlone }
+{}
+
+/// Calls on different XIDs that are asked together: what the record of one does leaves what another looks at, and so
+/// each appends the same record where those before it are kept, refused or lost, as long as there is room: that is
+/// there, if it is with the bytes of those before it and the branches that they prepare, and without what they
+/// complete. So the entries of a group that is kept lead to what its records do one after another, and those of one
+/// that is lost to a manager that is down, all of whose records are open.
+pub fn asked_together()
+    ensures leaves { LeavesOthers }
+    ensures same { AppendsTheSame }
+    ensures kept { RoomWhereKept }
+    ensures refused { RoomWhereRefused }
+    ensures kept_group { KeptTogether }
+    ensures lost_group { LostTogether }
 {}
 
 /// What a crash leaves at any moment of a run keeps the promises of the history before it. Recovery lists of it each

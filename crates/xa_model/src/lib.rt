@@ -18,16 +18,16 @@
 //!
 //! - `Invariants`: `Sound`, `Loggable`, `Backing`, `Restored` and `Room`, what every state of a history has; `LowWater`,
 //!   timestamps below which no known branch stands, and none works
-//! - `Laws`: `Total`, which outcomes fit, and others; `Worked`: rows that compute
+//! - `Laws`: `Total`, which outcomes fit, `Groups`, what is lost together, and others; `Worked`: rows that compute
 //!
 //! The modules:
 //!
 //! - `event`: `Event`, what is asked; `outcome`: `Outcome` and `Appending`, what the device did
 //! - `laws`: functions that do nothing, and whose contracts are theorems on the definitions. Of histories
 //!   `one_history`, `total`, `restart_leads`, `sound`, `recoverable`, `low_water`, `work_floor`, `moments`, `one_copy`,
-//!   `listed_until_asked`, `unlisted_until_prepared` and `scan_lists_all`; of crashes `crash_at_any_moment`,
-//!   `crash_in_history` and `crash_keeps_promises`; of what lasts `lasting`, `sound_lasting`, `logged_lasts`, `backed`,
-//!   `restored` and `roomy`; of a trim `trim`
+//!   `listed_until_asked`, `unlisted_until_prepared` and `scan_lists_all`; of groups `lost_together` and
+//!   `asked_together`; of crashes `crash_at_any_moment`, `crash_in_history` and `crash_keeps_promises`; of what lasts
+//!   `lasting`, `sound_lasting`, `logged_lasts`, `backed`, `restored` and `roomy`; of a trim `trim`
 //! - `examples`: such functions too, of worked rows: replies that the definitions compute
 #![tactic(auto)]
 
@@ -38,14 +38,14 @@ mod outcome;
 
 pub use event::Event;
 pub use examples::{
-    worked_associations, worked_copies, worked_known_branches, worked_limits, worked_logs,
-    worked_low_water, worked_marks, worked_recovery, worked_refusals, worked_rows,
+    worked_associations, worked_copies, worked_groups, worked_known_branches, worked_limits,
+    worked_logs, worked_low_water, worked_marks, worked_recovery, worked_refusals, worked_rows,
     worked_time_limits, worked_trims, worked_turns, worked_versions,
 };
 pub use laws::{
-    backed, crash_at_any_moment, crash_in_history, crash_keeps_promises, lasting,
-    listed_until_asked, logged_lasts, low_water, moments, one_copy, one_history, recoverable,
-    restart_leads, restored, roomy, scan_lists_all, sound, sound_lasting, total, trim,
+    asked_together, backed, crash_at_any_moment, crash_in_history, crash_keeps_promises, lasting,
+    listed_until_asked, logged_lasts, lost_together, low_water, moments, one_copy, one_history,
+    recoverable, restart_leads, restored, roomy, scan_lists_all, sound, sound_lasting, total, trim,
     unlisted_until_prepared, work_floor,
 };
 pub use outcome::{Appending, Outcome};

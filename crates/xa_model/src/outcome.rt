@@ -14,14 +14,16 @@ pub enum Appending {
 pub enum Outcome {
     /// No device call was made.
     Quiet,
-    /// One record was to be appended.
+    /// One record was to be appended, alone or as the first of a group that one device call appends.
     Appended(Appending),
+    /// A further record of the group was to be appended, with the entry before.
+    Joined(Appending),
     /// In a restart or an opening: the log could not be read.
     Failed,
-    /// In a restart or an opening: the log was read. Whether the record whose fate was unknown is there, and what
-    /// became of the record of the new boot, where one was to be appended.
+    /// In a restart or an opening: the log was read. How many of the records whose fates were unknown are there, the
+    /// first so many of them, and what became of the record of the new boot, where one was to be appended.
     Reread {
-        survived: bool,
+        survived: usize,
         appended: Option<Appending>,
     },
 }

@@ -17,7 +17,7 @@ use Rattle.xa_manager.specs.Answered.{may_want_memory, wanted_memory}
 use Rattle.xa_manager.specs.declared.manager.Manager.{Manager}
 use Rattle.xa_xid.specs.Triple.{Triple}
 use Rattle.xa_script.specs.declared.line.Line.{Line}
-use Rattle.xa_script.specs.declared.line.Line.TheVariants.{Silent, Unknown, Connect, Hangup, Call, Fail, Stop, Reopen, Crash}
+use Rattle.xa_script.specs.declared.line.Line.TheVariants.{Silent, Unknown, Connect, Hangup, Call, Status, Fail, Stop, Reopen, Crash}
 use Rattle.xa_script.specs.declared.call_effect.CallEffect.{CallEffect}
 use Rattle.xa_script.specs.declared.log_file.LogFile.{LogFile}
 use Rattle.xa_script.specs.declared.log_file.LogFile.TheVariants.{Current, Other}
@@ -34,8 +34,8 @@ use Rattle.std.specs.Prelude.{⊤, pos}
 use Rattle.std.specs.declared.alloc.AllocError.{AllocError}
 use Rattle.xa_model.specs.declared.outcome.Outcome.{Outcome}
 use Rattle.xa_play.specs.Runs.{Run, IsRun, IsLawful, RunsAreLawful}
-use Rattle.xa_play.specs.Plays.{Steps, Shows, Reopens, IsOpening, PlaysLine, PlaysTo, Done, Stops, Cuts, Refuses, lines_of}
-use Rattle.xa_play.specs.Played.{IsLinesFault, AnswerFails, LineAnswered, StandsAs, LinePlayed, LineCut, LineEnds, ReplyEnds, ScriptEnds, printed}
+use Rattle.xa_play.specs.Plays.{Steps, Shows, Reopens, IsOpening, PlaysLine, PlaysTo, Done, Stops, Cuts, Refuses, lines_of, told_status}
+use Rattle.xa_play.specs.Played.{IsLinesFault, AnswerFails, LineAnswered, StandsAs, LinePlayed, LineCut, LineEnds, ReplyEnds, ScriptEnds, Tells, printed}
 use Rattle.xa_play.specs.declared.fault.PlayFault.{PlayFault}
 use Rattle.xa_play.specs.declared.fault.PlayFault.TheVariants as faults
 use Rattle.xa_play.proofs.Lawful.{run_more}
@@ -60,6 +60,7 @@ plays_then name log_bytes P Q run Unknown text f h = (h.0, f run h.1)
 plays_then name log_bytes P Q run Connect text f h = (h.0, h.1, said_then P Q run event.Connect h.0 (is_memory h.0.detail) f h.2)
 plays_then name log_bytes P Q run (Hangup n) text f h = (h.0, h.1, said_then P Q run (event.Hangup n) h.0 (is_memory h.0.detail) f h.2)
 plays_then name log_bytes P Q run (Call n request) text f h = (h.0, h.1, said_then P Q run (event.Call n request) h.0 (is_memory h.0.detail) f h.2)
+plays_then name log_bytes P Q run (Status n) text f h = (h.0, h.1, h.2, f run h.3)
 plays_then name log_bytes P Q run (Fail file call effect) text f h = (h.0, f run h.1)
 plays_then name log_bytes P Q run (Stop file call) text f h = (h.0, f run h.1)
 plays_then name log_bytes P Q run Reopen text f h = (h.0, (h.1.0, (h.1.1.0, h.1.1.1, f _ h.1.1.2)))
@@ -100,12 +101,17 @@ stopped_stays Other call m m' h = h.2.0
 
 -- the manager was opened again, on files to which the state of a run comes
 reopens : (name : List ℕ) (n : ℕ) (m' : Manager MemDisk) (run : Run) → IsRun run
-    → (survived : Bool) × IsSomeAnd (step run.now (Reopened name n) (Reread survived (Some Kept))) (λ a. StandsFor m' a.after)
+    → (survived : ℕ) × IsSomeAnd (step run.now (Reopened name n) (Reread survived (Some Kept))) (λ a. StandsFor m' a.after)
     → Reopens name n run (StandsAs name n m')
 reopens name n m' run is o =
     let a = reopened_as run.now name n o.0 (StandsFor m') o.1 in
     let entry : Entry = record { happening = Reopened name n; outcome = Reread o.0 (Some Kept); reply = plain (pos 0) } in
     (o.0, (a.0, a.1, (a.2, a.3, run_more run entry a.0 is tt a.1)))
+
+tells : (m : Manager MemDisk) (n versions calls : ℕ) (answer : Option Reply) (s : State) → StandsFor m s
+    → IsSomeAnd answer (λ reply. Tells m n versions calls reply) → printed answer ≡ replies.line_of (told_status s n versions calls)
+tells m n versions calls None s stands h = absurd h
+tells m n versions calls (Some reply) s stands h = ap replies.line_of (h s stands)
 
 -- an answer of a manager is a line of the model, from whichever state the manager stood for
 pub line_plays : (trusted : MemoryIsTrusted) (files : FilesStand) (laws : RunsAreLawful) (name : List ℕ) (n : ℕ) (m m' : Manager MemDisk) (said : Line) (answer : Option Reply) (run : Run) →
@@ -115,6 +121,8 @@ line_plays trusted files laws name n m m' Unknown answer run h stands = (ap prin
 line_plays trusted files laws name n m m' Connect answer run h stands = shows trusted n m m' event.Connect answer run h tt stands
 line_plays trusted files laws name n m m' (Hangup k) answer run h stands = shows trusted n m m' (event.Hangup k) answer run h tt stands
 line_plays trusted files laws name n m m' (Call k request) answer run h stands = shows trusted n m m' (event.Call k request) answer run h.1 h.0 stands
+line_plays trusted files laws name n m m' (Status k) answer run h stands =
+    (h.0, h.1, tells m k h.0 h.1 answer run.now stands.0 h.2, subst (λ (o : Manager MemDisk). StandsAs name n o run) (sym h.3) stands)
 line_plays trusted files laws name n m m' (Fail file call effect) answer run h stands =
     (ap printed h.0, (planned_stays (Ok tt) file call effect m m' h.1 run.now stands.0, stands.1, stands.2))
 line_plays trusted files laws name n m m' (Stop file call) answer run h stands =

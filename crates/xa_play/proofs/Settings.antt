@@ -1,5 +1,5 @@
 -- No event changes the size of log that was set, and an opening sets it.
-use Rattle.std.proofs.Common.{◌≡◌, ℕ, ℤ, ◌+◌, nat_lt, ◌&&◌, Bool, true, false, List, Option, Some, None, IfSome, IsSomeAnd, refl, subst, ap}
+use Rattle.std.proofs.Common.{◌≡◌, ℕ, zero, suc, ℤ, ◌+◌, nat_lt, ◌&&◌, Bool, true, false, List, [], ◌∷◌, Option, Some, None, IfSome, IsSomeAnd, refl, subst, ap}
 use Rattle.std.specs.Prelude.{⊤, option_and_then, option_map, if◌then◌else◌}
 use Rattle.xa_codes.specs.declared.codes.TheConstants.{XAER_RMERR, XAER_RMFAIL, XA_RETRY, XA_RDONLY}
 use Rattle.xa_codes.specs.declared.detail.Detail.TheVariants as detail
@@ -16,14 +16,14 @@ use Rattle.xa_xid.specs.Triple.{Triple}
 use Rattle.xa_model.specs.declared.event.Event.{Event}
 use Rattle.xa_model.specs.declared.event.Event.TheVariants as event
 use Rattle.xa_model.specs.declared.outcome.Outcome.{Outcome}
-use Rattle.xa_model.specs.declared.outcome.Outcome.TheVariants.{Quiet, Appended, Failed, Reread}
+use Rattle.xa_model.specs.declared.outcome.Outcome.TheVariants.{Quiet, Appended, Joined, Failed, Reread}
 use Rattle.xa_model.specs.declared.outcome.Appending.{Appending}
 use Rattle.xa_model.specs.declared.outcome.Appending.TheVariants.{Kept, Refused, Lost}
 use Rattle.xa_model.specs.State.{State, Known, Unknown, AtWork, InDoubt, Completed, Standing, Up, Down, Ended, known_as}
 use Rattle.xa_model.specs.Fold.{is_empty}
 use Rattle.xa_model.specs.Answer.{Answer, answer, plain, detailed, ok}
-use Rattle.xa_model.specs.Turn.{Asked, Reopened, Turn, Nobody, Now, Appends, Checkpoints, Rereads, Rereading, Stops, Opens, going_on, taken, unless_now, marked_now}
-use Rattle.xa_model.specs.Step.{step, turn, row, respond, asked, context_of}
+use Rattle.xa_model.specs.Turn.{Asked, Reopened, Turn, Nobody, Now, Appends, Checkpoints, Rereads, Joins, Rereading, Stops, Opens, going_on, taken, unless_now, marked_now}
+use Rattle.xa_model.specs.Step.{step, turn, row, respond, asked, or_joins, further_record, context_of}
 use Rattle.xa_model.specs.Events.{asks_boot}
 use Rattle.xa_model.proofs.RoomyRows.{AsksRoom, events_ask_room}
 use Rattle.xa_model.specs.Early.{early_refusal}
@@ -32,7 +32,7 @@ use Rattle.xa_model.specs.Associations.{failed, mark_in, timestamp_in}
 use Rattle.xa_model.specs.Branches.{unprepared_refusal, two_phase_refusal, rollback_refusal, heuristic_refusal, is_associated, rolled_back, committed}
 use Rattle.xa_model.specs.Completions.{prepare_turn, commit_one_phase_turn, commit_two_phase_turn, rollback_turn, roll_back_turn, decide_turn, decide_refusal, forget_turn, forget_refusal}
 use Rattle.xa_model.specs.Trimming.{trim_turn, trim_refusal, trim_became}
-use Rattle.xa_model.specs.Restarting.{restart_turn, restarting, boot_became, survived, missed, reopening, can_open, reopen_became, refused_opening}
+use Rattle.xa_model.specs.Restarting.{restart_turn, restarting, boot_became, looked, with_first, survived, reopening, can_open, reopen_became, refused_opening}
 
 record Keeps (n : ℕ) (a : Answer) : Type 0 where
   same : a.after.log_bytes ≡ n
@@ -51,17 +51,23 @@ taken_keeps : (s : State) (t : Turn) (o : Outcome) → AsksRoom s t → AppendsK
 taken_keeps s Nobody o h k = absurd h
 taken_keeps s (Now a) Quiet h k = record { same = h }
 taken_keeps s (Now a) (Appended x) h k = tt
+taken_keeps s (Now a) (Joined x) h k = tt
 taken_keeps s (Now a) Failed h k = tt
 taken_keeps s (Now a) (Reread found x) h k = tt
 taken_keeps s (Appends r after) Quiet h k = tt
 taken_keeps s (Appends r after) (Appended x) h k = k x
+taken_keeps s (Appends r after) (Joined Kept) h k = k Kept
+taken_keeps s (Appends r after) (Joined Refused) h k = k Refused
+taken_keeps s (Appends r after) (Joined Lost) h k = tt
 taken_keeps s (Appends r after) Failed h k = tt
 taken_keeps s (Appends r after) (Reread found x) h k = tt
 taken_keeps s (Checkpoints r after) Quiet h k = tt
 taken_keeps s (Checkpoints r after) (Appended x) h k = k x
+taken_keeps s (Checkpoints r after) (Joined x) h k = tt
 taken_keeps s (Checkpoints r after) Failed h k = tt
 taken_keeps s (Checkpoints r after) (Reread found x) h k = tt
-taken_keeps s (Rereads failed found missing) o h k = absurd h
+taken_keeps s (Rereads failed found) o h k = absurd h
+taken_keeps s (Joins refused r lost) o h k = absurd h
 
 unless_appends : (n : ℕ) (o : Option Reply) (s : State) (t : Turn) → KeepsAppends n t → KeepsAppends n (unless_now o s t)
 unless_appends n None s t h = h
@@ -176,20 +182,28 @@ restarting_keeps s = restarting_if s.log_bytes (nat_lt s.logged_boot 4294967295)
     (Opens (logged.Opened (s.logged_boot + 1)) (boot_became s (s.logged_boot + 1))) (Stops (answer (detailed XAER_RMFAIL detail.Limit) (down s)))
     (λ x. boot_keeps s (s.logged_boot + 1) x) (record { same = refl })
 
-found_keeps : (s : State) (o : Option Record) → IfSome (option_map (λ r. restarting (survived s r)) o) (KeepsReading s.log_bytes)
-found_keeps s None = tt
-found_keeps s (Some r) = subst (λ (n : ℕ). KeepsReading n (restarting (survived s r))) (applied_keeps r s) (restarting_keeps (survived s r))
+first_keeps : (k : ℕ) (rs : List Record) (s : State) → IfSome (option_map looked (with_first k rs s)) (λ t. t.log_bytes ≡ s.log_bytes)
+first_keeps zero rs s = refl
+first_keeps (suc k) [] s = tt
+first_keeps (suc k) (r ∷ rs) s =
+    subst (λ (n : ℕ). IfSome (option_map looked (with_first k rs (applied r s))) (λ t. t.log_bytes ≡ n)) (applied_keeps r s) (first_keeps k rs (applied r s))
+
+found_keeps : (n : ℕ) (o : Option State) → IfSome o (λ t. t.log_bytes ≡ n) → IfSome (option_map restarting o) (KeepsReading n)
+found_keeps n None h = tt
+found_keeps n (Some t) h = subst (λ (m : ℕ). KeepsReading m (restarting t)) h (restarting_keeps t)
 
 restart_keeps : (s : State) (refusal : Option Reply) (o : Outcome) → IfSome (taken (unless_now refusal s (restart_turn s)) o) (Keeps s.log_bytes)
 restart_keeps s (Some reply) Quiet = record { same = refl }
 restart_keeps s (Some reply) (Appended x) = tt
+restart_keeps s (Some reply) (Joined x) = tt
 restart_keeps s (Some reply) Failed = tt
 restart_keeps s (Some reply) (Reread found x) = tt
 restart_keeps s None Quiet = tt
 restart_keeps s None (Appended x) = tt
+restart_keeps s None (Joined x) = tt
 restart_keeps s None Failed = record { same = refl }
-restart_keeps s None (Reread true x) = reading_keeps s.log_bytes x (option_map (λ r. restarting (survived s r)) s.open_record) (found_keeps s s.open_record)
-restart_keeps s None (Reread false x) = reading_keeps s.log_bytes x (Some (restarting (missed s))) (restarting_keeps (missed s))
+restart_keeps s None (Reread found x) =
+    reading_keeps s.log_bytes x (option_map restarting (survived s found)) (found_keeps s.log_bytes (survived s found) (first_keeps found s.open_records s))
 
 -- ---- a trim
 
@@ -202,6 +216,7 @@ checkpoint_keeps : (n : ℕ) (r : Record) (after : Appending → Answer) (o : Ou
     → IfSome (taken (Checkpoints r after) o) (Keeps n)
 checkpoint_keeps n r after Quiet h = tt
 checkpoint_keeps n r after (Appended x) h = h x
+checkpoint_keeps n r after (Joined x) h = tt
 checkpoint_keeps n r after Failed h = tt
 checkpoint_keeps n r after (Reread found x) h = tt
 
@@ -210,6 +225,7 @@ unless_keeps : (s : State) (refusal : Option Reply) (t : Turn) (o : Outcome) →
 unless_keeps s None t o h = h
 unless_keeps s (Some reply) t Quiet h = (record { same = refl })
 unless_keeps s (Some reply) t (Appended x) h = tt
+unless_keeps s (Some reply) t (Joined x) h = tt
 unless_keeps s (Some reply) t Failed h = tt
 unless_keeps s (Some reply) t (Reread found x) h = tt
 
@@ -261,10 +277,28 @@ standing_keeps n Up t o h = h
 standing_keeps n Down t o h = h
 standing_keeps n Ended t o h = tt
 
+-- nor does a record that is lost with a group
+joins_keep : (s : State) (further : Option Record) (t : Turn) (o : Outcome) → IfSome (taken t o) (Keeps s.log_bytes)
+    → IfSome (taken (or_joins s further t) o) (Keeps s.log_bytes)
+joins_keep s None t o h = h
+joins_keep s (Some r) Nobody o h = h
+joins_keep s (Some r) (Now a) Quiet h = h
+joins_keep s (Some r) (Now a) (Appended x) h = tt
+joins_keep s (Some r) (Now a) (Joined Kept) h = tt
+joins_keep s (Some r) (Now a) (Joined Refused) h = tt
+joins_keep s (Some r) (Now a) (Joined Lost) h = record { same = refl }
+joins_keep s (Some r) (Now a) Failed h = tt
+joins_keep s (Some r) (Now a) (Reread found x) h = tt
+joins_keep s (Some r) (Appends q after) o h = h
+joins_keep s (Some r) (Checkpoints q after) o h = h
+joins_keep s (Some r) (Rereads failed found) o h = h
+joins_keep s (Some r) (Joins refused q lost) o h = h
+
 -- no event changes the size of log that was set
 pub asked_keeps : (s : State) (e : Event) (o : Outcome) (a : Answer) → step s (Asked e) o ≡ Some a → a.after.log_bytes ≡ s.log_bytes
 asked_keeps s e o a is =
-    let kept : IfSome (taken (turn s (Asked e)) o) (Keeps s.log_bytes) = standing_keeps s.log_bytes s.standing (respond s e) o (respond_keeps s e o) in
+    let kept : IfSome (taken (turn s (Asked e)) o) (Keeps s.log_bytes) =
+    joins_keep s (further_record s e) (asked s.standing (respond s e)) o (standing_keeps s.log_bytes s.standing (respond s e) o (respond_keeps s e o)) in
     let found : IfSome (Some a) (Keeps s.log_bytes) = subst (λ (x : Option Answer). IfSome x (Keeps s.log_bytes)) is kept in
     found.same
 
@@ -281,21 +315,19 @@ reopening_as : (name : List ℕ) (n : ℕ) (s : State) → IfSome (going_on (Som
 reopening_as name n s = opening_as n (nat_lt s.logged_boot 4294967295 && can_open s n (s.logged_boot + 1)) (logged.Opened (s.logged_boot + 1))
     (reopen_became s name n (s.logged_boot + 1)) (ok (refused_opening s name n)) (refl, refl)
 
-found_as : (name : List ℕ) (n : ℕ) (s : State) (o : Option Record)
-    → IfSome (option_and_then (going_on (Some Kept)) (option_map (λ r. reopening name n (survived s r)) o)) (OpensAs n)
-found_as name n s None = tt
-found_as name n s (Some r) = reopening_as name n (survived s r)
+found_as : (name : List ℕ) (n : ℕ) (o : Option State) → IfSome (option_and_then (going_on (Some Kept)) (option_map (reopening name n) o)) (OpensAs n)
+found_as name n None = tt
+found_as name n (Some t) = reopening_as name n t
 
-opens_as : (s : State) (name : List ℕ) (n : ℕ) (found : Bool) → IfSome (step s (Reopened name n) (Reread found (Some Kept))) (OpensAs n)
-opens_as s name n true = found_as name n s s.open_record
-opens_as s name n false = reopening_as name n (missed s)
+opens_as : (s : State) (name : List ℕ) (n found : ℕ) → IfSome (step s (Reopened name n) (Reread found (Some Kept))) (OpensAs n)
+opens_as s name n found = found_as name n (survived s found)
 
 some_as : (n : ℕ) (P : State → Type 0) (o : Option Answer) → IfSome o (OpensAs n) → IsSomeAnd o (λ a. P a.after)
     → (after : State) × (o ≡ Some (ok after)) × P after × (after.log_bytes ≡ n)
 some_as n P None h p = absurd p
 some_as n P (Some a) h p = (a.after, ap (λ (x : Answer). Some x) h.0, p, h.1)
 
-pub reopened_as : (s : State) (name : List ℕ) (n : ℕ) (found : Bool) (P : State → Type 0)
+pub reopened_as : (s : State) (name : List ℕ) (n found : ℕ) (P : State → Type 0)
     → IsSomeAnd (step s (Reopened name n) (Reread found (Some Kept))) (λ a. P a.after)
     → (after : State) × (step s (Reopened name n) (Reread found (Some Kept)) ≡ Some (ok after)) × P after × (after.log_bytes ≡ n)
 reopened_as s name n found P p = some_as n P _ (opens_as s name n found) p

@@ -1,5 +1,5 @@
 -- What is known of a manager whose log stands on two disks in memory.
-use Rattle.std.specs.Prelude.{ℕ, ◌≡◌, Bool, Some, List, IsSomeAnd, Result}
+use Rattle.std.specs.Prelude.{ℕ, ◌≡◌, Some, List, IsSomeAnd, Result}
 use Rattle.std.specs.declared.alloc.AllocError.{AllocError}
 use Rattle.xa_disk.specs.contracts.memory.MemDiskDisk.TheImpl.{ghosts as mem_disks}
 use Rattle.xa_disk.specs.declared.memory.MemDisk.{MemDisk}
@@ -85,7 +85,7 @@ FilesStand =
 abbrev pub OpenedOn : List ℕ → ℕ → List ℕ → List ℕ → Manager MemDisk → Type 0
 OpenedOn name log_bytes first second m =
     (t : State) → IsRecoverable t → FilesStandFor log_bytes first second t
-    → (survived : Bool)
+    → (survived : ℕ)
     × IsSomeAnd (step t (Reopened name log_bytes) (Reread survived (Some Kept))) (λ a. StandsFor m a.after)
 
 -- The two disks after a crash. Of the file that the line names, so many bytes stay of those that were written since its

@@ -6,11 +6,12 @@ use Rattle.xa_frame.specs.declared.reply.Reply.{Reply}
 use Rattle.xa_model.specs.declared.event.Event.TheVariants as event
 use Rattle.xa_model.specs.Events.{IsAsked}
 use Rattle.xa_model.specs.Answer.{plain}
+use Rattle.xa_model.specs.State.{State}
 use Rattle.xa_manager.specs.declared.fault.ManagerFault.{ManagerFault}
 use Rattle.xa_manager.specs.declared.manager.Manager.{Manager}
 use Rattle.xa_xid.specs.Triple.{Triple}
 use Rattle.xa_script.specs.declared.line.Line.{Line}
-use Rattle.xa_script.specs.declared.line.Line.TheVariants.{Silent, Unknown, Connect, Hangup, Call, Fail, Stop, Reopen, Crash}
+use Rattle.xa_script.specs.declared.line.Line.TheVariants.{Silent, Unknown, Connect, Hangup, Call, Status, Fail, Stop, Reopen, Crash}
 use Rattle.xa_script.specs.declared.log_file.LogFile.{LogFile}
 use Rattle.xa_output.specs.Output.{IsPart}
 use Rattle.xa_script.specs.Lines as lines
@@ -18,7 +19,7 @@ use Rattle.xa_script.specs.Replies as replies
 use Rattle.xa_script.specs.Requests.{ReadsTexts}
 use Rattle.xa_play.specs.Runs.{Run, IsRun, IsLawful}
 use Rattle.xa_play.specs.Disks.{StandsFor, Answered, Planned, Stopped, CrashesTo, OpenedOn, first_seen, second_seen, seen}
-use Rattle.xa_play.specs.Plays.{PlaysLine, CutsLine, IsOpening, Prints, lines_of}
+use Rattle.xa_play.specs.Plays.{PlaysLine, CutsLine, IsOpening, Prints, lines_of, told_status}
 use Rattle.xa_play.specs.declared.fault.PlayFault.{PlayFault}
 use Rattle.xa_play.specs.declared.fault.PlayFault.TheVariants as faults
 
@@ -50,6 +51,10 @@ ReplyEnds (Err faults.Memory) answer text = text ≡ []
 ReplyEnds (Err faults.Write) answer text = IsPart text (printed answer)
 ReplyEnds (Err _) answer text = ⊥
 
+-- how the manager is doing was told, by whichever state it stands for
+abbrev pub Tells : Manager MemDisk → ℕ → ℕ → ℕ → Reply → Type 0
+Tells m n versions calls reply = (s : State) → StandsFor m s → reply ≡ told_status s n versions calls
+
 -- over the settings
 module _ (name : List ℕ) (log_bytes : ℕ) where
   -- the manager was opened on what a crash left of its disks
@@ -66,6 +71,8 @@ module _ (name : List ℕ) (log_bytes : ℕ) where
   LineAnswered m (Hangup n) answer m' = IsSomeAnd answer (λ reply. Answered m (event.Hangup n) reply m')
   LineAnswered m (Call n request) answer m' =
       IsAsked request × IsSomeAnd answer (λ reply. Answered m (event.Call n request) reply m')
+  LineAnswered m (Status n) answer m' =
+      (versions : ℕ) × (calls : ℕ) × IsSomeAnd answer (λ reply. Tells m n versions calls reply) × (m' ≡ m)
   LineAnswered m (Fail file call effect) answer m' = (answer ≡ None) × Planned (Ok tt) file call effect m m'
   LineAnswered m (Stop file call) answer m' = (answer ≡ None) × Stopped file call m m'
   LineAnswered m Reopen answer m' =

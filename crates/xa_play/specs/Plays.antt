@@ -1,9 +1,10 @@
 -- What a script prints: each line that asks something shows the reply of one step of the sequential resource manager.
-use Rattle.std.specs.Prelude.{ℕ, ◌≡◌, ◌<◌, ◌≤◌, ◌⊎◌, ⊤, Bool, true, pos, MatchBool}
+use Rattle.std.specs.Prelude.{ℕ, ◌≡◌, ◌<◌, ◌≤◌, ◌⊎◌, ⊤, Bool, true, pos, MatchBool, is_some, if◌then◌else◌}
 use Rattle.std.specs.Prelude.{List, [], ◌∷◌, ◌++◌, length, map, Option, Some, IfSome, Result, Ok, Err}
 use Rattle.std.specs.Io.KnownBytes.{Appends}
 use Rattle.xa_disk.specs.declared.memory.MemDisk.{MemDisk}
-use Rattle.xa_frame.specs.Made.{bad_frame}
+use Rattle.xa_codes.specs.declared.codes.TheConstants.{XAER_PROTO}
+use Rattle.xa_frame.specs.Made.{bad_frame, doing}
 use Rattle.xa_frame.specs.declared.reply.Reply.{Reply}
 use Rattle.xa_model.specs.declared.event.Event.{Event}
 use Rattle.xa_model.specs.declared.event.Event.TheVariants as event
@@ -13,15 +14,16 @@ use Rattle.xa_model.specs.declared.outcome.Appending.TheVariants.{Kept}
 use Rattle.xa_model.specs.State.{State}
 use Rattle.xa_model.specs.Answer.{plain}
 use Rattle.xa_model.specs.Turn.{Happening, Asked, Reopened}
-use Rattle.xa_model.specs.Step.{step}
+use Rattle.xa_model.specs.Step.{opened_of, step}
 use Rattle.xa_model.specs.History.{fresh}
 use Rattle.xa_assoc.specs.Refusals.{is_memory}
 use Rattle.xa_manager.specs.Answered.{may_want_memory, wanted_memory}
 use Rattle.xa_manager.specs.Files.{FilesStandFor}
+use Rattle.xa_manager.specs.Status.{status_behind}
 use Rattle.xa_xid.specs.Triple.{Triple}
 use Rattle.xa_output.specs.Output.{IsPart}
 use Rattle.xa_script.specs.declared.line.Line.{Line}
-use Rattle.xa_script.specs.declared.line.Line.TheVariants.{Silent, Unknown, Connect, Hangup, Call, Fail, Stop, Reopen, Crash}
+use Rattle.xa_script.specs.declared.line.Line.TheVariants.{Silent, Unknown, Connect, Hangup, Call, Status, Fail, Stop, Reopen, Crash}
 use Rattle.xa_script.specs.Lines as lines
 use Rattle.xa_script.specs.Parts.{parts}
 use Rattle.xa_script.specs.Replies as replies
@@ -46,6 +48,11 @@ Shows run asked text Then =
     × MatchBool (is_memory reply.detail) ((may_want_memory asked ≡ true) × (reply ≡ wanted_memory asked) × Then run)
     ((outcome : Outcome) × Steps run (Asked asked) outcome reply Then)
 
+-- how the manager is doing, with so many versions and events so far, as it is told to a session that is connected
+abbrev pub told_status : State → ℕ → ℕ → ℕ → Reply
+told_status s n versions calls =
+    if is_some (opened_of s n) then doing (status_behind s versions calls) else plain XAER_PROTO
+
 -- the line of an opening
 abbrev pub opened_line : List ℕ
 opened_line = replies.line_of (plain (pos 0))
@@ -58,10 +65,11 @@ IsOpening _ = ⊥
 
 -- over the settings
 module _ (name : List ℕ) (log_bytes : ℕ) where
-  -- The state is opened again: the record whose fate was unknown is found there, or not, and a new boot is logged.
+  -- The state is opened again: the first so many of the records whose fates were unknown are found there, and a new
+  -- boot is logged.
   abbrev pub Reopens : Run → (Run → Type 0) → Type 0
   Reopens run Then =
-      (survived : Bool) × Steps run (Reopened name log_bytes) (Reread survived (Some Kept)) (plain (pos 0)) Then
+      (survived : ℕ) × Steps run (Reopened name log_bytes) (Reread survived (Some Kept)) (plain (pos 0)) Then
 
   -- What a line prints, and that this holds of the run with it. Of a crash that is said of every run to whose state the
   -- two files come that it left: it goes on with that run, opened again. Where they come to the state before the crash,
@@ -72,6 +80,8 @@ module _ (name : List ℕ) (log_bytes : ℕ) where
   PlaysLine run Connect text Then = Shows run event.Connect text Then
   PlaysLine run (Hangup n) text Then = Shows run (event.Hangup n) text Then
   PlaysLine run (Call n request) text Then = Shows run (event.Call n request) text Then
+  PlaysLine run (Status n) text Then =
+      (versions : ℕ) × (calls : ℕ) × (text ≡ replies.line_of (told_status run.now n versions calls)) × Then run
   PlaysLine run (Fail file call effect) text Then = (text ≡ []) × Then run
   PlaysLine run (Stop file call) text Then = (text ≡ []) × Then run
   PlaysLine run Reopen text Then = (text ≡ opened_line) × Reopens run Then

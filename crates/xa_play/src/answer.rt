@@ -5,24 +5,26 @@ ghost use Rattle.xa_model.specs.Events.{IsAsked};
 ghost use Rattle.xa_script.specs.Lines as lines;
 ghost use Rattle.xa_manager.specs.Opening.{IsBadSetting};
 ghost use Rattle.xa_play.specs.Disks.{Answered, Planned, Stopped};
-ghost use Rattle.xa_play.specs.Played.{AnswerFails, LineAnswered};
+ghost use Rattle.xa_play.specs.Played.{AnswerFails, LineAnswered, Tells};
+ghost use Rattle.xa_manager.specs.Status.{versions_of};
 
 use crate::fault::PlayFault;
 use crate::opening::{crash, reopen};
 use std::alloc::{AllocError, Global};
-use xa_codes::XA_OK;
+use xa_codes::{XA_OK, XAER_PROTO};
 use xa_disk::{Effect, MemDisk};
-use xa_frame::{Reply, Request};
+use xa_frame::{Body, Reply, Request, Status};
 use xa_manager::{Manager, Settings, connect_reply};
 use xa_model::Event;
 use xa_script::{CallEffect, Line, LogFile};
 
-/// The manager behind a line, and the reply that the line shows, if it shows one.
+/// The manager behind a line, and the reply that the line shows, if it shows one. So many events were played before.
 pub fn answer(
     alloc: Global,
     manager: Manager<MemDisk>,
     settings: &Settings,
     said: Line,
+    calls: u64,
 ) -> Result<(Manager<MemDisk>, Option<Reply>), PlayFault>
     requires limits { lines.IsWithinLimits said }
     requires settings { ¬ IsBadSetting settings.now.name settings.now.log_bytes }
@@ -44,6 +46,10 @@ pub fn answer(
         }
         Line::Call(session, request) => {
             let reply = call(&mut manager, session, request);
+            Ok((manager, Some(reply)))
+        }
+        Line::Status(session) => {
+            let reply = status(&manager, session, calls);
             Ok((manager, Some(reply)))
         }
         Line::Fail { file, call, effect } => {
@@ -88,6 +94,20 @@ fn call(manager: &mut Manager<MemDisk>, session: u64, request: Request) -> Reply
 {
     request.hold();
     manager.call(session, request)
+}
+
+/// How the manager is doing, for a session that is connected.
+fn status(manager: &Manager<MemDisk>, session: u64, calls: u64) -> Reply
+    ensures { Tells manager.now session (versions_of manager.now) calls result }
+{
+    if manager.has_session(session) {
+        Reply::carrying(Body::Status(Status {
+            calls,
+            ..manager.status()
+        }))
+    } else {
+        Reply::plain(XAER_PROTO)
+    }
 }
 
 /// Plans that this device call of the log's file that is named fails with this effect.

@@ -17,7 +17,7 @@ use xa_disk::MemDisk;
 use xa_frame::Reply;
 use xa_manager::{Manager, Settings, memory_is_trusted};
 use xa_output::write_text;
-use xa_script::{first_part, read_line, reply_line};
+use xa_script::{Line, first_part, read_line, reply_line};
 
 /// Opens a manager on two empty disks in memory, reads the whole script, and then runs it: each line that asks
 /// something is answered by one line.
@@ -77,21 +77,24 @@ fn play_lines<W: Write>(
 {
     runs_are_lawful();
     let mut manager = manager;
+    let mut calls = 0;
     let mut rest = Some(script);
     while let Some(lines) = rest {
         let (line, behind) = first_part(lines, b'\n');
-        manager = play_line(alloc, manager, settings, writer, line)?;
+        manager = play_line(alloc, manager, settings, writer, line, &mut calls)?;
         rest = behind;
     }
     Ok(())
 }
 
+// Counts the line, if it is an event.
 fn play_line<W: Write>(
     alloc: Global,
     manager: Manager<MemDisk>,
     settings: &Settings,
     writer: &mut W,
     line: &[u8],
+    calls: &mut u64,
 ) -> Result<Manager<MemDisk>, PlayFault>
     requires { ¬ IsBadSetting settings.now.name settings.now.log_bytes }
     ensures { (text : List ℕ) × Appends (W.contents writer.old) (W.contents writer.new) text
@@ -101,9 +104,18 @@ fn play_line<W: Write>(
     files_stand();
     runs_are_lawful();
     let said = read_line(alloc, line)?;
-    let (manager, reply) = answer(alloc, manager, settings, said)?;
+    let before = *calls;
+    if is_event(&said) {
+        *calls = before.saturating_add(1);
+    }
+    let (manager, reply) = answer(alloc, manager, settings, said, before)?;
     write_reply(alloc, writer, reply)?;
     Ok(manager)
+}
+
+/// Whether a line is an event of the history.
+fn is_event(said: &Line) -> bool {
+    matches!(said, Line::Connect | Line::Hangup(_) | Line::Call(_, _))
 }
 
 /// Writes the reply that a line shows, if it shows one.

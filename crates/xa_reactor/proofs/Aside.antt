@@ -7,7 +7,7 @@ use Rattle.std.proofs.lemmas.List.{get_or_past}
 use Rattle.slab.specs.Slab.{Slab, get}
 use Rattle.xa_assoc.specs.declared.fault.ConnectFault.{ConnectFault}
 use Rattle.xa_frame.specs.declared.reply.Reply.{Reply}
-use Rattle.xa_frame.specs.declared.request.Request.{Request}
+use Rattle.xa_frame.specs.declared.question.Question.{Question}
 use Rattle.xa_reactor.specs.declared.peer.Peer.{Peer}
 use Rattle.xa_reactor.specs.Aside.{IsAside, Visits}
 use Rattle.xa_reactor.specs.Tending.{Table, Tends, sessions_of}
@@ -30,7 +30,7 @@ others : (table : Table) (key session other : ℕ) → other ≢ key → beside 
 others table key session other ne = cond_false (nat_eq other key) (Some session) (table other) (grind (arith, nat_tests, ne))
 
 module _ {D : Type 0} (connected : D → Result ℕ ConnectFault → D → Type 0)
-    (called : ℕ → D → Request → Reply → D → Type 0) (left : ℕ → D → D → Type 0) where
+    (called : ℕ → D → Question → Reply → D → Type 0) (left : ℕ → D → D → Type 0) where
   visits : (table : Table) (key : ℕ) (content : List ℕ) (reply : Reply) (d e : D) → table key ≡ None
       → Visits connected called left content d reply e → Tends connected called left table d table e
   visits table key content reply d e free v =

@@ -8,7 +8,7 @@ use Rattle.std.proofs.lemmas.List.{get_or_past, length-map}
 use Rattle.slab.specs.Slab.{Slab, Updates, get, with_value}
 use Rattle.xa_assoc.specs.declared.fault.ConnectFault.{ConnectFault}
 use Rattle.xa_frame.specs.declared.reply.Reply.{Reply}
-use Rattle.xa_frame.specs.declared.request.Request.{Request}
+use Rattle.xa_frame.specs.declared.question.Question.{Question}
 use Rattle.xa_reactor.specs.declared.loops.Ended.{Ended}
 use Rattle.xa_reactor.specs.declared.loops.Seed.{Seed}
 use Rattle.xa_reactor.specs.declared.peer.Peer.{Peer}
@@ -73,7 +73,7 @@ at_map f (x ∷ xs) (suc i) a b lt = at_map f xs i a b (omega (arith, lt))
 -- ---- one thing behind the other
 
 module _ {D : Type 0} (connected : D → Result ℕ ConnectFault → D → Type 0)
-    (called : ℕ → D → Request → Reply → D → Type 0) (left : ℕ → D → D → Type 0) where
+    (called : ℕ → D → Question → Reply → D → Type 0) (left : ℕ → D → D → Type 0) where
   pub tends_none : (a b : Table) (d : D) → a ≡ b → Tends connected called left a d b d
   tends_none a b d same = ([], (same, refl))
 

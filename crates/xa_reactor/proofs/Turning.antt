@@ -1,6 +1,6 @@
 -- A turn of a connection carries on.
 use Rattle.std.proofs.Common.{◌≡◌, ℕ, List, [], ◌∷◌, ◌++◌, take, drop, refl, sym, subst, inl, inr, append_assoc, append-nil}
-use Rattle.xa_frame.specs.declared.request.Request.{Request}
+use Rattle.xa_frame.specs.declared.question.Question.{Question}
 use Rattle.xa_frame.specs.declared.reply.Reply.{Reply}
 use Rattle.xa_desk.proofs.Talking.{answers-append}
 use Rattle.xa_connection.specs.declared.answering.Answering.{Answering}
@@ -22,7 +22,7 @@ carries_by contents contents' replies replies' fed fed' sent sent' c c' p q r s 
     (subst (λ (x : List ℕ). Carries contents replies fed x c') (sym s)
     (subst (λ (x : Connection). Carries contents replies fed sent x) (sym t) h))))
 
-module _ {D : Type 0} (called : D → Request → Reply → D → Type 0) where
+module _ {D : Type 0} (called : D → Question → Reply → D → Type 0) where
   pub carries_same : (c c' : Connection) (d : D) → c' ≡ c → CarriesOn called c d c' d
   carries_same c c' d same contents replies fed sent h = (
     [],

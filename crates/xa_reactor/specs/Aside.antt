@@ -3,11 +3,11 @@ use Rattle.std.specs.Prelude.{ℕ, ◌≡◌, ◌⊎◌, List, Result, Ok, Err}
 use Rattle.xa_assoc.specs.declared.fault.ConnectFault.{ConnectFault}
 use Rattle.xa_desk.specs.Serving.{Answers}
 use Rattle.xa_frame.specs.declared.reply.Reply.{Reply}
-use Rattle.xa_frame.specs.declared.request.Request.{Request}
+use Rattle.xa_frame.specs.declared.question.Question.{Question}
 
 -- by what a connect, a call of a session and its hang-up do at the door
 module _ {D : Type 0} (connected : D → Result ℕ ConnectFault → D → Type 0)
-    (called : ℕ → D → Request → Reply → D → Type 0) (left : ℕ → D → D → Type 0) where
+    (called : ℕ → D → Question → Reply → D → Type 0) (left : ℕ → D → D → Type 0) where
   -- A session was connected, answered one content, and hung up.
   pub record Visits (content : List ℕ) (d : D) (reply : Reply) (e : D) : Type 0 where
     pub session : ℕ

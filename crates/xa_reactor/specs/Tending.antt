@@ -5,7 +5,7 @@ use Rattle.slab.specs.Slab.{Slab, get}
 use Rattle.xa_assoc.specs.declared.fault.ConnectFault.{ConnectFault}
 use Rattle.xa_desk.specs.Serving.{AnswersAll}
 use Rattle.xa_frame.specs.declared.reply.Reply.{Reply}
-use Rattle.xa_frame.specs.declared.request.Request.{Request}
+use Rattle.xa_frame.specs.declared.question.Question.{Question}
 use Rattle.xa_reactor.specs.declared.loops.Ended.{Ended}
 use Rattle.xa_reactor.specs.declared.loops.Seed.{Seed}
 use Rattle.xa_reactor.specs.declared.peer.Peer.{Peer}
@@ -27,7 +27,7 @@ pub record Puts (old new : Table) (key : ℕ) (session : Option ℕ) : Type 0 wh
 
 -- by what a connect, a call of a session and its hang-up do at the door
 module _ {D : Type 0} (connected : D → Result ℕ ConnectFault → D → Type 0)
-    (called : ℕ → D → Request → Reply → D → Type 0) (left : ℕ → D → D → Type 0) where
+    (called : ℕ → D → Question → Reply → D → Type 0) (left : ℕ → D → D → Type 0) where
   -- a session was connected, and is served under a key that was free
   pub record Connects (old new : Table) (d e : D) : Type 0 where
     pub key : ℕ

@@ -109,7 +109,7 @@ impl Acceptor {
             return;
         }
         let refused = self.refused;
-        let _ = eprintln!(rt; "xarm: connections refused: {refused}, since {MOST_OPEN} are open");
+        let _ = eprintln!(rt; "xarm: {refused} connections refused: {MOST_OPEN} are open");
         self.refused = 0;
         self.tells = now.saturating_add(LOOK);
     }

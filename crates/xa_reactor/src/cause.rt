@@ -71,10 +71,10 @@ impl fmt::Display for Cause {
     fn fmt<W: fmt::Write>(&self, f: &mut fmt::Formatter<W>) -> fmt::Result {
         f.write_str(match self {
             Cause::Lost => "it is unknown whether a record reached the log",
-            Cause::Device => "a device failed in a Restart",
-            Cause::Log => "the files are not its log",
+            Cause::Device => "a device call failed during a Restart",
+            Cause::Log => "the files are no longer this manager's log",
             Cause::Full => "the log has no room for a new boot",
-            Cause::Boots => "the boots are used up",
+            Cause::Boots => "all boots are used up",
         })
     }
 }

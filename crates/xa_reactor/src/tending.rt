@@ -6,7 +6,7 @@ use crate::common::Common;
 use crate::peers::Peers;
 use crate::reception::Reception;
 use crate::round::Round;
-use crate::timing::{LOOK, Limits, wait_of};
+use crate::timing::{FEW_EVENTS, LOOK, LOOKS, Limits, wait_of};
 use crate::trimming::{begin_trims, keep_short};
 use mio::event::Event;
 use mio::{Events, Poll, Token};
@@ -14,6 +14,7 @@ use std::alloc::Global;
 use std::io;
 use std::rt::Clock;
 use std::sync::Wait;
+use std::thread::yield_now;
 use std::time::{Duration, Instant};
 use xa_connection::MOST_INPUT;
 
@@ -86,6 +87,8 @@ struct Loop {
     clock: LoopClock,
     /// Where it is the one that accepts.
     acceptor: Option<Acceptor>,
+    /// Whether the last wait gave events, and few.
+    had_few: bool,
 }
 
 impl Loop {
@@ -106,6 +109,7 @@ impl Loop {
             },
             clock: LoopClock::new(rt)?,
             acceptor,
+            had_few: false,
         })
     }
 
@@ -142,9 +146,27 @@ impl Loop {
 
     fn wait<R: Clock>(&mut self, rt: &R, common: &Common<'_>, peers: &Peers) -> io::Result<()> {
         let wait = wait_for(common, peers, &self.acceptor, self.clock.now);
-        self.poll
-            .poll(&mut self.events, wait.map(Duration::from_millis))?;
+        let has_some = wait != Some(0) && self.had_few && self.look()?;
+        if !has_some {
+            self.poll
+                .poll(&mut self.events, wait.map(Duration::from_millis))?;
+        }
+        let events = self.events.iter().len();
+        self.had_few = 0 < events && events <= FEW_EVENTS;
         self.clock.read(rt)
+    }
+
+    // Looks for events some times, and lets others run in between: whoever was answered may ask again sooner than a thread
+    // that sleeps is woken. Whether there are some. Where none come the loop sleeps, and looks no more until it had some.
+    fn look(&mut self) -> io::Result<bool> {
+        for _ in 0..LOOKS {
+            self.poll.poll(&mut self.events, Some(Duration::ZERO))?;
+            if !self.events.is_empty() {
+                return Ok(true);
+            }
+            yield_now();
+        }
+        Ok(false)
     }
 }
 
@@ -300,9 +322,7 @@ fn tell<R: Eprint>(rt: &R, common: &Common<'_>) {
     let Some(cause) = common.watch.news() else {
         return;
     };
-    let _ = eprintln!(rt;
-        "xarm: manager down, until a Restart or a new start of the server: {cause}"
-    );
+    let _ = eprintln!(rt; "xarm: manager down until a Restart or a restart of the server: {cause}");
     if common.settings.ends_when_down {
         common.stop();
     }

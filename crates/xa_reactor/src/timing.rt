@@ -8,6 +8,11 @@ pub(crate) const PAUSE: u64 = 100;
 /// How long it is from one look for connections that are overdue to the next.
 pub(crate) const LOOK: u64 = 1_000;
 
+/// How often a loop looks for events before it sleeps until one comes, and behind how many events at most it does so.
+pub(crate) const LOOKS: u32 = 40;
+
+pub(crate) const FEW_EVENTS: usize = 4;
+
 /// Whether a connection is overdue: it brought a part of a frame, and for so long, if there is such a limit, no byte
 /// more.
 pub(crate) fn is_overdue(is_inside: bool, quiet: u64, limit: u64) -> bool

@@ -62,11 +62,11 @@ impl fmt::Display for Reason {
     fn fmt<W: fmt::Write>(&self, f: &mut fmt::Formatter<W>) -> fmt::Result {
         match self {
             Reason::Memory => f.write_str("out of memory"),
-            Reason::Sessions => f.write_str("no session is free"),
-            Reason::Boots => f.write_str("the boots are used up"),
+            Reason::Sessions => f.write_str("there is no free session"),
+            Reason::Boots => f.write_str("no boots are left for trims"),
             Reason::Full => f.write_str("the log has no room for what is still needed"),
             Reason::Device => f.write_str("a device call failed"),
-            Reason::Other(code) => write!(f, "it was answered {code}"),
+            Reason::Other(code) => write!(f, "the call returned {code}"),
         }
     }
 }

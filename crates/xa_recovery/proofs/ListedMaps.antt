@@ -9,6 +9,7 @@ use Rattle.xa_codes.specs.declared.write.Write.{Write}
 use Rattle.xa_xid.specs.Triple.{Triple, xid_cmp}
 use Rattle.xa_record.specs.Spelling.{spelled}
 use Rattle.xa_record.specs.declared.record.Record.TheVariants.{Opened}
+use Rattle.xa_model.specs.Durable.{Durable}
 use Rattle.xa_model.specs.Fold.{base, held, known, snapshot}
 use Rattle.xa_model.specs.Listed.{in_order, is_above}
 use Rattle.xa_model.proofs.InOrder.{above_in_order}
@@ -80,3 +81,9 @@ bodies_are boot n cs ps ds none opened one two all e f g h k =
     ∙ ap (λ xs. bs ++ xs) (mapped_both spelled (map held (map as_prepared ps)) (map known (map as_decided ds))
     ∙ (ap (λ xs. xs ++ map spelled (map known (map as_decided ds))) (prepared_bodies ps) ∙ ap (λ xs. hs ++ xs) (decided_bodies ds)))) in
     three ∙ (ap (λ xs. spelled (Opened boot) ∷ xs) (joined bs hs ks) ∙ sym (ap (λ xs. spelled (Opened boot) ∷ xs) parts))
+
+-- of what lasts, by its parts
+pub of_parts : (d : Durable) (boot : ℕ) (cs : List (ℕ × List Write)) (ps : List (ℕ × InDoubt)) (ds : List (Triple × Direction))
+    → map as_committed cs ≡ d.committed → map as_prepared ps ≡ d.prepared → map as_decided ds ≡ d.decided
+    → map spelled (snapshot (record { boot = d.boot; committed = map as_committed cs; prepared = map as_prepared ps; decided = map as_decided ds }) boot) ≡ map spelled (snapshot d boot)
+of_parts d boot cs ps ds committed prepared decided = rw (committed, prepared, decided) refl

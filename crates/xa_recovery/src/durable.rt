@@ -88,18 +88,26 @@ impl Durable {
         &self.decided
     }
 
-    /// Gives the committed branches and those in doubt, by timestamp, as `committed` and `prepared` lend them. Takes no
-    /// memory.
-    pub fn into_writes(self) -> (BTreeMap<u64, Writes>, BTreeMap<u64, InDoubt>)
+    /// Gives the committed branches, those in doubt and what the operator decided, as `committed`, `prepared` and
+    /// `decided` lend them. Takes no memory.
+    pub fn into_parts(
+        self,
+    ) -> (
+        BTreeMap<u64, Writes>,
+        BTreeMap<u64, InDoubt>,
+        BTreeMap<Xid, Direction>,
+    )
         ensures committed { committed_of result.0 ≡ self.committed }
         ensures prepared { prepared_of result.1 ≡ self.prepared }
+        ensures decided { decided_of result.2 ≡ self.decided }
     {
         let Durable {
             committed,
             prepared,
+            decided,
             ..
         } = self;
-        (committed, prepared)
+        (committed, prepared, decided)
     }
 }
 

@@ -6,7 +6,8 @@
 //!   stand there, `acts` does what it says, and `last` keeps of the committed branches the last writes of keys; `fault`
 //!   has `AddFault` and `RebuildFault`
 //! - `bodies`: `rebuild_log`, of the bodies of a log, with `LogFault` of `log_fault`; `records`: `rebuild`, of records
-//! - `snapshots`: `snapshot`, the bodies that a new file begins with; `copies`: records and writes are copied
+//! - `snapshots`: `snapshot`, the bodies that a new file begins with, and `begin_snapshot`, `put_base`, `put_held` and
+//!   `put_decided`, by which they are put one by one; `copies`: records and writes are copied
 //! - `listing`: `list_after`, the XIDs that recovery lists of what lasts. A manager that is up asks its branches for
 //!   them (`xa_branch`)
 //! - `laws`: `begins_with_boot`
@@ -36,4 +37,4 @@ pub use listing::list_after;
 pub use log_fault::LogFault;
 pub use rebuilding::Rebuilding;
 pub use records::rebuild;
-pub use snapshots::snapshot;
+pub use snapshots::{begin_snapshot, put_base, put_decided, put_held, snapshot};

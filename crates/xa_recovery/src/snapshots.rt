@@ -1,5 +1,6 @@
 ghost use Rattle.std.specs.Prelude.{◌≡◌, ◌∷◌, [], map, IfOk, OnOk};
 ghost use Rattle.xa_record.specs.Spelling.{spelled};
+ghost use Rattle.xa_record.specs.declared.record.Record.TheVariants.{Opened};
 ghost use Rattle.xa_model.specs.Fold.{snapshot};
 ghost use Rattle.xa_recovery.specs.Snapshots.{Puts, bytes_of, base_body, held_body, known_body};
 
@@ -19,7 +20,11 @@ fn put(bodies: &mut Vec<Vec<u8>>, mut body: Vec<u8>) -> Result<(), AllocError>
     Ok(())
 }
 
-fn put_base(
+/// Puts the body of a committed branch behind the others.
+///
+/// # Errors
+/// Out of memory.
+pub fn put_base(
     alloc: Global,
     bodies: &mut Vec<Vec<u8>>,
     timestamp: u64,
@@ -33,17 +38,21 @@ fn put_base(
 fn put_committed(
     alloc: Global,
     bodies: &mut Vec<Vec<u8>>,
-    committed: &BTreeMap<u64, Writes>,
+    committed: BTreeMap<u64, Writes>,
 ) -> Result<(), AllocError>
-    ensures { OnOk result (Puts bodies.old (map base_body committed.now.entries) bodies.new) }
+    ensures { OnOk result (Puts bodies.old (map base_body committed.entries) bodies.new) }
 {
     for (timestamp, writes) in committed {
-        put_base(alloc, bodies, *timestamp, writes)?;
+        put_base(alloc, bodies, timestamp, &writes)?;
     }
     Ok(())
 }
 
-fn put_held(
+/// Puts the body of a branch in doubt behind the others.
+///
+/// # Errors
+/// Out of memory.
+pub fn put_held(
     alloc: Global,
     bodies: &mut Vec<Vec<u8>>,
     timestamp: u64,
@@ -58,12 +67,12 @@ fn put_held(
 fn put_prepared(
     alloc: Global,
     bodies: &mut Vec<Vec<u8>>,
-    prepared: &BTreeMap<u64, InDoubt>,
+    prepared: BTreeMap<u64, InDoubt>,
 ) -> Result<(), AllocError>
-    ensures { OnOk result (Puts bodies.old (map held_body prepared.now.entries) bodies.new) }
+    ensures { OnOk result (Puts bodies.old (map held_body prepared.entries) bodies.new) }
 {
     for (timestamp, branch) in prepared {
-        put_held(alloc, bodies, *timestamp, branch)?;
+        put_held(alloc, bodies, timestamp, &branch)?;
     }
     Ok(())
 }
@@ -81,7 +90,11 @@ fn put_known(
     put(bodies, body)
 }
 
-fn put_decided(
+/// Puts the bodies of what the operator completed behind the others.
+///
+/// # Errors
+/// Out of memory.
+pub fn put_decided(
     alloc: Global,
     bodies: &mut Vec<Vec<u8>>,
     decided: &BTreeMap<Xid, Direction>,
@@ -94,17 +107,18 @@ fn put_decided(
     Ok(())
 }
 
-/// The bodies of the records that a new file begins with, in the boot of this number: the boot, the committed branches,
-/// those in doubt, and what the operator completed. Writes are spelled where they are, and not copied. The boot stands
-/// first: its number is the file's generation, and the manager's step knows it as the one record that a restart appends.
-/// Of a log with a record they take no more room than its own records, so a restart has the room. They are within the
-/// limits of records where those were that the durable value comes from, as all are that were read, and the boot is
-/// above 0 (`lasting` of `xa_model`); of others the lengths are cut.
+/// The body that a snapshot of the boot of this number begins with, and room for the others: those of the committed
+/// branches (`put_base`), of the branches in doubt (`put_held`) and of what the operator completed (`put_decided`), each
+/// ascending. By these what lasts can be let go branch by branch.
 ///
 /// # Errors
-/// Want of memory.
-pub fn snapshot(alloc: Global, durable: &Durable, boot: u32) -> Result<Vec<Vec<u8>>, AllocError>
-    ensures { IfOk result (λ v. bytes_of v.items ≡ map spelled (snapshot durable.now boot)) }
+/// Out of memory.
+pub fn begin_snapshot(
+    alloc: Global,
+    durable: &Durable,
+    boot: u32,
+) -> Result<Vec<Vec<u8>>, AllocError>
+    ensures { IfOk result (λ v. bytes_of v.items ≡ spelled (Opened boot) ∷ []) }
 {
     let branches = durable
         .committed
@@ -114,8 +128,25 @@ pub fn snapshot(alloc: Global, durable: &Durable, boot: u32) -> Result<Vec<Vec<u
     let mut bodies = Vec::with_capacity(alloc, branches.saturating_add(others))?;
     let opened = write_short(alloc, &Record::Opened { boot })?;
     put(&mut bodies, opened)?;
-    put_committed(alloc, &mut bodies, &durable.committed)?;
-    put_prepared(alloc, &mut bodies, &durable.prepared)?;
-    put_decided(alloc, &mut bodies, &durable.decided)?;
+    Ok(bodies)
+}
+
+/// The bodies of the records that a new file begins with, in the boot of this number: the boot, the committed branches,
+/// those in doubt, and what the operator completed. Writes are spelled where they are, and not copied; each branch is let
+/// go once it is spelled. The boot stands first: its number is the file's generation, and the manager's step knows it as
+/// the one record that a restart appends. Of a log with a record they take no more room than its own records, so a
+/// restart has the room. They are within the limits of records where those were that the durable value comes from, as
+/// all are that were read, and the boot is above 0 (`lasting` of `xa_model`); of others the lengths are cut.
+///
+/// # Errors
+/// Out of memory.
+pub fn snapshot(alloc: Global, durable: Durable, boot: u32) -> Result<Vec<Vec<u8>>, AllocError>
+    ensures { IfOk result (λ v. bytes_of v.items ≡ map spelled (snapshot durable boot)) }
+{
+    let mut bodies = begin_snapshot(alloc, &durable, boot)?;
+    let (committed, prepared, decided) = durable.into_parts();
+    put_committed(alloc, &mut bodies, committed)?;
+    put_prepared(alloc, &mut bodies, prepared)?;
+    put_decided(alloc, &mut bodies, &decided)?;
     Ok(bodies)
 }

@@ -14,7 +14,8 @@ use Rattle.xa_model.specs.Answer.{Answer}
 use Rattle.xa_model.specs.Turn.{Asked}
 use Rattle.xa_model.specs.Step.{step}
 use Rattle.xa_model.specs.Events.{HaveHappened, IsEvent, begins_boot}
-use Rattle.xa_model.specs.History.{Leads}
+use Rattle.xa_model.specs.declared.outcome.Appending.{Appending}
+use Rattle.xa_model.specs.History.{Leads, HasGroups, JoinAfter, append_in, joins}
 use Rattle.xa_room.specs.declared.book.Entry.{Entry}
 use Rattle.xa_room.specs.declared.book.Receipt.{Receipt}
 use Rattle.xa_room.specs.declared.manages.Manages.{Ghosts}
@@ -54,6 +55,14 @@ failures_snoc : (es : List Entry) (e : Entry) → failures_of (plain_entries (es
 failures_snoc [] e = omega arith
 failures_snoc (x ∷ es) e = omega (arith, failures_snoc es e)
 
+after_snoc : (before : Option Appending) (es : List Entry) (e : Entry) → joins e.outcome ≡ false → JoinAfter before (plain_entries es)
+    → JoinAfter before (plain_entries (es ++ e ∷ []))
+after_snoc before [] e other h = (λ is. absurd (cc (is, other)), tt)
+after_snoc before (x ∷ es) e other h = (h.0, after_snoc (append_in x.outcome) es e other h.1)
+
+groups_snoc : (es : List Entry) (e : Entry) → joins e.outcome ≡ false → HasGroups (plain_entries es) → HasGroups (plain_entries (es ++ e ∷ []))
+groups_snoc es e other h = after_snoc None es e other h
+
 before_last : (es : List Entry) (e : Entry) → HasNoBoot (es ++ e ∷ []) → HasNoBoot es × (begins_boot e.event ≡ false)
 before_last [] e h = (tt, h.0)
 before_last (x ∷ es) e h = let rest = before_last es e h.1 in ((h.0, rest.0), rest.1)
@@ -85,8 +94,10 @@ kept_step m start base now then es cap cap' e kept steps counts event p q room =
   counted = λ s began premise.
       let each = premises m.trusts es e premise in
       let before = kept.legal s began each.0 in
-      let risen = rises_twice _ _ _ _ _ (kept.counted s began each.0) (counts before.0 before.2 each.1) in
-      subst (λ (n : ℕ). RiseBy n base (m.failures then)) (sym (failures_snoc es e)) risen;
+      let so_far = kept.counted s began each.0 in
+      let more = counts before.0 before.2 each.1 in
+      let risen = rises_twice _ _ _ _ _ so_far.1 more.1 in
+      (groups_snoc es e more.0 so_far.0, subst (λ (n : ℕ). RiseBy n base (m.failures then)) (sym (failures_snoc es e)) risen);
   numbered = numbered_snoc 0 es e kept.numbered (omega arith) (omega arith);
   happened = happened_snoc es e kept.happened event;
   reserved = omega (arith, length-append es (e ∷ []));

@@ -12,7 +12,7 @@ use Rattle.xa_manager.specs.Counted.{counted_by}
 use Rattle.xa_manager.specs.Crash.{CrashesAs}
 use Rattle.xa_manager.specs.LogStands.{Trusts}
 use Rattle.xa_manager.specs.Managed.{ManagerStandsFor}
-use Rattle.xa_manager.proofs.Counting.{called_for, none_by}
+use Rattle.xa_manager.proofs.Counting.{called_alone, called_for, none_by}
 use Rattle.xa_room.specs.Manages.{Acts}
 
 each_way : (b : Bool) (A B C E : Type 0) → (b ≡ true → A → C) → (b ≡ false → B → E) → MatchBool b A B → MatchBool b C E
@@ -34,5 +34,7 @@ acted disks old event reply new full = record {
   crash = full.crash;
   counted = by_cases (is_memory reply.detail) _ _
       (λ e s stands. none_by disks old.log new.log (full.quiet e))
-      (λ e s stands premise. called_for disks (is_trim event) new.outcome old.log new.log (full.called e s stands premise));
+      (λ e s stands premise.
+      let called = full.called e s stands premise in
+      (called_alone disks (is_trim event) new.outcome old.log new.log called, called_for disks (is_trim event) new.outcome old.log new.log called));
 }

@@ -3,6 +3,7 @@ pub mod Book
 pub mod Told
 pub mod Upholds
 pub mod Gone
+pub mod Status
 pub mod Promises
 pub mod Share
 pub mod Audit

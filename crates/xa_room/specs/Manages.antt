@@ -8,6 +8,7 @@ use Rattle.xa_model.specs.State.{State}
 use Rattle.xa_model.specs.Turn.{Asked}
 use Rattle.xa_model.specs.Step.{step}
 use Rattle.xa_model.specs.Events.{begins_boot}
+use Rattle.xa_model.specs.History.{joins}
 use Rattle.xa_manager.specs.Answered.{IsPinned}
 use Rattle.xa_manager.specs.Counted.{RiseBy, failures_in}
 
@@ -22,11 +23,12 @@ StepsTo stands trusts old event outcome reply new =
     (s : State) → stands old s → trusts ⊎ (begins_boot event ≡ false)
     → IsSomeAnd (step s (Asked event) outcome) (λ a. (a.reply ≡ reply) × stands new a.after)
 
--- an event that found its memory tells of no more failures than were counted
+-- An event that found its memory tells of no more failures than were counted. Its record joins no other's, whose entry
+-- would tell of its failure.
 abbrev pub Counts : {M : Type 0} → (M → State → Type 0) → Type 0 → (M → ℕ × ℕ) → M → Event → Outcome → M → Type 0
 Counts stands trusts failures old event outcome new =
     (s : State) → stands old s → trusts ⊎ (begins_boot event ≡ false)
-    → RiseBy (failures_in outcome) (failures old) (failures new)
+    → (joins outcome ≡ false) × RiseBy (failures_in outcome) (failures old) (failures new)
 
 -- what the device did of the outcome, said of events that found their memory under the same premises
 abbrev pub Calls : {M : Type 0} → (M → State → Type 0) → Type 0 → (Event → Outcome → M → M → Type 0) → M → Event → Outcome → M

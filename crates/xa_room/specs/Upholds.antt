@@ -4,7 +4,7 @@ use Rattle.xa_frame.specs.declared.reply.Reply.{Reply}
 use Rattle.xa_model.specs.declared.event.Event.{Event}
 use Rattle.xa_model.specs.State.{State}
 use Rattle.xa_model.specs.Events.{HaveHappened}
-use Rattle.xa_model.specs.History.{Leads}
+use Rattle.xa_model.specs.History.{Leads, HasGroups}
 use Rattle.xa_manager.specs.Counted.{RiseBy, failures_of}
 use Rattle.xa_room.specs.declared.book.Entry.{Entry}
 use Rattle.xa_room.specs.declared.book.Receipt.{Receipt}
@@ -20,11 +20,12 @@ IsLegal m start now entries =
     (s : State) → start s → m.trusts ⊎ HasNoBoot entries
     → (t : State) × Leads s (plain_entries entries) t × m.stands now t
 
--- under the same premises, the book tells of no more failures than were counted since it was begun
+-- Under the same premises, the book tells of no more failures than were counted since it was begun, and each record in
+-- it that joined became what the one before it became.
 abbrev pub IsCounted : {M : Type 0} → Ghosts M → (State → Type 0) → ℕ × ℕ → M → List Entry → Type 0
 IsCounted m start base now entries =
     (s : State) → start s → m.trusts ⊎ HasNoBoot entries
-    → RiseBy (failures_of (plain_entries entries)) base (m.failures now)
+    → HasGroups (plain_entries entries) × RiseBy (failures_of (plain_entries entries)) base (m.failures now)
 
 -- a room whose history began at these states, with these failures counted
 pub record Upholds {M : Type 0} (m : Ghosts M) (start : State → Type 0) (base : ℕ × ℕ)

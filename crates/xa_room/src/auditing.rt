@@ -16,7 +16,7 @@ use thiserror::Error;
 #[derive(Clone, Copy, Debug, PartialEq, Eq, Error)]
 pub enum AuditFault {
     /// The shares' counts don't add up to the number of entries.
-    #[error("counts not the number of entries")]
+    #[error("counts don't add up to the number of entries")]
     Count,
     /// This receipt's place is 0 or above the last. Receipts are counted from 0, places from 1.
     #[error("receipt {receipt} with place {place}, not 1 to {last}")]
@@ -26,10 +26,10 @@ pub enum AuditFault {
         last: u64,
     },
     /// A receipt before the one of this index has its place.
-    #[error("receipt {0} with another's place")]
+    #[error("receipt {0} repeats another's place")]
     Repeats(usize),
     /// The receipt of this index isn't the entry at its place.
-    #[error("receipt {0} not the entry at its place")]
+    #[error("receipt {0} differs from the entry at its place")]
     Differs(usize),
     /// There was no memory for the audit.
     #[error("no memory")]

@@ -48,6 +48,7 @@ fn same_body(one: &Body, other: &Body) -> bool
         (Body::Branches(branches), Body::Branches(wanted)) => {
             same_branches(branches.as_slice(), wanted.as_slice())
         }
+        (Body::Status(status), Body::Status(wanted)) => status == wanted,
         _ => false,
     }
 }

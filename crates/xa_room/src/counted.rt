@@ -6,6 +6,7 @@ ghost use Rattle.xa_room.specs.Book.{placed};
 ghost use Rattle.xa_room.specs.Gone.{WasGone};
 ghost use Rattle.xa_room.specs.Upholds.{Adds, Leaves};
 ghost use Rattle.xa_room.specs.Share.{Records};
+ghost use Rattle.xa_room.specs.Status.{IsTold};
 
 use crate::book::Receipt;
 use crate::manages::Manages;
@@ -16,7 +17,7 @@ use std::marker::Model;
 use std::sync::ledger;
 use std::sync::ledger::{Blank, Book, Ledger};
 use xa_assoc::ConnectFault;
-use xa_frame::{Reply, Request};
+use xa_frame::{Reply, Request, Status};
 
 /// What lies under the lock: a room, and the ledger's book, whose total is the number of the room's entries.
 #[derive(Drop)]
@@ -117,6 +118,14 @@ impl<M: Manages, S: Start, L: Ledger> Counted<M, S, L> {
             raise(book, share, receipt.place);
         }
         receipt
+    }
+
+    /// How the room is doing.
+    pub(crate) fn status(&self) -> Status
+        ensures { IsTold M.Manages S.start result }
+    {
+        let _entries = self.room.entries();
+        self.room.status()
     }
 
     /// One share of two: the book knows that their counts add up to a `u64`.

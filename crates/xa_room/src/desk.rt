@@ -5,6 +5,7 @@ ghost use Rattle.xa_model.specs.declared.event.Event.{Event};
 ghost use Rattle.xa_room.specs.Book.{placed};
 ghost use Rattle.xa_room.specs.Gone.{WasGone};
 ghost use Rattle.xa_room.specs.Share.{Records};
+ghost use Rattle.xa_room.specs.Status.{IsTold};
 
 use crate::book::Receipt;
 use crate::copies::two_copies;
@@ -19,7 +20,7 @@ use std::fmt;
 use std::sync::ledger::{Blank, Book, Ledger};
 use std::sync::{Mutex, Wait};
 use xa_assoc::ConnectFault;
-use xa_frame::{Reply, Request};
+use xa_frame::{Reply, Request, Status};
 use xa_manager::memory_reply;
 
 /// A room behind the one lock, which many threads share. Each call is one call of the room. It is recorded by the
@@ -138,6 +139,13 @@ impl<M: Manages, S: Start, L: Ledger> Desk<M, S, L> {
         let mut share = share;
         let receipt = self.hangup_by(rt, &mut share, session);
         (receipt, share)
+    }
+
+    /// How the room is doing. It is recorded by no share.
+    pub fn status<R: Wait>(&self, rt: &R) -> Status
+        ensures { IsTold M.Manages S.start result }
+    {
+        take(rt, &self.lock).status()
     }
 
     /// One share of two.

@@ -4,19 +4,23 @@ use crate::manages::Manages;
 use crate::room::Room;
 use crate::start::Start;
 use xa_desk::Door;
-use xa_frame::{Reply, Request};
+use xa_frame::{Reply, Request, Status};
 
-/// A connection's requests go to the room, and its hang-up. The receipts are let go: the entries stay.
+/// A connection's questions go to the room, and its hang-up. The receipts are let go: the entries stay.
 impl<M: Manages, S: Start> Door for Room<M, S> {
-    ghost use Rattle.xa_room.specs.Door.{Called, Left};
+    ghost use Rattle.xa_room.specs.Door.{Asked, Left};
 
-    ghost called = { Called M.Manages };
+    ghost called = { Asked M.Manages };
 
     ghost left = { Left M.Manages };
 
     fn call(&mut self, session: u64, request: Request) -> Reply {
         let (reply, _receipt) = self.call(session, request);
         reply
+    }
+
+    fn status(&self) -> Status {
+        self.status()
     }
 
     fn hangup(&mut self, session: u64) {

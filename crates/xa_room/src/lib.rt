@@ -16,6 +16,7 @@
 //! - `desk`: `Desk`, a room behind the one lock; `taking`: `take`, how that is taken; `counted`: the room and the
 //!   ledger's book under it
 //! - `share`: `Share`, some parts of the ledger, and how many events were recorded by it; `agree`
+//! - `uptime`: `Uptime`, for how long a server is up
 //! - `auditing`: `audit`, whether receipts and shares fit the room, and `AuditFault`; `comparing`: a receipt and an
 //!   entry
 #![tactic(auto)]
@@ -36,6 +37,7 @@ mod share;
 mod spare;
 mod start;
 mod taking;
+mod uptime;
 
 pub use auditing::{AuditFault, audit};
 pub use book::{Entry, Receipt};
@@ -46,3 +48,4 @@ pub use room::Room;
 pub use share::{Share, agree};
 pub use start::Start;
 pub use taking::take;
+pub use uptime::Uptime;

@@ -1,7 +1,7 @@
 use crate::manages::Manages;
 use xa_assoc::ConnectFault;
 use xa_disk::Disk;
-use xa_frame::{Reply, Request};
+use xa_frame::{Reply, Request, Status};
 use xa_manager::Manager;
 use xa_model::Outcome;
 
@@ -14,6 +14,7 @@ impl<D: Disk> Manages for Manager<D> {
     ghost use Rattle.xa_manager.specs.Crash.{CrashesAs};
     ghost use Rattle.xa_manager.specs.LogStands.{Trusts};
     ghost use Rattle.xa_manager.specs.Managed.{ManagerStandsFor};
+    ghost use Rattle.xa_manager.specs.Status.{versions_of};
 
     ghost stands = { ManagerStandsFor D.Disk };
 
@@ -30,6 +31,8 @@ impl<D: Disk> Manages for Manager<D> {
     ghost has_session = { λ m n. (connected_to m).has n };
 
     ghost sessions = { λ m. (connected_to m).count };
+
+    ghost versions = { λ m. versions_of m };
 
     #[tactic(auto, using(crate::proofs::Managing::acted))]
     fn connect(&mut self) -> Result<u64, ConnectFault> {
@@ -55,5 +58,9 @@ impl<D: Disk> Manages for Manager<D> {
 
     fn connected(&self) -> u64 {
         self.connected()
+    }
+
+    fn status(&self) -> Status {
+        self.status()
     }
 }

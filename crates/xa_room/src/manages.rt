@@ -1,5 +1,5 @@
 use xa_assoc::ConnectFault;
-use xa_frame::{Reply, Request};
+use xa_frame::{Reply, Request, Status};
 use xa_model::Outcome;
 
 /// What a room asks of a manager. Each event is a step of the sequential resource manager, from whichever state the
@@ -13,6 +13,7 @@ pub trait Manages {
     ghost use Rattle.xa_model.specs.Events.{IsAsked};
     ghost use Rattle.xa_model.specs.State.{State};
     ghost use Rattle.xa_manager.specs.Answered.{connect_reply};
+    ghost use Rattle.xa_manager.specs.Status.{status_of};
     ghost use Rattle.xa_room.specs.Manages.{Acts};
 
     /// The states that it stands for.
@@ -38,6 +39,9 @@ pub trait Manages {
 
     /// How many sessions are connected.
     ghost sessions: { Self → ℕ };
+
+    /// How many versions of all keys are kept.
+    ghost versions: { Self → ℕ };
 
     fn connect(&mut self) -> Result<u64, ConnectFault>
         ensures acts { Acts stands trusts told has_called crashes failures
@@ -66,4 +70,7 @@ pub trait Manages {
 
     fn connected(&self) -> u64
         ensures { result ≡ sessions self.now };
+
+    fn status(&self) -> Status
+        ensures { (s : State) → stands self.now s → result ≡ status_of s (versions self.now) };
 }

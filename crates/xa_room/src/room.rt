@@ -1,4 +1,4 @@
-ghost use Rattle.std.specs.Prelude.{◌≡◌, ℕ, ◌+◌, [], IfOk, IfNone, Err, MatchOption, true, false};
+ghost use Rattle.std.specs.Prelude.{◌≡◌, ℕ, ◌+◌, [], length, IfOk, IfNone, Err, MatchOption, true, false};
 ghost use Rattle.xa_assoc.specs.Refusals.{is_memory};
 ghost use Rattle.xa_frame.specs.Limits.{Holds, IsRequest, IsReply};
 ghost use Rattle.xa_manager.specs.Answered.{connect_reply, wanted_memory};
@@ -8,6 +8,7 @@ ghost use Rattle.xa_room.specs.Book.{AreNumbered, placed, plain_entries};
 ghost use Rattle.xa_room.specs.Gone.{WasGone};
 ghost use Rattle.xa_room.specs.Upholds.{IsLegal, IsCounted, Adds, Leaves};
 ghost use Rattle.xa_room.specs.Promises.{Promises};
+ghost use Rattle.xa_room.specs.Status.{Tells};
 
 use crate::book::{Entry, Receipt};
 use crate::copies::two_copies;
@@ -21,7 +22,7 @@ use std::fmt;
 use std::marker::{Model, PhantomData};
 use xa_assoc::ConnectFault;
 use xa_codes::XA_OK;
-use xa_frame::{Reply, Request};
+use xa_frame::{Reply, Request, Status};
 use xa_manager::{connect_reply, memory_reply, reached_promises};
 use xa_model::Event;
 
@@ -179,6 +180,16 @@ impl<M: Manages, S: Start> Room<M, S> {
             Event::Hangup(session),
             Reply::plain(XA_OK),
         ))
+    }
+
+    /// How its manager is doing, with the number of its entries. Changes nothing, and is no entry.
+    pub fn status(&self) -> Status
+        ensures { Tells M.Manages self.now.now (length self.now.entries) result }
+    {
+        Status {
+            calls: self.history.len() as u64,
+            ..self.manager.status()
+        }
     }
 
     /// The entries so far, numbered from 1: a legal history, which tells of no more failures of the device than were

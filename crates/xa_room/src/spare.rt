@@ -55,6 +55,7 @@ impl Spare {
             Body::Absent => Body::Absent,
             Body::Xids(xids) => Body::Xids(self.copied_xids(alloc, xids)),
             Body::Branches(branches) => Body::Branches(self.copied_branches(alloc, branches)),
+            Body::Status(status) => Body::Status(*status),
         };
         Reply {
             code: reply.code,

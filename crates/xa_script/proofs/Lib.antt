@@ -2,3 +2,4 @@ pub mod Tables
 pub mod Cuts
 pub mod Digits
 pub mod Readers
+pub mod Keys

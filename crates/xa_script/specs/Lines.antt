@@ -10,7 +10,7 @@ use Rattle.xa_script.specs.declared.call_effect.CallEffect.TheVariants.{Kept, Lo
 use Rattle.xa_script.specs.declared.log_file.LogFile.{LogFile}
 use Rattle.xa_script.specs.declared.log_file.LogFile.TheVariants.{Current, Other}
 use Rattle.xa_script.specs.declared.line.Line.{Line}
-use Rattle.xa_script.specs.declared.line.Line.TheVariants.{Silent, Unknown, Connect, Hangup, Call, Fail, Stop, Reopen, Crash}
+use Rattle.xa_script.specs.declared.line.Line.TheVariants.{Silent, Unknown, Connect, Hangup, Call, Status, Fail, Stop, Reopen, Crash}
 use Rattle.xa_frame.specs.Limits.{IsRequest}
 use Rattle.xa_xid.specs.Triple.{Triple}
 
@@ -72,7 +72,9 @@ module _ (xid_of : List ℕ → Option Triple) where
   asked_of session [] = None
   asked_of session (name ∷ arguments) =
       option_and_then
-      (λ n. if bytes_eq name (codes "hangup") then alone (Hangup n) arguments else call_of n name arguments)
+      (λ n. if bytes_eq name (codes "hangup") then alone (Hangup n) arguments
+      else if bytes_eq name (codes "status") then alone (Status n) arguments
+      else call_of n name arguments)
       (number_of session)
 
   -- what a first word asks, and the words after it

@@ -5,12 +5,13 @@ use Rattle.xa_codes.specs.Names as names
 use Rattle.xa_codes.specs.declared.detail.Detail.{Detail}
 use Rattle.xa_codes.specs.declared.detail.Detail.TheVariants as detail
 use Rattle.xa_frame.specs.declared.body.Body.{Body}
-use Rattle.xa_frame.specs.declared.body.Body.TheVariants.{Nothing, Number, Value, Absent, Xids, Branches}
+use Rattle.xa_frame.specs.declared.body.Body.TheVariants.{Nothing, Number, Value, Absent, Xids, Branches, Status as Doing}
 use Rattle.xa_frame.specs.declared.known_branch.AssociationCounts.{AssociationCounts}
 use Rattle.xa_frame.specs.declared.known_branch.BranchState.{BranchState}
 use Rattle.xa_frame.specs.declared.known_branch.BranchState.TheVariants as state
 use Rattle.xa_frame.specs.declared.known_branch.KnownBranch.{KnownBranch}
 use Rattle.xa_frame.specs.declared.reply.Reply.{Reply}
+use Rattle.xa_frame.specs.declared.status.Status.{Status}
 use Rattle.xa_script.specs.declared.style.Style.{Style}
 use Rattle.xa_script.specs.declared.style.Style.TheVariants.{Codes, Names}
 use Rattle.xa_xid.specs.Triple.{Triple}
@@ -53,6 +54,18 @@ branch_text b =
 abbrev pub branches_text : List KnownBranch → List ℕ
 branches_text branches = flat_map branch_text branches
 
+-- a name and its number, each behind a blank
+abbrev pub named_text : List ℕ → ℕ → List ℕ
+named_text name n = 32 ∷ name ++ 32 ∷ decimal n
+
+abbrev pub status_text : Status → List ℕ
+status_text s =
+    named_text (codes "boot") s.boot ++ named_text (codes "end") s.end ++ named_text (codes "bytes") s.bytes
+    ++ named_text (codes "branches") s.branches ++ named_text (codes "prepared") s.prepared
+    ++ named_text (codes "completed") s.completed ++ named_text (codes "sessions") s.sessions
+    ++ named_text (codes "versions") s.versions ++ named_text (codes "calls") s.calls
+    ++ named_text (codes "seconds") s.seconds
+
 abbrev pub body_text : Body → List ℕ
 body_text Nothing = []
 body_text (Number n) = codes " number " ++ decimal n
@@ -60,6 +73,7 @@ body_text (Value value) = codes " value " ++ value_text value
 body_text Absent = codes " absent"
 body_text (Xids xids) = codes " xids" ++ xids_text xids
 body_text (Branches branches) = codes " branches" ++ branches_text branches
+body_text (Doing status) = codes " status" ++ status_text status
 
 -- the code, and behind it C193's name of it where the style has names
 abbrev pub code_text : Style → ℤ → List ℕ

@@ -26,6 +26,8 @@ pub enum Line {
     Hangup(u64),
     /// A request of a session.
     Call(u64, Request),
+    /// A session asks how the server is doing.
+    Status(u64),
     /// A device call of a log file's disk is to fail.
     Fail {
         file: LogFile,
@@ -157,7 +159,10 @@ fn read_call(alloc: Global, session: &[u8], call: &[u8]) -> Result<Line, AllocEr
         return Ok(Line::Unknown);
     };
     if verb == b"hangup".as_slice() {
-        return Ok(read_hangup(session, words));
+        return Ok(read_bare(Line::Hangup(session), words));
+    }
+    if verb == b"status".as_slice() {
+        return Ok(read_bare(Line::Status(session), words));
     }
     let Some(verb) = read_verb(verb) else {
         return Ok(Line::Unknown);
@@ -168,13 +173,14 @@ fn read_call(alloc: Global, session: &[u8], call: &[u8]) -> Result<Line, AllocEr
     }
 }
 
-/// A hang-up, behind which no words stand.
-fn read_hangup(session: u64, words: Option<&[u8]>) -> Line
-    ensures { result
-        ≡ unwrap_or (alone (Line.Hangup session) (words_behind (option_copied words.entry))) Line.Unknown }
+/// A line behind whose verb no words stand.
+fn read_bare(said: Line, words: Option<&[u8]>) -> Line
+    requires { IsWithinLimits said }
+    ensures value { result ≡ unwrap_or (alone said (words_behind (option_copied words.entry))) Line.Unknown }
+    ensures limits { IsWithinLimits result }
 {
     match words {
-        None => Line::Hangup(session),
+        None => said,
         Some(_) => Line::Unknown,
     }
 }

@@ -1,13 +1,13 @@
 ghost use Rattle.std.specs.Prelude.{◌≡◌, ◌∷◌, ◌++◌, IfOk, OnOk, codes};
 ghost use Rattle.std.specs.Fmt.{decimal, signed_decimal};
-ghost use Rattle.xa_script.specs.Replies.{body_text, branch_text, branches_text, code_text, counts_text, line_in, line_of, name_of, state_name, value_text, xids_text};
+ghost use Rattle.xa_script.specs.Replies.{body_text, branch_text, branches_text, code_text, counts_text, line_in, line_of, name_of, named_text, state_name, status_text, value_text, xids_text};
 
 use crate::hexadecimal::push_digits;
 use crate::style::Style;
 use arrayvec::ArrayVec;
 use std::alloc::{AllocError, Global};
 use xa_codes::{Code, Detail, code_name};
-use xa_frame::{AssociationCounts, Body, BranchState, KnownBranch, Reply};
+use xa_frame::{AssociationCounts, Body, BranchState, KnownBranch, Reply, Status};
 use xa_xid::{MOST_TEXT, Xid};
 
 /// The line that shows a reply: the code, the detail's name and the body, with the line's end.
@@ -66,6 +66,10 @@ fn push_body(alloc: Global, line: &mut Vec<u8>, body: &Body) -> Result<(), Alloc
         Body::Branches(branches) => {
             line.extend_from_slice(b" branches")?;
             push_branches(alloc, line, branches.as_slice())
+        }
+        Body::Status(status) => {
+            line.extend_from_slice(b" status")?;
+            push_status(alloc, line, *status)
         }
     }
 }
@@ -131,6 +135,30 @@ fn push_counts(
     push_number(alloc, line, u64::from(counts.suspended))?;
     push_number(alloc, line, u64::from(counts.loose))?;
     Ok(())
+}
+
+fn push_status(alloc: Global, line: &mut Vec<u8>, status: Status) -> Result<(), AllocError>
+    ensures { OnOk result (line.new.items ≡ line.old.items ++ status_text status) }
+{
+    push_named(alloc, line, "boot", status.boot)?;
+    push_named(alloc, line, "end", status.end)?;
+    push_named(alloc, line, "bytes", status.bytes)?;
+    push_named(alloc, line, "branches", status.branches)?;
+    push_named(alloc, line, "prepared", status.prepared)?;
+    push_named(alloc, line, "completed", status.completed)?;
+    push_named(alloc, line, "sessions", status.sessions)?;
+    push_named(alloc, line, "versions", status.versions)?;
+    push_named(alloc, line, "calls", status.calls)?;
+    push_named(alloc, line, "seconds", status.seconds)?;
+    Ok(())
+}
+
+/// Appends a name and its number, each behind a blank.
+fn push_named(alloc: Global, line: &mut Vec<u8>, name: &str, number: u64) -> Result<(), AllocError>
+    ensures { OnOk result (line.new.items ≡ line.old.items ++ named_text name.now number) }
+{
+    push_word(line, name.as_bytes())?;
+    push_number(alloc, line, number)
 }
 
 /// Appends a word behind a blank.

@@ -1,5 +1,5 @@
 ghost use Rattle.std.specs.Option.{option_copied, option_map};
-ghost use Rattle.std.specs.Prelude.{◌≡◌, ℕ, IfOk, IfSome, List, Option, option_and_then};
+ghost use Rattle.std.specs.Prelude.{◌≡◌, ℕ, IfOk, IfSome, List, Option, Some, option_and_then};
 ghost use Rattle.xa_frame.specs.Limits.{IsKey, IsRequest, IsValue};
 ghost use Rattle.xa_xid.specs.Triple.{Triple};
 ghost use Rattle.xa_script.specs.Parts.{alone, one_of, words_behind};
@@ -12,6 +12,7 @@ use crate::parts::{first_part, only_word, two_words};
 use crate::verb::Verb;
 use std::alloc::{AllocError, Global};
 use xa_codes::{Bytes, Direction};
+use xa_fields::Key;
 use xa_frame::Request;
 use xa_limits::{MOST_INFO, MOST_KEY, MOST_VALUE};
 use xa_xid::Xid;
@@ -234,14 +235,26 @@ fn read_put(alloc: Global, words: Option<&[u8]>) -> Result<Option<Request>, Allo
 }
 
 /// A key of 1 to `MOST_KEY` bytes.
-fn read_key(alloc: Global, word: &[u8]) -> Result<Option<Bytes>, AllocError>
+fn read_key(alloc: Global, word: &[u8]) -> Result<Option<Key>, AllocError>
     ensures value { IfOk result (λ key. key ≡ key_of word.now) }
     ensures limits { IfOk result (λ key. IfSome key IsKey) }
 {
     if word.is_empty() || word.len() > 2 * MOST_KEY {
         return Ok(None);
     }
-    read_bytes(alloc, word)
+    match read_bytes(alloc, word)? {
+        Some(bytes) => Ok(made_key(bytes.as_slice())),
+        None => Ok(None),
+    }
+}
+
+/// The key with these bytes.
+#[tactic(auto, using(crate::proofs::Keys::is_made))]
+fn made_key(bytes: &[u8]) -> Option<Key>
+    requires { IsKey bytes.now }
+    ensures { result ≡ Some bytes.now }
+{
+    Key::new(bytes)
 }
 
 /// A value of at most `MOST_VALUE` bytes. The empty one is `-`.

@@ -73,7 +73,8 @@ stayed m start base now then entries cap kept stays counts fewer = record {
   legal = λ s began premise. let before = kept.legal s began premise in (before.0, before.1, stays before.0 before.2);
   counted = λ s began premise.
       let before = kept.legal s began premise in
-      rises_no_more _ _ _ _ (kept.counted s began premise) (counts before.0 before.2);
+      let so_far = kept.counted s began premise in
+      (so_far.0, rises_no_more _ _ _ _ so_far.1 (counts before.0 before.2));
   numbered = kept.numbered;
   happened = kept.happened;
   reserved = omega (arith, kept.reserved, fewer);

@@ -11,7 +11,7 @@ use Rattle.xa_model.specs.declared.event.Event.TheVariants.{Call}
 use Rattle.xa_room.specs.Book.{entry_of}
 use Rattle.xa_room.specs.declared.book.Entry.{Entry}
 use Rattle.xa_room.specs.declared.manages.Manages.{Ghosts}
-use Rattle.xa_sequencer.specs.Numbers.{Adds, Called, Leaves}
+use Rattle.xa_sequencer.specs.Numbers.{Adds, Asked, Leaves}
 use Rattle.xa_sequencer.specs.Stands.{GoesOn, Numbered, Stands}
 use Rattle.xa_sequencer.specs.Talks.{EntryOf, TalksGoOn}
 use Rattle.xa_sequencer.proofs.Adding.{twice}
@@ -26,18 +26,19 @@ by_reply : {M : Type 0} (m : Ghosts M) (start : State → Type 0) (base : ℕ ×
     → SpellsRequest content q → (memory : Bool) → is_memory reply.detail ≡ memory
     → MatchBool memory (Leaves m start base a (Call session q) reply b) (Adds m start base a (Call session q) reply b)
     → (more : List Entry) × EntryOf session content reply more × GoesOn m start base a more b
-by_reply m start base session content q reply a b spells true is h = ([], inl (refl, inr is), h.goes_on)
+by_reply m start base session content q reply a b spells true is h = ([], inl (refl, inr (inl is)), h.goes_on)
 by_reply m start base session content q reply a b spells false is h =
     let e = entry_of reply.place (Call session q) (m.told b.now) reply in
     (e ∷ [], inr (q, e, refl, spells, refl, refl), h.goes_on)
 
 one : {M : Type 0} (m : Ghosts M) (start : State → Type 0) (base : ℕ × ℕ) (session : ℕ) (content : List ℕ) (reply : Reply) (a b : Numbered M)
-    → Answers (Called m start base session) a content reply b
+    → Answers (Asked m start base session) a content reply b
     → (more : List Entry) × EntryOf session content reply more × GoesOn m start base a more b
 one m start base session content reply a b (inl h) = by_reply m start base session content h.0 reply a b h.1 (is_memory reply.detail) refl h.2
 one m start base session content reply a b (inr (inl h)) = ([], inl (refl, inl h.4), no_more m start base a b (sym h.3))
-one m start base session content reply a b (inr (inr h)) =
-    ([], inl (refl, inr (ap (λ (r : Reply). is_memory r.detail) h.2)), no_more m start base a b (sym h.1))
+one m start base session content reply a b (inr (inr (inl h))) =
+    ([], inl (refl, inr (inl (ap (λ (r : Reply). is_memory r.detail) h.2))), no_more m start base a b (sym h.1))
+one m start base session content reply a b (inr (inr (inr h))) = ([], inl (refl, inr (inr h.1)), no_more m start base a b (sym h.2))
 
 pub talks : {M : Type 0} (m : Ghosts M) (start : State → Type 0) (base : ℕ × ℕ) → TalksGoOn m start base
 talks m start base session [] [] a b h = ([], refl, no_more m start base a b h)

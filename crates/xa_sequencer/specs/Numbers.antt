@@ -2,8 +2,12 @@
 use Rattle.std.specs.Prelude.{ℕ, ◌≡◌, ◌⊎◌, ◌+◌, ◌<◌, true, [], ◌∷◌, MatchBool, Result, pos}
 use Rattle.xa_assoc.specs.Refusals.{is_memory}
 use Rattle.xa_assoc.specs.declared.fault.ConnectFault.{ConnectFault}
+use Rattle.xa_frame.specs.Made.{doing}
+use Rattle.xa_frame.specs.declared.question.Question.{Question}
+use Rattle.xa_frame.specs.declared.question.Question.TheVariants as question
 use Rattle.xa_frame.specs.declared.reply.Reply.{Reply}
 use Rattle.xa_frame.specs.declared.request.Request.{Request}
+use Rattle.xa_frame.specs.declared.status.Status.{Status}
 use Rattle.xa_manager.specs.Answered.{connect_reply, may_want_memory, wanted_memory}
 use Rattle.xa_model.specs.Answer.{plain}
 use Rattle.xa_model.specs.State.{State}
@@ -11,6 +15,7 @@ use Rattle.xa_model.specs.declared.event.Event.{Event}
 use Rattle.xa_model.specs.declared.event.Event.TheVariants.{Connect, Hangup, Call}
 use Rattle.xa_room.specs.Book.{entry_of, placed, unplaced}
 use Rattle.xa_room.specs.Manages.{Stays, StepsTo, Calls, Counts}
+use Rattle.xa_room.specs.Status.{Tells}
 use Rattle.xa_room.specs.declared.manages.Manages.{Ghosts}
 use Rattle.xa_sequencer.specs.Stands.{GoesOn, Numbered, most_numbers}
 
@@ -54,6 +59,13 @@ Called m start base session old request reply new =
     MatchBool (is_memory reply.detail)
     (Leaves m start base old (Call session request) reply new)
     (Adds m start base old (Call session request) reply new)
+
+-- a question of a session: a call; or how the manager is doing was told, and nothing changed
+abbrev pub Asked : {M : Type 0} → Ghosts M → (State → Type 0) → ℕ × ℕ → ℕ → Numbered M → Question → Reply → Numbered M
+    → Type 0
+Asked m start base session old (question.Call request) reply new = Called m start base session old request reply new
+Asked m start base session old question.Status reply new =
+    (new ≡ old) × (status : Status) × (reply ≡ doing status) × Tells m old.now old.count status
 
 -- a hang-up of a session; of one that isn't connected nothing changes
 abbrev pub Left : {M : Type 0} → Ghosts M → (State → Type 0) → ℕ × ℕ → ℕ → Numbered M → Numbered M → Type 0

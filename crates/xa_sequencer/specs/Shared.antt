@@ -2,10 +2,15 @@
 use Rattle.std.specs.Prelude.{ℕ, ◌≡◌, ◌+◌, ◌≤◌, Bool, not, MatchBool, Result}
 use Rattle.xa_assoc.specs.Refusals.{is_memory}
 use Rattle.xa_assoc.specs.declared.fault.ConnectFault.{ConnectFault}
+use Rattle.xa_frame.specs.Made.{doing}
+use Rattle.xa_frame.specs.declared.question.Question.{Question}
+use Rattle.xa_frame.specs.declared.question.Question.TheVariants as question
 use Rattle.xa_frame.specs.declared.reply.Reply.{Reply}
 use Rattle.xa_frame.specs.declared.request.Request.{Request}
+use Rattle.xa_frame.specs.declared.status.Status.{Status}
 use Rattle.xa_manager.specs.Answered.{connect_reply}
 use Rattle.xa_model.specs.State.{State}
+use Rattle.xa_room.specs.Status.{Tells}
 use Rattle.xa_room.specs.declared.manages.Manages.{Ghosts}
 use Rattle.xa_sequencer.specs.Numbers.{Called, Connected, Left}
 use Rattle.xa_sequencer.specs.Stands.{HasHistory, Numbered}
@@ -36,6 +41,19 @@ abbrev pub CalledBy : {M : Type 0} → Ghosts M → (State → Type 0) → ℕ �
     → Type 0
 CalledBy m start base session old request reply new =
     Did m start base old.1 (λ a b. Called m start base session a request reply b) × Takes (is_memory reply.detail) old new
+
+-- There is a sequencer that stood for a history, and it is told of its manager and its count.
+pub record IsTold {M : Type 0} (m : Ghosts M) (start : State → Type 0) (base : ℕ × ℕ) (status : Status) : Type 0 where
+  pub asked : Numbered M
+  pub history : HasHistory m start base asked
+  pub tells : Tells m asked.now asked.count status
+
+-- a question, by a share: of how the manager is doing it counts nothing
+abbrev pub AskedBy : {M : Type 0} → Ghosts M → (State → Type 0) → ℕ × ℕ → ℕ → ℕ × ℕ → Question → Reply → ℕ × ℕ
+    → Type 0
+AskedBy m start base session old (question.Call request) reply new = CalledBy m start base session old request reply new
+AskedBy m start base session old question.Status reply new =
+    (new ≡ old) × (status : Status) × (reply ≡ doing status) × IsTold m start base status
 
 -- a hang-up, by a share, and whether the session was connected
 abbrev pub LeftBy : {M : Type 0} → Ghosts M → (State → Type 0) → ℕ × ℕ → ℕ → ℕ × ℕ → Bool → ℕ × ℕ → Type 0

@@ -1,13 +1,13 @@
 ghost use Rattle.std.specs.Prelude.{◌≡◌, ◌<◌};
 ghost use Rattle.xa_frame.specs.Limits.{IsReply, IsRequest};
-ghost use Rattle.xa_sequencer.specs.Shared.{CalledBy, ConnectedBy, LeftBy};
+ghost use Rattle.xa_sequencer.specs.Shared.{CalledBy, ConnectedBy, IsTold, LeftBy};
 
 use crate::associates::Associates;
 use crate::sequencer::Sequencer;
 use std::marker::Model;
 use std::sync::ledger::{Blank, Book, Ledger, Share};
 use xa_assoc::ConnectFault;
-use xa_frame::{Reply, Request};
+use xa_frame::{Reply, Request, Status};
 use xa_manager::connect_reply;
 use xa_room::{Manages, Start, is_memory};
 
@@ -97,6 +97,13 @@ impl<M: Manages, S: Start, L: Ledger> Booked<M, S, L> {
         }
         book.add(share, 1);
         true
+    }
+
+    pub(crate) fn status(&self) -> Status
+        ensures { IsTold M.Manages S.start S.base result }
+    {
+        self.sequencer.promises();
+        self.sequencer.status()
     }
 }
 

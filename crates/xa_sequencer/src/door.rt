@@ -1,18 +1,22 @@
 use crate::sequencer::Sequencer;
 use xa_desk::Door;
-use xa_frame::{Reply, Request};
+use xa_frame::{Reply, Request, Status};
 use xa_room::{Manages, Start};
 
-/// A connection's requests go to the sequencer, and its hang-up.
+/// A connection's questions go to the sequencer, and its hang-up.
 impl<M: Manages, S: Start> Door for Sequencer<M, S> {
-    ghost use Rattle.xa_sequencer.specs.Numbers.{Called, Left};
+    ghost use Rattle.xa_sequencer.specs.Numbers.{Asked, Left};
 
-    ghost called = { Called M.Manages S.start S.base };
+    ghost called = { Asked M.Manages S.start S.base };
 
     ghost left = { Left M.Manages S.start S.base };
 
     fn call(&mut self, session: u64, request: Request) -> Reply {
         self.call(session, request)
+    }
+
+    fn status(&self) -> Status {
+        self.status()
     }
 
     fn hangup(&mut self, session: u64) {

@@ -7,7 +7,7 @@ use std::sync::Wait;
 use std::sync::ledger::{Ledger, Share};
 use xa_assoc::ConnectFault;
 use xa_desk::Door;
-use xa_frame::{Reply, Request};
+use xa_frame::{Reply, Request, Status};
 use xa_room::{Manages, Start};
 
 /// A thread's handle of a sequencer that it shares with others: a door, with a share that counts what is asked at it.
@@ -20,7 +20,7 @@ pub struct Handle<'a, M: Manages, S: Start, L: Ledger, R> {
 }
 
 impl<'a, M: Manages, S: Start, L: Ledger, R: Wait> Handle<'a, M, S, L, R> {
-    ghost use Rattle.xa_sequencer.specs.Shared.{ConnectedBy};
+    ghost use Rattle.xa_sequencer.specs.Shared.{ConnectedBy, IsTold};
 
     pub fn new(
         rt: &'a R,
@@ -43,6 +43,13 @@ impl<'a, M: Manages, S: Start, L: Ledger, R: Wait> Handle<'a, M, S, L, R> {
             (self.new.share.parts, self.new.share.amount) }
     {
         self.sequencer.connect(self.rt, &mut self.share)
+    }
+
+    /// How the manager is doing. The share doesn't count it.
+    pub fn status(&self) -> Status
+        ensures { IsTold M.Manages S.start S.base result }
+    {
+        self.sequencer.status(self.rt)
     }
 
     /// The share.
@@ -78,10 +85,10 @@ impl<M: Associates, S: Start, L: Ledger, R: Wait> Handle<'_, M, S, L, R> {
 
 impl<M: Manages, S: Start, L: Ledger, R: Wait> Door for Handle<'_, M, S, L, R> {
     ghost use Rattle.std.specs.Prelude.{Bool};
-    ghost use Rattle.xa_sequencer.specs.Shared.{CalledBy, LeftBy};
+    ghost use Rattle.xa_sequencer.specs.Shared.{AskedBy, LeftBy};
 
-    ghost called = { λ session a request reply b.
-        CalledBy M.Manages S.start S.base session (a.share.parts, a.share.amount) request reply
+    ghost called = { λ session a question reply b.
+        AskedBy M.Manages S.start S.base session (a.share.parts, a.share.amount) question reply
         (b.share.parts, b.share.amount) };
 
     ghost left = { λ session a b.
@@ -91,6 +98,10 @@ impl<M: Manages, S: Start, L: Ledger, R: Wait> Door for Handle<'_, M, S, L, R> {
     fn call(&mut self, session: u64, request: Request) -> Reply {
         self.sequencer
             .call(self.rt, &mut self.share, session, request)
+    }
+
+    fn status(&self) -> Status {
+        self.status()
     }
 
     fn hangup(&mut self, session: u64) {

@@ -1,6 +1,7 @@
 ghost use Rattle.std.specs.Prelude.{◌≡◌, ℕ, []};
 ghost use Rattle.xa_frame.specs.Limits.{IsRequest, IsReply};
 ghost use Rattle.xa_model.specs.State.{State};
+ghost use Rattle.xa_room.specs.Status.{Tells};
 ghost use Rattle.xa_sequencer.specs.Numbers.{Called, Connected, Left};
 ghost use Rattle.xa_sequencer.specs.Stands.{AllPromise, HasHistory, Stands};
 
@@ -9,7 +10,7 @@ use crate::numbers::are_left;
 use std::fmt;
 use std::marker::{Model, PhantomData};
 use xa_assoc::ConnectFault;
-use xa_frame::{Reply, Request};
+use xa_frame::{Reply, Request, Status};
 use xa_manager::{connect_reply, memory_reply, reached_promises};
 use xa_room::{Manages, Start, is_memory, placed};
 
@@ -98,6 +99,16 @@ impl<M: Manages, S: Start> Sequencer<M, S> {
         self.manager.hangup(session);
         self.count += 1;
         true
+    }
+
+    /// How the manager is doing, with how many events were numbered. Changes nothing, and has no number.
+    pub fn status(&self) -> Status
+        ensures { Tells M.Manages self.now.now self.now.count result }
+    {
+        Status {
+            calls: self.count,
+            ..self.manager.status()
+        }
     }
 
     /// How many events were numbered.

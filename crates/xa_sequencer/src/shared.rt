@@ -1,6 +1,6 @@
 ghost use Rattle.std.specs.Prelude.{◌≡◌, ◌<◌};
 ghost use Rattle.xa_frame.specs.Limits.{IsReply, IsRequest};
-ghost use Rattle.xa_sequencer.specs.Shared.{CalledBy, ConnectedBy, LeftBy};
+ghost use Rattle.xa_sequencer.specs.Shared.{CalledBy, ConnectedBy, IsTold, LeftBy};
 
 use crate::associates::Associates;
 use crate::booked::Booked;
@@ -9,7 +9,7 @@ use std::fmt;
 use std::sync::ledger::{Blank, Book, Ledger, Share};
 use std::sync::{Mutex, Wait};
 use xa_assoc::ConnectFault;
-use xa_frame::{Reply, Request};
+use xa_frame::{Reply, Request, Status};
 use xa_room::{Manages, Start, take};
 
 /// A sequencer behind a lock, which many threads share. Each call is one of the sequencer, and one more in its caller's
@@ -65,6 +65,13 @@ impl<M: Manages, S: Start, L: Ledger> SharedSequencer<M, S, L> {
             (share.new.parts, share.new.amount) }
     {
         take(rt, &self.lock).hangup(share, session)
+    }
+
+    /// How the manager is doing. No share counts it.
+    pub fn status<R: Wait>(&self, rt: &R) -> Status
+        ensures { IsTold M.Manages S.start S.base result }
+    {
+        take(rt, &self.lock).status()
     }
 
     /// The sequencer, and the ledger's book, whose total is its count.

@@ -1,5 +1,5 @@
 -- What a manager that was opened is, from each clause of its opening.
-use Rattle.std.proofs.Common.{ℕ, ◌≡◌, ◌∙◌, Bool, List, [], Result, Ok, Err, Some, IfOk, IsSomeAnd, ap, subst, sym}
+use Rattle.std.proofs.Common.{ℕ, ◌≡◌, ◌∙◌, List, [], Result, Ok, Err, Some, IfOk, IsSomeAnd, ap, subst, sym}
 use Rattle.xa_disk.specs.declared.disk.Disk as disk
 use Rattle.xa_log.specs.Pair.{logged_pair}
 use Rattle.xa_manager.specs.declared.manager.Manager.{Manager}
@@ -23,7 +23,7 @@ pub has_opened : {D E : Type 0} (disks : disk.Ghosts D) (first second : D) (name
     → IfOk result (λ m. ManagerStandsFor disks m (fresh name log_bytes)))
     → (Trusts disks → (s : State) → IsRecoverable s
     → FilesStandFor log_bytes (disks.seen first) (disks.seen second) s
-    → IfOk result (λ m. (survived : Bool)
+    → IfOk result (λ m. (survived : ℕ)
     × IsSomeAnd (step s (Reopened name log_bytes) (Reread survived (Some Kept)))
     (λ a. ManagerStandsFor disks m a.after)))
     → IfOk result (HasOpened disks first second name log_bytes)

@@ -5,7 +5,7 @@ use Rattle.std.proofs.lemmas.List.Sums.{sum_by-cons}
 use Rattle.xa_assoc.specs.declared.fault.ConnectFault.{ConnectFault}
 use Rattle.xa_desk.specs.Serving.{Answers, AnswersAll}
 use Rattle.xa_frame.specs.declared.reply.Reply.{Reply}
-use Rattle.xa_frame.specs.declared.request.Request.{Request}
+use Rattle.xa_frame.specs.declared.question.Question.{Question}
 use Rattle.xa_model.specs.State.{State}
 use Rattle.xa_reactor.specs.declared.loops.Ended.{Ended}
 use Rattle.xa_reactor.specs.Tending.{Does, DoesAll, HasTended, HaveTended, Table}
@@ -15,12 +15,13 @@ use Rattle.xa_server.specs.Loops.{AllLoop, Called, Connected, HasLooped, Held, L
 -- ---- what is said of a part of each door is said of the parts
 
 module _ {D E : Type 0} (f : D → E) (connected : E → Result ℕ ConnectFault → E → Type 0)
-    (called : ℕ → E → Request → Reply → E → Type 0) (left : ℕ → E → E → Type 0) where
+    (called : ℕ → E → Question → Reply → E → Type 0) (left : ℕ → E → E → Type 0) where
   answered_one : (session : ℕ) (content : List ℕ) (reply : Reply) (d e : D)
       → Answers (λ x q r y. called session (f x) q r (f y)) d content reply e → Answers (called session) (f d) content reply (f e)
   answered_one session content reply d e (inl h) = inl h
   answered_one session content reply d e (inr (inl h)) = inr (inl (h.0, h.1, h.2, ap f h.3, h.4))
-  answered_one session content reply d e (inr (inr h)) = inr (inr (h.0, ap f h.1, h.2))
+  answered_one session content reply d e (inr (inr (inl h))) = inr (inr (inl (h.0, ap f h.1, h.2)))
+  answered_one session content reply d e (inr (inr (inr h))) = inr (inr (inr (h.0, h.1, ap f h.2, h.3, h.4)))
 
   answered : (session : ℕ) (contents : List (List ℕ)) (replies : List Reply) (d e : D)
       → AnswersAll (λ x q r y. called session (f x) q r (f y)) d contents replies e → AnswersAll (called session) (f d) contents replies (f e)
@@ -69,7 +70,8 @@ module _ {M : Type 0} (m : Ghosts M) (start : State → Type 0) (base : ℕ × �
       → Answers (Called m start base session) a content reply b → b.0 ≡ a.0
   parts_one session content reply a b (inl h) = h.2.1.0
   parts_one session content reply a b (inr (inl h)) = ap (λ (s : Held). s.0) h.3
-  parts_one session content reply a b (inr (inr h)) = ap (λ (s : Held). s.0) h.1
+  parts_one session content reply a b (inr (inr (inl h))) = ap (λ (s : Held). s.0) h.1
+  parts_one session content reply a b (inr (inr (inr h))) = ap (λ (s : Held). s.0) h.2
 
   parts_answered : (session : ℕ) (contents : List (List ℕ)) (replies : List Reply) (a b : Held)
       → AnswersAll (Called m start base session) a contents replies b → b.0 ≡ a.0

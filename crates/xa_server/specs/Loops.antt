@@ -2,8 +2,11 @@
 use Rattle.std.specs.Prelude.{ℕ, ◌≡◌, ◌⊎◌, Bool, List, [], ◌∷◌, length, sum_by, Result}
 use Rattle.xa_assoc.specs.declared.fault.ConnectFault.{ConnectFault}
 use Rattle.xa_disk.specs.declared.disk.Disk as disk
+use Rattle.xa_frame.specs.Made.{doing}
+use Rattle.xa_frame.specs.declared.question.Question.{Question}
+use Rattle.xa_frame.specs.declared.question.Question.TheVariants as question
 use Rattle.xa_frame.specs.declared.reply.Reply.{Reply}
-use Rattle.xa_frame.specs.declared.request.Request.{Request}
+use Rattle.xa_frame.specs.declared.status.Status.{Status}
 use Rattle.xa_manager.specs.declared.manager.Manager.{Manager}
 use Rattle.xa_manager.specs.Opening.{HasBegun}
 use Rattle.xa_model.specs.State.{State}
@@ -12,7 +15,7 @@ use Rattle.xa_room.specs.declared.book.Entry.{Entry}
 use Rattle.xa_room.specs.declared.manages.Manages.{Ghosts}
 use Rattle.xa_room.specs.Upholds.{IsLegal, IsCounted}
 use Rattle.xa_room.specs.Promises.{Promises}
-use Rattle.xa_sequencer.specs.Shared.{CalledBy, ConnectedBy, LeftBy}
+use Rattle.xa_sequencer.specs.Shared.{CalledBy, ConnectedBy, IsTold, LeftBy}
 use Rattle.xa_server.specs.declared.engine.Looped.{Looped}
 use Rattle.xa_server.specs.Serves.{KeepsServed}
 
@@ -24,8 +27,12 @@ Held = ℕ × ℕ
 abbrev pub Connected : {M : Type 0} → Ghosts M → (State → Type 0) → ℕ × ℕ → Held → Result ℕ ConnectFault → Held → Type 0
 Connected m start base old result new = ConnectedBy m start base old result new
 
-abbrev pub Called : {M : Type 0} → Ghosts M → (State → Type 0) → ℕ × ℕ → ℕ → Held → Request → Reply → Held → Type 0
-Called m start base session old request reply new = CalledBy m start base session old request reply new
+-- Of how the manager is doing, which is no event, the share counts nothing; it is told with some seconds of the clock.
+abbrev pub Called : {M : Type 0} → Ghosts M → (State → Type 0) → ℕ × ℕ → ℕ → Held → Question → Reply → Held → Type 0
+Called m start base session old (question.Call request) reply new = CalledBy m start base session old request reply new
+Called m start base session old question.Status reply new =
+    (new ≡ old) × (status : Status) × (seconds : ℕ) × (reply ≡ doing (record status { seconds = seconds }))
+    × IsTold m start base status
 
 abbrev pub Left : {M : Type 0} → Ghosts M → (State → Type 0) → ℕ × ℕ → ℕ → Held → Held → Type 0
 Left m start base session old new = (was : Bool) × LeftBy m start base session old was new

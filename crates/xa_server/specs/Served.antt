@@ -44,7 +44,7 @@ pub record HasOpened {D : Type 0} (disks : disk.Ghosts D) (first second : D) (na
       → ManagerStandsFor disks m (fresh name log_bytes)
   pub reopens : Trusts disks → (s : State) → IsRecoverable s
       → FilesStandFor log_bytes (disks.seen first) (disks.seen second) s
-      → (survived : Bool)
+      → (survived : ℕ)
       × IsSomeAnd (step s (Reopened name log_bytes) (Reread survived (Some Kept)))
       (λ a. ManagerStandsFor disks m a.after)
 

@@ -98,7 +98,7 @@ fn loop_by<
 }
 
 // A post for each loop. Its share has one part, and the last one's what is left.
-fn make_posts<'a, M: Manages, S: Start, L: Ledger, R: AllocGlobal + Wait>(
+fn make_posts<'a, M: Manages, S: Start, L: Ledger, R: AllocGlobal + Clock + Wait>(
     rt: &'a R,
     sequencer: &'a SharedSequencer<M, S, L>,
     watch: &'a Watch,
@@ -146,7 +146,7 @@ fn run_posts<
 }
 
 // The shares of loops that ended, as one, and whether each could wait to its end.
-fn gather<M: Manages, S: Start, L: Ledger, R: Wait>(
+fn gather<M: Manages, S: Start, L: Ledger, R: Clock + Wait>(
     ended: Vec<Ended<Post<'_, M, S, L, R>>>,
 ) -> (Share<L>, bool)
     requires { 0 < length ended.items }

@@ -2,13 +2,14 @@ ghost use Rattle.std.specs.Prelude.{◌≡◌};
 ghost use Rattle.xa_server.specs.Logging.{may_log};
 
 use std::fmt;
+use std::rt::Clock;
 use std::sync::Wait;
 use std::sync::ledger::{Ledger, Share};
 use xa_assoc::ConnectFault;
 use xa_desk::Door;
-use xa_frame::{Reply, Request};
+use xa_frame::{Reply, Request, Status};
 use xa_reactor::{Reception, Watch};
-use xa_room::{Manages, Start};
+use xa_room::{Manages, Start, Uptime};
 use xa_sequencer::{Associates, Handle, SharedSequencer};
 
 /// A loop's post: a door at a sequencer that the loops share, with the loop's share of what is counted. A watch sees
@@ -17,11 +18,13 @@ use xa_sequencer::{Associates, Handle, SharedSequencer};
 pub(crate) struct Post<'a, M: Manages, S: Start, L: Ledger, R> {
     pub(crate) handle: Handle<'a, M, S, L, R>,
     watch: &'a Watch,
+    rt: &'a R,
+    uptime: Uptime,
     /// How many calls there were that may have moved the log's end.
     logged: u64,
 }
 
-impl<'a, M: Manages, S: Start, L: Ledger, R: Wait> Post<'a, M, S, L, R> {
+impl<'a, M: Manages, S: Start, L: Ledger, R: Clock + Wait> Post<'a, M, S, L, R> {
     ghost use Rattle.std.specs.Prelude.{◌≡◌, ◌<◌};
 
     pub(crate) fn new(
@@ -37,6 +40,8 @@ impl<'a, M: Manages, S: Start, L: Ledger, R: Wait> Post<'a, M, S, L, R> {
         Post {
             handle,
             watch,
+            rt,
+            uptime: Uptime::new(rt),
             logged: 0,
         }
     }
@@ -48,17 +53,19 @@ impl<'a, M: Manages, S: Start, L: Ledger, R: Wait> Post<'a, M, S, L, R> {
         let Post {
             handle,
             watch: _,
+            rt: _,
+            uptime: _,
             logged: _,
         } = self;
         handle.into_share()
     }
 }
 
-impl<M: Manages, S: Start, L: Ledger, R: Wait> Door for Post<'_, M, S, L, R> {
+impl<M: Manages, S: Start, L: Ledger, R: Clock + Wait> Door for Post<'_, M, S, L, R> {
     ghost use Rattle.xa_server.specs.Loops.{Called, Left};
 
-    ghost called = { λ session a request reply b.
-        Called M.Manages S.start S.base session (a.handle.share.parts, a.handle.share.amount) request reply
+    ghost called = { λ session a question reply b.
+        Called M.Manages S.start S.base session (a.handle.share.parts, a.handle.share.amount) question reply
         (b.handle.share.parts, b.handle.share.amount) };
 
     ghost left = { λ session a b.
@@ -73,12 +80,19 @@ impl<M: Manages, S: Start, L: Ledger, R: Wait> Door for Post<'_, M, S, L, R> {
         reply
     }
 
+    fn status(&self) -> Status {
+        Status {
+            seconds: self.uptime.seconds(self.rt),
+            ..self.handle.status()
+        }
+    }
+
     fn hangup(&mut self, session: u64) {
         self.handle.hangup(session);
     }
 }
 
-impl<M: Associates, S: Start, L: Ledger, R: Wait> Reception for Post<'_, M, S, L, R> {
+impl<M: Associates, S: Start, L: Ledger, R: Clock + Wait> Reception for Post<'_, M, S, L, R> {
     ghost use Rattle.xa_sequencer.specs.Associates.{AssociatedBy, EndedBy};
     ghost use Rattle.xa_server.specs.Loops.{Connected};
 

@@ -15,6 +15,7 @@ use crate::serve_fault::ServeFault;
 use crate::serving::serve_manager;
 use std::alloc::{AllocError, Global};
 use std::io::Print;
+use std::rt::Clock;
 use std::sync::Wait;
 use std::thread::Threads;
 use xa_disk::{Disk, FileFault, Opens};
@@ -45,7 +46,7 @@ pub struct Service<'a> {
 ///
 /// Nobody is answered before the manager is open. Where the port can't be had, or a file of the log is missing, the
 /// manager isn't opened, so that nothing is written to the log.
-pub fn serve<'a, R: AllocGlobal + Print + Opens + Listens + Threads + Wait + Sync>(
+pub fn serve<'a, R: AllocGlobal + Print + Opens + Listens + Clock + Threads + Wait + Sync>(
     rt: &R,
     service: &Service<'a>,
 ) -> Result<bool, ServeFault<'a>>

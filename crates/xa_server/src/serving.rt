@@ -11,6 +11,7 @@ use crate::fault::ServerFault;
 use std::alloc::Global;
 use std::marker::Brand;
 use std::net::TcpListener;
+use std::rt::Clock;
 use std::sync::Wait;
 use std::sync::ledger::{Blank, Book, Ledger};
 use std::thread::Threads;
@@ -27,7 +28,7 @@ pub const MOST_WORKERS: u64 = 64;
 /// From whichever state the manager stood for, the history is a legal one of so many entries; its committed branches
 /// are one copy; and what was answered as prepared is listed until its completion is asked for. The receipts are those
 /// of the connections that the workers served, one for each entry that isn't told as dropped.
-pub fn serve_manager<M: Manages + Send + Drop, R: AllocGlobal + Threads + Wait + Sync>(
+pub fn serve_manager<M: Manages + Send + Drop, R: AllocGlobal + Clock + Threads + Wait + Sync>(
     rt: &R,
     listener: &TcpListener,
     manager: M,
@@ -48,7 +49,7 @@ fn serve_by<
     M: Manages + Send + Drop,
     S: Start + Send + Sync,
     L: Ledger + Send + Sync,
-    R: AllocGlobal + Threads + Wait + Sync,
+    R: AllocGlobal + Clock + Threads + Wait + Sync,
 >(
     rt: &R,
     listener: &TcpListener,

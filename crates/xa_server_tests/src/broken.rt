@@ -104,9 +104,9 @@ fn opens(alloc: Global) -> Option<Vec<u8>> {
 
 fn replies(alloc: Global) -> Option<Vec<u8>> {
     let mut bytes = Vec::new(alloc);
-    bytes.extend_from_slice(&opened_at(2)).ok()?;
-    bytes.extend_from_slice(&opened_at(3)).ok()?;
-    bytes.extend_from_slice(&opened_at(4)).ok()?;
+    for place in 2..=4u8 {
+        bytes.extend_from_slice(&opened_at(place)).ok()?;
+    }
     Some(bytes)
 }
 
@@ -125,18 +125,38 @@ fn front(bytes: &[u8], length: usize) -> &[u8] {
     bytes.get(..length).unwrap_or(bytes)
 }
 
-fn is_served<M: Manages, S: Start>(
+fn connected<M: Manages, S: Start>(room: &mut Room<M, S>) -> Option<u64> {
+    let (session, _receipt) = room.connect();
+    session.ok()
+}
+
+fn end_of<M: Manages, S: Start>(
     alloc: Global,
     room: &mut Room<M, S>,
+    reader: &mut Faulty<'_>,
+    writer: &mut Full,
+    session: u64,
+    most: u32,
+) -> Served {
+    if most == u32::MAX {
+        serve(alloc, room, reader, writer, session)
+    } else {
+        serve_upto(alloc, room, reader, writer, session, most)
+    }
+}
+
+// Whether a session that sends these bytes, and to which these replies are due, ends as wanted.
+fn ends<M: Manages, S: Start>(
+    alloc: Global,
+    room: &mut Room<M, S>,
+    session: u64,
+    bytes: &[u8],
+    replies: &[u8],
     how: Break,
     wanted: Wanted,
-) -> Option<bool> {
-    let (session, _receipt) = room.connect();
-    let session = session.ok()?;
-    let bytes = opens(alloc)?;
-    let replies = replies(alloc)?;
+) -> bool {
     let mut reader = Faulty {
-        bytes: front(&bytes, how.cut),
+        bytes: front(bytes, how.cut),
         given: 0,
         fails_at: how.read,
     };
@@ -144,17 +164,23 @@ fn is_served<M: Manages, S: Start>(
         taken: Vec::new(alloc),
         fails_at: how.write,
     };
-    let end = if how.most == u32::MAX {
-        serve(alloc, room, &mut reader, &mut writer, session)
-    } else {
-        serve_upto(alloc, room, &mut reader, &mut writer, session, how.most)
-    };
-    Some(
-        end == wanted.end
-            && writer.taken.as_slice() == front(&replies, wanted.written)
-            && reader.bytes.len() == wanted.left
-            && are_recorded(room.entries(), wanted.answered),
-    )
+    let end = end_of(alloc, room, &mut reader, &mut writer, session, how.most);
+    end == wanted.end
+        && writer.taken.as_slice() == front(replies, wanted.written)
+        && reader.bytes.len() == wanted.left
+        && are_recorded(room.entries(), wanted.answered)
+}
+
+fn is_served<M: Manages, S: Start>(
+    alloc: Global,
+    room: &mut Room<M, S>,
+    how: Break,
+    wanted: Wanted,
+) -> Option<bool> {
+    let session = connected(room)?;
+    let bytes = opens(alloc)?;
+    let replies = replies(alloc)?;
+    Some(ends(alloc, room, session, &bytes, &replies, how, wanted))
 }
 
 /// A first connection, how it breaks, and what is wanted of it.
@@ -290,8 +316,10 @@ fn is_right_bound<R: AllocGlobal>(rt: &R, most: u32) -> bool {
 /// Behind the last frame that it may have nothing is read, nor is it seen that the input ended.
 #[test]
 fn a_bound_of_frames(rt: HostRuntime) {
-    assert!(rt; is_right_bound(&rt, 0));
-    assert!(rt; is_right_bound(&rt, 2));
-    assert!(rt; is_right_bound(&rt, 3));
-    assert!(rt; is_right_bound(&rt, 4));
+    assert!(rt;
+        is_right_bound(&rt, 0)
+            && is_right_bound(&rt, 2)
+            && is_right_bound(&rt, 3)
+            && is_right_bound(&rt, 4)
+    );
 }

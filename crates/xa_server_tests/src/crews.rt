@@ -5,15 +5,17 @@ ghost use Rattle.xa_model.specs.State.{State};
 use crate::desks::{PARTS, desk_over, open_request, opened};
 use std::alloc::Global;
 use std::marker::Brand;
+use std::rt::Clock;
 use std::sync::Wait;
 use std::sync::ledger::{Blank, Ledger};
 use std::thread::{Threads, map_vec};
 use xa_codes::{Bytes, TMNOFLAGS, TMONEPHASE, TMSUCCESS, XA_OK};
 use xa_desk::Door;
 use xa_disk::MemDisk;
+use xa_fields::Key;
 use xa_frame::{Body, Reply, Request};
 use xa_manager::Manager;
-use xa_room::{Desk, Manages, Receipt, Share, Start, audit};
+use xa_room::{Desk, Manages, Receipt, Room, Share, Start, audit};
 use xa_workers::{Gate, OpenGate, Post, Report, split_all};
 use xa_xid::Xid;
 
@@ -37,7 +39,7 @@ fn round_request(alloc: Global, key: u8, round: u8, index: u8) -> Option<Request
             xid,
         },
         1 => Request::Put {
-            key: Bytes::from_slice(alloc, &[key]).ok()?,
+            key: Key::new(&[key])?,
             value: Bytes::from_slice(alloc, &[round]).ok()?,
         },
         2 | 7 => Request::End {
@@ -53,7 +55,7 @@ fn round_request(alloc: Global, key: u8, round: u8, index: u8) -> Option<Request
             xid,
         },
         6 => Request::Get {
-            key: Bytes::from_slice(alloc, &[key]).ok()?,
+            key: Key::new(&[key])?,
         },
         _ => Request::Commit {
             flags: TMONEPHASE,
@@ -70,7 +72,7 @@ fn has_value(reply: &Reply, wanted: u8) -> bool {
 }
 
 // One round of calls. All answer 0, and the get reads what was committed.
-fn is_right_round<M: Manages, S: Start, L: Ledger, G: Gate, R: Wait>(
+fn is_right_round<M: Manages, S: Start, L: Ledger, G: Gate, R: Clock + Wait>(
     alloc: Global,
     post: &mut Post<'_, M, S, L, G, R>,
     session: u64,
@@ -90,7 +92,7 @@ fn is_right_round<M: Manages, S: Start, L: Ledger, G: Gate, R: Wait>(
 }
 
 // A session of all rounds, on a key of its own.
-fn has_session<M: Manages, S: Start, L: Ledger, G: Gate, R: Wait>(
+fn has_session<M: Manages, S: Start, L: Ledger, G: Gate, R: Clock + Wait>(
     alloc: Global,
     post: &mut Post<'_, M, S, L, G, R>,
 ) -> Option<bool> {
@@ -124,7 +126,7 @@ struct Done<L: Ledger> {
     is_right: bool,
 }
 
-fn caller<M: Manages, S: Start, L: Ledger, R: Wait>(
+fn caller<M: Manages, S: Start, L: Ledger, R: Clock + Wait>(
     rt: &R,
     alloc: Global,
     desk: &Desk<M, S, L>,
@@ -137,27 +139,45 @@ fn caller<M: Manages, S: Start, L: Ledger, R: Wait>(
     Done { report, is_right }
 }
 
-// All receipts and shares, if all callers were right.
-fn gathered<L: Ledger>(
-    alloc: Global,
+// Adds a caller's receipts and share, if it was right.
+fn gathers<L: Ledger>(
+    receipts: &mut Vec<Receipt>,
+    shares: &mut Vec<Share<L>>,
+    done: Done<L>,
+) -> bool {
+    let Done { report, is_right } = done;
+    let Report {
+        share,
+        receipts: mut more,
+        dropped: _,
+    } = report;
+    let is_added = shares.push(share).is_ok();
+    is_right && is_added && receipts.append(&mut more).is_ok()
+}
+
+fn gathers_all<L: Ledger>(
+    receipts: &mut Vec<Receipt>,
+    shares: &mut Vec<Share<L>>,
     dones: Vec<Done<L>>,
-) -> Option<(Vec<Receipt>, Vec<Share<L>>)> {
+) -> bool {
+    for done in dones {
+        if !gathers(receipts, shares, done) {
+            return false;
+        }
+    }
+    true
+}
+
+// Whether all callers were right, and an audit of all receipts and shares finds no fault.
+fn are_sound<M: Manages, S: Start, L: Ledger>(
+    alloc: Global,
+    room: &Room<M, S>,
+    dones: Vec<Done<L>>,
+) -> bool {
     let mut receipts = Vec::new(alloc);
     let mut shares = Vec::new(alloc);
-    for done in dones {
-        let Done { report, is_right } = done;
-        let Report {
-            share,
-            receipts: mut more,
-            dropped: _,
-        } = report;
-        if !is_right {
-            return None;
-        }
-        receipts.append(&mut more).ok()?;
-        shares.push(share).ok()?;
-    }
-    Some((receipts, shares))
+    gathers_all(&mut receipts, &mut shares, dones)
+        && audit(alloc, room, receipts.as_slice(), shares.as_slice()).is_ok()
 }
 
 // As many callers at once as the ledger has parts.
@@ -165,7 +185,7 @@ fn audited<
     M: Manages + Send + Drop,
     S: Start + Send + Sync,
     L: Ledger + Send + Sync,
-    R: Threads + Wait + Sync,
+    R: Clock + Threads + Wait + Sync,
 >(rt: &R, alloc: Global, manager: M, blank: Blank) -> Option<bool>
     requires start { (s : State) → S.start s → M.stands manager s }
     requires base { M.failures manager ≡ S.base }
@@ -175,10 +195,8 @@ fn audited<
     let (desk, share) = desk_over::<M, S, L>(alloc, manager, blank)?;
     let shares = split_all(alloc, share, PARTS).ok()?;
     let dones = map_vec(rt, shares, &|share| caller(rt, alloc, &desk, share)).ok()?;
-    let (receipts, shares) = gathered(alloc, dones)?;
     let (room, _book) = desk.into_room();
-    let is_sound = audit(alloc, &room, receipts.as_slice(), shares.as_slice()).is_ok();
-    Some(is_sound && room.entries().len() == 8 * EVENTS)
+    Some(are_sound(alloc, &room, dones) && room.entries().len() == 8 * EVENTS)
 }
 
 #[test]
@@ -190,5 +208,5 @@ fn desk_audit(rt: HostRuntime) {
         manager,
         Blank::new(PARTS),
     );
-    assert_eq!(rt; found, Some(true));
+    assert!(rt; found == Some(true));
 }

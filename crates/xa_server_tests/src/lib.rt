@@ -5,7 +5,8 @@
 //! - `rooms`: receipts, shares and audits; `crews`: callers at once; `meetings`: sessions at once, over connections
 //! - `broken`: a connection that breaks; `broken_clients`: clients that break off
 //! - `sequencers`: what a sequencer numbers, for one thread and for two
-//! - `servers`: a manager behind a port answers as a play; `looped`: the same by event loops, with connections that are cut
+//! - `servers`: a manager behind a port answers as a play; `looped`: the same by event loops, with connections that are cut;
+//!   `statuses`: how both are doing
 //! - `refused`: worked rows, with the lines in `refused_rows`, and audits; `refused_limits`: limits; all whichever one
 //!   allocation is refused
 //! - `rows`: `none_wrong`
@@ -39,3 +40,5 @@ mod rows;
 mod sequencers;
 #[cfg(test)]
 mod servers;
+#[cfg(test)]
+mod statuses;

@@ -1,6 +1,6 @@
 use crate::clients::{CALLS, OPEN, are_answered, client, listening, opened_at, reach};
 use crate::desks::opened;
-use crate::servers::{EACH_CALL, are_replies, played, script_of, talked};
+use crate::servers::{EACH_CALL, Talked, is_as_played, script_of, talked};
 use std::alloc::Global;
 use std::io::{Read, Write};
 use std::net::{Net, SocketAddr, TcpListener, TcpStream};
@@ -8,12 +8,12 @@ use std::rt::Clock;
 use std::sync::Wait;
 use std::thread::{Threads, join};
 use xa_reactor::{Listener, Settings};
-use xa_server::{Looped, loop_manager};
+use xa_server::{Looped, ServerFault, loop_manager};
 
 // Event loops: what connections are answered, wherever they are cut, and which of them are closed.
 
 // What is to be served: so many connections. One that stops inside a frame is closed a second later.
-fn settings_of(connections: u64) -> Settings {
+pub fn settings_of(connections: u64) -> Settings {
     Settings {
         connections,
         frame_seconds: 1,
@@ -25,7 +25,7 @@ fn settings_of(connections: u64) -> Settings {
 }
 
 // A listener for loops, and where it is reached.
-fn loop_listener<R: Net<Listener = TcpListener, Stream = TcpStream>>(
+pub fn loop_listener<R: Net<Listener = TcpListener, Stream = TcpStream>>(
     rt: &R,
 ) -> Option<(Listener, SocketAddr)> {
     let (listener, address) = listening(rt)?;
@@ -35,11 +35,42 @@ fn loop_listener<R: Net<Listener = TcpListener, Stream = TcpStream>>(
 }
 
 // Whether loops that ended tell of so many events, and of a manager that is up.
-fn is_told(told: Looped, calls: u64) -> bool {
+pub fn is_told(told: Looped, calls: u64) -> bool {
     told.calls == calls && told.is_whole && !told.is_down
 }
 
-// Each call once, over two loops.
+fn is_told_by(told: Result<Looped, ServerFault>, calls: u64) -> bool {
+    match told {
+        Ok(told) => is_told(told, calls),
+        Err(_) => false,
+    }
+}
+
+// A script over two loops, if they told of so many events.
+fn looped<
+    R: AllocGlobal
+        + Clock
+        + Eprint
+        + Net<Listener = TcpListener, Stream = TcpStream>
+        + Threads
+        + Wait
+        + Sync,
+>(rt: &R, script: &[u8], calls: u64) -> Talked {
+    let alloc = rt.alloc();
+    let (listener, address) = loop_listener(rt)?;
+    let manager = opened(alloc)?;
+    let (told, talked) = join(
+        rt,
+        || loop_manager(rt, listener, manager, 2, settings_of(2)),
+        || talked(rt, alloc, address, script),
+    );
+    if is_told_by(told, calls) {
+        talked
+    } else {
+        None
+    }
+}
+
 fn loops_answer<
     R: AllocGlobal
         + Clock
@@ -48,26 +79,14 @@ fn loops_answer<
         + Threads
         + Wait
         + Sync,
->(rt: &R, lines: &[&str]) -> Option<bool> {
-    let alloc = rt.alloc();
-    let script = script_of(alloc, lines).ok()?;
-    let wanted = played(alloc, script.as_slice())?;
-    let (listener, address) = loop_listener(rt)?;
-    let manager = opened(alloc)?;
-    let (told, talked) = join(
-        rt,
-        || loop_manager(rt, listener, manager, 2, settings_of(2)),
-        || talked(rt, alloc, address, script.as_slice()),
-    );
-    let (printed, came) = talked?;
-    let is_printed = printed.as_slice() == wanted.as_slice();
-    let are_replies = are_replies(alloc, lines, wanted.as_slice(), came.as_slice())?;
-    Some(is_printed && are_replies && is_told(told.ok()?, 55))
+>(rt: &R, lines: &[&str], script: &[u8]) -> bool {
+    is_as_played(rt.alloc(), lines, script, looped(rt, script, 55))
 }
 
 #[test]
 fn loops_answer_as_play(rt: HostRuntime) {
-    assert_eq!(rt; loops_answer(&rt, EACH_CALL), Some(true));
+    let script = script_of(rt.alloc(), EACH_CALL).expect(&rt, "a script");
+    assert!(rt; loops_answer(&rt, EACH_CALL, script.as_slice()));
 }
 
 // The k-th client breaks off behind the k-th byte of its second frame. It has the reply to its first one.
@@ -151,10 +170,10 @@ fn loops_serve_the_cut<
         || are_right(rt, alloc, address),
     );
     // three events of each of the first sixteen, four of the next, and two of the one that is hung up
-    Some(are_right? && is_told(told.ok()?, 54))
+    Some(are_right == Some(true) && is_told_by(told, 54))
 }
 
 #[test]
 fn connections_that_are_cut(rt: HostRuntime) {
-    assert_eq!(rt; loops_serve_the_cut(&rt), Some(true));
+    assert!(rt; loops_serve_the_cut(&rt) == Some(true));
 }

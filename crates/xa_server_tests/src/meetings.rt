@@ -7,6 +7,7 @@ use crate::desks::{PARTS, desk_over, is_audited, opened};
 use std::alloc::Global;
 use std::marker::Brand;
 use std::net::{Net, TcpListener, TcpStream};
+use std::rt::Clock;
 use std::sync::Wait;
 use std::sync::atomic::{AtomicBool, Ordering};
 use std::sync::ledger::{Blank, Ledger};
@@ -18,7 +19,7 @@ use xa_frame::{Body, Reply, encode_reply};
 use xa_limits::MOST_VALUE;
 use xa_manager::Manager;
 use xa_model::Event;
-use xa_room::{Desk, Manages, Receipt, Share, Start};
+use xa_room::{Manages, Receipt, Room, Start};
 use xa_workers::{Gate, OpenGate, Report, WorkFault, run_workers};
 
 /// How often a call that is kept back looks whether another came through.
@@ -84,7 +85,7 @@ fn is_short(reply: &Reply) -> bool
     match &reply.body {
         Body::Nothing | Body::Number(_) | Body::Absent => true,
         Body::Value(value) => value.as_slice().len() <= MOST_VALUE,
-        Body::Xids(_) | Body::Branches(_) => false,
+        Body::Xids(_) | Body::Branches(_) | Body::Status(_) => false,
     }
 }
 
@@ -113,7 +114,7 @@ fn frames_of(alloc: Global, receipts: &[Receipt], wanted: u64) -> Option<Vec<u8>
 }
 
 // Whether each of two clients got the frames of one of the sessions.
-fn are_answered(alloc: Global, receipts: &[Receipt], one: &[u8], other: &[u8]) -> Option<bool> {
+fn are_of(alloc: Global, receipts: &[Receipt], one: &[u8], other: &[u8]) -> Option<bool> {
     let first = frames_of(alloc, receipts, 1)?;
     let second = frames_of(alloc, receipts, 2)?;
     let (first, second) = (first.as_slice(), second.as_slice());
@@ -121,27 +122,54 @@ fn are_answered(alloc: Global, receipts: &[Receipt], one: &[u8], other: &[u8]) -
     Some(one.len() == REPLIES && (in_order || (one == second && other == first)))
 }
 
+type Came = (Option<Vec<u8>>, Option<Vec<u8>>);
+
+fn are_answered(alloc: Global, receipts: &[Receipt], came: Came) -> bool {
+    match &came {
+        (Some(one), Some(other)) => {
+            are_of(alloc, receipts, one.as_slice(), other.as_slice()) == Some(true)
+        }
+        _ => false,
+    }
+}
+
+fn two_sessions(alloc: Global) -> Option<(Vec<u8>, Vec<u8>)> {
+    let one = session_of(alloc, 0xaa)?;
+    Some((one, session_of(alloc, 0xab)?))
+}
+
+// Whether the report is whole, tells of these sessions, and is all that the room recorded.
+fn are_told<M: Manages, S: Start, L: Ledger>(
+    alloc: Global,
+    room: &Room<M, S>,
+    report: Report<L>,
+    came: Came,
+) -> bool {
+    let are_answered = are_answered(alloc, report.receipts.as_slice(), came);
+    let is_whole = report.dropped == 0;
+    is_audited(alloc, room, report, 16) && are_answered && is_whole
+}
+
 // Two clients at once, each with a worker of its own.
 fn met<
     M: Manages + Send + Drop,
     S: Start + Send + Sync,
     L: Ledger + Send + Sync,
-    R: Net<Listener = TcpListener, Stream = TcpStream> + Threads + Wait + Sync,
+    R: Clock + Net<Listener = TcpListener, Stream = TcpStream> + Threads + Wait + Sync,
 >(rt: &R, alloc: Global, manager: M, blank: Blank) -> Option<bool>
     requires start { (s : State) → S.start s → M.stands manager s }
     requires base { M.failures manager ≡ S.base }
     requires name { blank.name ≡ L.name }
     requires parts { (blank.parts ≡ L.parts) × (blank.parts ≡ 8) }
 {
+    let (one, other) = two_sessions(alloc)?;
     let (listener, address) = listening(rt)?;
-    let one = session_of(alloc, 0xaa)?;
-    let other = session_of(alloc, 0xab)?;
     let (desk, share) = desk_over::<M, S, L>(alloc, manager, blank)?;
     let gate = Meeting {
         is_through: AtomicBool::new(false),
         has_met: AtomicBool::new(false),
     };
-    let (report, (one, other)) = join(
+    let (report, came) = join(
         rt,
         || -> Result<Report<L>, WorkFault>
             requires { share.parts ≡ 8 }
@@ -154,17 +182,12 @@ fn met<
             )
         },
     );
-    let report = report.ok()?;
-    let are_answered = are_answered(
-        alloc,
-        report.receipts.as_slice(),
-        one?.as_slice(),
-        other?.as_slice(),
-    )?;
-    let is_whole = report.dropped == 0;
+    let has_met = gate.has_met.load(Ordering::SeqCst);
     let (room, _book) = desk.into_room();
-    let is_audited = is_audited(alloc, &room, report, 16);
-    Some(gate.has_met.load(Ordering::SeqCst) && are_answered && is_audited && is_whole)
+    match report {
+        Ok(report) => Some(are_told(alloc, &room, report, came) && has_met),
+        Err(_) => None,
+    }
 }
 
 #[test]
@@ -176,7 +199,7 @@ fn two_sessions_meet(rt: HostRuntime) {
         manager,
         Blank::new(PARTS),
     );
-    assert_eq!(rt; found, Some(true));
+    assert!(rt; found == Some(true));
 }
 
 // A client that opens and starts a branch.
@@ -184,7 +207,7 @@ fn answered<
     M: Manages + Send + Drop,
     S: Start + Send + Sync,
     L: Ledger + Send + Sync,
-    R: Net<Listener = TcpListener, Stream = TcpStream> + Threads + Wait + Sync,
+    R: Clock + Net<Listener = TcpListener, Stream = TcpStream> + Threads + Wait + Sync,
 >(rt: &R, alloc: Global, manager: M, blank: Blank) -> Option<bool>
     requires start { (s : State) → S.start s → M.stands manager s }
     requires base { M.failures manager ≡ S.base }
@@ -213,5 +236,5 @@ fn a_first_connection_is_answered(rt: HostRuntime) {
         manager,
         Blank::new(PARTS),
     );
-    assert_eq!(rt; found, Some(true));
+    assert!(rt; found == Some(true));
 }

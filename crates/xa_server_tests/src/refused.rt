@@ -5,6 +5,7 @@ use crate::refused_rows::{FAILING, NO_ROOM, ROOM, ROWS};
 use crate::rooms::Audited;
 use crate::rows::none_wrong;
 use std::alloc::Global;
+use std::rt::Clock;
 use std::sync::Wait;
 use std::sync::ledger::Ledger;
 use xa_codes::{Detail, XA_OK};
@@ -71,7 +72,7 @@ impl Asks for Manager<MemDisk> {
 }
 
 /// A desk's device calls can't be planned to fail.
-impl<M: Manages, S: Start, L: Ledger, G: Gate, R: Wait> Asks for Post<'_, M, S, L, G, R> {
+impl<M: Manages, S: Start, L: Ledger, G: Gate, R: Clock + Wait> Asks for Post<'_, M, S, L, G, R> {
     fn connect(&mut self) -> Reply {
         connect_reply(self.connect())
     }
@@ -222,8 +223,20 @@ fn wrong_row(alloc: Global, log_bytes: u64, plays: &[Play]) -> Option<usize> {
 #[test]
 fn by_a_manager(rt: HostRuntime) {
     none_wrong(&rt, wrong_row(rt.alloc(), LOG_BYTES, &ROWS));
+}
+
+#[test]
+fn by_a_manager_whose_device_fails(rt: HostRuntime) {
     none_wrong(&rt, wrong_row(rt.alloc(), LOG_BYTES, &FAILING));
+}
+
+#[test]
+fn by_a_manager_with_room_for_one(rt: HostRuntime) {
     none_wrong(&rt, wrong_row(rt.alloc(), PREPARED_LOG_BYTES, &ROOM));
+}
+
+#[test]
+fn by_a_manager_one_byte_short(rt: HostRuntime) {
     none_wrong(&rt, wrong_row(rt.alloc(), PREPARED_LOG_BYTES - 1, &NO_ROOM));
 }
 
@@ -234,7 +247,7 @@ struct Row {
     play: Play,
 }
 
-impl<R: AllocGlobal + Wait> Visit<R> for Row {
+impl<R: AllocGlobal + Clock + Wait> Visit<R> for Row {
     type Found = End;
 
     fn visit<M: Manages + Drop, S: Start, L: Ledger>(
@@ -254,11 +267,11 @@ impl<R: AllocGlobal + Wait> Visit<R> for Row {
     }
 }
 
-fn by_new_desk<R: AllocGlobal + Wait>(rt: &R, play: Play) -> End {
+fn by_new_desk<R: AllocGlobal + Clock + Wait>(rt: &R, play: Play) -> End {
     at_new_desk(rt, Row { play }).unwrap_or(End::Stopped)
 }
 
-fn is_right_by_desk<R: AllocGlobal + Wait>(rt: &R, play: Play) -> bool {
+fn is_right_by_desk<R: AllocGlobal + Clock + Wait>(rt: &R, play: Play) -> bool {
     match by_new_desk(rt, play) {
         End::Whole => true,
         End::Stopped => by_new_desk(rt, play) == End::Whole,
@@ -266,7 +279,7 @@ fn is_right_by_desk<R: AllocGlobal + Wait>(rt: &R, play: Play) -> bool {
     }
 }
 
-fn wrong_by_desk<R: AllocGlobal + Wait>(rt: &R, plays: &[Play]) -> Option<usize> {
+fn wrong_by_desk<R: AllocGlobal + Clock + Wait>(rt: &R, plays: &[Play]) -> Option<usize> {
     for (index, play) in plays.iter().enumerate() {
         if !is_right_by_desk(rt, play) {
             return Some(index);
@@ -288,5 +301,5 @@ fn by_an_audit(rt: HostRuntime) {
         Some(found) => Some(found),
         None => at_new_desk(&rt, Audited),
     };
-    assert_eq!(rt; found, Some(true));
+    assert!(rt; found == Some(true));
 }

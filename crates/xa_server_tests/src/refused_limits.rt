@@ -8,6 +8,7 @@ use xa_codes::{
     Bytes, Code, Detail, TMJOIN, TMMIGRATE, TMNOFLAGS, TMSUCCESS, TMSUSPEND, XA_OK, XAER_INVAL,
     XAER_RMERR,
 };
+use xa_fields::Key;
 use xa_frame::Request;
 use xa_rows::{BRANCHES, LOOSE, SESSIONS, WRITES};
 use xa_xid::Xid;
@@ -57,7 +58,7 @@ fn request(alloc: Global, what: What) -> Option<Request>
             xid: xid(number)?,
         },
         What::Put(number) => Request::Put {
-            key: Bytes::from_slice(alloc, &number.to_be_bytes()).ok()?,
+            key: Key::new(&number.to_be_bytes())?,
             value: Bytes::from_slice(alloc, b"v").ok()?,
         },
     })
@@ -264,12 +265,12 @@ fn is_met(alloc: Global, limit: Limit) -> bool {
 
 #[test]
 fn keys_of_a_branch(rt: HostRuntime) {
-    assert!(rt; is_met(rt.alloc(), Limit::Keys));
-    assert!(rt; is_met(rt.alloc(), Limit::Loose));
+    let alloc = rt.alloc();
+    assert!(rt; is_met(alloc, Limit::Keys) && is_met(alloc, Limit::Loose));
 }
 
 #[test]
 fn sessions_and_branches(rt: HostRuntime) {
-    assert!(rt; is_met(rt.alloc(), Limit::Sessions));
-    assert!(rt; is_met(rt.alloc(), Limit::Branches));
+    let alloc = rt.alloc();
+    assert!(rt; is_met(alloc, Limit::Sessions) && is_met(alloc, Limit::Branches));
 }

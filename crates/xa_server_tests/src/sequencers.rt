@@ -8,19 +8,40 @@ use std::marker::Brand;
 use std::sync::Wait;
 use std::sync::ledger::{Blank, Ledger, Share};
 use std::thread::{Threads, map_vec};
-use xa_codes::{Bytes, XA_OK, XAER_PROTO};
+use xa_codes::{XA_OK, XAER_PROTO};
 use xa_desk::Door;
 use xa_disk::MemDisk;
+use xa_fields::Key;
 use xa_frame::Request;
 use xa_manager::Manager;
 use xa_room::{Manages, Start};
 use xa_sequencer::{Handle, Sequencer, SharedSequencer};
 
-fn get_request(alloc: Global) -> Option<Request>
+fn get_request() -> Option<Request>
     ensures { IfSome result IsRequest }
 {
-    let key = Bytes::from_slice(alloc, b"k").ok()?;
+    let key = Key::new(b"k")?;
     Some(Request::Get { key })
+}
+
+fn opens_second<M: Manages, S: Start>(
+    alloc: Global,
+    sequencer: &mut Sequencer<M, S>,
+    session: u64,
+) -> Option<bool> {
+    let request = open_request(alloc)?;
+    let reply = sequencer.call(session, request);
+    Some(reply.code == XA_OK && reply.place == 2)
+}
+
+fn is_refused_third<M: Manages, S: Start>(
+    alloc: Global,
+    sequencer: &mut Sequencer<M, S>,
+    session: u64,
+) -> Option<bool> {
+    let request = get_request()?;
+    let reply = Door::call(sequencer, session, request);
+    Some(reply.code == XAER_PROTO && reply.place == 3)
 }
 
 // A connect, an Open, a get outside a branch, and two hang-ups, of which the second is of nobody.
@@ -29,20 +50,12 @@ fn numbers_each<M: Manages, S: Start>(
     sequencer: &mut Sequencer<M, S>,
 ) -> Option<bool> {
     let session = sequencer.connect().ok()?;
-    let opened = sequencer.call(session, open_request(alloc)?);
-    let refused = Door::call(sequencer, session, get_request(alloc)?);
-    let was_connected = sequencer.hangup(session);
-    let is_connected = sequencer.hangup(session);
+    let are_right = opens_second(alloc, sequencer, session) == Some(true)
+        && is_refused_third(alloc, sequencer, session) == Some(true)
+        && sequencer.hangup(session)
+        && !sequencer.hangup(session);
     sequencer.promises();
-    Some(
-        opened.code == XA_OK
-            && opened.place == 2
-            && refused.code == XAER_PROTO
-            && refused.place == 3
-            && was_connected
-            && !is_connected
-            && sequencer.count() == 4,
-    )
+    Some(are_right && sequencer.count() == 4)
 }
 
 fn numbers_all<M: Manages + Drop, S: Start>(alloc: Global, manager: M) -> Option<bool>
@@ -57,7 +70,7 @@ fn numbers_all<M: Manages + Drop, S: Start>(alloc: Global, manager: M) -> Option
 fn a_sequencer_numbers_each_event(rt: HostRuntime) {
     let manager = opened(rt.alloc()).expect(&rt, "a manager");
     let found = numbers_all::<Manager<MemDisk>, Brand>(rt.alloc(), manager);
-    assert_eq!(rt; found, Some(true));
+    assert!(rt; found == Some(true));
 }
 
 /// A part of the ledger, for a thread.
@@ -125,5 +138,5 @@ fn a_sequencer_is_shared(rt: HostRuntime) {
         manager,
         Blank::new(PARTS),
     );
-    assert_eq!(rt; found, Some(true));
+    assert!(rt; found == Some(true));
 }

@@ -5,6 +5,7 @@ use std::alloc::{AllocError, Global};
 use std::cell::RefCell;
 use std::io::{self, ErrorKind, Read, Write};
 use std::net::{Net, SocketAddr, TcpListener, TcpStream};
+use std::rt::Clock;
 use std::sync::Wait;
 use std::thread::{Threads, join};
 use xa_codes::{Bytes, XA_OK};
@@ -14,7 +15,7 @@ use xa_manager::{Manager, Settings};
 use xa_play::play_run;
 use xa_rows::{LOG_BYTES, SESSIONS};
 use xa_script::{Style, first_part, reply_line};
-use xa_server::{Audited, audited_lines, serve_manager};
+use xa_server::{Audited, ServerFault, audited_lines, serve_manager};
 use xa_talk::{Connection, Dial, talk_run};
 
 /// Reads what a server sends, and keeps it.
@@ -129,7 +130,7 @@ pub fn script_of(alloc: Global, lines: &[&str]) -> Result<Vec<u8>, AllocError> {
 }
 
 // What `xarm play` prints.
-pub fn played(alloc: Global, script: &[u8]) -> Option<Vec<u8>> {
+fn played(alloc: Global, script: &[u8]) -> Option<Vec<u8>> {
     let settings = Settings {
         name: Bytes::from_slice(alloc, b"xarm").ok()?,
         log_bytes: LOG_BYTES,
@@ -140,13 +141,15 @@ pub fn played(alloc: Global, script: &[u8]) -> Option<Vec<u8>> {
     Some(printed)
 }
 
-// What `xarm talk` prints of a server, and the bytes that came from there.
+/// What `xarm talk` prints of a server, and the bytes that came from there.
+pub type Talked = Option<(Vec<u8>, Vec<u8>)>;
+
 pub fn talked<R: Net<Stream = TcpStream>>(
     rt: &R,
     alloc: Global,
     address: SocketAddr,
     script: &[u8],
-) -> Option<(Vec<u8>, Vec<u8>)> {
+) -> Talked {
     let came = RefCell::new(Vec::new(alloc));
     let mut reader = script;
     let mut printed: Vec<u8> = Vec::new(alloc);
@@ -184,7 +187,7 @@ fn asks_a_session(line: &str) -> bool {
 }
 
 // Whether each frame that came is the reply that play prints for its line, at the place of the line's number.
-pub fn are_replies(alloc: Global, lines: &[&str], printed: &[u8], came: &[u8]) -> Option<bool> {
+fn are_replies(alloc: Global, lines: &[&str], printed: &[u8], came: &[u8]) -> Option<bool> {
     let mut printed = printed;
     let mut came = came;
     for (i, line) in lines.iter().enumerate() {
@@ -202,20 +205,25 @@ pub fn are_replies(alloc: Global, lines: &[&str], printed: &[u8], came: &[u8]) -
 }
 
 // A server of two workers, and what a script prints of it.
-fn served<R: AllocGlobal + Net<Listener = TcpListener, Stream = TcpStream> + Threads + Wait + Sync>(
+fn served<
+    R: AllocGlobal
+        + Clock
+        + Net<Listener = TcpListener, Stream = TcpStream>
+        + Threads
+        + Wait
+        + Sync,
+>(
     rt: &R,
     manager: Manager<MemDisk>,
     script: &[u8],
-) -> Option<(Audited, Vec<u8>, Vec<u8>)> {
+) -> Option<(Result<Audited, ServerFault>, Talked)> {
     let alloc = rt.alloc();
     let (listener, address) = listening(rt)?;
-    let (told, talked) = join(
+    Some(join(
         rt,
         || serve_manager(rt, &listener, manager, 2, 2),
         || talked(rt, alloc, address, script),
-    );
-    let (printed, came) = talked?;
-    Some((told.ok()?, printed, came))
+    ))
 }
 
 fn is_told(alloc: Global, told: Audited, text: &str) -> bool {
@@ -225,21 +233,55 @@ fn is_told(alloc: Global, told: Audited, text: &str) -> bool {
     }
 }
 
+fn is_told_by(alloc: Global, told: Result<Audited, ServerFault>, text: &str) -> bool {
+    match told {
+        Ok(told) => is_told(alloc, told, text),
+        Err(_) => false,
+    }
+}
+
+fn are_as_played(
+    alloc: Global,
+    lines: &[&str],
+    script: &[u8],
+    printed: &[u8],
+    came: &[u8],
+) -> bool {
+    match played(alloc, script) {
+        Some(wanted) => {
+            printed == wanted.as_slice()
+                && are_replies(alloc, lines, wanted.as_slice(), came) == Some(true)
+        }
+        None => false,
+    }
+}
+
+// Whether what was printed, and what came, is what play prints.
+pub fn is_as_played(alloc: Global, lines: &[&str], script: &[u8], talked: Talked) -> bool {
+    match talked {
+        Some((printed, came)) => are_as_played(alloc, lines, script, &printed, &came),
+        None => false,
+    }
+}
+
 fn answers_as_play<
-    R: AllocGlobal + Net<Listener = TcpListener, Stream = TcpStream> + Threads + Wait + Sync,
->(rt: &R, lines: &[&str]) -> Option<bool> {
+    R: AllocGlobal
+        + Clock
+        + Net<Listener = TcpListener, Stream = TcpStream>
+        + Threads
+        + Wait
+        + Sync,
+>(rt: &R, lines: &[&str], script: &[u8]) -> Option<bool> {
     let alloc = rt.alloc();
-    let script = script_of(alloc, lines).ok()?;
-    let wanted = played(alloc, script.as_slice())?;
-    let (told, printed, came) = served(rt, opened(alloc)?, script.as_slice())?;
-    let is_printed = printed.as_slice() == wanted.as_slice();
-    let are_replies = are_replies(alloc, lines, wanted.as_slice(), came.as_slice())?;
-    Some(is_printed && are_replies && is_told(alloc, told, "calls 55\naudit ok\n"))
+    let (told, talked) = served(rt, opened(alloc)?, script)?;
+    let is_played = is_as_played(alloc, lines, script, talked);
+    Some(is_played && is_told_by(alloc, told, "calls 55\naudit ok\n"))
 }
 
 #[test]
 fn a_server_answers_as_play(rt: HostRuntime) {
-    assert_eq!(rt; answers_as_play(&rt, EACH_CALL), Some(true));
+    let script = script_of(rt.alloc(), EACH_CALL).expect(&rt, "a script");
+    assert!(rt; answers_as_play(&rt, EACH_CALL, script.as_slice()) == Some(true));
 }
 
 // Five connections at once, each with its requests sent.
@@ -290,7 +332,12 @@ fn crowd<R: Net<Stream = TcpStream>>(rt: &R, alloc: Global, address: SocketAddr)
 
 // Two workers, and five clients that are all connected before the first is read from.
 fn serves_a_crowd<
-    R: AllocGlobal + Net<Listener = TcpListener, Stream = TcpStream> + Threads + Wait + Sync,
+    R: AllocGlobal
+        + Clock
+        + Net<Listener = TcpListener, Stream = TcpStream>
+        + Threads
+        + Wait
+        + Sync,
 >(rt: &R) -> Option<bool> {
     let alloc = rt.alloc();
     let (listener, address) = listening(rt)?;
@@ -300,12 +347,12 @@ fn serves_a_crowd<
         || serve_manager(rt, &listener, manager, 2, 5),
         || crowd(rt, alloc, address),
     );
-    Some(are_sessions? && is_told(alloc, told.ok()?, "calls 40\naudit ok\n"))
+    Some(are_sessions == Some(true) && is_told_by(alloc, told, "calls 40\naudit ok\n"))
 }
 
 #[test]
 fn more_clients_than_workers(rt: HostRuntime) {
-    assert_eq!(rt; serves_a_crowd(&rt), Some(true));
+    assert!(rt; serves_a_crowd(&rt) == Some(true));
 }
 
 // A manager that has room for one session more.
@@ -325,6 +372,11 @@ fn is_open(alloc: Global, stream: &mut TcpStream) -> Option<bool> {
     Some(count_ok(alloc, &reply)? == 1)
 }
 
+fn is_closed(alloc: Global, stream: &mut TcpStream) -> bool {
+    let mut bytes = Vec::new(alloc);
+    stream.read_to_end(&mut bytes).is_ok() && bytes.is_empty()
+}
+
 // The last session, and then a connection that there is none for: it is closed, and nothing came.
 fn last_ones<R: Net<Stream = TcpStream>>(
     rt: &R,
@@ -332,15 +384,18 @@ fn last_ones<R: Net<Stream = TcpStream>>(
     address: SocketAddr,
 ) -> Option<bool> {
     let mut last = reach(rt, address).ok()?;
-    let is_open = is_open(alloc, &mut last)?;
+    let is_open = is_open(alloc, &mut last) == Some(true);
     let mut other = reach(rt, address).ok()?;
-    let mut bytes = Vec::new(alloc);
-    other.read_to_end(&mut bytes).ok()?;
-    Some(is_open && bytes.is_empty())
+    Some(is_closed(alloc, &mut other) && is_open)
 }
 
 fn serves_the_last<
-    R: AllocGlobal + Net<Listener = TcpListener, Stream = TcpStream> + Threads + Wait + Sync,
+    R: AllocGlobal
+        + Clock
+        + Net<Listener = TcpListener, Stream = TcpStream>
+        + Threads
+        + Wait
+        + Sync,
 >(rt: &R) -> Option<bool> {
     let alloc = rt.alloc();
     let (listener, address) = listening(rt)?;
@@ -351,10 +406,10 @@ fn serves_the_last<
         || last_ones(rt, alloc, address),
     );
     // a connect, an Open, the connect that finds no session, and a hang-up
-    Some(are_right? && is_told(alloc, told.ok()?, "calls 4\naudit ok\n"))
+    Some(are_right == Some(true) && is_told_by(alloc, told, "calls 4\naudit ok\n"))
 }
 
 #[test]
 fn the_next_after_1_024_is_closed(rt: HostRuntime) {
-    assert_eq!(rt; serves_the_last(&rt), Some(true));
+    assert!(rt; serves_the_last(&rt) == Some(true));
 }

@@ -4,7 +4,7 @@ use Rattle.std.specs.Prelude.{option_and_then}
 use Rattle.xa_codes.specs.declared.codes.TheConstants.{XAER_PROTO}
 use Rattle.xa_frame.specs.Made.{plain}
 use Rattle.xa_frame.specs.declared.reply.Reply.{Reply}
-use Rattle.xa_frame.specs.declared.request.Request.{Request}
+use Rattle.xa_frame.specs.declared.question.Question.{Question}
 use Rattle.xa_talk.specs.declared.fault.TalkFault.{TalkFault}
 use Rattle.xa_talk.specs.Answers.{CallAnswered}
 use Rattle.xa_talk.specs.Exchanges.{Exchanged}
@@ -20,13 +20,13 @@ kept_at [] index x d lt is = absurd (omega (arith, lt))
 kept_at (y ∷ numbered) zero x d lt is = ap (λ z. z ∷ numbered) (sym is)
 kept_at (y ∷ numbered) (suc index) x d lt is = ap (λ l. y ∷ l) (kept_at numbered index x d (omega (arith, lt)) is)
 
-module _ {C : Type 0} (sent left : C → Option (List ℕ)) (n index : ℕ) (request : Request) (answer : Result Reply TalkFault) (numbered : List (Option C)) (is : index_of n ≡ Some index) where
+module _ {C : Type 0} (sent left : C → Option (List ℕ)) (n index : ℕ) (question : Question) (answer : Result Reply TalkFault) (numbered : List (Option C)) (is : index_of n ≡ Some index) where
   found : (x : Option C) → there numbered index ≡ x → connection_at n numbered ≡ x
   found x at = ap (λ (o : Option ℕ). option_and_then (λ p. there numbered p) o) is ∙ at
 
-  pub call_over : (c c' : C) → there numbered index ≡ Some c → Exchanged request answer (sent c) (sent c') (left c) (left c') →
-      CallAnswered sent left n request answer numbered (slice_set numbered index (Some c'))
+  pub call_over : (c c' : C) → there numbered index ≡ Some c → Exchanged question answer (sent c) (sent c') (left c) (left c') →
+      CallAnswered sent left n question answer numbered (slice_set numbered index (Some c'))
   call_over c c' at done = rw (found (Some c) at) (c', sym (ap (λ (o : Option ℕ). with_at o (Some c') numbered) is), done)
 
-  pub call_none : (numbered' : List (Option C)) → there numbered index ≡ None → answer ≡ Ok (plain XAER_PROTO) → numbered' ≡ numbered → CallAnswered sent left n request answer numbered numbered'
+  pub call_none : (numbered' : List (Option C)) → there numbered index ≡ None → answer ≡ Ok (plain XAER_PROTO) → numbered' ≡ numbered → CallAnswered sent left n question answer numbered numbered'
   call_none numbered' at refused same = rw (found None at) (refused, same)

@@ -4,10 +4,11 @@ use Rattle.xa_codes.specs.declared.codes.TheConstants.{XAER_PROTO, XAER_RMERR}
 use Rattle.xa_codes.specs.declared.detail.Detail.TheVariants as detail
 use Rattle.xa_frame.specs.Made.{plain, detailed, carrying, bad_frame}
 use Rattle.xa_frame.specs.declared.body.Body.TheVariants as body
+use Rattle.xa_frame.specs.declared.question.Question.{Question}
+use Rattle.xa_frame.specs.declared.question.Question.TheVariants as question
 use Rattle.xa_frame.specs.declared.reply.Reply.{Reply}
-use Rattle.xa_frame.specs.declared.request.Request.{Request}
 use Rattle.xa_script.specs.declared.line.Line.{Line}
-use Rattle.xa_script.specs.declared.line.Line.TheVariants.{Silent, Connect, Hangup, Call}
+use Rattle.xa_script.specs.declared.line.Line.TheVariants.{Silent, Connect, Hangup, Call, Status}
 use Rattle.xa_talk.specs.declared.answer.TheConstants.{MOST_CONNECTIONS}
 use Rattle.xa_talk.specs.declared.fault.TalkFault.{TalkFault}
 use Rattle.xa_talk.specs.declared.fault.TalkFault.TheVariants as faults
@@ -21,14 +22,14 @@ shown (Err fault) = Err fault
 
 -- over connections, with what was sent over one, and what can still be read from it
 module _ {C : Type 0} (sent left : C → Option (List ℕ)) where
-  -- A call of a number that has no connection is answered at once, as a session that isn't connected is. Else its
-  -- request goes over that connection, and what comes back is the reply.
-  abbrev pub CallAnswered : ℕ → Request → Result Reply TalkFault → List (Option C) → List (Option C) → Type 0
-  CallAnswered n request answer numbered numbered' =
+  -- A question of a number that has no connection is answered at once, as a session that isn't connected is. Else it goes
+  -- over that connection, and what comes back is the reply.
+  abbrev pub CallAnswered : ℕ → Question → Result Reply TalkFault → List (Option C) → List (Option C) → Type 0
+  CallAnswered n asked answer numbered numbered' =
       MatchOption (connection_at n numbered)
       ((answer ≡ Ok (plain XAER_PROTO)) × (numbered' ≡ numbered))
       (λ c. (c' : C) × (numbered' ≡ with_at (index_of n) (Some c') numbered)
-      × Exchanged request answer (sent c) (sent c') (left c) (left c'))
+      × Exchanged asked answer (sent c) (sent c') (left c) (left c'))
 
   -- a connection more, which has the least free number; or none could be opened
   abbrev pub ConnectAnswered : Result Reply TalkFault → List (Option C) → List (Option C) → Type 0
@@ -48,6 +49,8 @@ module _ {C : Type 0} (sent left : C → Option (List ℕ)) where
   LineAnswered (Hangup n) answer numbered numbered' =
       (answer ≡ Ok (Some (plain (pos 0)))) × (numbered' ≡ with_at (index_of n) None numbered)
   LineAnswered (Call n request) answer numbered numbered' =
-      (reply : Result Reply TalkFault) × (answer ≡ shown reply) × CallAnswered n request reply numbered numbered'
+      (reply : Result Reply TalkFault) × (answer ≡ shown reply) × CallAnswered n (question.Call request) reply numbered numbered'
+  LineAnswered (Status n) answer numbered numbered' =
+      (reply : Result Reply TalkFault) × (answer ≡ shown reply) × CallAnswered n question.Status reply numbered numbered'
   -- it isn't in the grammar, or speaks of what only disks in memory have
   LineAnswered said answer numbered numbered' = (answer ≡ Ok (Some bad_frame)) × (numbered' ≡ numbered)

@@ -5,6 +5,7 @@ use Rattle.xa_codes.specs.declared.codes.TheConstants.{XAER_INVAL, XAER_RMFAIL}
 use Rattle.xa_codes.specs.declared.detail.Detail.{Detail}
 use Rattle.xa_codes.specs.declared.detail.Detail.TheVariants as detail
 use Rattle.xa_frame.specs.Made.{plain}
+use Rattle.xa_frame.specs.declared.question.Question.TheVariants.{Call}
 use Rattle.xa_frame.specs.declared.reply.Reply.{Reply}
 use Rattle.xa_frame.specs.declared.request.Request.TheVariants.{Tick}
 use Rattle.xa_talk.specs.declared.fault.TalkFault.{TalkFault}
@@ -41,14 +42,14 @@ module _ {T C : Type 0} (gives : T → Option ℕ → T → Type 0) (tells : T �
     pub moment : ℕ
     pub between : T
     pub given : gives ticker (Some moment) between
-    pub exchanged : Exchanged (Tick moment) (Ok reply) (sent c) (sent c') (left c) (left c')
+    pub exchanged : Exchanged (Call (Tick moment)) (Ok reply) (sent c) (sent c') (left c) (left c')
     pub told : Told last reply between ticker'
 
   -- the same without an answer
   pub record IsUnanswered (end : Result Reply TalkFault) (ticker ticker' : T) (c c' : C) : Type 0 where
     pub moment : ℕ
     pub given : gives ticker (Some moment) ticker'
-    pub exchanged : Exchanged (Tick moment) end (sent c) (sent c') (left c) (left c')
+    pub exchanged : Exchanged (Call (Tick moment)) end (sent c) (sent c') (left c) (left c')
 
   -- by the end of a tick: it was answered, or no moment was given, or the connection didn't bring its answer
   abbrev pub TickEnds : Reply → Result Reply TickFault → T → T → C → C → Type 0

@@ -1,6 +1,6 @@
 //! What one line is answered.
 ghost use Rattle.std.specs.Prelude.{◌≡◌, ◌+◌, pos};
-ghost use Rattle.xa_frame.specs.Limits.{IsRequest};
+ghost use Rattle.xa_frame.specs.Questions.{IsQuestion};
 ghost use Rattle.xa_script.specs.Lines as lines;
 ghost use Rattle.xa_talk.specs.Answers.{CallAnswered, ConnectAnswered, LineAnswered, shown};
 
@@ -11,7 +11,7 @@ use crate::fault::TalkFault;
 use std::alloc::Global;
 use std::io::{Read, Write};
 use xa_codes::{Detail, XA_OK, XAER_PROTO, XAER_RMERR};
-use xa_frame::{Body, Reply, Request};
+use xa_frame::{Body, Question, Reply};
 use xa_script::Line;
 
 /// The most connections: as many as a manager has sessions.
@@ -35,7 +35,10 @@ pub fn answer<R: Read + Drop, W: Write + Drop, D: Dial<R, W>>(
             connections.close(number);
             Ok(Some(Reply::plain(XA_OK)))
         }
-        Line::Call(number, request) => shown(call(alloc, connections, number, &request)),
+        Line::Call(number, request) => {
+            shown(call(alloc, connections, number, &Question::Call(request)))
+        }
+        Line::Status(number) => shown(call(alloc, connections, number, &Question::Status)),
         Line::Unknown | Line::Fail { .. } | Line::Stop { .. } | Line::Reopen | Line::Crash { .. } =>
             Ok(Some(Reply::bad_frame())),
     }
@@ -72,15 +75,15 @@ fn connect<R: Read + Drop, W: Write + Drop, D: Dial<R, W>>(
     }
 }
 
-/// Asks a request over the connection of a number.
+/// Asks a question over the connection of a number.
 fn call<R: Read + Drop, W: Write + Drop>(
     alloc: Global,
     connections: &mut Connections<R, W>,
     number: u64,
-    request: &Request,
+    question: &Question,
 ) -> Result<Reply, TalkFault>
-    requires { IsRequest request.now }
-    ensures { CallAnswered (λ c. W.contents c.writer) (λ c. R.remaining c.reader) number request.now result
+    requires { IsQuestion question.now }
+    ensures { CallAnswered (λ c. W.contents c.writer) (λ c. R.remaining c.reader) number question.now result
         connections.old.numbered.items connections.new.numbered.items }
 {
     let Some(index) = index_of(number) else {
@@ -90,7 +93,7 @@ fn call<R: Read + Drop, W: Write + Drop>(
         return Ok(Reply::plain(XAER_PROTO));
     }
     match &mut connections.numbered[index] {
-        Some(connection) => exchange(alloc, connection, request),
+        Some(connection) => exchange(alloc, connection, question),
         None => Ok(Reply::plain(XAER_PROTO)),
     }
 }

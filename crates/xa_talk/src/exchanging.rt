@@ -1,40 +1,40 @@
-//! A request goes over a connection, and its reply comes back.
+//! A question goes over a connection, and its reply comes back.
 ghost use Rattle.std.specs.Io.KnownBytes.{Consumes};
 ghost use Rattle.std.specs.Prelude.{◌≡◌, Err, IfOk, MatchResult};
 ghost use Rattle.xa_desk.specs.Frames.{frame};
-ghost use Rattle.xa_frame.specs.Limits.{IsRequest};
-ghost use Rattle.xa_talk.specs.Exchanges.{Exchanged, Receives, Sends, request_frame};
+ghost use Rattle.xa_frame.specs.Questions.{IsQuestion};
+ghost use Rattle.xa_talk.specs.Exchanges.{Exchanged, Receives, Sends, question_frame};
 
 use crate::dial::Connection;
 use crate::fault::TalkFault;
 use std::alloc::{AllocError, Global};
 use std::io::{Read, Write};
 use xa_bytes::{number_of, put_u32};
-use xa_frame::{FrameFault, Reply, Request, decode_reply, encode_request};
+use xa_frame::{FrameFault, Question, Reply, decode_reply, encode_question};
 use xa_limits::MOST_CONTENT;
 use xa_output::write_text;
 
-/// Sends the frame of a request, by one write where the writer takes it whole, and gives the reply that comes back.
+/// Sends the frame of a question, by one write where the writer takes it whole, and gives the reply that comes back.
 pub fn exchange<R: Read, W: Write>(
     alloc: Global,
     connection: &mut Connection<R, W>,
-    request: &Request,
+    question: &Question,
 ) -> Result<Reply, TalkFault>
-    requires { IsRequest request.now }
-    ensures { Exchanged request.now result
+    requires { IsQuestion question.now }
+    ensures { Exchanged question.now result
         (W.contents connection.old.writer) (W.contents connection.new.writer)
         (R.remaining connection.old.reader) (R.remaining connection.new.reader) }
 {
-    send(alloc, &mut connection.writer, request)?;
+    send(alloc, &mut connection.writer, question)?;
     receive(alloc, &mut connection.reader)
 }
 
-/// Writes the frame of a request.
-fn send<W: Write>(alloc: Global, writer: &mut W, request: &Request) -> Result<(), TalkFault>
-    requires { IsRequest request.now }
-    ensures { Sends request.now result (W.contents writer.old) (W.contents writer.new) }
+/// Writes the frame of a question.
+fn send<W: Write>(alloc: Global, writer: &mut W, question: &Question) -> Result<(), TalkFault>
+    requires { IsQuestion question.now }
+    ensures { Sends question.now result (W.contents writer.old) (W.contents writer.new) }
 {
-    let frame = frame_of(alloc, request)?;
+    let frame = frame_of(alloc, question)?;
     if write_text(writer, frame.as_slice()) {
         Ok(())
     } else {
@@ -42,12 +42,12 @@ fn send<W: Write>(alloc: Global, writer: &mut W, request: &Request) -> Result<()
     }
 }
 
-/// A request's content behind its length.
-fn frame_of(alloc: Global, request: &Request) -> Result<Vec<u8>, AllocError>
-    requires { IsRequest request.now }
-    ensures { IfOk result (λ bytes. bytes.items ≡ request_frame request.now) }
+/// A question's content behind its length.
+fn frame_of(alloc: Global, question: &Question) -> Result<Vec<u8>, AllocError>
+    requires { IsQuestion question.now }
+    ensures { IfOk result (λ bytes. bytes.items ≡ question_frame question.now) }
 {
-    let content = encode_request(alloc, request)?;
+    let content = encode_question(alloc, question)?;
     let mut bytes = Vec::with_capacity(alloc, 4 + content.len())?;
     put_u32(&mut bytes, content.len() as u32)?;
     bytes.extend_from_slice(content.as_slice())?;

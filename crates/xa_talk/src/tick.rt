@@ -11,7 +11,7 @@ use crate::ticker::Ticker;
 use std::alloc::Global;
 use std::io::{Read, Write};
 use xa_codes::XA_OK;
-use xa_frame::{Reply, Request};
+use xa_frame::{Question, Reply, Request};
 
 /// The most seconds from one moment to the next that a command line may ask for.
 pub const MOST_EVERY: u64 = 3_600;
@@ -52,7 +52,7 @@ fn tick<T: Ticker, R: Read, W: Write>(
     let Some(moment) = ticker.next_moment() else {
         return Err(TickFault::Clock);
     };
-    match exchange(alloc, connection, &Request::Tick { moment }) {
+    match exchange(alloc, connection, &Question::Call(Request::Tick { moment })) {
         Ok(reply) => {
             if is_news(last, &reply) {
                 ticker.tell(&reply);

@@ -115,6 +115,51 @@ const ROWS: [&[(u64, Ask, Told)]; 6] = [
     ],
 ];
 
+fn source(pool: &Pool, chain: &Chain, ts: u64) -> Told {
+    let found = chain.source(pool, ts);
+    if found.pending {
+        Told::Pending(found.from)
+    } else {
+        Told::From(found.from)
+    }
+}
+
+fn value(pool: &Pool, chain: &Chain, from: u64) -> Told {
+    match chain.value(pool, from) {
+        Some([byte]) => Told::Value(*byte),
+        _ => Told::Absent,
+    }
+}
+
+fn late(pool: &Pool, chain: &Chain, ts: u64) -> Told {
+    if chain.late(pool, ts) {
+        Told::Late
+    } else {
+        Told::InTime
+    }
+}
+
+fn idle(pool: &Pool, chain: &Chain, low: u64) -> Told {
+    if chain.is_idle(pool, low) {
+        Told::Idle
+    } else {
+        Told::InUse
+    }
+}
+
+fn install(
+    alloc: Global,
+    pool: &mut Pool,
+    chain: &mut Chain,
+    ts: u64,
+    byte: Option<u8>,
+) -> Result<(), AllocError> {
+    match byte {
+        None => chain.install(pool, ts, None),
+        Some(byte) => chain.install(pool, ts, Some([byte].to_vec(alloc)?)),
+    }
+}
+
 fn answered(
     alloc: Global,
     pool: &mut Pool,
@@ -123,33 +168,13 @@ fn answered(
     ask: Ask,
 ) -> Result<Told, AllocError> {
     match ask {
-        Ask::Source => {
-            let found = chain.source(pool, ts);
-            if found.pending {
-                return Ok(Told::Pending(found.from));
-            }
-            return Ok(Told::From(found.from));
-        }
-        Ask::Value => match chain.value(pool, ts) {
-            Some([byte]) => return Ok(Told::Value(*byte)),
-            _ => return Ok(Told::Absent),
-        },
-        Ask::Late => {
-            if chain.late(pool, ts) {
-                return Ok(Told::Late);
-            }
-            return Ok(Told::InTime);
-        }
-        Ask::Idle => {
-            if chain.is_idle(pool, ts) {
-                return Ok(Told::Idle);
-            }
-            return Ok(Told::InUse);
-        }
+        Ask::Source => return Ok(source(pool, chain, ts)),
+        Ask::Value => return Ok(value(pool, chain, ts)),
+        Ask::Late => return Ok(late(pool, chain, ts)),
+        Ask::Idle => return Ok(idle(pool, chain, ts)),
         Ask::Versions => return Ok(Told::Versions(pool.versions())),
         Ask::Mark(reader) => chain.mark(pool, ts, reader),
-        Ask::Install(None) => chain.install(pool, ts, None)?,
-        Ask::Install(Some(byte)) => chain.install(pool, ts, Some([byte].to_vec(alloc)?))?,
+        Ask::Install(byte) => install(alloc, pool, chain, ts, byte)?,
         Ask::Settle(fate) => chain.settle(pool, ts, fate),
         Ask::Prune => chain.prune(pool, ts),
     }
@@ -224,18 +249,22 @@ fn write(alloc: Global, pool: &mut Pool, chain: &mut Chain, byte: u8) -> Result<
     chain.install_at(pool, &look, Some([byte].to_vec(alloc)?))
 }
 
+/// A new key, so read and written.
+fn written_once(alloc: Global, pool: &mut Pool, byte: u8) -> Result<Chain, AllocError> {
+    let mut chain = Chain::new(pool)?;
+    write(alloc, pool, &mut chain, byte)?;
+    Ok(chain)
+}
+
 /// One key is cleared and another made: its slots are used again, and a third key shows what it showed.
 fn used_again(alloc: Global) -> Result<bool, AllocError> {
     let mut pool = Pool::new(alloc);
-    let mut gone = Chain::new(&mut pool)?;
-    let mut stays = Chain::new(&mut pool)?;
-    write(alloc, &mut pool, &mut gone, 0x31)?;
-    write(alloc, &mut pool, &mut stays, 0x32)?;
+    let mut gone = written_once(alloc, &mut pool, 0x31)?;
+    let stays = written_once(alloc, &mut pool, 0x32)?;
     let before = pool.versions();
     gone.clear(&mut pool);
     let between = pool.versions();
-    let mut made = Chain::new(&mut pool)?;
-    write(alloc, &mut pool, &mut made, 0x33)?;
+    let made = written_once(alloc, &mut pool, 0x33)?;
     let counted = before == 4 && between == 2 && pool.versions() == 4;
     Ok(counted && shows(&pool, &stays, 0x32) && shows(&pool, &made, 0x33))
 }

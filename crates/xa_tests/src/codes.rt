@@ -7,7 +7,7 @@ use xa_codes::{
 };
 use xa_rows::first_wrong;
 
-const NAMES: [(Code, &str); 7] = [
+const NAMES: &[(Code, &str)] = &[
     (XA_OK, "XA_OK"),
     (107, "XA_RBTRANSIENT"),
     (XAER_OUTSIDE, "XAER_OUTSIDE"),
@@ -27,10 +27,10 @@ fn wrong_name(rows: &[(Code, &str)]) -> Option<usize> {
 
 #[test]
 fn names(rt: HostRuntime) {
-    none_wrong(&rt, wrong_name(&NAMES));
+    none_wrong(&rt, wrong_name(NAMES));
 }
 
-const FLAGS: [(Call, u32, bool); 13] = [
+const FLAGS: &[(Call, u32, bool)] = &[
     (Call::Start, TMJOIN | TMRESUME, false),
     (Call::End, TMNOFLAGS, false),
     (Call::End, TMSUCCESS | TMMIGRATE, false),
@@ -60,7 +60,7 @@ fn wrong_flags(rows: &[(Call, u32, bool)]) -> Option<usize> {
 #[test]
 fn flags(rt: HostRuntime) {
     worked_flags();
-    none_wrong(&rt, wrong_flags(&FLAGS));
+    none_wrong(&rt, wrong_flags(FLAGS));
 }
 
 fn is_copied(alloc: Global, bytes: &Bytes) -> Result<bool, AllocError> {
@@ -72,13 +72,14 @@ fn is_less(first: &Bytes, other: &Bytes) -> bool {
     first.cmp(other) == Ordering::Less
 }
 
+fn are_strings(alloc: Global) -> Result<bool, AllocError> {
+    let first = Bytes::from_slice(alloc, b"ab")?;
+    let other = Bytes::from_slice(alloc, b"abc")?;
+    let is_copied = is_copied(alloc, &first) == Ok(true);
+    Ok(is_copied && is_less(&first, &other) && other.as_slice().len() == 3)
+}
+
 #[test]
 fn byte_strings(rt: HostRuntime) {
-    let first = Bytes::from_slice(rt.alloc(), b"ab").expect(&rt, "bytes");
-    let other = Bytes::from_slice(rt.alloc(), b"abc").expect(&rt, "bytes");
-    assert!(rt;
-        is_copied(rt.alloc(), &first) == Ok(true)
-            && is_less(&first, &other)
-            && other.as_slice().len() == 3
-    );
+    assert!(rt; are_strings(rt.alloc()) == Ok(true));
 }

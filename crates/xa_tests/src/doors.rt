@@ -1,11 +1,12 @@
 ghost use Rattle.xa_frame.specs.Limits.{IsRequest};
 
+use crate::statuses::STATUS;
 use std::alloc::Global;
 use std::io;
 use std::io::{Read, Write};
 use xa_codes::{Detail, XA_OK};
 use xa_desk::{Door, Served, serve};
-use xa_frame::{Body, Reply, Request, encode_request};
+use xa_frame::{Body, Reply, Request, Status, encode_request};
 
 /// A door that keeps what it was asked, and answers with the places and numbers of a list.
 #[derive(Drop)]
@@ -60,6 +61,10 @@ impl Door for Keeper<'_> {
             place,
             body: Body::Number(number),
         }
+    }
+
+    fn status(&self) -> Status {
+        STATUS
     }
 
     fn hangup(&mut self, session: u64) {

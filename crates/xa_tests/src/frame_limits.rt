@@ -2,19 +2,41 @@ use crate::frames::{is_content, reply_again};
 use crate::rows::none_wrong;
 use std::alloc::{AllocError, Global};
 use xa_frame::{decode_request, encode_request};
-use xa_rows::{INFO_BYTES, KEY_BYTES, PART_BYTES, VALUE_BYTES, XIDS};
+use xa_rows::{INFO_BYTES, KEY_BYTES, PART_BYTES, VALUE_BYTES, XIDS, first_wrong};
 
-/// The fields of the requests 1 to 17, 65 and 66, and of the bodies of kind 0 to 5, a letter each.
-const REQUESTS: [&[u8]; 19] = [
-    b"fi", b"f", b"fx", b"fx", b"fx", b"fx", b"fx", b"ff", b"fx", b"k", b"kv", b"k", b"dx", b"x",
-    b"", b"f", b"ff", b"", b"fn",
+/// Operations or kinds of body, each with its fields, a letter each.
+type Fields = (u8, &'static [u8]);
+
+const REQUESTS: &[Fields] = &[
+    (1, b"fi"),
+    (2, b"f"),
+    (3, b"fx"),
+    (4, b"fx"),
+    (5, b"fx"),
+    (6, b"fx"),
+    (7, b"fx"),
+    (8, b"ff"),
+    (9, b"fx"),
+    (10, b"k"),
+    (11, b"kv"),
+    (12, b"k"),
+    (13, b"dx"),
+    (14, b"x"),
+    (15, b""),
+    (16, b"f"),
+    (17, b"ff"),
+    (65, b""),
+    (66, b"fn"),
 ];
 
-const OPERATIONS: [u8; 19] = [
-    1, 2, 3, 4, 5, 6, 7, 8, 9, 10, 11, 12, 13, 14, 15, 16, 17, 65, 66,
+const BODIES: &[Fields] = &[
+    (0, b""),
+    (1, b"ff"),
+    (2, b"v"),
+    (3, b""),
+    (4, b"c"),
+    (5, b"c"),
 ];
-
-const BODIES: [&[u8]; 6] = [b"", b"ff", b"v", b"", b"c", b"c"];
 
 /// What a list has of each of its members, by the kind of the body.
 fn member(kind: u8) -> &'static [u8] {
@@ -112,28 +134,24 @@ fn is_limit_reply(alloc: Global, kind: u8, letters: &[u8], greatest: bool) -> bo
     }
 }
 
-fn wrong_request(alloc: Global, rows: &[&[u8]], greatest: bool) -> Option<usize> {
-    for (index, (operation, letters)) in OPERATIONS.iter().zip(rows).enumerate() {
-        if !is_limit_request(alloc, *operation, letters, greatest) {
-            return Some(index);
-        }
-    }
-    None
+fn wrong_request(alloc: Global, rows: &[Fields], greatest: bool) -> Option<usize> {
+    first_wrong(
+        rows,
+        |(operation, letters)| is_limit_request(alloc, *operation, letters, greatest),
+    )
 }
 
-fn wrong_reply(alloc: Global, rows: &[&[u8]], greatest: bool) -> Option<usize> {
-    for (index, (kind, letters)) in (0..=5).zip(rows).enumerate() {
-        if !is_limit_reply(alloc, kind, letters, greatest) {
-            return Some(index);
-        }
-    }
-    None
+fn wrong_reply(alloc: Global, rows: &[Fields], greatest: bool) -> Option<usize> {
+    first_wrong(
+        rows,
+        |(kind, letters)| is_limit_reply(alloc, *kind, letters, greatest),
+    )
 }
 
 #[test]
 fn limits(rt: HostRuntime) {
-    none_wrong(&rt, wrong_request(rt.alloc(), &REQUESTS, false));
-    none_wrong(&rt, wrong_request(rt.alloc(), &REQUESTS, true));
-    none_wrong(&rt, wrong_reply(rt.alloc(), &BODIES, false));
-    none_wrong(&rt, wrong_reply(rt.alloc(), &BODIES, true));
+    none_wrong(&rt, wrong_request(rt.alloc(), REQUESTS, false));
+    none_wrong(&rt, wrong_request(rt.alloc(), REQUESTS, true));
+    none_wrong(&rt, wrong_reply(rt.alloc(), BODIES, false));
+    none_wrong(&rt, wrong_reply(rt.alloc(), BODIES, true));
 }

@@ -1,5 +1,6 @@
 use std::alloc::Global;
 use xa_codes::{Bytes, Detail, XA_OK, XAER_INVAL};
+use xa_fields::Key;
 use xa_frame::{
     Body, Reply, Request, decode_reply, decode_request, encode_reply, encode_request,
     worked_contents,
@@ -106,7 +107,7 @@ fn refused(rt: HostRuntime) {
 
 fn put_content(alloc: Global) -> Option<Vec<u8>> {
     let request = Request::Put {
-        key: Bytes::from_slice(alloc, b"k").ok()?,
+        key: Key::new(b"k")?,
         value: Bytes::from_slice(alloc, b"v").ok()?,
     };
     encode_request(alloc, &request).ok()

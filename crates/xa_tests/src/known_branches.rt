@@ -14,9 +14,16 @@ const AS_TRIM: &[u8] = b"TTTTTTTTTTTTTTkTT";
 
 const AS_BRANCHES: &[u8] = b"FSTTTTTTTSFSFFSST";
 
+fn has_letter(alloc: Global, row: Option<&Content>, operation: u8, expected: u8) -> bool {
+    match row {
+        Some((content, _, _)) => letter_with(alloc, content, 1, operation) == expected,
+        None => false,
+    }
+}
+
 fn wrong_letter(alloc: Global, rows: &[Content], operation: u8, letters: &[u8]) -> Option<usize> {
-    for (index, ((content, _, _), expected)) in rows.iter().zip(letters).enumerate() {
-        if letter_with(alloc, content, 1, operation) != *expected {
+    for (index, expected) in letters.iter().enumerate() {
+        if !has_letter(alloc, rows.get(index), operation, *expected) {
             return Some(index);
         }
     }
@@ -121,24 +128,48 @@ fn is_begun(branch: &KnownBranch, xid: &Xid, mark: i32, timestamp: u64) -> bool 
         && (counts.active, counts.suspended, counts.loose) == (1, 0, 0)
 }
 
+fn knows_none(alloc: Global, branches: &Branches) -> bool {
+    match branches.known_after(alloc, None, 256) {
+        Ok(known) => known.is_empty(),
+        Err(_) => false,
+    }
+}
+
+fn begin_both(branches: &mut Branches, first: &Xid, second: &Xid) -> bool {
+    let begun = branches.begin(second, 0).is_ok() && branches.begin(first, 0).is_ok();
+    branches.mark(second, XA_RBOTHER);
+    begun
+}
+
+fn knows_both(alloc: Global, branches: &Branches, first: &Xid) -> bool {
+    match branches.known_after(alloc, None, 256) {
+        Ok(known) => match known.as_slice() {
+            [one, _] => is_begun(one, first, XA_OK, 0x1_0000_0002),
+            _ => false,
+        },
+        Err(_) => false,
+    }
+}
+
+fn knows_above(alloc: Global, branches: &Branches, first: &Xid, second: &Xid) -> bool {
+    match branches.known_after(alloc, Some(first), 1) {
+        Ok(known) => match known.as_slice() {
+            [other] => is_begun(other, second, XA_RBOTHER, 0x1_0000_0001),
+            _ => false,
+        },
+        Err(_) => false,
+    }
+}
+
 fn knows(alloc: Global) -> Option<bool> {
     let first = Xid::take_text(b"1:aa:")?;
     let second = Xid::take_text(b"1:bb:")?;
     let mut branches = Branches::new(alloc, 1, 1, 0);
-    let none = branches.known_after(alloc, None, 256).ok()?;
-    branches.begin(&second, 0).ok()?;
-    branches.begin(&first, 0).ok()?;
-    branches.mark(&second, XA_RBOTHER);
-    let all = branches.known_after(alloc, None, 256).ok()?;
-    let above = branches.known_after(alloc, Some(&first), 1).ok()?;
-    let one = all.first()?;
-    let other = above.first()?;
     Some(
-        none.is_empty()
-            && all.len() == 2
-            && above.len() == 1
-            && is_begun(one, &first, XA_OK, 0x1_0000_0002)
-            && is_begun(other, &second, XA_RBOTHER, 0x1_0000_0001),
+        knows_none(alloc, &branches)
+            && begin_both(&mut branches, &first, &second)
+            && knows_both(alloc, &branches, &first)
+            && knows_above(alloc, &branches, &first, &second),
     )
 }
 

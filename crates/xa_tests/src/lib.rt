@@ -5,7 +5,7 @@
 //! - `codes`: names of codes and flags, strings of bytes; `xids`: bytes, texts and order of XIDs
 //! - `frames`: contents of requests and replies; `frame_changes`: those that are cut or changed; `frame_limits`: those at
 //!   their limits; `refused_frames`: those with a fault
-//! - `known_branches`: the list of known branches, in its frames and of the table
+//! - `known_branches`: the list of known branches, in its frames and of the table; `statuses`: how a server is doing
 //! - `records`: bodies of records; `record_limits`: those at their limits
 //! - `chains`, `versions`: one key's versions, and all keys'; `committed`: what of them has committed
 //! - `sessions`, `tables`: the tables of sessions and of branches; `time_limits`: how branches run out of time; `scans`:
@@ -49,6 +49,8 @@ mod rows;
 mod scans;
 #[cfg(test)]
 mod sessions;
+#[cfg(test)]
+mod statuses;
 #[cfg(test)]
 mod tables;
 #[cfg(test)]

@@ -13,12 +13,13 @@ const BAD: [u8; 22] = [
     0, 0, 0, 2, 1, 255, 0, 0, 0, 3, 1, 15, 0, 0, 0, 0, 0, 0, 1, 0, 0, 7,
 ];
 
+/// The bytes of a frame's length.
+const LENGTH_BYTES: usize = 4;
+
 /// A content of 65,535 bytes that begins 010f, and then the bad ones.
 fn bad_frames(alloc: Global) -> Result<Vec<u8>, AllocError> {
     let mut input = [0, 0, 255, 255, 1, 15].to_vec(alloc)?;
-    for _ in 2..CONTENT_BYTES {
-        input.push(0)?;
-    }
+    input.resize(LENGTH_BYTES + CONTENT_BYTES as usize, 0)?;
     input.extend_from_slice(&BAD)?;
     Ok(input)
 }

@@ -37,7 +37,7 @@ fn bytes(rt: HostRuntime) {
     );
 }
 
-const TEXTS: [&[u8]; 4] = [
+const TEXTS: &[&[u8]] = &[
     b"1:aa:bb",
     b"1:aabb:",
     b"-2147483648:00:ff",
@@ -62,21 +62,20 @@ fn wrong_text(texts: &[&[u8]]) -> Option<usize> {
     None
 }
 
-fn is_joined(joined: &Xid) -> bool {
-    match Xid::take_text(b"1:aabb:") {
-        Some(read) => read == *joined,
-        None => false,
+fn is_joined() -> bool {
+    match (Xid::take_text(b"1:aabb:"), xid(1, &[0xaa, 0xbb], &[])) {
+        (Some(read), Some(joined)) => read == joined,
+        _ => false,
     }
 }
 
 #[test]
 fn texts(rt: HostRuntime) {
-    none_wrong(&rt, wrong_text(&TEXTS));
-    let joined = xid(1, &[0xaa, 0xbb], &[]).expect(&rt, "an XID");
-    assert!(rt; is_joined(&joined));
+    none_wrong(&rt, wrong_text(TEXTS));
+    assert!(rt; is_joined());
 }
 
-const REFUSED: [&[u8]; 13] = [
+const REFUSED: &[&[u8]] = &[
     b"-1:aa:",
     b"-0:aa:",
     b"01:aa:",
@@ -103,7 +102,7 @@ fn read_text(texts: &[&[u8]]) -> Option<usize> {
 
 #[test]
 fn refused_texts(rt: HostRuntime) {
-    none_wrong(&rt, read_text(&REFUSED));
+    none_wrong(&rt, read_text(REFUSED));
 }
 
 /// A part of the most bytes, and one of a byte more.
@@ -126,26 +125,52 @@ fn limits(rt: HostRuntime) {
     );
 }
 
-fn is_less(first: &Xid, second: &Xid) -> bool {
-    first < second
+/// What an XID is made of.
+type Parts = (i32, &'static [u8], &'static [u8]);
+
+const WHOLE: Parts = (1, &[0xaa, 0xbb], &[]);
+
+const PARTED: Parts = (1, &[0xaa], &[0xbb]);
+
+const LONGER: Parts = (1, &[0xaa, 0], &[]);
+
+const BELOW: Parts = (-5, &[9], &[]);
+
+const ABOVE: Parts = (1, &[1], &[]);
+
+const NAMED: Parts = (7, &[1], &[2]);
+
+fn of_parts((format, gtrid, bqual): Parts) -> Option<Xid> {
+    xid(format, gtrid, bqual)
 }
 
-fn is_equal_to_copy(xid: &Xid) -> bool {
-    xid.cmp(&xid.copied()) == Ordering::Equal
+fn differ(first: Parts, second: Parts) -> bool {
+    match (of_parts(first), of_parts(second)) {
+        (Some(first), Some(second)) => first != second,
+        _ => false,
+    }
+}
+
+fn is_less(first: Parts, second: Parts) -> bool {
+    match (of_parts(first), of_parts(second)) {
+        (Some(first), Some(second)) => first < second,
+        _ => false,
+    }
+}
+
+fn is_equal_to_copy(parts: Parts) -> bool {
+    match of_parts(parts) {
+        Some(xid) => xid.cmp(&xid.copied()) == Ordering::Equal,
+        None => false,
+    }
 }
 
 #[test]
 fn order(rt: HostRuntime) {
-    let whole = xid(1, &[0xaa, 0xbb], &[]).expect(&rt, "an XID");
-    let parts = xid(1, &[0xaa], &[0xbb]).expect(&rt, "an XID");
-    let longer = xid(1, &[0xaa, 0], &[]).expect(&rt, "an XID");
-    let below = xid(-5, &[9], &[]).expect(&rt, "an XID");
-    let above = xid(1, &[1], &[]).expect(&rt, "an XID");
-    let named = xid(7, &[1], &[2]).expect(&rt, "an XID");
     assert!(rt;
-        whole != parts
-            && is_less(&parts, &longer)
-            && is_less(&below, &above)
-            && is_equal_to_copy(&named)
+        differ(WHOLE, PARTED)
+            && is_less(PARTED, LONGER)
+            && is_less(BELOW, ABOVE)
+            && is_equal_to_copy(NAMED)
     );
 }

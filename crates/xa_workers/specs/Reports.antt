@@ -2,12 +2,19 @@
 use Rattle.std.specs.Prelude.{◌≡◌, ◌⊎◌, ℕ, ◌+◌, ◌-◌, ◌<◌, ◌^◌, List, [], ◌∷◌, ◌++◌, length, slice_index_or, vec_len, Result, Err}
 use Rattle.xa_assoc.specs.declared.fault.ConnectFault.{ConnectFault}
 use Rattle.xa_assoc.specs.declared.fault.ConnectFault.TheVariants.{Memory}
+use Rattle.xa_frame.specs.Made.{doing}
+use Rattle.xa_frame.specs.declared.question.Question.{Question}
+use Rattle.xa_frame.specs.declared.question.Question.TheVariants as question
 use Rattle.xa_frame.specs.declared.request.Request.{Request}
 use Rattle.xa_frame.specs.declared.reply.Reply.{Reply}
+use Rattle.xa_frame.specs.declared.status.Status.{Status}
 use Rattle.xa_manager.specs.Answered.{connect_reply, wanted_memory}
 use Rattle.xa_model.specs.declared.event.Event.{Event}
 use Rattle.xa_model.specs.declared.event.Event.TheVariants.{Connect, Hangup, Call}
+use Rattle.xa_model.specs.State.{State}
 use Rattle.xa_room.specs.Share.{Held, Records}
+use Rattle.xa_room.specs.Status.{IsTold}
+use Rattle.xa_room.specs.declared.manages.Manages.{Ghosts}
 use Rattle.xa_room.specs.Book.{placed}
 use Rattle.xa_room.specs.declared.book.Receipt.{Receipt}
 use Rattle.xa_workers.specs.declared.report.Report.{Report}
@@ -61,6 +68,15 @@ HangsUp gone session r r' = ((receipt : Receipt) × Takes r r' (Hangup session) 
 -- one call more, up to the greatest number that is counted
 abbrev pub CountsOn : ℕ → ℕ → Type 0
 CountsOn calls calls' = calls < 2 ^ 64 - 1 → calls' ≡ calls + 1
+
+-- A question at a post, by its report and how many calls there were: a call; or how the room is doing was told, with some
+-- seconds of the clock, and nothing was recorded.
+abbrev pub AsksAt : {M L : Type 0} → Ghosts M → (State → Type 0) → ℕ → Report L × ℕ → Question → Reply → Report L × ℕ
+    → Type 0
+AsksAt m start session a (question.Call request) reply b = Calls session a.0 request reply b.0 × CountsOn a.1 b.1
+AsksAt m start session a question.Status reply b =
+    (b ≡ a) × (status : Status) × (seconds : ℕ) × (reply ≡ doing (record status { seconds = seconds }))
+    × IsTold m start status
 
 -- the share has the parts that it had, and as many events more as the report tells of
 abbrev pub Balances : {L : Type 0} → Report L → Report L → Type 0

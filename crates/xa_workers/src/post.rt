@@ -2,28 +2,30 @@ use crate::gate::Gate;
 use crate::report::Report;
 use std::alloc::Global;
 use std::fmt;
+use std::rt::Clock;
 use std::sync::Wait;
 use std::sync::ledger::Ledger;
 use xa_assoc::ConnectFault;
 use xa_desk::Door;
-use xa_frame::{Reply, Request};
-use xa_room::{Desk, Manages, Share, Start};
+use xa_frame::{Reply, Request, Status};
+use xa_room::{Desk, Manages, Share, Start, Uptime};
 
 /// A worker's post at a desk: a door whose calls pass a gate and are the desk's, with a report of what was recorded.
 pub struct Post<'a, M: Manages, S: Start, L: Ledger, G, R> {
     rt: &'a R,
     desk: &'a Desk<M, S, L>,
     gate: &'a G,
+    uptime: Uptime,
     pub report: Report<L>,
     /// How many calls of the session there were.
     pub calls: u64,
 }
 
-impl<'a, M: Manages, S: Start, L: Ledger, G: Gate, R: Wait> Post<'a, M, S, L, G, R> {
+impl<'a, M: Manages, S: Start, L: Ledger, G: Gate, R: Clock + Wait> Post<'a, M, S, L, G, R> {
     ghost use Rattle.std.specs.Prelude.{◌≡◌, []};
     ghost use Rattle.xa_workers.specs.Reports.{Connects};
 
-    /// A post where nothing was recorded.
+    /// A post where nothing was recorded, at a server that is up from now on.
     pub fn new(
         alloc: Global,
         rt: &'a R,
@@ -39,6 +41,7 @@ impl<'a, M: Manages, S: Start, L: Ledger, G: Gate, R: Wait> Post<'a, M, S, L, G,
             rt,
             desk,
             gate,
+            uptime: Uptime::new(rt),
             report: Report::new(alloc, share),
             calls: 0,
         }
@@ -61,6 +64,7 @@ impl<'a, M: Manages, S: Start, L: Ledger, G: Gate, R: Wait> Post<'a, M, S, L, G,
             rt: _,
             desk: _,
             gate: _,
+            uptime: _,
             report,
             calls: _,
         } = self;
@@ -68,12 +72,12 @@ impl<'a, M: Manages, S: Start, L: Ledger, G: Gate, R: Wait> Post<'a, M, S, L, G,
     }
 }
 
-impl<M: Manages, S: Start, L: Ledger, G: Gate, R: Wait> Door for Post<'_, M, S, L, G, R> {
+impl<M: Manages, S: Start, L: Ledger, G: Gate, R: Clock + Wait> Door for Post<'_, M, S, L, G, R> {
     ghost use Rattle.xa_room.specs.Gone.{WasGone};
-    ghost use Rattle.xa_workers.specs.Reports.{Calls, HangsUp, CountsOn};
+    ghost use Rattle.xa_workers.specs.Reports.{AsksAt, HangsUp};
 
-    ghost called = { λ session a request reply b.
-        Calls session a.report request reply b.report × CountsOn a.calls b.calls };
+    ghost called = { λ session a question reply b.
+        AsksAt M.Manages S.start session (a.report, a.calls) question reply (b.report, b.calls) };
 
     ghost left = { λ session a b. HangsUp (WasGone M.Manages S.start) session a.report b.report };
 
@@ -84,6 +88,13 @@ impl<M: Manages, S: Start, L: Ledger, G: Gate, R: Wait> Door for Post<'_, M, S, 
         let reply = self.report.call(self.rt, self.desk, session, request);
         self.gate.leave(session, number);
         reply
+    }
+
+    fn status(&self) -> Status {
+        Status {
+            seconds: self.uptime.seconds(self.rt),
+            ..self.desk.status(self.rt)
+        }
     }
 
     fn hangup(&mut self, session: u64) {

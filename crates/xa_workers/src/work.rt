@@ -10,6 +10,7 @@ use crate::report::Report;
 use std::alloc::Global;
 use std::io::BufReader;
 use std::net::TcpListener;
+use std::rt::Clock;
 use std::sync::ledger::Ledger;
 use std::sync::{Mutex, Wait};
 use xa_desk::serve;
@@ -17,7 +18,7 @@ use xa_room::{Desk, Manages, Share, Start};
 
 /// Serves a connection for each number that it takes, until none is left. Each session that it connected it hung up,
 /// unless it was gone.
-pub(crate) fn work<M: Manages, S: Start, L: Ledger, G: Gate, R: Wait>(
+pub(crate) fn work<M: Manages, S: Start, L: Ledger, G: Gate, R: Clock + Wait>(
     rt: &R,
     alloc: Global,
     listener: &TcpListener,
@@ -43,7 +44,7 @@ pub(crate) fn work<M: Manages, S: Start, L: Ledger, G: Gate, R: Wait>(
 
 // Accepts a connection, and serves a session on it. Where the accept fails, or there is no memory to read by, or no
 // session is connected, that was all.
-fn serve_next<M: Manages, S: Start, L: Ledger, G: Gate, R: Wait>(
+fn serve_next<M: Manages, S: Start, L: Ledger, G: Gate, R: Clock + Wait>(
     alloc: Global,
     listener: &TcpListener,
     post: &mut Post<'_, M, S, L, G, R>,

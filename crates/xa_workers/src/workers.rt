@@ -9,6 +9,7 @@ use crate::report::Report;
 use crate::work::work;
 use std::alloc::{AllocError, Global};
 use std::net::TcpListener;
+use std::rt::Clock;
 use std::sync::ledger::Ledger;
 use std::sync::{Mutex, Wait};
 use std::thread::{Threads, map_vec};
@@ -61,7 +62,7 @@ fn work_all<
     S: Start + Send + Sync,
     L: Ledger + Send + Sync,
     G: Gate + Sync,
-    R: Threads + Wait + Sync,
+    R: Clock + Threads + Wait + Sync,
 >(
     rt: &R,
     alloc: Global,
@@ -131,7 +132,7 @@ pub fn run_workers<
     S: Start + Send + Sync,
     L: Ledger + Send + Sync,
     G: Gate + Sync,
-    R: Threads + Wait + Sync,
+    R: Clock + Threads + Wait + Sync,
 >(
     rt: &R,
     alloc: Global,

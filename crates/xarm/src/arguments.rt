@@ -24,7 +24,7 @@ pub fn play_name<'a>(alloc: Global) -> Arg<'a>
     Arg::new(alloc, "name")
         .long("name")
         .value_name("NAME")
-        .help("The resource manager's name, by which sessions open it: 0 to 255 bytes")
+        .help("The name under which sessions open the resource manager: 0 to 255 bytes")
         .action(ArgAction::Set)
         .default_value("xarm")
 }
@@ -35,7 +35,7 @@ pub fn log_bytes<'a>(alloc: Global) -> Arg<'a>
     Arg::new(alloc, "log-bytes")
         .long("log-bytes")
         .value_name("N")
-        .help("The greatest size of each of the log's two files, in bytes: 64 to 1073741824")
+        .help("The maximum size of each of the two log files, in bytes: 64 to 1073741824")
         .value_parser(ValueParser::unsigned(0, MOST_NUMBER))
         .action(ArgAction::Set)
         .default_value("1073741824")
@@ -47,7 +47,7 @@ pub fn path<'a>(alloc: Global) -> Arg<'a>
     Arg::new(alloc, "path")
         .value_name("PATH")
         .help(
-            "One of the log's two files, of at most 1073741824 bytes. It is opened read-only, and refused while a server uses it",
+            "One of the log's two files, of at most 1073741824 bytes. It is opened read-only, and refused while a server has it open",
         )
         .required(true)
         .action(ArgAction::Set)
@@ -79,7 +79,7 @@ pub fn serve_log_bytes<'a>(alloc: Global) -> Arg<'a>
     Arg::new(alloc, "log-bytes")
         .long("log-bytes")
         .value_name("N")
-        .help("The greatest size of each of the log's two files, in bytes: 64 to 1073741824")
+        .help("The maximum size of each of the two log files, in bytes: 64 to 1073741824")
         .value_parser(ValueParser::unsigned(LEAST_LOG, MOST_LOG))
         .action(ArgAction::Set)
         .default_value("1073741824")
@@ -91,7 +91,7 @@ pub fn name<'a>(alloc: Global) -> Arg<'a>
     Arg::new(alloc, "name")
         .long("name")
         .value_name("NAME")
-        .help("The resource manager's name, by which sessions open it: 0 to 255 bytes")
+        .help("The name under which sessions open the resource manager: 0 to 255 bytes")
         .required(true)
         .action(ArgAction::Set)
 }
@@ -102,9 +102,7 @@ pub fn loops<'a>(alloc: Global) -> Arg<'a>
     Arg::new(alloc, "loops")
         .long("loops")
         .value_name("N")
-        .help(
-            "The number of threads, each with connections of its own: 1 to 16. If not given, one for each core, at most 4",
-        )
+        .help("The number of event-loop threads: 1 to 16. If not given, one per core, at most 4")
         .value_parser(ValueParser::unsigned(1, MOST_LOOPS))
         .action(ArgAction::Set)
 }
@@ -116,7 +114,7 @@ pub fn workers<'a>(alloc: Global) -> Arg<'a>
         .long("workers")
         .value_name("N")
         .help(
-            "Serves with an audit in place of loops, so many connections at a time: 1 to 64. The options after --connections are not used then",
+            "Serves so many connections at a time by worker threads with an audit, instead of event loops: 1 to 64. The options after --connections are then ignored",
         )
         .value_parser(ValueParser::unsigned(1, MOST_WORKERS))
         .action(ArgAction::Set)
@@ -129,7 +127,7 @@ pub fn connections<'a>(alloc: Global) -> Arg<'a>
         .long("connections")
         .value_name("C")
         .help(
-            "The number of connections after which the server ends: 1 to 1000000. If not given, 1000000 with --workers, and else no number",
+            "The number of connections after which the server exits: 1 to 1000000. If not given, no limit; 1000000 with --workers",
         )
         .value_parser(ValueParser::unsigned(1, MOST_SERVED))
         .action(ArgAction::Set)
@@ -142,7 +140,7 @@ pub fn listen<'a>(alloc: Global) -> Arg<'a>
         .long("listen")
         .value_name("ADDR")
         .help(
-            "The address that the server listens at. There is no authentication: whoever reaches it can do anything",
+            "The address to listen on. There is no authentication: whoever reaches it can do anything",
         )
         .action(ArgAction::Set)
         .default_value("127.0.0.1")
@@ -155,7 +153,7 @@ pub fn frame_seconds<'a>(alloc: Global) -> Arg<'a>
         .long("frame-seconds")
         .value_name("S")
         .help(
-            "The number of seconds after which a connection is closed that stopped inside a frame: 0 (never) to 3600",
+            "Closes a connection that has stopped inside a frame for so many seconds: 0 (never) to 3600",
         )
         .value_parser(ValueParser::unsigned(0, MOST_FRAME_SECONDS))
         .action(ArgAction::Set)
@@ -169,7 +167,7 @@ pub fn idle_seconds<'a>(alloc: Global) -> Arg<'a>
         .long("idle-seconds")
         .value_name("S")
         .help(
-            "The number of seconds after which a quiet connection is closed whose session is at work for no branch and has suspended none: 0 (never) to 86400",
+            "Closes a connection that has been quiet for so many seconds, if its session has no active or suspended association: 0 (never) to 86400",
         )
         .value_parser(ValueParser::unsigned(0, MOST_IDLE_SECONDS))
         .action(ArgAction::Set)
@@ -183,7 +181,7 @@ pub fn trim<'a>(alloc: Global) -> Arg<'a>
         .long("trim")
         .value_name("BYTES")
         .help(
-            "The end of the log above which it is trimmed while the server runs: 0 (never) to 1073741824. Above half of --log-bytes, a quarter of that counts",
+            "Trims the log when it ends above so many bytes: 0 (never) to 1073741824. If that is above half of --log-bytes, a quarter of --log-bytes is used",
         )
         .value_parser(ValueParser::unsigned(0, MOST_LOG))
         .action(ArgAction::Set)
@@ -195,7 +193,7 @@ pub fn exit_when_down<'a>(alloc: Global) -> Arg<'a>
 {
     Arg::new(alloc, "exit-when-down")
         .long("exit-when-down")
-        .help("Ends the server, with status 1, when its resource manager has gone down")
+        .help("Exits with status 1 when the resource manager goes down")
         .action(ArgAction::SetTrue)
 }
 
@@ -205,7 +203,7 @@ pub fn port<'a>(alloc: Global) -> Arg<'a>
     Arg::new(alloc, "port")
         .long("port")
         .value_name("P")
-        .help("The port on 127.0.0.1: 1 to 65535")
+        .help("The TCP port: 1 to 65535")
         .value_parser(ValueParser::unsigned(1, u64::from(u16::MAX)))
         .action(ArgAction::Set)
 }
@@ -216,7 +214,7 @@ pub fn socket<'a>(alloc: Global) -> Arg<'a>
     Arg::new(alloc, "socket")
         .long("socket")
         .value_name("PATH")
-        .help("A Unix socket in place of the port, which its owner alone may connect to")
+        .help("A Unix socket to use instead of the port; only its owner and root can connect")
         .action(ArgAction::Set)
 }
 
@@ -226,7 +224,7 @@ pub fn every<'a>(alloc: Global) -> Arg<'a>
     Arg::new(alloc, "every")
         .long("every")
         .value_name("S")
-        .help("The number of seconds from one moment to the next: 1 to 3600")
+        .help("The number of seconds between two ticks: 1 to 3600")
         .value_parser(ValueParser::unsigned(1, MOST_EVERY))
         .action(ArgAction::Set)
         .default_value("1")

@@ -17,7 +17,7 @@ pub fn command_line<'a>(alloc: Global) -> Result<Command<'a>, AllocError>
         .version(
             "0.1.0\nlog: reads XARMLOG1 and XARMLOG2, writes XARMLOG2\nkit: rattle-kit-13 logic dac8208d650f15bf",
         )
-        .about("An XA resource manager")
+        .about("A transactional key-value store: an XA resource manager")
         .subcommand_required(true)
         .subcommand(play_command(alloc)?)?
         .subcommand(scan_command(alloc)?)?
@@ -53,7 +53,7 @@ fn talk_command<'a>(alloc: Global) -> Result<Command<'a>, AllocError>
     Command::new(alloc, "talk")
         .about("Sends the calls of a script from standard input to a server and prints the replies")
         .after_help(
-            "Example: xarm talk --port 4100\nA connect opens a connection, of at most 1024. \
+            "Example: xarm talk --port 4187\nEach connect opens a connection, at most 1024. \
              Each line is answered before the next one is read.",
         )
         .arg(port(alloc))?
@@ -65,10 +65,10 @@ fn tick_command<'a>(alloc: Global) -> Result<Command<'a>, AllocError>
     ensures { IfOk result (HasShape tick_shape) }
 {
     Command::new(alloc, "tick")
-        .about("Tells a server what the clock says, so that branches reach their time limits")
+        .about("Sends a server the time, so that branches reach their time limits")
         .after_help(
-            "Example: xarm tick --port 4100\nIt takes one of the server's connections, and goes on until it is \
-             ended or the server is gone.",
+            "Example: xarm tick --port 4187\nIt uses one of the server's connections, and runs until it is killed or the \
+             server is gone.",
         )
         .arg(port(alloc))?
         .arg(socket(alloc))?
@@ -79,8 +79,10 @@ fn serve_command<'a>(alloc: Global) -> Result<Command<'a>, AllocError>
     ensures { IfOk result (HasShape serve_shape) }
 {
     Command::new(alloc, "serve")
-        .about("Serves a resource manager on a port, and prints ready once it can be reached")
-        .after_help("Example: xarm serve --log bank.log --name bank --port 4100")
+        .about(
+            "Serves a resource manager on a port or a Unix socket, and prints ready once it can be reached",
+        )
+        .after_help("Example: xarm serve --log bank.log --name bank --port 4187")
         .arg(log(alloc))?
         .arg(name(alloc))?
         .arg(port(alloc))?

@@ -1,5 +1,5 @@
 -- What a log's records say of the state that they stand behind.
-use Rattle.std.specs.Prelude.{ℕ, ◌≡◌, ◌+◌, ◌≤◌, true, false, Ok, IfSome, List, [], ◌∷◌, ◌++◌}
+use Rattle.std.specs.Prelude.{ℕ, zero, suc, ◌≡◌, ◌+◌, ◌≤◌, true, false, Ok, IfSome, List, [], ◌∷◌, ◌++◌}
 use Rattle.std.specs.List.{AllByRecursion}
 use Rattle.xa_record.specs.Limits.{IsRecord}
 use Rattle.xa_record.specs.declared.record.Record.{Record}
@@ -9,8 +9,9 @@ use Rattle.xa_model.specs.declared.outcome.Appending.TheVariants.{Kept, Refused,
 use Rattle.xa_model.specs.State.{State, timestamp_of, is_working}
 use Rattle.xa_model.specs.Durable.{durable}
 use Rattle.xa_model.specs.Fold.{fold, reading, unread, is_used, snapshot, sizes}
-use Rattle.xa_model.specs.Turn.{Turn, Nobody, Now, Appends, Checkpoints, Rereads, Rereading, Stops, Opens}
-use Rattle.xa_model.specs.Restarting.{missed, survived}
+use Rattle.xa_model.specs.Logging.{applied}
+use Rattle.xa_model.specs.Turn.{Turn, Nobody, Now, Appends, Checkpoints, Rereads, Joins, Rereading, Stops, Opens}
+use Rattle.xa_model.specs.Restarting.{survived}
 
 -- no later timestamp of this boot is among these, and none of a branch at work
 pub record IsNew (s : State) (timestamps : List ℕ) : Type 0 where
@@ -25,11 +26,17 @@ pub record Backs (rs : List Record) (s : State) : Type 0 where
   pub end : s.end ≡ FIRST_OFFSET + sizes rs
   pub new : s.logged_boot ≡ s.boot → IsNew s (reading unread rs).timestamps
 
--- the records of a log whose last record's fate is settled: it stands
--- there; an opened record stands first in a snapshot
+-- the records of a log after which a record whose fate was unknown
+-- stands; an opened record stands first in a snapshot
 abbrev pub settled : List Record → State → Record → List Record
 settled rs s (logged.Opened boot) = snapshot (durable s) boot
 settled rs s r = rs ++ r ∷ []
+
+-- and after which the first so many of these stand
+abbrev pub settled_first : ℕ → List Record → List Record → State → List Record
+settled_first zero lost rs s = rs
+settled_first (suc k) [] rs s = rs
+settled_first (suc k) (r ∷ lost) rs s = settled_first k lost (settled rs s r) (applied r s)
 
 -- The log's records go on with the state: at each answer of the device
 
@@ -47,7 +54,8 @@ BacksTurn rs s (Appends r after) =
 BacksTurn rs s (Checkpoints r after) =
     Backs (snapshot (durable s) (s.logged_boot + 1)) (after Kept).after × Backs rs (after Refused).after
     × Backs rs (after Lost).after
-BacksTurn rs s (Rereads failed found missing) =
+BacksTurn rs s (Rereads failed found) =
     Backs rs failed.after
-    × IfSome s.open_record (λ r. IfSome found (BacksReading (settled rs s r) (survived s r)))
-    × BacksReading rs (missed s) missing
+    × ((k : ℕ)
+    → IfSome (survived s k) (λ t. IfSome (found k) (BacksReading (settled_first k s.open_records rs s) t)))
+BacksTurn rs s (Joins refused r lost) = Backs rs refused.after × Backs rs lost.after

@@ -1,5 +1,5 @@
 -- The states that a restart and an opening lead to, of what lasted.
-use Rattle.std.specs.Prelude.{ℕ, ◌≡◌, true, false, None, []}
+use Rattle.std.specs.Prelude.{ℕ, ◌≡◌, true, false, []}
 use Rattle.std.specs.List.{AllByRecursion}
 use Rattle.xa_model.specs.State.{State, Up, is_working}
 use Rattle.xa_model.specs.Durable.{Durable, durable, is_past}
@@ -20,5 +20,5 @@ pub record IsRestored (d : Durable) (next : ℕ) (s : State) : Type 0 where
   pub idle : AllByRecursion (λ b. is_working b.phase ≡ false) s.branches
   pub past : AllByRecursion (λ b. is_past next b.timestamp ≡ true) s.branches
   pub standing : s.standing ≡ Up
-  pub open_record : s.open_record ≡ None
+  pub open_records : s.open_records ≡ []
   pub end : s.end ≡ snapshot_end s next

@@ -1,5 +1,5 @@
 -- The room that a log keeps, so that what is prepared can always be completed and forgotten.
-use Rattle.std.specs.Prelude.{◌≡◌, ◌≢◌, ◌+◌, true, false, Some, IfSome, List, length}
+use Rattle.std.specs.Prelude.{◌≡◌, ◌≢◌, ◌+◌, true, false, Some, List, [], ◌∷◌, length}
 use Rattle.xa_record.specs.declared.record.Record.{Record}
 use Rattle.xa_model.specs.declared.outcome.Outcome.{Outcome}
 use Rattle.xa_model.specs.State.{State, Ended}
@@ -16,10 +16,15 @@ use Rattle.xa_model.specs.Restarting.{can_open}
 abbrev pub HasRoom : State → Type 0
 HasRoom s = log_room s.log_bytes s.end (prepared_count s) (length s.decided) ≡ true
 
--- the room is there, and is there still if the record whose fate is unknown is found in the log
+-- with the first of these records, with the first two, and so on
+abbrev pub HasRoomWith : State → List Record → Type 0
+HasRoomWith s [] = Unit {0}
+HasRoomWith s (r ∷ rs) = HasRoom (applied r s) × HasRoomWith (applied r s) rs
+
+-- the room is there, and is there still however many of the records whose fates are unknown are found in the log
 pub record HasRoomAnyway (s : State) : Type 0 where
   pub room : HasRoom s
-  pub found : IfSome s.open_record (λ r. HasRoom (applied r s))
+  pub found : HasRoomWith s s.open_records
 
 -- an opening that was refused may have been asked with too few bytes
 abbrev pub IsRoomy : State → Type 0

@@ -1,5 +1,5 @@
 -- Laws on the log behind a state, and on the states that restarts and openings lead to.
-use Rattle.std.specs.Prelude.{ℕ, ◌≡◌, ◌+◌, ◌<◌, ◌≤◌, true, None, Ok, Some, List, [], length}
+use Rattle.std.specs.Prelude.{ℕ, ◌≡◌, ◌+◌, ◌<◌, ◌≤◌, true, false, Ok, Some, List, [], ◌++◌, length, take}
 use Rattle.std.specs.List.{AllByRecursion}
 use Rattle.xa_record.specs.Limits.{IsRecord}
 use Rattle.xa_record.specs.declared.record.Record.{Record}
@@ -15,8 +15,9 @@ use Rattle.xa_model.specs.Step.{turn, step}
 use Rattle.xa_model.specs.History.{Entry, Leads, fresh}
 use Rattle.xa_model.specs.Events.{IsHappening, HaveHappened}
 use Rattle.xa_model.specs.Invariants.Loggable.{IsRecoverable, MayBeLast}
-use Rattle.xa_model.specs.Invariants.Backing.{Backs, BacksTurn}
-use Rattle.xa_model.specs.Restarting.{restarted, reopened, opening}
+use Rattle.xa_model.specs.Invariants.Backing.{Backs, BacksTurn, settled_first}
+use Rattle.xa_model.specs.Logging.{is_boot}
+use Rattle.xa_model.specs.Restarting.{survived, restarted, reopened, opening}
 use Rattle.xa_model.specs.Invariants.Restored.{IsRestored}
 
 -- every step keeps a state recoverable
@@ -43,15 +44,27 @@ KeepsBacked =
     (rs : List Record) (s : State) (happening : Happening) → IsHappening happening → IsRecoverable s → Backs rs s
     → BacksTurn rs s (turn s happening)
 
+-- they go on with what a look finds of the records whose fates are unknown
+abbrev pub BacksFound : Type 0
+BacksFound =
+    (rs : List Record) (s : State) (k : ℕ) (t : State) → IsRecoverable s → Backs rs s → survived s k ≡ Some t
+    → Backs (settled_first k s.open_records rs s) t
+
+-- of a group the first so many stand after them
+abbrev pub SettlesGroup : Type 0
+SettlesGroup =
+    (k : ℕ) (lost rs : List Record) (s : State) → AllByRecursion (λ r. is_boot r ≡ false) lost
+    → settled_first k lost rs s ≡ rs ++ take k lost
+
 -- a restart and an opening, of a state whose records' fates are settled, lead to what lasted of it
 abbrev pub RestartsRestored : Type 0
 RestartsRestored =
-    (s : State) → IsRecoverable s → s.open_record ≡ None → s.logged_boot < MOST_BOOTS
+    (s : State) → IsRecoverable s → s.open_records ≡ [] → s.logged_boot < MOST_BOOTS
     → IsRestored (durable s) (s.logged_boot + 1) (restarted s (s.logged_boot + 1))
 
 abbrev pub ReopensRestored : Type 0
 ReopensRestored =
-    (s : State) (name : List ℕ) (log_bytes : ℕ) → IsRecoverable s → s.open_record ≡ None → s.logged_boot < MOST_BOOTS
+    (s : State) (name : List ℕ) (log_bytes : ℕ) → IsRecoverable s → s.open_records ≡ [] → s.logged_boot < MOST_BOOTS
     → IsRestored (durable s) (s.logged_boot + 1) (reopened s name log_bytes (s.logged_boot + 1))
 
 -- so does an opening on records of which nothing else is known, if they make no more XIDs known than a log has bytes
@@ -77,7 +90,7 @@ pub record IsNew (named : List ℕ) (most : ℕ) (s : State) : Type 0 where
   pub reads : s.reads ≡ []
   pub standing : s.standing ≡ Up
   pub end : s.end ≡ 49
-  pub open_record : s.open_record ≡ None
+  pub open_records : s.open_records ≡ []
   pub moment : s.moment ≡ 0
 
 -- a manager that was opened on a log of no records is new

@@ -1,9 +1,10 @@
 -- Laws on what a crash may leave at any moment.
-use Rattle.std.specs.Prelude.{ℕ, ◌≡◌, ◌⊎◌, Bool, true, false, Some, None, List, [], ◌∷◌, ◌++◌, is_some}
+use Rattle.std.specs.Prelude.{ℕ, ◌≡◌, ◌⊎◌, Bool, true, false, Some, List, [], ◌∷◌, ◌++◌, is_some}
 use Rattle.std.specs.List.{AllByRecursion}
 use Rattle.xa_frame.specs.declared.request.Request.{Request}
 use Rattle.xa_xid.specs.Triple.{Triple}
 use Rattle.xa_model.specs.declared.outcome.Outcome.{Outcome}
+use Rattle.xa_model.specs.declared.outcome.Outcome.TheVariants.{Joined}
 use Rattle.xa_model.specs.declared.outcome.Appending.TheVariants.{Kept, Refused, Lost}
 use Rattle.xa_model.specs.State.{State}
 use Rattle.xa_model.specs.Answer.{Answer}
@@ -11,18 +12,22 @@ use Rattle.xa_model.specs.Durable.{Durable, durable}
 use Rattle.xa_model.specs.Turn.{Happening}
 use Rattle.xa_model.specs.Step.{step}
 use Rattle.xa_model.specs.Events.{IsHappening, HaveHappened}
-use Rattle.xa_model.specs.History.{Entry, Leads}
+use Rattle.xa_model.specs.History.{Entry, Leads, joins}
 use Rattle.xa_model.specs.Invariants.Loggable.{IsRecoverable}
 use Rattle.xa_model.specs.Invariants.Restored.{IsRestored}
-use Rattle.xa_model.specs.Restarting.{fates}
+use Rattle.xa_model.specs.Restarting.{fates, survived}
+use Rattle.xa_model.specs.Logging.{supposed}
 use Rattle.xa_model.specs.ListedLaw.{lists, HaveRealMarks, HasPrepared, HasCompleted, AsksCompletion, CallsPrepare}
 use Rattle.xa_model.specs.ListedLaw.{is_prepare, is_completion, is_request}
-use Rattle.xa_model.specs.Crash.{with_append, appends, lost_of, IsFate, MayBeLeft, MayBeLeftIn}
+use Rattle.xa_model.specs.Crash.{with_append, appends, lost_of, IsFate, MayBeLeft, MayBeLostWith}
+use Rattle.xa_model.specs.Crash.{MayBeLeftWith, MayBeLeftIn}
 
--- where an outcome fits, it fits with its append lost
+-- Where an outcome fits, it fits with its append lost, but for that of a record that joined: a group is lost from its
+-- first record on.
 abbrev pub LostFits : Type 0
 LostFits =
-    (s : State) (happening : Happening) (outcome : Outcome) (a : Answer) → step s happening outcome ≡ Some a
+    (s : State) (happening : Happening) (outcome : Outcome) (a : Answer) → joins outcome ≡ false
+    → step s happening outcome ≡ Some a
     → is_some (step s happening (lost_of outcome)) ≡ true
 
 -- where an append was lost, a crash leaves what lasts where it was refused, or what lasts where it was kept
@@ -50,7 +55,7 @@ LeavesBehind =
 abbrev pub LeavesAppended : Type 0
 LeavesAppended =
     (s : State) (happening : Happening) (outcome : Outcome) (kept refused : Answer) → IsHappening happening
-    → IsRecoverable s → appends outcome ≡ true
+    → IsRecoverable s → appends outcome ≡ true → joins outcome ≡ false
     → step s happening (with_append Kept outcome) ≡ Some kept
     → step s happening (with_append Refused outcome) ≡ Some refused
     → MayBeLeft s happening outcome (durable kept.after) × MayBeLeft s happening outcome (durable refused.after)
@@ -64,7 +69,30 @@ LeavesNoMore =
 
 -- Once no record's fate is unknown, it leaves exactly what lasts.
 abbrev pub LeavesExactly : Type 0
-LeavesExactly = (s : State) (d : Durable) → s.open_record ≡ None → IsFate s d → d ≡ durable s
+LeavesExactly = (s : State) (d : Durable) → s.open_records ≡ [] → IsFate s d → d ≡ durable s
+
+-- A crash leaves what a look at the log may find: what lasts of the state with the first of the open records, as many
+-- as may be.
+abbrev pub LeavesFound : Type 0
+LeavesFound = (s : State) (k : ℕ) (t : State) → survived s k ≡ Some t → IsFate s (durable t)
+
+abbrev pub FindsLeft : Type 0
+FindsLeft = (s : State) (d : Durable) → IsFate s d → (k : ℕ) × (t : State) × (survived s k ≡ Some t) × (durable t ≡ d)
+
+-- While the first entry of a group happens, with those that join it, it leaves what it may of the group once that is
+-- lost: none of it, its first record, and so on to all.
+abbrev pub LeavesGroup : Type 0
+LeavesGroup =
+    (s : State) (entry : Entry) (later : List Entry) (lost : Answer) (d : Durable)
+    → step s entry.happening (lost_of entry.outcome) ≡ Some lost → MayBeLostWith lost.after later d
+    → MayBeLeftIn s (entry ∷ later) d
+
+-- One more record of a lost group is one more that it may leave, after all before it.
+abbrev pub LeavesOneMore : Type 0
+LeavesOneMore =
+    (s : State) (happening : Happening) (a : Answer) → IsHappening happening → IsRecoverable s
+    → step s happening (Joined Lost) ≡ Some a
+    → fates a.after ≡ fates s ++ durable (supposed a.after) ∷ []
 
 -- Histories
 
@@ -99,7 +127,8 @@ abbrev pub LeftAmid : Type 0
 LeftAmid =
     (s : State) (entries : List Entry) (d : Durable) → MayBeLeftIn s entries d
     → IsFate s d
-    ⊎ ((mid : State) × (entry : Entry) × IsAmid s entries mid entry × MayBeLeft mid entry.happening entry.outcome d)
+    ⊎ ((mid : State) × (entry : Entry) × (amid : IsAmid s entries mid entry)
+    × MayBeLeftWith mid entry amid.later d)
 
 -- The promises, in a history from this state that goes on with a run, at any moment of which a crash breaks it off
 

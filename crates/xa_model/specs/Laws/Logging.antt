@@ -1,12 +1,12 @@
 -- Laws of what is logged: it is what lasts.
-use Rattle.std.specs.Prelude.{ℕ, ◌≡◌, ◌+◌, Bool, true, false, None, Some, Ok, List, [], ◌∷◌, ◌++◌, IfSome}
+use Rattle.std.specs.Prelude.{ℕ, ◌≡◌, ◌+◌, Bool, true, false, Ok, List, [], ◌∷◌, ◌++◌, IfSome, take}
 use Rattle.xa_record.specs.declared.record.Record.{Record}
 use Rattle.xa_record.specs.declared.record.Record.TheVariants as logged
 use Rattle.xa_model.specs.declared.event.Event.{Event}
 use Rattle.xa_model.specs.declared.outcome.Appending.TheVariants.{Kept, Refused, Lost}
 use Rattle.xa_model.specs.State.{State, Up}
 use Rattle.xa_model.specs.Invariants.Sound.{IsSound}
-use Rattle.xa_model.specs.Durable.{durable}
+use Rattle.xa_model.specs.Durable.{Durable, durable}
 use Rattle.xa_model.specs.Fold.{Reading, apply, fold, reading, unread, is_timely}
 use Rattle.xa_model.specs.Answer.{ok}
 use Rattle.xa_model.specs.Turn.{Turn, Now, Appends, Checkpoints, Rereads, Rereading, Stops, Opens}
@@ -15,7 +15,7 @@ use Rattle.xa_model.specs.Events.{begins_boot}
 use Rattle.xa_model.specs.Logging.{applied, lost}
 use Rattle.xa_model.specs.Invariants.MayLog.{MayLog}
 use Rattle.xa_model.specs.Invariants.Loggable.{IsRecoverable}
-use Rattle.xa_model.specs.Restarting.{fates, missed, survived, restart_turn, reopen_turn}
+use Rattle.xa_model.specs.Restarting.{fates, survived, restart_turn, reopen_turn}
 use Rattle.xa_model.specs.Trimming.{trim_turn}
 
 -- what a record does keeps a state sound
@@ -48,7 +48,7 @@ pub record KeepsLog (s t : State) : Type 0 where
   pub end : t.end ≡ s.end
   pub boot : t.boot ≡ s.boot
   pub logged_boot : t.logged_boot ≡ s.logged_boot
-  pub open_record : t.open_record ≡ s.open_record
+  pub open_records : t.open_records ≡ s.open_records
   pub standing : t.standing ≡ s.standing
 
 -- what is answered at once logs nothing; a record that is kept does what it says, one that is refused nothing, and one
@@ -70,7 +70,7 @@ pub record Boots (s : State) (next : ℕ) (t : State) : Type 0 where
   pub lasts : durable t ≡ record (durable s) { boot = next }
   pub boot : t.boot ≡ next
   pub up : t.standing ≡ Up
-  pub settled : t.open_record ≡ None
+  pub settled : t.open_records ≡ []
 
 -- it didn't: the same may last
 pub record Fails (s t : State) : Type 0 where
@@ -81,7 +81,7 @@ pub record Fails (s t : State) : Type 0 where
 pub record IsInDoubt (s : State) (r : Record) (t : State) : Type 0 where
   pub recoverable : IsRecoverable t
   pub lasts : durable t ≡ durable s
-  pub open_record : t.open_record ≡ Some r
+  pub open_records : t.open_records ≡ r ∷ []
 
 abbrev pub BootLasts : State → Rereading → Type 0
 BootLasts s (Stops a) = Fails s a.after
@@ -90,14 +90,19 @@ BootLasts s (Opens r after) =
     × Fails s (after Refused).after
     × IsInDoubt s r (after Lost).after
 
--- a look that failed leaves both fates; else the open record did what it says,
--- or nothing, and the new boot begins with that
+-- what the records come to, one after another
+abbrev pub apply_all : List Record → Durable → Durable
+apply_all [] d = d
+apply_all (r ∷ rs) d = apply_all rs (apply r d)
+
+-- a look that failed leaves all fates; else the first so many of the open records
+-- did what they say, and the new boot begins with that
 abbrev pub SettlesWhatLasts : State → Turn → Type 0
-SettlesWhatLasts s (Rereads failed found missing) =
+SettlesWhatLasts s (Rereads failed found) =
     Fails s failed.after
-    × IfSome s.open_record
-    (λ r. (durable (survived s r) ≡ apply r (durable s)) × IfSome found (BootLasts (survived s r)))
-    × (durable (missed s) ≡ durable s) × BootLasts (missed s) missing
+    × ((k : ℕ)
+    → IfSome (survived s k)
+    (λ t. (durable t ≡ apply_all (take k s.open_records) (durable s)) × IfSome (found k) (BootLasts t)))
 SettlesWhatLasts s _ = ⊥
 
 abbrev pub RestartLasts : Type 0
@@ -110,7 +115,7 @@ ReopenLasts =
 -- a trim that is refused leaves what it was; else it is as a boot that begins once no record's fate is unknown
 abbrev pub BeginsWhatLasts : State → Turn → Type 0
 BeginsWhatLasts s (Now a) = Fails s a.after
-BeginsWhatLasts s (Checkpoints r after) = BootLasts s (Opens r after) × (s.open_record ≡ None)
+BeginsWhatLasts s (Checkpoints r after) = BootLasts s (Opens r after) × (s.open_records ≡ [])
 BeginsWhatLasts s _ = ⊥
 
 abbrev pub TrimLasts : Type 0

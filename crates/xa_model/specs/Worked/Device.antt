@@ -1,5 +1,5 @@
 -- Worked rows of what the device's refusals lead to, for each call that logs, and of openings that come to nothing.
-use Rattle.std.specs.Prelude.{◌≡◌, false, Some, None, [], ◌∷◌}
+use Rattle.std.specs.Prelude.{◌≡◌, Some, None, [], ◌∷◌}
 use Rattle.xa_codes.specs.declared.codes.TheConstants.{XAER_RMERR, XA_RETRY}
 use Rattle.xa_codes.specs.declared.detail.Detail.TheVariants as detail
 use Rattle.xa_codes.specs.declared.direction.Direction.TheVariants as direction
@@ -35,7 +35,7 @@ EachRefused =
 
 -- of one that was lost the fate is open: the manager is down, and nothing else changes
 abbrev pub down_with : State → Record → State
-down_with s r = record s { standing = Down; open_record = Some r }
+down_with s r = record s { standing = Down; open_records = r ∷ [] }
 
 abbrev pub EachLost : Type 0
 EachLost =
@@ -54,7 +54,7 @@ EachLost =
 abbrev pub RestartRefused : Type 0
 RestartRefused =
     Takes (restarting in_doubt) Failed no_device (record in_doubt { standing = Down })
-    × Takes (restarting in_doubt) (Reread false (Some Refused)) no_device (record in_doubt { standing = Down })
+    × Takes (restarting in_doubt) (Reread 0 (Some Refused)) no_device (record in_doubt { standing = Down })
     × (taken (restarting in_doubt) Quiet ≡ None)
     × (taken (restarting in_doubt) (Appended Kept) ≡ None)
 
@@ -63,8 +63,8 @@ abbrev pub OpeningRefused : Type 0
 OpeningRefused =
     let ended = record in_doubt { sessions = []; standing = Ended } in
     let last = record in_doubt { logged_boot = 4294967295 } in
-    Takes (reopening last 1073741824) (Reread false None) done (record ended { logged_boot = 4294967295 })
+    Takes (reopening last 1073741824) (Reread 0 None) done (record ended { logged_boot = 4294967295 })
     × Takes (reopening in_doubt 1073741824) Failed done ended
-    × Takes (reopening in_doubt 1073741824) (Reread false (Some Refused)) done ended
+    × Takes (reopening in_doubt 1073741824) (Reread 0 (Some Refused)) done ended
     × (taken (turn ended (Asked Connect)) Quiet ≡ None)
-    × (taken (restarting ended) (Reread false (Some Kept)) ≡ None)
+    × (taken (restarting ended) (Reread 0 (Some Kept)) ≡ None)

@@ -1,5 +1,5 @@
 -- Worked rows: what each of the nineteen calls is refused before its row.
-use Rattle.std.specs.Prelude.{ℕ, false, ℤ, None, Some, List, [], ◌∷◌, ◌++◌, map}
+use Rattle.std.specs.Prelude.{ℕ, ℤ, None, Some, List, [], ◌∷◌, ◌++◌, map}
 use Rattle.xa_codes.specs.declared.codes.TheConstants.{XAER_ASYNC, XAER_PROTO, XAER_INVAL, XAER_NOTA, XAER_RMFAIL}
 use Rattle.xa_codes.specs.declared.direction.Direction.TheVariants as direction
 use Rattle.xa_codes.specs.declared.flags.TheConstants.{TMNOFLAGS, TMASYNC, TMMULTIPLE, TMSUCCESS, TMSTARTRSCAN}
@@ -72,7 +72,7 @@ NotOpened =
     ∷ branches 1 1 None (carrying (body.Branches []))
     ∷ kept (trims 1 (number 49))
     ∷ opens 1 done
-    ∷ restarts 1 false done
+    ∷ restarts 1 0 done
     ∷ [])
 
 -- a manager that is down serves Open, Close and Restart, and refuses all else before anything else
@@ -85,7 +85,7 @@ IsDown =
     ++ all_refused XAER_RMFAIL of_opened
     ++ all_refused XAER_RMFAIL (Trim ∷ Tick 10 ∷ Branches 1 None ∷ Branches 0 None ∷ of_operator)
     ++ closes 1 done
-    ∷ restarts 1 false done
+    ∷ restarts 1 0 done
     ∷ [])
 
 -- no call has TMMULTIPLE, and none is answered later; Recover has no TMASYNC either

@@ -1,5 +1,5 @@
 -- Worked rows of the list of known branches: what is told of each, in their order, above a cursor.
-use Rattle.std.specs.Prelude.{ℕ, ℤ, ◌+◌, false, Some, None, List, [], ◌∷◌, ◌++◌}
+use Rattle.std.specs.Prelude.{ℕ, ℤ, ◌+◌, Some, None, List, [], ◌∷◌, ◌++◌}
 use Rattle.xa_codes.specs.declared.codes.TheConstants.{XA_OK, XA_RBROLLBACK, XA_RBOTHER, XA_RBCOMMFAIL}
 use Rattle.xa_codes.specs.declared.direction.Direction.TheVariants as direction
 use Rattle.xa_xid.specs.Triple.{Triple}
@@ -107,7 +107,7 @@ TellsLasting =
     ∷ kept (decides 1 direction.Rollback xid_b done)
     ∷ begins 1 xid_1 (time 4)
     ∷ branches 1 256 None (tells (a ∷ held xid_1 state.Working XA_OK (stamp 4) 1 0 0 ∷ b ∷ c ∷ []))
-    ∷ restarts 1 false done
+    ∷ restarts 1 0 done
     ∷ branches 1 256 None (tells (a ∷ b ∷ c ∷ []))
     ∷ kept (forgets 1 xid_a done)
     ∷ branches 1 256 None (tells (b ∷ c ∷ []))

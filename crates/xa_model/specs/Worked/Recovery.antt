@@ -1,5 +1,5 @@
 -- Worked rows of branches in doubt: what recovery lists, what restarts find, and what the operator decides.
-use Rattle.std.specs.Prelude.{◌+◌, true, false, List, [], ◌∷◌, ◌++◌}
+use Rattle.std.specs.Prelude.{◌+◌, List, [], ◌∷◌, ◌++◌}
 use Rattle.xa_codes.specs.declared.codes.TheConstants.{XAER_INVAL, XAER_NOTA, XAER_RMERR, XAER_RMFAIL, XA_RDONLY}
 use Rattle.xa_codes.specs.declared.codes.TheConstants.{XA_RETRY, XA_RBOTHER, XA_HEURCOM}
 use Rattle.xa_codes.specs.declared.detail.Detail.TheVariants as detail
@@ -33,7 +33,7 @@ abbrev pub Recovered : Type 0
 Recovered =
     Replied new_manager (
     in_doubt
-    ++ lists (xid_1 ∷ []) ∷ restarts 1 false done ∷ lists (xid_1 ∷ []) ∷ kept (completes 1 xid_1 done) ∷ lists [] ∷ [])
+    ++ lists (xid_1 ∷ []) ∷ restarts 1 0 done ∷ lists (xid_1 ∷ []) ∷ kept (completes 1 xid_1 done) ∷ lists [] ∷ [])
 
 -- a branch that wrote nothing is never in doubt
 abbrev pub PreparedWithoutWrites : Type 0
@@ -56,7 +56,7 @@ NextBoot =
     ∷ gets 1 not_there
     ∷ ends 1 xid_a done
     ∷ prepares 1 xid_a (plain XA_RDONLY)
-    ∷ restarts 1 false done
+    ∷ restarts 1 0 done
     ∷ begins 1 xid_b (number 8589934593)
     ∷ puts 1 0x76 done
     ∷ ends 1 xid_b done
@@ -71,7 +71,7 @@ LostAndFound =
     in_doubt
     ++ lost (completes 1 xid_1 (detailed XAER_RMFAIL detail.Device))
     ∷ gets 1 (plain XAER_RMFAIL)
-    ∷ restarts 1 true done
+    ∷ restarts 1 1 done
     ∷ lists []
     ∷ begins 1 xid_c (number 8589934593)
     ∷ gets 1 (found 0x76)
@@ -84,7 +84,7 @@ LostAndGone =
     in_doubt
     ++ lost (completes 1 xid_1 (detailed XAER_RMFAIL detail.Device))
     ∷ gets 1 (plain XAER_RMFAIL)
-    ∷ restarts 1 false done
+    ∷ restarts 1 0 done
     ∷ lists (xid_1 ∷ [])
     ∷ kept (completes 1 xid_1 done)
     ∷ [])
@@ -169,14 +169,14 @@ PreparedAgain =
     Replied new_manager (
     in_doubt
     ++ kept (completes 1 xid_1 done)
-    ∷ restarts 1 false done
+    ∷ restarts 1 0 done
     ∷ lists []
     ∷ begins 1 xid_1 (number 8589934593)
     ∷ puts 1 0x77 done
     ∷ ends 1 xid_1 done
     ∷ lists []
     ∷ lost (prepares 1 xid_1 (detailed XAER_RMFAIL detail.Device))
-    ∷ restarts 1 true done
+    ∷ restarts 1 1 done
     ∷ lists (xid_1 ∷ [])
     ∷ kept (rolls_back 1 xid_1 done)
     ∷ lists []

@@ -1,5 +1,5 @@
 -- How worked rows of several sessions are written: each call beside its reply.
-use Rattle.std.specs.Prelude.{ℕ, ◌≡◌, ◌+◌, Bool, Option, Some, List, [], ◌∷◌, map}
+use Rattle.std.specs.Prelude.{ℕ, ◌≡◌, ◌+◌, Option, Some, List, [], ◌∷◌, map}
 use Rattle.xa_codes.specs.declared.flags.TheConstants.{TMNOFLAGS, TMJOIN, TMRESUME, TMSUCCESS, TMFAIL, TMSUSPEND}
 use Rattle.xa_codes.specs.declared.flags.TheConstants.{TMMIGRATE, TMONEPHASE}
 use Rattle.xa_codes.specs.declared.direction.Direction.{Direction}
@@ -144,8 +144,8 @@ recovers n flags count reply = asks_by n (Recover flags count) reply
 abbrev pub branches : ℕ → ℕ → Option Triple → Reply → Entry
 branches n count after reply = asks_by n (Branches count after) reply
 
--- the record whose fate was unknown is there, or isn't, and the new boot is logged
-abbrev pub restarts : ℕ → Bool → Reply → Entry
+-- of the records whose fates were unknown the first so many are there, and the new boot is logged
+abbrev pub restarts : ℕ → ℕ → Reply → Entry
 restarts n survived reply = with_outcome (Reread survived (Some Kept)) (asks_by n Restart reply)
 
 -- the log begins anew

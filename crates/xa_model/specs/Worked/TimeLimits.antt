@@ -1,5 +1,5 @@
 -- Worked rows of time limits: which branches a moment marks, when it is refused, and how long limits and moments last.
-use Rattle.std.specs.Prelude.{ℕ, false, Some, [], ◌∷◌, ◌++◌}
+use Rattle.std.specs.Prelude.{ℕ, Some, [], ◌∷◌, ◌++◌}
 use Rattle.xa_codes.specs.declared.codes.TheConstants.{XAER_PROTO, XAER_INVAL, XAER_RMFAIL, XA_RBTIMEOUT, XA_RBOTHER}
 use Rattle.xa_codes.specs.declared.flags.TheConstants.{TMNOFLAGS}
 use Rattle.xa_frame.specs.declared.request.Request.TheVariants.{Start, Timeout, Tick}
@@ -110,7 +110,7 @@ NoTimeDown =
     ++ limits 1 10 (plain XAER_RMFAIL)
     ∷ ticks 1 11 (plain XAER_RMFAIL)
     ∷ ticks 1 9 (plain XAER_RMFAIL)
-    ∷ restarts 1 false done
+    ∷ restarts 1 0 done
     ∷ ticks 1 9 (plain XAER_INVAL)
     ∷ ticks 1 10 (number 0)
     ∷ [])
@@ -129,7 +129,7 @@ LimitLasts =
     ∷ ticks 2 29 (number 0)
     ∷ ticks 2 30 (number 1)
     ∷ ends 1 xid_a (plain XA_RBTIMEOUT)
-    ∷ restarts 1 false done
+    ∷ restarts 1 0 done
     ∷ ticks 2 29 (plain XAER_INVAL)
     ∷ begins 1 xid_a (number 8589934593)
     ∷ ticks 2 39 (number 0)
@@ -189,5 +189,5 @@ LimitOfSession =
 -- a restart keeps the moment and the limits; a manager that is opened again begins at moment 0, without sessions
 abbrev pub MomentLasts : Type 0
 MomentLasts =
-    Takes (restarting (at_moment 3 in_doubt)) (Reread false (Some Kept)) done (at_moment 3 (booted in_doubt 2 110))
-    × Takes (reopening (at_moment 3 in_doubt) 457) (Reread false (Some Kept)) done (opening held xarm 457 2)
+    Takes (restarting (at_moment 3 in_doubt)) (Reread 0 (Some Kept)) done (at_moment 3 (booted in_doubt 2 110))
+    × Takes (reopening (at_moment 3 in_doubt) 457) (Reread 0 (Some Kept)) done (opening held xarm 457 2)

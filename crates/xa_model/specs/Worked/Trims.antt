@@ -1,5 +1,5 @@
 -- Worked rows of a trim: what it writes and leaves, when it is refused, and what goes on over it.
-use Rattle.std.specs.Prelude.{ℕ, ◌≡◌, true, false, Some, None, [], ◌∷◌, ◌++◌}
+use Rattle.std.specs.Prelude.{ℕ, ◌≡◌, Some, None, [], ◌∷◌, ◌++◌}
 use Rattle.xa_codes.specs.declared.codes.TheConstants.{XAER_RMERR, XAER_RMFAIL, XA_RBTRANSIENT}
 use Rattle.xa_codes.specs.declared.detail.Detail.TheVariants as detail
 use Rattle.xa_record.specs.declared.record.Record.TheVariants as logged
@@ -33,7 +33,7 @@ Trimmed =
     (in_boot (with_branch Committed 156) 2 102)
     × (taken (trim_turn in_doubt) Quiet ≡ None)
     × (taken (trim_turn in_doubt) Failed ≡ None)
-    × (taken (trim_turn in_doubt) (Reread false (Some Kept)) ≡ None)
+    × (taken (trim_turn in_doubt) (Reread 0 (Some Kept)) ≡ None)
 
 -- Boots above the half are kept for restarts. A log is trimmed where it has room for the snapshot, the closing length,
 -- and what is kept for the branch: 110 + 4 + 343. The boots are looked at first.
@@ -59,10 +59,10 @@ TrimDevice =
     Takes (trim_turn in_doubt) (Appended Refused) (detailed XAER_RMERR detail.Device) in_doubt
     × Takes (trim_turn in_doubt) (Appended Lost) no_device lost_trim
     × (fates lost_trim ≡ held ∷ record held { boot = 2 } ∷ [])
-    × Takes (restarting lost_trim) (Reread true (Some Kept)) done (booted in_doubt 3 110)
-    × Takes (restarting lost_trim) (Reread false (Some Kept)) done (booted in_doubt 2 110)
+    × Takes (restarting lost_trim) (Reread 1 (Some Kept)) done (booted in_doubt 3 110)
+    × Takes (restarting lost_trim) (Reread 0 (Some Kept)) done (booted in_doubt 2 110)
     × Takes (trim_turn idle) (Appended Lost) no_device (down_with idle (logged.Opened 2))
-    × Takes (restarting (down_with idle (logged.Opened 2))) (Reread true (Some Kept)) done (booted without_branch 3 49)
+    × Takes (restarting (down_with idle (logged.Opened 2))) (Reread 1 (Some Kept)) done (booted without_branch 3 49)
 
 -- A branch that is at work goes on over a trim, whether its session works for it or has suspended it, and commits with
 -- the timestamp that it has: below a branch that began after it, which passes over it, and waits for no one.
@@ -119,9 +119,9 @@ PreparedOver =
     ∷ refused (trims 1 (detailed XAER_RMERR detail.Device))
     ∷ lost (trims 1 no_device)
     ∷ trims 1 (plain XAER_RMFAIL)
-    ∷ restarts 1 true done
+    ∷ restarts 1 1 done
     ∷ lost (trims 1 no_device)
-    ∷ restarts 1 false done
+    ∷ restarts 1 0 done
     ∷ kept (completes 1 xid_a done)
     ∷ kept (trims 1 (number 102))
     ∷ begins 1 xid_b (number 25769803777)

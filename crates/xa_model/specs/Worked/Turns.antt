@@ -19,7 +19,8 @@ use Rattle.xa_model.specs.State.{State, Wrote, Working, Prepared, Committed, Pha
 use Rattle.xa_model.specs.State.{new_session}
 use Rattle.xa_model.specs.Associations.{as_opened}
 use Rattle.xa_model.specs.Answer.{plain, detailed, answer}
-use Rattle.xa_model.specs.Turn.{Asked, Reopened, Turn, Nobody, Now, Appends, Checkpoints, Rereads, taken}
+use Rattle.xa_model.specs.Turn.{Asked, Reopened, Turn, Nobody, Now, Appends, Checkpoints, Rereads, Joins}
+use Rattle.xa_model.specs.Turn.{taken}
 use Rattle.xa_model.specs.Durable.{Durable}
 use Rattle.xa_model.specs.Fold.{nothing, fold}
 use Rattle.xa_model.specs.Logging.{log_room}
@@ -39,7 +40,8 @@ record_of Nobody = None
 record_of (Now a) = None
 record_of (Appends r after) = Some r
 record_of (Checkpoints r after) = Some r
-record_of (Rereads failed survived missing) = None
+record_of (Rereads failed found) = None
+record_of (Joins refused r lost) = Some r
 
 -- session 1 is opened, and 1:aa:bb put 76 at 6b, and was left; or what became of it, where the log ends then
 abbrev pub with_branch : Phase → ℕ → State
@@ -80,6 +82,9 @@ held = record {
   prepared = record { xid = xid_1; timestamp = 4294967297; writes = put_1 } ∷ [];
   decided = [];
 }
+
+abbrev pub nothing_held : Durable
+nothing_held = record { boot = 1; committed = []; prepared = []; decided = [] }
 
 -- What session 1 asks of that branch
 
@@ -177,24 +182,24 @@ no_device = detailed XAER_RMFAIL detail.Device
 -- A record that was lost is found by a restart, or isn't. A restart that fails settles nothing.
 abbrev pub LostAppends : Type 0
 LostAppends =
-    let lost = record idle { standing = Down; open_record = Some prepared_1 } in
+    let lost = record idle { standing = Down; open_records = prepared_1 ∷ [] } in
     Takes (preparing idle) (Appended Lost) no_device lost
-    × (fates lost ≡ record { boot = 1; committed = []; prepared = []; decided = [] } ∷ held ∷ [])
-    × Takes (restarting lost) (Reread true (Some Kept)) done (booted in_doubt 2 110)
-    × Takes (restarting lost) (Reread false (Some Kept)) done (booted without_branch 2 49)
+    × (fates lost ≡ nothing_held ∷ held ∷ [])
+    × Takes (restarting lost) (Reread 1 (Some Kept)) done (booted in_doubt 2 110)
+    × Takes (restarting lost) (Reread 0 (Some Kept)) done (booted without_branch 2 49)
     × Takes (restarting lost) Failed no_device lost
-    × Takes (restarting lost) (Reread true (Some Refused)) no_device (record in_doubt { standing = Down })
-    × (taken (restarting lost) (Reread true None) ≡ None)
-    × (taken (restarting idle) (Reread true (Some Kept)) ≡ None)
+    × Takes (restarting lost) (Reread 1 (Some Refused)) no_device (record in_doubt { standing = Down })
+    × (taken (restarting lost) (Reread 1 None) ≡ None)
+    × (taken (restarting idle) (Reread 1 (Some Kept)) ≡ None)
 
 -- The boot of a restart that was lost is used up, where it is found.
 abbrev pub LostBoots : Type 0
 LostBoots =
-    let lost = record in_doubt { standing = Down; open_record = Some (logged.Opened 2) } in
-    Takes (restarting in_doubt) (Reread false (Some Lost)) no_device lost
-    × Takes (restarting lost) (Reread true (Some Kept)) done (booted in_doubt 3 110)
-    × Takes (restarting lost) (Reread false (Some Kept)) done (booted in_doubt 2 110)
-    × Takes (restarting (record idle { logged_boot = 4294967295 })) (Reread false None)
+    let lost = record in_doubt { standing = Down; open_records = logged.Opened 2 ∷ [] } in
+    Takes (restarting in_doubt) (Reread 0 (Some Lost)) no_device lost
+    × Takes (restarting lost) (Reread 1 (Some Kept)) done (booted in_doubt 3 110)
+    × Takes (restarting lost) (Reread 0 (Some Kept)) done (booted in_doubt 2 110)
+    × Takes (restarting (record idle { logged_boot = 4294967295 })) (Reread 0 None)
     (detailed XAER_RMFAIL detail.Limit)
     (record idle { logged_boot = 4294967295; standing = Down })
 
@@ -210,7 +215,7 @@ DecidedByOperator =
     × Takes (committing decided) Quiet (plain XA_HEURCOM) decided
     × Takes (rolling_back decided) Quiet (plain XA_HEURCOM) decided
     × Takes (deciding decided direction.Commit) Quiet (plain XAER_PROTO) decided
-    × Takes (restarting decided) (Reread false (Some Kept)) done (booted decided 2 148)
+    × Takes (restarting decided) (Reread 0 (Some Kept)) done (booted decided 2 148)
     × Takes (forgetting decided) (Appended Kept) done (with_branch Committed 201)
     × Takes (forgetting in_doubt) Quiet (plain XAER_PROTO) in_doubt
     × Takes (forgetting without_branch) Quiet (plain XAER_NOTA) without_branch
@@ -220,10 +225,10 @@ DecidedByOperator =
 abbrev pub OpenedAgain : Type 0
 OpenedAgain =
     let ended = record in_doubt { log_bytes = 456; sessions = []; standing = Ended } in
-    Takes (reopening in_doubt 457) (Reread false (Some Kept)) done (opening held xarm 457 2)
+    Takes (reopening in_doubt 457) (Reread 0 (Some Kept)) done (opening held xarm 457 2)
     × (fold (logged.Opened 1 ∷ prepared_1 ∷ []) ≡ Ok held)
-    × Takes (reopening in_doubt 456) (Reread false None) done ended
+    × Takes (reopening in_doubt 456) (Reread 0 None) done ended
     × Takes (reopening in_doubt 456) Failed done ended
-    × Takes (reopening ended 457) (Reread false (Some Lost)) done
-    (record ended { log_bytes = 457; open_record = Some (logged.Opened 2) })
+    × Takes (reopening ended 457) (Reread 0 (Some Lost)) done
+    (record ended { log_bytes = 457; open_records = logged.Opened 2 ∷ [] })
     × (opening nothing xarm 1073741824 1 ≡ new_manager)

@@ -11,17 +11,17 @@ use Rattle.mv_chain.proofs.changes.install_in.Goals as goal
 pub returns-in-Own-clause-versions : goal.returns-in-Own-clause-versions
 returns-in-Own-clause-versions c = λ ts k e.
     let vs = shown_at c.args.pool.now c.args.slots.now.items in
-    let o = c.in-Own.ensures.slot ts vs k.chain (omega (arith, c.len.ensures, c.args.slots.now.ok.0, shown_length c.args.pool.now c.args.slots.now.items)) e in
-    let within : c.in-Own.i < length c.args.slots.now.items = omega (arith, c.in-Own.ensures.own c.in-Own.i refl, c.len.ensures, c.args.slots.now.ok.0) in
-    changed_shown (λ (v : Version). record v { value = c.args.value }) c.args.pool.now c.replace.new.pool c.args.slots.now.items c.in-Own.i c.index.result.now base within k.held (rw c.index.ensures at c.replace.ensures)
+    let o = c.in-Own.ensures.slot ts vs k.chain (omega (arith, c.len.ensures, shown_length c.args.pool.now c.args.slots.now.items)) e in
+    let within : c.in-Own.i < length c.args.slots.now.items = omega (arith, c.in-Own.ensures.own c.in-Own.i refl, c.len.ensures) in
+    changed_shown (λ (v : Version). record v { value = c.args.value }) c.args.pool.now c.replace.new.pool c.args.slots.now.items c.in-Own.i _ base within k.held (rw c.deref.ensures at c.replace.ensures)
     ∙ installed_own ts c.in-Own.i c.args.value vs _ base o.within k.chain o.in_time (o.own base).0 (o.own base).1 refl
 
 pub returns-in-Own-clause-kept : goal.returns-in-Own-clause-kept
 returns-in-Own-clause-kept c = λ ts k e.
     let vs = shown_at c.args.pool.now c.args.slots.now.items in
-    let o = c.in-Own.ensures.slot ts vs k.chain (omega (arith, c.len.ensures, c.args.slots.now.ok.0, shown_length c.args.pool.now c.args.slots.now.items)) e in
-    let within : c.in-Own.i < length c.args.slots.now.items = omega (arith, c.in-Own.ensures.own c.in-Own.i refl, c.len.ensures, c.args.slots.now.ok.0) in
-    let same = changed_shown (λ (v : Version). record v { value = c.args.value }) c.args.pool.now c.replace.new.pool c.args.slots.now.items c.in-Own.i c.index.result.now base within k.held (rw c.index.ensures at c.replace.ensures)
+    let o = c.in-Own.ensures.slot ts vs k.chain (omega (arith, c.len.ensures, shown_length c.args.pool.now c.args.slots.now.items)) e in
+    let within : c.in-Own.i < length c.args.slots.now.items = omega (arith, c.in-Own.ensures.own c.in-Own.i refl, c.len.ensures) in
+    let same = changed_shown (λ (v : Version). record v { value = c.args.value }) c.args.pool.now c.replace.new.pool c.args.slots.now.items c.in-Own.i _ base within k.held (rw c.deref.ensures at c.replace.ensures)
     ∙ installed_own ts c.in-Own.i c.args.value vs _ base o.within k.chain o.in_time (o.own base).0 (o.own base).1 refl in
     record {
       held = changed_held (λ (v : Version). record v { value = c.args.value }) c.args.pool.now c.replace.new.pool c.args.slots.now.items _ c.replace.ensures k.held;
@@ -36,14 +36,14 @@ pub returns-in-New-clause-versions : goal.returns-in-New-clause-versions
 returns-in-New-clause-versions c =
     then_ok c.put_in.result c.put_in.ensures.ok (λ p ts k e.
     let vs = shown_at c.args.pool.now c.args.slots.now.items in
-    let n = c.in-New.ensures.slot ts vs k.chain (omega (arith, c.len.ensures, c.args.slots.now.ok.0, shown_length c.args.pool.now c.args.slots.now.items)) e in
+    let n = c.in-New.ensures.slot ts vs k.chain (omega (arith, c.len.ensures, shown_length c.args.pool.now c.args.slots.now.items)) e in
     put_in_shown c.in-New.i (unread c.args.look.now.at c.args.value) c.args.pool.now c.put_in.new.pool c.args.slots.now.items c.put_in.new.slots.items k.held p
     ∙ rw (ap (λ l. l.at) e) (installed_new ts c.in-New.i c.args.value vs n.in_time n.index n.none))
 
 pub returns-in-New-clause-kept : goal.returns-in-New-clause-kept
 returns-in-New-clause-kept c = λ ts k e.
     let vs = shown_at c.args.pool.now c.args.slots.now.items in
-    let n = c.in-New.ensures.slot ts vs k.chain (omega (arith, c.len.ensures, c.args.slots.now.ok.0, shown_length c.args.pool.now c.args.slots.now.items)) e in
+    let n = c.in-New.ensures.slot ts vs k.chain (omega (arith, c.len.ensures, shown_length c.args.pool.now c.args.slots.now.items)) e in
     by_result c.put_in.result c.put_in.ensures.ok c.put_in.ensures.same c.put_in.ensures.err
     (λ p. record {
       held = put_in_held c.in-New.i (unread c.args.look.now.at c.args.value) c.args.pool.now c.put_in.new.pool c.args.slots.now.items c.put_in.new.slots.items k.held p;

@@ -13,22 +13,22 @@ use Rattle.mv_chain.proofs.changes.settle_in.Goals as goal
 
 pub returns-in_default-clause-versions : goal.returns-in_default-clause-versions
 returns-in_default-clause-versions c = λ k.
-    settled_nothing c.args.ts c.args.fate (shown_at c.args.pool.now c.args.slots.now.items) ((rw c.deref.ensures.value at c.in_default.ensures.found) k.chain)
+    settled_nothing c.args.ts c.args.fate (shown_at c.args.pool.now c.args.slots.now.items) ((rw c.deref.ensures at c.in_default.ensures.found) k.chain)
 
 pub returns-in-Committed-clause-versions : goal.returns-in-Committed-clause-versions
 returns-in-Committed-clause-versions c = λ k.
     let vs = shown_at c.args.pool.now c.args.slots.now.items in
-    let found = (rw c.deref.ensures.value at c.in-Some.ensures.found) k.chain in
-    let within = rw c.deref.ensures.value at c.in-Some.ensures.within in
-    rw c.in-Committed.is (changed_shown (λ (v : Version). record v { pending = false }) c.args.pool.now c.commit.new.pool c.args.slots.now.items c.in-Some.i c.index.result.now base within k.held (rw c.index.ensures at c.commit.ensures)
+    let found = (rw c.deref.ensures at c.in-Some.ensures.found) k.chain in
+    let within = rw c.deref.ensures at c.in-Some.ensures.within in
+    rw c.in-Committed.is (changed_shown (λ (v : Version). record v { pending = false }) c.args.pool.now c.commit.new.pool c.args.slots.now.items c.in-Some.i _ base within k.held (rw c.deref-in-Committed.ensures at c.commit.ensures)
     ∙ committed_own c.args.ts c.in-Some.i vs _ base (index_within c.args.ts c.in-Some.i vs found.0) k.chain (found.1 base).0 refl)
 
 pub returns-in-Committed-clause-kept : goal.returns-in-Committed-clause-kept
 returns-in-Committed-clause-kept c = λ k.
     let vs = shown_at c.args.pool.now c.args.slots.now.items in
-    let found = (rw c.deref.ensures.value at c.in-Some.ensures.found) k.chain in
-    let within = rw c.deref.ensures.value at c.in-Some.ensures.within in
-    let same = changed_shown (λ (v : Version). record v { pending = false }) c.args.pool.now c.commit.new.pool c.args.slots.now.items c.in-Some.i c.index.result.now base within k.held (rw c.index.ensures at c.commit.ensures)
+    let found = (rw c.deref.ensures at c.in-Some.ensures.found) k.chain in
+    let within = rw c.deref.ensures at c.in-Some.ensures.within in
+    let same = changed_shown (λ (v : Version). record v { pending = false }) c.args.pool.now c.commit.new.pool c.args.slots.now.items c.in-Some.i _ base within k.held (rw c.deref-in-Committed.ensures at c.commit.ensures)
     ∙ committed_own c.args.ts c.in-Some.i vs _ base (index_within c.args.ts c.in-Some.i vs found.0) k.chain (found.1 base).0 refl in
     record {
       held = changed_held (λ (v : Version). record v { pending = false }) c.args.pool.now c.commit.new.pool c.args.slots.now.items _ c.commit.ensures k.held;
@@ -38,8 +38,8 @@ returns-in-Committed-clause-kept c = λ k.
 pub returns-in-RolledBack-clause-versions : goal.returns-in-RolledBack-clause-versions
 returns-in-RolledBack-clause-versions c = λ k.
     let vs = shown_at c.args.pool.now c.args.slots.now.items in
-    let found = (rw c.deref.ensures.value at c.in-Some.ensures.found) k.chain in
-    let within = rw c.deref.ensures.value at c.in-Some.ensures.within in
+    let found = (rw c.deref.ensures at c.in-Some.ensures.found) k.chain in
+    let within = rw c.deref.ensures at c.in-Some.ensures.within in
     rw (c.in-RolledBack.is, c.take_out.ensures.slots)
     (taken_out_shown c.args.pool.now c.take_out.new.pool c.args.slots.now.items c.in-Some.i 0 within k.held (c.take_out.ensures.updates 0)
     ∙ rolled_back_own c.args.ts c.in-Some.i vs base (index_within c.args.ts c.in-Some.i vs found.0) k.chain (found.1 base).0 (found.1 base).1)
@@ -47,7 +47,7 @@ returns-in-RolledBack-clause-versions c = λ k.
 pub returns-in-RolledBack-clause-kept : goal.returns-in-RolledBack-clause-kept
 returns-in-RolledBack-clause-kept c = λ k.
     let vs = shown_at c.args.pool.now c.args.slots.now.items in
-    let within = rw c.deref.ensures.value at c.in-Some.ensures.within in
+    let within = rw c.deref.ensures at c.in-Some.ensures.within in
     rw c.take_out.ensures.slots (record {
       held = taken_out_held c.args.pool.now c.take_out.new.pool c.args.slots.now.items c.in-Some.i 0 within k.held (c.take_out.ensures.updates 0);
       chain = rw (taken_out_shown c.args.pool.now c.take_out.new.pool c.args.slots.now.items c.in-Some.i 0 within k.held (c.take_out.ensures.updates 0)) (chain_removed c.in-Some.i vs k.chain);
@@ -55,7 +55,7 @@ returns-in-RolledBack-clause-kept c = λ k.
 
 pub returns-in-RolledBack-clause-others : goal.returns-in-RolledBack-clause-others
 returns-in-RolledBack-clause-others c =
-    let within = rw c.deref.ensures.value at c.in-Some.ensures.within in
+    let within = rw c.deref.ensures at c.in-Some.ensures.within in
     rw c.take_out.ensures.slots (taken_out_leaves c.args.pool.now c.take_out.new.pool c.args.slots.now.items c.in-Some.i 0 within (c.take_out.ensures.updates 0))
 
 pub returns-in-RolledBack-clause-within : goal.returns-in-RolledBack-clause-within
@@ -67,5 +67,5 @@ returns-in-Committed-clause-count c = λ k.
 
 pub returns-in-RolledBack-clause-count : goal.returns-in-RolledBack-clause-count
 returns-in-RolledBack-clause-count c = λ k.
-    let within = rw c.deref.ensures.value at c.in-Some.ensures.within in
+    let within = rw c.deref.ensures at c.in-Some.ensures.within in
     rw c.take_out.ensures.slots (taken_out_counts c.args.pool.now c.take_out.new.pool c.args.slots.now.items c.in-Some.i 0 within k.held (c.take_out.ensures.updates 0))

@@ -10,7 +10,7 @@ returns-then-based-clause-versions c = λ h.
     let old = c.args.pool.now in
     let slots = c.args.slots.now.items in
     let decided : (get_or (shown_at old slots) c.args.k base).pending ≡ false =
-    ap (λ v. v.pending) (shown_index old slots c.args.k c.index.result.now base c.requires) ∙ (ap (λ s. (version_at old s).pending) (sym c.index.ensures) ∙ (sym c.pending_at.ensures ∙ c.if-pending_at.false)) in
+    ap (λ v. v.pending) (shown_index old slots c.args.k _ base c.requires) ∙ (sym (rw c.deref.ensures at c.pending_at.ensures) ∙ c.if-pending_at.false) in
     rw (c.take_out.ensures.slots, decided, c.if-based.true) (taken_out_shown old c.take_out.new.pool slots c.args.k 0 c.requires h (c.take_out.ensures.updates 0))
 
 pub returns-then-based-clause-held : goal.returns-then-based-clause-held

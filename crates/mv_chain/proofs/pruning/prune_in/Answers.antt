@@ -8,12 +8,12 @@ use Rattle.mv_chain.proofs.pruning.prune_in.Goals as goal
 
 pub loop-left-init : goal.loop-left-init
 loop-left-init c = record {
-  within = rw c.deref.ensures.value at c.find-left.ensures.within;
+  within = rw c.deref.ensures at c.find-left.ensures.within;
   others = nothing_leaves c.args.pool.now c.args.slots.now.items;
   values = λ n h. h;
   held = λ h. h;
   count = λ h. refl;
-  pruned = λ k. pruned_begins c.args.low c.find-left.result (shown_at c.args.pool.now c.args.slots.now.items) ((rw c.deref.ensures.value at c.find-left.ensures.index) k.chain);
+  pruned = λ k. pruned_begins c.args.low c.find-left.result (shown_at c.args.pool.now c.args.slots.now.items) ((rw c.deref.ensures at c.find-left.ensures.index) k.chain);
 }
 
 pub loop-left-preserved : goal.loop-left-preserved

@@ -1,15 +1,9 @@
-use Rattle.std.proofs.Common.{ℕ, List, [], ◌∷◌, ◌++◌, Result, Ok, Err, ap, ◌∙◌, arith, rules}
-use Rattle.std.specs.Prelude.{OnOk}
+use Rattle.std.proofs.Common.{ℕ, List, [], ◌∷◌, ◌++◌, ap, ◌∙◌, arith, rules}
 use Rattle.std.proofs.lemmas.Grind.{common_steps}
 use Rattle.std.specs.Int.{w64, to_be_bytes}
 use Rattle.xa_frame.specs.Spelling.{body_bytes, code_bytes, detail_bytes}
-use Rattle.xa_frame.proofs.Lists.{put_five}
+use Rattle.xa_frame.proofs.Lists.{on_ok, put_five}
 use Rattle.xa_frame.proofs.encode.put_reply.Goals as goal
-
--- where it went well the one holds, and so the other
-on_ok : {X E : Type 0} (r : Result X E) (P Q : Type 0) → (P → Q) → OnOk r P → OnOk r Q
-on_ok (Ok x) P Q f h = f h
-on_ok (Err e) P Q f h = tt
 
 pub returns-clause-bytes : goal.returns-clause-bytes
 returns-clause-bytes c =

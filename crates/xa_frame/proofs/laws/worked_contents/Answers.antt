@@ -6,6 +6,9 @@ pub returns-clause-requests : goal.returns-clause-requests
 unfolding xid_at parts_at
 returns-clause-requests c = (refl, refl, refl, refl, refl, refl, refl, refl, refl, refl, refl, refl, refl, refl, refl, refl, refl, refl, refl, refl, refl, refl, refl, refl, refl, refl)
 
+pub returns-clause-questions : goal.returns-clause-questions
+returns-clause-questions c = (refl, refl, refl, refl, refl, refl, refl, refl)
+
 pub returns-clause-replies : goal.returns-clause-replies
 unfolding xid_at parts_at
-returns-clause-replies c = (refl, refl, refl, refl, refl, refl, refl, refl, refl, refl, refl, refl, refl, refl)
+returns-clause-replies c = (refl, refl, refl, refl, refl, refl, refl, refl, refl, refl, refl, refl, refl, refl, refl, refl, refl)

@@ -10,7 +10,7 @@ returns-clause-ready c = record {
   records = λ s h now.
       given_stands s c.in_ok-records.records c.low_water-2.new.self c.low_water.result (c.low_water.ensures s h.recoverable.sound (c.in_ok-branches.ensures s h now)) h.recoverable.sound c.low_water-2.ensures.stands
       (c.in_ok-records.ensures.stands s h);
-  bodies = c.in_ok-bodies.ensures;
+  bodies = c.in_ok-records.ensures.bodies;
 }
 
 pub returns-clause-short : goal.returns-clause-short

@@ -1,4 +1,5 @@
-use Rattle.xa_model.proofs.Crashes.{lost_fits, lost_fates_are, leaves_before, leaves_behind, leaves_appended, leaves_no_more, leaves_exactly}
+use Rattle.xa_model.proofs.Crashes.{lost_fits, lost_fates_are}
+use Rattle.xa_model.proofs.LeftMeanwhile.{leaves_before, leaves_behind, leaves_appended, leaves_group, leaves_no_more, leaves_exactly, leaves_found, finds_left, leaves_one_more}
 use Rattle.xa_model.proofs.laws.crash_at_any_moment.Goals as goal
 
 pub returns-clause-fits : goal.returns-clause-fits
@@ -21,3 +22,15 @@ returns-clause-no_more c = leaves_no_more
 
 pub returns-clause-exactly : goal.returns-clause-exactly
 returns-clause-exactly c = leaves_exactly
+
+pub returns-clause-found : goal.returns-clause-found
+returns-clause-found c = leaves_found
+
+pub returns-clause-finds : goal.returns-clause-finds
+returns-clause-finds c = finds_left
+
+pub returns-clause-one_more : goal.returns-clause-one_more
+returns-clause-one_more c = leaves_one_more
+
+pub returns-clause-group : goal.returns-clause-group
+returns-clause-group c = leaves_group

@@ -1,4 +1,4 @@
-use Rattle.xa_model.proofs.Crashes.{first_left, last_left, earlier_left, later_left, left_amid}
+use Rattle.xa_model.proofs.LeftMeanwhile.{first_left, last_left, earlier_left, later_left, left_amid}
 use Rattle.xa_model.proofs.laws.crash_in_history.Goals as goal
 
 pub returns-clause-first : goal.returns-clause-first

@@ -11,7 +11,7 @@ pub returns-clause-over : goal.returns-clause-over
 returns-clause-over c = λ s h outcome over. nobody_answers s h outcome over
 
 pub returns-clause-restart : goal.returns-clause-restart
-returns-clause-restart c = λ s x. restarts_look s x
+returns-clause-restart c = λ s k x. restarts_look s k x
 
 pub returns-clause-opening : goal.returns-clause-opening
-returns-clause-opening c = λ s name log_bytes x. openings_look s name log_bytes x
+returns-clause-opening c = λ s name log_bytes k x. openings_look s name log_bytes k x

@@ -3,4 +3,4 @@ use Rattle.xa_recovery.specs.Snapshots.{held_body, bytes_of}
 use Rattle.xa_recovery.proofs.snapshots.put_prepared.Given as goal
 
 abbrev pub invariant-loop-timestamp : goal.invariant-loop-timestamp
-invariant-loop-timestamp l = bytes_of l.bodies.items ++ map held_body l.timestamp-iterator ≡ bytes_of l.fn.bodies.items ++ map held_body l.prepared.entries
+invariant-loop-timestamp l = bytes_of l.bodies.items ++ map held_body l.timestamp-iterator ≡ bytes_of l.fn.bodies.items ++ map held_body l.fn.prepared.entries

@@ -1,6 +1,6 @@
 use Rattle.std.proofs.Common.{inl}
 use Rattle.xa_room.specs.Gone.{WasGone}
-use Rattle.xa_workers.specs.Reports.{Balances}
+use Rattle.xa_workers.specs.Reports.{AsksAt, Balances}
 use Rattle.xa_workers.proofs.Balancing.{balances_same, balances_twice, calls_balance, connects_balance, hangs_up_balances}
 use Rattle.xa_workers.proofs.Conversing.{answers_keep}
 use Rattle.xa_workers.proofs.Serving.{calls_all}
@@ -16,8 +16,11 @@ returns-clause-balances g c =
     let talks = served.1 in
     let connected = connects_balance first.report c.connect.result second.report c.connect.ensures.report in
     let answered =
-    answers_keep _ (λ a b. Balances a.report b.report) (λ a. balances_same a.report)
-    (λ a b c. balances_twice a.report b.report c.report) (λ a q r b h. calls_balance _ a.report q r b.report h.0)
+    answers_keep
+    (λ a q r b. AsksAt g.M.Manages g.S.Start.start c.in-Ok-connect.session (a.report, a.calls) q r (b.report, b.calls))
+    (λ a b. Balances a.report b.report) (λ a. balances_same a.report)
+    (λ a b c. balances_twice a.report b.report c.report)
+    (λ a q r b h. calls_balance c.in-Ok-connect.session a.report q r b.report h.0)
     second talks.contents talks.replies third talks.answered
     in
     let left = hangs_up_balances (WasGone g.M.Manages g.S.Start.start) _ third.report last.report served.2 in
@@ -30,7 +33,11 @@ returns-clause-served g c =
     let served = c.serve-served.ensures in
     let third = served.0 in
     let talks = served.1 in
-    let all = calls_all _ (λ d. d.report) _ (λ d q r e h. h.0) second talks.contents talks.replies third talks.answered in
+    let all =
+    calls_all c.in-Ok-connect.session (λ d. d.report)
+    (λ a q r b. AsksAt g.M.Manages g.S.Start.start c.in-Ok-connect.session (a.report, a.calls) q r (b.report, b.calls))
+    (λ d q r e h. h.0) second talks.contents talks.replies third talks.answered
+    in
     inl (record {
       session = c.in-Ok-connect.session;
       calls = all.0;

@@ -70,7 +70,7 @@ returns-in-Ok-add-clause-stands c =
     let k = s.chains.held.kept c.args.i c.index_mut-chain.result.now c.index_mut-chain.ensures.value in
     let verdict = looked_at _ c.look-look.result c.args.ts c.count-count.result _ (c.look-look.ensures.found k) c.in-First.ensures in
     let at_ts : c.look-look.result.at ≡ c.args.ts = ap (λ (l : Look). l.at) (c.look-look.ensures.found k) in
-    let noted = rw (c.in-Ok-from_slice.ensures, at_ts) at c.in-Ok-add.ensures.noted in
+    let noted = rw (c.in-Ok-from_slice.ensures.key, at_ts) at c.in-Ok-add.ensures.noted in
     (first_at h c.args.self.now c.args.key.now c.args.i c.index_mut-chain.result.now c.add.new.chain c.add.new.pool c.add.new.notes s here c.index_mut-chain.ensures.value c.add.ensures.others (λ kk. c.add.ensures.kept c.args.ts kk (c.look-look.ensures.found kk)) c.args.ts c.count-count.result value u c.count-count.ensures verdict
     (c.in-Ok-add.ensures.ok c.args.ts k (c.look-look.ensures.found k)) noted).1
 
@@ -130,7 +130,7 @@ returns-in-Ok-add-clause-puts c =
     let vs = versions_of r.pool a in
     let verdict = looked_at _ c.look-look.result c.args.ts c.count-count.result _ (c.look-look.ensures.found k) c.in-First.ensures in
     let at_ts : c.look-look.result.at ≡ c.args.ts = ap (λ (l : Look). l.at) (c.look-look.ensures.found k) in
-    let lists = rw (c.in-Ok-from_slice.ensures, at_ts) at c.in-Ok-add.ensures.lists in
+    let lists = rw (c.in-Ok-from_slice.ensures.key, at_ts) at c.in-Ok-add.ensures.lists in
     puts_first h r (with_chain r c.args.i c.add.new.pool c.add.new.chain c.add.new.notes) c.args.key.now c.args.i c.args.ts vs value u s here (ap (shown_in r.pool) (sym c.index_mut-chain.ensures.value))
     (kept_with h r c.args.key.now c.args.i a c.add.new.chain c.add.new.pool c.add.new.notes s here c.index_mut-chain.ensures.value c.add.ensures.others (λ kk. c.add.ensures.kept c.args.ts kk (c.look-look.ensures.found kk))
     (installed c.args.ts value) (λ kk. c.in-Ok-add.ensures.versions c.args.ts kk (c.look-look.ensures.found kk)))
@@ -142,7 +142,7 @@ returns-in-Ok-add-clause-keys c =
     let r = c.args.self.now in
     let first = few_first _ c.count-count.result _ c.in-First.ensures in
     let few : length (own_of c.args.ts r) < MOST_WRITES = omega (arith, first, c.count-count.ensures) in
-    let noted = rw (c.in-Ok-from_slice.ensures, c.look-look.ensures.at) at c.in-Ok-add.ensures.noted in
+    let noted = rw (c.in-Ok-from_slice.ensures.key, c.look-look.ensures.at) at c.in-Ok-add.ensures.noted in
     keys_put r.notes c.add.new.notes c.args.ts (record { key = c.args.key.now; index = c.args.i }) noted few key h
 
 pub returns-in-Err-add-clause-keys : goal.returns-in-Err-add-clause-keys

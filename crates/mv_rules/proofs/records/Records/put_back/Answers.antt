@@ -41,7 +41,7 @@ returns-clause-stands c =
     let at_ts : c.look-look.result.at ≡ c.args.ts = ap (λ (l : Look). l.at) is in
     let other : ((shows c.args.ts (versions_of c.find_or_make.new.self.pool c.index_mut-chain.result.now)).from == c.args.ts) ≡ false = grind (arith, nat_tests, from, c.if-look-ts.false) in
     back_first_at h c.find_or_make.new.self c.args.key.now c.in_ok-i.i c.index_mut-chain.result.now c.add.new.chain c.add.new.pool c.add.new.notes stood c.in_ok-i.ensures.index c.index_mut-chain.ensures.value c.add.ensures.others (λ kk. c.add.ensures.kept c.args.ts kk (c.look-look.ensures.found kk)) c.args.ts value u timely other
-    (written c.args.ts k is) (rw (c.in_ok-from_slice.ensures, at_ts) at noted))
+    (written c.args.ts k is) (rw (c.in_ok-from_slice.ensures.key, at_ts) at noted))
 
 pub returns-then-look-ts-clause-puts : goal.returns-then-look-ts-clause-puts
 returns-then-look-ts-clause-puts c =
@@ -80,7 +80,7 @@ returns-clause-puts c =
     (puts_first h made left c.args.key.now c.in_ok-i.i c.args.ts vs value u stood c.in_ok-i.ensures.index (ap (shown_in made.pool) (sym c.index_mut-chain.ensures.value))
     (kept_with h made c.args.key.now c.in_ok-i.i a c.add.new.chain c.add.new.pool c.add.new.notes stood c.in_ok-i.ensures.index c.index_mut-chain.ensures.value c.add.ensures.others (λ kk. c.add.ensures.kept c.args.ts kk (c.look-look.ensures.found kk))
     (installed c.args.ts value) (λ kk. written c.args.ts kk (c.look-look.ensures.found kk)))
-    other refl (rw (c.in_ok-from_slice.ensures, at_ts) at noted)))
+    other refl (rw (c.in_ok-from_slice.ensures.key, at_ts) at noted)))
 
 -- what the branch and the others have written
 
@@ -106,7 +106,7 @@ pub returns-clause-keys : goal.returns-clause-keys
 returns-clause-keys c = λ n h key.
     let made = c.find_or_make.new.self in
     let o : Own = record { key = c.args.key.now; index = c.in_ok-i.i } in
-    let noted = rw (c.in_ok-from_slice.ensures, c.look-look.ensures.at) at c.add.ensures.noted in
+    let noted = rw (c.in_ok-from_slice.ensures.key, c.look-look.ensures.at) at c.add.ensures.noted in
     let own : own_in c.args.ts made.notes ≡ own_in c.args.ts c.args.self.now.notes = notes_alike _ _ c.find_or_make.ensures.notes c.args.ts in
     keys_added c.add.result made.notes c.add.new.notes c.args.ts o noted c.add.ensures.unnoted n (rw own h) key
 
@@ -114,5 +114,5 @@ pub returns-clause-others : goal.returns-clause-others
 returns-clause-others c = λ t other.
     let made = c.find_or_make.new.self in
     let o : Own = record { key = c.args.key.now; index = c.in_ok-i.i } in
-    let noted = rw (c.in_ok-from_slice.ensures, c.look-look.ensures.at) at c.add.ensures.noted in
+    let noted = rw (c.in_ok-from_slice.ensures.key, c.look-look.ensures.at) at c.add.ensures.noted in
     others_added c.add.result made.notes c.add.new.notes c.args.ts (own_in c.args.ts made.notes ++ o ∷ []) noted c.add.ensures.unnoted t other ∙ notes_alike _ _ c.find_or_make.ensures.notes t

@@ -25,7 +25,7 @@ returns-clause-stays g c = on_ok c.rescan.result _ (λ v is ends s st.
     still_stands g.D.Disk c.args.self.now _ s refl refl refl (λ up. (ends up).end ∙ st.end up) (λ up. alive) (λ up. (ends up).modern) c.rescan.ensures.settings
     (λ trusts. let finds : Finds g.D.Disk (bodies_of v.items) c.args.self.now.log c.rescan.new.self = record {
       stood = logged (g.D.Disk.seen c.rescan.new.self.other);
-      state = λ state one it. let f = in_ok _ c.rescan.result v is (c.rescan.ensures.anew trusts.disk state it (lost_trusted g.D.Disk trusts state one) (calm_trusted g.D.Disk trusts state c.args.self.now.log)) in (f.0, f.1.0);
+      state = λ state it. let f = in_ok _ c.rescan.result v is (c.rescan.ensures.anew trusts.disk state it (lost_trusted g.D.Disk trusts state) (calm_trusted g.D.Disk trusts state c.args.self.now.log)) in (f.0, f.1.0);
     } in
     stands_found g.D.Disk (bodies_of v.items) c.args.self.now.log c.rescan.new.self s finds (st.log trusts)) st)
 
@@ -33,7 +33,7 @@ pub returns-clause-found : goal.returns-clause-found
 returns-clause-found g c = λ trusts. if_ok c.rescan.result _ (λ v is s st.
     let finds : Finds g.D.Disk (bodies_of v.items) c.args.self.now.log c.rescan.new.self = record {
       stood = logged (g.D.Disk.seen c.rescan.new.self.other);
-      state = λ state one it. let f = in_ok _ c.rescan.result v is (c.rescan.ensures.anew trusts.disk state it (lost_trusted g.D.Disk trusts state one) (calm_trusted g.D.Disk trusts state c.args.self.now.log)) in (f.0, f.1.0);
+      state = λ state it. let f = in_ok _ c.rescan.result v is (c.rescan.ensures.anew trusts.disk state it (lost_trusted g.D.Disk trusts state) (calm_trusted g.D.Disk trusts state c.args.self.now.log)) in (f.0, f.1.0);
     } in
     found_state g.D.Disk (bodies_of v.items) c.args.self.now.log c.rescan.new.self s finds (outside c.args.self.now.up (view c.args.self.now) s st.tables).recoverable (st.log trusts))
 
@@ -43,7 +43,7 @@ returns-clause-goes_on g c = λ trusts. on_ok c.rescan.result _ (λ v is s st up
     let log = st.log trusts in
     let looks = c.rescan.ensures.looks trusts.disk in
     let found = in_ok _ c.rescan.result v is (returns-clause-found g c trusts) s st in
-    let anew = in_ok _ c.rescan.result v is (c.rescan.ensures.anew trusts.disk log.state log.is_in (lost_trusted g.D.Disk trusts log.state log.of_one) (calm_trusted g.D.Disk trusts log.state c.args.self.now.log)) in
+    let anew = in_ok _ c.rescan.result v is (c.rescan.ensures.anew trusts.disk log.state log.is_in (lost_trusted g.D.Disk trusts log.state) (calm_trusted g.D.Disk trusts log.state c.args.self.now.log)) in
     record {
       end = found_end g.D.Disk (bodies_of v.items) c.rescan.new.self s h (is_up c.args.self.now.up (view c.args.self.now) s st.tables up) found ∙ sym (st.end up);
       modern = stood_format g.D.Disk c.args.self.now.log c.rescan.new.self log.state (bodies_of v.items) log.is_in (st.alive up) anew.0 anew.1.0 trusts.headers

@@ -1,13 +1,17 @@
-use Rattle.std.proofs.Common.{◌≡◌, ◌∙◌, true, ap, sym, subst}
+use Rattle.std.proofs.Common.{◌≡◌, ◌∙◌, ℕ, List, Option, true, ap, sym, subst}
 use Rattle.xa_frame.specs.declared.request.Request.TheVariants.{Restart}
 use Rattle.xa_log.specs.Reading.{bodies_of}
 use Rattle.xa_model.specs.Durable.{durable}
-use Rattle.xa_manager.specs.Rereading.{GoesOn, IsNext}
+use Rattle.xa_manager.specs.Rereading.{Found, IsCounted, GoesOn, IsNext}
+use Rattle.xa_manager.specs.declared.doubt.Doubt.{Doubt}
+use Rattle.xa_manager.specs.LogStands.{Trusts}
+use Rattle.xa_manager.specs.Managed.{Doubts, ManagerStandsFor}
+use Rattle.xa_model.specs.State.{State}
 use Rattle.xa_manager.specs.Turns.{HasWanted}
 use Rattle.xa_manager.proofs.Begins.{next_newer, next_above}
 use Rattle.xa_manager.proofs.CrashBoots.{boot_by}
 use Rattle.xa_manager.proofs.Generations.{never_refused}
-use Rattle.xa_manager.proofs.Reserved.{look_same, none_rises, reserved_stands, state_same}
+use Rattle.xa_manager.proofs.Reserved.{look_same, many_same, none_rises, reserved_stands, state_same}
 use Rattle.xa_manager.proofs.Rereads.{failed_restarts, look_wanted, unread_ready}
 use Rattle.xa_manager.proofs.manager.Manager.restarted.Goals as goal
 use Rattle.xa_manager.proofs.manager.Manager.restarted.Goals.{else-self-via-then-self+else-not-goes_on, else-self-via-else-self}
@@ -33,13 +37,20 @@ returns-in-Ok-make_ready-clause-ok g c =
     let look = c.look.new.self in
     let ready = c.make_ready.new.self in
     let r = c.in-Ok-make_ready.ensures.log in
+    let counted = λ (trusts : Trusts g.D.Disk) (s : State) (st : ManagerStandsFor g.D.Disk c.args.self.now s).
+    let f = c.in-Ok.ensures.found trusts s st in
+    let same : look.doubt ≡ c.args.self.now.doubt = c.in-Ok.ensures.doubt in
+    let doubts : Doubts look.doubt s = subst (λ (d : Option Doubt). Doubts d s) (sym same) st.doubt in
+    let here : Found g.D.Disk (bodies_of c.deref.result.now) look.log s = subst (λ (l : List (List ℕ)). Found g.D.Disk l look.log s) (ap bodies_of (sym c.deref.ensures.value)) f in
+    subst (λ (k : ℕ). IsCounted ready.doubt c.count_after-after_end.result k) (many_same g.D.Disk look.log ready.log r bodies s f)
+    (subst (λ (d : Option Doubt). IsCounted d c.count_after-after_end.result f.many) (ap (λ m. m.doubt) (sym c.make_ready.ensures.rest)) (c.count_after-after_end.ensures s here doubts)) in
     record {
       turn = λ s st trusts.
           c.begin.ensures.turn s bodies (reserved_stands g.D.Disk look ready s r c.make_ready.ensures.rest (c.in-Ok.ensures.stays (c.in-Ok.ensures.goes_on trusts s st) s st)) trusts
-          (state_same g.D.Disk look.log ready.log r bodies s (c.in-Ok.ensures.found trusts s st)) rebuilt;
+          (state_same g.D.Disk look.log ready.log r bodies s (c.in-Ok.ensures.found trusts s st)) (counted trusts s st) rebuilt;
       leaves = λ s st trusts.
           let boot = c.begin.ensures.leaves s bodies (reserved_stands g.D.Disk look ready s r c.make_ready.ensures.rest (c.in-Ok.ensures.stays (c.in-Ok.ensures.goes_on trusts s st) s st)) trusts
-          (state_same g.D.Disk look.log ready.log r bodies s (c.in-Ok.ensures.found trusts s st)) rebuilt in
+          (state_same g.D.Disk look.log ready.log r bodies s (c.in-Ok.ensures.found trusts s st)) (counted trusts s st) rebuilt in
           boot_by _ c.args.self.now.log ready.log s c.begin.result.outcome c.begin.new.self.log
           (look_same g.D.Disk look.log ready.log r c.args.self.now.log s (c.in-Ok.ensures.leaves trusts s st)) boot;
       called = c.begin.ensures.called (r.fields.lost ∙ c.in-Ok.ensures.alive) c.args.self.now.log (none_rises g.D.Disk look.log ready.log r c.args.self.now.log c.in-Ok.ensures.count);

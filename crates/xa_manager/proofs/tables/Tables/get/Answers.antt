@@ -20,7 +20,7 @@ returns-in-Value-clause-ok c =
     let free : c.in-Some.working.mark ≡ None = search rules in
     rw c.carrying.ensures
     (get_value m (record m { records = c.get.new.self }) c.args.session c.args.key.now c.in-Some.field-0-0 c.in-Some.working c.in-Value.value own free
-    (subst (λ (k : List ℕ). Gets m c.in-Some.working.timestamp k (got_as.Value c.in-Value.value) (record m { records = c.get.new.self })) c.as_slice.ensures
+    (subst (λ (k : List ℕ). Gets m c.in-Some.working.timestamp k (got_as.Value c.in-Value.value) (record m { records = c.get.new.self })) c.as_slice.ensures.value
     (record { same = same_beside m c.get.new.self; answer = c.in-Value.ensures.answer; records = c.in-Value.ensures.stands })))
 
 pub returns-in-Value-clause-fresh : goal.returns-in-Value-clause-fresh
@@ -33,7 +33,7 @@ returns-in-Absent-clause-ok c =
     let free : c.in-Some.working.mark ≡ None = search rules in
     rw c.carrying-in-Absent.ensures
     (get_absent m (record m { records = c.get.new.self }) c.args.session c.args.key.now c.in-Some.field-0-0 c.in-Some.working own free
-    (subst (λ (k : List ℕ). Gets m c.in-Some.working.timestamp k got_as.Absent (record m { records = c.get.new.self })) c.as_slice.ensures
+    (subst (λ (k : List ℕ). Gets m c.in-Some.working.timestamp k got_as.Absent (record m { records = c.get.new.self })) c.as_slice.ensures.value
     (record { same = same_beside m c.get.new.self; answer = c.in-Absent.ensures.answer; records = c.in-Absent.ensures.stands })))
 
 pub returns-in-Busy-clause-ok : goal.returns-in-Busy-clause-ok
@@ -43,7 +43,7 @@ returns-in-Busy-clause-ok c =
     let free : c.in-Some.working.mark ≡ None = search rules in
     rw c.detailed.ensures
     (get_busy m (record m { records = c.get.new.self }) c.args.session c.args.key.now c.in-Some.field-0-0 c.in-Some.working c.in-Busy.field-0 own free
-    (subst (λ (k : List ℕ). Gets m c.in-Some.working.timestamp k (got_as.Busy c.in-Busy.field-0) (record m { records = c.get.new.self })) c.as_slice.ensures
+    (subst (λ (k : List ℕ). Gets m c.in-Some.working.timestamp k (got_as.Busy c.in-Busy.field-0) (record m { records = c.get.new.self })) c.as_slice.ensures.value
     (record { same = same_beside m c.get.new.self; answer = c.in-Busy.ensures.answer; records = c.in-Busy.ensures.stands })))
 
 pub returns-in_default-clause-ok : goal.returns-in_default-clause-ok
@@ -57,5 +57,5 @@ returns-in-Memory-clause-err c =
     let m = view_of c.args.self.now in
     let own : own_at m c.args.session ≡ Some (c.in-Some.field-0-0, c.in-Some.working) = grind (arith, c.in-Some.ensures) in
     get_stays m (record m { records = c.get.new.self }) c.args.session c.args.key.now c.in-Some.field-0-0 c.in-Some.working own
-    (subst (λ (k : List ℕ). Gets m c.in-Some.working.timestamp k got_as.Memory (record m { records = c.get.new.self })) c.as_slice.ensures
+    (subst (λ (k : List ℕ). Gets m c.in-Some.working.timestamp k got_as.Memory (record m { records = c.get.new.self })) c.as_slice.ensures.value
     (record { same = same_beside m c.get.new.self; answer = c.in-Memory.ensures.answer; records = c.in-Memory.ensures.stands }))

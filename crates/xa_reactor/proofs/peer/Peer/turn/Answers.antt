@@ -4,14 +4,14 @@ use Rattle.xa_reactor.proofs.Turning.{carries_on, carries_on_fed, carries_on_sen
 use Rattle.xa_reactor.proofs.peer.Peer.turn.Goals as goal
 
 pub returns-then-not-flush-clause-answers : goal.returns-then-not-flush-clause-answers
-returns-then-not-flush-clause-answers g c = none_answered _ c.args.door.now
+returns-then-not-flush-clause-answers g c = none_answered (g.D.Door.called c.args.self.now.session) c.args.door.now
 
 pub returns-then-not-flush-clause-carries : goal.returns-then-not-flush-clause-carries
 returns-then-not-flush-clause-carries g c =
     carries_on_sent (g.D.Door.called c.args.self.now.session) c.args.self.now.connection c.flush.new.self.connection c.args.door.now c.flush.ensures.sent
 
 pub returns-then-not-take_in-clause-answers : goal.returns-then-not-take_in-clause-answers
-returns-then-not-take_in-clause-answers g c = none_answered _ c.args.door.now
+returns-then-not-take_in-clause-answers g c = none_answered (g.D.Door.called c.args.self.now.session) c.args.door.now
 
 pub returns-then-not-take_in-clause-carries : goal.returns-then-not-take_in-clause-carries
 returns-then-not-take_in-clause-carries g c =

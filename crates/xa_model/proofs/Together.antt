@@ -1,0 +1,341 @@
+-- Calls on different XIDs: what the record of one does leaves what another looks at, and so its record, the same.
+use Rattle.std.proofs.Common.{◌≡◌, ℕ, ℤ, Bool, true, false, cond, List, ◌∷◌, Option, Some, None, refl, sym, ap, ◌∙◌, subst}
+use Rattle.std.specs.Prelude.{nat_lt, option_map}
+use Rattle.xa_codes.specs.Flags.{has}
+use Rattle.xa_codes.specs.declared.codes.TheConstants.{XAER_RMERR, XA_RETRY, XA_RDONLY}
+use Rattle.xa_codes.specs.declared.direction.Direction.{Direction}
+use Rattle.xa_codes.specs.declared.direction.Direction.TheVariants as direction
+use Rattle.xa_codes.specs.declared.flags.TheConstants.{TMONEPHASE}
+use Rattle.xa_codes.specs.declared.write.Write.{Write}
+use Rattle.xa_frame.specs.declared.reply.Reply.{Reply}
+use Rattle.xa_frame.specs.declared.request.Request.{Request}
+use Rattle.xa_frame.specs.declared.request.Request.TheVariants.{Prepare, Commit, Rollback, Forget, Decide}
+use Rattle.xa_record.specs.declared.record.Record.{Record}
+use Rattle.xa_record.specs.declared.record.Record.TheVariants as logged
+use Rattle.xa_xid.specs.Triple.{Triple, xid_eq}
+use Rattle.xa_xid.proofs.Same.{xid_same}
+use Rattle.xa_model.specs.declared.event.Event.TheVariants as event
+use Rattle.xa_model.specs.declared.outcome.Appending.TheVariants.{Kept, Refused}
+use Rattle.xa_model.specs.State.{State, Session, Association, Branch, Decided, Standing, Known, Unknown, AtWork, InDoubt, Completed, known_as, known_among, known_of, decided_of, is_known_as, holders_of, session_of, change, without}
+use Rattle.xa_model.specs.Answer.{Answer, plain, answer, ok}
+use Rattle.xa_model.specs.Associations.{mark_in, timestamp_by, timestamp_in}
+use Rattle.xa_model.specs.Branches.{as_committed, as_prepared, is_associated, is_decision_of, unprepared_refusal, two_phase_refusal, rollback_refusal, heuristic_refusal, rolled_back, committed}
+use Rattle.xa_model.specs.Completions.{prepare_turn, prepare_written, commit_one_phase_turn, commit_two_phase_turn, commit_written, rollback_turn, roll_back_turn, decide_refusal, decide_turn, forget_refusal, forget_turn}
+use Rattle.xa_model.specs.Early.{Context, early_refusal}
+use Rattle.xa_model.specs.Fold.{is_empty}
+use Rattle.xa_model.specs.Logging.{applied, logs, has_room, log_full, writes_by, writes_in}
+use Rattle.xa_model.specs.Step.{row, respond, is_up, context_of, record_in}
+use Rattle.xa_model.specs.Turn.{Turn, Now, Appends, unless_now, marked_now}
+use Rattle.xa_model.specs.Laws.Together.{xid_of, IsSameFor, has_room_for, LeavesOthers, AppendsTheSame}
+use Rattle.xa_model.proofs.Doubts.{prepared_known}
+use Rattle.xa_model.proofs.Finds.{find_without}
+use Rattle.xa_model.proofs.Further.{recorded, turns_up}
+use Rattle.xa_model.proofs.Lists.{find_change_other}
+use Rattle.xa_model.proofs.Names.{called_apart}
+
+-- what a record leaves
+
+same_for : (other : Triple) (s t : State) → known_of t.branches other ≡ known_of s.branches other → decided_of t.decided other ≡ decided_of s.decided other
+    → t.associations ≡ s.associations → t.sessions ≡ s.sessions → t.name ≡ s.name → t.moment ≡ s.moment → t.standing ≡ s.standing → IsSameFor other s t
+same_for other s t known decided held sessions name moment standing = record {
+  known = known;
+  decided = decided;
+  associations = held;
+  sessions = sessions;
+  name = name;
+  moment = moment;
+  standing = standing;
+}
+
+itself : (other : Triple) (s : State) → IsSameFor other s s
+itself other s = same_for other s s refl refl refl refl refl refl refl
+
+module _ (s : State) (xid other : Triple) (apart : xid_eq xid other ≡ false) where
+  prepares : known_of (change (is_known_as xid) as_prepared s.branches) other ≡ known_of s.branches other
+  prepares =
+      find_change_other (is_known_as xid) (is_known_as other) as_prepared
+      (λ b is. (called_apart xid other b apart is, prepared_known other b ∙ called_apart xid other b apart is)) s.branches
+
+  commits : known_of (change (is_known_as xid) as_committed s.branches) other ≡ known_of s.branches other
+  commits =
+      find_change_other (is_known_as xid) (is_known_as other) as_committed (λ b is. (called_apart xid other b apart is, refl)) s.branches
+
+  leaves : known_of (without (is_known_as xid) s.branches) other ≡ known_of s.branches other
+  leaves = find_without (is_known_as xid) (is_known_as other) (λ b is. called_apart xid other b apart is) s.branches
+
+  rolled : IsSameFor other s (rolled_back s xid)
+  rolled = same_for other s (rolled_back s xid) leaves refl refl refl refl refl refl
+
+  other_decided : (way : Direction) → decided_of (record { xid = xid; direction = way } ∷ s.decided) other ≡ decided_of s.decided other
+  other_decided way = rw apart refl
+
+  forgets : decided_of (without (is_decision_of xid) s.decided) other ≡ decided_of s.decided other
+  forgets =
+      ap (option_map (λ (d : Decided). d.direction))
+      (find_without (is_decision_of xid) (λ (d : Decided). xid_eq d.xid other) (λ d is. subst (λ (x : Triple). xid_eq x other ≡ false) (sym (xid_same d.xid xid is)) apart) s.decided)
+
+  prepared_same : (t : ℕ) (ws : List Write) → IsSameFor other s (applied (logged.Prepared xid t ws) s)
+  prepared_same t ws = same_for other s _ prepares refl refl refl refl refl refl
+
+  committed_same : (t : ℕ) (ws : List Write) → IsSameFor other s (applied (logged.Committed xid t ws) s)
+  committed_same t ws = same_for other s _ commits refl refl refl refl refl refl
+
+  completed_same : (way : Direction) → IsSameFor other s (applied (logged.Completed xid way) s)
+  completed_same direction.Commit = same_for other s _ commits refl refl refl refl refl refl
+  completed_same direction.Rollback = same_for other s _ leaves refl refl refl refl refl refl
+
+  decided_same : (way : Direction) → IsSameFor other s (applied (logged.Decided xid way) s)
+  decided_same direction.Commit = same_for other s _ commits (other_decided direction.Commit) refl refl refl refl refl
+  decided_same direction.Rollback = same_for other s _ leaves (other_decided direction.Rollback) refl refl refl refl refl
+
+  forgotten_same : IsSameFor other s (applied (logged.Forgotten xid) s)
+  forgotten_same = same_for other s _ refl forgets refl refl refl refl refl
+
+-- what a turn leaves
+
+abbrev Spares : Triple → State → Turn → Type 0
+Spares other s (Appends r after) =
+    (after Kept ≡ ok (applied r s)) × IsSameFor other s (applied r s) × IsSameFor other s (after Refused).after
+Spares other s _ = Unit {0}
+
+unless_spares : (other : Triple) (o : Option Reply) (s : State) (t : Turn) → Spares other s t → Spares other s (unless_now o s t)
+unless_spares other None s t h = h
+unless_spares other (Some reply) s t h = tt
+
+marked_spares : (other : Triple) (o : Option ℤ) (s left : State) (t : Turn) → Spares other s t → Spares other s (marked_now o left t)
+marked_spares other None s left t h = h
+marked_spares other (Some code) s left t h = tt
+
+cond_spares : (other : Triple) (c : Bool) (s : State) (t u : Turn) → Spares other s t → Spares other s u → Spares other s (cond c t u)
+cond_spares other true s t u h k = h
+cond_spares other false s t u h k = k
+
+module _ (s : State) (x other : Triple) (apart : xid_eq x other ≡ false) where
+  prepare_spares : Spares other s (prepare_turn s x)
+  prepare_spares =
+      let r = logged.Prepared x (timestamp_in s x) (writes_in s x) in
+      unless_spares other (unprepared_refusal (known_as s x) (is_associated s x)) s _
+      (marked_spares other (mark_in (known_as s x)) s (rolled_back s x) _
+      (cond_spares other (is_empty (writes_in s x)) s (Now (answer (plain XA_RDONLY) (committed s x))) (prepare_written s x) tt
+      (cond_spares other (has_room s r 1) s (logs s r XAER_RMERR s) (Now (log_full s x))
+      (refl, prepared_same s x other apart (timestamp_in s x) (writes_in s x), itself other s) tt)))
+
+  one_phase_spares : Spares other s (commit_one_phase_turn s x)
+  one_phase_spares =
+      let r = logged.Committed x (timestamp_in s x) (writes_in s x) in
+      unless_spares other (unprepared_refusal (known_as s x) (is_associated s x)) s _
+      (marked_spares other (mark_in (known_as s x)) s (rolled_back s x) _
+      (cond_spares other (is_empty (writes_in s x)) s (Now (ok (committed s x))) (commit_written s x) tt
+      (cond_spares other (has_room s r 0) s (logs s r XAER_RMERR (rolled_back s x)) (Now (log_full s x))
+      (refl, committed_same s x other apart (timestamp_in s x) (writes_in s x), rolled s x other apart) tt)))
+
+  two_phase_spares : Spares other s (commit_two_phase_turn s x)
+  two_phase_spares =
+      unless_spares other (two_phase_refusal (known_as s x)) s _
+      (unless_spares other (heuristic_refusal (known_as s x)) s (logs s (logged.Completed x direction.Commit) XA_RETRY s)
+      (refl, completed_same s x other apart direction.Commit, itself other s))
+
+  roll_back_spares : (k : Known) → Spares other s (roll_back_turn s x k)
+  roll_back_spares Unknown = tt
+  roll_back_spares (AtWork None) = tt
+  roll_back_spares (AtWork (Some code)) = tt
+  roll_back_spares InDoubt = (refl, completed_same s x other apart direction.Rollback, itself other s)
+  roll_back_spares (Completed way) = tt
+
+  rollback_spares : Spares other s (rollback_turn s x)
+  rollback_spares =
+      unless_spares other (rollback_refusal (known_as s x) (is_associated s x)) s _
+      (unless_spares other (heuristic_refusal (known_as s x)) s (roll_back_turn s x (known_as s x)) (roll_back_spares (known_as s x)))
+
+  decide_spares : (way : Direction) → Spares other s (decide_turn s way x)
+  decide_spares way =
+      unless_spares other (decide_refusal (known_as s x)) s (logs s (logged.Decided x way) XAER_RMERR s)
+      (refl, decided_same s x other apart way, itself other s)
+
+  forget_spares : Spares other s (forget_turn s x)
+  forget_spares =
+      unless_spares other (forget_refusal (known_as s x)) s (logs s (logged.Forgotten x) XAER_RMERR s)
+      (refl, forgotten_same s x other apart, itself other s)
+
+of_xid : (x xid other : Triple) → Some x ≡ Some xid → xid_eq xid other ≡ false → xid_eq x other ≡ false
+of_xid x xid other e apart = let same : x ≡ xid = cc e in subst (λ (y : Triple). xid_eq y other ≡ false) (sym same) apart
+
+row_spares : (s : State) (n : ℕ) (request : Request) (xid other : Triple) → xid_of request ≡ Some xid → xid_eq xid other ≡ false
+    → Spares other s (row s n request)
+row_spares s n (Prepare flags x) xid other e apart = prepare_spares s x other (of_xid x xid other e apart)
+row_spares s n (Commit flags x) xid other e apart =
+    cond_spares other (has flags TMONEPHASE) s (commit_one_phase_turn s x) (commit_two_phase_turn s x)
+    (one_phase_spares s x other (of_xid x xid other e apart)) (two_phase_spares s x other (of_xid x xid other e apart))
+row_spares s n (Rollback flags x) xid other e apart = rollback_spares s x other (of_xid x xid other e apart)
+row_spares s n (Forget flags x) xid other e apart = forget_spares s x other (of_xid x xid other e apart)
+row_spares s n (Decide way x) xid other e apart = decide_spares s x other (of_xid x xid other e apart) way
+row_spares s n request xid other e apart = absurd (cc e)
+
+pub leaves_others : LeavesOthers
+leaves_others s n request xid other r after e apart up appends =
+    let spares = unless_spares other (early_refusal (context_of s n) request) s (row s n request) (row_spares s n request xid other e apart) in
+    let here : respond s (event.Call n request) ≡ Appends r after = sym (turns_up s (event.Call n request) up) ∙ appends in
+    subst (Spares other s) here spares
+
+-- what a call finds the same
+
+module _ (xid : Triple) (s t : State) (h : IsSameFor xid s t) where
+  same_known : known_as t xid ≡ known_as s xid
+  same_known =
+      ap (λ (o : Option Branch). known_among o (decided_of t.decided xid)) h.known
+      ∙ ap (λ (d : Option Direction). known_among (known_of s.branches xid) d) h.decided
+
+  same_held : is_associated t xid ≡ is_associated s xid
+  same_held = ap (λ (held : List Association). nat_lt 0 (holders_of held xid)) h.associations
+
+  same_time : timestamp_in t xid ≡ timestamp_in s xid
+  same_time = ap timestamp_by h.known
+
+  same_writes : writes_in t xid ≡ writes_in s xid
+  same_writes = ap writes_by h.known
+
+abbrev context_by : Standing → List ℕ → ℕ → List Session → ℕ → Context
+context_by standing name moment sessions n =
+    record { up = is_up standing; name = name; moment = moment; session = option_map (λ x. x.opened) (session_of sessions n) }
+
+same_context : (xid : Triple) (s t : State) (n : ℕ) → IsSameFor xid s t → context_of t n ≡ context_of s n
+same_context xid s t n h =
+    ap (λ (p : Standing). context_by p t.name t.moment t.sessions n) h.standing
+    ∙ ap (λ (name : List ℕ). context_by s.standing name t.moment t.sessions n) h.name
+    ∙ ap (λ (moment : ℕ). context_by s.standing s.name moment t.sessions n) h.moment
+    ∙ ap (λ (sessions : List Session). context_by s.standing s.name s.moment sessions n) h.sessions
+
+-- and appends
+
+abbrev Again : State → Turn → Turn → Type 0
+Again t (Appends r after) u = has_room_for t r ≡ true → record_in u ≡ Some r
+Again t _ u = Unit {0}
+
+unless_again : (o : Option Reply) (s t : State) (u w : Turn) → Again t u w → Again t (unless_now o s u) (unless_now o t w)
+unless_again None s t u w h = h
+unless_again (Some reply) s t u w h = tt
+
+marked_again : (o : Option ℤ) (t a b : State) (u w : Turn) → Again t u w → Again t (marked_now o a u) (marked_now o b w)
+marked_again None t a b u w h = h
+marked_again (Some code) t a b u w h = tt
+
+cond_again : (c : Bool) (t : State) (u v w x : Turn) → Again t u w → Again t v x → Again t (cond c u v) (cond c w x)
+cond_again true t u v w x h k = h
+cond_again false t u v w x h k = k
+
+room_again : (c d : Bool) (s t : State) (r : Record) (code : ℤ) (left other : State) (a b : Answer) → (has_room_for t r ≡ true → d ≡ true)
+    → Again t (cond c (logs s r code left) (Now a)) (cond d (logs t r code other) (Now b))
+room_again true d s t r code left other a b f = λ room. ap (λ (x : Bool). record_in (cond x (logs t r code other) (Now b))) (f room)
+room_again false d s t r code left other a b f = tt
+
+abbrev prepare_by : State → Triple → Known → Bool → ℕ → List Write → Turn
+prepare_by t x k held time ws =
+    unless_now (unprepared_refusal k held) t
+    (marked_now (mark_in k) (rolled_back t x)
+    (cond (is_empty ws) (Now (answer (plain XA_RDONLY) (committed t x)))
+    (cond (has_room t (logged.Prepared x time ws) 1) (logs t (logged.Prepared x time ws) XAER_RMERR t) (Now (log_full t x)))))
+
+abbrev one_phase_by : State → Triple → Known → Bool → ℕ → List Write → Turn
+one_phase_by t x k held time ws =
+    unless_now (unprepared_refusal k held) t
+    (marked_now (mark_in k) (rolled_back t x)
+    (cond (is_empty ws) (Now (ok (committed t x)))
+    (cond (has_room t (logged.Committed x time ws) 0) (logs t (logged.Committed x time ws) XAER_RMERR (rolled_back t x)) (Now (log_full t x)))))
+
+-- of what is the same comes the same
+same_by : (f : Known → Bool → ℕ → List Write → Turn) (k l : Known) (c d : Bool) (m n : ℕ) (vs ws : List Write) → k ≡ l → c ≡ d → m ≡ n → vs ≡ ws
+    → f k c m vs ≡ f l d n ws
+same_by f k l c d m n vs ws e g i j =
+    ap (λ (x : Known). f x c m vs) e ∙ ap (λ (x : Bool). f l x m vs) g ∙ ap (λ (x : ℕ). f l d x vs) i ∙ ap (λ (x : List Write). f l d n x) j
+
+module _ (s t : State) (x : Triple) (h : IsSameFor x s t) where
+  prepare_again : Again t (prepare_turn s x) (prepare_turn t x)
+  prepare_again =
+      let k = known_as s x in
+      let r = logged.Prepared x (timestamp_in s x) (writes_in s x) in
+      subst (Again t (prepare_turn s x))
+      (same_by (prepare_by t x) k (known_as t x) (is_associated s x) (is_associated t x) (timestamp_in s x) (timestamp_in t x) (writes_in s x) (writes_in t x)
+      (sym (same_known x s t h)) (sym (same_held x s t h)) (sym (same_time x s t h)) (sym (same_writes x s t h)))
+      (unless_again (unprepared_refusal k (is_associated s x)) s t _ _
+      (marked_again (mark_in k) t (rolled_back s x) (rolled_back t x) _ _
+      (cond_again (is_empty (writes_in s x)) t _ _ _ _ tt (room_again (has_room s r 1) (has_room t r 1) s t r XAER_RMERR s t _ _ (λ room. room)))))
+
+  one_phase_again : Again t (commit_one_phase_turn s x) (commit_one_phase_turn t x)
+  one_phase_again =
+      let k = known_as s x in
+      let r = logged.Committed x (timestamp_in s x) (writes_in s x) in
+      subst (Again t (commit_one_phase_turn s x))
+      (same_by (one_phase_by t x) k (known_as t x) (is_associated s x) (is_associated t x) (timestamp_in s x) (timestamp_in t x) (writes_in s x) (writes_in t x)
+      (sym (same_known x s t h)) (sym (same_held x s t h)) (sym (same_time x s t h)) (sym (same_writes x s t h)))
+      (unless_again (unprepared_refusal k (is_associated s x)) s t _ _
+      (marked_again (mark_in k) t (rolled_back s x) (rolled_back t x) _ _
+      (cond_again (is_empty (writes_in s x)) t _ _ _ _ tt
+      (room_again (has_room s r 0) (has_room t r 0) s t r XAER_RMERR (rolled_back s x) (rolled_back t x) _ _ (λ room. room)))))
+
+  two_phase_again : Again t (commit_two_phase_turn s x) (commit_two_phase_turn t x)
+  two_phase_again =
+      let r = logged.Completed x direction.Commit in
+      subst
+      (λ (k : Known). Again t (commit_two_phase_turn s x) (unless_now (two_phase_refusal k) t (unless_now (heuristic_refusal k) t (logs t r XA_RETRY t))))
+      (sym (same_known x s t h))
+      (unless_again (two_phase_refusal (known_as s x)) s t _ _ (unless_again (heuristic_refusal (known_as s x)) s t (logs s r XA_RETRY s) (logs t r XA_RETRY t) (λ room. refl)))
+
+  roll_back_again : (k : Known) → Again t (roll_back_turn s x k) (roll_back_turn t x k)
+  roll_back_again Unknown = tt
+  roll_back_again (AtWork None) = tt
+  roll_back_again (AtWork (Some code)) = tt
+  roll_back_again InDoubt = λ room. refl
+  roll_back_again (Completed way) = tt
+
+  rollback_again : Again t (rollback_turn s x) (rollback_turn t x)
+  rollback_again =
+      subst
+      (λ (k : Known). Again t (rollback_turn s x) (unless_now (rollback_refusal k (is_associated t x)) t (unless_now (heuristic_refusal k) t (roll_back_turn t x k))))
+      (sym (same_known x s t h))
+      (subst
+      (λ (c : Bool).
+      Again t (rollback_turn s x)
+      (unless_now (rollback_refusal (known_as s x) c) t (unless_now (heuristic_refusal (known_as s x)) t (roll_back_turn t x (known_as s x)))))
+      (sym (same_held x s t h))
+      (unless_again (rollback_refusal (known_as s x) (is_associated s x)) s t _ _
+      (unless_again (heuristic_refusal (known_as s x)) s t (roll_back_turn s x (known_as s x)) (roll_back_turn t x (known_as s x)) (roll_back_again (known_as s x)))))
+
+  decide_again : (way : Direction) → Again t (decide_turn s way x) (decide_turn t way x)
+  decide_again way =
+      let r = logged.Decided x way in
+      subst (λ (k : Known). Again t (decide_turn s way x) (unless_now (decide_refusal k) t (logs t r XAER_RMERR t))) (sym (same_known x s t h))
+      (unless_again (decide_refusal (known_as s x)) s t (logs s r XAER_RMERR s) (logs t r XAER_RMERR t) (λ room. refl))
+
+  forget_again : Again t (forget_turn s x) (forget_turn t x)
+  forget_again =
+      let r = logged.Forgotten x in
+      subst (λ (k : Known). Again t (forget_turn s x) (unless_now (forget_refusal k) t (logs t r XAER_RMERR t))) (sym (same_known x s t h))
+      (unless_again (forget_refusal (known_as s x)) s t (logs s r XAER_RMERR s) (logs t r XAER_RMERR t) (λ room. refl))
+
+same_of : (x xid : Triple) (s t : State) → Some x ≡ Some xid → IsSameFor xid s t → IsSameFor x s t
+same_of x xid s t e h = let same : x ≡ xid = cc e in subst (λ (y : Triple). IsSameFor y s t) (sym same) h
+
+row_again : (s t : State) (n : ℕ) (request : Request) (xid : Triple) → xid_of request ≡ Some xid → IsSameFor xid s t
+    → Again t (row s n request) (row t n request)
+row_again s t n (Prepare flags x) xid e h = prepare_again s t x (same_of x xid s t e h)
+row_again s t n (Commit flags x) xid e h =
+    cond_again (has flags TMONEPHASE) t (commit_one_phase_turn s x) (commit_two_phase_turn s x) (commit_one_phase_turn t x) (commit_two_phase_turn t x)
+    (one_phase_again s t x (same_of x xid s t e h)) (two_phase_again s t x (same_of x xid s t e h))
+row_again s t n (Rollback flags x) xid e h = rollback_again s t x (same_of x xid s t e h)
+row_again s t n (Forget flags x) xid e h = forget_again s t x (same_of x xid s t e h)
+row_again s t n (Decide way x) xid e h = decide_again s t x (same_of x xid s t e h) way
+row_again s t n request xid e h = absurd (cc e)
+
+pub appends_the_same : AppendsTheSame
+appends_the_same s t n request xid r after e h up appends room =
+    let call = event.Call n request in
+    let same : early_refusal (context_of s n) request ≡ early_refusal (context_of t n) request
+    = ap (λ (c : Context). early_refusal c request) (sym (same_context xid s t n h)) in
+    let first : Again t (respond s call) (respond t call)
+    = subst (λ (o : Option Reply). Again t (respond s call) (unless_now o t (row t n request))) same
+    (unless_again (early_refusal (context_of s n) request) s t (row s n request) (row t n request) (row_again s t n request xid e h)) in
+    let here : respond s call ≡ Appends r after = sym (turns_up s call up) ∙ appends in
+    let again : has_room_for t r ≡ true → record_in (respond t call) ≡ Some r
+    = subst (λ (u : Turn). Again t u (respond t call)) here first in
+    let (after_again, is) = recorded (respond t call) r (again room) in
+    (after_again, turns_up t call (h.standing ∙ up) ∙ is)
