@@ -12,6 +12,7 @@ pub mod Lastings
 pub mod Marking
 pub mod Finding
 pub mod Finishing
+pub mod Rooms
 pub mod Preparing
 pub mod Deciding
 pub mod Begun

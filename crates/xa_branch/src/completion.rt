@@ -4,7 +4,7 @@ ghost use Rattle.xa_model.specs.Branches.{rolled_back, committed, prepared, deci
 ghost use Rattle.xa_model.specs.Invariants.Sound.{IsSound};
 ghost use Rattle.xa_branch.specs.Branches.{BranchesStandFor};
 ghost use Rattle.xa_branch.specs.Follows.{Follows, InEach, InSound, Stays};
-ghost use Rattle.xa_branch.specs.Room.{HasRoom};
+ghost use Rattle.xa_branch.specs.Room.{HasRoom, GivesRoomBack, KeepsRooms, MakesRoom, UsesRoom};
 
 use crate::branches::Branches;
 use crate::changes::{add, set, take, take_time};
@@ -17,12 +17,14 @@ use xa_xid::Xid;
 /// How branches are prepared, completed, and forgotten.
 impl Branches {
     /// Makes room for what will be kept of a branch at work once it is prepared, so that `prepare` takes no memory and
-    /// can't fail. Either that or `give_back` has to follow. Whether the branch may be prepared is to be asked before
-    /// (`unprepared_refusal`, and its mark; `ready_to_prepare` tells both). Of another XID nothing changes, nor where
-    /// there is no memory.
+    /// can't fail. Several may have their rooms at once, of distinct XIDs (`HaveRooms`). For each, either that or
+    /// `give_back` has to follow. Whether the branch may be prepared is to be asked before (`unprepared_refusal`, and
+    /// its mark; `ready_to_prepare` tells both). Of another XID nothing changes, nor where there is no memory.
     pub fn make_room(&mut self, xid: &Xid) -> Result<(), AllocError>
         ensures ok { OnOk result (InEach self.old (λ s. HasRoom xid.now self.new s)) }
+        ensures beside { OnOk result (MakesRoom self.old xid.now self.new) }
         ensures err { OnErr result (Stays self.old self.new) }
+        ensures kept { OnErr result (KeepsRooms self.old self.new) }
     {
         let Some(working) = self.working_of(xid) else {
             return Ok(());
@@ -36,8 +38,9 @@ impl Branches {
 
     /// The branch that room was made for is prepared: of it, only the timestamp is kept. Takes no memory.
     pub fn prepare(&mut self, xid: &Xid)
-        ensures { (s : ModelState) → IsSound s → HasRoom xid.now self.old s
+        ensures alone { (s : ModelState) → IsSound s → HasRoom xid.now self.old s
             → BranchesStandFor self.new (prepared s xid.now) }
+        ensures beside { UsesRoom self.old xid.now self.new }
     {
         match self.working_of(xid) {
             Some(working) => {
@@ -49,9 +52,10 @@ impl Branches {
         }
     }
 
-    /// The branch that room was made for is not prepared: it stays at work, and the room is given back.
+    /// The branch that room was made for is not prepared: it stays at work, and the room is given back. Takes no memory.
     pub fn give_back(&mut self, xid: &Xid)
-        ensures { (s : ModelState) → HasRoom xid.now self.old s → BranchesStandFor self.new s }
+        ensures alone { (s : ModelState) → HasRoom xid.now self.old s → BranchesStandFor self.new s }
+        ensures beside { GivesRoomBack self.old xid.now self.new }
     {
         match self.working_of(xid) {
             Some(_) => take(&mut self.lasting, xid),

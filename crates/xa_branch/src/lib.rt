@@ -19,8 +19,8 @@
 //! - `acts`: a branch begins, or is marked; `fault`: `BeginFault`, why it doesn't begin
 //! - `ticking`: the moment is told, and branches run out of time; `due`: when they do, in order
 //! - `associations`: joins, suspensions, resumes, ends, and what a broken session leaves behind
-//! - `completion`: a branch is prepared, completed, forgotten. Room is made first, so that what follows the log can't
-//!   fail
+//! - `completion`: a branch is prepared, completed, forgotten. Room is made first, for one or for several at once, so
+//!   that what follows the log can't fail
 //! - `restoring`: what lasted is put into new branches
 //! - `changes`: how the maps change, below all of these
 //! - `laws`: `restored_stand`, what is restored stands for what lasted; `worked_states`, worked rows

@@ -1,8 +1,9 @@
--- What an append of a body leaves, by the log's own answer.
+-- What an append of a group leaves, by the log's own answer.
 use Rattle.std.proofs.Common.{◌≡◌, ◌⊎◌, inl, inr, ◌≤◌, ◌<◌, ◌+◌, ℕ, List, [], ◌∷◌, length, subst, arith}
 use Rattle.xa_disk.specs.Time.{LeavesOnly}
 use Rattle.xa_disk.specs.declared.disk.Disk.{Ghosts}
 use Rattle.xa_log.specs.Ahead.{AppendsBy}
+use Rattle.xa_log.specs.Group.{as_one}
 use Rattle.xa_log.specs.Stands.{Stands, Leaves, Moves}
 use Rattle.xa_log.specs.TwoFiles.{Pair, AppendsTo}
 use Rattle.xa_log.specs.declared.appending.Appended.{Appended}
@@ -12,22 +13,26 @@ use Rattle.xa_model.specs.declared.outcome.Appending.{Appending}
 use Rattle.xa_manager.specs.Answered.{as_appended}
 use Rattle.xa_manager.specs.Turns.{HasAppended}
 
-pub has_appended : {D : Type 0} (disks : Ghosts D) (body : List ℕ) (a : Appending) (r : Appended) (old new : Log D)
+pub has_appended : {D : Type 0} (disks : Ghosts D) (group : List (List ℕ)) (a : Appending) (r : Appended) (old new : Log D)
     → r ≡ as_appended a → new.log_bytes ≡ old.log_bytes → (new.other ≡ old.other) × (new.on_first ≡ old.on_first)
-    → Moves r (length body) old new
-    → (disks.honest → (bodies stood : List (List ℕ)) → Pair disks bodies stood old → AppendsTo disks r bodies (body ∷ []) stood new)
-    → AppendsBy disks (length body) r old new
+    → Moves r (as_one group) old new
+    → (disks.honest → (bodies stood : List (List ℕ)) → Pair disks bodies stood old → AppendsTo disks r bodies group stood new)
+    → AppendsBy disks (as_one group) r old new
     → (disks.honest → (bodies : List (List ℕ)) → Stands disks bodies old
-    → LeavesOnly disks old.disk new.disk (Leaves old.log_bytes old.format bodies (body ∷ [])))
-    → HasAppended disks body a old new
-has_appended disks body a r old new is bytes other moves pair calls leaves = record {
+    → LeavesOnly disks old.disk new.disk (Leaves old.log_bytes old.format bodies group))
+    → HasAppended disks group a old new
+has_appended disks group a r old new is bytes other moves pair calls leaves = record {
   log_bytes = bytes;
   other = other;
-  moves = subst (λ (x : Appended). Moves x (length body) old new) is moves;
-  pair = λ honest bodies stood p. subst (λ (x : Appended). AppendsTo disks x bodies (body ∷ []) stood new) is (pair honest bodies stood p);
-  calls = subst (λ (x : Appended). AppendsBy disks (length body) x old new) is calls;
+  moves = subst (λ (x : Appended). Moves x (as_one group) old new) is moves;
+  pair = λ honest bodies stood p. subst (λ (x : Appended). AppendsTo disks x bodies group stood new) is (pair honest bodies stood p);
+  calls = subst (λ (x : Appended). AppendsBy disks (as_one group) x old new) is calls;
   leaves = leaves;
 }
+
+-- a body by itself
+pub alone : (body : List ℕ) → as_one (body ∷ []) ≡ length body
+alone body = omega arith
 
 -- one that has its room was not answered that it has none
 pub refused_with_room : (r : Appended) (most end around size : ℕ) → (r ≡ appended.Refused) ⊎ (r ≡ appended.Full)

@@ -2,35 +2,33 @@
 use Rattle.std.proofs.Common.{◌≡◌, ◌≢◌, ℕ, ℤ, pos, ◌+◌, ◌≤◌, Bool, true, false, cond, List, [], ◌∷◌, length, Option, Some, None, refl, ap, sym, ◌∙◌, subst, arith}
 use Rattle.std.specs.Prelude.{find, unwrap_or}
 use Rattle.std.proofs.lemmas.Bool.Decides.{nat_tests}
+use Rattle.xa_codes.specs.declared.codes.TheConstants.{XAER_NOTA}
 use Rattle.xa_codes.specs.declared.direction.Direction.{Direction}
 use Rattle.xa_frame.specs.declared.reply.Reply.{Reply}
 use Rattle.xa_xid.specs.Triple.{Triple}
-use Rattle.xa_record.specs.Spelling.{spelled}
 use Rattle.xa_record.specs.declared.record.Record.{Record}
 use Rattle.xa_model.specs.declared.outcome.Appending.{Appending}
 use Rattle.xa_model.specs.declared.outcome.Appending.TheVariants.{Kept as WasKept}
 use Rattle.xa_model.specs.State.{State, Branch, Decided, Phase, Working, Prepared, Committed, Up, Known, Unknown, AtWork, InDoubt, Completed, count, known_of, known_as, known_by, known_among, or_completed, decided_of, is_known_as}
 use Rattle.xa_model.specs.Answer.{plain, answer}
 use Rattle.xa_model.specs.Associations.{is_unknown, is_lasting, mark_in}
-use Rattle.xa_model.specs.Branches.{rolled_back, two_phase_refusal, heuristic_refusal}
+use Rattle.xa_model.specs.Branches.{rolled_back, two_phase_refusal, rollback_refusal, heuristic_refusal, is_associated}
 use Rattle.xa_model.specs.Completions.{is_completed, decide_refusal, forget_refusal, roll_back_turn}
-use Rattle.xa_model.specs.Logging.{applied, logs, log_room, is_in_doubt, prepared_count}
+use Rattle.xa_model.specs.Logging.{append_became, applied, log_room, is_in_doubt, prepared_count}
 use Rattle.xa_model.specs.Invariants.Loggable.{IsRecoverable}
 use Rattle.xa_model.specs.Invariants.Room.{IsRoomy}
 use Rattle.xa_model.specs.Turn.{Turn, Now, unless_now}
+use Rattle.xa_model.proofs.Rows.{passed}
 use Rattle.xa_manager.specs.View.{View}
-use Rattle.xa_manager.specs.Stands.{StandsFor}
-use Rattle.xa_manager.specs.Turns.{reply_to}
-use Rattle.xa_manager.proofs.Taking.{AnswersNow, AnswersAppending, by_answer, logs_answers, lost_stands, refused_is, lost_is}
+use Rattle.xa_manager.specs.Stands.{StandsFor, TablesStandFor}
+use Rattle.xa_manager.specs.Turns.{up_after}
+use Rattle.xa_manager.proofs.Taking.{by_answer, lost_stands, refused_is, lost_is}
 use Rattle.xa_manager.proofs.OnePhase.{refused_turn, passed_turn}
 
 -- what is refused
 
-pub now_first : (m : View) (s : State) (o : Option Reply) (t : Turn) (reply : Reply) → StandsFor m s → Some reply ≡ o → AnswersNow s (unless_now o s t) reply m
-now_first m s o t reply st e = record { answer = answer reply s; turn_is = refused_turn o s t reply e; reply_is = refl; tables = λ recoverable. st }
-
-pub now_second : (m : View) (s : State) (o p : Option Reply) (t : Turn) (reply : Reply) → StandsFor m s → None ≡ o → Some reply ≡ p → AnswersNow s (unless_now o s (unless_now p s t)) reply m
-now_second m s o p t reply st e f = record { answer = answer reply s; turn_is = passed_turn o s (unless_now p s t) e ∙ refused_turn p s t reply f; reply_is = refl; tables = λ recoverable. st }
+pub second_refused : (s : State) (o p : Option Reply) (t : Turn) (reply : Reply) → None ≡ o → Some reply ≡ p → unless_now o s (unless_now p s t) ≡ Now (answer reply s)
+second_refused s o p t reply e f = passed_turn o s (unless_now p s t) e ∙ refused_turn p s t reply f
 
 pub passes_both : (s : State) (o p : Option Reply) (t : Turn) → None ≡ o → None ≡ p → unless_now o s (unless_now p s t) ≡ t
 passes_both s o p t e f = passed_turn o s (unless_now p s t) e ∙ passed_turn p s t f
@@ -85,15 +83,14 @@ rolls_by s xid (AtWork (Some code)) mark e f g = rw (← g) refl
 rolls_by s xid InDoubt mark e f g = absurd (cc f)
 rolls_by s xid (Completed direction) mark e f g = absurd (cc f)
 
-pub now_rolled : (m' : View) (s : State) (xid : Triple) (o : Option Reply) (mark : Option ℤ) → None ≡ o → None ≡ heuristic_refusal (known_as s xid) → is_unknown (known_as s xid) ≡ false → is_lasting (known_as s xid) ≡ false
-    → mark_in (known_as s xid) ≡ mark → (IsRecoverable (rolled_back s xid) → StandsFor m' (rolled_back s xid))
-    → AnswersNow s (unless_now o s (unless_now (heuristic_refusal (known_as s xid)) s (roll_back_turn s xid (known_as s xid)))) (plain (unwrap_or mark (pos 0))) m'
-now_rolled m' s xid o mark e f known unsettled is stands = record {
-  answer = answer (plain (unwrap_or mark (pos 0))) (rolled_back s xid);
-  turn_is = passes_both s o (heuristic_refusal (known_as s xid)) (roll_back_turn s xid (known_as s xid)) e f ∙ rolls_by s xid (known_as s xid) mark known unsettled is;
-  reply_is = refl;
-  tables = stands;
-}
+pub rolled_known : (s : State) (xid : Triple) → None ≡ rollback_refusal (known_as s xid) (is_associated s xid) → is_unknown (known_as s xid) ≡ false
+rolled_known s xid free = (passed (is_unknown (known_as s xid)) (plain XAER_NOTA) _ (sym free)).0
+
+pub rolled_at_once : (s : State) (xid : Triple) (o : Option Reply) (mark : Option ℤ) → None ≡ o → None ≡ heuristic_refusal (known_as s xid) → is_unknown (known_as s xid) ≡ false → is_lasting (known_as s xid) ≡ false
+    → mark_in (known_as s xid) ≡ mark
+    → unless_now o s (unless_now (heuristic_refusal (known_as s xid)) s (roll_back_turn s xid (known_as s xid))) ≡ Now (answer (plain (unwrap_or mark (pos 0))) (rolled_back s xid))
+rolled_at_once s xid o mark e f known unsettled is =
+    passes_both s o (heuristic_refusal (known_as s xid)) (roll_back_turn s xid (known_as s xid)) e f ∙ rolls_by s xid (known_as s xid) mark known unsettled is
 
 -- the log has room for what completes a prepared branch, and for what forgets
 
@@ -147,11 +144,9 @@ pub forgotten_fits : (s : State) (xid : Triple) (n : ℕ) → s.standing ≡ Up 
 forgotten_fits s xid n up roomy done small =
     room_forgets s.log_bytes s.end (prepared_count s) (length s.decided) n (roomy (λ ended. absurd (cc (up, ended)))).room (decided_by_known s xid (known_of s.branches xid) done) small
 
--- A record without writes is appended, and but for one that is kept the tables stay.
-pub small_appends : (m m' : View) (s : State) (turn : Turn) (r : Record) (code : ℤ) (body : List ℕ) (a : Appending) → StandsFor m s → turn ≡ logs s r code s → spelled r ≡ body → s.end + 40 + length (spelled r) ≤ s.log_bytes
-    → (a ≡ WasKept → IsRecoverable (applied r s) → StandsFor m' (applied r s)) → (a ≢ WasKept → m' ≡ m) → AnswersAppending s turn body a (reply_to code a) m'
-small_appends m m' s turn r code body a st is body_is fits kept_ left =
-    logs_answers s turn r code s body a m' is body_is
-    (by_answer m' s r code s a kept_ (λ e recoverable. subst (λ (k : View). StandsFor k s) (sym (left (refused_is a e))) st)
-    (λ e recoverable. let same = left (lost_is a e) in lost_stands m m' s r st (ap (λ (k : View). k.name) same) (ap (λ (k : View). k.log_bytes) same) (ap (λ (k : View). k.sessions) same) (ap (λ (k : View). k.branches.moment) same) recoverable))
-    (subst (λ (b : List ℕ). s.end + 40 + length b ≤ s.log_bytes) body_is fits)
+-- A record without writes: but for one that is kept the tables stay.
+pub takes_small : (m m' : View) (s : State) (r : Record) (code : ℤ) (a : Appending) → StandsFor m s → (a ≡ WasKept → IsRecoverable (applied r s) → StandsFor m' (applied r s)) → (a ≢ WasKept → m' ≡ m)
+    → IsRecoverable (append_became s r code s a).after → TablesStandFor (up_after a) m' (append_became s r code s a).after
+takes_small m m' s r code a st kept_ left =
+    by_answer m' s r code s a kept_ (λ e recoverable. subst (λ (k : View). StandsFor k s) (sym (left (refused_is a e))) st)
+    (λ e recoverable. let same = left (lost_is a e) in lost_stands m m' s r st (ap (λ (k : View). k.name) same) (ap (λ (k : View). k.log_bytes) same) (ap (λ (k : View). k.sessions) same) (ap (λ (k : View). k.branches.moment) same) recoverable)

@@ -46,6 +46,7 @@ pub mod NextBoots
 pub mod OpenedStates
 pub mod PlannedLogs
 pub mod Reserved
+pub mod Plans
 pub mod Refusing
 pub mod Replying
 pub mod ShortWrites

@@ -7,8 +7,7 @@ use Rattle.mv_rules.specs.Accesses.{Accesses, IsWritesOf}
 use Rattle.mv_rules.specs.Records.{StandsFor as RecordsStandFor}
 use Rattle.mv_rules.specs.Ties.{history_of, writes_in as writes_among}
 use Rattle.mv_rules.proofs.Undecided.{at_work as among}
-use Rattle.xa_codes.specs.declared.codes.TheConstants.{XAER_NOTA, XAER_PROTO, XA_RBOTHER}
-use Rattle.xa_codes.specs.declared.detail.Detail.TheVariants as detail
+use Rattle.xa_codes.specs.declared.codes.TheConstants.{XAER_NOTA, XAER_PROTO, XAER_RMERR}
 use Rattle.xa_codes.specs.declared.write.Write.{Write}
 use Rattle.xa_limits.specs.declared.TheConstants.{MOST_BODY}
 use Rattle.xa_frame.specs.declared.reply.Reply.{Reply}
@@ -19,26 +18,29 @@ use Rattle.xa_record.specs.declared.record.Record.{Record}
 use Rattle.xa_record.specs.declared.record.Record.TheVariants as logged
 use Rattle.xa_record.proofs.Sizes.{any}
 use Rattle.xa_model.specs.State.{State, Branch, is_known_as, known_of, known_as, timestamp_of, is_at_work}
-use Rattle.xa_model.specs.Answer.{Answer, plain, detailed, answer}
+use Rattle.xa_model.specs.Answer.{Answer, plain, answer}
 use Rattle.xa_model.specs.Associations.{is_unknown, is_lasting, mark_in, timestamp_in, timestamp_by}
-use Rattle.xa_model.specs.Branches.{rolled_back, unprepared_refusal, is_associated}
+use Rattle.xa_model.specs.Branches.{committed, rolled_back, unprepared_refusal, is_associated}
 use Rattle.xa_model.specs.Durable.{writes_of}
 use Rattle.xa_model.specs.Fold.{is_empty, size_of}
 use Rattle.xa_model.specs.Invariants.Sound.{IsSound}
-use Rattle.xa_model.specs.Logging.{applied, lost, logs, has_room, log_full, log_room, writes_by, writes_in, prepared_count}
-use Rattle.xa_model.specs.Invariants.Loggable.{IsRecoverable, IsLoggable, AreShort}
+use Rattle.xa_model.specs.Logging.{logs, has_room, log_full, log_room, writes_by, writes_in, prepared_count}
+use Rattle.xa_model.specs.Invariants.Loggable.{IsLoggable, AreShort}
+use Rattle.xa_model.specs.Invariants.MayLog.{IsIdle, MayLog}
 use Rattle.xa_model.specs.Turn.{Turn, Now, unless_now, marked_now}
 use Rattle.xa_model.proofs.Lists.{found_all}
+use Rattle.xa_model.proofs.LoggedTurns.{allowed_idle}
 use Rattle.xa_model.proofs.Rows.{passed, neither, at_work}
 use Rattle.xa_model.proofs.Times.{known_below}
 use Rattle.xa_model.proofs.ShortWrites.{are_writes}
-use Rattle.xa_model.specs.declared.outcome.Appending.{Appending}
-use Rattle.xa_model.specs.declared.outcome.Appending.TheVariants.{Kept as WasKept, Refused, Lost}
-use Rattle.xa_manager.specs.Turns.{reply_to}
 use Rattle.xa_manager.specs.View.{View}
-use Rattle.xa_manager.specs.Stands.{StandsFor, StandsDown}
+use Rattle.xa_manager.specs.Stands.{StandsFor}
 use Rattle.xa_manager.proofs.Finishing.{IsHere, here_by}
-use Rattle.xa_manager.proofs.Taking.{AnswersNow, AnswersAppending, by_answer, logs_answers}
+use Rattle.xa_manager.specs.Plans.{Appends}
+use Rattle.xa_manager.specs.Rows.{more_of, record_of, row_turn, unwritten_code, written_left, written_record}
+use Rattle.xa_manager.specs.declared.row.Row.TheVariants.{Writes}
+use Rattle.xa_manager.specs.declared.row.Writing.{Writing}
+use Rattle.xa_manager.specs.declared.row.Writing.TheVariants.{Prepare, CommitOnePhase}
 use Rattle.xa_manager.proofs.Written.{listed_writes}
 
 -- both rows
@@ -67,25 +69,15 @@ first_turn b t u e = rw e refl
 pub second_turn : (b : Bool) (t u : Turn) → b ≡ false → cond b t u ≡ u
 second_turn b t u e = rw e refl
 
-pub now_refused : (m : View) (s : State) (xid : Triple) (empty : Answer) (written : Turn) (reply : Reply) → StandsFor m s → Some reply ≡ unprepared_refusal (known_as s xid) (is_associated s xid)
-    → AnswersNow s (one_phase_turn s xid empty written) reply m
-now_refused m s xid empty written reply st refused = record {
-  answer = answer reply s;
-  turn_is = refused_turn (unprepared_refusal (known_as s xid) (is_associated s xid)) s (marked_now (mark_in (known_as s xid)) (rolled_back s xid) (cond (is_empty (writes_in s xid)) (Now empty) written)) reply refused;
-  reply_is = refl;
-  tables = λ recoverable. st;
-}
+pub turn_refused : (s : State) (xid : Triple) (empty : Answer) (written : Turn) (reply : Reply) → Some reply ≡ unprepared_refusal (known_as s xid) (is_associated s xid) → one_phase_turn s xid empty written ≡ Now (answer reply s)
+turn_refused s xid empty written reply refused =
+    refused_turn (unprepared_refusal (known_as s xid) (is_associated s xid)) s (marked_now (mark_in (known_as s xid)) (rolled_back s xid) (cond (is_empty (writes_in s xid)) (Now empty) written)) reply refused
 
-pub now_marked : (m' : View) (s : State) (xid : Triple) (empty : Answer) (written : Turn) (code : ℤ) → None ≡ unprepared_refusal (known_as s xid) (is_associated s xid) → mark_in (known_as s xid) ≡ Some code
-    → (IsRecoverable (rolled_back s xid) → StandsFor m' (rolled_back s xid)) → AnswersNow s (one_phase_turn s xid empty written) (plain code) m'
-now_marked m' s xid empty written code free marked stands = record {
-  answer = answer (plain code) (rolled_back s xid);
-  turn_is =
-      passed_turn (unprepared_refusal (known_as s xid) (is_associated s xid)) s (marked_now (mark_in (known_as s xid)) (rolled_back s xid) (cond (is_empty (writes_in s xid)) (Now empty) written)) free
-      ∙ marked_turn (mark_in (known_as s xid)) (rolled_back s xid) (cond (is_empty (writes_in s xid)) (Now empty) written) code marked;
-  reply_is = refl;
-  tables = stands;
-}
+pub turn_marked : (s : State) (xid : Triple) (empty : Answer) (written : Turn) (code : ℤ) → None ≡ unprepared_refusal (known_as s xid) (is_associated s xid) → mark_in (known_as s xid) ≡ Some code
+    → one_phase_turn s xid empty written ≡ Now (answer (plain code) (rolled_back s xid))
+turn_marked s xid empty written code free marked =
+    passed_turn (unprepared_refusal (known_as s xid) (is_associated s xid)) s (marked_now (mark_in (known_as s xid)) (rolled_back s xid) (cond (is_empty (writes_in s xid)) (Now empty) written)) free
+    ∙ marked_turn (mark_in (known_as s xid)) (rolled_back s xid) (cond (is_empty (writes_in s xid)) (Now empty) written) code marked
 
 goes_on : (s : State) (xid : Triple) (empty : Answer) (written : Turn) → None ≡ unprepared_refusal (known_as s xid) (is_associated s xid) → mark_in (known_as s xid) ≡ None
     → one_phase_turn s xid empty written ≡ cond (is_empty (writes_in s xid)) (Now empty) written
@@ -93,28 +85,18 @@ goes_on s xid empty written free unmarked =
     passed_turn (unprepared_refusal (known_as s xid) (is_associated s xid)) s (marked_now (mark_in (known_as s xid)) (rolled_back s xid) (cond (is_empty (writes_in s xid)) (Now empty) written)) free
     ∙ unmarked_turn (mark_in (known_as s xid)) (rolled_back s xid) (cond (is_empty (writes_in s xid)) (Now empty) written) unmarked
 
-pub now_empty : (m' : View) (s : State) (xid : Triple) (empty : Answer) (written : Turn) → None ≡ unprepared_refusal (known_as s xid) (is_associated s xid) → mark_in (known_as s xid) ≡ None → is_empty (writes_in s xid) ≡ true
-    → (IsRecoverable empty.after → StandsFor m' empty.after) → AnswersNow s (one_phase_turn s xid empty written) empty.reply m'
-now_empty m' s xid empty written free unmarked none stands = record {
-  answer = empty;
-  turn_is = goes_on s xid empty written free unmarked ∙ first_turn (is_empty (writes_in s xid)) (Now empty) written none;
-  reply_is = refl;
-  tables = stands;
-}
+pub turn_empty : (s : State) (xid : Triple) (empty : Answer) (written : Turn) → None ≡ unprepared_refusal (known_as s xid) (is_associated s xid) → mark_in (known_as s xid) ≡ None → is_empty (writes_in s xid) ≡ true
+    → one_phase_turn s xid empty written ≡ Now empty
+turn_empty s xid empty written free unmarked none = goes_on s xid empty written free unmarked ∙ first_turn (is_empty (writes_in s xid)) (Now empty) written none
 
 pub goes_written : (s : State) (xid : Triple) (empty : Answer) (written : Turn) → None ≡ unprepared_refusal (known_as s xid) (is_associated s xid) → mark_in (known_as s xid) ≡ None → is_empty (writes_in s xid) ≡ false
     → one_phase_turn s xid empty written ≡ written
 goes_written s xid empty written free unmarked some = goes_on s xid empty written free unmarked ∙ second_turn (is_empty (writes_in s xid)) (Now empty) written some
 
-pub now_full : (m' : View) (s : State) (xid : Triple) (empty : Answer) (room : Bool) (written : Turn) → None ≡ unprepared_refusal (known_as s xid) (is_associated s xid) → mark_in (known_as s xid) ≡ None
-    → is_empty (writes_in s xid) ≡ false → room ≡ false → (IsRecoverable (rolled_back s xid) → StandsFor m' (rolled_back s xid))
-    → AnswersNow s (one_phase_turn s xid empty (cond room written (Now (log_full s xid)))) (detailed XA_RBOTHER detail.LogFull) m'
-now_full m' s xid empty room written free unmarked some none stands = record {
-  answer = log_full s xid;
-  turn_is = goes_written s xid empty (cond room written (Now (log_full s xid))) free unmarked some ∙ second_turn room written (Now (log_full s xid)) none;
-  reply_is = refl;
-  tables = stands;
-}
+pub turn_full : (s : State) (xid : Triple) (empty : Answer) (room : Bool) (written : Turn) → None ≡ unprepared_refusal (known_as s xid) (is_associated s xid) → mark_in (known_as s xid) ≡ None
+    → is_empty (writes_in s xid) ≡ false → room ≡ false → one_phase_turn s xid empty (cond room written (Now (log_full s xid))) ≡ Now (log_full s xid)
+turn_full s xid empty room written free unmarked some none =
+    goes_written s xid empty (cond room written (Now (log_full s xid))) free unmarked some ∙ second_turn room written (Now (log_full s xid)) none
 
 -- a branch that isn't refused is at work
 
@@ -124,12 +106,15 @@ worked s xid free =
     let idle = passed (is_associated s xid || is_lasting (known_as s xid)) (plain XAER_PROTO) _ known.1 in
     at_work s xid known.0 (neither (is_associated s xid) (is_lasting (known_as s xid)) idle.0).1
 
-known_by : (o : Option Branch) → is_at_work o ≡ true → IsSome o
+pub known_by : (o : Option Branch) → is_at_work o ≡ true → IsSome o
 known_by None h = absurd (cc h)
 known_by (Some b) h = refl
 
 pub worked_known : (s : State) (xid : Triple) → None ≡ unprepared_refusal (known_as s xid) (is_associated s xid) → IsSome (known_of s.branches xid)
 worked_known s xid free = known_by (known_of s.branches xid) (worked s xid free)
+
+pub known_some : (s : State) (xid : Triple) → is_unknown (known_as s xid) ≡ false → is_lasting (known_as s xid) ≡ false → IsSome (known_of s.branches xid)
+known_some s xid known unsettled = known_by (known_of s.branches xid) (at_work s xid known unsettled)
 
 -- its writes, as the records list them
 pub told_writes : (m : View) (s : State) (xid : Triple) (t : ℕ) (ws : List Write) → StandsFor m s → IsSome (known_of s.branches xid) → t ≡ timestamp_in s xid
@@ -220,21 +205,46 @@ has_record m s xid t ws record_of more n body room st w short spells size few is
       room_is = room_of s (record_of xid (timestamp_in s xid) (writes_in s xid)) n more room (ap length e ∙ sym size) (is_room long few);
     }
 
-pub has_prepared : (m : View) (s : State) (xid : Triple) (t : ℕ) (ws : List Write) (n : ℕ) (body : List ℕ) (room : Bool) → StandsFor m s → WasTold m xid t ws → body ≡ spelled (logged.Prepared xid t ws) → n ≡ length body
-    → IsRoom s n 1 room → HasRecord s xid (logged.Prepared xid (timestamp_in s xid) (writes_in s xid)) 1 body room
-has_prepared m s xid t ws n body room st w spells size is_room =
-    has_record m s xid t ws (λ x u us. logged.Prepared x u us) 1 n body room st w (λ u us h. (any (logged.Prepared xid u us) h).1) spells size (omega arith) is_room
+written_short : (w : Writing) (xid : Triple) (t : ℕ) (ws : List Write) → IsBranch xid t ws → length (spelled (written_record w xid t ws)) ≤ MOST_BODY
+written_short Prepare xid t ws h = (any (logged.Prepared xid t ws) h).1
+written_short CommitOnePhase xid t ws h = (any (logged.Committed xid t ws) h).1
 
-pub has_committed : (m : View) (s : State) (xid : Triple) (t : ℕ) (ws : List Write) (n : ℕ) (body : List ℕ) (room : Bool) → StandsFor m s → WasTold m xid t ws → body ≡ spelled (logged.Committed xid t ws) → n ≡ length body
-    → IsRoom s n 0 room → HasRecord s xid (logged.Committed xid (timestamp_in s xid) (writes_in s xid)) 0 body room
-has_committed m s xid t ws n body room st w spells size is_room =
-    has_record m s xid t ws (λ x u us. logged.Committed x u us) 0 n body room st w (λ u us h. (any (logged.Committed xid u us) h).1) spells size (omega arith) is_room
+few_more : (w : Writing) → more_of w ≤ 1
+few_more Prepare = omega arith
+few_more CommitOnePhase = omega arith
 
--- Where there is room, it is appended.
-pub written_appends : (m' : View) (s : State) (xid : Triple) (r : Record) (more : ℕ) (code : ℤ) (left : State) (empty : Answer) (body : List ℕ) (a : Appending) → HasRecord s xid r more body true
-    → (a ≡ WasKept → IsRecoverable (applied r s) → StandsFor m' (applied r s)) → (a ≡ Refused → IsRecoverable left → StandsFor m' left) → (a ≡ Lost → IsRecoverable (lost s r).after → StandsDown m' (lost s r).after)
-    → AnswersAppending s (one_phase_turn s xid empty (cond (has_room s r more) (logs s r code left) (Now (log_full s xid)))) body a (reply_to code a) m'
-written_appends m' s xid r more code left empty body a h kept_ refused lost_ =
-    logs_answers s (one_phase_turn s xid empty (cond (has_room s r more) (logs s r code left) (Now (log_full s xid)))) r code left body a m'
-    (goes_written s xid empty (cond (has_room s r more) (logs s r code left) (Now (log_full s xid))) h.free h.unmarked h.some ∙ first_turn (has_room s r more) (logs s r code left) (Now (log_full s xid)) h.room_is)
-    h.body_is (by_answer m' s r code left a kept_ refused lost_) (subst (λ (b : List ℕ). s.end + 40 + length b ≤ s.log_bytes) h.body_is (fits_by s.log_bytes s.end (length (spelled r)) (prepared_count s + more) (length s.decided) h.room_is))
+pub has_written : (m : View) (s : State) (w : Writing) (xid : Triple) (t : ℕ) (ws : List Write) (n : ℕ) (body : List ℕ) (room : Bool) → StandsFor m s → WasTold m xid t ws → body ≡ spelled (written_record w xid t ws) → n ≡ length body
+    → IsRoom s n (more_of w) room → HasRecord s xid (record_of (Writes w) xid s) (more_of w) body room
+has_written m s w xid t ws n body room st told spells size is_room =
+    has_record m s xid t ws (λ x u us. written_record w x u us) (more_of w) n body room st told (written_short w xid) spells size (few_more w) is_room
+
+-- both rows are one
+abbrev pub unwritten : Writing → State → Triple → Answer
+unwritten w s xid = answer (plain (unwritten_code w)) (committed s xid)
+
+abbrev pub written : Writing → State → Triple → Turn
+written w s xid =
+    let r = record_of (Writes w) xid s in cond (has_room s r (more_of w)) (logs s r XAER_RMERR (written_left w xid s)) (Now (log_full s xid))
+
+written_turn : (w : Writing) (s : State) (xid : Triple) → row_turn (Writes w) xid s ≡ one_phase_turn s xid (unwritten w s xid) (written w s xid)
+written_turn Prepare s xid = refl
+written_turn CommitOnePhase s xid = refl
+
+pub of_row : (w : Writing) (s : State) (xid : Triple) (t : Turn) → one_phase_turn s xid (unwritten w s xid) (written w s xid) ≡ t → row_turn (Writes w) xid s ≡ t
+of_row w s xid t h = written_turn w s xid ∙ h
+
+written_may : (w : Writing) (s : State) (xid : Triple) (t : ℕ) (ws : List Write) → IsIdle s xid t ws → MayLog s (written_record w xid t ws)
+written_may Prepare s xid t ws h = h
+written_may CommitOnePhase s xid t ws h = h
+
+-- Where there is room, the record is appended.
+pub written_appends : (w : Writing) (s : State) (xid : Triple) (body : List ℕ) → HasRecord s xid (record_of (Writes w) xid s) (more_of w) body true → Appends (Writes w) xid body s
+written_appends w s xid body h =
+    let r = record_of (Writes w) xid s in
+    let logs_ = logs s r XAER_RMERR (written_left w xid s) in
+    record {
+      turn_is = written_turn w s xid ∙ goes_written s xid (unwritten w s xid) (written w s xid) h.free h.unmarked h.some ∙ first_turn (has_room s r (more_of w)) logs_ (Now (log_full s xid)) h.room_is;
+      may = written_may w s xid (timestamp_in s xid) (writes_in s xid) (allowed_idle s xid (sym h.free));
+      body_is = h.body_is;
+      fits = subst (λ (b : List ℕ). s.end + 40 + length b ≤ s.log_bytes) h.body_is (fits_by s.log_bytes s.end (length (spelled r)) (prepared_count s + more_of w) (length s.decided) h.room_is);
+    }

@@ -9,6 +9,7 @@ use Rattle.xa_disk.specs.declared.disk.Disk.{Ghosts}
 use Rattle.xa_log.specs.Buffer.{Holds, HoldsEach}
 use Rattle.xa_log.specs.Chain.{IsBody, logged, most_body, newest, text}
 use Rattle.xa_log.specs.Checkpoint.{IsOther}
+use Rattle.xa_log.specs.Group.{as_one}
 use Rattle.xa_log.specs.LogStates.{Whole}
 use Rattle.xa_log.specs.Pair.{beats, has_log}
 use Rattle.xa_log.specs.Reading.{bodies_of}
@@ -29,7 +30,7 @@ use Rattle.xa_manager.specs.Refused.{KeepsCurrent, LogsFirst, LogsBoot}
 use Rattle.xa_manager.specs.Rereading.{Found}
 use Rattle.xa_manager.specs.Reserving.{HasReserved}
 use Rattle.xa_manager.specs.Managed.{ManagerStandsFor}
-use Rattle.xa_manager.specs.Turns.{HasAppended, HasJournaled, doubt_after}
+use Rattle.xa_manager.specs.Turns.{HasAppended}
 use Rattle.xa_manager.proofs.PlannedLogs.{planned_stays}
 
 module _ {D : Type 0} (disks : Ghosts D) (old new : Log D) (r : HasReserved disks old new) where
@@ -78,11 +79,11 @@ module _ {D : Type 0} (disks : Ghosts D) (old new : Log D) (r : HasReserved disk
   moves_same Lost n after m =
       (m.0 ∙ r.fields.end, m.1 ∙ r.fields.format, m.2 ∙ r.fields.digest, m.3, m.4 ∙ r.fields.known, m.5 ∙ r.fields.other_known)
 
-  pub appended_same : (body : List ℕ) (a : Appending) (after : Log D) → HasAppended disks body a new after → HasAppended disks body a old after
-  appended_same body a after h = record {
+  pub appended_same : (group : List (List ℕ)) (a : Appending) (after : Log D) → HasAppended disks group a new after → HasAppended disks group a old after
+  appended_same group a after h = record {
     log_bytes = h.log_bytes ∙ r.fields.log_bytes;
     other = (h.other.0 ∙ r.files.1, h.other.1 ∙ r.fields.on_first);
-    moves = moves_same a (length body) after h.moves;
+    moves = moves_same a (as_one group) after h.moves;
     pair = λ honest bodies stood p. h.pair honest bodies stood (pair_same bodies stood p);
     calls = rw (← r.fields.end, ← r.fields.log_bytes, ← r.fields.known, ← r.files.0) h.calls;
     leaves = λ honest bodies st. rw (← r.fields.log_bytes, ← r.fields.format, ← r.files.0) (h.leaves honest bodies (r.keeps.stands bodies st));
@@ -163,17 +164,6 @@ module _ {D : Type 0} (disks : Ghosts D) (old new : Log D) (r : HasReserved disk
 
   pub none_rises : (before : Log D) → NoneRises disks.failures before old → NoneRises disks.failures before new
   none_rises before (first, second) = (ap disks.failures first_same ∙ first, ap disks.failures second_same ∙ second)
-
--- a body was journaled once there was room for it
-pub journaled_same : {D : Type 0} (disks : Ghosts D) (m : Manager D) (log : Log D) (body : List ℕ) (a : Appending) (m' : Manager D) → HasReserved disks m.log log
-    → HasJournaled disks body a (record m { log = log }) m' → HasJournaled disks body a m m'
-journaled_same disks m log body a m' r j = record {
-  appended = λ alive room. appended_same disks m.log log r body a m'.log (j.appended (r.fields.lost ∙ alive) (rw (r.fields.end, r.fields.log_bytes) room));
-  up = j.up;
-  doubt = j.doubt ∙ ap (λ (e : ℕ). doubt_after a e) r.fields.end;
-  tables = j.tables;
-  outcome = j.outcome;
-}
 
 -- the manager of a log whose buffer alone may have grown
 pub reserved_stands : {D : Type 0} (disks : Ghosts D) (m m' : Manager D) (s : State) → HasReserved disks m.log m'.log → m' ≡ record m { log = m'.log } → ManagerStandsFor disks m s

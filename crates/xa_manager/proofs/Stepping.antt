@@ -7,7 +7,7 @@ use Rattle.xa_frame.specs.declared.reply.Reply.{Reply}
 use Rattle.xa_record.specs.Spelling.{spelled}
 use Rattle.xa_record.specs.declared.record.Record.{Record}
 use Rattle.xa_record.specs.declared.record.Record.TheVariants as logged
-use Rattle.xa_log.specs.Group.{IsPlain}
+use Rattle.xa_log.specs.Group.{as_one, IsPlain}
 use Rattle.xa_log.specs.TwoFiles.{Pair}
 use Rattle.xa_log.specs.declared.log.Log.{Log}
 use Rattle.xa_model.specs.declared.event.Event.{Event}
@@ -46,6 +46,7 @@ use Rattle.xa_manager.specs.Crash.{LeavesBy, LeavesNow, LeavesWritten, checkpoin
 use Rattle.xa_manager.specs.LogStands.{Trusts, HasRecords, LogStandsFor}
 use Rattle.xa_manager.specs.Managed.{view, Doubts, ManagerStandsFor}
 use Rattle.xa_manager.specs.Stands.{StandsFor, TablesStandFor}
+use Rattle.xa_manager.proofs.Appending.{alone}
 use Rattle.xa_manager.proofs.CrashFiles.{append_files, crash_leaves}
 use Rattle.xa_manager.proofs.LogsBehind.{only_records, stands_whole, stands_append, stands_alike}
 use Rattle.xa_manager.specs.Turns.{HasDone, HasAppended, TakesNow, TakesAppending, Takes, up_after, doubt_after}
@@ -92,7 +93,7 @@ module _ {D : Type 0} (disks : Ghosts D) where
   log_same log s t group k backs l = stands_alike disks log s t group k.lasts k.open_records backs l
 
   -- the log behind the state, after an append
-  log_after : (log log' : Log D) (s t : State) (r : Record) (a : Appending) → s.open_records ≡ [] → is_boot r ≡ false → HasAppended disks (spelled r) a log log' → disks.honest
+  log_after : (log log' : Log D) (s t : State) (r : Record) (a : Appending) → s.open_records ≡ [] → is_boot r ≡ false → HasAppended disks (spelled r ∷ []) a log log' → disks.honest
       → (a ≡ Lost → t.open_records ≡ r ∷ [])
       → (a ≡ Kept → (rs : List Record) → Backs rs s → Backs (rs ++ r ∷ []) t) → (a ≡ Refused → (rs : List Record) → Backs rs s → Backs rs t) → (a ≡ Lost → (rs : List Record) → Backs rs s → Backs rs t)
       → LogStandsFor disks log s → LogStandsFor disks log' t
@@ -188,18 +189,18 @@ module _ {D : Type 0} (disks : Ghosts D) where
 
   -- the manager after an append
 
-  end_after : (log log' : Log D) (s t : State) (r : Record) (a : Appending) → log.end ≡ s.end → HasAppended disks (spelled r) a log log'
+  end_after : (log log' : Log D) (s t : State) (r : Record) (a : Appending) → log.end ≡ s.end → HasAppended disks (spelled r ∷ []) a log log'
       → (a ≡ Kept → t.end ≡ s.end + (36 + length (spelled r))) → (a ≡ Refused → t.end ≡ s.end) → up_after a ≡ true → log'.end ≡ t.end
-  end_after log log' s t r Kept same h ok_ refused_ up = h.moves.0 ∙ ap (λ (n : ℕ). n + (36 + length (spelled r))) same ∙ sym (ok_ refl)
+  end_after log log' s t r Kept same h ok_ refused_ up = h.moves.0 ∙ ap (λ (n : ℕ). n + (36 + as_one (spelled r ∷ []))) same ∙ ap (λ (n : ℕ). s.end + (36 + n)) (alone (spelled r)) ∙ sym (ok_ refl)
   end_after log log' s t r Refused same h ok_ refused_ up = h.moves.0 ∙ same ∙ sym (refused_ refl)
   end_after log log' s t r Lost same h ok_ refused_ up = absurd (cc up)
 
-  alive_after : (log log' : Log D) (r : Record) (a : Appending) → log.lost ≡ false → HasAppended disks (spelled r) a log log' → up_after a ≡ true → log'.lost ≡ false
+  alive_after : (log log' : Log D) (r : Record) (a : Appending) → log.lost ≡ false → HasAppended disks (spelled r ∷ []) a log log' → up_after a ≡ true → log'.lost ≡ false
   alive_after log log' r Kept same h up = h.moves.2 ∙ same
   alive_after log log' r Refused same h up = h.moves.3 ∙ same
   alive_after log log' r Lost same h up = absurd (cc up)
 
-  format_after : (log log' : Log D) (r : Record) (a : Appending) → HasAppended disks (spelled r) a log log' → log'.format ≡ log.format
+  format_after : (log log' : Log D) (r : Record) (a : Appending) → HasAppended disks (spelled r ∷ []) a log log' → log'.format ≡ log.format
   format_after log log' r Kept h = h.moves.1
   format_after log log' r Refused h = h.moves.1
   format_after log log' r Lost h = h.moves.1
@@ -284,7 +285,7 @@ module _ {D : Type 0} (disks : Ghosts D) where
   takes_called : (m m' : Manager D) (t : Turn) (reply : Reply) (outcome : Outcome) → Takes disks m t reply outcome m' → HasCalled disks outcome m.log m'.log
   takes_called m m' Nobody reply outcome x = absurd x
   takes_called m m' (Now a) reply outcome x = subst (λ (o : Outcome). HasCalled disks o m.log m'.log) (sym x.outcome_is) x.log
-  takes_called m m' (Appends r after) reply outcome x = subst (λ (o : Outcome). HasCalled disks o m.log m'.log) (sym x.outcome_is) (x.log.other.0, x.log.other.1, length (spelled r), x.log.moves, x.log.calls)
+  takes_called m m' (Appends r after) reply outcome x = subst (λ (o : Outcome). HasCalled disks o m.log m'.log) (sym x.outcome_is) (x.log.other.0, x.log.other.1, as_one (spelled r ∷ []), x.log.moves, x.log.calls)
   takes_called m m' (Checkpoints r after) reply outcome x = absurd x
   takes_called m m' (Rereads failed found) reply outcome x = absurd x
   takes_called m m' (Joins refused r lost) reply outcome x = absurd x

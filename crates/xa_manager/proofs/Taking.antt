@@ -1,9 +1,8 @@
 -- How a manager takes a turn, by what it did.
-use Rattle.std.proofs.Common.{◌≡◌, ◌≢◌, ℕ, ℤ, ◌+◌, ◌≤◌, Bool, true, false, List, length, refl, ap, sym, ◌∙◌, subst}
+use Rattle.std.proofs.Common.{◌≡◌, ◌≢◌, ℤ, Bool, true, false, refl, ap, sym, ◌∙◌, subst}
 use Rattle.std.specs.Prelude.{Result, Ok, Err, OnErr}
 use Rattle.xa_disk.specs.declared.disk.Disk.{Ghosts}
 use Rattle.xa_frame.specs.declared.reply.Reply.{Reply}
-use Rattle.xa_record.specs.Spelling.{spelled}
 use Rattle.xa_record.specs.declared.record.Record.{Record}
 use Rattle.xa_log.specs.declared.log.Log.{Log}
 use Rattle.xa_model.specs.declared.outcome.Outcome.{Outcome}
@@ -12,8 +11,8 @@ use Rattle.xa_model.specs.declared.outcome.Appending.{Appending}
 use Rattle.xa_model.specs.declared.outcome.Appending.TheVariants.{Kept as WasKept, Refused, Lost}
 use Rattle.xa_model.specs.State.{State}
 use Rattle.xa_model.specs.Answer.{Answer}
-use Rattle.xa_model.specs.Turn.{Turn, Now, Appends}
-use Rattle.xa_model.specs.Logging.{append_became, applied, lost, logs}
+use Rattle.xa_model.specs.Turn.{Turn, Now}
+use Rattle.xa_model.specs.Logging.{append_became, applied, lost}
 use Rattle.xa_model.specs.Invariants.Loggable.{IsRecoverable}
 use Rattle.xa_assoc.specs.Refusals.{is_memory, IsBare}
 use Rattle.xa_assoc.proofs.Follows.{unmoved}
@@ -23,7 +22,7 @@ use Rattle.xa_manager.specs.Answered.{StaysFor}
 use Rattle.xa_manager.specs.View.{View}
 use Rattle.xa_manager.specs.Stands.{StandsFor, StandsDown, TablesStandFor, Follows, Stays}
 use Rattle.xa_manager.specs.Managed.{view, ManagerStandsFor}
-use Rattle.xa_manager.specs.Turns.{HasAppended, HasJournaled, Takes, TakesTurn, up_after, doubt_after, reply_to}
+use Rattle.xa_manager.specs.Turns.{Takes, TakesTurn, up_after, reply_to}
 
 -- what is answered at once of a state, and leaves these tables
 pub record AnswersNow (s : State) (turn : Turn) (reply : Reply) (m' : View) : Type 0 where
@@ -32,18 +31,8 @@ pub record AnswersNow (s : State) (turn : Turn) (reply : Reply) (m' : View) : Ty
   pub reply_is : answer.reply ≡ reply
   pub tables : IsRecoverable answer.after → StandsFor m' answer.after
 
--- a record of this body is appended, and the device's answer leaves these tables
-pub record AnswersAppending (s : State) (turn : Turn) (body : List ℕ) (a : Appending) (reply : Reply) (m' : View) : Type 0 where
-  pub appended : Record
-  pub after : Appending → Answer
-  pub turn_is : turn ≡ Appends appended after
-  pub body_is : spelled appended ≡ body
-  pub reply_is : (after a).reply ≡ reply
-  pub tables : IsRecoverable (after a).after → TablesStandFor (up_after a) m' (after a).after
-  pub fits : s.end + 40 + length body ≤ s.log_bytes
-
 -- the reply of an append
-reply_by : (s : State) (r : Record) (code : ℤ) (left : State) (a : Appending) → (append_became s r code left a).reply ≡ reply_to code a
+pub reply_by : (s : State) (r : Record) (code : ℤ) (left : State) (a : Appending) → (append_became s r code left a).reply ≡ reply_to code a
 reply_by s r code left WasKept = refl
 reply_by s r code left Refused = refl
 reply_by s r code left Lost = refl
@@ -82,19 +71,6 @@ pub by_answer : (m' : View) (s : State) (r : Record) (code : ℤ) (left : State)
 by_answer m' s r code left WasKept kept_ refused lost_ recoverable = kept_ refl recoverable
 by_answer m' s r code left Refused kept_ refused lost_ recoverable = refused refl recoverable
 by_answer m' s r code left Lost kept_ refused lost_ recoverable = lost_ refl recoverable
-
-pub logs_answers : (s : State) (turn : Turn) (r : Record) (code : ℤ) (left : State) (body : List ℕ) (a : Appending) (m' : View) → turn ≡ logs s r code left → spelled r ≡ body
-    → (IsRecoverable (append_became s r code left a).after → TablesStandFor (up_after a) m' (append_became s r code left a).after) → s.end + 40 + length body ≤ s.log_bytes
-    → AnswersAppending s turn body a (reply_to code a) m'
-logs_answers s turn r code left body a m' is body_is tables fits = record {
-  appended = r;
-  after = append_became s r code left;
-  turn_is = is;
-  body_is = body_is;
-  reply_is = reply_by s r code left a;
-  tables = tables;
-  fits = fits;
-}
 
 -- what it is told has no body
 pub appended_bare : (d : Done) (code : ℤ) (a : Appending) → d ≡ record { reply = reply_to code a; outcome = Appended a } → IsBare d.reply
@@ -150,27 +126,3 @@ module _ {D : Type 0} (disks : Ghosts D) where
       → Follows (view m) act reply (view m') → TakesTurn disks m (λ s. Now (act s)) reply outcome m'
   takes_row m m' act reply outcome quiet log up doubt f =
       takes_now m m' (λ s. Now (act s)) reply outcome f.served quiet log up doubt (λ s whole is_up st. record { answer = act s; turn_is = refl; reply_is = f.answers s st; tables = λ recoverable. f.stands s st recoverable })
-
-  -- a record was journaled on the same log, and the tables may have changed before and after
-  pub takes_appending : (m mid mid' m' : Manager D) (act : State → Turn) (body : List ℕ) (a : Appending) (reply : Reply) (outcome : Outcome) → is_memory reply.detail ≡ false → outcome ≡ Appended a
-      → mid.log ≡ m.log → mid.up ≡ m.up → HasJournaled disks body a mid mid' → m'.log ≡ mid'.log → m'.up ≡ mid'.up → m'.doubt ≡ mid'.doubt
-      → ((s : State) → ManagerStandsFor disks m s → m.up ≡ true → AnswersAppending s (act s) body a reply (view m')) → TakesTurn disks m act reply outcome m'
-  takes_appending m mid mid' m' act body a reply outcome served is log up j log' up' doubt' h = record {
-    takes = λ s st is_up.
-        let x = h s st is_up in
-        let is_up' : m'.up ≡ up_after a = up' ∙ j.up (up ∙ is_up) in
-        let alive : mid.log.lost ≡ false = ap (λ (l : Log D). l.lost) log ∙ st.alive is_up in
-        let fits : mid.log.end + 40 + length body ≤ mid.log.log_bytes = rw (log, st.end is_up, st.log_bytes) x.fits in
-        let there : HasAppended disks body a m.log m'.log = rw log' (subst (λ (l : Log D). HasAppended disks body a l mid'.log) log (j.appended alive fits)) in
-        subst (λ (t : Turn). Takes disks m t reply outcome m') (sym x.turn_is)
-        (record {
-          answer = a;
-          reply_is = x.reply_is;
-          outcome_is = is;
-          log = subst (λ (b : List ℕ). HasAppended disks b a m.log m'.log) (sym x.body_is) there;
-          up = is_up';
-          doubt = doubt' ∙ j.doubt ∙ ap (λ (l : Log D). doubt_after a l.end) log;
-          tables = λ recoverable. subst (λ (b : Bool). TablesStandFor b (view m') (x.after a).after) (sym is_up') (x.tables recoverable);
-        });
-    served = served;
-  }

@@ -1,9 +1,11 @@
 -- What the acts of the tables do, and of what states.
-use Rattle.std.specs.Prelude.{ℕ, ◌≡◌, true, None, Some, IsSome}
+use Rattle.std.specs.Prelude.{ℕ, ◌≡◌, true, Option, None, Some, IsSome}
+use Rattle.mv_chain.specs.declared.fate.Fate.{Fate}
+use Rattle.mv_chain.specs.declared.fate.Fate.TheVariants.{Committed, RolledBack}
 use Rattle.xa_codes.specs.declared.direction.Direction.{Direction}
 use Rattle.xa_xid.specs.Triple.{Triple}
 use Rattle.xa_model.specs.State.{State, InDoubt, known_as, known_of}
-use Rattle.xa_model.specs.Branches.{prepared, decided_by, forgotten}
+use Rattle.xa_model.specs.Branches.{committed, rolled_back, prepared, decided_by, forgotten}
 use Rattle.xa_model.specs.Completions.{is_completed}
 use Rattle.xa_model.specs.Invariants.Loggable.{IsRecoverable}
 use Rattle.xa_assoc.specs.Sessions.{resume_refusal_of, suspend_refusal_of}
@@ -12,7 +14,7 @@ use Rattle.xa_branch.specs.declared.kind.Kind.{Kind}
 use Rattle.xa_branch.specs.declared.kind.Kind.TheVariants.{Active}
 use Rattle.xa_manager.specs.declared.tables.Tables.{Tables}
 use Rattle.xa_manager.specs.View.{view_of}
-use Rattle.xa_manager.specs.Stands.{StandsFor, StandsWithRoom, BecomesAt, ending}
+use Rattle.xa_manager.specs.Stands.{StandsFor, StandsWithRoom, Becomes, BecomesAt, ending}
 
 -- a start with TMRESUME isn't refused, and takes an association of this kind
 abbrev pub Resumes : ℕ → Triple → Kind → State → Type 0
@@ -32,6 +34,20 @@ Ends n xid kind s = ended_kind s.associations n xid ≡ Some kind
 -- the branch with this XID, which is at work or in doubt, is completed so, wherever the log ends then
 abbrev pub BranchBecomes : Tables → Triple → (State → Triple → State) → Tables → Type 0
 BranchBecomes t xid act t' = BecomesAt (view_of t) (λ s. IsSome (known_of s.branches xid)) (λ s. act s xid) (view_of t')
+
+-- what becomes of a branch of which nothing is logged: it is settled so, or stays as it is
+abbrev pub settled : Option Fate → Triple → State → State
+settled None xid s = s
+settled (Some Committed) xid s = committed s xid
+settled (Some RolledBack) xid s = rolled_back s xid
+
+-- one that is settled is known
+abbrev pub MaySettle : Option Fate → Triple → State → Type 0
+MaySettle None xid s = Unit {0}
+MaySettle (Some fate) xid s = IsSome (known_of s.branches xid)
+
+abbrev pub Settles : Tables → Option Fate → Triple → Tables → Type 0
+Settles t fate xid t' = Becomes (view_of t) (MaySettle fate xid) (settled fate xid) (view_of t')
 
 -- it is in doubt, and the operator completes it
 abbrev pub Decides : Tables → Direction → Triple → Tables → Type 0

@@ -23,3 +23,5 @@ pub mod CrashLaws
 pub mod Crash
 pub mod CrashOpening
 pub mod Promises
+pub mod Rows
+pub mod Plans

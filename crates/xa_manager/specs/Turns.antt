@@ -1,5 +1,5 @@
 -- How a manager takes one turn of the sequential resource manager.
-use Rattle.std.specs.Prelude.{◌⊎◌, ℕ, ◌+◌, ◌≤◌, ℤ, pos, ◌≡◌, Bool, true, false, Option, Some, None, List, [], ◌∷◌, length}
+use Rattle.std.specs.Prelude.{◌⊎◌, ℕ, ◌+◌, ◌≤◌, ℤ, pos, ◌≡◌, Bool, true, false, Option, Some, None, List, [], ◌∷◌}
 use Rattle.xa_disk.specs.Time.{LeavesOnly}
 use Rattle.xa_disk.specs.declared.disk.Disk.{Ghosts}
 use Rattle.xa_codes.specs.declared.codes.TheConstants.{XAER_RMFAIL}
@@ -9,6 +9,7 @@ use Rattle.xa_frame.specs.declared.request.Request.{Request}
 use Rattle.xa_record.specs.Spelling.{spelled}
 use Rattle.xa_record.specs.declared.record.Record.{Record}
 use Rattle.xa_log.specs.Ahead.{AppendsBy}
+use Rattle.xa_log.specs.Group.{as_one}
 use Rattle.xa_log.specs.Stands.{Stands, Leaves, Moves}
 use Rattle.xa_log.specs.TwoFiles.{Pair, AppendsTo}
 use Rattle.xa_log.specs.declared.log.Log.{Log}
@@ -36,17 +37,18 @@ use Rattle.xa_manager.specs.LogStands.{Trusts}
 use Rattle.xa_manager.specs.Managed.{view, ManagerStandsFor, AnswersAs}
 use Rattle.xa_manager.specs.Stands.{TablesStandFor}
 
--- what an append of a body leaves of the log, by the device's answer
-pub record HasAppended {D : Type 0} (disks : Ghosts D) (body : List ℕ) (a : Appending) (log log' : Log D) : Type 0 where
+-- what an append of a group's bodies leaves of the log, by the device's answer
+pub record HasAppended {D : Type 0} (disks : Ghosts D) (group : List (List ℕ)) (a : Appending)
+    (log log' : Log D) : Type 0 where
   pub log_bytes : log'.log_bytes ≡ log.log_bytes
   pub other : (log'.other ≡ log.other) × (log'.on_first ≡ log.on_first)
-  pub moves : Moves (as_appended a) (length body) log log'
+  pub moves : Moves (as_appended a) (as_one group) log log'
   pub pair : disks.honest → (bodies stood : List (List ℕ)) → Pair disks bodies stood log
-      → AppendsTo disks (as_appended a) bodies (body ∷ []) stood log'
-  pub calls : AppendsBy disks (length body) (as_appended a) log log'
+      → AppendsTo disks (as_appended a) bodies group stood log'
+  pub calls : AppendsBy disks (as_one group) (as_appended a) log log'
   -- what a crash at any moment of it leaves of the file that is written
   pub leaves : disks.honest → (bodies : List (List ℕ)) → Stands disks bodies log
-      → LeavesOnly disks log.disk log'.disk (Leaves log.log_bytes log.format bodies (body ∷ []))
+      → LeavesOnly disks log.disk log'.disk (Leaves log.log_bytes log.format bodies group)
 
 -- whether the manager is up afterwards, and what it keeps of a record that was lost behind the log's end
 abbrev pub up_after : Appending → Bool
@@ -59,11 +61,11 @@ doubt_after Kept end = None
 doubt_after Refused end = None
 doubt_after Lost end = Some (doubt.Record end)
 
--- A body was journaled: where the log is alive and has the room, so much was appended.
-pub record HasJournaled {D : Type 0} (disks : Ghosts D) (body : List ℕ) (a : Appending)
+-- A group's bodies were journaled: where the log is alive and has the room, so much was appended.
+pub record HasJournaled {D : Type 0} (disks : Ghosts D) (group : List (List ℕ)) (a : Appending)
     (m m' : Manager D) : Type 0 where
-  pub appended : m.log.lost ≡ false → m.log.end + AROUND_CLOSED + length body ≤ m.log.log_bytes
-      → HasAppended disks body a m.log m'.log
+  pub appended : m.log.lost ≡ false → m.log.end + AROUND_CLOSED + as_one group ≤ m.log.log_bytes
+      → HasAppended disks group a m.log m'.log
   pub up : m.up ≡ true → m'.up ≡ up_after a
   pub doubt : m'.doubt ≡ doubt_after a m.log.end
   pub tables : m'.tables ≡ m.tables
@@ -91,7 +93,7 @@ pub record TakesAppending {D : Type 0} (disks : Ghosts D) (m : Manager D) (r : R
   pub answer : Appending
   pub reply_is : (after answer).reply ≡ reply
   pub outcome_is : outcome ≡ Appended answer
-  pub log : HasAppended disks (spelled r) answer m.log m'.log
+  pub log : HasAppended disks (spelled r ∷ []) answer m.log m'.log
   pub up : m'.up ≡ up_after answer
   pub doubt : m'.doubt ≡ doubt_after answer m.log.end
   pub tables : IsRecoverable (after answer).after → TablesStandFor m'.up (view m') (after answer).after

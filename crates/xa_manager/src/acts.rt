@@ -10,7 +10,7 @@ ghost use Rattle.xa_branch.specs.Calls.{marked_with};
 ghost use Rattle.xa_manager.specs.Changes.{fate_of};
 ghost use Rattle.xa_assoc.specs.Company.{company_of};
 ghost use Rattle.xa_manager.specs.Tables.{TablesBecome, TablesMove, TablesSay, TablesStay, TablesStayDown};
-ghost use Rattle.xa_manager.specs.Acts.{BranchBecomes, Decides, Ends, Forgets, Resumes, Suspends, SuspendsAs};
+ghost use Rattle.xa_manager.specs.Acts.{BranchBecomes, Decides, Ends, Forgets, Resumes, Settles, Suspends, SuspendsAs};
 
 use crate::tables::Tables;
 use mv_chain::Fate;
@@ -124,6 +124,16 @@ impl Tables {
         let timestamp = self.branches.timestamp(xid);
         self.branches.finish(xid);
         self.records.settle(timestamp, fate);
+    }
+
+    /// What becomes of a branch of which nothing is logged.
+    pub fn settle(&mut self, xid: &Xid, fate: Option<Fate>)
+        ensures settles { Settles self.old fate xid.now self.new }
+        ensures company { company_of self.new.sessions ≡ company_of self.old.sessions }
+    {
+        if let Some(fate) = fate {
+            self.finish_branch(xid, fate);
+        }
     }
 
     /// The operator completes a prepared branch.

@@ -1,19 +1,68 @@
-ghost use Rattle.std.specs.Prelude.{◌≡◌, ◌≢◌, ℕ, true, IsSome, OnOk, OnErr};
-ghost use Rattle.xa_model.specs.Answer.{detailed};
-ghost use Rattle.xa_model.specs.Branches.{rolled_back, committed, completed, decided_by, forgotten, prepared};
-ghost use Rattle.xa_assoc.specs.Refusals.{IsBare};
+ghost use Rattle.std.specs.Prelude.{◌≡◌, ◌≢◌, OnOk, OnErr};
+ghost use Rattle.xa_model.specs.Branches.{rolled_back, committed, completed};
 ghost use Rattle.xa_assoc.specs.Company.{company_of};
 ghost use Rattle.xa_manager.specs.Tables.{TablesStay};
 ghost use Rattle.xa_manager.specs.Acts.{BranchBecomes, Decides, Forgets, GivesRoomBack, MakesRoom, TakesPrepared};
+ghost use Rattle.xa_manager.specs.Plans.{LeavesReady, MakesReady, TakesAnswer};
 
 use crate::acts::fate_of;
+use crate::row::{Row, Writing};
 use crate::tables::Tables;
 use mv_chain::Fate;
 use std::alloc::AllocError;
-use xa_codes::{Detail, Direction, XA_RBOTHER};
-use xa_frame::Reply;
+use xa_codes::Direction;
 use xa_model::Appending;
 use xa_xid::Xid;
+
+/// What the rows that log do in the tables before the append and after it.
+impl Tables {
+    /// Makes the room that a row keeps something in once its record is kept.
+    pub fn make_ready(&mut self, writing: Writing, xid: &Xid) -> Result<(), AllocError>
+        ensures ok { OnOk result (MakesReady self.old (Row.Writes writing) xid.now self.new) }
+        ensures err { OnErr result (TablesStay self.old self.new) }
+        ensures company { company_of self.new.sessions ≡ company_of self.old.sessions }
+    {
+        match writing {
+            Writing::Prepare => self.make_room(xid),
+            Writing::CommitOnePhase => Ok(()),
+        }
+    }
+
+    /// Gives that room back: nothing is appended.
+    pub fn leave_ready(&mut self, writing: Writing, xid: &Xid)
+        ensures given { LeavesReady self.old (Row.Writes writing) xid.now self.new }
+        ensures company { company_of self.new.sessions ≡ company_of self.old.sessions }
+    {
+        match writing {
+            Writing::Prepare => self.give_room_back(xid),
+            Writing::CommitOnePhase => {}
+        }
+    }
+
+    /// What the device's answer to the row's record makes of the branch.
+    pub fn take_answer(&mut self, row: Row, xid: &Xid, answer: Appending)
+        ensures takes { TakesAnswer self.old row xid.now answer self.new }
+        ensures company { company_of self.new.sessions ≡ company_of self.old.sessions }
+    {
+        match row {
+            Row::Writes(writing) => self.take_written(writing, xid, answer),
+            Row::CommitTwoPhase => self.take_completed(xid, Direction::Commit, answer),
+            Row::Rollback => self.take_completed(xid, Direction::Rollback, answer),
+            Row::Decide(direction) => self.take_decided(xid, direction, answer),
+            Row::Forget => self.take_forgotten(xid, answer),
+        }
+    }
+
+    fn take_written(&mut self, writing: Writing, xid: &Xid, answer: Appending)
+        ensures takes { TakesAnswer self.old (Row.Writes writing) xid.now answer self.new }
+        ensures company { company_of self.new.sessions ≡ company_of self.old.sessions }
+    {
+        match writing {
+            Writing::Prepare => self.take_prepared(xid, answer),
+            Writing::CommitOnePhase => self.take_committed(xid, answer),
+        }
+    }
+}
 
 /// What becomes of a branch that is prepared, once it is known whether its record stands.
 impl Tables {
@@ -43,17 +92,6 @@ impl Tables {
             Appending::Kept => self.branches.prepare(xid),
             Appending::Refused | Appending::Lost => self.branches.give_back(xid),
         }
-    }
-
-    /// A branch for whose record the log has no room is rolled back, and gone.
-    pub fn log_full(&mut self, xid: &Xid) -> Reply
-        ensures reply { result ≡ detailed XA_RBOTHER Detail.LogFull }
-        ensures tables { BranchBecomes self.old xid.now rolled_back self.new }
-        ensures company { company_of self.new.sessions ≡ company_of self.old.sessions }
-        ensures bare { IsBare result }
-    {
-        self.finish_branch(xid, Fate::RolledBack);
-        Reply::detailed(XA_RBOTHER, Detail::LogFull)
     }
 }
 

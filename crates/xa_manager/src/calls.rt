@@ -12,6 +12,7 @@ ghost use Rattle.xa_manager.specs.Replies.{IsFresh};
 use crate::done::Done;
 use crate::early::early_refusal;
 use crate::manager::Manager;
+use crate::row::{Row, Writing};
 use std::alloc::AllocError;
 use xa_disk::Disk;
 use xa_frame::{Reply, Request};
@@ -56,10 +57,10 @@ impl<D: Disk> Manager<D> {
                 self.tables.start(session, flags, &xid)?,
             )),
             Request::End { flags, xid } => Ok(Done::now(self.tables.end(session, flags, &xid))),
-            Request::Prepare { xid, .. } => self.prepare(&xid),
-            Request::Commit { flags, xid } => self.commit(flags, &xid),
-            Request::Rollback { xid, .. } => Ok(self.rollback(&xid)),
-            Request::Forget { xid, .. } => Ok(self.forget(&xid)),
+            Request::Prepare { xid, .. } => self.log_call(Row::Writes(Writing::Prepare), &xid),
+            Request::Commit { flags, xid } => self.log_call(Row::of_commit(flags), &xid),
+            Request::Rollback { xid, .. } => self.log_call(Row::Rollback, &xid),
+            Request::Forget { xid, .. } => self.log_call(Row::Forget, &xid),
             Request::Recover { flags, count } => Ok(Done::now(
                 self.tables.recover(session, flags, count)?,
             )),
@@ -69,7 +70,7 @@ impl<D: Disk> Manager<D> {
                 Ok(Done::now(self.tables.put(session, &key, value)?))
             }
             Request::Delete { key } => Ok(Done::now(self.tables.put(session, &key, None)?)),
-            Request::Decide { direction, xid } => Ok(self.decide(direction, &xid)),
+            Request::Decide { direction, xid } => self.log_call(Row::Decide(direction), &xid),
             Request::Doom { xid } => Ok(Done::now(self.tables.doom(&xid))),
             Request::Timeout { seconds } => Ok(Done::now(self.tables.timeout(session, seconds))),
             Request::Tick { moment } => Ok(Done::now(self.tables.tick(moment))),

@@ -8,8 +8,9 @@
 //!   operator in `operator`, of gets and puts in `data`, of recovery scans in `recovery`, of time limits in `time_limits`,
 //!   of the list of known branches in `known_list`
 //! - `tables`: what a manager keeps; `facts` and `refusals`, what rows ask of it, `acts`, what they change
-//! - `journal`: how a record comes into the log; `room`, the room that the log keeps free; `doubt`: `Doubt`, what is
-//!   kept of a record that was lost; `answered`, what rows do by the device's answer; `done`, what a call comes to
+//! - rows that log: `row`, `Row`; `plan`, `Plan`, what one comes to before its append; `logging`, its way, `journal`, how
+//!   its record comes into the log, and `answered`, what the tables make of the device's answer; `room`, the room that the
+//!   log keeps free; `doubt`: `Doubt`, what is kept of a record that was lost; `done`, what a call comes to
 //! - a boot: `settings`, `Settings`; `opening`, `restarting` or `trimming`, how it begins; `boots`, what is made
 //!   ready for it, and `rebuilding` its tables; `first_records`, how an opening logs it; `fault`: `ManagerFault`, why
 //!   there is no manager, and `refused`: `RefusedOpening`, with the disks
@@ -36,9 +37,11 @@ mod first_records;
 mod journal;
 mod known_list;
 mod laws;
+mod logging;
 mod manager;
 mod opening;
 mod operator;
+mod plan;
 mod planning;
 mod rebuilding;
 mod recovery;
@@ -47,6 +50,7 @@ mod refused;
 mod replies;
 mod restarting;
 mod room;
+mod row;
 mod settings;
 mod status;
 mod tables;

@@ -1,10 +1,8 @@
 -- The entries of a group that is kept, and of one that is lost.
 use Rattle.std.proofs.Common.{◌≡◌, true, false, not, List, [], ◌∷◌, ◌++◌, Some, refl, sym, ap, ◌∙◌, subst}
-use Rattle.std.specs.Prelude.{pos, map}
+use Rattle.std.specs.Prelude.{map}
 use Rattle.std.specs.List.{AllByRecursion}
-use Rattle.std.proofs.lemmas.List.{append-nil}
-use Rattle.xa_codes.specs.declared.codes.TheConstants.{XAER_RMFAIL}
-use Rattle.xa_codes.specs.declared.detail.Detail.TheVariants as detail
+use Rattle.std.proofs.lemmas.List.{append-nil, append_assoc}
 use Rattle.xa_frame.specs.declared.request.Request.{Request}
 use Rattle.xa_frame.specs.declared.request.Request.TheVariants.{Restart, Trim}
 use Rattle.xa_record.specs.declared.record.Record.{Record}
@@ -15,7 +13,7 @@ use Rattle.xa_model.specs.declared.outcome.Appending.{Appending}
 use Rattle.xa_model.specs.declared.outcome.Appending.TheVariants.{Kept, Lost}
 use Rattle.xa_model.specs.declared.outcome.Outcome.TheVariants.{Appended, Joined}
 use Rattle.xa_model.specs.State.{State, Up, Down}
-use Rattle.xa_model.specs.Answer.{Answer, plain, detailed, ok}
+use Rattle.xa_model.specs.Answer.{Answer, ok}
 use Rattle.xa_model.specs.Events.{asks_boot}
 use Rattle.xa_model.specs.History.{Leads}
 use Rattle.xa_model.specs.Logging.{applied, applied_all, down, lost, supposed, ends_in_group, is_boot}
@@ -23,7 +21,7 @@ use Rattle.xa_model.specs.Step.{turn, step, respond}
 use Rattle.xa_model.specs.Turn.{Asked, Turn, Appends, taken}
 use Rattle.xa_model.specs.Invariants.Loggable.{IsRecoverable, MayBeLast, MayFollow}
 use Rattle.xa_model.specs.Laws.Logging.{LogsWhatLasts}
-use Rattle.xa_model.specs.Laws.Together.{xid_of, IsSameFor, has_room_for, has_room_after, Part, AppendsOf, AreApart, HaveRoom, asks_with, records_of, KeptTogether, LostTogether}
+use Rattle.xa_model.specs.Laws.Together.{xid_of, IsSameFor, has_room_for, has_room_after, Part, AppendsOf, AreApart, HaveRoom, entry_of, records_of, KeptTogether, LostTogether}
 use Rattle.xa_model.proofs.AppliedAll.{AreOfGroup, applied_standing, all_append, all_beside, beside, beside_itself, follow_more, group_more}
 use Rattle.xa_model.proofs.Further.{joins_each, turns_up}
 use Rattle.xa_model.proofs.LastLogged.{LogsLast}
@@ -32,10 +30,10 @@ use Rattle.xa_model.proofs.Recoveries.{keeps_recoverable, turn_logs_last}
 use Rattle.xa_model.proofs.RoomTogether.{room_where_kept}
 use Rattle.xa_model.proofs.Together.{leaves_others, appends_the_same}
 
-abbrev asked_by : Part → Event
+abbrev pub asked_by : Part → Event
 asked_by p = event.Call p.session p.request
 
-same_then : (xid : Triple) (s t u : State) → IsSameFor xid s t → IsSameFor xid t u → IsSameFor xid s u
+pub same_then : (xid : Triple) (s t u : State) → IsSameFor xid s t → IsSameFor xid t u → IsSameFor xid s u
 same_then xid s t u h k = record {
   known = k.known ∙ h.known;
   decided = k.decided ∙ h.decided;
@@ -46,30 +44,30 @@ same_then xid s t u h k = record {
   standing = k.standing ∙ h.standing;
 }
 
-begins_none : (request : Request) (xid : Triple) → xid_of request ≡ Some xid → asks_boot request ≡ false
+pub begins_none : (request : Request) (xid : Triple) → xid_of request ≡ Some xid → asks_boot request ≡ false
 begins_none Restart xid e = absurd (cc e)
 begins_none Trim xid e = absurd (cc e)
 begins_none request xid e = refl
 
 -- some of the group's records were kept, and the rest of its calls find what they found before
-record Walk (s w : State) (rs : List Record) (ps : List Part) : Type 0 where
-  is : w ≡ applied_all rs s
-  recovers : IsRecoverable w
-  up : w.standing ≡ Up
-  follow : MayFollow s rs
-  group : AreOfGroup rs
-  same : AllByRecursion (λ (p : Part). IsSameFor p.xid s w) ps
+pub record Walk (s w : State) (rs : List Record) (ps : List Part) : Type 0 where
+  pub is : w ≡ applied_all rs s
+  pub recovers : IsRecoverable w
+  pub up : w.standing ≡ Up
+  pub follow : MayFollow s rs
+  pub group : AreOfGroup rs
+  pub same : AllByRecursion (λ (p : Part). IsSameFor p.xid s w) ps
 
 -- what the next call's turn is
-record AppendsNow (w : State) (p : Part) : Type 0 where
-  after : Appending → Answer
-  appends : turn w (Asked (asked_by p)) ≡ Appends p.appended after
-  kept : after Kept ≡ ok (applied p.appended w)
-  loses : after Lost ≡ lost w p.appended
-  last : MayBeLast w p.appended
-  of_group : is_boot p.appended ≡ false
+pub record AppendsNow (w : State) (p : Part) : Type 0 where
+  pub after : Appending → Answer
+  pub appends : turn w (Asked (asked_by p)) ≡ Appends p.appended after
+  pub kept : after Kept ≡ ok (applied p.appended w)
+  pub loses : after Lost ≡ lost w p.appended
+  pub last : MayBeLast w p.appended
+  pub of_group : is_boot p.appended ≡ false
 
-next_turn : (s w : State) (rs : List Record) (p : Part) (ps : List Part) → s.standing ≡ Up → Walk s w rs (p ∷ ps) → AppendsOf s p
+pub next_turn : (s w : State) (rs : List Record) (p : Part) (ps : List Part) → s.standing ≡ Up → Walk s w rs (p ∷ ps) → AppendsOf s p
     → has_room_after rs s p.appended ≡ true → AppendsNow w p
 next_turn s w rs p ps up walk a room =
     let there : has_room_for w p.appended ≡ true
@@ -91,7 +89,7 @@ all_same s w p (q ∷ qs) up a t same apart = (
   all_same s w p qs up a t same.1 apart.1,
 )
 
-next_walk : (s w : State) (rs : List Record) (p : Part) (ps : List Part) → Walk s w rs (p ∷ ps) → AppendsOf s p → AppendsNow w p
+pub next_walk : (s w : State) (rs : List Record) (p : Part) (ps : List Part) → Walk s w rs (p ∷ ps) → AppendsOf s p → AppendsNow w p
     → AllByRecursion (λ (q : Part). xid_eq p.xid q.xid ≡ false) ps → Walk s (applied p.appended w) (rs ++ p.appended ∷ []) ps
 next_walk s w rs p ps walk a t apart =
     let steps : step w (Asked (asked_by p)) (Appended Kept) ≡ Some (ok (applied p.appended w))
@@ -105,20 +103,20 @@ next_walk s w rs p ps walk a t apart =
       same = all_same s w p ps walk.up a t walk.same.1 apart;
     }
 
-all_itself : (s : State) (ps : List Part) → AllByRecursion (λ (p : Part). IsSameFor p.xid s s) ps
+pub all_itself : (s : State) (ps : List Part) → AllByRecursion (λ (p : Part). IsSameFor p.xid s s) ps
 all_itself s [] = tt
 all_itself s (p ∷ ps) = (
   record { known = refl; decided = refl; associations = refl; sessions = refl; name = refl; moment = refl; standing = refl },
   all_itself s ps,
 )
 
-begins : (s : State) (ps : List Part) → IsRecoverable s → s.standing ≡ Up → Walk s s [] ps
+pub begins : (s : State) (ps : List Part) → IsRecoverable s → s.standing ≡ Up → Walk s s [] ps
 begins s ps h up = record { is = refl; recovers = h; up = up; follow = tt; group = tt; same = all_itself s ps }
 
 -- kept
 
 kept_rest : (s w : State) (rs : List Record) (ps : List Part) → s.standing ≡ Up → Walk s w rs ps → AllByRecursion (AppendsOf s) ps → AreApart ps
-    → HaveRoom s rs ps → Leads w (map (asks_with (Joined Kept) (plain (pos 0))) ps) (applied_all (records_of ps) w)
+    → HaveRoom s rs ps → Leads w (map (entry_of (Joined Kept) Kept) ps) (applied_all (records_of ps) w)
 kept_rest s w rs [] up walk appends apart room = refl
 kept_rest s w rs (p ∷ ps) up walk appends apart room =
     let t = next_turn s w rs p ps up walk appends.0 room.0 in (
@@ -138,10 +136,6 @@ kept_together s p ps h up m =
 
 -- lost
 
-then_more : (rs : List Record) (r : Record) (more : List Record) → (rs ++ r ∷ []) ++ more ≡ rs ++ r ∷ more
-then_more [] r more = refl
-then_more (q ∷ rs) r more = ap (λ (l : List Record). q ∷ l) (then_more rs r more)
-
 takes : (r : Record) (rs : List Record) → AreOfGroup (r ∷ rs) → ends_in_group r rs ≡ true
 takes r [] group = ap not group.0
 takes r (q ∷ rs) group = takes q rs group.1
@@ -157,7 +151,7 @@ supposed_is s w rs ps walk =
 
 lost_rest : (s w : State) (r : Record) (rs : List Record) (ps : List Part) → s.standing ≡ Up → Walk s w (r ∷ rs) ps → AllByRecursion (AppendsOf s) ps
     → AreApart ps → HaveRoom s (r ∷ rs) ps
-    → Leads (lost_with s (r ∷ rs)) (map (asks_with (Joined Lost) (detailed XAER_RMFAIL detail.Device)) ps) (lost_with s ((r ∷ rs) ++ records_of ps))
+    → Leads (lost_with s (r ∷ rs)) (map (entry_of (Joined Lost) Lost) ps) (lost_with s ((r ∷ rs) ++ records_of ps))
 lost_rest s w r rs [] up walk appends apart room = ap (lost_with s) (append-nil (r ∷ rs))
 lost_rest s w r rs (p ∷ ps) up walk appends apart room =
     let u = lost_with s (r ∷ rs) in
@@ -171,8 +165,8 @@ lost_rest s w r rs (p ∷ ps) up walk appends apart room =
       ap (λ (x : Turn). taken x (Joined Lost)) joins,
       subst
           (λ (l : List Record).
-          Leads (lost_with s ((r ∷ rs) ++ p.appended ∷ [])) (map (asks_with (Joined Lost) (detailed XAER_RMFAIL detail.Device)) ps) (lost_with s l))
-          (then_more (r ∷ rs) p.appended (records_of ps)) rest,
+          Leads (lost_with s ((r ∷ rs) ++ p.appended ∷ [])) (map (entry_of (Joined Lost) Lost) ps) (lost_with s l))
+          (append_assoc (r ∷ rs) (p.appended ∷ []) (records_of ps)) rest,
     )
 
 pub lost_together : LostTogether

@@ -1,30 +1,17 @@
 -- Each record that joined stands in the group of one that didn't.
 use Rattle.std.proofs.Common.{◌≡◌, true, List, [], ◌∷◌, ◌++◌, Option, Some, None, refl, sym, ap, ◌∙◌, subst}
 use Rattle.std.specs.Prelude.{IfSome}
-use Rattle.std.specs.List.{AllByRecursion}
-use Rattle.std.proofs.lemmas.List.{append-nil}
+use Rattle.std.proofs.lemmas.List.{append-nil, append_assoc}
 use Rattle.xa_model.specs.declared.outcome.Appending.{Appending}
 use Rattle.xa_model.specs.declared.outcome.Outcome.{Outcome}
 use Rattle.xa_model.specs.declared.outcome.Outcome.TheVariants.{Quiet, Appended, Joined, Failed, Reread}
 use Rattle.xa_model.specs.History.{Entry, joins, append_in, JoinAfter}
 use Rattle.xa_model.specs.Laws.Groups.{IsGroup, GroupsShare}
+use Rattle.xa_model.proofs.Splits.{all_append}
 
 -- what stands before ends in a group of which this became, if the last of it appended
 abbrev EndsIn : List Entry → Option Appending → Type 0
 EndsIn before x = IfSome x (IsGroup before)
-
-then_more : (es : List Entry) (e : Entry) (more : List Entry) → (es ++ e ∷ []) ++ more ≡ es ++ e ∷ more
-then_more [] e more = refl
-then_more (q ∷ es) e more = ap (λ (l : List Entry). q ∷ l) (then_more es e more)
-
-all_more : (P : Entry → Type 0) (es : List Entry) (e : Entry) → AllByRecursion P es → P e → AllByRecursion P (es ++ e ∷ [])
-all_more P [] e h p = (p, tt)
-all_more P (q ∷ es) e h p = (h.0, all_more P es e h.1 p)
-
-more_apart : (earlier : List Entry) (first : Entry) (joined : List Entry) (e : Entry)
-    → (earlier ++ first ∷ joined) ++ e ∷ [] ≡ earlier ++ first ∷ (joined ++ e ∷ [])
-more_apart [] first joined e = refl
-more_apart (q ∷ earlier) first joined e = ap (λ (l : List Entry). q ∷ l) (more_apart earlier first joined e)
 
 -- one entry more
 goes_on : (before : List Entry) (x : Option Appending) (e : Entry) (o : Outcome) → e.outcome ≡ o → EndsIn before x
@@ -40,9 +27,9 @@ goes_on before x e (Joined appending) is h joined =
       earlier = g.earlier;
       first = g.first;
       joined = g.joined ++ e ∷ [];
-      whole = ap (λ (l : List Entry). l ++ e ∷ []) g.whole ∙ more_apart g.earlier g.first g.joined e;
+      whole = ap (λ (l : List Entry). l ++ e ∷ []) g.whole ∙ append_assoc g.earlier (g.first ∷ g.joined) (e ∷ []);
       appended = g.appended;
-      each = all_more (λ (q : Entry). q.outcome ≡ Joined appending) g.joined e g.each is;
+      each = all_append (λ (q : Entry). q.outcome ≡ Joined appending) g.joined (e ∷ []) g.each (is, tt);
     }
 
 shares : (done before later : List Entry) (entry : Entry) (appending : Appending) (x : Option Appending) → EndsIn done x
@@ -52,7 +39,7 @@ shares done [] later entry appending x h after is =
     let found : Some appending ≡ x = sym (ap append_in is) ∙ same in
     subst (λ (l : List Entry). IsGroup l appending) (sym (append-nil done)) (subst (λ (y : Option Appending). EndsIn done y) (sym found) h)
 shares done (e ∷ es) later entry appending x h after is =
-    subst (λ (l : List Entry). IsGroup l appending) (then_more done e es)
+    subst (λ (l : List Entry). IsGroup l appending) (append_assoc done (e ∷ []) es)
     (shares (done ++ e ∷ []) es later entry appending (append_in e.outcome) (goes_on done x e e.outcome refl h after.0) after.1 is)
 
 pub groups_share : GroupsShare

@@ -100,9 +100,13 @@ pub mod RisingMoments
 pub mod Preparing
 pub mod Unlisted
 pub mod Grouped
+pub mod OfTurns
 pub mod Together
 pub mod RoomTogether
 pub mod GroupSteps
+pub mod RefusedSteps
+pub mod GroupsBacked
+pub mod StillTogether
 pub mod Crashes
 pub mod LeftMeanwhile
 pub mod LeftOfTwo

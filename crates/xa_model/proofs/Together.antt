@@ -1,6 +1,6 @@
 -- Calls on different XIDs: what the record of one does leaves what another looks at, and so its record, the same.
 use Rattle.std.proofs.Common.{◌≡◌, ℕ, ℤ, Bool, true, false, cond, List, ◌∷◌, Option, Some, None, refl, sym, ap, ◌∙◌, subst}
-use Rattle.std.specs.Prelude.{nat_lt, option_map}
+use Rattle.std.specs.Prelude.{pos, nat_lt, option_map}
 use Rattle.xa_codes.specs.Flags.{has}
 use Rattle.xa_codes.specs.declared.codes.TheConstants.{XAER_RMERR, XA_RETRY, XA_RDONLY}
 use Rattle.xa_codes.specs.declared.direction.Direction.{Direction}
@@ -15,23 +15,25 @@ use Rattle.xa_record.specs.declared.record.Record.TheVariants as logged
 use Rattle.xa_xid.specs.Triple.{Triple, xid_eq}
 use Rattle.xa_xid.proofs.Same.{xid_same}
 use Rattle.xa_model.specs.declared.event.Event.TheVariants as event
+use Rattle.xa_model.specs.declared.outcome.Appending.{Appending}
 use Rattle.xa_model.specs.declared.outcome.Appending.TheVariants.{Kept, Refused}
-use Rattle.xa_model.specs.State.{State, Session, Association, Branch, Decided, Standing, Known, Unknown, AtWork, InDoubt, Completed, known_as, known_among, known_of, decided_of, is_known_as, holders_of, session_of, change, without}
+use Rattle.xa_model.specs.State.{State, Session, Association, Branch, Decided, Standing, Up, Known, Unknown, AtWork, InDoubt, Completed, known_as, known_among, known_of, decided_of, is_known_as, holders_of, session_of, change, without}
 use Rattle.xa_model.specs.Answer.{Answer, plain, answer, ok}
 use Rattle.xa_model.specs.Associations.{mark_in, timestamp_by, timestamp_in}
 use Rattle.xa_model.specs.Branches.{as_committed, as_prepared, is_associated, is_decision_of, unprepared_refusal, two_phase_refusal, rollback_refusal, heuristic_refusal, rolled_back, committed}
-use Rattle.xa_model.specs.Completions.{prepare_turn, prepare_written, commit_one_phase_turn, commit_two_phase_turn, commit_written, rollback_turn, roll_back_turn, decide_refusal, decide_turn, forget_refusal, forget_turn}
+use Rattle.xa_model.specs.Completions.{prepare_turn, commit_one_phase_turn, commit_two_phase_turn, rollback_turn, roll_back_turn, decide_refusal, decide_turn, forget_refusal, forget_turn}
 use Rattle.xa_model.specs.Early.{Context, early_refusal}
 use Rattle.xa_model.specs.Fold.{is_empty}
 use Rattle.xa_model.specs.Logging.{applied, logs, has_room, log_full, writes_by, writes_in}
-use Rattle.xa_model.specs.Step.{row, respond, is_up, context_of, record_in}
-use Rattle.xa_model.specs.Turn.{Turn, Now, Appends, unless_now, marked_now}
-use Rattle.xa_model.specs.Laws.Together.{xid_of, IsSameFor, has_room_for, LeavesOthers, AppendsTheSame}
+use Rattle.xa_model.specs.Step.{turn, row, respond, is_up, context_of, record_in}
+use Rattle.xa_model.specs.Turn.{Asked, Turn, Now, Appends, unless_now, marked_now}
+use Rattle.xa_model.specs.Laws.Together.{xid_of, IsSameFor, has_room_for, LeavesOthers, AtOnceLeavesOthers, AppendsTheSame}
 use Rattle.xa_model.proofs.Doubts.{prepared_known}
 use Rattle.xa_model.proofs.Finds.{find_without}
 use Rattle.xa_model.proofs.Further.{recorded, turns_up}
 use Rattle.xa_model.proofs.Lists.{find_change_other}
 use Rattle.xa_model.proofs.Names.{called_apart}
+use Rattle.xa_model.proofs.OfTurns.{OfTurn, unless_turn, marked_turn, cond_turn}
 
 -- what a record leaves
 
@@ -66,6 +68,9 @@ module _ (s : State) (xid other : Triple) (apart : xid_eq xid other ≡ false) w
   rolled : IsSameFor other s (rolled_back s xid)
   rolled = same_for other s (rolled_back s xid) leaves refl refl refl refl refl refl
 
+  read_only : IsSameFor other s (committed s xid)
+  read_only = same_for other s (committed s xid) commits refl refl refl refl refl refl
+
   other_decided : (way : Direction) → decided_of (record { xid = xid; direction = way } ∷ s.decided) other ≡ decided_of s.decided other
   other_decided way = rw apart refl
 
@@ -93,66 +98,72 @@ module _ (s : State) (xid other : Triple) (apart : xid_eq xid other ≡ false) w
 
 -- what a turn leaves
 
-abbrev Spares : Triple → State → Turn → Type 0
-Spares other s (Appends r after) =
-    (after Kept ≡ ok (applied r s)) × IsSameFor other s (applied r s) × IsSameFor other s (after Refused).after
-Spares other s _ = Unit {0}
+abbrev Leaves : Triple → State → Answer → Type 0
+Leaves other s a = IsSameFor other s a.after × (a.after.log_bytes ≡ s.log_bytes)
 
-unless_spares : (other : Triple) (o : Option Reply) (s : State) (t : Turn) → Spares other s t → Spares other s (unless_now o s t)
-unless_spares other None s t h = h
-unless_spares other (Some reply) s t h = tt
+abbrev Spares : Triple → State → Record → (Appending → Answer) → Type 0
+Spares other s r after = (after Kept ≡ ok (applied r s)) × IsSameFor other s (applied r s) × IsSameFor other s (after Refused).after
 
-marked_spares : (other : Triple) (o : Option ℤ) (s left : State) (t : Turn) → Spares other s t → Spares other s (marked_now o left t)
-marked_spares other None s left t h = h
-marked_spares other (Some code) s left t h = tt
+abbrev SparesAll : Triple → State → Turn → Type 0
+SparesAll other s t = OfTurn (Leaves other s) (Spares other s) t
 
-cond_spares : (other : Triple) (c : Bool) (s : State) (t u : Turn) → Spares other s t → Spares other s u → Spares other s (cond c t u)
-cond_spares other true s t u h k = h
-cond_spares other false s t u h k = k
+unless_spares : (other : Triple) (o : Option Reply) (s : State) (t : Turn) → SparesAll other s t → SparesAll other s (unless_now o s t)
+unless_spares other o s t h = unless_turn (Leaves other s) (Spares other s) o s t (λ reply. (itself other s, refl)) h
 
 module _ (s : State) (x other : Triple) (apart : xid_eq x other ≡ false) where
-  prepare_spares : Spares other s (prepare_turn s x)
+  gone : Leaves other s (answer (plain XA_RDONLY) (rolled_back s x))
+  gone = (rolled s x other apart, refl)
+
+  marked_spares : (o : Option ℤ) (t : Turn) → SparesAll other s t → SparesAll other s (marked_now o (rolled_back s x) t)
+  marked_spares o t h = marked_turn (Leaves other s) (Spares other s) o (rolled_back s x) t (λ code. gone) h
+
+  -- a branch without writes is committed; one for whose record there is no room is rolled back
+  written_spares : (empty room : Bool) (reply full : Reply) (u : Turn) → SparesAll other s u
+      → SparesAll other s (cond empty (Now (answer reply (committed s x))) (cond room u (Now (answer full (rolled_back s x)))))
+  written_spares empty room reply full u h =
+      cond_turn (Leaves other s) (Spares other s) empty _ _ (read_only s x other apart, refl)
+      (cond_turn (Leaves other s) (Spares other s) room u _ h gone)
+
+  prepare_spares : SparesAll other s (prepare_turn s x)
   prepare_spares =
       let r = logged.Prepared x (timestamp_in s x) (writes_in s x) in
       unless_spares other (unprepared_refusal (known_as s x) (is_associated s x)) s _
-      (marked_spares other (mark_in (known_as s x)) s (rolled_back s x) _
-      (cond_spares other (is_empty (writes_in s x)) s (Now (answer (plain XA_RDONLY) (committed s x))) (prepare_written s x) tt
-      (cond_spares other (has_room s r 1) s (logs s r XAER_RMERR s) (Now (log_full s x))
-      (refl, prepared_same s x other apart (timestamp_in s x) (writes_in s x), itself other s) tt)))
+      (marked_spares (mark_in (known_as s x)) _
+      (written_spares (is_empty (writes_in s x)) (has_room s r 1) (plain XA_RDONLY) (log_full s x).reply (logs s r XAER_RMERR s)
+      (refl, prepared_same s x other apart (timestamp_in s x) (writes_in s x), itself other s)))
 
-  one_phase_spares : Spares other s (commit_one_phase_turn s x)
+  one_phase_spares : SparesAll other s (commit_one_phase_turn s x)
   one_phase_spares =
       let r = logged.Committed x (timestamp_in s x) (writes_in s x) in
       unless_spares other (unprepared_refusal (known_as s x) (is_associated s x)) s _
-      (marked_spares other (mark_in (known_as s x)) s (rolled_back s x) _
-      (cond_spares other (is_empty (writes_in s x)) s (Now (ok (committed s x))) (commit_written s x) tt
-      (cond_spares other (has_room s r 0) s (logs s r XAER_RMERR (rolled_back s x)) (Now (log_full s x))
-      (refl, committed_same s x other apart (timestamp_in s x) (writes_in s x), rolled s x other apart) tt)))
+      (marked_spares (mark_in (known_as s x)) _
+      (written_spares (is_empty (writes_in s x)) (has_room s r 0) (plain (pos 0)) (log_full s x).reply (logs s r XAER_RMERR (rolled_back s x))
+      (refl, committed_same s x other apart (timestamp_in s x) (writes_in s x), rolled s x other apart)))
 
-  two_phase_spares : Spares other s (commit_two_phase_turn s x)
+  two_phase_spares : SparesAll other s (commit_two_phase_turn s x)
   two_phase_spares =
       unless_spares other (two_phase_refusal (known_as s x)) s _
       (unless_spares other (heuristic_refusal (known_as s x)) s (logs s (logged.Completed x direction.Commit) XA_RETRY s)
       (refl, completed_same s x other apart direction.Commit, itself other s))
 
-  roll_back_spares : (k : Known) → Spares other s (roll_back_turn s x k)
-  roll_back_spares Unknown = tt
-  roll_back_spares (AtWork None) = tt
-  roll_back_spares (AtWork (Some code)) = tt
+  roll_back_spares : (k : Known) → SparesAll other s (roll_back_turn s x k)
+  roll_back_spares Unknown = gone
+  roll_back_spares (AtWork None) = gone
+  roll_back_spares (AtWork (Some code)) = gone
   roll_back_spares InDoubt = (refl, completed_same s x other apart direction.Rollback, itself other s)
-  roll_back_spares (Completed way) = tt
+  roll_back_spares (Completed way) = gone
 
-  rollback_spares : Spares other s (rollback_turn s x)
+  rollback_spares : SparesAll other s (rollback_turn s x)
   rollback_spares =
       unless_spares other (rollback_refusal (known_as s x) (is_associated s x)) s _
       (unless_spares other (heuristic_refusal (known_as s x)) s (roll_back_turn s x (known_as s x)) (roll_back_spares (known_as s x)))
 
-  decide_spares : (way : Direction) → Spares other s (decide_turn s way x)
+  decide_spares : (way : Direction) → SparesAll other s (decide_turn s way x)
   decide_spares way =
       unless_spares other (decide_refusal (known_as s x)) s (logs s (logged.Decided x way) XAER_RMERR s)
       (refl, decided_same s x other apart way, itself other s)
 
-  forget_spares : Spares other s (forget_turn s x)
+  forget_spares : SparesAll other s (forget_turn s x)
   forget_spares =
       unless_spares other (forget_refusal (known_as s x)) s (logs s (logged.Forgotten x) XAER_RMERR s)
       (refl, forgotten_same s x other apart, itself other s)
@@ -161,21 +172,31 @@ of_xid : (x xid other : Triple) → Some x ≡ Some xid → xid_eq xid other ≡
 of_xid x xid other e apart = let same : x ≡ xid = cc e in subst (λ (y : Triple). xid_eq y other ≡ false) (sym same) apart
 
 row_spares : (s : State) (n : ℕ) (request : Request) (xid other : Triple) → xid_of request ≡ Some xid → xid_eq xid other ≡ false
-    → Spares other s (row s n request)
+    → SparesAll other s (row s n request)
 row_spares s n (Prepare flags x) xid other e apart = prepare_spares s x other (of_xid x xid other e apart)
 row_spares s n (Commit flags x) xid other e apart =
-    cond_spares other (has flags TMONEPHASE) s (commit_one_phase_turn s x) (commit_two_phase_turn s x)
+    cond_turn (Leaves other s) (Spares other s) (has flags TMONEPHASE) (commit_one_phase_turn s x) (commit_two_phase_turn s x)
     (one_phase_spares s x other (of_xid x xid other e apart)) (two_phase_spares s x other (of_xid x xid other e apart))
 row_spares s n (Rollback flags x) xid other e apart = rollback_spares s x other (of_xid x xid other e apart)
 row_spares s n (Forget flags x) xid other e apart = forget_spares s x other (of_xid x xid other e apart)
 row_spares s n (Decide way x) xid other e apart = decide_spares s x other (of_xid x xid other e apart) way
 row_spares s n request xid other e apart = absurd (cc e)
 
+turn_spares : (s : State) (n : ℕ) (request : Request) (xid other : Triple) → xid_of request ≡ Some xid → xid_eq xid other ≡ false → s.standing ≡ Up
+    → SparesAll other s (turn s (Asked (event.Call n request)))
+turn_spares s n request xid other e apart up =
+    subst (SparesAll other s) (sym (turns_up s (event.Call n request) up))
+    (unless_spares other (early_refusal (context_of s n) request) s (row s n request) (row_spares s n request xid other e apart))
+
 pub leaves_others : LeavesOthers
-leaves_others s n request xid other r after e apart up appends =
-    let spares = unless_spares other (early_refusal (context_of s n) request) s (row s n request) (row_spares s n request xid other e apart) in
-    let here : respond s (event.Call n request) ≡ Appends r after = sym (turns_up s (event.Call n request) up) ∙ appends in
-    subst (Spares other s) here spares
+leaves_others s n request xid other r after e apart up appends = subst (SparesAll other s) appends (turn_spares s n request xid other e apart up)
+
+pub at_once_leaves : (s : State) (n : ℕ) (request : Request) (xid other : Triple) (a : Answer) → xid_of request ≡ Some xid → xid_eq xid other ≡ false
+    → s.standing ≡ Up → turn s (Asked (event.Call n request)) ≡ Now a → Leaves other s a
+at_once_leaves s n request xid other a e apart up now = subst (SparesAll other s) now (turn_spares s n request xid other e apart up)
+
+pub at_once_leaves_others : AtOnceLeavesOthers
+at_once_leaves_others s n request xid other a e apart up now = (at_once_leaves s n request xid other a e apart up now).0
 
 -- what a call finds the same
 

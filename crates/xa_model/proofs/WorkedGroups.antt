@@ -19,13 +19,16 @@ use Rattle.xa_model.specs.Worked.Scripts.{kept, refused, prepares}
 use Rattle.xa_model.specs.Worked.Turns.{prepared_1, nothing_held, held, no_device}
 use Rattle.xa_model.proofs.Fated.{all_contained}
 use Rattle.xa_model.proofs.LeftOfTwo.{left_of_two}
-use Rattle.xa_model.specs.Worked.Groups.{GroupKept, GroupRefused, GroupLost, GroupCut, CommitWithPrepare, RefusedWhileDown, FatesOfGroup, WhatJoins, NoneJoinsBoot, GroupLeaves, GroupReopened, LostPromises, JudgedTogether, WhichJoin}
+use Rattle.xa_model.specs.Worked.Groups.{GroupKept, GroupRefused, CompletionsRefused, GroupLost, GroupCut, CommitWithPrepare, RefusedWhileDown, FatesOfGroup, WhatJoins, NoneJoinsBoot, GroupLeaves, GroupReopened, LostPromises, JudgedTogether, WhichJoin}
 
 pub group_kept : GroupKept
 group_kept = refl
 
 pub group_refused : GroupRefused
 group_refused = refl
+
+pub completions_refused : CompletionsRefused
+completions_refused = refl
 
 pub group_lost : GroupLost
 group_lost = (refl, refl, refl, refl, refl)

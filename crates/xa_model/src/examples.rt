@@ -8,7 +8,7 @@ ghost use Rattle.xa_model.specs.Worked.Turns.{LostAppends, LostBoots, DecidedByO
 ghost use Rattle.xa_model.specs.Worked.Device.{EachRefused, EachLost, RestartRefused, OpeningRefused};
 ghost use Rattle.xa_model.specs.Worked.Groups.{GroupKept, GroupRefused, GroupLost, GroupCut, CommitWithPrepare};
 ghost use Rattle.xa_model.specs.Worked.Groups.{RefusedWhileDown, FatesOfGroup, WhatJoins, NoneJoinsBoot, GroupLeaves};
-ghost use Rattle.xa_model.specs.Worked.Groups.{GroupReopened, LostPromises, JudgedTogether, WhichJoin};
+ghost use Rattle.xa_model.specs.Worked.Groups.{CompletionsRefused, GroupReopened, LostPromises, JudgedTogether, WhichJoin};
 ghost use Rattle.xa_model.specs.Worked.Recovery.{Recovered, PreparedWithoutWrites, NextBoot, LostAndFound, LostAndGone};
 ghost use Rattle.xa_model.specs.Worked.Recovery.{Heuristics, Scans, JustRoom, NoRoom, Refusals, PreparedAgain};
 ghost use Rattle.xa_model.specs.Worked.{ReadBack, BusyUntilCommitted, FlagsRefused};
@@ -177,6 +177,7 @@ pub fn worked_recovery()
 pub fn worked_groups()
     ensures kept { GroupKept }
     ensures refused { GroupRefused }
+    ensures completions { CompletionsRefused }
     ensures lost { GroupLost }
     ensures cut { GroupCut }
     ensures commit { CommitWithPrepare }

@@ -21,8 +21,9 @@ ghost use Rattle.xa_model.specs.Laws.Crash.{CrashKeepsPrepared, CrashKeepsComple
 ghost use Rattle.xa_model.specs.Laws.Crash.{BootLists};
 ghost use Rattle.xa_model.specs.Laws.Groups.{JoinsLast, JoinsEach, SupposedFirst, SupposedNext, FindsFirst};
 ghost use Rattle.xa_model.specs.Laws.Groups.{GroupsShare, TurnsUp, TurnsAlone};
-ghost use Rattle.xa_model.specs.Laws.Together.{LeavesOthers, AppendsTheSame, RoomWhereKept, RoomWhereRefused};
-ghost use Rattle.xa_model.specs.Laws.Together.{KeptTogether, LostTogether};
+ghost use Rattle.xa_model.specs.Laws.Together.{AppendsTheSame, AtOnceLeavesOthers, LeavesOthers, RoomWhereKept, RoomWhereRefused};
+ghost use Rattle.xa_model.specs.Laws.Together.{KeptTogether, LostTogether, RefusedAlone, RefusedTogether};
+ghost use Rattle.xa_model.specs.Laws.Together.{BacksTogether, RefusedNoOther, StillTogether, TellsOfOne};
 ghost use Rattle.xa_model.specs.ScanLaw.{ListedAscends, ScanListsFirst, ScanListsAll, ScanIsAnswered};
 ghost use Rattle.xa_model.specs.Laws.Restarts.{RestartLeads, RestartHappens};
 ghost use Rattle.xa_model.specs.Laws.LowWater.{BelowKnown, IsReached, BelowNext, NeverFalls};
@@ -215,17 +216,31 @@ pub fn lost_together()
 {}
 
 /// Calls on different XIDs that are asked together: what the record of one does leaves what another looks at, and so
-/// each appends the same record where those before it are kept, refused or lost, as long as there is room: that is
-/// there, if it is with the bytes of those before it and the branches that they prepare, and without what they
-/// complete. So the entries of a group that is kept lead to what its records do one after another, and those of one
-/// that is lost to a manager that is down, all of whose records are open.
+/// does one that is answered at once; so each appends the same record after it, and where those before it are kept,
+/// refused or lost, as long as there is room: that is there, if it is with the bytes of those before it and the
+/// branches that they prepare, and without what they complete. So the entries of a group that is kept lead to what its
+/// records do one after another, and those of one that is lost to a manager that is down, all of whose records are
+/// open. Where it is kept, the log's records are followed by the group's, and else they stay what they were.
 pub fn asked_together()
     ensures leaves { LeavesOthers }
+    ensures at_once { AtOnceLeavesOthers }
+    ensures still { StillTogether }
     ensures same { AppendsTheSame }
     ensures kept { RoomWhereKept }
     ensures refused { RoomWhereRefused }
     ensures kept_group { KeptTogether }
     ensures lost_group { LostTogether }
+    ensures backs { BacksTogether }
+{}
+
+/// A group that the device refuses: each call is answered as where it is refused alone, and leaves what it leaves then;
+/// the log, and what lasts, stay as they were. No legal history has it otherwise. Like every group it tells of one
+/// device call.
+pub fn refused_together()
+    ensures alone { RefusedAlone }
+    ensures group { RefusedTogether }
+    ensures no_other { RefusedNoOther }
+    ensures one { TellsOfOne }
 {}
 
 /// What a crash leaves at any moment of a run keeps the promises of the history before it. Recovery lists of it each

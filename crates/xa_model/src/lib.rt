@@ -18,15 +18,16 @@
 //!
 //! - `Invariants`: `Sound`, `Loggable`, `Backing`, `Restored` and `Room`, what every state of a history has; `LowWater`,
 //!   timestamps below which no known branch stands, and none works
-//! - `Laws`: `Total`, which outcomes fit, `Groups`, what is lost together, and others; `Worked`: rows that compute
+//! - `Laws`: `Total`, which outcomes fit, `Groups`, what is lost together, `Together`, what is asked together, and
+//!   others; `Worked`: rows that compute
 //!
 //! The modules:
 //!
 //! - `event`: `Event`, what is asked; `outcome`: `Outcome` and `Appending`, what the device did
 //! - `laws`: functions that do nothing, and whose contracts are theorems on the definitions. Of histories
 //!   `one_history`, `total`, `restart_leads`, `sound`, `recoverable`, `low_water`, `work_floor`, `moments`, `one_copy`,
-//!   `listed_until_asked`, `unlisted_until_prepared` and `scan_lists_all`; of groups `lost_together` and
-//!   `asked_together`; of crashes `crash_at_any_moment`, `crash_in_history` and `crash_keeps_promises`; of what lasts
+//!   `listed_until_asked`, `unlisted_until_prepared` and `scan_lists_all`; of groups `lost_together`, `refused_together`
+//!   and `asked_together`; of crashes `crash_at_any_moment`, `crash_in_history` and `crash_keeps_promises`; of what lasts
 //!   `lasting`, `sound_lasting`, `logged_lasts`, `backed`, `restored` and `roomy`; of a trim `trim`
 //! - `examples`: such functions too, of worked rows: replies that the definitions compute
 #![tactic(auto)]
@@ -45,7 +46,7 @@ pub use examples::{
 pub use laws::{
     asked_together, backed, crash_at_any_moment, crash_in_history, crash_keeps_promises, lasting,
     listed_until_asked, logged_lasts, lost_together, low_water, moments, one_copy, one_history,
-    recoverable, restart_leads, restored, roomy, scan_lists_all, sound, sound_lasting, total, trim,
-    unlisted_until_prepared, work_floor,
+    recoverable, refused_together, restart_leads, restored, roomy, scan_lists_all, sound,
+    sound_lasting, total, trim, unlisted_until_prepared, work_floor,
 };
 pub use outcome::{Appending, Outcome};

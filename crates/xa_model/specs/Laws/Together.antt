@@ -1,9 +1,12 @@
 -- Laws of calls that are asked together, on different XIDs: what the record of one does leaves all that another looks
 -- at, but for the room. So a call appends the same record where those before it are kept, refused or lost.
-use Rattle.std.specs.Prelude.{ℕ, pos, ◌≡◌, ◌+◌, Bool, true, false, Option, Some, None, List, [], ◌∷◌, ◌++◌, length, map}
+use Rattle.std.specs.Prelude.{ℕ, ℤ, pos, ◌≡◌, ◌+◌, Bool, true, false, not, Option, Some, None, List, [], ◌∷◌, ◌++◌}
+use Rattle.std.specs.Prelude.{length, map, if◌then◌else◌}
 use Rattle.std.specs.List.{AllByRecursion}
-use Rattle.xa_codes.specs.declared.codes.TheConstants.{XAER_RMFAIL}
+use Rattle.xa_codes.specs.Flags.{has}
+use Rattle.xa_codes.specs.declared.codes.TheConstants.{XAER_RMERR, XAER_RMFAIL, XA_RETRY}
 use Rattle.xa_codes.specs.declared.detail.Detail.TheVariants as detail
+use Rattle.xa_codes.specs.declared.flags.TheConstants.{TMONEPHASE}
 use Rattle.xa_frame.specs.declared.reply.Reply.{Reply}
 use Rattle.xa_frame.specs.declared.request.Request.{Request}
 use Rattle.xa_frame.specs.declared.request.Request.TheVariants.{Prepare, Commit, Rollback, Forget, Decide}
@@ -16,14 +19,18 @@ use Rattle.xa_model.specs.declared.outcome.Appending.TheVariants.{Kept, Refused,
 use Rattle.xa_model.specs.declared.outcome.Outcome.{Outcome}
 use Rattle.xa_model.specs.declared.outcome.Outcome.TheVariants.{Appended, Joined}
 use Rattle.xa_model.specs.State.{State, Up, count, known_of, decided_of}
-use Rattle.xa_model.specs.Answer.{Answer, plain, detailed, ok}
-use Rattle.xa_model.specs.Turn.{Asked, Appends}
+use Rattle.xa_model.specs.Answer.{Answer, plain, detailed, answer, ok}
+use Rattle.xa_model.specs.Branches.{rolled_back}
+use Rattle.xa_model.specs.Turn.{Asked, Now, Appends}
 use Rattle.xa_model.specs.Durable.{durable}
 use Rattle.xa_model.specs.Events.{IsEvent}
 use Rattle.xa_model.specs.Fold.{size_of, sizes}
-use Rattle.xa_model.specs.History.{Entry, Leads}
+use Rattle.xa_model.specs.History.{Entry, Leads, joins, JoinAfter}
 use Rattle.xa_model.specs.Logging.{applied, applied_all, down, has_room, is_boot, log_room, prepared_count}
+use Rattle.xa_model.specs.Invariants.Backing.{Backs}
 use Rattle.xa_model.specs.Invariants.Loggable.{IsRecoverable, MayFollow}
+use Rattle.xa_model.specs.Invariants.Sound.{IsSound}
+use Rattle.xa_model.specs.Laws.Logging.{KeepsLog}
 use Rattle.xa_model.specs.Step.{turn}
 
 -- the XID that a call prepares, completes, decides or forgets
@@ -60,6 +67,14 @@ LeavesOthers =
     → turn s (Asked (Call n request)) ≡ Appends r after
     → (after Kept ≡ ok (applied r s)) × IsSameFor other s (applied r s) × IsSameFor other s (after Refused).after
 
+-- So does a call that is answered at once: one that is refused, whose branch is marked or wrote nothing, or for which
+-- there is no room.
+abbrev pub AtOnceLeavesOthers : Type 0
+AtOnceLeavesOthers =
+    (s : State) (n : ℕ) (request : Request) (xid other : Triple) (a : Answer)
+    → xid_of request ≡ Some xid → xid_eq xid other ≡ false → s.standing ≡ Up
+    → turn s (Asked (Call n request)) ≡ Now a → IsSameFor other s a.after
+
 -- Where a call finds the same, and there is room, it appends the same record.
 abbrev pub AppendsTheSame : Type 0
 AppendsTheSame =
@@ -68,6 +83,25 @@ AppendsTheSame =
     → turn s (Asked (Call n request)) ≡ Appends r after
     → has_room_for t r ≡ true
     → (again : Appending → Answer) × (turn t (Asked (Call n request)) ≡ Appends r again)
+
+-- What a refused record comes to
+
+-- A call is answered that the device failed; a commit in two phases, that it may be asked again.
+abbrev pub refused_code : Request → ℤ
+refused_code (Commit flags xid) = if has flags TMONEPHASE then XAER_RMERR else XA_RETRY
+refused_code _ = XAER_RMERR
+
+-- It leaves the state as it was, but that a branch that was to be committed in one phase is rolled back.
+abbrev pub left_by : Request → State → State
+left_by (Commit flags xid) s = if has flags TMONEPHASE then rolled_back s xid else s
+left_by _ s = s
+
+abbrev pub RefusedAlone : Type 0
+RefusedAlone =
+    (s : State) (n : ℕ) (request : Request) (xid : Triple) (r : Record) (after : Appending → Answer)
+    → xid_of request ≡ Some xid → s.standing ≡ Up
+    → turn s (Asked (Call n request)) ≡ Appends r after
+    → after Refused ≡ answer (detailed (refused_code request) detail.Device) (left_by request s)
 
 -- Room
 
@@ -135,27 +169,89 @@ pub record MayStandTogether (s : State) (parts : List Part) : Type 0 where
   pub apart : AreApart parts
   pub room : HaveRoom s [] parts
 
-abbrev pub asks_with : Outcome → Reply → Part → Entry
-asks_with outcome reply p =
-    record { happening = Asked (Call p.session p.request); outcome = outcome; reply = reply }
+-- they may still, after one on another XID was answered at once
+abbrev pub StillTogether : Type 0
+StillTogether =
+    (s : State) (n : ℕ) (request : Request) (xid : Triple) (a : Answer) (p : Part) (ps : List Part)
+    → IsSound s → s.standing ≡ Up
+    → xid_of request ≡ Some xid → AllByRecursion (λ q. xid_eq xid q.xid ≡ false) (p ∷ ps)
+    → turn s (Asked (Call n request)) ≡ Now a
+    → MayStandTogether s (p ∷ ps) → MayStandTogether a.after (p ∷ ps)
 
--- the entries of a group, of whose records this became, and each of which was replied this
-abbrev pub group_entries : Appending → Reply → Part → List Part → List Entry
-group_entries appending reply p ps =
-    asks_with (Appended appending) reply p ∷ map (asks_with (Joined appending) reply) ps
+-- what a call is replied, of whose record this became
+abbrev pub replied : Appending → Request → Reply
+replied Kept request = plain (pos 0)
+replied Refused request = detailed (refused_code request) detail.Device
+replied Lost request = detailed XAER_RMFAIL detail.Device
+
+-- its entry, with this outcome, where its record became this
+abbrev pub entry_of : Outcome → Appending → Part → Entry
+entry_of outcome appending p = record {
+  happening = Asked (Call p.session p.request);
+  outcome = outcome;
+  reply = replied appending p.request;
+}
+
+-- the entries of a group of whose records this became
+abbrev pub group_entries : Appending → Part → List Part → List Entry
+group_entries appending p ps =
+    entry_of (Appended appending) appending p ∷ map (entry_of (Joined appending) appending) ps
 
 abbrev pub records_of : List Part → List Record
 records_of ps = map (λ p. p.appended) ps
+
+abbrev pub left_by_all : List Part → State → State
+left_by_all [] s = s
+left_by_all (p ∷ ps) s = left_by_all ps (left_by p.request s)
 
 -- a group that is kept leads to what its records do one after another
 abbrev pub KeptTogether : Type 0
 KeptTogether =
     (s : State) (p : Part) (ps : List Part) → IsRecoverable s → s.standing ≡ Up → MayStandTogether s (p ∷ ps)
-    → Leads s (group_entries Kept (plain (pos 0)) p ps) (applied_all (records_of (p ∷ ps)) s)
+    → Leads s (group_entries Kept p ps) (applied_all (records_of (p ∷ ps)) s)
+
+-- one that is refused, to what each refusal leaves by itself: the same lasts, and nothing more stands in the log
+abbrev pub RefusedTogether : Type 0
+RefusedTogether =
+    (s : State) (p : Part) (ps : List Part) → IsRecoverable s → s.standing ≡ Up → MayStandTogether s (p ∷ ps)
+    → Leads s (group_entries Refused p ps) (left_by_all (p ∷ ps) s) × KeepsLog s (left_by_all (p ∷ ps) s)
 
 -- and one that is lost to a manager that is down, all of whose records are open
 abbrev pub LostTogether : Type 0
 LostTogether =
     (s : State) (p : Part) (ps : List Part) → IsRecoverable s → s.standing ≡ Up → MayStandTogether s (p ∷ ps)
-    → Leads s (group_entries Lost (detailed XAER_RMFAIL detail.Device) p ps)
-    (record (down s) { open_records = records_of (p ∷ ps) })
+    → Leads s (group_entries Lost p ps) (record (down s) { open_records = records_of (p ∷ ps) })
+
+-- The log's records go on with a group: they are followed by its records, in their order, where it is kept, and stay
+-- what they were where it is refused or lost.
+abbrev pub BacksTogether : Type 0
+BacksTogether =
+    (rs : List Record) (s : State) (p : Part) (ps : List Part) → IsRecoverable s → s.standing ≡ Up
+    → MayStandTogether s (p ∷ ps) → Backs rs s
+    → Backs (rs ++ records_of (p ∷ ps)) (applied_all (records_of (p ∷ ps)) s)
+    × Backs rs (left_by_all (p ∷ ps) s)
+    × Backs rs (record (down s) { open_records = records_of (p ∷ ps) })
+
+-- the entry asks this call, with this outcome, whatever it is replied
+abbrev pub AsksWith : Outcome → Part → Entry → Type 0
+AsksWith outcome p e = (e.happening ≡ Asked (Call p.session p.request)) × (e.outcome ≡ outcome)
+
+abbrev pub AskEach : Outcome → List Part → List Entry → Type 0
+AskEach outcome [] [] = Unit {0}
+AskEach outcome (p ∷ ps) (e ∷ es) = AsksWith outcome p e × AskEach outcome ps es
+AskEach outcome _ _ = ⊥
+
+-- In a legal history no refused group is answered otherwise, nor leaves another state.
+abbrev pub RefusedNoOther : Type 0
+RefusedNoOther =
+    (s t : State) (p : Part) (ps : List Part) (e : Entry) (es : List Entry) → s.standing ≡ Up
+    → AllByRecursion (λ q. xid_of q.request ≡ Some q.xid) (p ∷ ps)
+    → AsksWith (Appended Refused) p e → AskEach (Joined Refused) ps es
+    → Leads s (e ∷ es) t → (e ∷ es ≡ group_entries Refused p ps) × (t ≡ left_by_all (p ∷ ps) s)
+
+-- However long a group is, it tells of one device call: all others joined the first.
+abbrev pub TellsOfOne : Type 0
+TellsOfOne =
+    (before : Option Appending) (appending : Appending) (p : Part) (ps : List Part)
+    → JoinAfter before (group_entries appending p ps)
+    × (count (λ e. not (joins e.outcome)) (group_entries appending p ps) ≡ 1)

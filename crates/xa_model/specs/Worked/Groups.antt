@@ -81,6 +81,21 @@ GroupRefused =
     ∷ begins 1 xid_c (time 4)
     ∷ [])
 
+-- Of completions that are refused the commit may be asked again, and all stay in doubt.
+abbrev pub CompletionsRefused : Type 0
+CompletionsRefused =
+    Replied new_manager (
+    three
+    ++ kept (prepares 1 xid_a done)
+    ∷ together Kept (prepares 1 xid_b done)
+    ∷ refused (completes 1 xid_a (detailed XA_RETRY detail.Device))
+    ∷ together Refused (rolls_back 1 xid_b (detailed XAER_RMERR detail.Device))
+    ∷ lists (xid_a ∷ xid_b ∷ [])
+    ∷ kept (completes 1 xid_a done)
+    ∷ together Kept (rolls_back 1 xid_b done)
+    ∷ lists []
+    ∷ [])
+
 -- Of three that are lost each is answered that its fate is unknown, and the manager is down.
 abbrev pub lost_group : List Entry
 lost_group =

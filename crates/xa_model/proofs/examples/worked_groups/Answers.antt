@@ -1,4 +1,4 @@
-use Rattle.xa_model.proofs.WorkedGroups.{group_kept, group_refused, group_lost, group_cut, commit_with_prepare, refused_while_down, fates_of_group, what_joins, none_joins_boot, group_leaves, group_reopened, lost_promises, judged_together, which_join}
+use Rattle.xa_model.proofs.WorkedGroups.{group_kept, group_refused, completions_refused, group_lost, group_cut, commit_with_prepare, refused_while_down, fates_of_group, what_joins, none_joins_boot, group_leaves, group_reopened, lost_promises, judged_together, which_join}
 use Rattle.xa_model.proofs.examples.worked_groups.Goals as goal
 
 pub returns-clause-kept : goal.returns-clause-kept
@@ -6,6 +6,9 @@ returns-clause-kept c = group_kept
 
 pub returns-clause-refused : goal.returns-clause-refused
 returns-clause-refused c = group_refused
+
+pub returns-clause-completions : goal.returns-clause-completions
+returns-clause-completions c = completions_refused
 
 pub returns-clause-lost : goal.returns-clause-lost
 returns-clause-lost c = group_lost

@@ -1,6 +1,8 @@
+use Rattle.xa_model.proofs.GroupsBacked.{backs_together}
 use Rattle.xa_model.proofs.GroupSteps.{kept_together, lost_together}
 use Rattle.xa_model.proofs.RoomTogether.{room_where_kept, room_where_refused}
-use Rattle.xa_model.proofs.Together.{leaves_others, appends_the_same}
+use Rattle.xa_model.proofs.StillTogether.{still_together}
+use Rattle.xa_model.proofs.Together.{leaves_others, at_once_leaves_others, appends_the_same}
 use Rattle.xa_model.proofs.laws.asked_together.Goals as goal
 
 pub returns-clause-leaves : goal.returns-clause-leaves
@@ -20,3 +22,12 @@ returns-clause-kept_group c = kept_together
 
 pub returns-clause-lost_group : goal.returns-clause-lost_group
 returns-clause-lost_group c = lost_together
+
+pub returns-clause-backs : goal.returns-clause-backs
+returns-clause-backs c = backs_together
+
+pub returns-clause-at_once : goal.returns-clause-at_once
+returns-clause-at_once c = at_once_leaves_others
+
+pub returns-clause-still : goal.returns-clause-still
+returns-clause-still c = still_together

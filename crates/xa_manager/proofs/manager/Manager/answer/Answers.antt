@@ -3,18 +3,22 @@ use Rattle.std.specs.Prelude.{option_copied}
 use Rattle.xa_xid.specs.Triple.{Triple}
 use Rattle.xa_model.specs.Associations.{open_by, close_by, start_by, end_by}
 use Rattle.xa_model.specs.Branches.{doom_by}
-use Rattle.xa_model.specs.Completions.{prepare_turn, rollback_turn, decide_turn, forget_turn}
 use Rattle.xa_model.specs.Events.{asks_boot}
 use Rattle.xa_model.specs.Records.{get_by, put_by}
 use Rattle.xa_model.specs.KnownBranches.{branches_by}
 use Rattle.xa_model.specs.Recovering.{recover_by}
 use Rattle.xa_model.specs.State.{own_branch}
-use Rattle.xa_model.specs.Step.{row, commit_turn}
+use Rattle.xa_model.specs.Step.{row as row_of}
 use Rattle.xa_model.specs.TimeLimits.{timeout_by, tick_by}
 use Rattle.xa_model.specs.Turn.{Now}
+use Rattle.xa_manager.specs.Rows.{row_turn}
+use Rattle.xa_manager.specs.declared.row.Row.TheVariants as row
+use Rattle.xa_manager.specs.declared.row.Row.TheVariants.{Writes}
+use Rattle.xa_manager.specs.declared.row.Writing.TheVariants.{Prepare}
+use Rattle.xa_manager.proofs.Plans.{commits_by, commits_without}
 use Rattle.xa_manager.proofs.Replying.{bare_fresh}
 use Rattle.xa_manager.proofs.Taking.{on_err}
-use Rattle.xa_manager.proofs.Calling.{refused_done, both_done, turn_done, turns_done, follows_done, restart_done, trim_done, follows_wanted, turns_wanted}
+use Rattle.xa_manager.proofs.Calling.{refused_done, both_done, turns_done, follows_done, restart_done, trim_done, follows_wanted, turns_wanted}
 use Rattle.xa_manager.proofs.manager.Manager.answer.Goals as goal
 
 pub returns-in-Some-clause-ok : goal.returns-in-Some-clause-ok
@@ -32,7 +36,7 @@ returns-in-Open-clause-ok g c =
     let other : asks_boot c.args.request ≡ false = rw c.in-Open.is refl in
     rw c.now-in-Open.ensures (
       both_done _ m m' c.args.session c.args.request (λ s. open_by s c.args.session) c.open.result c.requires other (sym none ∙ c.refusal.ensures.value)
-          (λ s. ap (row s c.args.session) c.in-Open.is) refl refl refl c.open.ensures.up c.open.ensures.down,
+          (λ s. ap (row_of s c.args.session) c.in-Open.is) refl refl refl c.open.ensures.up c.open.ensures.down,
       bare_fresh _ c.open.ensures.bare,
     )
 
@@ -44,7 +48,7 @@ returns-in-Close-clause-ok g c =
     let other : asks_boot c.args.request ≡ false = rw c.in-Close.is refl in
     rw c.now-in-Close.ensures (
       both_done _ m m' c.args.session c.args.request (λ s. close_by s c.args.session) c.close.result c.requires other (sym none ∙ c.refusal.ensures.value)
-          (λ s. ap (row s c.args.session) c.in-Close.is) refl refl refl c.close.ensures.up c.close.ensures.down,
+          (λ s. ap (row_of s c.args.session) c.in-Close.is) refl refl refl c.close.ensures.up c.close.ensures.down,
       bare_fresh _ c.close.ensures.bare,
     )
 
@@ -61,14 +65,14 @@ returns-in-Trim-clause-ok g c =
 pub returns-in-Prepare-clause-ok : goal.returns-in-Prepare-clause-ok
 returns-in-Prepare-clause-ok g c =
     let none : c.refusal.result ≡ None = search rules in
-    turns_done _ c.args.self.now c.prepare.new.self c.args.session c.args.request _ c.refusal.result (λ s. prepare_turn s c.in-Prepare.xid) c.prepare.result
-    c.requires c.in-Prepare.is refl refl none c.refusal.ensures.value c.refusal.ensures.answered (λ s. refl) c.prepare.ensures.ok c.prepare.ensures.bare
+    turns_done _ c.args.self.now c.log_call.new.self c.args.session c.args.request _ c.refusal.result (row_turn (Writes Prepare) c.in-Prepare.xid) c.log_call.result
+    c.requires c.in-Prepare.is refl refl none c.refusal.ensures.value c.refusal.ensures.answered (λ s. refl) c.log_call.ensures.ok c.log_call.ensures.bare
 
 pub returns-in-Commit-clause-ok : goal.returns-in-Commit-clause-ok
 returns-in-Commit-clause-ok g c =
     let none : c.refusal.result ≡ None = search rules in
-    turns_done _ c.args.self.now c.commit.new.self c.args.session c.args.request _ c.refusal.result (λ s. commit_turn s c.in-Commit.flags c.in-Commit.xid) c.commit.result
-    c.requires c.in-Commit.is refl refl none c.refusal.ensures.value c.refusal.ensures.answered (λ s. refl) c.commit.ensures.ok c.commit.ensures.bare
+    turns_done _ c.args.self.now c.log_call-in-Commit.new.self c.args.session c.args.request _ c.refusal.result (row_turn c.of_commit.result c.in-Commit.xid) c.log_call-in-Commit.result
+    c.requires c.in-Commit.is refl refl none c.refusal.ensures.value c.refusal.ensures.answered (λ s. rw c.of_commit.ensures (commits_by c.in-Commit.flags c.in-Commit.xid s)) c.log_call-in-Commit.ensures.ok c.log_call-in-Commit.ensures.bare
 
 pub returns-in_ok-start-in-Start-clause-ok : goal.returns-in_ok-start-in-Start-clause-ok
 returns-in_ok-start-in-Start-clause-ok g c =
@@ -90,19 +94,15 @@ returns-in-End-clause-ok g c =
 
 pub returns-in-Rollback-clause-ok : goal.returns-in-Rollback-clause-ok
 returns-in-Rollback-clause-ok g c =
-    let none : c.refusal.result ≡ None = search rules in (
-      turn_done _ c.args.self.now c.rollback.new.self c.args.session c.args.request _ c.refusal.result (λ s. rollback_turn s c.in-Rollback.xid) c.rollback.result.reply c.rollback.result.outcome
-          c.requires c.in-Rollback.is refl refl none c.refusal.ensures.value c.refusal.ensures.answered (λ s. refl) c.rollback.ensures.turn,
-      bare_fresh _ c.rollback.ensures.bare,
-    )
+    let none : c.refusal.result ≡ None = search rules in
+    turns_done _ c.args.self.now c.log_call-in-Rollback.new.self c.args.session c.args.request _ c.refusal.result (row_turn row.Rollback c.in-Rollback.xid) c.log_call-in-Rollback.result
+    c.requires c.in-Rollback.is refl refl none c.refusal.ensures.value c.refusal.ensures.answered (λ s. refl) c.log_call-in-Rollback.ensures.ok c.log_call-in-Rollback.ensures.bare
 
 pub returns-in-Forget-clause-ok : goal.returns-in-Forget-clause-ok
 returns-in-Forget-clause-ok g c =
-    let none : c.refusal.result ≡ None = search rules in (
-      turn_done _ c.args.self.now c.forget.new.self c.args.session c.args.request _ c.refusal.result (λ s. forget_turn s c.in-Forget.xid) c.forget.result.reply c.forget.result.outcome
-          c.requires c.in-Forget.is refl refl none c.refusal.ensures.value c.refusal.ensures.answered (λ s. refl) c.forget.ensures.turn,
-      bare_fresh _ c.forget.ensures.bare,
-    )
+    let none : c.refusal.result ≡ None = search rules in
+    turns_done _ c.args.self.now c.log_call-in-Forget.new.self c.args.session c.args.request _ c.refusal.result (row_turn row.Forget c.in-Forget.xid) c.log_call-in-Forget.result
+    c.requires c.in-Forget.is refl refl none c.refusal.ensures.value c.refusal.ensures.answered (λ s. refl) c.log_call-in-Forget.ensures.ok c.log_call-in-Forget.ensures.bare
 
 pub returns-in_ok-recover-in-Recover-clause-ok : goal.returns-in_ok-recover-in-Recover-clause-ok
 returns-in_ok-recover-in-Recover-clause-ok g c =
@@ -142,11 +142,9 @@ returns-in_ok-put-in-Delete-clause-ok g c =
 
 pub returns-in-Decide-clause-ok : goal.returns-in-Decide-clause-ok
 returns-in-Decide-clause-ok g c =
-    let none : c.refusal.result ≡ None = search rules in (
-      turn_done _ c.args.self.now c.decide.new.self c.args.session c.args.request _ c.refusal.result (λ s. decide_turn s c.in-Decide.direction c.in-Decide.xid) c.decide.result.reply c.decide.result.outcome
-          c.requires c.in-Decide.is refl refl none c.refusal.ensures.value c.refusal.ensures.answered (λ s. refl) c.decide.ensures.turn,
-      bare_fresh _ c.decide.ensures.bare,
-    )
+    let none : c.refusal.result ≡ None = search rules in
+    turns_done _ c.args.self.now c.log_call-in-Decide.new.self c.args.session c.args.request _ c.refusal.result (row_turn (row.Decide c.in-Decide.direction) c.in-Decide.xid) c.log_call-in-Decide.result
+    c.requires c.in-Decide.is refl refl none c.refusal.ensures.value c.refusal.ensures.answered (λ s. refl) c.log_call-in-Decide.ensures.ok c.log_call-in-Decide.ensures.bare
 
 pub returns-in-Doom-clause-ok : goal.returns-in-Doom-clause-ok
 returns-in-Doom-clause-ok g c =
@@ -197,11 +195,23 @@ returns-in-Trim-clause-err g c =
 
 pub returns-in-Prepare-clause-err : goal.returns-in-Prepare-clause-err
 returns-in-Prepare-clause-err g c =
-    turns_wanted _ c.args.self.now c.prepare.new.self c.args.request _ c.prepare.result c.in-Prepare.is refl (λ no. absurd (cc no)) c.prepare.ensures.err c.prepare.ensures.untouched
+    turns_wanted _ c.args.self.now c.log_call.new.self c.args.request _ c.log_call.result c.in-Prepare.is refl (λ no. absurd (cc no)) c.log_call.ensures.err c.log_call.ensures.untouched
 
 pub returns-in-Commit-clause-err : goal.returns-in-Commit-clause-err
 returns-in-Commit-clause-err g c =
-    turns_wanted _ c.args.self.now c.commit.new.self c.args.request _ c.commit.result c.in-Commit.is refl c.commit.ensures.room c.commit.ensures.err c.commit.ensures.untouched
+    turns_wanted _ c.args.self.now c.log_call-in-Commit.new.self c.args.request _ c.log_call-in-Commit.result c.in-Commit.is refl (λ no. c.log_call-in-Commit.ensures.memory (rw c.of_commit.ensures (commits_without c.in-Commit.flags no))) c.log_call-in-Commit.ensures.err c.log_call-in-Commit.ensures.untouched
+
+pub returns-in-Rollback-clause-err : goal.returns-in-Rollback-clause-err
+returns-in-Rollback-clause-err g c =
+    turns_wanted _ c.args.self.now c.log_call-in-Rollback.new.self c.args.request _ c.log_call-in-Rollback.result c.in-Rollback.is refl (λ no. c.log_call-in-Rollback.ensures.memory refl) c.log_call-in-Rollback.ensures.err c.log_call-in-Rollback.ensures.untouched
+
+pub returns-in-Forget-clause-err : goal.returns-in-Forget-clause-err
+returns-in-Forget-clause-err g c =
+    turns_wanted _ c.args.self.now c.log_call-in-Forget.new.self c.args.request _ c.log_call-in-Forget.result c.in-Forget.is refl (λ no. c.log_call-in-Forget.ensures.memory refl) c.log_call-in-Forget.ensures.err c.log_call-in-Forget.ensures.untouched
+
+pub returns-in-Decide-clause-err : goal.returns-in-Decide-clause-err
+returns-in-Decide-clause-err g c =
+    turns_wanted _ c.args.self.now c.log_call-in-Decide.new.self c.args.request _ c.log_call-in-Decide.result c.in-Decide.is refl (λ no. c.log_call-in-Decide.ensures.memory refl) c.log_call-in-Decide.ensures.err c.log_call-in-Decide.ensures.untouched
 
 pub returns-in_err-start-in-Start-clause-err : goal.returns-in_err-start-in-Start-clause-err
 returns-in_err-start-in-Start-clause-err g c =

@@ -12,7 +12,7 @@ returns-in-Kept-clause-kept c = λ is s end st recoverable. record {
   log_bytes = st.log_bytes;
   up = st.up;
   sessions = unmoved c.args.self.now.sessions s (ending (prepared s c.args.xid.now) end) refl refl st.sessions;
-  branches = moved_end c.prepare.new.self (prepared s c.args.xid.now) end (c.prepare.ensures s st.recoverable.sound st.branches);
+  branches = moved_end c.prepare.new.self (prepared s c.args.xid.now) end (c.prepare.ensures.alone s st.recoverable.sound st.branches);
   records = prepared_records c.args.xid.now s c.args.self.now.records st.records;
   recoverable = recoverable;
 }
