@@ -2,6 +2,7 @@
 use Rattle.std.proofs.Common.{◌≡◌, ◌↔◌, Bool, false, ℕ, ◌+◌, ◌-◌, ◌≤◌, List, [], ◌∷◌, ◌++◌, length, take, drop, Option, Some, None, refl, sym, ap, ◌∙◌, inl, inr, arith, subst}
 use Rattle.std.specs.Prelude.{IsSome, IsTrue}
 use Rattle.xa_frame.specs.declared.question.Question.{Question}
+use Rattle.xa_frame.specs.declared.question.Question.TheVariants.{Call, Status as AsksStatus}
 use Rattle.xa_frame.specs.declared.reply.Reply.{Reply}
 use Rattle.xa_frame.specs.Made.{bad_frame}
 use Rattle.xa_desk.specs.declared.served.Served.{Served}
@@ -12,7 +13,11 @@ use Rattle.xa_connection.specs.declared.answering.Answering.{Answering}
 use Rattle.xa_connection.specs.declared.answering.Answering.TheVariants.{Idle, Answered, Memory}
 use Rattle.xa_connection.specs.declared.connection.Connection.{Connection}
 use Rattle.xa_connection.specs.Fronts.{BeginsTooLong, BeginsWhole}
-use Rattle.xa_connection.specs.Calls.{Holds, IsReady, Turns}
+use Rattle.xa_connection.specs.declared.asked.Asked.TheVariants.{One, Refused}
+use Rattle.xa_connection.specs.declared.front.Front.{Front}
+use Rattle.xa_connection.specs.declared.front.Front.TheVariants as front
+use Rattle.xa_connection.specs.declared.front.Front.TheVariants.{Whole, Cut}
+use Rattle.xa_connection.specs.Calls.{Asks, Holds, IsPut, IsReady, IsRefused, Replies, Turns}
 use Rattle.xa_connection.proofs.Fronts.{begins_short}
 
 -- it goes on
@@ -83,3 +88,27 @@ turns-length called c c' d Memory reply ready b is h = (
   ap (λ (x : Connection). x.output) h,
   ap (λ (x : Connection). x.end) h,
 )
+
+-- a content that reaches no door is answered so
+pub refused-answers : {D : Type 0} (called : D → Question → Reply → D → Type 0) (d : D) (content : List ℕ) (reply : Reply)
+    → IsRefused content reply → Answers called d content reply d
+refused-answers called d content reply (inl (f, ne, is, r)) = inr (inl (f, ne, is, refl, r))
+refused-answers called d content reply (inr (none, r)) = inr (inr (inl (none, refl, r)))
+
+-- the question at the front was answered by the door, and replied to
+pub turns-called : {D : Type 0} (called : D → Question → Reply → D → Type 0) (c c' : Connection) (d e : D) (answering : Answering) (count : ℕ) (q : Question) (reply : Reply)
+    → Asks c (One count q) → IsPut called d q reply e → Replies c (Whole count) reply answering c' → Turns called c d answering c' e
+turns-called called c c' d e answering count (Call q) reply (ready, begins, spells) did h =
+    turns-frame called c c' d e answering count (take count (drop 4 c.input)) (drop (4 + count) c.input) reply ready begins refl (inl (q, spells, did)) refl h
+turns-called called c c' d e answering count AsksStatus reply (ready, begins, spells) (s, same, is, did) h =
+    turns-frame called c c' d e answering count (take count (drop 4 c.input)) (drop (4 + count) c.input) reply ready begins refl
+    (inr (inr (inr (s, spells, same, is, did)))) refl h
+
+-- what is at the front reached no door, and was replied to
+pub turns-refused : {D : Type 0} (called : D → Question → Reply → D → Type 0) (c c' : Connection) (d : D) (answering : Answering) (front : Front) (reply : Reply)
+    → Asks c (Refused front reply) → Replies c front reply answering c' → Turns called c d answering c' d
+turns-refused called c c' d answering (Whole count) reply (ready, begins, refused) h =
+    let content : List ℕ = take count (drop 4 c.input) in
+    turns-frame called c c' d d answering count content (drop (4 + count) c.input) reply ready begins refl (refused-answers called d content reply refused) refl h
+turns-refused called c c' d answering front.TooLong reply (ready, begins, bad) h = turns-length called c c' d answering reply ready begins bad h
+turns-refused called c c' d answering Cut reply none h = absurd none

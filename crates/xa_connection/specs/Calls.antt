@@ -1,17 +1,29 @@
 -- What each call does to a connection.
-use Rattle.std.specs.Prelude.{ℕ, ◌≡◌, ◌≢◌, ◌⊎◌, ◌-◌, List, [], ◌∷◌, ◌++◌, length, take, min, Option, Some, None, IsSome}
+use Rattle.std.specs.Prelude.{ℕ, ◌≡◌, ◌≢◌, ◌⊎◌, ◌+◌, ◌-◌, List, [], ◌∷◌, ◌++◌, length, take, drop, min, Option, Some, None, IsSome}
 use Rattle.xa_frame.specs.declared.question.Question.{Question}
+use Rattle.xa_frame.specs.declared.question.Question.TheVariants as question
+use Rattle.xa_frame.specs.declared.status.Status.{Status}
 use Rattle.xa_frame.specs.declared.reply.Reply.{Reply}
-use Rattle.xa_frame.specs.Made.{bad_frame}
+use Rattle.xa_frame.specs.declared.fault.FrameFault.{FrameFault}
+use Rattle.xa_frame.specs.declared.fault.FrameFault.TheVariants as faults
+use Rattle.xa_frame.specs.Made.{bad_frame, doing}
+use Rattle.xa_frame.specs.Limits.{IsReply}
+use Rattle.xa_frame.specs.Questions.{IsQuestion, SpellsQuestion, fault_of_question}
 use Rattle.xa_desk.specs.declared.served.Served.{Served}
 use Rattle.xa_desk.specs.declared.served.Served.TheVariants as served
-use Rattle.xa_desk.specs.Frames.{frame, reply_frame}
+use Rattle.xa_desk.specs.Frames.{frame, reply_frame, without_memory}
 use Rattle.xa_desk.specs.Serving.{Answers, IsShort, IsCut}
 use Rattle.xa_connection.specs.declared.answering.Answering.{Answering}
 use Rattle.xa_connection.specs.declared.answering.Answering.TheVariants.{Idle, Answered, Memory}
 use Rattle.xa_connection.specs.declared.connection.Connection.{Connection}
 use Rattle.xa_connection.specs.declared.connection.TheConstants.{MOST_INPUT}
-use Rattle.xa_connection.specs.Fronts.{BeginsTooLong}
+use Rattle.xa_connection.specs.declared.asked.Asked.{Asked}
+use Rattle.xa_connection.specs.declared.asked.Asked.TheVariants as asked
+use Rattle.xa_connection.specs.declared.asked.Asked.TheVariants.{One, Refused}
+use Rattle.xa_connection.specs.declared.front.Front.{Front}
+use Rattle.xa_connection.specs.declared.front.Front.TheVariants as front
+use Rattle.xa_connection.specs.declared.front.Front.TheVariants.{Whole, Cut}
+use Rattle.xa_connection.specs.Fronts.{BeginsTooLong, BeginsWhole}
 
 -- nothing came in, and nothing is to be sent
 abbrev pub new_connection : Connection
@@ -56,8 +68,41 @@ Turns called c d Memory c' e =
     IsReady c × (reply : Reply) × (end : Option Served) × AnswersFront called c d reply end c'.input e × (c'.output ≡ [])
     × (c'.end ≡ Some served.Memory)
 
+-- a content that reaches no door, and the reply that it is owed: it has a fault, or decoding it found no memory
+abbrev pub IsRefused : List ℕ → Reply → Type 0
+IsRefused content reply =
+    ((f : FrameFault) × (f ≢ faults.Memory) × (fault_of_question content ≡ Some f) × (reply ≡ bad_frame))
+    ⊎ ((fault_of_question content ≡ None) × (reply ≡ without_memory))
+
+-- what the front asks for: the question that the content of a frame spells, or nothing of a door
+abbrev pub Asks : Connection → Asked → Type 0
+Asks c asked.Idle = IsIdle c
+Asks c (One count q) = IsReady c × BeginsWhole c.input count × SpellsQuestion (take count (drop 4 c.input)) q
+Asks c (Refused (Whole count) reply) =
+    IsReady c × BeginsWhole c.input count × IsRefused (take count (drop 4 c.input)) reply
+Asks c (Refused front.TooLong reply) = IsReady c × BeginsTooLong c.input × (reply ≡ bad_frame)
+Asks c (Refused Cut reply) = ⊥
+
+-- what is asked is within the limits
+abbrev pub IsAsked : Asked → Type 0
+IsAsked asked.Idle = Unit {0}
+IsAsked (One count q) = IsQuestion q
+IsAsked (Refused front reply) = IsReply reply
+
+-- the door answered a question: of how it is doing it told, and stayed as it was
+abbrev pub IsPut : {D : Type 0} → (D → Question → Reply → D → Type 0) → D → Question → Reply → D → Type 0
+IsPut called d (question.Call q) reply e = called d (question.Call q) reply e
+IsPut called d question.Status reply e =
+    (s : Status) × (e ≡ d) × (reply ≡ doing s) × called d question.Status (doing s) d
+
 -- a reply is to be sent, or found no memory
 abbrev pub Holds : Connection → Reply → Answering → Connection → Type 0
 Holds c reply Idle c' = ⊥
 Holds c reply Answered c' = c' ≡ record c { output = reply_frame reply }
 Holds c reply Memory c' = c' ≡ record c { output = []; end = Some served.Memory }
+
+-- a reply to what is at the front: a frame is taken; after a length that is too great, which stays, it is to end
+abbrev pub Replies : Connection → Front → Reply → Answering → Connection → Type 0
+Replies c (Whole count) reply answering c' = Holds (record c { input = drop (4 + count) c.input }) reply answering c'
+Replies c front.TooLong reply answering c' = Holds (record c { end = Some served.TooLong }) reply answering c'
+Replies c Cut reply answering c' = (answering ≡ Idle) × (c' ≡ c)

@@ -24,3 +24,8 @@ IsFront bytes TooLong = BeginsTooLong bytes
 -- some bytes of a frame, and not all: neither are they none, nor is a whole frame at the front, nor a length too great
 abbrev pub IsInsideFrame : List ℕ → Type 0
 IsInsideFrame bytes = (bytes ≢ []) × IsCut bytes
+
+-- of a frame: its content is short
+abbrev pub IsShortFront : Front → Type 0
+IsShortFront (Whole count) = count ≤ MOST_CONTENT
+IsShortFront _ = Unit {0}

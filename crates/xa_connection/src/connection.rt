@@ -1,14 +1,17 @@
-ghost use Rattle.std.specs.Prelude.{◌≡◌, ◌↔◌, [], drop, IfOk, OnErr, IsSome, IsTrue};
+ghost use Rattle.std.specs.Prelude.{◌≡◌, ◌↔◌, [], drop, IfOk, IfErr, OnErr, IsSome, IsTrue};
 ghost use Rattle.xa_frame.specs.Limits.{IsReply};
-ghost use Rattle.xa_connection.specs.Calls.{Feeds, Holds, Turns, new_connection, room_of};
-ghost use Rattle.xa_connection.specs.Fronts.{IsInsideFrame};
+ghost use Rattle.xa_frame.specs.Questions.{IsQuestion, SpellsQuestion};
+ghost use Rattle.xa_connection.specs.Calls.{Asks, Feeds, Holds, IsAsked, IsPut, IsRefused, Replies, Turns, new_connection, room_of};
+ghost use Rattle.xa_connection.specs.Fronts.{IsInsideFrame, IsShortFront};
 
 use crate::answering::Answering;
+use crate::asked::Asked;
 use crate::buffer::Buffer;
 use crate::front::{Front, front_of};
 use std::alloc::{AllocError, Global};
-use xa_desk::{Door, Served, answer};
-use xa_frame::Reply;
+use xa_codes::{Detail, XAER_RMFAIL};
+use xa_desk::{Door, Served};
+use xa_frame::{Body, FrameFault, Question, Reply, decode_question};
 use xa_limits::MOST_CONTENT;
 
 /// The most bytes that are kept of what came in: those of the longest frame.
@@ -65,22 +68,57 @@ impl Connection {
     pub fn answer<D: Door>(&mut self, alloc: Global, door: &mut D, session: u64) -> Answering
         ensures { Turns (D.called session) self.old door.old result self.new door.new }
     {
+        let asked = self.asked(alloc);
+        self.answer_asked(door, session, asked)
+    }
+
+    /// Answers what the front asks for.
+    pub fn answer_asked<D: Door>(&mut self, door: &mut D, session: u64, asked: Asked) -> Answering
+        requires asks { Asks self.old asked }
+        requires limits { IsAsked asked }
+        ensures { Turns (D.called session) self.old door.old result self.new door.new }
+    {
+        match asked {
+            Asked::Idle => Answering::Idle,
+            Asked::One(count, question) => {
+                let reply = put_to(door, session, question);
+                self.reply(Front::Whole(count), &reply)
+            }
+            Asked::Refused(front, reply) => self.reply(front, &reply),
+        }
+    }
+
+    /// What the front asks for, where it is whole and nothing is to be sent. It stays until it is replied to.
+    pub fn asked(&self, alloc: Global) -> Asked
+        ensures asks { Asks self.now result }
+        ensures limits { IsAsked result }
+    {
         if self.is_closing() || self.output.len() > 0 {
-            return Answering::Idle;
+            return Asked::Idle;
         }
-        match front_of(self.input.as_slice()) {
-            Front::Cut => Answering::Idle,
-            Front::TooLong => {
-                self.end = Some(Served::TooLong);
-                self.hold(&Reply::bad_frame())
-            }
-            Front::Whole(count) => {
-                let content = &self.input.as_slice()[4..4 + count];
-                let reply = answer(alloc, door, session, content);
-                self.input.take(4 + count);
-                self.hold(&reply)
-            }
+        let input = self.input.as_slice();
+        match front_of(input) {
+            Front::Cut => Asked::Idle,
+            Front::TooLong => Asked::Refused(Front::TooLong, Reply::bad_frame()),
+            Front::Whole(count) => match question_of(alloc, &input[4..4 + count]) {
+                Ok(question) => Asked::One(count, question),
+                Err(reply) => Asked::Refused(Front::Whole(count), reply),
+            },
         }
+    }
+
+    /// Replies to what is at the front: a frame is taken, and after a length that is too great the connection is to end.
+    pub fn reply(&mut self, front: Front, reply: &Reply) -> Answering
+        requires front { IsShortFront front }
+        requires limits { IsReply reply.now }
+        ensures { Replies self.old front reply.now result self.new }
+    {
+        match front {
+            Front::Cut => return Answering::Idle,
+            Front::TooLong => self.end = Some(Served::TooLong),
+            Front::Whole(count) => self.input.take(4 + count),
+        }
+        self.hold(reply)
     }
 
     // Makes a reply what is to be sent, or is to end where there is no memory for it.
@@ -135,5 +173,31 @@ impl Connection {
         ensures { IsTrue result ↔ (IsSome self.now.end × (self.now.output ≡ [])) }
     {
         self.is_closing() && self.output.len() == 0
+    }
+}
+
+// The reply to a question.
+fn put_to<D: Door>(door: &mut D, session: u64, question: Question) -> Reply
+    requires { IsQuestion question }
+    ensures put { IsPut (D.called session) door.old question result door.new }
+    ensures limits { IsReply result }
+{
+    match question {
+        Question::Call(request) => door.call(session, request),
+        Question::Status => Reply::carrying(Body::Status(door.status())),
+    }
+}
+
+// The question that a content spells, or the reply to one that has a fault or ran out of memory when it was decoded.
+fn question_of(alloc: Global, content: &[u8]) -> Result<Question, Reply>
+    ensures spelled { IfOk result (λ q. SpellsQuestion content.now q) }
+    ensures asked { IfOk result IsQuestion }
+    ensures refused { IfErr result (IsRefused content.now) }
+    ensures limits { IfErr result IsReply }
+{
+    match decode_question(alloc, content) {
+        Ok(question) => Ok(question),
+        Err(FrameFault::Memory) => Err(Reply::detailed(XAER_RMFAIL, Detail::Memory)),
+        Err(_) => Err(Reply::bad_frame()),
     }
 }

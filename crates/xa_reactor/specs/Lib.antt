@@ -5,3 +5,5 @@ pub mod Down
 pub mod Trims
 pub mod Trimmed
 pub mod Aside
+pub mod Asking
+pub mod Opening

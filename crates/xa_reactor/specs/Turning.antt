@@ -15,6 +15,10 @@ HasFed c c' = (c' ≡ c) ⊎ ((bytes : List ℕ) × (count : ℕ) × Feeds c byt
 abbrev pub HasSent : Connection → Connection → Type 0
 HasSent c c' = (c' ≡ c) ⊎ ((count : ℕ) × (c' ≡ record c { output = drop count c.output }))
 
+-- some were sent, and then bytes that came in were taken
+abbrev pub HasTaken : Connection → Connection → Type 0
+HasTaken c c' = (between : Connection) × HasSent c between × HasFed between c'
+
 -- contents were answered at a door, in order
 abbrev pub HasAnswered : {D : Type 0} → (D → Question → Reply → D → Type 0) → D → D → Type 0
 HasAnswered called d e = (contents : List (List ℕ)) × (replies : List Reply) × AnswersAll called d contents replies e

@@ -5,6 +5,8 @@
 //! - `loops`: `run_loops`, a thread for each door; `LoopFault`, why it didn't, or not to the end
 //! - `socket`, `listener`: a connection's socket, and what connections come from
 //! - `peer`: a connection with its socket, and its turn; `peers`: those of a loop, whose turns come one behind the other
+//! - `ask`: a request that a connection brought in; `together`: the turns of a round, with one call at the door for all
+//!   requests that they bring in
 //! - `tending`: a loop, round by round (`round`, `timing`); `acceptor`: the one that accepts; `common`: what the loops
 //!   share, with a `mailbox` for each
 //! - `trims`: when the log is trimmed; `trimming`: by which session; `trimmed`: what became of that
@@ -12,6 +14,7 @@
 #![tactic(auto)]
 
 mod acceptor;
+mod ask;
 mod cause;
 mod common;
 mod laws;
@@ -25,11 +28,13 @@ mod round;
 mod socket;
 mod tending;
 mod timing;
+mod together;
 mod trimmed;
 mod trimming;
 mod trims;
 mod watch;
 
+pub use ask::Ask;
 pub use common::{MOST_OPEN, Settings};
 pub use laws::{trims_are_due, trims_are_told};
 pub use listener::Listener;

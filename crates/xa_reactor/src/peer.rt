@@ -1,14 +1,20 @@
 ghost use Rattle.std.specs.Prelude.{◌≡◌};
 ghost use Rattle.xa_connection.specs.Calls.{new_connection};
-ghost use Rattle.xa_reactor.specs.Turning.{CarriesOn, HasAnswered, HasFed, HasSent};
+ghost use Rattle.xa_reactor.specs.Opening.{Opens};
+ghost use Rattle.xa_reactor.specs.Turning.{CarriesOn, HasAnswered, HasFed, HasSent, HasTaken};
 
+use crate::ask::Ask;
+use crate::round::Round;
 use crate::socket::Socket;
 use mio::event::Event;
 use mio::{Registry, Token};
 use std::alloc::Global;
 use std::io::ErrorKind;
-use xa_connection::{Connection, MOST_INPUT};
+use std::mem;
+use xa_codes::XA_OK;
+use xa_connection::{Asked, Connection, Front, MOST_INPUT};
 use xa_desk::Door;
+use xa_frame::{Question, Reply};
 
 /// A connection with its socket, and the session that is served on it.
 #[derive(Drop)]
@@ -37,6 +43,15 @@ pub(crate) enum Step {
     Goes,
     /// The connection is over.
     Ends,
+}
+
+/// What a turn comes to that is opened.
+#[derive(Drop)]
+pub(crate) enum Opened {
+    /// The connection brought in a request, and is lent until that is answered.
+    Asks(Ask),
+    /// The turn is over.
+    Over(Step),
 }
 
 impl Peer {
@@ -75,29 +90,88 @@ impl Peer {
     /// is sent. While a reply isn't sent nothing is read, and nothing answered.
     pub(crate) fn turn<D: Door>(
         &mut self,
-        alloc: Global,
+        round: Round<'_>,
         door: &mut D,
         scratch: &mut [u8],
-        registry: &Registry,
-        token: Token,
-        now: u64,
+        key: usize,
     ) -> Step
         ensures session { self.new.session ≡ self.old.session }
         ensures answers { HasAnswered (D.called self.old.session) door.old door.new }
         ensures carries { CarriesOn (D.called self.old.session) self.old.connection door.old self.new.connection door.new }
     {
+        if !self.take_turn(scratch, round.now) {
+            return Step::Ends;
+        }
+        let _answering = self.connection.answer(round.alloc, door, self.session);
+        self.send(round, key)
+    }
+
+    /// A turn up to a request, which is answered together with those of other connections, by the connection that is lent
+    /// for it; a whole turn, where there is none.
+    pub(crate) fn open_turn<D: Door>(
+        &mut self,
+        round: Round<'_>,
+        door: &mut D,
+        scratch: &mut [u8],
+        key: usize,
+    ) -> Opened
+        ensures session { self.new.session ≡ self.old.session }
+        ensures opens { Opens (D.called self.old.session) self.old door.old key result self.new door.new }
+    {
+        if !self.take_turn(scratch, round.now) {
+            return Opened::Over(Step::Ends);
+        }
+        match self.connection.asked(round.alloc) {
+            Asked::One(count, Question::Call(request)) => Opened::Asks(Ask {
+                key,
+                connection: mem::replace(&mut self.connection, Connection::new(round.alloc)),
+                front: Front::Whole(count),
+                session: self.session,
+                request: Some(request),
+                reply: Reply::plain(XA_OK),
+            }),
+            asked => {
+                let _answering = self.connection.answer_asked(door, self.session, asked);
+                Opened::Over(self.send(round, key))
+            }
+        }
+    }
+
+    /// The rest of a turn whose request was answered: the connection is given back, and the reply sent.
+    pub(crate) fn close_turn(&mut self, round: Round<'_>, ask: Ask) -> Step
+        ensures session { self.new.session ≡ self.old.session }
+        ensures sent { HasSent ask.connection self.new.connection }
+    {
+        let Ask {
+            key,
+            connection,
+            ..
+        } = ask;
+        self.connection = connection;
+        self.send(round, key)
+    }
+
+    // The beginning of a turn: what is to be sent is sent, and one read. Whether the connection goes on.
+    fn take_turn(&mut self, scratch: &mut [u8], now: u64) -> bool
+        ensures session { self.new.session ≡ self.old.session }
+        ensures taken { HasTaken self.old.connection self.new.connection }
+    {
         self.is_queued = false;
         if !self.flush(now) {
+            return false;
+        }
+        self.take_in(scratch, now)
+    }
+
+    // The end of a turn: a reply is sent.
+    fn send(&mut self, round: Round<'_>, key: usize) -> Step
+        ensures session { self.new.session ≡ self.old.session }
+        ensures sent { HasSent self.old.connection self.new.connection }
+    {
+        if !self.flush(round.now) {
             return Step::Ends;
         }
-        if !self.take_in(scratch, now) {
-            return Step::Ends;
-        }
-        let _answering = self.connection.answer(alloc, door, self.session);
-        if !self.flush(now) {
-            return Step::Ends;
-        }
-        self.rest(registry, token)
+        self.rest(round.registry, Token(key))
     }
 
     // Writes once what is to be sent. Whether the socket is whole.

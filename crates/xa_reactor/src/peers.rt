@@ -1,9 +1,11 @@
 ghost use Rattle.std.specs.Prelude.{◌≡◌, ℕ, None, false, length};
 ghost use Rattle.slab.specs.Slab.{get};
+ghost use Rattle.xa_reactor.specs.Opening.{OpensAt};
 ghost use Rattle.xa_reactor.specs.Tending.{Tends, nobody, sessions_of};
 ghost use Rattle.xa_reactor.specs.Timing.{IsToEnd};
 
-use crate::peer::{Peer, Step};
+use crate::ask::Ask;
+use crate::peer::{Opened, Peer, Step};
 use crate::reception::Reception;
 use crate::round::Round;
 use crate::socket::Socket;
@@ -67,6 +69,36 @@ impl Peers {
         }
     }
 
+    /// The key of the next connection that has a turn.
+    pub(crate) fn next(&mut self) -> Option<usize>
+        ensures { self.new.all ≡ self.old.all }
+    {
+        self.queue.pop_front()
+    }
+
+    /// Opens the turn of a connection.
+    pub(crate) fn open_turn<D: Reception>(
+        &mut self,
+        round: Round<'_>,
+        scratch: &mut [u8],
+        door: &mut D,
+        key: usize,
+    ) -> Opened
+        ensures same { sessions_of self.new.all ≡ sessions_of self.old.all }
+        ensures opens { OpensAt D.connected D.called D.left (sessions_of self.old.all) door.old result door.new }
+    {
+        open_in(&mut self.all, round, scratch, door, key)
+    }
+
+    /// Closes the turn of a connection, whose request was answered.
+    pub(crate) fn close_turn<D: Reception>(&mut self, round: Round<'_>, door: &mut D, ask: Ask)
+        ensures { Tends D.connected D.called D.left (sessions_of self.old.all) door.old (sessions_of self.new.all) door.new }
+    {
+        let key = ask.key;
+        let step = close_in(&mut self.all, round, ask);
+        self.go_on(door, key, step);
+    }
+
     /// The next connection that has a turn has it.
     pub(crate) fn give_turn<D: Reception>(
         &mut self,
@@ -83,8 +115,8 @@ impl Peers {
         self.go_on(door, key, step);
     }
 
-    // Has a turn next, or ends, also where there is no memory for that.
-    fn go_on<D: Reception>(&mut self, door: &mut D, key: usize, step: Step)
+    /// Has a turn next, or ends, also where there is no memory for that.
+    pub(crate) fn go_on<D: Reception>(&mut self, door: &mut D, key: usize, step: Step)
         ensures { Tends D.connected D.called D.left (sessions_of self.old.all) door.old (sessions_of self.new.all) door.new }
     {
         let ends = match step {
@@ -158,14 +190,32 @@ fn turn_in<D: Reception>(
     ensures { Tends D.connected D.called D.left (sessions_of all.old) door.old (sessions_of all.new) door.new }
 {
     match all.get_mut(key) {
-        Some(peer) => peer.turn(
-            round.alloc,
-            door,
-            scratch,
-            round.registry,
-            Token(key),
-            round.now,
-        ),
+        Some(peer) => peer.turn(round, door, scratch, key),
+        None => Step::Waits,
+    }
+}
+
+fn open_in<D: Reception>(
+    all: &mut Slab<Peer>,
+    round: Round<'_>,
+    scratch: &mut [u8],
+    door: &mut D,
+    key: usize,
+) -> Opened
+    ensures same { sessions_of all.new ≡ sessions_of all.old }
+    ensures opens { OpensAt D.connected D.called D.left (sessions_of all.old) door.old result door.new }
+{
+    match all.get_mut(key) {
+        Some(peer) => peer.open_turn(round, door, scratch, key),
+        None => Opened::Over(Step::Waits),
+    }
+}
+
+fn close_in(all: &mut Slab<Peer>, round: Round<'_>, ask: Ask) -> Step
+    ensures { sessions_of all.new ≡ sessions_of all.old }
+{
+    match all.get_mut(ask.key) {
+        Some(peer) => peer.close_turn(round, ask),
         None => Step::Waits,
     }
 }

@@ -1,10 +1,12 @@
+use crate::ask::Ask;
 use xa_assoc::ConnectFault;
 use xa_desk::Door;
 
 /// A door at which sessions connect, too.
 pub trait Reception: Door {
-    ghost use Rattle.std.specs.Prelude.{ℕ, Bool, Result};
+    ghost use Rattle.std.specs.Prelude.{ℕ, All, Bool, Result};
     ghost use Rattle.xa_assoc.specs.declared.fault.ConnectFault.{ConnectFault};
+    ghost use Rattle.xa_reactor.specs.Asking.{HasRequest, TellsAll};
 
     /// A connect took it from one to the other, with this result.
     ghost connected: { Self → Result ℕ ConnectFault → Self → Type 0 };
@@ -18,6 +20,11 @@ pub trait Reception: Door {
     /// Connects a session.
     fn connect(&mut self) -> Result<u64, ConnectFault>
         ensures { connected self.old result self.new };
+
+    /// Answers requests in order, each as `call` does, with nothing of others in between.
+    fn call_all(&mut self, asks: &mut [Ask])
+        requires { All HasRequest asks.old }
+        ensures { TellsAll Self.called self.old asks.old asks.new self.new };
 
     /// Whether a session has an association of its own with a branch: it is at work for it, or has suspended that.
     fn has_association(&self, session: u64) -> bool

@@ -7,6 +7,7 @@ use crate::peers::Peers;
 use crate::reception::Reception;
 use crate::round::Round;
 use crate::timing::{FEW_EVENTS, LOOK, LOOKS, Limits, wait_of};
+use crate::together::Together;
 use crate::trimming::{begin_trims, keep_short};
 use mio::event::Event;
 use mio::{Events, Poll, Token};
@@ -73,6 +74,7 @@ fn run<D: Reception, R: AllocGlobal + Clock + Eprint + Wait>(
 struct Tools {
     /// What a read fills.
     scratch: Vec<u8>,
+    together: Together,
     /// How many calls had been logged when the log's end was asked for.
     seen: u64,
 }
@@ -105,6 +107,7 @@ impl Loop {
             events: Events::with_capacity(rt.alloc(), MOST_EVENTS)?,
             tools: Tools {
                 scratch: Vec::from_elem(rt.alloc(), 0u8, MOST_INPUT)?,
+                together: Together::new(rt.alloc()),
                 seen: 0,
             },
             clock: LoopClock::new(rt)?,
@@ -231,7 +234,8 @@ fn notice<D: Reception>(peers: &mut Peers, door: &mut D, event: &Event) -> bool
     false
 }
 
-// The turns of those that have one. After each the log is trimmed, where that is due.
+// The turns of those that have one: of several together, where there is memory for that, else one by one. After them the
+// log is trimmed, where that is due.
 fn give_turns<D: Reception, R: AllocGlobal + Clock + Eprint + Wait>(
     rt: &R,
     common: &Common<'_>,
@@ -242,7 +246,15 @@ fn give_turns<D: Reception, R: AllocGlobal + Clock + Eprint + Wait>(
 )
     ensures { Tends D.connected D.called D.left (sessions_of peers.old.all) door.old (sessions_of peers.new.all) door.new }
 {
-    for _ in 0..peers.queued() {
+    let turns = peers.queued();
+    if turns > 1 && tools.together.reserve(turns) {
+        tools
+            .together
+            .give_turns(peers, round, &mut tools.scratch, door, turns);
+        keep_short(rt, common, door, round.now, &mut tools.seen);
+        return;
+    }
+    for _ in 0..turns {
         give_turn(rt, common, round, tools, peers, door);
     }
 }

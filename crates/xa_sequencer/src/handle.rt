@@ -1,6 +1,7 @@
 ghost use Rattle.std.specs.Prelude.{◌≡◌, ◌<◌};
 
 use crate::associates::Associates;
+use crate::held::Held;
 use crate::shared::SharedSequencer;
 use std::fmt;
 use std::sync::Wait;
@@ -20,7 +21,8 @@ pub struct Handle<'a, M: Manages, S: Start, L: Ledger, R> {
 }
 
 impl<'a, M: Manages, S: Start, L: Ledger, R: Wait> Handle<'a, M, S, L, R> {
-    ghost use Rattle.xa_sequencer.specs.Shared.{ConnectedBy, IsTold};
+    ghost use Rattle.xa_frame.specs.Limits.{IsReply, IsRequest};
+    ghost use Rattle.xa_sequencer.specs.Shared.{CalledBy, ConnectedBy, IsTold};
 
     pub fn new(
         rt: &'a R,
@@ -43,6 +45,28 @@ impl<'a, M: Manages, S: Start, L: Ledger, R: Wait> Handle<'a, M, S, L, R> {
             (self.new.share.parts, self.new.share.amount) }
     {
         self.sequencer.connect(self.rt, &mut self.share)
+    }
+
+    /// Takes the lock for several calls, with nothing of other threads in between. Whoever else asks waits until it is
+    /// released: so does this handle, if it is asked otherwise.
+    pub fn hold(&self) -> Held<'a, M, S, L> {
+        let sequencer = self.sequencer;
+        sequencer.hold(self.rt)
+    }
+
+    /// Answers a request of a session, by the lock that was taken.
+    pub fn call_held(
+        &mut self,
+        held: &mut Held<'_, M, S, L>,
+        session: u64,
+        request: Request,
+    ) -> Reply
+        requires { IsRequest request }
+        ensures called { CalledBy M.Manages S.start S.base session (self.old.share.parts, self.old.share.amount) request result
+            (self.new.share.parts, self.new.share.amount) }
+        ensures limits { IsReply result }
+    {
+        held.call(&mut self.share, session, request)
     }
 
     /// How the manager is doing. The share doesn't count it.

@@ -4,7 +4,7 @@
 //! - `sequencer`: `Sequencer`, which asks its manager and numbers each event; `door`: a sequencer as the door of a
 //!   connection
 //! - `shared`: `SharedSequencer`, a sequencer behind a lock, which many threads share; `booked`: the sequencer and the
-//!   ledger's book under it; `handle`: `Handle`, a thread's door of it
+//!   ledger's book under it; `held`: `Held`, its lock while a thread has it; `handle`: `Handle`, a thread's door of it
 //! - `associates`: `Associates`, a manager that tells which sessions have an association, and where its log ends
 //! - `numbers`: whether there are numbers left
 //! - `laws`: `goes_on_twice`, that histories go on with the entries of one event and of another; `talks_go_on`, with those
@@ -17,6 +17,7 @@ mod associates;
 mod booked;
 mod door;
 mod handle;
+mod held;
 mod laws;
 mod numbers;
 mod sequencer;
@@ -24,6 +25,7 @@ mod shared;
 
 pub use associates::Associates;
 pub use handle::Handle;
+pub use held::Held;
 pub use laws::{goes_on_twice, talks_go_on};
 pub use sequencer::Sequencer;
 pub use shared::SharedSequencer;

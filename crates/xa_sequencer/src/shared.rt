@@ -4,6 +4,7 @@ ghost use Rattle.xa_sequencer.specs.Shared.{CalledBy, ConnectedBy, IsTold, LeftB
 
 use crate::associates::Associates;
 use crate::booked::Booked;
+use crate::held::Held;
 use crate::sequencer::Sequencer;
 use std::fmt;
 use std::sync::ledger::{Blank, Book, Ledger, Share};
@@ -56,6 +57,11 @@ impl<M: Manages, S: Start, L: Ledger> SharedSequencer<M, S, L> {
         ensures limits { IsReply result }
     {
         take(rt, &self.lock).call(share, session, request)
+    }
+
+    /// Takes the lock for several calls.
+    pub(crate) fn hold<R: Wait>(&self, rt: &R) -> Held<'_, M, S, L> {
+        Held::new(take(rt, &self.lock))
     }
 
     /// Hangs a session up, and says whether it was connected.

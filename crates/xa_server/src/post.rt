@@ -5,12 +5,13 @@ use std::fmt;
 use std::rt::Clock;
 use std::sync::Wait;
 use std::sync::ledger::{Ledger, Share};
+use std::thread::yield_now;
 use xa_assoc::ConnectFault;
 use xa_desk::Door;
 use xa_frame::{Reply, Request, Status};
-use xa_reactor::{Reception, Watch};
+use xa_reactor::{Ask, Reception, Watch};
 use xa_room::{Manages, Start, Uptime};
-use xa_sequencer::{Associates, Handle, SharedSequencer};
+use xa_sequencer::{Associates, Handle, Held, SharedSequencer};
 
 /// A loop's post: a door at a sequencer that the loops share, with the loop's share of what is counted. A watch sees
 /// each reply.
@@ -26,6 +27,8 @@ pub(crate) struct Post<'a, M: Manages, S: Start, L: Ledger, R> {
 
 impl<'a, M: Manages, S: Start, L: Ledger, R: Clock + Wait> Post<'a, M, S, L, R> {
     ghost use Rattle.std.specs.Prelude.{◌≡◌, ◌<◌};
+    ghost use Rattle.xa_reactor.specs.Asking.{HasRequest, Tells};
+    ghost use Rattle.xa_server.specs.Loops.{Called};
 
     pub(crate) fn new(
         rt: &'a R,
@@ -44,6 +47,39 @@ impl<'a, M: Manages, S: Start, L: Ledger, R: Clock + Wait> Post<'a, M, S, L, R> 
             uptime: Uptime::new(rt),
             logged: 0,
         }
+    }
+
+    // Answers an ask, by the lock where it was taken before. The next one goes on by it, but not after a call that may have
+    // waited for the device: others have their turn first.
+    fn answer(&mut self, held: &mut Option<Held<'a, M, S, L>>, ask: &mut Ask)
+        requires { HasRequest ask.old }
+        ensures { Tells (λ s a q r b. Called M.Manages S.start S.base s (a.handle.share.parts, a.handle.share.amount) q r
+            (b.handle.share.parts, b.handle.share.amount)) self.old ask.old ask.new self.new }
+    {
+        if let Some(request) = ask.request.take() {
+            let lets_go = may_log(&request);
+            let is_restart = self.count(&request);
+            let mut lock = match held.take() {
+                Some(lock) => lock,
+                None => self.handle.hold(),
+            };
+            ask.reply = self.handle.call_held(&mut lock, ask.session, request);
+            if lets_go {
+                drop(lock);
+                yield_now();
+            } else {
+                *held = Some(lock);
+            }
+            self.watch.see(is_restart, &ask.reply);
+        }
+    }
+
+    // A request is to be answered. Whether it is a Restart.
+    fn count(&mut self, request: &Request) -> bool
+        ensures { self.new.handle ≡ self.old.handle }
+    {
+        self.logged = self.logged.wrapping_add(u64::from(may_log(request)));
+        matches!(request, Request::Restart)
     }
 
     /// The share.
@@ -73,8 +109,7 @@ impl<M: Manages, S: Start, L: Ledger, R: Clock + Wait> Door for Post<'_, M, S, L
         (b.handle.share.parts, b.handle.share.amount) };
 
     fn call(&mut self, session: u64, request: Request) -> Reply {
-        let is_restart = matches!(&request, Request::Restart);
-        self.logged = self.logged.wrapping_add(u64::from(may_log(&request)));
+        let is_restart = self.count(&request);
         let reply = self.handle.call(session, request);
         self.watch.see(is_restart, &reply);
         reply
@@ -106,6 +141,13 @@ impl<M: Associates, S: Start, L: Ledger, R: Clock + Wait> Reception for Post<'_,
 
     fn connect(&mut self) -> Result<u64, ConnectFault> {
         self.handle.connect()
+    }
+
+    fn call_all(&mut self, asks: &mut [Ask]) {
+        let mut held = None;
+        for ask in asks.iter_mut() {
+            self.answer(&mut held, ask);
+        }
     }
 
     fn has_association(&self, session: u64) -> bool {

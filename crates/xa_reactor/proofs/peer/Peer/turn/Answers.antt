@@ -1,44 +1,25 @@
-use Rattle.std.proofs.Common.{◌∙◌, ℕ, subst, sym}
+use Rattle.std.proofs.Common.{ℕ, subst}
 use Rattle.xa_reactor.specs.Turning.{CarriesOn, HasAnswered}
-use Rattle.xa_reactor.proofs.Turning.{carries_on, carries_on_fed, carries_on_sent, has_answered, none_answered}
+use Rattle.xa_reactor.proofs.Turning.{carries_on, carries_on_fed, has_answered, none_answered}
 use Rattle.xa_reactor.proofs.peer.Peer.turn.Goals as goal
 
-pub returns-then-not-flush-clause-answers : goal.returns-then-not-flush-clause-answers
-returns-then-not-flush-clause-answers g c = none_answered (g.D.Door.called c.args.self.now.session) c.args.door.now
+pub returns-then-not-take_turn-clause-answers : goal.returns-then-not-take_turn-clause-answers
+returns-then-not-take_turn-clause-answers g c = none_answered (g.D.Door.called c.args.self.now.session) c.args.door.now
 
-pub returns-then-not-flush-clause-carries : goal.returns-then-not-flush-clause-carries
-returns-then-not-flush-clause-carries g c =
-    carries_on_sent (g.D.Door.called c.args.self.now.session) c.args.self.now.connection c.flush.new.self.connection c.args.door.now c.flush.ensures.sent
-
-pub returns-then-not-take_in-clause-answers : goal.returns-then-not-take_in-clause-answers
-returns-then-not-take_in-clause-answers g c = none_answered (g.D.Door.called c.args.self.now.session) c.args.door.now
-
-pub returns-then-not-take_in-clause-carries : goal.returns-then-not-take_in-clause-carries
-returns-then-not-take_in-clause-carries g c =
-    carries_on_fed (g.D.Door.called c.args.self.now.session) c.args.self.now.connection c.flush.new.self.connection c.take_in.new.self.connection c.args.door.now
-    c.flush.ensures.sent c.take_in.ensures.fed
-
-pub returns-then-not-flush-2-clause-answers : goal.returns-then-not-flush-2-clause-answers
-returns-then-not-flush-2-clause-answers g c =
-    subst (λ (s : ℕ). HasAnswered (g.D.Door.called s) c.args.door.now c.answer-answering.new.door) (c.take_in.ensures.session ∙ c.flush.ensures.session)
-    (has_answered (g.D.Door.called c.take_in.new.self.session) c.answer-answering.result c.take_in.new.self.connection c.answer-answering.new.self c.args.door.now c.answer-answering.new.door c.answer-answering.ensures)
-
-pub returns-then-not-flush-2-clause-carries : goal.returns-then-not-flush-2-clause-carries
-returns-then-not-flush-2-clause-carries g c =
-    subst (λ (s : ℕ). CarriesOn (g.D.Door.called s) c.args.self.now.connection c.args.door.now c.flush-2.new.self.connection c.answer-answering.new.door)
-    (c.take_in.ensures.session ∙ c.flush.ensures.session)
-    (carries_on (g.D.Door.called c.take_in.new.self.session) c.args.self.now.connection c.flush.new.self.connection c.take_in.new.self.connection c.answer-answering.new.self c.flush-2.new.self.connection
-    c.args.door.now c.answer-answering.new.door c.answer-answering.result c.flush.ensures.sent c.take_in.ensures.fed c.answer-answering.ensures c.flush-2.ensures.sent)
+pub returns-then-not-take_turn-clause-carries : goal.returns-then-not-take_turn-clause-carries
+returns-then-not-take_turn-clause-carries g c =
+    let taken = c.take_turn.ensures.taken in
+    carries_on_fed (g.D.Door.called c.args.self.now.session) c.args.self.now.connection taken.0 c.take_turn.new.self.connection c.args.door.now taken.1 taken.2
 
 pub returns-clause-answers : goal.returns-clause-answers
 returns-clause-answers g c =
-    subst (λ (s : ℕ). HasAnswered (g.D.Door.called s) c.args.door.now c.answer-answering.new.door) (c.take_in.ensures.session ∙ c.flush.ensures.session)
-    (has_answered (g.D.Door.called c.take_in.new.self.session) c.answer-answering.result c.take_in.new.self.connection c.answer-answering.new.self c.args.door.now c.answer-answering.new.door c.answer-answering.ensures)
+    subst (λ (s : ℕ). HasAnswered (g.D.Door.called s) c.args.door.now c.answer-answering.new.door) c.take_turn.ensures.session
+    (has_answered (g.D.Door.called c.take_turn.new.self.session) c.answer-answering.result c.take_turn.new.self.connection c.answer-answering.new.self c.args.door.now c.answer-answering.new.door c.answer-answering.ensures)
 
 pub returns-clause-carries : goal.returns-clause-carries
 returns-clause-carries g c =
-    subst (λ (s : ℕ). CarriesOn (g.D.Door.called s) c.args.self.now.connection c.args.door.now c.rest.new.self.connection c.answer-answering.new.door)
-    (c.take_in.ensures.session ∙ c.flush.ensures.session)
-    (subst (λ x. CarriesOn (g.D.Door.called c.take_in.new.self.session) c.args.self.now.connection c.args.door.now x c.answer-answering.new.door) (sym c.rest.ensures.1)
-    (carries_on (g.D.Door.called c.take_in.new.self.session) c.args.self.now.connection c.flush.new.self.connection c.take_in.new.self.connection c.answer-answering.new.self c.flush-2.new.self.connection
-    c.args.door.now c.answer-answering.new.door c.answer-answering.result c.flush.ensures.sent c.take_in.ensures.fed c.answer-answering.ensures c.flush-2.ensures.sent))
+    let taken = c.take_turn.ensures.taken in
+    subst (λ (s : ℕ). CarriesOn (g.D.Door.called s) c.args.self.now.connection c.args.door.now c.send.new.self.connection c.answer-answering.new.door)
+    c.take_turn.ensures.session
+    (carries_on (g.D.Door.called c.take_turn.new.self.session) c.args.self.now.connection taken.0 c.take_turn.new.self.connection c.answer-answering.new.self c.send.new.self.connection
+    c.args.door.now c.answer-answering.new.door c.answer-answering.result taken.1 taken.2 c.answer-answering.ensures c.send.ensures.sent)

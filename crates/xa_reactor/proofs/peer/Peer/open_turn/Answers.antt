@@ -1,0 +1,24 @@
+use Rattle.std.proofs.Common.{ℕ, subst}
+use Rattle.xa_reactor.specs.Turning.{CarriesOn, HasAnswered}
+use Rattle.xa_reactor.proofs.Turning.{carries_on, carries_on_fed, has_answered, none_answered}
+use Rattle.xa_reactor.proofs.peer.Peer.open_turn.Goals as goal
+
+pub returns-then-not-take_turn-clause-opens : goal.returns-then-not-take_turn-clause-opens
+returns-then-not-take_turn-clause-opens g c =
+    let taken = c.take_turn.ensures.taken in (
+      none_answered (g.D.Door.called c.args.self.now.session) c.args.door.now,
+      carries_on_fed (g.D.Door.called c.args.self.now.session) c.args.self.now.connection taken.0 c.take_turn.new.self.connection c.args.door.now taken.1 taken.2,
+    )
+
+pub returns-in_default-clause-opens : goal.returns-in_default-clause-opens
+returns-in_default-clause-opens g c =
+    let taken = c.take_turn.ensures.taken in (
+      subst (λ (s : ℕ). HasAnswered (g.D.Door.called s) c.args.door.now c.answer_asked-answering.new.door) c.take_turn.ensures.session
+          (has_answered (g.D.Door.called c.take_turn.new.self.session) c.answer_asked-answering.result c.take_turn.new.self.connection c.answer_asked-answering.new.self
+          c.args.door.now c.answer_asked-answering.new.door c.answer_asked-answering.ensures),
+      subst (λ (s : ℕ). CarriesOn (g.D.Door.called s) c.args.self.now.connection c.args.door.now c.send.new.self.connection c.answer_asked-answering.new.door)
+          c.take_turn.ensures.session
+          (carries_on (g.D.Door.called c.take_turn.new.self.session) c.args.self.now.connection taken.0 c.take_turn.new.self.connection
+          c.answer_asked-answering.new.self c.send.new.self.connection c.args.door.now c.answer_asked-answering.new.door c.answer_asked-answering.result
+          taken.1 taken.2 c.answer_asked-answering.ensures c.send.ensures.sent),
+    )

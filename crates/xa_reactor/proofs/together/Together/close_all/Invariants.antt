@@ -1,0 +1,10 @@
+use Rattle.xa_reactor.specs.Tending.{Tends, sessions_of}
+use Rattle.xa_reactor.proofs.together.Together.close_all.Given as goal
+
+abbrev pub invariant-loop-ask : goal.invariant-loop-ask
+invariant-loop-ask g l =
+    Tends g.D.Reception.connected g.D.Door.called g.D.Door.left (sessions_of l.fn.peers.all) l.fn.door (sessions_of l.peers.all) l.door
+
+abbrev pub invariant-loop-key : goal.invariant-loop-key
+invariant-loop-key g l =
+    Tends g.D.Reception.connected g.D.Door.called g.D.Door.left (sessions_of l.fn.peers.all) l.fn.door (sessions_of l.peers.all) l.door

@@ -1,0 +1,14 @@
+use Rattle.xa_reactor.proofs.Asking.{are_told, have_requests, turned_all}
+use Rattle.xa_reactor.proofs.together.answer_all.Goals as goal
+
+pub call_all-requires : goal.call_all-requires
+call_all-requires g c = have_requests c.args.asks.now c.requires
+
+pub put_all-requires : goal.put_all-requires
+put_all-requires g c =
+    are_told g.D.Door.called c.args.asks.now c.call_all.new.asks c.args.door.now c.call_all.new.self c.requires c.call_all.ensures
+
+pub returns : goal.returns
+returns g c =
+    turned_all g.D.Door.called c.args.asks.now c.call_all.new.asks c.put_all.new.asks c.args.door.now c.call_all.new.self
+    c.requires c.call_all.ensures c.put_all.ensures

@@ -1,0 +1,6 @@
+use Rattle.xa_reactor.specs.Asking.{Puts}
+use Rattle.xa_reactor.proofs.Each.{Partway}
+use Rattle.xa_reactor.proofs.together.put_all.Given as goal
+
+abbrev pub invariant-loop-ask : goal.invariant-loop-ask
+invariant-loop-ask l = Partway {D = Unit {0}} (λ _ a b _. Puts a b) tt l.ask-index l.fn.asks l.asks tt
