@@ -12,9 +12,11 @@ use Rattle.mv_rules.proofs.Moved.{stands_same}
 use Rattle.mv_rules.proofs.Branches.{committed_writes, gone_writes}
 use Rattle.mv_rules.proofs.Undecided.{at_work}
 use Rattle.mv_rules.proofs.Remade.{low_rises}
-use Rattle.xa_xid.specs.Triple.{Triple}
+use Rattle.xa_xid.specs.Triple.{Triple, xid_eq}
 use Rattle.xa_branch.specs.declared.branches.Branches.{Branches}
-use Rattle.xa_branch.specs.Branches.{BranchesStandFor}
+use Rattle.xa_branch.specs.Branches.{BranchesStandFor, lasting_known}
+use Rattle.xa_branch.specs.Room.{HaveRooms, kept_twice, lasting_with}
+use Rattle.xa_branch.specs.declared.lasting.Lasting.{Lasting}
 use Rattle.xa_branch.proofs.Elsewhere.{stands_elsewhere}
 use Rattle.xa_codes.specs.declared.direction.Direction.{Direction}
 use Rattle.xa_codes.specs.declared.direction.Direction.TheVariants.{Commit, Rollback}
@@ -26,9 +28,9 @@ use Rattle.xa_manager.specs.View.{View}
 use Rattle.xa_manager.specs.Changes.{fate_of as direction_fate}
 use Rattle.xa_manager.specs.Stands.{StandsFor, ending}
 use Rattle.xa_manager.proofs.Lows.{rises_with}
-use Rattle.xa_model.specs.State.{State, Branch, Phase, Working, Prepared, Committed, InDoubt, name_of, is_with, known_as, known_among, decided_of, or_completed, known_of, is_known_as, without, timestamp_of}
+use Rattle.xa_model.specs.State.{State, Branch, Phase, Working, Prepared, Committed, InDoubt, name_of, is_with, known_as, known_among, known_in, is_at_work, decided_of, or_completed, known_of, is_known_as, without, timestamp_of}
 use Rattle.xa_model.specs.Associations.{timestamp_in, timestamp_by}
-use Rattle.xa_model.specs.Branches.{rolled_back, committed, decided_by}
+use Rattle.xa_model.specs.Branches.{rolled_back, committed, decided_by, prepared}
 use Rattle.xa_model.specs.Invariants.Sound.{IsSound}
 use Rattle.xa_model.proofs.ChangedWaters.{committed_water, rolled_back_water, committed_floor, rolled_back_floor}
 
@@ -90,6 +92,28 @@ gone_records s xid t r r' sound here time st settles =
 -- where the log ends says nothing of branches
 pub moved_end : (m : Branches) (s : State) (end : ℕ) → BranchesStandFor m s → BranchesStandFor m (ending s end)
 moved_end m s end st = stands_elsewhere m s (ending s end) refl refl refl refl refl refl st
+
+lasting_moved : (xids : List Triple) (s : State) (end : ℕ) (q : Triple) → lasting_with xids s q ≡ lasting_with xids (ending s end) q
+lasting_moved [] s end q = refl
+lasting_moved (xid ∷ xids) s end q = ap (λ (o : Option Lasting). cond (xid_eq xid q) (lasting_known (prepared s xid) q) o) (lasting_moved xids s end q)
+
+twice_moved : (xids : List Triple) (s : State) (end : ℕ) → kept_twice xids s ≡ kept_twice xids (ending s end)
+twice_moved [] s end = refl
+twice_moved (xid ∷ xids) s end = ap (λ (n : ℕ). cond (is_at_work (known_of s.branches xid)) 1 0 + n) (twice_moved xids s end)
+
+pub moved_rooms : (xids : List Triple) (m : Branches) (s : State) (end : ℕ) → HaveRooms xids m s → HaveRooms xids m (ending s end)
+moved_rooms xids m s end st = record {
+  boot = st.boot;
+  given = st.given;
+  moment = st.moment;
+  working = st.working;
+  lasting = λ q. st.lasting q ∙ lasting_moved xids s end q;
+  times = st.times;
+  due = st.due;
+  known = st.known ∙ ap (λ (n : ℕ). known_in s + n) (twice_moved xids s end);
+  prepared = st.prepared;
+  completed = st.completed;
+}
 
 -- The operator completes a prepared branch.
 

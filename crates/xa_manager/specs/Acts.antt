@@ -1,5 +1,5 @@
 -- What the acts of the tables do, and of what states.
-use Rattle.std.specs.Prelude.{ℕ, ◌≡◌, true, Option, None, Some, IsSome}
+use Rattle.std.specs.Prelude.{ℕ, ◌≡◌, true, Option, None, Some, IsSome, List, [], ◌∷◌, ◌++◌}
 use Rattle.mv_chain.specs.declared.fate.Fate.{Fate}
 use Rattle.mv_chain.specs.declared.fate.Fate.TheVariants.{Committed, RolledBack}
 use Rattle.xa_codes.specs.declared.direction.Direction.{Direction}
@@ -10,11 +10,12 @@ use Rattle.xa_model.specs.Completions.{is_completed}
 use Rattle.xa_model.specs.Invariants.Loggable.{IsRecoverable}
 use Rattle.xa_assoc.specs.Sessions.{resume_refusal_of, suspend_refusal_of}
 use Rattle.xa_branch.specs.Kinds.{ended_kind, resumed_kind}
+use Rattle.xa_branch.specs.Room.{IsApart}
 use Rattle.xa_branch.specs.declared.kind.Kind.{Kind}
 use Rattle.xa_branch.specs.declared.kind.Kind.TheVariants.{Active}
 use Rattle.xa_manager.specs.declared.tables.Tables.{Tables}
 use Rattle.xa_manager.specs.View.{view_of}
-use Rattle.xa_manager.specs.Stands.{StandsFor, StandsWithRoom, Becomes, BecomesAt, ending}
+use Rattle.xa_manager.specs.Stands.{StandsFor, StandsWithRoom, StandsWithRooms, Becomes, BecomesAt, ending}
 
 -- a start with TMRESUME isn't refused, and takes an association of this kind
 abbrev pub Resumes : ℕ → Triple → Kind → State → Type 0
@@ -71,3 +72,28 @@ TakesPrepared t xid t' =
 -- or gives it back
 abbrev pub GivesRoomBack : Tables → Triple → Tables → Type 0
 GivesRoomBack t xid t' = (s : State) → StandsWithRoom xid (view_of t) s → StandsFor (view_of t') s
+
+-- Of several branches, of distinct XIDs, in the order in which they get their rooms
+
+-- one more gets its room, after the others
+abbrev pub MakesRoomAfter : Tables → Triple → Tables → Type 0
+MakesRoomAfter t xid t' =
+    (xids : List Triple) (s : State) → IsApart xid xids → StandsWithRooms xids (view_of t) s
+    → StandsWithRooms (xids ++ xid ∷ []) (view_of t') s
+
+-- the same have theirs
+abbrev pub KeepsRooms : Tables → Tables → Type 0
+KeepsRooms t t' = (xids : List Triple) (s : State) → StandsWithRooms xids (view_of t) s → StandsWithRooms xids (view_of t') s
+
+-- the first of them takes its room: its record stands, wherever the log ends then
+abbrev pub TakesFirstPrepared : Tables → Triple → Tables → Type 0
+TakesFirstPrepared t xid t' =
+    (xids : List Triple) (s : State) (end : ℕ) → IsApart xid xids → StandsWithRooms (xid ∷ xids) (view_of t) s
+    → IsRecoverable (ending (prepared s xid) end)
+    → StandsWithRooms xids (view_of t') (ending (prepared s xid) end)
+
+-- or gives it back
+abbrev pub GivesFirstRoomBack : Tables → Triple → Tables → Type 0
+GivesFirstRoomBack t xid t' =
+    (xids : List Triple) (s : State) → IsApart xid xids → StandsWithRooms (xid ∷ xids) (view_of t) s
+    → StandsWithRooms xids (view_of t') s

@@ -1,5 +1,5 @@
 -- What states of the sequential resource manager a manager's tables stand for.
-use Rattle.std.specs.Prelude.{ℕ, ◌≡◌, Bool, true, false}
+use Rattle.std.specs.Prelude.{ℕ, ◌≡◌, Bool, true, false, List, [], ◌∷◌}
 use Rattle.xa_frame.specs.declared.reply.Reply.{Reply}
 use Rattle.xa_model.specs.State.{State, Up, Down}
 use Rattle.xa_model.specs.Answer.{Answer}
@@ -9,7 +9,7 @@ use Rattle.mv_rules.specs.Ties.{history_of}
 use Rattle.xa_assoc.specs.Refusals.{is_memory}
 use Rattle.xa_assoc.specs.Sessions.{SessionsStandFor}
 use Rattle.xa_branch.specs.Branches.{BranchesStandFor}
-use Rattle.xa_branch.specs.Room.{HasRoom}
+use Rattle.xa_branch.specs.Room.{HaveRooms}
 use Rattle.xa_xid.specs.Triple.{Triple}
 use Rattle.xa_manager.specs.View.{View}
 
@@ -25,15 +25,18 @@ pub record StandsFor (m : View) (s : State) : Type 0 where
   pub records : RecordsStandFor (history_of s) m.records
   pub recoverable : IsRecoverable s
 
--- The same, but that what will be kept of the branch with this XID once it is prepared has its room.
-pub record StandsWithRoom (xid : Triple) (m : View) (s : State) : Type 0 where
+-- The same, but that what will be kept of the branches with these XIDs once they are prepared has its room.
+pub record StandsWithRooms (xids : List Triple) (m : View) (s : State) : Type 0 where
   pub name : m.name ≡ s.name
   pub log_bytes : m.log_bytes ≡ s.log_bytes
   pub up : s.standing ≡ Up
   pub sessions : SessionsStandFor m.sessions s
-  pub branches : HasRoom xid m.branches s
+  pub branches : HaveRooms xids m.branches s
   pub records : RecordsStandFor (history_of s) m.records
   pub recoverable : IsRecoverable s
+
+abbrev pub StandsWithRoom : Triple → View → State → Type 0
+StandsWithRoom xid m s = StandsWithRooms (xid ∷ []) m s
 
 -- Of a manager that is down only the sessions and the moment count: nothing is answered of branches and records, and the
 -- next restart makes them anew from the log.

@@ -2,7 +2,8 @@ ghost use Rattle.std.specs.Prelude.{◌≡◌, ◌≢◌, OnOk, OnErr};
 ghost use Rattle.xa_model.specs.Branches.{rolled_back, committed, completed};
 ghost use Rattle.xa_assoc.specs.Company.{company_of};
 ghost use Rattle.xa_manager.specs.Tables.{TablesStay};
-ghost use Rattle.xa_manager.specs.Acts.{BranchBecomes, Decides, Forgets, GivesRoomBack, MakesRoom, TakesPrepared};
+ghost use Rattle.xa_manager.specs.Acts.{BranchBecomes, Decides, Forgets, GivesFirstRoomBack, GivesRoomBack, KeepsRooms, MakesRoom, MakesRoomAfter};
+ghost use Rattle.xa_manager.specs.Acts.{TakesFirstPrepared, TakesPrepared};
 ghost use Rattle.xa_manager.specs.Plans.{LeavesReady, MakesReady, TakesAnswer};
 
 use crate::acts::fate_of;
@@ -66,10 +67,13 @@ impl Tables {
 
 /// What becomes of a branch that is prepared, once it is known whether its record stands.
 impl Tables {
-    /// Makes room for what is kept of the branch once it is prepared: one table's change, said of all of them.
+    /// Makes room for what is kept of the branch once it is prepared, beside what others have: one table's change, said of
+    /// all of them.
     pub fn make_room(&mut self, xid: &Xid) -> Result<(), AllocError>
         ensures ok { OnOk result (MakesRoom self.old xid.now self.new) }
+        ensures after { OnOk result (MakesRoomAfter self.old xid.now self.new) }
         ensures err { OnErr result (TablesStay self.old self.new) }
+        ensures rooms { OnErr result (KeepsRooms self.old self.new) }
         ensures company { company_of self.new.sessions ≡ company_of self.old.sessions }
     {
         self.branches.make_room(xid)
@@ -78,6 +82,7 @@ impl Tables {
     /// The branch isn't prepared: that room is given back.
     pub fn give_room_back(&mut self, xid: &Xid)
         ensures given { GivesRoomBack self.old xid.now self.new }
+        ensures first { GivesFirstRoomBack self.old xid.now self.new }
         ensures company { company_of self.new.sessions ≡ company_of self.old.sessions }
     {
         self.branches.give_back(xid);
@@ -86,6 +91,8 @@ impl Tables {
     pub fn take_prepared(&mut self, xid: &Xid, answer: Appending)
         ensures kept { answer ≡ Appending.Kept → TakesPrepared self.old xid.now self.new }
         ensures left { answer ≢ Appending.Kept → GivesRoomBack self.old xid.now self.new }
+        ensures first_kept { answer ≡ Appending.Kept → TakesFirstPrepared self.old xid.now self.new }
+        ensures first_left { answer ≢ Appending.Kept → GivesFirstRoomBack self.old xid.now self.new }
         ensures company { company_of self.new.sessions ≡ company_of self.old.sessions }
     {
         match answer {
